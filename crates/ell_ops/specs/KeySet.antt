@@ -1,0 +1,27 @@
+-- Sets of keys. A set is what it answers: whether it has each key.
+use Rattle.std.specs.Prelude.{◌≡◌, ℕ, Bool, true, false, List, ◌==◌, if◌then◌else◌}
+use Rattle.std.specs.List.{list_any}
+use Rattle.std.specs.List.Sorted.{IsStrictlyIncreasing}
+
+abbrev pub KeySet : Type 0
+KeySet = ℕ → Bool
+
+abbrev pub empty : KeySet
+empty = λ _. false
+
+-- the set with the key
+abbrev pub with_key : KeySet → ℕ → KeySet
+with_key set key = λ q. if q == key then true else set q
+
+-- the set without the key
+abbrev pub without_key : KeySet → ℕ → KeySet
+without_key set key = λ q. if q == key then false else set q
+
+-- the set of the keys in a list
+abbrev pub set_of : List ℕ → KeySet
+set_of keys = λ q. list_any (λ key. q == key) keys
+
+-- the keys are those of the set, each once, ascending
+pub record Lists (set : KeySet) (keys : List ℕ) : Type 0 where
+  pub ascending : IsStrictlyIncreasing keys
+  pub each : set_of keys ≡ set

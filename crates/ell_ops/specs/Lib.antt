@@ -1,0 +1,3 @@
+pub mod KeySet
+pub mod Meaning
+pub mod LastWriter

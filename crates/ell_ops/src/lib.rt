@@ -1,0 +1,17 @@
+//! Finds, inserts and deletes on a set of keys, and what one thread answers for a list of them.
+//!
+//! This is the plain meaning that every other way of running a list is measured by.
+#![tactic(auto)]
+
+mod laws;
+mod no_memory;
+mod one_thread;
+mod op;
+
+pub use laws::{last_writer, one_listing};
+pub use no_memory::NoMemory;
+pub use one_thread::{apply, apply_all, apply_from};
+pub use op::{KEY_MAX, Op};
+
+#[cfg(test)]
+mod tests;

@@ -1,0 +1,36 @@
+// One operation on a set of keys.
+ghost use Rattle.std.specs.Prelude.{◌≡◌, ◌≤◌, ◌↔◌, IsTrue};
+
+/// The greatest key, 2^64 - 3: the two numbers above it that 64 bits hold mark the ends of the tree.
+pub const KEY_MAX: u64 = 18_446_744_073_709_551_613;
+
+/// One operation on a set of keys.
+#[derive(Clone, Copy, Debug, PartialEq, Eq, Hash)]
+pub enum Op {
+    /// Is the key in the set?
+    Find(u64),
+    /// Adds the key; was it absent?
+    Insert(u64),
+    /// Removes the key; was it present?
+    Delete(u64),
+}
+
+impl Op {
+    ghost use Rattle.ell_ops.specs.Meaning.{key_of, greatest_key};
+
+    /// The key that the operation is on.
+    pub fn key(&self) -> u64
+        ensures { result ≡ key_of self.now }
+    {
+        match *self {
+            Op::Find(key) | Op::Insert(key) | Op::Delete(key) => key,
+        }
+    }
+
+    /// Whether the key is at most [`KEY_MAX`].
+    pub fn fits(&self) -> bool
+        ensures { IsTrue result ↔ (key_of self.now ≤ greatest_key) }
+    {
+        self.key() <= KEY_MAX
+    }
+}
