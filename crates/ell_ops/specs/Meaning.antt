@@ -1,5 +1,5 @@
 -- What an operation answers and leaves, and the same for a list of them, applied by one thread.
-use Rattle.std.specs.Prelude.{◌≡◌, ℕ, ◌-◌, ◌^◌, Bool, false, not, List, [], ◌∷◌}
+use Rattle.std.specs.Prelude.{◌≡◌, ℕ, ◌-◌, ◌^◌, ◌≤◌, Bool, false, not, List, [], ◌∷◌}
 use Rattle.ell_ops.specs.declared.op.Op.{Op}
 use Rattle.ell_ops.specs.declared.op.Op.TheVariants.{Find, Insert, Delete}
 use Rattle.ell_ops.specs.KeySet.{KeySet, with_key, without_key}
@@ -13,6 +13,10 @@ abbrev pub key_of : Op → ℕ
 key_of (Find key) = key
 key_of (Insert key) = key
 key_of (Delete key) = key
+
+-- the operation's key is one that a set may have
+abbrev pub Fits : Op → Type 0
+Fits op = key_of op ≤ greatest_key
 
 -- the reply of an operation on a set
 abbrev pub reply_of : Op → KeySet → Bool

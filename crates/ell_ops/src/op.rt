@@ -1,5 +1,5 @@
 // One operation on a set of keys.
-ghost use Rattle.std.specs.Prelude.{◌≡◌, ◌≤◌, ◌↔◌, IsTrue};
+ghost use Rattle.std.specs.Prelude.{◌≡◌, ◌↔◌, IsTrue};
 
 /// The greatest key, 2^64 - 3: the two numbers above it that 64 bits hold mark the ends of the tree.
 pub const KEY_MAX: u64 = 18_446_744_073_709_551_613;
@@ -16,7 +16,7 @@ pub enum Op {
 }
 
 impl Op {
-    ghost use Rattle.ell_ops.specs.Meaning.{key_of, greatest_key};
+    ghost use Rattle.ell_ops.specs.Meaning.{key_of, Fits};
 
     /// The key that the operation is on.
     pub fn key(&self) -> u64
@@ -29,7 +29,7 @@ impl Op {
 
     /// Whether the key is at most [`KEY_MAX`].
     pub fn fits(&self) -> bool
-        ensures { IsTrue result ↔ (key_of self.now ≤ greatest_key) }
+        ensures { IsTrue result ↔ Fits self.now }
     {
         self.key() <= KEY_MAX
     }

@@ -1,0 +1,6 @@
+pub mod BulkLemmas
+pub mod InputLemmas
+pub mod LinesLemmas
+pub mod NumberLemmas
+pub mod OutputLemmas
+pub mod SendingLemmas

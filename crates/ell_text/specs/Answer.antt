@@ -1,0 +1,19 @@
+-- The text that answers a file of operations.
+use Rattle.std.specs.Prelude.{ℕ, Bool, true, false, List, ◌++◌, length, codes}
+use Rattle.std.specs.List.{flat_map}
+use Rattle.std.specs.Fmt.{decimal}
+
+-- the line of a reply
+abbrev pub reply_line : Bool → List ℕ
+reply_line true = codes "yes\n"
+reply_line false = codes "no\n"
+
+-- the line of a number: its decimal digits
+abbrev pub number_line : ℕ → List ℕ
+number_line n = decimal n ++ codes "\n"
+
+-- a line for each reply, a line with the number of the keys, and a line for each key
+abbrev pub answer : List Bool → List ℕ → List ℕ
+answer replies keys =
+    flat_map reply_line replies ++ codes "keys " ++ number_line (length keys)
+    ++ flat_map number_line keys

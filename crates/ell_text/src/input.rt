@@ -1,0 +1,109 @@
+// All the bytes of a reader.
+ghost use Rattle.std.specs.Prelude.{◌≡◌, ◌≢◌, ◌+◌, ◌<◌, ◌≤◌, IfErr, IfOk, IfSome, IsErrOf, OnErr, OnOk, drop, length, take, vec_len};
+ghost use Rattle.std.specs.Io.KnownBytes.{Consumes, IsAtEnd, Keeps};
+ghost use Rattle.ell_text.specs.Input.{GivesFront};
+
+use std::alloc::Allocator;
+use std::io::Read;
+use thiserror::Error;
+
+/// The most bytes that an input may have.
+pub const INPUT_MAX: usize = 16_777_216;
+
+// The least room that a read is given, in bytes.
+const READ_ROOM: usize = 65_536;
+
+/// Why an input was not read.
+#[derive(Debug, Clone, Copy, PartialEq, Eq, Error)]
+pub enum InputFault {
+    /// The reader answered an error: any, an interrupted call too.
+    #[error("read failed")]
+    Read,
+    /// The reader gave more than `INPUT_MAX` bytes.
+    #[error("input over {max} bytes", max = INPUT_MAX)]
+    TooLong,
+    /// A growth was refused.
+    #[error("out of memory")]
+    NoMemory,
+}
+
+/// Reads all of a reader's bytes, up to its first answer of no byte. The first fault that is met is
+/// answered, and the reader has then given some of its bytes.
+pub fn read_all<A: Allocator, R: Read>(alloc: A, reader: &mut R) -> Result<Vec<u8, A>, InputFault>
+    ensures bytes { IfOk result (λ v. IfSome (R.remaining reader.old) (λ bytes. v.items ≡ bytes)) }
+    ensures end { OnOk result (IsAtEnd (R.remaining reader.new)) }
+    ensures within { IfOk result (λ v. vec_len v ≤ INPUT_MAX) }
+    ensures too_long { IsErrOf result InputFault.TooLong
+        → IfSome (R.remaining reader.old) (λ bytes. INPUT_MAX < length bytes) }
+    ensures given { GivesFront (R.remaining reader.old) (R.remaining reader.new) }
+{
+    let mut bytes = Vec::new(alloc);
+    let mut filled = 0;
+    while filled <= INPUT_MAX {
+        let count = read_more(reader, &mut bytes, filled)?;
+        if count == 0 {
+            bytes.truncate(filled);
+            return Ok(bytes);
+        }
+        filled += count;
+    }
+    Err(InputFault::TooLong)
+}
+
+// Reads once, to behind the filled front of the list, and says how many bytes came.
+fn read_more<A: Allocator, R: Read>(
+    reader: &mut R,
+    bytes: &mut Vec<u8, A>,
+    filled: usize,
+) -> Result<usize, InputFault>
+    requires filled { filled ≤ vec_len bytes.old }
+    requires short { filled ≤ INPUT_MAX }
+    requires within { vec_len bytes.old ≤ INPUT_MAX + READ_ROOM }
+    ensures front { take filled bytes.new.items ≡ take filled bytes.old.items }
+    ensures within { vec_len bytes.new ≤ INPUT_MAX + READ_ROOM }
+    ensures fits { IfOk result (λ count. filled + count ≤ vec_len bytes.new) }
+    ensures ok { IfOk result (λ count. Consumes (R.remaining reader.old) (R.remaining reader.new)
+        (take count (drop filled bytes.new.items))) }
+    ensures end { IfOk result (λ count. count ≡ 0 → IsAtEnd (R.remaining reader.new)) }
+    ensures err { OnErr result (Keeps (R.remaining reader.old) (R.remaining reader.new)) }
+    ensures fault { IfErr result (λ fault. fault ≢ InputFault.TooLong) }
+{
+    make_room(bytes, filled)?;
+    read_at(reader, bytes.as_mut_slice(), filled)
+}
+
+// Makes the list longer than its filled front by at least `READ_ROOM`, and twice as long as it was up
+// to the most that it may be.
+fn make_room<A: Allocator>(bytes: &mut Vec<u8, A>, filled: usize) -> Result<(), InputFault>
+    requires filled { filled ≤ vec_len bytes.old }
+    requires short { filled ≤ INPUT_MAX }
+    requires within { vec_len bytes.old ≤ INPUT_MAX + READ_ROOM }
+    ensures front { take filled bytes.new.items ≡ take filled bytes.old.items }
+    ensures room { OnOk result (filled + READ_ROOM ≤ vec_len bytes.new) }
+    ensures within { vec_len bytes.new ≤ INPUT_MAX + READ_ROOM }
+    ensures kept { vec_len bytes.old ≤ vec_len bytes.new }
+    ensures fault { IfErr result (λ fault. fault ≡ InputFault.NoMemory) }
+{
+    let len = bytes.len();
+    if len - filled >= READ_ROOM {
+        return Ok(());
+    }
+    let doubled = (2 * len).min(INPUT_MAX + READ_ROOM);
+    bytes
+        .resize(doubled.max(filled + READ_ROOM), 0)
+        .map_err(|_| InputFault::NoMemory)
+}
+
+// Reads once, to the part of the buffer from an index on.
+fn read_at<R: Read>(reader: &mut R, buffer: &mut [u8], at: usize) -> Result<usize, InputFault>
+    requires { at < length buffer.old }
+    ensures front { take at buffer.new ≡ take at buffer.old }
+    ensures fits { IfOk result (λ count. at + count ≤ length buffer.new) }
+    ensures ok { IfOk result (λ count. Consumes (R.remaining reader.old) (R.remaining reader.new)
+        (take count (drop at buffer.new))) }
+    ensures end { IfOk result (λ count. count ≡ 0 → IsAtEnd (R.remaining reader.new)) }
+    ensures err { OnErr result (Keeps (R.remaining reader.old) (R.remaining reader.new)) }
+    ensures fault { IfErr result (λ fault. fault ≡ InputFault.Read) }
+{
+    reader.read(&mut buffer[at..]).map_err(|_| InputFault::Read)
+}

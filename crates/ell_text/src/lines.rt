@@ -1,0 +1,45 @@
+// The lines of a text, and the parts of one line.
+ghost use Rattle.std.specs.Prelude.{◌≡◌, ◌≤◌, length, position};
+ghost use Rattle.std.specs.List.{after_first, before_first};
+ghost use Rattle.ell_text.specs.Lines.{is_blank, is_skipped, is_space, lines};
+
+use bstr::{ByteSlice, Lines};
+
+/// The lines of a text, in order. A line ends at a line feed, which may have one carriage return before
+/// it. The last line may lack its end, and nothing after the last line feed is no line.
+pub(crate) fn lines(text: &[u8]) -> Lines<'_>
+    ensures value { result ≡ lines text.now }
+    ensures len { length result ≤ length text.now }
+{
+    text.lines()
+}
+
+/// Whether a line says nothing: a comment, or nothing but spaces and tabs.
+pub(crate) fn is_skipped(line: &[u8]) -> bool
+    ensures { result ≡ is_skipped line.now }
+{
+    line.starts_with(b"#") || is_blank(line)
+}
+
+fn is_blank(line: &[u8]) -> bool
+    ensures { result ≡ is_blank line.now }
+{
+    line.iter().all(|byte| *byte == b' ' || *byte == b'\t')
+}
+
+/// What stands before the first space and what stands after it: all and nothing where there is none.
+pub(crate) fn split_at_space(line: &[u8]) -> (&[u8], &[u8])
+    ensures before { result.0.now ≡ before_first is_space line.now }
+    ensures after { result.1.now ≡ after_first is_space line.now }
+{
+    match first_space(line) {
+        Some(at) => (&line[..at], &line[at + 1..]),
+        None => (line, &[]),
+    }
+}
+
+fn first_space(line: &[u8]) -> Option<usize>
+    ensures { result ≡ position is_space line.now }
+{
+    line.iter().position(|byte| *byte == b' ')
+}

@@ -1,0 +1,65 @@
+// Numbers in decimal digits, as a text spells them.
+ghost use Rattle.std.specs.Prelude.{◌≡◌, ◌^◌, ◌≤◌, IfOk, IsTrue, MatchOption};
+ghost use Rattle.std.specs.Char.{is_ascii_digit};
+ghost use Rattle.std.specs.List.{list_all};
+ghost use Rattle.ell_ops.specs.Meaning.{greatest_key};
+ghost use Rattle.ell_text.specs.Number.{is_number, key_in, number_in, value_of};
+
+use ell_ops::KEY_MAX;
+use std::str;
+
+/// Why some bytes are no number in range.
+#[derive(Debug, Clone, Copy, PartialEq, Eq)]
+pub(crate) enum NumberFault {
+    /// There is no byte, a byte that is no digit, or a first 0 that other digits follow.
+    NotANumber,
+    /// The number is above the greatest one, however many digits it has.
+    TooLarge,
+}
+
+/// Reads a key: a number of at most `KEY_MAX`.
+pub(crate) fn read_key(bytes: &[u8]) -> Result<u64, NumberFault>
+    ensures value { result ≡ key_in bytes.now }
+    ensures within { IfOk result (λ key. key ≤ greatest_key) }
+{
+    read_number(bytes, KEY_MAX)
+}
+
+/// Reads a number of at most `max`, from all of the bytes.
+pub(crate) fn read_number(bytes: &[u8], max: u64) -> Result<u64, NumberFault>
+    ensures value { result ≡ number_in max bytes.now }
+    ensures within { IfOk result (λ number. number ≤ max) }
+{
+    if !is_number(bytes) {
+        return Err(NumberFault::NotANumber);
+    }
+    match value(bytes) {
+        Some(number) if number <= max => Ok(number),
+        _ => Err(NumberFault::TooLarge),
+    }
+}
+
+// The value of a number's digits, if it is below 2^64.
+fn value(digits: &[u8]) -> Option<u64>
+    requires { IsTrue (is_number digits.now) }
+    ensures { MatchOption result (2 ^ 64 ≤ value_of digits.now) (λ number. number ≡ value_of digits.now) }
+{
+    str::from_utf8(digits).unwrap().parse().ok()
+}
+
+// Whether the bytes are digits with no needless 0 in front.
+fn is_number(bytes: &[u8]) -> bool
+    ensures { result ≡ is_number bytes.now }
+{
+    match bytes {
+        [] => false,
+        [digit] => digit.is_ascii_digit(),
+        [first, rest @ ..] => first.is_ascii_digit() && *first != b'0' && are_digits(rest),
+    }
+}
+
+fn are_digits(bytes: &[u8]) -> bool
+    ensures { result ≡ list_all is_ascii_digit bytes.now }
+{
+    bytes.iter().all(|byte| byte.is_ascii_digit())
+}
