@@ -1,4 +1,4 @@
-// Laws of the meaning, for every set and list. Each is the contract of a function that does nothing.
+//! Laws of the meaning, for every set and list. Each is the contract of a function that does nothing.
 ghost use Rattle.std.specs.Prelude.{◌≡◌, ℕ, List};
 ghost use Rattle.ell_ops.specs.KeySet.{KeySet, Lists};
 ghost use Rattle.ell_ops.specs.LastWriter.{FoldHasPresentKeys, RepliesGoByPresence};

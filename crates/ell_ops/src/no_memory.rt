@@ -1,4 +1,4 @@
-// The one way in which a call fails that only memory can fail.
+//! The one way in which a call fails that only memory can fail.
 ghost use Rattle.std.specs.Prelude.{Some, codes};
 
 use std::alloc::{AllocError, AllocFailed};

@@ -1,4 +1,4 @@
-// A list of operations, applied by one thread to an ordered set.
+//! A list of operations, applied by one thread to an ordered set.
 ghost use Rattle.std.specs.Prelude.{◌≡◌, IfOk, OnOk, OnErr};
 ghost use Rattle.std.specs.List.Sorted.{IsStrictlyIncreasing};
 ghost use Rattle.ell_ops.specs.KeySet.{set_of, empty, Lists};

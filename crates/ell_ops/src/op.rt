@@ -1,4 +1,4 @@
-// One operation on a set of keys.
+//! One operation on a set of keys.
 ghost use Rattle.std.specs.Prelude.{◌≡◌, ◌↔◌, IsTrue};
 
 /// The greatest key, 2^64 - 3: the two numbers above it that 64 bits hold mark the ends of the tree.

@@ -1,4 +1,4 @@
-// Worked lists of operations, with the replies and keys that a person gave them.
+//! Worked lists of operations, with the replies and keys that a person gave them.
 use super::*;
 use std::test::Fail;
 

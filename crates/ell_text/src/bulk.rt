@@ -1,4 +1,4 @@
-// The operations of a bulk text.
+//! The operations of a bulk text.
 ghost use Rattle.std.specs.Prelude.{◌≡◌, ◌≢◌, ◌≤◌, ◌++◌, All, None, Some, IfErr, IfOk, IsSome, OnOk, vec_len};
 ghost use Rattle.std.specs.Option.{option_to_list};
 ghost use Rattle.ell_ops.specs.Meaning.{Fits};

@@ -1,4 +1,4 @@
-// The operation of one line of a bulk text.
+//! The operation of one line of a bulk text.
 ghost use Rattle.std.specs.Prelude.{◌≡◌, ◌≤◌, IfOk, IfSome};
 ghost use Rattle.ell_ops.specs.Meaning.{Fits, key_of};
 ghost use Rattle.ell_text.specs.Line.{line_of};

@@ -1,4 +1,4 @@
-// The lines of a text, and the parts of one line.
+//! The lines of a text, and the parts of one line.
 ghost use Rattle.std.specs.Prelude.{◌≡◌, ◌≤◌, length, position};
 ghost use Rattle.std.specs.List.{after_first, before_first};
 ghost use Rattle.ell_text.specs.Lines.{is_blank, is_skipped, is_space, lines};

@@ -1,4 +1,4 @@
-// Numbers in decimal digits, as a text spells them.
+//! Numbers in decimal digits, as a text spells them.
 ghost use Rattle.std.specs.Prelude.{◌≡◌, ◌^◌, ◌≤◌, IfOk, IsTrue, MatchOption};
 ghost use Rattle.std.specs.Char.{is_ascii_digit};
 ghost use Rattle.std.specs.List.{list_all};

@@ -23,22 +23,6 @@ pub struct WriteFault {
     pub written: u64,
 }
 
-/// Writes the text, in as few calls of the writer as it allows.
-///
-/// `Err` at the first failure of the writer.
-pub fn write_text<W: Write>(out: &mut W, text: &[u8]) -> Result<(), WriteFault>
-    // The whole text is out, behind what was there.
-    ensures ok { OnOk result (Appends (W.contents out.old) (W.contents out.new) text.now) }
-    // Exactly the first `written` bytes are out.
-    ensures fault { IfErr result (λ fault.
-        Appends (W.contents out.old) (W.contents out.new) (take fault.written text.now)) }
-    // Some of the text is missing.
-    ensures missing { IfErr result (λ fault. fault.written < length text.now) }
-{
-    send(out, text, 0)?;
-    Ok(())
-}
-
 /// Gives all of the bytes to the writer. Adds one to the count `written` for each byte that the
 /// writer takes, and returns the sum.
 ///

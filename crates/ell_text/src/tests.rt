@@ -1,3 +1,3 @@
-// What no clause says, by texts that were read and written by hand.
+//! What no clause says, by texts that were read and written by hand.
 mod reading;
 mod writing;

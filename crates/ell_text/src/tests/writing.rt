@@ -1,7 +1,7 @@
-// What no clause says: the bytes of the text, how often the writer is called, and what is a failure
-// of the writer.
+//! What no clause says: the bytes of the text, how often the writer is called, and what is a failure
+//! of the writer.
 use crate::output::{CAPACITY, send};
-use crate::{WriteFault, write_answer, write_text};
+use crate::{WriteFault, write_answer};
 use std::alloc::{AllocError, Global};
 use std::io;
 use std::io::{ErrorKind, Write};
@@ -122,18 +122,6 @@ fn long_answer(alloc: Global) -> Result<Vec<u8>, AllocError> {
     }
     text.extend_from_slice(b"keys 3\n7\n1234567890\n0\n")?;
     Ok(text)
-}
-
-#[test]
-fn writes_a_text_without_a_buffer(rt: HostRuntime) -> Result<(), Fail> {
-    let mut out = Limited::new(rt.alloc(), 7, 3, WhenFull::TakesNothing);
-    assert_eq!(rt; write_text(&mut out, b"help"), Ok(()));
-    assert_eq!(rt;
-        write_text(&mut out, b"help"),
-        Err(WriteFault { written: 3 })
-    );
-    assert_eq!(rt; out.taken.as_slice(), b"helphel".as_slice());
-    Ok(())
 }
 
 #[test]

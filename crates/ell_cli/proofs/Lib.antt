@@ -1,0 +1,2 @@
+mod CommandLineLemmas
+mod RunLemmas

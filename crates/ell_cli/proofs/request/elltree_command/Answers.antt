@@ -1,0 +1,28 @@
+use Rattle.std.proofs.Common.{◌≡◌, ◌∙◌, ap, ap₂, codes, true}
+use Rattle.std.proofs.lemmas.Result.{IfOk-weaker}
+use Rattle.clap.specs.Words.{App, app_of, new_app, with_subcommand}
+use Rattle.clap.specs.Simple.{app_of_fields, on_top}
+use Rattle.ell_cli.specs.CommandLine.{elltree_app}
+use Rattle.ell_cli.proofs.request.elltree_command.Goals as goal
+
+abbrev without_name : App → App
+without_name = on_top (λ s. record s { no_binary_name = true })
+
+abbrev with_required : App → App
+with_required = on_top (λ s. record s { subcommand_required = true })
+
+pub returns : goal.returns
+unfolding elltree_app
+returns c =
+    let about : app_of c.about.result ≡ new_app (codes "elltree") =
+    ap app_of_fields c.about.ensures ∙ c.new.ensures.app in
+    let nameless : app_of c.no_binary_name.result ≡ without_name (new_app (codes "elltree")) =
+    ap app_of_fields c.no_binary_name.ensures ∙ ap without_name about in
+    let required : app_of c.subcommand_required.result
+    ≡ with_required (without_name (new_app (codes "elltree"))) =
+    ap app_of_fields c.subcommand_required.ensures ∙ ap with_required nameless in
+    let named : app_of c.in_ok-bin_name.field-0
+    ≡ with_required (without_name (new_app (codes "elltree"))) =
+    ap app_of_fields c.in_ok-bin_name.ensures.0 ∙ required in
+    IfOk-weaker c.subcommand.result _ _ (λ r h.
+    h.shape c.run_command.ensures.local ∙ ap₂ with_subcommand named c.run_command.ensures.shape) c.subcommand.ensures

@@ -1,0 +1,4 @@
+pub mod CommandLine
+pub mod Program
+pub mod Run
+pub mod RunFault

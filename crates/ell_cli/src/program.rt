@@ -1,0 +1,143 @@
+//! The whole program, over the words of its command line, a reader and two writers.
+ghost use Rattle.std.specs.Prelude.{◌≡◌, IsTrue, IfErr, IsErrAnd, OnOk, Err, map};
+ghost use Rattle.std.specs.Io.KnownBytes.{Keeps};
+ghost use Rattle.clap.specs.Words.{kind_of};
+ghost use Rattle.ell_cli.specs.CommandLine.{AreRefused, AreTaken, AsksForHelp, AsksToRun};
+ghost use Rattle.ell_cli.specs.CommandLine.{is_mistake};
+ghost use Rattle.ell_cli.specs.Program.{IsBeforeOutput, IsRefusal, IsSilent, IsStatus, Succeeded};
+ghost use Rattle.ell_cli.specs.Program.{status_of};
+ghost use Rattle.ell_cli.specs.Run.{IsAnswered};
+
+use crate::request::{Request, request_of};
+use crate::run::{RunFault, run_bytes};
+use clap::error::ErrorKind;
+use std::alloc::Global;
+use std::convert::AsStr;
+use std::io::{Read, Write};
+use thiserror::Error;
+
+// Success, or help was asked for.
+const SUCCEEDED: u8 = 0;
+
+// A fault in the text, too long an input, or arguments that are refused.
+const REFUSED: u8 = 2;
+
+const OUT_OF_MEMORY: u8 = 3;
+
+// Reading or writing failed.
+const TRANSFER_FAILED: u8 = 4;
+
+/// The exit status where the arguments could not be taken.
+pub const ARGUMENTS_NOT_TAKEN: u8 = OUT_OF_MEMORY;
+
+// Why the program ends with another status than 0. The text is what standard error gets.
+#[derive(Debug, Drop, Error)]
+enum Failure {
+    // The words are refused, with clap's text.
+    #[error("{0}")]
+    Refused(clap::Error),
+    #[error("elltree: out of memory\n")]
+    NoMemory,
+    #[error("elltree: {0}\n")]
+    Run(RunFault),
+    // `out` did not take the help, or could not be flushed.
+    #[error("elltree: write failed\n")]
+    Write,
+}
+
+impl Failure {
+    // The exit status that tells of the failure.
+    fn status(&self) -> u8
+        ensures { result ≡ status_of self.now }
+    {
+        match self {
+            Failure::Refused(_) => REFUSED,
+            Failure::NoMemory => OUT_OF_MEMORY,
+            Failure::Run(RunFault::TooLong | RunFault::Text(_)) => REFUSED,
+            Failure::Run(RunFault::NoMemory) => OUT_OF_MEMORY,
+            Failure::Run(RunFault::Read | RunFault::Write { .. }) => TRANSFER_FAILED,
+            Failure::Write => TRANSFER_FAILED,
+        }
+    }
+}
+
+/// The whole program over a reader and two writers: answers its exit status, which `run --help`
+/// explains. Answers and help go to `out`, which is flushed last, and the text of a failure to `err`.
+/// Where `err` fails, the status is the same.
+pub fn elltree<R, S: AsStr, I: Read, O: Write, E: Write>(
+    rt: &R,
+    alloc: Global,
+    words: &[S],
+    input: &mut I,
+    out: &mut O,
+    err: &mut E,
+) -> u8
+    ensures status { IsStatus result }
+    ensures silent { IsSilent result → Keeps (O.contents out.old) (O.contents out.new) }
+    ensures quiet { Succeeded result → err.new ≡ err.old }
+
+    // Success means that the run ended well, where the words are taken, as the one word `run` is.
+    ensures taken { AreTaken (map S.text words.now) → Succeeded result
+        → IsAnswered (I.remaining input.old) (O.contents out.old) (O.contents out.new) }
+    ensures run { AsksToRun (map S.text words.now) → Succeeded result
+        → IsAnswered (I.remaining input.old) (O.contents out.old) (O.contents out.new) }
+
+    ensures help { AsksForHelp (map S.text words.now) → ¬ IsRefusal result }
+    ensures refused { AreRefused (map S.text words.now) → IsSilent result }
+    ensures unread { ¬ AreTaken (map S.text words.now) → input.new ≡ input.old }
+{
+    match outcome(rt, alloc, words, input, out) {
+        Ok(()) => SUCCEEDED,
+        Err(failure) => {
+            let _ = write!(err, "{failure}");
+            failure.status()
+        }
+    }
+}
+
+// Does what the words ask for, and flushes `out` last.
+fn outcome<R, S: AsStr, I: Read, O: Write>(
+    rt: &R,
+    alloc: Global,
+    words: &[S],
+    input: &mut I,
+    out: &mut O,
+) -> Result<(), Failure>
+    ensures silent { IfErr result (λ failure.
+        IsBeforeOutput failure → Keeps (O.contents out.old) (O.contents out.new)) }
+    ensures taken { AreTaken (map S.text words.now)
+        → OnOk result (IsAnswered (I.remaining input.old) (O.contents out.old) (O.contents out.new)) }
+    ensures run { AsksToRun (map S.text words.now)
+        → OnOk result (IsAnswered (I.remaining input.old) (O.contents out.old) (O.contents out.new)) }
+    ensures help { AsksForHelp (map S.text words.now)
+        → IfErr result (λ failure. ¬ IsRefusal (status_of failure)) }
+    ensures refused { AreRefused (map S.text words.now)
+        → IsErrAnd result (λ failure. IsSilent (status_of failure)) }
+    ensures unread { ¬ AreTaken (map S.text words.now) → input.new ≡ input.old }
+{
+    match request_of(alloc, words) {
+        Ok(Request::Run) => run_bytes(rt, alloc, input, out).map_err(Failure::Run)?,
+        Err(error) => show_help(error, out)?,
+    }
+    out.flush().map_err(|_| Failure::Write)
+}
+
+// Writes the help that the words asked for; any other error is a failure.
+fn show_help<O: Write>(error: clap::Error, out: &mut O) -> Result<(), Failure>
+    ensures help { kind_of error ≡ ErrorKind.DisplayHelp
+        → IfErr result (λ failure. failure ≡ Failure.Write) }
+    ensures memory { kind_of error ≡ ErrorKind.OutOfMemory
+        → (result ≡ Err Failure.NoMemory) × (out.new ≡ out.old) }
+    ensures mistake { IsTrue (is_mistake (kind_of error))
+        → (result ≡ Err (Failure.Refused error)) × (out.new ≡ out.old) }
+    ensures silent { IfErr result (λ failure.
+        IsBeforeOutput failure → Keeps (O.contents out.old) (O.contents out.new)) }
+{
+    match error.kind() {
+        ErrorKind::DisplayHelp | ErrorKind::DisplayVersion => {
+            write!(out, "{error}").map_err(|_| Failure::Write)
+        }
+        ErrorKind::OutOfMemory => Err(Failure::NoMemory),
+        _ => Err(Failure::Refused(error)),
+    }
+}

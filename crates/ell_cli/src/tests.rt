@@ -1,0 +1,4 @@
+//! What no clause says: which texts go where, and what a reader or a writer that fails does.
+mod runs;
+mod streams;
+mod words;

@@ -1,0 +1,129 @@
+//! Whole runs, from bytes to bytes.
+use super::streams::{Broken, Narrow};
+use crate::program::elltree;
+use crate::run::{RunFault, run_bytes};
+use std::alloc::{AllocError, Global};
+use std::test::Fail;
+
+const FOUR_LINES: &[u8] = b"insert 5\nfind 5\ndelete 5\nfind 5\n";
+
+#[test]
+fn runs_give_answers(rt: HostRuntime) -> Result<(), Fail> {
+    let cases: [(&[u8], &[u8]); 6] = [
+        (b"", b"keys 0\n"),
+        (FOUR_LINES, b"yes\nyes\nyes\nno\nkeys 0\n"),
+        (
+            b"insert 18446744073709551613\n",
+            b"yes\nkeys 1\n18446744073709551613\n",
+        ),
+        (
+            b"insert 7\ninsert 7\ndelete 7\ndelete 7\n",
+            b"yes\nno\nyes\nno\nkeys 0\n",
+        ),
+        (b"# start\n\ninsert 9\r\nfind 9", b"yes\nyes\nkeys 1\n9\n"),
+        (
+            b"insert 1\ninsert 65\nfind 1\n",
+            b"yes\nyes\nyes\nkeys 2\n1\n65\n",
+        ),
+    ];
+    for (text, want) in cases {
+        let mut out = Vec::new(rt.alloc());
+        run_bytes(&rt, rt.alloc(), &mut &*text, &mut out)?;
+        assert_eq!(rt; out.as_slice(), want, "at {text:?}");
+    }
+    Ok(())
+}
+
+#[test]
+fn faults_go_to_standard_error(rt: HostRuntime) {
+    let cases: [(&[u8], &str); 4] = [
+        (
+            b"insert 18446744073709551614\n",
+            "elltree: line 1: key too large\n",
+        ),
+        (
+            b"find 1000000000000000000000000000000000000000\n",
+            "elltree: line 1: key too large\n",
+        ),
+        (
+            b"# start\n\ninsert 9\r\nfind x",
+            "elltree: line 4: not a key\n",
+        ),
+        (b"walk 5\n", "elltree: line 1: not an operation\n"),
+    ];
+    for (text, want) in cases {
+        let mut out = Vec::new(rt.alloc());
+        let mut err = Vec::new(rt.alloc());
+        let status = elltree(&rt, rt.alloc(), &["run"], &mut &*text, &mut out, &mut err);
+        assert_eq!(rt; status, 2, "at {text:?}");
+        assert!(rt; out.is_empty(), "at {text:?}");
+        assert_eq!(rt; err.as_slice(), want.as_bytes(), "at {text:?}");
+    }
+}
+
+#[test]
+fn a_broken_reader_ends_the_run(rt: HostRuntime) {
+    let mut out = Vec::new(rt.alloc());
+    let mut err = Vec::new(rt.alloc());
+    let mut input = Broken::after(b"ins");
+    let status = elltree(&rt, rt.alloc(), &["run"], &mut input, &mut out, &mut err);
+    assert_eq!(rt; status, 4);
+    assert!(rt; out.is_empty());
+    assert_eq!(rt; err.as_slice(), b"elltree: read failed\n".as_slice());
+}
+
+#[test]
+fn a_full_writer_ends_the_run(rt: HostRuntime) {
+    let mut out = Narrow::new(rt.alloc(), 5, true);
+    let result = run_bytes(&rt, rt.alloc(), &mut &*FOUR_LINES, &mut out);
+    assert_eq!(rt; result, Err(RunFault::Write { written: 5 }));
+    assert_eq!(rt; out.held.as_slice(), b"yes\ny".as_slice());
+
+    let mut out = Narrow::new(rt.alloc(), 5, true);
+    let mut err = Vec::new(rt.alloc());
+    let mut input = FOUR_LINES;
+    let status = elltree(&rt, rt.alloc(), &["run"], &mut input, &mut out, &mut err);
+    assert_eq!(rt; status, 4);
+    assert_eq!(rt;
+        err.as_slice(),
+        b"elltree: write failed after 5 bytes\n".as_slice()
+    );
+}
+
+fn repeated(alloc: Global, line: &[u8], count: usize) -> Result<Vec<u8>, AllocError> {
+    let mut text = Vec::new(alloc);
+    for _ in 0..count {
+        text.extend_from_slice(line)?;
+    }
+    Ok(text)
+}
+
+#[test]
+fn the_limits(rt: HostRuntime) -> Result<(), Fail> {
+    let mut all_no = repeated(rt.alloc(), b"no\n", 200_000)?;
+    all_no.extend_from_slice(b"keys 0\n")?;
+    let operations = repeated(rt.alloc(), b"find 0\n", 200_000)?;
+    let one_more = repeated(rt.alloc(), b"find 0\n", 200_001)?;
+    let long = vec![in rt.alloc(); b'\n'; 16_777_216]?;
+    let longer = vec![in rt.alloc(); b'\n'; 16_777_217]?;
+    let cases: [(&[u8], u8, &[u8], &str); 4] = [
+        (&operations, 0, &all_no, ""),
+        (
+            &one_more,
+            2,
+            b"",
+            "elltree: line 200001: more than 200000 operations\n",
+        ),
+        (&long, 0, b"keys 0\n", ""),
+        (&longer, 2, b"", "elltree: input over 16777216 bytes\n"),
+    ];
+    for (text, status, answer, fault) in cases {
+        let mut out = Vec::new(rt.alloc());
+        let mut err = Vec::new(rt.alloc());
+        let found = elltree(&rt, rt.alloc(), &["run"], &mut &*text, &mut out, &mut err);
+        assert_eq!(rt; found, status);
+        assert!(rt; out.as_slice() == answer);
+        assert_eq!(rt; err.as_slice(), fault.as_bytes());
+    }
+    Ok(())
+}

@@ -1,0 +1,104 @@
+//! What the words of the command line come to.
+use super::streams::Narrow;
+use crate::program::elltree;
+use std::io::{Write, empty};
+use std::test::Fail;
+
+const WRITE_FAILED: &str = "elltree: write failed\n";
+
+fn status_of<O: Write, E: Write>(rt: &HostRuntime, words: &[&str], out: &mut O, err: &mut E) -> u8 {
+    elltree(rt, rt.alloc(), words, &mut empty(), out, err)
+}
+
+#[test]
+fn tells_of_refused_words(rt: HostRuntime) {
+    let cases = [
+        [].as_slice(),
+        &["walk"],
+        &["run", "x"],
+        &["--version"],
+        &["help", "walk"],
+    ];
+    for words in cases {
+        let mut out = Vec::new(rt.alloc());
+        let mut err = Vec::new(rt.alloc());
+        assert_eq!(rt;
+            status_of(&rt, words, &mut out, &mut err),
+            2,
+            "at {words:?}"
+        );
+        assert!(rt; out.is_empty(), "at {words:?}");
+        assert!(rt; !err.is_empty(), "at {words:?}");
+    }
+}
+
+#[test]
+fn shows_help(rt: HostRuntime) {
+    let cases = [
+        ["--help"].as_slice(),
+        &["-h"],
+        &["help"],
+        &["run", "--help"],
+        &["help", "run"],
+    ];
+    for words in cases {
+        let mut out = Vec::new(rt.alloc());
+        let mut err = Vec::new(rt.alloc());
+        assert_eq!(rt;
+            status_of(&rt, words, &mut out, &mut err),
+            0,
+            "at {words:?}"
+        );
+        assert!(rt; !out.is_empty(), "at {words:?}");
+        assert!(rt; err.is_empty(), "at {words:?}");
+    }
+}
+
+#[test]
+fn explains_a_run(rt: HostRuntime) -> Result<(), Fail> {
+    let mut out = Vec::new(rt.alloc());
+    let mut err = Vec::new(rt.alloc());
+    status_of(&rt, &["run", "--help"], &mut out, &mut err);
+    let text = String::from_utf8(out)?;
+    for part in ["Usage: elltree run", "insert 5", "keys 0", "Exit status:"] {
+        assert!(rt; text.as_str().contains(part), "without {part}");
+    }
+    Ok(())
+}
+
+#[test]
+fn tells_of_help_that_was_cut(rt: HostRuntime) {
+    let mut out = Narrow::new(rt.alloc(), 5, true);
+    let mut err = Vec::new(rt.alloc());
+    assert_eq!(rt; status_of(&rt, &["run", "--help"], &mut out, &mut err), 4);
+    assert_eq!(rt; out.held.len(), 5);
+    assert_eq!(rt; err.as_slice(), WRITE_FAILED.as_bytes());
+}
+
+#[test]
+fn tells_of_a_flush_that_failed(rt: HostRuntime) {
+    for words in [["run"].as_slice(), &["--help"]] {
+        let mut out = Narrow::new(rt.alloc(), usize::MAX, false);
+        let mut err = Vec::new(rt.alloc());
+        assert_eq!(rt;
+            status_of(&rt, words, &mut out, &mut err),
+            4,
+            "at {words:?}"
+        );
+        assert!(rt; !out.held.is_empty(), "at {words:?}");
+        assert_eq!(rt; err.as_slice(), WRITE_FAILED.as_bytes(), "at {words:?}");
+    }
+}
+
+#[test]
+fn ends_alike_without_standard_error(rt: HostRuntime) {
+    for (words, status) in [([].as_slice(), 2), (&["walk"], 2), (&["run"], 4)] {
+        let mut out = Narrow::new(rt.alloc(), 0, true);
+        let mut err = Narrow::new(rt.alloc(), 0, true);
+        assert_eq!(rt;
+            status_of(&rt, words, &mut out, &mut err),
+            status,
+            "at {words:?}"
+        );
+    }
+}
