@@ -18,7 +18,7 @@ pub enum Request {
     Run,
 }
 
-const ABOUT: &str = "A set of keys that is kept in a non-blocking search tree";
+const ABOUT: &str = "Finds, inserts and deletes on a set of keys, in bulk";
 
 const RUN_ABOUT: &str = "Run a text of finds, inserts and deletes on an empty set";
 
