@@ -1,2 +1,3 @@
+pub mod DistinctKeys
 pub mod Presence
 pub mod Sets

@@ -3,11 +3,13 @@
 //! This is the plain meaning that every other way of running a list is measured by.
 #![tactic(auto)]
 
+mod keys;
 mod laws;
 mod no_memory;
 mod one_thread;
 mod op;
 
+pub use keys::distinct_keys;
 pub use laws::{last_writer, one_listing};
 pub use no_memory::NoMemory;
 pub use one_thread::{apply, apply_all, apply_from};
