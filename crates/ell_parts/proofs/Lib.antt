@@ -1,0 +1,5 @@
+pub mod Places
+pub mod Ranks
+pub mod Partings
+pub mod Splits
+pub mod Placings

@@ -1,0 +1,17 @@
+use Rattle.std.proofs.Common.{rules, ap, ◌∙◌}
+use Rattle.ell_ops.proofs.Sets.{one_list}
+use Rattle.ell_parts.specs.Parting.{IsWorkerCount, keys_of, ranged}
+use Rattle.ell_parts.proofs.Partings.{ranged_is_lawful}
+use Rattle.ell_parts.proofs.parts.Parts.ranged.Goals as goal
+
+pub of-requires : goal.of-requires
+of-requires g c =
+    let count : IsWorkerCount c.args.workers = search rules in
+    rw (c.in_ok-owners.ensures, c.deref.ensures.value) (ranged_is_lawful c.args.ops.now c.in_ok-keys.keys.items c.args.workers count c.in_ok-keys.ensures)
+
+pub returns-clause-ranged : goal.returns-clause-ranged
+returns-clause-ranged g c =
+    let ops = c.args.ops.now in
+    rw c.in_ok-of.ensures
+    (λ keys listed. c.in_ok-owners.ensures
+    ∙ ap (λ k. ranged k ops c.args.workers) (c.deref.ensures.value ∙ one_list (keys_of ops) c.in_ok-keys.keys.items keys c.in_ok-keys.ensures listed))

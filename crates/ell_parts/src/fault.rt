@@ -1,0 +1,47 @@
+//! Why a list of operations is not parted.
+ghost use Rattle.std.specs.Prelude.{◌≡◌};
+
+use std::alloc::{AllocError, AllocFailed};
+use thiserror::Error;
+
+/// Why a list of operations was not parted. The faults are tested in this order, but want of memory comes after the
+/// first three and may stand in place of `KeySplit`.
+#[derive(Clone, Copy, Debug, PartialEq, Eq, Error)]
+pub enum PartFault {
+    /// The number of workers is not 1 to 64.
+    #[error("workers are not 1 to 64")]
+    BadWorkers,
+    /// The list of owners is not as long as that of the operations.
+    #[error("not one owner for each operation")]
+    OwnerCount,
+    /// The first owner that is none of the workers stands at this position.
+    #[error("position {at}: no such worker")]
+    StrangerOwner { at: usize },
+    /// The least position whose key has another owner at an earlier one is `second`, and the key stands first at
+    /// `first`.
+    #[error("positions {first} and {second}: one key with two workers")]
+    KeySplit { first: usize, second: usize },
+    /// There was no memory for the parts.
+    #[error("out of memory")]
+    NoMemory,
+}
+
+impl From<AllocError> for PartFault {
+    ghost use Rattle.ell_parts.specs.declared.fault.PartFault.TheVariants.{NoMemory};
+
+    ghost from_gives = { λ _ fault. fault ≡ NoMemory };
+
+    fn from(_: AllocError) -> PartFault {
+        PartFault::NoMemory
+    }
+}
+
+impl<T: Drop> From<AllocFailed<T>> for PartFault {
+    ghost use Rattle.ell_parts.specs.declared.fault.PartFault.TheVariants.{NoMemory};
+
+    ghost from_gives = { λ _ fault. fault ≡ NoMemory };
+
+    fn from(_: AllocFailed<T>) -> PartFault {
+        PartFault::NoMemory
+    }
+}

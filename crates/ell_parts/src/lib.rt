@@ -1,0 +1,17 @@
+//! Partings of a list of operations among workers, each key with one worker, and the way back: replies gathered
+//! into the order of the list.
+#![tactic(auto)]
+
+mod fault;
+mod gathering;
+mod keys;
+mod owners;
+mod parts;
+
+pub use fault::PartFault;
+pub use gathering::{GatherFault, gather};
+pub use owners::WORKERS_MAX;
+pub use parts::Parts;
+
+#[cfg(test)]
+mod tests;

@@ -1,0 +1,76 @@
+//! The worker of each position of a list.
+ghost use Rattle.std.specs.Prelude.{◌≡◌, ◌↔◌, IsTrue, length, IfOk, IfErr, OnOk};
+ghost use Rattle.ell_ops.specs.KeySet.{Lists};
+ghost use Rattle.ell_parts.specs.Parting.{IsWorkerCount, keys_of, striped, ranged};
+ghost use Rattle.ell_parts.specs.Faults.{AreTogether, IsSplit};
+
+use crate::fault::PartFault;
+use ell_ops::Op;
+use std::alloc::{AllocError, Allocator};
+use std::collections::BTreeMap;
+
+/// The greatest number of workers.
+pub const WORKERS_MAX: u32 = 64;
+
+// Whether there may be so many workers.
+pub(crate) fn is_worker_count(workers: u32) -> bool
+    ensures { IsTrue result ↔ IsWorkerCount workers }
+{
+    1 <= workers && workers <= WORKERS_MAX
+}
+
+// Checks that each key has one owner at all its positions. If not, the fault is the first split.
+pub(crate) fn keep_together<A: Allocator + Copy>(
+    alloc: A,
+    ops: &[Op],
+    owners: &[u32],
+) -> Result<(), PartFault>
+    requires { length owners.now ≡ length ops.now }
+    ensures ok { OnOk result (AreTogether ops.now owners.now (length ops.now)) }
+    ensures err { IfErr result (IsSplit ops.now owners.now) }
+{
+    let mut firsts = BTreeMap::new(alloc);
+    for (second, op) in ops.iter().enumerate() {
+        let first = *firsts.entry(op.key())?.or_insert(second);
+        if owners[first] != owners[second] {
+            return Err(PartFault::KeySplit { first, second });
+        }
+    }
+    Ok(())
+}
+
+// The owners in stripes: a key goes to the worker whose number is its remainder by their number.
+pub(crate) fn striped_owners<A: Allocator>(
+    alloc: A,
+    ops: &[Op],
+    workers: u32,
+) -> Result<Vec<u32, A>, AllocError>
+    requires { IsWorkerCount workers }
+    ensures { IfOk result (λ owners. owners.items ≡ striped ops.now workers) }
+{
+    let count = u64::from(workers);
+    ops.iter()
+        .map(|op| (op.key() % count) as u32)
+        .collect(alloc)
+}
+
+// The owners in ranges, where `keys` are the distinct keys.
+pub(crate) fn ranged_owners<A: Allocator>(
+    alloc: A,
+    ops: &[Op],
+    keys: &[u64],
+    workers: u32,
+) -> Result<Vec<u32, A>, AllocError>
+    requires count { IsWorkerCount workers }
+    requires keys { Lists (keys_of ops.now) keys.now }
+    ensures { IfOk result (λ owners. owners.items ≡ ranged keys.now ops.now workers) }
+{
+    let share = keys.len().div_ceil(workers as usize);
+    let mut owners = Vec::with_capacity(alloc, ops.len())?;
+    for op in ops {
+        let key = op.key();
+        let rank = keys.partition_point(|other| *other < key);
+        owners.push((rank / share) as u32)?;
+    }
+    Ok(owners)
+}

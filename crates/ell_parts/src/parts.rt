@@ -1,0 +1,201 @@
+//! A list of operations, parted among workers.
+ghost use Rattle.std.specs.Prelude.{◌≡◌, ◌<◌, ◌↔◌, length, IfOk, IfErr, IsErrOf, IsTrue, All, []};
+ghost use Rattle.ell_ops.specs.KeySet.{Lists};
+ghost use Rattle.ell_parts.specs.Parting.{Parting, IsWorkerCount, IsLawful, IsRanged, part, striped, keys_in, AreParts, AreKeys};
+ghost use Rattle.ell_parts.specs.Faults.{IsFault, IsCountFault};
+
+use crate::fault::PartFault;
+use crate::keys::{keys_of_list, keys_of_part};
+use crate::owners::{is_worker_count, keep_together, ranged_owners, striped_owners};
+use ell_ops::Op;
+use std::alloc::{AllocError, Allocator};
+use std::marker::Model;
+
+/// A list of operations and the worker of each position: equal keys have one worker. Each worker's operations stand
+/// together, with their positions in the list, and so do its keys.
+#[derive(Drop)]
+pub struct Parts<A: Allocator> {
+    ops: Vec<Op, A>,
+    owners: Vec<u32, A>,
+    parts: Vec<Vec<(usize, Op), A>, A>,
+    keys: Vec<Vec<u64, A>, A>,
+}
+
+impl<A: Allocator> Model for Parts<A> {
+    ghost use Rattle.std.specs.Prelude.{length};
+    ghost use Rattle.ell_parts.specs.Parting.{Parting, AreListsOf};
+
+    ghost Value = { Parting };
+
+    ghost view = { λ p. record { ops = p.ops.items; owners = p.owners.items; workers = length p.parts.items } };
+
+    ghost invariant = { λ p. AreListsOf (λ part. part.items) (λ keys. keys.items)
+        (record { ops = p.ops.items; owners = p.owners.items; workers = length p.parts.items }) p.parts.items p.keys.items };
+}
+
+impl<A: Allocator> Parts<A> {
+    /// How many workers there are.
+    pub fn workers(&self) -> u32
+        ensures value { result ≡ self.now.workers }
+        ensures lawful { IsLawful self.now }
+    {
+        self.parts.len() as u32
+    }
+
+    /// How many operations there are.
+    pub fn len(&self) -> usize
+        ensures value { result ≡ length self.now.ops }
+        ensures lawful { IsLawful self.now }
+    {
+        self.ops.len()
+    }
+
+    /// Whether there is no operation.
+    pub fn is_empty(&self) -> bool
+        ensures { IsTrue result ↔ (length self.now.ops ≡ 0) }
+    {
+        self.ops.is_empty()
+    }
+
+    /// The operations of a worker, with their positions in the list, ascending.
+    pub fn part(&self, worker: u32) -> &[(usize, Op)]
+        requires { worker < self.now.workers }
+        ensures { result.now ≡ part self.now worker }
+    {
+        &self.parts[worker as usize]
+    }
+
+    /// The keys of a worker's operations, strictly ascending.
+    pub fn keys(&self, worker: u32) -> &[u64]
+        requires { worker < self.now.workers }
+        ensures { Lists (keys_in (part self.now worker)) result.now }
+    {
+        &self.keys[worker as usize]
+    }
+}
+
+impl<A: Allocator + Copy> Parts<A> {
+    /// Gives each position the worker that `owners` has there. The fault is the first of [`PartFault`] that is met.
+    pub fn by_owner(
+        alloc: A,
+        ops: &[Op],
+        owners: &[u32],
+        workers: u32,
+    ) -> Result<Parts<A>, PartFault>
+        ensures ok { IfOk result (λ parts.
+            (parts ≡ record { ops = ops.now; owners = owners.now; workers = workers }) × IsLawful parts) }
+        ensures fault { IfErr result (IsFault ops.now owners.now workers) }
+    {
+        if !is_worker_count(workers) {
+            return Err(PartFault::BadWorkers);
+        }
+        if owners.len() != ops.len() {
+            return Err(PartFault::OwnerCount);
+        }
+        if let Some(at) = owners.iter().position(|owner| *owner >= workers) {
+            return Err(PartFault::StrangerOwner { at });
+        }
+        keep_together(alloc, ops, owners)?;
+        let owners = Vec::from_slice(alloc, owners)?;
+        Ok(Parts::of(alloc, ops, owners, workers)?)
+    }
+
+    /// Gives each key to the worker whose number is the key's remainder by the number of workers. The faults are
+    /// `BadWorkers` and want of memory.
+    pub fn striped(alloc: A, ops: &[Op], workers: u32) -> Result<Parts<A>, PartFault>
+        ensures ok { IfOk result (λ parts.
+            (parts ≡ record { ops = ops.now; owners = striped ops.now workers; workers = workers }) × IsLawful parts) }
+        ensures bad_workers { IsErrOf result PartFault.BadWorkers ↔ (¬ IsWorkerCount workers) }
+        ensures fault { IfErr result (IsCountFault workers) }
+    {
+        if !is_worker_count(workers) {
+            return Err(PartFault::BadWorkers);
+        }
+        let owners = striped_owners(alloc, ops, workers)?;
+        Ok(Parts::of(alloc, ops, owners, workers)?)
+    }
+
+    /// Gives the workers the distinct keys in ascending order, each the next run of them: of n keys a run has
+    /// n / workers, rounded up, so the last runs may be short or empty. The faults are `BadWorkers` and want of
+    /// memory.
+    pub fn ranged(alloc: A, ops: &[Op], workers: u32) -> Result<Parts<A>, PartFault>
+        ensures ok { IfOk result (λ parts. (parts.ops ≡ ops.now) × (parts.workers ≡ workers) × IsLawful parts) }
+        ensures ranged { IfOk result IsRanged }
+        ensures bad_workers { IsErrOf result PartFault.BadWorkers ↔ (¬ IsWorkerCount workers) }
+        ensures fault { IfErr result (IsCountFault workers) }
+    {
+        if !is_worker_count(workers) {
+            return Err(PartFault::BadWorkers);
+        }
+        let keys = keys_of_list(alloc, ops)?;
+        let owners = ranged_owners(alloc, ops, &keys, workers)?;
+        Ok(Parts::of(alloc, ops, owners, workers)?)
+    }
+
+    // The parts of a list whose owners are lawful.
+    fn of(alloc: A, ops: &[Op], owners: Vec<u32, A>, workers: u32) -> Result<Parts<A>, AllocError>
+        requires { IsLawful (record { ops = ops.now; owners = owners.items; workers = workers }) }
+        ensures { IfOk result (λ parts. parts ≡ record { ops = ops.now; owners = owners.items; workers = workers }) }
+    {
+        let parts = parts_of(alloc, ops, &owners, workers)?;
+        let keys = keys_of_parts(alloc, &parts)?;
+        let ops = Vec::from_slice(alloc, ops)?;
+        Ok(Parts {
+            ops,
+            owners,
+            parts,
+            keys,
+        })
+    }
+}
+
+// The part of each worker.
+fn parts_of<A: Allocator + Copy>(
+    alloc: A,
+    ops: &[Op],
+    owners: &[u32],
+    workers: u32,
+) -> Result<Vec<Vec<(usize, Op), A>, A>, AllocError>
+    requires { IsLawful (record { ops = ops.now; owners = owners.now; workers = workers }) }
+    ensures count { IfOk result (λ parts. length parts.items ≡ workers) }
+    ensures parts { IfOk result (λ parts.
+        AreParts (λ list. list.items) (record { ops = ops.now; owners = owners.now; workers = workers }) parts.items) }
+{
+    let mut parts = empty_parts(alloc, workers)?;
+    for (at, op) in ops.iter().enumerate() {
+        let part = &mut parts[owners[at] as usize];
+        part.push((at, *op))?;
+    }
+    Ok(parts)
+}
+
+// As many empty parts as there are workers.
+fn empty_parts<A: Allocator + Copy>(
+    alloc: A,
+    workers: u32,
+) -> Result<Vec<Vec<(usize, Op), A>, A>, AllocError>
+    ensures count { IfOk result (λ parts. length parts.items ≡ workers) }
+    ensures empty { IfOk result (λ parts. All (λ part. part.items ≡ []) parts.items) }
+{
+    let mut parts = Vec::with_capacity(alloc, workers as usize)?;
+    for _ in 0..workers {
+        parts.push(Vec::new(alloc))?;
+    }
+    Ok(parts)
+}
+
+// The keys of each part.
+fn keys_of_parts<A: Allocator + Copy>(
+    alloc: A,
+    parts: &[Vec<(usize, Op), A>],
+) -> Result<Vec<Vec<u64, A>, A>, AllocError>
+    ensures count { IfOk result (λ keys. length keys.items ≡ length parts.now) }
+    ensures keys { IfOk result (λ keys. (parting : Parting) → AreParts (λ list. list.items) parting parts.now →
+        AreKeys (λ list. list.items) parting keys.items) }
+{
+    let mut keys = Vec::with_capacity(alloc, parts.len())?;
+    for part in parts {
+        keys.push(keys_of_part(alloc, part)?)?;
+    }
+    Ok(keys)
+}

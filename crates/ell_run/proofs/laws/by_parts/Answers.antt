@@ -1,0 +1,5 @@
+use Rattle.ell_run.proofs.ByPartsLemmas.{parts_serve}
+use Rattle.ell_run.proofs.laws.by_parts.Goals as goal
+
+pub returns : goal.returns
+returns c = parts_serve

@@ -1,0 +1,41 @@
+-- What a run answers, and what its faults tell.
+use Rattle.std.specs.Prelude.{◌≡◌, ℕ, ◌<◌, ◌≤◌, List, length, take, Option, IfSome, Ok, Err, ⊤}
+use Rattle.std.specs.Io.KnownBytes.{Appends, Keeps}
+use Rattle.ell_ops.specs.declared.op.Op.{Op}
+use Rattle.ell_ops.specs.KeySet.{Lists, empty}
+use Rattle.ell_ops.specs.Meaning.{replies, final}
+use Rattle.ell_text.specs.declared.input.TheConstants.{INPUT_MAX}
+use Rattle.ell_text.specs.Bulk.{bulk}
+use Rattle.ell_text.specs.Answer.{answer}
+use Rattle.ell_run.specs.declared.bytes.RunFault.{RunFault}
+use Rattle.ell_run.specs.declared.bytes.RunFault.TheVariants.{Read, TooLong, Text, NoMemory, Write}
+
+-- the text is the answer of one thread that applies the operations of the bulk text to the empty set
+pub record IsAnswer (bytes text : List ℕ) : Type 0 where
+  pub ops : List Op
+  pub keys : List ℕ
+  pub read : bulk bytes ≡ Ok ops
+  pub listed : Lists (final empty ops) keys
+  pub written : text ≡ answer (replies empty ops) keys
+
+-- the answer to the bytes that were read went out, and nothing else
+abbrev pub IsAnswered : Option (List ℕ) → Option (List ℕ) → Option (List ℕ) → Type 0
+IsAnswered input before after = IfSome input (λ bytes. (text : List ℕ) × IsAnswer bytes text × Appends before after text)
+
+-- a number of operations of the bytes that were read
+abbrev pub IsCounted : Option (List ℕ) → ℕ → Type 0
+IsCounted input count = IfSome input (λ bytes. (ops : List Op) × (bulk bytes ≡ Ok ops) × (count ≤ length ops))
+
+-- the run ended before it wrote anything
+abbrev pub IsBeforeWriting : RunFault → Type 0
+IsBeforeWriting (Write written) = ⊥
+IsBeforeWriting _ = ⊤
+
+-- what a fault tells of the bytes that were read, and of what was written
+abbrev pub Tells : RunFault → Option (List ℕ) → Option (List ℕ) → Option (List ℕ) → Type 0
+Tells Read input before after = Keeps before after
+Tells TooLong input before after = Keeps before after × IfSome input (λ bytes. INPUT_MAX < length bytes)
+Tells (Text fault) input before after = Keeps before after × IfSome input (λ bytes. bulk bytes ≡ Err fault)
+Tells NoMemory input before after = Keeps before after
+Tells (Write written) input before after = IfSome input (λ bytes.
+    (text : List ℕ) × IsAnswer bytes text × (written < length text) × Appends before after (take written text))

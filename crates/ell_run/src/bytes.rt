@@ -1,0 +1,99 @@
+//! A bulk text, run from bytes to bytes.
+ghost use Rattle.std.specs.Prelude.{◌≡◌, ◌≤◌, IfErr, IfOk, OnOk};
+ghost use Rattle.ell_run.specs.Answered.{IsAnswered, IsCounted, Tells};
+ghost use Rattle.ell_run.specs.RunFault.{of_input, of_text, of_write};
+ghost use Rattle.ell_run.specs.Settings.{AreSettings};
+ghost use Rattle.ell_run.specs.declared.bytes.RunFault.TheVariants.{NoMemory as no_memory};
+
+use crate::runs::run;
+use crate::settings::{Report, Settings, limits_for, parts_for};
+use ell_ops::NoMemory;
+use ell_text::{InputFault, TextFault, WriteFault, read_all, read_bulk, write_answer};
+use std::alloc::Global;
+use std::io::{Read, Write};
+use thiserror::Error;
+
+/// Why a run ended early. Before each of these but `Write` nothing was written.
+#[derive(Debug, Clone, Copy, PartialEq, Eq, Error)]
+pub enum RunFault {
+    /// The reader answered an error.
+    #[error("read failed")]
+    Read,
+    /// The input is longer than a run takes.
+    #[error("input over 16777216 bytes")]
+    TooLong,
+    /// The text is at fault.
+    #[error("{0}")]
+    Text(TextFault),
+    /// A growth was refused.
+    #[error("out of memory")]
+    NoMemory,
+    /// The writer failed, or took no byte, after it had taken this many.
+    #[error("write failed after {written} bytes")]
+    Write { written: u64 },
+}
+
+impl From<InputFault> for RunFault {
+    ghost from_gives = { λ fault e. e ≡ of_input fault };
+
+    fn from(fault: InputFault) -> RunFault {
+        match fault {
+            InputFault::Read => RunFault::Read,
+            InputFault::TooLong => RunFault::TooLong,
+            InputFault::NoMemory => RunFault::NoMemory,
+        }
+    }
+}
+
+impl From<TextFault> for RunFault {
+    ghost from_gives = { λ fault e. e ≡ of_text fault };
+
+    fn from(fault: TextFault) -> RunFault {
+        match fault {
+            TextFault::NoMemory => RunFault::NoMemory,
+            fault => RunFault::Text(fault),
+        }
+    }
+}
+
+impl From<NoMemory> for RunFault {
+    ghost from_gives = { λ _ e. e ≡ no_memory };
+
+    fn from(_: NoMemory) -> RunFault {
+        RunFault::NoMemory
+    }
+}
+
+impl From<WriteFault> for RunFault {
+    ghost from_gives = { λ fault e. e ≡ of_write fault };
+
+    fn from(fault: WriteFault) -> RunFault {
+        RunFault::Write {
+            written: fault.written,
+        }
+    }
+}
+
+/// Runs a bulk text: reads all of it, runs its operations from the empty set as the settings say, and writes the answer.
+/// Nothing is written before the run has ended.
+pub fn run_bytes<R, I: Read, O: Write>(
+    rt: &R,
+    alloc: Global,
+    reader: &mut I,
+    writer: &mut O,
+    settings: Settings,
+) -> Result<Report, RunFault>
+    requires { AreSettings settings }
+    ensures ok { OnOk result (IsAnswered (I.remaining reader.old) (O.contents writer.old) (O.contents writer.new)) }
+    ensures none_late { IfOk result (λ report. report.late ≡ 0) }
+    ensures late { IfOk result (λ report. IsCounted (I.remaining reader.old) report.late) }
+    ensures fault { IfErr result (λ fault.
+        Tells fault (I.remaining reader.old) (O.contents writer.old) (O.contents writer.new)) }
+{
+    let bytes = read_all(alloc, reader)?;
+    let ops = read_bulk(alloc, &bytes)?;
+    let parts = parts_for(alloc, &ops, settings)?;
+    let outcome = run(rt, alloc, &ops, &parts, limits_for(&ops, settings))?;
+    write_answer(writer, &outcome.replies, &outcome.keys)?;
+    Ok(Report { late: outcome.late })
+}

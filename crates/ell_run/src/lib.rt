@@ -1,0 +1,16 @@
+//! A list of operations run by workers, each on its own part, and the same for a text, from bytes to bytes.
+#![tactic(auto)]
+
+mod bytes;
+mod laws;
+mod pieces;
+mod runs;
+mod settings;
+
+pub use bytes::{RunFault, run_bytes};
+pub use laws::by_parts;
+pub use runs::{Limits, Outcome, run};
+pub use settings::{Parting, Report, Settings};
+
+#[cfg(test)]
+mod tests;

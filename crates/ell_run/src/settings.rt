@@ -1,0 +1,76 @@
+//! How a bulk text is run, and what a run reports.
+ghost use Rattle.std.specs.Prelude.{◌≡◌, ◌≤◌, IfOk, length};
+ghost use Rattle.ell_run.specs.Limits.{AreLimits};
+ghost use Rattle.ell_run.specs.Settings.{AreSettings};
+
+use crate::runs::Limits;
+use ell_ops::{NoMemory, Op};
+use ell_parts::{PartFault, Parts};
+use std::alloc::Global;
+
+/// How keys are parted among workers.
+#[derive(Clone, Copy, Debug, PartialEq, Eq)]
+pub enum Parting {
+    /// A key goes to the worker of its remainder by their number.
+    Stripe,
+    /// Each worker has the next keys in ascending order.
+    Range,
+}
+
+/// How a bulk text is run.
+#[derive(Clone, Copy, Debug, PartialEq, Eq)]
+pub struct Settings {
+    /// How many workers there are, 1 to 64.
+    pub workers: u32,
+    pub parting: Parting,
+    /// The cards of the tree, 1 to 1,000,000; if none are given, 4 per operation and 64.
+    pub cards: Option<u64>,
+    /// The tries of an insert or a delete, 1 to 1,000,000.
+    pub tries: u32,
+}
+
+/// What a run tells of itself.
+#[derive(Clone, Copy, Debug, PartialEq, Eq)]
+pub struct Report {
+    /// How many operations were done after the workers had ended.
+    pub late: usize,
+}
+
+// The parting of the operations that the settings ask for.
+pub(crate) fn parts_for(
+    alloc: Global,
+    ops: &[Op],
+    settings: Settings,
+) -> Result<Parts<Global>, NoMemory>
+    requires { AreSettings settings }
+    ensures { IfOk result (λ parts. parts.ops ≡ ops.now) }
+{
+    let parts = match settings.parting {
+        Parting::Stripe => Parts::striped(alloc, ops, settings.workers),
+        Parting::Range => Parts::ranged(alloc, ops, settings.workers),
+    };
+    parts.map_err(only_memory)
+}
+
+// The one fault that a parting among workers of a number that may be can have.
+fn only_memory(fault: PartFault) -> NoMemory
+    requires { fault ≡ PartFault.NoMemory }
+{
+    match fault {
+        PartFault::NoMemory => NoMemory,
+        _ => unreachable!(),
+    }
+}
+
+// The limits that the settings ask for.
+pub(crate) fn limits_for(ops: &[Op], settings: Settings) -> Limits
+    requires settings { AreSettings settings }
+    requires few { length ops.now ≤ 200000 }
+    ensures { AreLimits result }
+{
+    let cards = settings.cards.unwrap_or(4 * ops.len() as u64 + 64);
+    Limits {
+        cards,
+        tries: settings.tries,
+    }
+}
