@@ -3,3 +3,4 @@ pub mod Ranks
 pub mod Partings
 pub mod Splits
 pub mod Placings
+pub mod Ranges

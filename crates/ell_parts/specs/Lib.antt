@@ -1,3 +1,4 @@
 pub mod Parting
 pub mod Faults
 pub mod Gathering
+pub mod Ranges

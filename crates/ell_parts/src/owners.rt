@@ -1,7 +1,9 @@
 //! The worker of each position of a list.
-ghost use Rattle.std.specs.Prelude.{◌≡◌, ◌↔◌, IsTrue, length, IfOk, IfErr, OnOk};
+ghost use Rattle.std.specs.Prelude.{◌≡◌, ◌<◌, ◌↔◌, IsTrue, length, vec_len, IfOk, IfErr, OnOk};
+ghost use Rattle.std.specs.Int.{div_ceil};
 ghost use Rattle.ell_ops.specs.KeySet.{Lists};
 ghost use Rattle.ell_parts.specs.Parting.{IsWorkerCount, keys_of, striped, ranged};
+ghost use Rattle.ell_parts.specs.Ranges.{AreStarts};
 ghost use Rattle.ell_parts.specs.Faults.{AreTogether, IsSplit};
 
 use crate::fault::PartFault;
@@ -55,7 +57,7 @@ pub(crate) fn striped_owners<A: Allocator>(
 }
 
 // The owners in ranges, where `keys` are the distinct keys.
-pub(crate) fn ranged_owners<A: Allocator>(
+pub(crate) fn ranged_owners<A: Allocator + Copy>(
     alloc: A,
     ops: &[Op],
     keys: &[u64],
@@ -65,12 +67,34 @@ pub(crate) fn ranged_owners<A: Allocator>(
     requires keys { Lists (keys_of ops.now) keys.now }
     ensures { IfOk result (λ owners. owners.items ≡ ranged keys.now ops.now workers) }
 {
-    let share = keys.len().div_ceil(workers as usize);
+    let starts = range_starts(alloc, keys, workers)?;
     let mut owners = Vec::with_capacity(alloc, ops.len())?;
     for op in ops {
         let key = op.key();
-        let rank = keys.partition_point(|other| *other < key);
-        owners.push((rank / share) as u32)?;
+        let owner = starts.partition_point(|start| *start <= key);
+        owners.push(owner as u32)?;
     }
     Ok(owners)
+}
+
+// The first keys of the workers' ranges, but for the first worker's.
+fn range_starts<A: Allocator>(
+    alloc: A,
+    keys: &[u64],
+    workers: u32,
+) -> Result<Vec<u64, A>, AllocError>
+    requires { IsWorkerCount workers }
+    ensures starts { IfOk result (λ starts. AreStarts keys.now (div_ceil (length keys.now) workers) starts.items) }
+    ensures few { IfOk result (λ starts. vec_len starts < 64) }
+{
+    let share = keys.len().div_ceil(workers as usize);
+    let mut starts = Vec::new(alloc);
+    for worker in 1..workers as usize {
+        let start = worker * share;
+        if start >= keys.len() {
+            break;
+        }
+        starts.push(keys[start])?;
+    }
+    Ok(starts)
 }
