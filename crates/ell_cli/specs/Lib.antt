@@ -1,4 +1,2 @@
 pub mod CommandLine
 pub mod Program
-pub mod Run
-pub mod RunFault

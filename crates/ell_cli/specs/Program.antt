@@ -1,10 +1,10 @@
 -- How the program ends.
 use Rattle.std.specs.Prelude.{◌≡◌, ◌⊎◌, ℕ, ⊤}
-use Rattle.ell_cli.specs.Run.{IsBeforeWriting}
+use Rattle.ell_run.specs.Answered.{IsBeforeWriting}
 use Rattle.ell_cli.specs.declared.program.Failure.{Failure}
 use Rattle.ell_cli.specs.declared.program.Failure.TheVariants as failure
-use Rattle.ell_cli.specs.declared.run.RunFault.{RunFault}
-use Rattle.ell_cli.specs.declared.run.RunFault.TheVariants as run_fault
+use Rattle.ell_run.specs.declared.bytes.RunFault.{RunFault}
+use Rattle.ell_run.specs.declared.bytes.RunFault.TheVariants as run_fault
 
 -- the program succeeded, or showed its help
 abbrev pub Succeeded : ℕ → Type 0

@@ -3,7 +3,6 @@
 
 mod program;
 mod request;
-mod run;
 #[cfg(test)]
 mod tests;
 

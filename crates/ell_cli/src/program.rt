@@ -6,15 +6,16 @@ ghost use Rattle.ell_cli.specs.CommandLine.{AreRefused, AreTaken, AsksForHelp, A
 ghost use Rattle.ell_cli.specs.CommandLine.{is_mistake};
 ghost use Rattle.ell_cli.specs.Program.{IsBeforeOutput, IsRefusal, IsSilent, IsStatus, Succeeded};
 ghost use Rattle.ell_cli.specs.Program.{status_of};
-ghost use Rattle.ell_cli.specs.Run.{IsAnswered};
+ghost use Rattle.ell_run.specs.Answered.{IsAnswered};
 
 use crate::request::{Request, request_of};
-use crate::run::{RunFault, run_bytes};
 use clap::error::ErrorKind;
+use ell_run::{Parting, RunFault, Settings, run_bytes};
 use std::alloc::Global;
 use std::convert::AsStr;
+use std::error::Error;
+use std::fmt;
 use std::io::{Read, Write};
-use thiserror::Error;
 
 // Success, or help was asked for.
 const SUCCEEDED: u8 = 0;
@@ -27,23 +28,41 @@ const OUT_OF_MEMORY: u8 = 3;
 // Reading or writing failed.
 const TRANSFER_FAILED: u8 = 4;
 
+// How a text is run.
+const SETTINGS: Settings = Settings {
+    workers: 4,
+    parting: Parting::Stripe,
+    cards: None,
+    tries: 1000,
+};
+
 /// The exit status where the arguments could not be taken.
 pub const ARGUMENTS_NOT_TAKEN: u8 = OUT_OF_MEMORY;
 
-// Why the program ends with another status than 0. The text is what standard error gets.
-#[derive(Debug, Drop, Error)]
+// Why the program ends with another status than 0.
+#[derive(Debug, Drop)]
 enum Failure {
-    // The words are refused, with clap's text.
-    #[error("{0}")]
+    // The words are refused, with the parser's text.
     Refused(clap::Error),
-    #[error("elltree: out of memory\n")]
     NoMemory,
-    #[error("elltree: {0}\n")]
     Run(RunFault),
     // `out` did not take the help, or could not be flushed.
-    #[error("elltree: write failed\n")]
     Write,
 }
+
+// What standard error gets.
+impl fmt::Display for Failure {
+    fn fmt<W: fmt::Write>(&self, f: &mut fmt::Formatter<W>) -> fmt::Result {
+        match self {
+            Failure::Refused(error) => write!(f, "{error}"),
+            Failure::NoMemory => writeln!(f, "elltree: out of memory"),
+            Failure::Run(fault) => writeln!(f, "elltree: {fault}"),
+            Failure::Write => writeln!(f, "elltree: write failed"),
+        }
+    }
+}
+
+impl Error for Failure {}
 
 impl Failure {
     // The exit status that tells of the failure.
@@ -116,7 +135,9 @@ fn outcome<R, S: AsStr, I: Read, O: Write>(
     ensures unread { ¬ AreTaken (map S.text words.now) → input.new ≡ input.old }
 {
     match request_of(alloc, words) {
-        Ok(Request::Run) => run_bytes(rt, alloc, input, out).map_err(Failure::Run)?,
+        Ok(Request::Run) => {
+            run_bytes(rt, alloc, input, out, SETTINGS).map_err(Failure::Run)?;
+        }
         Err(error) => show_help(error, out)?,
     }
     out.flush().map_err(|_| Failure::Write)

@@ -1,14 +1,13 @@
 //! Whole runs, from bytes to bytes.
 use super::streams::{Broken, Narrow};
 use crate::program::elltree;
-use crate::run::{RunFault, run_bytes};
 use std::alloc::{AllocError, Global};
 use std::test::Fail;
 
 const FOUR_LINES: &[u8] = b"insert 5\nfind 5\ndelete 5\nfind 5\n";
 
 #[test]
-fn runs_give_answers(rt: HostRuntime) -> Result<(), Fail> {
+fn runs_give_answers(rt: HostRuntime) {
     let cases: [(&[u8], &[u8]); 6] = [
         (b"", b"keys 0\n"),
         (FOUR_LINES, b"yes\nyes\nyes\nno\nkeys 0\n"),
@@ -28,10 +27,12 @@ fn runs_give_answers(rt: HostRuntime) -> Result<(), Fail> {
     ];
     for (text, want) in cases {
         let mut out = Vec::new(rt.alloc());
-        run_bytes(&rt, rt.alloc(), &mut &*text, &mut out)?;
+        let mut err = Vec::new(rt.alloc());
+        let status = elltree(&rt, rt.alloc(), &["run"], &mut &*text, &mut out, &mut err);
+        assert_eq!(rt; status, 0, "at {text:?}");
         assert_eq!(rt; out.as_slice(), want, "at {text:?}");
+        assert!(rt; err.is_empty(), "at {text:?}");
     }
-    Ok(())
 }
 
 #[test]
@@ -74,11 +75,6 @@ fn a_broken_reader_ends_the_run(rt: HostRuntime) {
 
 #[test]
 fn a_full_writer_ends_the_run(rt: HostRuntime) {
-    let mut out = Narrow::new(rt.alloc(), 5, true);
-    let result = run_bytes(&rt, rt.alloc(), &mut &*FOUR_LINES, &mut out);
-    assert_eq!(rt; result, Err(RunFault::Write { written: 5 }));
-    assert_eq!(rt; out.held.as_slice(), b"yes\ny".as_slice());
-
     let mut out = Narrow::new(rt.alloc(), 5, true);
     let mut err = Vec::new(rt.alloc());
     let mut input = FOUR_LINES;
