@@ -7,9 +7,6 @@ use Rattle.std.proofs.lemmas.Grind.{div_ceil_times}
 use Rattle.std.proofs.lemmas.List.Sums.{count_by-le-length, sum_by-cons}
 use Rattle.std.proofs.lemmas.List.{take_more, map-append, length-map, get_or-map}
 use Rattle.std.proofs.lemmas.List.Folds.{list_any_at}
-use Rattle.std.proofs.lemmas.List.Sorted.{IsPartitionedBy-ltb}
-use Rattle.std.proofs.lemmas.Map.Keys.{non_decreasing_from_sorted, sorted_from_strictly_increasing}
-use Rattle.std.specs.List.Sorted.{IsPartitionedBy, IsStrictlyIncreasing}
 use Rattle.std.specs.Prelude.{map}
 use Rattle.ell_ops.specs.declared.op.Op.{Op}
 use Rattle.ell_ops.specs.Meaning.{key_of}
@@ -83,10 +80,6 @@ key_is_listed ops keys i d below listed =
     let within : i < length (map key_of ops) = rw (length-map ops key_of) below in
     ap (λ set. set key) listed.each
     ∙ list_any_at (λ k. eqb key k) (map key_of ops) i 0 within (eq-eqb key (get_or (map key_of ops) i 0) (sym (get_or-map key_of ops i d 0 below)))
-
--- the keys below a key stand before the others
-pub parted_at : (keys : List ℕ) (key : ℕ) → IsStrictlyIncreasing keys → IsPartitionedBy (λ k. ltb k key) keys
-parted_at keys key rising = IsPartitionedBy-ltb (λ k. k) keys key (non_decreasing_from_sorted keys (sorted_from_strictly_increasing keys rising))
 
 -- the owner of one more operation
 pub ranged-take : (keys : List ℕ) (ops : List Op) (workers i : ℕ) (d : Op) → i < length ops →
