@@ -1,61 +1,75 @@
 -- What the words of the command line come to.
-use Rattle.std.proofs.Common.{◌≡◌, ◌∙◌, ◌&&◌, ◌||◌, Bool, List, Option, Some, None, Result, Ok, Err, IfErr, IsErrAnd, inl, inr, [], ◌∷◌, refl, sym, subst, ap, true, false, not, is_some, codes, cond}
-use Rattle.std.specs.Prelude.{IfSome, IsTrue, if◌then◌else◌, fold, option_map}
+use Rattle.std.proofs.Common.{◌≡◌, ◌∙◌, ◌&&◌, ◌||◌, ◌⊎◌, ℕ, Bool, List, Option, Some, None, Result, Ok, Err, IfErr, IsErrAnd, inl, inr, [], ◌∷◌, refl, sym, subst, ap, ap₂, true, false, not, is_some, codes, cond}
+use Rattle.std.specs.Prelude.{unwrap_or, IfSome, IsTrue, if◌then◌else◌, fold, option_map}
 use Rattle.std.specs.List.{list_all, list_any}
 use Rattle.std.specs.Str.{bytes_eq}
 use Rattle.std.proofs.lemmas.Slice.Eq.{bytes_eq-Decides}
 use Rattle.clap.specs.Walk.{Held, Names, Outcome, Row, Rule, Step, Text, Waiting, Walk, done, waits, plain, refused, idle, option, positional, next, trailing, subcommand, value}
-use Rattle.clap.specs.Walk.{after_flag, after_step, arg_by_index, finished, long_or_other, plain_word, settled, short_or_plain, nothing_held, subcommand_met, subcommand_or_other, to_positional, walk, walk_from, walked, walked_from, word_met}
+use Rattle.clap.specs.Walk.{after_flag, after_step, arg_by_index, finished, long_or_other, plain_word, settled, short_or_plain, nothing_held, subcommand_met, subcommand_or_other, to_positional, first_of, one_of, rows_after, walk, walk_from, walked, walked_from, word_met}
 use Rattle.clap.specs.Facts.{explicit_source}
 use Rattle.clap.specs.Takes.{is_given}
 use Rattle.clap.specs.Lexer.{long_of, short_of}
-use Rattle.clap.specs.Simple.{Shape, built, entered, names_of, rows_at, subcommand_of}
-use Rattle.clap.specs.Kinds.{Kinds, check_kinds, or_else}
+use Rattle.std.specs.Borrow.{Bor}
+use Rattle.std.specs.Option.{option_map_or}
+use Rattle.clap.specs.Simple.{Shape, built, built_leaf, entered, filled, help_shape, inherited, marked_built, names_of, rows_at, subcommand_of}
+use Rattle.clap.specs.Kinds.{Kinds, check_kinds, or_else, value_kinds}
+use Rattle.clap.specs.declared.builder.value_parser.ValueParser.TheVariants.{Names as OneOfNames}
+use Rattle.clap.proofs.WalkLemmas.{list_any-map}
 use Rattle.clap.specs.Faults.{check_fault, defaults_fault, entered_fault, level_fault, other_fault, settle_fault, step_fault, turn_fault, walk_fault, word_fault}
 use Rattle.clap.proofs.FaultLemmas.{failed_up}
 use Rattle.clap.proofs.OnLiterals.{clap_on_literals}
 use Rattle.clap.specs.Words.{App, FailsBy, HasKind, IsAmong, HasMatchesOf, fault_of, is_simple, is_simple_and_free, kind_of, subcommand_name_of, subcommand_rows_of}
 use Rattle.clap.specs.declared.parser.matches.ArgMatches.{ArgMatches}
 use Rattle.clap.specs.declared.parser.matches.ArgMatches.TheViews.{out-ArgMatches}
+use Rattle.ell_run.specs.declared.settings.Parting.{Parting}
+use Rattle.ell_run.specs.declared.settings.Parting.TheVariants.{Range, Stripe}
+use Rattle.ell_cli.specs.declared.request.Request.{Request}
+use Rattle.ell_cli.specs.declared.request.Request.TheVariants.{Run}
 use Rattle.clap.specs.declared.error.Error.{Error}
 use Rattle.clap.specs.declared.error.kind.ErrorKind.{ErrorKind}
-use Rattle.clap.specs.declared.error.kind.ErrorKind.TheVariants.{DisplayHelp, MissingSubcommand, OutOfMemory}
-use Rattle.ell_cli.specs.CommandLine.{AreRefused, AreTaken, AsksForHelp, AsksToRun, IsMistakeOrMemory, elltree_app, faults_of, is_mistake}
+use Rattle.clap.specs.declared.error.kind.ErrorKind.TheVariants.{DisplayHelp, InvalidValue, MissingSubcommand, OutOfMemory}
+use Rattle.ell_cli.proofs.OptionLemmas.{AllFit, AreSound, IsGiven, defaults_made, level_fits, option_given, option_maybe, passing}
+use Rattle.clap.proofs.ValueTestLemmas.{accepts-Accepts}
+use Rattle.clap.specs.ValueTests.{accepts}
+use Rattle.clap.specs.Values.{read_as, reading_of}
+use Rattle.clap.specs.Facts.{parser_of_value}
+use Rattle.ell_cli.proofs.PlaceLemmas.{AreAlike, level_alike, rows_after_moved}
+use Rattle.ell_cli.specs.CommandLine.{AreOptions, AreRefused, AreTaken, AsksForHelp, AsksToRun, BorrowedNames, IsElltree, IsMistakeOrMemory, IsNumberUpTo, IsPlainRun, IsRequestOf, NamesPartings, app_at, cards_rule, elltree_app, faults_of, is_mistake, name_of, number_of, options_of, parting_names, parting_rule, partings, report_rule, rows_in, run_shape, tries_rule, up_to, workers_rule}
 
 -- ---- words that are written out
 
 -- clap says of the command which words it takes
-app_is_simple : is_simple_and_free elltree_app ≡ true
-unfolding clap_on_literals elltree_app
-app_is_simple = refl
+app_is_simple : (names : BorrowedNames) → is_simple_and_free (app_at names) ≡ true
+unfolding clap_on_literals app_at
+app_is_simple names = refl
 
 -- and which subcommand they name
-app_is_ready : is_simple elltree_app ≡ true
-unfolding clap_on_literals elltree_app
-app_is_ready = refl
+app_is_ready : (names : BorrowedNames) → is_simple (app_at names) ≡ true
+unfolding clap_on_literals app_at
+app_is_ready names = refl
 
 run_is_taken : faults_of (codes "run" ∷ []) ≡ []
-unfolding clap_on_literals elltree_app
+unfolding clap_on_literals app_at
 run_is_taken = refl
 
 help_is_shown : faults_of (codes "--help" ∷ []) ≡ DisplayHelp ∷ []
-unfolding clap_on_literals elltree_app
+unfolding clap_on_literals app_at
 help_is_shown = refl
 
 short_help_is_shown : faults_of (codes "-h" ∷ []) ≡ DisplayHelp ∷ []
-unfolding clap_on_literals elltree_app
+unfolding clap_on_literals app_at
 short_help_is_shown = refl
 
 run_help_is_shown : faults_of (codes "run" ∷ codes "--help" ∷ []) ≡ DisplayHelp ∷ []
-unfolding clap_on_literals elltree_app
+unfolding clap_on_literals app_at
 run_help_is_shown = refl
 
 run_short_help_is_shown : faults_of (codes "run" ∷ codes "-h" ∷ []) ≡ DisplayHelp ∷ []
-unfolding clap_on_literals elltree_app
+unfolding clap_on_literals app_at
 run_short_help_is_shown = refl
 
 nothing_is_refused : faults_of [] ≡ MissingSubcommand ∷ []
-unfolding clap_on_literals elltree_app
+unfolding clap_on_literals app_at
 nothing_is_refused = refl
 
 -- ---- the subcommand at which a walk without a fault stops
@@ -151,9 +165,9 @@ no_help_named name other = elim (bytes_eq (codes "help") name) as (λ b. bytes_e
   | false ↦ λ same. refl
 ] refl
 
--- a level without a fault: its walk has none, and neither have the checks after it
+-- a level without a fault: its walk has none, and neither have the checks after it, nor the level below
 level_parts : (s : Shape) (names : Names) (h : Held) (words : List Text) (has : Bool) (below : Kinds) → level_fault s names h words has below ≡ []
-    → (walk_fault s names (walk_from h) words ≡ []) × (check_fault s (finished s.rules (walk s.rules names h words).held) has ≡ [])
+    → (walk_fault s names (walk_from h) words ≡ []) × (check_fault s (finished s.rules (walk s.rules names h words).held) has ≡ []) × (below ≡ [])
 level_parts s names h words has below none =
     let end = (walk s.rules names h words).held in
     let checks = check_fault s (finished s.rules end) has in
@@ -162,7 +176,7 @@ level_parts s names h words has below none =
     let walk_none = both_none (walk_fault s names (walk_from h) words) (or_else below (or_else pending (or_else defaults checks))) none in
     let below_none = both_none below (or_else pending (or_else defaults checks)) walk_none.1 in
     let pending_none = both_none pending (or_else defaults checks) below_none.1 in
-    (walk_none.0, (both_none defaults checks pending_none.1).1)
+    (walk_none.0, (both_none defaults checks pending_none.1).1, below_none.0)
 
 -- no subcommand is wanted where the last checks pass
 no_want : (a b c : Bool) → check_kinds a b c ≡ [] → b ≡ false
@@ -192,14 +206,14 @@ first_is_met rows run help false false other met = absurd (cc)
 
 -- a walk that stops, and not at `help`, stops at `run`
 stop_is_run : (stop : Option (Text × List Text)) → IsNoHelp stop → is_some (entered (built elltree_app) stop) ≡ true → option_map (λ p. p.0) (entered (built elltree_app) stop) ≡ Some (codes "run")
-unfolding elltree_app
+unfolding app_at
 stop_is_run None other met = absurd (cc)
 stop_is_run (Some p) other met =
     first_is_met (λ s. rows_at s p.1) _ _ (bytes_eq (codes "run") p.0 || false) (bytes_eq (codes "help") p.0 || false) (ap (λ b. b || false) (no_help_named p.0 other)) met
 
 -- words without a fault name the subcommand `run`
 run_is_met : (words : List Text) → faults_of words ≡ [] → option_map (λ p. p.0) (subcommand_of elltree_app words) ≡ Some (codes "run")
-unfolding elltree_app
+unfolding app_at
 run_is_met words none =
     let app = built elltree_app in
     let stop = (walk app.top.rules (names_of app) nothing_held words).stopped in
@@ -208,12 +222,230 @@ run_is_met words none =
     let met = was_met app.top (finished app.top.rules (walk app.top.rules (names_of app) nothing_held words).held) has refl parts.1 in
     stop_is_run stop (walk_goes_on app.top (names_of app) (walk_from nothing_held) words refl tt parts.0) met
 
+-- ---- the names of the partings, at another place
+
+-- the subcommands as built
+abbrev built_run : BorrowedNames → Shape
+unfolding app_at
+built_run names = built_leaf (inherited (marked_built (app_at names).top) (run_shape names))
+
+abbrev built_help : Shape
+built_help = built_leaf help_shape
+
+partings_alike : (names : BorrowedNames) → NamesPartings names → (text : Text) → value_kinds false (OneOfNames names) text ≡ value_kinds false (OneOfNames partings) text
+partings_alike names are text =
+    let named : list_any (λ (name : Bor Text). bytes_eq name.now text) names.now ≡ list_any (λ (name : Text). bytes_eq name text) parting_names =
+    list_any-map (λ (name : Text). bytes_eq name text) (λ (name : Bor Text). name.now) names.now ∙ ap (list_any (λ (name : Text). bytes_eq name text)) are in
+    ap (λ b. if b then [] else InvalidValue ∷ []) named
+
+rules_alike : (names : BorrowedNames) → NamesPartings names → AreAlike names (built_run partings).rules
+unfolding app_at
+rules_alike names are = (λ text. refl, (partings_alike names are, (λ text. refl, (λ text. refl, (λ text. refl, (λ text. refl, tt))))))
+
+run_alike : (names : BorrowedNames) → NamesPartings names → (words : List Text) → level_fault (built_run names) [] nothing_held words false [] ≡ level_fault (built_run partings) [] nothing_held words false []
+unfolding app_at
+run_alike names are words = level_alike names (built_run partings) [] nothing_held words false [] (rules_alike names are)
+
+run_rows_alike : (names : BorrowedNames) (words : List Text) → rows_at (built_run names) words ≡ rows_at (built_run partings) words
+unfolding app_at
+run_rows_alike names words = ap (λ rows. (codes "run", rows)) (rows_after_moved names (built_run partings).rules [] words)
+
+-- what is found of two subcommands, where the first is another
+found_alike : {X : Type 0} (f : Shape → X) (run other help : Shape) (first second : Bool) → f run ≡ f other → option_map f (found_of_two first second run help) ≡ option_map f (found_of_two first second other help)
+found_alike f run other help true second same = ap Some same
+found_alike f run other help false second same = refl
+
+faults_alike : (f : Shape → Kinds) (run other help : Shape) (first second : Bool) → f run ≡ f other → option_map_or f (found_of_two first second run help) [] ≡ option_map_or f (found_of_two first second other help) []
+faults_alike f run other help true second same = same
+faults_alike f run other help false second same = refl
+
+entered_alike : (names : BorrowedNames) (stop : Option (Text × List Text)) → entered (built (app_at names)) stop ≡ entered (built (app_at partings)) stop
+unfolding app_at
+entered_alike names None = refl
+entered_alike names (Some p) =
+    found_alike (λ s. rows_at s p.1) (built_run names) (built_run partings) built_help (bytes_eq (codes "run") p.0 || false) (bytes_eq (codes "help") p.0 || false) (run_rows_alike names p.1)
+
+entered_fault_alike : (names : BorrowedNames) → NamesPartings names → (stop : Option (Text × List Text)) → entered_fault (built (app_at names)) stop ≡ entered_fault (built (app_at partings)) stop
+unfolding app_at
+entered_fault_alike names are None = refl
+entered_fault_alike names are (Some p) =
+    faults_alike (λ s. level_fault s [] nothing_held p.1 false []) (built_run names) (built_run partings) built_help (bytes_eq (codes "run") p.0 || false) (bytes_eq (codes "help") p.0 || false) (run_alike names are p.1)
+
+-- wherever the names of the partings lie, the words come to the same errors
+same_faults : (names : BorrowedNames) → NamesPartings names → (words : List Text) → fault_of (app_at names) words ≡ fault_of (app_at partings) words
+unfolding app_at
+same_faults names are words =
+    let top = (built (app_at partings)).top in
+    let subs = names_of (built (app_at partings)) in
+    let stop = (walk top.rules subs nothing_held words).stopped in
+    ap₂ (λ e f. level_fault top subs nothing_held words (is_some e) f) (entered_alike names stop) (entered_fault_alike names are stop)
+
+-- and to the same options
+same_rows : (names : BorrowedNames) (words : List Text) → subcommand_of (app_at names) words ≡ subcommand_of (app_at partings) words
+unfolding app_at
+same_rows names words =
+    let top = (built (app_at partings)).top in
+    let subs = names_of (built (app_at partings)) in
+    entered_alike names (walk top.rules subs nothing_held words).stopped
+
+-- ---- the options of words without a fault
+
+abbrev rules : List Rule
+unfolding app_at
+rules = (built_run partings).rules
+
+-- each use of an option has a value
+rules_sound : AreSound rules rules
+unfolding app_at
+rules_sound = (
+  (inl refl, inl refl),
+  (
+    (inr (inl refl), inl refl),
+    (
+      (inr (inr (inl refl)), inl refl),
+      (
+        (inr (inr (inr (inl refl))), inl refl),
+        (
+          (inr (inr (inr (inr (inl refl)))), inr (inl tt)),
+          ((inr (inr (inr (inr (inr (inl refl))))), inr (inr refl)), tt),
+        ),
+      ),
+    ),
+  ),
+)
+
+-- a number that an option takes
+number_given : (most : ℕ) (id : Text) (rows : List Row) (a : Rule) → a.parser ≡ Some (up_to most) → IsGiven id rows a → IsNumberUpTo most (one_of id rows)
+number_given most id rows a is given = (
+  given.0,
+  given.2 ∙ ap (λ p. Some (read_as (reading_of (parser_of_value p)) given.0)) is,
+  accepts-Accepts a.ignore_case (up_to most) given.0 (subst (λ p. accepts a.ignore_case (parser_of_value p) given.0 ≡ true) is given.3),
+)
+
+-- one of two texts
+one_of_two : (text first second : Text) → (bytes_eq first text || (bytes_eq second text || false)) ≡ true → (text ≡ first) ⊎ (text ≡ second)
+one_of_two text first second is = go (bytes_eq first text) refl (bytes_eq second text) refl is
+  where
+    go : (a : Bool) → bytes_eq first text ≡ a → (b : Bool) → bytes_eq second text ≡ b → (a || (b || false)) ≡ true → (text ≡ first) ⊎ (text ≡ second)
+    go true same b other is = inl (sym ((bytes_eq-Decides first text).0 same))
+    go false same true other is = inr (sym ((bytes_eq-Decides second text).0 other))
+    go false same false other is = absurd (cc)
+
+either_of_two : (text first second : Text) → (bytes_eq text first || bytes_eq text second) ≡ true → (text ≡ first) ⊎ (text ≡ second)
+either_of_two text first second is = go (bytes_eq text first) refl is
+  where
+    go : (a : Bool) → bytes_eq text first ≡ a → (a || bytes_eq text second) ≡ true → (text ≡ first) ⊎ (text ≡ second)
+    go true same is = inl ((bytes_eq-Decides text first).0 same)
+    go false same is = inr ((bytes_eq-Decides text second).0 is)
+
+-- the text of an option is one of two
+text_of_two : (o : Option Text) (text first second : Text) → o ≡ Some text → (text ≡ first) ⊎ (text ≡ second) → (o ≡ Some first) ⊎ (o ≡ Some second)
+text_of_two o text first second given (inl is) = inl (given ∙ ap Some is)
+text_of_two o text first second given (inr is) = inr (given ∙ ap Some is)
+
+abbrev rows_by : List Text → List Row
+rows_by words = rows_after rules [] words
+
+-- the rows before the defaults
+abbrev rows_given : List Text → List Row
+rows_given words = (settled rules (walk rules [] nothing_held words).held).rows
+
+abbrev HasNoFault : List Text → Type 0
+HasNoFault words = level_fault (built_run partings) [] nothing_held words false [] ≡ []
+
+rows_fit : (words : List Text) → HasNoFault words → AllFit rules (rows_by words)
+unfolding app_at
+rows_fit words none = level_fits (built_run partings) words rules_sound none
+
+workers_taken : (words : List Text) → HasNoFault words → IsNumberUpTo 64 (one_of (codes "workers") (rows_by words))
+unfolding app_at
+workers_taken words none =
+    let a = filled workers_rule in
+    number_given 64 (codes "workers") (rows_by words) a refl (option_given rules (codes "workers") a
+    (λ x of named. elim (passing (λ (y : Rule). bytes_eq y.id (codes "workers")) rules x of named) [ inl is ↦ is | inr none ↦ absurd none ])
+    (rows_by words) (rows_fit words none) (defaults_made rules (rows_given words) a (inl refl) tt))
+
+parting_taken : (words : List Text) → HasNoFault words → (first_of (codes "parting") (rows_by words) ≡ Some (codes "stripe")) ⊎ (first_of (codes "parting") (rows_by words) ≡ Some (codes "range"))
+unfolding app_at
+parting_taken words none =
+    let a = filled (parting_rule partings) in
+    let given = option_given rules (codes "parting") a
+    (λ x of named. elim (passing (λ (y : Rule). bytes_eq y.id (codes "parting")) rules x of named) [ inl is ↦ is | inr none ↦ absurd none ])
+    (rows_by words) (rows_fit words none) (defaults_made rules (rows_given words) a (inr (inl refl)) tt) in
+    text_of_two _ given.0 _ _ given.1 (one_of_two given.0 (codes "stripe") (codes "range") given.3)
+
+cards_taken : (words : List Text) → HasNoFault words → (one_of (codes "cards") (rows_by words) ≡ None) ⊎ IsNumberUpTo 1000000 (one_of (codes "cards") (rows_by words))
+unfolding app_at
+cards_taken words none =
+    let a = filled cards_rule in
+    let maybe = option_maybe rules (codes "cards") a
+    (λ x of named. elim (passing (λ (y : Rule). bytes_eq y.id (codes "cards")) rules x of named) [ inl is ↦ is | inr none ↦ absurd none ])
+    (rows_by words) (rows_fit words none) in
+    elim maybe [
+      | inl absent ↦ inl absent
+      | inr given ↦ inr (number_given 1000000 (codes "cards") (rows_by words) a refl given)
+    ]
+
+tries_taken : (words : List Text) → HasNoFault words → IsNumberUpTo 1000000 (one_of (codes "tries") (rows_by words))
+unfolding app_at
+tries_taken words none =
+    let a = filled tries_rule in
+    number_given 1000000 (codes "tries") (rows_by words) a refl (option_given rules (codes "tries") a
+    (λ x of named. elim (passing (λ (y : Rule). bytes_eq y.id (codes "tries")) rules x of named) [ inl is ↦ is | inr none ↦ absurd none ])
+    (rows_by words) (rows_fit words none) (defaults_made rules (rows_given words) a (inr (inr (inr (inl refl)))) tt))
+
+report_taken : (words : List Text) → HasNoFault words → (one_of (codes "report") (rows_by words) ≡ Some (codes "true")) ⊎ (one_of (codes "report") (rows_by words) ≡ Some (codes "false"))
+unfolding app_at
+report_taken words none =
+    let a = filled report_rule in
+    let given = option_given rules (codes "report") a
+    (λ x of named. elim (passing (λ (y : Rule). bytes_eq y.id (codes "report")) rules x of named) [ inl is ↦ is | inr none ↦ absurd none ])
+    (rows_by words) (rows_fit words none) (defaults_made rules (rows_given words) a (inr (inr (inr (inr (inl refl))))) tt) in
+    text_of_two _ given.0 _ _ given.2 (either_of_two given.0 (codes "true") (codes "false") given.3)
+
+run_options : (words : List Text) → HasNoFault words → AreOptions (rows_by words)
+run_options words none = record {
+  workers = workers_taken words none;
+  parting = parting_taken words none;
+  cards = cards_taken words none;
+  tries = tries_taken words none;
+  report = report_taken words none;
+}
+
+-- of two subcommands the first was met, and has no fault
+first_options : (rows : Shape → Text × List Row) (faults : Shape → Kinds) (run help : Shape) (first second : Bool) → second ≡ false → is_some (option_map rows (found_of_two first second run help)) ≡ true
+    → option_map_or faults (found_of_two first second run help) [] ≡ [] → (faults run ≡ [] → AreOptions (rows run).1) → AreOptions (rows_in (option_map rows (found_of_two first second run help)))
+first_options rows faults run help true second other met none options = options none
+first_options rows faults run help false true other met none options = absurd (cc)
+first_options rows faults run help false false other met none options = absurd (cc)
+
+stop_has_options : (stop : Option (Text × List Text)) → IsNoHelp stop → is_some (entered (built (app_at partings)) stop) ≡ true → entered_fault (built (app_at partings)) stop ≡ []
+    → AreOptions (rows_in (entered (built (app_at partings)) stop))
+unfolding app_at
+stop_has_options None other met none = absurd (cc)
+stop_has_options (Some p) other met none =
+    first_options (λ s. rows_at s p.1) (λ s. level_fault s [] nothing_held p.1 false []) (built_run partings) built_help (bytes_eq (codes "run") p.0 || false) (bytes_eq (codes "help") p.0 || false)
+    (ap (λ b. b || false) (no_help_named p.0 other)) met none (run_options p.1)
+
+-- the options of words without a fault were taken
+options_taken : (words : List Text) → faults_of words ≡ [] → AreOptions (options_of words)
+unfolding app_at
+options_taken words none =
+    let app = built elltree_app in
+    let stop = (walk app.top.rules (names_of app) nothing_held words).stopped in
+    let has = is_some (entered app stop) in
+    let parts = level_parts app.top (names_of app) nothing_held words has (entered_fault app stop) none in
+    let met = was_met app.top (finished app.top.rules (walk app.top.rules (names_of app) nothing_held words).held) has refl parts.1 in
+    stop_has_options stop (walk_goes_on app.top (names_of app) (walk_from nothing_held) words refl tt parts.0) met parts.2
+
 -- ---- what a parse answers
 
 -- a parse by the command fails as the words say
-pub fails_by_words : {T : Type 0} (a : App) (words : List Text) (r : Result T Error) → a ≡ elltree_app → (is_simple_and_free a ≡ true → FailsBy (fault_of a words) r) → FailsBy (faults_of words) r
+pub fails_by_words : {T : Type 0} (a : App) (words : List Text) (r : Result T Error) → IsElltree a → (is_simple_and_free a ≡ true → FailsBy (fault_of a words) r) → FailsBy (faults_of words) r
 fails_by_words a words r is fails =
-    subst (λ (b : App). FailsBy (fault_of b words) r) is (fails (ap is_simple_and_free is ∙ app_is_simple))
+    let by_names : FailsBy (fault_of (app_at is.0) words) r =
+    subst (λ (b : App). FailsBy (fault_of b words) r) is.2 (fails (ap is_simple_and_free is.2 ∙ app_is_simple is.0)) in
+    subst (λ kinds. FailsBy kinds r) (same_faults is.0 is.1 words) by_names
 
 -- a parse whose words come to one kind of error fails by that kind
 fails_with : {T : Type 0} (kinds : Kinds) (k : ErrorKind) (r : Result T Error) → FailsBy kinds r → kinds ≡ k ∷ [] → IsErrAnd r (HasKind (k ∷ []))
@@ -259,12 +491,24 @@ first_of_both : {X A B : Type 0} (name : X → A) (rest : X → B) (o : Option X
 first_of_both name rest None = refl
 first_of_both name rest (Some x) = refl
 
+-- the matches of the words have the subcommand of the words
+rows_met : (a : App) (words : List Text) (m : ArgMatches) → IsElltree a → HasMatchesOf a words m → subcommand_rows_of m ≡ subcommand_of elltree_app words
+rows_met a words m is has =
+    (has (ap is_simple is.2 ∙ app_is_ready is.0)).1 ∙ (ap (λ (b : App). subcommand_of b words) is.2 ∙ same_rows is.0 words)
+
 -- the matches of words without a fault have the subcommand `run`
-pub name_met : (a : App) (words : List Text) (m : ArgMatches) → a ≡ elltree_app → faults_of words ≡ [] → HasMatchesOf a words m → subcommand_name_of m ≡ Some (codes "run")
+pub name_met : (a : App) (words : List Text) (m : ArgMatches) → IsElltree a → faults_of words ≡ [] → HasMatchesOf a words m → subcommand_name_of m ≡ Some (codes "run")
 name_met a words m is none has =
-    let app_simple : is_simple a ≡ true = ap is_simple is ∙ app_is_ready in
-    let rows : subcommand_rows_of m ≡ subcommand_of elltree_app words = (has app_simple).1 ∙ ap (λ (b : App). subcommand_of b words) is in
+    let rows = rows_met a words m is has in
     sym (first_of_both _ _ (out-ArgMatches m).subcommand) ∙ (ap (option_map (λ (p : Text × List Row). p.0)) rows ∙ run_is_met words none)
+
+-- the options of the words are those of their matches
+pub options_are : (a : App) (words : List Text) (m : ArgMatches) → IsElltree a → HasMatchesOf a words m → rows_in (subcommand_rows_of m) ≡ options_of words
+options_are a words m is has = ap rows_in (rows_met a words m is has)
+
+-- the options of words without a fault were taken
+pub options_met : (a : App) (words : List Text) (m : ArgMatches) → IsElltree a → faults_of words ≡ [] → HasMatchesOf a words m → AreOptions (rows_in (subcommand_rows_of m))
+options_met a words m is none has = subst AreOptions (sym (options_are a words m is has)) (options_taken words none)
 
 -- two tests that hold together
 both_true : (a b : Bool) → IsTrue (a && b) → IsTrue a × IsTrue b
@@ -282,3 +526,53 @@ pub refused_fails : {T : Type 0} (words : List Text) (r : Result T Error) → Fa
 refused_fails words (Ok x) none are = are.0 none
 refused_fails words (Err e) (inl memory) are = inl memory
 refused_fails words (Err e) (inr among) are = inr (among_mistakes (faults_of words) (kind_of e) are.1 among)
+
+-- ---- the one word `run`
+
+abbrev plain_options : List Row
+plain_options = options_of (codes "run" ∷ [])
+
+plain_workers : number_of (one_of (codes "workers") plain_options) ≡ Some 4
+unfolding clap_on_literals app_at
+plain_workers = refl
+
+plain_parting : first_of (codes "parting") plain_options ≡ Some (codes "stripe")
+unfolding clap_on_literals app_at
+plain_parting = refl
+
+plain_cards : number_of (one_of (codes "cards") plain_options) ≡ None
+unfolding clap_on_literals app_at
+plain_cards = refl
+
+plain_tries : number_of (one_of (codes "tries") plain_options) ≡ Some 1000
+unfolding clap_on_literals app_at
+plain_tries = refl
+
+plain_report : one_of (codes "report") plain_options ≡ Some (codes "false")
+unfolding clap_on_literals app_at
+plain_report = refl
+
+-- two names of one number
+same_number : (o : Option ℕ) (a b : ℕ) → o ≡ Some a → o ≡ Some b → a ≡ b
+same_number o a b left right = ap (λ x. unwrap_or x a) (sym left ∙ right)
+
+stripe_named : (parting : Parting) → Some (codes "stripe") ≡ Some (name_of parting) → parting ≡ Stripe
+stripe_named Stripe is = refl
+stripe_named Range is = absurd (cc)
+
+unset : (flag : Bool) (o : Option Text) → o ≡ Some (codes "false") → (flag ≡ true → o ≡ Some (codes "true")) → flag ≡ false
+unset false o off wants = refl
+unset true o off wants =
+    let bad : Some (codes "false") ≡ Some (codes "true") = sym off ∙ wants refl in
+    absurd (cc)
+
+-- the one word `run` asks for the default settings, and no report
+pub plain_run : (words : List Text) (request : Request) → AsksToRun words → IsRequestOf (options_of words) request → IsPlainRun request
+plain_run words (Run settings report) is request =
+    let (ranges, said, wants) = subst (λ (ws : List Text). IsRequestOf (options_of ws) (Run settings report)) is request in (
+      same_number _ _ _ said.workers plain_workers,
+      stripe_named settings.parting (sym plain_parting ∙ said.parting),
+      sym said.cards ∙ plain_cards,
+      same_number _ _ _ said.tries plain_tries,
+      unset report _ plain_report wants.0,
+    )

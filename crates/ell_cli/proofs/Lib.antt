@@ -1,1 +1,3 @@
-pub mod CommandLineLemmas
+mod CommandLineLemmas
+mod OptionLemmas
+mod PlaceLemmas

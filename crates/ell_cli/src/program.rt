@@ -2,15 +2,15 @@
 ghost use Rattle.std.specs.Prelude.{◌≡◌, IsTrue, IfErr, IsErrAnd, OnOk, Err, map};
 ghost use Rattle.std.specs.Io.KnownBytes.{Keeps};
 ghost use Rattle.clap.specs.Words.{kind_of};
-ghost use Rattle.ell_cli.specs.CommandLine.{AreRefused, AreTaken, AsksForHelp, AsksToRun};
-ghost use Rattle.ell_cli.specs.CommandLine.{is_mistake};
+ghost use Rattle.ell_cli.specs.CommandLine.{AreRefused, AreTaken, AsksForHelp, AsksForReport};
+ghost use Rattle.ell_cli.specs.CommandLine.{AsksToRun, is_mistake};
 ghost use Rattle.ell_cli.specs.Program.{IsBeforeOutput, IsRefusal, IsSilent, IsStatus, Succeeded};
 ghost use Rattle.ell_cli.specs.Program.{status_of};
 ghost use Rattle.ell_run.specs.Answered.{IsAnswered};
 
 use crate::request::{Request, request_of};
 use clap::error::ErrorKind;
-use ell_run::{Parting, RunFault, Settings, run_bytes};
+use ell_run::{RunFault, run_bytes};
 use std::alloc::Global;
 use std::convert::AsStr;
 use std::error::Error;
@@ -27,14 +27,6 @@ const OUT_OF_MEMORY: u8 = 3;
 
 // Reading or writing failed.
 const TRANSFER_FAILED: u8 = 4;
-
-// How a text is run.
-const SETTINGS: Settings = Settings {
-    workers: 4,
-    parting: Parting::Stripe,
-    cards: None,
-    tries: 1000,
-};
 
 /// The exit status where the arguments could not be taken.
 pub const ARGUMENTS_NOT_TAKEN: u8 = OUT_OF_MEMORY;
@@ -81,8 +73,9 @@ impl Failure {
 }
 
 /// The whole program over a reader and two writers: answers its exit status, which `run --help`
-/// explains. Answers and help go to `out`, which is flushed last, and the text of a failure to `err`.
-/// Where `err` fails, the status is the same.
+/// explains. Answers and help go to `out`, which is flushed last. The text of a failure goes to `err`,
+/// and so does the report of a run that succeeded, before that flush, where the words ask for it: the
+/// line `late N`. Where `err` fails, the status is the same.
 pub fn elltree<R, S: AsStr, I: Read, O: Write, E: Write>(
     rt: &R,
     alloc: Global,
@@ -93,7 +86,9 @@ pub fn elltree<R, S: AsStr, I: Read, O: Write, E: Write>(
 ) -> u8
     ensures status { IsStatus result }
     ensures silent { IsSilent result → Keeps (O.contents out.old) (O.contents out.new) }
-    ensures quiet { Succeeded result → err.new ≡ err.old }
+
+    // Success writes to `err` only a report that was asked for.
+    ensures quiet { Succeeded result → ¬ AsksForReport (map S.text words.now) → err.new ≡ err.old }
 
     // Success means that the run ended well, where the words are taken, as the one word `run` is.
     ensures taken { AreTaken (map S.text words.now) → Succeeded result
@@ -105,7 +100,7 @@ pub fn elltree<R, S: AsStr, I: Read, O: Write, E: Write>(
     ensures refused { AreRefused (map S.text words.now) → IsSilent result }
     ensures unread { ¬ AreTaken (map S.text words.now) → input.new ≡ input.old }
 {
-    match outcome(rt, alloc, words, input, out) {
+    match outcome(rt, alloc, words, input, out, err) {
         Ok(()) => SUCCEEDED,
         Err(failure) => {
             let _ = write!(err, "{failure}");
@@ -114,13 +109,14 @@ pub fn elltree<R, S: AsStr, I: Read, O: Write, E: Write>(
     }
 }
 
-// Does what the words ask for, and flushes `out` last.
-fn outcome<R, S: AsStr, I: Read, O: Write>(
+// Does what the words ask for, writes the report to `err`, and flushes `out` last.
+fn outcome<R, S: AsStr, I: Read, O: Write, E: Write>(
     rt: &R,
     alloc: Global,
     words: &[S],
     input: &mut I,
     out: &mut O,
+    err: &mut E,
 ) -> Result<(), Failure>
     ensures silent { IfErr result (λ failure.
         IsBeforeOutput failure → Keeps (O.contents out.old) (O.contents out.new)) }
@@ -133,10 +129,14 @@ fn outcome<R, S: AsStr, I: Read, O: Write>(
     ensures refused { AreRefused (map S.text words.now)
         → IsErrAnd result (λ failure. IsSilent (status_of failure)) }
     ensures unread { ¬ AreTaken (map S.text words.now) → input.new ≡ input.old }
+    ensures quiet { ¬ AsksForReport (map S.text words.now) → err.new ≡ err.old }
 {
     match request_of(alloc, words) {
-        Ok(Request::Run) => {
-            run_bytes(rt, alloc, input, out, SETTINGS).map_err(Failure::Run)?;
+        Ok(Request::Run { settings, report }) => {
+            let told = run_bytes(rt, alloc, input, out, settings).map_err(Failure::Run)?;
+            if report {
+                let _ = writeln!(err, "late {}", told.late);
+            }
         }
         Err(error) => show_help(error, out)?,
     }

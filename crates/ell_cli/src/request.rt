@@ -1,21 +1,29 @@
 //! What the words of the command line ask for.
-ghost use Rattle.std.specs.Prelude.{◌≡◌, [], ◌∷◌, IfOk, IfErr, IsErrAnd, Some, codes, false, map};
-ghost use Rattle.clap.specs.Words.{FailsBy, HasKind, app_of, kind_of, shape_of, subcommand_name_of};
+ghost use Rattle.std.specs.Prelude.{◌≡◌, ◌<◌, ◌≤◌, ◌^◌, ℕ, IfOk, IfErr, IsErrAnd, IsSomeAnd, None, Some, codes};
+ghost use Rattle.std.specs.Prelude.{[], ◌∷◌, false, map};
+ghost use Rattle.clap.specs.Words.{FailsBy, HasKind, app_of, first_of, found_of, kind_of, one_of, rows_of};
+ghost use Rattle.clap.specs.Words.{rule_of, shape_of, subcommand_name_of, subcommand_rows_of};
 ghost use Rattle.clap.specs.declared.builder.command.Command.TheViews.{out-Command as fields_of};
-ghost use Rattle.ell_cli.specs.CommandLine.{AreRefused, AreTaken, AsksForHelp, AsksToRun};
-ghost use Rattle.ell_cli.specs.CommandLine.{IsMistakeOrMemory, elltree_app, faults_of, run_shape};
-ghost use Rattle.ell_cli.specs.CommandLine.{subcommand_for};
+ghost use Rattle.ell_cli.specs.CommandLine.{AreOptions, AreRefused, AreSaid, AreTaken, AsksForHelp};
+ghost use Rattle.ell_cli.specs.CommandLine.{AsksToRun, BorrowedNames, IsElltree, IsMistakeOrMemory};
+ghost use Rattle.ell_cli.specs.CommandLine.{IsNumberUpTo, IsPlainRun, IsRequestOf, NamesPartings};
+ghost use Rattle.ell_cli.specs.CommandLine.{cards_rule, faults_of, name_of, number_of, options_of};
+ghost use Rattle.ell_cli.specs.CommandLine.{parting_rule, report_rule, rows_in, run_shape};
+ghost use Rattle.ell_cli.specs.CommandLine.{subcommand_for, tries_rule, workers_rule};
+ghost use Rattle.ell_run.specs.Settings.{AreSettings};
 
 use clap::error::ErrorKind;
-use clap::{ArgMatches, Command, Error};
+use clap::{Arg, ArgAction, ArgMatches, Command, Error, value_parser};
+use ell_run::{Parting, Settings};
 use std::alloc::{AllocError, Global};
 use std::convert::AsStr;
 
 /// What a user asks the program to do.
 #[derive(Debug, Clone, Copy, PartialEq, Eq)]
 pub enum Request {
-    /// Run a bulk text.
-    Run,
+    /// Run a bulk text by these settings, and tell of it on standard error where `report` is set
+    /// and the run succeeded.
+    Run { settings: Settings, report: bool },
 }
 
 const ABOUT: &str = "Finds, inserts and deletes on a set of keys, in bulk";
@@ -31,6 +39,9 @@ text has at most 200,000 operations and 16,777,216 bytes.
 
 Writes `yes` or `no` for each operation to standard output, in order, then
 `keys N` and the N keys of the final set, ascending, one a line.";
+
+// The names of the partings of keys.
+static PARTINGS: [&str; 2] = ["stripe", "range"];
 
 const RUN_AFTER_HELP: &str = "Example:
   The four lines
@@ -57,6 +68,10 @@ Exit status:
 pub fn request_of<S: AsStr>(alloc: Global, words: &[S]) -> Result<Request, Error>
     ensures kinds { FailsBy (faults_of (map S.text words.now)) result }
 
+    // The settings are those of the words, in their ranges, and a report is wanted where they say so.
+    ensures request { IfOk result (IsRequestOf (options_of (map S.text words.now))) }
+    ensures defaults { AsksToRun (map S.text words.now) → IfOk result IsPlainRun }
+
     // What that comes to at some words.
     ensures taken { AreTaken (map S.text words.now)
         → IfErr result (λ e. kind_of e ≡ ErrorKind.OutOfMemory) }
@@ -73,36 +88,142 @@ pub fn request_of<S: AsStr>(alloc: Global, words: &[S]) -> Result<Request, Error
     Ok(request_in(&matches))
 }
 
-// The request that the subcommand stands for.
+// The request that the subcommand stands for, with its options.
 fn request_in(matches: &ArgMatches<'_>) -> Request
-    requires { subcommand_name_of matches.now ≡ Some (codes "run") }
-    ensures { subcommand_name_of matches.now ≡ Some (subcommand_for result) }
+    requires name { subcommand_name_of matches.now ≡ Some (codes "run") }
+    requires options { AreOptions (rows_in (subcommand_rows_of matches.now)) }
+    ensures name { subcommand_name_of matches.now ≡ Some (subcommand_for result) }
+    ensures options { IsRequestOf (rows_in (subcommand_rows_of matches.now)) result }
 {
-    match matches.subcommand_name() {
-        Some("run") => Request::Run,
+    match matches.subcommand() {
+        Some(("run", options)) => Request::Run {
+            settings: settings_in(options),
+            report: options.get_flag("report"),
+        },
         _ => unreachable!(),
+    }
+}
+
+// The settings that the options of `run` give.
+fn settings_in(options: &ArgMatches<'_>) -> Settings
+    requires { AreOptions (rows_of (found_of options.now)) }
+    ensures ranges { AreSettings result }
+    ensures said { AreSaid (rows_of (found_of options.now)) result }
+{
+    Settings {
+        workers: number_in(options, "workers").unwrap(),
+        parting: parting_in(options),
+        cards: number_in(options, "cards").map(u64::from),
+        tries: number_in(options, "tries").unwrap(),
+    }
+}
+
+// The number of an option of `run`, if the option is there.
+fn number_in(options: &ArgMatches<'_>, name: &str) -> Option<u32>
+    ensures none { one_of name.now (rows_of (found_of options.now)) ≡ None → result ≡ None }
+    ensures some { (most : ℕ) → most < 2 ^ 32
+        → IsNumberUpTo most (one_of name.now (rows_of (found_of options.now)))
+        → IsSomeAnd result (λ number. (1 ≤ number) × (number ≤ most)
+        × (number_of (one_of name.now (rows_of (found_of options.now))) ≡ Some number)) }
+{
+    options.get_one(name)
+}
+
+// How the options of `run` part the keys.
+fn parting_in(options: &ArgMatches<'_>) -> Parting
+    requires { AreOptions (rows_of (found_of options.now)) }
+    ensures { first_of (codes "parting") (rows_of (found_of options.now)) ≡ Some (name_of result) }
+{
+    let name = options.get_str("parting").unwrap();
+    if name == "range" {
+        Parting::Range
+    } else {
+        Parting::Stripe
     }
 }
 
 // The program's command line, which has to name a subcommand.
 fn elltree_command<'a>(alloc: Global) -> Result<Command<'a>, AllocError>
-    ensures { IfOk result (λ c. app_of c ≡ elltree_app) }
+    ensures { IfOk result (λ c. IsElltree (app_of c)) }
 {
     Command::new(alloc, "elltree")
         .about(ABOUT)
         .no_binary_name(true)
         .subcommand_required(true)
         .bin_name("elltree")?
-        .subcommand(run_command(alloc))
+        .subcommand(run_command(alloc)?)
 }
 
-// The subcommand `run`.
-fn run_command<'a>(alloc: Global) -> Command<'a>
-    ensures shape { shape_of result ≡ run_shape }
-    ensures local { (fields_of result).has_globals ≡ false }
+// The subcommand `run`, with its options.
+fn run_command<'a>(alloc: Global) -> Result<Command<'a>, AllocError>
+    ensures shape { IfOk result (λ c.
+        (names : BorrowedNames) × NamesPartings names × (shape_of c ≡ run_shape names)) }
+    ensures local { IfOk result (λ c. (fields_of c).has_globals ≡ false) }
 {
     Command::new(alloc, "run")
         .about(RUN_ABOUT)
         .long_about(RUN_LONG_ABOUT)
         .after_long_help(RUN_AFTER_HELP)
+        .arg(workers_option(alloc))?
+        .arg(parting_option(alloc))?
+        .arg(cards_option(alloc))?
+        .arg(tries_option(alloc))?
+        .arg(report_option(alloc))
+}
+
+fn workers_option<'a>(alloc: Global) -> Arg<'a>
+    ensures rule { rule_of result ≡ workers_rule }
+    ensures local { result.global ≡ false }
+{
+    Arg::new(alloc, "workers")
+        .long("workers")
+        .value_name("N")
+        .value_parser(value_parser!(u32).range(1..=64))
+        .default_value("4")
+        .help("Workers that share the run, 1 to 64")
+}
+
+fn parting_option<'a>(alloc: Global) -> Arg<'a>
+    ensures rule { (names : BorrowedNames) × NamesPartings names × (rule_of result ≡ parting_rule names) }
+    ensures local { result.global ≡ false }
+{
+    Arg::new(alloc, "parting")
+        .long("parting")
+        .value_name("HOW")
+        .value_parser(PARTINGS.as_slice())
+        .default_value("stripe")
+        .help("How keys go to workers")
+}
+
+fn cards_option<'a>(alloc: Global) -> Arg<'a>
+    ensures rule { rule_of result ≡ cards_rule }
+    ensures local { result.global ≡ false }
+{
+    Arg::new(alloc, "cards")
+        .long("cards")
+        .value_name("N")
+        .value_parser(value_parser!(u32).range(1..=1_000_000))
+        .help("Cards of a run, 1 to 1000000 [default: 4 per operation and 64]")
+}
+
+fn tries_option<'a>(alloc: Global) -> Arg<'a>
+    ensures rule { rule_of result ≡ tries_rule }
+    ensures local { result.global ≡ false }
+{
+    Arg::new(alloc, "tries")
+        .long("tries")
+        .value_name("N")
+        .value_parser(value_parser!(u32).range(1..=1_000_000))
+        .default_value("1000")
+        .help("Tries of an operation, 1 to 1000000")
+}
+
+fn report_option<'a>(alloc: Global) -> Arg<'a>
+    ensures rule { rule_of result ≡ report_rule }
+    ensures local { result.global ≡ false }
+{
+    Arg::new(alloc, "report")
+        .long("report")
+        .action(ArgAction::SetTrue)
+        .help("Write `late N` to standard error after a run that succeeded")
 }

@@ -123,3 +123,38 @@ fn the_limits(rt: HostRuntime) -> Result<(), Fail> {
     }
     Ok(())
 }
+
+#[test]
+fn a_report_goes_to_standard_error(rt: HostRuntime) {
+    let words = [
+        "run",
+        "--workers",
+        "64",
+        "--parting",
+        "range",
+        "--cards",
+        "1000000",
+        "--tries",
+        "1",
+        "--report",
+    ];
+    let mut out = Vec::new(rt.alloc());
+    let mut err = Vec::new(rt.alloc());
+    let mut input = FOUR_LINES;
+    let status = elltree(&rt, rt.alloc(), &words, &mut input, &mut out, &mut err);
+    assert_eq!(rt; status, 0);
+    assert_eq!(rt; out.as_slice(), b"yes\nyes\nyes\nno\nkeys 0\n".as_slice());
+    assert_eq!(rt; err.as_slice(), b"late 0\n".as_slice());
+}
+
+#[test]
+fn a_fault_has_no_report(rt: HostRuntime) {
+    let mut out = Vec::new(rt.alloc());
+    let mut err = Vec::new(rt.alloc());
+    let mut input = b"insert 007\n".as_slice();
+    let words = ["run", "--report"];
+    let status = elltree(&rt, rt.alloc(), &words, &mut input, &mut out, &mut err);
+    assert_eq!(rt; status, 2);
+    assert!(rt; out.is_empty());
+    assert_eq!(rt; err.as_slice(), b"elltree: line 1: not a key\n".as_slice());
+}

@@ -1,8 +1,18 @@
 //! What the words of the command line come to.
 use super::streams::Narrow;
 use crate::program::elltree;
+use crate::request::{Request, request_of};
+use ell_run::{Parting, Settings};
 use std::io::{Write, empty};
 use std::test::Fail;
+
+// The settings where no option is given.
+const DEFAULTS: Settings = Settings {
+    workers: 4,
+    parting: Parting::Stripe,
+    cards: None,
+    tries: 1000,
+};
 
 const WRITE_FAILED: &str = "elltree: write failed\n";
 
@@ -18,6 +28,15 @@ fn tells_of_refused_words(rt: HostRuntime) {
         &["run", "x"],
         &["--version"],
         &["help", "walk"],
+        &["run", "--workers", "0"],
+        &["run", "--workers", "65"],
+        &["run", "--workers", "x"],
+        &["run", "--workers"],
+        &["run", "--cards", "0"],
+        &["run", "--cards", "1000001"],
+        &["run", "--tries", "0"],
+        &["run", "--tries", "1000001"],
+        &["run", "--parting", "rows"],
     ];
     for words in cases {
         let mut out = Vec::new(rt.alloc());
@@ -30,6 +49,57 @@ fn tells_of_refused_words(rt: HostRuntime) {
         assert!(rt; out.is_empty(), "at {words:?}");
         assert!(rt; !err.is_empty(), "at {words:?}");
     }
+}
+
+#[test]
+fn reads_options(rt: HostRuntime) -> Result<(), Fail> {
+    let least = Settings {
+        workers: 1,
+        parting: Parting::Range,
+        cards: Some(1),
+        tries: 1,
+    };
+    let most = Settings {
+        workers: 64,
+        parting: Parting::Stripe,
+        cards: Some(1_000_000),
+        tries: 1_000_000,
+    };
+    let cases = [
+        (["run"].as_slice(), DEFAULTS, false),
+        (
+            &[
+                "run",
+                "--report",
+                "--workers=1",
+                "--parting=range",
+                "--cards=1",
+                "--tries=1",
+            ],
+            least,
+            true,
+        ),
+        (
+            &[
+                "run",
+                "--tries",
+                "1000000",
+                "--cards",
+                "1000000",
+                "--parting",
+                "stripe",
+                "--workers",
+                "64",
+            ],
+            most,
+            false,
+        ),
+    ];
+    for (words, settings, report) in cases {
+        let request = request_of(rt.alloc(), words)?;
+        assert_eq!(rt; request, Request::Run { settings, report }, "at {words:?}");
+    }
+    Ok(())
 }
 
 #[test]

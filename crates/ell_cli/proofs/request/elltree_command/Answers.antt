@@ -2,7 +2,7 @@ use Rattle.std.proofs.Common.{◌≡◌, ◌∙◌, ap, ap₂, codes, true}
 use Rattle.std.proofs.lemmas.Result.{IfOk-weaker}
 use Rattle.clap.specs.Words.{App, app_of, new_app, with_subcommand}
 use Rattle.clap.specs.Simple.{app_of_fields, on_top}
-use Rattle.ell_cli.specs.CommandLine.{elltree_app}
+use Rattle.ell_cli.specs.CommandLine.{IsElltree, app_at}
 use Rattle.ell_cli.proofs.request.elltree_command.Goals as goal
 
 abbrev without_name : App → App
@@ -12,7 +12,7 @@ abbrev with_required : App → App
 with_required = on_top (λ s. record s { subcommand_required = true })
 
 pub returns : goal.returns
-unfolding elltree_app
+unfolding app_at
 returns c =
     let about : app_of c.about.result ≡ new_app (codes "elltree") =
     ap app_of_fields c.about.ensures ∙ c.new.ensures.app in
@@ -24,5 +24,6 @@ returns c =
     let named : app_of c.in_ok-bin_name.field-0
     ≡ with_required (without_name (new_app (codes "elltree"))) =
     ap app_of_fields c.in_ok-bin_name.ensures.0 ∙ required in
-    IfOk-weaker c.subcommand.result _ _ (λ r h.
-    h.shape c.run_command.ensures.local ∙ ap₂ with_subcommand named c.run_command.ensures.shape) c.subcommand.ensures
+    let run = c.in_ok-run_command.ensures in
+    IfOk-weaker c.subcommand.result _ (λ r. IsElltree (app_of r)) (λ r h.
+    (run.shape.0, run.shape.1, h.shape run.local ∙ ap₂ with_subcommand named run.shape.2)) c.subcommand.ensures

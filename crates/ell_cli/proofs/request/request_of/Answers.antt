@@ -1,7 +1,13 @@
-use Rattle.std.proofs.Common.{◌≡◌, map, rules, Ok, Err, IsErrAnd}
+use Rattle.std.proofs.Common.{◌≡◌, map, rules, subst, Result, Ok, Err, IfOk, IsErrAnd}
 use Rattle.clap.specs.declared.parser.matches.ArgMatches.{ArgMatches}
-use Rattle.ell_cli.proofs.CommandLineLemmas.{fails_by_words, fails_up, help_fails, nothing_fails, refused_fails, run_taken, taken_fails, name_met}
+use Rattle.ell_cli.specs.CommandLine.{IsRequestOf}
+use Rattle.ell_cli.proofs.CommandLineLemmas.{fails_by_words, fails_up, help_fails, nothing_fails, refused_fails, plain_run, run_taken, taken_fails, name_met, options_are, options_met}
 use Rattle.ell_cli.proofs.request.request_of.Goals as goal
+
+-- an error has no request
+passed_up : {T E : Type 0} (P : T → Type 0) (r : Result T E) (e : E) → IsErrAnd r (λ y. y ≡ e) → IfOk r P
+passed_up P (Ok x) e is = absurd is
+passed_up P (Err y) e is = tt
 
 pub returns-in_err-matches : goal.returns-in_err-matches
 returns-in_err-matches g c =
@@ -12,6 +18,8 @@ returns-in_err-matches g c =
     (fails_by_words {T = Unit {0}} _ words (Err error) c.in_ok-elltree_command.ensures c.in_err-matches.ensures.kinds) in
     record {
       kinds = kinds;
+      request = passed_up _ _ error passed;
+      defaults = λ asks. passed_up _ _ error passed;
       taken = taken_fails words _ kinds;
       run = λ asks. taken_fails words _ kinds (run_taken words asks);
       help = help_fails words _ kinds;
@@ -24,14 +32,20 @@ request_in-requires g c =
     let words = map g.S.AsStr.text c.args.words.now in
     let is = c.in_ok-elltree_command.ensures in
     let none = fails_by_words {T = ArgMatches} _ words (Ok c.in_ok-matches.matches) is c.in_ok-matches.ensures.kinds in
-    name_met _ words c.in_ok-matches.matches is none c.in_ok-matches.ensures.matches
+    record {
+      name = name_met _ words c.in_ok-matches.matches is none c.in_ok-matches.ensures.matches;
+      options = options_met _ words c.in_ok-matches.matches is none c.in_ok-matches.ensures.matches;
+    }
 
 pub returns : goal.returns
 returns g c =
     let words = map g.S.AsStr.text c.args.words.now in
     let kinds = fails_by_words {T = ArgMatches} _ words (Ok c.in_ok-matches.matches) c.in_ok-elltree_command.ensures c.in_ok-matches.ensures.kinds in
+    let request = subst (λ rows. IsRequestOf rows c.request_in.result) (options_are _ words c.in_ok-matches.matches c.in_ok-elltree_command.ensures c.in_ok-matches.ensures.matches) c.request_in.ensures.options in
     record {
       kinds = kinds;
+      request = request;
+      defaults = λ asks. plain_run words c.request_in.result asks request;
       taken = taken_fails {T = ArgMatches} words (Ok c.in_ok-matches.matches) kinds;
       run = λ asks. tt;
       help = help_fails {T = ArgMatches} words (Ok c.in_ok-matches.matches) kinds;
