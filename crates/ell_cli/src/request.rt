@@ -1,8 +1,9 @@
 //! What the words of the command line ask for.
-ghost use Rattle.std.specs.Prelude.{◌≡◌, ◌<◌, ◌≤◌, ◌^◌, ℕ, IfOk, IfErr, IsErrAnd, IsSomeAnd, None, Some, codes};
-ghost use Rattle.std.specs.Prelude.{[], ◌∷◌, false, map};
-ghost use Rattle.clap.specs.Words.{FailsBy, HasKind, app_of, first_of, found_of, kind_of, one_of, rows_of};
-ghost use Rattle.clap.specs.Words.{rule_of, shape_of, subcommand_name_of, subcommand_rows_of};
+ghost use Rattle.std.specs.Prelude.{◌≡◌, ◌<◌, ◌≤◌, ◌^◌, ℕ, IfOk, IfErr, IsErrAnd, IsSomeAnd, None, Some};
+ghost use Rattle.std.specs.Prelude.{[], ◌∷◌, codes, false, map};
+ghost use Rattle.clap.specs.Words.{FailsBy, HasKind, app_of, first_of, found_of, kind_of, one_of};
+ghost use Rattle.clap.specs.Words.{rows_of, rule_of, shape_of, subcommand_name_of};
+ghost use Rattle.clap.specs.Words.{subcommand_rows_of};
 ghost use Rattle.clap.specs.declared.builder.command.Command.TheViews.{out-Command as fields_of};
 ghost use Rattle.ell_cli.specs.CommandLine.{AreOptions, AreRefused, AreSaid, AreTaken, AsksForHelp};
 ghost use Rattle.ell_cli.specs.CommandLine.{AsksToRun, BorrowedNames, IsElltree, IsMistakeOrMemory};
@@ -26,6 +27,9 @@ pub enum Request {
     Run { settings: Settings, report: bool },
 }
 
+// The names of the partings of keys.
+static PARTINGS: [&str; 2] = ["stripe", "range"];
+
 const ABOUT: &str = "Finds, inserts and deletes on a set of keys, in bulk";
 
 const RUN_ABOUT: &str = "Run a text of finds, inserts and deletes on an empty set";
@@ -39,9 +43,6 @@ text has at most 200,000 operations and 16,777,216 bytes.
 
 Writes `yes` or `no` for each operation to standard output, in order, then
 `keys N` and the N keys of the final set, ascending, one a line.";
-
-// The names of the partings of keys.
-static PARTINGS: [&str; 2] = ["stripe", "range"];
 
 const RUN_AFTER_HELP: &str = "Example:
   The four lines

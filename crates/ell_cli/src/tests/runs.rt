@@ -148,6 +148,20 @@ fn a_report_goes_to_standard_error(rt: HostRuntime) {
 }
 
 #[test]
+fn a_report_comes_before_the_flush(rt: HostRuntime) {
+    let mut out = Narrow::new(rt.alloc(), usize::MAX, false);
+    let mut err = Vec::new(rt.alloc());
+    let mut input = FOUR_LINES;
+    let words = ["run", "--report"];
+    let status = elltree(&rt, rt.alloc(), &words, &mut input, &mut out, &mut err);
+    assert_eq!(rt; status, 4);
+    assert_eq!(rt;
+        err.as_slice(),
+        b"late 0\nelltree: write failed\n".as_slice()
+    );
+}
+
+#[test]
 fn a_fault_has_no_report(rt: HostRuntime) {
     let mut out = Vec::new(rt.alloc());
     let mut err = Vec::new(rt.alloc());

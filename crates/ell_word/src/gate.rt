@@ -1,0 +1,51 @@
+//! What a worker tells of its steps.
+
+/// The kinds of step that a worker makes. All but `Begin` are one atomic step each.
+#[derive(Clone, Copy, Debug, PartialEq, Eq, Hash)]
+pub enum Kind {
+    /// The start of a find, insert or delete: no step yet.
+    Begin,
+    /// Reads the claim word.
+    Note,
+    /// Reads any other word.
+    Look,
+    /// Takes the next card.
+    Claim,
+    /// Writes a word of a card in hand.
+    Fill,
+    /// Flags a parent for an insert.
+    IFlag,
+    /// Changes a child for an insert.
+    IChild,
+    /// Takes an insert's flag away.
+    IUnflag,
+    /// Flags a grandparent for a delete.
+    DFlag,
+    /// Marks a parent for a delete.
+    Mark,
+    /// Changes a child for a delete.
+    DChild,
+    /// Takes a delete's flag away after its child change.
+    DUnflag,
+    /// Takes a delete's flag away after a lost mark.
+    Backtrack,
+}
+
+/// Watches the steps of workers. Its calls return, and no promise rests on what they do.
+pub trait StepGate {
+    /// Called at the start of a find, insert or delete, and just before each of its atomic steps.
+    fn before(&self, worker: u32, kind: Kind);
+
+    /// Called just before such a call returns: `answered` says whether with an answer.
+    fn after(&self, worker: u32, answered: bool);
+}
+
+/// The gate that does nothing.
+#[derive(Clone, Copy, Debug, PartialEq, Eq)]
+pub struct NoGate;
+
+impl StepGate for NoGate {
+    fn before(&self, _worker: u32, _kind: Kind) {}
+
+    fn after(&self, _worker: u32, _answered: bool) {}
+}

@@ -1,0 +1,50 @@
+//! Node numbers: each card has an internal node and two leaves.
+ghost use Rattle.std.specs.Prelude.{◌≡◌, ◌≤◌, ◌↔◌, IsTrue};
+ghost use Rattle.ell_word.specs.Node.{greatest_card, internal, left_leaf, right_leaf, IsInternal, card};
+
+/// The greatest number of a card.
+pub const CARD_MAX: u64 = 1_000_000;
+
+/// The lesser of the two keys above all keys of the set: the greatest leaf of the root's left subtree has it.
+pub const INF1: u64 = 18_446_744_073_709_551_614;
+
+/// The greater of the two: the root and its right leaf have it.
+pub const INF2: u64 = 18_446_744_073_709_551_615;
+
+/// The internal node of a card.
+pub fn internal_of(card: u64) -> u64
+    requires { card ≤ greatest_card }
+    ensures { result ≡ internal card }
+{
+    3 * card
+}
+
+/// The left leaf of a card.
+pub fn left_leaf_of(card: u64) -> u64
+    requires { card ≤ greatest_card }
+    ensures { result ≡ left_leaf card }
+{
+    internal_of(card) + 1
+}
+
+/// The right leaf of a card.
+pub fn right_leaf_of(card: u64) -> u64
+    requires { card ≤ greatest_card }
+    ensures { result ≡ right_leaf card }
+{
+    internal_of(card) + 2
+}
+
+/// Whether a node is internal, and no leaf.
+pub fn is_internal(node: u64) -> bool
+    ensures { IsTrue result ↔ IsInternal node }
+{
+    node % 3 == 0
+}
+
+/// The card that a node stands on.
+pub fn card_of(node: u64) -> u64
+    ensures { result ≡ card node }
+{
+    node / 3
+}

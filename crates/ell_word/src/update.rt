@@ -1,0 +1,63 @@
+//! The update word of an internal node: a state and the card of the operation that set it.
+ghost use Rattle.std.specs.Prelude.{◌≡◌, ◌≤◌, ℕ};
+ghost use Rattle.ell_word.specs.Node.{greatest_card};
+ghost use Rattle.ell_word.specs.Word.{packed, unpacked};
+ghost use Rattle.ell_word.specs.declared.update.Update.{Update};
+
+/// The state of an internal node (figure 7 of the paper).
+#[derive(Clone, Copy, Debug, PartialEq, Eq, Hash)]
+pub enum State {
+    /// An insert is about to change a child.
+    IFlag,
+    /// A delete is about to change a child.
+    DFlag,
+    /// The node is being cut out, and changes no more.
+    Mark,
+    /// Nothing is going on.
+    Clean,
+}
+
+/// What an update word says.
+#[derive(Clone, Copy, Debug, PartialEq, Eq, Hash)]
+pub struct Update {
+    pub state: State,
+    /// The card of the operation that set the state last; 0 where none did.
+    pub card: u64,
+}
+
+/// The word of an update: four times the card, and the state's number. Condition: the card is at most `CARD_MAX`.
+pub fn pack(update: Update) -> u64
+    requires { update.card ≤ greatest_card }
+    ensures { result ≡ packed update }
+{
+    let number = match update.state {
+        State::IFlag => 0,
+        State::DFlag => 1,
+        State::Mark => 2,
+        State::Clean => 3,
+    };
+    4 * update.card + number
+}
+
+/// What a word says, whichever it is: packing that gives the word again.
+pub fn unpack(word: u64) -> Update
+    ensures update { result ≡ unpacked word }
+    ensures again { packed result ≡ word }
+{
+    let state = match word % 4 {
+        0 => State::IFlag,
+        1 => State::DFlag,
+        2 => State::Mark,
+        _ => State::Clean,
+    };
+    Update {
+        state,
+        card: word / 4,
+    }
+}
+
+/// Packing and unpacking undo each other: each update has its own word, and each word is that of one update.
+pub fn packs()
+    ensures back { (update : Update) → unpacked (packed update) ≡ update }
+    ensures again { (word : ℕ) → packed (unpacked word) ≡ word }
+{}
