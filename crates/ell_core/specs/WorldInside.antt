@@ -1,0 +1,12 @@
+-- A world as its code keeps it.
+use Rattle.std.specs.Prelude.{List, map}
+use Rattle.ell_core.specs.declared.world.World.TheInside.{Inside}
+use Rattle.ell_core.specs.Inside.{view_of, IsSized}
+use Rattle.ell_core.specs.World.{WorldValue, WorldFits}
+
+-- the lists that contracts see
+abbrev pub value_in : Inside → WorldValue
+value_in w = record { words = w.memory.words.items; workers = map view_of w.workers.items; cards = w.memory.cards }
+
+abbrev pub InsideFits : Inside → Type 0
+InsideFits w = WorldFits (value_in w)

@@ -1,0 +1,41 @@
+//! What a worker can know of a card.
+ghost use Rattle.std.specs.Prelude.{◌≡◌};
+ghost use Rattle.ell_core.specs.Facts.{card_of_fact, told_by};
+
+use ell_word::{State, unpack};
+
+/// A fact of a card, which the fact names. It stays true once it is true.
+#[derive(Clone, Copy, Debug, PartialEq, Eq, PartialOrd, Ord, Hash)]
+pub enum Fact {
+    /// The insert's flag was set.
+    IFlagged(u64),
+    /// The insert's child exchange was made.
+    IChanged(u64),
+    /// The insert's flag was taken away.
+    IOver(u64),
+    /// The delete's flag was set.
+    DFlagged(u64),
+    /// The delete's parent was marked.
+    Marked(u64),
+    /// The delete's parent can't be marked any more.
+    Unmarkable(u64),
+    /// The delete's child exchange was made.
+    Cut(u64),
+    /// The delete's flag was taken away after its child exchange.
+    DOver(u64),
+    /// The delete's flag was taken away after its lost mark.
+    Backed(u64),
+}
+
+/// The fact that an update word tells whoever reads it: a flag or a mark that of its card, a clean word none.
+pub(crate) fn told_by(word: u64) -> Option<Fact>
+    ensures { result ≡ told_by word }
+{
+    let update = unpack(word);
+    match update.state {
+        State::IFlag => Some(Fact::IFlagged(update.card)),
+        State::DFlag => Some(Fact::DFlagged(update.card)),
+        State::Mark => Some(Fact::Marked(update.card)),
+        State::Clean => None,
+    }
+}

@@ -1,0 +1,189 @@
+//! The words of all cards, in one list.
+ghost use Rattle.std.specs.Prelude.{◌≡◌, ◌≢◌, ◌≤◌, IfOk, IfErr, OnOk, List};
+ghost use Rattle.ell_word.specs.Node.{greatest_card};
+ghost use Rattle.ell_core.specs.Words.{word, written};
+ghost use Rattle.ell_core.specs.Cards.{is_right, filled, claimed};
+ghost use Rattle.ell_core.specs.Exchanges.{exchanged_update, exchanged_child, found_child};
+ghost use Rattle.ell_core.specs.Opening.{opening_words};
+ghost use Rattle.ell_core.specs.Fits.{IsNode, IsInner, WordsFit};
+ghost use Rattle.ell_core.specs.Inside.{words_in, IsSized, SameSize};
+
+use crate::field::{Field, address, table_size};
+use ell_ops::NoMemory;
+use ell_word::{
+    INF1, INF2, State, Update, card_of, internal_of, is_internal, left_leaf_of, pack, right_leaf_of,
+};
+use std::alloc::Global;
+
+/// The claim word and the words of card 0 and of `cards` more.
+#[derive(Drop)]
+pub(crate) struct Memory {
+    pub words: Vec<u64>,
+    pub cards: u64,
+}
+
+impl Memory {
+    /// The opening tree, and cards whose words are 0.
+    pub fn opening(alloc: Global, cards: u64) -> Result<Memory, NoMemory>
+        requires { cards ≤ greatest_card }
+        ensures sized { IfOk result (λ memory. IsSized memory) }
+        ensures cards { IfOk result (λ memory. memory.cards ≡ cards) }
+        ensures words { IfOk result (λ memory. words_in memory ≡ opening_words) }
+    {
+        let words = vec![in alloc; 0; table_size(cards)]?;
+        let mut memory = Memory { words, cards };
+        memory.words[0] = 1;
+        memory.fill(0, &root());
+        Ok(memory)
+    }
+
+    /// The claim word.
+    pub fn next(&self) -> u64
+        requires { IsSized self.now }
+        ensures { result ≡ (words_in self.now).next }
+    {
+        self.words[0]
+    }
+
+    /// The word of a field of a card.
+    pub fn read(&self, card: u64, field: Field) -> u64
+        requires sized { IsSized self.now }
+        requires card { card ≤ self.now.cards }
+        ensures { result ≡ word (words_in self.now) card field }
+    {
+        self.words[address(card, field)]
+    }
+
+    /// The key of a node.
+    pub fn key(&self, node: u64) -> u64
+        requires sized { IsSized self.now }
+        requires node { IsNode self.now.cards node }
+        ensures { result ≡ (words_in self.now).key node }
+    {
+        let field = match node % 3 {
+            0 => Field::Key,
+            1 => Field::LeftLeafKey,
+            _ => Field::RightLeafKey,
+        };
+        self.read(card_of(node), field)
+    }
+
+    /// The update word of an internal node.
+    pub fn update(&self, node: u64) -> u64
+        requires sized { IsSized self.now }
+        requires node { IsInner self.now.cards node }
+        ensures { result ≡ (words_in self.now).update node }
+    {
+        self.read(card_of(node), Field::Update)
+    }
+
+    /// The child of an internal node on a side.
+    pub fn child(&self, node: u64, right: bool) -> u64
+        requires sized { IsSized self.now }
+        requires node { IsInner self.now.cards node }
+        ensures { result ≡ (words_in self.now).child node right }
+    {
+        let field = if right { Field::Right } else { Field::Left };
+        self.read(card_of(node), field)
+    }
+
+    /// Whether a key is on the right side of a node.
+    pub fn is_right(&self, node: u64, key: u64) -> bool
+        requires sized { IsSized self.now }
+        requires node { IsNode self.now.cards node }
+        ensures { result ≡ is_right (words_in self.now) node key }
+    {
+        self.key(node) <= key
+    }
+
+    /// Exchanges the update word of an internal node, if it is the expected one. Else the word that was found is the error,
+    /// and no word has changed.
+    pub fn exchange_update(&mut self, node: u64, expected: u64, new: u64) -> Result<(), u64>
+        requires sized { IsSized self.old }
+        requires node { IsInner self.old.cards node }
+        ensures won { OnOk result ((words_in self.old).update node ≡ expected) }
+        ensures lost { IfErr result (λ found. (found ≡ (words_in self.old).update node) × (found ≢ expected)) }
+        ensures words { words_in self.new ≡ exchanged_update (words_in self.old) node expected new }
+        ensures same { SameSize self.old self.new }
+    {
+        let found = self.update(node);
+        if found == expected {
+            self.write(card_of(node), Field::Update, new);
+            Ok(())
+        } else {
+            Err(found)
+        }
+    }
+
+    /// Exchanges the child of an internal node on the side of the new child's key, if it is the expected one. Else the word
+    /// that was found is the error, and no word has changed.
+    pub fn exchange_child(&mut self, node: u64, expected: u64, new: u64) -> Result<(), u64>
+        requires sized { IsSized self.old }
+        requires node { IsInner self.old.cards node }
+        requires new { IsNode self.old.cards new }
+        ensures won { OnOk result (found_child (words_in self.old) node new ≡ expected) }
+        ensures lost { IfErr result (λ found. (found ≡ found_child (words_in self.old) node new) × (found ≢ expected)) }
+        ensures words { words_in self.new ≡ exchanged_child (words_in self.old) node expected new }
+        ensures same { SameSize self.old self.new }
+    {
+        let right = self.is_right(node, self.key(new));
+        let found = self.child(node, right);
+        if found == expected {
+            let field = if right { Field::Right } else { Field::Left };
+            self.write(card_of(node), field, new);
+            Ok(())
+        } else {
+            Err(found)
+        }
+    }
+
+    /// Claims the next card and writes these fields of it.
+    pub fn claim(&mut self, filling: &[(Field, u64)])
+        requires sized { IsSized self.old }
+        requires room { (words_in self.old).next ≤ self.old.cards }
+        ensures words { words_in self.new ≡ claimed (words_in self.old) filling.now }
+        ensures same { SameSize self.old self.new }
+    {
+        let card = self.next();
+        self.fill(card, filling);
+        self.words[0] = card + 1;
+    }
+
+    // Writes these fields of a card, in order.
+    fn fill(&mut self, card: u64, filling: &[(Field, u64)])
+        requires sized { IsSized self.old }
+        requires card { card ≤ self.old.cards }
+        ensures words { words_in self.new ≡ filled (words_in self.old) card filling.now }
+        ensures same { SameSize self.old self.new }
+    {
+        for (field, value) in filling {
+            self.write(card, *field, *value);
+        }
+    }
+
+    // Writes one word.
+    fn write(&mut self, card: u64, field: Field, value: u64)
+        requires sized { IsSized self.old }
+        requires card { card ≤ self.old.cards }
+        ensures words { words_in self.new ≡ written (words_in self.old) card field value }
+        ensures same { SameSize self.old self.new }
+    {
+        self.words[address(card, field)] = value;
+    }
+}
+
+// The fields of card 0 that are not 0: the root over its two leaves.
+fn root() -> [(Field, u64); 6] {
+    let clean = pack(Update {
+        state: State::Clean,
+        card: 0,
+    });
+    [
+        (Field::Key, INF2),
+        (Field::Left, left_leaf_of(0)),
+        (Field::Right, right_leaf_of(0)),
+        (Field::Update, clean),
+        (Field::LeftLeafKey, INF1),
+        (Field::RightLeafKey, INF2),
+    ]
+}

@@ -1,0 +1,37 @@
+//! A list of events on a world.
+ghost use Rattle.std.specs.Prelude.{◌≡◌, IfOk, OnErr};
+ghost use Rattle.ell_core.specs.Runs.{Shows, Run, Passes};
+ghost use Rattle.ell_core.specs.World.{machine_of};
+
+use crate::event::{CoreFault, Event, Shown};
+use crate::world::World;
+use ell_ops::NoMemory;
+use std::alloc::Global;
+
+/// Tries each event in turn, and shows its answer or its refusal. A refused event changes nothing, and the replay goes on. The
+/// place of an answer is taken before its event; where there is no memory for it or in a step, the replay ends, and the world
+/// stands after the events before.
+pub fn replay(alloc: Global, world: &mut World, events: &[Event]) -> Result<Vec<Shown>, NoMemory>
+    ensures run { IfOk result (λ shown. Run (machine_of world.old) events.now shown.items (machine_of world.new)) }
+    ensures passes { OnErr result (Passes (machine_of world.old) events.now (machine_of world.new)) }
+{
+    let mut shown = Vec::new(alloc);
+    for event in events {
+        shown.reserve(1)?;
+        let answer = show(world, *event)?;
+        shown.push(answer)?;
+    }
+    Ok(shown)
+}
+
+// Tries one event: what is shown of it.
+fn show(world: &mut World, event: Event) -> Result<Shown, NoMemory>
+    ensures shows { IfOk result (λ shown. Shows (machine_of world.old) event shown (machine_of world.new)) }
+    ensures unchanged { OnErr result (world.new ≡ world.old) }
+{
+    match world.step(event) {
+        Ok(said) => Ok(Shown::Step(said)),
+        Err(CoreFault::NoMemory) => Err(NoMemory),
+        Err(fault) => Ok(Shown::Refused(fault)),
+    }
+}

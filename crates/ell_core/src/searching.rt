@@ -1,0 +1,331 @@
+//! The events by which a worker searches, claims a card and ends its operation.
+ghost use Rattle.std.specs.Prelude.{◌≡◌, ◌↔◌, ℕ, Bool, IsTrue, IfOk, IfErr, OnErr, IfSome, IfNone, Option, Some, None};
+ghost use Rattle.ell_ops.specs.declared.op.Op.TheVariants.{Insert, Delete};
+ghost use Rattle.ell_core.specs.declared.event.Act.TheVariants as act;
+ghost use Rattle.ell_core.specs.declared.view.Seen.{Seen};
+ghost use Rattle.ell_core.specs.Searching.{begun, ended, MayStop, AtCleanLeaf, IsClean, leaf_answer, card_answer, Answers};
+ghost use Rattle.ell_core.specs.Inside.{view_of, worker_in, scene_in, Answered, RefusedAt, IsReady, SameSize};
+
+use crate::event::{CoreFault, Stepped};
+use crate::fact::{Fact, told_by};
+use crate::field::Field;
+use crate::memory::Memory;
+use crate::view::{Search, Seen};
+use crate::worker::{NO_SEARCH, Worker};
+use ell_ops::Op;
+use ell_word::{State, Update, is_internal, left_leaf_of, pack, right_leaf_of, unpack};
+
+// A search that stands at the root and has seen nothing.
+const AT_ROOT: Search = Search {
+    node: Some(0),
+    read: None,
+    parent: None,
+    grandparent: None,
+};
+
+/// Takes an operation in hand, and stands at the root.
+pub(crate) fn begin(memory: &Memory, worker: &mut Worker, op: Op) -> Result<Stepped, CoreFault>
+    requires { IsReady memory.now worker.old }
+    ensures done { IfOk result (Answered (act.Begin op) memory.now worker.old memory.now worker.new) }
+    ensures refused { IfErr result (RefusedAt (act.Begin op) memory.now worker.old) }
+    ensures unchanged { OnErr result (view_of worker.new ≡ view_of worker.old) }
+{
+    if !worker.owns(op.key()) {
+        return Err(CoreFault::NotOwned);
+    }
+    if worker.operation.is_some() {
+        return Err(CoreFault::NotNow);
+    }
+    worker.operation = Some(op);
+    to_root(worker);
+    Ok(Stepped::Moved)
+}
+
+// Stands at the root anew, without a card.
+fn to_root(worker: &mut Worker)
+    ensures { worker_in worker.new ≡ begun (worker_in worker.old).operation (worker_in worker.old) }
+{
+    worker.search = AT_ROOT;
+    worker.card = None;
+    worker.flagged = false;
+}
+
+// Has nothing in hand any more.
+fn put_down(worker: &mut Worker)
+    ensures { worker_in worker.new ≡ ended (worker_in worker.old) }
+{
+    worker.operation = None;
+    worker.search = NO_SEARCH;
+    worker.card = None;
+    worker.flagged = false;
+}
+
+/// Reads the update word of the internal node where it stands, and learns what that tells.
+pub(crate) fn upd(memory: &Memory, worker: &mut Worker) -> Result<Stepped, CoreFault>
+    requires { IsReady memory.now worker.old }
+    ensures done { IfOk result (Answered act.Upd memory.now worker.old memory.now worker.new) }
+    ensures refused { IfErr result (RefusedAt act.Upd memory.now worker.old) }
+    ensures unchanged { OnErr result (view_of worker.new ≡ view_of worker.old) }
+{
+    let Some(node) = worker.search.node else {
+        return Err(CoreFault::NotNow);
+    };
+    if !is_internal(node) || worker.search.read.is_some() {
+        return Err(CoreFault::NotNow);
+    }
+    let update = memory.update(node);
+    worker.learn_any(told_by(update))?;
+    worker.search.read = Some(update);
+    Ok(Stepped::Moved)
+}
+
+/// Goes down to the child on its key's side from an internal node whose update word it has read.
+pub(crate) fn down(memory: &Memory, worker: &mut Worker) -> Result<Stepped, CoreFault>
+    requires { IsReady memory.now worker.old }
+    ensures done { IfOk result (Answered act.Down memory.now worker.old memory.now worker.new) }
+    ensures refused { IfErr result (RefusedAt act.Down memory.now worker.old) }
+    ensures unchanged { OnErr result (view_of worker.new ≡ view_of worker.old) }
+{
+    let search = worker.search;
+    let (Some(op), Some(node), Some(word)) = (worker.operation, search.node, search.read) else {
+        return Err(CoreFault::NotNow);
+    };
+    if !is_internal(node) {
+        return Err(CoreFault::NotNow);
+    }
+    let child = memory.child(node, memory.is_right(node, op.key()));
+    worker.search = Search {
+        node: Some(child),
+        read: None,
+        parent: Some(Seen { node, word }),
+        grandparent: search.parent,
+    };
+    Ok(Stepped::Moved)
+}
+
+// Where a worker stands that may claim a card: a leaf, and the parent, whose update word it read clean.
+#[derive(Clone, Copy)]
+struct CleanLeaf {
+    leaf: u64,
+    parent: Seen,
+}
+
+// Whether an update word is clean.
+fn is_clean(update: u64) -> bool
+    ensures { IsTrue result ↔ IsClean update }
+{
+    unpack(update).state == State::Clean
+}
+
+fn clean_leaf(worker: &Worker) -> Option<CleanLeaf>
+    ensures some { IfSome result (λ at. AtCleanLeaf (worker_in worker.now) at.leaf at.parent) }
+    ensures none { IfNone result ((leaf : ℕ) (parent : Seen) → ¬ AtCleanLeaf (worker_in worker.now) leaf parent) }
+{
+    let (Some(leaf), Some(parent)) = (worker.search.node, worker.search.parent) else {
+        return None;
+    };
+    if is_internal(leaf) || worker.card.is_some() || !is_clean(parent.word) {
+        return None;
+    }
+    Some(CleanLeaf { leaf, parent })
+}
+
+/// Claims the next card at a leaf, and fills it for the insert or delete in hand.
+pub(crate) fn claim(memory: &mut Memory, worker: &mut Worker) -> Result<Stepped, CoreFault>
+    requires { IsReady memory.old worker.old }
+    ensures done { IfOk result (Answered act.Claim memory.old worker.old memory.new worker.new) }
+    ensures refused { IfErr result (RefusedAt act.Claim memory.old worker.old) }
+    ensures unchanged { OnErr result (view_of worker.new ≡ view_of worker.old) }
+    ensures words { OnErr result (memory.new ≡ memory.old) }
+    ensures same { SameSize memory.old memory.new }
+{
+    let Some(at) = clean_leaf(worker) else {
+        return Err(CoreFault::NotNow);
+    };
+    match worker.operation {
+        Some(Op::Insert(key)) => claim_for_insert(memory, worker, key, at),
+        Some(Op::Delete(key)) => claim_for_delete(memory, worker, key, at),
+        _ => Err(CoreFault::NotNow),
+    }
+}
+
+fn claim_for_insert(
+    memory: &mut Memory,
+    worker: &mut Worker,
+    key: u64,
+    at: CleanLeaf,
+) -> Result<Stepped, CoreFault>
+    requires ready { IsReady memory.old worker.old }
+    requires inserts { (worker_in worker.old).operation ≡ Some (Insert key) }
+    requires at { AtCleanLeaf (worker_in worker.old) at.leaf at.parent }
+    ensures done { IfOk result (Answered act.Claim memory.old worker.old memory.new worker.new) }
+    ensures refused { IfErr result (RefusedAt act.Claim memory.old worker.old) }
+    ensures unchanged { OnErr result (view_of worker.new ≡ view_of worker.old) }
+    ensures words { OnErr result (memory.new ≡ memory.old) }
+    ensures same { SameSize memory.old memory.new }
+{
+    let leaf_key = memory.key(at.leaf);
+    if leaf_key == key {
+        return Err(CoreFault::NotNow);
+    }
+    let card = memory.next();
+    if card > memory.cards {
+        return Err(CoreFault::NoCards);
+    }
+    let clean = pack(Update {
+        state: State::Clean,
+        card: 0,
+    });
+    memory.claim(&[
+        (Field::P, at.parent.node),
+        (Field::L, at.leaf),
+        (Field::Key, key.max(leaf_key)),
+        (Field::Left, left_leaf_of(card)),
+        (Field::Right, right_leaf_of(card)),
+        (Field::Update, clean),
+        (Field::LeftLeafKey, key.min(leaf_key)),
+        (Field::RightLeafKey, key.max(leaf_key)),
+    ]);
+    worker.card = Some(card);
+    worker.flagged = false;
+    Ok(Stepped::Moved)
+}
+
+fn claim_for_delete(
+    memory: &mut Memory,
+    worker: &mut Worker,
+    key: u64,
+    at: CleanLeaf,
+) -> Result<Stepped, CoreFault>
+    requires ready { IsReady memory.old worker.old }
+    requires deletes { (worker_in worker.old).operation ≡ Some (Delete key) }
+    requires at { AtCleanLeaf (worker_in worker.old) at.leaf at.parent }
+    ensures done { IfOk result (Answered act.Claim memory.old worker.old memory.new worker.new) }
+    ensures refused { IfErr result (RefusedAt act.Claim memory.old worker.old) }
+    ensures unchanged { OnErr result (view_of worker.new ≡ view_of worker.old) }
+    ensures words { OnErr result (memory.new ≡ memory.old) }
+    ensures same { SameSize memory.old memory.new }
+{
+    let Some(grandparent) = worker.search.grandparent else {
+        return Err(CoreFault::NotNow);
+    };
+    if memory.key(at.leaf) != key || !is_clean(grandparent.word) {
+        return Err(CoreFault::NotNow);
+    }
+    let card = memory.next();
+    if card > memory.cards {
+        return Err(CoreFault::NoCards);
+    }
+    memory.claim(&[
+        (Field::Gp, grandparent.node),
+        (Field::P, at.parent.node),
+        (Field::L, at.leaf),
+        (Field::Was, at.parent.word),
+    ]);
+    worker.card = Some(card);
+    worker.flagged = false;
+    Ok(Stepped::Moved)
+}
+
+// Whether the worker may stop: an operation is in hand, and its card, if that is flagged, is known backed.
+fn may_stop(worker: &Worker) -> bool
+    ensures { IsTrue result ↔ MayStop (worker_in worker.now) }
+{
+    let backed = match worker.card {
+        Some(card) => !worker.flagged || worker.knows(Fact::Backed(card)),
+        None => true,
+    };
+    worker.operation.is_some() && backed
+}
+
+/// Starts the search anew.
+pub(crate) fn again(memory: &Memory, worker: &mut Worker) -> Result<Stepped, CoreFault>
+    requires { IsReady memory.now worker.old }
+    ensures done { IfOk result (Answered act.Again memory.now worker.old memory.now worker.new) }
+    ensures refused { IfErr result (RefusedAt act.Again memory.now worker.old) }
+    ensures unchanged { OnErr result (view_of worker.new ≡ view_of worker.old) }
+{
+    if !may_stop(worker) {
+        return Err(CoreFault::NotNow);
+    }
+    to_root(worker);
+    Ok(Stepped::Moved)
+}
+
+/// Lays the operation down without an answer.
+pub(crate) fn leave(memory: &Memory, worker: &mut Worker) -> Result<Stepped, CoreFault>
+    requires { IsReady memory.now worker.old }
+    ensures done { IfOk result (Answered act.Leave memory.now worker.old memory.now worker.new) }
+    ensures refused { IfErr result (RefusedAt act.Leave memory.now worker.old) }
+    ensures unchanged { OnErr result (view_of worker.new ≡ view_of worker.old) }
+{
+    if !may_stop(worker) {
+        return Err(CoreFault::NotNow);
+    }
+    put_down(worker);
+    Ok(Stepped::Moved)
+}
+
+// The answer at a leaf, which has the operation's key or not.
+fn leaf_answer(op: Op, has: bool) -> Option<bool>
+    ensures { result ≡ leaf_answer op has }
+{
+    match (op, has) {
+        (Op::Find(_), has) => Some(has),
+        (Op::Insert(_), true) | (Op::Delete(_), false) => Some(false),
+        _ => None,
+    }
+}
+
+// The answer by a flagged card.
+fn card_answer(worker: &Worker, op: Op, card: u64) -> Option<bool>
+    ensures { result ≡ card_answer op card (worker_in worker.now).knows }
+{
+    let over = match op {
+        Op::Find(_) => false,
+        Op::Insert(_) => worker.knows(Fact::IOver(card)),
+        Op::Delete(_) => worker.knows(Fact::DOver(card)),
+    };
+    if over { Some(true) } else { None }
+}
+
+// The operation's answer: at a leaf if it has one there, else by its card.
+fn answer_of(memory: &Memory, worker: &Worker, op: Op) -> Option<bool>
+    requires { IsReady memory.now worker.now }
+    ensures some { IfSome result (λ reply. Answers (scene_in memory.now worker.now) op reply) }
+    ensures none { IfNone result ((reply : Bool) → ¬ Answers (scene_in memory.now worker.now) op reply) }
+{
+    if let Some(node) = worker.search.node
+        && !is_internal(node)
+        && let Some(reply) = leaf_answer(op, memory.key(node) == op.key())
+    {
+        return Some(reply);
+    }
+    match worker.card {
+        Some(card) if worker.flagged => card_answer(worker, op, card),
+        _ => None,
+    }
+}
+
+/// Answers the operation, and has nothing in hand any more. An insert or delete that answers true makes its key present or
+/// absent.
+pub(crate) fn answer(memory: &Memory, worker: &mut Worker) -> Result<Stepped, CoreFault>
+    requires { IsReady memory.now worker.old }
+    ensures done { IfOk result (Answered act.Answer memory.now worker.old memory.now worker.new) }
+    ensures refused { IfErr result (RefusedAt act.Answer memory.now worker.old) }
+    ensures unchanged { OnErr result (view_of worker.new ≡ view_of worker.old) }
+{
+    let Some(op) = worker.operation else {
+        return Err(CoreFault::NotNow);
+    };
+    let Some(reply) = answer_of(memory, worker, op) else {
+        return Err(CoreFault::NotNow);
+    };
+    match op {
+        Op::Insert(key) if reply => worker.settle(key, true),
+        Op::Delete(key) if reply => worker.settle(key, false),
+        _ => {}
+    }
+    put_down(worker);
+    Ok(Stepped::Answered(reply))
+}

@@ -1,0 +1,37 @@
+//! An event's turn: the words, its worker, and what it does.
+ghost use Rattle.std.specs.Prelude.{◌≡◌, IfOk, IfErr, OnErr};
+ghost use Rattle.ell_core.specs.Inside.{view_of, Answered, RefusedAt, IsReady, SameSize};
+
+use crate::event::{Act, CoreFault, Stepped};
+use crate::exchanges::{backtrack, dchild, dflag, dunflag, ichild, iflag, iunflag, mark};
+use crate::memory::Memory;
+use crate::searching::{again, answer, begin, claim, down, leave, upd};
+use crate::worker::Worker;
+
+/// Does what the act says, or refuses it and changes nothing.
+pub(crate) fn turn(memory: &mut Memory, worker: &mut Worker, act: Act) -> Result<Stepped, CoreFault>
+    requires { IsReady memory.old worker.old }
+    ensures done { IfOk result (Answered act memory.old worker.old memory.new worker.new) }
+    ensures refused { IfErr result (RefusedAt act memory.old worker.old) }
+    ensures unchanged { OnErr result (view_of worker.new ≡ view_of worker.old) }
+    ensures words { OnErr result (memory.new ≡ memory.old) }
+    ensures same { SameSize memory.old memory.new }
+{
+    match act {
+        Act::Begin(op) => begin(memory, worker, op),
+        Act::Upd => upd(memory, worker),
+        Act::Down => down(memory, worker),
+        Act::Claim => claim(memory, worker),
+        Act::IFlag => iflag(memory, worker),
+        Act::DFlag => dflag(memory, worker),
+        Act::IChild(card) => ichild(memory, worker, card),
+        Act::IUnflag(card) => iunflag(memory, worker, card),
+        Act::Mark(card) => mark(memory, worker, card),
+        Act::DChild(card) => dchild(memory, worker, card),
+        Act::DUnflag(card) => dunflag(memory, worker, card),
+        Act::Backtrack(card) => backtrack(memory, worker, card),
+        Act::Again => again(memory, worker),
+        Act::Leave => leave(memory, worker),
+        Act::Answer => answer(memory, worker),
+    }
+}

@@ -1,0 +1,117 @@
+//! A worker of a world.
+ghost use Rattle.std.specs.Prelude.{◌≡◌, ◌≢◌, ◌↔◌, IsTrue, Bool, true, false, Some, None, IfOk, IfErr, OnOk, OnErr};
+ghost use Rattle.ell_core.specs.Words.{put};
+ghost use Rattle.ell_core.specs.Facts.{learned, learned_any};
+ghost use Rattle.ell_core.specs.Machine.{nobody};
+ghost use Rattle.ell_core.specs.Exchanges.{knowing};
+ghost use Rattle.ell_core.specs.Inside.{view_of, worker_in, LacksAny, LacksEither};
+
+use crate::fact::Fact;
+use crate::view::Search;
+use ell_ops::{NoMemory, Op};
+use std::alloc::Global;
+use std::collections::{BTreeMap, BTreeSet};
+
+/// What a worker owns, has in hand and knows.
+#[derive(Drop)]
+pub(crate) struct Worker {
+    pub ledger: BTreeMap<u64, bool>,
+    pub operation: Option<Op>,
+    pub search: Search,
+    pub card: Option<u64>,
+    pub flagged: bool,
+    pub facts: BTreeSet<Fact>,
+}
+
+/// A search that stands nowhere and has seen nothing.
+pub(crate) const NO_SEARCH: Search = Search {
+    node: None,
+    read: None,
+    parent: None,
+    grandparent: None,
+};
+
+impl Worker {
+    /// A worker without keys, with nothing in hand.
+    pub fn new(alloc: Global) -> Worker
+        ensures { worker_in result ≡ nobody }
+    {
+        Worker {
+            ledger: BTreeMap::new(alloc),
+            operation: None,
+            search: NO_SEARCH,
+            card: None,
+            flagged: false,
+            facts: BTreeSet::new(alloc),
+        }
+    }
+
+    /// Gives the worker a key, absent.
+    pub fn own(&mut self, key: u64) -> Result<(), NoMemory>
+        ensures { OnOk result (worker_in self.new ≡ record (worker_in self.old) { ledger = put (worker_in self.old).ledger key (Some false) }) }
+    {
+        self.ledger.insert(key, false)?;
+        Ok(())
+    }
+
+    /// Whether the worker owns a key.
+    pub fn owns(&self, key: u64) -> bool
+        ensures { IsTrue result ↔ ((worker_in self.now).ledger key ≢ None) }
+    {
+        self.ledger.contains_key(&key)
+    }
+
+    /// Writes whether a key that the worker owns is present.
+    pub fn settle(&mut self, key: u64, present: bool)
+        requires { (worker_in self.old).ledger key ≢ None }
+        ensures { worker_in self.new ≡ record (worker_in self.old) { ledger = put (worker_in self.old).ledger key (Some present) } }
+    {
+        if let Some(entry) = self.ledger.get_mut(&key) {
+            *entry = present;
+        }
+    }
+
+    /// Whether the worker knows a fact.
+    pub fn knows(&self, fact: Fact) -> bool
+        ensures { result ≡ (worker_in self.now).knows fact }
+    {
+        self.facts.contains(&fact)
+    }
+
+    /// Learns a fact. It wants memory only for a fact that it lacks.
+    pub fn learn(&mut self, fact: Fact) -> Result<(), NoMemory>
+        ensures learned { OnOk result (worker_in self.new ≡ knowing (worker_in self.old) (learned (worker_in self.old).knows fact)) }
+        ensures lacks { OnErr result ((worker_in self.old).knows fact ≡ false) }
+        ensures unchanged { OnErr result (view_of self.new ≡ view_of self.old) }
+    {
+        self.facts.insert(fact)?;
+        Ok(())
+    }
+
+    /// Learns a fact, if there is one.
+    pub fn learn_any(&mut self, fact: Option<Fact>) -> Result<(), NoMemory>
+        ensures learned { OnOk result (worker_in self.new ≡ knowing (worker_in self.old) (learned_any (worker_in self.old).knows fact)) }
+        ensures lacks { OnErr result (LacksAny (worker_in self.old).knows fact) }
+        ensures unchanged { OnErr result (view_of self.new ≡ view_of self.old) }
+    {
+        match fact {
+            Some(fact) => self.learn(fact),
+            None => Ok(()),
+        }
+    }
+
+    /// Learns a fact, and another one if there is one: both or none.
+    pub fn learn_both(&mut self, fact: Fact, other: Option<Fact>) -> Result<(), NoMemory>
+        ensures learned { OnOk result (worker_in self.new ≡ knowing (worker_in self.old) (learned_any (learned (worker_in self.old).knows fact) other)) }
+        ensures lacks { OnErr result (LacksEither (worker_in self.old).knows fact other) }
+        ensures unchanged { OnErr result (view_of self.new ≡ view_of self.old) }
+    {
+        let knew = self.knows(fact);
+        self.learn(fact)?;
+        let learned = self.learn_any(other);
+        if learned.is_err() && !knew {
+            self.facts.remove(&fact);
+        }
+        learned
+    }
+}

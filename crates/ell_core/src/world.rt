@@ -1,0 +1,131 @@
+//! A world: the machine with plain lists for its functions, run one event at a time.
+ghost use Rattle.std.specs.Prelude.{◌≡◌, ◌≤◌, ℕ, false, vec_len, IfOk, IfErr, OnOk, OnErr};
+ghost use Rattle.std.specs.List.{All};
+ghost use Rattle.ell_ops.specs.Meaning.{greatest_key};
+ghost use Rattle.ell_word.specs.Node.{greatest_card};
+ghost use Rattle.ell_core.specs.Words.{word};
+ghost use Rattle.ell_core.specs.Events.{Steps};
+ghost use Rattle.ell_core.specs.Tree.{IsLawful, ListsKeys};
+ghost use Rattle.ell_core.specs.Machine.{idle};
+ghost use Rattle.ell_core.specs.Inside.{worker_at};
+ghost use Rattle.ell_core.specs.Opening.{opening, opening_ledger, Faultless, OpeningRefused};
+ghost use Rattle.ell_core.specs.World.{machine_of, StepRefused};
+
+use crate::event::{CoreFault, Event, Stepped};
+use crate::field::Field;
+use crate::keys::keys_of_tree;
+use crate::memory::Memory;
+use crate::turn::turn;
+use crate::worker::Worker;
+use ell_ops::NoMemory;
+use std::alloc::Global;
+use std::collections::BTreeSet;
+use std::marker::Model;
+
+/// A state of the machine, and its table of words.
+#[derive(Drop)]
+pub struct World {
+    alloc: Global,
+    memory: Memory,
+    workers: Vec<Worker>,
+}
+
+impl Model for World {
+    ghost use Rattle.ell_core.specs.World.{WorldValue};
+
+    ghost Value = { WorldValue };
+
+    ghost use Rattle.ell_core.specs.WorldInside.{value_in, InsideFits};
+
+    ghost view = { value_in };
+
+    ghost invariant = { InsideFits };
+}
+
+impl World {
+    /// The opening tree, with workers from 0 on and the keys that the entries give them, each a worker and a key, all absent.
+    /// Conditions: 1 to 64 workers, 1 to `CARD_MAX` cards, keys at most `KEY_MAX`. The fault of the first faulty entry is
+    /// answered: `NoSuchWorker`, or else `OwnedTwice`. `NoMemory` may stand in place of either.
+    pub fn new(
+        alloc: Global,
+        workers: u32,
+        owned: &[(u32, u64)],
+        cards: u64,
+    ) -> Result<World, CoreFault>
+        requires some_worker { 1 ≤ workers }
+        requires most_workers { workers ≤ 64 }
+        requires some_card { 1 ≤ cards }
+        requires most_cards { cards ≤ greatest_card }
+        requires keys { All (λ entry. entry.1 ≤ greatest_key) owned.now }
+        ensures opening { IfOk result (λ world. machine_of world ≡ opening workers owned.now cards) }
+        ensures faultless { OnOk result (Faultless workers owned.now) }
+        ensures refused { IfErr result (OpeningRefused workers owned.now) }
+    {
+        let memory = Memory::opening(alloc, cards)?;
+        let workers = owning_workers(alloc, workers, owned)?;
+        Ok(World {
+            alloc,
+            memory,
+            workers,
+        })
+    }
+
+    /// Does an event, or refuses it and changes nothing. The refusals are tested in the order of `CoreFault`; `NoMemory` comes
+    /// only where the event would be answered, and its worker would learn a fact that it lacks.
+    pub fn step(&mut self, event: Event) -> Result<Stepped, CoreFault>
+        ensures done { IfOk result (λ said. Steps (machine_of self.old) event said (machine_of self.new)) }
+        ensures refused { IfErr result (StepRefused (machine_of self.old) event) }
+        ensures unchanged { OnErr result (self.new ≡ self.old) }
+    {
+        let Some(worker) = self.workers.get_mut(event.worker as usize) else {
+            return Err(CoreFault::NoSuchWorker);
+        };
+        turn(&mut self.memory, worker, event.act)
+    }
+
+    /// The keys of the tree, each once, ascending.
+    pub fn keys(&self) -> Result<Vec<u64>, NoMemory>
+        ensures { IfOk result (λ keys. IsLawful (machine_of self.now).words → ListsKeys (machine_of self.now).words keys.items) }
+    {
+        keys_of_tree(self.alloc, &self.memory)
+    }
+
+    /// The word of a field of a card. Condition: the card is at most the number of cards.
+    pub fn word(&self, card: u64, field: Field) -> u64
+        requires { card ≤ self.now.cards }
+        ensures { result ≡ word (machine_of self.now).words card field }
+    {
+        self.memory.read(card, field)
+    }
+
+    /// The claim word: the number of the next card.
+    pub fn next(&self) -> u64
+        ensures { result ≡ (machine_of self.now).words.next }
+    {
+        self.memory.next()
+    }
+}
+
+// The workers with their keys, or the fault of the first faulty entry.
+fn owning_workers(alloc: Global, count: u32, owned: &[(u32, u64)]) -> Result<Vec<Worker>, CoreFault>
+    ensures count { IfOk result (λ workers. vec_len workers ≡ count) }
+    ensures ledgers { IfOk result (λ workers. (i : ℕ) → worker_at workers.items i ≡ idle (opening_ledger owned.now i) (λ _. false)) }
+    ensures faultless { OnOk result (Faultless count owned.now) }
+    ensures refused { IfErr result (OpeningRefused count owned.now) }
+{
+    let mut workers = Vec::with_capacity(alloc, count as usize)?;
+    for _ in 0..count {
+        workers.push(Worker::new(alloc))?;
+    }
+    let mut taken = BTreeSet::new(alloc);
+    for (worker, key) in owned {
+        let Some(owner) = workers.get_mut(*worker as usize) else {
+            return Err(CoreFault::NoSuchWorker);
+        };
+        if !taken.insert(*key)? {
+            return Err(CoreFault::OwnedTwice);
+        }
+        owner.own(*key)?;
+    }
+    Ok(workers)
+}
