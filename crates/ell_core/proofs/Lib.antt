@@ -1,1 +1,3 @@
+pub mod Knowledge
+pub mod Ledgers
 pub mod Wants

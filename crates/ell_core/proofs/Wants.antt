@@ -1,33 +1,17 @@
 -- Where an act wants memory: a fact that it would teach is one that the worker lacks.
-use Rattle.std.proofs.Common.{◌≡◌, ℕ, Bool, true, false, nat_eq, ◌==◌, ◌||◌, if◌then◌else◌, Option, Some, None, Result, Ok, Err, IfErr, OnErr, refl, sym, ap, ◌∙◌, subst, ◌⊎◌, inl, inr, arith}
-use Rattle.std.proofs.lemmas.Bool.Decides.{nat_tests}
+use Rattle.std.proofs.Common.{◌≡◌, ℕ, Bool, true, false, ◌==◌, ◌||◌, if◌then◌else◌, Option, Some, None, Result, Ok, Err, IfErr, OnErr, refl, sym, ap, ◌∙◌, subst, ◌⊎◌, inl, inr}
 use Rattle.ell_core.specs.declared.event.Act.{Act}
 use Rattle.ell_core.specs.declared.event.Stepped.{Stepped}
 use Rattle.ell_core.specs.declared.event.CoreFault.{CoreFault}
 use Rattle.ell_core.specs.declared.event.CoreFault.TheVariants.{NoMemory}
 use Rattle.ell_core.specs.declared.fact.Fact.{Fact}
-use Rattle.ell_core.specs.declared.fact.Fact.TheVariants.{IFlagged, IChanged, IOver, DFlagged, Marked, Unmarkable, Cut, DOver, Backed}
 use Rattle.ell_core.specs.declared.view.Seen.{Seen}
 use Rattle.ell_core.specs.Facts.{Knowledge, same_fact, learned, learned_any, told_by}
 use Rattle.ell_core.specs.Machine.{Worker, Scene}
 use Rattle.ell_core.specs.Exchanges.{flagged_worker, flag_tells, flags}
+use Rattle.ell_core.proofs.Knowledge.{same_fact-itself}
 use Rattle.ell_core.specs.Events.{WantsMemory, TurnRefused}
 use Rattle.ell_core.specs.Inside.{LacksAny, LacksEither}
-
-same_number : (n : ℕ) → nat_eq n n ≡ true
-same_number n = grind (arith, nat_tests)
-
--- a fact is the same as itself
-pub same_as_itself : (fact : Fact) → same_fact fact fact ≡ true
-same_as_itself (IFlagged c) = same_number c
-same_as_itself (IChanged c) = same_number c
-same_as_itself (IOver c) = same_number c
-same_as_itself (DFlagged c) = same_number c
-same_as_itself (Marked c) = same_number c
-same_as_itself (Unmarkable c) = same_number c
-same_as_itself (Cut c) = same_number c
-same_as_itself (DOver c) = same_number c
-same_as_itself (Backed c) = same_number c
 
 true_or : (a b : Bool) → a ≡ true → (a || b) ≡ true
 true_or true b h = refl
@@ -39,7 +23,7 @@ or_true false b h = h
 
 -- what is learned is known
 pub learned_knows : (known : Knowledge) (new : Fact) → learned known new new ≡ true
-learned_knows known new = true_or (same_fact new new) (known new) (same_as_itself new)
+learned_knows known new = true_or (same_fact new new) (known new) (same_fact-itself new)
 
 -- what was known stays known
 pub learned_any_keeps : (known : Knowledge) (new : Option Fact) (fact : Fact) → known fact ≡ true → learned_any known new fact ≡ true

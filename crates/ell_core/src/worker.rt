@@ -106,12 +106,15 @@ impl Worker {
         ensures lacks { OnErr result (LacksEither (worker_in self.old).knows fact other) }
         ensures unchanged { OnErr result (view_of self.new ≡ view_of self.old) }
     {
-        let knew = self.knows(fact);
-        self.learn(fact)?;
-        let learned = self.learn_any(other);
-        if learned.is_err() && !knew {
-            self.facts.remove(&fact);
+        let added = self.facts.insert(fact)?;
+        match self.learn_any(other) {
+            Ok(()) => Ok(()),
+            Err(fault) => {
+                if added {
+                    self.facts.remove(&fact);
+                }
+                Err(fault)
+            }
         }
-        learned
     }
 }

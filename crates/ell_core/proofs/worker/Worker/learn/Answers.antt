@@ -1,0 +1,10 @@
+use Rattle.std.proofs.Common.{ap}
+use Rattle.ell_core.specs.Exchanges.{knowing}
+use Rattle.ell_core.specs.Inside.{worker_in}
+use Rattle.ell_core.proofs.Knowledge.{known_of-updates}
+use Rattle.ell_core.proofs.worker.Worker.learn.Goals as goal
+
+pub returns-clause-learned : goal.returns-clause-learned
+returns-clause-learned c =
+    ap (knowing (worker_in c.args.self.now))
+    (known_of-updates c.args.self.now.facts.keys c.insert.new.self.keys c.args.fact c.in_ok-insert.ensures.updates.0)

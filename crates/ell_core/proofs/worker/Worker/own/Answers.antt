@@ -1,0 +1,10 @@
+use Rattle.std.proofs.Common.{ap, Some, false}
+use Rattle.ell_core.specs.Inside.{worker_in}
+use Rattle.ell_core.specs.Machine.{Ledger}
+use Rattle.ell_core.proofs.Ledgers.{ledger_of-updates}
+use Rattle.ell_core.proofs.worker.Worker.own.Goals as goal
+
+pub returns : goal.returns
+returns c =
+    ap (λ (ledger : Ledger). record (worker_in c.args.self.now) { ledger = ledger })
+    (ledger_of-updates c.args.self.now.ledger.entries c.insert.new.self.entries c.args.key (Some false) c.in_ok-insert.ensures.updates.0)
