@@ -1,3 +1,10 @@
+pub mod Decide
+pub mod ExchangeOutcomes
+pub mod FitsRows
+pub mod FitsWords
 pub mod Knowledge
 pub mod Ledgers
+pub mod Outcomes
+pub mod SearchingOutcomes
 pub mod Wants
+pub mod Worlds
