@@ -2,9 +2,14 @@ pub mod Decide
 pub mod ExchangeOutcomes
 pub mod FitsRows
 pub mod FitsWords
+pub mod KeysWalk
 pub mod Knowledge
 pub mod Ledgers
 pub mod Outcomes
+pub mod PairedLists
 pub mod SearchingOutcomes
+pub mod TreeKeys
+pub mod TreeNodes
+pub mod TreePaths
 pub mod Wants
 pub mod Worlds
