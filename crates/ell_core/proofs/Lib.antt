@@ -5,6 +5,7 @@ pub mod FitsWords
 pub mod KeysWalk
 pub mod Knowledge
 pub mod Ledgers
+pub mod Openings
 pub mod Outcomes
 pub mod PairedLists
 pub mod SearchingOutcomes
@@ -12,4 +13,6 @@ pub mod TreeKeys
 pub mod TreeNodes
 pub mod TreePaths
 pub mod Wants
+pub mod WordLaws
+pub mod WordLists
 pub mod Worlds

@@ -33,7 +33,22 @@ impl Memory {
         let words = vec![in alloc; 0; table_size(cards)]?;
         let mut memory = Memory { words, cards };
         memory.words[0] = 1;
-        memory.fill(0, &root());
+        let clean = pack(Update {
+            state: State::Clean,
+            card: 0,
+        });
+        // The fields of card 0 that are not 0: the root over its two leaves.
+        memory.fill(
+            0,
+            &[
+                (Field::Key, INF2),
+                (Field::Left, left_leaf_of(0)),
+                (Field::Right, right_leaf_of(0)),
+                (Field::Update, clean),
+                (Field::LeftLeafKey, INF1),
+                (Field::RightLeafKey, INF2),
+            ],
+        );
         Ok(memory)
     }
 
@@ -170,20 +185,4 @@ impl Memory {
     {
         self.words[address(card, field)] = value;
     }
-}
-
-// The fields of card 0 that are not 0: the root over its two leaves.
-fn root() -> [(Field, u64); 6] {
-    let clean = pack(Update {
-        state: State::Clean,
-        card: 0,
-    });
-    [
-        (Field::Key, INF2),
-        (Field::Left, left_leaf_of(0)),
-        (Field::Right, right_leaf_of(0)),
-        (Field::Update, clean),
-        (Field::LeftLeafKey, INF1),
-        (Field::RightLeafKey, INF2),
-    ]
 }
