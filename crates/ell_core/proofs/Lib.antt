@@ -8,6 +8,7 @@ pub mod Ledgers
 pub mod Openings
 pub mod Outcomes
 pub mod PairedLists
+pub mod Schedules
 pub mod SearchingOutcomes
 pub mod TreeKeys
 pub mod TreeNodes

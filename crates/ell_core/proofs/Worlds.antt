@@ -123,6 +123,11 @@ pub count_is : (memory : Memory) (workers : List Worker) → (machine_of (world_
 unfolding machine_of
 count_is memory workers = length_map view_of workers
 
+-- the machine's words are those of the list
+pub words_are : (memory : Memory) (workers : List Worker) → words_in memory ≡ (machine_of (world_at memory workers)).words
+unfolding machine_of
+words_are memory workers = refl
+
 cards_is : (memory : Memory) (workers : List Worker) → (machine_of (world_at memory workers)).cards ≡ memory.cards
 unfolding machine_of
 cards_is memory workers = refl
