@@ -5,6 +5,9 @@ pub mod FitsWords
 pub mod KeysWalk
 pub mod Knowledge
 pub mod Ledgers
+pub mod OpeningFaults
+pub mod OpeningFits
+pub mod OpeningWorkers
 pub mod Openings
 pub mod Outcomes
 pub mod PairedLists
