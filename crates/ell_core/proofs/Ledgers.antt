@@ -1,5 +1,5 @@
 -- The keys of a worker against std's ordered map, whose look-ups compare where a ledger looks for equal keys.
-use Rattle.std.proofs.Common.{◌≡◌, ◌≢◌, ◌↔◌, IsTrue, ℕ, Bool, true, false, cond, Option, Some, None, List, [], ◌∷◌, eqb, arith, refl, ap, sym, ◌∙◌}
+use Rattle.std.proofs.Common.{◌≡◌, ◌≢◌, ◌↔◌, IsTrue, ℕ, Bool, cond, Option, Some, None, List, [], ◌∷◌, eqb, arith, refl, ap, sym, ◌∙◌}
 use Rattle.std.proofs.lemmas.Bool.{false≢true}
 use Rattle.std.proofs.lemmas.Bool.Decides.{nat_tests}
 use Rattle.std.specs.BTreeMap.{is_at}

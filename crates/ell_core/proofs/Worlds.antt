@@ -1,24 +1,22 @@
 -- A world before and after a turn of one of its workers.
-use Rattle.std.proofs.Common.{◌≡◌, ◌≢◌, ℕ, zero, suc, ◌<◌, ◌≤◌, ◌==◌, List, [], ◌∷◌, Option, Some, None, Result, Ok, Err, IfOk, IfErr, OnErr, length, set, map, get_or, Vec, vec_len, Global, refl, sym, ap, ◌∙◌, subst, inl, inr, arith}
+use Rattle.std.proofs.Common.{◌≡◌, ◌≢◌, ℕ, zero, suc, ◌<◌, List, [], ◌∷◌, Some, Result, Ok, Err, IfOk, OnErr, length, set, map, get_or, Vec, vec_len, Global, refl, sym, ap, ◌∙◌, subst, inl, inr, arith}
 use Rattle.std.specs.Prelude.{slice_get}
 use Rattle.std.proofs.lemmas.Bool.{cases_eq}
 use Rattle.std.proofs.lemmas.Option.{slice_get_read}
 use Rattle.std.proofs.lemmas.Bool.Decides.{nat_tests}
-use Rattle.ell_core.specs.declared.event.Act.{Act}
 use Rattle.ell_core.specs.declared.event.Event.{Event}
 use Rattle.ell_core.specs.declared.event.Stepped.{Stepped}
 use Rattle.ell_core.specs.declared.event.CoreFault.{CoreFault}
 use Rattle.ell_core.specs.declared.event.CoreFault.TheVariants.{NoSuchWorker, NotOwned, NotNow, NoCards, OwnedTwice, NoMemory}
 use Rattle.ell_core.specs.declared.memory.Memory.{Memory}
 use Rattle.ell_core.specs.declared.worker.Worker.{Worker}
-use Rattle.ell_core.specs.declared.view.WorkerView.{WorkerView}
 use Rattle.ell_core.specs.Words.{put}
 use Rattle.ell_core.specs.Machine as machine
 use Rattle.ell_core.specs.Machine.{Machine, Scene, scene, with_scene}
 use Rattle.ell_core.specs.Events.{Happens, Steps, TurnRefused}
 use Rattle.ell_core.specs.Layout.{table_size}
-use Rattle.ell_core.specs.Fits.{WordsFit, WorkerFits, SceneFits}
-use Rattle.ell_core.specs.Inside.{words_in, worker_in, worker_at, view_of, scene_in, SameSize, IsSized, IsReady, Answered, RefusedAt}
+use Rattle.ell_core.specs.Fits.{WordsFit, WorkerFits}
+use Rattle.ell_core.specs.Inside.{words_in, worker_in, worker_at, view_of, scene_in, SameSize, IsReady, Answered, RefusedAt}
 use Rattle.ell_core.specs.World.{WorldValue, machine_of, WorldFits, StepRefused}
 use Rattle.ell_core.proofs.FitsWords.{put_all}
 use Rattle.ell_core.proofs.FitsRows.{fits_happens}
@@ -89,13 +87,14 @@ workers_set : (workers : List Worker) (i : ℕ) (v : Worker) → i < length work
 workers_set workers i v here j =
     let within : i < length (map view_of workers) = let e = length_map view_of workers in omega arith in
     ap (λ views. machine.worker_or_nobody (slice_get views j)) (map_set view_of workers i v) ∙ elim (cases_eq j i) [
-      inl same ↦
+      | inl same ↦
           ap (λ k. machine.worker_or_nobody (slice_get (set (map view_of workers) i (view_of v)) k)) same
           ∙ (ap machine.worker_or_nobody (get_set (map view_of workers) i (view_of v) within)
           ∙ sym (ap (put (worker_at workers) i (worker_in v)) same ∙ put_here (worker_at workers) i (worker_in v)))
-    | inr other ↦
+      | inr other ↦
           ap machine.worker_or_nobody (get_other (map view_of workers) i j (view_of v) other)
-          ∙ sym (put_there (worker_at workers) i (worker_in v) j other) ]
+          ∙ sym (put_there (worker_at workers) i (worker_in v) j other)
+    ]
 
 -- what an event of worker i sees is the words and that worker
 pub scene_there : (memory : Memory) (workers : List Worker) (i : ℕ) (v : Worker) → slice_get workers i ≡ Some v
@@ -109,10 +108,11 @@ pub machine_after : (memory memory' : Memory) (workers : List Worker) (i : ℕ) 
     → machine_of (world_at memory' (set workers i v')) ≡ with_scene (machine_of (world_at memory workers)) i (scene_in memory' v')
 unfolding machine_of
 machine_after memory memory' workers i v' here cards = λ t. record {
-    words = words_in memory';
-    worker = λ j. workers_set workers i v' here j t;
-    count = (ap length (map_set view_of workers i v') ∙ length_set (map view_of workers) i (view_of v')) t;
-    cards = cards t } where
+  words = words_in memory';
+  worker = λ j. workers_set workers i v' here j t;
+  count = (ap length (map_set view_of workers i v') ∙ length_set (map view_of workers) i (view_of v')) t;
+  cards = cards t;
+} where
   length_set : {A : Type 0} (xs : List A) (i : ℕ) (v : A) → length (set xs i v) ≡ length xs
   length_set [] i v = refl
   length_set (x ∷ xs) zero v = refl
@@ -145,18 +145,19 @@ module _ (memory memory' : Memory) (workers : List Worker) (e : Event) (v v' : W
   pub step_done : (said : Stepped) → Answered e.act memory v memory' v' said
       → Steps (machine_of (world_at memory workers)) e said (machine_of (world_at memory' (set workers e.worker v')))
   step_done said h = record {
-      there = is_there;
-      becomes = scene_in memory' v';
-      happens = subst (λ cards. Happens cards e.act (scene (machine_of (world_at memory workers)) e.worker) said (scene_in memory' v'))
-          (sym (cards_is memory workers))
-          (subst (λ s. Happens memory.cards e.act s said (scene_in memory' v')) (scene_there memory workers e.worker v there) h);
-      gives = machine_after memory memory' workers e.worker v' here same.cards }
+    there = is_there;
+    becomes = scene_in memory' v';
+    happens = subst (λ cards. Happens cards e.act (scene (machine_of (world_at memory workers)) e.worker) said (scene_in memory' v'))
+        (sym (cards_is memory workers))
+        (subst (λ s. Happens memory.cards e.act s said (scene_in memory' v')) (scene_there memory workers e.worker v there) h);
+    gives = machine_after memory memory' workers e.worker v' here same.cards;
+  }
 
   refused_there : (fault : CoreFault) → RefusedAt e.act memory v fault
       → TurnRefused (machine_of (world_at memory workers)).cards e.act (scene (machine_of (world_at memory workers)) e.worker) fault
   refused_there fault h =
       subst (λ cards. TurnRefused cards e.act (scene (machine_of (world_at memory workers)) e.worker) fault) (sym (cards_is memory workers))
-          (subst (λ s. TurnRefused memory.cards e.act s fault) (scene_there memory workers e.worker v there) h)
+      (subst (λ s. TurnRefused memory.cards e.act s fault) (scene_there memory workers e.worker v there) h)
 
   -- a turn that was refused is a step that is refused
   pub step_refused : (fault : CoreFault) → RefusedAt e.act memory v fault → StepRefused (machine_of (world_at memory workers)) e fault
@@ -170,15 +171,18 @@ module _ (memory memory' : Memory) (workers : List Worker) (e : Event) (v v' : W
   -- where the words and the worker's view are as they were, so is the world
   pub value_same : view_of v' ≡ view_of v → memory' ≡ memory → world_at memory' (set workers e.worker v') ≡ world_at memory workers
   value_same view words = λ t. record {
-      words = (words t).words.items; cards = (words t).cards;
-      workers = (map_set view_of workers e.worker v' ∙ (ap (set (map view_of workers) e.worker) view
-          ∙ set_same (map view_of workers) e.worker (view_of v) (map_get view_of workers e.worker v there))) t }
+    words = (words t).words.items;
+    cards = (words t).cards;
+    workers = (map_set view_of workers e.worker v' ∙ (ap (set (map view_of workers) e.worker) view
+        ∙ set_same (map view_of workers) e.worker (view_of v) (map_get view_of workers e.worker v there))) t;
+  }
 
   -- the worker can take its turn
   pub ready : WorldFits (world_at memory workers) → IsReady memory v
   ready fits = record {
-      sized = record { size = fits.size; limit = fits.limit };
-      fits = record { words = fits.words; worker = subst (WorkerFits memory.cards) (scene_worker) (fits.workers e.worker) } } where
+    sized = record { size = fits.size; limit = fits.limit };
+    fits = record { words = fits.words; worker = subst (WorkerFits memory.cards) (scene_worker) (fits.workers e.worker) };
+  } where
     scene_worker : (machine_of (world_at memory workers)).worker e.worker ≡ worker_in v
     scene_worker = ap (λ (s : Scene). s.worker) (sym (scene_there memory workers e.worker v there))
 
@@ -193,8 +197,9 @@ module _ (memory memory' : Memory) (workers : List Worker) (e : Event) (v v' : W
         limit = omega arith;
         words = subst (λ cards. WordsFit cards (words_in memory')) (sym more) after.words;
         workers = λ j. subst (λ cards. WorkerFits cards ((machine_of (world_at memory' (set workers e.worker v'))).worker j)) (sym more)
-          (subst (WorkerFits memory.cards) (sym (ap (λ (m : Machine). m.worker j) is))
-            (put_all (WorkerFits memory.cards) (machine_of (world_at memory workers)).worker e.worker (worker_in v') fits.workers after.worker j)) }
+            (subst (WorkerFits memory.cards) (sym (ap (λ (m : Machine). m.worker j) is))
+            (put_all (WorkerFits memory.cards) (machine_of (world_at memory workers)).worker e.worker (worker_in v') fits.workers after.worker j));
+      }
 
   -- after a turn, answered or refused, the world fits
   pub fits_turn : (r : Result Stepped CoreFault) → WorldFits (world_at memory workers) → IfOk r (Answered e.act memory v memory' v')

@@ -1,13 +1,12 @@
 -- The table of the events, and their refusals.
-use Rattle.std.specs.Prelude.{◌≡◌, ◌≢◌, ℕ, ◌<◌, ◌≤◌, ◌⊎◌, Bool, true, false, Option, Some, None}
-use Rattle.ell_ops.specs.declared.op.Op.{Op}
+use Rattle.std.specs.Prelude.{◌≡◌, ℕ, ◌<◌, ◌≤◌, ◌⊎◌, true, false, None}
 use Rattle.ell_ops.specs.Meaning.{key_of}
 use Rattle.ell_core.specs.declared.event.Event.{Event}
 use Rattle.ell_core.specs.declared.event.Act.{Act}
 use Rattle.ell_core.specs.declared.event.Act.TheVariants as act
 use Rattle.ell_core.specs.declared.event.Stepped.{Stepped}
 use Rattle.ell_core.specs.declared.event.CoreFault.{CoreFault}
-use Rattle.ell_core.specs.declared.event.CoreFault.TheVariants.{NoSuchWorker, NotOwned, NotNow, NoCards, OwnedTwice, NoMemory}
+use Rattle.ell_core.specs.declared.event.CoreFault.TheVariants.{NoSuchWorker, NotOwned, NotNow, NoCards, NoMemory}
 use Rattle.ell_core.specs.declared.fact.Fact.{Fact}
 use Rattle.ell_core.specs.Machine.{Worker, Machine, Scene, scene, with_scene}
 use Rattle.ell_core.specs.Searching.{Begin, Upd, Down, ClaimInsert, ClaimDelete, Again, Leave, Answer}

@@ -1,7 +1,6 @@
 -- The events that exchange a word: guard, answer and effect of each. An exchange is won where the word has the expected
 -- value; a lost one changes no word.
 use Rattle.std.specs.Prelude.{◌≡◌, ℕ, ◌==◌, if◌then◌else◌, Bool, true, false, Option, Some, None}
-use Rattle.ell_ops.specs.declared.op.Op.{Op}
 use Rattle.ell_ops.specs.declared.op.Op.TheVariants.{Insert, Delete}
 use Rattle.ell_word.specs.Node.{internal}
 use Rattle.ell_core.specs.declared.event.Stepped.{Stepped}

@@ -1,5 +1,5 @@
 -- The abstract machine: the words of all cards, and the workers.
-use Rattle.std.specs.Prelude.{◌≡◌, ℕ, ◌==◌, Bool, true, false, Option, Some, None, List, slice_get}
+use Rattle.std.specs.Prelude.{ℕ, ◌==◌, Bool, false, Option, Some, None, List}
 use Rattle.std.specs.Map.{lookup}
 use Rattle.ell_ops.specs.declared.op.Op.{Op}
 use Rattle.ell_core.specs.declared.view.Search.{Search}

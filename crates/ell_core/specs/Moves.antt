@@ -1,5 +1,5 @@
 -- Seat moves: workers with nothing in hand are split and joined. No word and no other worker changes.
-use Rattle.std.specs.Prelude.{◌≡◌, ◌≢◌, ℕ, ◌+◌, ◌<◌, ◌⊎◌, Bool, true, false, Option, Some, None}
+use Rattle.std.specs.Prelude.{◌≡◌, ◌≢◌, ℕ, ◌+◌, ◌<◌, ◌⊎◌, true, None}
 use Rattle.ell_core.specs.declared.fact.Fact.{Fact}
 use Rattle.ell_core.specs.Words.{put}
 use Rattle.ell_core.specs.Machine.{Ledger, Worker, Machine, idle, nobody}

@@ -1,5 +1,5 @@
 -- The opening state, and the lists of owned keys that it takes.
-use Rattle.std.specs.Prelude.{◌≡◌, ℕ, ◌<◌, ◌≤◌, ◌==◌, ◌&&◌, if◌then◌else◌, ◌⊎◌, Bool, true, false, zero, suc, Option, Some, None, List, slice_get}
+use Rattle.std.specs.Prelude.{◌≡◌, ℕ, ◌<◌, ◌≤◌, ◌==◌, ◌&&◌, if◌then◌else◌, Bool, false, zero, suc, Some, None, List, slice_get}
 use Rattle.std.specs.List.{list_any}
 use Rattle.ell_word.specs.Node.{left_leaf, right_leaf}
 use Rattle.ell_core.specs.declared.event.CoreFault.{CoreFault}
@@ -7,7 +7,7 @@ use Rattle.ell_core.specs.declared.event.CoreFault.TheVariants.{NoSuchWorker, Ow
 use Rattle.ell_core.specs.declared.field.Field.{Field}
 use Rattle.ell_core.specs.declared.field.Field.TheVariants.{Gp, P, L, Was, Key, Left, Right, Update, LeftLeafKey, RightLeafKey}
 use Rattle.ell_core.specs.Words.{Words, words_from}
-use Rattle.ell_core.specs.Machine.{Ledger, Worker, Machine, idle}
+use Rattle.ell_core.specs.Machine.{Ledger, Machine, idle}
 use Rattle.ell_core.specs.Cards.{clean}
 use Rattle.ell_core.specs.Tree.{infinity1, infinity2}
 

@@ -1,5 +1,5 @@
 -- The events by which a worker searches, claims a card and ends its operation: guard, answer and effect of each.
-use Rattle.std.specs.Prelude.{◌≡◌, ◌≢◌, ℕ, ◌%◌, ◌==◌, if◌then◌else◌, ◌⊎◌, Bool, true, false, Option, Some, None, List}
+use Rattle.std.specs.Prelude.{◌≡◌, ◌≢◌, ℕ, ◌==◌, if◌then◌else◌, ◌⊎◌, Bool, true, false, Option, Some, None, List}
 use Rattle.ell_ops.specs.declared.op.Op.{Op}
 use Rattle.ell_ops.specs.declared.op.Op.TheVariants.{Find, Insert, Delete}
 use Rattle.ell_ops.specs.Meaning.{key_of}
@@ -7,7 +7,7 @@ use Rattle.ell_word.specs.Node.{IsInternal}
 use Rattle.ell_word.specs.Word.{unpacked}
 use Rattle.ell_word.specs.declared.update.State.TheVariants as state
 use Rattle.ell_core.specs.declared.event.Stepped.{Stepped}
-use Rattle.ell_core.specs.declared.event.Stepped.TheVariants.{Moved, Won, Lost, Answered}
+use Rattle.ell_core.specs.declared.event.Stepped.TheVariants.{Moved, Answered}
 use Rattle.ell_core.specs.declared.fact.Fact.TheVariants.{IOver, DOver, Backed}
 use Rattle.ell_core.specs.declared.view.Seen.{Seen}
 use Rattle.ell_core.specs.declared.view.Search.{Search}

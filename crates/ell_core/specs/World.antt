@@ -1,5 +1,5 @@
 -- A world as contracts see it: plain lists, and the machine that they are.
-use Rattle.std.specs.Prelude.{◌≡◌, ℕ, ◌≤◌, ◌<◌, List, map, length, slice_get}
+use Rattle.std.specs.Prelude.{◌≡◌, ℕ, ◌≤◌, ◌<◌, List, length, slice_get}
 use Rattle.ell_word.specs.Node.{greatest_card}
 use Rattle.ell_core.specs.declared.view.WorkerView.{WorkerView}
 use Rattle.ell_core.specs.declared.event.Event.{Event}

@@ -1,7 +1,7 @@
 -- A world as its code keeps it.
-use Rattle.std.specs.Prelude.{List, map}
+use Rattle.std.specs.Prelude.{map}
 use Rattle.ell_core.specs.declared.world.World.TheInside.{Inside}
-use Rattle.ell_core.specs.Inside.{view_of, IsSized}
+use Rattle.ell_core.specs.Inside.{view_of}
 use Rattle.ell_core.specs.World.{WorldValue, WorldFits}
 
 -- the lists that contracts see

@@ -7,7 +7,7 @@ use Rattle.ell_core.specs.Cards.{iflag}
 use Rattle.ell_core.specs.Machine.{Scene}
 use Rattle.ell_core.specs.Exchanges.{flag_tells}
 use Rattle.ell_core.specs.Events.{WantsMemory}
-use Rattle.ell_core.specs.Inside.{LacksAny, words_in, worker_in, scene_in}
+use Rattle.ell_core.specs.Inside.{LacksAny, scene_in}
 use Rattle.ell_core.proofs.Wants.{flag_is_learned, refused_for_memory}
 use Rattle.ell_core.proofs.exchanges.iflag.Goals as goal
 
@@ -16,10 +16,27 @@ wants : (cards key card : ℕ) (seen : Seen) (s : Scene) → s.worker.operation 
     → LacksAny s.worker.knows (flag_tells seen s.words (IFlagged card)) → WantsMemory cards act.IFlag s
 wants cards key card seen s inserts holds unflagged behind lacks =
     let new = flag_is_learned s seen (iflag card) (IFlagged card) lacks in record {
-        said = _; after = _; fact = new.0; lacks = new.1; learns = new.2;
-        happens = record { owned = λ h. h; room = λ h. h; row = record {
-            key = key; card = card; parent = seen; inserts = inserts; holds = holds; unflagged = unflagged; behind = behind;
-            says = refl; gives = refl } } }
+      said = _;
+      after = _;
+      fact = new.0;
+      lacks = new.1;
+      learns = new.2;
+      happens = record {
+        owned = λ h. h;
+        room = λ h. h;
+        row = record {
+          key = key;
+          card = card;
+          parent = seen;
+          inserts = inserts;
+          holds = holds;
+          unflagged = unflagged;
+          behind = behind;
+          says = refl;
+          gives = refl;
+        };
+      };
+    }
 
 pub returns-clause-refused : goal.returns-clause-refused
 returns-clause-refused c =
@@ -27,7 +44,7 @@ returns-clause-refused c =
     let s = scene_in c.args.memory.now c.args.worker.now in
     let with_key : (key : ℕ) × (s.worker.operation ≡ Some (Insert key)) = search rules in
     refused_for_memory c.args.memory.now.cards act.IFlag s
-        (LacksAny s.worker.knows (flag_tells found.parent s.words (IFlagged found.card)))
-        c.flag.result c.flag.ensures.refused c.flag.ensures.lacks
-        (λ lacks. wants c.args.memory.now.cards with_key.0 found.card found.parent s
-            with_key.1 found.is-1 found.is-2 found.is-3 lacks)
+    (LacksAny s.worker.knows (flag_tells found.parent s.words (IFlagged found.card)))
+    c.flag.result c.flag.ensures.refused c.flag.ensures.lacks
+    (λ lacks. wants c.args.memory.now.cards with_key.0 found.card found.parent s
+    with_key.1 found.is-1 found.is-2 found.is-3 lacks)

@@ -14,14 +14,22 @@ wants : (cards node : ℕ) (s : Scene) → s.worker.search.node ≡ Some node �
     → LacksAny s.worker.knows (told_by (s.words.update node)) → WantsMemory cards act.Upd s
 wants cards node s stands internal unread lacks =
     let new = any_is_learned s.worker.knows (told_by (s.words.update node)) lacks in record {
-        said = Moved; after = _; fact = new.0; lacks = new.1; learns = new.2;
-        happens = record { owned = λ h. h; room = λ h. h;
-            row = record { node = node; stands = stands; internal = internal; unread = unread; says = refl; gives = refl } } }
+      said = Moved;
+      after = _;
+      fact = new.0;
+      lacks = new.1;
+      learns = new.2;
+      happens = record {
+        owned = λ h. h;
+        room = λ h. h;
+        row = record { node = node; stands = stands; internal = internal; unread = unread; says = refl; gives = refl };
+      };
+    }
 
 pub returns-in_err-learn_any-clause-refused : goal.returns-in_err-learn_any-clause-refused
 returns-in_err-learn_any-clause-refused c =
     let p = err_from_is_err_and c.from_residual.result c.from_residual.ensures.1 in
     rw (p.1, p.2) (wants c.args.memory.now.cards c.in-Some.node (scene_in c.args.memory.now c.args.worker.now)
-        (search rules) (search rules) (search rules)
-        (subst (LacksAny (worker_in c.args.worker.now).knows) (c.told_by.ensures ∙ ap told_by c.update-update.ensures)
-            c.in_err-learn_any.ensures.lacks))
+    (search rules) (search rules) (search rules)
+    (subst (LacksAny (worker_in c.args.worker.now).knows) (c.told_by.ensures ∙ ap told_by c.update-update.ensures)
+    c.in_err-learn_any.ensures.lacks))

@@ -1,4 +1,4 @@
-use Rattle.std.proofs.Common.{◌≡◌, IfOk, Vec, ap, subst, ◌∙◌}
+use Rattle.std.proofs.Common.{◌≡◌, IfOk, ap, subst, ◌∙◌}
 use Rattle.ell_core.specs.Words.{Words}
 use Rattle.ell_core.specs.Tree.{IsLawful, ListsKeys}
 use Rattle.ell_core.specs.Inside.{words_in}
@@ -9,5 +9,5 @@ use Rattle.ell_core.proofs.world.World.keys.Goals as goal
 pub returns : goal.returns
 returns c =
     let words : words_in c.self.inside.memory ≡ (machine_of c.args.self.now).words =
-        words_are c.self.inside.memory c.self.inside.workers.items ∙ ap (λ (value : WorldValue). (machine_of value).words) c.self.view_is in
+    words_are c.self.inside.memory c.self.inside.workers.items ∙ ap (λ (value : WorldValue). (machine_of value).words) c.self.view_is in
     subst (λ (w : Words). IfOk c.keys_of_tree.result (λ keys. IsLawful w → ListsKeys w keys.items)) words c.keys_of_tree.ensures

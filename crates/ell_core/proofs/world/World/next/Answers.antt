@@ -1,4 +1,4 @@
-use Rattle.std.proofs.Common.{◌≡◌, ap, ◌∙◌}
+use Rattle.std.proofs.Common.{ap, ◌∙◌}
 use Rattle.ell_core.specs.Words.{Words}
 use Rattle.ell_core.specs.World.{WorldValue, machine_of}
 use Rattle.ell_core.proofs.Worlds.{words_are}

@@ -1,5 +1,4 @@
-use Rattle.std.proofs.Common.{rules, arith, ◌≡◌, ℕ, ◌<◌, ◌≤◌, Some, Result, Ok, Err, OnErr, IfOk, IfErr, List, length, set, subst, refl, ap, ◌∙◌, sym}
-use Rattle.std.specs.Prelude.{slice_get}
+use Rattle.std.proofs.Common.{arith, ◌≤◌, Result, Ok, Err, OnErr, set, subst, refl, ◌∙◌}
 use Rattle.std.proofs.lemmas.Result.{IfOk-weaker, MatchResult-weaker}
 use Rattle.ell_core.specs.Events.{Steps}
 use Rattle.ell_core.specs.World.{WorldValue, machine_of, StepRefused}
@@ -16,7 +15,7 @@ returns-in_default-clause-refused c =
     let inside = c.self.inside in
     let count = count_is inside.memory inside.workers.items in
     let all : (machine_of (world_at inside.memory inside.workers.items)).count ≤ c.args.event.worker =
-        grind (arith, inside.workers.ok.0, c.in_default.ensures.variant, c.in_default.is) in
+    grind (arith, inside.workers.ok.0, c.in_default.ensures.variant, c.in_default.is) in
     subst (λ (value : WorldValue). (machine_of value).count ≤ c.args.event.worker) c.self.view_is all
 
 pub turn-requires : goal.turn-requires
@@ -30,29 +29,29 @@ invariant_of-self-2 c =
     let old = c.in-Some.worker.now in
     let there = item_there c.self.inside.workers c.args.event.worker old (c.in-Some.ensures.variant.0 refl) c.in-Some.ensures.value in
     fits_turn c.self.inside.memory c.turn.new.memory c.self.inside.workers.items c.args.event old c.turn.new.worker there c.turn.ensures.same
-        c.turn.result c.self.invariant c.turn.ensures.done c.turn.ensures.unchanged c.turn.ensures.words
+    c.turn.result c.self.invariant c.turn.ensures.done c.turn.ensures.unchanged c.turn.ensures.words
 
 pub returns-clause-done : goal.returns-clause-done
 returns-clause-done c =
     let old = c.in-Some.worker.now in
     let there = item_there c.self.inside.workers c.args.event.worker old (c.in-Some.ensures.variant.0 refl) c.in-Some.ensures.value in
     IfOk-weaker c.turn.result _ _ (λ said h. subst
-        (λ (value : WorldValue). Steps (machine_of value) c.args.event said
-            (machine_of (world_at c.turn.new.memory (set c.self.inside.workers.items c.args.event.worker c.turn.new.worker)))) c.self.view_is
-        (step_done c.self.inside.memory c.turn.new.memory c.self.inside.workers.items c.args.event old c.turn.new.worker there c.turn.ensures.same said h))
-        c.turn.ensures.done
+    (λ (value : WorldValue). Steps (machine_of value) c.args.event said
+    (machine_of (world_at c.turn.new.memory (set c.self.inside.workers.items c.args.event.worker c.turn.new.worker)))) c.self.view_is
+    (step_done c.self.inside.memory c.turn.new.memory c.self.inside.workers.items c.args.event old c.turn.new.worker there c.turn.ensures.same said h))
+    c.turn.ensures.done
 
 pub returns-clause-refused : goal.returns-clause-refused
 returns-clause-refused c =
     let old = c.in-Some.worker.now in
     let there = item_there c.self.inside.workers c.args.event.worker old (c.in-Some.ensures.variant.0 refl) c.in-Some.ensures.value in
     MatchResult-weaker c.turn.result c.turn.ensures.refused (λ said h. h) (λ fault h. subst
-        (λ (value : WorldValue). StepRefused (machine_of value) c.args.event fault) c.self.view_is
-        (step_refused c.self.inside.memory c.turn.new.memory c.self.inside.workers.items c.args.event old c.turn.new.worker there c.turn.ensures.same fault h))
+    (λ (value : WorldValue). StepRefused (machine_of value) c.args.event fault) c.self.view_is
+    (step_refused c.self.inside.memory c.turn.new.memory c.self.inside.workers.items c.args.event old c.turn.new.worker there c.turn.ensures.same fault h))
 
 pub returns-clause-unchanged : goal.returns-clause-unchanged
 returns-clause-unchanged c =
     let old = c.in-Some.worker.now in
     let there = item_there c.self.inside.workers c.args.event.worker old (c.in-Some.ensures.variant.0 refl) c.in-Some.ensures.value in
     on_err_both c.turn.result (λ view words. value_same c.self.inside.memory c.turn.new.memory c.self.inside.workers.items c.args.event old
-        c.turn.new.worker there c.turn.ensures.same view words ∙ c.self.view_is) c.turn.ensures.unchanged c.turn.ensures.words
+    c.turn.new.worker there c.turn.ensures.same view words ∙ c.self.view_is) c.turn.ensures.unchanged c.turn.ensures.words
