@@ -14,6 +14,7 @@ use std::alloc::Global;
 pub fn replay(alloc: Global, world: &mut World, events: &[Event]) -> Result<Vec<Shown>, NoMemory>
     ensures run { IfOk result (λ shown. Run (machine_of world.old) events.now shown.items (machine_of world.new)) }
     ensures passes { OnErr result (Passes (machine_of world.old) events.now (machine_of world.new)) }
+    ensures cards { world.new.cards ≡ world.old.cards }
 {
     let mut shown = Vec::new(alloc);
     for event in events {
@@ -28,6 +29,7 @@ pub fn replay(alloc: Global, world: &mut World, events: &[Event]) -> Result<Vec<
 fn show(world: &mut World, event: Event) -> Result<Shown, NoMemory>
     ensures shows { IfOk result (λ shown. Shows (machine_of world.old) event shown (machine_of world.new)) }
     ensures unchanged { OnErr result (world.new ≡ world.old) }
+    ensures cards { world.new.cards ≡ world.old.cards }
 {
     match world.step(event) {
         Ok(said) => Ok(Shown::Step(said)),

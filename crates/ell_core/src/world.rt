@@ -58,6 +58,7 @@ impl World {
         requires most_cards { cards ≤ greatest_card }
         requires keys { All (λ entry. entry.1 ≤ greatest_key) owned.now }
         ensures opening { IfOk result (λ world. machine_of world ≡ opening workers owned.now cards) }
+        ensures cards { IfOk result (λ world. world.cards ≡ cards) }
         ensures faultless { OnOk result (Faultless workers owned.now) }
         ensures refused { IfErr result (OpeningRefused workers owned.now) }
     {
@@ -76,6 +77,7 @@ impl World {
         ensures done { IfOk result (λ said. Steps (machine_of self.old) event said (machine_of self.new)) }
         ensures refused { IfErr result (StepRefused (machine_of self.old) event) }
         ensures unchanged { OnErr result (self.new ≡ self.old) }
+        ensures cards { self.new.cards ≡ self.old.cards }
     {
         let Some(worker) = self.workers.get_mut(event.worker as usize) else {
             return Err(CoreFault::NoSuchWorker);

@@ -13,20 +13,20 @@ on_err (Ok x) h = tt
 on_err (Err e) h = h
 
 pub loop-event-init : goal.loop-event-init
-loop-event-init c = rw c.new-shown.ensures.items refl
+loop-event-init c = (rw c.new-shown.ensures.items refl, refl)
 
 pub returns-in_err-reserve-clause-passes : goal.returns-in_err-reserve-clause-passes
 returns-in_err-reserve-clause-passes c = on_err c.from_residual.result (record {
   events = c.loop-event.event-index;
   shown = c.loop-event.shown.items;
-  run = c.loop-event.invariant;
+  run = c.loop-event.invariant.0;
 })
 
 pub returns-in_err-answer-clause-passes : goal.returns-in_err-answer-clause-passes
 returns-in_err-answer-clause-passes c = on_err c.from_residual-in_err-answer.result
     (subst (λ (world : WorldValue). Passes (machine_of c.args.world.now) c.args.events.now (machine_of world))
     (sym c.in_err-answer.ensures.unchanged)
-    (record { events = c.loop-event.event-index; shown = c.loop-event.shown.items; run = c.loop-event.invariant }))
+    (record { events = c.loop-event.event-index; shown = c.loop-event.shown.items; run = c.loop-event.invariant.0 }))
 
 pub loop-event-preserved : goal.loop-event-preserved
 loop-event-preserved c =
@@ -37,13 +37,13 @@ loop-event-preserved c =
     let first = machine_of c.args.world.now in
     let after = machine_of c.show.new.world in
     let more = run_more first (take i events) c.loop-event.shown.items (machine_of c.loop-event.world) after event
-    c.in_ok-answer.answer c.loop-event.invariant c.in_ok-answer.ensures.shows in
-    subst (λ xs. Run first (take (i + 1) events) xs after)
+    c.in_ok-answer.answer c.loop-event.invariant.0 c.in_ok-answer.ensures.shows in
+    (subst (λ xs. Run first (take (i + 1) events) xs after)
     (sym (c.in_ok-push.ensures.items ∙ ap (λ xs. xs ++ c.in_ok-answer.answer ∷ []) c.in_ok-reserve.ensures.items))
     (subst (λ es. Run first es (c.loop-event.shown.items ++ c.in_ok-answer.answer ∷ []) after)
-    (sym (take_more events i other c.loop-event-test.true)) more)
+    (sym (take_more events i other c.loop-event-test.true)) more), c.show.ensures.cards ∙ c.loop-event.invariant.1)
 
 pub returns-clause-run : goal.returns-clause-run
 returns-clause-run c =
     subst (λ es. Run (machine_of c.args.world.now) es c.loop-event.shown.items (machine_of c.loop-event.world))
-    (take_all c.loop-event.event-index c.args.events.now (omega arith)) c.loop-event.invariant
+    (take_all c.loop-event.event-index c.args.events.now (omega arith)) c.loop-event.invariant.0
