@@ -1,6 +1,10 @@
 -- What a run of a bulk text may be told.
-use Rattle.std.specs.Prelude.{ℕ, ◌≤◌, IfSome}
-use Rattle.ell_parts.specs.Parting.{IsWorkerCount}
+use Rattle.std.specs.Prelude.{◌≡◌, ℕ, ◌≤◌, IfSome, List}
+use Rattle.ell_ops.specs.declared.op.Op.{Op}
+use Rattle.ell_parts.specs.Parting.{IsWorkerCount, striped, IsRanged}
+use Rattle.ell_parts.specs.Parting as parts
+use Rattle.ell_run.specs.declared.settings.Parting.{Parting}
+use Rattle.ell_run.specs.declared.settings.Parting.TheVariants.{Stripe, Range}
 use Rattle.ell_run.specs.declared.settings.Settings.{Settings}
 
 -- there may be so many cards, or tries
@@ -13,3 +17,14 @@ pub record AreSettings (settings : Settings) : Type 0 where
   pub workers : IsWorkerCount settings.workers
   pub cards : IfSome settings.cards IsAllowed
   pub tries : IsAllowed settings.tries
+
+-- the owners of a parting are those in stripes, or in ranges
+abbrev pub HasOwners : Parting → parts.Parting → Type 0
+HasOwners Stripe parting = parting.owners ≡ striped parting.ops parting.workers
+HasOwners Range parting = IsRanged parting
+
+-- a parting is that of the operations which the settings ask for
+pub record IsPartedAs (settings : Settings) (ops : List Op) (parting : parts.Parting) : Type 0 where
+  pub all : parting.ops ≡ ops
+  pub workers : parting.workers ≡ settings.workers
+  pub owners : HasOwners settings.parting parting

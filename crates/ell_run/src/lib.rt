@@ -10,7 +10,7 @@ mod settings;
 pub use bytes::{RunFault, run_bytes};
 pub use laws::by_parts;
 pub use runs::{Limits, Outcome, run};
-pub use settings::{Parting, Report, Settings};
+pub use settings::{Parting, Report, Settings, parts_for};
 
 #[cfg(test)]
 mod tests;

@@ -1,7 +1,7 @@
 //! How a bulk text is run, and what a run reports.
 ghost use Rattle.std.specs.Prelude.{◌≡◌, ◌≤◌, IfOk, length};
 ghost use Rattle.ell_run.specs.Limits.{AreLimits};
-ghost use Rattle.ell_run.specs.Settings.{AreSettings};
+ghost use Rattle.ell_run.specs.Settings.{AreSettings, IsPartedAs};
 
 use crate::runs::Limits;
 use ell_ops::{NoMemory, Op};
@@ -36,14 +36,14 @@ pub struct Report {
     pub late: usize,
 }
 
-// The parting of the operations that the settings ask for.
-pub(crate) fn parts_for(
+/// The parting of the operations that the settings ask for: among their workers, in stripes or in ranges.
+pub fn parts_for(
     alloc: Global,
     ops: &[Op],
     settings: Settings,
 ) -> Result<Parts<Global>, NoMemory>
     requires { AreSettings settings }
-    ensures { IfOk result (λ parts. parts.ops ≡ ops.now) }
+    ensures { IfOk result (IsPartedAs settings ops.now) }
 {
     let parts = match settings.parting {
         Parting::Stripe => Parts::striped(alloc, ops, settings.workers),

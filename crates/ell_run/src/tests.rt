@@ -1,5 +1,5 @@
 //! Runs of small lists and texts, with the replies and keys that a person gave them.
-use crate::{Limits, Parting, Settings, run, run_bytes};
+use crate::{Limits, Parting, Settings, parts_for, run, run_bytes};
 use ell_ops::Op;
 use ell_parts::Parts;
 use std::test::Fail;
@@ -61,12 +61,26 @@ fn texts_have_one_answer(rt: HostRuntime) -> Result<(), Fail> {
 }
 
 #[test]
-fn stripes_of_eight_keys(rt: HostRuntime) -> Result<(), Fail> {
+fn eight_keys_as_settings_part_them(rt: HostRuntime) -> Result<(), Fail> {
     let mut ops = Vec::new(rt.alloc());
     for key in 1..=8 {
         ops.push(Op::Insert(key))?;
     }
-    let parts = Parts::striped(rt.alloc(), &ops, 4)?;
+    let settings = Settings {
+        workers: 4,
+        parting: Parting::Range,
+        cards: None,
+        tries: 1000,
+    };
+    let parts = parts_for(rt.alloc(), &ops, settings)?;
+    assert_eq!(rt; parts.workers(), 4);
+    assert_eq!(rt; parts.keys(0), [1, 2].as_slice());
+    assert_eq!(rt; parts.keys(3), [7, 8].as_slice());
+    let striped = Settings {
+        parting: Parting::Stripe,
+        ..settings
+    };
+    let parts = parts_for(rt.alloc(), &ops, striped)?;
     assert_eq!(rt; parts.workers(), 4);
     assert_eq!(rt; parts.keys(1), [1, 5].as_slice());
     assert_eq!(rt; parts.keys(2), [2, 6].as_slice());
