@@ -3,4 +3,5 @@ pub mod InputLemmas
 pub mod LinesLemmas
 pub mod NumberLemmas
 pub mod OutputLemmas
+pub mod PiecesLemmas
 pub mod SendingLemmas

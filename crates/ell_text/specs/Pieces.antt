@@ -1,5 +1,5 @@
 -- The pieces of a line, where a form may have so many.
-use Rattle.std.specs.Prelude.{◌≡◌, ◌≤◌, ℕ, List, [], ◌∷◌, length}
+use Rattle.std.specs.Prelude.{◌≡◌, ◌≤◌, ◌⊎◌, ℕ, List, [], ◌∷◌, length}
 use Rattle.ell_text.specs.declared.replay_line.Pieces.{Pieces}
 use Rattle.ell_text.specs.declared.replay_line.Pieces.TheVariants.{Two, Three, Four, Other}
 

@@ -1,7 +1,7 @@
 //! The script of a replay text.
 ghost use Rattle.std.specs.Prelude.{◌≡◌, ◌≢◌, ◌<◌, ◌≤◌, All, None, Some, IfErr, IfOk, IsTrue, OnErr, OnOk};
 ghost use Rattle.ell_ops.specs.Meaning.{greatest_key};
-ghost use Rattle.ell_text.specs.Draft.{DraftFits, count_in_draft, draft_value, finished, no_draft, place_in_draft, with_said};
+ghost use Rattle.ell_text.specs.Draft.{DraftFits, count_in_draft, draft_value, finished, no_draft, place_in_draft, with_line, with_said};
 ghost use Rattle.ell_text.specs.Lines.{lines};
 ghost use Rattle.ell_text.specs.ReplayLine.{SaidFits, replay_line_at};
 ghost use Rattle.ell_text.specs.Script.{HasSoundEntry, is_kept, replay_fault_of, replay_located, script, script_value};

@@ -1,5 +1,5 @@
 //! What one line of a replay text says at its place.
-ghost use Rattle.std.specs.Prelude.{◌≡◌, ◌≤◌, IfOk, IfSome};
+ghost use Rattle.std.specs.Prelude.{◌≡◌, ◌≤◌, IfOk, IfSome, codes};
 ghost use Rattle.ell_ops.specs.Meaning.{greatest_key};
 ghost use Rattle.ell_text.specs.Pieces.{IsCut, piece_list};
 ghost use Rattle.ell_text.specs.ReplayLine.{SaidFits, act_of, begin_event, card_event, card_in, count_in, count_of, entry_of, entry_or_event, event_of, pieces, plain_event, replay_key_in, replay_line_at, said_at, worker_in};
@@ -137,7 +137,7 @@ fn cut(line: &[u8]) -> Pieces<'_>
 }
 
 fn read_said(place: Place, pieces: Pieces<'_>) -> Result<Said, ReplayLineFault>
-    ensures value { result ≡ said_at place (piece_list pieces) }
+    ensures value { result ≡ said_at place (piece_list pieces.entry) }
     ensures within { IfOk result SaidFits }
 {
     match place {
@@ -153,7 +153,7 @@ fn read_said(place: Place, pieces: Pieces<'_>) -> Result<Said, ReplayLineFault>
 
 // The number of `workers N` or `cards N`.
 fn read_count_line(name: &[u8], max: u64, pieces: Pieces<'_>) -> Result<u64, ReplayLineFault>
-    ensures value { result ≡ count_of name.now max (piece_list pieces) }
+    ensures value { result ≡ count_of name.now max (piece_list pieces.entry) }
     ensures some { IfOk result (λ count. 1 ≤ count) }
     ensures within { IfOk result (λ count. count ≤ max) }
 {
@@ -164,7 +164,7 @@ fn read_count_line(name: &[u8], max: u64, pieces: Pieces<'_>) -> Result<u64, Rep
 }
 
 fn read_entry_or_event(pieces: Pieces<'_>) -> Result<Said, ReplayLineFault>
-    ensures value { result ≡ entry_or_event (piece_list pieces) }
+    ensures value { result ≡ entry_or_event (piece_list pieces.entry) }
     ensures within { IfOk result SaidFits }
 {
     match pieces {
@@ -183,7 +183,7 @@ fn read_entry(worker: &[u8], key: &[u8]) -> Result<Said, ReplayLineFault>
 }
 
 fn read_event(pieces: Pieces<'_>) -> Result<Event, ReplayLineFault>
-    ensures value { result ≡ event_of (piece_list pieces) }
+    ensures value { result ≡ event_of (piece_list pieces.entry) }
     ensures within { IfOk result (λ event. event.worker ≤ 63) }
 {
     match pieces {
@@ -224,7 +224,7 @@ fn read_card_event(worker: &[u8], word: &[u8], card: &[u8]) -> Result<Event, Rep
 
 // `W begin operation K`.
 fn read_begin(worker: &[u8], name: &[u8], key: &[u8]) -> Result<Event, ReplayLineFault>
-    ensures value { result ≡ begin_event worker.now name.now key.now }
+    ensures value { result ≡ begin_event worker.now (codes "begin") name.now key.now }
     ensures within { IfOk result (λ event. event.worker ≤ 63) }
 {
     let Some(kind) = OpKind::named(name) else {
