@@ -11,7 +11,7 @@ use Rattle.ell_text.specs.Line.{line_of}
 use Rattle.ell_text.specs.Bulk.{HasSoundOperation, fault_at, fault_of, first, operation_in, operations, unless_fault}
 
 -- an operation alone
-cons_option-nil : {X : Type 0} (o : Option X) → cons_option o [] ≡ option_to_list o
+pub cons_option-nil : {X : Type 0} (o : Option X) → cons_option o [] ≡ option_to_list o
 cons_option-nil None = refl
 cons_option-nil (Some x) = refl
 
@@ -23,7 +23,7 @@ operations_more text i within =
     ∙ ap (λ found. operations (take i text) ++ found) (cons_option-nil _)
 
 -- a first answer stays the first
-first_stays : {X : Type 0} (f : ℕ → Option X) (x : X) (m n : ℕ) → m ≤ n → first f m ≡ Some x → first f n ≡ Some x
+pub first_stays : {X : Type 0} (f : ℕ → Option X) (x : X) (m n : ℕ) → m ≤ n → first f m ≡ Some x → first f n ≡ Some x
 first_stays f x m zero le is =
     let none : 0 ≡ m = omega arith in
     ap (first f) none ∙ is
@@ -33,7 +33,7 @@ first_stays f x m (suc n) le is = ⊎_elim
     (cases_eq m (suc n))
 
 -- one number more, where no answer came before it
-first_more : {X : Type 0} (f : ℕ → Option X) (n : ℕ) → first f n ≡ None → first f (n + 1) ≡ f n
+pub first_more : {X : Type 0} (f : ℕ → Option X) (n : ℕ) → first f n ≡ None → first f (n + 1) ≡ f n
 first_more f n none = ap (first f) (add-one n) ∙ ap (λ found. option_or found (f n)) none
 
 -- the lines before the index have no fault and say the operations, and the rest comes after them
@@ -53,7 +53,7 @@ read_none text rest index ops whole none said = record {
 }
 
 -- the line at an index, and those after it
-line_at : (line : List ℕ) (more text : List (List ℕ)) (i : ℕ) → line ∷ more ≡ drop i text → (i < length text) × (line ≡ get_or text i []) × (more ≡ drop (suc i) text)
+pub line_at : (line : List ℕ) (more text : List (List ℕ)) (i : ℕ) → line ∷ more ≡ drop i text → (i < length text) × (line ≡ get_or text i []) × (more ≡ drop (suc i) text)
 line_at line more [] zero rest = cc
 line_at line more [] (suc i) rest = cc
 line_at line more (x ∷ text) zero rest = (omega arith, cc, cc)

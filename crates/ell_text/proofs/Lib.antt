@@ -1,6 +1,10 @@
 pub mod BulkLemmas
+pub mod DraftLemmas
 pub mod InputLemmas
 pub mod LinesLemmas
 pub mod NumberLemmas
 pub mod OutputLemmas
+pub mod PiecesLemmas
+pub mod ReplayLemmas
+pub mod SaidLemmas
 pub mod SendingLemmas

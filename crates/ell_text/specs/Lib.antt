@@ -1,8 +1,12 @@
 pub mod Answer
 pub mod Bulk
+pub mod Draft
 pub mod Input
 pub mod Line
 pub mod Lines
 pub mod Number
 pub mod Output
+pub mod Pieces
+pub mod ReplayLine
+pub mod Script
 pub mod Sending

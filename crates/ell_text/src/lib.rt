@@ -1,8 +1,10 @@
-//! Texts in and out: the bytes of a reader, the operations of a bulk text, and the text that answers them.
+//! Texts in and out: the bytes of a reader, the operations of a bulk text, the text that answers them, and the script
+//! of a replay text.
 //!
 //! A line of a bulk text is the name of an operation, `find`, `insert` or `delete`, one space, and a key in decimal
-//! digits. Empty lines, lines of spaces and tabs, and lines whose first byte is `#` are skipped. `docs/FORMATS.md` has
-//! both texts in full.
+//! digits. A replay text has the line `workers N`, the line `cards N`, lines `own W K`, and a line for each event, as
+//! `0 begin find 5` and `0 mark 3`. Empty lines, lines of spaces and tabs, and lines whose first byte is `#` are
+//! skipped. `docs/FORMATS.md` has the bulk text and its answer in full.
 #![tactic(auto)]
 
 mod answer;
@@ -12,6 +14,8 @@ mod line;
 mod lines;
 mod number;
 mod output;
+mod replay;
+mod replay_line;
 #[cfg(test)]
 mod tests;
 
@@ -19,3 +23,4 @@ pub use answer::write_answer;
 pub use bulk::{OPERATIONS_MAX, TextFault, read_bulk};
 pub use input::{INPUT_MAX, InputFault, read_all};
 pub use output::WriteFault;
+pub use replay::{LINES_MAX, ReplayFault, Script, read_replay};

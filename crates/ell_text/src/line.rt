@@ -18,9 +18,9 @@ pub(crate) enum LineFault {
     KeyTooLarge,
 }
 
-// What an operation does, without its key.
+/// What an operation does, without its key.
 #[derive(Debug, Clone, Copy, PartialEq, Eq)]
-enum OpKind {
+pub(crate) enum OpKind {
     Find,
     Insert,
     Delete,
@@ -29,8 +29,8 @@ enum OpKind {
 impl OpKind {
     ghost use Rattle.ell_text.specs.Line.{kind_of, operation_on};
 
-    // The kind that a name names.
-    fn named(name: &[u8]) -> Option<OpKind>
+    /// The kind that a name names.
+    pub(crate) fn named(name: &[u8]) -> Option<OpKind>
         ensures { result ≡ kind_of name.now }
     {
         match name {
@@ -41,8 +41,8 @@ impl OpKind {
         }
     }
 
-    // The operation of this kind on a key.
-    fn on(self, key: u64) -> Op
+    /// The operation of this kind on a key.
+    pub(crate) fn on(self, key: u64) -> Op
         ensures value { result ≡ operation_on self key }
         ensures key { key_of result ≡ key }
     {

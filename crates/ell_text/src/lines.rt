@@ -1,6 +1,6 @@
 //! The lines of a text, and the parts of one line.
-ghost use Rattle.std.specs.Prelude.{◌≡◌, ◌≤◌, length, position};
-ghost use Rattle.std.specs.List.{after_first, before_first};
+ghost use Rattle.std.specs.Prelude.{◌≡◌, ◌≤◌, [], ◌∷◌, length, position, MatchOption};
+ghost use Rattle.std.specs.List.{after_first, before_first, slice_split};
 ghost use Rattle.ell_text.specs.Lines.{is_blank, is_skipped, is_space, lines};
 
 use bstr::{ByteSlice, Lines};
@@ -35,6 +35,17 @@ pub(crate) fn split_at_space(line: &[u8]) -> (&[u8], &[u8])
     match first_space(line) {
         Some(at) => (&line[..at], &line[at + 1..]),
         None => (line, &[]),
+    }
+}
+
+/// What stands before the first space and what stands after it, where there is one.
+pub(crate) fn cut_at_space(line: &[u8]) -> Option<(&[u8], &[u8])>
+    ensures { MatchOption result (slice_split is_space line.now ≡ line.now ∷ [])
+        (λ parts. slice_split is_space line.now ≡ parts.0.now ∷ slice_split is_space parts.1.now) }
+{
+    match first_space(line) {
+        Some(at) => Some((&line[..at], &line[at + 1..])),
+        None => None,
     }
 }
 

@@ -1,3 +1,4 @@
 //! What no clause says, by texts that were read and written by hand.
 mod reading;
+mod replaying;
 mod writing;

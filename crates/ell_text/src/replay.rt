@@ -1,0 +1,193 @@
+//! The script of a replay text.
+ghost use Rattle.std.specs.Prelude.{◌≡◌, ◌≢◌, ◌<◌, ◌≤◌, All, None, Some, IfErr, IfOk, IsTrue, OnErr, OnOk};
+ghost use Rattle.ell_ops.specs.Meaning.{greatest_key};
+ghost use Rattle.ell_text.specs.Draft.{DraftFits, count_in_draft, draft_value, finished, no_draft, place_in_draft, with_line, with_said};
+ghost use Rattle.ell_text.specs.Lines.{lines};
+ghost use Rattle.ell_text.specs.ReplayLine.{SaidFits, replay_line_at};
+ghost use Rattle.ell_text.specs.Script.{HasSoundEntry, is_kept, replay_fault_of, replay_located, script, script_value};
+
+use crate::lines::lines;
+use crate::replay_line::{Place, ReplayLineFault, Said, read_replay_line};
+use ell_core::Event;
+use std::alloc::Global;
+use thiserror::Error;
+
+/// The most own lines and events that a replay may have together.
+pub const LINES_MAX: usize = 200_000;
+
+/// A replay: how many workers and cards there are, which worker owns which key, and the events in their order.
+#[derive(Debug, Drop)]
+pub struct Script {
+    pub workers: u32,
+    pub cards: u64,
+    pub owned: Vec<(u32, u64)>,
+    pub events: Vec<Event>,
+}
+
+/// Why a replay text was not read. Lines are counted from 1, the skipped ones too. Of several faults in
+/// one line the first of this list counts.
+#[derive(Debug, Clone, Copy, PartialEq, Eq, Error)]
+pub enum ReplayFault {
+    /// The line has no form that may stand at its place.
+    #[error("line {line}: not a replay line")]
+    BadLine { line: usize },
+    /// A number of the line is misspelt, or one that is no key is out of its range.
+    #[error("line {line}: not a number in range")]
+    BadNumber { line: usize },
+    /// The line's key is above `KEY_MAX`.
+    #[error("line {line}: key too large")]
+    KeyTooLarge { line: usize },
+    /// The line comes after `LINES_MAX` own lines and events.
+    #[error("line {line}: more than {max} lines", max = LINES_MAX)]
+    TooManyLines { line: usize },
+    /// No line is bad, and the text ends before its line `cards N`.
+    #[error("replay ends too early")]
+    Ended,
+    /// A growth was refused.
+    #[error("out of memory")]
+    NoMemory,
+}
+
+/// Reads the script of a replay text. A fault is that of the first line that has one. `NoMemory` comes
+/// only at an own line or an event, where no line so far has a fault.
+pub fn read_replay(alloc: Global, bytes: &[u8]) -> Result<Script, ReplayFault>
+    ensures ok { IfOk result (λ s. script bytes.now ≡ Ok (script_value s)) }
+    ensures fault { IfErr result (λ fault. fault ≢ ReplayFault.NoMemory → script bytes.now ≡ Err fault) }
+    ensures no_memory { IfErr result (λ fault. fault ≡ ReplayFault.NoMemory → HasSoundEntry (lines bytes.now)) }
+    ensures some_workers { IfOk result (λ s. 1 ≤ s.workers) }
+    ensures workers { IfOk result (λ s. s.workers ≤ 64) }
+    ensures some_cards { IfOk result (λ s. 1 ≤ s.cards) }
+    ensures cards { IfOk result (λ s. s.cards ≤ 1000000) }
+    ensures keys { IfOk result (λ s. All (λ entry. entry.1 ≤ greatest_key) s.owned.items) }
+    ensures owners { IfOk result (λ s. All (λ entry. entry.0 ≤ 63) s.owned.items) }
+    ensures event_workers { IfOk result (λ s. All (λ event. event.worker ≤ 63) s.events.items) }
+{
+    let mut draft = Draft::new(alloc);
+    for (index, line) in lines(bytes).enumerate() {
+        draft.append_line(line, index + 1)?;
+    }
+    draft.finish()
+}
+
+// The script of the lines so far.
+#[derive(Drop)]
+struct Draft {
+    workers: Option<u32>,
+    cards: Option<u64>,
+    owned: Vec<(u32, u64)>,
+    events: Vec<Event>,
+}
+
+impl Draft {
+    fn new(alloc: Global) -> Draft
+        ensures value { draft_value result ≡ no_draft }
+        ensures fits { DraftFits (draft_value result) }
+    {
+        Draft {
+            workers: None,
+            cards: None,
+            owned: Vec::new(alloc),
+            events: Vec::new(alloc),
+        }
+    }
+
+    // The place of the next line.
+    fn place(&self) -> Place
+        ensures { result ≡ place_in_draft (draft_value self.now) }
+    {
+        if self.workers.is_none() {
+            Place::Workers
+        } else if self.cards.is_none() {
+            Place::Cards
+        } else if self.events.is_empty() {
+            Place::Owns
+        } else {
+            Place::Events
+        }
+    }
+    // Appends what the line of this number says, if it says something.
+    fn append_line(&mut self, line: &[u8], number: usize) -> Result<(), ReplayFault>
+        requires fits { DraftFits (draft_value self.old) }
+        ensures ok { OnOk result (draft_value self.new
+            ≡ with_line (draft_value self.old) (replay_line_at (place_in_draft (draft_value self.old)) line.now)) }
+        ensures sound { OnOk result (replay_fault_of number (count_in_draft (draft_value self.old))
+            (replay_line_at (place_in_draft (draft_value self.old)) line.now) ≡ None) }
+        ensures fault { IfErr result (λ fault. fault ≢ ReplayFault.NoMemory
+            → replay_fault_of number (count_in_draft (draft_value self.old))
+            (replay_line_at (place_in_draft (draft_value self.old)) line.now) ≡ Some fault) }
+        ensures no_memory { IfErr result (λ fault. fault ≡ ReplayFault.NoMemory
+            → IsTrue (is_kept (replay_line_at (place_in_draft (draft_value self.old)) line.now))) }
+        ensures no_memory_sound { IfErr result (λ fault. fault ≡ ReplayFault.NoMemory
+            → replay_fault_of number (count_in_draft (draft_value self.old))
+            (replay_line_at (place_in_draft (draft_value self.old)) line.now) ≡ None) }
+        ensures fits { DraftFits (draft_value self.new) }
+    {
+        match read_replay_line(self.place(), line) {
+            Ok(Some(said)) => self.append(said, number),
+            Ok(None) => Ok(()),
+            Err(fault) => Err(located(fault, number)),
+        }
+    }
+
+    // Appends what the line of this number says.
+    fn append(&mut self, said: Said, number: usize) -> Result<(), ReplayFault>
+        requires fits { DraftFits (draft_value self.old) }
+        requires said_fits { SaidFits said }
+        ensures ok { OnOk result (draft_value self.new ≡ with_said (draft_value self.old) said) }
+        ensures sound { OnOk result (count_in_draft (draft_value self.old) < LINES_MAX) }
+        ensures fault { IfErr result (λ fault. fault ≢ ReplayFault.NoMemory
+            → (fault ≡ ReplayFault.TooManyLines number) × (LINES_MAX ≤ count_in_draft (draft_value self.old))) }
+        ensures no_memory { IfErr result (λ fault. fault ≡ ReplayFault.NoMemory → IsTrue (is_kept (Ok (Some said)))) }
+        ensures no_memory_sound { IfErr result (λ fault. fault ≡ ReplayFault.NoMemory
+            → count_in_draft (draft_value self.old) < LINES_MAX) }
+        ensures fits { DraftFits (draft_value self.new) }
+    {
+        if self.owned.len() + self.events.len() >= LINES_MAX {
+            return Err(ReplayFault::TooManyLines { line: number });
+        }
+        match said {
+            Said::Workers(count) => {
+                self.workers = Some(count);
+                Ok(())
+            }
+            Said::Cards(count) => {
+                self.cards = Some(count);
+                Ok(())
+            }
+            Said::Own(worker, key) => {
+                self.owned
+                    .push((worker, key))
+                    .map_err(|_| ReplayFault::NoMemory)
+            }
+            Said::Event(event) => self.events.push(event).map_err(|_| ReplayFault::NoMemory),
+        }
+    }
+
+    // The script, where the text had both of its heads.
+    fn finish(self) -> Result<Script, ReplayFault>
+        ensures value { IfOk result (λ s. finished (draft_value self) ≡ Some (script_value s)) }
+        ensures fault { IfErr result (λ fault. fault ≡ ReplayFault.Ended) }
+        ensures ended { OnErr result (finished (draft_value self) ≡ None) }
+    {
+        let (Some(workers), Some(cards)) = (self.workers, self.cards) else {
+            return Err(ReplayFault::Ended);
+        };
+        Ok(Script {
+            workers,
+            cards,
+            owned: self.owned,
+            events: self.events,
+        })
+    }
+}
+
+// The fault of a line, with the line's number.
+fn located(fault: ReplayLineFault, line: usize) -> ReplayFault
+    ensures { result ≡ replay_located line fault }
+{
+    match fault {
+        ReplayLineFault::BadLine => ReplayFault::BadLine { line },
+        ReplayLineFault::BadNumber => ReplayFault::BadNumber { line },
+        ReplayLineFault::KeyTooLarge => ReplayFault::KeyTooLarge { line },
+    }
+}
