@@ -12,8 +12,10 @@ reply_line false = codes "no\n"
 abbrev pub number_line : ℕ → List ℕ
 number_line n = decimal n ++ codes "\n"
 
--- a line for each reply, a line with the number of the keys, and a line for each key
+-- a line with the number of the keys, and a line for each key
+abbrev pub keys_lines : List ℕ → List ℕ
+keys_lines keys = codes "keys " ++ number_line (length keys) ++ flat_map number_line keys
+
+-- a line for each reply, and the lines of the keys
 abbrev pub answer : List Bool → List ℕ → List ℕ
-answer replies keys =
-    flat_map reply_line replies ++ codes "keys " ++ number_line (length keys)
-    ++ flat_map number_line keys
+answer replies keys = flat_map reply_line replies ++ keys_lines keys

@@ -10,3 +10,4 @@ pub mod Pieces
 pub mod ReplayLine
 pub mod Script
 pub mod Sending
+pub mod Trace

@@ -2,7 +2,7 @@
 ghost use Rattle.std.specs.Prelude.{◌≡◌, ◌<◌, length, take, IfErr, OnOk};
 ghost use Rattle.std.specs.List.{flat_map};
 ghost use Rattle.std.specs.Io.KnownBytes.{Appends};
-ghost use Rattle.ell_text.specs.Answer.{reply_line, number_line, answer};
+ghost use Rattle.ell_text.specs.Answer.{reply_line, number_line, keys_lines, answer};
 ghost use Rattle.ell_text.specs.Output.{Puts, Faults};
 
 use crate::output::{Output, WriteFault};
@@ -44,9 +44,7 @@ fn put_answer<W: Write>(
         (answer replies.now keys.now)) }
 {
     put_replies(output, out, replies)?;
-    output.put(out, b"keys ")?;
-    put_number_line(output, out, keys.len() as u64)?;
-    put_number_lines(output, out, keys)
+    put_keys(output, out, keys)
 }
 
 fn put_replies<W: Write>(
@@ -65,10 +63,27 @@ fn put_replies<W: Write>(
     Ok(())
 }
 
-fn line_of(reply: bool) -> &'static [u8]
+/// The line of a reply.
+pub(crate) fn line_of(reply: bool) -> &'static [u8]
     ensures { result.now ≡ reply_line reply }
 {
     if reply { b"yes\n" } else { b"no\n" }
+}
+
+/// Puts a line `keys N` with the number of the keys, and then a line for each key, in order.
+pub(crate) fn put_keys<W: Write>(
+    output: &mut Output,
+    out: &mut W,
+    keys: &[u64],
+) -> Result<(), WriteFault>
+    ensures ok { OnOk result (Puts (W.contents out.old) (W.contents out.new) output.old output.new
+        (keys_lines keys.now)) }
+    ensures fault { IfErr result (Faults (W.contents out.old) (W.contents out.new) output.old
+        (keys_lines keys.now)) }
+{
+    output.put(out, b"keys ")?;
+    put_number_line(output, out, keys.len() as u64)?;
+    put_number_lines(output, out, keys)
 }
 
 fn put_number_lines<W: Write>(

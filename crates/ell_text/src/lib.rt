@@ -18,9 +18,11 @@ mod replay;
 mod replay_line;
 #[cfg(test)]
 mod tests;
+mod trace;
 
 pub use answer::write_answer;
 pub use bulk::{OPERATIONS_MAX, TextFault, read_bulk};
 pub use input::{INPUT_MAX, InputFault, read_all};
 pub use output::WriteFault;
 pub use replay::{LINES_MAX, ReplayFault, Script, read_replay};
+pub use trace::write_trace;

@@ -1,4 +1,5 @@
 //! What no clause says, by texts that were read and written by hand.
 mod reading;
 mod replaying;
+mod tracing;
 mod writing;

@@ -1,0 +1,92 @@
+//! The text of a replay.
+ghost use Rattle.std.specs.Prelude.{◌≡◌, ◌<◌, length, take, IfErr, OnOk};
+ghost use Rattle.std.specs.List.{flat_map};
+ghost use Rattle.std.specs.Io.KnownBytes.{Appends};
+ghost use Rattle.ell_text.specs.Trace.{shown_line, refusal_line, trace};
+ghost use Rattle.ell_text.specs.Output.{Puts, Faults};
+
+use crate::answer::{line_of, put_keys};
+use crate::output::{Output, WriteFault};
+use ell_core::{CoreFault, Shown, Stepped};
+use std::io::Write;
+
+/// Writes the trace: a line for what is shown of each event, in order, then a line `keys N` with the
+/// number of the keys, and then a line for each key, in order.
+///
+/// The line of an event is `moved`, `won` or `lost`, for an answer `yes` or `no`, and for a refusal
+/// `refused` and the fault's name. Each line ends with a line feed, and numbers are in decimal digits
+/// without leading zeros. Nothing is allocated, and the writer is called for many lines at a time.
+///
+/// `Err` at the first failure of the writer. It also comes where the count of the bytes could pass
+/// `u64::MAX`, before a byte goes out that is not counted.
+pub fn write_trace<W: Write>(out: &mut W, shown: &[Shown], keys: &[u64]) -> Result<(), WriteFault>
+    // The whole text is out, behind what was there.
+    ensures ok { OnOk result
+        (Appends (W.contents out.old) (W.contents out.new) (trace shown.now keys.now)) }
+    // Exactly the first `written` bytes are out.
+    ensures fault { IfErr result (λ fault. Appends (W.contents out.old) (W.contents out.new)
+        (take fault.written (trace shown.now keys.now))) }
+    // Some of the text is missing.
+    ensures missing { IfErr result (λ fault.
+        fault.written < length (trace shown.now keys.now)) }
+{
+    let mut output = Output::new();
+    put_trace(&mut output, out, shown, keys)?;
+    output.flush(out)
+}
+
+fn put_trace<W: Write>(
+    output: &mut Output,
+    out: &mut W,
+    shown: &[Shown],
+    keys: &[u64],
+) -> Result<(), WriteFault>
+    ensures ok { OnOk result (Puts (W.contents out.old) (W.contents out.new) output.old output.new
+        (trace shown.now keys.now)) }
+    ensures fault { IfErr result (Faults (W.contents out.old) (W.contents out.new) output.old
+        (trace shown.now keys.now)) }
+{
+    put_all_shown(output, out, shown)?;
+    put_keys(output, out, keys)
+}
+
+fn put_all_shown<W: Write>(
+    output: &mut Output,
+    out: &mut W,
+    shown: &[Shown],
+) -> Result<(), WriteFault>
+    ensures ok { OnOk result (Puts (W.contents out.old) (W.contents out.new) output.old output.new
+        (flat_map shown_line shown.now)) }
+    ensures fault { IfErr result (Faults (W.contents out.old) (W.contents out.new) output.old
+        (flat_map shown_line shown.now)) }
+{
+    for event in shown {
+        output.put(out, shown_line(*event))?;
+    }
+    Ok(())
+}
+
+fn shown_line(event: Shown) -> &'static [u8]
+    ensures { result.now ≡ shown_line event }
+{
+    match event {
+        Shown::Step(Stepped::Moved) => b"moved\n",
+        Shown::Step(Stepped::Won) => b"won\n",
+        Shown::Step(Stepped::Lost) => b"lost\n",
+        Shown::Step(Stepped::Answered(reply)) => line_of(reply),
+        Shown::Refused(fault) => refusal_line(fault),
+    }
+}
+
+fn refusal_line(fault: CoreFault) -> &'static [u8]
+    ensures { result.now ≡ refusal_line fault }
+{
+    match fault {
+        CoreFault::NoSuchWorker => b"refused NoSuchWorker\n",
+        CoreFault::NotOwned => b"refused NotOwned\n",
+        CoreFault::NotNow => b"refused NotNow\n",
+        CoreFault::NoCards => b"refused NoCards\n",
+        CoreFault::OwnedTwice => b"refused OwnedTwice\n",
+        CoreFault::NoMemory => b"refused NoMemory\n",
+    }
+}
