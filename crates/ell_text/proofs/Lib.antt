@@ -7,4 +7,5 @@ pub mod OutputLemmas
 pub mod PiecesLemmas
 pub mod ReplayLemmas
 pub mod SaidLemmas
+pub mod ReplayedLemmas
 pub mod SendingLemmas

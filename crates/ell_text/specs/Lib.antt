@@ -8,6 +8,8 @@ pub mod Number
 pub mod Output
 pub mod Pieces
 pub mod ReplayLine
+pub mod Replayed
 pub mod Script
+pub mod ScriptFault
 pub mod Sending
 pub mod Trace

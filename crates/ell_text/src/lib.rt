@@ -9,6 +9,7 @@
 
 mod answer;
 mod bulk;
+mod bytes;
 mod input;
 mod line;
 mod lines;
@@ -22,6 +23,7 @@ mod trace;
 
 pub use answer::write_answer;
 pub use bulk::{OPERATIONS_MAX, TextFault, read_bulk};
+pub use bytes::{ScriptFault, replay_bytes};
 pub use input::{INPUT_MAX, InputFault, read_all};
 pub use output::WriteFault;
 pub use replay::{LINES_MAX, ReplayFault, Script, read_replay};
