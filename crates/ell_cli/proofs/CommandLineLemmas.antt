@@ -1,5 +1,5 @@
 -- What the words of the command line come to.
-use Rattle.std.proofs.Common.{◌≡◌, ◌∙◌, ◌&&◌, ◌||◌, ◌⊎◌, ℕ, Bool, List, Option, Some, None, Result, Ok, Err, IfErr, IsErrAnd, inl, inr, [], ◌∷◌, refl, sym, subst, ap, ap₂, true, false, not, is_some, codes, cond}
+use Rattle.std.proofs.Common.{◌≡◌, ◌∙◌, ◌++◌, ◌&&◌, ◌||◌, ◌⊎◌, ℕ, Bool, List, Option, Some, None, Result, Ok, Err, IfErr, IsErrAnd, inl, inr, [], ◌∷◌, refl, sym, subst, ap, ap₂, true, false, not, is_some, codes, cond}
 use Rattle.std.specs.Prelude.{unwrap_or, IfSome, IsTrue, if◌then◌else◌, fold, option_map}
 use Rattle.std.specs.List.{list_all, list_any}
 use Rattle.std.specs.Str.{bytes_eq}
@@ -24,7 +24,7 @@ use Rattle.clap.specs.declared.parser.matches.ArgMatches.TheViews.{out-ArgMatche
 use Rattle.ell_run.specs.declared.settings.Parting.{Parting}
 use Rattle.ell_run.specs.declared.settings.Parting.TheVariants.{Range, Stripe}
 use Rattle.ell_cli.specs.declared.request.Request.{Request}
-use Rattle.ell_cli.specs.declared.request.Request.TheVariants.{Run}
+use Rattle.ell_cli.specs.declared.request.Request.TheVariants.{Replay, Run}
 use Rattle.clap.specs.declared.error.Error.{Error}
 use Rattle.clap.specs.declared.error.kind.ErrorKind.{ErrorKind}
 use Rattle.clap.specs.declared.error.kind.ErrorKind.TheVariants.{DisplayHelp, InvalidValue, MissingSubcommand, OutOfMemory}
@@ -34,7 +34,7 @@ use Rattle.clap.specs.ValueTests.{accepts}
 use Rattle.clap.specs.Values.{read_as, reading_of}
 use Rattle.clap.specs.Facts.{parser_of_value}
 use Rattle.ell_cli.proofs.PlaceLemmas.{AreAlike, level_alike, rows_after_moved}
-use Rattle.ell_cli.specs.CommandLine.{AreOptions, AreRefused, AreTaken, AsksForHelp, AsksToRun, BorrowedNames, IsElltree, IsMistakeOrMemory, IsNumberUpTo, IsPlainRun, IsRequestOf, NamesPartings, app_at, cards_rule, elltree_app, faults_of, is_mistake, name_of, number_of, options_of, parting_names, parting_rule, partings, report_rule, rows_in, run_shape, tries_rule, up_to, workers_rule}
+use Rattle.ell_cli.specs.CommandLine.{AreOptions, AreRefused, AreTaken, AreTakenToRun, AsksForHelp, AsksForHelpAfter, AsksToReplay, AsksToRun, BorrowedNames, IsElltree, IsMistakeOrMemory, IsNumberUpTo, IsPlainRun, IsRequestOf, NamesPartings, app_at, cards_rule, elltree_app, faults_of, is_mistake, name_in, name_of, number_of, options_of, parting_names, parting_rule, partings, replay_shape, report_rule, rows_in, run_shape, subcommand_for, subcommand_in, tries_rule, up_to, workers_rule}
 
 -- ---- words that are written out
 
@@ -52,6 +52,18 @@ run_is_taken : faults_of (codes "run" ∷ []) ≡ []
 unfolding clap_on_literals app_at
 run_is_taken = refl
 
+replay_is_taken : faults_of (codes "replay" ∷ []) ≡ []
+unfolding clap_on_literals app_at
+replay_is_taken = refl
+
+run_is_named : subcommand_in (codes "run" ∷ []) ≡ Some (codes "run")
+unfolding clap_on_literals app_at
+run_is_named = refl
+
+replay_is_named : subcommand_in (codes "replay" ∷ []) ≡ Some (codes "replay")
+unfolding clap_on_literals app_at
+replay_is_named = refl
+
 help_is_shown : faults_of (codes "--help" ∷ []) ≡ DisplayHelp ∷ []
 unfolding clap_on_literals app_at
 help_is_shown = refl
@@ -67,6 +79,14 @@ run_help_is_shown = refl
 run_short_help_is_shown : faults_of (codes "run" ∷ codes "-h" ∷ []) ≡ DisplayHelp ∷ []
 unfolding clap_on_literals app_at
 run_short_help_is_shown = refl
+
+replay_help_is_shown : faults_of (codes "replay" ∷ codes "--help" ∷ []) ≡ DisplayHelp ∷ []
+unfolding clap_on_literals app_at
+replay_help_is_shown = refl
+
+replay_short_help_is_shown : faults_of (codes "replay" ∷ codes "-h" ∷ []) ≡ DisplayHelp ∷ []
+unfolding clap_on_literals app_at
+replay_short_help_is_shown = refl
 
 nothing_is_refused : faults_of [] ≡ MissingSubcommand ∷ []
 unfolding clap_on_literals app_at
@@ -193,34 +213,36 @@ was_met s rows false required none =
     (not (s.subcommand_negates_reqs && false) && list_any (λ a. a.required && not (is_given a.id rows)) s.rules) none in
     absurd (cc)
 
--- the subcommand that is found, by the tests of `run` and of `help`
-abbrev found_of_two : Bool → Bool → Shape → Shape → Option Shape
-found_of_two first second run help = cond first (Some run) (cond second (Some help) None)
+-- the subcommand that is found, by the tests of `run`, of `replay` and of `help`
+abbrev found_of_three : Bool → Bool → Bool → Shape → Shape → Shape → Option Shape
+found_of_three first second third run replay help = cond first (Some run) (cond second (Some replay) (cond third (Some help) None))
 
--- of two subcommands one was met, and not the second
-first_is_met : (rows : Shape → Text × List Row) (run help : Shape) (first second : Bool) → second ≡ false → is_some (option_map rows (found_of_two first second run help)) ≡ true
-    → option_map (λ p. p.0) (option_map rows (found_of_two first second run help)) ≡ Some (rows run).0
-first_is_met rows run help true second other met = refl
-first_is_met rows run help false true other met = absurd (cc)
-first_is_met rows run help false false other met = absurd (cc)
+-- of three subcommands one was met, and not the third
+one_is_met : (rows : Shape → Text × List Row) (run replay help : Shape) (first second third : Bool) → third ≡ false → is_some (option_map rows (found_of_three first second third run replay help)) ≡ true
+    → (name_in (option_map rows (found_of_three first second third run replay help)) ≡ Some (rows run).0) ⊎ (name_in (option_map rows (found_of_three first second third run replay help)) ≡ Some (rows replay).0)
+one_is_met rows run replay help true second third other met = inl refl
+one_is_met rows run replay help false true third other met = inr refl
+one_is_met rows run replay help false false true other met = absurd (cc)
+one_is_met rows run replay help false false false other met = absurd (cc)
 
--- a walk that stops, and not at `help`, stops at `run`
-stop_is_run : (stop : Option (Text × List Text)) → IsNoHelp stop → is_some (entered (built elltree_app) stop) ≡ true → option_map (λ p. p.0) (entered (built elltree_app) stop) ≡ Some (codes "run")
+-- a walk that stops, and not at `help`, stops at `run` or at `replay`
+stop_is_named : (stop : Option (Text × List Text)) → IsNoHelp stop → is_some (entered (built elltree_app) stop) ≡ true
+    → (name_in (entered (built elltree_app) stop) ≡ Some (codes "run")) ⊎ (name_in (entered (built elltree_app) stop) ≡ Some (codes "replay"))
 unfolding app_at
-stop_is_run None other met = absurd (cc)
-stop_is_run (Some p) other met =
-    first_is_met (λ s. rows_at s p.1) _ _ (bytes_eq (codes "run") p.0 || false) (bytes_eq (codes "help") p.0 || false) (ap (λ b. b || false) (no_help_named p.0 other)) met
+stop_is_named None other met = absurd (cc)
+stop_is_named (Some p) other met =
+    one_is_met (λ s. rows_at s p.1) _ _ _ (bytes_eq (codes "run") p.0 || false) (bytes_eq (codes "replay") p.0 || false) (bytes_eq (codes "help") p.0 || false) (ap (λ b. b || false) (no_help_named p.0 other)) met
 
--- words without a fault name the subcommand `run`
-run_is_met : (words : List Text) → faults_of words ≡ [] → option_map (λ p. p.0) (subcommand_of elltree_app words) ≡ Some (codes "run")
+-- words without a fault name the subcommand `run` or `replay`
+one_is_named : (words : List Text) → faults_of words ≡ [] → (subcommand_in words ≡ Some (codes "run")) ⊎ (subcommand_in words ≡ Some (codes "replay"))
 unfolding app_at
-run_is_met words none =
+one_is_named words none =
     let app = built elltree_app in
     let stop = (walk app.top.rules (names_of app) nothing_held words).stopped in
     let has = is_some (entered app stop) in
     let parts = level_parts app.top (names_of app) nothing_held words has (entered_fault app stop) none in
     let met = was_met app.top (finished app.top.rules (walk app.top.rules (names_of app) nothing_held words).held) has refl parts.1 in
-    stop_is_run stop (walk_goes_on app.top (names_of app) (walk_from nothing_held) words refl tt parts.0) met
+    stop_is_named stop (walk_goes_on app.top (names_of app) (walk_from nothing_held) words refl tt parts.0) met
 
 -- ---- the names of the partings, at another place
 
@@ -228,6 +250,10 @@ run_is_met words none =
 abbrev built_run : BorrowedNames → Shape
 unfolding app_at
 built_run names = built_leaf (inherited (marked_built (app_at names).top) (run_shape names))
+
+abbrev built_replay : Shape
+unfolding app_at
+built_replay = built_leaf (inherited (marked_built (app_at partings).top) replay_shape)
 
 abbrev built_help : Shape
 built_help = built_leaf help_shape
@@ -250,26 +276,29 @@ run_rows_alike : (names : BorrowedNames) (words : List Text) → rows_at (built_
 unfolding app_at
 run_rows_alike names words = ap (λ rows. (codes "run", rows)) (rows_after_moved names (built_run partings).rules [] words)
 
--- what is found of two subcommands, where the first is another
-found_alike : {X : Type 0} (f : Shape → X) (run other help : Shape) (first second : Bool) → f run ≡ f other → option_map f (found_of_two first second run help) ≡ option_map f (found_of_two first second other help)
-found_alike f run other help true second same = ap Some same
-found_alike f run other help false second same = refl
+-- what is found of three subcommands, where the first is another
+found_alike : {X : Type 0} (f : Shape → X) (run other replay help : Shape) (first second third : Bool) → f run ≡ f other
+    → option_map f (found_of_three first second third run replay help) ≡ option_map f (found_of_three first second third other replay help)
+found_alike f run other replay help true second third same = ap Some same
+found_alike f run other replay help false second third same = refl
 
-faults_alike : (f : Shape → Kinds) (run other help : Shape) (first second : Bool) → f run ≡ f other → option_map_or f (found_of_two first second run help) [] ≡ option_map_or f (found_of_two first second other help) []
-faults_alike f run other help true second same = same
-faults_alike f run other help false second same = refl
+faults_alike : (f : Shape → Kinds) (run other replay help : Shape) (first second third : Bool) → f run ≡ f other
+    → option_map_or f (found_of_three first second third run replay help) [] ≡ option_map_or f (found_of_three first second third other replay help) []
+faults_alike f run other replay help true second third same = same
+faults_alike f run other replay help false second third same = refl
 
 entered_alike : (names : BorrowedNames) (stop : Option (Text × List Text)) → entered (built (app_at names)) stop ≡ entered (built (app_at partings)) stop
 unfolding app_at
 entered_alike names None = refl
 entered_alike names (Some p) =
-    found_alike (λ s. rows_at s p.1) (built_run names) (built_run partings) built_help (bytes_eq (codes "run") p.0 || false) (bytes_eq (codes "help") p.0 || false) (run_rows_alike names p.1)
+    found_alike (λ s. rows_at s p.1) (built_run names) (built_run partings) built_replay built_help (bytes_eq (codes "run") p.0 || false) (bytes_eq (codes "replay") p.0 || false) (bytes_eq (codes "help") p.0 || false) (run_rows_alike names p.1)
 
 entered_fault_alike : (names : BorrowedNames) → NamesPartings names → (stop : Option (Text × List Text)) → entered_fault (built (app_at names)) stop ≡ entered_fault (built (app_at partings)) stop
 unfolding app_at
 entered_fault_alike names are None = refl
 entered_fault_alike names are (Some p) =
-    faults_alike (λ s. level_fault s [] nothing_held p.1 false []) (built_run names) (built_run partings) built_help (bytes_eq (codes "run") p.0 || false) (bytes_eq (codes "help") p.0 || false) (run_alike names are p.1)
+    faults_alike (λ s. level_fault s [] nothing_held p.1 false []) (built_run names) (built_run partings) built_replay built_help (bytes_eq (codes "run") p.0 || false) (bytes_eq (codes "replay") p.0 || false) (bytes_eq (codes "help") p.0 || false)
+    (run_alike names are p.1)
 
 -- wherever the names of the partings lie, the words come to the same errors
 same_faults : (names : BorrowedNames) → NamesPartings names → (words : List Text) → fault_of (app_at names) words ≡ fault_of (app_at partings) words
@@ -412,31 +441,32 @@ run_options words none = record {
   report = report_taken words none;
 }
 
--- of two subcommands the first was met, and has no fault
-first_options : (rows : Shape → Text × List Row) (faults : Shape → Kinds) (run help : Shape) (first second : Bool) → second ≡ false → is_some (option_map rows (found_of_two first second run help)) ≡ true
-    → option_map_or faults (found_of_two first second run help) [] ≡ [] → (faults run ≡ [] → AreOptions (rows run).1) → AreOptions (rows_in (option_map rows (found_of_two first second run help)))
-first_options rows faults run help true second other met none options = options none
-first_options rows faults run help false true other met none options = absurd (cc)
-first_options rows faults run help false false other met none options = absurd (cc)
+-- of three subcommands that of `run` was met, and has no fault
+run_options_met : (rows : Shape → Text × List Row) (faults : Shape → Kinds) (run replay help : Shape) (first second third : Bool) → (Some (rows replay).0 ≡ Some (codes "run") → ⊥) → (Some (rows help).0 ≡ Some (codes "run") → ⊥)
+    → name_in (option_map rows (found_of_three first second third run replay help)) ≡ Some (codes "run") → option_map_or faults (found_of_three first second third run replay help) [] ≡ []
+    → (faults run ≡ [] → AreOptions (rows run).1) → AreOptions (rows_in (option_map rows (found_of_three first second third run replay help)))
+run_options_met rows faults run replay help true second third others help_other named none options = options none
+run_options_met rows faults run replay help false true third other help_other named none options = absurd (other named)
+run_options_met rows faults run replay help false false true other help_other named none options = absurd (help_other named)
+run_options_met rows faults run replay help false false false other help_other named none options = absurd (cc)
 
-stop_has_options : (stop : Option (Text × List Text)) → IsNoHelp stop → is_some (entered (built (app_at partings)) stop) ≡ true → entered_fault (built (app_at partings)) stop ≡ []
+stop_has_options : (stop : Option (Text × List Text)) → name_in (entered (built (app_at partings)) stop) ≡ Some (codes "run") → entered_fault (built (app_at partings)) stop ≡ []
     → AreOptions (rows_in (entered (built (app_at partings)) stop))
 unfolding app_at
-stop_has_options None other met none = absurd (cc)
-stop_has_options (Some p) other met none =
-    first_options (λ s. rows_at s p.1) (λ s. level_fault s [] nothing_held p.1 false []) (built_run partings) built_help (bytes_eq (codes "run") p.0 || false) (bytes_eq (codes "help") p.0 || false)
-    (ap (λ b. b || false) (no_help_named p.0 other)) met none (run_options p.1)
+stop_has_options None named none = absurd (cc)
+stop_has_options (Some p) named none =
+    run_options_met (λ s. rows_at s p.1) (λ s. level_fault s [] nothing_held p.1 false []) (built_run partings) built_replay built_help
+    (bytes_eq (codes "run") p.0 || false) (bytes_eq (codes "replay") p.0 || false) (bytes_eq (codes "help") p.0 || false) (λ is. absurd (cc)) (λ is. absurd (cc)) named none (run_options p.1)
 
--- the options of words without a fault were taken
-options_taken : (words : List Text) → faults_of words ≡ [] → AreOptions (options_of words)
+-- the options of words that name `run`, without a fault, were taken
+options_taken : (words : List Text) → AreTakenToRun words → AreOptions (options_of words)
 unfolding app_at
-options_taken words none =
+options_taken words (none, named) =
     let app = built elltree_app in
     let stop = (walk app.top.rules (names_of app) nothing_held words).stopped in
     let has = is_some (entered app stop) in
     let parts = level_parts app.top (names_of app) nothing_held words has (entered_fault app stop) none in
-    let met = was_met app.top (finished app.top.rules (walk app.top.rules (names_of app) nothing_held words).held) has refl parts.1 in
-    stop_has_options stop (walk_goes_on app.top (names_of app) (walk_from nothing_held) words refl tt parts.0) met parts.2
+    stop_has_options stop named parts.2
 
 -- ---- what a parse answers
 
@@ -461,18 +491,20 @@ taken_fails words (Err e) fails is = elim (subst (λ ks. HasKind ks e) is fails)
 pub run_taken : (words : List Text) → AsksToRun words → AreTaken words
 run_taken words is = ap faults_of is ∙ run_is_taken
 
--- the four requests for help come to help
+-- the one word `replay` is taken
+pub replay_taken : (words : List Text) → AsksToReplay words → AreTaken words
+replay_taken words is = ap faults_of is ∙ replay_is_taken
+
+-- a request for help, by one of two words, comes to help
+help_is_asked_after : (before words : List Text) → AsksForHelpAfter before words → faults_of (before ++ codes "--help" ∷ []) ≡ DisplayHelp ∷ [] → faults_of (before ++ codes "-h" ∷ []) ≡ DisplayHelp ∷ [] → faults_of words ≡ DisplayHelp ∷ []
+help_is_asked_after before words (inl is) long short = ap faults_of is ∙ long
+help_is_asked_after before words (inr is) long short = ap faults_of is ∙ short
+
+-- the six requests for help come to help
 help_is_asked : (words : List Text) → AsksForHelp words → faults_of words ≡ DisplayHelp ∷ []
-help_is_asked words asks = elim asks [
-  | inl is ↦ ap faults_of is ∙ help_is_shown
-  | inr others ↦ elim others [
-    | inl is ↦ ap faults_of is ∙ short_help_is_shown
-    | inr after_run ↦ elim after_run [
-      | inl is ↦ ap faults_of is ∙ run_help_is_shown
-      | inr is ↦ ap faults_of is ∙ run_short_help_is_shown
-    ]
-  ]
-]
+help_is_asked words (inl alone) = help_is_asked_after [] words alone help_is_shown short_help_is_shown
+help_is_asked words (inr (inl after_run)) = help_is_asked_after (codes "run" ∷ []) words after_run run_help_is_shown run_short_help_is_shown
+help_is_asked words (inr (inr after_replay)) = help_is_asked_after (codes "replay" ∷ []) words after_replay replay_help_is_shown replay_short_help_is_shown
 
 -- a parse of a request for help answers with help, or fails for want of memory
 pub help_fails : {T : Type 0} (words : List Text) (r : Result T Error) → FailsBy (faults_of words) r → AsksForHelp words → IsErrAnd r (HasKind (DisplayHelp ∷ []))
@@ -496,19 +528,24 @@ rows_met : (a : App) (words : List Text) (m : ArgMatches) → IsElltree a → Ha
 rows_met a words m is has =
     (has (ap is_simple is.2 ∙ app_is_ready is.0)).1 ∙ (ap (λ (b : App). subcommand_of b words) is.2 ∙ same_rows is.0 words)
 
--- the matches of words without a fault have the subcommand `run`
-pub name_met : (a : App) (words : List Text) (m : ArgMatches) → IsElltree a → faults_of words ≡ [] → HasMatchesOf a words m → subcommand_name_of m ≡ Some (codes "run")
-name_met a words m is none has =
-    let rows = rows_met a words m is has in
-    sym (first_of_both _ _ (out-ArgMatches m).subcommand) ∙ (ap (option_map (λ (p : Text × List Row). p.0)) rows ∙ run_is_met words none)
+-- the matches of the words name the subcommand that the words name
+pub name_is : (a : App) (words : List Text) (m : ArgMatches) → IsElltree a → HasMatchesOf a words m → subcommand_name_of m ≡ subcommand_in words
+name_is a words m is has = sym (first_of_both _ _ (out-ArgMatches m).subcommand) ∙ ap name_in (rows_met a words m is has)
+
+-- the matches of words without a fault have the subcommand `run` or `replay`
+pub name_met : (a : App) (words : List Text) (m : ArgMatches) → IsElltree a → faults_of words ≡ [] → HasMatchesOf a words m → (subcommand_name_of m ≡ Some (codes "run")) ⊎ (subcommand_name_of m ≡ Some (codes "replay"))
+name_met a words m is none has = elim (one_is_named words none) [
+  | inl run ↦ inl (name_is a words m is has ∙ run)
+  | inr replay ↦ inr (name_is a words m is has ∙ replay)
+]
 
 -- the options of the words are those of their matches
 pub options_are : (a : App) (words : List Text) (m : ArgMatches) → IsElltree a → HasMatchesOf a words m → rows_in (subcommand_rows_of m) ≡ options_of words
 options_are a words m is has = ap rows_in (rows_met a words m is has)
 
--- the options of words without a fault were taken
-pub options_met : (a : App) (words : List Text) (m : ArgMatches) → IsElltree a → faults_of words ≡ [] → HasMatchesOf a words m → AreOptions (rows_in (subcommand_rows_of m))
-options_met a words m is none has = subst AreOptions (sym (options_are a words m is has)) (options_taken words none)
+-- the options of words without a fault were taken, where their matches have the subcommand `run`
+pub options_met : (a : App) (words : List Text) (m : ArgMatches) → IsElltree a → faults_of words ≡ [] → HasMatchesOf a words m → subcommand_name_of m ≡ Some (codes "run") → AreOptions (rows_in (subcommand_rows_of m))
+options_met a words m is none has named = subst AreOptions (sym (options_are a words m is has)) (options_taken words (none, sym (name_is a words m is has) ∙ named))
 
 -- two tests that hold together
 both_true : (a b : Bool) → IsTrue (a && b) → IsTrue a × IsTrue b
@@ -567,8 +604,11 @@ unset true o off wants =
     absurd (cc)
 
 -- the one word `run` asks for the default settings, and no report
-pub plain_run : (words : List Text) (request : Request) → AsksToRun words → IsRequestOf (options_of words) request → IsPlainRun request
-plain_run words (Run settings report) is request =
+pub plain_run : (words : List Text) (request : Request) → AsksToRun words → subcommand_in words ≡ Some (subcommand_for request) → IsRequestOf (options_of words) request → IsPlainRun request
+plain_run words Replay is named request =
+    let bad : Some (codes "run") ≡ Some (codes "replay") = sym run_is_named ∙ (ap subcommand_in (sym is) ∙ named) in
+    absurd (cc)
+plain_run words (Run settings report) is named request =
     let (ranges, said, wants) = subst (λ (ws : List Text). IsRequestOf (options_of ws) (Run settings report)) is request in (
       same_number _ _ _ said.workers plain_workers,
       stripe_named settings.parting (sym plain_parting ∙ said.parting),
@@ -576,3 +616,10 @@ plain_run words (Run settings report) is request =
       same_number _ _ _ said.tries plain_tries,
       unset report _ plain_report wants.0,
     )
+
+-- the one word `replay` asks for a replay
+pub plain_replay : (words : List Text) (request : Request) → AsksToReplay words → subcommand_in words ≡ Some (subcommand_for request) → request ≡ Replay
+plain_replay words Replay is named = refl
+plain_replay words (Run settings report) is named =
+    let bad : Some (codes "replay") ≡ Some (codes "run") = sym replay_is_named ∙ (ap subcommand_in (sym is) ∙ named) in
+    absurd (cc)

@@ -1,6 +1,6 @@
 -- What the words of the command line come to.
 use Rattle.std.specs.Prelude.{◌≡◌, ◌≢◌, ◌⊎◌, ℕ, Bool, IsTrue, true, false, List, [], ◌∷◌, codes}
-use Rattle.std.specs.Prelude.{◌↔◌, Option, None, Some, map, option_map, pos}
+use Rattle.std.specs.Prelude.{◌↔◌, ◌++◌, Option, None, Some, map, option_map, pos, ⊤}
 use Rattle.std.specs.Str.Parse.{digits_value, without_leading_plus}
 use Rattle.std.specs.List.{list_all}
 use Rattle.std.specs.Borrow.{Bor}
@@ -17,11 +17,12 @@ use Rattle.ell_run.specs.declared.settings.Settings.{Settings}
 use Rattle.ell_run.specs.declared.settings.Parting.{Parting}
 use Rattle.ell_run.specs.declared.settings.Parting.TheVariants.{Range, Stripe}
 use Rattle.ell_cli.specs.declared.request.Request.{Request}
-use Rattle.ell_cli.specs.declared.request.Request.TheVariants.{Run}
+use Rattle.ell_cli.specs.declared.request.Request.TheVariants.{Replay, Run}
 
 -- the subcommand that stands for a request
 abbrev pub subcommand_for : Request → Text
 subcommand_for (Run settings report) = codes "run"
+subcommand_for Replay = codes "replay"
 
 -- a list of names, as the parser borrows it
 abbrev pub BorrowedNames : Type 0
@@ -88,13 +89,17 @@ run_rules names = workers_rule ∷ parting_rule names ∷ cards_rule ∷ tries_r
 abbrev pub run_shape : BorrowedNames → Shape
 run_shape names = record (new_shape (codes "run")) { rules = run_rules names }
 
+-- what a parse reads of the subcommand `replay`, which has no options
+abbrev pub replay_shape : Shape
+replay_shape = new_shape (codes "replay")
+
 -- what a parse reads of the command `elltree`, whose words have to name a subcommand, where the names
 -- of the partings lie here
 unfoldable pub app_at : BorrowedNames → App
-app_at names = with_subcommand (on_top (λ s. record s {
+app_at names = with_subcommand (with_subcommand (on_top (λ s. record s {
   no_binary_name = true;
   subcommand_required = true;
-}) (new_app (codes "elltree"))) (run_shape names)
+}) (new_app (codes "elltree"))) (run_shape names)) replay_shape
 
 -- what a parse reads of the command `elltree`: it finds the same wherever those names lie
 abbrev pub elltree_app : App
@@ -112,14 +117,39 @@ faults_of = fault_of elltree_app
 abbrev pub AreTaken : List Text → Type 0
 AreTaken words = faults_of words ≡ []
 
+-- the name of a subcommand that was met
+abbrev pub name_in : Option (Text × List Row) → Option Text
+name_in = option_map (λ entered. entered.0)
+
+-- the subcommand that the words name
+abbrev pub subcommand_in : List Text → Option Text
+subcommand_in words = name_in (subcommand_of elltree_app words)
+
+-- the words are taken, and name the subcommand `run`
+abbrev pub AreTakenToRun : List Text → Type 0
+AreTakenToRun words = AreTaken words × (subcommand_in words ≡ Some (codes "run"))
+
+-- the words are taken, and name the subcommand `replay`
+abbrev pub AreTakenToReplay : List Text → Type 0
+AreTakenToReplay words = AreTaken words × (subcommand_in words ≡ Some (codes "replay"))
+
 -- the words are the one word `run`
 abbrev pub AsksToRun : List Text → Type 0
 AsksToRun words = words ≡ codes "run" ∷ []
 
--- the words are `--help` or `-h`, alone or after `run`
+-- the words are the one word `replay`
+abbrev pub AsksToReplay : List Text → Type 0
+AsksToReplay words = words ≡ codes "replay" ∷ []
+
+-- the words are `--help` or `-h`, after this
+abbrev pub AsksForHelpAfter : List Text → List Text → Type 0
+AsksForHelpAfter before words =
+    (words ≡ before ++ codes "--help" ∷ []) ⊎ (words ≡ before ++ codes "-h" ∷ [])
+
+-- the words are `--help` or `-h`, alone or after `run` or `replay`
 abbrev pub AsksForHelp : List Text → Type 0
-AsksForHelp words = (words ≡ codes "--help" ∷ []) ⊎ ((words ≡ codes "-h" ∷ [])
-    ⊎ ((words ≡ codes "run" ∷ codes "--help" ∷ []) ⊎ (words ≡ codes "run" ∷ codes "-h" ∷ [])))
+AsksForHelp words = AsksForHelpAfter [] words
+    ⊎ (AsksForHelpAfter (codes "run" ∷ []) words ⊎ AsksForHelpAfter (codes "replay" ∷ []) words)
 
 -- a kind of error that is a mistake in the words: no help, and no want of memory
 abbrev pub is_mistake : ErrorKind → Bool
@@ -143,7 +173,7 @@ abbrev pub rows_in : Option (Text × List Row) → List Row
 rows_in None = []
 rows_in (Some entered) = entered.1
 
--- what the words say of each option of `run`, with the defaults
+-- what the words say of each option of the subcommand that they name, with the defaults
 abbrev pub options_of : List Text → List Row
 options_of words = rows_in (subcommand_of elltree_app words)
 
@@ -183,16 +213,19 @@ pub record AreSaid (rows : List Row) (settings : Settings) : Type 0 where
 abbrev pub WantReport : List Row → Type 0
 WantReport rows = one_of (codes "report") rows ≡ Some (codes "true")
 
--- the settings are those that the options say, in their ranges, and so is whether a report is wanted
+-- the settings of a run are those that the options say, in their ranges, and so is whether a report
+-- is wanted
 abbrev pub IsRequestOf : List Row → Request → Type 0
 IsRequestOf rows (Run settings report) =
     AreSettings settings × AreSaid rows settings × (report ≡ true ↔ WantReport rows)
+IsRequestOf rows Replay = ⊤
 
 -- the request is a run by the default settings, without a report
 abbrev pub IsPlainRun : Request → Type 0
 IsPlainRun (Run settings report) = (settings.workers ≡ 4) × (settings.parting ≡ Stripe)
     × (settings.cards ≡ None) × (settings.tries ≡ 1000) × (report ≡ false)
+IsPlainRun Replay = ⊥
 
 -- the words ask for a report after the run
 abbrev pub AsksForReport : List Text → Type 0
-AsksForReport words = WantReport (options_of words)
+AsksForReport words = (subcommand_in words ≡ Some (codes "run")) × WantReport (options_of words)

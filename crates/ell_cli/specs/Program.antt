@@ -5,6 +5,9 @@ use Rattle.ell_cli.specs.declared.program.Failure.{Failure}
 use Rattle.ell_cli.specs.declared.program.Failure.TheVariants as failure
 use Rattle.ell_run.specs.declared.bytes.RunFault.{RunFault}
 use Rattle.ell_run.specs.declared.bytes.RunFault.TheVariants as run_fault
+use Rattle.ell_text.specs.Replayed.{IsBeforeWriting as IsBeforeTrace}
+use Rattle.ell_text.specs.declared.bytes.ScriptFault.{ScriptFault}
+use Rattle.ell_text.specs.declared.bytes.ScriptFault.TheVariants as script_fault
 
 -- the program succeeded, or showed its help
 abbrev pub Succeeded : ℕ → Type 0
@@ -38,15 +41,26 @@ status_of_fault (run_fault.Text text) = 2
 status_of_fault run_fault.NoMemory = 3
 status_of_fault (run_fault.Write written) = 4
 
+-- the exit status that tells why a replay ended early
+abbrev pub status_of_script_fault : ScriptFault → ℕ
+status_of_script_fault script_fault.Read = 4
+status_of_script_fault script_fault.TooLong = 2
+status_of_script_fault (script_fault.Text text) = 2
+status_of_script_fault (script_fault.Start start) = 2
+status_of_script_fault script_fault.NoMemory = 3
+status_of_script_fault (script_fault.Write written) = 4
+
 -- the exit status that tells of a failure
 abbrev pub status_of : Failure → ℕ
 status_of (failure.Refused error) = 2
 status_of failure.NoMemory = 3
 status_of (failure.Run fault) = status_of_fault fault
+status_of (failure.Replay fault) = status_of_script_fault fault
 status_of failure.Write = 4
 
 -- the failure came before anything was written
 abbrev pub IsBeforeOutput : Failure → Type 0
 IsBeforeOutput (failure.Run fault) = IsBeforeWriting fault
+IsBeforeOutput (failure.Replay fault) = IsBeforeTrace fault
 IsBeforeOutput failure.Write = ⊥
 IsBeforeOutput _ = ⊤

@@ -2,15 +2,18 @@
 ghost use Rattle.std.specs.Prelude.{◌≡◌, IsTrue, IfErr, IsErrAnd, OnOk, Err, map};
 ghost use Rattle.std.specs.Io.KnownBytes.{Keeps};
 ghost use Rattle.clap.specs.Words.{kind_of};
-ghost use Rattle.ell_cli.specs.CommandLine.{AreRefused, AreTaken, AsksForHelp, AsksForReport};
-ghost use Rattle.ell_cli.specs.CommandLine.{AsksToRun, is_mistake};
+ghost use Rattle.ell_cli.specs.CommandLine.{AreRefused, AreTaken, AreTakenToReplay, AreTakenToRun};
+ghost use Rattle.ell_cli.specs.CommandLine.{AsksForHelp, AsksForReport, AsksToReplay, AsksToRun};
+ghost use Rattle.ell_cli.specs.CommandLine.{is_mistake};
 ghost use Rattle.ell_cli.specs.Program.{IsBeforeOutput, IsRefusal, IsSilent, IsStatus, Succeeded};
-ghost use Rattle.ell_cli.specs.Program.{status_of};
+ghost use Rattle.ell_cli.specs.Program.{status_of, status_of_script_fault};
 ghost use Rattle.ell_run.specs.Answered.{IsAnswered};
+ghost use Rattle.ell_text.specs.Replayed.{IsReplayed};
 
 use crate::request::{Request, request_of};
 use clap::error::ErrorKind;
 use ell_run::{RunFault, run_bytes};
+use ell_text::{ScriptFault, replay_bytes};
 use std::alloc::Global;
 use std::convert::AsStr;
 use std::error::Error;
@@ -38,6 +41,7 @@ enum Failure {
     Refused(clap::Error),
     NoMemory,
     Run(RunFault),
+    Replay(ScriptFault),
     // `out` did not take the help, or could not be flushed.
     Write,
 }
@@ -49,6 +53,7 @@ impl fmt::Display for Failure {
             Failure::Refused(error) => write!(f, "{error}"),
             Failure::NoMemory => writeln!(f, "elltree: out of memory"),
             Failure::Run(fault) => writeln!(f, "elltree: {fault}"),
+            Failure::Replay(fault) => writeln!(f, "elltree: {fault}"),
             Failure::Write => writeln!(f, "elltree: write failed"),
         }
     }
@@ -67,8 +72,20 @@ impl Failure {
             Failure::Run(RunFault::TooLong | RunFault::Text(_)) => REFUSED,
             Failure::Run(RunFault::NoMemory) => OUT_OF_MEMORY,
             Failure::Run(RunFault::Read | RunFault::Write { .. }) => TRANSFER_FAILED,
+            Failure::Replay(fault) => status_of_replay(fault),
             Failure::Write => TRANSFER_FAILED,
         }
+    }
+}
+
+// The exit status that tells why a replay ended early.
+fn status_of_replay(fault: &ScriptFault) -> u8
+    ensures { result ≡ status_of_script_fault fault.now }
+{
+    match fault {
+        ScriptFault::TooLong | ScriptFault::Text(_) | ScriptFault::Start(_) => REFUSED,
+        ScriptFault::NoMemory => OUT_OF_MEMORY,
+        ScriptFault::Read | ScriptFault::Write { .. } => TRANSFER_FAILED,
     }
 }
 
@@ -90,11 +107,18 @@ pub fn elltree<R, S: AsStr, I: Read, O: Write, E: Write>(
     // Success writes to `err` only a report that was asked for.
     ensures quiet { Succeeded result → ¬ AsksForReport (map S.text words.now) → err.new ≡ err.old }
 
-    // Success means that the run ended well, where the words are taken, as the one word `run` is.
-    ensures taken { AreTaken (map S.text words.now) → Succeeded result
+    // Success means that the run ended well, where the words are taken to run, as the one word `run` is.
+    ensures taken { AreTakenToRun (map S.text words.now) → Succeeded result
         → IsAnswered (I.remaining input.old) (O.contents out.old) (O.contents out.new) }
     ensures run { AsksToRun (map S.text words.now) → Succeeded result
         → IsAnswered (I.remaining input.old) (O.contents out.old) (O.contents out.new) }
+
+    // Success means that the replay ended well, where the words are taken to replay, as `replay` is.
+    ensures replayed { AreTakenToReplay (map S.text words.now) → Succeeded result
+        → IsReplayed (I.remaining input.old) (O.contents out.old) (O.contents out.new) }
+    ensures replay { AsksToReplay (map S.text words.now) → Succeeded result
+        → IsReplayed (I.remaining input.old) (O.contents out.old) (O.contents out.new) }
+    ensures unreported { AreTakenToReplay (map S.text words.now) → Succeeded result → err.new ≡ err.old }
 
     ensures help { AsksForHelp (map S.text words.now) → ¬ IsRefusal result }
     ensures refused { AreRefused (map S.text words.now) → IsSilent result }
@@ -120,10 +144,15 @@ fn outcome<R, S: AsStr, I: Read, O: Write, E: Write>(
 ) -> Result<(), Failure>
     ensures silent { IfErr result (λ failure.
         IsBeforeOutput failure → Keeps (O.contents out.old) (O.contents out.new)) }
-    ensures taken { AreTaken (map S.text words.now)
+    ensures taken { AreTakenToRun (map S.text words.now)
         → OnOk result (IsAnswered (I.remaining input.old) (O.contents out.old) (O.contents out.new)) }
     ensures run { AsksToRun (map S.text words.now)
         → OnOk result (IsAnswered (I.remaining input.old) (O.contents out.old) (O.contents out.new)) }
+    ensures replayed { AreTakenToReplay (map S.text words.now)
+        → OnOk result (IsReplayed (I.remaining input.old) (O.contents out.old) (O.contents out.new)) }
+    ensures replay { AsksToReplay (map S.text words.now)
+        → OnOk result (IsReplayed (I.remaining input.old) (O.contents out.old) (O.contents out.new)) }
+    ensures unreported { AreTakenToReplay (map S.text words.now) → err.new ≡ err.old }
     ensures help { AsksForHelp (map S.text words.now)
         → IfErr result (λ failure. ¬ IsRefusal (status_of failure)) }
     ensures refused { AreRefused (map S.text words.now)
@@ -138,6 +167,7 @@ fn outcome<R, S: AsStr, I: Read, O: Write, E: Write>(
                 let _ = writeln!(err, "late {}", told.late);
             }
         }
+        Ok(Request::Replay) => replay_bytes(alloc, input, out).map_err(Failure::Replay)?,
         Err(error) => show_help(error, out)?,
     }
     out.flush().map_err(|_| Failure::Write)

@@ -1,16 +1,19 @@
 //! What the words of the command line ask for.
-ghost use Rattle.std.specs.Prelude.{◌≡◌, ◌<◌, ◌≤◌, ◌^◌, ℕ, IfOk, IfErr, IsErrAnd, IsSomeAnd, None, Some};
+ghost use Rattle.std.specs.Prelude.{◌≡◌, ◌⊎◌, ◌<◌, ◌≤◌, ◌^◌, ℕ, IfOk, IfErr, IsErrAnd, IsSomeAnd};
+ghost use Rattle.std.specs.Prelude.{MatchResult, None, Some};
 ghost use Rattle.std.specs.Prelude.{[], ◌∷◌, codes, false, map};
 ghost use Rattle.clap.specs.Words.{FailsBy, HasKind, app_of, first_of, found_of, kind_of, one_of};
 ghost use Rattle.clap.specs.Words.{rows_of, rule_of, shape_of, subcommand_name_of};
 ghost use Rattle.clap.specs.Words.{subcommand_rows_of};
 ghost use Rattle.clap.specs.declared.builder.command.Command.TheViews.{out-Command as fields_of};
 ghost use Rattle.ell_cli.specs.CommandLine.{AreOptions, AreRefused, AreSaid, AreTaken, AsksForHelp};
-ghost use Rattle.ell_cli.specs.CommandLine.{AsksToRun, BorrowedNames, IsElltree, IsMistakeOrMemory};
-ghost use Rattle.ell_cli.specs.CommandLine.{IsNumberUpTo, IsPlainRun, IsRequestOf, NamesPartings};
+ghost use Rattle.ell_cli.specs.CommandLine.{AsksToReplay, AsksToRun, BorrowedNames, IsElltree};
+ghost use Rattle.ell_cli.specs.CommandLine.{IsMistakeOrMemory, IsNumberUpTo, IsPlainRun};
+ghost use Rattle.ell_cli.specs.CommandLine.{IsRequestOf, NamesPartings};
 ghost use Rattle.ell_cli.specs.CommandLine.{cards_rule, faults_of, name_of, number_of, options_of};
-ghost use Rattle.ell_cli.specs.CommandLine.{parting_rule, report_rule, rows_in, run_shape};
-ghost use Rattle.ell_cli.specs.CommandLine.{subcommand_for, tries_rule, workers_rule};
+ghost use Rattle.ell_cli.specs.CommandLine.{parting_rule, replay_shape, report_rule};
+ghost use Rattle.ell_cli.specs.CommandLine.{rows_in, run_shape, subcommand_for, subcommand_in};
+ghost use Rattle.ell_cli.specs.CommandLine.{tries_rule, workers_rule};
 ghost use Rattle.ell_run.specs.Settings.{AreSettings};
 
 use clap::error::ErrorKind;
@@ -25,6 +28,8 @@ pub enum Request {
     /// Run a bulk text by these settings, and tell of it on standard error where `report` is set
     /// and the run succeeded.
     Run { settings: Settings, report: bool },
+    /// Replay a schedule.
+    Replay,
 }
 
 // The names of the partings of keys.
@@ -63,6 +68,14 @@ Exit status:
   3  out of memory, or the arguments could not be taken
   4  reading or writing failed";
 
+const REPLAY_ABOUT: &str = "Replay a schedule of steps, and tell what each came to";
+
+const REPLAY_LONG_ABOUT: &str = "Replay a schedule of steps, and tell what each came to
+
+Runs a schedule, event by event, on the abstract machine of the tree.
+The text has `workers N`, `cards N`, lines `own W K`, and events as `0 begin insert 5`
+or `1 upd`; a line is printed for each event, and the keys at the end.";
+
 /// What the words after the program's name ask for. An `Err` has the text for the user. Its kind is
 /// `DisplayHelp` where the words ask for help, `OutOfMemory` where memory ran out, and another where
 /// the words are refused, as `MissingSubcommand` where there are none.
@@ -73,11 +86,17 @@ pub fn request_of<S: AsStr>(alloc: Global, words: &[S]) -> Result<Request, Error
     ensures request { IfOk result (IsRequestOf (options_of (map S.text words.now))) }
     ensures defaults { AsksToRun (map S.text words.now) → IfOk result IsPlainRun }
 
+    ensures command { IfOk result (λ request.
+        subcommand_in (map S.text words.now) ≡ Some (subcommand_for request)) }
+
     // What that comes to at some words.
     ensures taken { AreTaken (map S.text words.now)
         → IfErr result (λ e. kind_of e ≡ ErrorKind.OutOfMemory) }
     ensures run { AsksToRun (map S.text words.now)
         → IfErr result (λ e. kind_of e ≡ ErrorKind.OutOfMemory) }
+    ensures replay { AsksToReplay (map S.text words.now)
+        → MatchResult result (λ request. request ≡ Request.Replay)
+        (λ e. kind_of e ≡ ErrorKind.OutOfMemory) }
     ensures help { AsksForHelp (map S.text words.now)
         → IsErrAnd result (HasKind (ErrorKind.DisplayHelp ∷ [])) }
     ensures refused { AreRefused (map S.text words.now)
@@ -91,8 +110,10 @@ pub fn request_of<S: AsStr>(alloc: Global, words: &[S]) -> Result<Request, Error
 
 // The request that the subcommand stands for, with its options.
 fn request_in(matches: &ArgMatches<'_>) -> Request
-    requires name { subcommand_name_of matches.now ≡ Some (codes "run") }
-    requires options { AreOptions (rows_in (subcommand_rows_of matches.now)) }
+    requires name { (subcommand_name_of matches.now ≡ Some (codes "run"))
+        ⊎ (subcommand_name_of matches.now ≡ Some (codes "replay")) }
+    requires options { subcommand_name_of matches.now ≡ Some (codes "run")
+        → AreOptions (rows_in (subcommand_rows_of matches.now)) }
     ensures name { subcommand_name_of matches.now ≡ Some (subcommand_for result) }
     ensures options { IsRequestOf (rows_in (subcommand_rows_of matches.now)) result }
 {
@@ -101,6 +122,7 @@ fn request_in(matches: &ArgMatches<'_>) -> Request
             settings: settings_in(options),
             report: options.get_flag("report"),
         },
+        Some(("replay", _)) => Request::Replay,
         _ => unreachable!(),
     }
 }
@@ -152,7 +174,8 @@ fn elltree_command<'a>(alloc: Global) -> Result<Command<'a>, AllocError>
         .no_binary_name(true)
         .subcommand_required(true)
         .bin_name("elltree")?
-        .subcommand(run_command(alloc)?)
+        .subcommand(run_command(alloc)?)?
+        .subcommand(replay_command(alloc))
 }
 
 // The subcommand `run`, with its options.
@@ -170,6 +193,16 @@ fn run_command<'a>(alloc: Global) -> Result<Command<'a>, AllocError>
         .arg(cards_option(alloc))?
         .arg(tries_option(alloc))?
         .arg(report_option(alloc))
+}
+
+// The subcommand `replay`, which has no options.
+fn replay_command<'a>(alloc: Global) -> Command<'a>
+    ensures shape { shape_of result ≡ replay_shape }
+    ensures local { (fields_of result).has_globals ≡ false }
+{
+    Command::new(alloc, "replay")
+        .about(REPLAY_ABOUT)
+        .long_about(REPLAY_LONG_ABOUT)
 }
 
 fn workers_option<'a>(alloc: Global) -> Arg<'a>

@@ -26,6 +26,8 @@ fn tells_of_refused_words(rt: HostRuntime) {
         [].as_slice(),
         &["walk"],
         &["run", "x"],
+        &["replay", "x"],
+        &["replay", "--report"],
         &["--version"],
         &["help", "walk"],
         &["run", "--workers", "0"],
@@ -99,6 +101,8 @@ fn reads_options(rt: HostRuntime) -> Result<(), Fail> {
         let request = request_of(rt.alloc(), words)?;
         assert_eq!(rt; request, Request::Run { settings, report }, "at {words:?}");
     }
+    let request = request_of(rt.alloc(), &["replay"])?;
+    assert_eq!(rt; request, Request::Replay);
     Ok(())
 }
 
@@ -110,6 +114,8 @@ fn shows_help(rt: HostRuntime) {
         &["help"],
         &["run", "--help"],
         &["help", "run"],
+        &["replay", "--help"],
+        &["help", "replay"],
     ];
     for words in cases {
         let mut out = Vec::new(rt.alloc());
@@ -125,13 +131,29 @@ fn shows_help(rt: HostRuntime) {
 }
 
 #[test]
-fn explains_a_run(rt: HostRuntime) -> Result<(), Fail> {
-    let mut out = Vec::new(rt.alloc());
-    let mut err = Vec::new(rt.alloc());
-    status_of(&rt, &["run", "--help"], &mut out, &mut err);
-    let text = String::from_utf8(out)?;
-    for part in ["Usage: elltree run", "insert 5", "keys 0", "Exit status:"] {
-        assert!(rt; text.as_str().contains(part), "without {part}");
+fn explains_its_commands(rt: HostRuntime) -> Result<(), Fail> {
+    let cases = [
+        (
+            ["--help"].as_slice(),
+            ["Usage: elltree", "  run ", "  replay "].as_slice(),
+        ),
+        (
+            &["run", "--help"],
+            &["Usage: elltree run", "insert 5", "keys 0", "Exit status:"],
+        ),
+        (
+            &["replay", "--help"],
+            &["Usage: elltree replay", "`own W K`", "`1 upd`"],
+        ),
+    ];
+    for (words, parts) in cases {
+        let mut out = Vec::new(rt.alloc());
+        let mut err = Vec::new(rt.alloc());
+        status_of(&rt, words, &mut out, &mut err);
+        let text = String::from_utf8(out)?;
+        for part in parts {
+            assert!(rt; text.as_str().contains(part), "at {words:?} without {part}");
+        }
     }
     Ok(())
 }

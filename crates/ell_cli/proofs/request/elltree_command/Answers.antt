@@ -2,7 +2,7 @@ use Rattle.std.proofs.Common.{◌≡◌, ◌∙◌, ap, ap₂, codes, true}
 use Rattle.std.proofs.lemmas.Result.{IfOk-weaker}
 use Rattle.clap.specs.Words.{App, app_of, new_app, with_subcommand}
 use Rattle.clap.specs.Simple.{app_of_fields, on_top}
-use Rattle.ell_cli.specs.CommandLine.{IsElltree, app_at}
+use Rattle.ell_cli.specs.CommandLine.{IsElltree, app_at, run_shape}
 use Rattle.ell_cli.proofs.request.elltree_command.Goals as goal
 
 abbrev without_name : App → App
@@ -25,5 +25,9 @@ returns c =
     ≡ with_required (without_name (new_app (codes "elltree"))) =
     ap app_of_fields c.in_ok-bin_name.ensures.0 ∙ required in
     let run = c.in_ok-run_command.ensures in
-    IfOk-weaker c.subcommand.result _ (λ r. IsElltree (app_of r)) (λ r h.
-    (run.shape.0, run.shape.1, h.shape run.local ∙ ap₂ with_subcommand named run.shape.2)) c.subcommand.ensures
+    let running : app_of c.in_ok-subcommand.field-0
+    ≡ with_subcommand (with_required (without_name (new_app (codes "elltree")))) (run_shape run.shape.0) =
+    c.in_ok-subcommand.ensures.shape run.local ∙ ap₂ with_subcommand named run.shape.2 in
+    let replay = c.replay_command.ensures in
+    IfOk-weaker c.subcommand-2.result _ (λ r. IsElltree (app_of r)) (λ r h.
+    (run.shape.0, run.shape.1, h.shape replay.local ∙ ap₂ with_subcommand running replay.shape)) c.subcommand-2.ensures

@@ -1,6 +1,6 @@
-use Rattle.std.proofs.Common.{◌≡◌, ◌∙◌, ◌⊎◌, ◌↔◌, Bool, List, Option, Some, None, inl, inr, true, false, codes, sym, ap, subst}
+use Rattle.std.proofs.Common.{◌≡◌, ◌∙◌, ◌⊎◌, ◌↔◌, Bool, List, Option, Some, None, inl, inr, true, false, codes, sym, ap, subst, rules}
 use Rattle.std.specs.Prelude.{option_map, unwrap_or}
-use Rattle.clap.specs.Words.{Row, Text, found_of, one_of, one_text, rows_of, subcommand_rows_of}
+use Rattle.clap.specs.Words.{Row, Text, found_of, one_of, one_text, rows_of, subcommand_name_of, subcommand_rows_of}
 use Rattle.clap.specs.declared.parser.matches.Found.{Found}
 use Rattle.clap.proofs.WalkLemmas.{one_text-rows}
 use Rattle.ell_cli.specs.CommandLine.{AreOptions, AreSaid, WantReport, rows_in}
@@ -26,13 +26,15 @@ flag_read f flag (inr off) set unset = (
 pub settings_in-requires : goal.settings_in-requires
 settings_in-requires c =
     let found = c.in-Some-run-default.ensures.rows in
-    subst AreOptions (sym (rows_given (subcommand_rows_of c.args.matches.now) _ found)) c.requires.options
+    let named : subcommand_name_of c.args.matches.now ≡ Some (codes "run") = search rules in
+    subst AreOptions (sym (rows_given (subcommand_rows_of c.args.matches.now) _ found)) (c.requires.options named)
 
-pub returns-clause-options : goal.returns-clause-options
-returns-clause-options c =
+pub returns-in-Some-run-default-clause-options : goal.returns-in-Some-run-default-clause-options
+returns-in-Some-run-default-clause-options c =
     let f = found_of c.in-Some-run-default.options.now in
     let rows = rows_given (subcommand_rows_of c.args.matches.now) (rows_of f) c.in-Some-run-default.ensures.rows in
-    let options : AreOptions (rows_of f) = subst AreOptions (sym rows) c.requires.options in (
+    let named : subcommand_name_of c.args.matches.now ≡ Some (codes "run") = search rules in
+    let options : AreOptions (rows_of f) = subst AreOptions (sym rows) (c.requires.options named) in (
       c.settings_in.ensures.ranges,
       subst (λ rows. AreSaid rows c.settings_in.result) rows c.settings_in.ensures.said,
       subst (λ rows. c.get_flag.result ≡ true ↔ WantReport rows) rows

@@ -1,13 +1,18 @@
-use Rattle.std.proofs.Common.{◌≡◌, map, rules, subst, Result, Ok, Err, IfOk, IsErrAnd}
+use Rattle.std.proofs.Common.{◌≡◌, ◌∙◌, map, Some, sym, rules, subst, Result, Ok, Err, IfErr, IfOk, IsErrAnd}
+use Rattle.std.specs.Prelude.{MatchResult}
 use Rattle.clap.specs.declared.parser.matches.ArgMatches.{ArgMatches}
-use Rattle.ell_cli.specs.CommandLine.{IsRequestOf}
-use Rattle.ell_cli.proofs.CommandLineLemmas.{fails_by_words, fails_up, help_fails, nothing_fails, refused_fails, plain_run, run_taken, taken_fails, name_met, options_are, options_met}
+use Rattle.ell_cli.specs.CommandLine.{IsRequestOf, subcommand_for, subcommand_in}
+use Rattle.ell_cli.proofs.CommandLineLemmas.{fails_by_words, fails_up, help_fails, nothing_fails, refused_fails, plain_replay, plain_run, replay_taken, run_taken, taken_fails, name_is, name_met, options_are, options_met}
 use Rattle.ell_cli.proofs.request.request_of.Goals as goal
 
 -- an error has no request
 passed_up : {T E : Type 0} (P : T → Type 0) (r : Result T E) (e : E) → IsErrAnd r (λ y. y ≡ e) → IfOk r P
 passed_up P (Ok x) e is = absurd is
 passed_up P (Err y) e is = tt
+
+error_met : {T E : Type 0} (P : T → Type 0) (Q : E → Type 0) (r : Result T E) (e : E) → IsErrAnd r (λ y. y ≡ e) → IfErr r Q → MatchResult r P Q
+error_met P Q (Ok x) e is fails = absurd is
+error_met P Q (Err y) e is fails = fails
 
 pub returns-in_err-matches : goal.returns-in_err-matches
 returns-in_err-matches g c =
@@ -20,8 +25,10 @@ returns-in_err-matches g c =
       kinds = kinds;
       request = passed_up _ _ error passed;
       defaults = λ asks. passed_up _ _ error passed;
+      command = passed_up _ _ error passed;
       taken = taken_fails words _ kinds;
       run = λ asks. taken_fails words _ kinds (run_taken words asks);
+      replay = λ asks. error_met _ _ _ error passed (taken_fails words _ kinds (replay_taken words asks));
       help = help_fails words _ kinds;
       refused = refused_fails words _ kinds;
       nothing = nothing_fails words _ kinds;
@@ -42,12 +49,16 @@ returns g c =
     let words = map g.S.AsStr.text c.args.words.now in
     let kinds = fails_by_words {T = ArgMatches} _ words (Ok c.in_ok-matches.matches) c.in_ok-elltree_command.ensures c.in_ok-matches.ensures.kinds in
     let request = subst (λ rows. IsRequestOf rows c.request_in.result) (options_are _ words c.in_ok-matches.matches c.in_ok-elltree_command.ensures c.in_ok-matches.ensures.matches) c.request_in.ensures.options in
+    let command : subcommand_in words ≡ Some (subcommand_for c.request_in.result) =
+    sym (name_is _ words c.in_ok-matches.matches c.in_ok-elltree_command.ensures c.in_ok-matches.ensures.matches) ∙ c.request_in.ensures.name in
     record {
       kinds = kinds;
       request = request;
-      defaults = λ asks. plain_run words c.request_in.result asks request;
+      defaults = λ asks. plain_run words c.request_in.result asks command request;
+      command = command;
       taken = taken_fails {T = ArgMatches} words (Ok c.in_ok-matches.matches) kinds;
       run = λ asks. tt;
+      replay = λ asks. plain_replay words c.request_in.result asks command;
       help = help_fails {T = ArgMatches} words (Ok c.in_ok-matches.matches) kinds;
       refused = refused_fails {T = ArgMatches} words (Ok c.in_ok-matches.matches) kinds;
       nothing = nothing_fails {T = ArgMatches} words (Ok c.in_ok-matches.matches) kinds;
