@@ -88,7 +88,14 @@ fn faults_of_a_replay_go_to_standard_error(rt: HostRuntime) {
     for (text, want) in cases {
         let mut out = Vec::new(rt.alloc());
         let mut err = Vec::new(rt.alloc());
-        let status = elltree(&rt, rt.alloc(), &["replay"], &mut &*text, &mut out, &mut err);
+        let status = elltree(
+            &rt,
+            rt.alloc(),
+            &["replay"],
+            &mut &*text,
+            &mut out,
+            &mut err,
+        );
         assert_eq!(rt; status, 2, "at {text:?}");
         assert!(rt; out.is_empty(), "at {text:?}");
         assert_eq!(rt; err.as_slice(), want.as_bytes(), "at {text:?}");
