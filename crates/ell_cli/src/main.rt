@@ -1,4 +1,5 @@
-//! The command `elltree`: it runs a text of finds, inserts and deletes on a set of keys.
+//! The command `elltree`: it runs a text of finds, inserts and deletes on a set of keys, or replays a
+//! schedule of events on the machine of the tree.
 #![tactic(auto)]
 
 mod program;

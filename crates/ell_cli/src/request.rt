@@ -28,7 +28,7 @@ pub enum Request {
     /// Run a bulk text by these settings, and tell of it on standard error where `report` is set
     /// and the run succeeded.
     Run { settings: Settings, report: bool },
-    /// Replay a schedule.
+    /// Replay the schedule of a replay text.
     Replay,
 }
 
@@ -68,13 +68,17 @@ Exit status:
   3  out of memory, or the arguments could not be taken
   4  reading or writing failed";
 
-const REPLAY_ABOUT: &str = "Replay a schedule of steps, and tell what each came to";
+const REPLAY_ABOUT: &str = "Replay a schedule of events on the machine of the tree";
 
-const REPLAY_LONG_ABOUT: &str = "Replay a schedule of steps, and tell what each came to
+const REPLAY_LONG_ABOUT: &str = "Replay a schedule of events on the machine of the tree
 
-Runs a schedule, event by event, on the abstract machine of the tree.
-The text has `workers N`, `cards N`, lines `own W K`, and events as `0 begin insert 5`
-or `1 upd`; a line is printed for each event, and the keys at the end.";
+Reads the schedule from standard input, and runs it event by event. The text has
+`workers N`, `cards N`, lines `own W K`, and events as `0 begin insert 5` or
+`1 upd`.
+
+Writes a line for each event to standard output, in order, then `keys N` and the
+N keys of the tree at the end, ascending, one a line. The exit statuses are those
+of `elltree run`.";
 
 /// What the words after the program's name ask for. An `Err` has the text for the user. Its kind is
 /// `DisplayHelp` where the words ask for help, `OutOfMemory` where memory ran out, and another where
@@ -86,6 +90,7 @@ pub fn request_of<S: AsStr>(alloc: Global, words: &[S]) -> Result<Request, Error
     ensures request { IfOk result (IsRequestOf (options_of (map S.text words.now))) }
     ensures defaults { AsksToRun (map S.text words.now) → IfOk result IsPlainRun }
 
+    // The request is of the command that the words name.
     ensures command { IfOk result (λ request.
         subcommand_in (map S.text words.now) ≡ Some (subcommand_for request)) }
 
