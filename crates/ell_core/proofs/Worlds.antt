@@ -1,8 +1,10 @@
 -- A world before and after a turn of one of its workers.
-use Rattle.std.proofs.Common.{◌≡◌, ◌≢◌, ℕ, zero, suc, ◌<◌, List, [], ◌∷◌, Some, Result, Ok, Err, IfOk, OnErr, length, set, map, get_or, Vec, vec_len, Global, refl, sym, ap, ◌∙◌, subst, inl, inr, arith}
+use Rattle.std.proofs.Common.{◌≡◌, ◌≢◌, ℕ, zero, suc, ◌<◌, List, [], ◌∷◌, Some, Result, Ok, Err, IfOk, OnErr, length, set, map, get_or, Vec, vec_len, Global, refl, sym, ap, ◌∙◌, subst, inl, inr, length-set, arith}
 use Rattle.std.specs.Prelude.{slice_get}
 use Rattle.std.proofs.lemmas.Bool.{cases_eq}
-use Rattle.std.proofs.lemmas.Option.{slice_get_read}
+use Rattle.std.proofs.lemmas.Option.{slice_get_read, slice_get_within}
+use Rattle.std.proofs.lemmas.List.{map-set, length-map}
+use Rattle.ell_core.proofs.WordLaws.{put_same, put_other}
 use Rattle.std.proofs.lemmas.Bool.Decides.{nat_tests}
 use Rattle.ell_core.specs.declared.event.Event.{Event}
 use Rattle.ell_core.specs.declared.event.Stepped.{Stepped}
@@ -25,13 +27,6 @@ use Rattle.ell_core.proofs.FitsRows.{fits_happens}
 abbrev pub world_at : Memory → List Worker → WorldValue
 world_at memory workers = record { words = memory.words.items; workers = map view_of workers; cards = memory.cards }
 
--- a function with another value at x, at x and elsewhere
-put_here : {A : Type 0} (f : ℕ → A) (x : ℕ) (v : A) → put f x v x ≡ v
-put_here f x v = grind (arith, nat_tests)
-
-put_there : {A : Type 0} (f : ℕ → A) (x : ℕ) (v : A) (y : ℕ) → y ≢ x → put f x v y ≡ f y
-put_there f x v y ne = grind (arith, nat_tests)
-
 -- an item that was set is there, and the others are as they were
 get_set : {A : Type 0} (xs : List A) (i : ℕ) (v : A) → i < length xs → slice_get (set xs i v) i ≡ Some v
 get_set [] i v h = absurd (omega arith)
@@ -45,18 +40,6 @@ get_other (x ∷ xs) zero (suc j) v h = refl
 get_other (x ∷ xs) (suc i) zero v h = refl
 get_other (x ∷ xs) (suc i) (suc j) v h = get_other xs i j v (λ e. h (ap suc e))
 
--- an item of a list stands at a place within it
-get_within : {A : Type 0} (xs : List A) (i : ℕ) (v : A) → slice_get xs i ≡ Some v → i < length xs
-get_within [] i v h = absurd (cc)
-get_within (x ∷ xs) zero v h = omega arith
-get_within (x ∷ xs) (suc i) v h = let e = get_within xs i v h in omega arith
-
--- setting an item and mapping the items is mapping them and setting its image
-map_set : {A B : Type 0} (f : A → B) (xs : List A) (i : ℕ) (v : A) → map f (set xs i v) ≡ set (map f xs) i (f v)
-map_set f [] i v = refl
-map_set f (x ∷ xs) zero v = refl
-map_set f (x ∷ xs) (suc i) v = ap (λ ys. f x ∷ ys) (map_set f xs i v)
-
 -- setting an item to itself changes nothing
 set_same : {A : Type 0} (xs : List A) (i : ℕ) (v : A) → slice_get xs i ≡ Some v → set xs i v ≡ xs
 set_same [] i v h = refl
@@ -67,10 +50,6 @@ map_get : {A B : Type 0} (f : A → B) (xs : List A) (i : ℕ) (v : A) → slice
 map_get f [] i v h = absurd (cc)
 map_get f (x ∷ xs) zero v h = let e : x ≡ v = cc in ap (λ y. Some (f y)) e
 map_get f (x ∷ xs) (suc i) v h = map_get f xs i v h
-
-length_map : {A B : Type 0} (f : A → B) (xs : List A) → length (map f xs) ≡ length xs
-length_map f [] = refl
-length_map f (x ∷ xs) = let e = length_map f xs in omega arith
 
 -- what `get_mut` lends stands at its place of the list
 pub item_there : (workers : Vec Worker Global) (i : ℕ) (v : Worker) → i < vec_len workers → v ≡ get_or workers.items i v
@@ -85,15 +64,15 @@ worker_there workers i v h = ap machine.worker_or_nobody (map_get view_of worker
 workers_set : (workers : List Worker) (i : ℕ) (v : Worker) → i < length workers → (j : ℕ)
     → worker_at (set workers i v) j ≡ put (worker_at workers) i (worker_in v) j
 workers_set workers i v here j =
-    let within : i < length (map view_of workers) = let e = length_map view_of workers in omega arith in
-    ap (λ views. machine.worker_or_nobody (slice_get views j)) (map_set view_of workers i v) ∙ elim (cases_eq j i) [
+    let within : i < length (map view_of workers) = let e = length-map workers view_of in omega arith in
+    ap (λ views. machine.worker_or_nobody (slice_get views j)) (map-set view_of workers i v) ∙ elim (cases_eq j i) [
       | inl same ↦
           ap (λ k. machine.worker_or_nobody (slice_get (set (map view_of workers) i (view_of v)) k)) same
           ∙ (ap machine.worker_or_nobody (get_set (map view_of workers) i (view_of v) within)
-          ∙ sym (ap (put (worker_at workers) i (worker_in v)) same ∙ put_here (worker_at workers) i (worker_in v)))
+          ∙ sym (ap (put (worker_at workers) i (worker_in v)) same ∙ put_same (worker_at workers) i (worker_in v)))
       | inr other ↦
           ap machine.worker_or_nobody (get_other (map view_of workers) i j (view_of v) other)
-          ∙ sym (put_there (worker_at workers) i (worker_in v) j other)
+          ∙ sym (put_other (worker_at workers) i (worker_in v) j other)
     ]
 
 -- what an event of worker i sees is the words and that worker
@@ -110,18 +89,14 @@ unfolding machine_of
 machine_after memory memory' workers i v' here cards = λ t. record {
   words = words_in memory';
   worker = λ j. workers_set workers i v' here j t;
-  count = (ap length (map_set view_of workers i v') ∙ length_set (map view_of workers) i (view_of v')) t;
+  count = (ap length (map-set view_of workers i v') ∙ length-set (map view_of workers) i (view_of v')) t;
   cards = cards t;
-} where
-  length_set : {A : Type 0} (xs : List A) (i : ℕ) (v : A) → length (set xs i v) ≡ length xs
-  length_set [] i v = refl
-  length_set (x ∷ xs) zero v = refl
-  length_set (x ∷ xs) (suc i) v = let e = length_set xs i v in omega arith
+}
 
 -- there are as many workers as the list has
 pub count_is : (memory : Memory) (workers : List Worker) → (machine_of (world_at memory workers)).count ≡ length workers
 unfolding machine_of
-count_is memory workers = length_map view_of workers
+count_is memory workers = length-map workers view_of
 
 -- the machine's words are those of the list
 pub words_are : (memory : Memory) (workers : List Worker) → words_in memory ≡ (machine_of (world_at memory workers)).words
@@ -135,7 +110,7 @@ cards_is memory workers = refl
 module _ (memory memory' : Memory) (workers : List Worker) (e : Event) (v v' : Worker)
     (there : slice_get workers e.worker ≡ Some v) (same : SameSize memory memory') where
   here : e.worker < length workers
-  here = get_within workers e.worker v there
+  here = slice_get_within workers e.worker v there
 
   -- the worker is one of the machine's
   is_there : e.worker < (machine_of (world_at memory workers)).count
@@ -173,7 +148,7 @@ module _ (memory memory' : Memory) (workers : List Worker) (e : Event) (v v' : W
   value_same view words = λ t. record {
     words = (words t).words.items;
     cards = (words t).cards;
-    workers = (map_set view_of workers e.worker v' ∙ (ap (set (map view_of workers) e.worker) view
+    workers = (map-set view_of workers e.worker v' ∙ (ap (set (map view_of workers) e.worker) view
         ∙ set_same (map view_of workers) e.worker (view_of v) (map_get view_of workers e.worker v there))) t;
   }
 
