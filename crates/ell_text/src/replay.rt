@@ -54,12 +54,10 @@ pub fn read_replay(alloc: Global, bytes: &[u8]) -> Result<Script, ReplayFault>
     ensures ok { IfOk result (λ s. script bytes.now ≡ Ok (script_value s)) }
     ensures fault { IfErr result (λ fault. fault ≢ ReplayFault.NoMemory → script bytes.now ≡ Err fault) }
     ensures no_memory { IfErr result (λ fault. fault ≡ ReplayFault.NoMemory → HasSoundEntry (lines bytes.now)) }
-    ensures some_workers { IfOk result (λ s. 1 ≤ s.workers) }
-    ensures workers { IfOk result (λ s. s.workers ≤ 64) }
-    ensures some_cards { IfOk result (λ s. 1 ≤ s.cards) }
-    ensures cards { IfOk result (λ s. s.cards ≤ 1000000) }
+    ensures workers { IfOk result (λ s. (1 ≤ s.workers) × (s.workers ≤ 64)) }
+    ensures cards { IfOk result (λ s. (1 ≤ s.cards) × (s.cards ≤ 1000000)) }
     ensures keys { IfOk result (λ s. All (λ entry. entry.1 ≤ greatest_key) s.owned.items) }
-    ensures owners { IfOk result (λ s. All (λ entry. entry.0 ≤ 63) s.owned.items) }
+    ensures worker_numbers { IfOk result (λ s. All (λ entry. entry.0 ≤ 63) s.owned.items) }
     ensures event_workers { IfOk result (λ s. All (λ event. event.worker ≤ 63) s.events.items) }
 {
     let mut draft = Draft::new(alloc);
@@ -165,9 +163,15 @@ impl Draft {
 
     // The script, where the text had both of its heads.
     fn finish(self) -> Result<Script, ReplayFault>
+        requires fits { DraftFits (draft_value self) }
         ensures value { IfOk result (λ s. finished (draft_value self) ≡ Some (script_value s)) }
         ensures fault { IfErr result (λ fault. fault ≡ ReplayFault.Ended) }
         ensures ended { OnErr result (finished (draft_value self) ≡ None) }
+        ensures workers { IfOk result (λ s. (1 ≤ s.workers) × (s.workers ≤ 64)) }
+        ensures cards { IfOk result (λ s. (1 ≤ s.cards) × (s.cards ≤ 1000000)) }
+        ensures keys { IfOk result (λ s. All (λ entry. entry.1 ≤ greatest_key) s.owned.items) }
+        ensures worker_numbers { IfOk result (λ s. All (λ entry. entry.0 ≤ 63) s.owned.items) }
+        ensures event_workers { IfOk result (λ s. All (λ event. event.worker ≤ 63) s.events.items) }
     {
         let (Some(workers), Some(cards)) = (self.workers, self.cards) else {
             return Err(ReplayFault::Ended);
