@@ -1,10 +1,10 @@
 //! The script of a replay text.
 ghost use Rattle.std.specs.Prelude.{◌≡◌, ◌≢◌, ◌<◌, ◌≤◌, All, None, Some, IfErr, IfOk, IsTrue, OnErr, OnOk};
 ghost use Rattle.ell_ops.specs.Meaning.{greatest_key};
-ghost use Rattle.ell_text.specs.Draft.{DraftFits, count_in_draft, draft_value, finished, no_draft, place_in_draft, with_line, with_said};
+ghost use Rattle.ell_text.specs.Draft.{DraftFits, count_in_draft, draft_value, finished, next_fault, next_line, no_draft, place_in_draft, with_line, with_said};
 ghost use Rattle.ell_text.specs.Lines.{lines};
-ghost use Rattle.ell_text.specs.ReplayLine.{SaidFits, replay_line_at};
-ghost use Rattle.ell_text.specs.Script.{HasSoundEntry, is_kept, replay_fault_of, replay_located, script, script_value};
+ghost use Rattle.ell_text.specs.ReplayLine.{SaidFits};
+ghost use Rattle.ell_text.specs.Script.{HasSoundEntry, is_kept, replay_located, script, script_value};
 
 use crate::lines::lines;
 use crate::replay_line::{Place, ReplayLineFault, Said, read_replay_line};
@@ -103,21 +103,19 @@ impl Draft {
             Place::Events
         }
     }
+
     // Appends what the line of this number says, if it says something.
     fn append_line(&mut self, line: &[u8], number: usize) -> Result<(), ReplayFault>
         requires fits { DraftFits (draft_value self.old) }
         ensures ok { OnOk result (draft_value self.new
-            ≡ with_line (draft_value self.old) (replay_line_at (place_in_draft (draft_value self.old)) line.now)) }
-        ensures sound { OnOk result (replay_fault_of number (count_in_draft (draft_value self.old))
-            (replay_line_at (place_in_draft (draft_value self.old)) line.now) ≡ None) }
+            ≡ with_line (draft_value self.old) (next_line (draft_value self.old) line.now)) }
+        ensures sound { OnOk result (next_fault number (draft_value self.old) line.now ≡ None) }
         ensures fault { IfErr result (λ fault. fault ≢ ReplayFault.NoMemory
-            → replay_fault_of number (count_in_draft (draft_value self.old))
-            (replay_line_at (place_in_draft (draft_value self.old)) line.now) ≡ Some fault) }
+            → next_fault number (draft_value self.old) line.now ≡ Some fault) }
         ensures no_memory { IfErr result (λ fault. fault ≡ ReplayFault.NoMemory
-            → IsTrue (is_kept (replay_line_at (place_in_draft (draft_value self.old)) line.now))) }
+            → IsTrue (is_kept (next_line (draft_value self.old) line.now))) }
         ensures no_memory_sound { IfErr result (λ fault. fault ≡ ReplayFault.NoMemory
-            → replay_fault_of number (count_in_draft (draft_value self.old))
-            (replay_line_at (place_in_draft (draft_value self.old)) line.now) ≡ None) }
+            → next_fault number (draft_value self.old) line.now ≡ None) }
         ensures fits { DraftFits (draft_value self.new) }
     {
         match read_replay_line(self.place(), line) {
@@ -135,7 +133,8 @@ impl Draft {
         ensures sound { OnOk result (count_in_draft (draft_value self.old) < LINES_MAX) }
         ensures fault { IfErr result (λ fault. fault ≢ ReplayFault.NoMemory
             → (fault ≡ ReplayFault.TooManyLines number) × (LINES_MAX ≤ count_in_draft (draft_value self.old))) }
-        ensures no_memory { IfErr result (λ fault. fault ≡ ReplayFault.NoMemory → IsTrue (is_kept (Ok (Some said)))) }
+        ensures no_memory { IfErr result (λ fault. fault ≡ ReplayFault.NoMemory
+            → IsTrue (is_kept (Ok (Some said)))) }
         ensures no_memory_sound { IfErr result (λ fault. fault ≡ ReplayFault.NoMemory
             → count_in_draft (draft_value self.old) < LINES_MAX) }
         ensures fits { DraftFits (draft_value self.new) }
