@@ -1,12 +1,10 @@
 -- The draft of the lines that are not skipped, a line at a time.
-use Rattle.std.proofs.Common.{◌≡◌, ◌⊎◌, inl, inr, ◌+◌, ℕ, Bool, true, false, List, [], ◌∷◌, ◌++◌, length, Option, None, Some, Result, Ok, Err, refl, sym, ap, ◌∙◌, arith, ⊎_elim}
+use Rattle.std.proofs.Common.{◌≡◌, ℕ, true, false, List, [], ◌∷◌, ◌++◌, Option, None, Some, Ok, refl, sym, ap, ◌∙◌}
 use Rattle.std.proofs.lemmas.List.{append-nil}
 use Rattle.std.proofs.lemmas.List.Elements.{filter_map-append}
 use Rattle.std.specs.Option.{option_to_list}
 use Rattle.ell_core.specs.declared.event.Event.{Event}
-use Rattle.ell_text.specs.declared.replay_line.Place.{Place}
 use Rattle.ell_text.specs.declared.replay_line.Place.TheVariants as at
-use Rattle.ell_text.specs.declared.replay_line.ReplayLineFault.{ReplayLineFault}
 use Rattle.ell_text.specs.declared.replay_line.Said.{Said}
 use Rattle.ell_text.specs.declared.replay_line.Said.TheVariants as says
 use Rattle.ell_text.specs.Draft.{DraftValue, count_in_draft, finished, no_draft, place_in_draft, place_of, with_said}

@@ -1,5 +1,5 @@
 -- The first fault of a replay text, and its script, a line at a time.
-use Rattle.std.proofs.Common.{◌≡◌, ◌⊎◌, inl, inr, ◌+◌, ◌<◌, ◌≤◌, ℕ, suc, Bool, true, false, IsTrue, not, List, [], ◌∷◌, ◌++◌, length, take, drop, get_or, Option, None, Some, Result, Ok, Err, refl, sym, ap, ◌∙◌, arith, ⊎_elim, add-one, subst}
+use Rattle.std.proofs.Common.{◌≡◌, ◌⊎◌, inl, inr, ◌+◌, ◌<◌, ◌≤◌, ℕ, true, false, IsTrue, not, List, [], ◌∷◌, ◌++◌, length, take, drop, get_or, Option, None, Some, Result, Ok, Err, refl, sym, ap, ◌∙◌, arith, ⊎_elim, add-one, subst}
 use Rattle.std.proofs.lemmas.Bool.{cases_Bool, cond-true, cond-false}
 use Rattle.std.proofs.lemmas.List.{append-nil, take_all, take_more, length-drop}
 use Rattle.std.proofs.lemmas.List.Elements.{filter-append}
@@ -11,7 +11,7 @@ use Rattle.ell_text.specs.Bulk.{first}
 use Rattle.ell_text.specs.Draft.{DraftValue, count_in_draft, finished, no_draft, place_in_draft, with_line}
 use Rattle.ell_text.specs.Lines.{is_skipped}
 use Rattle.ell_text.specs.ReplayLine.{replay_line_at}
-use Rattle.ell_text.specs.Script.{HasSoundEntry, ScriptValue, is_kept, kept_count, place_after, replay_fault_at, replay_fault_of, replay_line, script_of, spoken, unless_replay_fault}
+use Rattle.ell_text.specs.Script.{HasSoundEntry, ScriptValue, is_kept, place_after, replay_fault_at, replay_fault_of, replay_line, script_of, spoken, unless_replay_fault}
 use Rattle.ell_text.proofs.BulkLemmas.{first_more, first_stays, line_at}
 use Rattle.ell_text.proofs.DraftLemmas.{HasHeads, count_lem, draft_of, drafted, finished_lem, place_lem}
 use Rattle.ell_text.proofs.SaidLemmas.{says_nothing, says_something}

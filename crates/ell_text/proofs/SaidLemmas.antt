@@ -1,5 +1,5 @@
 -- What one line says at the places of a replay text.
-use Rattle.std.proofs.Common.{◌≡◌, ◌⊎◌, inl, inr, ℕ, Bool, true, false, cond, List, [], ◌∷◌, Option, None, Some, IsSome, Result, Ok, Err, refl, sym, ap, ◌∙◌, ⊎_elim, codes}
+use Rattle.std.proofs.Common.{◌≡◌, ◌⊎◌, inl, inr, ℕ, true, false, List, [], ◌∷◌, Option, None, Some, Result, Ok, Err, refl, sym, ap, ◌∙◌, ⊎_elim, codes}
 use Rattle.std.proofs.lemmas.Bool.{cases_Bool, cond-true, cond-false}
 use Rattle.std.proofs.lemmas.Slice.Eq.{bytes_eq-Decides}
 use Rattle.std.specs.Str.{bytes_eq}
@@ -8,13 +8,12 @@ use Rattle.ell_text.specs.declared.replay_line.CardAct.{CardAct}
 use Rattle.ell_text.specs.declared.replay_line.Place.{Place}
 use Rattle.ell_text.specs.declared.replay_line.Place.TheVariants as at
 use Rattle.ell_text.specs.declared.replay_line.ReplayLineFault.{ReplayLineFault}
-use Rattle.ell_text.specs.declared.replay_line.ReplayLineFault.TheVariants.{BadNumber}
 use Rattle.ell_text.specs.declared.replay_line.Said.{Said}
 use Rattle.ell_text.specs.declared.replay_line.Said.TheVariants as says
 use Rattle.ell_text.specs.declared.replay_line.TheConstants.{WORKERS_MAX, CARDS_MAX}
 use Rattle.ell_text.specs.Lines.{is_skipped}
 use Rattle.ell_text.specs.ReplayLine.{◌>>=◌, act_on, card_act_of, card_in, count_of, entry_of, entry_or_event, event_of, or_bad_line, pieces, replay_key_in, replay_line_at, said_at, said_event, worker_in}
-use Rattle.ell_text.specs.Script.{cards_said, entry_said, event_said, is_kept, workers_said}
+use Rattle.ell_text.specs.Script.{entry_said, event_said, is_kept}
 
 -- what a line says that is not skipped
 abbrev pub whole : Result Said ReplayLineFault → Result (Option Said) ReplayLineFault

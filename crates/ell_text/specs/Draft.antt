@@ -1,5 +1,5 @@
 -- A script while its text is read, a line at a time.
-use Rattle.std.specs.Prelude.{ℕ, ◌+◌, ◌≤◌, List, [], ◌∷◌, ◌++◌, length, All, Option, None, Some, IfSome, option_and_then, Result, Ok, Err}
+use Rattle.std.specs.Prelude.{ℕ, ◌+◌, ◌≤◌, List, [], ◌∷◌, ◌++◌, length, All, Option, None, Some, IfSome, Result, Ok, Err}
 use Rattle.ell_ops.specs.Meaning.{greatest_key}
 use Rattle.ell_core.specs.declared.event.Event.{Event}
 use Rattle.ell_text.specs.declared.replay_line.TheConstants.{WORKERS_MAX, CARDS_MAX}
@@ -10,7 +10,9 @@ use Rattle.ell_text.specs.declared.replay_line.Said.{Said}
 use Rattle.ell_text.specs.declared.replay_line.Said.TheVariants as says
 use Rattle.ell_text.specs.declared.replay.TheConstants.{LINES_MAX}
 use Rattle.ell_text.specs.declared.replay.Draft.{Draft}
-use Rattle.ell_text.specs.Script.{ScriptValue, place_behind}
+use Rattle.ell_text.specs.declared.replay.ReplayFault.{ReplayFault}
+use Rattle.ell_text.specs.ReplayLine.{replay_line_at}
+use Rattle.ell_text.specs.Script.{ScriptValue, place_behind, replay_fault_of, script_from}
 
 -- The parts of a script that the lines so far say.
 pub record DraftValue : Type 0 where
@@ -54,10 +56,17 @@ with_line d (Ok (Some said)) = with_said d said
 with_line d (Ok None) = d
 with_line d (Err fault) = d
 
+-- what a line says at the draft's place
+abbrev pub next_line : DraftValue → List ℕ → Result (Option Said) ReplayLineFault
+next_line d line = replay_line_at (place_in_draft d) line
+
+-- the fault of the line of this number behind the draft
+abbrev pub next_fault : ℕ → DraftValue → List ℕ → Option ReplayFault
+next_fault number d line = replay_fault_of number (count_in_draft d) (next_line d line)
+
 -- the script, where both heads are there
 abbrev pub finished : DraftValue → Option ScriptValue
-finished d =
-    option_and_then (λ workers. option_and_then (λ cards. Some (record { workers = workers; cards = cards; owned = d.owned; events = d.events })) d.cards) d.workers
+finished d = script_from d.workers d.cards d.owned d.events
 
 -- the numbers of a draft are in their ranges
 pub record DraftFits (d : DraftValue) : Type 0 where

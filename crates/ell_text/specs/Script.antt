@@ -1,5 +1,5 @@
 -- The script of a replay text, or its first fault.
-use Rattle.std.specs.Prelude.{ℕ, ◌+◌, ◌<◌, ◌≡◌, Bool, true, false, IsTrue, not, nat_lt, List, [], ◌∷◌, length, take, slice_index_or, Option, None, Some, option_and_then, Result, Ok, Err, if◌then◌else◌}
+use Rattle.std.specs.Prelude.{ℕ, ◌+◌, ◌<◌, ◌≡◌, Bool, true, false, IsTrue, not, nat_lt, List, [], ◌∷◌, length, take, slice_index_or, Option, None, Some, Result, Ok, Err, if◌then◌else◌}
 use Rattle.std.specs.List.{filter, filter_map}
 use Rattle.ell_core.specs.declared.event.Event.{Event}
 use Rattle.ell_text.specs.declared.replay_line.Place.{Place}
@@ -105,11 +105,16 @@ pub record HasSoundEntry (text : List (List ℕ)) : Type 0 where
   pub kept : IsTrue (is_kept (replay_line text at))
   pub sound : first (replay_fault_at text) (at + 1) ≡ None
 
--- the script of the lines that are not skipped, where the first two say the numbers of workers and of cards
+-- a script of these parts, where both numbers are there
+abbrev pub script_from : Option ℕ → Option ℕ → List (ℕ × ℕ) → List Event → Option ScriptValue
+script_from (Some workers) (Some cards) owned events = Some (record { workers = workers; cards = cards; owned = owned; events = events })
+script_from (Some workers) None owned events = None
+script_from None cards owned events = None
+
+-- the script of the lines that are not skipped: the first two say the numbers of workers and of cards
 abbrev pub script_of : List (List ℕ) → Option ScriptValue
 script_of (head ∷ second ∷ more) =
-    option_and_then (λ workers. option_and_then (λ cards. Some (record { workers = workers; cards = cards; owned = entries more; events = events_in more }))
-    (cards_said (replay_line_at at.Cards second))) (workers_said (replay_line_at at.Workers head))
+    script_from (workers_said (replay_line_at at.Workers head)) (cards_said (replay_line_at at.Cards second)) (entries more) (events_in more)
 script_of other = None
 
 -- the fault, or else the script, where the text did not end before it

@@ -4,7 +4,7 @@
 //! A line of a bulk text is the name of an operation, `find`, `insert` or `delete`, one space, and a key in decimal
 //! digits. A replay text has the line `workers N`, the line `cards N`, lines `own W K`, and a line for each event, as
 //! `0 begin find 5` and `0 mark 3`. Empty lines, lines of spaces and tabs, and lines whose first byte is `#` are
-//! skipped. `docs/FORMATS.md` has the bulk text and its answer in full.
+//! skipped. `docs/FORMATS.md` has these texts in full.
 #![tactic(auto)]
 
 mod answer;

@@ -1,10 +1,10 @@
 //! The script of a replay text.
 ghost use Rattle.std.specs.Prelude.{◌≡◌, ◌≢◌, ◌<◌, ◌≤◌, All, None, Some, IfErr, IfOk, IsTrue, OnErr, OnOk};
 ghost use Rattle.ell_ops.specs.Meaning.{greatest_key};
-ghost use Rattle.ell_text.specs.Draft.{DraftFits, count_in_draft, draft_value, finished, no_draft, place_in_draft, with_line, with_said};
+ghost use Rattle.ell_text.specs.Draft.{DraftFits, count_in_draft, draft_value, finished, next_fault, next_line, no_draft, place_in_draft, with_line, with_said};
 ghost use Rattle.ell_text.specs.Lines.{lines};
-ghost use Rattle.ell_text.specs.ReplayLine.{SaidFits, replay_line_at};
-ghost use Rattle.ell_text.specs.Script.{HasSoundEntry, is_kept, replay_fault_of, replay_located, script, script_value};
+ghost use Rattle.ell_text.specs.ReplayLine.{SaidFits};
+ghost use Rattle.ell_text.specs.Script.{HasSoundEntry, is_kept, replay_located, script, script_value};
 
 use crate::lines::lines;
 use crate::replay_line::{Place, ReplayLineFault, Said, read_replay_line};
@@ -54,12 +54,10 @@ pub fn read_replay(alloc: Global, bytes: &[u8]) -> Result<Script, ReplayFault>
     ensures ok { IfOk result (λ s. script bytes.now ≡ Ok (script_value s)) }
     ensures fault { IfErr result (λ fault. fault ≢ ReplayFault.NoMemory → script bytes.now ≡ Err fault) }
     ensures no_memory { IfErr result (λ fault. fault ≡ ReplayFault.NoMemory → HasSoundEntry (lines bytes.now)) }
-    ensures some_workers { IfOk result (λ s. 1 ≤ s.workers) }
-    ensures workers { IfOk result (λ s. s.workers ≤ 64) }
-    ensures some_cards { IfOk result (λ s. 1 ≤ s.cards) }
-    ensures cards { IfOk result (λ s. s.cards ≤ 1000000) }
+    ensures workers { IfOk result (λ s. (1 ≤ s.workers) × (s.workers ≤ 64)) }
+    ensures cards { IfOk result (λ s. (1 ≤ s.cards) × (s.cards ≤ 1000000)) }
     ensures keys { IfOk result (λ s. All (λ entry. entry.1 ≤ greatest_key) s.owned.items) }
-    ensures owners { IfOk result (λ s. All (λ entry. entry.0 ≤ 63) s.owned.items) }
+    ensures worker_numbers { IfOk result (λ s. All (λ entry. entry.0 ≤ 63) s.owned.items) }
     ensures event_workers { IfOk result (λ s. All (λ event. event.worker ≤ 63) s.events.items) }
 {
     let mut draft = Draft::new(alloc);
@@ -105,21 +103,19 @@ impl Draft {
             Place::Events
         }
     }
+
     // Appends what the line of this number says, if it says something.
     fn append_line(&mut self, line: &[u8], number: usize) -> Result<(), ReplayFault>
         requires fits { DraftFits (draft_value self.old) }
         ensures ok { OnOk result (draft_value self.new
-            ≡ with_line (draft_value self.old) (replay_line_at (place_in_draft (draft_value self.old)) line.now)) }
-        ensures sound { OnOk result (replay_fault_of number (count_in_draft (draft_value self.old))
-            (replay_line_at (place_in_draft (draft_value self.old)) line.now) ≡ None) }
+            ≡ with_line (draft_value self.old) (next_line (draft_value self.old) line.now)) }
+        ensures sound { OnOk result (next_fault number (draft_value self.old) line.now ≡ None) }
         ensures fault { IfErr result (λ fault. fault ≢ ReplayFault.NoMemory
-            → replay_fault_of number (count_in_draft (draft_value self.old))
-            (replay_line_at (place_in_draft (draft_value self.old)) line.now) ≡ Some fault) }
+            → next_fault number (draft_value self.old) line.now ≡ Some fault) }
         ensures no_memory { IfErr result (λ fault. fault ≡ ReplayFault.NoMemory
-            → IsTrue (is_kept (replay_line_at (place_in_draft (draft_value self.old)) line.now))) }
+            → IsTrue (is_kept (next_line (draft_value self.old) line.now))) }
         ensures no_memory_sound { IfErr result (λ fault. fault ≡ ReplayFault.NoMemory
-            → replay_fault_of number (count_in_draft (draft_value self.old))
-            (replay_line_at (place_in_draft (draft_value self.old)) line.now) ≡ None) }
+            → next_fault number (draft_value self.old) line.now ≡ None) }
         ensures fits { DraftFits (draft_value self.new) }
     {
         match read_replay_line(self.place(), line) {
@@ -137,7 +133,8 @@ impl Draft {
         ensures sound { OnOk result (count_in_draft (draft_value self.old) < LINES_MAX) }
         ensures fault { IfErr result (λ fault. fault ≢ ReplayFault.NoMemory
             → (fault ≡ ReplayFault.TooManyLines number) × (LINES_MAX ≤ count_in_draft (draft_value self.old))) }
-        ensures no_memory { IfErr result (λ fault. fault ≡ ReplayFault.NoMemory → IsTrue (is_kept (Ok (Some said)))) }
+        ensures no_memory { IfErr result (λ fault. fault ≡ ReplayFault.NoMemory
+            → IsTrue (is_kept (Ok (Some said)))) }
         ensures no_memory_sound { IfErr result (λ fault. fault ≡ ReplayFault.NoMemory
             → count_in_draft (draft_value self.old) < LINES_MAX) }
         ensures fits { DraftFits (draft_value self.new) }
@@ -165,9 +162,15 @@ impl Draft {
 
     // The script, where the text had both of its heads.
     fn finish(self) -> Result<Script, ReplayFault>
+        requires fits { DraftFits (draft_value self) }
         ensures value { IfOk result (λ s. finished (draft_value self) ≡ Some (script_value s)) }
         ensures fault { IfErr result (λ fault. fault ≡ ReplayFault.Ended) }
         ensures ended { OnErr result (finished (draft_value self) ≡ None) }
+        ensures workers { IfOk result (λ s. (1 ≤ s.workers) × (s.workers ≤ 64)) }
+        ensures cards { IfOk result (λ s. (1 ≤ s.cards) × (s.cards ≤ 1000000)) }
+        ensures keys { IfOk result (λ s. All (λ entry. entry.1 ≤ greatest_key) s.owned.items) }
+        ensures worker_numbers { IfOk result (λ s. All (λ entry. entry.0 ≤ 63) s.owned.items) }
+        ensures event_workers { IfOk result (λ s. All (λ event. event.worker ≤ 63) s.events.items) }
     {
         let (Some(workers), Some(cards)) = (self.workers, self.cards) else {
             return Err(ReplayFault::Ended);

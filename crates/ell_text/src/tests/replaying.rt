@@ -24,7 +24,8 @@ fn repeated(alloc: Global, line: &[u8], count: usize) -> Result<Vec<u8>, AllocEr
 
 #[test]
 fn each_form(rt: HostRuntime) -> Result<(), Fail> {
-    let text = b"# a replay\n\nworkers 64\r\ncards 1000000\nown 0 5\n \t\nown 63 18446744073709551613\n\
+    let text =
+        b"# a replay\n\nworkers 64\r\ncards 1000000\nown 0 5\n \t\nown 63 18446744073709551613\n\
         0 begin find 5\n1 begin insert 6\n2 begin delete 7\n63 upd\n0 down\n0 claim\n0 iflag\n0 dflag\n\
         0 again\n0 leave\n0 answer\n# cards\n0 ichild 0\n0 iunflag 1\n0 mark 2\n0 dchild 3\n0 dunflag 4\n\
         0 backtrack 1000000";
@@ -79,7 +80,10 @@ fn faults_of_the_heads(rt: HostRuntime) -> Result<(), Fail> {
         (b"workers 1\nworkers 1", ReplayFault::BadLine { line: 2 }),
         (b"workers 1\n0 upd", ReplayFault::BadLine { line: 2 }),
         (b"workers 1\ncards 0", ReplayFault::BadNumber { line: 2 }),
-        (b"workers 1\n#\ncards 1000001", ReplayFault::BadNumber { line: 3 }),
+        (
+            b"workers 1\n#\ncards 1000001",
+            ReplayFault::BadNumber { line: 3 },
+        ),
         (b"workers 1\ncards x\n", ReplayFault::BadNumber { line: 2 }),
     ];
     for (text, want) in faults {
@@ -155,10 +159,22 @@ fn the_limit_of_lines(rt: HostRuntime) -> Result<(), Fail> {
 #[test]
 fn replay_faults_in_words(rt: HostRuntime) -> Result<(), Fail> {
     let faults = [
-        (ReplayFault::BadLine { line: 3 }, "line 3: not a replay line"),
-        (ReplayFault::BadNumber { line: 1 }, "line 1: not a number in range"),
-        (ReplayFault::KeyTooLarge { line: 12 }, "line 12: key too large"),
-        (ReplayFault::TooManyLines { line: 7 }, "line 7: more than 200000 lines"),
+        (
+            ReplayFault::BadLine { line: 3 },
+            "line 3: not a replay line",
+        ),
+        (
+            ReplayFault::BadNumber { line: 1 },
+            "line 1: not a number in range",
+        ),
+        (
+            ReplayFault::KeyTooLarge { line: 12 },
+            "line 12: key too large",
+        ),
+        (
+            ReplayFault::TooManyLines { line: 7 },
+            "line 7: more than 200000 lines",
+        ),
         (ReplayFault::Ended, "replay ends too early"),
         (ReplayFault::NoMemory, "out of memory"),
     ];

@@ -1,5 +1,5 @@
 -- The first piece ends at the first space.
-use Rattle.std.proofs.Common.{◌≡◌, ◌+◌, ◌-◌, ◌∷◌, List, length, take, drop, ap, sym, ◌∙◌, arith}
+use Rattle.std.proofs.Common.{◌+◌, ◌-◌, ◌∷◌, length, take, drop, ap, sym, ◌∙◌, arith}
 use Rattle.std.proofs.lemmas.List.{take_all, length-drop}
 use Rattle.std.specs.List.{slice_split}
 use Rattle.ell_text.specs.Lines.{is_space}
