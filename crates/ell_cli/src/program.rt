@@ -6,7 +6,7 @@ ghost use Rattle.ell_cli.specs.CommandLine.{AreRefused, AreTaken, AreTakenToRepl
 ghost use Rattle.ell_cli.specs.CommandLine.{AsksForHelp, AsksForReport, AsksToReplay, AsksToRun};
 ghost use Rattle.ell_cli.specs.CommandLine.{is_mistake};
 ghost use Rattle.ell_cli.specs.Program.{IsBeforeOutput, IsRefusal, IsSilent, IsStatus, Succeeded};
-ghost use Rattle.ell_cli.specs.Program.{status_of, status_of_script_fault};
+ghost use Rattle.ell_cli.specs.Program.{status_of};
 ghost use Rattle.ell_run.specs.Answered.{IsAnswered};
 ghost use Rattle.ell_text.specs.Replayed.{IsReplayed};
 
@@ -72,27 +72,19 @@ impl Failure {
             Failure::Run(RunFault::TooLong | RunFault::Text(_)) => REFUSED,
             Failure::Run(RunFault::NoMemory) => OUT_OF_MEMORY,
             Failure::Run(RunFault::Read | RunFault::Write { .. }) => TRANSFER_FAILED,
-            Failure::Replay(fault) => status_of_replay(fault),
+            Failure::Replay(ScriptFault::TooLong | ScriptFault::Text(_) | ScriptFault::Start(_)) =>
+                REFUSED,
+            Failure::Replay(ScriptFault::NoMemory) => OUT_OF_MEMORY,
+            Failure::Replay(ScriptFault::Read | ScriptFault::Write { .. }) => TRANSFER_FAILED,
             Failure::Write => TRANSFER_FAILED,
         }
     }
 }
 
-// The exit status that tells why a replay ended early.
-fn status_of_replay(fault: &ScriptFault) -> u8
-    ensures { result ≡ status_of_script_fault fault.now }
-{
-    match fault {
-        ScriptFault::TooLong | ScriptFault::Text(_) | ScriptFault::Start(_) => REFUSED,
-        ScriptFault::NoMemory => OUT_OF_MEMORY,
-        ScriptFault::Read | ScriptFault::Write { .. } => TRANSFER_FAILED,
-    }
-}
-
 /// The whole program over a reader and two writers: answers its exit status, which `run --help`
-/// explains. Answers and help go to `out`, which is flushed last. The text of a failure goes to `err`,
-/// and so does the report of a run that succeeded, before that flush, where the words ask for it: the
-/// line `late N`. Where `err` fails, the status is the same.
+/// explains. Answers, traces and help go to `out`, which is flushed last. The text of a failure goes to
+/// `err`, and so does the report of a run that succeeded, before that flush, where the words ask for it:
+/// the line `late N`. Where `err` fails, the status is the same.
 pub fn elltree<R, S: AsStr, I: Read, O: Write, E: Write>(
     rt: &R,
     alloc: Global,
@@ -113,7 +105,8 @@ pub fn elltree<R, S: AsStr, I: Read, O: Write, E: Write>(
     ensures run { AsksToRun (map S.text words.now) → Succeeded result
         → IsAnswered (I.remaining input.old) (O.contents out.old) (O.contents out.new) }
 
-    // Success means that the replay ended well, where the words are taken to replay, as `replay` is.
+    // Success means that the replay ended well, where the words are taken to replay, as the one word
+    // `replay` is. A replay has no report.
     ensures replayed { AreTakenToReplay (map S.text words.now) → Succeeded result
         → IsReplayed (I.remaining input.old) (O.contents out.old) (O.contents out.new) }
     ensures replay { AsksToReplay (map S.text words.now) → Succeeded result
