@@ -34,7 +34,7 @@ use Rattle.clap.specs.ValueTests.{accepts}
 use Rattle.clap.specs.Values.{read_as, reading_of}
 use Rattle.clap.specs.Facts.{parser_of_value}
 use Rattle.ell_cli.proofs.PlaceLemmas.{AreAlike, level_alike, rows_after_moved}
-use Rattle.ell_cli.specs.CommandLine.{AreOptions, AreRefused, AreTaken, AreTakenToRun, AsksForHelp, AsksForHelpAfter, AsksToReplay, AsksToRun, BorrowedNames, IsElltree, IsMistakeOrMemory, IsNumberUpTo, IsPlainRun, IsRequestOf, NamesPartings, app_at, cards_rule, elltree_app, faults_of, is_mistake, name_in, name_of, number_of, options_of, parting_names, parting_rule, partings, replay_shape, report_rule, rows_in, run_shape, subcommand_for, subcommand_in, tries_rule, up_to, workers_rule}
+use Rattle.ell_cli.specs.CommandLine.{AreOptions, AreRefused, AreTaken, AreTakenToReplay, AreTakenToRun, AsksForHelp, AsksForHelpAfter, AsksToReplay, AsksToRun, BorrowedNames, IsElltree, IsMistakeOrMemory, IsNumberUpTo, IsPlainRun, IsRequestOf, NamesPartings, app_at, cards_rule, elltree_app, faults_of, is_mistake, name_in, name_of, number_of, options_of, parting_names, parting_rule, partings, replay_shape, report_rule, rows_in, run_shape, subcommand_for, subcommand_in, tries_rule, up_to, workers_rule}
 
 -- ---- words that are written out
 
@@ -243,6 +243,13 @@ one_is_named words none =
     let parts = level_parts app.top (names_of app) nothing_held words has (entered_fault app stop) none in
     let met = was_met app.top (finished app.top.rules (walk app.top.rules (names_of app) nothing_held words).held) has refl parts.1 in
     stop_is_named stop (walk_goes_on app.top (names_of app) (walk_from nothing_held) words refl tt parts.0) met
+
+-- words that are taken name `run` or `replay`
+pub one_is_taken : (words : List Text) → AreTaken words → AreTakenToRun words ⊎ AreTakenToReplay words
+one_is_taken words none = elim (one_is_named words none) [
+  | inl run ↦ inl (none, run)
+  | inr replay ↦ inr (none, replay)
+]
 
 -- ---- the names of the partings, at another place
 

@@ -1,5 +1,5 @@
 //! The whole program, over the words of its command line, a reader and two writers.
-ghost use Rattle.std.specs.Prelude.{◌≡◌, IsTrue, IfErr, IsErrAnd, OnOk, Err, map};
+ghost use Rattle.std.specs.Prelude.{◌≡◌, ◌⊎◌, IsTrue, IfErr, IsErrAnd, OnOk, Err, map};
 ghost use Rattle.std.specs.Io.KnownBytes.{Keeps};
 ghost use Rattle.clap.specs.Words.{kind_of};
 ghost use Rattle.ell_cli.specs.CommandLine.{AreRefused, AreTaken, AreTakenToReplay, AreTakenToRun};
@@ -99,6 +99,10 @@ pub fn elltree<R, S: AsStr, I: Read, O: Write, E: Write>(
     // Success writes to `err` only a report that was asked for.
     ensures quiet { Succeeded result → ¬ AsksForReport (map S.text words.now) → err.new ≡ err.old }
 
+    // Words that are taken name `run` or `replay`.
+    ensures named { AreTaken (map S.text words.now)
+        → AreTakenToRun (map S.text words.now) ⊎ AreTakenToReplay (map S.text words.now) }
+
     // Success means that the run ended well, where the words are taken to run, as the one word `run` is.
     ensures taken { AreTakenToRun (map S.text words.now) → Succeeded result
         → IsAnswered (I.remaining input.old) (O.contents out.old) (O.contents out.new) }
@@ -137,6 +141,8 @@ fn outcome<R, S: AsStr, I: Read, O: Write, E: Write>(
 ) -> Result<(), Failure>
     ensures silent { IfErr result (λ failure.
         IsBeforeOutput failure → Keeps (O.contents out.old) (O.contents out.new)) }
+    ensures named { AreTaken (map S.text words.now)
+        → AreTakenToRun (map S.text words.now) ⊎ AreTakenToReplay (map S.text words.now) }
     ensures taken { AreTakenToRun (map S.text words.now)
         → OnOk result (IsAnswered (I.remaining input.old) (O.contents out.old) (O.contents out.new)) }
     ensures run { AsksToRun (map S.text words.now)

@@ -6,7 +6,8 @@ ghost use Rattle.clap.specs.Words.{FailsBy, HasKind, app_of, first_of, found_of,
 ghost use Rattle.clap.specs.Words.{rows_of, rule_of, shape_of, subcommand_name_of};
 ghost use Rattle.clap.specs.Words.{subcommand_rows_of};
 ghost use Rattle.clap.specs.declared.builder.command.Command.TheViews.{out-Command as fields_of};
-ghost use Rattle.ell_cli.specs.CommandLine.{AreOptions, AreRefused, AreSaid, AreTaken, AsksForHelp};
+ghost use Rattle.ell_cli.specs.CommandLine.{AreOptions, AreRefused, AreSaid, AreTaken, AreTakenToReplay};
+ghost use Rattle.ell_cli.specs.CommandLine.{AreTakenToRun, AsksForHelp};
 ghost use Rattle.ell_cli.specs.CommandLine.{AsksToReplay, AsksToRun, BorrowedNames, IsElltree};
 ghost use Rattle.ell_cli.specs.CommandLine.{IsMistakeOrMemory, IsNumberUpTo, IsPlainRun};
 ghost use Rattle.ell_cli.specs.CommandLine.{IsRequestOf, NamesPartings};
@@ -90,9 +91,11 @@ pub fn request_of<S: AsStr>(alloc: Global, words: &[S]) -> Result<Request, Error
     ensures request { IfOk result (IsRequestOf (options_of (map S.text words.now))) }
     ensures defaults { AsksToRun (map S.text words.now) → IfOk result IsPlainRun }
 
-    // The request is of the command that the words name.
+    // The request is of the command that the words name, and words that are taken name one of the two.
     ensures command { IfOk result (λ request.
         subcommand_in (map S.text words.now) ≡ Some (subcommand_for request)) }
+    ensures named { AreTaken (map S.text words.now)
+        → AreTakenToRun (map S.text words.now) ⊎ AreTakenToReplay (map S.text words.now) }
 
     // What that comes to at some words.
     ensures taken { AreTaken (map S.text words.now)
