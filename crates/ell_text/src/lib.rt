@@ -1,5 +1,5 @@
-//! Texts in and out: the bytes of a reader, the operations of a bulk text, the text that answers them, and the script
-//! of a replay text.
+//! Texts in and out: the bytes of a reader, the operations of a bulk text and the text that answers them, the script of
+//! a replay text and the trace of its replay.
 //!
 //! A line of a bulk text is the name of an operation, `find`, `insert` or `delete`, one space, and a key in decimal
 //! digits. A replay text has the line `workers N`, the line `cards N`, lines `own W K`, and a line for each event, as
