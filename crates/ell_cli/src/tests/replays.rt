@@ -73,9 +73,22 @@ fn a_replay_gives_its_trace(rt: HostRuntime) {
 
 #[test]
 fn faults_of_a_replay_go_to_standard_error(rt: HostRuntime) {
-    let cases: [(&[u8], &str); 4] = [
+    let cases: [(&[u8], &str); 8] = [
         (b"", "elltree: replay ends too early\n"),
-        (b"insert 5\n", "elltree: line 1: not a replay line\n"),
+        (b"workers 2\n", "elltree: replay ends too early\n"),
+        (
+            b"workers 2\ncards 0\n",
+            "elltree: line 2: not a number in range\n",
+        ),
+        (b"cards 4\n", "elltree: line 1: not a replay line\n"),
+        (
+            b"workers 2\ncards 4\nown 0 18446744073709551614\n",
+            "elltree: line 3: key too large\n",
+        ),
+        (
+            b"workers 2\ncards 4\nown 0 5\n0 upd\nown 0 6\n",
+            "elltree: line 5: not a replay line\n",
+        ),
         (
             b"workers 2\ncards 4\nown 0 5\nown 1 5\n",
             "elltree: key owned twice\n",
