@@ -37,11 +37,7 @@ pub struct Report {
 }
 
 /// The parting of the operations that the settings ask for: among their workers, in stripes or in ranges.
-pub fn parts_for(
-    alloc: Global,
-    ops: &[Op],
-    settings: Settings,
-) -> Result<Parts<Global>, NoMemory>
+pub fn parts_for(alloc: Global, ops: &[Op], settings: Settings) -> Result<Parts<Global>, NoMemory>
     requires { AreSettings settings }
     ensures { IfOk result (IsPartedAs settings ops.now) }
 {

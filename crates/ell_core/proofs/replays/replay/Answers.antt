@@ -37,11 +37,13 @@ loop-event-preserved c =
     let first = machine_of c.args.world.now in
     let after = machine_of c.show.new.world in
     let more = run_more first (take i events) c.loop-event.shown.items (machine_of c.loop-event.world) after event
-    c.in_ok-answer.answer c.loop-event.invariant.0 c.in_ok-answer.ensures.shows in
-    (subst (λ xs. Run first (take (i + 1) events) xs after)
-    (sym (c.in_ok-push.ensures.items ∙ ap (λ xs. xs ++ c.in_ok-answer.answer ∷ []) c.in_ok-reserve.ensures.items))
-    (subst (λ es. Run first es (c.loop-event.shown.items ++ c.in_ok-answer.answer ∷ []) after)
-    (sym (take_more events i other c.loop-event-test.true)) more), c.show.ensures.cards ∙ c.loop-event.invariant.1)
+    c.in_ok-answer.answer c.loop-event.invariant.0 c.in_ok-answer.ensures.shows in (
+      subst (λ xs. Run first (take (i + 1) events) xs after)
+          (sym (c.in_ok-push.ensures.items ∙ ap (λ xs. xs ++ c.in_ok-answer.answer ∷ []) c.in_ok-reserve.ensures.items))
+          (subst (λ es. Run first es (c.loop-event.shown.items ++ c.in_ok-answer.answer ∷ []) after)
+          (sym (take_more events i other c.loop-event-test.true)) more),
+      c.show.ensures.cards ∙ c.loop-event.invariant.1,
+    )
 
 pub returns-clause-run : goal.returns-clause-run
 returns-clause-run c =
