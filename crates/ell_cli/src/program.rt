@@ -19,6 +19,7 @@ use std::convert::AsStr;
 use std::error::Error;
 use std::fmt;
 use std::io::{Read, Write};
+use std::thread::Threads;
 
 // Success, or help was asked for.
 const SUCCEEDED: u8 = 0;
@@ -85,7 +86,7 @@ impl Failure {
 /// explains. Answers, traces and help go to `out`, which is flushed last. The text of a failure goes to
 /// `err`, and so does the report of a run that succeeded, before that flush, where the words ask for it:
 /// the line `late N`. Where `err` fails, the status is the same.
-pub fn elltree<R, S: AsStr, I: Read, O: Write, E: Write>(
+pub fn elltree<R: Threads + Sync, S: AsStr, I: Read, O: Write, E: Write>(
     rt: &R,
     alloc: Global,
     words: &[S],
@@ -131,7 +132,7 @@ pub fn elltree<R, S: AsStr, I: Read, O: Write, E: Write>(
 }
 
 // Does what the words ask for, writes the report to `err`, and flushes `out` last.
-fn outcome<R, S: AsStr, I: Read, O: Write, E: Write>(
+fn outcome<R: Threads + Sync, S: AsStr, I: Read, O: Write, E: Write>(
     rt: &R,
     alloc: Global,
     words: &[S],

@@ -5,3 +5,4 @@ pub mod KeysLeftLemmas
 pub mod OnKey
 pub mod PieceLemmas
 pub mod RunLemmas
+pub mod WorkerLemmas

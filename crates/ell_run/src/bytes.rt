@@ -9,8 +9,10 @@ use crate::runs::run;
 use crate::settings::{Report, Settings, limits_for, parts_for};
 use ell_ops::NoMemory;
 use ell_text::{InputFault, TextFault, WriteFault, read_all, read_bulk, write_answer};
+use ell_word::NoGate;
 use std::alloc::Global;
 use std::io::{Read, Write};
+use std::thread::Threads;
 use thiserror::Error;
 
 /// Why a run ended early. Before each of these but `Write` nothing was written.
@@ -76,7 +78,7 @@ impl From<WriteFault> for RunFault {
 
 /// Runs a bulk text: reads all of it, runs its operations from the empty set as the settings say, and writes the answer.
 /// Nothing is written before the run has ended.
-pub fn run_bytes<R, I: Read, O: Write>(
+pub fn run_bytes<R: Threads + Sync, I: Read, O: Write>(
     rt: &R,
     alloc: Global,
     reader: &mut I,
@@ -93,7 +95,7 @@ pub fn run_bytes<R, I: Read, O: Write>(
     let bytes = read_all(alloc, reader)?;
     let ops = read_bulk(alloc, &bytes)?;
     let parts = parts_for(alloc, &ops, settings)?;
-    let outcome = run(rt, alloc, &ops, &parts, limits_for(&ops, settings))?;
+    let outcome = run(rt, alloc, &ops, &parts, limits_for(&ops, settings), &NoGate)?;
     write_answer(writer, &outcome.replies, &outcome.keys)?;
     Ok(Report { late: outcome.late })
 }

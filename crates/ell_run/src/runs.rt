@@ -7,7 +7,9 @@ ghost use Rattle.ell_run.specs.Limits.{AreLimits};
 use crate::pieces::do_parts;
 use ell_ops::{NoMemory, Op};
 use ell_parts::{GatherFault, Parts, gather};
+use ell_word::StepGate;
 use std::alloc::Global;
+use std::thread::Threads;
 
 /// How much a run may use.
 #[derive(Clone, Copy, Debug, PartialEq, Eq)]
@@ -29,14 +31,16 @@ pub struct Outcome {
     pub late: usize,
 }
 
-/// Runs a list of operations from the empty set, each worker of the parting on its own part. Replies and keys are those of
-/// one thread over the whole list. The limits have no effect yet.
-pub fn run<R>(
+/// Runs a list of operations from the empty set, each worker of the parting on its own part, in a thread of its own where one
+/// can be made. Replies and keys are those of one thread over the whole list. The gate sees each operation of a worker begin
+/// and end. The limits have no effect yet.
+pub fn run<R: Threads + Sync, G: StepGate + Sync>(
     rt: &R,
     alloc: Global,
     ops: &[Op],
     parts: &Parts<Global>,
     limits: Limits,
+    gate: &G,
 ) -> Result<Outcome, NoMemory>
     requires fits { All Fits ops.now }
     requires parted { parts.now.ops ≡ ops.now }
@@ -46,7 +50,7 @@ pub fn run<R>(
     ensures none_late { IfOk result (λ outcome. outcome.late ≡ 0) }
     ensures late { IfOk result (λ outcome. outcome.late ≤ length ops.now) }
 {
-    let (pieces, keys) = do_parts(alloc, parts)?;
+    let (pieces, keys) = do_parts(rt, alloc, parts, gate)?;
     let replies = match gather(alloc, parts.len(), &pieces) {
         Ok(replies) => replies,
         Err(fault) => return Err(only_memory(fault)),

@@ -2,7 +2,11 @@
 use crate::{Limits, Parting, Settings, parts_for, run, run_bytes};
 use ell_ops::Op;
 use ell_parts::Parts;
+use ell_word::NoGate;
 use std::test::Fail;
+
+mod meeting;
+mod threads;
 
 const EIGHT_KEYS: &[u8] =
     b"insert 1\ninsert 2\ninsert 3\ninsert 4\ninsert 5\ninsert 6\ninsert 7\ninsert 8\ndelete 2\ndelete 4\ndelete 6\ndelete 8\n";
@@ -94,7 +98,7 @@ fn a_list_by_its_owners(rt: HostRuntime) -> Result<(), Fail> {
     let ops = [Op::Insert(5), Op::Insert(7), Op::Delete(5), Op::Find(7)];
     let parts = Parts::by_owner(rt.alloc(), &ops, &[1, 0, 1, 0], 2)?;
     let limits = Limits { cards: 8, tries: 8 };
-    let outcome = run(&rt, rt.alloc(), &ops, &parts, limits)?;
+    let outcome = run(&rt, rt.alloc(), &ops, &parts, limits, &NoGate)?;
     assert_eq!(rt; outcome.replies.as_slice(), [true; 4].as_slice());
     assert_eq!(rt; outcome.keys.as_slice(), [7].as_slice());
     assert_eq!(rt; outcome.late, 0);

@@ -1,24 +1,17 @@
-use Rattle.std.proofs.Common.{◌++◌, ap, sym, subst, ◌∙◌}
-use Rattle.std.specs.List.{flat_map}
-use Rattle.ell_ops.specs.KeySet.{Lists, empty, set_of}
-use Rattle.ell_ops.specs.Meaning.{final}
-use Rattle.ell_run.specs.ByParts.{ops_in}
-use Rattle.ell_run.specs.Pieces.{piece_of, pieces_of}
-use Rattle.ell_run.proofs.PieceLemmas.{flat_map-push, pieces_more, kept_more}
+use Rattle.std.proofs.Common.{ap, subst, ◌∙◌}
+use Rattle.ell_ops.specs.KeySet.{Lists}
+use Rattle.ell_run.specs.Pieces.{keys_by, pieces_by}
+use Rattle.ell_run.proofs.WorkerLemmas.{busy_keys, busy_pieces}
 use Rattle.ell_run.proofs.pieces.do_parts.Goals as goal
 
-pub loop-worker-preserved : goal.loop-worker-preserved
-loop-worker-preserved c =
+pub returns-clause-pieces : goal.returns-clause-pieces
+returns-clause-pieces g c =
     let parting = c.args.parts.now in
-    let worker = c.loop-worker.worker in
-    let keys = c.loop-worker.keys.items in
-    record {
-      told = ap (flat_map (λ piece. piece.items)) c.in_ok-push.ensures.items
-          ∙ flat_map-push (λ piece. piece.items) c.loop-worker.pieces.items c.in_ok-piece.piece
-          ∙ ap (λ told. told ++ c.in_ok-piece.piece.items) c.loop-worker.invariant.told
-          ∙ ap (λ told. pieces_of parting worker ++ told) (c.in_ok-piece.ensures.piece ∙ ap piece_of c.part.ensures)
-          ∙ sym (pieces_more parting worker);
-      kept = ap set_of (c.in_ok-extend_from_slice.ensures.items ∙ ap (λ more. keys ++ more) c.deref.ensures.value)
-          ∙ kept_more parting worker keys c.in_ok-piece.kept.items c.loop-worker.invariant.kept
-          (subst (λ items. Lists (final empty (ops_in items)) c.in_ok-piece.kept.items) c.part.ensures c.in_ok-piece.ensures.keys);
-    }
+    c.in_ok-left.ensures.told ∙ ap (pieces_by parting) (c.deref.ensures.value ∙ c.in_ok-workers.ensures.busy) ∙ busy_pieces parting
+
+pub returns-clause-keys : goal.returns-clause-keys
+returns-clause-keys g c =
+    let parting = c.args.parts.now in
+    subst (λ set. Lists set c.distinct_keys.result.items)
+    (c.in_ok-left.ensures.kept ∙ ap (keys_by parting) (c.deref.ensures.value ∙ c.in_ok-workers.ensures.busy) ∙ busy_keys parting)
+    c.distinct_keys.ensures
