@@ -1,7 +1,7 @@
 //! Two threads that meet. Whether a second thread runs beside the first is for the machine to say, so each test on threads
 //! asks here first, without the product; where none runs, the test ends there and shows nothing.
 //!
-//! The loops that wait are for compiled tests: `rt try --test` gives up on them.
+//! The loops that wait are for compiled tests: an interpreter would take minutes for one that is not met.
 use std::sync::atomic::{AtomicBool, Ordering};
 use std::thread::{Threads, join};
 

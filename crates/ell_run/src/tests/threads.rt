@@ -60,7 +60,10 @@ fn two_workers_cross(rt: HostRuntime) -> Result<(), Fail> {
     let limits = Limits { cards: 8, tries: 8 };
     let gate = Crossing::new();
     let outcome = run(&rt, rt.alloc(), &ops, &parts, limits, &gate)?;
-    assert!(rt; !gate.overdue.load(Ordering::SeqCst), "a hold came to its end");
+    assert!(rt;
+        !gate.overdue.load(Ordering::SeqCst),
+        "a hold came to its end"
+    );
     assert_eq!(rt; outcome.replies.as_slice(), [true; 2].as_slice());
     assert_eq!(rt; outcome.keys.as_slice(), [5, 7].as_slice());
     assert_eq!(rt; outcome.late, 0);
