@@ -1,4 +1,5 @@
-//! A list of operations run by workers, each on its own part, and the same for a text, from bytes to bytes.
+//! A list of operations run by workers, each on its own part in a thread of its own, and the same for a text, from bytes to
+//! bytes.
 #![tactic(auto)]
 
 mod bytes;
