@@ -5,6 +5,7 @@ use crate::request::{Request, request_of};
 use ell_run::{Parting, Settings};
 use std::io::{Write, empty};
 use std::test::Fail;
+use std::thread::Threads;
 
 // The settings where no option is given.
 const DEFAULTS: Settings = Settings {
@@ -16,7 +17,12 @@ const DEFAULTS: Settings = Settings {
 
 const WRITE_FAILED: &str = "elltree: write failed\n";
 
-fn status_of<O: Write, E: Write>(rt: &HostRuntime, words: &[&str], out: &mut O, err: &mut E) -> u8 {
+fn status_of<R: Threads + Sync + AllocGlobal, O: Write, E: Write>(
+    rt: &R,
+    words: &[&str],
+    out: &mut O,
+    err: &mut E,
+) -> u8 {
     elltree(rt, rt.alloc(), words, &mut empty(), out, err)
 }
 
