@@ -9,6 +9,7 @@ use Rattle.ell_core.specs.Words.{child_field, words_of}
 use Rattle.ell_core.specs.Machine.{Ledger, idle, worker_or_nobody}
 use Rattle.ell_core.specs.Fits.{IsNode, IsInner, NamesCard, WordsFit, WorkerFits}
 use Rattle.ell_core.specs.Opening.{opening, opening_field, opening_words, opening_ledger}
+use Rattle.ell_core.specs.Invariant.{HasInvariant}
 use Rattle.ell_core.specs.World.{WorldValue, WorldFits, machine_of}
 
 -- the grandparents of an opening are internal nodes of the table
@@ -85,11 +86,12 @@ machine_of-opening w count owned cards words many size workers = λ t. record {
 -- and it fits its table
 pub opening_fits : (w : WorldValue) (owned : List (ℕ × ℕ)) → length w.words ≡ table_size w.cards → w.cards ≤ greatest_card →
     words_of w.words ≡ opening_words → ((i : ℕ) → worker_or_nobody (slice_get w.workers i) ≡ idle (opening_ledger owned i) (λ _. false)) →
-    WorldFits w
+    HasInvariant (machine_of w) → WorldFits w
 unfolding machine_of
-opening_fits w owned size limit words workers = record {
+opening_fits w owned size limit words workers lawful = record {
   size = size;
   limit = limit;
   words = subst (WordsFit w.cards) (sym words) (opening_words_fit w.cards);
   workers = λ i. subst (WorkerFits w.cards) (sym (workers i)) (idle_fits w.cards (opening_ledger owned i));
+  lawful = lawful;
 }

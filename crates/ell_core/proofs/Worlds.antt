@@ -5,7 +5,6 @@ use Rattle.std.proofs.lemmas.Bool.{cases_eq}
 use Rattle.std.proofs.lemmas.Option.{slice_get_read, slice_get_within}
 use Rattle.std.proofs.lemmas.List.{map-set, length-map}
 use Rattle.ell_core.proofs.WordLaws.{put_same, put_other}
-use Rattle.std.proofs.lemmas.Bool.Decides.{nat_tests}
 use Rattle.ell_core.specs.declared.event.Event.{Event}
 use Rattle.ell_core.specs.declared.event.Stepped.{Stepped}
 use Rattle.ell_core.specs.declared.event.CoreFault.{CoreFault}
@@ -22,6 +21,7 @@ use Rattle.ell_core.specs.Inside.{words_in, worker_in, worker_at, view_of, scene
 use Rattle.ell_core.specs.World.{WorldValue, machine_of, WorldFits, StepRefused}
 use Rattle.ell_core.proofs.FitsWords.{put_all}
 use Rattle.ell_core.proofs.FitsRows.{fits_happens}
+use Rattle.ell_core.proofs.EventsKeep.{steps_lawful}
 
 -- the value of a world with these words and workers
 abbrev pub world_at : Memory → List Worker → WorldValue
@@ -174,6 +174,7 @@ module _ (memory memory' : Memory) (workers : List Worker) (e : Event) (v v' : W
         workers = λ j. subst (λ cards. WorkerFits cards ((machine_of (world_at memory' (set workers e.worker v'))).worker j)) (sym more)
             (subst (WorkerFits memory.cards) (sym (ap (λ (m : Machine). m.worker j) is))
             (put_all (WorkerFits memory.cards) (machine_of (world_at memory workers)).worker e.worker (worker_in v') fits.workers after.worker j));
+        lawful = steps_lawful (machine_of (world_at memory workers)) e said (machine_of (world_at memory' (set workers e.worker v'))) fits.lawful (step_done said h);
       }
 
   -- after a turn, answered or refused, the world fits

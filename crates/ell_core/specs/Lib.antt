@@ -17,3 +17,10 @@ pub mod Inside
 pub mod World
 pub mod WorldInside
 pub mod Laws
+pub mod Ranges
+pub mod Stages
+pub mod Invariant
+pub mod Later
+pub mod StepLaws
+pub mod RunLaws
+pub mod Unsound

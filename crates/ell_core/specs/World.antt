@@ -10,6 +10,7 @@ use Rattle.ell_core.specs.Words.{words_of}
 use Rattle.ell_core.specs.Machine.{Machine, scene, worker_or_nobody}
 use Rattle.ell_core.specs.Events.{TurnRefused}
 use Rattle.ell_core.specs.Fits.{WordsFit, WorkerFits}
+use Rattle.ell_core.specs.Invariant.{HasInvariant}
 
 -- the list of all words, the workers, and how many cards there are beside card 0
 pub record WorldValue : Type 0 where
@@ -26,12 +27,13 @@ machine_of w = record {
   worker = λ i. worker_or_nobody (slice_get w.workers i);
 }
 
--- what is so of every world
+-- what is so of every world: also that the invariant of the machine holds of it
 pub record WorldFits (w : WorldValue) : Type 0 where
   pub size : length w.words ≡ table_size w.cards
   pub limit : w.cards ≤ greatest_card
   pub words : WordsFit w.cards (words_of w.words)
   pub workers : (i : ℕ) → WorkerFits w.cards ((machine_of w).worker i)
+  pub lawful : HasInvariant (machine_of w)
 
 -- a step is refused as the event is, or for want of memory
 abbrev pub StepRefused : Machine → Event → CoreFault → Type 0

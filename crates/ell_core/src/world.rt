@@ -5,7 +5,7 @@ ghost use Rattle.ell_ops.specs.Meaning.{greatest_key};
 ghost use Rattle.ell_word.specs.Node.{greatest_card};
 ghost use Rattle.ell_core.specs.Words.{word};
 ghost use Rattle.ell_core.specs.Events.{Steps};
-ghost use Rattle.ell_core.specs.Tree.{IsLawful, ListsKeys};
+ghost use Rattle.ell_core.specs.Tree.{ListsKeys};
 ghost use Rattle.ell_core.specs.Machine.{idle};
 ghost use Rattle.ell_core.specs.Inside.{worker_at};
 ghost use Rattle.ell_core.specs.Opening.{opening, opening_ledger, Faultless, OpeningRefused};
@@ -87,7 +87,7 @@ impl World {
 
     /// The keys of the tree, each once, ascending.
     pub fn keys(&self) -> Result<Vec<u64>, NoMemory>
-        ensures { IfOk result (λ keys. IsLawful (machine_of self.now).words → ListsKeys (machine_of self.now).words keys.items) }
+        ensures { IfOk result (λ keys. ListsKeys (machine_of self.now).words keys.items) }
     {
         keys_of_tree(self.alloc, &self.memory)
     }

@@ -10,7 +10,7 @@ use Rattle.ell_core.specs.declared.event.Shown.{Shown}
 use Rattle.ell_core.specs.Machine.{Machine}
 use Rattle.ell_core.specs.Opening.{opening, OpeningRefused}
 use Rattle.ell_core.specs.Runs.{Run}
-use Rattle.ell_core.specs.Tree.{IsLawful, ListsKeys}
+use Rattle.ell_core.specs.Tree.{ListsKeys}
 use Rattle.ell_text.specs.declared.output.WriteFault.{WriteFault}
 use Rattle.ell_text.specs.Replayed.{IsReplay, IsReplayed, IsStartRefused, IsTrace, Tells}
 use Rattle.ell_text.specs.Script.{ScriptValue, script}
@@ -20,7 +20,7 @@ use Rattle.ell_text.specs.Trace.{trace}
 -- a run from the script's opening state is a replay of the script
 pub is_replay : (value : ScriptValue) (before after : Machine) (owned : List (ℕ × ℕ)) (events : List Event) (shown : List Shown) (keys : List ℕ)
     → before ≡ opening value.workers owned value.cards → owned ≡ value.owned → Run before events shown after → events ≡ value.events
-    → (IsLawful after.words → ListsKeys after.words keys) → IsReplay value shown keys
+    → ListsKeys after.words keys → IsReplay value shown keys
 is_replay value before after owned events shown keys opened same_owned run same_events listed =
     let from = opened ∙ ap (λ owned. opening value.workers owned value.cards) same_owned in
     let run = subst (λ m. Run m events shown after) from run in

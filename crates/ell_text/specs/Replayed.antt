@@ -7,7 +7,7 @@ use Rattle.ell_core.specs.declared.event.Shown.{Shown}
 use Rattle.ell_core.specs.Machine.{Machine}
 use Rattle.ell_core.specs.Opening.{opening, OpeningRefused}
 use Rattle.ell_core.specs.Runs.{Run}
-use Rattle.ell_core.specs.Tree.{IsLawful, ListsKeys}
+use Rattle.ell_core.specs.Tree.{ListsKeys}
 use Rattle.ell_text.specs.declared.input.TheConstants.{INPUT_MAX}
 use Rattle.ell_text.specs.declared.bytes.ScriptFault.{ScriptFault}
 use Rattle.ell_text.specs.declared.bytes.ScriptFault.TheVariants.{Read, TooLong, Text, Start, NoMemory, Write}
@@ -18,7 +18,7 @@ use Rattle.ell_text.specs.Trace.{trace}
 pub record IsReplay (value : ScriptValue) (shown : List Shown) (keys : List ℕ) : Type 0 where
   pub after : Machine
   pub run : Run (opening value.workers value.owned value.cards) value.events shown after
-  pub listed : IsLawful after.words → ListsKeys after.words keys
+  pub listed : ListsKeys after.words keys
 
 -- the text is the trace of a replay of the script that the bytes say
 pub record IsTrace (bytes text : List ℕ) : Type 0 where

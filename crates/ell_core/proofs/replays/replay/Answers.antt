@@ -5,7 +5,8 @@ use Rattle.ell_core.specs.declared.event.Act.TheVariants.{Begin}
 use Rattle.ell_core.specs.declared.event.Event.{Event}
 use Rattle.ell_core.specs.Runs.{Run, Passes}
 use Rattle.ell_core.specs.World.{WorldValue, machine_of}
-use Rattle.ell_core.proofs.Schedules.{run_more}
+use Rattle.ell_core.proofs.LongerRuns.{run_more}
+use Rattle.ell_core.proofs.RunsLawful.{wins_ordered}
 use Rattle.ell_core.proofs.replays.replay.Goals as goal
 
 on_err : {T E P : Type 0} (r : Result T E) → P → OnErr r P
@@ -49,3 +50,7 @@ pub returns-clause-run : goal.returns-clause-run
 returns-clause-run c =
     subst (λ es. Run (machine_of c.args.world.now) es c.loop-event.shown.items (machine_of c.loop-event.world))
     (take_all c.loop-event.event-index c.args.events.now (omega arith)) c.loop-event.invariant.0
+
+pub returns-clause-order : goal.returns-clause-order
+returns-clause-order c is =
+    wins_ordered (machine_of c.args.world.now) c.args.events.now c.loop-event.shown.items (machine_of c.loop-event.world) is

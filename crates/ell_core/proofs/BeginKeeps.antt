@@ -1,0 +1,154 @@
+-- Begin, again and leave keep the invariant: a worker drops what it has in hand, where no flag of it stands, and stands at
+-- the root or nowhere.
+use Rattle.std.proofs.Common.{◌≡◌, ◌≢◌, ℕ, ◌<◌, ◌↔◌, Bool, true, false, Option, Some, None, refl, sym, ap, ◌∙◌, subst, arith}
+use Rattle.std.proofs.lemmas.Bool.{false≢true}
+use Rattle.ell_ops.specs.declared.op.Op.{Op}
+use Rattle.ell_ops.specs.Meaning.{key_of}
+use Rattle.ell_core.specs.declared.event.Act.TheVariants as act
+use Rattle.ell_core.specs.declared.fact.Fact.TheVariants as fact
+use Rattle.ell_core.specs.Machine.{Ledger, Worker, Machine, with_scene}
+use Rattle.ell_core.specs.Searching.{begun, ended, MayStop}
+use Rattle.ell_core.specs.Holds.{with_settled}
+use Rattle.ell_core.specs.Sound.{Owns}
+use Rattle.ell_core.specs.Stages.{Stage, Stages, is_born, insert_open, delete_open, is_backed, made_of, staged, staged_of}
+use Rattle.ell_core.specs.Invariant.{top, StandIsSound, Invariant}
+use Rattle.ell_core.specs.Later.{Follows, Keeps, wins_by}
+use Rattle.ell_core.proofs.Decide.{same_value, some_not_none}
+use Rattle.ell_core.proofs.Courses.{OnCourse-start}
+use Rattle.ell_core.proofs.KeepWorker.{HasInHand, TakesOn, follows_worker}
+
+-- a worker may drop what it has in hand and have this ledger: it owns the same keys, which count as in its effective ledger,
+-- and no flag of its card stands
+pub record MayDrop (stage : Stages) (v : Worker) (ledger : Ledger) : Type 0 where
+  pub owns : (k : ℕ) → (ledger k ≢ None) ↔ Owns v k
+  pub counts : (k : ℕ) → staged stage v k ≡ ledger k
+  pub inserts : (c : ℕ) → HasInHand v c → insert_open (stage c) ≡ false
+  pub deletes : (c : ℕ) → HasInHand v c → delete_open (stage c) ≡ false
+
+-- where a flagged card has made nothing, the effective ledger is the ledger
+staged_of-unmade : (stage : Stages) (ledger : Ledger) (operation : Option Op) (card : Option ℕ) (flagged : Bool)
+    → ((c : ℕ) → card ≡ Some c → flagged ≡ true → made_of (stage c) ≡ None)
+    → staged_of stage ledger operation card flagged ≡ ledger
+staged_of-unmade stage ledger (Some op) (Some c) true h = ap (with_settled ledger (key_of op)) (h c refl refl)
+staged_of-unmade stage ledger (Some op) (Some c) false h = refl
+staged_of-unmade stage ledger (Some op) None flagged h = refl
+staged_of-unmade stage ledger None card flagged h = refl
+
+backed_made : (s : Stage) → is_backed s ≡ true → made_of s ≡ None
+backed_made s h = grind arith
+
+backed_insert : (s : Stage) → is_backed s ≡ true → insert_open s ≡ false
+backed_insert s h = grind arith
+
+backed_delete : (s : Stage) → is_backed s ≡ true → delete_open s ≡ false
+backed_delete s h = grind arith
+
+-- a worker whose flagged card, if any, is backed may drop it, and keeps its ledger
+pub drops_backed : (stage : Stages) (v : Worker)
+    → ((c : ℕ) → v.card ≡ Some c → v.flagged ≡ true → is_backed (stage c) ≡ true) → MayDrop stage v v.ledger
+drops_backed stage v h = record {
+  owns = λ k. (λ o. o, λ o. o);
+  counts = λ k. ap (λ f. f k)
+      (staged_of-unmade stage v.ledger v.operation v.card v.flagged (λ c e f. backed_made (stage c) (h c e f)));
+  inserts = λ c hand. backed_insert (stage c) (h c hand.holds hand.flagged);
+  deletes = λ c hand. backed_delete (stage c) (h c hand.holds hand.flagged);
+}
+
+module _ (m : Machine) (stage : Stages) (i : ℕ) (sound : Invariant m stage) where
+  -- the worker before
+  abbrev v : Worker
+  v = m.worker i
+
+  -- a worker without an operation may drop what it has in hand
+  drops_idle : v.operation ≡ None → MayDrop stage v v.ledger
+  drops_idle free = drops_backed stage v
+      (λ c e f. absurd (some_not_none e (ap (λ (u : Worker). u.card) ((sound.workers.each i).free free))))
+
+  -- a worker that may stop may drop what it has in hand
+  drops_stopped : MayStop v → MayDrop stage v v.ledger
+  drops_stopped may = drops_backed stage v (λ c e f. (sound.workers.each i).facts (fact.Backed c) (may.backed c e f))
+
+  -- a worker may end with this ledger
+  pub takes_on_ended : (ledger : Ledger) → MayDrop stage v ledger → TakesOn m stage i (record (ended v) { ledger = ledger })
+  takes_on_ended ledger may = record {
+    own = record {
+      facts = (sound.workers.each i).facts;
+      real = λ k o. (sound.workers.each i).real k ((may.owns k).0 o);
+      free = λ e. refl;
+      owned = λ op e. absurd (some_not_none e refl);
+      stands = λ op x e. absurd (some_not_none e refl);
+      unflagged = λ op c e. absurd (some_not_none e refl);
+      flagged = λ op c e. absurd (some_not_none e refl);
+    };
+    owns = may.owns;
+    counts = λ k o. sym (may.counts k);
+    inserts = λ c stood hand. absurd (false≢true (sym (may.inserts c hand) ∙ stood));
+    deletes = λ c stood hand. absurd (false≢true (sym (may.deletes c hand) ∙ stood));
+  }
+
+  -- a worker that stands at the root with an operation on a key of its own
+  stands_at_root : (op : Op) → Owns v (key_of op) → MayDrop stage v v.ledger
+      → StandIsSound m.words stage (begun (Some op) v) (key_of op) 0
+  stands_at_root op owns may = record {
+    born = ap is_born sound.words.opening;
+    read = λ word e. absurd (some_not_none e refl);
+    leads = (let present = sound.workers.present i (key_of op) owns in
+        (λ l. sym (may.counts (key_of op)) ∙ present.0 l, λ e. present.1 (may.counts (key_of op) ∙ e)));
+    course = OnCourse-start m.words.key m.words.child top sound.words.tree.ordered (key_of op) below_top;
+    parent = λ seen e. absurd (some_not_none e refl);
+    grandparent = λ seen above e. absurd (some_not_none e refl);
+    has_parent = λ n. absurd (n refl);
+    has_grandparent = λ seen e. absurd (some_not_none e refl);
+    deep = λ outer. absurd (outer refl);
+  } where
+    below_top : key_of op < top
+    below_top = let real = (sound.workers.each i).real (key_of op) owns in omega arith
+
+  -- a worker may begin at the root
+  pub takes_on_begun : (op : Op) → Owns v (key_of op) → MayDrop stage v v.ledger → TakesOn m stage i (begun (Some op) v)
+  takes_on_begun op owns may = record {
+    own = record {
+      facts = (sound.workers.each i).facts;
+      real = (sound.workers.each i).real;
+      free = λ e. absurd (some_not_none refl e);
+      owned = λ other e. subst (λ o. Owns v (key_of o)) (same_value refl e) owns;
+      stands = λ other x e at. subst (λ o. StandIsSound m.words stage (begun (Some op) v) (key_of o) x) (same_value refl e)
+          (subst (StandIsSound m.words stage (begun (Some op) v) (key_of op)) (same_value refl at)
+          (stands_at_root op owns may));
+      unflagged = λ other c e holds. absurd (some_not_none holds refl);
+      flagged = λ other c e holds. absurd (some_not_none holds refl);
+    };
+    owns = may.owns;
+    counts = λ k o. sym (may.counts k);
+    inserts = λ c stood hand. absurd (false≢true (sym (may.inserts c hand) ∙ stood));
+    deletes = λ c stood hand. absurd (false≢true (sym (may.deletes c hand) ∙ stood));
+  }
+
+-- begin keeps the invariant
+pub keeps_begin : (op : Op) → Keeps (act.Begin op)
+keeps_begin op m stage i said becomes there sound happens =
+    let r = happens.row in
+    subst (λ s. Follows m stage (act.Begin op) i said (with_scene m i s)) (sym r.gives)
+    (follows_worker m stage (act.Begin op) i said (begun (Some op) (m.worker i)) there sound
+    (λ c. ap (λ s. wins_by (act.Begin op) (m.worker i).card s c) r.says)
+    (takes_on_begun m stage i sound op happens.owned (drops_idle m stage i sound r.free)))
+
+-- again keeps the invariant
+pub keeps_again : Keeps act.Again
+keeps_again m stage i said becomes there sound happens =
+    let r = happens.row in
+    let owns = (sound.workers.each i).owned r.may.op r.may.busy in
+    subst (λ s. Follows m stage act.Again i said (with_scene m i s)) (sym r.gives)
+    (follows_worker m stage act.Again i said (begun (m.worker i).operation (m.worker i)) there sound
+    (λ c. ap (λ s. wins_by act.Again (m.worker i).card s c) r.says)
+    (subst (λ o. TakesOn m stage i (begun o (m.worker i))) (sym r.may.busy)
+    (takes_on_begun m stage i sound r.may.op owns (drops_stopped m stage i sound r.may))))
+
+-- leave keeps the invariant
+pub keeps_leave : Keeps act.Leave
+keeps_leave m stage i said becomes there sound happens =
+    let r = happens.row in
+    subst (λ s. Follows m stage act.Leave i said (with_scene m i s)) (sym r.gives)
+    (follows_worker m stage act.Leave i said (ended (m.worker i)) there sound
+    (λ c. ap (λ s. wins_by act.Leave (m.worker i).card s c) r.says)
+    (takes_on_ended m stage i sound (m.worker i).ledger (drops_stopped m stage i sound r.may)))
