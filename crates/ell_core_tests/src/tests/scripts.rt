@@ -51,8 +51,8 @@ pub fn steps(rt: &impl Abort, world: &mut World, worker: u32, acts: &[Act], want
     }
 }
 
-// Tries one event: what is shown of it.
-fn show(world: &mut World, event: Event) -> Shown
+/// Tries one event: what is shown of it.
+pub fn show(world: &mut World, event: Event) -> Shown
     ensures { world.new.cards ≡ world.old.cards }
 {
     match world.step(event) {
