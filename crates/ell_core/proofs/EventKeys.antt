@@ -65,6 +65,7 @@ pub record SameLinks (old new : Words) : Type 0 where
 links_lead : (old new : Words) → SameLinks old new → (k x : ℕ) → LeadsTo new k x ≡ LeadsTo old k x
 links_lead old new same k x = λ t. Meets (same.key t) (same.child t) k x
 
+-- so the same keys are led to
 pub links_keep : (old new : Words) → SameLinks old new → (k x : ℕ) → LeadsTo new k x ↔ LeadsTo old k x
 links_keep old new same k x =
     (λ h. subst (λ (t : Type 0). t) (links_lead old new same k x) h, λ h. subst (λ (t : Type 0). t) (sym (links_lead old new same k x)) h)

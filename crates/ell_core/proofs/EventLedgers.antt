@@ -21,6 +21,7 @@ learned_keeps known new fact h = elim (cases_Bool (same_fact fact new)) [
   | inr e ↦ ap (λ b. b || known fact) e ∙ h
 ]
 
+-- and so has knowledge with another fact, if there is one
 pub learned_any_keeps : (known : Knowledge) (new : Option Fact) (fact : Fact) → known fact ≡ true → learned_any known new fact ≡ true
 learned_any_keeps known None fact h = h
 learned_any_keeps known (Some new) fact h = learned_keeps known new fact h

@@ -47,6 +47,7 @@ shown_keys : (m : Machine) (stage : Stages) (e : Event) (x : Shown) (m' : Machin
 shown_keys m stage e (shown.Step said) m' invariant shows = (events_lawful m stage e said m' invariant shows).keys
 shown_keys m stage e (shown.Refused fault) m' invariant shows = same_state m m' shows.1
 
+-- the keys of the tree change at the won child exchanges
 pub keys_change : KeysChangeAtWins
 keys_change m e x m' passed shows = let has = passed_has m passed in shown_keys m has.stages e x m' has.invariant shows
 
@@ -56,6 +57,7 @@ shown_ledgers : (m : Machine) (stage : Stages) (e : Event) (x : Shown) (m' : Mac
 shown_ledgers m stage e (shown.Step said) m' invariant shows = (events_lawful m stage e said m' invariant shows).ledgers
 shown_ledgers m stage e (shown.Refused fault) m' invariant shows = shows.1
 
+-- each answer is the set's
 pub answers_set : AnswersAreTheSets
 answers_set m e x m' passed shows = let has = passed_has m passed in shown_ledgers m has.stages e x m' has.invariant shows
 
@@ -68,6 +70,7 @@ wins_from count owned cards events answers m' can run c =
     all.wins c ∙ ap (λ xs. xs ++ wins_in (opening count owned cards) events answers m' run c) (opening_wins c) in
     subst InOrder won (stage_wins (all.stages c))
 
+-- so it is from every state that is an opening
 pub wins_ordered : WinsAreInOrder
 wins_ordered m events answers m' is =
     subst (λ n. WinsInOrder n events answers m') (sym is.opens) (wins_from is.count is.owned is.cards events answers m' is.can)
@@ -82,19 +85,23 @@ ran_between m m' follow =
 pub frozen : MarkedNodesAreFrozen
 frozen m m' follow x mark = (ran_between m m' follow).words.frozen x (unpacked (m.words.update x)).card (word_by_state (m.words.update x) state.Mark mark)
 
+-- words rise
 pub rise : WordsRise
 rise m m' follow c =
     let words = (ran_between m m' follow).words in
     (λ right. words.child (internal c) right, words.update (internal c))
 
+-- knowledge is never lost, nor a fact
 pub never_lost : KnowledgeIsNeverLost
 never_lost m m' follow = let all = ran_between m m' follow in (all.knowledge, all.facts)
 
+-- claimed cards go where they went
 pub fixed : ClaimedCardsAreFixed
 fixed m m' follow c below =
     let words = (ran_between m m' follow).words in
     (words.info c below, λ x on. words.key x (subst (λ d. d < m.words.next) (sym on) below))
 
+-- the stages rise
 pub stages_rise : StagesRise
 stages_rise m m' follow =
     let has = passed_has m follow.passed in

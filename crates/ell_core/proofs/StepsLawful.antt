@@ -70,9 +70,10 @@ events_lawful m stage e said m' invariant h =
       facts = steps_last m stage e said m' invariant h follows;
     }
 
--- and so are splits and joins
+-- splits are lawful
 pub splits_lawful : SplitsAreLawful
 splits_lawful m stage i m' invariant h = split_keeps m m' stage i h invariant
 
+-- joins are lawful
 pub joins_lawful : JoinsAreLawful
 joins_lawful m stage i j m' invariant h = join_keeps m m' stage i j h invariant

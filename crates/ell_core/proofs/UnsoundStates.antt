@@ -32,6 +32,7 @@ kept_broken sound =
     let there = (sound.present 0 5 (λ e. let f : Some true ≡ None = e in cc)).1 refl in
     opening_empty 5 there.real (tree_key_leads opening_words opening_ordered 5 there)
 
+-- a key with two owners
 pub twice_broken : ¬ LedgersAreSound key_owned_twice
 twice_broken sound =
     zero_is_not_one (sound.one_owner 0 1 5 (λ e. let f : Some false ≡ None = e in cc) (λ e. let f : Some false ≡ None = e in cc))
@@ -45,10 +46,12 @@ not_on_walk : ¬ OnWalk opening_words 5 0 2
 not_on_walk (here e) = absurd (omega arith)
 not_on_walk (next inner rest) = after_left rest
 
+-- a search that stands where the walk for its key does not come by
 pub astray_broken : ¬ WalksAreSound search_astray
 astray_broken sound =
     not_on_walk ((sound 0 (Find 5) 2 refl refl).joins 2 (here refl) (record { path = true ∷ []; leads = (refl, refl) }))
 
+-- a fact that does not hold
 pub fact_broken : ¬ FactsAreSound fact_made_up
 fact_broken sound = let e : true ≡ false = (sound 0 (IFlagged 1) refl).0 in cc
 

@@ -59,11 +59,12 @@ delete_side w c = is_right w (w.gp c) (delete_key w c)
 abbrev pub leaf_side : Words → ℕ → Bool
 leaf_side w c = is_right w (w.p c) (delete_key w c)
 
--- a node that came into the tree, internal or a leaf
+-- an internal node that came into the tree
 pub record IsInnerBorn (stage : Stages) (x : ℕ) : Type 0 where
   pub inner : IsInternal x
   pub born : Born stage x
 
+-- the same of a leaf
 pub record IsLeafBorn (stage : Stages) (x : ℕ) : Type 0 where
   pub outer : IsLeaf x
   pub born : Born stage x
@@ -208,7 +209,7 @@ pub record StandIsSound (w : Words) (stage : Stages) (v : Worker) (k x : ℕ) : 
   pub has_grandparent : (seen : Seen) → v.search.parent ≡ Some seen → seen.node ≢ 0 → v.search.grandparent ≢ None
   pub deep : IsLeaf x → w.key x ≤ greatest_key → v.search.grandparent ≢ None
 
--- a card in hand that is not flagged says what its search saw
+-- an insert's card in hand that is not flagged says what its worker's search saw
 pub record InsertInHand (w : Words) (stage : Stages) (v : Worker) (k c : ℕ) : Type 0 where
   pub parent : Seen
   pub claimed : (is_insert (stage c) ≡ true) × (insert_won (stage c) ≡ false)
@@ -219,6 +220,7 @@ pub record InsertInHand (w : Words) (stage : Stages) (v : Worker) (k c : ℕ) : 
   pub earlier : parent.word < iflag c
   pub own : insert_key w c ≡ k
 
+-- the same of a delete's card
 pub record DeleteInHand (w : Words) (stage : Stages) (v : Worker) (k c : ℕ) : Type 0 where
   pub parent : Seen
   pub grandparent : Seen
@@ -233,6 +235,7 @@ pub record DeleteInHand (w : Words) (stage : Stages) (v : Worker) (k c : ℕ) : 
   pub earlier : grandparent.word < iflag c
   pub own : delete_key w c ≡ k
 
+-- a card in hand that is not flagged is of the operation's kind
 abbrev pub Unflagged : Words → Stages → Worker → Op → ℕ → Type 0
 Unflagged w stage v (Find k) c = ⊥
 Unflagged w stage v (Insert k) c = InsertInHand w stage v k c

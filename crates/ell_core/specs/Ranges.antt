@@ -1,5 +1,5 @@
 -- The search tree as two functions, the key of a node and its child on a side (true is right): which keys lead to a node, and
--- where the walk for a key ends. Leaf-oriented binary search trees (paper of 2010, section 3).
+-- where the walk for a key ends. The tree is the leaf-oriented binary search tree of the paper of 2010.
 use Rattle.std.specs.Prelude.{◌≡◌, ℕ, ◌<◌, ◌≤◌, ◌⊎◌, Bool, true, false, nat_le}
 use Rattle.ell_word.specs.Node.{IsInternal}
 

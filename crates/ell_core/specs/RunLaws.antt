@@ -36,9 +36,11 @@ pub record IsPassed (m : Machine) : Type 0 where
   pub answers : List Shown
   pub run : Run (opening count owned cards) schedule answers m
 
+-- the invariant holds of every state of a run
 abbrev pub EveryStateHasInvariant : Type 0
 EveryStateHasInvariant = (m : Machine) → IsPassed m → HasInvariant m
 
+-- every state of a run is sound
 abbrev pub EveryStateIsSound : Type 0
 EveryStateIsSound = (m : Machine) → IsPassed m → IsSound m
 
@@ -79,16 +81,19 @@ pub record Begins (all some : List Kind) : Type 0 where
   pub rest : List Kind
   pub together : some ++ rest ≡ all
 
--- the orders in which a card can win: those of an insert, and of a delete that cuts or that goes back (paper of 2010, figure 4)
+-- the order in which an insert's card wins, by the steps of the paper of 2010
 abbrev pub insert_order : List Kind
 insert_order = kind.IFlag ∷ kind.IChild ∷ kind.IUnflag ∷ []
 
+-- that of a delete's card which is cut
 abbrev pub cut_order : List Kind
 cut_order = kind.DFlag ∷ kind.Mark ∷ kind.DChild ∷ kind.DUnflag ∷ []
 
+-- that of a delete's card which goes back
 abbrev pub back_order : List Kind
 back_order = kind.DFlag ∷ kind.Backtrack ∷ []
 
+-- wins come in one of these orders, as far as they come
 abbrev pub InOrder : List Kind → Type 0
 InOrder wins = Begins insert_order wins ⊎ (Begins cut_order wins ⊎ Begins back_order wins)
 
@@ -145,5 +150,6 @@ pub record LaterInvariant (m m' : Machine) : Type 0 where
   pub words : WordsLater m.words m'.words
   pub later : StagesLater before after
 
+-- so it is of every state of a run and every later one
 abbrev pub StagesRise : Type 0
 StagesRise = (m m' : Machine) → Follow m m' → LaterInvariant m m'

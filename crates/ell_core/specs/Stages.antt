@@ -1,5 +1,5 @@
--- How far each card has come: the history that the invariant adds to the words. (Paper of 2010, section 3.3 and figure 3: the
--- steps of an insert and of a delete, and the lines between the states of an update word.)
+-- How far each card has come: the history that the invariant adds to the words, by the steps of an insert and of a delete in the
+-- paper of 2010.
 use Rattle.std.specs.Prelude.{◌≡◌, ℕ, Bool, true, false, Option, Some, None}
 use Rattle.ell_ops.specs.declared.op.Op.{Op}
 use Rattle.ell_ops.specs.Meaning.{key_of}
@@ -31,10 +31,12 @@ pub data Stage : Type 0 where
 abbrev pub Stages : Type 0
 Stages = ℕ → Stage
 
+-- the card was claimed, or is the opening tree's
 abbrev pub is_claimed : Stage → Bool
 is_claimed Unclaimed = false
 is_claimed _ = true
 
+-- an insert's card
 abbrev pub is_insert : Stage → Bool
 is_insert IClaimed = true
 is_insert IFlagged = true
@@ -42,6 +44,7 @@ is_insert IChanged = true
 is_insert IOver = true
 is_insert _ = false
 
+-- a delete's card
 abbrev pub is_delete : Stage → Bool
 is_delete DClaimed = true
 is_delete DFlagged = true
@@ -182,5 +185,6 @@ abbrev pub staged_of : Stages → Ledger → Option Op → Option ℕ → Bool �
 staged_of stage ledger (Some op) (Some c) true = with_settled ledger (key_of op) (made_of (stage c))
 staged_of stage ledger _ _ _ = ledger
 
+-- the same of a worker
 abbrev pub staged : Stages → Worker → Ledger
 staged stage v = staged_of stage v.ledger v.operation v.card v.flagged

@@ -42,17 +42,18 @@ abbrev pub SameKeys : Words → Words → Type 0
 SameKeys old new = (k : ℕ) → IsTreeKey new k ↔ IsTreeKey old k
 
 -- what an act does to the keys of the tree: a won ichild adds its card's key, a won dchild takes its card's key away, and
--- nothing else changes them (paper of 2010, section 5: the changing steps)
+-- nothing else changes them (paper of 2010: an update takes effect at its child exchange)
 abbrev pub KeysChange : Act → Stepped → Words → Words → Type 0
 KeysChange (act.IChild c) Won old new = AddsKey old new (card_key old c)
 KeysChange (act.DChild c) Won old new = TakesKey old new (card_key old c)
 KeysChange _ _ old new = SameKeys old new
 
--- the set that a ledger is: its present keys
+-- whether an entry of a ledger is a key that is present
 abbrev pub is_present : Option Bool → Bool
 is_present (Some present) = present
 is_present None = false
 
+-- the set of the keys that a ledger has present
 abbrev pub set_in : Ledger → KeySet
 set_in ledger = λ key. is_present (ledger key)
 
@@ -94,10 +95,11 @@ abbrev pub EventsAreLawful : Type 0
 EventsAreLawful = (m : Machine) (stage : Stages) (e : Event) (said : Stepped) (m' : Machine)
     → Invariant m stage → Steps m e said m' → EventIsLawful m stage e said m'
 
--- the invariant holds after a split and after a join, with the same stages
+-- the invariant holds after a split, with the same stages
 abbrev pub SplitsAreLawful : Type 0
 SplitsAreLawful = (m : Machine) (stage : Stages) (i : ℕ) (m' : Machine) → Invariant m stage → Split m i m' → Invariant m' stage
 
+-- and after a join
 abbrev pub JoinsAreLawful : Type 0
 JoinsAreLawful = (m : Machine) (stage : Stages) (i j : ℕ) (m' : Machine) → Invariant m stage → Join m i j m' → Invariant m' stage
 
@@ -152,6 +154,7 @@ pub record Reliance (m : Machine) (stage : Stages) (i : ℕ) : Type 0 where
   pub claimed : (x : ℕ) → Born stage x → card x < m.words.next
   pub room : m.words.next ≤ m.cards + 1
 
+-- so it is for every worker in every state that the invariant holds of
 abbrev pub StepsMayRely : Type 0
 StepsMayRely = (m : Machine) (stage : Stages) (i : ℕ) → Invariant m stage → Reliance m stage i
 
