@@ -1,5 +1,5 @@
 -- The keys that all workers leave are those of one thread: each key comes from the worker that owns it.
-use Rattle.std.proofs.Common.{◌≡◌, ◌≢◌, ℕ, zero, suc, ◌+◌, ◌<◌, Bool, true, false, List, [], ◌∷◌, Some, ◌||◌, eqb, arith, refl, ap, sym, subst, ◌∙◌, ⊎_elim}
+use Rattle.std.proofs.Common.{◌≡◌, ◌≢◌, ℕ, zero, suc, ◌+◌, ◌<◌, Bool, false, List, [], ◌∷◌, Some, ◌||◌, eqb, arith, refl, ap, sym, subst, ◌∙◌, ⊎_elim}
 use Rattle.std.specs.Prelude.{slice_get, slice_index}
 use Rattle.std.specs.List.{list_any, range_with_len}
 use Rattle.std.proofs.lemmas.List.Folds.{list_any-append}
@@ -13,7 +13,7 @@ use Rattle.ell_run.specs.Pieces.{keys_left}
 use Rattle.ell_run.proofs.ByPartsLemmas.{find_key, owns_key, whole_alike}
 use Rattle.ell_run.proofs.GatherLemmas.{below_length, part_item}
 use Rattle.ell_run.proofs.OnKey.{on_key, final_alike}
-use Rattle.ell_run.proofs.PieceLemmas.{counted}
+use Rattle.ell_run.proofs.PieceLemmas.{counted, or_none}
 
 -- some worker owns the key: that of its first operation, or any where there is none
 owner_of : (parting : Parting) → IsLawful parting → (key : ℕ) → (worker : ℕ) × (worker < parting.workers) × Owns parting worker key
@@ -41,10 +41,6 @@ others_leave_none parting owner worker key owns other =
     (none_on_key (part parting worker) key (λ k i op e on.
     let p = part_item parting worker k i op e in
     other (sym p.0 ∙ owns i op p.1 on)))
-
-or_none : (b : Bool) → (b || false) ≡ b
-or_none true = refl
-or_none false = refl
 
 one_more : (test : ℕ → Bool) (n : ℕ) → list_any test (range_with_len 0 (n + 1)) ≡ (list_any test (range_with_len 0 n) || test n)
 one_more test n = ap (list_any test) (counted n) ∙ list_any-append test (range_with_len 0 n) (n ∷ []) ∙ ap (λ b. list_any test (range_with_len 0 n) || b) (or_none (test n))

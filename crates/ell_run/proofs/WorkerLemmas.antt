@@ -13,18 +13,15 @@ use Rattle.ell_ops.specs.Meaning.{final}
 use Rattle.ell_parts.specs.Parting.{Parting, part}
 use Rattle.ell_run.specs.ByParts.{ops_in}
 use Rattle.ell_run.specs.Pieces.{busy, keys_by, keys_left, piece_of, pieces_by, pieces_of}
-use Rattle.ell_run.proofs.PieceLemmas.{counted}
-
-or_none : (b : Bool) → (b || false) ≡ b
-or_none true = refl
-or_none false = refl
+use Rattle.ell_run.proofs.PieceLemmas.{counted, or_none}
 
 -- the keys of one worker are what its part leaves
 pub keys_by-one : (parting : Parting) (worker : ℕ) → keys_by parting (worker ∷ []) ≡ final empty (ops_in (part parting worker))
 keys_by-one parting worker = λ i key. or_none (final empty (ops_in (part parting worker)) key) i
 
 -- the keys of two rows of workers are those of the first and those of the second
-pub keys_by-append : (parting : Parting) (low high first second : List ℕ) → set_of first ≡ keys_by parting low → set_of second ≡ keys_by parting high →
+pub keys_by-append : (parting : Parting) (low high first second : List ℕ) →
+    set_of first ≡ keys_by parting low → set_of second ≡ keys_by parting high →
     set_of (first ++ second) ≡ keys_by parting (low ++ high)
 keys_by-append parting low high first second one other = λ i key. pointwise key i where
   pointwise : (key : ℕ) → set_of (first ++ second) key ≡ keys_by parting (low ++ high) key
@@ -39,7 +36,9 @@ flat_map-filter : {A B : Type 0} (f : A → List B) (test : A → Bool) → ((x 
 flat_map-filter f test nothing [] = refl
 flat_map-filter f test nothing (x ∷ xs) =
     ⊎_elim
-    (λ kept. ap (flat_map f) (cond-true (test x) (x ∷ filter test xs) (filter test xs) kept) ∙ ap (λ l. f x ++ l) (flat_map-filter f test nothing xs))
+    (λ kept.
+    ap (flat_map f) (cond-true (test x) (x ∷ filter test xs) (filter test xs) kept)
+    ∙ ap (λ l. f x ++ l) (flat_map-filter f test nothing xs))
     (λ out.
     ap (flat_map f) (cond-false (test x) (x ∷ filter test xs) (filter test xs) out) ∙ flat_map-filter f test nothing xs
     ∙ ap (λ l. l ++ flat_map f xs) (sym (nothing x out)))
@@ -50,7 +49,9 @@ list_any-filter : {A : Type 0} (f : A → Bool) (test : A → Bool) → ((x : A)
 list_any-filter f test nothing [] = refl
 list_any-filter f test nothing (x ∷ xs) =
     ⊎_elim
-    (λ kept. ap (list_any f) (cond-true (test x) (x ∷ filter test xs) (filter test xs) kept) ∙ ap (λ b. f x || b) (list_any-filter f test nothing xs))
+    (λ kept.
+    ap (list_any f) (cond-true (test x) (x ∷ filter test xs) (filter test xs) kept)
+    ∙ ap (λ b. f x || b) (list_any-filter f test nothing xs))
     (λ out.
     ap (list_any f) (cond-false (test x) (x ∷ filter test xs) (filter test xs) out) ∙ list_any-filter f test nothing xs
     ∙ ap (λ b. b || list_any f xs) (sym (nothing x out)))
@@ -76,7 +77,12 @@ busy_keys parting = λ i key. pointwise key i where
   pointwise : (key : ℕ) → keys_by parting (busy parting) key ≡ keys_left parting parting.workers key
   pointwise key =
       list_any-filter (λ worker. final empty (ops_in (part parting worker)) key) (is_busy parting)
-      (λ worker idle. ap (λ items. final empty (ops_in items) key) (no_items (part parting worker) idle)) (range_with_len 0 parting.workers)
+      (λ worker idle. ap (λ items. final empty (ops_in items) key) (no_items (part parting worker) idle))
+      (range_with_len 0 parting.workers)
+
+-- the workers with something to do among the first
+abbrev pub busy_below : Parting → ℕ → List ℕ
+busy_below parting workers = filter (is_busy parting) (range_with_len 0 workers)
 
 some_items : (n : ℕ) → false ≡ eqb n 0 → nat_lt 0 n ≡ true
 some_items n none = grind (arith, nat_tests)
@@ -85,17 +91,21 @@ none_left : (n : ℕ) → true ≡ eqb n 0 → nat_lt 0 n ≡ false
 none_left n none = grind (arith, nat_tests)
 
 -- one worker more: it is busy where its part is not empty
-pub busy_more : (parting : Parting) (worker : ℕ) (items : List (ℕ × Op)) → items ≡ part parting worker → false ≡ eqb (length items) 0 →
-    filter (is_busy parting) (range_with_len 0 (worker + 1)) ≡ filter (is_busy parting) (range_with_len 0 worker) ++ worker ∷ []
+pub busy_more : (parting : Parting) (worker : ℕ) (items : List (ℕ × Op)) →
+    items ≡ part parting worker → false ≡ eqb (length items) 0 →
+    busy_below parting (worker + 1) ≡ busy_below parting worker ++ worker ∷ []
 busy_more parting worker items same some =
     let more : is_busy parting worker ≡ true = ap (λ l. nat_lt 0 (length l)) (sym same) ∙ some_items (length items) some in
-    ap (filter (is_busy parting)) (counted worker) ∙ filter-append (is_busy parting) (range_with_len 0 worker) (worker ∷ [])
-    ∙ ap (λ l. filter (is_busy parting) (range_with_len 0 worker) ++ l) (cond-true (is_busy parting worker) (worker ∷ []) [] more)
+    ap (filter (is_busy parting)) (counted worker)
+    ∙ filter-append (is_busy parting) (range_with_len 0 worker) (worker ∷ [])
+    ∙ ap (λ l. busy_below parting worker ++ l) (cond-true (is_busy parting worker) (worker ∷ []) [] more)
 
-pub idle_more : (parting : Parting) (worker : ℕ) (items : List (ℕ × Op)) → items ≡ part parting worker → true ≡ eqb (length items) 0 →
-    filter (is_busy parting) (range_with_len 0 (worker + 1)) ≡ filter (is_busy parting) (range_with_len 0 worker)
+pub idle_more : (parting : Parting) (worker : ℕ) (items : List (ℕ × Op)) →
+    items ≡ part parting worker → true ≡ eqb (length items) 0 →
+    busy_below parting (worker + 1) ≡ busy_below parting worker
 idle_more parting worker items same none =
     let idle : is_busy parting worker ≡ false = ap (λ l. nat_lt 0 (length l)) (sym same) ∙ none_left (length items) none in
-    ap (filter (is_busy parting)) (counted worker) ∙ filter-append (is_busy parting) (range_with_len 0 worker) (worker ∷ [])
-    ∙ ap (λ l. filter (is_busy parting) (range_with_len 0 worker) ++ l) (cond-false (is_busy parting worker) (worker ∷ []) [] idle)
-    ∙ append-nil (filter (is_busy parting) (range_with_len 0 worker))
+    ap (filter (is_busy parting)) (counted worker)
+    ∙ filter-append (is_busy parting) (range_with_len 0 worker) (worker ∷ [])
+    ∙ ap (λ l. busy_below parting worker ++ l) (cond-false (is_busy parting worker) (worker ∷ []) [] idle)
+    ∙ append-nil (busy_below parting worker)

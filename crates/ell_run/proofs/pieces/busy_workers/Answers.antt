@@ -16,11 +16,13 @@ loop-worker-preserved c =
           let pushed = ap (λ workers. workers.items) w.workers-is ∙ w.in_ok-push.ensures.items in record {
             busy = pushed ∙ ap (λ workers. workers ++ worker ∷ []) c.loop-worker.invariant.busy
                 ∙ sym (busy_more parting worker c.part.result.now c.part.ensures w.if-not-is_empty.ensures);
-            known = subst (All (λ w. w < parting.workers)) (sym pushed) (All-push (λ w. w < parting.workers) before worker known below);
+            known = subst (All (λ w. w < parting.workers)) (sym pushed)
+                (All-push (λ w. w < parting.workers) before worker known below);
           }
       | else-not-is_empty w ↦
           let same = ap (λ workers. workers.items) w.workers-is in record {
-            busy = same ∙ c.loop-worker.invariant.busy ∙ sym (idle_more parting worker c.part.result.now c.part.ensures w.if-not-is_empty.ensures);
+            busy = same ∙ c.loop-worker.invariant.busy
+                ∙ sym (idle_more parting worker c.part.result.now c.part.ensures w.if-not-is_empty.ensures);
             known = subst (All (λ w. w < parting.workers)) (sym same) known;
           }
     ]

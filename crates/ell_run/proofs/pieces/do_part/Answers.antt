@@ -10,6 +10,7 @@ pub returns-clause-keys : goal.returns-clause-keys
 returns-clause-keys g c =
     let same : c.in_ok-keys.keys.items ≡ c.loop-op.set.keys = search rules in
     let whole : set_of c.loop-op.set.keys ≡ final empty (ops_in c.args.part.now) =
-    ap (λ rest. final (set_of c.loop-op.set.keys) (ops_in rest)) (sym (drop_all _ c.args.part.now c.loop-op-test.false)) ∙ c.loop-op.invariant.left in
+    ap (λ rest. final (set_of c.loop-op.set.keys) (ops_in rest)) (sym (drop_all _ c.args.part.now c.loop-op-test.false))
+    ∙ c.loop-op.invariant.left in
     subst (Lists (final empty (ops_in c.args.part.now))) (sym same)
     (record { ascending = IsStrictlyIncreasing-from_sorted _ c.iter.ensures.ordered; each = whole })

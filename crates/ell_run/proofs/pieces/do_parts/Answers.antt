@@ -7,11 +7,13 @@ use Rattle.ell_run.proofs.pieces.do_parts.Goals as goal
 pub returns-clause-pieces : goal.returns-clause-pieces
 returns-clause-pieces g c =
     let parting = c.args.parts.now in
-    c.in_ok-left.ensures.told ∙ ap (pieces_by parting) (c.deref.ensures.value ∙ c.in_ok-workers.ensures.busy) ∙ busy_pieces parting
+    let workers = c.deref.ensures.value ∙ c.in_ok-workers.ensures.busy in
+    c.in_ok-left.ensures.told ∙ ap (pieces_by parting) workers ∙ busy_pieces parting
 
 pub returns-clause-keys : goal.returns-clause-keys
 returns-clause-keys g c =
     let parting = c.args.parts.now in
+    let workers = c.deref.ensures.value ∙ c.in_ok-workers.ensures.busy in
     subst (λ set. Lists set c.distinct_keys.result.items)
-    (c.in_ok-left.ensures.kept ∙ ap (keys_by parting) (c.deref.ensures.value ∙ c.in_ok-workers.ensures.busy) ∙ busy_keys parting)
+    (c.in_ok-left.ensures.kept ∙ ap (keys_by parting) workers ∙ busy_keys parting)
     c.distinct_keys.ensures
