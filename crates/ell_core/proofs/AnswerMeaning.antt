@@ -19,7 +19,7 @@ use Rattle.ell_core.specs.Invariant.{StandIsSound, Flagged, Invariant}
 use Rattle.ell_core.specs.StepLaws.{is_present, set_in}
 use Rattle.ell_core.proofs.Decide.{same_value, some_not_none}
 use Rattle.ell_core.proofs.AnswerKeeps.{gives_if}
-use Rattle.ell_core.proofs.DownKeeps.{leaf_met}
+use Rattle.ell_core.proofs.RangeBounds.{leaf_key}
 
 -- an operation's reply is that on the set of a ledger, and the later ledger has the set that the operation leaves
 pub record AnswersTheSet (op : Op) (reply : Bool) (ledger later : Ledger) : Type 0 where
@@ -48,7 +48,7 @@ has_present : (w : Words) (stage : Stages) (v : Worker) (k x : ℕ) → StandIsS
     → (w.key x == k) ≡ set_in v.ledger k
 has_present w stage v k x h outer = same_test (w.key x == k) (set_in v.ledger k)
     (λ e. ap is_present (h.leads.0 (at_leaf outer (test_equal (w.key x) k e))))
-    (λ e. equal_test (w.key x) k (leaf_met w.key w.child k x outer (h.leads.1 (present_entry (v.ledger k) e))))
+    (λ e. equal_test (w.key x) k (leaf_key w.key w.child k x outer (h.leads.1 (present_entry (v.ledger k) e))))
 
 -- an entry that is put in place of another, in the set
 put_present : (ledger : Ledger) (k : ℕ) (made : Bool) (q : ℕ)

@@ -13,7 +13,7 @@ use Rattle.ell_core.specs.Machine.{Worker, Machine, with_scene}
 use Rattle.ell_core.specs.Cards.{is_right, child_for}
 use Rattle.ell_core.specs.Searching.{IsLeaf, gone_down}
 use Rattle.ell_core.specs.Tree.{infinity1}
-use Rattle.ell_core.specs.Ranges.{Meets, at_leaf, below}
+use Rattle.ell_core.specs.Ranges.{below}
 use Rattle.ell_core.specs.Stages.{Stages}
 use Rattle.ell_core.specs.Invariant.{top, IsOnCourse, ChildrenAreSound, TreeIsSound, WordsAreSound, SeenIsSound, StandIsSound, Unflagged, WorkerIsSound, Invariant}
 use Rattle.ell_core.specs.Later.{Follows, Keeps, wins_by}
@@ -21,6 +21,7 @@ use Rattle.ell_core.proofs.Decide.{same_value, some_not_none}
 use Rattle.ell_core.proofs.RangeBounds.{below_of}
 use Rattle.ell_core.proofs.Courses.{OnCourse-down}
 use Rattle.ell_core.proofs.KeepWorker.{TakesOn, follows_worker}
+use Rattle.ell_core.proofs.RangeBounds.{leaf_key}
 
 -- a lesser key is not at least another
 below_not_right : (a b : ℕ) → b < a → nat_le a b ≡ false
@@ -35,11 +36,6 @@ side_kept : (w : Words) (stage : Stages) (x : ℕ) (right : Bool) → ChildrenAr
 side_kept w stage x true h = at_least_right (w.key x) (w.key (w.child x true)) h.right_more
 side_kept w stage x false h = below_not_right (w.key x) (w.key (w.child x false)) h.left_less
 
--- the walk for a key that ends at a leaf of its own ends there
-pub leaf_met : (key : ℕ → ℕ) (child : ℕ → Bool → ℕ) (k x : ℕ) → IsLeaf x → Meets key child k x → key x ≡ k
-leaf_met key child k x outer (at_leaf h e) = e
-leaf_met key child k x outer (below inner e h) = absurd (outer inner)
-
 -- the walk for a real key goes left at the root, as the walk for the lesser infinity does
 left_at_root : (root k g : ℕ) → root ≡ g + 2 → k ≤ g → nat_le root k ≡ nat_le root (g + 1)
 left_at_root root k g e real = below_not_right root k (omega arith) ∙ sym (below_not_right root (g + 1) (omega arith))
@@ -49,7 +45,7 @@ leaf_below_root : (w : Words) (stage : Stages) (k : ℕ) → TreeIsSound w stage
     → w.key (child_for w k 0) ≡ infinity1
 leaf_below_root w stage k h real outer =
     let side = left_at_root (w.key 0) k greatest_key h.root_key real in
-    leaf_met w.key w.child infinity1 (child_for w k 0) outer
+    leaf_key w.key w.child infinity1 (child_for w k 0) outer
     (below_of w.key w.child top h.ordered {k = infinity1} {x = 0} refl (ap (w.child 0) side) h.last)
 
 -- a worker with a card in hand that is not flagged stands at a leaf

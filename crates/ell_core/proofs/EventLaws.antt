@@ -1,5 +1,5 @@
 -- What every event does: from the invariant, the lemmas on keys, ledgers, knowledge and facts.
-use Rattle.std.proofs.Common.{◌≡◌, ℕ, ◌↔◌, if◌then◌else◌, Bool, true, false, List, refl, sym, ap, subst, inl, inr}
+use Rattle.std.proofs.Common.{◌≡◌, ℕ, ◌↔◌, Bool, true, false, List, refl, sym, ap, subst, inl, inr}
 use Rattle.ell_core.specs.declared.event.Act.{Act}
 use Rattle.ell_core.specs.declared.event.Act.TheVariants as act
 use Rattle.ell_core.specs.declared.event.Event.{Event}
@@ -24,6 +24,7 @@ use Rattle.ell_core.proofs.IChild.{ichild_won-waits, ichild_won-gains, ichild_lo
 use Rattle.ell_core.proofs.DChild.{dchild-loses_key, dchild-lost_same}
 use Rattle.ell_core.proofs.StageHolds.{insert_kind, delete_kind}
 use Rattle.ell_core.proofs.StageLaws.{marked-delete}
+use Rattle.ell_core.proofs.CardSides.{card_key-insert, card_key-delete}
 
 -- the keys stay where an act keeps the links
 same_keys : (m : Machine) (stage : Stages) (a : Act) (i : ℕ) (said : Stepped) (becomes : Scene) → KeepsLinks a → Invariant m stage
@@ -61,10 +62,10 @@ same_words-keys old new same = subst (SameKeys old) (sym same) (λ k. (λ h. h, 
 
 -- the key of an insert's card, and of a delete's
 insert_card_key : (m : Machine) (stage : Stages) (c : ℕ) → Invariant m stage → is_insert (stage c) ≡ true → card_key m.words c ≡ insert_key m.words c
-insert_card_key m stage c invariant h = ap (λ b. if b then m.words.key (m.words.l c) else insert_key m.words c) (insert_kind m.words stage invariant.words c h)
+insert_card_key m stage c invariant h = card_key-insert m.words c (insert_kind m.words stage invariant.words c h)
 
 delete_card_key : (m : Machine) (stage : Stages) (c : ℕ) → Invariant m stage → is_delete (stage c) ≡ true → card_key m.words c ≡ delete_key m.words c
-delete_card_key m stage c invariant h = ap (λ b. if b then m.words.key (m.words.l c) else insert_key m.words c) (delete_kind m.words stage invariant.words c h)
+delete_card_key m stage c invariant h = card_key-delete m.words c (delete_kind m.words stage invariant.words c h)
 
 -- a won child exchange of an insert adds the card's key
 ichild_keys : (m : Machine) (stage : Stages) (i c : ℕ) (becomes : Scene) → Invariant m stage → IChild c (scene m i) Won becomes

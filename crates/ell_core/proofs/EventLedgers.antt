@@ -1,30 +1,18 @@
 -- What the rows of the event table do to the ledger and the knowledge of their worker.
-use Rattle.std.proofs.Common.{◌≡◌, ℕ, ◌==◌, ◌||◌, inl, inr, Bool, true, false, Option, Some, None, refl, sym, ap, ◌∙◌, subst, arith}
-use Rattle.std.proofs.lemmas.Bool.{cases_Bool}
+use Rattle.std.proofs.Common.{◌≡◌, ℕ, ◌==◌, inl, inr, Bool, true, false, refl, sym, ap, ◌∙◌, subst, arith}
 use Rattle.ell_core.specs.declared.event.Act.{Act}
 use Rattle.ell_core.specs.declared.event.Act.TheVariants as act
 use Rattle.ell_core.specs.declared.event.Stepped.{Stepped}
 use Rattle.ell_core.specs.declared.event.Stepped.TheVariants.{Moved, Answered}
 use Rattle.ell_core.specs.declared.fact.Fact.{Fact}
 use Rattle.ell_core.specs.declared.fact.Fact.TheVariants.{IFlagged, DFlagged, Marked}
-use Rattle.ell_core.specs.Facts.{Knowledge, same_fact, learned, learned_any, told_by}
+use Rattle.ell_core.specs.Facts.{Knowledge, told_by}
 use Rattle.ell_core.specs.Machine.{Ledger, Worker, Scene}
 use Rattle.ell_core.specs.Searching.{Answer}
 use Rattle.ell_core.specs.Exchanges.{won_or_lost, flagged_worker, mark_teaches}
 use Rattle.ell_core.specs.Events.{Row}
 use Rattle.ell_core.specs.StepLaws.{AnswersAsSet}
-
--- knowledge with another fact has what it had
-pub learned_keeps : (known : Knowledge) (new fact : Fact) → known fact ≡ true → learned known new fact ≡ true
-learned_keeps known new fact h = elim (cases_Bool (same_fact fact new)) [
-  | inl e ↦ ap (λ b. b || known fact) e
-  | inr e ↦ ap (λ b. b || known fact) e ∙ h
-]
-
--- and so has knowledge with another fact, if there is one
-pub learned_any_keeps : (known : Knowledge) (new : Option Fact) (fact : Fact) → known fact ≡ true → learned_any known new fact ≡ true
-learned_any_keeps known None fact h = h
-learned_any_keeps known (Some new) fact h = learned_keeps known new fact h
+use Rattle.ell_core.proofs.Wants.{learned_keeps, learned_any_keeps}
 
 -- what a mark teaches adds to what was known
 mark_keeps : (known : Knowledge) (c : ℕ) (won : Bool) (found : ℕ) (fact : Fact) → known fact ≡ true → mark_teaches known c won found fact ≡ true

@@ -1,5 +1,5 @@
 -- iflag keeps the invariant, won or lost.
-use Rattle.std.proofs.Common.{◌≡◌, ◌≢◌, ℕ, ◌%◌, ◌<◌, ◌==◌, ◌⊎◌, nat_le, Bool, true, false, [], ◌∷◌, ◌++◌, Option, Some, None, inl, inr, refl, sym, ap, ◌∙◌, subst, arith}
+use Rattle.std.proofs.Common.{◌≡◌, ◌≢◌, ℕ, ◌%◌, ◌<◌, ◌==◌, Bool, true, false, [], ◌∷◌, ◌++◌, Option, Some, None, inl, inr, refl, sym, ap, ◌∙◌, subst, arith}
 use Rattle.std.proofs.lemmas.Bool.{false≢true, cases_eq}
 use Rattle.std.proofs.lemmas.Bool.Decides.{nat_tests}
 use Rattle.ell_ops.specs.declared.op.Op.TheVariants.{Insert}
@@ -11,12 +11,11 @@ use Rattle.ell_core.specs.declared.event.Stepped.TheVariants.{Won, Lost}
 use Rattle.ell_core.specs.declared.fact.Fact.{Fact}
 use Rattle.ell_core.specs.declared.fact.Fact.TheVariants as fact
 use Rattle.ell_core.specs.declared.view.Seen.{Seen}
-use Rattle.ell_core.specs.Words.{Words, put, with_update}
+use Rattle.ell_core.specs.Words.{put, with_update}
 use Rattle.ell_core.specs.Machine.{Machine, Scene, scene, with_scene}
 use Rattle.ell_core.specs.Cards.{iflag, is_right}
-use Rattle.ell_core.specs.Searching.{IsLeaf, IsClean}
+use Rattle.ell_core.specs.Searching.{IsClean}
 use Rattle.ell_core.specs.Exchanges.{won_or_lost, flags, flagged_worker}
-use Rattle.ell_core.specs.Ranges.{Meets, at_leaf, below}
 use Rattle.ell_core.specs.Stages.{Stage, Stages, Opening, IClaimed, IFlagged, is_claimed, is_insert, insert_won, insert_open, delete_open, allows}
 use Rattle.ell_core.specs.Invariant.{IsOnCourse, insert_key, insert_side, InsertCard, InsertStage, UpdateIsSound, SeenIsSound, StandIsSound, InsertInHand, Invariant}
 use Rattle.ell_core.specs.Later.{Follows, Keeps, wins_of}
@@ -28,6 +27,8 @@ use Rattle.ell_core.proofs.ExchangeFollows.{test_passes, test_fails, no_delete}
 use Rattle.ell_core.proofs.FollowsAs.{follows_as}
 use Rattle.ell_core.proofs.ClaimInserts.{key_of_three}
 use Rattle.ell_core.proofs.FlagWorkers.{clean_remainder, flags_won, flags_lost, HoldsCard, hand_of, flag_loses, flag_wins}
+use Rattle.ell_core.proofs.RangeBounds.{leaf_key}
+use Rattle.ell_core.proofs.CardSides.{insert_key-side}
 
 -- an insert's card whose flag was not won was just claimed
 insert_claimed : (s : Stage) → is_insert s ≡ true → insert_won s ≡ false → s ≡ IClaimed
@@ -51,36 +52,12 @@ flagged_later = record {
 flagged_kind : SameKind IClaimed IFlagged
 flagged_kind = record { claimed = refl; insert = refl; delete = refl; born = refl; made = refl }
 
--- the right leaf's key is on the side of the card's own key, since one of the two leaves has the old leaf's key
-right_side : (middle left right leaf : ℕ) → (left ≡ leaf) ⊎ (right ≡ leaf)
-    → nat_le middle (key_of_three left right leaf) ≡ nat_le middle leaf
-    → nat_le middle right ≡ nat_le middle (key_of_three left right leaf)
-right_side middle left right leaf copy e = elim (cases_eq left leaf) [
-  | inl same ↦ grind (arith, nat_tests)
-  | inr n ↦ elim copy [
-    | inl same ↦ absurd (n same)
-    | inr same ↦ ap (nat_le middle) same ∙ sym e
-  ]
-]
-
--- the side of an insert is that of its key
-pub insert_side_own : (w : Words) (stage : Stages) (c : ℕ) → InsertCard w stage c
-    → insert_side w c ≡ is_right w (w.p c) (insert_key w c)
-insert_side_own w stage c h =
-    ap (nat_le (w.key (w.p c))) h.node_key
-    ∙ right_side (w.key (w.p c)) (w.key (left_leaf c)) (w.key (right_leaf c)) (w.key (w.l c)) h.copy h.side
-
 -- of two keys that rise, the one that is not the leaf's is another one
 other_of_two : (left right leaf : ℕ) → left < right → key_of_three left right leaf ≢ leaf
 other_of_two left right leaf less = elim (cases_eq left leaf) [
   | inl same ↦ (λ e. let pick : key_of_three left right leaf ≡ right = grind (arith, nat_tests) in omega arith)
   | inr n ↦ (λ e. let pick : key_of_three left right leaf ≡ left = grind (arith, nat_tests) in n (sym pick ∙ e))
 ]
-
--- a walk that ends at a leaf where it stands has the leaf's key
-pub leads_at_leaf : (key : ℕ → ℕ) (child : ℕ → Bool → ℕ) (k x : ℕ) → IsLeaf x → Meets key child k x → key x ≡ k
-leads_at_leaf key child k x outer (at_leaf h e) = e
-leads_at_leaf key child k x outer (below i e more) = absurd (outer i)
 
 -- an entry that is there and is not true is false
 absent_entry : (entry : Option Bool) → entry ≢ None → entry ≢ Some true → entry ≡ Some false
@@ -120,7 +97,7 @@ module _ (m : Machine) (stage : Stages) (i k c : ℕ) (parent : Seen) (there : i
   absent : (m.worker i).ledger k ≡ Some false
   absent = absent_entry ((m.worker i).ledger k) ((sound.workers.each i).owned (Insert k) h.busy)
       (λ e. other_of_two (m.words.key (left_leaf c)) (m.words.key (right_leaf c)) (m.words.key (m.words.l c)) said.ordered
-      (hand.own ∙ sym (leads_at_leaf m.words.key m.words.child k (m.words.l c) said.leaf.outer (stand.leads.1 e))))
+      (hand.own ∙ sym (leaf_key m.words.key m.words.child k (m.words.l c) said.leaf.outer (stand.leads.1 e))))
 
   module _ (won : m.words.update parent.node ≡ parent.word) where
     -- the parent's word was clean, and is the card's flag
@@ -144,7 +121,7 @@ module _ (m : Machine) (stage : Stages) (i k c : ℕ) (parent : Seen) (there : i
     -- the leaf is still the parent's child
     child_is_leaf : m.words.child (m.words.p c) (insert_side m.words c) ≡ m.words.l c
     child_is_leaf =
-        let side = insert_side_own m.words stage c said ∙ (λ t. is_right m.words (sym node t) (hand.own t)) in
+        let side = sym (insert_key-side m.words stage c said) ∙ (λ t. is_right m.words (sym node t) (hand.own t)) in
         let calm = subst (λ s. IsClean s.word) same_parent hand.calm in
         (λ t. m.words.child (sym node t) (side t)) ∙ seen.still calm won
 

@@ -4,6 +4,11 @@ use Rattle.std.proofs.lemmas.Bool.Decides.{nat_tests}
 use Rattle.ell_word.specs.Node.{IsInternal}
 use Rattle.ell_core.specs.Ranges.{next_node, low_of, high_of, Spans, root, goes, Meets, at_leaf, below, IsOrdered}
 
+-- a walk that ends at the leaf where it starts has the leaf's key
+pub leaf_key : (key : ℕ → ℕ) (child : ℕ → Bool → ℕ) (k x : ℕ) → ¬ IsInternal x → Meets key child k x → key x ≡ k
+leaf_key key child k x outer (at_leaf _ has) = has
+leaf_key key child k x outer (below inner _ _) = absurd (outer inner)
+
 module _ (key : ℕ → ℕ) (child : ℕ → Bool → ℕ) (top : ℕ) (ordered : IsOrdered key child top) where
   -- the range of a child lies in that of its parent
   pub child_within : (x low high : ℕ) (t : Bool) → Spans key child top x low high

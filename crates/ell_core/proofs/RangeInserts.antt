@@ -2,7 +2,7 @@
 use Rattle.std.proofs.Common.{◌≡◌, ◌≢◌, ℕ, ◌%◌, ◌<◌, ◌≤◌, Bool, true, false, nat_le, refl, sym, ap, ◌∙◌, subst, inl, inr, ◌⊎◌, arith}
 use Rattle.ell_word.specs.Node.{IsInternal}
 use Rattle.ell_core.specs.Ranges.{next_node, low_of, high_of, Spans, root, goes, Meets, at_leaf, below, IsOrdered, Relinked}
-use Rattle.ell_core.proofs.RangeBounds.{Meets-up, Meets-down}
+use Rattle.ell_core.proofs.RangeBounds.{leaf_key, Meets-up, Meets-down}
 
 -- the shape of the change: the child of p on the side s, a leaf l, becomes the internal node q, whose leaves have the keys
 -- of l and k
@@ -121,10 +121,6 @@ module _ (key : ℕ → ℕ) (child after : ℕ → Bool → ℕ) (top p : ℕ) 
       let same = sym (kept t) ∙ (ap (λ v. after v t) (sym a) ∙ sym e) in
       absurd (shape.leaves t (ap (λ v. v % 3) same ∙ h))
 
-  leaf_key : (j y : ℕ) → ¬ IsInternal y → Meets key child j y → key y ≡ j
-  leaf_key j y h (at_leaf _ e) = e
-  leaf_key j y h (below i _ _) = absurd (h i)
-
   -- the leaf of the new node on a key's side has the key, and so it is met there
   new_met : (j : ℕ) → key (next_node key child j q) ≡ j → Meets key after j q
   new_met j e =
@@ -139,7 +135,7 @@ module _ (key : ℕ → ℕ) (child after : ℕ → Bool → ℕ) (top p : ℕ) 
   Meets-inserted j ne (at_leaf h e) = at_leaf h e
   Meets-inserted j ne (below {x = x} {y = y} i e f) = elim (shape.relinks.others x (nat_le (key x) j)) [
     | inl h ↦
-        let was : key l ≡ j = leaf_key j l shape.leaf (subst (Meets key child j) (cc) f) in
+        let was : key l ≡ j = leaf_key key child j l shape.leaf (subst (Meets key child j) (cc) f) in
         below i refl (subst (Meets key after j) (cc) (copied j was))
     | inr h ↦ below i (cc) (Meets-inserted j ne f)
   ]
@@ -168,4 +164,4 @@ module _ (key : ℕ → ℕ) (child after : ℕ → Bool → ℕ) (top p : ℕ) 
     pub absent_before : key l ≢ k → ¬ Meets key child k 0
     absent_before ne f =
         let l_spans = goes s reached internal (sym shape.was) refl refl in
-        ne (leaf_key k l shape.leaf (Meets-down key child top ordered l_spans from until f))
+        ne (leaf_key key child k l shape.leaf (Meets-down key child top ordered l_spans from until f))

@@ -2,7 +2,7 @@
 use Rattle.std.proofs.Common.{◌≡◌, ◌≢◌, ℕ, ◌<◌, ◌≤◌, Bool, true, false, not, nat_le, refl, sym, ap, ◌∙◌, subst, inl, inr, ◌⊎◌, arith}
 use Rattle.ell_word.specs.Node.{IsInternal}
 use Rattle.ell_core.specs.Ranges.{low_of, high_of, Spans, root, goes, Meets, at_leaf, below, IsOrdered, Relinked}
-use Rattle.ell_core.proofs.RangeBounds.{Meets-down, Meets-within, child_within, side_of, below_of, leaf_is_met}
+use Rattle.ell_core.proofs.RangeBounds.{leaf_key, Meets-down, Meets-within, child_within, side_of, below_of, leaf_is_met}
 
 -- a side is another or it is not
 pub same_or_not : (u t : Bool) → (u ≡ t) ⊎ (u ≡ not t)
@@ -153,10 +153,6 @@ module _ (key : ℕ → ℕ) (child after : ℕ → Bool → ℕ) (top g : ℕ) 
       stays record { a = low; b = high; reached = root e f h; lower = omega arith; upper = omega arith }
   Spans-left (goes u r i e f h) = left_step _ _ _ _ _ _ u r (Spans-left r) i e f h
 
-  leaf_key : (j y : ℕ) → ¬ IsInternal y → Meets key child j y → key y ≡ j
-  leaf_key j y h (at_leaf _ e) = e
-  leaf_key j y h (below i _ _) = absurd (h i)
-
   -- every key but that of l is met from x as before
   pub Meets-removed : (j : ℕ) → j ≢ key l → {x : ℕ} → Meets key child j x → Meets key after j x
   Meets-removed j ne (at_leaf h e) = at_leaf h e
@@ -168,7 +164,7 @@ module _ (key : ℕ → ℕ) (child after : ℕ → Bool → ℕ) (top g : ℕ) 
       elim (shape.relinks.others x (nat_le (key x) j)) [
         | inl o ↦ elim (same_or_not (nat_le (key y) j) t) [
           | inl u ↦ below i refl (subst (Meets key after j) (cc) (Meets-removed j ne f))
-          | inr u ↦ absurd (ne (sym (leaf_key j l shape.leaf (subst (Meets key child j) (cc) f))))
+          | inr u ↦ absurd (ne (sym (leaf_key key child j l shape.leaf (subst (Meets key child j) (cc) f))))
         ]
         | inr o ↦ below i (cc) (Meets-removed j ne (below h d f))
       ]

@@ -7,21 +7,16 @@ use Rattle.ell_word.specs.Node.{IsInternal}
 use Rattle.ell_word.specs.Word.{unpacked}
 use Rattle.ell_word.specs.declared.update.State.{State}
 use Rattle.ell_word.specs.declared.update.State.TheVariants as state
-use Rattle.ell_core.specs.Words.{Words}
 use Rattle.ell_core.specs.Machine.{Machine}
 use Rattle.ell_core.specs.Searching.{IsLeaf, IsClean}
 use Rattle.ell_core.specs.Moves.{IsIdle}
 use Rattle.ell_core.specs.Tree.{Reached}
 use Rattle.ell_core.specs.Sound.{Owns, IsInHand}
-use Rattle.ell_core.specs.Ranges.{at_leaf, below}
+use Rattle.ell_core.specs.Ranges.{at_leaf}
 use Rattle.ell_core.specs.Stages.{Stages}
-use Rattle.ell_core.specs.Invariant.{LeadsTo, Invariant}
+use Rattle.ell_core.specs.Invariant.{Invariant}
 use Rattle.ell_core.proofs.SoundStates.{flag_sound}
-
--- at a leaf the walk for a key has ended: the leaf has the key or not
-leaf_meets : (w : Words) (k : ℕ) {x : ℕ} → IsLeaf x → LeadsTo w k x → w.key x ≡ k
-leaf_meets w k outer (at_leaf _ has) = has
-leaf_meets w k outer (below inner _ _) = absurd (outer inner)
+use Rattle.ell_core.proofs.RangeBounds.{leaf_key}
 
 -- the invariant holds of the state
 module _ (m : Machine) (stage : Stages) (sound : Invariant m stage) where
@@ -30,7 +25,7 @@ module _ (m : Machine) (stage : Stages) (sound : Invariant m stage) where
       → IsLeaf x → (m.words.key x ≡ key_of op) ↔ ((m.worker i).ledger (key_of op) ≡ Some true)
   leaf_key_tells i op x busy stands outer =
       let leads = ((sound.workers.each i).stands op x busy stands).leads in
-      (λ has. leads.0 (at_leaf outer has), λ present. leaf_meets m.words (key_of op) outer (leads.1 present))
+      (λ has. leads.0 (at_leaf outer has), λ present. leaf_key m.words.key m.words.child (key_of op) x outer (leads.1 present))
 
   -- a worker with a flagged card in hand has an operation, whose key it owns
   flagged_owns : (j : ℕ) → (m.worker j).flagged ≡ true → (k : ℕ) × Owns (m.worker j) k

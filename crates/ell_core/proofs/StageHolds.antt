@@ -5,7 +5,7 @@ use Rattle.std.proofs.lemmas.Bool.Decides.{nat_tests}
 use Rattle.ell_ops.specs.declared.op.Op.{Op}
 use Rattle.ell_ops.specs.declared.op.Op.TheVariants.{Find, Insert, Delete}
 use Rattle.ell_ops.specs.Meaning.{key_of}
-use Rattle.ell_word.specs.Node.{internal, left_leaf, right_leaf}
+use Rattle.ell_word.specs.Node.{internal}
 use Rattle.ell_core.specs.declared.fact.Fact.{Fact}
 use Rattle.ell_core.specs.declared.fact.Fact.TheVariants as fact
 use Rattle.ell_core.specs.Words.{Words}
@@ -16,8 +16,9 @@ use Rattle.ell_core.specs.Holds.{IFlagHolds, IChangeHolds, DFlagHolds, MarkHolds
 use Rattle.ell_core.specs.Stages.{Stage, Stages, is_insert, is_delete, insert_won, insert_open, insert_waits, is_changed, insert_over, delete_won, delete_open, delete_waits, is_unmarkable, is_marked, is_cut, delete_past, delete_over, is_backed, allows, made_of, staged_of, staged}
 use Rattle.ell_core.specs.Stages as at
 use Rattle.ell_core.specs.Holds as done
-use Rattle.ell_core.specs.Invariant.{insert_key, delete_key, insert_side, delete_side, InsertCard, WordsAreSound, Flagged, WorkerIsSound}
+use Rattle.ell_core.specs.Invariant.{insert_key, delete_key, insert_side, delete_side, WordsAreSound, Flagged, WorkerIsSound}
 use Rattle.ell_core.proofs.StageLaws.{changed-won, cut-marked, delete_won-delete, insert_over-changed, insert_won-insert, marked-won}
+use Rattle.ell_core.proofs.CardSides.{insert_key-side}
 
 insert_won-cases : (s : Stage) → insert_won s ≡ true → (insert_open s ≡ true) ⊎ (insert_over s ≡ true)
 insert_won-cases at.IFlagged h = inl refl
@@ -86,16 +87,6 @@ settled_delete at.DBacked update flag below mark child parent won opened past wa
     elim (cases_eq below mark) [ inl e ↦ absurd (false≢true (marked e)) | inr n ↦ grind (arith, nat_tests) ]
 settled_delete _ update flag below mark child parent won opened past waits cut marks marked = absurd (false≢true won)
 
--- an insert's own key and its node's key lie on one side of the parent
-pub insert_side-key : (w : Words) (stage : Stages) (c : ℕ) → InsertCard w stage c
-    → is_right w (w.p c) (insert_key w c) ≡ insert_side w c
-insert_side-key w stage c card = elim card.copy [
-  | inl left ↦ ap (is_right w (w.p c))
-      (cond-true (w.key (left_leaf c) == w.key (w.l c)) (w.key (right_leaf c)) (w.key (left_leaf c))
-      (eq-eqb (w.key (left_leaf c)) (w.key (w.l c)) left) ∙ sym card.node_key)
-  | inr right ↦ card.side ∙ ap (is_right w (w.p c)) (sym right ∙ sym card.node_key)
-]
-
 -- the words are sound at these stages
 module _ (w : Words) (stage : Stages) (sound : WordsAreSound w stage) where
   -- an insert's card by its words
@@ -111,7 +102,7 @@ module _ (w : Words) (stage : Stages) (sound : WordsAreSound w stage) where
   insert_card_child c h =
       ap (λ k. w.child (w.p c) (is_right w (w.p c) k))
       (cond-false (is_delete_card w c) (delete_key w c) (insert_key w c) (insert_kind c h))
-      ∙ ap (w.child (w.p c)) (insert_side-key w stage c ((sound.cards c).insert h))
+      ∙ ap (w.child (w.p c)) (insert_key-side w stage c ((sound.cards c).insert h))
 
   -- the same of a delete
   pub delete_card_child : (c : ℕ) → is_delete (stage c) ≡ true → card_child w c (w.gp c) ≡ w.child (w.gp c) (delete_side w c)

@@ -25,10 +25,14 @@ or_true false b h = h
 pub learned_knows : (known : Knowledge) (new : Fact) → learned known new new ≡ true
 learned_knows known new = true_or (same_fact new new) (known new) (same_fact-itself new)
 
--- what was known stays known
+-- what was known stays known with another fact
+pub learned_keeps : (known : Knowledge) (new fact : Fact) → known fact ≡ true → learned known new fact ≡ true
+learned_keeps known new fact h = or_true (same_fact fact new) (known fact) h
+
+-- and with another one, if there is one
 pub learned_any_keeps : (known : Knowledge) (new : Option Fact) (fact : Fact) → known fact ≡ true → learned_any known new fact ≡ true
 learned_any_keeps known None fact h = h
-learned_any_keeps known (Some new) fact h = or_true (same_fact fact new) (known fact) h
+learned_any_keeps known (Some new) fact h = learned_keeps known new fact h
 
 -- a lacking fact, if there is one, is learned
 pub any_is_learned : (known : Knowledge) (new : Option Fact) → LacksAny known new
