@@ -1,4 +1,3 @@
--- What the words of the command line come to.
 use Rattle.std.specs.Prelude.{◌≡◌, ◌≢◌, ◌⊎◌, ℕ, Bool, IsTrue, true, false, List, [], ◌∷◌, codes}
 use Rattle.std.specs.Prelude.{◌↔◌, ◌++◌, Option, None, Some, map, option_map, pos, ⊤}
 use Rattle.std.specs.Str.Parse.{digits_value, without_leading_plus}
@@ -12,7 +11,8 @@ use Rattle.clap.specs.declared.builder.value_parser.ValueParser.{ValueParser}
 use Rattle.clap.specs.declared.builder.value_parser.ValueParser.TheVariants as value_parser
 use Rattle.clap.specs.declared.error.kind.ErrorKind.{ErrorKind}
 use Rattle.clap.specs.declared.error.kind.ErrorKind.TheVariants as kind
-use Rattle.ell_run.specs.Settings.{AreSettings}
+use Rattle.ell_text.specs.Limits.{most_cards}
+use Rattle.ell_run.specs.Settings.{AreSettings, most_tries, most_workers}
 use Rattle.ell_run.specs.declared.settings.Settings.{Settings}
 use Rattle.ell_run.specs.declared.settings.Parting.{Parting}
 use Rattle.ell_run.specs.declared.settings.Parting.TheVariants.{Range, Stripe}
@@ -57,22 +57,22 @@ option_rule name parser defaults = record (new_rule name) {
 abbrev pub up_to : ℕ → ValueParser
 up_to most = value_parser.Signed (pos 1) (pos most)
 
--- `--workers`, from 1 to 64, and 4 by default
+-- `--workers`, from 1 on, and 4 by default
 abbrev pub workers_rule : Rule
-workers_rule = option_rule (codes "workers") (up_to 64) (codes "4" ∷ [])
+workers_rule = option_rule (codes "workers") (up_to most_workers) (codes "4" ∷ [])
 
 -- `--parting`, one of the names, and `stripe` by default
 abbrev pub parting_rule : BorrowedNames → Rule
 parting_rule names =
     option_rule (codes "parting") (value_parser.Names names) (codes "stripe" ∷ [])
 
--- `--cards`, from 1 to 1000000, with no default
+-- `--cards`, from 1 on, with no default
 abbrev pub cards_rule : Rule
-cards_rule = option_rule (codes "cards") (up_to 1000000) []
+cards_rule = option_rule (codes "cards") (up_to most_cards) []
 
--- `--tries`, from 1 to 1000000, and 1000 by default
+-- `--tries`, from 1 on, and 1000 by default
 abbrev pub tries_rule : Rule
-tries_rule = option_rule (codes "tries") (up_to 1000000) (codes "1000" ∷ [])
+tries_rule = option_rule (codes "tries") (up_to most_tries) (codes "1000" ∷ [])
 
 -- the flag `--report`
 abbrev pub report_rule : Rule
@@ -184,12 +184,12 @@ IsNumberUpTo most value =
 
 -- each option of `run` has a value that it takes, or none where it has no default
 pub record AreOptions (rows : List Row) : Type 0 where
-  pub workers : IsNumberUpTo 64 (one_of (codes "workers") rows)
+  pub workers : IsNumberUpTo most_workers (one_of (codes "workers") rows)
   pub parting : (first_of (codes "parting") rows ≡ Some (codes "stripe"))
       ⊎ (first_of (codes "parting") rows ≡ Some (codes "range"))
   pub cards : (one_of (codes "cards") rows ≡ None)
-      ⊎ IsNumberUpTo 1000000 (one_of (codes "cards") rows)
-  pub tries : IsNumberUpTo 1000000 (one_of (codes "tries") rows)
+      ⊎ IsNumberUpTo most_cards (one_of (codes "cards") rows)
+  pub tries : IsNumberUpTo most_tries (one_of (codes "tries") rows)
   pub report : (one_of (codes "report") rows ≡ Some (codes "true"))
       ⊎ (one_of (codes "report") rows ≡ Some (codes "false"))
 

@@ -1,11 +1,10 @@
--- How the program ends.
 use Rattle.std.specs.Prelude.{◌≡◌, ◌⊎◌, ℕ, ⊤}
 use Rattle.ell_run.specs.Answered.{IsBeforeWriting}
 use Rattle.ell_cli.specs.declared.program.Failure.{Failure}
 use Rattle.ell_cli.specs.declared.program.Failure.TheVariants as failure
 use Rattle.ell_run.specs.declared.bytes.RunFault.{RunFault}
 use Rattle.ell_run.specs.declared.bytes.RunFault.TheVariants as run_fault
-use Rattle.ell_text.specs.Replayed.{IsBeforeWriting as IsBeforeTrace}
+use Rattle.ell_text.specs.replays.Replayed.{IsBeforeWriting as IsBeforeTrace}
 use Rattle.ell_text.specs.declared.bytes.ScriptFault.{ScriptFault}
 use Rattle.ell_text.specs.declared.bytes.ScriptFault.TheVariants as script_fault
 

@@ -8,7 +8,7 @@ ghost use Rattle.ell_cli.specs.CommandLine.{is_mistake};
 ghost use Rattle.ell_cli.specs.Program.{IsBeforeOutput, IsRefusal, IsSilent, IsStatus, Succeeded};
 ghost use Rattle.ell_cli.specs.Program.{status_of};
 ghost use Rattle.ell_run.specs.Answered.{IsAnswered};
-ghost use Rattle.ell_text.specs.Replayed.{IsReplayed};
+ghost use Rattle.ell_text.specs.replays.Replayed.{IsReplayed};
 
 use crate::request::{Request, request_of};
 use clap::error::ErrorKind;

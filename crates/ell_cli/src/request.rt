@@ -19,7 +19,7 @@ ghost use Rattle.ell_run.specs.Settings.{AreSettings};
 
 use clap::error::ErrorKind;
 use clap::{Arg, ArgAction, ArgMatches, Command, Error, value_parser};
-use ell_run::{Parting, Settings};
+use ell_run::{CARDS_MAX, Parting, Settings, TRIES_MAX, WORKERS_MAX};
 use std::alloc::{AllocError, Global};
 use std::convert::AsStr;
 
@@ -112,7 +112,8 @@ pub fn request_of<S: AsStr>(alloc: Global, words: &[S]) -> Result<Request, Error
     ensures nothing { map S.text words.now ≡ []
         → IsErrAnd result (HasKind (ErrorKind.MissingSubcommand ∷ [])) }
 {
-    let matches = elltree_command(alloc)?.try_get_matches_from(words)?;
+    let texts = OptionTexts::new(alloc)?;
+    let matches = elltree_command(alloc, &texts)?.try_get_matches_from(words)?;
     Ok(request_in(&matches))
 }
 
@@ -173,8 +174,28 @@ fn parting_in(options: &ArgMatches<'_>) -> Parting
     }
 }
 
+// The help of the options that take a number, each with the most that it takes.
+#[derive(Drop)]
+struct OptionTexts {
+    workers: String,
+    cards: String,
+    tries: String,
+}
+
+impl OptionTexts {
+    fn new(alloc: Global) -> Result<OptionTexts, AllocError> {
+        Ok(OptionTexts {
+            workers: format!(in alloc; "Workers that share the run, 1 to {WORKERS_MAX}")?,
+            cards: format!(in alloc;
+                "Cards of a run, 1 to {CARDS_MAX} [default: 4 per operation and 64]"
+            )?,
+            tries: format!(in alloc; "Tries of an operation, 1 to {TRIES_MAX}")?,
+        })
+    }
+}
+
 // The program's command line, which has to name a subcommand.
-fn elltree_command<'a>(alloc: Global) -> Result<Command<'a>, AllocError>
+fn elltree_command<'a>(alloc: Global, texts: &'a OptionTexts) -> Result<Command<'a>, AllocError>
     ensures { IfOk result (λ c. IsElltree (app_of c)) }
 {
     Command::new(alloc, "elltree")
@@ -182,12 +203,12 @@ fn elltree_command<'a>(alloc: Global) -> Result<Command<'a>, AllocError>
         .no_binary_name(true)
         .subcommand_required(true)
         .bin_name("elltree")?
-        .subcommand(run_command(alloc)?)?
+        .subcommand(run_command(alloc, texts)?)?
         .subcommand(replay_command(alloc))
 }
 
 // The subcommand `run`, with its options.
-fn run_command<'a>(alloc: Global) -> Result<Command<'a>, AllocError>
+fn run_command<'a>(alloc: Global, texts: &'a OptionTexts) -> Result<Command<'a>, AllocError>
     ensures shape { IfOk result (λ c.
         (names : BorrowedNames) × NamesPartings names × (shape_of c ≡ run_shape names)) }
     ensures local { IfOk result (λ c. (fields_of c).has_globals ≡ false) }
@@ -196,10 +217,10 @@ fn run_command<'a>(alloc: Global) -> Result<Command<'a>, AllocError>
         .about(RUN_ABOUT)
         .long_about(RUN_LONG_ABOUT)
         .after_long_help(RUN_AFTER_HELP)
-        .arg(workers_option(alloc))?
+        .arg(workers_option(alloc, texts))?
         .arg(parting_option(alloc))?
-        .arg(cards_option(alloc))?
-        .arg(tries_option(alloc))?
+        .arg(cards_option(alloc, texts))?
+        .arg(tries_option(alloc, texts))?
         .arg(report_option(alloc))
 }
 
@@ -213,16 +234,16 @@ fn replay_command<'a>(alloc: Global) -> Command<'a>
         .long_about(REPLAY_LONG_ABOUT)
 }
 
-fn workers_option<'a>(alloc: Global) -> Arg<'a>
+fn workers_option<'a>(alloc: Global, texts: &'a OptionTexts) -> Arg<'a>
     ensures rule { rule_of result ≡ workers_rule }
     ensures local { result.global ≡ false }
 {
     Arg::new(alloc, "workers")
         .long("workers")
         .value_name("N")
-        .value_parser(value_parser!(u32).range(1..=64))
+        .value_parser(value_parser!(u32).range(1..=i64::from(WORKERS_MAX)))
         .default_value("4")
-        .help("Workers that share the run, 1 to 64")
+        .help(texts.workers.as_str())
 }
 
 fn parting_option<'a>(alloc: Global) -> Arg<'a>
@@ -237,27 +258,27 @@ fn parting_option<'a>(alloc: Global) -> Arg<'a>
         .help("How keys go to workers")
 }
 
-fn cards_option<'a>(alloc: Global) -> Arg<'a>
+fn cards_option<'a>(alloc: Global, texts: &'a OptionTexts) -> Arg<'a>
     ensures rule { rule_of result ≡ cards_rule }
     ensures local { result.global ≡ false }
 {
     Arg::new(alloc, "cards")
         .long("cards")
         .value_name("N")
-        .value_parser(value_parser!(u32).range(1..=1_000_000))
-        .help("Cards of a run, 1 to 1000000 [default: 4 per operation and 64]")
+        .value_parser(value_parser!(u32).range(1..=CARDS_MAX as i64))
+        .help(texts.cards.as_str())
 }
 
-fn tries_option<'a>(alloc: Global) -> Arg<'a>
+fn tries_option<'a>(alloc: Global, texts: &'a OptionTexts) -> Arg<'a>
     ensures rule { rule_of result ≡ tries_rule }
     ensures local { result.global ≡ false }
 {
     Arg::new(alloc, "tries")
         .long("tries")
         .value_name("N")
-        .value_parser(value_parser!(u32).range(1..=1_000_000))
+        .value_parser(value_parser!(u32).range(1..=i64::from(TRIES_MAX)))
         .default_value("1000")
-        .help("Tries of an operation, 1 to 1000000")
+        .help(texts.tries.as_str())
 }
 
 fn report_option<'a>(alloc: Global) -> Arg<'a>

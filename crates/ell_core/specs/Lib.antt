@@ -1,26 +1,14 @@
-pub mod Layout
-pub mod Words
-pub mod Facts
-pub mod Machine
-pub mod Cards
-pub mod Searching
-pub mod Exchanges
-pub mod Events
-pub mod Moves
-pub mod Tree
-pub mod Holds
-pub mod Sound
-pub mod Opening
-pub mod Runs
-pub mod Fits
-pub mod Inside
-pub mod World
-pub mod WorldInside
-pub mod Laws
-pub mod Ranges
-pub mod Stages
-pub mod Invariant
-pub mod Later
-pub mod StepLaws
-pub mod RunLaws
-pub mod Unsound
+-- a state of the machine: its words, cards, facts, workers, the opening, seat moves
+pub mod state
+-- what each event does: its row of the event table, refusals, schedules
+pub mod acts
+-- the tree that the words make
+pub mod tree
+-- when a state is sound, and small states that are not
+pub mod soundness
+-- the invariant, with how far each card has come
+pub mod history
+-- the laws, as statements
+pub mod statements
+-- a world as its code keeps it
+pub mod inside

@@ -2,19 +2,19 @@
 ghost use Rattle.std.specs.Prelude.{◌≡◌, ◌≤◌, ◌==◌, false, is_ok, IfOk, IfErr, OnOk, OnErr};
 ghost use Rattle.ell_core.specs.declared.event.Act.TheVariants as act;
 ghost use Rattle.ell_core.specs.declared.event.CoreFault.TheVariants.{NoMemory};
-ghost use Rattle.ell_core.specs.Cards.{dflag, clean, sibling};
-ghost use Rattle.ell_core.specs.Exchanges.{won_or_lost, exchanged_update, flags, flag_tells};
-ghost use Rattle.ell_core.specs.Fits.{IsInner, WordsFit};
-ghost use Rattle.ell_core.specs.Inside.{words_in, worker_in, view_of, scene_in, IsSized, LacksAny, Answered, RefusedAt, IsReady, SameSize};
+ghost use Rattle.ell_core.specs.state.Cards.{dflag, clean, sibling};
+ghost use Rattle.ell_core.specs.acts.Exchanges.{won_or_lost, exchanged_update, flags, flag_tells};
+ghost use Rattle.ell_core.specs.inside.Fits.{IsInner, WordsFit};
+ghost use Rattle.ell_core.specs.inside.Inside.{words_in, worker_in, view_of, scene_in, IsSized, LacksAny, IsReady, TakesTurn, SameSize};
 
 use crate::event::{CoreFault, Stepped};
 use crate::fact::{Fact, told_by};
-use crate::field::Field;
+use crate::field::{Field, update_word};
 use crate::memory::Memory;
 use crate::view::Seen;
 use crate::worker::Worker;
 use ell_ops::Op;
-use ell_word::{State, Update, internal_of, pack};
+use ell_word::{State, internal_of};
 
 // What an exchange says.
 fn won_or_lost(outcome: Result<(), u64>) -> Stepped
@@ -29,11 +29,7 @@ fn won_or_lost(outcome: Result<(), u64>) -> Stepped
 /// Flags the parent for the insert in hand.
 pub(crate) fn iflag(memory: &mut Memory, worker: &mut Worker) -> Result<Stepped, CoreFault>
     requires { IsReady memory.old worker.old }
-    ensures done { IfOk result (Answered act.IFlag memory.old worker.old memory.new worker.new) }
-    ensures refused { IfErr result (RefusedAt act.IFlag memory.old worker.old) }
-    ensures unchanged { OnErr result (view_of worker.new ≡ view_of worker.old) }
-    ensures words { OnErr result (memory.new ≡ memory.old) }
-    ensures same { SameSize memory.old memory.new }
+    ensures { TakesTurn act.IFlag memory.old worker.old memory.new worker.new result }
 {
     let (Some(Op::Insert(_)), Some(card), false, Some(parent)) = (
         worker.operation,
@@ -43,21 +39,14 @@ pub(crate) fn iflag(memory: &mut Memory, worker: &mut Worker) -> Result<Stepped,
     ) else {
         return Err(CoreFault::NotNow);
     };
-    let new = pack(Update {
-        state: State::IFlag,
-        card,
-    });
+    let new = update_word(State::IFlag, card);
     flag(memory, worker, parent, new, Fact::IFlagged(card))
 }
 
 /// Flags the grandparent for the delete in hand.
 pub(crate) fn dflag(memory: &mut Memory, worker: &mut Worker) -> Result<Stepped, CoreFault>
     requires { IsReady memory.old worker.old }
-    ensures done { IfOk result (Answered act.DFlag memory.old worker.old memory.new worker.new) }
-    ensures refused { IfErr result (RefusedAt act.DFlag memory.old worker.old) }
-    ensures unchanged { OnErr result (view_of worker.new ≡ view_of worker.old) }
-    ensures words { OnErr result (memory.new ≡ memory.old) }
-    ensures same { SameSize memory.old memory.new }
+    ensures { TakesTurn act.DFlag memory.old worker.old memory.new worker.new result }
 {
     let (Some(Op::Delete(_)), Some(card), false, Some(grandparent)) = (
         worker.operation,
@@ -67,10 +56,7 @@ pub(crate) fn dflag(memory: &mut Memory, worker: &mut Worker) -> Result<Stepped,
     ) else {
         return Err(CoreFault::NotNow);
     };
-    let new = pack(Update {
-        state: State::DFlag,
-        card,
-    });
+    let new = update_word(State::DFlag, card);
     flag(memory, worker, grandparent, new, Fact::DFlagged(card))
 }
 
@@ -120,11 +106,7 @@ pub(crate) fn ichild(
     card: u64,
 ) -> Result<Stepped, CoreFault>
     requires { IsReady memory.old worker.old }
-    ensures done { IfOk result (Answered (act.IChild card) memory.old worker.old memory.new worker.new) }
-    ensures refused { IfErr result (RefusedAt (act.IChild card) memory.old worker.old) }
-    ensures unchanged { OnErr result (view_of worker.new ≡ view_of worker.old) }
-    ensures words { OnErr result (memory.new ≡ memory.old) }
-    ensures same { SameSize memory.old memory.new }
+    ensures { TakesTurn (act.IChild card) memory.old worker.old memory.new worker.new result }
 {
     if !worker.knows(Fact::IFlagged(card)) {
         return Err(CoreFault::NotNow);
@@ -142,25 +124,15 @@ pub(crate) fn iunflag(
     card: u64,
 ) -> Result<Stepped, CoreFault>
     requires { IsReady memory.old worker.old }
-    ensures done { IfOk result (Answered (act.IUnflag card) memory.old worker.old memory.new worker.new) }
-    ensures refused { IfErr result (RefusedAt (act.IUnflag card) memory.old worker.old) }
-    ensures unchanged { OnErr result (view_of worker.new ≡ view_of worker.old) }
-    ensures words { OnErr result (memory.new ≡ memory.old) }
-    ensures same { SameSize memory.old memory.new }
+    ensures { TakesTurn (act.IUnflag card) memory.old worker.old memory.new worker.new result }
 {
     if !worker.knows(Fact::IChanged(card)) {
         return Err(CoreFault::NotNow);
     }
     worker.learn(Fact::IOver(card))?;
     let parent = memory.read(card, Field::P);
-    let flag = pack(Update {
-        state: State::IFlag,
-        card,
-    });
-    let clean = pack(Update {
-        state: State::Clean,
-        card,
-    });
+    let flag = update_word(State::IFlag, card);
+    let clean = update_word(State::Clean, card);
     Ok(won_or_lost(memory.exchange_update(parent, flag, clean)))
 }
 
@@ -171,21 +143,14 @@ pub(crate) fn mark(
     card: u64,
 ) -> Result<Stepped, CoreFault>
     requires { IsReady memory.old worker.old }
-    ensures done { IfOk result (Answered (act.Mark card) memory.old worker.old memory.new worker.new) }
-    ensures refused { IfErr result (RefusedAt (act.Mark card) memory.old worker.old) }
-    ensures unchanged { OnErr result (view_of worker.new ≡ view_of worker.old) }
-    ensures words { OnErr result (memory.new ≡ memory.old) }
-    ensures same { SameSize memory.old memory.new }
+    ensures { TakesTurn (act.Mark card) memory.old worker.old memory.new worker.new result }
 {
     if !worker.knows(Fact::DFlagged(card)) {
         return Err(CoreFault::NotNow);
     }
     let parent = memory.read(card, Field::P);
     let was = memory.read(card, Field::Was);
-    let mark = pack(Update {
-        state: State::Mark,
-        card,
-    });
+    let mark = update_word(State::Mark, card);
     let found = memory.update(parent);
     if found == was || found == mark {
         worker.learn(Fact::Marked(card))?;
@@ -202,11 +167,7 @@ pub(crate) fn dchild(
     card: u64,
 ) -> Result<Stepped, CoreFault>
     requires { IsReady memory.old worker.old }
-    ensures done { IfOk result (Answered (act.DChild card) memory.old worker.old memory.new worker.new) }
-    ensures refused { IfErr result (RefusedAt (act.DChild card) memory.old worker.old) }
-    ensures unchanged { OnErr result (view_of worker.new ≡ view_of worker.old) }
-    ensures words { OnErr result (memory.new ≡ memory.old) }
-    ensures same { SameSize memory.old memory.new }
+    ensures { TakesTurn (act.DChild card) memory.old worker.old memory.new worker.new result }
 {
     if !worker.knows(Fact::Marked(card)) {
         return Err(CoreFault::NotNow);
@@ -242,11 +203,7 @@ pub(crate) fn dunflag(
     card: u64,
 ) -> Result<Stepped, CoreFault>
     requires { IsReady memory.old worker.old }
-    ensures done { IfOk result (Answered (act.DUnflag card) memory.old worker.old memory.new worker.new) }
-    ensures refused { IfErr result (RefusedAt (act.DUnflag card) memory.old worker.old) }
-    ensures unchanged { OnErr result (view_of worker.new ≡ view_of worker.old) }
-    ensures words { OnErr result (memory.new ≡ memory.old) }
-    ensures same { SameSize memory.old memory.new }
+    ensures { TakesTurn (act.DUnflag card) memory.old worker.old memory.new worker.new result }
 {
     if !worker.knows(Fact::Cut(card)) {
         return Err(CoreFault::NotNow);
@@ -262,11 +219,7 @@ pub(crate) fn backtrack(
     card: u64,
 ) -> Result<Stepped, CoreFault>
     requires { IsReady memory.old worker.old }
-    ensures done { IfOk result (Answered (act.Backtrack card) memory.old worker.old memory.new worker.new) }
-    ensures refused { IfErr result (RefusedAt (act.Backtrack card) memory.old worker.old) }
-    ensures unchanged { OnErr result (view_of worker.new ≡ view_of worker.old) }
-    ensures words { OnErr result (memory.new ≡ memory.old) }
-    ensures same { SameSize memory.old memory.new }
+    ensures { TakesTurn (act.Backtrack card) memory.old worker.old memory.new worker.new result }
 {
     if !worker.knows(Fact::Unmarkable(card)) {
         return Err(CoreFault::NotNow);
@@ -285,13 +238,7 @@ fn take_dflag_away(memory: &mut Memory, card: u64) -> Stepped
     ensures same { SameSize memory.old memory.new }
 {
     let grandparent = memory.read(card, Field::Gp);
-    let flag = pack(Update {
-        state: State::DFlag,
-        card,
-    });
-    let clean = pack(Update {
-        state: State::Clean,
-        card,
-    });
+    let flag = update_word(State::DFlag, card);
+    let clean = update_word(State::Clean, card);
     won_or_lost(memory.exchange_update(grandparent, flag, clean))
 }

@@ -1,6 +1,6 @@
 //! What a worker can know of a card.
 ghost use Rattle.std.specs.Prelude.{◌≡◌};
-ghost use Rattle.ell_core.specs.Facts.{card_of_fact, told_by};
+ghost use Rattle.ell_core.specs.state.Facts.{told_by};
 
 use ell_word::{State, unpack};
 
@@ -28,7 +28,7 @@ pub enum Fact {
 }
 
 /// The fact that an update word tells whoever reads it: a flag or a mark that of its card, a clean word none.
-pub(crate) fn told_by(word: u64) -> Option<Fact>
+pub fn told_by(word: u64) -> Option<Fact>
     ensures { result ≡ told_by word }
 {
     let update = unpack(word);

@@ -1,7 +1,11 @@
 //! The ten words of a card, and where they stand.
-ghost use Rattle.std.specs.Prelude.{◌≡◌, ◌≤◌};
-ghost use Rattle.ell_word.specs.Node.{greatest_card};
-ghost use Rattle.ell_core.specs.Layout.{place, address, table_size};
+ghost use Rattle.std.specs.Prelude.{◌≡◌, ◌≤◌, ◌%◌, ℕ};
+ghost use Rattle.ell_word.specs.Node.{greatest_card, card, IsInternal};
+ghost use Rattle.ell_word.specs.Word.{packed};
+ghost use Rattle.ell_core.specs.state.Layout.{place, address, table_size};
+ghost use Rattle.ell_core.specs.state.Words.{Words, word, key_field, child_field};
+
+use ell_word::{State, Update, pack};
 
 /// A word of a card: the first four are the record of the operation that took it (Info, figure 7 of the paper), the
 /// others its internal node and its two leaves.
@@ -50,18 +54,47 @@ impl Field {
             Field::RightLeafKey => 9,
         }
     }
+
+    /// The address of a card's field in the list of all words: the claim word comes first, then each card's words. Condition:
+    /// the card is at most `CARD_MAX`.
+    pub fn address(self, card: u64) -> usize
+        requires { card ≤ greatest_card }
+        ensures { result ≡ address card self }
+    {
+        (1 + WORDS_PER_CARD * card + self.place()) as usize
+    }
 }
 
-/// The address of a card's field in the list of all words: the claim word comes first, then each card's words.
-pub(crate) fn address(card: u64, field: Field) -> usize
-    requires { card ≤ greatest_card }
-    ensures { result ≡ address card field }
+/// The field that has the key of a node, on the node's card.
+pub fn key_field(node: u64) -> Field
+    ensures field { result ≡ key_field (node % 3) }
+    ensures word { (w : Words) → word w (card node) result ≡ w.key node }
 {
-    (1 + WORDS_PER_CARD * card + field.place()) as usize
+    match node % 3 {
+        0 => Field::Key,
+        1 => Field::LeftLeafKey,
+        _ => Field::RightLeafKey,
+    }
 }
 
-/// How many words a table has whose cards are 0 and so many more.
-pub(crate) fn table_size(cards: u64) -> usize
+/// The field that has the child of an internal node on a side, on the node's card.
+pub fn child_field(right: bool) -> Field
+    ensures field { result ≡ child_field right }
+    ensures word { (w : Words) (node : ℕ) → IsInternal node → word w (card node) result ≡ w.child node right }
+{
+    if right { Field::Right } else { Field::Left }
+}
+
+/// The update word that a card sets, in a state. Condition: the card is at most `CARD_MAX`.
+pub fn update_word(state: State, card: u64) -> u64
+    requires { card ≤ greatest_card }
+    ensures { result ≡ packed (record { state = state; card = card }) }
+{
+    pack(Update { state, card })
+}
+
+/// How many words a table has whose cards are 0 and so many more. Condition: at most `CARD_MAX` more.
+pub fn table_size(cards: u64) -> usize
     requires { cards ≤ greatest_card }
     ensures { result ≡ table_size cards }
 {

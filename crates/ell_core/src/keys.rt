@@ -1,34 +1,54 @@
-//! The keys of the tree, by a walk over its nodes.
-ghost use Rattle.std.specs.Prelude.{◌≡◌, IfOk};
-ghost use Rattle.ell_core.specs.Tree.{IsLawful, ListsKeys};
-ghost use Rattle.ell_core.specs.Fits.{WordsFit};
-ghost use Rattle.ell_core.specs.Inside.{words_in, IsSized};
+//! The keys of a tree, by a walk over its nodes.
+ghost use Rattle.std.specs.Prelude.{◌≡◌, ℕ, [], vec_capacity};
+ghost use Rattle.ell_word.specs.Node.{IsInternal};
+ghost use Rattle.ell_core.specs.state.Words.{Words};
+ghost use Rattle.ell_core.specs.tree.Tree.{Reached, IsLawful, ListsKeys};
+ghost use Rattle.ell_core.specs.tree.Room.{HasRoom, HoldsKeys};
 
-use crate::memory::Memory;
-use ell_ops::{KEY_MAX, NoMemory};
+use ell_ops::KEY_MAX;
 use ell_word::is_internal;
-use std::alloc::Global;
 
-/// The keys of the tree, each once, ascending, where the tree is lawful. The walk goes left first, and makes at most as many
-/// turns as there are nodes: in a lawful tree it comes to each node once.
-pub(crate) fn keys_of_tree(alloc: Global, memory: &Memory) -> Result<Vec<u64>, NoMemory>
-    requires sized { IsSized memory.now }
-    requires fits { WordsFit memory.now.cards (words_in memory.now) }
-    ensures { IfOk result (λ keys. IsLawful (words_in memory.now) → ListsKeys (words_in memory.now) keys.items) }
+/// The words of a tree, read node by node.
+pub trait TreeWords {
+    ghost words: { Self → Words };
+
+    // the nodes that may be read
+    ghost can_read: { Self → ℕ → Type 0 };
+
+    /// The key of a node.
+    fn key(&self, node: u64) -> u64
+        requires { can_read self.now node }
+        ensures { result ≡ (words self.now).key node };
+
+    /// The child of an internal node on a side.
+    fn child(&self, node: u64, right: bool) -> u64
+        requires read { can_read self.now node }
+        requires inner { IsInternal node }
+        ensures { result ≡ (words self.now).child node right };
+}
+
+/// The keys of a lawful tree, each once, ascending. Nothing is allocated: the two lists, empty as they come, have room for the
+/// nodes that wait and for the keys. The walk goes left first, and comes to each node once.
+pub fn keys_of_tree<T: TreeWords>(tree: &T, mut waiting: Vec<u64>, mut keys: Vec<u64>) -> Vec<u64>
+    requires lawful { IsLawful (T.words tree.now) }
+    requires readable { (x : ℕ) → Reached (T.words tree.now) x → T.can_read tree.now x }
+    requires no_nodes { waiting.items ≡ [] }
+    requires no_keys { keys.items ≡ [] }
+    requires room { HasRoom (T.words tree.now) (vec_capacity waiting) }
+    requires keys_room { HoldsKeys (T.words tree.now) (vec_capacity keys) }
+    ensures { ListsKeys (T.words tree.now) result.items }
 {
-    let mut keys = Vec::new(alloc);
-    let mut waiting = Vec::new(alloc);
-    waiting.push(0)?;
-    for _ in 0..3 * (memory.cards + 1) {
-        let Some(node) = waiting.pop() else {
-            break;
-        };
+    waiting.push(0).unwrap();
+    while let Some(node) = waiting.pop() {
         if is_internal(node) {
-            waiting.push(memory.child(node, true))?;
-            waiting.push(memory.child(node, false))?;
-        } else if memory.key(node) <= KEY_MAX {
-            keys.push(memory.key(node))?;
+            waiting.push(tree.child(node, true)).unwrap();
+            waiting.push(tree.child(node, false)).unwrap();
+        } else {
+            let key = tree.key(node);
+            if key <= KEY_MAX {
+                keys.push(key).unwrap();
+            }
         }
     }
-    Ok(keys)
+    keys
 }

@@ -1,14 +1,29 @@
-//! Laws of the definitions. Each is the contract of a function that does nothing.
-ghost use Rattle.ell_core.specs.Laws.{EachHasOneOutcome, SameAfterSameWrite, WordsAreListed};
+//! The laws of the machine. Each is the contract of a function that does nothing, so that it is proved.
+mod definitions;
+mod premises;
+mod refuted;
+mod schedules;
+mod steps;
+mod unsound;
 
-/// Each event in each state has exactly one outcome: an answer with one state after it, or one of the first four refusals.
-pub fn one_outcome()
-    ensures { EachHasOneOutcome }
-{}
-
-/// Where a list of words has what the machine has at a field of a card, it has it after the same write in both, at every
-/// address; and the machine that is made of a list has the list's words.
-pub fn same_words()
-    ensures writes { SameAfterSameWrite }
-    ensures listed { WordsAreListed }
-{}
+pub use definitions::{
+    each_word_has_its_address, one_outcome, room_holds_keys, same_words, told_words_stay,
+    writes_are_seen,
+};
+pub use premises::{
+    events_pass_on, every_parting_is_a_split, every_union_is_a_join, one_worker_can_open,
+    one_worker_owns_all, openings_are_passed, runs_can_be_followed, two_keys_can_open,
+};
+pub use refuted::{events_promise_no_more, runs_promise_no_more};
+pub use schedules::{
+    answers_are_the_sets, claimed_cards_are_fixed, every_state_is_sound, facts_last,
+    keys_change_at_wins, marked_nodes_are_frozen, wins_are_in_order, words_rise,
+};
+pub use steps::{
+    cards_wait, events_are_lawful, invariant_is_sound, moves_are_lawful, owner_finds_clean,
+    steps_may_rely,
+};
+pub use unsound::{
+    no_fact_is_made_up, no_flag_is_left_standing, no_ledger_is_wrong, no_name_is_wrong,
+    no_search_is_astray, no_stranger_is_somebody, no_tree_is_unlawful,
+};

@@ -1,18 +1,17 @@
 //! The words of all cards, in one list.
-ghost use Rattle.std.specs.Prelude.{◌≡◌, ◌≢◌, ◌≤◌, IfOk, IfErr, OnOk, List};
+ghost use Rattle.std.specs.Prelude.{◌≡◌, ◌≢◌, ◌≤◌, IfOk, IfErr, OnOk};
 ghost use Rattle.ell_word.specs.Node.{greatest_card};
-ghost use Rattle.ell_core.specs.Words.{word, written};
-ghost use Rattle.ell_core.specs.Cards.{is_right, filled, claimed};
-ghost use Rattle.ell_core.specs.Exchanges.{exchanged_update, exchanged_child, found_child};
-ghost use Rattle.ell_core.specs.Opening.{opening_words};
-ghost use Rattle.ell_core.specs.Fits.{IsNode, IsInner, WordsFit};
-ghost use Rattle.ell_core.specs.Inside.{words_in, IsSized, SameSize};
+ghost use Rattle.ell_core.specs.state.Words.{word, written};
+ghost use Rattle.ell_core.specs.state.Cards.{is_right, filled, claimed};
+ghost use Rattle.ell_core.specs.acts.Exchanges.{exchanged_update, exchanged_child, found_child};
+ghost use Rattle.ell_core.specs.state.Opening.{opening_words};
+ghost use Rattle.ell_core.specs.inside.Fits.{IsNode, IsInner};
+ghost use Rattle.ell_core.specs.inside.Inside.{words_in, IsSized, SameSize};
 
-use crate::field::{Field, address, table_size};
+use crate::field::{Field, child_field, key_field, table_size, update_word};
+use crate::keys::TreeWords;
 use ell_ops::NoMemory;
-use ell_word::{
-    INF1, INF2, State, Update, card_of, internal_of, is_internal, left_leaf_of, pack, right_leaf_of,
-};
+use ell_word::{INF1, INF2, State, card_of, internal_of, is_internal, left_leaf_of, right_leaf_of};
 use std::alloc::Global;
 
 /// The claim word and the words of card 0 and of `cards` more.
@@ -33,10 +32,6 @@ impl Memory {
         let words = vec![in alloc; 0; table_size(cards)]?;
         let mut memory = Memory { words, cards };
         memory.words[0] = 1;
-        let clean = pack(Update {
-            state: State::Clean,
-            card: 0,
-        });
         // The fields of card 0 that are not 0: the root over its two leaves.
         memory.fill(
             0,
@@ -44,7 +39,7 @@ impl Memory {
                 (Field::Key, INF2),
                 (Field::Left, left_leaf_of(0)),
                 (Field::Right, right_leaf_of(0)),
-                (Field::Update, clean),
+                (Field::Update, update_word(State::Clean, 0)),
                 (Field::LeftLeafKey, INF1),
                 (Field::RightLeafKey, INF2),
             ],
@@ -66,7 +61,7 @@ impl Memory {
         requires card { card ≤ self.now.cards }
         ensures { result ≡ word (words_in self.now) card field }
     {
-        self.words[address(card, field)]
+        self.words[field.address(card)]
     }
 
     /// The key of a node.
@@ -75,12 +70,7 @@ impl Memory {
         requires node { IsNode self.now.cards node }
         ensures { result ≡ (words_in self.now).key node }
     {
-        let field = match node % 3 {
-            0 => Field::Key,
-            1 => Field::LeftLeafKey,
-            _ => Field::RightLeafKey,
-        };
-        self.read(card_of(node), field)
+        self.read(card_of(node), key_field(node))
     }
 
     /// The update word of an internal node.
@@ -98,8 +88,7 @@ impl Memory {
         requires node { IsInner self.now.cards node }
         ensures { result ≡ (words_in self.now).child node right }
     {
-        let field = if right { Field::Right } else { Field::Left };
-        self.read(card_of(node), field)
+        self.read(card_of(node), child_field(right))
     }
 
     /// Whether a key is on the right side of a node.
@@ -144,8 +133,7 @@ impl Memory {
         let right = self.is_right(node, self.key(new));
         let found = self.child(node, right);
         if found == expected {
-            let field = if right { Field::Right } else { Field::Left };
-            self.write(card_of(node), field, new);
+            self.write(card_of(node), child_field(right), new);
             Ok(())
         } else {
             Err(found)
@@ -183,6 +171,20 @@ impl Memory {
         ensures words { words_in self.new ≡ written (words_in self.old) card field value }
         ensures same { SameSize self.old self.new }
     {
-        self.words[address(card, field)] = value;
+        self.words[field.address(card)] = value;
+    }
+}
+
+impl TreeWords for Memory {
+    ghost words = { words_in };
+
+    ghost can_read = { λ memory node. IsSized memory × IsNode memory.cards node };
+
+    fn key(&self, node: u64) -> u64 {
+        Memory::key(self, node)
+    }
+
+    fn child(&self, node: u64, right: bool) -> u64 {
+        Memory::child(self, node, right)
     }
 }

@@ -1,8 +1,8 @@
 //! A list of events on a world.
 ghost use Rattle.std.specs.Prelude.{◌≡◌, IfOk, OnErr};
-ghost use Rattle.ell_core.specs.Runs.{Shows, Run, Passes};
-ghost use Rattle.ell_core.specs.RunLaws.{IsOpening, WinsInOrder};
-ghost use Rattle.ell_core.specs.World.{machine_of};
+ghost use Rattle.ell_core.specs.acts.Runs.{Shows, Run, Passes};
+ghost use Rattle.ell_core.specs.statements.RunLaws.{IsOpening, WinsInOrder};
+ghost use Rattle.ell_core.specs.inside.World.{machine_of};
 
 use crate::event::{CoreFault, Event, Shown};
 use crate::world::World;
@@ -10,8 +10,8 @@ use ell_ops::NoMemory;
 use std::alloc::Global;
 
 /// Tries each event in turn, and shows its answer or its refusal. A refused event changes nothing, and the replay goes on. The
-/// place of an answer is taken before its event; where there is no memory for it or in a step, the replay ends, and the world
-/// stands after the events before. On a world as `World::new` gave it each card's wins come in their order.
+/// place of an answer is taken before its event; where there is no memory for it or in a step, the replay ends before that
+/// event, and the world stands after the events before. On a world as `World::new` gave it each card's wins come in their order.
 pub fn replay(alloc: Global, world: &mut World, events: &[Event]) -> Result<Vec<Shown>, NoMemory>
     ensures run { IfOk result (λ shown. Run (machine_of world.old) events.now shown.items (machine_of world.new)) }
     ensures order { IfOk result (λ shown. IsOpening (machine_of world.old) → WinsInOrder (machine_of world.old) events.now shown.items (machine_of world.new)) }

@@ -1,19 +1,19 @@
 //! The events by which a worker searches, claims a card and ends its operation.
-ghost use Rattle.std.specs.Prelude.{◌≡◌, ◌↔◌, ℕ, Bool, IsTrue, IfOk, IfErr, OnErr, IfSome, IfNone, Option, Some, None};
+ghost use Rattle.std.specs.Prelude.{◌≡◌, ◌↔◌, ℕ, Bool, IsTrue, IfSome, IfNone, Some};
 ghost use Rattle.ell_ops.specs.declared.op.Op.TheVariants.{Insert, Delete};
 ghost use Rattle.ell_core.specs.declared.event.Act.TheVariants as act;
 ghost use Rattle.ell_core.specs.declared.view.Seen.{Seen};
-ghost use Rattle.ell_core.specs.Searching.{begun, ended, MayStop, AtCleanLeaf, IsClean, leaf_answer, card_answer, Answers};
-ghost use Rattle.ell_core.specs.Inside.{view_of, worker_in, scene_in, Answered, RefusedAt, IsReady, SameSize};
+ghost use Rattle.ell_core.specs.acts.Searching.{begun, ended, MayStop, AtCleanLeaf, IsClean, leaf_answer, card_answer, Answers};
+ghost use Rattle.ell_core.specs.inside.Inside.{worker_in, scene_in, IsReady, TakesTurn};
 
 use crate::event::{CoreFault, Stepped};
 use crate::fact::{Fact, told_by};
-use crate::field::Field;
+use crate::fillings::{delete_filling, insert_filling};
 use crate::memory::Memory;
 use crate::view::{Search, Seen};
 use crate::worker::{NO_SEARCH, Worker};
 use ell_ops::Op;
-use ell_word::{State, Update, is_internal, left_leaf_of, pack, right_leaf_of, unpack};
+use ell_word::{State, is_internal, unpack};
 
 // A search that stands at the root and has seen nothing.
 const AT_ROOT: Search = Search {
@@ -26,9 +26,7 @@ const AT_ROOT: Search = Search {
 /// Takes an operation in hand, and stands at the root.
 pub(crate) fn begin(memory: &Memory, worker: &mut Worker, op: Op) -> Result<Stepped, CoreFault>
     requires { IsReady memory.now worker.old }
-    ensures done { IfOk result (Answered (act.Begin op) memory.now worker.old memory.now worker.new) }
-    ensures refused { IfErr result (RefusedAt (act.Begin op) memory.now worker.old) }
-    ensures unchanged { OnErr result (view_of worker.new ≡ view_of worker.old) }
+    ensures { TakesTurn (act.Begin op) memory.now worker.old memory.now worker.new result }
 {
     if !worker.owns(op.key()) {
         return Err(CoreFault::NotOwned);
@@ -63,9 +61,7 @@ fn put_down(worker: &mut Worker)
 /// Reads the update word of the internal node where it stands, and learns what that tells.
 pub(crate) fn upd(memory: &Memory, worker: &mut Worker) -> Result<Stepped, CoreFault>
     requires { IsReady memory.now worker.old }
-    ensures done { IfOk result (Answered act.Upd memory.now worker.old memory.now worker.new) }
-    ensures refused { IfErr result (RefusedAt act.Upd memory.now worker.old) }
-    ensures unchanged { OnErr result (view_of worker.new ≡ view_of worker.old) }
+    ensures { TakesTurn act.Upd memory.now worker.old memory.now worker.new result }
 {
     let Some(node) = worker.search.node else {
         return Err(CoreFault::NotNow);
@@ -82,9 +78,7 @@ pub(crate) fn upd(memory: &Memory, worker: &mut Worker) -> Result<Stepped, CoreF
 /// Goes down to the child on its key's side from an internal node whose update word it has read.
 pub(crate) fn down(memory: &Memory, worker: &mut Worker) -> Result<Stepped, CoreFault>
     requires { IsReady memory.now worker.old }
-    ensures done { IfOk result (Answered act.Down memory.now worker.old memory.now worker.new) }
-    ensures refused { IfErr result (RefusedAt act.Down memory.now worker.old) }
-    ensures unchanged { OnErr result (view_of worker.new ≡ view_of worker.old) }
+    ensures { TakesTurn act.Down memory.now worker.old memory.now worker.new result }
 {
     let search = worker.search;
     let (Some(op), Some(node), Some(word)) = (worker.operation, search.node, search.read) else {
@@ -133,11 +127,7 @@ fn clean_leaf(worker: &Worker) -> Option<CleanLeaf>
 /// Claims the next card at a leaf, and fills it for the insert or delete in hand.
 pub(crate) fn claim(memory: &mut Memory, worker: &mut Worker) -> Result<Stepped, CoreFault>
     requires { IsReady memory.old worker.old }
-    ensures done { IfOk result (Answered act.Claim memory.old worker.old memory.new worker.new) }
-    ensures refused { IfErr result (RefusedAt act.Claim memory.old worker.old) }
-    ensures unchanged { OnErr result (view_of worker.new ≡ view_of worker.old) }
-    ensures words { OnErr result (memory.new ≡ memory.old) }
-    ensures same { SameSize memory.old memory.new }
+    ensures { TakesTurn act.Claim memory.old worker.old memory.new worker.new result }
 {
     let Some(at) = clean_leaf(worker) else {
         return Err(CoreFault::NotNow);
@@ -158,11 +148,7 @@ fn claim_for_insert(
     requires ready { IsReady memory.old worker.old }
     requires inserts { (worker_in worker.old).operation ≡ Some (Insert key) }
     requires at { AtCleanLeaf (worker_in worker.old) at.leaf at.parent }
-    ensures done { IfOk result (Answered act.Claim memory.old worker.old memory.new worker.new) }
-    ensures refused { IfErr result (RefusedAt act.Claim memory.old worker.old) }
-    ensures unchanged { OnErr result (view_of worker.new ≡ view_of worker.old) }
-    ensures words { OnErr result (memory.new ≡ memory.old) }
-    ensures same { SameSize memory.old memory.new }
+    ensures { TakesTurn act.Claim memory.old worker.old memory.new worker.new result }
 {
     let leaf_key = memory.key(at.leaf);
     if leaf_key == key {
@@ -172,20 +158,7 @@ fn claim_for_insert(
     if card > memory.cards {
         return Err(CoreFault::NoCards);
     }
-    let clean = pack(Update {
-        state: State::Clean,
-        card: 0,
-    });
-    memory.claim(&[
-        (Field::P, at.parent.node),
-        (Field::L, at.leaf),
-        (Field::Key, key.max(leaf_key)),
-        (Field::Left, left_leaf_of(card)),
-        (Field::Right, right_leaf_of(card)),
-        (Field::Update, clean),
-        (Field::LeftLeafKey, key.min(leaf_key)),
-        (Field::RightLeafKey, key.max(leaf_key)),
-    ]);
+    memory.claim(&insert_filling(card, key, at.parent.node, at.leaf, leaf_key));
     worker.card = Some(card);
     worker.flagged = false;
     Ok(Stepped::Moved)
@@ -200,11 +173,7 @@ fn claim_for_delete(
     requires ready { IsReady memory.old worker.old }
     requires deletes { (worker_in worker.old).operation ≡ Some (Delete key) }
     requires at { AtCleanLeaf (worker_in worker.old) at.leaf at.parent }
-    ensures done { IfOk result (Answered act.Claim memory.old worker.old memory.new worker.new) }
-    ensures refused { IfErr result (RefusedAt act.Claim memory.old worker.old) }
-    ensures unchanged { OnErr result (view_of worker.new ≡ view_of worker.old) }
-    ensures words { OnErr result (memory.new ≡ memory.old) }
-    ensures same { SameSize memory.old memory.new }
+    ensures { TakesTurn act.Claim memory.old worker.old memory.new worker.new result }
 {
     let Some(grandparent) = worker.search.grandparent else {
         return Err(CoreFault::NotNow);
@@ -216,12 +185,7 @@ fn claim_for_delete(
     if card > memory.cards {
         return Err(CoreFault::NoCards);
     }
-    memory.claim(&[
-        (Field::Gp, grandparent.node),
-        (Field::P, at.parent.node),
-        (Field::L, at.leaf),
-        (Field::Was, at.parent.word),
-    ]);
+    memory.claim(&delete_filling(grandparent.node, at.parent.node, at.leaf, at.parent.word));
     worker.card = Some(card);
     worker.flagged = false;
     Ok(Stepped::Moved)
@@ -241,9 +205,7 @@ fn may_stop(worker: &Worker) -> bool
 /// Starts the search anew.
 pub(crate) fn again(memory: &Memory, worker: &mut Worker) -> Result<Stepped, CoreFault>
     requires { IsReady memory.now worker.old }
-    ensures done { IfOk result (Answered act.Again memory.now worker.old memory.now worker.new) }
-    ensures refused { IfErr result (RefusedAt act.Again memory.now worker.old) }
-    ensures unchanged { OnErr result (view_of worker.new ≡ view_of worker.old) }
+    ensures { TakesTurn act.Again memory.now worker.old memory.now worker.new result }
 {
     if !may_stop(worker) {
         return Err(CoreFault::NotNow);
@@ -255,9 +217,7 @@ pub(crate) fn again(memory: &Memory, worker: &mut Worker) -> Result<Stepped, Cor
 /// Lays the operation down without an answer.
 pub(crate) fn leave(memory: &Memory, worker: &mut Worker) -> Result<Stepped, CoreFault>
     requires { IsReady memory.now worker.old }
-    ensures done { IfOk result (Answered act.Leave memory.now worker.old memory.now worker.new) }
-    ensures refused { IfErr result (RefusedAt act.Leave memory.now worker.old) }
-    ensures unchanged { OnErr result (view_of worker.new ≡ view_of worker.old) }
+    ensures { TakesTurn act.Leave memory.now worker.old memory.now worker.new result }
 {
     if !may_stop(worker) {
         return Err(CoreFault::NotNow);
@@ -266,8 +226,8 @@ pub(crate) fn leave(memory: &Memory, worker: &mut Worker) -> Result<Stepped, Cor
     Ok(Stepped::Moved)
 }
 
-// The answer at a leaf, which has the operation's key or not.
-fn leaf_answer(op: Op, has: bool) -> Option<bool>
+/// The answer of an operation at a leaf, which has the operation's key or not: none where there is something to do.
+pub fn leaf_answer(op: Op, has: bool) -> Option<bool>
     ensures { result ≡ leaf_answer op has }
 {
     match (op, has) {
@@ -311,9 +271,7 @@ fn answer_of(memory: &Memory, worker: &Worker, op: Op) -> Option<bool>
 /// absent.
 pub(crate) fn answer(memory: &Memory, worker: &mut Worker) -> Result<Stepped, CoreFault>
     requires { IsReady memory.now worker.old }
-    ensures done { IfOk result (Answered act.Answer memory.now worker.old memory.now worker.new) }
-    ensures refused { IfErr result (RefusedAt act.Answer memory.now worker.old) }
-    ensures unchanged { OnErr result (view_of worker.new ≡ view_of worker.old) }
+    ensures { TakesTurn act.Answer memory.now worker.old memory.now worker.new result }
 {
     let Some(op) = worker.operation else {
         return Err(CoreFault::NotNow);

@@ -1,6 +1,5 @@
 //! An event's turn: the words, its worker, and what it does.
-ghost use Rattle.std.specs.Prelude.{◌≡◌, IfOk, IfErr, OnErr};
-ghost use Rattle.ell_core.specs.Inside.{view_of, Answered, RefusedAt, IsReady, SameSize};
+ghost use Rattle.ell_core.specs.inside.Inside.{IsReady, TakesTurn};
 
 use crate::event::{Act, CoreFault, Stepped};
 use crate::exchanges::{backtrack, dchild, dflag, dunflag, ichild, iflag, iunflag, mark};
@@ -11,11 +10,7 @@ use crate::worker::Worker;
 /// Does what the act says, or refuses it and changes nothing.
 pub(crate) fn turn(memory: &mut Memory, worker: &mut Worker, act: Act) -> Result<Stepped, CoreFault>
     requires { IsReady memory.old worker.old }
-    ensures done { IfOk result (Answered act memory.old worker.old memory.new worker.new) }
-    ensures refused { IfErr result (RefusedAt act memory.old worker.old) }
-    ensures unchanged { OnErr result (view_of worker.new ≡ view_of worker.old) }
-    ensures words { OnErr result (memory.new ≡ memory.old) }
-    ensures same { SameSize memory.old memory.new }
+    ensures { TakesTurn act memory.old worker.old memory.new worker.new result }
 {
     match act {
         Act::Begin(op) => begin(memory, worker, op),

@@ -1,10 +1,10 @@
 //! A worker of a world.
-ghost use Rattle.std.specs.Prelude.{◌≡◌, ◌≢◌, ◌↔◌, IsTrue, Bool, true, false, Some, None, IfOk, IfErr, OnOk, OnErr};
-ghost use Rattle.ell_core.specs.Words.{put};
-ghost use Rattle.ell_core.specs.Facts.{learned, learned_any};
-ghost use Rattle.ell_core.specs.Machine.{nobody};
-ghost use Rattle.ell_core.specs.Exchanges.{knowing};
-ghost use Rattle.ell_core.specs.Inside.{view_of, worker_in, LacksAny, LacksEither};
+ghost use Rattle.std.specs.Prelude.{◌≡◌, ◌≢◌, ◌↔◌, IsTrue, false, Some, None, OnOk, OnErr};
+ghost use Rattle.ell_core.specs.state.Words.{put};
+ghost use Rattle.ell_core.specs.state.Facts.{learned, learned_any};
+ghost use Rattle.ell_core.specs.state.Machine.{nobody};
+ghost use Rattle.ell_core.specs.acts.Exchanges.{knowing};
+ghost use Rattle.ell_core.specs.inside.Inside.{view_of, worker_in, LacksAny, LacksEither};
 
 use crate::fact::Fact;
 use crate::view::Search;

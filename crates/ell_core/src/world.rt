@@ -1,15 +1,17 @@
 //! A world: the machine with plain lists for its functions, run one event at a time.
 ghost use Rattle.std.specs.Prelude.{◌≡◌, ◌≤◌, ℕ, false, vec_len, IfOk, IfErr, OnOk, OnErr};
 ghost use Rattle.std.specs.List.{All};
-ghost use Rattle.ell_ops.specs.Meaning.{greatest_key};
+ghost use Rattle.ell_ops.specs.Meaning.{greatest_key, most_workers};
 ghost use Rattle.ell_word.specs.Node.{greatest_card};
-ghost use Rattle.ell_core.specs.Words.{word};
-ghost use Rattle.ell_core.specs.Events.{Steps};
-ghost use Rattle.ell_core.specs.Tree.{ListsKeys};
-ghost use Rattle.ell_core.specs.Machine.{idle};
-ghost use Rattle.ell_core.specs.Inside.{worker_at};
-ghost use Rattle.ell_core.specs.Opening.{opening, opening_ledger, Faultless, OpeningRefused};
-ghost use Rattle.ell_core.specs.World.{machine_of, StepRefused};
+ghost use Rattle.ell_core.specs.state.Words.{word};
+ghost use Rattle.ell_core.specs.acts.Events.{Steps};
+ghost use Rattle.ell_core.specs.tree.Tree.{ListsKeys};
+ghost use Rattle.ell_core.specs.state.Machine.{idle};
+ghost use Rattle.ell_core.specs.inside.Inside.{worker_at};
+ghost use Rattle.ell_core.specs.state.Opening.{opening, opening_ledger, Faultless, OpeningRefused};
+ghost use Rattle.ell_core.specs.inside.World.{machine_of, StepRefused};
+ghost use Rattle.ell_core.specs.soundness.Sound.{IsSound};
+ghost use Rattle.ell_core.specs.history.Invariant.{HasInvariant};
 
 use crate::event::{CoreFault, Event, Stepped};
 use crate::field::Field;
@@ -31,11 +33,11 @@ pub struct World {
 }
 
 impl Model for World {
-    ghost use Rattle.ell_core.specs.World.{WorldValue};
+    ghost use Rattle.ell_core.specs.inside.World.{WorldValue};
 
     ghost Value = { WorldValue };
 
-    ghost use Rattle.ell_core.specs.WorldInside.{value_in, InsideFits};
+    ghost use Rattle.ell_core.specs.inside.WorldInside.{value_in, InsideFits};
 
     ghost view = { value_in };
 
@@ -44,7 +46,7 @@ impl Model for World {
 
 impl World {
     /// The opening tree, with workers from 0 on and the keys that the entries give them, each a worker and a key, all absent.
-    /// Conditions: 1 to 64 workers, 1 to `CARD_MAX` cards, keys at most `KEY_MAX`. The fault of the first faulty entry is
+    /// Conditions: 1 to `WORKERS_MAX` workers, 1 to `CARD_MAX` cards, keys at most `KEY_MAX`. The fault of the first faulty entry is
     /// answered: `NoSuchWorker`, or else `OwnedTwice`. `NoMemory` may stand in place of either.
     pub fn new(
         alloc: Global,
@@ -53,7 +55,7 @@ impl World {
         cards: u64,
     ) -> Result<World, CoreFault>
         requires some_worker { 1 ≤ workers }
-        requires most_workers { workers ≤ 64 }
+        requires most_workers { workers ≤ most_workers }
         requires some_card { 1 ≤ cards }
         requires most_cards { cards ≤ greatest_card }
         requires keys { All (λ entry. entry.1 ≤ greatest_key) owned.now }
@@ -85,11 +87,23 @@ impl World {
         turn(&mut self.memory, worker, event.act)
     }
 
+    /// Does nothing, and says that the laws hold of every world, however it came about: its state is sound, and the invariant
+    /// holds of it, from which on each event is lawful.
+    pub fn laws_hold(&self)
+        ensures sound { IsSound (machine_of self.now) }
+        ensures invariant { HasInvariant (machine_of self.now) }
+    {
+        let _ = &self.memory;
+    }
+
     /// The keys of the tree, each once, ascending.
     pub fn keys(&self) -> Result<Vec<u64>, NoMemory>
         ensures { IfOk result (λ keys. ListsKeys (machine_of self.now).words keys.items) }
     {
-        keys_of_tree(self.alloc, &self.memory)
+        let places = self.memory.cards as usize + 2;
+        let waiting = Vec::with_capacity(self.alloc, places)?;
+        let keys = Vec::with_capacity(self.alloc, places)?;
+        Ok(keys_of_tree(&self.memory, waiting, keys))
     }
 
     /// The word of a field of a card. Condition: the card is at most the number of cards.

@@ -1,8 +1,11 @@
 //! Schedules of a few events, with the answers, words and keys that a person gave them, and a long one beside a plain set.
 mod deleting;
+mod given_worlds;
 mod inserting;
 mod openings;
 mod random_schedules;
 mod refusing;
 mod replaying;
 mod scripts;
+mod walking;
+mod words;

@@ -1,5 +1,5 @@
--- A sort and a dedup give the keys of a list, each once, ascending.
-use Rattle.std.proofs.Common.{◌≡◌, ℕ, Bool, true, false, List, [], ◌∷◌, ◌||◌, eqb, refl, ap, sym, subst, ◌∙◌, ⊎_elim}
+use Rattle.std.proofs.Common.{◌≡◌, ℕ, Bool, List, [], ◌∷◌, ◌||◌, eqb, refl, ap, sym, subst, ◌∙◌, ⊎_elim}
+use Rattle.std.proofs.Math.Bool.{or_self_left}
 use Rattle.std.proofs.lemmas.Bool.{cases_eq, eq-eqb, ne_eqb, cond-true, cond-false}
 use Rattle.std.proofs.lemmas.List.Filters.{dedup_is}
 use Rattle.std.proofs.lemmas.List.Sorted.{list_any-IsPermutation}
@@ -10,17 +10,13 @@ use Rattle.std.specs.List.Sorted.{IsPermutation, IsSorted}
 use Rattle.std.specs.Ordering.{nat_cmp}
 use Rattle.ell_ops.specs.KeySet.{set_of, Lists}
 
-or_twice : (a b : Bool) → (a || b) ≡ (a || (a || b))
-or_twice true b = refl
-or_twice false b = refl
-
 -- what is left out equals the last key that was kept
 list_any-dedup_from : (p : ℕ → Bool) (key : ℕ) (keys : List ℕ) → list_any p (dedup_from eqb key keys) ≡ (p key || list_any p keys)
 list_any-dedup_from p key [] = refl
 list_any-dedup_from p key (next ∷ keys) =
     ⊎_elim
     (λ e. ap (list_any p) (cond-true (eqb next key) (dedup_from eqb key keys) (key ∷ dedup_from eqb next keys) (eq-eqb next key e))
-    ∙ list_any-dedup_from p key keys ∙ or_twice (p key) (list_any p keys) ∙ ap (λ k. p key || (p k || list_any p keys)) (sym e))
+    ∙ list_any-dedup_from p key keys ∙ sym (or_self_left (p key) (list_any p keys)) ∙ ap (λ k. p key || (p k || list_any p keys)) (sym e))
     (λ ne. ap (list_any p) (cond-false (eqb next key) (dedup_from eqb key keys) (key ∷ dedup_from eqb next keys) (ne_eqb next key ne))
     ∙ ap (λ b. p key || b) (list_any-dedup_from p next keys))
     (cases_eq next key)

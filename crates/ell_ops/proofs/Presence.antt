@@ -1,4 +1,3 @@
--- The last writer of a key, one operation after the other.
 use Rattle.std.proofs.Common.{◌≡◌, ℕ, zero, suc, ◌<◌, ◌↔◌, Bool, true, false, cond, not, List, [], ◌∷◌, Some, eqb, take, arith, refl, ap, sym, ◌∙◌, inl, inr, ⊎_elim}
 use Rattle.std.specs.Prelude.{slice_get, IsTrue}
 use Rattle.std.proofs.lemmas.Bool.{cases_eq, eq-eqb, ne_eqb, cond-true, cond-false}
@@ -97,7 +96,7 @@ present_keys set (op ∷ ops) key (suc i) =
     (λ h. forth set op ops key i (rest.0 h), λ h. rest.1 (back set op ops key i h))
 
 -- the reply at a position is that on the set before it
-reply_at : (set : KeySet) (ops : List Op) (i : ℕ) (op : Op) → slice_get ops i ≡ Some op → slice_get (replies set ops) i ≡ Some (reply_of op (final set (take i ops)))
+pub reply_at : (set : KeySet) (ops : List Op) (i : ℕ) (op : Op) → slice_get ops i ≡ Some op → slice_get (replies set ops) i ≡ Some (reply_of op (final set (take i ops)))
 reply_at set [] i op e = cc
 reply_at set (first ∷ ops) zero op e = let same : first ≡ op = cc in ap (λ o. Some (reply_of o set)) same
 reply_at set (first ∷ ops) (suc i) op e = reply_at (after first set) ops i op e

@@ -1,4 +1,3 @@
--- Sets of keys against std's ordered sets, whose tests compare where ours look for equal numbers.
 use Rattle.std.proofs.Common.{◌≡◌, ℕ, Bool, true, false, cond, List, [], ◌∷◌, ◌++◌, ◌||◌, eqb, arith, refl, ap, sym, ◌∙◌}
 use Rattle.std.proofs.lemmas.Bool.Decides.{nat_tests}
 use Rattle.std.proofs.lemmas.List.Folds.{list_any-append}
@@ -19,7 +18,8 @@ pub contains-set_of : (keys : List ℕ) (q : ℕ) → list_any (is_at (nat_cmp q
 contains-set_of [] q = refl
 contains-set_of (key ∷ keys) q = ap (λ b. b || list_any (is_at (nat_cmp q)) keys) (is_at-nat q key) ∙ ap (λ b. eqb q key || b) (contains-set_of keys q)
 
-eqb-swap : (a b : ℕ) → eqb a b ≡ eqb b a
+-- an equality test is the same from both sides
+pub eqb-swap : (a b : ℕ) → eqb a b ≡ eqb b a
 eqb-swap a b = grind (arith, nat_tests)
 
 -- what an insert or a delete (b says which) does to std's set, key by key, it does to the set of its keys

@@ -1,4 +1,3 @@
--- What an operation answers and leaves, and the same for a list of them, applied by one thread.
 use Rattle.std.specs.Prelude.{◌≡◌, ℕ, ◌-◌, ◌^◌, ◌≤◌, Bool, false, not, List, [], ◌∷◌}
 use Rattle.ell_ops.specs.declared.op.Op.{Op}
 use Rattle.ell_ops.specs.declared.op.Op.TheVariants.{Find, Insert, Delete}
@@ -7,6 +6,10 @@ use Rattle.ell_ops.specs.KeySet.{KeySet, with_key, without_key}
 -- the greatest key: the two numbers above it that 64 bits hold mark the ends of the tree
 abbrev pub greatest_key : ℕ
 greatest_key = 2 ^ 64 - 3
+
+-- the most workers that there may be
+abbrev pub most_workers : ℕ
+most_workers = 64
 
 -- the key that an operation is on
 abbrev pub key_of : Op → ℕ

@@ -5,12 +5,14 @@
 
 mod keys;
 mod laws;
+mod limits;
 mod no_memory;
 mod one_thread;
 mod op;
 
 pub use keys::distinct_keys;
 pub use laws::{last_writer, one_listing};
+pub use limits::{WORKERS_MAX, limits_are_as_defined};
 pub use no_memory::NoMemory;
 pub use one_thread::{apply, apply_all, apply_from};
 pub use op::{KEY_MAX, Op};

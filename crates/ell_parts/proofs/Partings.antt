@@ -1,4 +1,3 @@
--- Parts, one operation after the other, and which owners are lawful.
 use Rattle.std.proofs.Common.{◌≡◌, ℕ, suc, ◌+◌, ◌/◌, ◌%◌, ◌<◌, ◌≤◌, Bool, cond, List, [], ◌∷◌, ◌++◌, Some, None, eqb, length, get_or, set, take, arith, refl, ap, sym, subst, ◌∙◌, ⊎_elim}
 use Rattle.std.specs.Prelude.{slice_get, map}
 use Rattle.std.proofs.lemmas.List.{take_more, length-map, length-take-le, append-nil}
@@ -13,7 +12,7 @@ use Rattle.ell_ops.specs.KeySet.{set_of, Lists}
 use Rattle.ell_ops.specs.Meaning.{key_of}
 use Rattle.ell_parts.specs.Parting.{Parting, IsWorkerCount, IsLawful, part, keys_of, keys_in, striped, rank, ranged, AreParts, AreKeys, AreListsOf}
 use Rattle.ell_parts.proofs.Ranks.{key_is_listed, rank-lt-length, share-lt}
-use Rattle.ell_parts.proofs.Places.{slice_get-push_cases, slice_get-set_same, slice_get-set_other}
+use Rattle.ell_ops.proofs.Places.{slice_get-push_cases, slice_get-set_same, slice_get-set_other}
 use Rattle.ell_parts.specs.Faults.{IsCounted, AreKnown, AreTogether}
 
 -- one more element has the next place

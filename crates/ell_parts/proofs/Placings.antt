@@ -1,15 +1,14 @@
--- Items, placed one after the other, and what each fault of them says.
 use Rattle.std.proofs.Common.{◌≡◌, ℕ, ◌+◌, ◌<◌, ◌≤◌, Bool, true, false, List, [], ◌∷◌, ◌++◌, Some, length, get_or, set, take, drop, arith, refl, ap, sym, subst, ◌∙◌, ⊎_elim, length-set, append_assoc, take-append-drop}
 use Rattle.std.specs.List.{Contains, flat_map}
 use Rattle.std.specs.Prelude.{slice_get}
 use Rattle.std.proofs.lemmas.Bool.{cases_eq}
 use Rattle.std.proofs.lemmas.Grind.{flat_map-append}
-use Rattle.std.proofs.lemmas.List.{append-nil, drop_more, take_more}
+use Rattle.std.proofs.lemmas.List.{append-nil, drop_all, drop_more, take_all}
 use Rattle.std.proofs.lemmas.List.Elements.{Contains-append_left, Contains-append_right}
 use Rattle.std.proofs.lemmas.Option.{slice_get-get_or, slice_get_within, slice_get_read, get_or_from_slice_get}
 use Rattle.ell_parts.specs.declared.gathering.GatherFault.TheVariants.{Stranger, Doubled, Missing}
 use Rattle.ell_parts.specs.Gathering.{IsFor, NoneFor, AreSound, IsGathered, IsFault, IsPlaced}
-use Rattle.ell_parts.proofs.Places.{slice_get-push_cases, slice_get-append, slice_get-seam, slice_get-set_same, slice_get-set_other}
+use Rattle.ell_ops.proofs.Places.{slice_get-push_cases, slice_get-append, slice_get-seam, slice_get-set_same, slice_get-set_other}
 
 -- an item stays where it is when more come behind it
 for_kept : (items rest : List (ℕ × Bool)) (j at : ℕ) → IsFor items j at → IsFor (items ++ rest) j at
@@ -110,12 +109,10 @@ pieces-cut items pieces i d below =
     ∙ flat_map-append items (take i pieces) (get_or pieces i d ∷ drop (i + 1) pieces)
     ∙ sym (append_assoc (flat_map items (take i pieces)) (items (get_or pieces i d)) (flat_map items (drop (i + 1) pieces)))
 
--- the items of one more piece
-pub pieces-take : {V : Type 0} (items : V → List (ℕ × Bool)) (pieces : List V) (i : ℕ) (d : V) → i < length pieces →
-    flat_map items (take (i + 1) pieces) ≡ flat_map items (take i pieces) ++ items (get_or pieces i d)
-pieces-take items pieces i d below =
-    ap (flat_map items) (take_more pieces i d below) ∙ flat_map-append items (take i pieces) (get_or pieces i d ∷ [])
-    ∙ ap (λ p. flat_map items (take i pieces) ++ p) (append-nil (items (get_or pieces i d)))
+-- all of a list, written over all of another
+pub take-written : {X : Type 0} (n : ℕ) (new old : List X) → length new ≡ n → length old ≡ n → take n (new ++ drop (length new) old) ≡ new
+take-written n new old count was =
+    ap (λ rest. take n (new ++ rest)) (drop_all (length new) old (omega arith)) ∙ ap (take n) (append-nil new) ∙ take_all n new (omega arith)
 
 -- a position that is not answered
 pub is_missing : (n : ℕ) (items : List (ℕ × Bool)) (answered replies : List Bool) (at : ℕ) → IsPlaced items answered replies → length answered ≡ n → at < n →

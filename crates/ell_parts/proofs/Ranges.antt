@@ -1,8 +1,7 @@
--- The first keys of the workers' ranges, and the worker that a key falls to by them.
-use Rattle.std.proofs.Common.{◌≡◌, ℕ, zero, suc, ◌+◌, ◌*◌, ◌/◌, ◌^◌, ◌<◌, ◌≤◌, true, false, List, [], ◌∷◌, ◌++◌, ◌||◌, leb, length, get_or, arith, refl, ap, sym, subst, ◌∙◌, ⊎_elim}
+use Rattle.std.proofs.Common.{◌≡◌, ℕ, zero, suc, ◌+◌, ◌*◌, ◌/◌, ◌^◌, ◌<◌, ◌≤◌, true, false, List, [], ◌∷◌, ◌++◌, ◌||◌, leb, length, get_or, arith, ap, sym, subst, ◌∙◌, ⊎_elim}
 use Rattle.std.proofs.Math.Nat.{div-lt_iff_lt-mul, le-div_iff_mul-le, mul-le-mul_right, mul_comm}
 use Rattle.std.proofs.Math.Seq.{get_or-append_seam}
-use Rattle.std.proofs.lemmas.Grind.{div_ceil_times}
+use Rattle.std.proofs.lemmas.Grind.{div_ceil_times, get_or_default_zero}
 use Rattle.std.proofs.lemmas.List.{get_or_append_left, length-append}
 use Rattle.std.specs.Int.{div_ceil}
 use Rattle.std.proofs.lemmas.Bool.{cases_eq, cases_lt, lt-ltb, le-ltb, leb-true, leb-false, ne_eqb}
@@ -142,18 +141,12 @@ ranges_hold n workers share some is =
     let swap = mul_comm share workers in
     omega arith
 
--- below the length no default matters
-at_any : (xs : List ℕ) (k d : ℕ) → k < length xs → get_or xs k d ≡ get_or xs k 0
-at_any [] k d below = absurd (omega arith)
-at_any (x ∷ xs) zero d below = refl
-at_any (x ∷ xs) (suc k) d below = at_any xs k d (omega arith)
-
 -- first keys ascend, so those that are not above a key stand before the others
 pub starts_parted : (keys starts : List ℕ) (share key : ℕ) → IsStrictlyIncreasing keys → AreStarts keys share starts → IsPartitionedBy (λ start. leb start key) starts
 starts_parted keys starts share key rising are_starts = IsPartitionedBy-leb (λ start. start) starts key (λ i j d le within.
     let before : i < length starts = omega arith in
-    let here = at_any starts i d before ∙ are_starts.each i before in
-    let there = at_any starts j d within ∙ are_starts.each j within in
+    let here = get_or_default_zero starts i d before ∙ are_starts.each i before in
+    let there = get_or_default_zero starts j d within ∙ are_starts.each j within in
     let later : i + 1 ≤ j + 1 = omega arith in
     let ascend = not_less keys rising ((i + 1) * share) ((j + 1) * share) (mul-le-mul_right share later) (are_starts.within j within) in
     omega arith)

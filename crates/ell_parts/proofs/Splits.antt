@@ -1,4 +1,3 @@
--- The first position of each key so far, and whether each key so far has one owner.
 use Rattle.std.proofs.Common.{◌≡◌, ℕ, ◌+◌, ◌<◌, ◌≤◌, cond, List, Option, Some, None, unwrap_or, length, get_or, arith, refl, ap, sym, subst, ◌∙◌, ⊎_elim}
 use Rattle.std.proofs.lemmas.Bool.{cases_eq, cases_lt, eq-eqb, ne_eqb, cond-true, cond-false}
 use Rattle.std.proofs.lemmas.Option.{slice_get-get_or}
@@ -27,7 +26,7 @@ pub record AreFirsts (ops : List Op) (at : ℕ) (firsts : ℕ → Option ℕ) : 
   pub some : (key first : ℕ) → firsts key ≡ Some first → (first < at) × IsFirst ops key first
 
 -- the operation at a position gives it its key
-pub has_key_at : (ops : List Op) (i key : ℕ) (d : Op) → i < length ops → key ≡ key_of (get_or ops i d) → HasKey ops i key
+has_key_at : (ops : List Op) (i key : ℕ) (d : Op) → i < length ops → key ≡ key_of (get_or ops i d) → HasKey ops i key
 has_key_at ops i key d below of_op = record { op = get_or ops i d; stands = slice_get-get_or ops i d below; of_key = sym of_op }
 
 same_key : (ops : List Op) (i j key : ℕ) → HasKey ops i key → HasKey ops j key → SameKey ops i j
@@ -53,13 +52,21 @@ one_key ops i j a b here h k =
     sym h.of_key ∙ ap key_of same ∙ k.of_key
 
 -- what the map has for the key of position at, or else at itself, is the key's first position
-pub first_known : (ops : List Op) (at key first : ℕ) (firsts : ℕ → Option ℕ) → AreFirsts ops at firsts → HasKey ops at key → first ≡ unwrap_or (firsts key) at →
+first_known : (ops : List Op) (at key first : ℕ) (firsts : ℕ → Option ℕ) → AreFirsts ops at firsts → HasKey ops at key → first ≡ unwrap_or (firsts key) at →
     (first ≤ at) × IsFirst ops key first
 first_known ops at key first firsts known has is =
     elim (firsts key) as (λ found. firsts key ≡ found → first ≡ unwrap_or found at → (first ≤ at) × IsFirst ops key first) [
       | None ↦ λ absent here. (omega arith, subst (IsFirst ops key) (sym here) (record { has = has; earliest = known.none key absent }))
       | Some earlier ↦ λ found here. let h = known.some key earlier found in (omega (arith, h.0), subst (IsFirst ops key) (sym here) h.1)
     ] refl is
+
+-- the same at the operation of position at, which has the key
+pub first_known_at : (ops : List Op) (at key first : ℕ) (d : Op) (firsts : ℕ → Option ℕ) → AreFirsts ops at firsts → at < length ops → key ≡ key_of (get_or ops at d) →
+    first ≡ unwrap_or (firsts key) at → HasKey ops at key × (first ≤ at) × IsFirst ops key first
+first_known_at ops at key first d firsts known below of_op is =
+    let has = has_key_at ops at key d below of_op in
+    let h = first_known ops at key first firsts known has is in
+    (has, h.0, h.1)
 
 -- the map with the first position of the key of position at
 pub AreFirsts-entry : (ops : List Op) (at key first : ℕ) (old new : ℕ → Option ℕ) → AreFirsts ops at old → HasKey ops at key → first ≡ unwrap_or (old key) at →

@@ -1,4 +1,3 @@
--- Replies with the positions that they are for, put back into the order of the positions.
 use Rattle.std.specs.Prelude.{◌≡◌, ℕ, ◌<◌, ◌≤◌, Bool, true, false, List, Some, length, slice_get, Contains}
 use Rattle.ell_parts.specs.declared.gathering.GatherFault.{GatherFault}
 use Rattle.ell_parts.specs.declared.gathering.GatherFault.TheVariants.{Stranger, Doubled, Missing, NoMemory}

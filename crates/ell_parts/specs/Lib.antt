@@ -1,4 +1,8 @@
+-- A list of operations parted among workers.
 pub mod Parting
+-- When a list of workers is no parting of a list of operations.
 pub mod Faults
+-- Replies with the positions that they are for, put back into the order of the positions.
 pub mod Gathering
+-- Where the ranges of keys begin.
 pub mod Ranges

@@ -1,10 +1,9 @@
--- A list of operations parted among workers.
 use Rattle.std.specs.Prelude.{◌≡◌, ℕ, ◌/◌, ◌%◌, ◌<◌, ◌≤◌, ◌==◌, nat_lt, List, Some, length, map, filter, count_by, slice_get, slice_index}
 use Rattle.std.specs.Int.{div_ceil}
 use Rattle.std.specs.List.{enumerate_from}
 use Rattle.ell_ops.specs.declared.op.Op.{Op}
 use Rattle.ell_ops.specs.KeySet.{KeySet, set_of, Lists}
-use Rattle.ell_ops.specs.Meaning.{key_of}
+use Rattle.ell_ops.specs.Meaning.{key_of, most_workers}
 
 -- a list, the worker of each of its positions, and how many workers there are
 pub record Parting : Type 0 where
@@ -15,7 +14,7 @@ pub record Parting : Type 0 where
 -- the number of workers is one that may be
 pub record IsWorkerCount (workers : ℕ) : Type 0 where
   pub some : 1 ≤ workers
-  pub few : workers ≤ 64
+  pub few : workers ≤ most_workers
 
 -- equal keys have equal workers
 abbrev pub KeepsKeysTogether : List Op → List ℕ → Type 0

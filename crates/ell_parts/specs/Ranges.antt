@@ -1,4 +1,3 @@
--- Where the ranges of keys begin.
 use Rattle.std.specs.Prelude.{◌≡◌, ℕ, ◌+◌, ◌*◌, ◌<◌, List, length, slice_index}
 
 -- the first keys of the ranges of so many keys each, but for the first range's, as far as there are keys

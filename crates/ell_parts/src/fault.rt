@@ -1,6 +1,7 @@
 //! Why a list of operations is not parted.
 ghost use Rattle.std.specs.Prelude.{◌≡◌};
 
+use ell_ops::WORKERS_MAX;
 use std::alloc::{AllocError, AllocFailed};
 use thiserror::Error;
 
@@ -8,8 +9,8 @@ use thiserror::Error;
 /// first three and may stand in place of `KeySplit`.
 #[derive(Clone, Copy, Debug, PartialEq, Eq, Error)]
 pub enum PartFault {
-    /// The number of workers is not 1 to 64.
-    #[error("workers are not 1 to 64")]
+    /// The number of workers is not 1 to `WORKERS_MAX`.
+    #[error("workers are not 1 to {max}", max = WORKERS_MAX)]
     BadWorkers,
     /// The list of owners is not as long as that of the operations.
     #[error("not one owner for each operation")]

@@ -10,7 +10,6 @@ mod parts;
 
 pub use fault::PartFault;
 pub use gathering::{GatherFault, gather};
-pub use owners::WORKERS_MAX;
 pub use parts::Parts;
 
 #[cfg(test)]

@@ -2,17 +2,15 @@
 ghost use Rattle.std.specs.Prelude.{◌≡◌, ◌<◌, ◌↔◌, IsTrue, length, vec_len, IfOk, IfErr, OnOk};
 ghost use Rattle.std.specs.Int.{div_ceil};
 ghost use Rattle.ell_ops.specs.KeySet.{Lists};
+ghost use Rattle.ell_ops.specs.Meaning.{most_workers};
 ghost use Rattle.ell_parts.specs.Parting.{IsWorkerCount, keys_of, striped, ranged};
 ghost use Rattle.ell_parts.specs.Ranges.{AreStarts};
 ghost use Rattle.ell_parts.specs.Faults.{AreTogether, IsSplit};
 
 use crate::fault::PartFault;
-use ell_ops::Op;
+use ell_ops::{Op, WORKERS_MAX};
 use std::alloc::{AllocError, Allocator};
 use std::collections::BTreeMap;
-
-/// The greatest number of workers.
-pub const WORKERS_MAX: u32 = 64;
 
 // Whether there may be so many workers.
 pub(crate) fn is_worker_count(workers: u32) -> bool
@@ -85,7 +83,7 @@ fn range_starts<A: Allocator>(
 ) -> Result<Vec<u64, A>, AllocError>
     requires { IsWorkerCount workers }
     ensures starts { IfOk result (λ starts. AreStarts keys.now (div_ceil (length keys.now) workers) starts.items) }
-    ensures few { IfOk result (λ starts. vec_len starts < 64) }
+    ensures few { IfOk result (λ starts. vec_len starts < most_workers) }
 {
     let share = keys.len().div_ceil(workers as usize);
     let mut starts = Vec::new(alloc);

@@ -1,11 +1,10 @@
--- What a list does to one key comes from its operations on that key alone.
-use Rattle.std.proofs.Common.{◌≡◌, ℕ, zero, suc, true, false, cond, not, List, [], ◌∷◌, ◌++◌, Some, eqb, take, refl, ap, sym, ◌∙◌, ⊎_elim}
-use Rattle.std.specs.Prelude.{filter, slice_get, ◌==◌}
+use Rattle.std.proofs.Common.{◌≡◌, ℕ, true, false, cond, not, List, [], ◌∷◌, ◌++◌, eqb, refl, ap, sym, ◌∙◌, ⊎_elim}
+use Rattle.std.specs.Prelude.{filter, ◌==◌}
 use Rattle.std.proofs.lemmas.Bool.{cases_Bool, ne_eqb, eqb-false, cond-true, cond-false}
 use Rattle.ell_ops.specs.declared.Op.{Op}
 use Rattle.ell_ops.specs.declared.Op.TheVariants.{Find, Insert, Delete}
 use Rattle.ell_ops.specs.KeySet.{KeySet}
-use Rattle.ell_ops.specs.Meaning.{key_of, reply_of, after, replies, final}
+use Rattle.ell_ops.specs.Meaning.{key_of, reply_of, after, final}
 
 -- the operations on a key
 abbrev pub on_key : ℕ → List Op → List Op
@@ -43,12 +42,7 @@ pub final-append : (xs ys : List Op) (s : KeySet) → final s (xs ++ ys) ≡ fin
 final-append [] ys s = refl
 final-append (x ∷ xs) ys s = final-append xs ys (after x s)
 
--- the reply at a place goes by the set before it
-pub reply_at : (s : KeySet) (ops : List Op) (i : ℕ) (op : Op) → slice_get ops i ≡ Some op → slice_get (replies s ops) i ≡ Some (reply_of op (final s (take i ops)))
-reply_at s [] i op e = cc
-reply_at s (first ∷ ops) zero op e = let same : first ≡ op = cc in ap (λ o. Some (reply_of o s)) same
-reply_at s (first ∷ ops) (suc i) op e = reply_at (after first s) ops i op e
-
+-- the reply to an operation goes by its key alone
 pub reply_alike : (op : Op) (s t : KeySet) → s (key_of op) ≡ t (key_of op) → reply_of op s ≡ reply_of op t
 reply_alike (Find k) s t same = same
 reply_alike (Insert k) s t same = ap not same

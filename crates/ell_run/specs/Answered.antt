@@ -1,10 +1,9 @@
--- What a run answers, and what its faults tell.
 use Rattle.std.specs.Prelude.{◌≡◌, ℕ, ◌<◌, ◌≤◌, List, length, take, Option, IfSome, Ok, Err, ⊤}
 use Rattle.std.specs.Io.KnownBytes.{Appends, Keeps}
 use Rattle.ell_ops.specs.declared.op.Op.{Op}
 use Rattle.ell_ops.specs.KeySet.{Lists, empty}
 use Rattle.ell_ops.specs.Meaning.{replies, final}
-use Rattle.ell_text.specs.declared.input.TheConstants.{INPUT_MAX}
+use Rattle.ell_text.specs.Limits.{most_bytes}
 use Rattle.ell_text.specs.Bulk.{bulk}
 use Rattle.ell_text.specs.Answer.{answer}
 use Rattle.ell_run.specs.declared.bytes.RunFault.{RunFault}
@@ -34,7 +33,7 @@ IsBeforeWriting _ = ⊤
 -- what a fault tells of the bytes that were read, and of what was written
 abbrev pub Tells : RunFault → Option (List ℕ) → Option (List ℕ) → Option (List ℕ) → Type 0
 Tells Read input before after = Keeps before after
-Tells TooLong input before after = Keeps before after × IfSome input (λ bytes. INPUT_MAX < length bytes)
+Tells TooLong input before after = Keeps before after × IfSome input (λ bytes. most_bytes < length bytes)
 Tells (Text fault) input before after = Keeps before after × IfSome input (λ bytes. bulk bytes ≡ Err fault)
 Tells NoMemory input before after = Keeps before after
 Tells (Write written) input before after = IfSome input (λ bytes.

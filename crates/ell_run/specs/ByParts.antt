@@ -1,4 +1,3 @@
--- A list applied part by part: operations on other keys do not matter, so each worker may go at its own pace.
 use Rattle.std.specs.Prelude.{◌≡◌, ℕ, List, Some, map, filter, take, drop, slice_get, slice_index, ◌==◌}
 use Rattle.ell_ops.specs.declared.Op.{Op}
 use Rattle.ell_ops.specs.KeySet.{KeySet}

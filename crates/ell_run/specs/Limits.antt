@@ -1,8 +1,8 @@
--- What a run is told beside its list.
-use Rattle.ell_run.specs.Settings.{IsAllowed}
+use Rattle.ell_text.specs.Limits.{most_cards}
+use Rattle.ell_run.specs.Settings.{IsAllowed, most_tries}
 use Rattle.ell_run.specs.declared.runs.Limits.{Limits}
 
 -- cards and tries are as many as there may be
 pub record AreLimits (limits : Limits) : Type 0 where
-  pub cards : IsAllowed limits.cards
-  pub tries : IsAllowed limits.tries
+  pub cards : IsAllowed most_cards limits.cards
+  pub tries : IsAllowed most_tries limits.tries

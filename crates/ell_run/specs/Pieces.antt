@@ -1,4 +1,3 @@
--- What the workers leave that have each done their whole part, from the empty set.
 use Rattle.std.specs.Prelude.{◌≡◌, ℕ, nat_lt, Bool, List, length, map, filter}
 use Rattle.std.specs.List.{flat_map, list_any, range_with_len, zip}
 use Rattle.ell_ops.specs.declared.op.Op.{Op}

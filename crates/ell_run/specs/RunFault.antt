@@ -1,4 +1,3 @@
--- Which fault of a run each fault of a call within it is.
 use Rattle.ell_text.specs.declared.input.InputFault.{InputFault}
 use Rattle.ell_text.specs.declared.input.InputFault.TheVariants as input
 use Rattle.ell_text.specs.declared.bulk.TextFault.{TextFault}

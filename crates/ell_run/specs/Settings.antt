@@ -1,22 +1,27 @@
--- What a run of a bulk text may be told.
 use Rattle.std.specs.Prelude.{◌≡◌, ℕ, ◌≤◌, IfSome, List}
 use Rattle.ell_ops.specs.declared.op.Op.{Op}
+pub use Rattle.ell_ops.specs.Meaning.{most_workers}
 use Rattle.ell_parts.specs.Parting.{IsWorkerCount, striped, IsRanged}
 use Rattle.ell_parts.specs.Parting as parts
+use Rattle.ell_text.specs.Limits.{most_cards}
 use Rattle.ell_run.specs.declared.settings.Parting.{Parting}
 use Rattle.ell_run.specs.declared.settings.Parting.TheVariants.{Stripe, Range}
 use Rattle.ell_run.specs.declared.settings.Settings.{Settings}
 
--- there may be so many cards, or tries
-pub record IsAllowed (count : ℕ) : Type 0 where
+-- the most tries that an insert or a delete may have
+abbrev pub most_tries : ℕ
+most_tries = 1000000
+
+-- the number is from 1 to the most that there may be
+pub record IsAllowed (most count : ℕ) : Type 0 where
   pub some : 1 ≤ count
-  pub few : count ≤ 1000000
+  pub few : count ≤ most
 
 -- workers, cards and tries are as many as there may be
 pub record AreSettings (settings : Settings) : Type 0 where
   pub workers : IsWorkerCount settings.workers
-  pub cards : IfSome settings.cards IsAllowed
-  pub tries : IsAllowed settings.tries
+  pub cards : IfSome settings.cards (IsAllowed most_cards)
+  pub tries : IsAllowed most_tries settings.tries
 
 -- the owners of a parting are those in stripes, or in ranges
 abbrev pub HasOwners : Parting → parts.Parting → Type 0

@@ -8,7 +8,7 @@ ghost use Rattle.ell_run.specs.declared.bytes.RunFault.TheVariants.{NoMemory as 
 use crate::runs::run;
 use crate::settings::{Report, Settings, limits_for, parts_for};
 use ell_ops::NoMemory;
-use ell_text::{InputFault, TextFault, WriteFault, read_all, read_bulk, write_answer};
+use ell_text::{INPUT_MAX, InputFault, TextFault, WriteFault, read_all, read_bulk, write_answer};
 use ell_word::NoGate;
 use std::alloc::Global;
 use std::io::{Read, Write};
@@ -21,8 +21,8 @@ pub enum RunFault {
     /// The reader answered an error.
     #[error("read failed")]
     Read,
-    /// The input is longer than a run takes.
-    #[error("input over 16777216 bytes")]
+    /// The input is longer than `INPUT_MAX` bytes.
+    #[error("input over {max} bytes", max = INPUT_MAX)]
     TooLong,
     /// The text is at fault.
     #[error("{0}")]

@@ -9,9 +9,11 @@ mod runs;
 mod settings;
 
 pub use bytes::{RunFault, run_bytes};
-pub use laws::by_parts;
+pub use ell_ops::{KEY_MAX, WORKERS_MAX};
+pub use ell_text::CARDS_MAX;
+pub use laws::{by_parts, limits_are_as_defined};
 pub use runs::{Limits, Outcome, run};
-pub use settings::{Parting, Report, Settings, parts_for};
+pub use settings::{Parting, Report, Settings, TRIES_MAX, parts_for};
 
 #[cfg(test)]
 mod tests;

@@ -14,9 +14,9 @@ use std::thread::Threads;
 /// How much a run may use.
 #[derive(Clone, Copy, Debug, PartialEq, Eq)]
 pub struct Limits {
-    /// The cards that the tree has to give out, 1 to 1,000,000.
+    /// The cards that the tree has to give out, 1 to `CARDS_MAX`.
     pub cards: u64,
-    /// The tries that an insert or a delete has, 1 to 1,000,000.
+    /// The tries that an insert or a delete has, 1 to `TRIES_MAX`.
     pub tries: u32,
 }
 

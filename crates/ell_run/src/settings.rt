@@ -1,5 +1,6 @@
 //! How a bulk text is run, and what a run reports.
 ghost use Rattle.std.specs.Prelude.{◌≡◌, ◌≤◌, IfOk, length};
+ghost use Rattle.ell_text.specs.Limits.{most_operations};
 ghost use Rattle.ell_run.specs.Limits.{AreLimits};
 ghost use Rattle.ell_run.specs.Settings.{AreSettings, IsPartedAs};
 
@@ -7,6 +8,9 @@ use crate::runs::Limits;
 use ell_ops::{NoMemory, Op};
 use ell_parts::{PartFault, Parts};
 use std::alloc::Global;
+
+/// The most tries that an insert or a delete may have.
+pub const TRIES_MAX: u32 = 1_000_000;
 
 /// How keys are parted among workers.
 #[derive(Clone, Copy, Debug, PartialEq, Eq)]
@@ -20,12 +24,12 @@ pub enum Parting {
 /// How a bulk text is run.
 #[derive(Clone, Copy, Debug, PartialEq, Eq)]
 pub struct Settings {
-    /// How many workers there are, 1 to 64.
+    /// How many workers there are, 1 to `WORKERS_MAX`.
     pub workers: u32,
     pub parting: Parting,
-    /// The cards of the tree, 1 to 1,000,000; if none are given, 4 per operation and 64.
+    /// The cards of the tree, 1 to `CARDS_MAX`; if none are given, 4 per operation and 64.
     pub cards: Option<u64>,
-    /// The tries of an insert or a delete, 1 to 1,000,000.
+    /// The tries of an insert or a delete, 1 to `TRIES_MAX`.
     pub tries: u32,
 }
 
@@ -61,7 +65,7 @@ fn only_memory(fault: PartFault) -> NoMemory
 // The limits that the settings ask for.
 pub(crate) fn limits_for(ops: &[Op], settings: Settings) -> Limits
     requires settings { AreSettings settings }
-    requires few { length ops.now ≤ 200000 }
+    requires few { length ops.now ≤ most_operations }
     ensures { AreLimits result }
 {
     let cards = settings.cards.unwrap_or(4 * ops.len() as u64 + 64);

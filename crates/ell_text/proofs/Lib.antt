@@ -1,11 +1,22 @@
-pub mod BulkLemmas
-pub mod DraftLemmas
-pub mod InputLemmas
-pub mod LinesLemmas
-pub mod NumberLemmas
-pub mod OutputLemmas
-pub mod PiecesLemmas
-pub mod ReplayLemmas
-pub mod SaidLemmas
-pub mod ReplayedLemmas
-pub mod SendingLemmas
+-- The first fault of a text, and its operations, a line at a time.
+pub mod Operations
+-- The draft of the lines that are not skipped, a line at a time.
+pub mod Drafts
+-- What a reader's known bytes say of what it gave.
+pub mod Reading
+-- The lines of a text are those that bstr cuts.
+pub mod CutLines
+-- Numbers in decimal digits, and what std's `parse` reads of them.
+pub mod Digits
+-- Steps of an `Output`, one after another.
+pub mod Putting
+-- The pieces of a line, cut off one after another.
+pub mod Pieces
+-- The first fault of a replay text, and its script, a line at a time.
+pub mod Scripts
+-- What one line says at the places of a replay text.
+pub mod Said
+-- What a replay of the bytes that were read tells.
+pub mod Replayed
+-- Steps of sending, one after another.
+pub mod Sending

@@ -1,4 +1,3 @@
--- The text that answers a file of operations.
 use Rattle.std.specs.Prelude.{ℕ, Bool, true, false, List, ◌++◌, length, codes}
 use Rattle.std.specs.List.{flat_map}
 use Rattle.std.specs.Fmt.{decimal}
@@ -16,6 +15,10 @@ number_line n = decimal n ++ codes "\n"
 abbrev pub keys_lines : List ℕ → List ℕ
 keys_lines keys = codes "keys " ++ number_line (length keys) ++ flat_map number_line keys
 
+-- a line for each item, and the lines of the keys
+abbrev pub listing : {X : Type 0} → (X → List ℕ) → List X → List ℕ → List ℕ
+listing line items keys = flat_map line items ++ keys_lines keys
+
 -- a line for each reply, and the lines of the keys
 abbrev pub answer : List Bool → List ℕ → List ℕ
-answer replies keys = flat_map reply_line replies ++ keys_lines keys
+answer replies keys = listing reply_line replies keys

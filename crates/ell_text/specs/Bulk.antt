@@ -1,13 +1,12 @@
--- The operations of a bulk text, or its first fault.
 use Rattle.std.specs.Prelude.{ℕ, zero, suc, ◌+◌, ◌<◌, ◌≡◌, IsSome, nat_lt, List, [], length, take, slice_index_or, Option, None, Some, Result, Ok, Err, if◌then◌else◌}
 use Rattle.std.specs.List.{filter_map}
 use Rattle.std.specs.Option.{option_or}
 use Rattle.ell_ops.specs.declared.op.Op.{Op}
 use Rattle.ell_text.specs.declared.line.LineFault.{LineFault}
 use Rattle.ell_text.specs.declared.line.LineFault.TheVariants as own
-use Rattle.ell_text.specs.declared.bulk.TheConstants.{OPERATIONS_MAX}
 use Rattle.ell_text.specs.declared.bulk.TextFault.{TextFault}
 use Rattle.ell_text.specs.declared.bulk.TextFault.TheVariants.{BadOperation, BadKey, KeyTooLarge, TooManyOperations}
+use Rattle.ell_text.specs.Limits.{most_operations}
 use Rattle.ell_text.specs.Line.{line_of}
 use Rattle.ell_text.specs.Lines.{lines}
 
@@ -30,7 +29,7 @@ located number own.KeyTooLarge = KeyTooLarge number
 abbrev pub fault_of : ℕ → ℕ → Result (Option Op) LineFault → Option TextFault
 fault_of number before (Err fault) = Some (located number fault)
 fault_of number before (Ok None) = None
-fault_of number before (Ok (Some operation)) = if nat_lt before OPERATIONS_MAX then None else Some (TooManyOperations number)
+fault_of number before (Ok (Some operation)) = if nat_lt before most_operations then None else Some (TooManyOperations number)
 
 -- the fault of the line at index i, if it has one
 abbrev pub fault_at : List (List ℕ) → ℕ → Option TextFault

@@ -1,4 +1,3 @@
--- What reading does to a reader.
 use Rattle.std.specs.Prelude.{ℕ, List, Option}
 use Rattle.std.specs.Io.KnownBytes.{Consumes}
 

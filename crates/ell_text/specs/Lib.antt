@@ -1,15 +1,20 @@
+-- The text that answers a file of operations.
 pub mod Answer
+-- The operations of a bulk text, or its first fault.
 pub mod Bulk
-pub mod Draft
+-- What reading does to a reader.
 pub mod Input
+-- The most that a text may have, or ask for.
+pub mod Limits
+-- The operation of one line of a bulk text.
 pub mod Line
+-- The lines of a text, and the parts of one line.
 pub mod Lines
+-- Numbers in decimal digits, as a text spells them.
 pub mod Number
+-- What a step of an `Output` does.
 pub mod Output
-pub mod Pieces
-pub mod ReplayLine
-pub mod Replayed
-pub mod Script
-pub mod ScriptFault
+-- Bytes on their way to a writer, and the count of those that it took.
 pub mod Sending
-pub mod Trace
+-- replay texts: their lines, the script of one, what is written for it, and what its faults tell
+pub mod replays

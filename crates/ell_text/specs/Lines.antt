@@ -1,4 +1,3 @@
--- The lines of a text, and the parts of one line.
 use Rattle.std.specs.Prelude.{ℕ, nat_eq, ◌==◌, ◌||◌, Bool, List, codes}
 use Rattle.std.specs.List.{list_all, starts_with}
 -- what stands between line feeds: an empty last part is no line, and only a part before a line feed loses one carriage return at its end

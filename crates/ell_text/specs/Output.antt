@@ -1,4 +1,3 @@
--- What a step of an `Output` does.
 use Rattle.std.specs.Prelude.{ℕ, List, ◌++◌, take, Option}
 use Rattle.ell_text.specs.declared.output.Output.{Output}
 use Rattle.ell_text.specs.declared.output.WriteFault.{WriteFault}

@@ -1,10 +1,9 @@
 //! The text that answers a file of operations.
 ghost use Rattle.std.specs.Prelude.{◌≡◌, ◌<◌, length, take, IfErr, OnOk};
-ghost use Rattle.std.specs.List.{flat_map};
 ghost use Rattle.std.specs.Io.KnownBytes.{Appends};
-ghost use Rattle.ell_text.specs.Answer.{reply_line, number_line, keys_lines, answer};
-ghost use Rattle.ell_text.specs.Output.{Puts, Faults};
+ghost use Rattle.ell_text.specs.Answer.{reply_line, answer};
 
+use crate::listing::{Listed, write_listing};
 use crate::output::{Output, WriteFault};
 use std::io::Write;
 
@@ -27,40 +26,15 @@ pub fn write_answer<W: Write>(out: &mut W, replies: &[bool], keys: &[u64]) -> Re
     ensures missing { IfErr result (λ fault.
         fault.written < length (answer replies.now keys.now)) }
 {
-    let mut output = Output::new();
-    put_answer(&mut output, out, replies, keys)?;
-    output.flush(out)
+    write_listing(out, replies, keys)
 }
 
-fn put_answer<W: Write>(
-    output: &mut Output,
-    out: &mut W,
-    replies: &[bool],
-    keys: &[u64],
-) -> Result<(), WriteFault>
-    ensures ok { OnOk result (Puts (W.contents out.old) (W.contents out.new) output.old output.new
-        (answer replies.now keys.now)) }
-    ensures fault { IfErr result (Faults (W.contents out.old) (W.contents out.new) output.old
-        (answer replies.now keys.now)) }
-{
-    put_replies(output, out, replies)?;
-    put_keys(output, out, keys)
-}
+impl Listed for bool {
+    ghost line = { reply_line };
 
-fn put_replies<W: Write>(
-    output: &mut Output,
-    out: &mut W,
-    replies: &[bool],
-) -> Result<(), WriteFault>
-    ensures ok { OnOk result (Puts (W.contents out.old) (W.contents out.new) output.old output.new
-        (flat_map reply_line replies.now)) }
-    ensures fault { IfErr result (Faults (W.contents out.old) (W.contents out.new) output.old
-        (flat_map reply_line replies.now)) }
-{
-    for reply in replies {
-        output.put(out, line_of(*reply))?;
+    fn put_line<W: Write>(&self, output: &mut Output, out: &mut W) -> Result<(), WriteFault> {
+        output.put(out, line_of(*self))
     }
-    Ok(())
 }
 
 /// The line of a reply.
@@ -68,50 +42,4 @@ pub(crate) fn line_of(reply: bool) -> &'static [u8]
     ensures { result.now ≡ reply_line reply }
 {
     if reply { b"yes\n" } else { b"no\n" }
-}
-
-/// Puts a line `keys N` with the number of the keys, and then a line for each key, in order.
-pub(crate) fn put_keys<W: Write>(
-    output: &mut Output,
-    out: &mut W,
-    keys: &[u64],
-) -> Result<(), WriteFault>
-    ensures ok { OnOk result (Puts (W.contents out.old) (W.contents out.new) output.old output.new
-        (keys_lines keys.now)) }
-    ensures fault { IfErr result (Faults (W.contents out.old) (W.contents out.new) output.old
-        (keys_lines keys.now)) }
-{
-    output.put(out, b"keys ")?;
-    put_number_line(output, out, keys.len() as u64)?;
-    put_number_lines(output, out, keys)
-}
-
-fn put_number_lines<W: Write>(
-    output: &mut Output,
-    out: &mut W,
-    numbers: &[u64],
-) -> Result<(), WriteFault>
-    ensures ok { OnOk result (Puts (W.contents out.old) (W.contents out.new) output.old output.new
-        (flat_map number_line numbers.now)) }
-    ensures fault { IfErr result (Faults (W.contents out.old) (W.contents out.new) output.old
-        (flat_map number_line numbers.now)) }
-{
-    for number in numbers {
-        put_number_line(output, out, *number)?;
-    }
-    Ok(())
-}
-
-fn put_number_line<W: Write>(
-    output: &mut Output,
-    out: &mut W,
-    number: u64,
-) -> Result<(), WriteFault>
-    ensures ok { OnOk result (Puts (W.contents out.old) (W.contents out.new) output.old output.new
-        (number_line number)) }
-    ensures fault { IfErr result (Faults (W.contents out.old) (W.contents out.new) output.old
-        (number_line number)) }
-{
-    output.put_number(out, number)?;
-    output.put(out, b"\n")
 }

@@ -3,17 +3,16 @@ ghost use Rattle.std.specs.Prelude.{◌≡◌, ◌≢◌, ◌≤◌, ◌++◌, A
 ghost use Rattle.std.specs.Option.{option_to_list};
 ghost use Rattle.ell_ops.specs.Meaning.{Fits};
 ghost use Rattle.ell_text.specs.Bulk.{HasSoundOperation, bulk, fault_of, located, operation_in};
+ghost use Rattle.ell_text.specs.Limits.{most_operations};
 ghost use Rattle.ell_text.specs.Line.{line_of};
 ghost use Rattle.ell_text.specs.Lines.{lines};
 
+use crate::limits::OPERATIONS_MAX;
 use crate::line::{LineFault, read_line};
 use crate::lines::lines;
 use ell_ops::Op;
 use std::alloc::Allocator;
 use thiserror::Error;
-
-/// The most operations that a text may have.
-pub const OPERATIONS_MAX: usize = 200_000;
 
 /// Why a text was not read. Lines are counted from 1, the skipped ones too. Of several faults in one
 /// line the first of this list counts.
@@ -42,7 +41,7 @@ pub fn read_bulk<A: Allocator>(alloc: A, bytes: &[u8]) -> Result<Vec<Op, A>, Tex
     ensures ok { IfOk result (λ ops. bulk bytes.now ≡ Ok ops.items) }
     ensures fault { IfErr result (λ fault. fault ≢ TextFault.NoMemory → bulk bytes.now ≡ Err fault) }
     ensures no_memory { IfErr result (λ fault. fault ≡ TextFault.NoMemory → HasSoundOperation (lines bytes.now)) }
-    ensures within { IfOk result (λ ops. vec_len ops ≤ OPERATIONS_MAX) }
+    ensures within { IfOk result (λ ops. vec_len ops ≤ most_operations) }
     ensures keys { IfOk result (λ ops. All Fits ops.items) }
 {
     let mut ops = Vec::new(alloc);
@@ -58,7 +57,7 @@ fn append_line<A: Allocator>(
     line: &[u8],
     number: usize,
 ) -> Result<(), TextFault>
-    requires within { vec_len ops.old ≤ OPERATIONS_MAX }
+    requires within { vec_len ops.old ≤ most_operations }
     requires keys { All Fits ops.old.items }
     ensures ok { OnOk result (ops.new.items ≡ ops.old.items ++ option_to_list (operation_in (line_of line.now))) }
     ensures sound { OnOk result (fault_of number (vec_len ops.old) (line_of line.now) ≡ None) }
@@ -68,7 +67,7 @@ fn append_line<A: Allocator>(
         → IsSome (operation_in (line_of line.now))) }
     ensures no_memory_sound { IfErr result (λ fault. fault ≡ TextFault.NoMemory
         → fault_of number (vec_len ops.old) (line_of line.now) ≡ None) }
-    ensures within { vec_len ops.new ≤ OPERATIONS_MAX }
+    ensures within { vec_len ops.new ≤ most_operations }
     ensures keys { All Fits ops.new.items }
 {
     let op = match read_line(line) {

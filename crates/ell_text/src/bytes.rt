@@ -1,10 +1,11 @@
 //! A replay text, run from bytes to bytes.
 ghost use Rattle.std.specs.Prelude.{◌≡◌, IfErr, OnOk};
-ghost use Rattle.ell_text.specs.Replayed.{IsReplayed, Tells};
-ghost use Rattle.ell_text.specs.ScriptFault.{of_input, of_start, of_text, of_write};
+ghost use Rattle.ell_text.specs.replays.Replayed.{IsReplayed, Tells};
+ghost use Rattle.ell_text.specs.replays.ScriptFault.{of_input, of_start, of_text, of_write};
 ghost use Rattle.ell_text.specs.declared.bytes.ScriptFault.TheVariants.{NoMemory as no_memory};
 
-use crate::input::{INPUT_MAX, InputFault, read_all};
+use crate::input::{InputFault, read_all};
+use crate::limits::INPUT_MAX;
 use crate::output::WriteFault;
 use crate::replay::{ReplayFault, read_replay};
 use crate::trace::write_trace;

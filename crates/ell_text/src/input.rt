@@ -2,13 +2,12 @@
 ghost use Rattle.std.specs.Prelude.{◌≡◌, ◌≢◌, ◌+◌, ◌<◌, ◌≤◌, IfErr, IfOk, IfSome, IsErrOf, OnErr, OnOk, drop, length, take, vec_len};
 ghost use Rattle.std.specs.Io.KnownBytes.{Consumes, IsAtEnd, Keeps};
 ghost use Rattle.ell_text.specs.Input.{GivesFront};
+ghost use Rattle.ell_text.specs.Limits.{most_bytes};
 
+use crate::limits::INPUT_MAX;
 use std::alloc::Allocator;
 use std::io::Read;
 use thiserror::Error;
-
-/// The most bytes that an input may have.
-pub const INPUT_MAX: usize = 16_777_216;
 
 // The least room that a read is given, in bytes.
 const READ_ROOM: usize = 65_536;
@@ -32,9 +31,9 @@ pub enum InputFault {
 pub fn read_all<A: Allocator, R: Read>(alloc: A, reader: &mut R) -> Result<Vec<u8, A>, InputFault>
     ensures bytes { IfOk result (λ v. IfSome (R.remaining reader.old) (λ bytes. v.items ≡ bytes)) }
     ensures end { OnOk result (IsAtEnd (R.remaining reader.new)) }
-    ensures within { IfOk result (λ v. vec_len v ≤ INPUT_MAX) }
+    ensures within { IfOk result (λ v. vec_len v ≤ most_bytes) }
     ensures too_long { IsErrOf result InputFault.TooLong
-        → IfSome (R.remaining reader.old) (λ bytes. INPUT_MAX < length bytes) }
+        → IfSome (R.remaining reader.old) (λ bytes. most_bytes < length bytes) }
     ensures given { GivesFront (R.remaining reader.old) (R.remaining reader.new) }
 {
     let mut bytes = Vec::new(alloc);
@@ -57,10 +56,10 @@ fn read_more<A: Allocator, R: Read>(
     filled: usize,
 ) -> Result<usize, InputFault>
     requires filled { filled ≤ vec_len bytes.old }
-    requires short { filled ≤ INPUT_MAX }
-    requires within { vec_len bytes.old ≤ INPUT_MAX + READ_ROOM }
+    requires short { filled ≤ most_bytes }
+    requires within { vec_len bytes.old ≤ most_bytes + READ_ROOM }
     ensures front { take filled bytes.new.items ≡ take filled bytes.old.items }
-    ensures within { vec_len bytes.new ≤ INPUT_MAX + READ_ROOM }
+    ensures within { vec_len bytes.new ≤ most_bytes + READ_ROOM }
     ensures fits { IfOk result (λ count. filled + count ≤ vec_len bytes.new) }
     ensures ok { IfOk result (λ count. Consumes (R.remaining reader.old) (R.remaining reader.new)
         (take count (drop filled bytes.new.items))) }
@@ -76,11 +75,11 @@ fn read_more<A: Allocator, R: Read>(
 // to the most that it may be.
 fn make_room<A: Allocator>(bytes: &mut Vec<u8, A>, filled: usize) -> Result<(), InputFault>
     requires filled { filled ≤ vec_len bytes.old }
-    requires short { filled ≤ INPUT_MAX }
-    requires within { vec_len bytes.old ≤ INPUT_MAX + READ_ROOM }
+    requires short { filled ≤ most_bytes }
+    requires within { vec_len bytes.old ≤ most_bytes + READ_ROOM }
     ensures front { take filled bytes.new.items ≡ take filled bytes.old.items }
     ensures room { OnOk result (filled + READ_ROOM ≤ vec_len bytes.new) }
-    ensures within { vec_len bytes.new ≤ INPUT_MAX + READ_ROOM }
+    ensures within { vec_len bytes.new ≤ most_bytes + READ_ROOM }
     ensures kept { vec_len bytes.old ≤ vec_len bytes.new }
     ensures fault { IfErr result (λ fault. fault ≡ InputFault.NoMemory) }
 {

@@ -1,19 +1,18 @@
 //! The script of a replay text.
 ghost use Rattle.std.specs.Prelude.{◌≡◌, ◌≢◌, ◌<◌, ◌≤◌, All, None, Some, IfErr, IfOk, IsTrue, OnErr, OnOk};
-ghost use Rattle.ell_ops.specs.Meaning.{greatest_key};
-ghost use Rattle.ell_text.specs.Draft.{DraftFits, count_in_draft, draft_value, finished, next_fault, next_line, no_draft, place_in_draft, with_line, with_said};
+ghost use Rattle.ell_ops.specs.Meaning.{greatest_key, most_workers};
+ghost use Rattle.ell_text.specs.replays.Draft.{DraftFits, count_in_draft, draft_value, finished, next_fault, next_line, no_draft, place_in_draft, with_line, with_said};
+ghost use Rattle.ell_text.specs.Limits.{most_cards, most_lines};
 ghost use Rattle.ell_text.specs.Lines.{lines};
-ghost use Rattle.ell_text.specs.ReplayLine.{SaidFits};
-ghost use Rattle.ell_text.specs.Script.{HasSoundEntry, is_kept, replay_located, script, script_value};
+ghost use Rattle.ell_text.specs.replays.ReplayLine.{SaidFits};
+ghost use Rattle.ell_text.specs.replays.Script.{HasSoundEntry, is_kept, replay_located, script, script_value};
 
+use crate::limits::LINES_MAX;
 use crate::lines::lines;
 use crate::replay_line::{Place, ReplayLineFault, Said, read_replay_line};
 use ell_core::Event;
 use std::alloc::Global;
 use thiserror::Error;
-
-/// The most own lines and events that a replay may have together.
-pub const LINES_MAX: usize = 200_000;
 
 /// A replay: how many workers and cards there are, which worker owns which key, and the events in their order.
 #[derive(Debug, Drop)]
@@ -54,11 +53,11 @@ pub fn read_replay(alloc: Global, bytes: &[u8]) -> Result<Script, ReplayFault>
     ensures ok { IfOk result (λ s. script bytes.now ≡ Ok (script_value s)) }
     ensures fault { IfErr result (λ fault. fault ≢ ReplayFault.NoMemory → script bytes.now ≡ Err fault) }
     ensures no_memory { IfErr result (λ fault. fault ≡ ReplayFault.NoMemory → HasSoundEntry (lines bytes.now)) }
-    ensures workers { IfOk result (λ s. (1 ≤ s.workers) × (s.workers ≤ 64)) }
-    ensures cards { IfOk result (λ s. (1 ≤ s.cards) × (s.cards ≤ 1000000)) }
+    ensures workers { IfOk result (λ s. (1 ≤ s.workers) × (s.workers ≤ most_workers)) }
+    ensures cards { IfOk result (λ s. (1 ≤ s.cards) × (s.cards ≤ most_cards)) }
     ensures keys { IfOk result (λ s. All (λ entry. entry.1 ≤ greatest_key) s.owned.items) }
-    ensures worker_numbers { IfOk result (λ s. All (λ entry. entry.0 ≤ 63) s.owned.items) }
-    ensures event_workers { IfOk result (λ s. All (λ event. event.worker ≤ 63) s.events.items) }
+    ensures worker_numbers { IfOk result (λ s. All (λ entry. entry.0 < most_workers) s.owned.items) }
+    ensures event_workers { IfOk result (λ s. All (λ event. event.worker < most_workers) s.events.items) }
 {
     let mut draft = Draft::new(alloc);
     for (index, line) in lines(bytes).enumerate() {
@@ -130,13 +129,13 @@ impl Draft {
         requires fits { DraftFits (draft_value self.old) }
         requires said_fits { SaidFits said }
         ensures ok { OnOk result (draft_value self.new ≡ with_said (draft_value self.old) said) }
-        ensures sound { OnOk result (count_in_draft (draft_value self.old) < LINES_MAX) }
+        ensures sound { OnOk result (count_in_draft (draft_value self.old) < most_lines) }
         ensures fault { IfErr result (λ fault. fault ≢ ReplayFault.NoMemory
-            → (fault ≡ ReplayFault.TooManyLines number) × (LINES_MAX ≤ count_in_draft (draft_value self.old))) }
+            → (fault ≡ ReplayFault.TooManyLines number) × (most_lines ≤ count_in_draft (draft_value self.old))) }
         ensures no_memory { IfErr result (λ fault. fault ≡ ReplayFault.NoMemory
             → IsTrue (is_kept (Ok (Some said)))) }
         ensures no_memory_sound { IfErr result (λ fault. fault ≡ ReplayFault.NoMemory
-            → count_in_draft (draft_value self.old) < LINES_MAX) }
+            → count_in_draft (draft_value self.old) < most_lines) }
         ensures fits { DraftFits (draft_value self.new) }
     {
         if self.owned.len() + self.events.len() >= LINES_MAX {
@@ -166,11 +165,11 @@ impl Draft {
         ensures value { IfOk result (λ s. finished (draft_value self) ≡ Some (script_value s)) }
         ensures fault { IfErr result (λ fault. fault ≡ ReplayFault.Ended) }
         ensures ended { OnErr result (finished (draft_value self) ≡ None) }
-        ensures workers { IfOk result (λ s. (1 ≤ s.workers) × (s.workers ≤ 64)) }
-        ensures cards { IfOk result (λ s. (1 ≤ s.cards) × (s.cards ≤ 1000000)) }
+        ensures workers { IfOk result (λ s. (1 ≤ s.workers) × (s.workers ≤ most_workers)) }
+        ensures cards { IfOk result (λ s. (1 ≤ s.cards) × (s.cards ≤ most_cards)) }
         ensures keys { IfOk result (λ s. All (λ entry. entry.1 ≤ greatest_key) s.owned.items) }
-        ensures worker_numbers { IfOk result (λ s. All (λ entry. entry.0 ≤ 63) s.owned.items) }
-        ensures event_workers { IfOk result (λ s. All (λ event. event.worker ≤ 63) s.events.items) }
+        ensures worker_numbers { IfOk result (λ s. All (λ entry. entry.0 < most_workers) s.owned.items) }
+        ensures event_workers { IfOk result (λ s. All (λ event. event.worker < most_workers) s.events.items) }
     {
         let (Some(workers), Some(cards)) = (self.workers, self.cards) else {
             return Err(ReplayFault::Ended);

@@ -1,19 +1,15 @@
 //! What one line of a replay text says at its place.
-ghost use Rattle.std.specs.Prelude.{◌≡◌, ◌≤◌, IfOk, IfSome, codes};
-ghost use Rattle.ell_ops.specs.Meaning.{greatest_key};
-ghost use Rattle.ell_text.specs.Pieces.{IsCut, piece_list};
-ghost use Rattle.ell_text.specs.ReplayLine.{SaidFits, act_of, begin_event, card_event, card_in, count_in, count_of, entry_of, entry_or_event, event_of, pieces, plain_event, replay_key_in, replay_line_at, said_at, worker_in};
+ghost use Rattle.std.specs.Prelude.{◌≡◌, ◌<◌, ◌≤◌, IfOk, IfSome, codes};
+ghost use Rattle.ell_ops.specs.Meaning.{greatest_key, most_workers};
+ghost use Rattle.ell_text.specs.replays.Pieces.{IsCut, piece_list};
+ghost use Rattle.ell_text.specs.replays.ReplayLine.{SaidFits, act_of, begin_event, card_event, card_in, count_in, count_of, entry_of, entry_or_event, event_of, pieces, plain_event, replay_key_in, replay_line_at, said_at, worker_in};
 
+use crate::limits::CARDS_MAX;
 use crate::line::OpKind;
 use crate::lines::{cut_at_space, is_skipped};
 use crate::number::{NumberFault, read_key, read_number};
 use ell_core::{Act, Event};
-
-/// The most workers that a replay may have.
-pub(crate) const WORKERS_MAX: u64 = 64;
-
-/// The most cards that a replay may have.
-pub(crate) const CARDS_MAX: u64 = 1_000_000;
+use ell_ops::WORKERS_MAX;
 
 /// Why a line of a replay text says nothing at its place. The first of this list that holds counts.
 #[derive(Debug, Clone, Copy, PartialEq, Eq)]
@@ -74,7 +70,7 @@ enum CardAct {
 }
 
 impl CardAct {
-    ghost use Rattle.ell_text.specs.ReplayLine.{act_on, card_act_of};
+    ghost use Rattle.ell_text.specs.replays.ReplayLine.{act_on, card_act_of};
 
     // The act that a word names.
     fn named(word: &[u8]) -> Option<CardAct>
@@ -142,7 +138,7 @@ fn read_said(place: Place, pieces: Pieces<'_>) -> Result<Said, ReplayLineFault>
 {
     match place {
         Place::Workers => {
-            let count = read_count_line(b"workers", WORKERS_MAX, pieces)?;
+            let count = read_count_line(b"workers", u64::from(WORKERS_MAX), pieces)?;
             Ok(Said::Workers(count as u32))
         }
         Place::Cards => Ok(Said::Cards(read_count_line(b"cards", CARDS_MAX, pieces)?)),
@@ -184,7 +180,7 @@ fn read_entry(worker: &[u8], key: &[u8]) -> Result<Said, ReplayLineFault>
 
 fn read_event(pieces: Pieces<'_>) -> Result<Event, ReplayLineFault>
     ensures value { result ≡ event_of (piece_list pieces.entry) }
-    ensures within { IfOk result (λ event. event.worker ≤ 63) }
+    ensures within { IfOk result (λ event. event.worker < most_workers) }
 {
     match pieces {
         Pieces::Two(worker, word) => read_plain_event(worker, word),
@@ -197,7 +193,7 @@ fn read_event(pieces: Pieces<'_>) -> Result<Event, ReplayLineFault>
 // `W act`.
 fn read_plain_event(worker: &[u8], word: &[u8]) -> Result<Event, ReplayLineFault>
     ensures value { result ≡ plain_event worker.now word.now }
-    ensures within { IfOk result (λ event. event.worker ≤ 63) }
+    ensures within { IfOk result (λ event. event.worker < most_workers) }
 {
     let Some(act) = plain_act(word) else {
         return Err(ReplayLineFault::BadLine);
@@ -209,7 +205,7 @@ fn read_plain_event(worker: &[u8], word: &[u8]) -> Result<Event, ReplayLineFault
 // `W act C`.
 fn read_card_event(worker: &[u8], word: &[u8], card: &[u8]) -> Result<Event, ReplayLineFault>
     ensures value { result ≡ card_event worker.now word.now card.now }
-    ensures within { IfOk result (λ event. event.worker ≤ 63) }
+    ensures within { IfOk result (λ event. event.worker < most_workers) }
 {
     let Some(kind) = CardAct::named(word) else {
         return Err(ReplayLineFault::BadLine);
@@ -225,7 +221,7 @@ fn read_card_event(worker: &[u8], word: &[u8], card: &[u8]) -> Result<Event, Rep
 // `W begin operation K`.
 fn read_begin(worker: &[u8], name: &[u8], key: &[u8]) -> Result<Event, ReplayLineFault>
     ensures value { result ≡ begin_event worker.now (codes "begin") name.now key.now }
-    ensures within { IfOk result (λ event. event.worker ≤ 63) }
+    ensures within { IfOk result (λ event. event.worker < most_workers) }
 {
     let Some(kind) = OpKind::named(name) else {
         return Err(ReplayLineFault::BadLine);
@@ -258,9 +254,9 @@ fn plain_act(word: &[u8]) -> Option<Act>
 // A worker's number.
 fn read_worker(bytes: &[u8]) -> Result<u32, ReplayLineFault>
     ensures value { result ≡ worker_in bytes.now }
-    ensures within { IfOk result (λ worker. worker ≤ 63) }
+    ensures within { IfOk result (λ worker. worker < most_workers) }
 {
-    match read_number(bytes, WORKERS_MAX - 1) {
+    match read_number(bytes, u64::from(WORKERS_MAX) - 1) {
         Ok(worker) => Ok(worker as u32),
         Err(_) => Err(ReplayLineFault::BadNumber),
     }

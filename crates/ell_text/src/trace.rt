@@ -1,11 +1,10 @@
 //! The text of a replay.
 ghost use Rattle.std.specs.Prelude.{◌≡◌, ◌<◌, length, take, IfErr, OnOk};
-ghost use Rattle.std.specs.List.{flat_map};
 ghost use Rattle.std.specs.Io.KnownBytes.{Appends};
-ghost use Rattle.ell_text.specs.Trace.{shown_line, refusal_line, trace};
-ghost use Rattle.ell_text.specs.Output.{Puts, Faults};
+ghost use Rattle.ell_text.specs.replays.Trace.{shown_line, refusal_line, trace};
 
-use crate::answer::{line_of, put_keys};
+use crate::answer::line_of;
+use crate::listing::{Listed, write_listing};
 use crate::output::{Output, WriteFault};
 use ell_core::{CoreFault, Shown, Stepped};
 use std::io::Write;
@@ -30,40 +29,15 @@ pub fn write_trace<W: Write>(out: &mut W, shown: &[Shown], keys: &[u64]) -> Resu
     ensures missing { IfErr result (λ fault.
         fault.written < length (trace shown.now keys.now)) }
 {
-    let mut output = Output::new();
-    put_trace(&mut output, out, shown, keys)?;
-    output.flush(out)
+    write_listing(out, shown, keys)
 }
 
-fn put_trace<W: Write>(
-    output: &mut Output,
-    out: &mut W,
-    shown: &[Shown],
-    keys: &[u64],
-) -> Result<(), WriteFault>
-    ensures ok { OnOk result (Puts (W.contents out.old) (W.contents out.new) output.old output.new
-        (trace shown.now keys.now)) }
-    ensures fault { IfErr result (Faults (W.contents out.old) (W.contents out.new) output.old
-        (trace shown.now keys.now)) }
-{
-    put_all_shown(output, out, shown)?;
-    put_keys(output, out, keys)
-}
+impl Listed for Shown {
+    ghost line = { shown_line };
 
-fn put_all_shown<W: Write>(
-    output: &mut Output,
-    out: &mut W,
-    shown: &[Shown],
-) -> Result<(), WriteFault>
-    ensures ok { OnOk result (Puts (W.contents out.old) (W.contents out.new) output.old output.new
-        (flat_map shown_line shown.now)) }
-    ensures fault { IfErr result (Faults (W.contents out.old) (W.contents out.new) output.old
-        (flat_map shown_line shown.now)) }
-{
-    for event in shown {
-        output.put(out, shown_line(*event))?;
+    fn put_line<W: Write>(&self, output: &mut Output, out: &mut W) -> Result<(), WriteFault> {
+        output.put(out, shown_line(*self))
     }
-    Ok(())
 }
 
 fn shown_line(event: Shown) -> &'static [u8]

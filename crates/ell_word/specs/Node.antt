@@ -1,8 +1,16 @@
--- Node numbers. A card has the internal node 3 c, the left leaf 3 c + 1 and the right leaf 3 c + 2.
-use Rattle.std.specs.Prelude.{◌≡◌, ℕ, ◌+◌, ◌*◌, ◌/◌, ◌%◌}
+use Rattle.std.specs.Prelude.{◌≡◌, ℕ, ◌+◌, ◌-◌, ◌*◌, ◌/◌, ◌%◌, ◌^◌}
 
+-- the greatest number of a card
 abbrev pub greatest_card : ℕ
 greatest_card = 1000000
+
+-- the lesser of the two keys above all keys of the set
+abbrev pub infinity1 : ℕ
+infinity1 = 2 ^ 64 - 2
+
+-- the greater of the two
+abbrev pub infinity2 : ℕ
+infinity2 = 2 ^ 64 - 1
 
 abbrev pub internal : ℕ → ℕ
 internal card = 3 * card

@@ -1,4 +1,3 @@
--- Update words: four times the card, and the state.
 use Rattle.std.specs.Prelude.{ℕ, zero, suc, ◌+◌, ◌*◌, ◌/◌, ◌%◌}
 use Rattle.ell_word.specs.declared.update.State.{State}
 use Rattle.ell_word.specs.declared.update.State.TheVariants.{IFlag, DFlag, Mark, Clean}

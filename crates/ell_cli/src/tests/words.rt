@@ -2,7 +2,9 @@
 use super::streams::Narrow;
 use crate::program::elltree;
 use crate::request::{Request, request_of};
-use ell_run::{Parting, Settings};
+use ell_run::{KEY_MAX, Parting, Settings};
+use ell_text::{INPUT_MAX, OPERATIONS_MAX};
+use std::alloc::Global;
 use std::io::{Write, empty};
 use std::test::Fail;
 use std::thread::Threads;
@@ -145,7 +147,15 @@ fn explains_its_commands(rt: HostRuntime) -> Result<(), Fail> {
         ),
         (
             &["run", "--help"],
-            &["Usage: elltree run", "insert 5", "keys 0", "Exit status:"],
+            &[
+                "Usage: elltree run",
+                "Workers that share the run, 1 to 64",
+                "Cards of a run, 1 to 1000000 [default: 4 per operation and 64]",
+                "Tries of an operation, 1 to 1000000",
+                "insert 5",
+                "keys 0",
+                "Exit status:",
+            ],
         ),
         (
             &["replay", "--help"],
@@ -160,6 +170,38 @@ fn explains_its_commands(rt: HostRuntime) -> Result<(), Fail> {
         for part in parts {
             assert!(rt; text.as_str().contains(part), "at {words:?} without {part}");
         }
+    }
+    Ok(())
+}
+
+// A number with a comma before each three digits that end it.
+fn grouped(alloc: Global, number: usize) -> Result<String, Fail> {
+    let digits = number.to_string(alloc)?;
+    let mut text = String::new(alloc);
+    for (at, digit) in digits.as_str().chars().enumerate() {
+        if at > 0 && at % 3 == digits.len() % 3 {
+            text.push(',')?;
+        }
+        text.push(digit)?;
+    }
+    Ok(text)
+}
+
+// The long text of `run` spells these numbers out: they are those of the constants.
+#[test]
+fn explains_the_limits_of_a_text(rt: HostRuntime) -> Result<(), Fail> {
+    let mut out = Vec::new(rt.alloc());
+    let mut err = Vec::new(rt.alloc());
+    status_of(&rt, &["run", "--help"], &mut out, &mut err);
+    let text = String::from_utf8(out)?;
+    let operations = grouped(rt.alloc(), OPERATIONS_MAX)?;
+    let bytes = grouped(rt.alloc(), INPUT_MAX)?;
+    let parts = [
+        format!(in rt.alloc(); "from 0 to\n{KEY_MAX}. ")?,
+        format!(in rt.alloc(); "at most {operations} operations and {bytes} bytes.")?,
+    ];
+    for part in &parts {
+        assert!(rt; text.as_str().contains(part.as_str()), "without {part}");
     }
     Ok(())
 }

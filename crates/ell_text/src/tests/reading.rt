@@ -1,17 +1,9 @@
+//! Bulk texts and readers: what is read of them, and each fault once.
+use super::repeated;
 use crate::{INPUT_MAX, InputFault, TextFault, read_all, read_bulk};
 use ell_ops::Op;
-use std::alloc::{AllocError, Global};
 use std::io::{self, ErrorKind, Read};
 use std::test::Fail;
-
-/// So many copies of a line.
-fn repeated(alloc: Global, line: &[u8], count: usize) -> Result<Vec<u8>, AllocError> {
-    let mut text = Vec::new(alloc);
-    for _ in 0..count {
-        text.extend_from_slice(line)?;
-    }
-    Ok(text)
-}
 
 #[test]
 fn readings(rt: HostRuntime) -> Result<(), Fail> {

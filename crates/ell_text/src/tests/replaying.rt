@@ -1,4 +1,5 @@
 //! Replay texts that were written by hand: each form and each fault once.
+use super::repeated;
 use crate::{ReplayFault, read_replay};
 use ell_core::{Act, Event};
 use ell_ops::Op;
@@ -10,15 +11,6 @@ fn with_heads(alloc: Global, lines: &[u8]) -> Result<Vec<u8>, AllocError> {
     let mut text = Vec::new(alloc);
     text.extend_from_slice(b"workers 2\ncards 9\n")?;
     text.extend_from_slice(lines)?;
-    Ok(text)
-}
-
-/// So many copies of a line.
-fn repeated(alloc: Global, line: &[u8], count: usize) -> Result<Vec<u8>, AllocError> {
-    let mut text = Vec::new(alloc);
-    for _ in 0..count {
-        text.extend_from_slice(line)?;
-    }
     Ok(text)
 }
 

@@ -2,7 +2,9 @@ use Rattle.std.proofs.Common.{◌≡◌, ◌∙◌, map, Some, sym, rules, subst
 use Rattle.std.specs.Prelude.{MatchResult}
 use Rattle.clap.specs.declared.parser.matches.ArgMatches.{ArgMatches}
 use Rattle.ell_cli.specs.CommandLine.{IsRequestOf, subcommand_for, subcommand_in}
-use Rattle.ell_cli.proofs.CommandLineLemmas.{fails_by_words, fails_up, help_fails, nothing_fails, refused_fails, plain_replay, plain_run, replay_taken, run_taken, taken_fails, name_is, name_met, one_is_taken, options_are, options_met}
+use Rattle.ell_cli.proofs.Subcommands.{one_is_taken}
+use Rattle.ell_cli.proofs.Parses.{fails_by_words, fails_up, help_fails, nothing_fails, refused_fails, replay_taken, run_taken, taken_fails, name_is, name_met, options_are, options_met}
+use Rattle.ell_cli.proofs.PlainRuns.{plain_replay, plain_run}
 use Rattle.ell_cli.proofs.request.request_of.Goals as goal
 
 -- an error has no request
@@ -13,6 +15,9 @@ passed_up P (Err y) e is = tt
 error_met : {T E : Type 0} (P : T → Type 0) (Q : E → Type 0) (r : Result T E) (e : E) → IsErrAnd r (λ y. y ≡ e) → IfErr r Q → MatchResult r P Q
 error_met P Q (Ok x) e is fails = absurd is
 error_met P Q (Err y) e is fails = fails
+
+pub returns-in_err-texts-clause-named : goal.returns-in_err-texts-clause-named
+returns-in_err-texts-clause-named g c = one_is_taken (map g.S.AsStr.text c.args.words.now)
 
 pub returns-in_err-elltree_command-clause-named : goal.returns-in_err-elltree_command-clause-named
 returns-in_err-elltree_command-clause-named g c = one_is_taken (map g.S.AsStr.text c.args.words.now)

@@ -3,12 +3,12 @@ use Rattle.ell_ops.specs.declared.op.Op.TheVariants.{Delete}
 use Rattle.ell_core.specs.declared.event.Act.TheVariants as act
 use Rattle.ell_core.specs.declared.fact.Fact.TheVariants.{DFlagged}
 use Rattle.ell_core.specs.declared.view.Seen.{Seen}
-use Rattle.ell_core.specs.Cards.{dflag}
-use Rattle.ell_core.specs.Machine.{Scene}
-use Rattle.ell_core.specs.Exchanges.{flag_tells}
-use Rattle.ell_core.specs.Events.{WantsMemory}
-use Rattle.ell_core.specs.Inside.{LacksAny, scene_in}
-use Rattle.ell_core.proofs.Wants.{flag_is_learned, refused_for_memory}
+use Rattle.ell_core.specs.state.Cards.{dflag}
+use Rattle.ell_core.specs.state.Machine.{Scene}
+use Rattle.ell_core.specs.acts.Exchanges.{flag_tells}
+use Rattle.ell_core.specs.acts.Events.{WantsMemory}
+use Rattle.ell_core.specs.inside.Inside.{LacksAny, scene_in}
+use Rattle.ell_core.proofs.outcomes.Wants.{flag_is_learned, refused_for_memory}
 use Rattle.ell_core.proofs.exchanges.dflag.Goals as goal
 
 wants : (cards key card : ℕ) (seen : Seen) (s : Scene) → s.worker.operation ≡ Some (Delete key) → s.worker.card ≡ Some card
@@ -38,13 +38,19 @@ wants cards key card seen s deletes holds unflagged above lacks =
       };
     }
 
-pub returns-clause-refused : goal.returns-clause-refused
-returns-clause-refused c =
+pub returns : goal.returns
+returns c =
     let found = c.in-Some-Delete-Some-false-Some in
     let s = scene_in c.args.memory.now c.args.worker.now in
     let with_key : (key : ℕ) × (s.worker.operation ≡ Some (Delete key)) = search rules in
-    refused_for_memory c.args.memory.now.cards act.DFlag s
-    (LacksAny s.worker.knows (flag_tells found.grandparent s.words (DFlagged found.card)))
-    c.flag.result c.flag.ensures.refused c.flag.ensures.lacks
-    (λ lacks. wants c.args.memory.now.cards with_key.0 found.card found.grandparent s
-    with_key.1 found.is-1 found.is-2 found.is-3 lacks)
+    record {
+      done = search rules;
+      refused = refused_for_memory c.args.memory.now.cards act.DFlag s
+          (LacksAny s.worker.knows (flag_tells found.grandparent s.words (DFlagged found.card)))
+          c.flag.result c.flag.ensures.refused c.flag.ensures.lacks
+          (λ lacks. wants c.args.memory.now.cards with_key.0 found.card found.grandparent s
+          with_key.1 found.is-1 found.is-2 found.is-3 lacks);
+      unchanged = search rules;
+      words = search rules;
+      same = search rules;
+    }

@@ -1,7 +1,16 @@
--- Every node on the stack is one of the table, and in a lawful tree the walk is right.
-use Rattle.ell_core.specs.Inside.{words_in}
-use Rattle.ell_core.proofs.KeysWalk.{Walking}
+use Rattle.std.proofs.Common.{◌*◌, ◌≤◌, length}
+use Rattle.std.specs.Prelude.{vec_capacity}
+use Rattle.ell_core.proofs.tree.Walk.{Walked, pending}
 use Rattle.ell_core.proofs.keys.keys_of_tree.Given as goal
 
-abbrev pub invariant-loop : goal.invariant-loop
-invariant-loop l = Walking l.memory.cards (words_in l.memory) l.counter l.waiting.items l.keys.items
+-- the walk is right, and there is as much room as there was
+abbrev pub invariant-loop-node : goal.invariant-loop-node
+invariant-loop-node g l = record {
+  walked : Walked (g.T.TreeWords.words l.fn.tree) (vec_capacity l.fn.waiting) l.waiting.items l.keys.items;
+  room : vec_capacity l.fn.waiting ≤ vec_capacity l.waiting;
+  keys_room : vec_capacity l.fn.keys ≤ vec_capacity l.keys;
+}
+
+-- the nodes to come
+abbrev pub decreases-loop-node : goal.decreases-loop-node
+decreases-loop-node g l = length (pending (g.T.TreeWords.words l.fn.tree) (3 * vec_capacity l.fn.waiting) l.waiting.items)

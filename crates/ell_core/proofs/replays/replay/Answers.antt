@@ -3,10 +3,10 @@ use Rattle.std.proofs.lemmas.List.{take_more, take_all}
 use Rattle.ell_ops.specs.declared.op.Op.TheVariants.{Find}
 use Rattle.ell_core.specs.declared.event.Act.TheVariants.{Begin}
 use Rattle.ell_core.specs.declared.event.Event.{Event}
-use Rattle.ell_core.specs.Runs.{Run, Passes}
-use Rattle.ell_core.specs.World.{WorldValue, machine_of}
-use Rattle.ell_core.proofs.LongerRuns.{run_more}
-use Rattle.ell_core.proofs.RunsLawful.{wins_ordered}
+use Rattle.ell_core.specs.acts.Runs.{Run, Passes}
+use Rattle.ell_core.specs.inside.World.{WorldValue, machine_of}
+use Rattle.ell_core.proofs.runs.Runs.{run_more}
+use Rattle.ell_core.proofs.runs.Lawful.{wins_ordered}
 use Rattle.ell_core.proofs.replays.replay.Goals as goal
 
 on_err : {T E P : Type 0} (r : Result T E) → P → OnErr r P
@@ -19,6 +19,7 @@ loop-event-init c = (rw c.new-shown.ensures.items refl, refl)
 pub returns-in_err-reserve-clause-passes : goal.returns-in_err-reserve-clause-passes
 returns-in_err-reserve-clause-passes c = on_err c.from_residual.result (record {
   events = c.loop-event.event-index;
+  left = c.loop-event-test.true;
   shown = c.loop-event.shown.items;
   run = c.loop-event.invariant.0;
 })
@@ -27,7 +28,12 @@ pub returns-in_err-answer-clause-passes : goal.returns-in_err-answer-clause-pass
 returns-in_err-answer-clause-passes c = on_err c.from_residual-in_err-answer.result
     (subst (λ (world : WorldValue). Passes (machine_of c.args.world.now) c.args.events.now (machine_of world))
     (sym c.in_err-answer.ensures.unchanged)
-    (record { events = c.loop-event.event-index; shown = c.loop-event.shown.items; run = c.loop-event.invariant.0 }))
+    (record {
+      events = c.loop-event.event-index;
+      left = c.loop-event-test.true;
+      shown = c.loop-event.shown.items;
+      run = c.loop-event.invariant.0;
+    }))
 
 pub loop-event-preserved : goal.loop-event-preserved
 loop-event-preserved c =

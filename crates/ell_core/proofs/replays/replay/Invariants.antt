@@ -1,6 +1,6 @@
 use Rattle.std.proofs.Common.{◌≡◌, take}
-use Rattle.ell_core.specs.Runs.{Run}
-use Rattle.ell_core.specs.World.{machine_of}
+use Rattle.ell_core.specs.acts.Runs.{Run}
+use Rattle.ell_core.specs.inside.World.{machine_of}
 use Rattle.ell_core.proofs.replays.replay.Given as goal
 
 -- the events so far have shown what is shown so far, and there are as many cards as before

@@ -5,11 +5,11 @@ use Rattle.ell_word.specs.Node.{IsInternal}
 use Rattle.ell_core.specs.declared.event.Act.TheVariants as act
 use Rattle.ell_core.specs.declared.event.Stepped.TheVariants.{Moved}
 use Rattle.ell_core.specs.declared.view.Seen.{Seen}
-use Rattle.ell_core.specs.Cards.{is_right, child_for}
-use Rattle.ell_core.specs.Machine.{Scene}
-use Rattle.ell_core.specs.Searching.{gone_down}
-use Rattle.ell_core.specs.Events.{Happens}
-use Rattle.ell_core.specs.Inside.{words_in, scene_in}
+use Rattle.ell_core.specs.state.Cards.{is_right, child_for}
+use Rattle.ell_core.specs.state.Machine.{Scene}
+use Rattle.ell_core.specs.acts.Searching.{gone_down}
+use Rattle.ell_core.specs.acts.Events.{Happens}
+use Rattle.ell_core.specs.inside.Inside.{words_in, scene_in}
 use Rattle.ell_core.proofs.searching.down.Goals as goal
 
 goes : (cards : ℕ) (s : Scene) (op : Op) (seen : Seen) (child : ℕ) → s.worker.operation ≡ Some op
@@ -31,11 +31,17 @@ goes cards s op seen child busy stands internal read is = record {
   };
 }
 
-pub returns-clause-done : goal.returns-clause-done
-returns-clause-done c =
+pub returns : goal.returns
+returns c =
     let words = words_in c.args.memory.now in
     let node = c.in-Some-Some-Some.node in
-    goes c.args.memory.now.cards (scene_in c.args.memory.now c.args.worker.now) c.in-Some-Some-Some.op
-    (record { node = node; word = c.in-Some-Some-Some.word }) c.child-child.result
-    c.in-Some-Some-Some.is-0 c.in-Some-Some-Some.is-1 (search rules) c.in-Some-Some-Some.is-2
-    (c.child-child.ensures ∙ ap (words.child node) (c.is_right.ensures ∙ ap (is_right words node) c.key.ensures))
+    record {
+      done = goes c.args.memory.now.cards (scene_in c.args.memory.now c.args.worker.now) c.in-Some-Some-Some.op
+          (record { node = node; word = c.in-Some-Some-Some.word }) c.child-child.result
+          c.in-Some-Some-Some.is-0 c.in-Some-Some-Some.is-1 (search rules) c.in-Some-Some-Some.is-2
+          (c.child-child.ensures ∙ ap (words.child node) (c.is_right.ensures ∙ ap (is_right words node) c.key.ensures));
+      refused = search rules;
+      unchanged = search rules;
+      words = search rules;
+      same = search rules;
+    }

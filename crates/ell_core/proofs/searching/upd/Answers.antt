@@ -3,11 +3,11 @@ use Rattle.std.proofs.lemmas.Result.{err_from_is_err_and}
 use Rattle.ell_word.specs.Node.{IsInternal}
 use Rattle.ell_core.specs.declared.event.Act.TheVariants as act
 use Rattle.ell_core.specs.declared.event.Stepped.TheVariants.{Moved}
-use Rattle.ell_core.specs.Facts.{told_by}
-use Rattle.ell_core.specs.Machine.{Scene}
-use Rattle.ell_core.specs.Events.{WantsMemory}
-use Rattle.ell_core.specs.Inside.{LacksAny, worker_in, scene_in}
-use Rattle.ell_core.proofs.Wants.{any_is_learned}
+use Rattle.ell_core.specs.state.Facts.{told_by}
+use Rattle.ell_core.specs.state.Machine.{Scene}
+use Rattle.ell_core.specs.acts.Events.{WantsMemory}
+use Rattle.ell_core.specs.inside.Inside.{LacksAny, worker_in, scene_in}
+use Rattle.ell_core.proofs.outcomes.Wants.{any_is_learned}
 use Rattle.ell_core.proofs.searching.upd.Goals as goal
 
 wants : (cards node : ℕ) (s : Scene) → s.worker.search.node ≡ Some node → IsInternal node → s.worker.search.read ≡ None
@@ -26,10 +26,16 @@ wants cards node s stands internal unread lacks =
       };
     }
 
-pub returns-in_err-learn_any-clause-refused : goal.returns-in_err-learn_any-clause-refused
-returns-in_err-learn_any-clause-refused c =
+pub returns-in_err-learn_any : goal.returns-in_err-learn_any
+returns-in_err-learn_any c =
     let p = err_from_is_err_and c.from_residual.result c.from_residual.ensures.1 in
-    rw (p.1, p.2) (wants c.args.memory.now.cards c.in-Some.node (scene_in c.args.memory.now c.args.worker.now)
-    (search rules) (search rules) (search rules)
-    (subst (LacksAny (worker_in c.args.worker.now).knows) (c.told_by.ensures ∙ ap told_by c.update-update.ensures)
-    c.in_err-learn_any.ensures.lacks))
+    record {
+      done = search rules;
+      refused = rw (p.1, p.2) (wants c.args.memory.now.cards c.in-Some.node (scene_in c.args.memory.now c.args.worker.now)
+          (search rules) (search rules) (search rules)
+          (subst (LacksAny (worker_in c.args.worker.now).knows) (c.told_by.ensures ∙ ap told_by c.update-update.ensures)
+          c.in_err-learn_any.ensures.lacks));
+      unchanged = search rules;
+      words = search rules;
+      same = search rules;
+    }

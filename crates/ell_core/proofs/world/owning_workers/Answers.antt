@@ -3,9 +3,9 @@ use Rattle.std.proofs.lemmas.Bool.{not-true, not-false}
 use Rattle.std.proofs.lemmas.List.{length_push, take_all}
 use Rattle.std.specs.BTreeMap.{is_at}
 use Rattle.std.specs.List.{list_any}
-use Rattle.ell_core.specs.Inside.{worker_at}
-use Rattle.ell_core.proofs.OpeningFaults.{HasKeys-more, FaultlessBefore-more, Faultless-all, stranger_first, repeat_first}
-use Rattle.ell_core.proofs.OpeningWorkers.{worker_at-push, HaveLedgers, HaveLedgers-more}
+use Rattle.ell_core.specs.inside.Inside.{worker_at}
+use Rattle.ell_core.proofs.opening.Faults.{HasKeys-more, FaultlessBefore-more, Faultless-all, stranger_first, repeat_first}
+use Rattle.ell_core.proofs.opening.Owners.{worker_at-push, HaveLedgers, HaveLedgers-more}
 use Rattle.ell_core.proofs.world.owning_workers.Goals as goal
 
 pub loop-init : goal.loop-init

@@ -1,9 +1,9 @@
 use Rattle.std.proofs.Common.{◌≡◌, ℕ, length, take}
-use Rattle.ell_core.specs.Machine.{nobody}
-use Rattle.ell_core.specs.Inside.{worker_at}
-use Rattle.ell_core.specs.Opening.{FaultlessBefore}
-use Rattle.ell_core.proofs.OpeningWorkers.{HaveLedgers}
-use Rattle.ell_core.proofs.OpeningFaults.{HasKeys}
+use Rattle.ell_core.specs.state.Machine.{nobody}
+use Rattle.ell_core.specs.inside.Inside.{worker_at}
+use Rattle.ell_core.specs.state.Opening.{FaultlessBefore}
+use Rattle.ell_core.proofs.opening.Owners.{HaveLedgers}
+use Rattle.ell_core.proofs.opening.Faults.{HasKeys}
 use Rattle.ell_core.proofs.world.owning_workers.Given as goal
 
 -- so many workers so far, all of them nobody

@@ -5,8 +5,8 @@ use Rattle.std.proofs.lemmas.List.{take_all}
 use Rattle.ell_parts.specs.Gathering.{IsGathered, IsFault, IsPlaced}
 use Rattle.ell_parts.specs.declared.gathering.GatherFault.TheVariants.{Missing}
 use Rattle.std.proofs.lemmas.Result.{err_from_is_err_and}
-use Rattle.ell_parts.proofs.Places.{take-written}
-use Rattle.ell_parts.proofs.Placings.{pieces-cut, pieces-take, is_missing, is_gathered}
+use Rattle.ell_ops.proofs.Places.{flat_map-take_more}
+use Rattle.ell_parts.proofs.Placings.{pieces-cut, take-written, is_missing, is_gathered}
 use Rattle.ell_parts.proofs.gathering.gather.Goals as goal
 
 pub returns-in_err-place-clause-fault : goal.returns-in_err-place-clause-fault
@@ -39,7 +39,7 @@ loop-piece-preserved g c =
     let placed : IsPlaced before c.deref_mut.result.now c.deref_mut-in-loop-piece.result.now =
     rw (c.deref_mut.ensures.value, c.deref_mut-in-loop-piece.ensures.value) c.loop-piece.invariant.placed in
     let more : flat_map (λ piece. piece.items) (take (i + 1) pieces) ≡ before ++ c.deref.result.now =
-    pieces-take (λ piece. piece.items) pieces i c.piece-item.result c.loop-piece-test.true
+    flat_map-take_more (λ piece. piece.items) pieces i c.piece-item.result c.loop-piece-test.true
     ∙ ap (λ p. before ++ p) (sym (c.deref.ensures.value ∙ ap (λ piece. piece.items) c.piece-item.is)) in
     rw (answered, replies, more) (record { answered = answered_count; replies = replies_count; placed = c.in_ok-place.ensures.ok before placed })
 

@@ -4,7 +4,7 @@ use Rattle.std.specs.List.{flat_map}
 use Rattle.ell_ops.specs.KeySet.{set_of}
 use Rattle.ell_parts.specs.Parting.{part}
 use Rattle.ell_run.specs.Pieces.{piece_of}
-use Rattle.ell_run.proofs.WorkerLemmas.{keys_by-append}
+use Rattle.ell_run.proofs.Workers.{keys_by-append}
 use Rattle.ell_run.proofs.pieces.both.Goals as goal
 
 pub returns : goal.returns

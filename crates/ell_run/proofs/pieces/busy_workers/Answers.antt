@@ -1,6 +1,6 @@
 use Rattle.std.proofs.Common.{◌++◌, ◌∷◌, [], ap, sym, subst, ◌∙◌, All, ◌<◌}
 use Rattle.std.proofs.lemmas.List.Elements.{All-push}
-use Rattle.ell_run.proofs.WorkerLemmas.{busy_more, idle_more}
+use Rattle.ell_run.proofs.Workers.{busy_more, idle_more}
 use Rattle.ell_run.proofs.pieces.busy_workers.Goals.{then-not-is_empty+in_ok-push, else-not-is_empty}
 use Rattle.ell_run.proofs.pieces.busy_workers.Goals as goal
 

@@ -1,7 +1,7 @@
 use Rattle.std.proofs.Common.{ap, subst, ◌∙◌}
 use Rattle.ell_ops.specs.KeySet.{Lists}
 use Rattle.ell_run.specs.Pieces.{keys_by, pieces_by}
-use Rattle.ell_run.proofs.WorkerLemmas.{busy_keys, busy_pieces}
+use Rattle.ell_run.proofs.Workers.{busy_keys, busy_pieces}
 use Rattle.ell_run.proofs.pieces.do_parts.Goals as goal
 
 pub returns-clause-pieces : goal.returns-clause-pieces

@@ -5,7 +5,7 @@ use Rattle.ell_ops.specs.Meaning.{final}
 use Rattle.ell_parts.specs.Parting.{part}
 use Rattle.ell_run.specs.ByParts.{ops_in}
 use Rattle.ell_run.specs.Pieces.{numbered, piece_of}
-use Rattle.ell_run.proofs.WorkerLemmas.{keys_by-one}
+use Rattle.ell_run.proofs.Workers.{keys_by-one}
 use Rattle.ell_run.proofs.pieces.do_worker.Goals as goal
 
 pub returns : goal.returns

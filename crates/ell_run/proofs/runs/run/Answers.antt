@@ -3,8 +3,8 @@ use Rattle.std.specs.List.{flat_map}
 use Rattle.ell_ops.specs.KeySet.{Lists, empty}
 use Rattle.ell_ops.specs.Meaning.{replies, final}
 use Rattle.ell_parts.specs.Gathering.{IsFault, IsGathered}
-use Rattle.ell_run.proofs.RunLemmas.{only_memory, gathered}
-use Rattle.ell_run.proofs.KeysLeftLemmas.{all_keys_left}
+use Rattle.ell_run.proofs.Replies.{only_memory, gathered}
+use Rattle.ell_run.proofs.KeysLeft.{all_keys_left}
 use Rattle.ell_run.proofs.runs.run.Goals as goal
 
 pub only_memory-requires : goal.only_memory-requires

@@ -2,7 +2,7 @@
 use Rattle.std.proofs.Common.{length, vec_len, ap, ◌∙◌, arith, rules}
 use Rattle.std.proofs.lemmas.Result.{err_from_is_err_and}
 use Rattle.std.specs.Iterator.Adapters.{enumerate_source, enumerate_count}
-use Rattle.ell_text.proofs.BulkLemmas.{read_none, read_more, read_fault, read_stops}
+use Rattle.ell_text.proofs.Operations.{read_none, read_more, read_fault, read_stops}
 use Rattle.ell_text.proofs.bulk.read_bulk.Goals as goal
 
 pub loop-index-init : goal.loop-index-init

@@ -1,7 +1,7 @@
 use Rattle.std.proofs.Common.{rules}
 use Rattle.std.proofs.lemmas.Result.{err_from_is_err_and}
-use Rattle.ell_text.proofs.ReplayedLemmas.{cut_trace, is_replay, no_start, whole_trace}
-use Rattle.ell_text.specs.Script.{script_value}
+use Rattle.ell_text.proofs.Replayed.{cut_trace, is_replay, no_start, whole_trace}
+use Rattle.ell_text.specs.replays.Script.{script_value}
 use Rattle.ell_text.proofs.bytes.replay_bytes.Goals as goal
 
 pub returns-in_err-world-clause-fault : goal.returns-in_err-world-clause-fault

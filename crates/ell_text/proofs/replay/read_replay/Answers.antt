@@ -4,9 +4,9 @@ use Rattle.std.proofs.lemmas.Result.{err_from_is_err_and, IfErr-weaker, IfOk-wea
 use Rattle.std.specs.Iterator.Adapters.{enumerate_source, enumerate_count}
 use Rattle.ell_text.specs.declared.replay.ReplayFault.{ReplayFault}
 use Rattle.ell_text.specs.declared.replay.ReplayFault.TheVariants.{Ended}
-use Rattle.ell_text.specs.Draft.{draft_value}
-use Rattle.ell_text.specs.Script.{script_value}
-use Rattle.ell_text.proofs.ReplayLemmas.{drafted_none, drafted_more, drafted_fault, drafted_stops, drafted_script, drafted_ended}
+use Rattle.ell_text.specs.replays.Draft.{draft_value}
+use Rattle.ell_text.specs.replays.Script.{script_value}
+use Rattle.ell_text.proofs.Scripts.{drafted_none, drafted_more, drafted_fault, drafted_stops, drafted_script, drafted_ended}
 use Rattle.ell_text.proofs.replay.read_replay.Goals as goal
 
 -- two facts of a fault are one

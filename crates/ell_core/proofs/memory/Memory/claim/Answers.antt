@@ -1,6 +1,6 @@
 -- The card is filled, and then word 0 is the number after it.
 use Rattle.std.proofs.Common.{arith}
-use Rattle.ell_core.proofs.WordLists.{words_after_filling}
+use Rattle.ell_core.proofs.words.Listed.{words_after_filling}
 use Rattle.ell_core.proofs.memory.Memory.claim.Goals as goal
 
 pub returns-clause-words : goal.returns-clause-words

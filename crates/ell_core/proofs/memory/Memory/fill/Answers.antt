@@ -1,8 +1,8 @@
 -- One more field is written.
 use Rattle.std.proofs.Common.{rules}
 use Rattle.ell_core.specs.declared.field.Field.TheVariants.{Gp}
-use Rattle.ell_core.specs.Inside.{words_in}
-use Rattle.ell_core.proofs.WordLaws.{filled_next}
+use Rattle.ell_core.specs.inside.Inside.{words_in}
+use Rattle.ell_core.proofs.words.Writes.{filled_next}
 use Rattle.ell_core.proofs.memory.Memory.fill.Goals as goal
 
 pub loop-field-preserved : goal.loop-field-preserved

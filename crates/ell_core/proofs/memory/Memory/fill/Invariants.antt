@@ -1,7 +1,7 @@
 -- The fields before the index are written, and the list has its length.
 use Rattle.std.proofs.Common.{◌≡◌, take}
-use Rattle.ell_core.specs.Cards.{filled}
-use Rattle.ell_core.specs.Inside.{words_in, SameSize}
+use Rattle.ell_core.specs.state.Cards.{filled}
+use Rattle.ell_core.specs.inside.Inside.{words_in, SameSize}
 use Rattle.ell_core.proofs.memory.Memory.fill.Given as goal
 
 abbrev pub invariant-loop-field : goal.invariant-loop-field

@@ -1,6 +1,6 @@
 -- Word 0 is the claim word.
 use Rattle.std.proofs.Common.{arith}
-use Rattle.ell_core.proofs.WordLists.{claim_is_read}
+use Rattle.ell_core.proofs.words.Listed.{claim_is_read}
 use Rattle.ell_core.proofs.memory.Memory.next.Goals as goal
 
 pub returns : goal.returns

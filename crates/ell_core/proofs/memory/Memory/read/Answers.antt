@@ -1,5 +1,5 @@
 -- The word at the address is the word of the field.
-use Rattle.ell_core.proofs.WordLists.{word_is_read}
+use Rattle.ell_core.proofs.words.Listed.{word_is_read}
 use Rattle.ell_core.proofs.memory.Memory.read.Goals as goal
 
 pub returns : goal.returns

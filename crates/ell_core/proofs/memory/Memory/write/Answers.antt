@@ -1,7 +1,7 @@
 -- The write in the list is the write in the words, since the address lies in it.
 use Rattle.std.proofs.Common.{slice_set, ap, ◌∙◌}
-use Rattle.ell_core.specs.Words.{words_of}
-use Rattle.ell_core.proofs.WordLists.{address_inside, words_after_write}
+use Rattle.ell_core.specs.state.Words.{words_of}
+use Rattle.ell_core.proofs.words.Listed.{address_inside, words_after_write}
 use Rattle.ell_core.proofs.memory.Memory.write.Goals as goal
 
 pub returns-clause-words : goal.returns-clause-words

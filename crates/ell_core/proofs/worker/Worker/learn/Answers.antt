@@ -1,7 +1,7 @@
 use Rattle.std.proofs.Common.{ap}
-use Rattle.ell_core.specs.Exchanges.{knowing}
-use Rattle.ell_core.specs.Inside.{worker_in}
-use Rattle.ell_core.proofs.Knowledge.{known_of-updates}
+use Rattle.ell_core.specs.acts.Exchanges.{knowing}
+use Rattle.ell_core.specs.inside.Inside.{worker_in}
+use Rattle.ell_core.proofs.inside.Knowledge.{known_of-updates}
 use Rattle.ell_core.proofs.worker.Worker.learn.Goals as goal
 
 pub returns-clause-learned : goal.returns-clause-learned

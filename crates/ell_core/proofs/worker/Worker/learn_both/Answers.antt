@@ -1,10 +1,10 @@
 use Rattle.std.proofs.Common.{ap, ◌∙◌, inl, List}
 use Rattle.ell_core.specs.declared.fact.Fact.{Fact}
 use Rattle.ell_core.specs.declared.view.WorkerView.{WorkerView}
-use Rattle.ell_core.specs.Exchanges.{knowing}
-use Rattle.ell_core.specs.Facts.{Knowledge, learned_any}
-use Rattle.ell_core.specs.Inside.{view_of, worker_in}
-use Rattle.ell_core.proofs.Knowledge.{known_of-updates, known_of-added, facts_undone}
+use Rattle.ell_core.specs.acts.Exchanges.{knowing}
+use Rattle.ell_core.specs.state.Facts.{Knowledge, learned_any}
+use Rattle.ell_core.specs.inside.Inside.{view_of, worker_in}
+use Rattle.ell_core.proofs.inside.Knowledge.{known_of-updates, known_of-added, facts_undone}
 use Rattle.ell_core.proofs.worker.Worker.learn_both.Goals as goal
 
 pub returns-in-Ok-clause-learned : goal.returns-in-Ok-clause-learned

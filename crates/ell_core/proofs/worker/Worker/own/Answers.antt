@@ -1,7 +1,7 @@
 use Rattle.std.proofs.Common.{ap, Some, false}
-use Rattle.ell_core.specs.Inside.{worker_in}
-use Rattle.ell_core.specs.Machine.{Ledger}
-use Rattle.ell_core.proofs.Ledgers.{ledger_of-updates}
+use Rattle.ell_core.specs.inside.Inside.{worker_in}
+use Rattle.ell_core.specs.state.Machine.{Ledger}
+use Rattle.ell_core.proofs.inside.Ledgers.{ledger_of-updates}
 use Rattle.ell_core.proofs.worker.Worker.own.Goals as goal
 
 pub returns : goal.returns

@@ -1,7 +1,7 @@
 use Rattle.std.proofs.Common.{ap, subst, ◌≢◌, ◌↔◌, IsTrue, Bool, None, ◌∙◌, sym}
 use Rattle.std.specs.Option.{is_some}
-use Rattle.ell_core.specs.Inside.{worker_in}
-use Rattle.ell_core.proofs.Ledgers.{lookup-ledger_of, is_some-not_none}
+use Rattle.ell_core.specs.inside.Inside.{worker_in}
+use Rattle.ell_core.proofs.inside.Ledgers.{lookup-ledger_of, is_some-not_none}
 use Rattle.ell_core.proofs.worker.Worker.owns.Goals as goal
 
 pub returns : goal.returns

@@ -1,8 +1,8 @@
 use Rattle.std.proofs.Common.{ap, Some, sym, ◌∙◌}
 use Rattle.std.specs.Option.{is_some, option_copied_mut}
-use Rattle.ell_core.specs.Inside.{worker_in}
-use Rattle.ell_core.specs.Machine.{Ledger}
-use Rattle.ell_core.proofs.Ledgers.{ledger_of-updates}
+use Rattle.ell_core.specs.inside.Inside.{worker_in}
+use Rattle.ell_core.specs.state.Machine.{Ledger}
+use Rattle.ell_core.proofs.inside.Ledgers.{ledger_of-updates}
 use Rattle.ell_core.proofs.worker.Worker.settle.Goals as goal
 
 pub returns-in-Some : goal.returns-in-Some

@@ -1,18 +1,56 @@
-use Rattle.std.proofs.Common.{◌≡◌, IfOk, ap, subst, ◌∙◌}
-use Rattle.std.proofs.lemmas.Result.{IfOk-weaker}
-use Rattle.ell_core.specs.Words.{Words}
-use Rattle.ell_core.specs.Tree.{IsLawful, ListsKeys}
-use Rattle.ell_core.specs.Inside.{words_in}
-use Rattle.ell_core.specs.Invariant.{HasInvariant}
-use Rattle.ell_core.specs.World.{WorldValue, machine_of}
-use Rattle.ell_core.proofs.SoundStates.{sound}
-use Rattle.ell_core.proofs.Worlds.{words_are}
+-- The tree of a world is lawful, its nodes are those of the table, and so both lists have room.
+use Rattle.std.proofs.Common.{ℕ, ◌+◌, ◌≤◌, arith, ap, subst, sym, ◌∙◌}
+use Rattle.std.specs.Prelude.{vec_capacity}
+use Rattle.ell_core.specs.declared.world.World.TheInside.{Inside}
+use Rattle.ell_core.specs.tree.Tree.{Reached, IsLawful, ListsKeys}
+use Rattle.ell_core.specs.tree.Room.{HasRoom}
+use Rattle.ell_core.specs.inside.Fits.{IsNode}
+use Rattle.ell_core.specs.inside.Inside.{words_in}
+use Rattle.ell_core.specs.inside.World.{WorldValue, machine_of}
+use Rattle.ell_core.specs.inside.WorldInside.{value_in, InsideFits}
+use Rattle.ell_core.proofs.tree.FewKeys.{HoldsKeys-from_room}
+use Rattle.ell_core.proofs.following.Sound.{sound}
+use Rattle.ell_core.proofs.inside.Turns.{words_are, cards_are}
 use Rattle.ell_core.proofs.world.World.keys.Goals as goal
+
+-- the tree is lawful
+lawful : (world : Inside) → InsideFits world → IsLawful (words_in world.memory)
+lawful world fits =
+    subst IsLawful (sym (words_are world.memory world.workers.items))
+    (sound (machine_of (value_in world)) fits.lawful.stages fits.lawful.invariant).tree
+
+-- a reached node is one of the table
+node : (world : Inside) → InsideFits world → (x : ℕ) → Reached (words_in world.memory) x → IsNode world.memory.cards x
+node world fits x reached =
+    let value = value_in world in
+    let names = (sound (machine_of value) fits.lawful.stages fits.lawful.invariant).names in
+    let below = names.nodes x (subst (λ w. Reached w x) (words_are world.memory world.workers.items) reached) in
+    let limit = fits.lawful.invariant.limit in
+    let cards = cards_are world.memory world.workers.items in
+    omega arith
+
+-- two places more than the number of cards are room
+room : (world : Inside) (places : ℕ) → InsideFits world → world.memory.cards + 2 ≤ places → HasRoom (words_in world.memory) places
+room world places fits enough x reached = let inside = node world fits x reached in omega arith
+
+pub keys_of_tree-requires-clause-lawful : goal.keys_of_tree-requires-clause-lawful
+keys_of_tree-requires-clause-lawful c = lawful c.self.inside c.self.invariant
+
+pub keys_of_tree-requires-clause-readable : goal.keys_of_tree-requires-clause-readable
+keys_of_tree-requires-clause-readable c x reached =
+    (record { size = c.self.invariant.size; limit = c.self.invariant.limit }, node c.self.inside c.self.invariant x reached)
+
+pub keys_of_tree-requires-clause-room : goal.keys_of_tree-requires-clause-room
+keys_of_tree-requires-clause-room c =
+    room c.self.inside (vec_capacity c.in_ok-waiting.waiting) c.self.invariant (omega (arith, c.in_ok-waiting.ensures.capacity))
+
+pub keys_of_tree-requires-clause-keys_room : goal.keys_of_tree-requires-clause-keys_room
+keys_of_tree-requires-clause-keys_room c =
+    HoldsKeys-from_room (words_in c.self.inside.memory) (vec_capacity c.in_ok-keys.keys) (lawful c.self.inside c.self.invariant)
+    (room c.self.inside (vec_capacity c.in_ok-keys.keys) c.self.invariant (omega (arith, c.in_ok-keys.ensures.capacity)))
 
 pub returns : goal.returns
 returns c =
-    let words : words_in c.self.inside.memory ≡ (machine_of c.args.self.now).words =
-    words_are c.self.inside.memory c.self.inside.workers.items ∙ ap (λ (value : WorldValue). (machine_of value).words) c.self.view_is in
-    let has = subst (λ (value : WorldValue). HasInvariant (machine_of value)) c.self.view_is c.self.invariant.lawful in
-    IfOk-weaker c.keys_of_tree.result _ _ (λ keys listed. listed (sound (machine_of c.args.self.now) has.stages has.invariant).tree)
-    (subst (λ (w : Words). IfOk c.keys_of_tree.result (λ keys. IsLawful w → ListsKeys w keys.items)) words c.keys_of_tree.ensures)
+    subst (λ w. ListsKeys w c.keys_of_tree.result.items)
+    (words_are c.self.inside.memory c.self.inside.workers.items ∙ ap (λ (value : WorldValue). (machine_of value).words) c.self.view_is)
+    c.keys_of_tree.ensures

@@ -1,21 +1,21 @@
 use Rattle.std.proofs.Common.{◌∙◌, sym}
 use Rattle.std.proofs.lemmas.List.{length-map}
-use Rattle.ell_core.specs.Inside.{view_of}
-use Rattle.ell_core.specs.WorldInside.{value_in}
-use Rattle.ell_core.proofs.OpeningFits.{machine_of-opening, opening_fits}
-use Rattle.ell_core.proofs.OpeningLawful.{opening_lawful}
+use Rattle.ell_core.specs.inside.Inside.{view_of}
+use Rattle.ell_core.specs.inside.WorldInside.{value_in}
+use Rattle.ell_core.proofs.opening.NewWorld.{machine_of-opening, opening_lawful}
 use Rattle.ell_core.proofs.world.World.new.Goals as goal
 
 pub invariant_of-result : goal.invariant_of-result
 invariant_of-result c =
     let memory = c.in_ok-memory.ensures in
-    opening_fits
-    (value_in (record { alloc = c.args.alloc; memory = c.in_ok-memory.memory; workers = c.in_ok-workers.workers }))
-    c.args.owned.now memory.sized.size memory.sized.limit memory.words c.in_ok-workers.ensures.ledgers
-    (opening_lawful (value_in (record { alloc = c.args.alloc; memory = c.in_ok-memory.memory; workers = c.in_ok-workers.workers }))
-    c.args.workers c.args.owned.now c.args.cards memory.words
-    (length-map c.in_ok-workers.workers.items view_of ∙ sym c.in_ok-workers.workers.ok.0 ∙ c.in_ok-workers.ensures.count) memory.cards c.in_ok-workers.ensures.ledgers
-    c.in_ok-workers.ensures.faultless c.requires.keys)
+    record {
+      size = memory.sized.size;
+      limit = memory.sized.limit;
+      lawful = opening_lawful (value_in (record { alloc = c.args.alloc; memory = c.in_ok-memory.memory; workers = c.in_ok-workers.workers }))
+          c.args.workers c.args.owned.now c.args.cards memory.words
+          (length-map c.in_ok-workers.workers.items view_of ∙ sym c.in_ok-workers.workers.ok.0 ∙ c.in_ok-workers.ensures.count) memory.cards c.in_ok-workers.ensures.ledgers
+          c.in_ok-workers.ensures.faultless c.requires.keys;
+    }
 
 pub returns-clause-opening : goal.returns-clause-opening
 returns-clause-opening c =

@@ -1,8 +1,8 @@
 use Rattle.std.proofs.Common.{arith, ◌≤◌, Result, Ok, Err, OnErr, set, subst, refl, ◌∙◌}
 use Rattle.std.proofs.lemmas.Result.{IfOk-weaker, MatchResult-weaker}
-use Rattle.ell_core.specs.Events.{Steps}
-use Rattle.ell_core.specs.World.{WorldValue, machine_of, StepRefused}
-use Rattle.ell_core.proofs.Worlds.{world_at, item_there, count_is, ready, fits_turn, step_done, step_refused, value_same}
+use Rattle.ell_core.specs.acts.Events.{Steps}
+use Rattle.ell_core.specs.inside.World.{WorldValue, machine_of, StepRefused}
+use Rattle.ell_core.proofs.inside.Turns.{world_at, item_there, count_is, ready, fits_turn, step_done, step_refused, value_same}
 use Rattle.ell_core.proofs.world.World.step.Goals as goal
 
 -- what follows from two facts that hold after an error

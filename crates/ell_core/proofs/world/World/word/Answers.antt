@@ -1,7 +1,7 @@
 use Rattle.std.proofs.Common.{ap, ◌∙◌}
-use Rattle.ell_core.specs.Words.{word}
-use Rattle.ell_core.specs.World.{WorldValue, machine_of}
-use Rattle.ell_core.proofs.Worlds.{words_are}
+use Rattle.ell_core.specs.state.Words.{word}
+use Rattle.ell_core.specs.inside.World.{WorldValue, machine_of}
+use Rattle.ell_core.proofs.inside.Turns.{words_are}
 use Rattle.ell_core.proofs.world.World.word.Goals as goal
 
 pub returns : goal.returns

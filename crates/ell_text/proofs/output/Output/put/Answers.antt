@@ -1,6 +1,6 @@
 use Rattle.std.proofs.lemmas.Result.{err_from_is_err_and}
-use Rattle.ell_text.proofs.OutputLemmas.{Sends-kept}
-use Rattle.ell_text.proofs.SendingLemmas.{Sends-trans, Sends-more, Stops-then, Stops-more}
+use Rattle.ell_text.proofs.Putting.{Sends-kept}
+use Rattle.ell_text.proofs.Sending.{Sends-trans, Sends-more, Stops-then, Stops-more}
 use Rattle.ell_text.proofs.output.Output.put.Goals as goal
 
 pub returns-in_err-flush-clause-fault : goal.returns-in_err-flush-clause-fault

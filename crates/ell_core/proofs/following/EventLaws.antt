@@ -1,0 +1,132 @@
+use Rattle.std.proofs.Common.{◌≡◌, ℕ, ◌↔◌, Bool, true, false, List, refl, sym, ap, subst, inl, inr}
+use Rattle.ell_core.specs.declared.event.Act.{Act}
+use Rattle.ell_core.specs.declared.event.Act.TheVariants as act
+use Rattle.ell_core.specs.declared.event.Event.{Event}
+use Rattle.ell_core.specs.declared.event.Stepped.{Stepped}
+use Rattle.ell_core.specs.declared.event.Stepped.TheVariants.{Moved, Won, Lost, Answered}
+use Rattle.ell_core.specs.state.Words.{Words}
+use Rattle.ell_core.specs.state.Machine.{Machine, Scene, scene, with_scene}
+use Rattle.ell_core.specs.declared.fact.Fact.TheVariants.{Marked}
+use Rattle.ell_core.specs.declared.field.Field.{Field}
+use Rattle.ell_core.specs.state.Cards.{card_key, claimed, insert_filling, delete_filling}
+use Rattle.ell_core.specs.acts.Searching.{claims}
+use Rattle.ell_core.specs.acts.Exchanges.{won_or_lost, IChild}
+use Rattle.ell_core.specs.acts.Events.{Row, Happens, Steps}
+use Rattle.ell_core.specs.history.Stages.{Stages, IClaimed, is_insert, is_delete}
+use Rattle.ell_core.specs.history.Invariant.{Invariant, WordsAreSound, LeadsTo, insert_key, delete_key}
+use Rattle.ell_core.specs.history.Later.{Follows}
+use Rattle.ell_core.specs.statements.StepLaws.{AddsKey, TakesKey, KeysChange, SameKeys}
+use Rattle.ell_core.proofs.following.TreeKeys.{KeepsLinks, row_links, links_keep, keys_same, keys_more, keys_less}
+use Rattle.ell_core.proofs.keeping.claim.Filling.{claimed_claims}
+use Rattle.ell_core.proofs.keeping.claim.Frames.{Claiming, leads_kept, leads_before}
+use Rattle.ell_core.proofs.keeping.insert_child.IChild.{ichild_won-waits, ichild_won-gains, ichild_lost-same}
+use Rattle.ell_core.proofs.keeping.delete_child.DChild.{dchild-loses_key, dchild-lost_same}
+use Rattle.ell_core.proofs.stages.Holding.{insert_kind, delete_kind}
+use Rattle.ell_core.proofs.stages.Order.{marked-delete}
+use Rattle.ell_core.proofs.words.Sides.{card_key-insert, card_key-delete}
+use Rattle.ell_core.proofs.stages.LaterKeys.{root_born}
+
+-- the keys stay where an act keeps the links
+same_keys : (m : Machine) (stage : Stages) (a : Act) (i : ℕ) (said : Stepped) (becomes : Scene) → KeepsLinks a → Invariant m stage
+    → Row a (scene m i) said becomes → Follows m stage a i said (with_scene m i becomes) → SameKeys m.words becomes.words
+same_keys m stage a i said becomes links invariant row after =
+    keys_same m.words becomes.words stage after.stages invariant.words.tree after.invariant.words.tree
+    (λ k. links_keep m.words becomes.words (row_links a links (scene m i) said becomes row) k 0)
+
+-- the same walks lead to keys after a claim
+claim_leads : (w : Words) (stage : Stages) (filling : List (Field × ℕ)) → WordsAreSound w stage → (k : ℕ)
+    → LeadsTo (claimed w filling) k 0 ↔ LeadsTo w k 0
+claim_leads w stage filling sound k =
+    let claiming : Claiming w (claimed w filling) stage IClaimed = record { words = sound; claims = claimed_claims w filling; fresh = inl refl } in
+    let root = root_born w stage sound in
+    (leads_before w (claimed w filling) stage IClaimed claiming k 0 root, leads_kept w (claimed w filling) stage IClaimed claiming k 0 root)
+
+-- the keys stay after a scene that is said to be this claim's
+claimed_keys : (m : Machine) (stage : Stages) (i : ℕ) (said : Stepped) (becomes : Scene) (filling : List (Field × ℕ)) → Invariant m stage
+    → becomes ≡ claims (scene m i) filling → Follows m stage act.Claim i said (with_scene m i becomes) → SameKeys m.words becomes.words
+claimed_keys m stage i said becomes filling invariant is after =
+    keys_same m.words becomes.words stage after.stages invariant.words.tree after.invariant.words.tree
+    (λ k. subst (λ (s : Scene). LeadsTo s.words k 0 ↔ LeadsTo m.words k 0) (sym is) (claim_leads m.words stage filling invariant.words k))
+
+-- a claim keeps the keys
+claim_keys : (m : Machine) (stage : Stages) (i : ℕ) (said : Stepped) (becomes : Scene) → Invariant m stage
+    → Row act.Claim (scene m i) said becomes → Follows m stage act.Claim i said (with_scene m i becomes) → SameKeys m.words becomes.words
+claim_keys m stage i said becomes invariant (inl row) after =
+    claimed_keys m stage i said becomes (insert_filling m.words.next row.key row.parent.node row.leaf (m.words.key row.leaf)) invariant row.gives after
+claim_keys m stage i said becomes invariant (inr row) after =
+    claimed_keys m stage i said becomes (delete_filling row.grandparent.node row.parent.node row.leaf row.parent.word) invariant row.gives after
+
+-- words that did not change have the same keys
+same_words-keys : (old new : Words) → new ≡ old → SameKeys old new
+same_words-keys old new same = subst (SameKeys old) (sym same) (λ k. (λ h. h, λ h. h))
+
+-- the key of an insert's card, and of a delete's
+insert_card_key : (m : Machine) (stage : Stages) (c : ℕ) → Invariant m stage → is_insert (stage c) ≡ true → card_key m.words c ≡ insert_key m.words c
+insert_card_key m stage c invariant h = card_key-insert m.words c (insert_kind m.words stage invariant.words c h)
+
+delete_card_key : (m : Machine) (stage : Stages) (c : ℕ) → Invariant m stage → is_delete (stage c) ≡ true → card_key m.words c ≡ delete_key m.words c
+delete_card_key m stage c invariant h = card_key-delete m.words c (delete_kind m.words stage invariant.words c h)
+
+-- a won child exchange of an insert adds the card's key
+ichild_keys : (m : Machine) (stage : Stages) (i c : ℕ) (becomes : Scene) → Invariant m stage → IChild c (scene m i) Won becomes
+    → Follows m stage (act.IChild c) i Won (with_scene m i becomes) → AddsKey m.words becomes.words (card_key m.words c)
+ichild_keys m stage i c becomes invariant row after =
+    let waits = ichild_won-waits m stage i c becomes invariant row in
+    let inserts : is_insert (stage c) ≡ true = ap is_insert waits in
+    let gains = ichild_won-gains m stage i c becomes invariant row in
+    subst (AddsKey m.words becomes.words) (sym (insert_card_key m stage c invariant inserts))
+    (keys_more m.words becomes.words stage after.stages (insert_key m.words c) invariant.words.tree after.invariant.words.tree
+    ((invariant.words.cards c).insert inserts).real gains.absent gains.keys)
+
+-- a won child exchange of a delete takes the card's key away
+dchild_keys : (m : Machine) (stage : Stages) (i c : ℕ) (becomes : Scene) → Invariant m stage → Happens m.cards (act.DChild c) (scene m i) Won becomes
+    → Follows m stage (act.DChild c) i Won (with_scene m i becomes) → TakesKey m.words becomes.words (card_key m.words c)
+dchild_keys m stage i c becomes invariant happens after =
+    let deletes : is_delete (stage c) ≡ true = marked-delete (stage c) ((invariant.workers.each i).facts (Marked c) happens.row.may) in
+    let loses = dchild-loses_key c m stage i becomes invariant happens in
+    subst (TakesKey m.words becomes.words) (sym (delete_card_key m stage c invariant deletes))
+    (keys_less m.words becomes.words stage after.stages (delete_key m.words c) invariant.words.tree after.invariant.words.tree
+    ((invariant.words.cards c).delete deletes).real loses.had loses.each)
+
+-- what an answer of a child exchange can be
+no_move : (won : Bool) → Moved ≡ won_or_lost won → ⊥
+no_move true e = cc
+no_move false e = cc
+
+no_reply : (reply won : Bool) → Answered reply ≡ won_or_lost won → ⊥
+no_reply reply true e = cc
+no_reply reply false e = cc
+
+-- each act changes the keys as it should
+act_keys : (a : Act) (m : Machine) (stage : Stages) (i : ℕ) (said : Stepped) (becomes : Scene) → Invariant m stage
+    → Happens m.cards a (scene m i) said becomes → Follows m stage a i said (with_scene m i becomes) → KeysChange a said m.words becomes.words
+act_keys (act.Begin op) m stage i said becomes invariant h after = same_keys m stage (act.Begin op) i said becomes tt invariant h.row after
+act_keys act.Upd m stage i said becomes invariant h after = same_keys m stage act.Upd i said becomes tt invariant h.row after
+act_keys act.Down m stage i said becomes invariant h after = same_keys m stage act.Down i said becomes tt invariant h.row after
+act_keys act.Claim m stage i said becomes invariant h after = claim_keys m stage i said becomes invariant h.row after
+act_keys act.IFlag m stage i said becomes invariant h after = same_keys m stage act.IFlag i said becomes tt invariant h.row after
+act_keys act.DFlag m stage i said becomes invariant h after = same_keys m stage act.DFlag i said becomes tt invariant h.row after
+act_keys (act.IChild c) m stage i Won becomes invariant h after = ichild_keys m stage i c becomes invariant h.row after
+act_keys (act.IChild c) m stage i Lost becomes invariant h after =
+    same_words-keys m.words becomes.words (ichild_lost-same m stage i c becomes invariant h.row)
+act_keys (act.IChild c) m stage i Moved becomes invariant h after = absurd (no_move _ h.row.says)
+act_keys (act.IChild c) m stage i (Answered reply) becomes invariant h after = absurd (no_reply reply _ h.row.says)
+act_keys (act.IUnflag c) m stage i said becomes invariant h after = same_keys m stage (act.IUnflag c) i said becomes tt invariant h.row after
+act_keys (act.Mark c) m stage i said becomes invariant h after = same_keys m stage (act.Mark c) i said becomes tt invariant h.row after
+act_keys (act.DChild c) m stage i Won becomes invariant h after = dchild_keys m stage i c becomes invariant h after
+act_keys (act.DChild c) m stage i Lost becomes invariant h after =
+    same_words-keys m.words becomes.words (dchild-lost_same c m stage i becomes invariant h)
+act_keys (act.DChild c) m stage i Moved becomes invariant h after = absurd (no_move _ h.row.says)
+act_keys (act.DChild c) m stage i (Answered reply) becomes invariant h after = absurd (no_reply reply _ h.row.says)
+act_keys (act.DUnflag c) m stage i said becomes invariant h after = same_keys m stage (act.DUnflag c) i said becomes tt invariant h.row after
+act_keys (act.Backtrack c) m stage i said becomes invariant h after = same_keys m stage (act.Backtrack c) i said becomes tt invariant h.row after
+act_keys act.Again m stage i said becomes invariant h after = same_keys m stage act.Again i said becomes tt invariant h.row after
+act_keys act.Leave m stage i said becomes invariant h after = same_keys m stage act.Leave i said becomes tt invariant h.row after
+act_keys act.Answer m stage i said becomes invariant h after = same_keys m stage act.Answer i said becomes tt invariant h.row after
+
+-- each event changes the keys as its act should
+pub steps_keys : (m : Machine) (stage : Stages) (e : Event) (said : Stepped) (m' : Machine) → Invariant m stage → Steps m e said m'
+    → Follows m stage e.act e.worker said m' → KeysChange e.act said m.words m'.words
+steps_keys m stage e said m' invariant h after =
+    subst (λ (t : Machine). KeysChange e.act said m.words t.words) (sym h.gives)
+    (act_keys e.act m stage e.worker said h.becomes invariant h.happens (subst (Follows m stage e.act e.worker said) h.gives after))

@@ -1,0 +1,107 @@
+use Rattle.std.proofs.Common.{◌≡◌, ◌≢◌, ℕ, ◌==◌, if◌then◌else◌, ◌≤◌, ◌⊎◌, ◌↔◌, inl, inr, Bool, true, false, refl, sym, subst, arith}
+use Rattle.ell_ops.specs.Meaning.{greatest_key}
+use Rattle.ell_core.specs.declared.event.Act.{Act}
+use Rattle.ell_core.specs.declared.event.Act.TheVariants as act
+use Rattle.ell_core.specs.declared.event.Stepped.{Stepped}
+use Rattle.ell_core.specs.state.Words.{Words, with_update}
+use Rattle.ell_core.specs.state.Machine.{Scene}
+use Rattle.ell_core.specs.acts.Exchanges.{exchanged_update}
+use Rattle.ell_core.specs.acts.Events.{Row}
+use Rattle.ell_core.specs.tree.Tree.{IsTreeKey}
+use Rattle.ell_core.specs.tree.Ranges.{Meets}
+use Rattle.ell_core.specs.history.Stages.{Stages}
+use Rattle.ell_core.specs.history.Invariant.{TreeIsSound, LeadsTo}
+use Rattle.ell_core.specs.statements.StepLaws.{AddsKey, TakesKey, SameKeys}
+use Rattle.ell_core.proofs.tree.Reached.{tree_key_leads, leads_tree_key}
+
+-- a key of the tree is a real key to whose leaf the walk from the root leads
+pub tree_key : (w : Words) (stage : Stages) → TreeIsSound w stage → (k : ℕ) → IsTreeKey w k ↔ ((k ≤ greatest_key) × LeadsTo w k 0)
+tree_key w stage tree k = (λ key. (key.real, tree_key_leads w tree.ordered k key), λ h. leads_tree_key w k h.0 h.1)
+
+-- the keys are the same where the same walks lead to them
+pub keys_same : (old new : Words) (stage stages : Stages) → TreeIsSound old stage → TreeIsSound new stages
+    → ((k : ℕ) → LeadsTo new k 0 ↔ LeadsTo old k 0) → SameKeys old new
+keys_same old new stage stages tree tree' h k =
+    let before = tree_key old stage tree k in
+    let after = tree_key new stages tree' k in
+    (λ key. let g = after.0 key in before.1 (g.0, (h k).0 g.1), λ key. let g = before.0 key in after.1 (g.0, (h k).1 g.1))
+
+-- the keys are one more where the walks for one more lead to it
+pub keys_more : (old new : Words) (stage stages : Stages) (key : ℕ) → TreeIsSound old stage → TreeIsSound new stages → key ≤ greatest_key
+    → ¬ LeadsTo old key 0 → ((k : ℕ) → LeadsTo new k 0 ↔ (LeadsTo old k 0 ⊎ (k ≡ key))) → AddsKey old new key
+keys_more old new stage stages key tree tree' real absent h = record {
+  absent = λ there. absent ((tree_key old stage tree key).0 there).1;
+  keys = λ k.
+      let before = tree_key old stage tree k in
+      let after = tree_key new stages tree' k in (
+        λ there. let g = after.0 there in elim ((h k).0 g.1) [ inl l ↦ inl (before.1 (g.0, l)) | inr e ↦ inr e ],
+        λ one. elim one [
+          | inl there ↦ (let g = before.0 there in after.1 (g.0, (h k).1 (inl g.1)))
+          | inr e ↦ after.1 (omega arith, (h k).1 (inr e))
+        ],
+      );
+}
+
+-- the keys are one less where the walks for one no longer lead to it
+pub keys_less : (old new : Words) (stage stages : Stages) (key : ℕ) → TreeIsSound old stage → TreeIsSound new stages → key ≤ greatest_key
+    → LeadsTo old key 0 → ((k : ℕ) → LeadsTo new k 0 ↔ (LeadsTo old k 0 × (k ≢ key))) → TakesKey old new key
+keys_less old new stage stages key tree tree' real there h = record {
+  present = (tree_key old stage tree key).1 (real, there);
+  keys = λ k.
+      let before = tree_key old stage tree k in
+      let after = tree_key new stages tree' k in (
+        λ key'. let g = after.0 key' in let l = (h k).0 g.1 in (before.1 (g.0, l.0), l.1),
+        λ both. let g = before.0 both.0 in after.1 (g.0, (h k).1 (g.1, both.1)),
+      );
+}
+
+-- words with the same keys of nodes and the same children
+pub record SameLinks (old new : Words) : Type 0 where
+  pub key : new.key ≡ old.key
+  pub child : new.child ≡ old.child
+
+-- the same walks lead to keys in them
+links_lead : (old new : Words) → SameLinks old new → (k x : ℕ) → LeadsTo new k x ≡ LeadsTo old k x
+links_lead old new same k x = λ t. Meets (same.key t) (same.child t) k x
+
+-- so the same keys are led to
+pub links_keep : (old new : Words) → SameLinks old new → (k x : ℕ) → LeadsTo new k x ↔ LeadsTo old k x
+links_keep old new same k x =
+    (λ h. subst (λ (t : Type 0). t) (links_lead old new same k x) h, λ h. subst (λ (t : Type 0). t) (sym (links_lead old new same k x)) h)
+
+-- an exchange of an update word keeps keys and children
+update_links : (w : Words) (x expected new : ℕ) → SameLinks w (exchanged_update w x expected new)
+update_links w x expected new = by_test (w.update x == expected)
+  where
+    by_test : (won : Bool) → SameLinks w (if won then with_update w x new else w)
+    by_test true = record { key = refl; child = refl }
+    by_test false = record { key = refl; child = refl }
+
+-- an act that neither claims a card nor exchanges a child
+abbrev pub KeepsLinks : Act → Type 0
+KeepsLinks act.Claim = ⊥
+KeepsLinks (act.IChild c) = ⊥
+KeepsLinks (act.DChild c) = ⊥
+KeepsLinks _ = Unit {0}
+
+-- the links of the scene after are those of the scene that it is said to be
+links_by : (s after this : Scene) → after ≡ this → SameLinks s.words this.words → SameLinks s.words after.words
+links_by s after this is h = subst (λ (t : Scene). SameLinks s.words t.words) (sym is) h
+
+-- such an act keeps keys and children
+pub row_links : (a : Act) → KeepsLinks a → (s : Scene) (said : Stepped) (after : Scene) → Row a s said after → SameLinks s.words after.words
+row_links (act.Begin op) h s said after r = links_by s after _ r.gives (record { key = refl; child = refl })
+row_links act.Upd h s said after r = links_by s after _ r.gives (record { key = refl; child = refl })
+row_links act.Down h s said after r = links_by s after _ r.gives (record { key = refl; child = refl })
+row_links act.Claim h s said after r = absurd h
+row_links act.IFlag h s said after r = links_by s after _ r.gives (update_links s.words _ _ _)
+row_links act.DFlag h s said after r = links_by s after _ r.gives (update_links s.words _ _ _)
+row_links (act.IChild c) h s said after r = absurd h
+row_links (act.IUnflag c) h s said after r = links_by s after _ r.gives (update_links s.words _ _ _)
+row_links (act.Mark c) h s said after r = links_by s after _ r.gives (update_links s.words _ _ _)
+row_links (act.DChild c) h s said after r = absurd h
+row_links (act.DUnflag c) h s said after r = links_by s after _ r.does.gives (update_links s.words _ _ _)
+row_links (act.Backtrack c) h s said after r = links_by s after _ r.does.gives (update_links s.words _ _ _)
+row_links act.Again h s said after r = links_by s after _ r.gives (record { key = refl; child = refl })
+row_links act.Leave h s said after r = links_by s after _ r.gives (record { key = refl; child = refl })
+row_links act.Answer h s said after r = links_by s after _ r.gives (record { key = refl; child = refl })

@@ -1,0 +1,130 @@
+use Rattle.std.proofs.Common.{◌≡◌, ◌≢◌, ℕ, ◌<◌, ◌≤◌, inl, inr, Bool, true, false, Some, [], refl, sym, ap, ◌∙◌, subst, arith}
+use Rattle.std.proofs.lemmas.Bool.{false≢true}
+use Rattle.ell_word.specs.Node.{card}
+use Rattle.ell_ops.specs.declared.op.Op.{Op}
+use Rattle.ell_ops.specs.declared.op.Op.TheVariants.{Find, Insert, Delete}
+use Rattle.ell_core.specs.state.Words.{Words}
+use Rattle.ell_core.specs.state.Machine.{Worker, Machine}
+use Rattle.ell_core.specs.soundness.Sound.{Owns}
+use Rattle.ell_core.specs.history.Stages.{Stage, Stages, is_claimed, is_insert, is_delete, waits}
+use Rattle.ell_core.specs.history.Invariant.{Unflagged, Flagged, WorkerIsSound, Invariant}
+use Rattle.ell_core.specs.history.Later.{wins_of}
+use Rattle.ell_core.specs.statements.Waiting.{IsUnflagged, StagesTellWaiting, ClaimedCardsSay}
+use Rattle.ell_core.proofs.outcomes.Decide.{cases_option, some_not_none}
+use Rattle.ell_core.proofs.stages.Order.{insert-claimed, delete-claimed, insert_won-insert, delete_won-delete}
+use Rattle.ell_core.proofs.stages.Waiting.{insert-waits, delete-waits, insert_won-settled, delete_won-settled, born-settled, unclaimed-settled, waits-claimed, waits-wins, kind-waits}
+use Rattle.ell_core.proofs.words.Stored.{claimed_stored}
+use Rattle.ell_core.proofs.following.ClaimedFacts.{not_claimed}
+
+-- a card in hand that is not flagged waits
+by_operation : (w : Words) (stage : Stages) (v : Worker) (op : Op) (c : ℕ) → Unflagged w stage v op c → waits (stage c) ≡ true
+by_operation w stage v (Find k) c h = absurd h
+by_operation w stage v (Insert k) c h = insert-waits (stage c) h.claimed.0 h.claimed.1
+by_operation w stage v (Delete k) c h = delete-waits (stage c) h.claimed.0 h.claimed.1
+
+-- one that is flagged does not
+by_flag : (w : Words) (stage : Stages) (v : Worker) (op : Op) (c : ℕ) → Flagged w stage v op c → waits (stage c) ≡ false
+by_flag w stage v (Find k) c h = absurd h
+by_flag w stage v (Insert k) c h = insert_won-settled (stage c) h.0
+by_flag w stage v (Delete k) c h = delete_won-settled (stage c) h.0
+
+-- a worker with a card in hand has an operation in hand
+pub busy : (w : Words) (stage : Stages) (v : Worker) (c : ℕ) → WorkerIsSound w stage v → v.card ≡ Some c → (op : Op) × (v.operation ≡ Some op)
+busy w stage v c sound holds = elim (cases_option v.operation) [
+  | inl op ↦ op
+  | inr e ↦ absurd (some_not_none holds (ap (λ (u : Worker). u.card) (sound.free e)))
+]
+
+-- a card in a worker's hand that is not flagged waits
+pub hand_waits : (w : Words) (stage : Stages) (v : Worker) (c : ℕ) → WorkerIsSound w stage v → v.card ≡ Some c → v.flagged ≡ false
+    → waits (stage c) ≡ true
+hand_waits w stage v c sound holds unflagged =
+    let op = busy w stage v c sound holds in by_operation w stage v op.0 c (sound.unflagged op.0 c op.1 holds unflagged)
+
+-- a flagged one does not
+pub flagged_settled : (w : Words) (stage : Stages) (v : Worker) (c : ℕ) → WorkerIsSound w stage v → v.card ≡ Some c → v.flagged ≡ true
+    → waits (stage c) ≡ false
+flagged_settled w stage v c sound holds flagged =
+    let op = busy w stage v c sound holds in by_flag w stage v op.0 c (sound.flagged op.0 c op.1 holds flagged).0
+
+-- a card that won its flag was claimed
+won_claimed : (w : Words) (stage : Stages) (v : Worker) (op : Op) (c : ℕ) → Flagged w stage v op c → is_claimed (stage c) ≡ true
+won_claimed w stage v (Find k) c h = absurd h
+won_claimed w stage v (Insert k) c h = insert-claimed (stage c) (insert_won-insert (stage c) h.0)
+won_claimed w stage v (Delete k) c h = delete-claimed (stage c) (delete_won-delete (stage c) h.0)
+
+-- so was every card in a worker's hand
+pub hand_claimed : (w : Words) (stage : Stages) (v : Worker) (c : ℕ) → WorkerIsSound w stage v → v.card ≡ Some c → is_claimed (stage c) ≡ true
+hand_claimed w stage v c sound holds = by v.flagged refl
+  where
+    by : (b : Bool) → v.flagged ≡ b → is_claimed (stage c) ≡ true
+    by true flagged = let op = busy w stage v c sound holds in won_claimed w stage v op.0 c (sound.flagged op.0 c op.1 holds flagged).0
+    by false unflagged = waits-claimed (stage c) (hand_waits w stage v c sound holds unflagged)
+
+-- no card is both an insert's and a delete's
+one_kind : (s : Stage) → is_insert s ≡ true → is_delete s ≡ true → ⊥
+one_kind s a b = grind arith
+
+-- two workers that have one card in hand, which is not flagged, own one key
+own_one : (w : Words) (stage : Stages) (v u : Worker) (one two : Op) (c : ℕ) → Unflagged w stage v one c → Unflagged w stage u two c
+    → WorkerIsSound w stage v → WorkerIsSound w stage u → v.operation ≡ Some one → u.operation ≡ Some two → (k : ℕ) × Owns v k × Owns u k
+own_one w stage v u (Find k) two c h g left right a b = absurd h
+own_one w stage v u one (Find k) c h g left right a b = absurd g
+own_one w stage v u (Insert k) (Insert n) c h g left right a b =
+    (k, left.owned (Insert k) a, subst (Owns u) (sym g.own ∙ h.own) (right.owned (Insert n) b))
+own_one w stage v u (Delete k) (Delete n) c h g left right a b =
+    (k, left.owned (Delete k) a, subst (Owns u) (sym g.own ∙ h.own) (right.owned (Delete n) b))
+own_one w stage v u (Insert k) (Delete n) c h g left right a b = absurd (one_kind (stage c) h.claimed.0 g.claimed.0)
+own_one w stage v u (Delete k) (Insert n) c h g left right a b = absurd (one_kind (stage c) g.claimed.0 h.claimed.0)
+
+module _ (m : Machine) (stage : Stages) (invariant : Invariant m stage) where
+  -- a card that is not flagged is in one hand
+  pub one_hand : (i j c : ℕ) → IsUnflagged m i c → (m.worker j).card ≡ Some c → i ≡ j
+  one_hand i j c h holds = by (m.worker j).flagged refl
+    where
+      left : WorkerIsSound m.words stage (m.worker i)
+      left = invariant.workers.each i
+
+      right : WorkerIsSound m.words stage (m.worker j)
+      right = invariant.workers.each j
+
+      by : (b : Bool) → (m.worker j).flagged ≡ b → i ≡ j
+      by true flagged = absurd (false≢true (sym (flagged_settled m.words stage (m.worker j) c right holds flagged)
+          ∙ hand_waits m.words stage (m.worker i) c left h.holds h.unflagged))
+      by false unflagged =
+          let op = busy m.words stage (m.worker i) c left h.holds in
+          let other = busy m.words stage (m.worker j) c right holds in
+          let own = own_one m.words stage (m.worker i) (m.worker j) op.0 other.0 c
+          (left.unflagged op.0 c op.1 h.holds h.unflagged) (right.unflagged other.0 c other.1 holds unflagged) left right op.1 other.1 in
+          invariant.workers.one_owner i j own.0 own.1 own.2
+
+  -- card 0 has the opening tree
+  pub not_first : (c : ℕ) → waits (stage c) ≡ true → c ≢ 0
+  not_first c h e = false≢true (ap waits (sym (ap stage e ∙ invariant.words.opening)) ∙ h)
+
+  -- a claimed card but card 0 that has won nothing waits
+  pub claimed_waits : (c : ℕ) → c < m.words.next → c ≢ 0 → wins_of (stage c) ≡ [] → waits (stage c) ≡ true
+  claimed_waits c below n none = kind-waits (stage c) (invariant.kinds.kinds c below n) none
+
+  -- a card that was not claimed does not wait
+  pub past_settled : (c : ℕ) → m.words.next ≤ c → waits (stage c) ≡ false
+  past_settled c past = unclaimed-settled (stage c) (not_claimed m.words stage invariant.words c past)
+
+-- which cards wait
+pub stages_tell_waiting : StagesTellWaiting
+stages_tell_waiting m stage invariant = record {
+  which = λ c. (
+    λ h. ((invariant.words.cards c).claimed.0 (waits-claimed (stage c) h), not_first m stage invariant c h, waits-wins (stage c) h),
+    λ h. claimed_waits m stage invariant c h.0 h.1 h.2,
+  );
+  born = λ x h. born-settled (stage (card x)) h;
+  hand = λ i c h. hand_waits m.words stage (m.worker i) c (invariant.workers.each i) h.holds h.unflagged;
+  alone = one_hand m stage invariant;
+  flagged = λ i c holds flagged. flagged_settled m.words stage (m.worker i) c (invariant.workers.each i) holds flagged;
+}
+
+-- the words of a claimed card are those of its filling
+pub claimed_cards_say : ClaimedCardsSay
+claimed_cards_say m stage filling field invariant =
+    claimed_stored m.words filling field
+    (((invariant.words.cards m.words.next).blank (not_claimed m.words stage invariant.words m.words.next (omega arith))).words field)

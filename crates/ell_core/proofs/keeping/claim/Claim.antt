@@ -1,0 +1,203 @@
+use Rattle.std.proofs.Common.{◌≡◌, ℕ, ◌<◌, ◌≤◌, true, Some, None, List, inl, inr, refl, sym, ap, ◌∙◌, subst, arith, ◌⊎◌}
+use Rattle.std.proofs.lemmas.Bool.{false≢true}
+use Rattle.ell_ops.specs.declared.op.Op.{Op}
+use Rattle.ell_ops.specs.declared.op.Op.TheVariants.{Insert, Delete}
+use Rattle.ell_ops.specs.Meaning.{key_of}
+use Rattle.ell_core.specs.declared.event.Act.TheVariants as act
+use Rattle.ell_core.specs.declared.event.Stepped.{Stepped}
+use Rattle.ell_core.specs.declared.event.Stepped.TheVariants.{Moved}
+use Rattle.ell_core.specs.declared.field.Field.{Field}
+use Rattle.ell_core.specs.state.Words.{Words, put}
+use Rattle.ell_core.specs.state.Machine.{Worker, Machine, Scene, scene, with_scene}
+use Rattle.ell_core.specs.state.Cards.{claimed, insert_filling, delete_filling}
+use Rattle.ell_core.specs.acts.Searching.{claims, ClaimInsert, ClaimDelete}
+use Rattle.ell_core.specs.history.Stages.{Stage, Stages, IClaimed, DClaimed, insert_open, delete_open, made_of, is_insert, is_delete}
+use Rattle.ell_core.specs.history.Invariant.{CardIsSound, Unflagged, WorkerIsSound, Invariant}
+use Rattle.ell_core.specs.history.Later.{Follows, Keeps}
+use Rattle.ell_core.proofs.words.Writes.{put_same, put_cases}
+use Rattle.ell_core.proofs.keeping.OneWorker.{Becomes, workers_become}
+use Rattle.ell_core.proofs.keeping.claim.Filling.{claimed_claims, others_say}
+use Rattle.ell_core.proofs.keeping.claim.Frames.{IsJustClaimed, just_claimed, Claiming, unclaimed, before, leads_kept, leads_before, claim_stages, claim_wins, claim_words}
+use Rattle.ell_core.proofs.keeping.claim.Words.{words_kept}
+use Rattle.ell_core.proofs.keeping.going_on.InHand.{same_place, stands_same}
+use Rattle.ell_core.proofs.keeping.claim.Workers.{worker_kept}
+use Rattle.ell_core.proofs.keeping.claim.InsertCard.{InsertSeen, insert_claimed, insert_in_hand}
+use Rattle.ell_core.proofs.keeping.claim.DeleteCard.{DeleteSeen, delete_claimed, delete_in_hand}
+use Rattle.ell_core.proofs.stages.Kinds.{HasKind, kinds_later}
+use Rattle.ell_core.proofs.stages.LaterKeys.{root_born}
+use Rattle.ell_core.proofs.stages.Counts.{counts_unmade, counts_same}
+
+-- a worker without a card claims the next one for its operation, which fills it as a sound card that it then has in hand
+pub record ClaimsCard (m : Machine) (stage : Stages) (i : ℕ) (filling : List (Field × ℕ)) (new : Stage)
+    (op : Op) : Type 0 where
+  pub there : i < m.count
+  pub sound : Invariant m stage
+  pub room : m.words.next ≤ m.cards
+  pub fresh : IsJustClaimed new
+  pub busy : (m.worker i).operation ≡ Some op
+  pub no_card : (m.worker i).card ≡ None
+  pub own : CardIsSound (claimed m.words filling) (put stage m.words.next new) m.words.next
+  pub hand : Unflagged (claimed m.words filling) (put stage m.words.next new)
+      (claims (scene m i) filling).worker op m.words.next
+
+module _ (m : Machine) (stage : Stages) (i : ℕ) (filling : List (Field × ℕ)) (new : Stage) (op : Op)
+    (h : ClaimsCard m stage i filling new op) where
+  -- the words, the stages and the claimer after the claim
+  abbrev after : Words
+  after = claimed m.words filling
+
+  abbrev stages : Stages
+  stages = put stage m.words.next new
+
+  abbrev claimer : Worker
+  claimer = (claims (scene m i) filling).worker
+
+  claiming : Claiming m.words after stage new
+  claiming = record { words = h.sound.words; claims = claimed_claims m.words filling; fresh = h.fresh }
+
+  claimer_sound : WorkerIsSound after stages claimer
+  claimer_sound = let old = h.sound.workers.each i in
+      let kept = worker_kept m.words after stage new claiming (m.worker i) old in record {
+        facts = kept.facts;
+        real = kept.real;
+        free = λ e. (let clash : Some op ≡ None = sym h.busy ∙ e in absurd cc);
+        owned = kept.owned;
+        stands = λ o x busy at. (let stood = kept.stands o x busy at in
+            stands_same after stages (m.worker i) claimer (key_of o) x (same_place (m.worker i).search) refl stood.read stood);
+        unflagged = λ o c busy holds e. (
+            let same_op : Some op ≡ Some o = sym h.busy ∙ busy in
+            let this : op ≡ o = cc in
+            let here : m.words.next ≡ c = cc in
+            subst (λ n. Unflagged after stages claimer o n) here
+            (subst (λ p. Unflagged after stages claimer p m.words.next) this h.hand));
+        flagged = λ o c busy holds e. absurd (false≢true e);
+      }
+
+  -- the claim makes nothing of a key
+  made_same : (c : ℕ) → made_of (stages c) ≡ made_of (stage c)
+  made_same c = put_cases (λ s. made_of s ≡ made_of (stage c)) stage m.words.next new c
+      (λ e. let free = ap made_of (ap stage e ∙ unclaimed m.words after stage new claiming) in
+      just_claimed (λ s. made_of s ≡ made_of (stage c)) new h.fresh (sym free) (sym free))
+      (λ n. refl)
+
+  claimer_becomes : Becomes m stage i after stages claimer
+  claimer_becomes = let zero_born = root_born m.words stage h.sound.words in record {
+    there = h.there;
+    leads = λ k. (
+      leads_before m.words after stage new claiming k 0 zero_born,
+      leads_kept m.words after stage new claiming k 0 zero_born,
+    );
+    own = claimer_sound;
+    others = λ j n. worker_kept m.words after stage new claiming (m.worker j) (h.sound.workers.each j);
+    owns = λ k. (λ o. o, λ o. o);
+    counts = λ k o. ap (λ f. f k) (counts_unmade stages claimer (λ c e f. absurd (false≢true f))
+        ∙ sym (counts_unmade stage (m.worker i) (λ c e f. absurd (none c e))));
+    counts_others = λ j k n o. counts_same stage stages (m.worker j) k (λ op c busy holds f. inl (made_same c));
+    inserts = λ c e. inr (
+      before m.words after stage new claiming insert_open refl refl c e,
+      λ had. absurd (none c had.holds),
+    );
+    deletes = λ c e. inr (
+      before m.words after stage new claiming delete_open refl refl c e,
+      λ had. absurd (none c had.holds),
+    );
+  }
+    where
+      none : (c : ℕ) → (m.worker i).card ≡ Some c → ⊥
+      none c holds = let clash : None ≡ Some c = sym h.no_card ∙ holds in cc
+
+  -- the claimed card is an insert's or a delete's
+  claimed_kind : HasKind stages m.words.next
+  claimed_kind = subst (λ s. (is_insert s ≡ true) ⊎ (is_delete s ≡ true)) (sym (put_same stage m.words.next new))
+      (just_claimed (λ s. (is_insert s ≡ true) ⊎ (is_delete s ≡ true)) new h.fresh (inl refl) (inr refl))
+
+  -- such a claim keeps the invariant
+  pub claim_follows : Follows m stage act.Claim i Moved (with_scene m i (claims (scene m i) filling))
+  claim_follows = record {
+    stages = stages;
+    invariant = record {
+      words = words_kept m.words after stage new claiming h.own;
+      workers = workers_become m stage i after stages claimer claimer_becomes h.sound.workers;
+      limit = let room = h.room in omega arith;
+      kinds = kinds_later m.words after stage stages (claim_words m.words after stage new claiming) (claim_stages m.words after stage new claiming)
+          (inr (refl, claimed_kind)) h.sound.kinds;
+    };
+    words = claim_words m.words after stage new claiming;
+    later = claim_stages m.words after stage new claiming;
+    unborn = λ c below out. others_say m.words after m.words.next claiming.claims.others c (λ e. omega arith);
+    wins = claim_wins m.words after stage new claiming;
+  }
+
+-- a claim for an insert keeps it
+claim_insert : (m : Machine) (stage : Stages) (i : ℕ) (said : Stepped) (becomes : Scene) → i < m.count → Invariant m stage
+    → m.words.next ≤ m.cards
+    → ClaimInsert (scene m i) said becomes → Follows m stage act.Claim i said (with_scene m i becomes)
+claim_insert m stage i said becomes there sound room e =
+    let own = sound.workers.each i in
+    let stand = own.stands (Insert e.key) e.leaf e.inserts e.at.stands in
+    let seen : InsertSeen m.words stage (m.worker i) e.key e.leaf e.parent = record {
+      words = sound.words;
+      stand = stand;
+      outer = e.at.outer;
+      seen = (stand.parent e.parent e.at.behind).0;
+      absent = e.absent;
+      real = own.real e.key (own.owned (Insert e.key) e.inserts);
+    } in
+    let filling = insert_filling m.words.next e.key e.parent.node e.leaf (m.words.key e.leaf) in
+    let claims_card : ClaimsCard m stage i filling IClaimed (Insert e.key) = record {
+      there = there;
+      sound = sound;
+      room = room;
+      fresh = inl refl;
+      busy = e.inserts;
+      no_card = e.at.no_card;
+      own = insert_claimed m.words stage (m.worker i) e.key e.leaf e.parent seen;
+      hand = insert_in_hand m.words stage (m.worker i) e.key e.leaf e.parent seen
+          (claims (scene m i) filling).worker e.at.stands e.at.behind e.at.calm;
+    } in
+    subst (λ s. Follows m stage act.Claim i said (with_scene m i s)) (sym e.gives)
+    (subst (λ s. Follows m stage act.Claim i s (with_scene m i (claims (scene m i) filling))) (sym e.says)
+    (claim_follows m stage i filling IClaimed (Insert e.key) claims_card))
+
+-- a claim for a delete keeps it
+claim_delete : (m : Machine) (stage : Stages) (i : ℕ) (said : Stepped) (becomes : Scene) → i < m.count → Invariant m stage
+    → m.words.next ≤ m.cards
+    → ClaimDelete (scene m i) said becomes → Follows m stage act.Claim i said (with_scene m i becomes)
+claim_delete m stage i said becomes there sound room e =
+    let own = sound.workers.each i in
+    let stand = own.stands (Delete e.key) e.leaf e.deletes e.at.stands in
+    let seen : DeleteSeen m.words stage (m.worker i) e.key e.leaf e.parent e.grandparent = record {
+      words = sound.words;
+      stand = stand;
+      outer = e.at.outer;
+      seen = (stand.parent e.parent e.at.behind).0;
+      above = stand.grandparent e.parent e.grandparent e.at.behind e.above;
+      calm = e.at.calm;
+      present = e.present;
+      real = own.real e.key (own.owned (Delete e.key) e.deletes);
+    } in
+    let filling = delete_filling e.grandparent.node e.parent.node e.leaf e.parent.word in
+    let claims_card : ClaimsCard m stage i filling DClaimed (Delete e.key) = record {
+      there = there;
+      sound = sound;
+      room = room;
+      fresh = inr refl;
+      busy = e.deletes;
+      no_card = e.at.no_card;
+      own = delete_claimed m.words stage (m.worker i) e.key e.leaf e.parent e.grandparent seen;
+      hand = delete_in_hand m.words stage (m.worker i) e.key e.leaf e.parent e.grandparent seen
+          (claims (scene m i) filling).worker e.at.stands e.at.behind e.above e.calm;
+    } in
+    subst (λ s. Follows m stage act.Claim i said (with_scene m i s)) (sym e.gives)
+    (subst (λ s. Follows m stage act.Claim i s (with_scene m i (claims (scene m i) filling))) (sym e.says)
+    (claim_follows m stage i filling DClaimed (Delete e.key) claims_card))
+
+-- the claim keeps the invariant
+pub keeps_claim : Keeps act.Claim
+keeps_claim m stage i said becomes there sound happens =
+    let full = happens.room in
+    let room : m.words.next ≤ m.cards = omega arith in
+    elim happens.row [
+      | inl e ↦ claim_insert m stage i said becomes there sound room e
+      | inr e ↦ claim_delete m stage i said becomes there sound room e
+    ]

@@ -1,0 +1,132 @@
+use Rattle.std.proofs.Common.{◌≡◌, ◌≢◌, ℕ, ◌≤◌, ◌⊎◌, nat_le, min, max, Some, inl, inr, refl, sym, ap, ◌∙◌, subst, arith}
+use Rattle.std.proofs.lemmas.Bool.{false≢true, cases_eq}
+use Rattle.std.proofs.lemmas.Bool.Decides.{nat_tests}
+use Rattle.ell_ops.specs.Meaning.{greatest_key}
+use Rattle.ell_core.specs.declared.field.Field.TheVariants.{Gp, Was}
+use Rattle.ell_core.specs.declared.view.Seen.{Seen}
+use Rattle.ell_core.specs.state.Words.{Words, put}
+use Rattle.ell_core.specs.state.Machine.{Worker}
+use Rattle.ell_core.specs.state.Cards.{is_right, child_for, claimed, insert_filling}
+use Rattle.ell_core.specs.acts.Searching.{IsLeaf, IsClean}
+use Rattle.ell_core.specs.history.Stages.{Stages, IClaimed, is_claimed, is_insert, is_delete, insert_won}
+use Rattle.ell_core.specs.history.Invariant.{insert_key, insert_side, IsInnerBorn, IsLeafBorn, InsertCard, CardIsSound, WordsAreSound, SeenIsSound, StandIsSound, InsertInHand}
+use Rattle.ell_core.proofs.words.Writes.{put_same}
+use Rattle.ell_core.proofs.words.Sides.{key_of_three}
+use Rattle.ell_core.proofs.keeping.claim.Filling.{claimed_claims, claimed_insert, IsFilledInsert}
+use Rattle.ell_core.proofs.keeping.claim.Frames.{earlier_word, earlier_node, Claiming, blank, born_kept, key_kept, child_kept}
+
+-- of the lesser and the greater of two keys, the one that is not the leaf's is the other one
+own_of_two : (k leaf : ℕ) → leaf ≢ k → key_of_three (min k leaf) (max k leaf) leaf ≡ k
+own_of_two k leaf apart = elim (cases_eq (min k leaf) leaf) [
+  | inl e ↦ grind (arith, nat_tests)
+  | inr n ↦ grind (arith, nat_tests)
+]
+
+-- the leaf's key is one of them
+copy_of_two : (k leaf : ℕ) → (min k leaf ≡ leaf) ⊎ (max k leaf ≡ leaf)
+copy_of_two k leaf = elim (cases_eq (min k leaf) leaf) [
+  | inl e ↦ inl e
+  | inr n ↦ inr (omega arith)
+]
+
+-- where both are on one side of a node's key, so is the greater one
+side_of_two : (middle k leaf : ℕ) → nat_le middle leaf ≡ nat_le middle k → nat_le middle (max k leaf) ≡ nat_le middle k
+side_of_two middle k leaf e = grind (arith, nat_tests)
+
+-- a worker stands at a leaf of another key below a parent that it saw
+pub record InsertSeen (w : Words) (stage : Stages) (v : Worker) (k leaf : ℕ) (parent : Seen) : Type 0 where
+  pub words : WordsAreSound w stage
+  pub stand : StandIsSound w stage v k leaf
+  pub outer : IsLeaf leaf
+  pub seen : SeenIsSound w stage k parent leaf
+  pub absent : w.key leaf ≢ k
+  pub real : k ≤ greatest_key
+
+module _ (w : Words) (stage : Stages) (v : Worker) (k leaf : ℕ) (parent : Seen)
+    (h : InsertSeen w stage v k leaf parent) where
+  -- the words and the stages after the claim
+  abbrev after : Words
+  after = claimed w (insert_filling w.next k parent.node leaf (w.key leaf))
+
+  abbrev stages : Stages
+  stages = put stage w.next IClaimed
+
+  claiming : Claiming w after stage IClaimed
+  claiming = record {
+    words = h.words;
+    claims = claimed_claims w (insert_filling w.next k parent.node leaf (w.key leaf));
+    fresh = inl refl;
+  }
+
+  -- the card's stage, its fields, and the keys where it goes
+  at_stage : stages w.next ≡ IClaimed
+  at_stage = put_same stage w.next IClaimed
+
+  filled : IsFilledInsert after w.next k parent.node leaf (w.key leaf)
+  filled = claimed_insert w k parent.node leaf (w.key leaf)
+
+  leaf_key : after.key (after.l w.next) ≡ w.key leaf
+  leaf_key = ap after.key filled.l ∙ key_kept w after stage IClaimed claiming leaf h.stand.born
+
+  parent_key : after.key (after.p w.next) ≡ w.key parent.node
+  parent_key = ap after.key filled.p ∙ key_kept w after stage IClaimed claiming parent.node h.seen.node.born
+
+  own_key : insert_key after w.next ≡ k
+  own_key = (λ t. key_of_three (filled.left_key t) (filled.right_key t) (leaf_key t)) ∙ own_of_two k (w.key leaf) h.absent
+
+  side_is : insert_side after w.next ≡ is_right w parent.node k
+  side_is = (λ t. nat_le (parent_key t) (filled.key t)) ∙ side_of_two (w.key parent.node) k (w.key leaf) h.seen.side
+
+  child_is : after.child (after.p w.next) (insert_side after w.next) ≡ child_for w k parent.node
+  child_is = (λ t. after.child (filled.p t) (side_is t))
+      ∙ child_kept w after stage IClaimed claiming parent.node (is_right w parent.node k) h.seen.node.born
+
+  insert_card : InsertCard after stages w.next
+  insert_card = record {
+    gp = (blank w after stage IClaimed claiming).words Gp;
+    was = (blank w after stage IClaimed claiming).words Was;
+    parent = subst (IsInnerBorn stages) (sym filled.p) (record {
+      inner = h.seen.node.inner;
+      born = born_kept w after stage IClaimed claiming parent.node h.seen.node.born;
+    });
+    leaf = subst (IsLeafBorn stages) (sym filled.l) (record {
+      outer = h.outer;
+      born = born_kept w after stage IClaimed claiming leaf h.stand.born;
+    });
+    above = let a = h.seen.less in let p = filled.p in let l = filled.l in omega arith;
+    before = let a = earlier_node w stage h.words leaf h.stand.born in let l = filled.l in omega arith;
+    ordered = let n = h.absent in let a = filled.left_key in let b = filled.right_key in omega arith;
+    node_key = filled.key ∙ sym filled.right_key;
+    copy = elim (copy_of_two k (w.key leaf)) [
+      | inl e ↦ inl (filled.left_key ∙ (e ∙ sym leaf_key))
+      | inr e ↦ inr (filled.right_key ∙ (e ∙ sym leaf_key))
+    ];
+    real = subst (λ n. n ≤ greatest_key) (sym own_key) h.real;
+    side = (λ t. nat_le (parent_key t) (own_key t)) ∙ (sym h.seen.side ∙ (λ t. nat_le (sym parent_key t) (sym leaf_key t)));
+    left_child = λ e. (let a = filled.left in omega arith);
+    at_least = let a = h.seen.at_least in let l = filled.l in let e = child_is in omega arith;
+  }
+
+  -- the claimed card of an insert is sound
+  pub insert_claimed : CardIsSound after stages w.next
+  insert_claimed = record {
+    claimed = (λ e. omega arith, λ less. ap is_claimed at_stage);
+    insert = λ e. insert_card;
+    delete = λ e. absurd (false≢true (ap is_delete (sym at_stage) ∙ e));
+    unborn = λ e no_birth. record { left = filled.left; right = filled.right; calm = filled.update };
+    blank = λ e. absurd (false≢true (sym e ∙ ap is_claimed at_stage));
+  }
+
+  -- the claimer, that still stands there, has it in hand
+  pub insert_in_hand : (u : Worker) → u.search.node ≡ Some leaf → u.search.parent ≡ Some parent → IsClean parent.word
+      → InsertInHand after stages u k w.next
+  insert_in_hand u stands behind calm = record {
+    parent = parent;
+    claimed = (ap is_insert at_stage, ap insert_won at_stage);
+    stands = stands ∙ ap Some (sym filled.l);
+    behind = behind;
+    node = sym filled.p;
+    calm = calm;
+    earlier = earlier_word w stage h.words parent.node parent.word h.seen.node h.seen.word;
+    own = own_key;
+  }

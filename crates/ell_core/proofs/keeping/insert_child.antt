@@ -1,0 +1,11 @@
+-- The child exchange of an insert that is won: the stages and children afterwards, and what each card says.
+pub mod Cards
+-- The child exchange of an insert keeps the invariant. It is won exactly where the card waits for it, and then its key comes
+-- into the tree; else it was made before, and the worker learns that.
+pub mod IChild
+-- The child exchange of an insert that is won, and the tree: an internal node with two leaves takes the place of a leaf.
+pub mod Tree
+-- The child exchange of an insert that is won: the nodes and the tree afterwards, and with them all words.
+pub mod Words
+-- The child exchange of an insert that is won: who has the card in hand, and the workers afterwards.
+pub mod Workers

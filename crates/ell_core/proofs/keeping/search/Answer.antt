@@ -1,0 +1,119 @@
+use Rattle.std.proofs.Common.{◌≡◌, ◌≢◌, ℕ, ◌↔◌, if◌then◌else◌, Bool, true, false, Some, None, inl, inr, refl, sym, ap, ◌∙◌, subst, arith}
+use Rattle.ell_ops.specs.declared.op.Op.{Op}
+use Rattle.ell_ops.specs.declared.op.Op.TheVariants.{Find, Insert, Delete}
+use Rattle.ell_ops.specs.Meaning.{key_of}
+use Rattle.ell_core.specs.declared.event.Act.TheVariants as act
+use Rattle.ell_core.specs.declared.fact.Fact.TheVariants as fact
+use Rattle.ell_core.specs.state.Words.{put}
+use Rattle.ell_core.specs.state.Machine.{Ledger, Worker, Machine, scene, with_scene}
+use Rattle.ell_core.specs.acts.Searching.{leaf_answer, card_answer, ledger_after, AnswersAtLeaf, Answers}
+use Rattle.ell_core.specs.soundness.Holds.{with_settled}
+use Rattle.ell_core.specs.soundness.Sound.{Owns}
+use Rattle.ell_core.specs.history.Stages.{Stage, Stages, insert_open, insert_over, delete_open, delete_over, made_of, staged, staged_of}
+use Rattle.ell_core.specs.history.Invariant.{Invariant}
+use Rattle.ell_core.specs.history.Later.{Follows, Keeps, wins_by}
+use Rattle.ell_core.proofs.outcomes.Decide.{same_value, some_not_none}
+use Rattle.ell_core.proofs.keeping.search.Begin.{MayDrop, drops_backed, takes_on_ended}
+use Rattle.ell_core.proofs.keeping.Learning.{KnowsAllowed}
+use Rattle.ell_core.proofs.keeping.OneWorker.{HasInHand, follows_worker}
+use Rattle.ell_core.proofs.words.Writes.{put_cases}
+
+-- an answer at a leaf leaves the ledger
+pub leaf_answer-ledger : (op : Op) (has reply : Bool) (ledger : Ledger) → leaf_answer op has ≡ Some reply
+    → ledger_after op reply ledger ≡ ledger
+leaf_answer-ledger (Find k) has reply ledger e = refl
+leaf_answer-ledger (Insert k) true reply ledger e = ap (λ b. ledger_after (Insert k) b ledger) (sym (same_value refl e))
+leaf_answer-ledger (Insert k) false reply ledger e = absurd (some_not_none e refl)
+leaf_answer-ledger (Delete k) true reply ledger e = absurd (some_not_none e refl)
+leaf_answer-ledger (Delete k) false reply ledger e = ap (λ b. ledger_after (Delete k) b ledger) (sym (same_value refl e))
+
+-- an option that a test gives or not: the test was met, and this is what it gives
+pub gives_if : (test reply : Bool) → (if test then Some true else None) ≡ Some reply → (test ≡ true) × (reply ≡ true)
+gives_if true reply e = (refl, sym (same_value refl e))
+gives_if false reply e = absurd (some_not_none e refl)
+
+-- a card that may be answered by is over, and made its key what the answer makes it
+pub record IsOver (s : Stage) (made : Bool) : Type 0 where
+  pub made_it : made_of s ≡ Some made
+  pub no_insert : insert_open s ≡ false
+  pub no_delete : delete_open s ≡ false
+
+insert_is_over : (s : Stage) → insert_over s ≡ true → IsOver s true
+insert_is_over s h = record { made_it = grind arith; no_insert = grind arith; no_delete = grind arith }
+
+delete_is_over : (s : Stage) → delete_over s ≡ true → IsOver s false
+delete_is_over s h = record { made_it = grind arith; no_insert = grind arith; no_delete = grind arith }
+
+-- the effective ledger of a worker with a flagged card in hand
+staged_in_hand : (stage : Stages) (v : Worker) (op : Op) (c : ℕ) → v.operation ≡ Some op → v.card ≡ Some c → v.flagged ≡ true
+    → staged stage v ≡ staged_of stage v.ledger (Some op) (Some c) true
+staged_in_hand stage v op c busy holds flagged =
+    ap (λ o. staged_of stage v.ledger o v.card v.flagged) busy
+    ∙ (ap (λ o. staged_of stage v.ledger (Some op) o v.flagged) holds
+    ∙ ap (staged_of stage v.ledger (Some op) (Some c)) flagged)
+
+module _ (stage : Stages) (v : Worker) (op : Op) (c : ℕ) (made : Bool) (busy : v.operation ≡ Some op)
+    (holds : v.card ≡ Some c) (flagged : v.flagged ≡ true) (over : IsOver (stage c) made) (owns : Owns v (key_of op)) where
+  -- the ledger after an answer by a card that is over
+  abbrev ledger : Ledger
+  ledger = put v.ledger (key_of op) (Some made)
+
+  -- the same keys are owned
+  owned_alike : (k : ℕ) → (ledger k ≢ None) ↔ Owns v k
+  owned_alike k = put_cases (λ o. (o ≢ None) ↔ Owns v k) v.ledger (key_of op) (Some made) k
+      (λ e. (λ n. subst (Owns v) (sym e) owns, λ n f. some_not_none refl f)) (λ n. (λ o. o, λ o. o))
+
+  -- a card in hand is this one
+  hand_is : (d : ℕ) → HasInHand v d → c ≡ d
+  hand_is d h = same_value holds h.holds
+
+  -- a worker whose card is over may drop it, and has the effective ledger
+  pub drops_over : MayDrop stage v ledger
+  drops_over = record {
+    owns = owned_alike;
+    counts = λ k. ap (λ f. f k)
+        (staged_in_hand stage v op c busy holds flagged ∙ ap (with_settled v.ledger (key_of op)) over.made_it);
+    inserts = λ d h. subst (λ n. insert_open (stage n) ≡ false) (hand_is d h) over.no_insert;
+    deletes = λ d h. subst (λ n. delete_open (stage n) ≡ false) (hand_is d h) over.no_delete;
+  }
+
+-- an answer by a card of an insert or delete: the card is over
+drops_by_card : (stage : Stages) (v : Worker) (op : Op) (c : ℕ) (reply : Bool) → KnowsAllowed stage v.knows
+    → v.operation ≡ Some op → v.card ≡ Some c → v.flagged ≡ true → Owns v (key_of op) → card_answer op c v.knows ≡ Some reply
+    → MayDrop stage v (ledger_after op reply v.ledger)
+drops_by_card stage v (Find k) c reply facts busy holds flagged owns e = absurd (some_not_none e refl)
+drops_by_card stage v (Insert k) c reply facts busy holds flagged owns e =
+    let g = gives_if (v.knows (fact.IOver c)) reply e in
+    subst (λ b. MayDrop stage v (ledger_after (Insert k) b v.ledger)) (sym g.1)
+    (drops_over stage v (Insert k) c true busy holds flagged (insert_is_over (stage c) (facts (fact.IOver c) g.0)) owns)
+drops_by_card stage v (Delete k) c reply facts busy holds flagged owns e =
+    let g = gives_if (v.knows (fact.DOver c)) reply e in
+    subst (λ b. MayDrop stage v (ledger_after (Delete k) b v.ledger)) (sym g.1)
+    (drops_over stage v (Delete k) c false busy holds flagged (delete_is_over (stage c) (facts (fact.DOver c) g.0)) owns)
+
+module _ (m : Machine) (stage : Stages) (i : ℕ) (sound : Invariant m stage) (op : Op) (reply : Bool)
+    (busy : (m.worker i).operation ≡ Some op) where
+  -- an answer at a leaf: no card in hand is flagged
+  drops_at_leaf : AnswersAtLeaf (scene m i) op reply → MayDrop stage (m.worker i) (ledger_after op reply (m.worker i).ledger)
+  drops_at_leaf at = subst (MayDrop stage (m.worker i)) (sym (leaf_answer-ledger op _ reply (m.worker i).ledger at.answers))
+      (drops_backed stage (m.worker i)
+      (λ c holds f. absurd (some_not_none at.stands ((sound.workers.each i).flagged op c busy holds f).1)))
+
+  -- a worker that has an answer may drop what it has in hand, and has the ledger after the answer
+  pub drops_answered : Answers (scene m i) op reply → MayDrop stage (m.worker i) (ledger_after op reply (m.worker i).ledger)
+  drops_answered answers = elim answers [
+    | inl at ↦ drops_at_leaf at
+    | inr by ↦ (let worker = sound.workers.each i in
+        drops_by_card stage (m.worker i) op by.0.card reply worker.facts busy by.0.holds by.0.flagged (worker.owned op busy)
+        by.0.answers)
+  ]
+
+-- answer keeps the invariant
+pub keeps_answer : Keeps act.Answer
+keeps_answer m stage i said becomes there sound happens =
+    let r = happens.row in
+    subst (λ s. Follows m stage act.Answer i said (with_scene m i s)) (sym r.gives)
+    (follows_worker m stage act.Answer i said _ there sound
+    (λ c. ap (λ s. wins_by act.Answer (m.worker i).card s c) r.says)
+    (takes_on_ended m stage i sound (ledger_after r.op r.reply (m.worker i).ledger)
+    (drops_answered m stage i sound r.op r.reply r.busy r.answers)))

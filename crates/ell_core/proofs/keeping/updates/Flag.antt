@@ -1,0 +1,181 @@
+use Rattle.std.proofs.Common.{◌≡◌, ◌≢◌, ℕ, ◌<◌, true, false, [], ◌∷◌, ◌++◌, Some, None, inr, refl, sym, ap, ◌∙◌, subst}
+use Rattle.std.proofs.lemmas.Bool.{false≢true, eq-eqb, ne_eqb}
+use Rattle.ell_ops.specs.declared.op.Op.{Op}
+use Rattle.ell_ops.specs.declared.op.Op.TheVariants.{Find, Insert, Delete}
+use Rattle.ell_ops.specs.Meaning.{key_of}
+use Rattle.ell_word.specs.declared.gate.Kind.{Kind}
+use Rattle.ell_core.specs.declared.event.Act.{Act}
+use Rattle.ell_core.specs.declared.event.Stepped.TheVariants.{Won, Lost}
+use Rattle.ell_core.specs.declared.fact.Fact.{Fact}
+use Rattle.ell_core.specs.declared.view.Seen.{Seen}
+use Rattle.ell_core.specs.state.Words.{Words, put, with_update}
+use Rattle.ell_core.specs.state.Facts.{card_of_fact}
+use Rattle.ell_core.specs.state.Machine.{Worker, Machine, Scene, with_scene}
+use Rattle.ell_core.specs.acts.Exchanges.{flagged_worker, flags}
+use Rattle.ell_core.specs.soundness.Holds.{with_settled}
+use Rattle.ell_core.specs.soundness.Sound.{Owns}
+use Rattle.ell_core.specs.history.Stages.{Stage, Stages, made_of, staged, allows}
+use Rattle.ell_core.specs.history.Invariant.{IsInnerBorn, Unflagged, Flagged, WorkerIsSound, Invariant}
+use Rattle.ell_core.specs.history.Later.{Follows, wins_of, wins_by, win_for}
+use Rattle.ell_core.proofs.words.Writes.{put_same}
+use Rattle.ell_core.proofs.stages.Order.{one_kind}
+use Rattle.ell_core.proofs.words.Later.{words_update}
+use Rattle.ell_core.proofs.keeping.Learning.{learns_word}
+use Rattle.ell_core.proofs.keeping.OneWorker.{TakesOn, follows_worker}
+use Rattle.ell_core.proofs.keeping.updates.Cards.{Exchange, unborn_says}
+use Rattle.ell_core.proofs.keeping.updates.Words.{NewWord}
+use Rattle.ell_core.proofs.keeping.updates.Invariant.{exchanged, NewWorker, keeps_exchange}
+use Rattle.ell_core.proofs.keeping.updates.Follows.{learns_after}
+use Rattle.ell_core.proofs.stages.Counts.{counts_unmade, counts_made}
+use Rattle.ell_core.proofs.keeping.going_on.InHand.{OtherInHand}
+use Rattle.ell_core.proofs.words.Exchanged.{update_found, update_missed}
+use Rattle.ell_core.proofs.stages.Advances.{stages_put, wins_put}
+
+-- a flag that is won is written, and the worker has its card flagged
+pub flags_won : (s : Scene) (seen : Seen) (new : ℕ) (fact : Fact) → s.words.update seen.node ≡ seen.word
+    → flags s seen new fact ≡ record {
+      words = with_update s.words seen.node new;
+      worker = flagged_worker s.worker true fact (s.words.update seen.node);
+    }
+flags_won s seen new fact won = λ t. record {
+  words = (update_found s.words seen.node seen.word new won).1 t;
+  worker = flagged_worker s.worker (eq-eqb (s.words.update seen.node) seen.word won t) fact (s.words.update seen.node);
+}
+
+-- a flag that is lost changes no word, and the worker gives its card up
+pub flags_lost : (s : Scene) (seen : Seen) (new : ℕ) (fact : Fact) → s.words.update seen.node ≢ seen.word
+    → flags s seen new fact ≡ record {
+      words = s.words;
+      worker = flagged_worker s.worker false fact (s.words.update seen.node);
+    }
+flags_lost s seen new fact lost = λ t. record {
+  words = (update_missed s.words seen.node seen.word new lost).1 t;
+  worker = flagged_worker s.worker (ne_eqb (s.words.update seen.node) seen.word lost t) fact (s.words.update seen.node);
+}
+
+-- two operations that have one card in hand without its flag are on one key
+same_key : (w : Words) (stage : Stages) (v u : Worker) (op other : Op) (c : ℕ) → Unflagged w stage v op c
+    → Unflagged w stage u other c
+    → key_of other ≡ key_of op
+same_key w stage v u (Find k) _ c h g = absurd h
+same_key w stage v u _ (Find k) c h g = absurd g
+same_key w stage v u (Insert k) (Insert l) c h g = sym g.own ∙ h.own
+same_key w stage v u (Delete k) (Delete l) c h g = sym g.own ∙ h.own
+same_key w stage v u (Insert k) (Delete l) c h g = absurd (one_kind (stage c) h.claimed.0 g.claimed.0)
+same_key w stage v u (Delete k) (Insert l) c h g = absurd (one_kind (stage c) g.claimed.0 h.claimed.0)
+
+-- worker i has card c in hand for an operation, without its flag
+pub record HoldsCard (m : Machine) (i c : ℕ) (op : Op) : Type 0 where
+  pub busy : (m.worker i).operation ≡ Some op
+  pub holds : (m.worker i).card ≡ Some c
+  pub unflagged : (m.worker i).flagged ≡ false
+
+module _ (m : Machine) (stage : Stages) (i c : ℕ) (op : Op) (sound : Invariant m stage) (h : HoldsCard m i c op) where
+  -- what its search saw
+  pub hand_of : Unflagged m.words stage (m.worker i) op c
+  hand_of = (sound.workers.each i).unflagged op c h.busy h.holds h.unflagged
+
+  -- no other worker has the card in hand without its flag, since no other owns its key
+  pub held_alone : (j : ℕ) → j ≢ i → OtherInHand (m.worker j) c
+  held_alone j apart other d busy holds unflagged same =
+      let theirs = (sound.workers.each j).unflagged other d busy holds unflagged in
+      let key = same_key m.words stage (m.worker i) (m.worker j) op other c hand_of
+      (subst (Unflagged m.words stage (m.worker j) other) same theirs) in
+      let owns_there = subst (Owns (m.worker j)) key ((sound.workers.each j).owned other busy) in
+      apart (sound.workers.one_owner j i (key_of op) owns_there ((sound.workers.each i).owned op h.busy))
+
+  -- it has no flagged card in hand
+  not_flagged : (m.worker i).flagged ≡ true → ⊥
+  not_flagged e = false≢true (sym h.unflagged ∙ e)
+
+  -- worker i's effective ledger is its ledger
+  pub unflagged_ledger : staged stage (m.worker i) ≡ (m.worker i).ledger
+  unflagged_ledger = counts_unmade stage (m.worker i) (λ d e f. absurd (not_flagged f))
+
+  module _ (fact : Fact) (x : ℕ) (place : IsInnerBorn stage x) where
+    -- the worker where it lost the flag
+    abbrev loser : Worker
+    loser = flagged_worker (m.worker i) false fact (m.words.update x)
+
+    loser_sound : WorkerIsSound m.words stage loser
+    loser_sound = let old = sound.workers.each i in record {
+      facts = learns_word m.words stage (m.worker i).knows x (sound.words.updates x place.inner place.born) old.facts;
+      real = old.real;
+      free = λ e. (let clash : Some op ≡ None = sym h.busy ∙ e in absurd cc);
+      owned = old.owned;
+      stands = λ o y busy at. absurd cc;
+      unflagged = λ o d busy holds e. absurd cc;
+      flagged = λ o d busy holds e. absurd cc;
+    }
+
+    loser_takes : TakesOn m stage i loser
+    loser_takes = record {
+      own = loser_sound;
+      owns = λ k. (λ o. o, λ o. o);
+      counts = λ k o. ap (λ f. f k) (counts_unmade stage loser (λ d e f. absurd (false≢true f)) ∙ sym unflagged_ledger);
+      inserts = λ d e had. absurd (not_flagged had.flagged);
+      deletes = λ d e had. absurd (not_flagged had.flagged);
+    }
+
+    -- a lost flag keeps the invariant
+    pub flag_loses : (a : Act) → i < m.count → ((d : ℕ) → wins_by a (m.worker i).card Lost d ≡ [])
+        → Follows m stage a i Lost (with_scene m i (record { words = m.words; worker = loser }))
+    flag_loses a there none = follows_worker m stage a i Lost loser there sound none loser_takes
+
+  module _ (fact : Fact) (x value found : ℕ) (new : Stage) (e : Exchange m.words stage x value c new)
+      (names : card_of_fact fact ≡ c) (told : allows fact new ≡ true) (unmade : made_of new ≡ None)
+      (flag : Flagged (with_update m.words x value) (put stage c new)
+      (flagged_worker (m.worker i) true fact found) op c) where
+    -- the worker where it won the flag
+    abbrev winner : Worker
+    winner = flagged_worker (m.worker i) true fact found
+
+    winner_sound : WorkerIsSound (with_update m.words x value) (put stage c new) winner
+    winner_sound = let old = sound.workers.each i in record {
+      facts = learns_after m.words stage x value c new (m.worker i).knows fact e old.facts names told;
+      real = old.real;
+      free = λ idle. (let clash : Some op ≡ None = sym h.busy ∙ idle in absurd cc);
+      owned = old.owned;
+      stands = λ o y busy at. absurd cc;
+      unflagged = λ o d busy holds no_flag. absurd cc;
+      flagged = λ o d busy holds no_flag. (
+          let same_op : Some op ≡ Some o = sym h.busy ∙ busy in
+          let same_card : Some c ≡ Some d = sym h.holds ∙ holds in
+          let this : op ≡ o = cc in
+          let here : c ≡ d = cc in (
+            subst (λ n. Flagged (with_update m.words x value) (put stage c new) winner o n) here
+                (subst (λ p. Flagged (with_update m.words x value) (put stage c new) winner p c) this flag),
+            refl,
+          ));
+    }
+
+    -- its card has made nothing of its key
+    winner_ledger : staged (put stage c new) winner ≡ (m.worker i).ledger
+    winner_ledger = counts_made (put stage c new) winner op c h.busy h.holds refl
+        ∙ ap (with_settled (m.worker i).ledger (key_of op)) (ap made_of (put_same stage c new) ∙ unmade)
+
+    new_worker : NewWorker m stage i x value c new winner
+    new_worker = record {
+      sound = winner_sound;
+      ledger = refl;
+      effective = λ k. ap (λ f. f k) (winner_ledger ∙ sym unflagged_ledger);
+      hand = λ d holds flagged. absurd (not_flagged flagged);
+      insert_hand = λ stands. inr (h.holds, refl);
+      delete_hand = λ stands. inr (h.holds, refl);
+      others = held_alone;
+    }
+
+    -- a won flag keeps the invariant
+    pub flag_wins : (a : Act) (kind : Kind) → i < m.count → NewWord m.words stage x value c new
+        → wins_of new ≡ wins_of (stage c) ++ kind ∷ []
+        → ((d : ℕ) → wins_by a (m.worker i).card Won d ≡ win_for (m.worker i).card kind d)
+        → Follows m stage a i Won (exchanged m i x value winner)
+    flag_wins a kind there word wins by = record {
+      stages = put stage c new;
+      invariant = keeps_exchange m stage i x value c new winner e new_worker there word sound;
+      words = words_update m.words x value e.rises e.unmarked;
+      later = stages_put stage c new e.later;
+      unborn = λ d below out. unborn_says m.words stage x value c new e d out;
+      wins = λ d. wins_put stage c new kind wins d
+          ∙ ap (λ more. wins_of (stage d) ++ more) (ap (λ hand. win_for hand kind d) (sym h.holds) ∙ sym (by d));
+    }

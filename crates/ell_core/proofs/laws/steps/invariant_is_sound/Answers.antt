@@ -1,0 +1,6 @@
+-- Part by part.
+use Rattle.ell_core.proofs.following.Sound.{sound}
+use Rattle.ell_core.proofs.laws.steps.invariant_is_sound.Goals as goal
+
+pub returns : goal.returns
+returns c = sound

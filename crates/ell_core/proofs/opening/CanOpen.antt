@@ -1,0 +1,42 @@
+use Rattle.std.proofs.Common.{◌≡◌, ◌≢◌, ℕ, zero, suc, ◌<◌, ◌≤◌, List, [], ◌∷◌, slice_get, sym, ap, ◌∙◌, arith}
+use Rattle.std.proofs.lemmas.Option.{none-some, same_Some}
+use Rattle.std.specs.List.{All}
+use Rattle.ell_ops.specs.Meaning.{greatest_key}
+use Rattle.ell_core.specs.state.Opening.{IsStranger, IsRepeat}
+use Rattle.ell_core.specs.statements.Premises.{TwoKeysCanOpen}
+
+module _ (count i j first second : ℕ) where
+  -- the list of the two entries
+  abbrev two : List (ℕ × ℕ)
+  two = (i, first) ∷ (j, second) ∷ []
+
+  -- neither entry names a stranger
+  no_stranger : (at : ℕ) → i < count → j < count → ¬ IsStranger count two at
+  no_stranger zero i_there j_there h = let e = ap (λ (x : ℕ × ℕ). x.0) (same_Some (i, first) h.entry h.stands) in
+      let s = h.strange in omega arith
+  no_stranger (suc zero) i_there j_there h = let e = ap (λ (x : ℕ × ℕ). x.0) (same_Some (j, second) h.entry h.stands) in
+      let s = h.strange in omega arith
+  no_stranger (suc (suc at)) i_there j_there h = none-some h.entry h.stands
+
+  -- neither names the key of the other
+  no_repeat : (at : ℕ) → first ≢ second → ¬ IsRepeat two at
+  no_repeat zero apart h = let b = h.before in omega arith
+  no_repeat (suc zero) apart h =
+      let start : h.earlier ≡ 0 = (let b = h.before in omega arith) in
+      let stood = same_Some (i, first) h.other (sym (ap (slice_get two) start) ∙ h.stood) in
+      let stands = same_Some (j, second) h.entry h.stands in
+      apart (ap (λ (x : ℕ × ℕ). x.1) stood ∙ (h.same ∙ sym (ap (λ (x : ℕ × ℕ). x.1) stands)))
+  no_repeat (suc (suc at)) apart h = none-some h.entry h.stands
+
+  -- both name real keys
+  both_real : first ≤ greatest_key → second ≤ greatest_key → All (λ entry. entry.1 ≤ greatest_key) two
+  both_real h g zero d below = h
+  both_real h g (suc zero) d below = g
+  both_real h g (suc (suc k)) d below = absurd (omega arith)
+
+-- so they can open
+pub two_keys_open : TwoKeysCanOpen
+two_keys_open count i j first second i_there j_there apart first_real second_real = record {
+  faultless = λ at. (no_stranger count i j first second at i_there j_there, no_repeat count i j first second at apart);
+  real = both_real count i j first second first_real second_real;
+}

@@ -1,0 +1,116 @@
+use Rattle.std.proofs.Common.{◌≡◌, ℕ, zero, suc, ◌<◌, ◌≤◌, ◌==◌, ◌&&◌, ◌||◌, if◌then◌else◌, cond, Bool, true, false, List, [], ◌∷◌, map, get_or, slice_get, option_map, Option, Some, None, refl, sym, ap, ◌∙◌, subst, arith}
+use Rattle.std.proofs.lemmas.Bool.{false≢true, eqb-true, eq-eqb, ne_eqb}
+use Rattle.std.proofs.lemmas.Option.{same_Some, slice_get_within, slice_get-get_or, slice_get-map}
+use Rattle.std.proofs.lemmas.List.Elements.{All-map}
+use Rattle.std.proofs.lemmas.List.Kept.{AllPairs-from_increasing}
+use Rattle.std.specs.List.{All, list_any}
+use Rattle.std.specs.List.Sorted.{IsStrictlyIncreasing}
+use Rattle.ell_ops.specs.Meaning.{greatest_key}
+use Rattle.ell_core.specs.state.Machine.{idle, ledger_of}
+use Rattle.ell_core.specs.state.Opening.{opening, opening_words, opening_ledger, gives, IsStranger, IsRepeat}
+use Rattle.ell_core.specs.history.Invariant.{HasInvariant}
+use Rattle.ell_core.specs.statements.RunLaws.{CanOpen}
+use Rattle.ell_core.specs.statements.Premises.{first_alone, opening_of_one, OneWorkerOpens}
+use Rattle.ell_core.proofs.outcomes.Decide.{some_not_none}
+use Rattle.ell_core.proofs.opening.Invariant.{opening_stages, opening_invariant}
+
+-- the entry that gives a key to worker 0
+abbrev entry_of : ℕ → ℕ × ℕ
+entry_of k = (0, k)
+
+-- the entries that give keys to worker 0
+abbrev entries : List ℕ → List (ℕ × ℕ)
+entries keys = map entry_of keys
+
+-- the keys, all absent
+abbrev absent : List ℕ → List (ℕ × Bool)
+absent keys = map (λ k. (k, false)) keys
+
+-- the ledger of worker 0 has all keys, absent
+first_ledger : (keys : List ℕ) (k : ℕ) → opening_ledger (entries keys) 0 k ≡ ledger_of (absent keys) k
+first_ledger [] k = refl
+first_ledger (x ∷ keys) k = by (x == k) refl (first_ledger keys k)
+  where
+    by : (b : Bool) → (x == k) ≡ b → opening_ledger (entries keys) 0 k ≡ ledger_of (absent keys) k
+        → opening_ledger (entries (x ∷ keys)) 0 k ≡ ledger_of (absent (x ∷ keys)) k
+    by true e rest = ap (λ t. if t || list_any (gives 0 k) (entries keys) then Some false else None) e
+        ∙ sym (ap (λ t. cond t (Some false) (ledger_of (absent keys) k)) (eq-eqb k x (sym (eqb-true x k e))))
+    by false e rest = ap (λ t. if t || list_any (gives 0 k) (entries keys) then Some false else None) e
+        ∙ (rest ∙ sym (ap (λ t. cond t (Some false) (ledger_of (absent keys) k)) (ne_eqb k x (λ q. false≢true (sym e ∙ eq-eqb x k (sym q))))))
+
+-- no other worker is given a key
+none_given : (keys : List ℕ) (i k : ℕ) → list_any (gives (suc i) k) (entries keys) ≡ false
+none_given [] i k = refl
+none_given (x ∷ keys) i k = ap (λ t. (t && (x == k)) || list_any (gives (suc i) k) (entries keys)) (ne_eqb 0 (suc i) (λ e. omega arith)) ∙ none_given keys i k
+
+other_ledger : (keys : List ℕ) (i k : ℕ) → opening_ledger (entries keys) (suc i) k ≡ None
+other_ledger keys i k = ap (λ t. if t then Some false else None) (none_given keys i k)
+
+-- an entry and its key, at one place
+record IsPlaced (keys : List ℕ) (at : ℕ) (entry : ℕ × ℕ) : Type 0 where
+  key : ℕ
+  there : slice_get keys at ≡ Some key
+  is : entry ≡ (0, key)
+
+-- an entry is that of the key at its place
+entry_at : (keys : List ℕ) (at : ℕ) (found : Option ℕ) (entry : ℕ × ℕ) → slice_get keys at ≡ found → option_map entry_of found ≡ Some entry
+    → IsPlaced keys at entry
+entry_at keys at None entry there e = absurd (some_not_none e refl)
+entry_at keys at (Some k) entry there e = record { key = k; there = there; is = sym (same_Some (entry_of k) entry e) }
+
+placed : (keys : List ℕ) (at : ℕ) (entry : ℕ × ℕ) → slice_get (entries keys) at ≡ Some entry → IsPlaced keys at entry
+placed keys at entry e = entry_at keys at (slice_get keys at) entry refl (sym (slice_get-map entry_of keys at) ∙ e)
+
+-- the key at a place
+key_at : (keys : List ℕ) (at key : ℕ) → slice_get keys at ≡ Some key → get_or keys at 0 ≡ key
+key_at keys at key there = same_Some (get_or keys at 0) key (sym (slice_get-get_or keys at 0 (slice_get_within keys at key there)) ∙ there)
+
+-- no entry names a worker that is not there
+no_stranger : (keys : List ℕ) (at : ℕ) → ¬ IsStranger 1 (entries keys) at
+no_stranger keys at s =
+    let p = placed keys at s.entry s.stands in
+    let first : s.entry.0 ≡ 0 = ap (λ (x : ℕ × ℕ). x.0) p.is in
+    let strange = s.strange in
+    omega arith
+
+-- nor a key that an earlier entry names
+no_repeat : (keys : List ℕ) → IsStrictlyIncreasing keys → (at : ℕ) → ¬ IsRepeat (entries keys) at
+no_repeat keys rising at s =
+    let p = placed keys at s.entry s.stands in
+    let q = placed keys s.earlier s.other s.stood in
+    let later = key_at keys at p.key p.there in
+    let sooner = key_at keys s.earlier q.key q.there in
+    let less : get_or keys s.earlier 0 < get_or keys at 0 =
+    AllPairs-from_increasing keys rising s.earlier at 0 s.before (slice_get_within keys at p.key p.there) in
+    let same : q.key ≡ p.key = sym (ap (λ (x : ℕ × ℕ). x.1) q.is) ∙ (s.same ∙ ap (λ (x : ℕ × ℕ). x.1) p.is) in
+    omega arith
+
+module _ (keys : List ℕ) (cards : ℕ) (rising : IsStrictlyIncreasing keys) (real : All (λ k. k ≤ greatest_key) keys) where
+  -- the entries can open
+  can_open : CanOpen 1 (entries keys)
+  can_open = record {
+    faultless = λ at. (no_stranger keys at, no_repeat keys rising at);
+    real = All-map (λ entry. entry.1 ≤ greatest_key) entry_of keys real;
+  }
+
+  -- the workers are the first one alone
+  workers_are : (i : ℕ) → first_alone (idle (ledger_of (absent keys)) (λ _. false)) i ≡ idle (opening_ledger (entries keys) i) (λ _. false)
+  workers_are zero = λ t. idle (λ k. sym (first_ledger keys k) t) (λ _. false)
+  workers_are (suc i) = λ t. idle (λ k. sym (other_ledger keys i k) t) (λ _. false)
+
+  -- so the state is the opening
+  state_is : opening_of_one keys cards ≡ opening 1 (entries keys) cards
+  unfolding opening
+  state_is = λ t. record { words = opening_words; worker = λ i. workers_are i t; count = 1; cards = cards }
+
+-- one worker that owns all keys can open
+pub one_worker_opens : OneWorkerOpens
+one_worker_opens keys cards rising real =
+    let can = can_open keys cards rising real in
+    let is = state_is keys cards rising real in record {
+      opens = record { count = 1; owned = entries keys; cards = cards; can = can; opens = is };
+      lawful = subst HasInvariant (sym is) (record {
+        stages = opening_stages;
+        invariant = opening_invariant 1 (entries keys) cards can.faultless can.real;
+      });
+    }

@@ -1,0 +1,98 @@
+use Rattle.std.proofs.Common.{◌≡◌, ℕ, ◌%◌, Option, Some, None, refl, ap, ◌∙◌, inl, inr, ◌⊎◌}
+use Rattle.std.proofs.lemmas.Bool.{cases_eq}
+use Rattle.ell_ops.specs.declared.op.Op.{Op}
+use Rattle.ell_ops.specs.declared.op.Op.TheVariants.{Find, Insert, Delete}
+use Rattle.ell_word.specs.declared.update.State.{State}
+use Rattle.ell_word.specs.declared.update.State.TheVariants as state
+use Rattle.ell_word.specs.Node.{IsInternal}
+use Rattle.ell_word.specs.Word.{unpacked}
+use Rattle.ell_core.specs.declared.event.Stepped.{Stepped}
+use Rattle.ell_core.specs.declared.view.Seen.{Seen}
+use Rattle.ell_core.specs.state.Machine.{Scene}
+use Rattle.ell_core.specs.acts.Searching.{IsClean}
+
+-- a statement holds or is refuted
+abbrev pub Decided : Type 0 → Type 0
+Decided P = P ⊎ (¬ P)
+
+-- a relation has exactly one answer and scene after
+pub record HasOne (R : Stepped → Scene → Type 0) : Type 0 where
+  pub said : Stepped
+  pub after : Scene
+  pub row : R said after
+  pub only : (other : Stepped) (later : Scene) → R other later → (other ≡ said) × (later ≡ after)
+
+-- a relation has no answer and scene after
+abbrev pub HasNone : (Stepped → Scene → Type 0) → Type 0
+HasNone R = (said : Stepped) (after : Scene) → ¬ R said after
+
+-- a relation has exactly one answer and scene after, or none
+abbrev pub Settled : (Stepped → Scene → Type 0) → Type 0
+Settled R = HasOne R ⊎ HasNone R
+
+-- an equation in a first and one in a second argument
+pub ap2 : {A B C : Type 0} (f : A → B → C) {a b : A} {c d : B} → a ≡ b → c ≡ d → f a c ≡ f b d
+ap2 f {b = b} {c = c} e g = ap (λ x. f x c) e ∙ ap (f b) g
+
+-- two relations that do not both have an answer are settled together
+pub settles_either : {R Q : Stepped → Scene → Type 0} → Settled R → Settled Q → ((said other : Stepped) (after later : Scene) → R said after → ¬ Q other later)
+    → Settled (λ said after. R said after ⊎ Q said after)
+settles_either (inl r) q apart = inl (record {
+  said = r.said;
+  after = r.after;
+  row = inl r.row;
+  only = λ other later x. elim x [ inl y ↦ r.only other later y | inr z ↦ absurd (apart r.said other r.after later r.row z) ];
+})
+settles_either (inr r) (inl q) apart = inl (record {
+  said = q.said;
+  after = q.after;
+  row = inr q.row;
+  only = λ other later x. elim x [ inl y ↦ absurd (r other later y) | inr z ↦ q.only other later z ];
+})
+settles_either (inr r) (inr q) apart = inr (λ said after x. elim x [ inl y ↦ r said after y | inr z ↦ q said after z ])
+
+-- an option has a value or none
+pub cases_option : {A : Type 0} (o : Option A) → ((x : A) × (o ≡ Some x)) ⊎ (o ≡ None)
+cases_option None = inr refl
+cases_option (Some x) = inl (x, refl)
+
+-- an option is an insert in hand, or is none of any key
+pub cases_insert : (o : Option Op) → ((key : ℕ) × (o ≡ Some (Insert key))) ⊎ ((key : ℕ) → ¬ (o ≡ Some (Insert key)))
+cases_insert None = inr (λ key e. (cc))
+cases_insert (Some (Find k)) = inr (λ key e. (cc))
+cases_insert (Some (Insert k)) = inl (k, refl)
+cases_insert (Some (Delete k)) = inr (λ key e. (cc))
+
+-- an option is a delete in hand, or is none of any key
+pub cases_delete : (o : Option Op) → ((key : ℕ) × (o ≡ Some (Delete key))) ⊎ ((key : ℕ) → ¬ (o ≡ Some (Delete key)))
+cases_delete None = inr (λ key e. (cc))
+cases_delete (Some (Find k)) = inr (λ key e. (cc))
+cases_delete (Some (Insert k)) = inr (λ key e. (cc))
+cases_delete (Some (Delete k)) = inl (k, refl)
+
+-- an update state is clean or is not
+pub decides_state : (s : State) → Decided (s ≡ state.Clean)
+decides_state state.IFlag = inr (λ e. (cc))
+decides_state state.DFlag = inr (λ e. (cc))
+decides_state state.Mark = inr (λ e. (cc))
+decides_state state.Clean = inl refl
+
+-- an update word is clean or is not
+pub decides_clean : (update : ℕ) → Decided (IsClean update)
+decides_clean update = decides_state (unpacked update).state
+
+-- a node is internal or is not
+pub decides_internal : (node : ℕ) → Decided (IsInternal node)
+decides_internal node = cases_eq (node % 3) 0
+
+-- two options with one name have one value
+pub same_value : {A : Type 0} {o : Option A} {x y : A} → o ≡ Some x → o ≡ Some y → x ≡ y
+same_value e f = cc
+
+-- an option that has a value is not none
+pub some_not_none : {A : Type 0} {o : Option A} {x : A} → o ≡ Some x → ¬ (o ≡ None)
+some_not_none e f = cc
+
+-- a node with an update word is known by both
+pub same_seen : (a : Seen) (node word : ℕ) → a.node ≡ node → a.word ≡ word → a ≡ record { node = node; word = word }
+same_seen a node word e f = ap2 (λ (x y : ℕ). let z : Seen = record { node = x; word = y } in z) e f

@@ -1,0 +1,109 @@
+use Rattle.std.proofs.Common.{◌≡◌, ◌≢◌, ℕ, ◌<◌, inl, inr, true, false, Some, None, [], ◌∷◌, refl, ap, arith, ⊎_elim, subst}
+use Rattle.std.proofs.lemmas.Bool.{cases_eq}
+use Rattle.std.proofs.lemmas.Bool.Decides.{nat_tests}
+use Rattle.ell_ops.specs.declared.op.Op.TheVariants.{Insert}
+use Rattle.ell_word.specs.declared.update.State.TheVariants as state
+use Rattle.ell_word.specs.declared.gate.Kind.TheVariants as kind
+use Rattle.ell_core.specs.declared.event.Act.TheVariants as act
+use Rattle.ell_core.specs.declared.event.Shown.TheVariants as shown
+use Rattle.ell_core.specs.declared.event.Stepped.TheVariants.{Moved, Won}
+use Rattle.ell_core.specs.declared.fact.Fact.TheVariants.{IFlagged}
+use Rattle.ell_core.specs.state.Machine.{Worker, idle}
+use Rattle.ell_core.specs.state.Opening.{opening}
+use Rattle.ell_core.specs.tree.Tree.{infinity2, Reached}
+use Rattle.ell_core.specs.acts.Runs.{Run}
+use Rattle.ell_core.specs.soundness.Sound.{Owns}
+use Rattle.ell_core.specs.statements.RunLaws.{IsOpening}
+use Rattle.ell_core.specs.statements.Refuted.{WordsAlwaysRise, NextCardIsFixed, FlaggedNodesAreFrozen, NothingIsLearnt, ChildExchangesComeFirst, OneLedgerForAll, InsertsAddTheNextKey, AnswersAreOfTheSetAfter, BusyOwnersFindClean, SplitsMayTeach}
+use Rattle.ell_core.proofs.following.Sound.{sound}
+use Rattle.ell_core.proofs.runs.Lawful.{passed_has, keys_change}
+use Rattle.ell_core.proofs.runs.Passed.{openings_open, follows_itself}
+use Rattle.ell_core.proofs.runs.SmallRun.{opened, begun_state, down_state, claimed_state, flagged_state, changed_state, over_state, answered_state, by, begins, reads, read_state, owned, can_open, goes_down, claims_card, flags_root, changes_child, answers, opened_passed, down_passed, claimed_passed, flagged_passed, over_passed, follows}
+
+-- the opening follows itself
+pub no_rise : ¬ WordsAlwaysRise
+no_rise rises = let h : 3 < 3 = rises opened opened (follows_itself opened opened_passed) 0 in omega arith
+
+-- card 1 is filled when it is claimed
+pub not_fixed : ¬ NextCardIsFixed
+not_fixed fixed =
+    let later = follows down_state (by act.Claim) Moved claimed_state down_passed claims_card in
+    let h : ◌≡◌ {A = ℕ} 1 0 = (fixed down_state claimed_state later).l in omega arith
+
+-- the child of the flagged root is exchanged
+pub not_frozen : ¬ FlaggedNodesAreFrozen
+not_frozen frozen =
+    let later = follows flagged_state (by (act.IChild 1)) Won changed_state flagged_passed changes_child in
+    let same = frozen flagged_state changed_state later 0 (λ e. let f : state.IFlag ≡ state.Clean = e in cc) in
+    let h : ◌≡◌ {A = ℕ} 3 1 = same.child false in omega arith
+
+-- a won flag is known
+pub some_learnt : ¬ NothingIsLearnt
+some_learnt known =
+    let later = follows claimed_state (by act.IFlag) Won flagged_state claimed_passed flags_root in
+    let h : false ≡ true = known claimed_state flagged_state later 0 (IFlagged 1) refl in cc
+
+-- worker 1 does not own key 5
+pub ledgers_differ : ¬ OneLedgerForAll
+ledgers_differ same =
+    let h : None ≡ Some false = ap (λ ledger. ledger 5) (same opened (by (act.Begin (Insert 5))) Moved begun_state opened_passed begins 1) in cc
+
+-- key 5 came into the tree, which is that of card 1
+pub next_key_wrong : ¬ InsertsAddTheNextKey
+next_key_wrong adds =
+    let shows = changes_child in
+    let right = keys_change flagged_state (by (act.IChild 1)) (shown.Step Won) changed_state flagged_passed shows in
+    let wrong = adds flagged_state (by (act.IChild 1)) 1 changed_state flagged_passed refl shows in
+    ⊎_elim right.absent (λ e. let h : 5 ≡ infinity2 = e in omega arith) ((wrong.keys 5).0 ((right.keys 5).1 (inr refl)))
+
+-- the set after an insert has its key
+pub after_wrong : ¬ AnswersAreOfTheSetAfter
+after_wrong after =
+    let h : true ≡ false = after over_state (by act.Answer) (Insert 5) true answered_state over_passed refl answers in cc
+
+-- no other worker owns a key
+none_else : (j k : ℕ) → j ≢ 0 → (flagged_state.worker j).ledger k ≡ None
+none_else j k other = grind (arith, nat_tests)
+
+-- worker 0 owns all keys that any worker owns
+owns_all : (j k : ℕ) → Owns (flagged_state.worker j) k → Owns (flagged_state.worker 0) k
+owns_all j k owns = ⊎_elim (λ e. subst (λ i. Owns (flagged_state.worker i) k) e owns) (λ other. absurd (owns (none_else j k other))) (cases_eq j 0)
+
+-- its own flag stands
+pub busy_finds_flag : ¬ BusyOwnersFindClean
+busy_finds_flag finds =
+    let there : Reached flagged_state.words 0 = record { path = []; leads = refl } in
+    let h : state.IFlag ≡ state.Clean = finds flagged_state 0 flagged_passed owns_all 0 there refl in cc
+
+-- a worker without a key that knows everything
+abbrev all_knowing : Worker
+all_knowing = idle (λ _. None) (λ _. true)
+
+-- it knows of a flag of card 1, which is no insert's
+pub no_teaching : ¬ SplitsMayTeach
+no_teaching teach =
+    let has = passed_has opened opened_passed in
+    let after = teach opened has.stages 0 (opened.worker 0) all_knowing has.invariant (omega arith) refl refl refl (λ key. inl (refl, refl)) (λ fact known. known) in
+    let facts = (sound _ has.stages after).facts in
+    let h : true ≡ false = (facts 2 (IFlagged 1) refl).0 in cc
+
+-- the events up to the flag
+to_flag : Run opened (by (act.Begin (Insert 5)) ∷ by act.Upd ∷ by act.Down ∷ by act.Claim ∷ by act.IFlag ∷ [])
+    (shown.Step Moved ∷ shown.Step Moved ∷ shown.Step Moved ∷ shown.Step Moved ∷ shown.Step Won ∷ []) flagged_state
+to_flag =
+    (begun_state, begins, (read_state, reads, (down_state, goes_down, (claimed_state, claims_card, (flagged_state, flags_root, refl)))))
+
+opens : IsOpening opened
+unfolding opening
+opens = openings_open 2 owned 4 can_open
+
+-- the first win of card 1 is its flag
+pub child_not_first : ¬ ChildExchangesComeFirst
+unfolding to_flag
+child_not_first first =
+    ⊎_elim (λ begins. let h : kind.IFlag ∷ begins.rest ≡ kind.IChild ∷ kind.IFlag ∷ kind.IUnflag ∷ [] = begins.together in cc)
+    (⊎_elim (λ begins. let h : kind.IFlag ∷ begins.rest ≡ kind.DFlag ∷ kind.Mark ∷ kind.DChild ∷ kind.DUnflag ∷ [] = begins.together in cc)
+    (λ begins. let h : kind.IFlag ∷ begins.rest ≡ kind.DFlag ∷ kind.Backtrack ∷ [] = begins.together in cc))
+    (first opened
+    (by (act.Begin (Insert 5)) ∷ by act.Upd ∷ by act.Down ∷ by act.Claim ∷ by act.IFlag ∷ [])
+    (shown.Step Moved ∷ shown.Step Moved ∷ shown.Step Moved ∷ shown.Step Moved ∷ shown.Step Won ∷ []) flagged_state opens to_flag 1)

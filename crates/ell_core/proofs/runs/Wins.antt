@@ -1,0 +1,27 @@
+use Rattle.std.proofs.Common.{ℕ, zero, suc, ◌≡◌, inl, inr, [], ◌∷◌, refl}
+use Rattle.ell_word.specs.declared.gate.Kind.TheVariants as kind
+use Rattle.ell_core.specs.history.Stages.{Stage, Unclaimed, Opening, IClaimed, IFlagged, IChanged, IOver, DClaimed, DFlagged, DUnmarkable, DMarked, DCut, DOver, DBacked}
+use Rattle.ell_core.specs.history.Later.{wins_of}
+use Rattle.ell_core.specs.statements.RunLaws.{insert_order, cut_order, InOrder}
+use Rattle.ell_core.proofs.opening.Invariant.{opening_stages}
+
+-- the wins of a card up to each stage are in order
+pub stage_wins : (s : Stage) → InOrder (wins_of s)
+stage_wins Unclaimed = inl (record { rest = insert_order; together = refl })
+stage_wins Opening = inl (record { rest = insert_order; together = refl })
+stage_wins IClaimed = inl (record { rest = insert_order; together = refl })
+stage_wins IFlagged = inl (record { rest = kind.IChild ∷ kind.IUnflag ∷ []; together = refl })
+stage_wins IChanged = inl (record { rest = kind.IUnflag ∷ []; together = refl })
+stage_wins IOver = inl (record { rest = []; together = refl })
+stage_wins DClaimed = inr (inl (record { rest = cut_order; together = refl }))
+stage_wins DFlagged = inr (inl (record { rest = kind.Mark ∷ kind.DChild ∷ kind.DUnflag ∷ []; together = refl }))
+stage_wins DUnmarkable = inr (inr (record { rest = kind.Backtrack ∷ []; together = refl }))
+stage_wins DMarked = inr (inl (record { rest = kind.DChild ∷ kind.DUnflag ∷ []; together = refl }))
+stage_wins DCut = inr (inl (record { rest = kind.DUnflag ∷ []; together = refl }))
+stage_wins DOver = inr (inl (record { rest = []; together = refl }))
+stage_wins DBacked = inr (inr (record { rest = []; together = refl }))
+
+-- nothing was won at the opening
+pub opening_wins : (c : ℕ) → wins_of (opening_stages c) ≡ []
+opening_wins zero = refl
+opening_wins (suc c) = refl

@@ -1,0 +1,16 @@
+-- How one stage of a card follows another, and what an event does to the stages of the cards and to their wins.
+pub mod Advances
+-- The effective ledgers by the stages of the cards: what counts where a card has made something of its key, nothing, or the same.
+pub mod Counts
+-- What a card's stage allows to be known holds of the words, and what the phase of its words has settled, its stage made.
+pub mod Holding
+-- Of what kind each card is after an event: what later words and stages keep.
+pub mod Kinds
+-- The keys of nodes and cards in later words are as they were, and so are the sides on which they are.
+pub mod LaterKeys
+-- What the stages say of each other.
+pub mod Order
+-- What was told of a card stays so in later words.
+pub mod Told
+-- Which cards wait for their flag.
+pub mod Waiting

@@ -1,0 +1,136 @@
+use Rattle.std.proofs.Common.{◌≡◌, ℕ, true, [], ◌∷◌, ◌++◌, Some, inl, inr, refl, subst, arith}
+use Rattle.std.proofs.lemmas.Bool.{cases_eq, false≢true}
+use Rattle.std.proofs.lemmas.Bool.Decides.{nat_tests}
+use Rattle.ell_word.specs.Node.{card}
+use Rattle.ell_word.specs.declared.gate.Kind.{Kind}
+use Rattle.ell_core.specs.declared.fact.Fact.{Fact}
+use Rattle.ell_core.specs.state.Words.{put}
+use Rattle.ell_core.specs.history.Stages.{Stage, Stages, IClaimed, IFlagged, IChanged, IOver, DClaimed, DFlagged, DUnmarkable, DMarked, DCut, DOver, DBacked, is_claimed, is_insert, is_delete, is_born, made_of, allows}
+use Rattle.ell_core.specs.history.Later.{StagesLater, wins_of, win_for}
+use Rattle.ell_core.proofs.words.Writes.{put_cases}
+
+-- stages that did not change are later
+pub stages_same : (stage : Stages) → StagesLater stage stage
+stages_same stage = record { insert = λ c h. h; delete = λ c h. h; born = λ x h. h; told = λ fact c h. h }
+
+-- a stage follows another: same kind, born if that was, and allows what that allowed
+pub record StageLater (old new : Stage) : Type 0 where
+  pub insert : is_insert old ≡ true → is_insert new ≡ true
+  pub delete : is_delete old ≡ true → is_delete new ≡ true
+  pub born : is_born old ≡ true → is_born new ≡ true
+  pub told : (fact : Fact) → allows fact old ≡ true → allows fact new ≡ true
+
+-- the stages are later with a later stage of one card
+pub stages_put : (stage : Stages) (c : ℕ) (new : Stage) → StageLater (stage c) new → StagesLater stage (put stage c new)
+stages_put stage c new h = record {
+  insert = λ d g. put_cases (λ s. is_insert s ≡ true) stage c new d (λ e. h.insert (subst (λ n. is_insert (stage n) ≡ true) e g)) (λ n. g);
+  delete = λ d g. put_cases (λ s. is_delete s ≡ true) stage c new d (λ e. h.delete (subst (λ n. is_delete (stage n) ≡ true) e g)) (λ n. g);
+  born = λ x g. put_cases (λ s. is_born s ≡ true) stage c new (card x) (λ e. h.born (subst (λ n. is_born (stage n) ≡ true) e g)) (λ n. g);
+  told = λ fact d g. put_cases (λ s. allows fact s ≡ true) stage c new d (λ e. h.told fact (subst (λ n. allows fact (stage n) ≡ true) e g)) (λ n. g);
+}
+
+-- where nothing is won, the wins of each card stay
+pub wins_same : (s : Stage) → wins_of s ≡ wins_of s ++ []
+wins_same s = grind arith
+
+-- where a card wins and goes to a stage with that win, the wins grow by just that
+pub wins_put : (stage : Stages) (c : ℕ) (new : Stage) (k : Kind) → wins_of new ≡ wins_of (stage c) ++ k ∷ []
+    → (d : ℕ) → wins_of (put stage c new d) ≡ wins_of (stage d) ++ win_for (Some c) k d
+wins_put stage c new k h d = elim (cases_eq d c) [
+  | inl e ↦ grind (arith, nat_tests)
+  | inr n ↦ grind (arith, nat_tests)
+]
+
+-- where a card goes to a stage without a win, the wins of each card stay
+pub wins_kept : (stage : Stages) (c : ℕ) (new : Stage) → wins_of new ≡ wins_of (stage c) → (d : ℕ) → wins_of (put stage c new d) ≡ wins_of (stage d) ++ []
+wins_kept stage c new h d = elim (cases_eq d c) [
+  | inl e ↦ grind (arith, nat_tests)
+  | inr n ↦ grind (arith, nat_tests)
+]
+
+-- two stages of one kind of card, which is in the tree at both or at neither, and has made the same of its key
+pub record SameKind (old new : Stage) : Type 0 where
+  pub claimed : is_claimed new ≡ is_claimed old
+  pub insert : is_insert new ≡ is_insert old
+  pub delete : is_delete new ≡ is_delete old
+  pub born : is_born new ≡ is_born old
+  pub made : made_of new ≡ made_of old
+
+-- a stage is of its own kind
+pub same_kind : (s : Stage) → SameKind s s
+same_kind s = record { claimed = refl; insert = refl; delete = refl; born = refl; made = refl }
+
+-- an insert is flagged after it was claimed
+pub iflag_later : StageLater IClaimed IFlagged
+iflag_later = record { insert = λ h. refl; delete = λ h. absurd (false≢true h); born = λ h. absurd (false≢true h); told = told } where
+  told : (f : Fact) → allows f IClaimed ≡ true → allows f IFlagged ≡ true
+  told f h = grind arith
+
+pub iflag_kind : SameKind IClaimed IFlagged
+iflag_kind = record { claimed = refl; insert = refl; delete = refl; born = refl; made = refl }
+
+-- its child exchange is made after that
+pub ichild_later : StageLater IFlagged IChanged
+ichild_later = record { insert = λ h. refl; delete = λ h. absurd (false≢true h); born = λ h. refl; told = told } where
+  told : (f : Fact) → allows f IFlagged ≡ true → allows f IChanged ≡ true
+  told f h = grind arith
+
+-- and it is over after that
+pub iunflag_later : StageLater IChanged IOver
+iunflag_later = record { insert = λ h. refl; delete = λ h. absurd (false≢true h); born = λ h. refl; told = told } where
+  told : (f : Fact) → allows f IChanged ≡ true → allows f IOver ≡ true
+  told f h = grind arith
+
+pub iunflag_kind : SameKind IChanged IOver
+iunflag_kind = record { claimed = refl; insert = refl; delete = refl; born = refl; made = refl }
+
+-- a delete is flagged after it was claimed
+pub dflag_later : StageLater DClaimed DFlagged
+dflag_later = record { insert = λ h. absurd (false≢true h); delete = λ h. refl; born = λ h. absurd (false≢true h); told = told } where
+  told : (f : Fact) → allows f DClaimed ≡ true → allows f DFlagged ≡ true
+  told f h = grind arith
+
+pub dflag_kind : SameKind DClaimed DFlagged
+dflag_kind = record { claimed = refl; insert = refl; delete = refl; born = refl; made = refl }
+
+-- it is marked after that
+pub mark_later : StageLater DFlagged DMarked
+mark_later = record { insert = λ h. absurd (false≢true h); delete = λ h. refl; born = λ h. absurd (false≢true h); told = told } where
+  told : (f : Fact) → allows f DFlagged ≡ true → allows f DMarked ≡ true
+  told f h = grind arith
+
+pub mark_kind : SameKind DFlagged DMarked
+mark_kind = record { claimed = refl; insert = refl; delete = refl; born = refl; made = refl }
+
+-- or can't be marked any more
+pub unmarkable_later : StageLater DFlagged DUnmarkable
+unmarkable_later = record { insert = λ h. absurd (false≢true h); delete = λ h. refl; born = λ h. absurd (false≢true h); told = told } where
+  told : (f : Fact) → allows f DFlagged ≡ true → allows f DUnmarkable ≡ true
+  told f h = grind arith
+
+pub unmarkable_kind : SameKind DFlagged DUnmarkable
+unmarkable_kind = record { claimed = refl; insert = refl; delete = refl; born = refl; made = refl }
+
+-- it cuts after it was marked
+pub dchild_later : StageLater DMarked DCut
+dchild_later = record { insert = λ h. absurd (false≢true h); delete = λ h. refl; born = λ h. absurd (false≢true h); told = told } where
+  told : (f : Fact) → allows f DMarked ≡ true → allows f DCut ≡ true
+  told f h = grind arith
+
+-- and is over after that
+pub dunflag_later : StageLater DCut DOver
+dunflag_later = record { insert = λ h. absurd (false≢true h); delete = λ h. refl; born = λ h. absurd (false≢true h); told = told } where
+  told : (f : Fact) → allows f DCut ≡ true → allows f DOver ≡ true
+  told f h = grind arith
+
+pub dunflag_kind : SameKind DCut DOver
+dunflag_kind = record { claimed = refl; insert = refl; delete = refl; born = refl; made = refl }
+
+-- and its flag is taken back after it could not be marked any more
+pub backtrack_later : StageLater DUnmarkable DBacked
+backtrack_later = record { insert = λ h. absurd (false≢true h); delete = λ h. refl; born = λ h. absurd (false≢true h); told = told } where
+  told : (f : Fact) → allows f DUnmarkable ≡ true → allows f DBacked ≡ true
+  told f h = grind arith
+
+pub backtrack_kind : SameKind DUnmarkable DBacked
+backtrack_kind = record { claimed = refl; insert = refl; delete = refl; born = refl; made = refl }

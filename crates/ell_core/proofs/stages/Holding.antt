@@ -1,0 +1,221 @@
+use Rattle.std.proofs.Common.{◌≡◌, ℕ, ◌<◌, ◌≤◌, ◌==◌, ◌⊎◌, if◌then◌else◌, Bool, true, false, Option, Some, None, inl, inr, refl, sym, ap, ◌∙◌, subst, arith}
+use Rattle.std.proofs.lemmas.Bool.{false≢true, cond-true, cond-false, eq-eqb, ne_eqb, cases_eq}
+use Rattle.std.proofs.lemmas.Bool.Decides.{nat_tests}
+use Rattle.ell_ops.specs.declared.op.Op.{Op}
+use Rattle.ell_ops.specs.declared.op.Op.TheVariants.{Find, Insert, Delete}
+use Rattle.ell_ops.specs.Meaning.{key_of}
+use Rattle.ell_word.specs.Node.{internal}
+use Rattle.ell_core.specs.declared.fact.Fact.{Fact}
+use Rattle.ell_core.specs.declared.fact.Fact.TheVariants as fact
+use Rattle.ell_core.specs.state.Words.{Words}
+use Rattle.ell_core.specs.state.Facts.{card_of_fact}
+use Rattle.ell_core.specs.state.Machine.{Ledger, Worker}
+use Rattle.ell_core.specs.state.Cards.{iflag, dflag, marked, is_right, is_delete_card, card_child}
+use Rattle.ell_core.specs.soundness.Holds.{IFlagHolds, IChangeHolds, DFlagHolds, MarkHolds, UnmarkableHolds, CutHolds, Holds, phase, insert_phase, delete_phase, settled, with_settled, effective_of, effective}
+use Rattle.ell_core.specs.history.Stages.{Stage, Stages, is_insert, is_delete, insert_won, insert_open, insert_waits, is_changed, insert_over, delete_won, delete_open, delete_waits, is_unmarkable, is_marked, is_cut, delete_past, delete_over, is_backed, allows, made_of, staged_of, staged}
+use Rattle.ell_core.specs.history.Stages as at
+use Rattle.ell_core.specs.soundness.Holds as done
+use Rattle.ell_core.specs.history.Invariant.{insert_key, delete_key, insert_side, delete_side, WordsAreSound, Flagged, WorkerIsSound}
+use Rattle.ell_core.proofs.stages.Order.{changed-won, cut-marked, delete_won-delete, insert_over-changed, insert_won-insert, marked-won}
+use Rattle.ell_core.proofs.words.Sides.{insert_key-side}
+
+insert_won-cases : (s : Stage) → insert_won s ≡ true → (insert_open s ≡ true) ⊎ (insert_over s ≡ true)
+insert_won-cases at.IFlagged h = inl refl
+insert_won-cases at.IChanged h = inl refl
+insert_won-cases at.IOver h = inr refl
+insert_won-cases _ h = absurd (false≢true h)
+
+delete_won-cases : (s : Stage) → delete_won s ≡ true → (delete_open s ≡ true) ⊎ (delete_past s ≡ true)
+delete_won-cases at.DFlagged h = inl refl
+delete_won-cases at.DUnmarkable h = inl refl
+delete_won-cases at.DMarked h = inl refl
+delete_won-cases at.DCut h = inl refl
+delete_won-cases at.DOver h = inr refl
+delete_won-cases at.DBacked h = inr refl
+delete_won-cases _ h = absurd (false≢true h)
+
+delete_over-cut : (s : Stage) → delete_over s ≡ true → (is_cut s ≡ true) × (delete_past s ≡ true)
+delete_over-cut s h = (grind arith, grind arith)
+
+unmarkable-won : (s : Stage) → is_unmarkable s ≡ true → (delete_won s ≡ true) × (is_marked s ≡ false)
+unmarkable-won s h = (grind arith, grind arith)
+
+backed-unmarkable : (s : Stage) → is_backed s ≡ true → (is_unmarkable s ≡ true) × (delete_past s ≡ true)
+backed-unmarkable s h = (grind arith, grind arith)
+
+-- what is over is past, and what stands is the same: either is no less
+no_less : (flag update : ℕ) → (update ≡ flag) ⊎ (flag < update) → flag ≤ update
+no_less flag update (inl e) = omega arith
+no_less flag update (inr h) = omega arith
+
+-- the phase of an insert that won its flag has settled what its stage made
+settled_insert : (s : Stage) (update flag child leaf : ℕ) → insert_won s ≡ true
+    → (insert_open s ≡ true → update ≡ flag) → (insert_over s ≡ true → flag < update)
+    → (insert_waits s ≡ true → child ≡ leaf) → (is_changed s ≡ true → leaf < child)
+    → settled (if update == flag then (if child == leaf then done.IFlagged else done.IChanged) else done.IOver) ≡ made_of s
+settled_insert at.IFlagged update flag child leaf won opened over waits changed =
+    let a = opened refl in let b = waits refl in grind (arith, nat_tests)
+settled_insert at.IChanged update flag child leaf won opened over waits changed =
+    let a = opened refl in let b = changed refl in grind (arith, nat_tests)
+settled_insert at.IOver update flag child leaf won opened over waits changed =
+    let a = over refl in grind (arith, nat_tests)
+settled_insert _ update flag child leaf won opened over waits changed = absurd (false≢true won)
+
+-- the phase of a delete that won its flag has settled what its stage made
+settled_delete : (s : Stage) (update flag below mark child parent : ℕ) → delete_won s ≡ true
+    → (delete_open s ≡ true → update ≡ flag) → (delete_past s ≡ true → flag < update)
+    → (delete_waits s ≡ true → child ≡ parent) → (is_cut s ≡ true → parent < child)
+    → (is_marked s ≡ true → below ≡ mark) → (below ≡ mark → is_marked s ≡ true)
+    → settled (if update == flag
+    then (if below == mark then (if child == parent then done.DMarked else done.DCut) else done.DFlagged)
+    else (if below == mark then done.DOver else done.DBacktracked)) ≡ made_of s
+settled_delete at.DFlagged update flag below mark child parent won opened past waits cut marks marked =
+    let a = opened refl in
+    elim (cases_eq below mark) [ inl e ↦ absurd (false≢true (marked e)) | inr n ↦ grind (arith, nat_tests) ]
+settled_delete at.DUnmarkable update flag below mark child parent won opened past waits cut marks marked =
+    let a = opened refl in
+    elim (cases_eq below mark) [ inl e ↦ absurd (false≢true (marked e)) | inr n ↦ grind (arith, nat_tests) ]
+settled_delete at.DMarked update flag below mark child parent won opened past waits cut marks marked =
+    let a = opened refl in let b = marks refl in let c = waits refl in grind (arith, nat_tests)
+settled_delete at.DCut update flag below mark child parent won opened past waits cut marks marked =
+    let a = opened refl in let b = marks refl in let c = cut refl in grind (arith, nat_tests)
+settled_delete at.DOver update flag below mark child parent won opened past waits cut marks marked =
+    let a = past refl in let b = marks refl in grind (arith, nat_tests)
+settled_delete at.DBacked update flag below mark child parent won opened past waits cut marks marked =
+    let a = past refl in
+    elim (cases_eq below mark) [ inl e ↦ absurd (false≢true (marked e)) | inr n ↦ grind (arith, nat_tests) ]
+settled_delete _ update flag below mark child parent won opened past waits cut marks marked = absurd (false≢true won)
+
+-- the words are sound at these stages
+module _ (w : Words) (stage : Stages) (sound : WordsAreSound w stage) where
+  -- an insert's card by its words
+  pub insert_kind : (c : ℕ) → is_insert (stage c) ≡ true → is_delete_card w c ≡ false
+  insert_kind c h = ne_eqb (w.child (internal c) false) 0 ((sound.cards c).insert h).left_child
+
+  -- a delete's card by its words
+  pub delete_kind : (c : ℕ) → is_delete (stage c) ≡ true → is_delete_card w c ≡ true
+  delete_kind c h = eq-eqb (w.child (internal c) false) 0 ((sound.cards c).delete h).no_left_child
+
+  -- the child on the side of a card's own key is the one that its exchange is about
+  pub insert_card_child : (c : ℕ) → is_insert (stage c) ≡ true → card_child w c (w.p c) ≡ w.child (w.p c) (insert_side w c)
+  insert_card_child c h =
+      ap (λ k. w.child (w.p c) (is_right w (w.p c) k))
+      (cond-false (is_delete_card w c) (delete_key w c) (insert_key w c) (insert_kind c h))
+      ∙ ap (w.child (w.p c)) (insert_key-side w stage c ((sound.cards c).insert h))
+
+  -- the same of a delete
+  pub delete_card_child : (c : ℕ) → is_delete (stage c) ≡ true → card_child w c (w.gp c) ≡ w.child (w.gp c) (delete_side w c)
+  delete_card_child c h =
+      ap (λ k. w.child (w.gp c) (is_right w (w.gp c) k))
+      (cond-true (is_delete_card w c) (delete_key w c) (insert_key w c) (delete_kind c h))
+
+  -- what each fact says, of a card whose stage allows it
+  iflag_holds : (c : ℕ) → insert_won (stage c) ≡ true → IFlagHolds w c
+  iflag_holds c h = (
+    insert_kind c (insert_won-insert (stage c) h),
+    no_less (iflag c) (w.update (w.p c)) (elim (insert_won-cases (stage c) h) [
+      | inl opened ↦ inl ((sound.inserts c).flag opened)
+      | inr over ↦ inr ((sound.inserts c).over over)
+    ]),
+  )
+
+  ichange_holds : (c : ℕ) → is_changed (stage c) ≡ true → IChangeHolds w c
+  ichange_holds c h =
+      let won = changed-won (stage c) h in (
+        iflag_holds c won,
+        λ e.
+            let past = (sound.inserts c).changed h in
+            let child = insert_card_child c (insert_won-insert (stage c) won) in
+            absurd (omega arith),
+      )
+
+  dflag_holds : (c : ℕ) → delete_won (stage c) ≡ true → DFlagHolds w c
+  dflag_holds c h = (
+    delete_kind c (delete_won-delete (stage c) h),
+    no_less (dflag c) (w.update (w.gp c)) (elim (delete_won-cases (stage c) h) [
+      | inl opened ↦ inl ((sound.deletes c).flag opened)
+      | inr past ↦ inr ((sound.deletes c).past past)
+    ]),
+  )
+
+  mark_holds : (c : ℕ) → is_marked (stage c) ≡ true → MarkHolds w c
+  mark_holds c h = (dflag_holds c (marked-won (stage c) h), ((sound.deletes c).marked h).mark)
+
+  -- the mark at a delete's parent is the mark of a delete that set it
+  pub mark_means : (c : ℕ) → is_delete (stage c) ≡ true → w.update (w.p c) ≡ marked c → is_marked (stage c) ≡ true
+  mark_means c h e =
+      let parent = ((sound.cards c).delete h).parent in
+      ((sound.updates (w.p c) parent.inner parent.born).marked c e).0
+
+  unmarkable_holds : (c : ℕ) → is_unmarkable (stage c) ≡ true → UnmarkableHolds w c
+  unmarkable_holds c h =
+      let won = unmarkable-won (stage c) h in (
+        dflag_holds c won.0,
+        (sound.deletes c).unmarkable h,
+        λ e. false≢true (sym won.1 ∙ mark_means c (delete_won-delete (stage c) won.0) e),
+      )
+
+  cut_holds : (c : ℕ) → is_cut (stage c) ≡ true → CutHolds w c
+  cut_holds c h =
+      let mark = cut-marked (stage c) h in (
+        mark_holds c mark,
+        λ e.
+            let past = ((sound.deletes c).cut h).past in
+            let child = delete_card_child c (delete_won-delete (stage c) (marked-won (stage c) mark)) in
+            absurd (omega arith),
+      )
+
+  -- what a stage allows to be known of its card holds of the words
+  pub fact_holds : (known : Fact) → allows known (stage (card_of_fact known)) ≡ true → Holds w known
+  fact_holds (fact.IFlagged c) h = iflag_holds c h
+  fact_holds (fact.IChanged c) h = ichange_holds c h
+  fact_holds (fact.IOver c) h = (ichange_holds c (insert_over-changed (stage c) h), (sound.inserts c).over h)
+  fact_holds (fact.DFlagged c) h = dflag_holds c h
+  fact_holds (fact.Marked c) h = mark_holds c h
+  fact_holds (fact.Unmarkable c) h = unmarkable_holds c h
+  fact_holds (fact.Cut c) h = cut_holds c h
+  fact_holds (fact.DOver c) h =
+      let over = delete_over-cut (stage c) h in (cut_holds c over.0, (sound.deletes c).past over.1)
+  fact_holds (fact.Backed c) h =
+      let backed = backed-unmarkable (stage c) h in (unmarkable_holds c backed.0, (sound.deletes c).past backed.1)
+
+  -- what the phase of a card that won its flag has settled, its stage made
+  pub insert_settled : (c : ℕ) → insert_won (stage c) ≡ true → settled (phase w c) ≡ made_of (stage c)
+  insert_settled c h =
+      let kind = insert_won-insert (stage c) h in
+      let child = insert_card_child c kind in
+      let says = sound.inserts c in
+      ap settled (cond-false (is_delete_card w c) (delete_phase w c) (insert_phase w c) (insert_kind c kind))
+      ∙ settled_insert (stage c) (w.update (w.p c)) (iflag c) (card_child w c (w.p c)) (w.l c) h says.flag says.over
+      (λ g. child ∙ says.waits g) (λ g. subst (λ n. w.l c < n) (sym child) (says.changed g))
+
+  -- the same of a delete
+  pub delete_settled : (c : ℕ) → delete_won (stage c) ≡ true → settled (phase w c) ≡ made_of (stage c)
+  delete_settled c h =
+      let kind = delete_won-delete (stage c) h in
+      let child = delete_card_child c kind in
+      let says = sound.deletes c in
+      ap settled (cond-true (is_delete_card w c) (delete_phase w c) (insert_phase w c) (delete_kind c kind))
+      ∙ settled_delete (stage c) (w.update (w.gp c)) (dflag c) (w.update (w.p c)) (marked c) (card_child w c (w.gp c)) (w.p c)
+      h says.flag says.past (λ g. child ∙ says.waits g) (λ g. subst (λ n. w.p c < n) (sym child) (says.cut g).past)
+      (λ g. (says.marked g).mark) (mark_means c kind)
+
+  -- the same of the card that a worker has in hand, flagged
+  flagged_settled : (v : Worker) (op : Op) (c : ℕ) → Flagged w stage v op c → settled (phase w c) ≡ made_of (stage c)
+  flagged_settled v (Find k) c h = absurd h
+  flagged_settled v (Insert k) c h = insert_settled c h.0
+  flagged_settled v (Delete k) c h = delete_settled c h.0
+
+  -- so the effective ledger is that of the stages, whatever is in hand
+  effective_of-staged : (ledger : Ledger) (operation : Option Op) (card : Option ℕ) (flagged : Bool)
+      → ((op : Op) (c : ℕ) → operation ≡ Some op → card ≡ Some c → flagged ≡ true → settled (phase w c) ≡ made_of (stage c))
+      → effective_of w ledger operation card flagged ≡ staged_of stage ledger operation card flagged
+  effective_of-staged ledger (Some op) (Some c) true h = ap (with_settled ledger (key_of op)) (h op c refl refl refl)
+  effective_of-staged ledger (Some op) (Some c) false h = refl
+  effective_of-staged ledger (Some op) None flagged h = refl
+  effective_of-staged ledger None card flagged h = refl
+
+  -- the effective ledger of a sound worker, by the words and by the stages
+  pub effective-staged : (v : Worker) → WorkerIsSound w stage v → effective w v ≡ staged stage v
+  effective-staged v worker = effective_of-staged v.ledger v.operation v.card v.flagged
+      (λ op c busy holds flagged. flagged_settled v op c (worker.flagged op c busy holds flagged).0)

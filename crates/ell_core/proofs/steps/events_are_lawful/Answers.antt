@@ -1,6 +1,0 @@
--- By the cases of the acts.
-use Rattle.ell_core.proofs.StepsLawful.{events_lawful}
-use Rattle.ell_core.proofs.steps.events_are_lawful.Goals as goal
-
-pub returns : goal.returns
-returns c = events_lawful

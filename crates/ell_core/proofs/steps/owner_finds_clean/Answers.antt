@@ -1,6 +1,0 @@
--- A flag would be in the hand of an owner of its key.
-use Rattle.ell_core.proofs.StepsRely.{owner_finds_clean}
-use Rattle.ell_core.proofs.steps.owner_finds_clean.Goals as goal
-
-pub returns : goal.returns
-returns c = owner_finds_clean

@@ -1,6 +1,0 @@
--- Read off the invariant.
-use Rattle.ell_core.proofs.StepsRely.{may_rely}
-use Rattle.ell_core.proofs.steps.steps_may_rely.Goals as goal
-
-pub returns : goal.returns
-returns c = may_rely

@@ -1,0 +1,74 @@
+use Rattle.std.proofs.Common.{◌≡◌, ℕ, ◌<◌, ◌≤◌, Bool, true, false, nat_le, refl, sym, ◌∙◌, subst, arith}
+use Rattle.std.proofs.lemmas.Bool.Decides.{nat_tests}
+use Rattle.ell_word.specs.Node.{IsInternal}
+use Rattle.ell_core.specs.tree.Ranges.{next_node, low_of, high_of, Spans, root, goes, Meets, at_leaf, below, IsOrdered}
+
+-- a walk that ends at the leaf where it starts has the leaf's key
+pub leaf_key : (key : ℕ → ℕ) (child : ℕ → Bool → ℕ) (k x : ℕ) → ¬ IsInternal x → Meets key child k x → key x ≡ k
+leaf_key key child k x outer (at_leaf _ has) = has
+leaf_key key child k x outer (below inner _ _) = absurd (outer inner)
+
+module _ (key : ℕ → ℕ) (child : ℕ → Bool → ℕ) (top : ℕ) (ordered : IsOrdered key child top) where
+  -- the range of a child lies in that of its parent
+  pub child_within : (x low high : ℕ) (t : Bool) → Spans key child top x low high
+      → (low ≤ low_of t low (key x)) × (high_of t high (key x) ≤ high)
+  child_within x low high true r = let w = ordered.within x low high r in (omega arith, omega arith)
+  child_within x low high false r = let w = ordered.within x low high r in (omega arith, omega arith)
+
+  -- a key in the range of a child goes to that child
+  pub side_of : (m k low high : ℕ) (t : Bool) → low_of t low m ≤ k → k < high_of t high m → nat_le m k ≡ t
+  side_of m k low high true a b = grind (arith, nat_tests)
+  side_of m k low high false a b = grind (arith, nat_tests)
+
+  -- a key in the parent's range lies in that of the child that it goes to
+  pub side_within : (m k low high : ℕ) (t : Bool) → nat_le m k ≡ t → low ≤ k → k < high
+      → (low_of t low m ≤ k) × (k < high_of t high m)
+  side_within m k low high true e a b = (grind (arith, nat_tests), b)
+  side_within m k low high false e a b = (a, grind (arith, nat_tests))
+
+  -- a key in the range of x that is met from x is met from node 0
+  pub Meets-up : {k x low high : ℕ} → Spans key child top x low high → low ≤ k → k < high → Meets key child k x
+      → Meets key child k 0
+  Meets-up {k = k} (root e _ _) a b f = subst (Meets key child k) e f
+  Meets-up {k = k} (goes {x = x} {low = low} {high = high} t r i e g h) a b f =
+      let w = child_within x low high t r in
+      let a2 : low_of t low (key x) ≤ k = omega arith in
+      let b2 : k < high_of t high (key x) = omega arith in
+      let d = side_of (key x) k low high t a2 b2 in
+      Meets-up r (omega arith) (omega arith) (below i (cc) f)
+
+  -- a key that is met from a node is met from the next one on its walk
+  pub below_of : {k x y : ℕ} → IsInternal x → y ≡ next_node key child k x → Meets key child k x → Meets key child k y
+  below_of i e (at_leaf h _) = absurd (h i)
+  below_of {k = k} i e (below _ d f) = subst (Meets key child k) (d ∙ sym e) f
+
+  -- a key in the range of x that is met from node 0 is met from x
+  pub Meets-down : {k x low high : ℕ} → Spans key child top x low high → low ≤ k → k < high → Meets key child k 0
+      → Meets key child k x
+  Meets-down {k = k} (root e _ _) a b f = subst (Meets key child k) (sym e) f
+  Meets-down {k = k} (goes {x = x} {low = low} {high = high} t r i e g h) a b f =
+      let w = child_within x low high t r in
+      let a2 : low_of t low (key x) ≤ k = omega arith in
+      let b2 : k < high_of t high (key x) = omega arith in
+      let d = side_of (key x) k low high t a2 b2 in
+      below_of i (cc) (Meets-down r (omega arith) (omega arith) f)
+
+  -- a key that is met from x lies in the range of x
+  pub Meets-within : {k x low high : ℕ} → Meets key child k x → Spans key child top x low high → (low ≤ k) × (k < high)
+  Meets-within {low = low} {high = high} (at_leaf {x = x} h e) r =
+      let w = ordered.within x low high r in (omega arith, omega arith)
+  Meets-within {k = k} {low = low} {high = high} (below {x = x} i e f) r =
+      let w = child_within x low high (nat_le (key x) k) r in
+      let v = Meets-within f (goes (nat_le (key x) k) r i e refl refl) in
+      (omega arith, omega arith)
+
+  -- the leaf where a key is met
+  pub met_leaf : {k x low high : ℕ} → Meets key child k x → Spans key child top x low high
+      → (y a b : ℕ) × Spans key child top y a b × (¬ IsInternal y) × (key y ≡ k)
+  met_leaf {low = low} {high = high} (at_leaf {x = x} h e) r = (x, low, high, r, h, e)
+  met_leaf {k = k} (below {x = x} i e f) r = met_leaf f (goes (nat_le (key x) k) r i e refl refl)
+
+  -- the key of a leaf that is reached is met from node 0
+  pub leaf_is_met : {x low high : ℕ} → Spans key child top x low high → ¬ IsInternal x → Meets key child (key x) 0
+  leaf_is_met {x = x} {low = low} {high = high} r h =
+      let w = ordered.within x low high r in Meets-up r w.0 w.1 (at_leaf h refl)

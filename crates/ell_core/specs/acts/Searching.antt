@@ -1,0 +1,182 @@
+use Rattle.std.specs.Prelude.{◌≡◌, ◌≢◌, ℕ, ◌==◌, if◌then◌else◌, ◌⊎◌, Bool, true, false, Option, Some, None, List}
+use Rattle.ell_ops.specs.declared.op.Op.{Op}
+use Rattle.ell_ops.specs.declared.op.Op.TheVariants.{Find, Insert, Delete}
+use Rattle.ell_ops.specs.Meaning.{key_of}
+use Rattle.ell_word.specs.Node.{IsInternal}
+use Rattle.ell_word.specs.Word.{unpacked}
+use Rattle.ell_word.specs.declared.update.State.TheVariants as state
+use Rattle.ell_core.specs.declared.event.Stepped.{Stepped}
+use Rattle.ell_core.specs.declared.event.Stepped.TheVariants.{Moved, Answered}
+use Rattle.ell_core.specs.declared.fact.Fact.TheVariants.{IOver, DOver, Backed}
+use Rattle.ell_core.specs.declared.view.Seen.{Seen}
+use Rattle.ell_core.specs.declared.view.Search.{Search}
+use Rattle.ell_core.specs.declared.field.Field.{Field}
+use Rattle.ell_core.specs.state.Words.{put}
+use Rattle.ell_core.specs.state.Facts.{Knowledge, learned_any, told_by}
+use Rattle.ell_core.specs.state.Machine.{Ledger, Worker, Scene, no_search}
+use Rattle.ell_core.specs.state.Cards.{child_for, insert_filling, delete_filling, claimed}
+
+-- a leaf is a node that is not internal
+abbrev pub IsLeaf : ℕ → Type 0
+IsLeaf node = ¬ IsInternal node
+
+-- an update word that is clean
+abbrev pub IsClean : ℕ → Type 0
+IsClean update = (unpacked update).state ≡ state.Clean
+
+-- a search that stands at the root and has seen nothing
+abbrev pub at_root : Search
+at_root = record { node = Some 0; read = None; parent = None; grandparent = None }
+
+-- the worker with an operation in hand, at the root, without a card
+abbrev pub begun : Option Op → Worker → Worker
+begun operation v = record v { operation = operation; search = at_root; card = None; flagged = false }
+
+-- the worker with nothing in hand
+abbrev pub ended : Worker → Worker
+ended v = record v { operation = None; search = no_search; card = None; flagged = false }
+
+-- begin: no operation is in hand; this one is, and the search stands at the root
+pub record Begin (op : Op) (s : Scene) (said : Stepped) (after : Scene) : Type 0 where
+  pub free : s.worker.operation ≡ None
+  pub says : said ≡ Moved
+  pub gives : after ≡ record s { worker = begun (Some op) s.worker }
+
+-- the search has read an update word where it stands
+abbrev pub with_read : Search → ℕ → Search
+with_read search update = record search { read = Some update }
+
+-- upd: it stands at an internal node whose update word it has not read; it reads that word
+pub record Upd (s : Scene) (said : Stepped) (after : Scene) : Type 0 where
+  pub node : ℕ
+  pub stands : s.worker.search.node ≡ Some node
+  pub internal : IsInternal node
+  pub unread : s.worker.search.read ≡ None
+  pub says : said ≡ Moved
+  pub gives : after ≡ record s {
+    worker = record (s.worker) {
+      search = with_read s.worker.search (s.words.update node);
+      knows = learned_any s.worker.knows (told_by (s.words.update node));
+    };
+  }
+
+-- the search goes down from a node, where it read an update word, to a child
+abbrev pub gone_down : Search → Seen → ℕ → Search
+gone_down search seen child = record { node = Some child; read = None; parent = Some seen; grandparent = search.parent }
+
+-- down: it stands at an internal node whose update word it has read; it goes to the child on its key's side
+pub record Down (s : Scene) (said : Stepped) (after : Scene) : Type 0 where
+  pub op : Op
+  pub seen : Seen
+  pub busy : s.worker.operation ≡ Some op
+  pub stands : s.worker.search.node ≡ Some seen.node
+  pub internal : IsInternal seen.node
+  pub read : s.worker.search.read ≡ Some seen.word
+  pub says : said ≡ Moved
+  pub gives : after ≡ record s {
+    worker = record (s.worker) {
+      search = gone_down s.worker.search seen (child_for s.words (key_of op) seen.node);
+    };
+  }
+
+-- a worker at a leaf, without a card, whose parent's update word it read clean
+pub record AtCleanLeaf (v : Worker) (leaf : ℕ) (parent : Seen) : Type 0 where
+  pub stands : v.search.node ≡ Some leaf
+  pub outer : IsLeaf leaf
+  pub behind : v.search.parent ≡ Some parent
+  pub calm : IsClean parent.word
+  pub no_card : v.card ≡ None
+
+-- the next card is claimed, filled, and in hand
+abbrev pub claims : Scene → List (Field × ℕ) → Scene
+claims s filling = record {
+  words = claimed s.words filling;
+  worker = record (s.worker) { card = Some s.words.next; flagged = false };
+}
+
+-- claim for an insert: at such a leaf of another key
+pub record ClaimInsert (s : Scene) (said : Stepped) (after : Scene) : Type 0 where
+  pub key : ℕ
+  pub leaf : ℕ
+  pub parent : Seen
+  pub inserts : s.worker.operation ≡ Some (Insert key)
+  pub at : AtCleanLeaf s.worker leaf parent
+  pub absent : s.words.key leaf ≢ key
+  pub says : said ≡ Moved
+  pub gives : after ≡ claims s (insert_filling s.words.next key parent.node leaf (s.words.key leaf))
+
+-- claim for a delete: at such a leaf of its key, with a grandparent whose update word it read clean
+pub record ClaimDelete (s : Scene) (said : Stepped) (after : Scene) : Type 0 where
+  pub key : ℕ
+  pub leaf : ℕ
+  pub parent : Seen
+  pub grandparent : Seen
+  pub deletes : s.worker.operation ≡ Some (Delete key)
+  pub at : AtCleanLeaf s.worker leaf parent
+  pub present : s.words.key leaf ≡ key
+  pub above : s.worker.search.grandparent ≡ Some grandparent
+  pub calm : IsClean grandparent.word
+  pub says : said ≡ Moved
+  pub gives : after ≡ claims s (delete_filling grandparent.node parent.node leaf parent.word)
+
+-- an operation is in hand, and its card, if that is flagged, is known backed
+pub record MayStop (v : Worker) : Type 0 where
+  pub op : Op
+  pub busy : v.operation ≡ Some op
+  pub backed : (c : ℕ) → v.card ≡ Some c → v.flagged ≡ true → v.knows (Backed c) ≡ true
+
+-- again: the search stands at the root anew
+pub record Again (s : Scene) (said : Stepped) (after : Scene) : Type 0 where
+  pub may : MayStop s.worker
+  pub says : said ≡ Moved
+  pub gives : after ≡ record s { worker = begun s.worker.operation s.worker }
+
+-- leave: nothing is in hand any more
+pub record Leave (s : Scene) (said : Stepped) (after : Scene) : Type 0 where
+  pub may : MayStop s.worker
+  pub says : said ≡ Moved
+  pub gives : after ≡ record s { worker = ended s.worker }
+
+-- the answer at a leaf, which has the operation's key or not: find whether, insert and delete false where nothing is to do
+abbrev pub leaf_answer : Op → Bool → Option Bool
+leaf_answer (Find key) has = Some has
+leaf_answer (Insert key) true = Some false
+leaf_answer (Delete key) false = Some false
+leaf_answer _ _ = None
+
+pub record AnswersAtLeaf (s : Scene) (op : Op) (reply : Bool) : Type 0 where
+  pub leaf : ℕ
+  pub stands : s.worker.search.node ≡ Some leaf
+  pub outer : IsLeaf leaf
+  pub answers : leaf_answer op (s.words.key leaf == key_of op) ≡ Some reply
+
+-- the answer by a flagged card: true, once the card is known to be over
+abbrev pub card_answer : Op → ℕ → Knowledge → Option Bool
+card_answer (Find key) c known = None
+card_answer (Insert key) c known = if known (IOver c) then Some true else None
+card_answer (Delete key) c known = if known (DOver c) then Some true else None
+
+pub record AnswersByCard (s : Scene) (op : Op) (reply : Bool) : Type 0 where
+  pub card : ℕ
+  pub holds : s.worker.card ≡ Some card
+  pub flagged : s.worker.flagged ≡ true
+  pub answers : card_answer op card s.worker.knows ≡ Some reply
+
+-- an operation's answer: at a leaf if it has one there, else by its card
+abbrev pub Answers : Scene → Op → Bool → Type 0
+Answers s op reply = AnswersAtLeaf s op reply ⊎ (AnswersByCard s op reply × ((r : Bool) → ¬ AnswersAtLeaf s op r))
+
+-- the ledger after an answer: an insert or delete that answers true makes its key present or absent
+abbrev pub ledger_after : Op → Bool → Ledger → Ledger
+ledger_after (Insert key) true ledger = put ledger key (Some true)
+ledger_after (Delete key) true ledger = put ledger key (Some false)
+ledger_after _ _ ledger = ledger
+
+-- answer: an operation is in hand and has an answer; it is said, the ledger goes by it, and nothing is in hand any more
+pub record Answer (s : Scene) (said : Stepped) (after : Scene) : Type 0 where
+  pub op : Op
+  pub reply : Bool
+  pub busy : s.worker.operation ≡ Some op
+  pub answers : Answers s op reply
+  pub says : said ≡ Answered reply
+  pub gives : after ≡ record s { worker = record (ended s.worker) { ledger = ledger_after op reply s.worker.ledger } }

@@ -1,0 +1,290 @@
+use Rattle.std.specs.Prelude.{◌≡◌, ◌≢◌, ℕ, ◌+◌, ◌<◌, ◌≤◌, ◌⊎◌, ◌↔◌, ◌==◌, if◌then◌else◌, Bool, true, false, Some, None}
+use Rattle.ell_ops.specs.declared.op.Op.{Op}
+use Rattle.ell_ops.specs.declared.op.Op.TheVariants.{Find, Insert, Delete}
+use Rattle.ell_ops.specs.Meaning.{greatest_key, key_of}
+use Rattle.ell_word.specs.Node.{IsInternal, internal, left_leaf, right_leaf}
+use Rattle.ell_word.specs.Word.{unpacked}
+use Rattle.ell_core.specs.declared.fact.Fact.{Fact}
+use Rattle.ell_core.specs.declared.field.Field.{Field}
+use Rattle.ell_core.specs.declared.view.Seen.{Seen}
+use Rattle.ell_core.specs.state.Words.{Words, word}
+use Rattle.ell_core.specs.state.Facts.{card_of_fact}
+use Rattle.ell_core.specs.state.Machine.{Worker, Machine}
+use Rattle.ell_core.specs.state.Cards.{iflag, dflag, marked, clean, is_right, child_for, exchange_side, sibling}
+use Rattle.ell_core.specs.acts.Searching.{IsLeaf, IsClean}
+use Rattle.ell_core.specs.state.Moves.{IsIdle}
+use Rattle.ell_core.specs.tree.Tree.{infinity1, infinity2}
+use Rattle.ell_core.specs.soundness.Sound.{Owns, IsOwned, IsInHand, StrangersAreNobody}
+use Rattle.ell_core.specs.tree.Ranges.{IsSpanned, IsCutOut, Meets, IsOrdered, OnCourse}
+use Rattle.ell_core.specs.history.Stages.{Stages, Opening, is_claimed, is_insert, is_delete, is_born, insert_won, insert_open, insert_waits, is_changed, insert_over, delete_won, delete_open, delete_waits, is_markable, is_unmarkable, is_marked, is_cut, delete_past, allows, Born, staged}
+
+-- all keys are below this number
+abbrev pub top : ℕ
+top = greatest_key + 3
+
+-- x is reached from node 0 in the tree of these words
+abbrev pub IsIn : Words → ℕ → Type 0
+IsIn w x = IsSpanned w.key w.child top x
+
+-- x is not reached from node 0
+abbrev pub IsOut : Words → ℕ → Type 0
+IsOut w x = IsCutOut w.key w.child top x
+
+-- the walk for key k from x ends at a leaf of key k
+abbrev pub LeadsTo : Words → ℕ → ℕ → Type 0
+LeadsTo w k x = Meets w.key w.child k x
+
+-- x is on course for key k
+abbrev pub IsOnCourse : Words → ℕ → ℕ → Type 0
+IsOnCourse w k x = OnCourse w.key w.child top k x
+
+-- an insert's key: that of its two leaf keys which the leaf in the tree has not
+abbrev pub insert_key : Words → ℕ → ℕ
+insert_key w c = if w.key (left_leaf c) == w.key (w.l c) then w.key (right_leaf c) else w.key (left_leaf c)
+
+-- a delete's key
+abbrev pub delete_key : Words → ℕ → ℕ
+delete_key w c = w.key (w.l c)
+
+-- the side on which an insert puts its node at the parent
+abbrev pub insert_side : Words → ℕ → Bool
+insert_side w c = exchange_side w (w.p c) (internal c)
+
+-- the side on which a delete cuts at the grandparent
+abbrev pub delete_side : Words → ℕ → Bool
+delete_side w c = is_right w (w.gp c) (delete_key w c)
+
+-- the side of the parent on which a delete's leaf is
+abbrev pub leaf_side : Words → ℕ → Bool
+leaf_side w c = is_right w (w.p c) (delete_key w c)
+
+-- an internal node that came into the tree
+pub record IsInnerBorn (stage : Stages) (x : ℕ) : Type 0 where
+  pub inner : IsInternal x
+  pub born : Born stage x
+
+-- the same of a leaf
+pub record IsLeafBorn (stage : Stages) (x : ℕ) : Type 0 where
+  pub outer : IsLeaf x
+  pub born : Born stage x
+
+-- an insert's card: where it goes, with no grandparent and no update word that was read; two leaves, a copy of the old one and one of its own key, which lie on one side of the
+-- parent; and the child that it is to replace was not replaced by a lesser node
+pub record InsertCard (w : Words) (stage : Stages) (c : ℕ) : Type 0 where
+  pub gp : w.gp c ≡ 0
+  pub was : w.was c ≡ 0
+  pub parent : IsInnerBorn stage (w.p c)
+  pub leaf : IsLeafBorn stage (w.l c)
+  pub above : w.p c < w.l c
+  pub before : w.l c < internal c
+  pub ordered : w.key (left_leaf c) < w.key (right_leaf c)
+  pub node_key : w.key (internal c) ≡ w.key (right_leaf c)
+  pub copy : (w.key (left_leaf c) ≡ w.key (w.l c)) ⊎ (w.key (right_leaf c) ≡ w.key (w.l c))
+  pub real : insert_key w c ≤ greatest_key
+  pub side : is_right w (w.p c) (insert_key w c) ≡ is_right w (w.p c) (w.key (w.l c))
+  pub left_child : w.child (internal c) false ≢ 0
+  pub at_least : w.l c ≤ w.child (w.p c) (insert_side w c)
+
+-- a delete's card: where it cuts, and the update word that its search read at the parent
+pub record DeleteCard (w : Words) (stage : Stages) (c : ℕ) : Type 0 where
+  pub grandparent : IsInnerBorn stage (w.gp c)
+  pub parent : IsInnerBorn stage (w.p c)
+  pub leaf : IsLeafBorn stage (w.l c)
+  pub first : w.gp c < w.p c
+  pub above : w.p c < w.l c
+  pub before : w.l c < internal c
+  pub real : delete_key w c ≤ greatest_key
+  pub calm : IsClean (w.was c)
+  pub earlier : w.was c < iflag c
+  pub no_left_child : w.child (internal c) false ≡ 0
+
+-- the nodes of a card that did not come into the tree: as they were filled
+pub record Unborn (w : Words) (c : ℕ) : Type 0 where
+  pub left : w.child (internal c) false ≡ left_leaf c
+  pub right : w.child (internal c) true ≡ right_leaf c
+  pub calm : w.update (internal c) ≡ clean 0
+
+-- a card that was not claimed: all its words are 0
+pub record Blank (w : Words) (c : ℕ) : Type 0 where
+  pub words : (field : Field) → word w c field ≡ 0
+
+-- what a card says, by its kind
+pub record CardIsSound (w : Words) (stage : Stages) (c : ℕ) : Type 0 where
+  pub claimed : (is_claimed (stage c) ≡ true) ↔ (c < w.next)
+  pub insert : is_insert (stage c) ≡ true → InsertCard w stage c
+  pub delete : is_delete (stage c) ≡ true → DeleteCard w stage c
+  pub unborn : is_insert (stage c) ≡ true → is_born (stage c) ≡ false → Unborn w c
+  pub blank : is_claimed (stage c) ≡ false → Blank w c
+
+-- what an insert's stage says of the parent's update word and child; while it waits, the parent is on course for its key
+pub record InsertStage (w : Words) (stage : Stages) (c : ℕ) : Type 0 where
+  pub flag : insert_open (stage c) ≡ true → w.update (w.p c) ≡ iflag c
+  pub over : insert_over (stage c) ≡ true → iflag c < w.update (w.p c)
+  pub waits : insert_waits (stage c) ≡ true → w.child (w.p c) (insert_side w c) ≡ w.l c
+  pub course : insert_waits (stage c) ≡ true → IsOnCourse w (insert_key w c) (w.p c)
+  pub changed : is_changed (stage c) ≡ true → w.l c < w.child (w.p c) (insert_side w c)
+
+-- the parent of a delete that may still be marked: its update word is the one that the search read, with the leaf still its
+-- child, or past it
+pub record Markable (w : Words) (c : ℕ) : Type 0 where
+  pub at_least : w.was c ≤ w.update (w.p c)
+  pub still : w.update (w.p c) ≡ w.was c → w.child (w.p c) (leaf_side w c) ≡ w.l c
+
+-- the parent of a delete that was marked: the mark, the leaf its child, and the sibling on the side on which the delete cuts
+pub record IsMarked (w : Words) (c : ℕ) : Type 0 where
+  pub mark : w.update (w.p c) ≡ marked c
+  pub leaf : w.child (w.p c) (leaf_side w c) ≡ w.l c
+  pub side : exchange_side w (w.gp c) (sibling w c) ≡ delete_side w c
+
+-- a delete that has cut: the grandparent's child is past the parent, and the parent is in the tree no longer
+pub record IsCut (w : Words) (c : ℕ) : Type 0 where
+  pub past : w.p c < w.child (w.gp c) (delete_side w c)
+  pub out : IsOut w (w.p c)
+
+-- what a delete's stage says of the update words and children of grandparent and parent
+pub record DeleteStage (w : Words) (stage : Stages) (c : ℕ) : Type 0 where
+  pub flag : delete_open (stage c) ≡ true → w.update (w.gp c) ≡ dflag c
+  pub past : delete_past (stage c) ≡ true → dflag c < w.update (w.gp c)
+  pub waits : delete_waits (stage c) ≡ true → w.child (w.gp c) (delete_side w c) ≡ w.p c
+  pub markable : is_markable (stage c) ≡ true → Markable w c
+  pub unmarkable : is_unmarkable (stage c) ≡ true → w.was c < w.update (w.p c)
+  pub marked : is_marked (stage c) ≡ true → IsMarked w c
+  pub cut : is_cut (stage c) ≡ true → IsCut w c
+
+-- an internal node that came into the tree: its children came too, have greater numbers, and keys on their side of its own
+pub record ChildrenAreSound (w : Words) (stage : Stages) (x : ℕ) : Type 0 where
+  pub born : (right : Bool) → Born stage (w.child x right)
+  pub rising : (right : Bool) → x < w.child x right
+  pub left_less : w.key (w.child x false) < w.key x
+  pub right_more : w.key x ≤ w.key (w.child x true)
+
+-- its update word names a claimed card, and if it is a flag or a mark, that card set it here, and it stands
+pub record UpdateIsSound (w : Words) (stage : Stages) (x : ℕ) : Type 0 where
+  pub named : (unpacked (w.update x)).card < w.next
+  pub iflagged : (c : ℕ) → w.update x ≡ iflag c → (insert_open (stage c) ≡ true) × (w.p c ≡ x)
+  pub dflagged : (c : ℕ) → w.update x ≡ dflag c → (delete_open (stage c) ≡ true) × (w.gp c ≡ x)
+  pub marked : (c : ℕ) → w.update x ≡ marked c → (is_marked (stage c) ≡ true) × (w.p c ≡ x)
+
+-- the tree: in order, with the two greatest keys in their places; and every internal node that came into it is still there, or
+-- marked
+pub record TreeIsSound (w : Words) (stage : Stages) : Type 0 where
+  pub ordered : IsOrdered w.key w.child top
+  pub root_key : w.key 0 ≡ infinity2
+  pub root_right : w.child 0 true ≡ right_leaf 0
+  pub right_key : w.key (right_leaf 0) ≡ infinity2
+  pub last : LeadsTo w infinity1 0
+  pub there : (x : ℕ) → IsInternal x → Born stage x → ((c : ℕ) → w.update x ≢ marked c) → IsIn w x
+
+-- the words, with the stages of the cards
+pub record WordsAreSound (w : Words) (stage : Stages) : Type 0 where
+  pub opening : stage 0 ≡ Opening
+  pub cards : (c : ℕ) → CardIsSound w stage c
+  pub inserts : (c : ℕ) → InsertStage w stage c
+  pub deletes : (c : ℕ) → DeleteStage w stage c
+  pub children : (x : ℕ) → IsInternal x → Born stage x → ChildrenAreSound w stage x
+  pub updates : (x : ℕ) → IsInternal x → Born stage x → UpdateIsSound w stage x
+  pub tree : TreeIsSound w stage
+
+-- what a search has seen of a node on its way to x: the node came before x and has x's key on k's side; its update word was
+-- read before its child; and if that word was clean and still stands, x is still the child
+pub record SeenIsSound (w : Words) (stage : Stages) (k : ℕ) (seen : Seen) (x : ℕ) : Type 0 where
+  pub node : IsInnerBorn stage seen.node
+  pub less : seen.node < x
+  pub word : seen.word ≤ w.update seen.node
+  pub side : is_right w seen.node (w.key x) ≡ is_right w seen.node k
+  pub at_least : x ≤ child_for w k seen.node
+  pub still : IsClean seen.word → w.update seen.node ≡ seen.word → child_for w k seen.node ≡ x
+
+-- a worker that stands at x with an operation on key k
+pub record StandIsSound (w : Words) (stage : Stages) (v : Worker) (k x : ℕ) : Type 0 where
+  pub born : Born stage x
+  pub read : (word : ℕ) → v.search.read ≡ Some word → word ≤ w.update x
+  pub leads : LeadsTo w k x ↔ (v.ledger k ≡ Some true)
+  pub course : IsOnCourse w k x
+  pub parent : (seen : Seen) → v.search.parent ≡ Some seen → SeenIsSound w stage k seen x × IsOnCourse w k seen.node
+  pub grandparent : (seen above : Seen) → v.search.parent ≡ Some seen → v.search.grandparent ≡ Some above
+      → SeenIsSound w stage k above seen.node
+  pub has_parent : x ≢ 0 → v.search.parent ≢ None
+  pub has_grandparent : (seen : Seen) → v.search.parent ≡ Some seen → seen.node ≢ 0 → v.search.grandparent ≢ None
+  pub deep : IsLeaf x → w.key x ≤ greatest_key → v.search.grandparent ≢ None
+
+-- an insert's card in hand that is not flagged says what its worker's search saw
+pub record InsertInHand (w : Words) (stage : Stages) (v : Worker) (k c : ℕ) : Type 0 where
+  pub parent : Seen
+  pub claimed : (is_insert (stage c) ≡ true) × (insert_won (stage c) ≡ false)
+  pub stands : v.search.node ≡ Some (w.l c)
+  pub behind : v.search.parent ≡ Some parent
+  pub node : parent.node ≡ w.p c
+  pub calm : IsClean parent.word
+  pub earlier : parent.word < iflag c
+  pub own : insert_key w c ≡ k
+
+-- the same of a delete's card
+pub record DeleteInHand (w : Words) (stage : Stages) (v : Worker) (k c : ℕ) : Type 0 where
+  pub parent : Seen
+  pub grandparent : Seen
+  pub claimed : (is_delete (stage c) ≡ true) × (delete_won (stage c) ≡ false)
+  pub stands : v.search.node ≡ Some (w.l c)
+  pub behind : v.search.parent ≡ Some parent
+  pub node : parent.node ≡ w.p c
+  pub was : parent.word ≡ w.was c
+  pub above : v.search.grandparent ≡ Some grandparent
+  pub top_node : grandparent.node ≡ w.gp c
+  pub calm : IsClean grandparent.word
+  pub earlier : grandparent.word < iflag c
+  pub own : delete_key w c ≡ k
+
+-- a card in hand that is not flagged is of the operation's kind
+abbrev pub Unflagged : Words → Stages → Worker → Op → ℕ → Type 0
+Unflagged w stage v (Find k) c = ⊥
+Unflagged w stage v (Insert k) c = InsertInHand w stage v k c
+Unflagged w stage v (Delete k) c = DeleteInHand w stage v k c
+
+-- a card in hand that is flagged is of the operation's kind and key, which was absent for an insert, present for a delete
+abbrev pub Flagged : Words → Stages → Worker → Op → ℕ → Type 0
+Flagged w stage v (Find k) c = ⊥
+Flagged w stage v (Insert k) c = (insert_won (stage c) ≡ true) × (insert_key w c ≡ k) × (v.ledger k ≡ Some false)
+Flagged w stage v (Delete k) c = (delete_won (stage c) ≡ true) × (delete_key w c ≡ k) × (v.ledger k ≡ Some true)
+
+-- a worker
+pub record WorkerIsSound (w : Words) (stage : Stages) (v : Worker) : Type 0 where
+  pub facts : (fact : Fact) → v.knows fact ≡ true → allows fact (stage (card_of_fact fact)) ≡ true
+  pub real : (k : ℕ) → Owns v k → k ≤ greatest_key
+  pub free : v.operation ≡ None → IsIdle v
+  pub owned : (op : Op) → v.operation ≡ Some op → Owns v (key_of op)
+  pub stands : (op : Op) (x : ℕ) → v.operation ≡ Some op → v.search.node ≡ Some x → StandIsSound w stage v (key_of op) x
+  pub unflagged : (op : Op) (c : ℕ) → v.operation ≡ Some op → v.card ≡ Some c → v.flagged ≡ false → Unflagged w stage v op c
+  pub flagged : (op : Op) (c : ℕ) → v.operation ≡ Some op → v.card ≡ Some c → v.flagged ≡ true
+      → Flagged w stage v op c × (v.search.node ≡ None)
+
+-- the workers: each key has one owner at most; the keys of the tree among a worker's are those present in its effective
+-- ledger, and each key of the tree has an owner; a card whose flag stands is in hand; and past the last worker there is nobody
+pub record WorkersAreSound (m : Machine) (stage : Stages) : Type 0 where
+  pub each : (i : ℕ) → WorkerIsSound m.words stage (m.worker i)
+  pub one_owner : (i j k : ℕ) → Owns (m.worker i) k → Owns (m.worker j) k → i ≡ j
+  pub present : (i k : ℕ) → Owns (m.worker i) k → LeadsTo m.words k 0 ↔ (staged stage (m.worker i) k ≡ Some true)
+  pub owned : (k : ℕ) → k ≤ greatest_key → LeadsTo m.words k 0 → IsOwned m k
+  pub insert_in_hand : (c : ℕ) → insert_open (stage c) ≡ true → IsInHand m c
+  pub delete_in_hand : (c : ℕ) → delete_open (stage c) ≡ true → IsInHand m c
+  pub strangers : StrangersAreNobody m
+
+-- card 0 goes nowhere, and every other claimed card is an insert's or a delete's
+pub record KindsAreSound (w : Words) (stage : Stages) : Type 0 where
+  pub gp : w.gp 0 ≡ 0
+  pub parent : w.p 0 ≡ 0
+  pub leaf : w.l 0 ≡ 0
+  pub was : w.was 0 ≡ 0
+  pub some : 0 < w.next
+  pub kinds : (c : ℕ) → c < w.next → c ≢ 0 → (is_insert (stage c) ≡ true) ⊎ (is_delete (stage c) ≡ true)
+
+-- a state of a run
+pub record Invariant (m : Machine) (stage : Stages) : Type 0 where
+  pub words : WordsAreSound m.words stage
+  pub workers : WorkersAreSound m stage
+  pub limit : m.words.next ≤ m.cards + 1
+  pub kinds : KindsAreSound m.words stage
+
+-- the invariant holds of a state, with some stages
+pub record HasInvariant (m : Machine) : Type 0 where
+  pub stages : Stages
+  pub invariant : Invariant m stages

@@ -1,0 +1,100 @@
+use Rattle.std.specs.Prelude.{◌≡◌, ℕ, ◌<◌, ◌≤◌, ◌==◌, if◌then◌else◌, Bool, true, false, Option, Some, None, List, [], ◌∷◌, ◌++◌}
+use Rattle.ell_word.specs.Node.{card}
+use Rattle.ell_word.specs.declared.gate.Kind.{Kind}
+use Rattle.ell_word.specs.declared.gate.Kind.TheVariants as kind
+use Rattle.ell_core.specs.declared.event.Act.{Act}
+use Rattle.ell_core.specs.declared.event.Act.TheVariants as act
+use Rattle.ell_core.specs.declared.event.Stepped.{Stepped}
+use Rattle.ell_core.specs.declared.event.Stepped.TheVariants.{Won}
+use Rattle.ell_core.specs.declared.fact.Fact.{Fact}
+use Rattle.ell_core.specs.declared.field.Field.{Field}
+use Rattle.ell_core.specs.state.Words.{Words, word}
+use Rattle.ell_core.specs.state.Machine.{Machine, Scene, scene, with_scene}
+use Rattle.ell_core.specs.state.Cards.{marked}
+use Rattle.ell_core.specs.acts.Events.{Happens}
+use Rattle.ell_core.specs.history.Stages.{Stage, Stages, IFlagged, IChanged, IOver, DFlagged, DUnmarkable, DMarked, DCut, DOver, DBacked, is_insert, is_delete, is_born, allows, Born}
+use Rattle.ell_core.specs.history.Invariant.{Invariant}
+
+-- the words of a card that say where it goes are as they were
+pub record SameInfo (old new : Words) (c : ℕ) : Type 0 where
+  pub gp : new.gp c ≡ old.gp c
+  pub p : new.p c ≡ old.p c
+  pub l : new.l c ≡ old.l c
+  pub was : new.was c ≡ old.was c
+
+-- all words of a card are as they were
+abbrev pub SaysTheSame : Words → Words → ℕ → Type 0
+SaysTheSame old new c = (field : Field) → word new c field ≡ word old c field
+
+-- an update word and the children of a node are as they were
+pub record SameNode (old new : Words) (x : ℕ) : Type 0 where
+  pub update : new.update x ≡ old.update x
+  pub child : (right : Bool) → new.child x right ≡ old.child x right
+
+-- the words of a later state: the claim word, children and update words rose or stayed, a claimed card goes where it went and
+-- its nodes have their keys, and a marked node is as it was
+pub record WordsLater (old new : Words) : Type 0 where
+  pub next : old.next ≤ new.next
+  pub child : (x : ℕ) (right : Bool) → old.child x right ≤ new.child x right
+  pub update : (x : ℕ) → old.update x ≤ new.update x
+  pub info : (c : ℕ) → c < old.next → SameInfo old new c
+  pub key : (x : ℕ) → card x < old.next → new.key x ≡ old.key x
+  pub frozen : (x c : ℕ) → old.update x ≡ marked c → SameNode old new x
+
+-- the stages of a later state: no card changed its kind, no node that came into the tree went back, and what might be known of
+-- a card still may
+pub record StagesLater (old new : Stages) : Type 0 where
+  pub insert : (c : ℕ) → is_insert (old c) ≡ true → is_insert (new c) ≡ true
+  pub delete : (c : ℕ) → is_delete (old c) ≡ true → is_delete (new c) ≡ true
+  pub born : (x : ℕ) → Born old x → Born new x
+  pub told : (fact : Fact) (c : ℕ) → allows fact (old c) ≡ true → allows fact (new c) ≡ true
+
+-- the wins of a card up to a stage, in their order
+abbrev pub wins_of : Stage → List Kind
+wins_of IFlagged = kind.IFlag ∷ []
+wins_of IChanged = kind.IFlag ∷ kind.IChild ∷ []
+wins_of IOver = kind.IFlag ∷ kind.IChild ∷ kind.IUnflag ∷ []
+wins_of DFlagged = kind.DFlag ∷ []
+wins_of DUnmarkable = kind.DFlag ∷ []
+wins_of DMarked = kind.DFlag ∷ kind.Mark ∷ []
+wins_of DCut = kind.DFlag ∷ kind.Mark ∷ kind.DChild ∷ []
+wins_of DOver = kind.DFlag ∷ kind.Mark ∷ kind.DChild ∷ kind.DUnflag ∷ []
+wins_of DBacked = kind.DFlag ∷ kind.Backtrack ∷ []
+wins_of _ = []
+
+-- what is won for a card, if the card is this one
+abbrev pub win_for : Option ℕ → Kind → ℕ → List Kind
+win_for None k c = []
+win_for (Some d) k c = if c == d then k ∷ [] else []
+
+-- what a won act wins for a card: for the card that it names, or a flag for the card in hand
+abbrev pub win_by : Act → Option ℕ → ℕ → List Kind
+win_by act.IFlag hand c = win_for hand kind.IFlag c
+win_by act.DFlag hand c = win_for hand kind.DFlag c
+win_by (act.IChild d) hand c = win_for (Some d) kind.IChild c
+win_by (act.IUnflag d) hand c = win_for (Some d) kind.IUnflag c
+win_by (act.Mark d) hand c = win_for (Some d) kind.Mark c
+win_by (act.DChild d) hand c = win_for (Some d) kind.DChild c
+win_by (act.DUnflag d) hand c = win_for (Some d) kind.DUnflag c
+win_by (act.Backtrack d) hand c = win_for (Some d) kind.Backtrack c
+win_by _ hand c = []
+
+-- what an act wins for a card by its answer
+abbrev pub wins_by : Act → Option ℕ → Stepped → ℕ → List Kind
+wins_by a hand Won c = win_by a hand c
+wins_by a hand _ c = []
+
+-- an act of worker i leads from a state that the invariant holds of to one that it holds of, with later words and stages; a
+-- claimed card whose nodes did not come into the tree says what it said; and each card's wins grow by what the act wins for it
+pub record Follows (m : Machine) (stage : Stages) (a : Act) (i : ℕ) (said : Stepped) (after : Machine) : Type 0 where
+  pub stages : Stages
+  pub invariant : Invariant after stages
+  pub words : WordsLater m.words after.words
+  pub later : StagesLater stage stages
+  pub unborn : (c : ℕ) → c < m.words.next → is_born (stage c) ≡ false → SaysTheSame m.words after.words c
+  pub wins : (c : ℕ) → wins_of (stages c) ≡ wins_of (stage c) ++ wins_by a (m.worker i).card said c
+
+-- an act keeps the invariant, whoever does it and whatever it answers
+abbrev pub Keeps : Act → Type 0
+Keeps a = (m : Machine) (stage : Stages) (i : ℕ) (said : Stepped) (becomes : Scene) → i < m.count → Invariant m stage
+    → Happens m.cards a (scene m i) said becomes → Follows m stage a i said (with_scene m i becomes)

@@ -1,0 +1,97 @@
+use Rattle.std.specs.Prelude.{◌≡◌, ◌≢◌, ℕ, ◌<◌, ◌≤◌, ◌==◌, if◌then◌else◌, Bool, true, false, Option, Some, None}
+use Rattle.ell_ops.specs.declared.op.Op.{Op}
+use Rattle.ell_ops.specs.Meaning.{key_of}
+use Rattle.ell_core.specs.declared.fact.Fact.{Fact}
+use Rattle.ell_core.specs.declared.fact.Fact.TheVariants as fact
+use Rattle.ell_core.specs.state.Words.{Words, put}
+use Rattle.ell_core.specs.state.Machine.{Ledger, Worker}
+use Rattle.ell_core.specs.state.Cards.{iflag, dflag, marked, is_delete_card, card_child}
+
+-- the insert's flag was set: the parent's update word is the flag, or past it
+abbrev pub IFlagHolds : Words → ℕ → Type 0
+IFlagHolds w c = (is_delete_card w c ≡ false) × (iflag c ≤ w.update (w.p c))
+
+-- the insert's child exchange was made: the parent's child on the card's side is not the leaf any more
+abbrev pub IChangeHolds : Words → ℕ → Type 0
+IChangeHolds w c = IFlagHolds w c × (card_child w c (w.p c) ≢ w.l c)
+
+-- the delete's flag was set: the grandparent's update word is the flag, or past it
+abbrev pub DFlagHolds : Words → ℕ → Type 0
+DFlagHolds w c = (is_delete_card w c ≡ true) × (dflag c ≤ w.update (w.gp c))
+
+-- the delete's mark stands
+abbrev pub MarkHolds : Words → ℕ → Type 0
+MarkHolds w c = DFlagHolds w c × (w.update (w.p c) ≡ marked c)
+
+-- the delete's mark can't stand any more: the parent's update word is past the one that the search read
+abbrev pub UnmarkableHolds : Words → ℕ → Type 0
+UnmarkableHolds w c = DFlagHolds w c × (w.was c < w.update (w.p c)) × (w.update (w.p c) ≢ marked c)
+
+-- the delete's child exchange was made: the grandparent's child on the card's side is not the parent any more
+abbrev pub CutHolds : Words → ℕ → Type 0
+CutHolds w c = MarkHolds w c × (card_child w c (w.gp c) ≢ w.p c)
+
+-- what a fact says of the words
+abbrev pub Holds : Words → Fact → Type 0
+Holds w (fact.IFlagged c) = IFlagHolds w c
+Holds w (fact.IChanged c) = IChangeHolds w c
+Holds w (fact.IOver c) = IChangeHolds w c × (iflag c < w.update (w.p c))
+Holds w (fact.DFlagged c) = DFlagHolds w c
+Holds w (fact.Marked c) = MarkHolds w c
+Holds w (fact.Unmarkable c) = UnmarkableHolds w c
+Holds w (fact.Cut c) = CutHolds w c
+Holds w (fact.DOver c) = CutHolds w c × (dflag c < w.update (w.gp c))
+Holds w (fact.Backed c) = UnmarkableHolds w c × (dflag c < w.update (w.gp c))
+
+-- how far the operation of a card has come whose flag was won
+pub data Phase : Type 0 where
+  IFlagged : Phase
+  IChanged : Phase
+  IOver : Phase
+  DFlagged : Phase
+  DMarked : Phase
+  DCut : Phase
+  DOver : Phase
+  DBacktracked : Phase
+
+-- the phase of an insert's card: its flag stands and the child is the leaf, or not the leaf any more, or the flag is past
+abbrev pub insert_phase : Words → ℕ → Phase
+insert_phase w c =
+    if w.update (w.p c) == iflag c then (if card_child w c (w.p c) == w.l c then IFlagged else IChanged) else IOver
+
+-- the phase of a delete's card while its flag stands: not marked, or marked and the child is the parent, or not any more
+abbrev pub open_delete_phase : Words → ℕ → Phase
+open_delete_phase w c =
+    if w.update (w.p c) == marked c then (if card_child w c (w.gp c) == w.p c then DMarked else DCut) else DFlagged
+
+-- the phase of a delete's card: as above, and past its flag over if it marked, else backtracked
+abbrev pub delete_phase : Words → ℕ → Phase
+delete_phase w c =
+    if w.update (w.gp c) == dflag c then open_delete_phase w c
+    else (if w.update (w.p c) == marked c then DOver else DBacktracked)
+
+-- the phase of a card whose flag was won, read from the words
+abbrev pub phase : Words → ℕ → Phase
+phase w c = if is_delete_card w c then delete_phase w c else insert_phase w c
+
+-- what a card's phase has made of its key, if anything: present or absent
+abbrev pub settled : Phase → Option Bool
+settled IChanged = Some true
+settled IOver = Some true
+settled DCut = Some false
+settled DOver = Some false
+settled _ = None
+
+-- a ledger where a key has come to be present or absent, if anything
+abbrev pub with_settled : Ledger → ℕ → Option Bool → Ledger
+with_settled ledger key None = ledger
+with_settled ledger key (Some present) = put ledger key (Some present)
+
+abbrev pub effective_of : Words → Ledger → Option Op → Option ℕ → Bool → Ledger
+effective_of w ledger (Some op) (Some c) true = with_settled ledger (key_of op) (settled (phase w c))
+effective_of w ledger _ _ _ = ledger
+
+-- the effective ledger: the ledger, where the key of an operation whose card is flagged counts as what that card has made
+-- of it already
+abbrev pub effective : Words → Worker → Ledger
+effective w v = effective_of w v.ledger v.operation v.card v.flagged

@@ -1,0 +1,82 @@
+use Rattle.std.specs.Prelude.{◌≡◌, ◌≢◌, ℕ, ◌<◌, ◌≤◌, ◌↔◌, true, Some, None}
+use Rattle.ell_ops.specs.declared.op.Op.{Op}
+use Rattle.ell_ops.specs.Meaning.{key_of}
+use Rattle.ell_word.specs.Node.{IsInternal, card}
+use Rattle.ell_word.specs.Word.{unpacked}
+use Rattle.ell_word.specs.declared.update.State.{State}
+use Rattle.ell_word.specs.declared.update.State.TheVariants as state
+use Rattle.ell_core.specs.declared.fact.Fact.{Fact}
+use Rattle.ell_core.specs.state.Words.{Words}
+use Rattle.ell_core.specs.state.Machine.{Worker, Machine, nobody}
+use Rattle.ell_core.specs.tree.Tree.{OnWalk, Finds, Reached, IsTreeKey, IsLawful}
+use Rattle.ell_core.specs.soundness.Holds.{Holds, effective}
+
+-- a worker owns a key
+abbrev pub Owns : Worker → ℕ → Type 0
+Owns v key = v.ledger key ≢ None
+
+-- some worker owns a key
+pub record IsOwned (m : Machine) (key : ℕ) : Type 0 where
+  pub worker : ℕ
+  pub owns : Owns (m.worker worker) key
+
+-- no key has two owners, each key of the tree has one, and the keys of the tree among a worker's keys are those present
+-- in its effective ledger
+pub record LedgersAreSound (m : Machine) : Type 0 where
+  pub one_owner : (i j key : ℕ) → Owns (m.worker i) key → Owns (m.worker j) key → i ≡ j
+  pub owned : (key : ℕ) → IsTreeKey m.words key → IsOwned m key
+  pub present : (i key : ℕ) → Owns (m.worker i) key → IsTreeKey m.words key ↔ (effective m.words (m.worker i) key ≡ Some true)
+
+-- where a worker stands, the walk for its key finds the key exactly when its ledger has it present, and what is reached of
+-- that walk lies on the walk from the root
+pub record WalkIsSound (w : Words) (v : Worker) (key x : ℕ) : Type 0 where
+  pub finds : Finds w key x ↔ (v.ledger key ≡ Some true)
+  pub joins : (y : ℕ) → OnWalk w key x y → Reached w y → OnWalk w key 0 y
+
+abbrev pub WalksAreSound : Machine → Type 0
+WalksAreSound m = (i : ℕ) (op : Op) (x : ℕ) → (m.worker i).operation ≡ Some op → (m.worker i).search.node ≡ Some x
+    → WalkIsSound m.words (m.worker i) (key_of op) x
+
+-- every fact that any worker knows holds of the words
+abbrev pub FactsAreSound : Machine → Type 0
+FactsAreSound m = (i : ℕ) (fact : Fact) → (m.worker i).knows fact ≡ true → Holds m.words fact
+
+-- no reached node is on a card at or past the claim word, and no update word of one names such a card
+pub record NamesAreSound (w : Words) : Type 0 where
+  pub nodes : (x : ℕ) → Reached w x → card x < w.next
+  pub updates : (x : ℕ) → Reached w x → IsInternal x → (unpacked (w.update x)).card < w.next
+
+-- the node that a card flags or marks in a state
+abbrev pub flags_at : Words → State → ℕ → ℕ
+flags_at w state.DFlag c = w.gp c
+flags_at w state.IFlag c = w.p c
+flags_at w state.Mark c = w.p c
+flags_at w state.Clean c = w.p c
+
+-- some worker has the card in hand, flagged
+pub record IsInHand (m : Machine) (c : ℕ) : Type 0 where
+  pub worker : ℕ
+  pub holds : (m.worker worker).card ≡ Some c
+  pub flagged : (m.worker worker).flagged ≡ true
+
+-- an update word that is not clean names a card that flags or marks just that node, and that is in hand, flagged
+pub record FlagIsSound (m : Machine) (x : ℕ) : Type 0 where
+  pub in_hand : IsInHand m (unpacked (m.words.update x)).card
+  pub place : flags_at m.words (unpacked (m.words.update x)).state (unpacked (m.words.update x)).card ≡ x
+
+abbrev pub FlagsAreSound : Machine → Type 0
+FlagsAreSound m = (x : ℕ) → Reached m.words x → IsInternal x → (unpacked (m.words.update x)).state ≢ state.Clean → FlagIsSound m x
+
+-- whoever is at or past the count is no worker: it owns no key, has nothing in hand and knows nothing
+abbrev pub StrangersAreNobody : Machine → Type 0
+StrangersAreNobody m = (i : ℕ) → m.count ≤ i → m.worker i ≡ nobody
+
+-- a sound state
+pub record IsSound (m : Machine) : Type 0 where
+  pub tree : IsLawful m.words
+  pub ledgers : LedgersAreSound m
+  pub walks : WalksAreSound m
+  pub facts : FactsAreSound m
+  pub names : NamesAreSound m.words
+  pub flags : FlagsAreSound m
+  pub strangers : StrangersAreNobody m

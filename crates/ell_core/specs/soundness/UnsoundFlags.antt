@@ -1,0 +1,56 @@
+use Rattle.std.specs.Prelude.{ℕ, true, false, Some}
+use Rattle.ell_core.specs.state.Words.{Words, with_update}
+use Rattle.ell_core.specs.state.Machine.{Machine}
+use Rattle.ell_core.specs.state.Cards.{iflag, dflag, marked, clean}
+use Rattle.ell_core.specs.state.Opening.{opening_words}
+use Rattle.ell_core.specs.soundness.Sound.{NamesAreSound, FlagsAreSound, IsSound}
+use Rattle.ell_core.specs.soundness.SmallTrees.{five_linked, five_updated}
+use Rattle.ell_core.specs.soundness.Unsound.{owner, holding, with_one}
+
+-- a state is unsound by the cards that are named
+abbrev pub BreaksNames : Machine → Type 0
+BreaksNames m = (¬ NamesAreSound m.words) × (¬ IsSound m)
+
+-- nodes: those of card 1 are in the tree, and card 1 was not claimed
+abbrev pub node_not_claimed : Machine
+node_not_claimed = with_one (record five_linked { next = 1 }) (owner 5 true)
+
+-- updates: the root's update word names a card that was not claimed
+abbrev pub card_not_claimed : Machine
+card_not_claimed = with_one (with_update opening_words 0 (clean 1)) (owner 5 false)
+
+-- a state is unsound by its flags
+abbrev pub BreaksFlags : Machine → Type 0
+BreaksFlags m = (¬ FlagsAreSound m) × (¬ IsSound m)
+
+-- the opening tree, card 1 claimed, with its insert's flag on the root
+abbrev pub root_flagged : Words
+root_flagged = record (with_update opening_words 0 (iflag 1)) { next = 2 }
+
+-- in hand: nobody has the flag's card in hand
+abbrev pub flag_left_standing : Machine
+flag_left_standing = with_one root_flagged (owner 5 false)
+
+-- in hand, holds: the worker that won its flag has another card in hand
+abbrev pub flag_of_another : Machine
+flag_of_another = with_one root_flagged (holding 2 (owner 5 false))
+
+-- in hand, flagged: the flag's card is in hand, and did not win its flag
+abbrev pub flag_not_won : Machine
+flag_not_won = with_one root_flagged (record (owner 5 false) { card = Some 1 })
+
+-- place: card 2, whose grandparent is the root and whose parent is node 3, is in hand and flagged, with these update words there
+abbrev pub placed : ℕ → ℕ → Machine
+placed above behind = with_one (five_updated above behind) (holding 2 (owner 5 true))
+
+-- place: an insert's flag at the grandparent
+abbrev pub iflag_elsewhere : Machine
+iflag_elsewhere = placed (iflag 2) (clean 0)
+
+-- place: a delete's flag at the parent
+abbrev pub dflag_elsewhere : Machine
+dflag_elsewhere = placed (clean 1) (dflag 2)
+
+-- place: a mark at the grandparent
+abbrev pub mark_elsewhere : Machine
+mark_elsewhere = placed (marked 2) (clean 0)

@@ -1,0 +1,70 @@
+use Rattle.std.specs.Prelude.{ℕ, ◌==◌, Bool, false, Option, Some, None, List}
+use Rattle.std.specs.Map.{lookup}
+use Rattle.ell_ops.specs.declared.op.Op.{Op}
+use Rattle.ell_core.specs.declared.view.Search.{Search}
+use Rattle.ell_core.specs.declared.view.WorkerView.{WorkerView}
+use Rattle.ell_core.specs.state.Words.{Words, put}
+use Rattle.ell_core.specs.state.Facts.{Knowledge, known_of}
+
+-- which keys a worker owns: none says not owned, some false absent, some true present
+abbrev pub Ledger : Type 0
+Ledger = ℕ → Option Bool
+
+-- a worker: its ledger, the operation in hand, its search, the card in hand and whether that won its flag, its knowledge
+pub record Worker : Type 0 where
+  pub ledger : Ledger
+  pub operation : Option Op
+  pub search : Search
+  pub card : Option ℕ
+  pub flagged : Bool
+  pub knows : Knowledge
+
+-- the words, the workers by their numbers and how many they are, and how many cards there are beside card 0
+pub record Machine : Type 0 where
+  pub words : Words
+  pub worker : ℕ → Worker
+  pub count : ℕ
+  pub cards : ℕ
+
+-- what one event sees and may change: the words, and its own worker
+pub record Scene : Type 0 where
+  pub words : Words
+  pub worker : Worker
+
+abbrev pub scene : Machine → ℕ → Scene
+scene m i = record { words = m.words; worker = m.worker i }
+
+-- the machine after an event of worker i
+abbrev pub with_scene : Machine → ℕ → Scene → Machine
+with_scene m i s = record m { words = s.words; worker = put m.worker i s.worker }
+
+-- a search that stands nowhere and has seen nothing
+abbrev pub no_search : Search
+no_search = record { node = None; read = None; parent = None; grandparent = None }
+
+-- a worker that has nothing in hand
+abbrev pub idle : Ledger → Knowledge → Worker
+idle ledger known = record { ledger = ledger; operation = None; search = no_search; card = None; flagged = false; knows = known }
+
+-- the worker at a number where there is none: no key, nothing in hand, no knowledge
+abbrev pub nobody : Worker
+nobody = idle (λ _. None) (λ _. false)
+
+-- the ledger that a list of keys is
+abbrev pub ledger_of : List (ℕ × Bool) → Ledger
+ledger_of entries = λ key. lookup (λ k. key == k) entries
+
+-- the worker that a view is
+abbrev pub worker_of : WorkerView → Worker
+worker_of v = record {
+  ledger = ledger_of v.ledger;
+  operation = v.operation;
+  search = v.search;
+  card = v.card;
+  flagged = v.flagged;
+  knows = known_of v.facts;
+}
+
+abbrev pub worker_or_nobody : Option WorkerView → Worker
+worker_or_nobody None = nobody
+worker_or_nobody (Some v) = worker_of v

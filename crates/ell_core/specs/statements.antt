@@ -1,0 +1,14 @@
+-- Laws of the definitions.
+pub mod Laws
+-- What each event does to the set that the tree is, to the answers, the ledgers and the knowledge, and what a step may rely on.
+pub mod StepLaws
+-- Laws of every schedule, from the opening state on: any list of events, by any workers in any order, refused ones too.
+pub mod RunLaws
+-- Which cards wait for their flag, and what an event does to them.
+pub mod Waiting
+-- What was told of a card stays so in later words.
+pub mod Told
+-- The premises of the laws are met: states of a run, their followers, splits, joins and owners of all keys are there.
+pub mod Premises
+-- What is not so: statements near to the laws, which a small run shows to be false.
+pub mod Refuted

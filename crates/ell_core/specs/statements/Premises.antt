@@ -1,0 +1,134 @@
+use Rattle.std.specs.Prelude.{◌≡◌, ◌≢◌, ℕ, ◌<◌, ◌≤◌, ◌||◌, if◌then◌else◌, Bool, Option, Some, None, List, [], ◌∷◌, zero, suc, false, length, map}
+use Rattle.std.specs.List.{All}
+use Rattle.std.specs.List.Sorted.{IsStrictlyIncreasing}
+use Rattle.ell_ops.specs.Meaning.{greatest_key}
+use Rattle.ell_core.specs.declared.event.Event.{Event}
+use Rattle.ell_core.specs.declared.event.Shown.{Shown}
+use Rattle.ell_core.specs.state.Facts.{Knowledge}
+use Rattle.ell_core.specs.state.Layout.{table_size}
+use Rattle.ell_core.specs.state.Words.{words_of}
+use Rattle.ell_core.specs.state.Machine.{Ledger, Worker, Machine, idle, nobody, ledger_of}
+use Rattle.ell_core.specs.state.Moves.{IsIdle, Parts, Split, Join}
+use Rattle.ell_core.specs.state.Opening.{opening, opening_words, opening_list}
+use Rattle.ell_core.specs.acts.Runs.{Shows}
+use Rattle.ell_core.specs.history.Stages.{Stages}
+use Rattle.ell_core.specs.history.Invariant.{Invariant, HasInvariant}
+use Rattle.ell_core.specs.statements.StepLaws.{OwnsAll}
+use Rattle.ell_core.specs.statements.RunLaws.{CanOpen, IsPassed, IsOpening, Follow}
+
+-- any two real keys can open, of workers that are there, be they two or one
+abbrev pub TwoKeysCanOpen : Type 0
+TwoKeysCanOpen = (count i j first second : ℕ) → i < count → j < count → first ≢ second → first ≤ greatest_key → second ≤ greatest_key
+    → CanOpen count ((i, first) ∷ (j, second) ∷ [])
+
+-- every opening is a state of a run
+abbrev pub OpeningsArePassed : Type 0
+OpeningsArePassed = (count : ℕ) (owned : List (ℕ × ℕ)) (cards : ℕ) → CanOpen count owned → IsPassed (opening count owned cards)
+
+-- and is one that opens
+abbrev pub OpeningsAreOpenings : Type 0
+OpeningsAreOpenings = (count : ℕ) (owned : List (ℕ × ℕ)) (cards : ℕ) → CanOpen count owned → IsOpening (opening count owned cards)
+
+-- what is shown of an event leads from a state of a run to a state of a run
+abbrev pub EventsPassOn : Type 0
+EventsPassOn = (m : Machine) (e : Event) (x : Shown) (m' : Machine) → IsPassed m → Shows m e x m' → IsPassed m'
+
+-- a state of a run follows itself
+abbrev pub StatesFollowThemselves : Type 0
+StatesFollowThemselves = (m : Machine) → IsPassed m → Follow m m
+
+-- what follows a state is followed by what any event makes of it
+abbrev pub EventsAreFollowed : Type 0
+EventsAreFollowed = (m m' : Machine) (e : Event) (x : Shown) (m'' : Machine) → Follow m m' → Shows m' e x m'' → Follow m m''
+
+-- the entries of a ledger whose keys pass a test, and those whose keys fail it
+abbrev pub passing : (ℕ → Bool) → Ledger → Ledger
+passing test whole = λ key. if test key then whole key else None
+
+abbrev pub failing : (ℕ → Bool) → Ledger → Ledger
+failing test whole = λ key. if test key then None else whole key
+
+-- every test of keys parts every ledger
+abbrev pub EveryTestParts : Type 0
+EveryTestParts = (whole : Ledger) (test : ℕ → Bool) → Parts whole (passing test whole) (failing test whole)
+
+-- a split of worker i, whose two workers have these ledgers and know what it knew
+pub record SplitsInto (m : Machine) (i : ℕ) (left right : Ledger) : Type 0 where
+  pub after : Machine
+  pub split : Split m i after
+  pub stays : after.worker i ≡ idle left (m.worker i).knows
+  pub comes : after.worker m.count ≡ idle right (m.worker i).knows
+
+-- each idle worker can be split, whichever way its ledger is parted
+abbrev pub EveryPartingIsASplit : Type 0
+EveryPartingIsASplit = (m : Machine) (i : ℕ) (left right : Ledger) → i < m.count → IsIdle (m.worker i)
+    → Parts (m.worker i).ledger left right → SplitsInto m i left right
+
+-- an entry where there is one, and else another
+abbrev pub entry_or : Option Bool → Option Bool → Option Bool
+entry_or (Some present) other = Some present
+entry_or None other = other
+
+-- two ledgers in one
+abbrev pub united : Ledger → Ledger → Ledger
+united left right = λ key. entry_or (left key) (right key)
+
+-- what is known by one or by the other
+abbrev pub known_to_either : Knowledge → Knowledge → Knowledge
+known_to_either first second = λ fact. first fact || second fact
+
+-- a join of workers i and j, after which i has this ledger and knows what either knew, and nobody is at j
+pub record JoinsInto (m : Machine) (i j : ℕ) (both : Ledger) : Type 0 where
+  pub after : Machine
+  pub join : Join m i j after
+  pub stays : after.worker i ≡ idle both (known_to_either (m.worker i).knows (m.worker j).knows)
+  pub goes : after.worker j ≡ nobody
+
+-- each two idle workers can be joined, whichever ledger theirs together are
+abbrev pub EveryUnionIsAJoin : Type 0
+EveryUnionIsAJoin = (m : Machine) (i j : ℕ) (both : Ledger) → i < m.count → j < m.count → i ≢ j
+    → IsIdle (m.worker i) → IsIdle (m.worker j) → Parts both (m.worker i).ledger (m.worker j).ledger → JoinsInto m i j both
+
+-- so can each two of a state that the invariant holds of
+abbrev pub IdleWorkersJoin : Type 0
+IdleWorkersJoin = (m : Machine) (stage : Stages) (i j : ℕ) → Invariant m stage → i < m.count → j < m.count → i ≢ j
+    → IsIdle (m.worker i) → IsIdle (m.worker j) → JoinsInto m i j (united (m.worker i).ledger (m.worker j).ledger)
+
+-- the one worker of an opening owns every key that any worker owns
+abbrev pub OneWorkerOwnsAll : Type 0
+OneWorkerOwnsAll = (owned : List (ℕ × ℕ)) (cards : ℕ) → CanOpen 1 owned → OwnsAll (opening 1 owned cards) 0
+
+-- so does the one worker of a state that the invariant holds of, where it has nothing in hand
+abbrev pub IdleWorkerOwnsAll : Type 0
+IdleWorkerOwnsAll = (m : Machine) (stage : Stages) → Invariant m stage → m.count ≡ 1 → IsIdle (m.worker 0) → OwnsAll m 0
+
+-- a list of all words at the start has the opening words, and is of the size of its table
+pub record OpensList (cards : ℕ) : Type 0 where
+  pub size : length (opening_list cards) ≡ table_size cards
+  pub words : words_of (opening_list cards) ≡ opening_words
+
+abbrev pub OpeningListsOpen : Type 0
+OpeningListsOpen = (cards : ℕ) → OpensList cards
+
+-- worker 0, and nobody else
+abbrev pub first_alone : Worker → ℕ → Worker
+first_alone v zero = v
+first_alone v (suc i) = nobody
+
+-- the state at the start of one worker that owns these keys, all absent
+abbrev pub opening_of_one : List ℕ → ℕ → Machine
+opening_of_one keys cards = record {
+  words = opening_words;
+  worker = first_alone (idle (ledger_of (map (λ k. (k, false)) keys)) (λ _. false));
+  count = 1;
+  cards = cards;
+}
+
+-- it is an opening, and has the invariant
+pub record OpensForOne (keys : List ℕ) (cards : ℕ) : Type 0 where
+  pub opens : IsOpening (opening_of_one keys cards)
+  pub lawful : HasInvariant (opening_of_one keys cards)
+
+-- so it is with every ascending list of real keys
+abbrev pub OneWorkerOpens : Type 0
+OneWorkerOpens = (keys : List ℕ) (cards : ℕ) → IsStrictlyIncreasing keys → All (λ k. k ≤ greatest_key) keys → OpensForOne keys cards

@@ -1,0 +1,154 @@
+use Rattle.std.specs.Prelude.{◌≡◌, ℕ, ◌<◌, ◌≤◌, ◌⊎◌, Bool, List, [], ◌∷◌, ◌++◌}
+use Rattle.std.specs.List.{All}
+use Rattle.ell_ops.specs.Meaning.{greatest_key}
+use Rattle.ell_word.specs.Node.{internal, card}
+use Rattle.ell_word.specs.Word.{unpacked}
+use Rattle.ell_word.specs.declared.update.State.TheVariants as state
+use Rattle.ell_word.specs.declared.gate.Kind.{Kind}
+use Rattle.ell_word.specs.declared.gate.Kind.TheVariants as kind
+use Rattle.ell_core.specs.declared.event.Act.{Act}
+use Rattle.ell_core.specs.declared.event.Event.{Event}
+use Rattle.ell_core.specs.declared.event.Shown.{Shown}
+use Rattle.ell_core.specs.declared.event.Shown.TheVariants as shown
+use Rattle.ell_core.specs.state.Words.{Words}
+use Rattle.ell_core.specs.state.Machine.{Machine}
+use Rattle.ell_core.specs.state.Opening.{opening, Faultless}
+use Rattle.ell_core.specs.acts.Runs.{Shows, Run}
+use Rattle.ell_core.specs.soundness.Sound.{IsSound}
+use Rattle.ell_core.specs.history.Stages.{Stages}
+use Rattle.ell_core.specs.history.Invariant.{Invariant, HasInvariant}
+use Rattle.ell_core.specs.history.Later.{WordsLater, StagesLater, SameNode, SameInfo, wins_by}
+use Rattle.ell_core.specs.statements.StepLaws.{KeysChange, SameKeys, LedgersChange, KnowledgeLasts, FactsLast}
+
+-- the lists of owned keys that an opening takes: each entry's worker is there, no key stands twice, and each is a real one
+pub record CanOpen (count : ℕ) (owned : List (ℕ × ℕ)) : Type 0 where
+  pub faultless : Faultless count owned
+  pub real : All (λ entry. entry.1 ≤ greatest_key) owned
+
+-- a state of a run: some schedule leads to it from an opening state
+pub record IsPassed (m : Machine) : Type 0 where
+  pub count : ℕ
+  pub owned : List (ℕ × ℕ)
+  pub cards : ℕ
+  pub can : CanOpen count owned
+  pub schedule : List Event
+  pub answers : List Shown
+  pub run : Run (opening count owned cards) schedule answers m
+
+-- the invariant holds of every state of a run
+abbrev pub EveryStateHasInvariant : Type 0
+EveryStateHasInvariant = (m : Machine) → IsPassed m → HasInvariant m
+
+-- every state of a run is sound
+abbrev pub EveryStateIsSound : Type 0
+EveryStateIsSound = (m : Machine) → IsPassed m → IsSound m
+
+-- what is shown of an event changes the keys of the tree as its act does; a refusal changes nothing
+abbrev pub ShownChange : Act → Shown → Words → Words → Type 0
+ShownChange a (shown.Step said) old new = KeysChange a said old new
+ShownChange a (shown.Refused fault) old new = SameKeys old new
+
+-- the keys of the tree change at a won ichild and a won dchild alone, by the card's key
+abbrev pub KeysChangeAtWins : Type 0
+KeysChangeAtWins = (m : Machine) (e : Event) (x : Shown) (m' : Machine) → IsPassed m → Shows m e x m'
+    → ShownChange e.act x m.words m'.words
+
+-- what is shown of an event changes the ledgers as its answer does; a refusal changes nothing
+abbrev pub ShownLedgers : Machine → ℕ → Shown → Machine → Type 0
+ShownLedgers m i (shown.Step said) m' = LedgersChange m i said m'
+ShownLedgers m i (shown.Refused fault) m' = m' ≡ m
+
+-- each answer is the set's
+abbrev pub AnswersAreTheSets : Type 0
+AnswersAreTheSets = (m : Machine) (e : Event) (x : Shown) (m' : Machine) → IsPassed m → Shows m e x m'
+    → ShownLedgers m e.worker x m'
+
+-- what is won for a card, by what is shown of an event: for the card that it names, or a flag for the card in hand before it
+abbrev pub shown_wins : Machine → Event → Shown → ℕ → List Kind
+shown_wins m e (shown.Step said) c = wins_by e.act (m.worker e.worker).card said c
+shown_wins m e (shown.Refused fault) c = []
+
+-- the wins of a card in a run, in their order
+abbrev pub wins_in : (m : Machine) (events : List Event) (answers : List Shown) (m' : Machine) → Run m events answers m' → ℕ → List Kind
+wins_in m [] [] m' run c = []
+wins_in m (e ∷ es) (x ∷ xs) m' run c = shown_wins m e x c ++ wins_in run.0 es xs m' run.2 c
+wins_in m [] (x ∷ xs) m' run c = absurd run
+wins_in m (e ∷ es) [] m' run c = absurd run
+
+-- a list is a beginning of another
+pub record Begins (all some : List Kind) : Type 0 where
+  pub rest : List Kind
+  pub together : some ++ rest ≡ all
+
+-- the order in which an insert's card wins, by the steps of the paper of 2010
+abbrev pub insert_order : List Kind
+insert_order = kind.IFlag ∷ kind.IChild ∷ kind.IUnflag ∷ []
+
+-- that of a delete's card which is cut
+abbrev pub cut_order : List Kind
+cut_order = kind.DFlag ∷ kind.Mark ∷ kind.DChild ∷ kind.DUnflag ∷ []
+
+-- that of a delete's card which goes back
+abbrev pub back_order : List Kind
+back_order = kind.DFlag ∷ kind.Backtrack ∷ []
+
+-- wins come in one of these orders, as far as they come
+abbrev pub InOrder : List Kind → Type 0
+InOrder wins = Begins insert_order wins ⊎ (Begins cut_order wins ⊎ Begins back_order wins)
+
+-- a state is an opening
+pub record IsOpening (m : Machine) : Type 0 where
+  pub count : ℕ
+  pub owned : List (ℕ × ℕ)
+  pub cards : ℕ
+  pub can : CanOpen count owned
+  pub opens : m ≡ opening count owned cards
+
+-- each card wins in one of these orders, in a run of these events with these answers
+abbrev pub WinsInOrder : Machine → List Event → List Shown → Machine → Type 0
+WinsInOrder m events answers m' = (run : Run m events answers m') (c : ℕ) → InOrder (wins_in m events answers m' run c)
+
+-- it is so in every run from an opening
+abbrev pub WinsAreInOrder : Type 0
+WinsAreInOrder = (m : Machine) (events : List Event) (answers : List Shown) (m' : Machine) → IsOpening m → WinsInOrder m events answers m'
+
+-- a state of a run, and one that comes later in the run
+pub record Follow (m m' : Machine) : Type 0 where
+  pub passed : IsPassed m
+  pub events : List Event
+  pub answers : List Shown
+  pub run : Run m events answers m'
+
+-- a marked node is frozen
+abbrev pub MarkedNodesAreFrozen : Type 0
+MarkedNodesAreFrozen = (m m' : Machine) → Follow m m' → (x : ℕ) → (unpacked (m.words.update x)).state ≡ state.Mark
+    → SameNode m.words m'.words x
+
+-- the child words and the update word of the internal node of every card only rise
+abbrev pub WordsRise : Type 0
+WordsRise = (m m' : Machine) → Follow m m' → (c : ℕ) →
+    ((right : Bool) → m.words.child (internal c) right ≤ m'.words.child (internal c) right)
+    × (m.words.update (internal c) ≤ m'.words.update (internal c))
+
+-- knowledge is never lost, and what holds, holds ever after
+abbrev pub KnowledgeIsNeverLost : Type 0
+KnowledgeIsNeverLost = (m m' : Machine) → Follow m m' → KnowledgeLasts m m' × FactsLast m.words m'.words
+
+-- where a claimed card goes and the keys of its nodes are fixed
+abbrev pub ClaimedCardsAreFixed : Type 0
+ClaimedCardsAreFixed = (m m' : Machine) → Follow m m' → (c : ℕ) → c < m.words.next →
+    SameInfo m.words m'.words c × ((x : ℕ) → card x ≡ c → m'.words.key x ≡ m.words.key x)
+
+-- the stages of two states of a run, in their order: a node that came into the tree stays one that did, no card changes its kind,
+-- and what may be known of it still may
+pub record LaterInvariant (m m' : Machine) : Type 0 where
+  pub before : Stages
+  pub first : Invariant m before
+  pub after : Stages
+  pub second : Invariant m' after
+  pub words : WordsLater m.words m'.words
+  pub later : StagesLater before after
+
+-- so it is of every state of a run and every later one
+abbrev pub StagesRise : Type 0
+StagesRise = (m m' : Machine) → Follow m m' → LaterInvariant m m'

@@ -1,0 +1,43 @@
+//! What fills a card when it is claimed.
+ghost use Rattle.std.specs.Prelude.{◌≡◌, ◌≤◌};
+ghost use Rattle.ell_word.specs.Node.{greatest_card};
+ghost use Rattle.ell_core.specs.state.Cards.{insert_filling, delete_filling};
+
+use crate::field::{Field, update_word};
+use ell_word::{State, left_leaf_of, right_leaf_of};
+
+/// The fields of an insert's card, for a key at a leaf: an internal node with the greater key, over two new leaves, the
+/// lesser key on the left. Condition: the card is at most `CARD_MAX`.
+pub fn insert_filling(
+    card: u64,
+    key: u64,
+    parent: u64,
+    leaf: u64,
+    leaf_key: u64,
+) -> [(Field, u64); 8]
+    requires { card ≤ greatest_card }
+    ensures { result ≡ insert_filling card key parent leaf leaf_key }
+{
+    [
+        (Field::P, parent),
+        (Field::L, leaf),
+        (Field::Key, key.max(leaf_key)),
+        (Field::Left, left_leaf_of(card)),
+        (Field::Right, right_leaf_of(card)),
+        (Field::Update, update_word(State::Clean, 0)),
+        (Field::LeftLeafKey, key.min(leaf_key)),
+        (Field::RightLeafKey, key.max(leaf_key)),
+    ]
+}
+
+/// The fields of a delete's card: what its search saw.
+pub fn delete_filling(grandparent: u64, parent: u64, leaf: u64, was: u64) -> [(Field, u64); 4]
+    ensures { result ≡ delete_filling grandparent parent leaf was }
+{
+    [
+        (Field::Gp, grandparent),
+        (Field::P, parent),
+        (Field::L, leaf),
+        (Field::Was, was),
+    ]
+}

@@ -1,0 +1,53 @@
+//! What the laws suppose is there: openings, states of a run, states that follow one another, splits and joins, and a worker
+//! that owns every key. Each is the contract of a function that does nothing.
+ghost use Rattle.ell_core.specs.statements.Premises.{TwoKeysCanOpen, OpeningListsOpen, OneWorkerOpens, OpeningsArePassed, OpeningsAreOpenings, EventsPassOn, StatesFollowThemselves, EventsAreFollowed, EveryTestParts, EveryPartingIsASplit, EveryUnionIsAJoin, IdleWorkersJoin, OneWorkerOwnsAll, IdleWorkerOwnsAll};
+
+/// A list of any two real keys can open, with workers that are there: one for each, or one for both.
+pub fn two_keys_can_open()
+    ensures { TwoKeysCanOpen }
+{}
+
+/// One worker can open with any ascending list of real keys, all of them its own and absent, over a list of words that are zeros
+/// but for the claim word and the root of card 0.
+pub fn one_worker_can_open()
+    ensures words { OpeningListsOpen }
+    ensures keys { OneWorkerOpens }
+{}
+
+/// Every opening is a state of a run, and is an opening.
+pub fn openings_are_passed()
+    ensures passed { OpeningsArePassed }
+    ensures openings { OpeningsAreOpenings }
+{}
+
+/// What an event makes of a state of a run is a state of a run; so is the state where it is refused.
+pub fn events_pass_on()
+    ensures { EventsPassOn }
+{}
+
+/// A state of a run is followed by itself, and by what any event makes of a state that follows it.
+pub fn runs_can_be_followed()
+    ensures itself { StatesFollowThemselves }
+    ensures events { EventsAreFollowed }
+{}
+
+/// Each worker with nothing in hand can be split, whichever way its ledger is parted, and no knowledge is lost; and any test
+/// of keys parts a ledger.
+pub fn every_parting_is_a_split()
+    ensures partings { EveryTestParts }
+    ensures splits { EveryPartingIsASplit }
+{}
+
+/// Each two workers with nothing in hand can be joined, whichever ledger theirs together are, and no knowledge is lost; in a
+/// state that the invariant holds of, each two have such a ledger.
+pub fn every_union_is_a_join()
+    ensures unions { EveryUnionIsAJoin }
+    ensures workers { IdleWorkersJoin }
+{}
+
+/// Where there is one worker, and it has nothing in hand, it owns every key that is owned: at an opening, and in every other
+/// state that the invariant holds of.
+pub fn one_worker_owns_all()
+    ensures opening { OneWorkerOwnsAll }
+    ensures later { IdleWorkerOwnsAll }
+{}

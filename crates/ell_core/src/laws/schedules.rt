@@ -1,0 +1,48 @@
+//! Laws of every schedule: any list of events, by any workers in any order, from any opening state on; refused events, and helpers
+//! who come back long after an operation has ended, are schedules too. Each law is the contract of a function that does nothing.
+ghost use Rattle.ell_core.specs.statements.RunLaws.{EveryStateHasInvariant, EveryStateIsSound, KeysChangeAtWins, AnswersAreTheSets, WinsAreInOrder, MarkedNodesAreFrozen, WordsRise, KnowledgeIsNeverLost, ClaimedCardsAreFixed, StagesRise};
+
+/// Every state of a run is sound, since the invariant holds of it.
+pub fn every_state_is_sound()
+    ensures invariant { EveryStateHasInvariant }
+    ensures sound { EveryStateIsSound }
+{}
+
+/// The keys of the tree change at a won ichild, which adds its card's key, and at a won dchild, which takes its card's key away;
+/// at every other event, and where one is refused, they are the same.
+pub fn keys_change_at_wins()
+    ensures { KeysChangeAtWins }
+{}
+
+/// Each answer is the set's answer on the ledger of its worker, and the ledger becomes the set after the operation; no other
+/// event changes a ledger.
+pub fn answers_are_the_sets()
+    ensures { AnswersAreTheSets }
+{}
+
+/// In every run each card wins iflag, ichild, iunflag, or dflag, mark, dchild, dunflag, or dflag, backtrack: each at most once,
+/// in this order.
+pub fn wins_are_in_order()
+    ensures { WinsAreInOrder }
+{}
+
+/// Once a node's update word is a mark, neither it nor the node's children change again.
+pub fn marked_nodes_are_frozen()
+    ensures { MarkedNodesAreFrozen }
+{}
+
+/// The children and the update word of the internal node of every card, claimed or not, only rise.
+pub fn words_rise()
+    ensures { WordsRise }
+{}
+
+/// No worker ever knows less, and every fact of every card that holds of the words, known or not, holds ever after.
+pub fn facts_last()
+    ensures { KnowledgeIsNeverLost }
+{}
+
+/// Where a claimed card goes and the keys of its nodes never change; and a node that came into the tree stays one that did.
+pub fn claimed_cards_are_fixed()
+    ensures cards { ClaimedCardsAreFixed }
+    ensures nodes { StagesRise }
+{}

@@ -1,0 +1,43 @@
+//! Laws of one event, from any state that the invariant holds of, over plain states: what a proof about other code that makes
+//! these steps can stand on. Each law is the contract of a function that does nothing.
+ghost use Rattle.ell_core.specs.statements.Waiting.{StagesTellWaiting, EventsLeaveWaiting, ClaimedCardsSay};
+ghost use Rattle.ell_core.specs.statements.StepLaws.{EventsAreLawful, SplitsAreLawful, JoinsAreLawful, InvariantIsSound, StepsMayRely, OwnerFindsClean};
+
+/// A state that the invariant holds of is sound.
+pub fn invariant_is_sound()
+    ensures { InvariantIsSound }
+{}
+
+/// Each of the fifteen events, won and lost, keeps the invariant, and changes keys, ledgers, knowledge and facts as it should.
+pub fn events_are_lawful()
+    ensures { EventsAreLawful }
+{}
+
+/// A split and a join of workers with nothing in hand keep the invariant.
+pub fn moves_are_lawful()
+    ensures split { SplitsAreLawful }
+    ensures join { JoinsAreLawful }
+{}
+
+/// What a step may rely on: where a worker stands and what it has behind it came into the tree, children have greater numbers and
+/// stand in the table, an update word names a claimed card that set it there, and so does one that was read before. Cards go to
+/// nodes that came into the tree, a delete's ever deeper, and the mark of one that is known marked stands. A leaf where a worker
+/// stands has its key exactly where its ledger has it present, and then there is a grandparent. Each card in hand, or of which
+/// anything is known, is a claimed one.
+pub fn steps_may_rely()
+    ensures { StepsMayRely }
+{}
+
+/// Where one worker owns every key and has nothing in hand, every reached update word is clean.
+pub fn owner_finds_clean()
+    ensures { OwnerFindsClean }
+{}
+
+/// A card that was claimed waits until it wins its flag. One that is in hand and not flagged waits, and is in no other hand. No
+/// event changes any word of a card that waits, and none but the card's own flag, by whoever has it in hand, ends its waiting. A
+/// claim fills the next card, whose words were 0, and that card waits.
+pub fn cards_wait()
+    ensures stages { StagesTellWaiting }
+    ensures events { EventsLeaveWaiting }
+    ensures claimed { ClaimedCardsSay }
+{}
