@@ -1,0 +1,19 @@
+use Rattle.std.proofs.Common.{◌≡◌, ℕ, zero, suc, List, [], ◌∷◌, get_or, slice_index, sym, ap, ◌∙◌}
+use mathlib.Core.Option.{some, some-injective, some-ne-none}
+use lib.ListN.{get_elem?}
+use Rattle.std.specs.Slots.{slots_items}
+use Rattle.ell_core.specs.state.Layout.{listed}
+use Rattle.ell_cards.specs.Ends.{ClosedModel}
+use Rattle.ell_cards.proofs.closed.Closed.word.Goals as goal
+
+-- what stands at a place is what is read there
+read_there : (l : List ℕ) (i x : ℕ) → get_elem? l i ≡ some x → get_or l i 0 ≡ x
+read_there [] i x e = absurd (some-ne-none x (sym e))
+read_there (y ∷ ys) zero x e = some-injective _ _ e
+read_there (y ∷ ys) (suc i) x e = read_there ys i x e
+
+pub returns : goal.returns
+returns g c =
+    let words = slots_items c.self.inside.closed.words in
+    sym (read_there words c.address.result c.word.result c.word.ensures)
+    ∙ (ap (slice_index words) c.address.ensures ∙ ap (λ (m : ClosedModel). listed m.words c.args.card c.args.field) c.self.view_is)

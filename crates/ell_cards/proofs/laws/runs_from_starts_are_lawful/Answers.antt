@@ -1,0 +1,6 @@
+-- Nothing was won before.
+use Rattle.ell_cards.proofs.runs.Starting.{runs_from_starts}
+use Rattle.ell_cards.proofs.laws.runs_from_starts_are_lawful.Goals as goal
+
+pub returns : goal.returns
+returns c = runs_from_starts

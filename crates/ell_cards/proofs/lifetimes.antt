@@ -1,0 +1,14 @@
+-- the rule holds of an opening table
+pub mod Openings
+-- passes with nothing in hand
+pub mod Idle
+-- the parts of a pass's keys
+pub mod Parts
+-- a split of the rule is one of the machine
+pub mod Splits
+-- the keys and the ledger of two passes in one
+pub mod Unions
+-- a join of the rule is one of the machine
+pub mod Joins
+-- how a table ends
+pub mod Ends

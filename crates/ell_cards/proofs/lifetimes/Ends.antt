@@ -1,0 +1,88 @@
+use Rattle.std.proofs.Common.{◌≡◌, ◌≢◌, ℕ, List, None, refl, sym, subst, arith}
+use Rattle.std.specs.Prelude.{Contains}
+use Rattle.std.specs.List.{All}
+use mathlib.Core.Option.{Option, some, none}
+use lib.ListN.{get_elem?}
+use Rattle.ell_core.specs.state.Machine.{Worker, Machine, ledger_of}
+use Rattle.ell_core.specs.state.Moves.{IsIdle}
+use Rattle.ell_core.specs.acts.Searching.{IsClean}
+use Rattle.ell_core.specs.tree.Tree.{Reached}
+use Rattle.ell_core.specs.soundness.Sound.{Owns}
+use Rattle.ell_core.specs.statements.StepLaws.{OwnsAll}
+use Rattle.ell_core.proofs.following.Sound.{reached_born, sound}
+use Rattle.ell_core.proofs.following.Reliance.{owner_finds_clean}
+use Rattle.ell_cards.specs.declared.view.View.{View}
+use Rattle.ell_cards.specs.Models.{IsFree}
+use Rattle.ell_cards.specs.Rule.{TableState, seat_worker, seated, Kept}
+use Rattle.ell_cards.specs.Ends.{SameNode, ShowsSet, Ends}
+use Rattle.ell_cards.proofs.seats.Seats.{mine_is, mine_sound}
+use Rattle.ell_cards.specs.OwnWords.{own_words}
+use Rattle.ell_cards.proofs.own_words.OwnTree.{key_same, child_same, update_same, reached_same}
+use Rattle.ell_cards.proofs.own_words.OwnWords.{same_next, same_card, own_words_are_sound}
+use Rattle.ell_cards.proofs.own_words.OwnLedgers.{ledgers_tell_the_tree}
+
+module _ (keys : List ℕ) (cards : ℕ) (s : TableState) (r : Kept keys cards s) (id : ℕ) (v : View) (here : get_elem? s.views id ≡ some v)
+    (free : IsFree v) (all : All (λ k. ledger_of v.worker.ledger k ≢ None) keys) where
+  abbrev machine : Machine
+  machine = seated r.words s.views cards
+
+  -- the list has at a reached node what the machine has
+  same_node : (x : ℕ) → Reached r.words x → SameNode (own_words s) r.words x
+  same_node x reached =
+      let sound = r.invariant.words in
+      let same = same_card keys cards s r in
+      let born = reached_born r.words r.stages sound x reached in record {
+        key = key_same r.words (own_words s) r.stages sound same x born;
+        child = λ inner right. child_same r.words (own_words s) r.stages sound same x right inner born;
+        update = λ inner. update_same r.words (own_words s) r.stages sound same x inner born;
+      }
+
+  -- the pass owns each key of the table
+  owns_each : (k : ℕ) → Contains keys k → ledger_of v.worker.ledger k ≢ None
+  owns_each k at = subst (λ x. ledger_of v.worker.ledger x ≢ None) at.2 (all at.0 k at.1)
+
+  -- each key that any seat owns is one of the table
+  owned_listed : (j k : ℕ) → Owns (machine.worker j) k → Contains keys k
+  owned_listed j k owns = by (get_elem? s.views j) refl owns
+    where
+      by : (o : Option View) → get_elem? s.views j ≡ o → Owns (seat_worker o) k → Contains keys k
+      by none e own = absurd (own refl)
+      by (some u) e own = r.owned j k u e own
+
+  -- so the pass owns every key that any seat owns
+  owns_all : OwnsAll machine id
+  owns_all = record {
+    all = λ j k owns. subst (λ (u : Worker). Owns u k) (sym (mine_is keys cards s r id v here)) (owns_each k (owned_listed j k owns));
+    free = subst IsIdle (sym (mine_is keys cards s r id v here)) ((mine_sound keys cards s r id v here).free free);
+  }
+
+  -- what is reached in the list is reached in the machine
+  reached_back : (x : ℕ) → Reached (own_words s) x → Reached r.words x
+  reached_back x h = (reached_same r.words (own_words s) r.stages r.invariant.words (same_card keys cards s r) x).1 h
+
+  -- the tree of the list
+  shows : ShowsSet keys v.worker.ledger (record { words = s.words; cards = cards })
+  shows =
+      let is = own_words_are_sound keys cards s r in record {
+        size = r.size;
+        tree = is.tree;
+        nodes = λ x h. let low = is.names.nodes x h in let next = same_next keys cards s r in let room = r.invariant.limit in omega arith;
+        clean = λ x h inner. subst IsClean (sym ((same_node x (reached_back x h)).update inner))
+            (owner_finds_clean machine r.stages id r.invariant owns_all x (reached_back x h) inner);
+        owned = λ k h. let by = is.ledgers.owned k h in owned_listed by.worker k by.owns;
+        present = λ k at. ledgers_tell_the_tree keys cards s r id v here free k (owns_each k at);
+      }
+
+  -- how the table ends
+  pub ends : Ends keys v (record { words = s.words; cards = cards })
+  ends = record {
+    state = s;
+    seat = id;
+    kept = r;
+    seen = here;
+    same = refl;
+    sound = sound machine r.stages r.invariant;
+    nodes = same_node;
+    clean = owner_finds_clean machine r.stages id r.invariant owns_all;
+    shows = shows;
+  }

@@ -1,0 +1,157 @@
+use Rattle.std.proofs.Common.{◌≡◌, ◌≢◌, ◌⊎◌, ℕ, true, false, ◌||◌, List, [], ◌∷◌, ◌++◌, length, set, Option, Bool, Some, None, refl, sym, ap, ◌∙◌, subst, inl, inr, ⊎_elim, length-set}
+use Rattle.std.specs.Prelude.{Contains}
+use Rattle.std.specs.List.Sorted.{IsStrictlyIncreasing}
+use mathlib.Core.Option.{some}
+use lib.ListN.{get_elem?}
+use Rattle.atomic_table.proofs.Lists.{at_set, set_else}
+use Rattle.ell_core.specs.declared.fact.Fact.{Fact}
+use Rattle.ell_core.specs.state.Words.{put}
+use Rattle.ell_core.specs.state.Facts.{known_of, same_fact}
+use Rattle.ell_core.specs.state.Machine.{Worker, nobody, worker_of, ledger_of}
+use Rattle.ell_core.specs.state.Moves.{IsIdle, Parts, Join}
+use Rattle.ell_core.specs.history.Stages.{is_born}
+use Rattle.ell_core.specs.soundness.Sound.{Owns}
+use Rattle.ell_core.proofs.following.Lawful.{joins_lawful}
+use Rattle.ell_core.proofs.outcomes.Decide.{some_not_none}
+use Rattle.ell_cards.specs.declared.view.View.{View}
+use Rattle.ell_cards.specs.Models.{IsFree}
+use Rattle.ell_cards.specs.Changes.{united, joined_view, spent_view}
+use Rattle.ell_cards.specs.Naming.{IsNamed}
+use Rattle.ell_cards.specs.Rule.{seat_worker, seated, EntryHolds, ViewHolds}
+use Rattle.ell_cards.specs.Inside.{keys_united, PassFits}
+use Rattle.ell_cards.specs.Stepping.{MayJoin}
+use Rattle.ell_cards.specs.Laws.{JoinsAreMoves}
+use Rattle.ell_cards.proofs.seats.Entries.{told_either}
+use Rattle.ell_cards.proofs.seats.Seats.{inside, seated_put, mine_is, mine_sound}
+use Rattle.ell_cards.proofs.lifetimes.Idle.{rest_holds, rest_named, met_root}
+use Rattle.ell_cards.proofs.words.Ascending.{rises, ascends}
+use Rattle.ell_cards.proofs.lifetimes.Unions.{rises_united, keys_of_united, ledger_united}
+
+-- what one of two lists of facts has, both together have
+known_either : (a b : List Fact) (f : Fact) → known_of (a ++ b) f ≡ true → (known_of a f ≡ true) ⊎ (known_of b f ≡ true)
+known_either [] b f h = inr h
+known_either (x ∷ a) b f h = by (same_fact f x) (known_either a b f) h
+  where
+    by : (t : Bool) → (known_of (a ++ b) f ≡ true → (known_of a f ≡ true) ⊎ (known_of b f ≡ true)) → (t || known_of (a ++ b) f) ≡ true
+        → ((t || known_of a f) ≡ true) ⊎ (known_of b f ≡ true)
+    by true rest g = inl refl
+    by false rest g = rest g
+
+module _ (views : List View) (id other : ℕ) (v w : View) (here : get_elem? views id ≡ some v) (there : get_elem? views other ≡ some w)
+    (apart : other ≢ id) (both : View) where
+  -- how many they are after a join
+  seats_joined : length (set (set views id both) other spent_view) ≡ length views
+  seats_joined = length-set (set views id both) other spent_view ∙ length-set views id both
+
+  -- the other seat, once the first has its new view
+  still_there : get_elem? (set views id both) other ≡ some w
+  still_there = set_else views id other both apart ∙ there
+
+  -- the workers after a join
+  workers_joined : (j : ℕ) → seat_worker (get_elem? (set (set views id both) other spent_view) j)
+      ≡ put (put (λ i. seat_worker (get_elem? views i)) id (worker_of both.worker)) other nobody j
+  workers_joined j =
+      sym ((λ t. put (λ i. seated_put views id v here both i t) other nobody j)
+      ∙ seated_put (set views id both) other w still_there spent_view j)
+
+  -- what is so of the view of both, of what is left, and of all others, is so of the view in each seat after a join
+  each_joined : (P : View → Type 0) → P both → P spent_view → ((j : ℕ) (u : View) → get_elem? views j ≡ some u → P u)
+      → (j : ℕ) (u : View) → get_elem? (set (set views id both) other spent_view) j ≡ some u → P u
+  each_joined P of_both of_spent others j u at = ⊎_elim
+      (λ (t : (j ≡ other) × (spent_view ≡ u)). subst P t.1 of_spent)
+      (λ (t : (j ≢ other) × (get_elem? (set views id both) j ≡ some u)). ⊎_elim
+      (λ (q : (j ≡ id) × (both ≡ u)). subst P q.1 of_both)
+      (λ (q : (j ≢ id) × (get_elem? views j ≡ some u)). others j u q.1)
+      (at_set views id j both u t.1))
+      (at_set (set views id both) other j spent_view u at)
+
+none_of : (o : Option Bool) → (o ≢ None → ⊥) → o ≡ None
+none_of None h = refl
+none_of (Some t) h = absurd (h (some_not_none refl))
+
+-- two ledgers of which no key is in both are the parts of the one that they make
+united_parts : (l m : List (ℕ × Bool)) → ((k : ℕ) → ledger_of l k ≢ None → ledger_of m k ≢ None → ⊥)
+    → Parts (ledger_of (united l m)) (ledger_of l) (ledger_of m)
+united_parts l m apart k = elim (ledger_united l m k) [
+  | inl a ↦ inl (sym a.0, none_of (ledger_of m k) (apart k a.1))
+  | inr b ↦ inr (b.0, sym b.1)
+]
+
+-- a join of the rule is one of the machine
+pub joins_are_moves : JoinsAreMoves
+joins_are_moves keys cards s r id other v w here there apart free other_free =
+    let m = seated r.words s.views cards in
+    let both = joined_view v w in
+    let views = set (set s.views id both) other spent_view in
+    let same = mine_is keys cards s r id v here in
+    let same' = mine_is keys cards s r other w there in
+    let h = r.views id v here in
+    let g = r.views other w there in
+    let one : (k : ℕ) → ledger_of v.worker.ledger k ≢ None → ledger_of w.worker.ledger k ≢ None → ⊥ = λ k ours theirs.
+    apart (r.invariant.workers.one_owner id other k (subst (λ (u : Worker). Owns u k) (sym same) ours) (subst (λ (u : Worker). Owns u k) (sym same') theirs)) in
+    let parts = united_parts v.worker.ledger w.worker.ledger one in
+    let turned : other ≢ id = λ e. apart (sym e) in
+    let join : Join m id other (seated r.words views cards) = record {
+      left_there = inside s.views id v here;
+      right_there = inside s.views other w there;
+      apart = apart;
+      left_free = subst IsIdle (sym same) ((mine_sound keys cards s r id v here).free free);
+      right_free = subst IsIdle (sym same') ((mine_sound keys cards s r other w there).free other_free);
+      both = worker_of both.worker;
+      both_free = refl;
+      ledgers = subst (λ (u : Worker). Parts (ledger_of both.worker.ledger) u.ledger (m.worker other).ledger) (sym same)
+          (subst (λ (u : Worker). Parts (ledger_of both.worker.ledger) (ledger_of v.worker.ledger) u.ledger) (sym same') parts);
+      knows = λ f k. elim (known_either v.worker.facts w.worker.facts f k) [
+        | inl a ↦ inl (ap (λ (u : Worker). u.knows f) same ∙ a)
+        | inr b ↦ inr (ap (λ (u : Worker). u.knows f) same' ∙ b)
+      ];
+      gives = λ t. record {
+        words = r.words;
+        worker = λ j. workers_joined s.views id other v w here there turned both j t;
+        count = seats_joined s.views id other v w here there turned both t;
+        cards = cards;
+      };
+    } in record {
+      kept = record {
+        words = r.words;
+        stages = r.stages;
+        invariant = joins_lawful m r.stages id other (seated r.words views cards) r.invariant join;
+        size = r.size;
+        next = r.next;
+        settled = r.settled;
+        views = each_joined s.views id other v w here there turned both (ViewHolds s.words r.words r.stages)
+            (rest_holds s.words r.words r.stages both (λ e told. elim (told_either v.told w.told e told) [ inl a ↦ h.entries e a | inr b ↦ g.entries e b ]) refl refl)
+            (rest_holds s.words r.words r.stages spent_view
+            (λ e told. met_root (EntryHolds r.words r.stages) (ap is_born r.invariant.words.opening) e told) refl refl)
+            r.views;
+        owned = λ j k. each_joined s.views id other v w here there turned both (λ u. Owns (worker_of u.worker) k → Contains keys k)
+            (λ has. elim (ledger_united v.worker.ledger w.worker.ledger k) [
+              | inl a ↦ r.owned id k v here a.1
+              | inr b ↦ r.owned other k w there (λ none. has (b.1 ∙ none))
+            ])
+            (λ has. absurd (has refl))
+            (λ i u at has. r.owned i k u at has) j;
+      };
+      join = join;
+    }
+
+-- so the rule allows it
+pub joins : (keys : List ℕ) (cards : ℕ) (v w : View) → IsFree v → IsFree w → MayJoin keys cards v w (joined_view v w) spent_view
+joins keys cards v w free other_free id other s r here apart there =
+    (joins_are_moves keys cards s r id other v w here (sym (set_else s.views id other (joined_view v w) apart) ∙ there) (λ e. apart (sym e)) free other_free).kept
+
+-- the pass of both names what they named
+joined_named : (cards : ℕ) (v w : View) → IsNamed cards v → IsNamed cards w → IsNamed cards (joined_view v w)
+joined_named cards v w h g = rest_named cards (joined_view v w)
+    (λ e told. elim (told_either v.told w.told e told) [ inl a ↦ h.entries e a | inr b ↦ g.entries e b ])
+    (λ f k. elim (known_either v.worker.facts w.worker.facts f k) [ inl a ↦ h.facts f a | inr b ↦ g.facts f b ])
+    refl refl
+
+-- it has the keys of both
+pub joined_fits : (words : ℕ) (ours theirs keys : List ℕ) (v w : View) → PassFits ours words v → PassFits theirs words w → keys ≡ keys_united ours theirs
+    → PassFits keys words (joined_view v w)
+joined_fits words ours theirs keys v w h g is = record {
+  owned = is ∙ ((λ t. keys_united (h.owned t) (g.owned t)) ∙ sym (keys_of_united v.worker.ledger w.worker.ledger));
+  ascending = subst IsStrictlyIncreasing (sym is) (ascends (keys_united ours theirs) (rises_united ours theirs (rises theirs g.ascending)));
+  named = λ cards size. joined_named cards v w (h.named cards size) (g.named cards size);
+}

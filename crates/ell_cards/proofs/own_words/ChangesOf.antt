@@ -1,0 +1,121 @@
+use Rattle.std.proofs.Common.{◌≡◌, ℕ, ◌==◌, eq-eqb, if◌then◌else◌, Bool, true, false, List, [], ◌∷◌, ◌++◌, Some, refl, sym, ap, ◌∙◌, subst, inl, inr, arith}
+use mathlib.Core.Option.{Option, some, none}
+use lib.ListN.{get_elem?}
+use Rattle.ell_ops.specs.declared.op.Op.{Op}
+use Rattle.ell_ops.specs.declared.op.Op.TheVariants.{Find, Insert, Delete}
+use Rattle.ell_word.specs.declared.gate.Kind.{Kind}
+use Rattle.ell_word.specs.declared.gate.Kind.TheVariants as kind
+use Rattle.ell_core.specs.declared.event.Act.{Act}
+use Rattle.ell_core.specs.declared.event.Act.TheVariants as act
+use Rattle.ell_core.specs.state.Words.{Words}
+use Rattle.ell_core.specs.state.Machine.{Worker, worker_of}
+use Rattle.ell_core.specs.state.Cards.{card_key}
+use Rattle.ell_core.specs.acts.Exchanges.{won_or_lost}
+use Rattle.ell_core.specs.soundness.Sound.{IsInHand}
+use Rattle.ell_core.specs.history.Stages.{Stage, Stages, is_insert, is_delete, insert_open, delete_open}
+use Rattle.ell_core.specs.history.Invariant.{WorkerIsSound, Flagged}
+use Rattle.ell_core.specs.history.Later.{wins_of, wins_by}
+use Rattle.ell_core.proofs.following.Lawful.{events_lawful}
+use Rattle.ell_core.proofs.outcomes.Decide.{cases_option, some_not_none}
+use Rattle.ell_core.proofs.stages.Holding.{insert_kind, delete_kind}
+use Rattle.ell_core.proofs.stages.Order.{insert_open-insert, delete_open-delete, insert_won-insert, delete_won-delete}
+use Rattle.ell_core.proofs.words.Sides.{card_key-insert, card_key-delete}
+use Rattle.ell_cards.specs.declared.call.Call.TheVariants as call
+use Rattle.ell_cards.specs.declared.view.View.{View}
+use Rattle.ell_cards.specs.Calls.{Becomes}
+use Rattle.ell_cards.specs.Rule.{TableState, seat_worker, Kept}
+use Rattle.ell_cards.specs.Laws.{machine_of, found_by, state_after}
+use Rattle.ell_cards.specs.OwnWords.{IsAtWork, ChangeIsOf, TableChangesAreOperations}
+use Rattle.ell_cards.proofs.stepping.AllCalls.{steps_are_events}
+use Rattle.ell_cards.proofs.own_words.OwnWords.{own_card_key}
+use Rattle.ell_cards.proofs.seats.Seats.{mine_sound}
+
+-- a card that wins its ichild has its insert's flag standing
+before_ichild : (s later : Stage) → wins_of later ≡ wins_of s ++ kind.IChild ∷ [] → insert_open s ≡ true
+before_ichild s later h = grind arith
+
+-- one that wins its dchild its delete's flag
+before_dchild : (s later : Stage) → wins_of later ≡ wins_of s ++ kind.DChild ∷ [] → delete_open s ≡ true
+before_dchild s later h = grind arith
+
+-- no card is both an insert's and a delete's
+one_kind : (s : Stage) → is_insert s ≡ true → is_delete s ≡ true → ⊥
+one_kind s a b = grind arith
+
+-- a worker with a card in hand has an operation in hand
+busy_with : (w : Words) (stage : Stages) (v : Worker) (c : ℕ) → WorkerIsSound w stage v → v.card ≡ Some c → (op : Op) × (v.operation ≡ Some op)
+busy_with w stage v c sound has = elim (cases_option v.operation) [
+  | inl op ↦ op
+  | inr e ↦ absurd (some_not_none has (ap (λ (u : Worker). u.card) (sound.free e)))
+]
+
+module _ (keys : List ℕ) (cards : ℕ) (s : TableState) (r : Kept keys cards s) where
+  -- the operation of a flagged card, by its kind
+  inserts : (v : Worker) (op : Op) (c : ℕ) → is_insert (r.stages c) ≡ true → Flagged r.words r.stages v op c → op ≡ Insert (card_key r.words c)
+  inserts v (Find k) c is h = absurd h
+  inserts v (Insert k) c is h = ap Insert (sym h.1 ∙ sym (card_key-insert r.words c (insert_kind r.words r.stages r.invariant.words c is)))
+  inserts v (Delete k) c is h = absurd (one_kind (r.stages c) is (delete_won-delete (r.stages c) h.0))
+
+  deletes : (v : Worker) (op : Op) (c : ℕ) → is_delete (r.stages c) ≡ true → Flagged r.words r.stages v op c → op ≡ Delete (card_key r.words c)
+  deletes v (Find k) c is h = absurd h
+  deletes v (Insert k) c is h = absurd (one_kind (r.stages c) (insert_won-insert (r.stages c) h.0) is)
+  deletes v (Delete k) c is h = ap Delete (sym h.1 ∙ sym (card_key-delete r.words c (delete_kind r.words r.stages r.invariant.words c is)))
+
+  -- whoever has the card in hand, flagged, is at work with it
+  at_work : (c : ℕ) (op : Op) → ((v : Worker) (o : Op) → Flagged r.words r.stages v o c → o ≡ op) → IsInHand (machine_of keys cards s r) c → IsAtWork s c op
+  at_work c op which hand = by hand.worker (get_elem? s.views hand.worker) refl hand.holds hand.flagged
+    where
+      by : (i : ℕ) (o : Option View) → get_elem? s.views i ≡ o → (seat_worker o).card ≡ Some c → (seat_worker o).flagged ≡ true → IsAtWork s c op
+      by i none e has flagged = absurd (some_not_none has refl)
+      by i (some v) e has flagged =
+          let sound = mine_sound keys cards s r i v e in
+          let busy = busy_with r.words r.stages (worker_of v.worker) c sound has in record {
+            seat = i;
+            view = v;
+            there = e;
+            does = busy.1 ∙ ap Some (which (worker_of v.worker) busy.0 (sound.flagged busy.0 c busy.1 has flagged).0);
+            held = record { holds = has; flagged = flagged };
+          }
+
+  -- a card that wins has this win after those before
+  won_by : (id : ℕ) (a : Act) (c : ℕ) (k : Kind) (s' : TableState) (r' : Kept keys cards s')
+      → Becomes id (Some a) (won_or_lost true) (machine_of keys cards s r) (machine_of keys cards s' r')
+      → wins_by a ((machine_of keys cards s r).worker id).card (won_or_lost true) c ≡ k ∷ []
+      → (later : Stage) × (wins_of later ≡ wins_of (r.stages c) ++ k ∷ [])
+  won_by id a c k s' r' steps is =
+      let follows = (events_lawful (machine_of keys cards s r) r.stages (record { worker = id; act = a }) (won_or_lost true)
+      (machine_of keys cards s' r') r.invariant steps).follows in
+      (follows.stages c, follows.wins c ∙ ap (λ ks. wins_of (r.stages c) ++ ks) is)
+
+-- one win, of this card
+one_win : (c : ℕ) (k : Kind) → (if c == c then k ∷ [] else []) ≡ k ∷ []
+one_win c k = ap (λ b. if b then k ∷ [] else []) (eq-eqb c c refl)
+
+pub table_changes_are_operations : TableChangesAreOperations
+table_changes_are_operations keys cards s r id v (call.IChild c p l right) here may =
+    let step = steps_are_events keys cards s r id v (call.IChild c p l right) here may in by step.kept (found_by s (call.IChild c p l right) == l) step.event
+  where
+    by : (r' : Kept keys cards (state_after s id v (call.IChild c p l right))) (b : Bool)
+        → Becomes id (Some (act.IChild c)) (won_or_lost b) (machine_of keys cards s r) (machine_of keys cards (state_after s id v (call.IChild c p l right)) r')
+        → ChangeIsOf (call.IChild c p l right) b s
+    by r' true h =
+        let won = won_by keys cards s r id (act.IChild c) c kind.IChild (state_after s id v (call.IChild c p l right)) r' h (one_win c kind.IChild) in
+        let opened = before_ichild (r.stages c) won.0 won.1 in
+        subst (λ k. IsAtWork s c (Insert k)) (sym (own_card_key keys cards s r id c v here (inl may.knows)))
+        (at_work keys cards s r c (Insert (card_key r.words c))
+        (λ u o f. inserts keys cards s r u o c (insert_open-insert (r.stages c) opened) f) (r.invariant.workers.insert_in_hand c opened))
+    by r' false h = tt
+table_changes_are_operations keys cards s r id v (call.DChild c gp p y right) here may =
+    let step = steps_are_events keys cards s r id v (call.DChild c gp p y right) here may in by step.kept (found_by s (call.DChild c gp p y right) == p) step.event
+  where
+    by : (r' : Kept keys cards (state_after s id v (call.DChild c gp p y right))) (b : Bool)
+        → Becomes id (Some (act.DChild c)) (won_or_lost b) (machine_of keys cards s r) (machine_of keys cards (state_after s id v (call.DChild c gp p y right)) r')
+        → ChangeIsOf (call.DChild c gp p y right) b s
+    by r' true h =
+        let won = won_by keys cards s r id (act.DChild c) c kind.DChild (state_after s id v (call.DChild c gp p y right)) r' h (one_win c kind.DChild) in
+        let opened = before_dchild (r.stages c) won.0 won.1 in
+        subst (λ k. IsAtWork s c (Delete k)) (sym (own_card_key keys cards s r id c v here (inr (inr may.knows))))
+        (at_work keys cards s r c (Delete (card_key r.words c))
+        (λ u o f. deletes keys cards s r u o c (delete_open-delete (r.stages c) opened) f) (r.invariant.workers.delete_in_hand c opened))
+    by r' false h = tt
+table_changes_are_operations keys cards s r id v _ here may = tt

@@ -1,0 +1,76 @@
+use Rattle.std.proofs.Common.{◌≡◌, ℕ, false, List, sym, ◌∙◌}
+use mathlib.Core.Option.{some}
+use lib.ListN.{get_elem?}
+use Rattle.ell_word.specs.Node.{card}
+use Rattle.ell_word.specs.Word.{unpacked}
+use Rattle.ell_core.specs.state.Cards.{card_key}
+use Rattle.ell_core.specs.soundness.Sound.{IsSound}
+use Rattle.ell_core.specs.history.Stages.{waits}
+use Rattle.ell_core.specs.history.Later.{SaysTheSame}
+use Rattle.ell_core.specs.statements.StepLaws.{SameKeys}
+use Rattle.ell_core.proofs.words.Listed.{words_are_listed, listed_next}
+use Rattle.ell_core.proofs.following.Reliance.{may_rely}
+use Rattle.ell_core.proofs.following.Sound.{sound}
+use Rattle.ell_core.proofs.following.WaitingCards.{flagged_settled}
+use Rattle.ell_core.proofs.stages.Waiting.{born-settled}
+use Rattle.ell_cards.specs.declared.view.View.{View}
+use Rattle.ell_cards.specs.Models.{KnowsCard}
+use Rattle.ell_cards.specs.Rule.{TableState, seated, Kept}
+use Rattle.ell_cards.specs.OwnWords.{own_words, own_machine, OwnWordsAreSound, RuleIsSound, WordsAreOwn, RuleHasOwnWords}
+use Rattle.ell_cards.proofs.stepping.Known.{known_settled, known_claimed}
+use Rattle.ell_cards.proofs.seats.Seats.{mine_sound}
+use Rattle.ell_cards.proofs.own_words.OwnTree.{reached_same, reached_born, keys_same}
+use Rattle.ell_cards.proofs.own_words.OwnCards.{card_key_same}
+use Rattle.ell_cards.proofs.own_words.OwnSound.{own_sound}
+
+module _ (keys : List ℕ) (cards : ℕ) (s : TableState) (r : Kept keys cards s) where
+  -- the claim word, and each card that does not wait
+  pub same_next : (own_words s).next ≡ r.words.next
+  same_next = listed_next s.words ∙ r.next
+
+  pub same_card : (c : ℕ) → waits (r.stages c) ≡ false → SaysTheSame r.words (own_words s) c
+  same_card c calm field = words_are_listed s.words c field ∙ r.settled c field calm
+
+  settled_card : (c : ℕ) → waits (r.stages c) ≡ false → SaysTheSame (own_words s) r.words c
+  settled_card c calm field = sym (same_card c calm field)
+
+  -- the table's own words are a sound state
+  sound_state : IsSound (own_machine cards s)
+  sound_state = own_sound (seated r.words s.views cards) (own_words s) r.stages r.invariant same_next same_card
+
+  -- the trees have the same keys
+  pub own_keys : SameKeys (own_words s) r.words
+  own_keys = keys_same r.words (own_words s) r.stages r.invariant.words same_card
+
+  -- the key of a card that a pass knows
+  pub own_card_key : (id c : ℕ) (v : View) → get_elem? s.views id ≡ some v → KnowsCard v c → card_key (own_words s) c ≡ card_key r.words c
+  own_card_key id c v here knows = card_key_same r.words (own_words s) r.stages r.invariant.words same_card c
+      (known_settled keys cards s r id v here c knows)
+      ((may_rely (seated r.words s.views cards) r.stages id r.invariant).goes c (known_claimed keys cards s r id v here c knows))
+
+  -- where the words are the table's own
+  words_own : WordsAreOwn keys cards s r
+  words_own = record {
+    next = sym same_next;
+    settled = settled_card;
+    reached = reached_same r.words (own_words s) r.stages r.invariant.words same_card;
+    nodes = λ x reached. settled_card (card x)
+        (born-settled (r.stages (card x)) (reached_born r.words (own_words s) r.stages r.invariant.words same_card x reached));
+    flags = λ x reached inner dirty.
+        let hand = (sound_state.flags x reached inner dirty).in_hand in
+        let c = (unpacked ((own_words s).update x)).card in
+        settled_card c (flagged_settled r.words r.stages ((own_machine cards s).worker hand.worker) c (r.invariant.workers.each hand.worker) hand.holds hand.flagged);
+    known = λ i c v here knows. settled_card c (known_settled keys cards s r i v here c knows);
+    held = λ i c v here h.
+        settled_card c (flagged_settled r.words r.stages _ c (mine_sound keys cards s r i v here) h.holds h.flagged);
+    tree = own_keys;
+  }
+
+pub own_words_are_sound : OwnWordsAreSound
+own_words_are_sound = sound_state
+
+pub rule_is_sound : RuleIsSound
+rule_is_sound keys cards s r = sound (seated r.words s.views cards) r.stages r.invariant
+
+pub rule_has_own_words : RuleHasOwnWords
+rule_has_own_words = words_own

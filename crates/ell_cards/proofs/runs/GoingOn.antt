@@ -1,0 +1,144 @@
+use Rattle.std.proofs.Common.{◌≡◌, ℕ, ◌==◌, if◌then◌else◌, Bool, true, false, Option, Some, None, List, [], ◌∷◌, ◌++◌, refl, sym, ap, ◌∙◌, subst}
+use Rattle.std.proofs.lemmas.List.{append_assoc}
+use Rattle.ell_word.specs.Word.{packed}
+use Rattle.ell_word.specs.declared.gate.Kind.{Kind}
+use Rattle.ell_word.specs.declared.gate.Kind.TheVariants as kind
+use Rattle.ell_core.specs.declared.event.Act.{Act}
+use Rattle.ell_core.specs.declared.event.Act.TheVariants as act
+use Rattle.ell_core.specs.declared.event.Stepped.{Stepped}
+use Rattle.ell_core.specs.declared.event.Stepped.TheVariants.{Moved, Answered}
+use Rattle.ell_core.specs.state.Machine.{Machine}
+use Rattle.ell_core.specs.state.Cards.{iflag, dflag}
+use Rattle.ell_core.specs.acts.Exchanges.{won_or_lost}
+use Rattle.ell_core.specs.history.Stages.{Stages}
+use Rattle.ell_core.specs.history.Invariant.{Invariant}
+use Rattle.ell_core.specs.history.Later.{wins_of, win_for, win_by, wins_by}
+use Rattle.ell_core.proofs.following.Lawful.{events_lawful, splits_lawful, joins_lawful}
+use Rattle.ell_core.proofs.stages.Advances.{wins_same}
+use Rattle.ell_cards.specs.declared.call.Call.{Call}
+use Rattle.ell_cards.specs.declared.call.Call.TheVariants as call
+use Rattle.ell_cards.specs.declared.view.View.{View}
+use Rattle.ell_cards.specs.Calls.{atomic_of, is_won, act_of, said_of, Becomes, May}
+use Rattle.ell_cards.specs.Rule.{TableState, seat_worker, Kept}
+use Rattle.ell_cards.specs.Laws.{machine_of, found_by}
+use Rattle.ell_cards.specs.Runs.{Turn, Makes, Splits, Joins, TableTurns, TableRun}
+use Rattle.ell_cards.specs.RunLaws.{win_of, turn_wins, run_wins}
+use Rattle.ell_cards.proofs.runs.TurnsOfRuns.{turn_lawful}
+use Rattle.ell_core.specs.state.Words.{Words}
+use Rattle.ell_core.specs.history.Later.{WordsLater, StagesLater}
+use Rattle.ell_core.proofs.words.Later.{words_same}
+use Rattle.ell_core.proofs.runs.Chains.{words_later, stages_later}
+use Rattle.ell_core.proofs.stages.Advances.{stages_same}
+
+-- a machine that came from one with these words and stages, which won this since
+pub record Went (w : Words) (stage : Stages) (won : ℕ → List Kind) (m' : Machine) : Type 0 where
+  pub stages : Stages
+  pub invariant : Invariant m' stages
+  pub words : WordsLater w m'.words
+  pub later : StagesLater stage stages
+  pub wins : (d : ℕ) → wins_of (stages d) ≡ wins_of (stage d) ++ won d
+
+-- nothing was won where the words are the same
+went_nowhere : (m : Machine) (stage : Stages) (m' : Machine) → Invariant m' stage → m'.words ≡ m.words → Went m.words stage (λ d. []) m'
+went_nowhere m stage m' holds is = record {
+  stages = stage;
+  invariant = holds;
+  words = subst (WordsLater m.words) (sym is) (words_same m.words);
+  later = stages_same stage;
+  wins = λ d. wins_same (stage d);
+}
+
+-- an act of a machine, and no act
+module _ (m : Machine) (stage : Stages) (holds : Invariant m stage) (i : ℕ) (m' : Machine) where
+  acts : (a : Act) (said : Stepped) → Becomes i (Some a) said m m' → Went m.words stage (wins_by a (m.worker i).card said) m'
+  acts a said h =
+      let follows = (events_lawful m stage (record { worker = i; act = a }) said m' holds h).follows in
+      record { stages = follows.stages; invariant = follows.invariant; words = follows.words; later = follows.later; wins = follows.wins }
+
+  rests : m' ≡ m → Went m.words stage (λ d. []) m'
+  rests is = went_nowhere m stage m' (subst (λ (n : Machine). Invariant n stage) (sym is) holds) (ap (λ (n : Machine). n.words) is)
+
+  claims : (b : Bool) → Becomes i (if b then Some act.Claim else None) Moved m m' → Went m.words stage (λ d. if b then [] else []) m'
+  claims true h = acts act.Claim Moved h
+  claims false h = rests h
+
+  -- an act that is won or lost
+  tries : (a : Act) (b : Bool) → Becomes i (Some a) (won_or_lost b) m m' → Went m.words stage (λ d. if b then win_by a (m.worker i).card d else []) m'
+  tries a true h = acts a (won_or_lost true) h
+  tries a false h = acts a (won_or_lost false) h
+
+  -- a flag, of the card in hand
+  flags : (a : Act) (k : Kind) (b : Bool) (c : ℕ) → ((hand : Option ℕ) (d : ℕ) → win_by a hand d ≡ win_for hand k d) → (m.worker i).card ≡ Some c
+      → Becomes i (Some a) (won_or_lost b) m m' → Went m.words stage (λ d. if b then win_for (Some c) k d else []) m'
+  flags a k b c is holds h =
+      subst (λ (won : ℕ → List Kind). Went m.words stage (λ d. if b then won d else []) m') (λ t d. (is (m.worker i).card d ∙ ap (λ o. win_for o k d) holds) t)
+      (tries a b h)
+
+  -- the wins of a call
+  call_wins : (c : Call) (n : ℕ) (v : View) (cards : ℕ) → (m.worker i).card ≡ v.worker.card → May cards c v → Becomes i (act_of c n) (said_of c n) m m'
+      → Went m.words stage (λ d. if is_won (atomic_of c) n then win_of c d else []) m'
+  call_wins (call.Begin op) n v cards mine may h = acts (act.Begin op) Moved h
+  call_wins call.Again n v cards mine may h = acts act.Again Moved h
+  call_wins call.Leave n v cards mine may h = acts act.Leave Moved h
+  call_wins (call.Answer said) n v cards mine may h = acts act.Answer (Answered said) h
+  call_wins (call.Upd x) n v cards mine may h = acts act.Upd Moved h
+  call_wins (call.Down x right) n v cards mine may h = acts act.Down Moved h
+  call_wins call.Next n v cards mine may h = rests h
+  call_wins (call.KeyOf x) n v cards mine may h = rests h
+  call_wins (call.Info c f) n v cards mine may h = rests h
+  call_wins (call.FrozenChild c p right) n v cards mine may h = rests h
+  call_wins (call.Claim c) n v cards mine may h = claims (n == c) h
+  call_wins (call.Fill c f value) n v cards mine may h = rests h
+  call_wins (call.IFlag c p from) n v cards mine may h =
+      flags act.IFlag kind.IFlag (n == packed from) c (λ hand d. refl) (mine ∙ may.may.holds) h
+  call_wins (call.IChild c p l right) n v cards mine may h = tries (act.IChild c) (n == l) h
+  call_wins (call.IUnflag c p) n v cards mine may h = tries (act.IUnflag c) (n == iflag c) h
+  call_wins (call.DFlag c gp from) n v cards mine may h =
+      flags act.DFlag kind.DFlag (n == packed from) c (λ hand d. refl) (mine ∙ may.may.holds) h
+  call_wins (call.Mark c p was) n v cards mine may h = tries (act.Mark c) (n == was) h
+  call_wins (call.DChild c gp p sibling right) n v cards mine may h = tries (act.DChild c) (n == p) h
+  call_wins (call.DUnflag c gp) n v cards mine may h = tries (act.DUnflag c) (n == dflag c) h
+  call_wins (call.Backtrack c gp) n v cards mine may h = tries (act.Backtrack c) (n == dflag c) h
+
+module _ (keys : List ℕ) (cards : ℕ) where
+  -- the wins of a turn
+  turn_goes : (s : TableState) (r : Kept keys cards s) (stage : Stages) → Invariant (machine_of keys cards s r) stage → (t : Turn) (s' : TableState)
+      → TableTurns cards s t s' → (k : Kept keys cards s') × Went r.words stage (turn_wins s t) (machine_of keys cards s' k)
+  turn_goes s r stage holds (Makes seat c) s' h =
+      let turn = turn_lawful keys cards s r (Makes seat c) s' h in (
+        turn.0,
+        call_wins (machine_of keys cards s r) stage holds seat (machine_of keys cards s' turn.0) c (found_by s c) h.view cards
+            (ap (λ o. (seat_worker o).card) h.there) h.may turn.1.machine,
+      )
+  turn_goes s r stage holds (Splits seat left) s' h =
+      let turn = turn_lawful keys cards s r (Splits seat left) s' h in
+      let m = machine_of keys cards s r in
+      let m' = machine_of keys cards s' turn.0 in
+      (turn.0, went_nowhere m stage m' (splits_lawful m stage seat m' holds turn.1.machine) (ap (λ (n : Machine). n.words) turn.1.machine.gives))
+  turn_goes s r stage holds (Joins seat other) s' h =
+      let turn = turn_lawful keys cards s r (Joins seat other) s' h in
+      let m = machine_of keys cards s r in
+      let m' = machine_of keys cards s' turn.0 in
+      (turn.0, went_nowhere m stage m' (joins_lawful m stage seat other m' holds turn.1.machine) (ap (λ (n : Machine). n.words) turn.1.machine.gives))
+
+  -- what a run makes of the machine
+  pub run_goes : (s : TableState) (r : Kept keys cards s) (stage : Stages) → Invariant (machine_of keys cards s r) stage → (turns : List Turn) (s' : TableState)
+      → (run : TableRun cards s turns s')
+      → (k : Kept keys cards s') × Went r.words stage (run_wins cards s turns s' run) (machine_of keys cards s' k)
+  run_goes s r stage holds [] s' run =
+      subst (λ x. (k : Kept keys cards x) × Went r.words stage (λ d. []) (machine_of keys cards x k)) (sym run)
+      (r, went_nowhere (machine_of keys cards s r) stage (machine_of keys cards s r) holds refl)
+  run_goes s r stage holds (t ∷ ts) s' run =
+      let first = turn_goes s r stage holds t run.0 run.1 in
+      let rest = run_goes run.0 first.0 first.1.stages first.1.invariant ts s' run.2 in (
+        rest.0,
+        record {
+          stages = rest.1.stages;
+          invariant = rest.1.invariant;
+          words = words_later r.words first.0.words rest.0.words first.1.words rest.1.words;
+          later = stages_later stage first.1.stages rest.1.stages first.1.later rest.1.later;
+          wins = λ d. rest.1.wins d
+              ∙ (ap (λ ks. ks ++ run_wins cards run.0 ts s' run.2 d) (first.1.wins d)
+              ∙ append_assoc (wins_of (stage d)) (turn_wins s t d) (run_wins cards run.0 ts s' run.2 d));
+        },
+      )

@@ -1,0 +1,120 @@
+use Rattle.std.proofs.Common.{◌≡◌, ◌≢◌, ℕ, ◌⊎◌, Bool, true, false, List, refl, sym, ap, ◌∙◌, inl, inr, arith}
+use Rattle.std.proofs.lemmas.Bool.{cases_eq}
+use Rattle.ell_word.specs.Node.{IsInternal, card, internal}
+use Rattle.ell_word.specs.Word.{unpacked}
+use Rattle.ell_word.specs.declared.update.State.TheVariants as state
+use Rattle.ell_word.specs.declared.gate.Kind.{Kind}
+use Rattle.ell_core.specs.state.Machine.{Machine}
+use Rattle.ell_core.specs.state.Cards.{marked, clean}
+use Rattle.ell_core.specs.tree.Tree.{Reached}
+use Rattle.ell_core.specs.history.Stages.{Stage, Stages, is_born, is_insert, is_delete, Born}
+use Rattle.ell_core.specs.history.Invariant.{Invariant}
+use Rattle.ell_core.proofs.following.Sound.{word_by_state}
+use Rattle.ell_core.proofs.stages.Order.{born-claimed}
+use Rattle.ell_core.proofs.tree.Reached.{Spans-reached}
+use Rattle.ell_cards.specs.Rule.{TableState, Kept}
+use Rattle.ell_cards.specs.Laws.{machine_of}
+use Rattle.ell_cards.specs.OwnWords.{own_words}
+use Rattle.ell_cards.specs.RunLaws.{run_wins, NodeGoesOn, TableNodesGoOn}
+use Rattle.ell_cards.proofs.own_words.OwnTree.{key_same, child_same, update_same, reached_born}
+use Rattle.ell_cards.proofs.own_words.OwnWords.{same_card}
+use Rattle.ell_cards.proofs.runs.GoingOn.{Went, run_goes}
+
+-- a clean update word is no mark
+no_mark : (w : ℕ) (d : ℕ) → w ≡ clean 0 → w ≢ marked d
+no_mark w d is e = omega arith
+
+-- a card that came into the tree is an insert's, but card 0
+born_insert : (s : Stage) → is_born s ≡ true → (is_insert s ≡ true) ⊎ (is_delete s ≡ true) → is_insert s ≡ true
+born_insert s a b = grind arith
+
+module _ (m : Machine) (one two : Stages) (holds : Invariant m one) (also : Invariant m two) where
+  -- the node of an insert's card that came into the tree by these stages, by the others
+  node_born : (c : ℕ) → is_born (one c) ≡ true → is_insert (two c) ≡ true → is_born (two c) ≡ true
+  node_born c born inserts = by (is_born (two c)) refl
+    where
+      at : card (internal c) ≡ c
+      at = omega arith
+
+      by : (b : Bool) → is_born (two c) ≡ b → is_born (two c) ≡ true
+      by true is = is
+      by false is =
+          let fresh = (also.words.cards c).unborn inserts is in
+          let inside = holds.words.tree.there (internal c) (omega arith) (ap (λ d. is_born (one d)) at ∙ born)
+          (λ d. no_mark (m.words.update (internal c)) d fresh.calm) in
+          ap (λ d. is_born (two d)) (sym at)
+          ∙ reached_born m.words m.words two also.words (λ d calm f. refl) (internal c) (Spans-reached m.words inside.spans)
+
+  -- which nodes came into the tree is told by the machine: stages that the invariant holds with agree on it
+  born_by_machine : (x : ℕ) → Born one x → Born two x
+  born_by_machine x born = by (card x) born
+    where
+      by : (c : ℕ) → is_born (one c) ≡ true → is_born (two c) ≡ true
+      by c is = elim (cases_eq c 0) [
+        | inl e ↦ ap (λ d. is_born (two d)) e ∙ ap is_born also.words.opening
+        | inr n ↦ (
+            let below = (holds.words.cards c).claimed.0 (born-claimed (one c) is) in
+            let inserts = born_insert (one c) is (holds.kinds.kinds c below n) in
+            elim (also.kinds.kinds c below n) [
+              | inl i ↦ node_born c is i
+              | inr d ↦ absurd (((holds.words.cards c).insert inserts).left_child ((also.words.cards c).delete d).no_left_child)
+            ])
+      ]
+
+-- two states of the rule, the second one's machine gone on from the first one's, and a node that was reached in the first
+module _ (keys : List ℕ) (cards : ℕ) (s : TableState) (r : Kept keys cards s) (s' : TableState) (k : Kept keys cards s') (won : ℕ → List Kind)
+    (went : Went r.words r.stages won (machine_of keys cards s' k)) (x : ℕ) (reached : Reached (own_words s) x) where
+  -- it came into the tree
+  born : Born r.stages x
+  born = reached_born r.words (own_words s) r.stages r.invariant.words (same_card keys cards s r) x reached
+
+  later : Born k.stages x
+  later = born_by_machine (machine_of keys cards s' k) went.stages k.stages went.invariant k.invariant x (went.later.born x born)
+
+  -- so the table's own words there are the machine's
+  key_then : (own_words s).key x ≡ r.words.key x
+  key_then = key_same r.words (own_words s) r.stages r.invariant.words (same_card keys cards s r) x born
+
+  key_now : (own_words s').key x ≡ k.words.key x
+  key_now = key_same k.words (own_words s') k.stages k.invariant.words (same_card keys cards s' k) x later
+
+  child_then : IsInternal x → (right : Bool) → (own_words s).child x right ≡ r.words.child x right
+  child_then inner right = child_same r.words (own_words s) r.stages r.invariant.words (same_card keys cards s r) x right inner born
+
+  child_now : IsInternal x → (right : Bool) → (own_words s').child x right ≡ k.words.child x right
+  child_now inner right = child_same k.words (own_words s') k.stages k.invariant.words (same_card keys cards s' k) x right inner later
+
+  update_then : IsInternal x → (own_words s).update x ≡ r.words.update x
+  update_then inner = update_same r.words (own_words s) r.stages r.invariant.words (same_card keys cards s r) x inner born
+
+  update_now : IsInternal x → (own_words s').update x ≡ k.words.update x
+  update_now inner = update_same k.words (own_words s') k.stages k.invariant.words (same_card keys cards s' k) x inner later
+
+  -- and go on as those do
+  node_goes_on : NodeGoesOn (own_words s) (own_words s') x
+  node_goes_on = record {
+    key = key_now ∙ (went.words.key x ((r.invariant.words.cards (card x)).claimed.0 (born-claimed (r.stages (card x)) born)) ∙ sym key_then);
+    children = λ inner right.
+        let before = child_then inner right in
+        let after = child_now inner right in
+        let rises = went.words.child x right in
+        omega arith;
+    update = λ inner.
+        let before = update_then inner in
+        let after = update_now inner in
+        let rises = went.words.update x in
+        omega arith;
+    frozen = λ inner mark.
+        let still = went.words.frozen x (unpacked ((own_words s).update x)).card
+        (sym (update_then inner) ∙ word_by_state ((own_words s).update x) state.Mark mark) in
+        record {
+          update = update_now inner ∙ (still.update ∙ sym (update_then inner));
+          child = λ right. child_now inner right ∙ (still.child right ∙ sym (child_then inner right));
+        };
+  }
+
+-- by what a run makes of the machine
+pub table_nodes_go_on : TableNodesGoOn
+table_nodes_go_on keys cards s r turns s' run x reached =
+    let goes = run_goes keys cards s r r.stages r.invariant turns s' run in
+    node_goes_on keys cards s r s' goes.0 (run_wins cards s turns s' run) goes.1 x reached

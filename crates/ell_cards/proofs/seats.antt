@@ -1,0 +1,14 @@
+-- what was told lasts, and lists of what was told
+pub mod Entries
+-- the machine that words and passes are, and what an event of one pass leaves of the rule
+pub mod Seats
+-- what an event leaves of the rule, by what it does to the words
+pub mod Frames
+-- a claim, a flag and a mark leave the ledger
+pub mod LedgersStay
+-- what a pass names is in its table
+pub mod Named
+-- a step of a pass, as the generic step owes it
+pub mod Taken
+-- the insides of a table and a pass, where the generic step opens them
+pub mod Opened

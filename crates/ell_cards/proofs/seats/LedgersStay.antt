@@ -1,0 +1,23 @@
+use Rattle.std.proofs.Common.{◌≡◌, ℕ, if◌then◌else◌, Bool, true, false, refl}
+use Rattle.ell_word.specs.declared.update.Update.{Update}
+use Rattle.ell_core.specs.declared.fact.Fact.{Fact}
+use Rattle.ell_core.specs.declared.fact.Fact.TheVariants.{Marked}
+use Rattle.ell_cards.specs.declared.view.View.{View}
+use Rattle.ell_cards.specs.Changes.{after_claim, after_flag, after_mark, is_mark_of, learning, unmarking}
+
+-- a claim, a flag and a mark leave the ledger
+pub claim_ledger : (b : Bool) (c : ℕ) (v : View) → (after_claim b c v).worker.ledger ≡ v.worker.ledger
+claim_ledger true c v = refl
+claim_ledger false c v = refl
+
+pub flag_ledger : (b : Bool) (new : Fact) (x : ℕ) (u : Update) (v : View) → (after_flag b new x u v).worker.ledger ≡ v.worker.ledger
+flag_ledger true new x u v = refl
+flag_ledger false new x u v = refl
+
+pub mark_ledger : (b : Bool) (c x : ℕ) (u : Update) (v : View) → (after_mark b c x u v).worker.ledger ≡ v.worker.ledger
+mark_ledger true c x u v = refl
+mark_ledger false c x u v = by (is_mark_of c u.state u.card)
+  where
+    by : (b : Bool) → (if b then learning (Marked c) v else unmarking c x u v).worker.ledger ≡ v.worker.ledger
+    by true = refl
+    by false = refl

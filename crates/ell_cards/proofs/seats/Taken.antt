@@ -1,0 +1,159 @@
+use Rattle.std.proofs.Common.{◌≡◌, ◌==◌, ℕ, ◌%◌, ◌<◌, ◌≤◌, if◌then◌else◌, Bool, true, false, List, [], ◌∷◌, get_or, set, Option, Some, None, refl, sym, ap, ◌∙◌, subst, inl, inr, arith}
+use prog.Atomic.{either}
+use Rattle.atomic_table.specs.Table.{Allows, keeps}
+use Rattle.ell_ops.specs.declared.op.Op.{Op}
+use Rattle.ell_ops.specs.declared.op.Op.TheVariants.{Find, Insert, Delete}
+use Rattle.ell_word.specs.Node.{card}
+use Rattle.ell_word.specs.Word.{packed, unpacked}
+use Rattle.ell_core.specs.declared.fact.Fact.TheVariants.{IFlagged, DFlagged, Marked}
+use Rattle.ell_core.specs.declared.field.Field.{Field}
+use Rattle.ell_core.specs.declared.field.Field.TheVariants as field
+use Rattle.ell_core.specs.state.Words.{key_field, child_field}
+use Rattle.ell_core.specs.state.Layout.{address, table_size}
+use Rattle.ell_core.proofs.words.Listed.{place_small}
+use Rattle.ell_cards.specs.declared.call.Call.{Call}
+use Rattle.ell_cards.specs.declared.call.Call.TheVariants as call
+use Rattle.ell_cards.specs.declared.view.View.{View}
+use Rattle.ell_cards.specs.declared.view.Told.TheVariants.{Met, Info}
+use Rattle.ell_cards.specs.Models.{KnowsCard, PassModel, Steps}
+use Rattle.ell_cards.specs.Changes.{keys_of, with_key, answered_ledger}
+use Rattle.ell_cards.specs.Calls.{Load, Exchange, word_of, atomic_of, left_by, after, May}
+use Rattle.ell_cards.specs.Naming.{IsNamed}
+use Rattle.ell_cards.specs.Rule.{Kept}
+use Rattle.ell_cards.specs.Stepping.{MayLoad, MayStore, MayExchange, KeepsPass, StepsBy, IsTaken}
+use Rattle.ell_cards.proofs.seats.Seats.{set_there}
+use Rattle.ell_cards.proofs.stepping.AllCalls.{steps_are_events}
+use Rattle.ell_cards.proofs.seats.LedgersStay.{claim_ledger, flag_ledger, mark_ledger}
+use Rattle.ell_cards.proofs.seats.Named.{kept_named}
+
+-- settling a key leaves the keys
+settled_keys : (k : ℕ) (b : Bool) (l : List (ℕ × Bool)) → keys_of (with_key k b l) ≡ keys_of l
+settled_keys k b [] = refl
+settled_keys k b (e ∷ es) = ap (λ ks. e.0 ∷ ks) (settled_keys k b es)
+
+answered_keys : (o : Option Op) (said : Bool) (l : List (ℕ × Bool)) → keys_of (answered_ledger o said l) ≡ keys_of l
+answered_keys None said l = refl
+answered_keys (Some (Find k)) said l = refl
+answered_keys (Some (Insert k)) true l = settled_keys k true l
+answered_keys (Some (Insert k)) false l = refl
+answered_keys (Some (Delete k)) true l = settled_keys k false l
+answered_keys (Some (Delete k)) false l = refl
+
+-- no step call changes which keys a pass owns
+keys_stay : (c : Call) (n : ℕ) (v : View) → keys_of (after c n v).worker.ledger ≡ keys_of v.worker.ledger
+keys_stay (call.Begin op) n v = refl
+keys_stay call.Again n v = refl
+keys_stay call.Leave n v = refl
+keys_stay (call.Answer said) n v = answered_keys v.worker.operation said v.worker.ledger
+keys_stay (call.Upd x) n v = refl
+keys_stay (call.Down x right) n v = refl
+keys_stay call.Next n v = refl
+keys_stay (call.KeyOf x) n v = refl
+keys_stay (call.Info c f) n v = refl
+keys_stay (call.FrozenChild c p right) n v = refl
+keys_stay (call.Claim c) n v = ap keys_of (claim_ledger (n == c) c v)
+keys_stay (call.Fill c f value) n v = refl
+keys_stay (call.IFlag c p from) n v = ap keys_of (flag_ledger (n == packed from) (IFlagged c) p (unpacked n) v)
+keys_stay (call.IChild c p l right) n v = refl
+keys_stay (call.IUnflag c p) n v = refl
+keys_stay (call.DFlag c gp from) n v = ap keys_of (flag_ledger (n == packed from) (DFlagged c) gp (unpacked n) v)
+keys_stay (call.Mark c p was) n v = ap keys_of (mark_ledger (n == was) c p (unpacked n) v)
+keys_stay (call.DChild c gp p sibling right) n v = refl
+keys_stay (call.DUnflag c gp) n v = refl
+keys_stay (call.Backtrack c gp) n v = refl
+
+-- a step call keeps the rule, whatever the table is, and leaves of its pass what the call says
+taken : (keys : List ℕ) (cards : ℕ) (c : Call) (v : View) (f : ℕ → ℕ) → ((n : ℕ) → f n ≡ left_by (atomic_of c) n) → May cards c v
+    → (id : ℕ) → Allows (Kept keys cards) 0 id (v, []) (word_of c) f (λ n me. IsTaken cards c v n me.0 × (me.1 ≡ []))
+taken keys cards c v f same may id s r homes here small =
+    let n = get_or s.words (word_of c) 0 in
+    let w = after c n v in
+    let step = steps_are_events keys cards s r id v c here may in
+    let kept : Kept keys cards (record { words = set s.words (word_of c) (f n); homes = s.homes; views = set s.views id w }) =
+    subst (λ m. Kept keys cards (record { words = set s.words (word_of c) m; homes = s.homes; views = set s.views id w })) (sym (same n)) step.kept in (
+      w,
+      keeps,
+      tt,
+      kept,
+      (
+        record {
+          view = refl;
+          tells = step.tells;
+          keys = keys_stay c n v;
+          named = kept_named keys cards (record { words = set s.words (word_of c) (f n); homes = s.homes; views = set s.views id w }) kept id w
+              (set_there s.views id w v here);
+        },
+        refl,
+      ),
+    )
+
+-- a load
+pub may_load : (keys : List ℕ) (cards : ℕ) (c : Call) (v : View) (word : ℕ) → word ≡ word_of c → atomic_of c ≡ Load → May cards c v
+    → MayLoad keys cards v word (IsTaken cards c v)
+may_load keys cards c v word at loads may =
+    subst (λ i. MayLoad keys cards v i (IsTaken cards c v)) (sym at) (taken keys cards c v (λ n. n) (λ n. ap (λ a. left_by a n) (sym loads)) may)
+
+-- the store of a fill
+pub may_fill : (keys : List ℕ) (cards : ℕ) (c : ℕ) (f : Field) (value : ℕ) (v : View) (word : ℕ) → word ≡ address c f → May cards (call.Fill c f value) v
+    → MayStore keys cards v word value (IsTaken cards (call.Fill c f value) v)
+may_fill keys cards c f value v word at may =
+    subst (λ i. MayStore keys cards v i value (IsTaken cards (call.Fill c f value) v)) (sym at)
+    (λ id s r homes here small.
+    let x = taken keys cards (call.Fill c f value) v (λ n. value) (λ n. refl) may id s r homes here small in
+    let t = x.4.0 in
+    (x.0, x.1, x.2, x.3, (record { view = t.view; tells = tt; keys = t.keys; named = t.named }, x.4.1)))
+
+either_is : (b : Bool) (x y : ℕ) → either b x y ≡ (if b then x else y)
+either_is true x y = refl
+either_is false x y = refl
+
+-- an exchange
+pub may_exchange : (keys : List ℕ) (cards : ℕ) (c : Call) (v : View) (word expected value : ℕ) → word ≡ word_of c
+    → atomic_of c ≡ Exchange expected value → May cards c v → MayExchange keys cards v word expected value (IsTaken cards c v)
+may_exchange keys cards c v word expected value at exchanges may =
+    subst (λ i. MayExchange keys cards v i expected value (IsTaken cards c v)) (sym at)
+    (taken keys cards c v (λ n. either (n == expected) value n)
+    (λ n. either_is (n == expected) value n ∙ ap (λ a. left_by a n) (sym exchanges)) may)
+
+-- what is taken leaves the pass as it has to be
+pub taken_keeps : (cards : ℕ) (c : Call) (v : View) → KeepsPass cards v (IsTaken cards c v)
+taken_keeps cards c v n w t = (t.keys, t.named)
+
+-- a field of a card of the table has its address there
+address_fits : (cards c : ℕ) (f : Field) → c ≤ cards → address c f < table_size cards
+address_fits cards c f low = let small = place_small f in omega arith
+
+-- a known card is one of the table
+pub known_fits : (cards : ℕ) (v : View) (c : ℕ) → IsNamed cards v → KnowsCard v c → c ≤ cards
+known_fits cards v c named (inl k) = named.facts (IFlagged c) k
+known_fits cards v c named (inr (inl k)) = named.facts (DFlagged c) k
+known_fits cards v c named (inr (inr k)) = named.facts (Marked c) k
+
+-- the word that a call touches is in the table
+pub word_fits : (cards : ℕ) (c : Call) (v : View) → IsNamed cards v → May cards c v → word_of c < table_size cards
+word_fits cards (call.Begin op) v named may = omega arith
+word_fits cards call.Again v named may = omega arith
+word_fits cards call.Leave v named may = omega arith
+word_fits cards (call.Answer said) v named may = omega arith
+word_fits cards (call.Upd x) v named may = address_fits cards (card x) field.Update (named.node x may.stands)
+word_fits cards (call.Down x right) v named may = address_fits cards (card x) (child_field right) (named.node x may.stands)
+word_fits cards call.Next v named may = omega arith
+word_fits cards (call.KeyOf x) v named may = address_fits cards (card x) (key_field (x % 3)) (named.entries (Met x) may)
+word_fits cards (call.Info c f) v named may = address_fits cards c f (known_fits cards v c named may.knows)
+word_fits cards (call.FrozenChild c p right) v named may = address_fits cards (card p) (child_field right) (named.entries (Info c field.P p) may.parent).1
+word_fits cards (call.Claim c) v named may = omega arith
+word_fits cards (call.Fill c f value) v named may = address_fits cards c f (named.hand c may.holds)
+word_fits cards (call.IFlag c p from) v named may = address_fits cards (card p) field.Update (named.parent may.leaf _ may.stands may.behind).node
+word_fits cards (call.IChild c p l right) v named may = address_fits cards (card p) (child_field right) (named.entries (Info c field.P p) may.parent).1
+word_fits cards (call.IUnflag c p) v named may = address_fits cards (card p) field.Update (named.entries (Info c field.P p) may.parent).1
+word_fits cards (call.DFlag c gp from) v named may =
+    address_fits cards (card gp) field.Update (named.grandparent may.leaf may.parent _ may.stands may.behind may.above).node
+word_fits cards (call.Mark c p was) v named may = address_fits cards (card p) field.Update (named.entries (Info c field.P p) may.parent).1
+word_fits cards (call.DChild c gp p sibling right) v named may =
+    address_fits cards (card gp) (child_field right) (named.entries (Info c field.Gp gp) may.grandparent).1
+word_fits cards (call.DUnflag c gp) v named may = address_fits cards (card gp) field.Update (named.entries (Info c field.Gp gp) may.grandparent).1
+word_fits cards (call.Backtrack c gp) v named may = address_fits cards (card gp) field.Update (named.entries (Info c field.Gp gp) may.grandparent).1
+
+-- a pass after one step that took this call
+pub steps_by : (old new : PassModel) (v : View) → StepsBy old new → new.view ≡ v → Steps old new v
+steps_by old new v by known = λ t. record { table = by.table t; view = known t; steps = by.steps t; label = by.label t }

@@ -1,0 +1,154 @@
+use Rattle.std.proofs.Common.{◌≡◌, ◌≢◌, ◌⊎◌, ◌∷◌, set, if◌then◌else◌, ℕ, ◌==◌, Bool, true, false, List, Some, None, refl, sym, ap, ◌∙◌, subst, inl, inr}
+use mathlib.Core.Option.{some}
+use lib.ListN.{get_elem?}
+use Rattle.ell_ops.specs.declared.op.Op.{Op}
+use Rattle.ell_ops.specs.declared.op.Op.TheVariants.{Find, Insert, Delete}
+use Rattle.ell_ops.specs.Meaning.{key_of}
+use Rattle.ell_core.specs.declared.event.Act.TheVariants as act
+use Rattle.ell_core.specs.declared.event.Event.{Event}
+use Rattle.ell_core.specs.declared.event.Stepped.TheVariants.{Moved, Answered}
+use Rattle.ell_core.specs.state.Facts.{known_of}
+use Rattle.ell_core.specs.state.Machine.{Worker, Ledger, worker_of, ledger_of}
+use Rattle.ell_core.specs.acts.Searching.{leaf_answer, card_answer, ledger_after, Answers}
+use Rattle.ell_core.specs.acts.Events.{Happens}
+use Rattle.ell_core.specs.history.Stages.{is_born}
+use Rattle.ell_core.specs.statements.StepLaws.{AnswersAsSet}
+use Rattle.ell_core.proofs.outcomes.Decide.{some_not_none}
+use Rattle.ell_core.proofs.following.Lawful.{events_lawful}
+use Rattle.ell_cards.specs.declared.call.Call.TheVariants as call
+use Rattle.ell_cards.specs.declared.view.Told.{Told}
+use Rattle.ell_cards.specs.declared.view.Told.TheVariants.{Met}
+use Rattle.ell_cards.specs.declared.view.View.{View}
+use Rattle.ell_cards.specs.Models.{Has}
+use Rattle.ell_cards.specs.Changes.{after_begin, after_leave, after_answer, answered_ledger}
+use Rattle.ell_cards.specs.Guards.{MayBegin, MayStop, MayAnswer, AnswersAtLeaf, AnswersByCard, IsOver}
+use Rattle.ell_cards.specs.Rule.{TableState, seated, seat_worker, EntryHolds, Kept}
+use Rattle.ell_cards.specs.Laws.{IsEvent}
+use Rattle.ell_cards.proofs.seats.Entries.{with_entry}
+use Rattle.ell_cards.proofs.seats.Seats.{leads, machine, mine, becomes, mine_is, mine_sound, set_there}
+use Rattle.ell_cards.proofs.seats.Frames.{Onward, looks, is_event}
+use Rattle.ell_cards.proofs.stepping.Looks.{here_key}
+use Rattle.ell_cards.proofs.stepping.Settling.{settled_put}
+
+-- a view with no key told where it stands and no card in hand
+bare : (v after : View) → after.here ≡ None → after.worker.card ≡ None
+    → ((k : ℕ) → ledger_of after.worker.ledger k ≢ None → ledger_of v.worker.ledger k ≢ None) → Onward v after
+bare v after no_key no_card owns = record {
+  here = λ y key at told. absurd (some_not_none told no_key);
+  hand = λ c has un. absurd (some_not_none has no_card);
+  owns = owns;
+}
+
+module _ (keys : List ℕ) (cards : ℕ) (s : TableState) (r : Kept keys cards s) (id : ℕ) (v : View) (here : get_elem? s.views id ≡ some v) where
+  -- what a pass that stands at the root was told
+  root_entries : (e : Told) → Has (Met 0 ∷ v.told) e → EntryHolds r.words r.stages e
+  root_entries = with_entry (EntryHolds r.words r.stages) (Met 0) v.told (ap is_born r.invariant.words.opening) (r.views id v here).entries
+
+  -- begin
+  pub keeps_begin : (op : Op) → MayBegin v op → IsEvent keys cards s r id v (call.Begin op)
+  keeps_begin op may =
+      let after = after_begin (Some op) v in
+      let happens : Happens cards (act.Begin op) (mine keys cards s r id v here) Moved (becomes keys cards s r id v here r.words after) = record {
+        owned = may.owned;
+        row = record { free = may.free; says = refl; gives = refl };
+        room = λ h. h;
+      } in
+      is_event keys cards s r id v here (call.Begin op) (act.Begin op) Moved r.words
+      (looks keys cards s r id v here (act.Begin op) Moved after happens (λ c. refl) root_entries
+      (bare v after refl refl (λ k h. h)) 0)
+      refl refl tt
+
+  -- again
+  pub keeps_again : MayStop v → IsEvent keys cards s r id v call.Again
+  keeps_again may =
+      let after = after_begin v.worker.operation v in
+      let happens : Happens cards act.Again (mine keys cards s r id v here) Moved (becomes keys cards s r id v here r.words after) = record {
+        owned = λ h. h;
+        row = record { may = record { op = may.op; busy = may.busy; backed = may.backed }; says = refl; gives = refl };
+        room = λ h. h;
+      } in
+      is_event keys cards s r id v here call.Again act.Again Moved r.words
+      (looks keys cards s r id v here act.Again Moved after happens (λ c. refl) root_entries
+      (bare v after refl refl (λ k h. h)) 0)
+      refl refl tt
+
+  -- leave
+  pub keeps_leave : MayStop v → IsEvent keys cards s r id v call.Leave
+  keeps_leave may =
+      let after = after_leave v in
+      let happens : Happens cards act.Leave (mine keys cards s r id v here) Moved (becomes keys cards s r id v here r.words after) = record {
+        owned = λ h. h;
+        row = record { may = record { op = may.op; busy = may.busy; backed = may.backed }; says = refl; gives = refl };
+        room = λ h. h;
+      } in
+      is_event keys cards s r id v here call.Leave act.Leave Moved r.words
+      (looks keys cards s r id v here act.Leave Moved after happens (λ c. refl)
+      (r.views id v here).entries
+      (bare v after refl refl (λ k h. h)) 0)
+      refl refl tt
+
+-- the ledger after an answer, as a list and as the machine has it
+answered : (op : Op) (said : Bool) (l : List (ℕ × Bool)) → ledger_of l (key_of op) ≢ None → (key : ℕ)
+    → ledger_of (answered_ledger (Some op) said l) key ≡ ledger_after op said (ledger_of l) key
+answered (Find k) said l owns key = refl
+answered (Insert k) true l owns key = settled_put k true l owns key
+answered (Insert k) false l owns key = refl
+answered (Delete k) true l owns key = settled_put k false l owns key
+answered (Delete k) false l owns key = refl
+
+-- the answer by a card that is over
+over_answers : (v : View) (op : Op) (c : ℕ) (said : Bool) → IsOver v op c → said ≡ true → card_answer op c (known_of v.worker.facts) ≡ Some said
+over_answers v (Find k) c said over e = absurd over
+over_answers v (Insert k) c said over e = ap (λ b. if b then Some true else None) over ∙ ap Some (sym e)
+over_answers v (Delete k) c said over e = ap (λ b. if b then Some true else None) over ∙ ap Some (sym e)
+
+module _ (keys : List ℕ) (cards : ℕ) (s : TableState) (r : Kept keys cards s) (id : ℕ) (v : View) (here : get_elem? s.views id ≡ some v) where
+  -- the machine's answer
+  answers_now : (op : Op) (said : Bool) → v.worker.operation ≡ Some op → AnswersAtLeaf v op said ⊎ AnswersByCard v op said
+      → Answers (mine keys cards s r id v here) op said
+  answers_now op said busy (inl a) = inl (record {
+    leaf = a.leaf;
+    stands = a.stands;
+    outer = a.outer;
+    answers = ap (λ k. leaf_answer op (k == key_of op)) (here_key keys cards s r id v here a.leaf a.key a.stands a.told) ∙ a.says;
+  })
+  answers_now op said busy (inr a) = inr (
+    record { card = a.card; holds = a.holds; flagged = a.flagged; answers = over_answers v op a.card said a.over a.yes },
+    λ b h. some_not_none h.stands ((mine_sound keys cards s r id v here).flagged op a.card busy a.holds a.flagged).1,
+  )
+
+  -- answer
+  pub keeps_answer : (said : Bool) → MayAnswer v said → IsEvent keys cards s r id v (call.Answer said)
+  keeps_answer said may =
+      let after = after_answer said v in
+      let same = mine_is keys cards s r id v here in
+      let sound = mine_sound keys cards s r id v here in
+      let owned = sound.owned may.op may.busy in
+      let ledger : (key : ℕ) → ledger_of after.worker.ledger key ≡ ledger_after may.op said (ledger_of v.worker.ledger) key =
+      λ key. ap (λ o. ledger_of (answered_ledger o said v.worker.ledger) key) may.busy ∙ answered may.op said v.worker.ledger owned key in
+      let happens : Happens cards act.Answer (mine keys cards s r id v here) (Answered said) (becomes keys cards s r id v here r.words after) = record {
+        owned = λ h. h;
+        row = record {
+          op = may.op;
+          reply = said;
+          busy = may.busy;
+          answers = answers_now may.op said may.busy may.answers;
+          says = refl;
+          gives = λ t. record { words = r.words; worker = record (worker_of after.worker) { ledger = λ key. ledger key t } };
+        };
+        room = λ h. h;
+      } in
+      let m = machine keys cards s r id v here in
+      let l = leads keys cards s r id v here act.Answer (Answered said) r.words after happens in
+      let e : Event = record { worker = id; act = act.Answer } in
+      let told = (events_lawful m r.stages e (Answered said) (seated r.words (set s.views id after) cards) r.invariant l.1.steps).ledgers.0 in
+      let now : (seat_worker (get_elem? (set s.views id after) id)).ledger ≡ ledger_of after.worker.ledger =
+      ap (λ o. (seat_worker o).ledger) (set_there s.views id after v here) in
+      let set_now : AnswersAsSet (ledger_of v.worker.ledger) (ledger_of after.worker.ledger) v.worker.operation said =
+      subst (λ (l : Ledger). AnswersAsSet (ledger_of v.worker.ledger) l v.worker.operation said) now
+      (subst (λ (u : Worker). AnswersAsSet u.ledger (seat_worker (get_elem? (set s.views id after) id)).ledger u.operation said) same told) in
+      is_event keys cards s r id v here (call.Answer said) act.Answer (Answered said) r.words
+      (looks keys cards s r id v here act.Answer (Answered said) after happens (λ c. refl)
+      (r.views id v here).entries
+      (bare v after refl refl (λ k has none. has ((set_now.owned k).1 none))) 0)
+      refl refl set_now

@@ -1,0 +1,92 @@
+use Rattle.std.proofs.Common.{◌≡◌, ◌==◌, ℕ, Bool, List, nat_le, refl, sym, ap, ◌∙◌, subst}
+use mathlib.Core.Option.{some}
+use lib.ListN.{get_elem?}
+use Rattle.ell_word.specs.Node.{card, internal}
+use Rattle.ell_word.specs.declared.gate.Kind.TheVariants as kind
+use Rattle.ell_core.specs.declared.event.Act.TheVariants as act
+use Rattle.ell_core.specs.declared.fact.Fact.TheVariants.{IChanged, IOver}
+use Rattle.ell_core.specs.declared.field.Field.TheVariants as field
+use Rattle.ell_core.specs.state.Words.{child_field}
+use Rattle.ell_core.specs.state.Machine.{worker_of}
+use Rattle.ell_core.specs.state.Cards.{iflag, clean, exchange_side}
+use Rattle.ell_core.specs.acts.Exchanges.{won_or_lost}
+use Rattle.ell_core.specs.acts.Events.{Happens}
+use Rattle.ell_core.specs.history.Stages.{Born}
+use Rattle.ell_cards.specs.declared.call.Call.TheVariants as call
+use Rattle.ell_cards.specs.declared.view.View.{View}
+use Rattle.ell_cards.specs.Changes.{learning}
+use Rattle.ell_cards.specs.Guards.{MayIChild, MayIUnflag}
+use Rattle.ell_cards.specs.Rule.{TableState, Kept}
+use Rattle.ell_cards.specs.Laws.{IsEvent}
+use Rattle.ell_core.proofs.stages.Waiting.{born-settled}
+use Rattle.ell_cards.proofs.seats.Seats.{mine, becomes}
+use Rattle.ell_cards.proofs.seats.Frames.{is_event}
+use Rattle.ell_cards.proofs.stepping.Exchanges.{in_list, told_is, told_key, found_at, exchanged_words, teaches, update_exchanged, update_says, child_exchanged, child_says}
+use Rattle.ell_cards.proofs.stepping.Known.{insert_flagged, insert_changed, update_found, child_found}
+
+module _ (keys : List ℕ) (cards : ℕ) (s : TableState) (r : Kept keys cards s) (id : ℕ) (v : View) (here : get_elem? s.views id ≡ some v) where
+  -- ichild
+  pub keeps_ichild : (c p l : ℕ) (right : Bool) → MayIChild v c p l right → IsEvent keys cards s r id v (call.IChild c p l right)
+  keeps_ichild c p l right may =
+      let w = r.words in
+      let a = act.IChild c in
+      let g = child_field right in
+      let n = found_at keys cards s r id v here (card p) g in
+      let said = insert_flagged keys cards s r id v here c may.knows in
+      let p_is : w.p c ≡ p = told_is keys cards s r id v here c field.P p may.parent in
+      let l_is : w.l c ≡ l = told_is keys cards s r id v here c field.L l may.leaf in
+      let side : exchange_side w (w.p c) (internal c) ≡ right =
+      ap (λ k. nat_le k (w.key (internal c))) (ap w.key p_is ∙ told_key keys cards s r id v here p may.parent_key may.told_parent)
+      ∙ (ap (nat_le may.parent_key) (told_is keys cards s r id v here c field.Key may.card_key may.told_card) ∙ sym may.side) in
+      let born = subst (Born r.stages) p_is said.parent.born in
+      let is = child_found keys cards s r id v here (w.p c) p right p_is said.parent.inner said.parent.born in
+      let happens : Happens cards a (mine keys cards s r id v here) (won_or_lost (n == l))
+      (becomes keys cards s r id v here (exchanged_words keys cards s r id v here (card p) g (internal c) (n == l)) (learning (IChanged c) v)) = record {
+        owned = λ h. h;
+        row = record {
+          may = may.knows;
+          says = ap (λ z. won_or_lost (n == z)) (sym l_is) ∙ child_says w (w.p c) p (w.l c) (internal c) n right p_is said.parent.inner side is;
+          gives = λ t. record {
+            words = (ap (λ z. exchanged_words keys cards s r id v here (card p) g (internal c) (n == z)) (sym l_is)
+                ∙ child_exchanged w (w.p c) p (w.l c) (internal c) n right p_is said.parent.inner side is) t;
+            worker = worker_of (learning (IChanged c) v).worker;
+          };
+        };
+        room = λ h. h;
+      } in
+      is_event keys cards s r id v here (call.IChild c p l right) a (won_or_lost (n == l))
+      (exchanged_words keys cards s r id v here (card p) g (internal c) (n == l))
+      (teaches keys cards s r id v here a (card p) g l (internal c) (IChanged c) kind.IChild c
+      (in_list keys cards s r id v here p g born) (born-settled (r.stages (card p)) born)
+      (λ e. (cc)) (λ e. (cc)) (λ e. refl) (λ e. refl) happens)
+      refl refl tt
+
+  -- iunflag
+  pub keeps_iunflag : (c p : ℕ) → MayIUnflag v c p → IsEvent keys cards s r id v (call.IUnflag c p)
+  keeps_iunflag c p may =
+      let w = r.words in
+      let a = act.IUnflag c in
+      let n = found_at keys cards s r id v here (card p) field.Update in
+      let said = insert_changed keys cards s r id v here c may.knows in
+      let p_is : w.p c ≡ p = told_is keys cards s r id v here c field.P p may.parent in
+      let born = subst (Born r.stages) p_is said.parent.born in
+      let is = update_found keys cards s r id v here (w.p c) p p_is said.parent.inner said.parent.born in
+      let happens : Happens cards a (mine keys cards s r id v here) (won_or_lost (n == iflag c))
+      (becomes keys cards s r id v here (exchanged_words keys cards s r id v here (card p) field.Update (clean c) (n == iflag c)) (learning (IOver c) v)) = record {
+        owned = λ h. h;
+        row = record {
+          may = may.knows;
+          says = update_says w (w.p c) p (iflag c) (clean c) n p_is said.parent.inner is;
+          gives = λ t. record {
+            words = update_exchanged w (w.p c) p (iflag c) (clean c) n p_is said.parent.inner is t;
+            worker = worker_of (learning (IOver c) v).worker;
+          };
+        };
+        room = λ h. h;
+      } in
+      is_event keys cards s r id v here (call.IUnflag c p) a (won_or_lost (n == iflag c))
+      (exchanged_words keys cards s r id v here (card p) field.Update (clean c) (n == iflag c))
+      (teaches keys cards s r id v here a (card p) field.Update (iflag c) (clean c) (IOver c) kind.IUnflag c
+      (in_list keys cards s r id v here p field.Update born) (born-settled (r.stages (card p)) born)
+      (λ e. (cc)) (λ e. (cc)) (λ e. refl) (λ e. refl) happens)
+      refl refl tt

@@ -1,0 +1,200 @@
+use Rattle.std.proofs.Common.{◌≡◌, ℕ, ◌<◌, ◌≤◌, ◌%◌, if◌then◌else◌, eqb-true, nat_le, Bool, true, false, List, ◌∷◌, get_or, Some, None, refl, sym, ap, ◌∙◌, subst, arith}
+use mathlib.Core.Option.{some}
+use lib.ListN.{get_elem?}
+use Rattle.ell_ops.specs.Meaning.{key_of, greatest_key}
+use Rattle.ell_word.specs.Node.{card, IsInternal}
+use Rattle.ell_word.specs.Word.{unpacked}
+use Rattle.ell_core.specs.declared.event.Act.TheVariants as act
+use Rattle.ell_core.specs.declared.event.Stepped.TheVariants.{Moved}
+use Rattle.ell_core.specs.declared.field.Field.TheVariants as field
+use Rattle.ell_core.specs.declared.view.Seen.{Seen}
+use Rattle.ell_core.specs.state.Words.{key_field, child_field}
+use Rattle.ell_core.specs.state.Facts.{known_of, learned_any, told_by}
+use Rattle.ell_core.specs.state.Machine.{Worker, worker_of}
+use Rattle.ell_core.specs.state.Cards.{child_for, is_right}
+use Rattle.ell_core.specs.acts.Events.{Happens}
+use Rattle.ell_core.specs.history.Stages.{Born}
+use Rattle.ell_core.specs.statements.StepLaws.{MayRead}
+use Rattle.ell_core.proofs.outcomes.Decide.{some_not_none}
+use Rattle.ell_core.proofs.words.Writes.{update_at_node, child_at_node, key_at_node}
+use Rattle.ell_cards.specs.declared.call.Call.TheVariants as call
+use Rattle.ell_cards.specs.declared.view.Told.{Told}
+use Rattle.ell_cards.specs.declared.view.Told.TheVariants.{Met, Key}
+use Rattle.ell_cards.specs.declared.view.View.{View}
+use Rattle.ell_cards.specs.Models.{Has, latest, earlier, IsTold, StandsAt, InTable}
+use Rattle.ell_cards.specs.Changes.{places_by, after_upd, after_down, after_next, after_key_of, is_at, seen_at}
+use Rattle.ell_cards.specs.Guards.{MayRead as MayUpd, MayGoDown}
+use Rattle.ell_cards.specs.Calls.{TellsLeaf, update_at, child_at, key_at}
+use Rattle.ell_cards.specs.Rule.{TableState, EntryHolds, Kept}
+use Rattle.ell_cards.specs.Laws.{IsEvent}
+use Rattle.ell_cards.proofs.words.Updates.{packed_again}
+use Rattle.ell_core.proofs.stages.Waiting.{born-settled}
+use Rattle.ell_cards.proofs.seats.Entries.{with_entry, places_hold, places_more, facts_known}
+use Rattle.ell_cards.proofs.seats.Seats.{mine, becomes, mine_is, mine_sound, relies, stands_born, born_claimed}
+use Rattle.ell_cards.proofs.seats.Frames.{looks, kept_told, is_event, is_no_event}
+
+module _ (keys : List ℕ) (cards : ℕ) (s : TableState) (r : Kept keys cards s) (id : ℕ) (v : View) (here : get_elem? s.views id ≡ some v) where
+  -- a node that came into the tree has its key in the table
+  pub key_listed : (x : ℕ) → Born r.stages x → r.words.key x ≡ get_or s.words (key_at x) 0
+  key_listed x born = key_at_node r.words x ∙ sym (r.settled (card x) (key_field (x % 3)) (born-settled (r.stages (card x)) born))
+
+  -- an internal one its children and its update word
+  pub child_listed : (x : ℕ) (right : Bool) → IsInternal x → Born r.stages x → r.words.child x right ≡ get_or s.words (child_at x right) 0
+  child_listed x right inner born =
+      child_at_node r.words x right inner ∙ sym (r.settled (card x) (child_field right) (born-settled (r.stages (card x)) born))
+
+  pub update_listed : (x : ℕ) → IsInternal x → Born r.stages x → r.words.update x ≡ get_or s.words (update_at x) 0
+  update_listed x inner born =
+      update_at_node r.words x inner ∙ sym (r.settled (card x) field.Update (born-settled (r.stages (card x)) born))
+
+  -- a node that came into the tree is one of the table
+  pub born_in_table : (x : ℕ) → Born r.stages x → InTable cards x
+  born_in_table x born = let below = born_claimed keys cards s r id v here x born in let room = r.invariant.limit in omega arith
+
+  -- the key of the node where the pass stands
+  pub here_key : (x key : ℕ) → StandsAt v x → v.here ≡ Some key → r.words.key x ≡ key
+  here_key x key at told = let h = r.views id v here in (h.entries (Key x key) (h.here x key at told)).1
+
+  -- an update word that was found at a node names a card of the table
+  pub names_card : (x n : ℕ) → MayRead r.words r.stages x → r.words.update x ≡ n → (unpacked n).card ≤ cards
+  names_card x n reads is = subst (λ m. (unpacked m).card ≤ cards) is
+      (let low = reads.names.claimed in let room = r.invariant.limit in omega arith)
+
+  -- what was told with what an update tells at a node
+  pub found_entries : (x n : ℕ) (told : List Told) → MayRead r.words r.stages x → r.words.update x ≡ n
+      → ((e : Told) → Has told e → EntryHolds r.words r.stages e)
+      → (e : Told) → Has (places_by x (unpacked n).state (unpacked n).card told) e → EntryHolds r.words r.stages e
+  found_entries x n told reads is old =
+      subst (λ m. (e : Told) → Has (places_by x (unpacked m).state (unpacked m).card told) e → EntryHolds r.words r.stages e) is
+      (places_hold r.words r.stages x (unpacked (r.words.update x)).state (unpacked (r.words.update x)).card told
+      reads.names.claimed reads.names.place old)
+
+  -- upd
+  pub keeps_upd : (x : ℕ) → MayUpd v x → IsEvent keys cards s r id v (call.Upd x)
+  keeps_upd x may =
+      let n = get_or s.words (update_at x) 0 in
+      let after = after_upd x (unpacked n) v in
+      let reads = (relies keys cards s r id v here).reads x (ap (λ (u : Worker). u.search.node) (mine_is keys cards s r id v here) ∙ may.stands) may.inner in
+      let is = update_listed x may.inner reads.born in
+      let happens : Happens cards act.Upd (mine keys cards s r id v here) Moved (becomes keys cards s r id v here r.words after) = record {
+        owned = λ h. h;
+        row = record {
+          node = x;
+          stands = may.stands;
+          internal = may.inner;
+          unread = may.unread;
+          says = refl;
+          gives = λ t. record {
+            words = r.words;
+            worker = record (worker_of v.worker) {
+              search = record (v.worker.search) { read = Some ((packed_again n ∙ sym is) t) };
+              knows = (facts_known (unpacked n).state (unpacked n).card v.worker.facts
+                  ∙ ap (λ m. learned_any (known_of v.worker.facts) (told_by m)) (sym is)) t;
+            };
+          };
+        };
+        room = λ h. h;
+      } in
+      is_event keys cards s r id v here (call.Upd x) act.Upd Moved r.words
+      (looks keys cards s r id v here act.Upd Moved after happens (λ c. refl)
+      (found_entries x n v.told reads is (r.views id v here).entries)
+      (record {
+        here = λ y key at told. places_more x (unpacked n).state (unpacked n).card v.told (Key y key) ((r.views id v here).here y key at told);
+        hand = λ c has un. (has, un, refl, refl);
+        owns = λ k h. h;
+      })
+      (update_at x))
+      refl refl (names_card x n reads is)
+
+  -- down
+  pub keeps_down : (x : ℕ) (right : Bool) → MayGoDown v x right → IsEvent keys cards s r id v (call.Down x right)
+  keeps_down x right may =
+      let n = get_or s.words (child_at x right) 0 in
+      let after = after_down x n v in
+      let born = stands_born keys cards s r id v here x may.stands in
+      let seen : Seen = record { node = x; word = may.word } in
+      let side : right ≡ is_right r.words x (key_of may.op) =
+      may.side ∙ ap (λ k. nat_le k (key_of may.op)) (sym (here_key x may.key may.stands may.told)) in
+      let is : child_for r.words (key_of may.op) x ≡ n = ap (r.words.child x) (sym side) ∙ child_listed x right may.inner born in
+      let behind : seen_at x v.worker.search.read ≡ Some seen = ap (seen_at x) may.read in
+      let children = r.invariant.words.children x may.inner born in
+      let child_born : Born r.stages n = subst (Born r.stages) is (children.born (is_right r.words x (key_of may.op))) in
+      let happens : Happens cards act.Down (mine keys cards s r id v here) Moved (becomes keys cards s r id v here r.words after) = record {
+        owned = λ h. h;
+        row = record {
+          op = may.op;
+          seen = seen;
+          busy = may.busy;
+          stands = may.stands;
+          internal = may.inner;
+          read = may.read;
+          says = refl;
+          gives = λ t. record {
+            words = r.words;
+            worker = record (worker_of v.worker) {
+              search = record { node = Some (sym is t); read = None; parent = behind t; grandparent = v.worker.search.parent };
+            };
+          };
+        };
+        room = λ h. h;
+      } in
+      is_event keys cards s r id v here (call.Down x right) act.Down Moved r.words
+      (looks keys cards s r id v here act.Down Moved after happens (λ c. refl)
+      (with_entry (EntryHolds r.words r.stages) (Met n) v.told child_born (r.views id v here).entries)
+      (record {
+        here = λ y key at told. absurd (some_not_none told refl);
+        hand = λ c has un. (has, un, refl, refl);
+        owns = λ k h. h;
+      })
+      (child_at x right))
+      refl refl (subst (λ y. x < y) is (children.rising (is_right r.words x (key_of may.op))), born_in_table n child_born)
+
+  -- next
+  pub keeps_next : IsEvent keys cards s r id v call.Next
+  keeps_next =
+      let n = get_or s.words 0 0 in
+      let h = r.views id v here in
+      let some_card = r.invariant.kinds.some in
+      let room = r.invariant.limit in
+      let is = r.next in
+      is_no_event keys cards s r id v here call.Next
+      (kept_told keys cards s r id v here (after_next n v) refl (record { entries = h.entries; here = h.here; hand = h.hand }) 0)
+      refl refl (omega arith, omega arith)
+
+  -- key_of
+  pub keeps_key_of : (x : ℕ) → IsTold v (Met x) → IsEvent keys cards s r id v (call.KeyOf x)
+  keeps_key_of x met =
+      let n = get_or s.words (key_at x) 0 in
+      let h = r.views id v here in
+      let born = h.entries (Met x) met in
+      let is = key_listed x born in
+      is_no_event keys cards s r id v here (call.KeyOf x)
+      (kept_told keys cards s r id v here (after_key_of x n v) refl (record {
+        entries = with_entry (EntryHolds r.words r.stages) (Key x n) v.told (born, is) h.entries;
+        here = λ y key at told. tells n y key at (is_at v.worker.search.node x) refl told (h.here y key at);
+        hand = h.hand;
+      }) (key_at x))
+      refl refl (leaf n is)
+    where
+      tells : (n y key : ℕ) → v.worker.search.node ≡ Some y → (b : Bool) → is_at v.worker.search.node x ≡ b
+          → (if b then Some n else v.here) ≡ Some key → (v.here ≡ Some key → IsTold v (Key y key)) → Has (Key x n ∷ v.told) (Key y key)
+      tells n y key at true same told old =
+          let eq : x ≡ y = sym (eqb-true y x (sym (ap (λ o. is_at o x) at) ∙ same)) in
+          let value : n ≡ key = cc in
+          subst (λ z. Has (Key x n ∷ v.told) (Key z key)) eq (subst (λ k. Has (Key x n ∷ v.told) (Key x k)) value (latest (Key x n) v.told))
+      tells n y key at false same told old = earlier (Key y key) (Key x n) v.told (old told)
+
+      leaf : (n : ℕ) → r.words.key x ≡ n → TellsLeaf v x n
+      leaf n is = record {
+        present = λ op busy stands outer.
+            let same = mine_is keys cards s r id v here in
+            let tells = (relies keys cards s r id v here).leaf_key op x (ap (λ (u : Worker). u.operation) same ∙ busy)
+            (ap (λ (u : Worker). u.search.node) same ∙ stands) outer in (
+              (λ e. ap (λ (u : Worker). u.ledger (key_of op)) (sym same) ∙ tells.0 (is ∙ e)),
+              (λ e. sym is ∙ tells.1 (ap (λ (u : Worker). u.ledger (key_of op)) same ∙ e)),
+            );
+        deep = λ op busy stands outer e.
+            let sound = mine_sound keys cards s r id v here in
+            let real = sound.real (key_of op) (sound.owned op busy) in
+            (sound.stands op x busy stands).deep outer (subst (λ z. z ≤ greatest_key) (sym (is ∙ e)) real);
+      }

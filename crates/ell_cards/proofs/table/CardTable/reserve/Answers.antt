@@ -1,0 +1,18 @@
+use Rattle.std.proofs.Common.{List, ℕ, ◌++◌, ap, ◌∙◌, sym, subst}
+use Rattle.std.specs.List.Sorted.{IsStrictlyIncreasing}
+use Rattle.atomic_table.specs.Table.{Me}
+use Rattle.ell_cards.specs.declared.view.View.{View}
+use Rattle.ell_cards.specs.Inside.{PassFits}
+use Rattle.ell_cards.proofs.lifetimes.Openings.{first_fits}
+use Rattle.ell_cards.proofs.table.CardTable.reserve.Goals as goal
+
+pub invariant_of-pass : goal.invariant_of-pass
+invariant_of-pass g c =
+    let keys = c.extend_from_slice.new.self.items in
+    let words = c.in_ok-table.seat.table_id.words in
+    let knows = c.in_ok-table.ensures.0.knows in
+    let are = c.in_ok-extend_from_slice.ensures.items ∙ ap (λ (l : List ℕ). l ++ c.args.keys.now) c.in_ok-copy.ensures.items in (
+      subst (λ (m : Me (Unit {0}) View). PassFits keys words m.0) (sym knows)
+          (first_fits keys words (subst IsStrictlyIncreasing (sym are) c.requires.ascending)),
+      ap (λ (m : Me (Unit {0}) View). m.1) knows,
+    )

@@ -1,0 +1,8 @@
+-- updates and their words
+pub mod Updates
+-- words of a list and of the machine, at a field of a card
+pub mod Fields
+-- keys: which are among a list, which are a ledger's, and what a binary search finds
+pub mod Keys
+-- lists of numbers that rise
+pub mod Ascending

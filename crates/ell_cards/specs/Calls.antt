@@ -1,0 +1,211 @@
+use Rattle.std.specs.Prelude.{◌≡◌, ◌≢◌, ℕ, ◌+◌, ◌<◌, ◌≤◌, ◌==◌, ◌%◌, ◌↔◌, if◌then◌else◌, Bool, true, false, Option, Some, None}
+use Rattle.ell_ops.specs.declared.op.Op.{Op}
+use Rattle.ell_ops.specs.Meaning.{key_of}
+use Rattle.ell_word.specs.Node.{card, internal}
+use Rattle.ell_word.specs.Word.{packed, unpacked}
+use Rattle.ell_core.specs.declared.event.Act.{Act}
+use Rattle.ell_core.specs.declared.event.Act.TheVariants as act
+use Rattle.ell_core.specs.declared.event.Stepped.{Stepped}
+use Rattle.ell_core.specs.declared.event.Stepped.TheVariants.{Moved, Answered}
+use Rattle.ell_core.specs.declared.fact.Fact.TheVariants as fact
+use Rattle.ell_core.specs.declared.field.Field.{Field}
+use Rattle.ell_core.specs.declared.field.Field.TheVariants as field
+use Rattle.ell_core.specs.state.Layout.{address}
+use Rattle.ell_core.specs.state.Words.{key_field, child_field}
+use Rattle.ell_core.specs.state.Machine.{Machine, ledger_of}
+use Rattle.ell_core.specs.state.Cards.{iflag, dflag, marked, clean}
+use Rattle.ell_core.specs.acts.Searching.{IsLeaf}
+use Rattle.ell_core.specs.acts.Exchanges.{won_or_lost}
+use Rattle.ell_core.specs.acts.Events.{Steps}
+use Rattle.ell_core.specs.statements.StepLaws.{AnswersAsSet}
+use Rattle.ell_cards.specs.declared.call.Call.{Call}
+use Rattle.ell_cards.specs.declared.call.Call.TheVariants as call
+use Rattle.ell_cards.specs.declared.view.Told.TheVariants.{Met, Info}
+use Rattle.ell_cards.specs.declared.view.View.{View}
+use Rattle.ell_cards.specs.Models.{IsTold, Does, StandsAt, InTable, KnowsDelete}
+use Rattle.ell_cards.specs.Changes.{learning, with_found, after_begin, after_leave, after_answer, after_upd, after_down, after_next, after_key_of, after_info, after_frozen_child, after_claim, after_fill, after_flag, after_mark}
+use Rattle.ell_cards.specs.Guards.{MayBegin, MayStop, MayAnswer, MayRead, MayGoDown, MayAsk, MaySee, MayClaim, MayFill, MayIFlag, MayDFlag, MayIChild, MayIUnflag, MayMark, MayDChild, MayDUnflag, MayBacktrack}
+
+-- the address of the update word of a node
+abbrev pub update_at : ℕ → ℕ
+update_at x = address (card x) field.Update
+
+-- the address of a child of a node
+abbrev pub child_at : ℕ → Bool → ℕ
+child_at x right = address (card x) (child_field right)
+
+-- the address of the key of a node
+abbrev pub key_at : ℕ → ℕ
+key_at x = address (card x) (key_field (x % 3))
+
+-- the word that a call touches
+abbrev pub word_of : Call → ℕ
+word_of (call.Begin op) = 0
+word_of call.Again = 0
+word_of call.Leave = 0
+word_of (call.Answer said) = 0
+word_of (call.Upd x) = update_at x
+word_of (call.Down x right) = child_at x right
+word_of call.Next = 0
+word_of (call.KeyOf x) = key_at x
+word_of (call.Info c f) = address c f
+word_of (call.FrozenChild c p right) = child_at p right
+word_of (call.Claim c) = 0
+word_of (call.Fill c f value) = address c f
+word_of (call.IFlag c p from) = update_at p
+word_of (call.IChild c p l right) = child_at p right
+word_of (call.IUnflag c p) = update_at p
+word_of (call.DFlag c gp from) = update_at gp
+word_of (call.Mark c p was) = update_at p
+word_of (call.DChild c gp p s right) = child_at gp right
+word_of (call.DUnflag c gp) = update_at gp
+word_of (call.Backtrack c gp) = update_at gp
+
+-- what an atomic step does to its word: it loads it, stores a value, or exchanges an expected value for another
+pub data Atomic : Type 0 where
+  Load : Atomic
+  Store : ℕ → Atomic
+  Exchange : ℕ → ℕ → Atomic
+
+-- what a call does to its word
+abbrev pub atomic_of : Call → Atomic
+atomic_of (call.Claim c) = Exchange c (c + 1)
+atomic_of (call.Fill c f value) = Store value
+atomic_of (call.IFlag c p from) = Exchange (packed from) (iflag c)
+atomic_of (call.IChild c p l right) = Exchange l (internal c)
+atomic_of (call.IUnflag c p) = Exchange (iflag c) (clean c)
+atomic_of (call.DFlag c gp from) = Exchange (packed from) (dflag c)
+atomic_of (call.Mark c p was) = Exchange was (marked c)
+atomic_of (call.DChild c gp p s right) = Exchange p s
+atomic_of (call.DUnflag c gp) = Exchange (dflag c) (clean c)
+atomic_of (call.Backtrack c gp) = Exchange (dflag c) (clean c)
+atomic_of _ = Load
+
+-- the word after an atomic step that found this
+abbrev pub left_by : Atomic → ℕ → ℕ
+left_by Load found = found
+left_by (Store value) found = value
+left_by (Exchange expected value) found = if found == expected then value else found
+
+-- whether an atomic step that found this is a won exchange
+abbrev pub is_won : Atomic → ℕ → Bool
+is_won (Exchange expected value) found = found == expected
+is_won _ found = false
+
+-- what a pass knows after a call that found this word
+abbrev pub after : Call → ℕ → View → View
+after (call.Begin op) n v = after_begin (Some op) v
+after call.Again n v = after_begin v.worker.operation v
+after call.Leave n v = after_leave v
+after (call.Answer said) n v = after_answer said v
+after (call.Upd x) n v = after_upd x (unpacked n) v
+after (call.Down x right) n v = after_down x n v
+after call.Next n v = after_next n v
+after (call.KeyOf x) n v = after_key_of x n v
+after (call.Info c f) n v = after_info c f n v
+after (call.FrozenChild c p right) n v = after_frozen_child c right n v
+after (call.Claim c) n v = after_claim (n == c) c v
+after (call.Fill c f value) n v = after_fill f value v
+after (call.IFlag c p from) n v = with_found n (after_flag (n == packed from) (fact.IFlagged c) p (unpacked n) v)
+after (call.IChild c p l right) n v = with_found n (learning (fact.IChanged c) v)
+after (call.IUnflag c p) n v = with_found n (learning (fact.IOver c) v)
+after (call.DFlag c gp from) n v = with_found n (after_flag (n == packed from) (fact.DFlagged c) gp (unpacked n) v)
+after (call.Mark c p was) n v = with_found n (after_mark (n == was) c p (unpacked n) v)
+after (call.DChild c gp p s right) n v = with_found n (learning (fact.Cut c) v)
+after (call.DUnflag c gp) n v = with_found n (learning (fact.DOver c) v)
+after (call.Backtrack c gp) n v = with_found n (learning (fact.Backed c) v)
+
+-- what a call asks of what the pass knows
+abbrev pub May : ℕ → Call → View → Type 0
+May cards (call.Begin op) v = MayBegin v op
+May cards call.Again v = MayStop v
+May cards call.Leave v = MayStop v
+May cards (call.Answer said) v = MayAnswer v said
+May cards (call.Upd x) v = MayRead v x
+May cards (call.Down x right) v = MayGoDown v x right
+May cards call.Next v = Unit {0}
+May cards (call.KeyOf x) v = IsTold v (Met x)
+May cards (call.Info c f) v = MayAsk v c f
+May cards (call.FrozenChild c p right) v = MaySee v c p
+May cards (call.Claim c) v = MayClaim v c × (c ≤ cards)
+May cards (call.Fill c f value) v = MayFill v c
+May cards (call.IFlag c p from) v = MayIFlag v c p from
+May cards (call.IChild c p l right) v = MayIChild v c p l right
+May cards (call.IUnflag c p) v = MayIUnflag v c p
+May cards (call.DFlag c gp from) v = MayDFlag v c gp from
+May cards (call.Mark c p was) v = MayMark v c p was
+May cards (call.DChild c gp p s right) v = MayDChild v c gp p s right
+May cards (call.DUnflag c gp) v = MayDUnflag v c gp
+May cards (call.Backtrack c gp) v = MayBacktrack v c gp
+
+-- the act of the machine that a call which found this word is, or none
+abbrev pub act_of : Call → ℕ → Option Act
+act_of (call.Begin op) n = Some (act.Begin op)
+act_of call.Again n = Some act.Again
+act_of call.Leave n = Some act.Leave
+act_of (call.Answer said) n = Some act.Answer
+act_of (call.Upd x) n = Some act.Upd
+act_of (call.Down x right) n = Some act.Down
+act_of (call.Claim c) n = if n == c then Some act.Claim else None
+act_of (call.IFlag c p from) n = Some act.IFlag
+act_of (call.IChild c p l right) n = Some (act.IChild c)
+act_of (call.IUnflag c p) n = Some (act.IUnflag c)
+act_of (call.DFlag c gp from) n = Some act.DFlag
+act_of (call.Mark c p was) n = Some (act.Mark c)
+act_of (call.DChild c gp p s right) n = Some (act.DChild c)
+act_of (call.DUnflag c gp) n = Some (act.DUnflag c)
+act_of (call.Backtrack c gp) n = Some (act.Backtrack c)
+act_of _ n = None
+
+-- what the machine answers to an atomic step that found this: an exchange is won or lost, anything else moves
+abbrev pub said_by : Atomic → ℕ → Stepped
+said_by (Exchange expected value) n = won_or_lost (n == expected)
+said_by _ n = Moved
+
+-- what the machine answers to the act of a call
+abbrev pub said_of : Call → ℕ → Stepped
+said_of (call.Answer said) n = Answered said
+said_of (call.Claim c) n = Moved
+said_of c n = said_by (atomic_of c) n
+
+-- an act of a worker leads from a machine to another with this answer; no act leaves the machine
+abbrev pub Becomes : ℕ → Option Act → Stepped → Machine → Machine → Type 0
+Becomes i (Some a) said m m' = Steps m (record { worker = i; act = a }) said m'
+Becomes i None said m m' = m' ≡ m
+
+-- the key of a leaf where the pass stands is the operation's exactly where its ledger has that present, and then the leaf has a
+-- grandparent
+pub record TellsLeaf (v : View) (x key : ℕ) : Type 0 where
+  pub present : (op : Op) → Does v op → StandsAt v x → IsLeaf x
+      → (key ≡ key_of op) ↔ (ledger_of v.worker.ledger (key_of op) ≡ Some true)
+  pub deep : (op : Op) → Does v op → StandsAt v x → IsLeaf x → key ≡ key_of op → v.worker.search.grandparent ≢ None
+
+-- where a card goes is ever deeper: a delete's parent below its grandparent, and a leaf below the parent
+abbrev pub TellsDepth : View → ℕ → Field → ℕ → Type 0
+TellsDepth v c field.Gp x = KnowsDelete v c → (p : ℕ) → IsTold v (Info c field.P p) → x < p
+TellsDepth v c field.P x =
+    (KnowsDelete v c → (gp : ℕ) → IsTold v (Info c field.Gp gp) → gp < x) × ((l : ℕ) → IsTold v (Info c field.L l) → x < l)
+TellsDepth v c field.L x = (p : ℕ) → IsTold v (Info c field.P p) → p < x
+TellsDepth v c _ x = Unit {0}
+
+-- a word of a card that names a node names one of the table
+abbrev pub TellsNode : ℕ → Field → ℕ → Type 0
+TellsNode cards field.Gp x = InTable cards x
+TellsNode cards field.P x = InTable cards x
+TellsNode cards field.L x = InTable cards x
+TellsNode cards _ x = Unit {0}
+
+-- what a call tells of the word that it found
+abbrev pub Tells : ℕ → Call → View → ℕ → Type 0
+Tells cards (call.Answer said) v n =
+    AnswersAsSet (ledger_of v.worker.ledger) (ledger_of (after (call.Answer said) n v).worker.ledger) v.worker.operation said
+Tells cards (call.Upd x) v n = (unpacked n).card ≤ cards
+Tells cards (call.Down x right) v n = (x < n) × InTable cards n
+Tells cards call.Next v n = (1 ≤ n) × (n ≤ cards + 1)
+Tells cards (call.KeyOf x) v n = TellsLeaf v x n
+Tells cards (call.Info c f) v n = TellsNode cards f n × TellsDepth v c f n
+Tells cards (call.FrozenChild c p right) v n = (p < n) × InTable cards n
+Tells cards (call.IFlag c p from) v n = (unpacked n).card ≤ cards
+Tells cards (call.DFlag c gp from) v n = (unpacked n).card ≤ cards
+Tells cards (call.Mark c p was) v n = (unpacked n).card ≤ cards
+Tells cards _ v n = Unit {0}

@@ -1,0 +1,357 @@
+use Rattle.std.specs.Prelude.{ℕ, ◌+◌, ◌==◌, ◌++◌, if◌then◌else◌, Bool, true, false, Option, Some, None, List, [], ◌∷◌, unwrap_or, nat_lt, Result, Ok, Err}
+use Rattle.std.specs.List.{list_any}
+use Rattle.ell_ops.specs.declared.op.Op.{Op}
+use Rattle.ell_ops.specs.declared.op.Op.TheVariants.{Insert, Delete}
+use Rattle.ell_word.specs.declared.update.Update.{Update}
+use Rattle.ell_word.specs.declared.update.State.{State}
+use Rattle.ell_word.specs.declared.update.State.TheVariants as state
+use Rattle.ell_word.specs.Word.{packed, unpacked}
+use Rattle.ell_core.specs.declared.fact.Fact.{Fact}
+use Rattle.ell_core.specs.declared.fact.Fact.TheVariants as fact
+use Rattle.ell_core.specs.declared.field.Field.{Field}
+use Rattle.ell_core.specs.declared.field.Field.TheVariants.{Gp, P, L, Left, Right, Update as UpdateField}
+use Rattle.ell_core.specs.declared.view.Search.{Search}
+use Rattle.ell_core.specs.declared.view.Seen.{Seen}
+use Rattle.ell_core.specs.declared.view.WorkerView.{WorkerView}
+use Rattle.ell_core.specs.state.Machine.{no_search}
+use Rattle.ell_core.specs.state.Cards.{insert_filling, delete_filling}
+use Rattle.ell_core.specs.acts.Searching.{with_read, at_root}
+use Rattle.ell_cards.specs.declared.view.Told.{Told}
+use Rattle.ell_cards.specs.declared.view.Told.TheVariants.{Met, Key, Info, Frozen}
+use Rattle.ell_cards.specs.declared.view.View.{View}
+
+-- the facts with the one that an update tells: a flag or a mark that of its card, a clean update none
+abbrev pub facts_by : State → ℕ → List Fact → List Fact
+facts_by state.IFlag c facts = fact.IFlagged c ∷ facts
+facts_by state.DFlag c facts = fact.DFlagged c ∷ facts
+facts_by state.Mark c facts = fact.Marked c ∷ facts
+facts_by state.Clean c facts = facts
+
+-- what was told with what a flag or a mark at a node tells: where its card goes
+abbrev pub places_by : ℕ → State → ℕ → List Told → List Told
+places_by x state.IFlag c told = Info c P x ∷ told
+places_by x state.DFlag c told = Info c Gp x ∷ told
+places_by x state.Mark c told = Info c P x ∷ told
+places_by x state.Clean c told = told
+
+-- a hindrance more, unless the update is clean
+abbrev pub hindered_by : State → ℕ → ℕ
+hindered_by state.Clean n = n
+hindered_by _ n = n + 1
+
+-- the pass has found an update at a node
+abbrev pub finding : ℕ → Update → View → View
+finding x u v = record v {
+  worker = record (v.worker) { facts = facts_by u.state u.card v.worker.facts };
+  told = places_by x u.state u.card v.told;
+}
+
+-- the pass has learnt a fact
+abbrev pub learning : Fact → View → View
+learning new v = record v { worker = record (v.worker) { facts = new ∷ v.worker.facts } }
+
+-- an exchange found this word
+abbrev pub with_found : ℕ → View → View
+with_found n v = record v { found = Some n }
+
+-- what an exchange of an update word that found this answers
+abbrev pub update_outcome : ℕ → ℕ → Result (Unit {0}) Update
+update_outcome expected found = if found == expected then Ok tt else Err (unpacked found)
+
+-- what an exchange of a child that found this answers
+abbrev pub child_outcome : ℕ → ℕ → Result (Unit {0}) ℕ
+child_outcome expected found = if found == expected then Ok tt else Err found
+
+-- the update that an exchange found, by its answer: the expected one where it was won
+abbrev pub found_update : Update → Result (Unit {0}) Update → Update
+found_update expected (Ok won) = expected
+found_update expected (Err found) = found
+
+-- the word that an exchange found, by its answer
+abbrev pub found_word : ℕ → Result (Unit {0}) Update → ℕ
+found_word expected (Ok won) = expected
+found_word expected (Err found) = packed found
+
+-- the child that an exchange found, by its answer
+abbrev pub found_child : ℕ → Result (Unit {0}) ℕ → ℕ
+found_child expected (Ok won) = expected
+found_child expected (Err found) = found
+
+-- a worker with nothing in hand
+abbrev pub idle_worker : List (ℕ × Bool) → List Fact → WorkerView
+idle_worker ledger facts = record { ledger = ledger; operation = None; search = no_search; card = None; flagged = false; facts = facts }
+
+-- begin and again: this operation is in hand, and the search stands at the root, which the pass has met
+abbrev pub after_begin : Option Op → View → View
+after_begin op v = record v {
+  worker = record (v.worker) { operation = op; search = at_root; card = None; flagged = false };
+  told = Met 0 ∷ v.told;
+  here = None;
+  next = None;
+  filling = [];
+  filled = [];
+}
+
+-- leave: nothing is in hand any more
+abbrev pub after_leave : View → View
+after_leave v = record v {
+  worker = idle_worker v.worker.ledger v.worker.facts;
+  here = None;
+  filling = [];
+  filled = [];
+}
+
+-- the ledger where a key is present now, or absent
+abbrev pub with_key : ℕ → Bool → List (ℕ × Bool) → List (ℕ × Bool)
+with_key k present [] = []
+with_key k present (e ∷ es) = (e.0, if k == e.0 then present else e.1) ∷ with_key k present es
+
+-- the ledger after an operation was answered so
+abbrev pub answered_ledger : Option Op → Bool → List (ℕ × Bool) → List (ℕ × Bool)
+answered_ledger (Some (Insert k)) true ledger = with_key k true ledger
+answered_ledger (Some (Delete k)) true ledger = with_key k false ledger
+answered_ledger _ _ ledger = ledger
+
+-- answer: nothing is in hand any more, and the ledger goes by the answer
+abbrev pub after_answer : Bool → View → View
+after_answer said v = record v {
+  worker = idle_worker (answered_ledger v.worker.operation said v.worker.ledger) v.worker.facts;
+  here = None;
+  filling = [];
+  filled = [];
+  answers = v.answers + 1;
+}
+
+-- upd: this update was read at the node where the pass stands
+abbrev pub after_upd : ℕ → Update → View → View
+after_upd x u v = record (finding x u v) {
+  worker = record (v.worker) { search = with_read v.worker.search (packed u); facts = facts_by u.state u.card v.worker.facts };
+  hindrances = hindered_by u.state v.hindrances;
+}
+
+-- a node with the word that was read there, if one was
+abbrev pub seen_at : ℕ → Option ℕ → Option Seen
+seen_at x None = None
+seen_at x (Some word) = Some (record { node = x; word = word })
+
+-- down: from this node to this child, which the pass has met
+abbrev pub after_down : ℕ → ℕ → View → View
+after_down x child v = record v {
+  worker = record (v.worker) {
+    search = record {
+      node = Some child;
+      read = None;
+      parent = seen_at x v.worker.search.read;
+      grandparent = v.worker.search.parent;
+    };
+  };
+  told = Met child ∷ v.told;
+  here = None;
+}
+
+-- next: the claim word was read
+abbrev pub after_next : ℕ → View → View
+after_next n v = record v { next = Some n }
+
+-- whether a place, if there is one, is this node
+abbrev pub is_at : Option ℕ → ℕ → Bool
+is_at None x = false
+is_at (Some y) x = y == x
+
+-- key_of: the key of a node was told
+abbrev pub after_key_of : ℕ → ℕ → View → View
+after_key_of x key v = record v {
+  told = Key x key ∷ v.told;
+  here = if is_at v.worker.search.node x then Some key else v.here;
+}
+
+-- what was told with a word of a card; a word that is a node is met
+abbrev pub told_info : ℕ → Field → ℕ → List Told → List Told
+told_info c Gp x told = Info c Gp x ∷ Met x ∷ told
+told_info c P x told = Info c P x ∷ Met x ∷ told
+told_info c L x told = Info c L x ∷ Met x ∷ told
+told_info c f x told = Info c f x ∷ told
+
+-- info: a word of a card was told
+abbrev pub after_info : ℕ → Field → ℕ → View → View
+after_info c f x v = record v { told = told_info c f x v.told }
+
+-- frozen_child: a child of the parent that a card marked was told, and is met
+abbrev pub after_frozen_child : ℕ → Bool → ℕ → View → View
+after_frozen_child c right x v = record v { told = Frozen c right x ∷ Met x ∷ v.told }
+
+-- what fills a card, by the operation, the search and the key of the leaf
+abbrev pub filling_for : ℕ → Option Op → Option ℕ → Option Seen → Option Seen → ℕ → List (Field × ℕ)
+filling_for c (Some (Insert k)) (Some leaf) (Some parent) above key = insert_filling c k parent.node leaf key
+filling_for c (Some (Delete k)) (Some leaf) (Some parent) (Some above) key = delete_filling above.node parent.node leaf parent.word
+filling_for c _ _ _ _ key = []
+
+-- what fills card c, by what the pass knows
+abbrev pub filling_of : ℕ → View → List (Field × ℕ)
+filling_of c v =
+    filling_for c v.worker.operation v.worker.search.node v.worker.search.parent v.worker.search.grandparent (unwrap_or v.here 0)
+
+-- what was told with a word of a card that never changes: children and update word do
+abbrev pub told_fixed : ℕ → Field → ℕ → List Told → List Told
+told_fixed c Left x told = told
+told_fixed c Right x told = told
+told_fixed c UpdateField x told = told
+told_fixed c f x told = Info c f x ∷ told
+
+-- what was told with what fills a card, as far as it never changes
+abbrev pub told_filling : ℕ → List (Field × ℕ) → List Told → List Told
+told_filling c [] told = told
+told_filling c (e ∷ es) told = told_fixed c e.0 e.1 (told_filling c es told)
+
+-- claim: the card is in hand, and its words are told; or it was lost, a hindrance
+abbrev pub after_claim : Bool → ℕ → View → View
+after_claim true c v = record v {
+  worker = record (v.worker) { card = Some c; flagged = false };
+  told = told_filling c (filling_of c v) v.told;
+  filling = filling_of c v;
+  filled = [];
+}
+after_claim false c v = record v { hindrances = v.hindrances + 1 }
+
+-- fill: a word of the card in hand was stored
+abbrev pub after_fill : Field → ℕ → View → View
+after_fill f x v = record v { filled = (f, x) ∷ v.filled }
+
+-- the search stands nowhere any more
+abbrev pub nowhere : Search → Search
+nowhere search = record search { node = None; read = None }
+
+-- iflag and dflag: the card in hand is flagged; or the update was found at the node in its place, and the card is laid aside
+abbrev pub after_flag : Bool → Fact → ℕ → Update → View → View
+after_flag true new x u v = record v {
+  worker = record (v.worker) { search = nowhere v.worker.search; flagged = true; facts = new ∷ v.worker.facts };
+  here = None;
+}
+after_flag false new x u v = record v {
+  worker = record (v.worker) {
+    search = nowhere v.worker.search;
+    card = None;
+    flagged = false;
+    facts = facts_by u.state u.card v.worker.facts;
+  };
+  told = places_by x u.state u.card v.told;
+  here = None;
+  hindrances = v.hindrances + 1;
+}
+
+-- whether an update is the mark of a card
+abbrev pub is_mark_of : ℕ → State → ℕ → Bool
+is_mark_of c state.Mark d = d == c
+is_mark_of c _ d = false
+
+-- whether the card in hand, if there is one, is this one
+abbrev pub is_held : Option ℕ → ℕ → Bool
+is_held None c = false
+is_held (Some d) c = d == c
+
+-- a lost mark: the update that was found at the parent says that the card is unmarkable, a hindrance if it is the card in hand
+abbrev pub unmarking : ℕ → ℕ → Update → View → View
+unmarking c x u v = record v {
+  worker = record (v.worker) { facts = facts_by u.state u.card (fact.Unmarkable c ∷ v.worker.facts) };
+  told = places_by x u.state u.card v.told;
+  hindrances = if is_held v.worker.card c then v.hindrances + 1 else v.hindrances;
+}
+
+-- mark: the mark stands, set by this pass or found there; or another update was found
+abbrev pub after_mark : Bool → ℕ → ℕ → Update → View → View
+after_mark true c x u v = learning (fact.Marked c) v
+after_mark false c x u v = if is_mark_of c u.state u.card then learning (fact.Marked c) v else unmarking c x u v
+
+-- each of these keys, absent
+abbrev pub all_absent : List ℕ → List (ℕ × Bool)
+all_absent [] = []
+all_absent (k ∷ ks) = (k, false) ∷ all_absent ks
+
+-- the keys of a ledger, in its order
+abbrev pub keys_of : List (ℕ × Bool) → List ℕ
+keys_of [] = []
+keys_of (e ∷ es) = e.0 ∷ keys_of es
+
+-- a pass with nothing in hand, which has met the root alone
+abbrev pub idle_view : List (ℕ × Bool) → View
+idle_view ledger = record {
+  worker = idle_worker ledger [];
+  told = Met 0 ∷ [];
+  here = None;
+  next = None;
+  filling = [];
+  filled = [];
+  found = None;
+  answers = 0;
+  hindrances = 0;
+}
+
+-- the first pass of a table: it owns all keys, each absent
+abbrev pub first_view : List ℕ → View
+first_view keys = idle_view (all_absent keys)
+
+-- what is left of a pass that was joined to another
+abbrev pub spent_view : View
+spent_view = idle_view []
+
+-- whether a key is among these
+abbrev pub is_among : List ℕ → ℕ → Bool
+is_among keys k = list_any (λ x. k == x) keys
+
+-- the part of a ledger on these keys
+abbrev pub part_on : List ℕ → List (ℕ × Bool) → List (ℕ × Bool)
+part_on keys [] = []
+part_on keys (e ∷ es) = if is_among keys e.0 then e ∷ part_on keys es else part_on keys es
+
+-- the part of a ledger off these keys
+abbrev pub part_off : List ℕ → List (ℕ × Bool) → List (ℕ × Bool)
+part_off keys [] = []
+part_off keys (e ∷ es) = if is_among keys e.0 then part_off keys es else e ∷ part_off keys es
+
+-- split, the left part: it gets these keys, and keeps the counts
+abbrev pub left_view : List ℕ → View → View
+left_view keys v = record v {
+  worker = idle_worker (part_on keys v.worker.ledger) v.worker.facts;
+  here = None;
+  next = None;
+  filling = [];
+  filled = [];
+  found = None;
+}
+
+-- split, the right part: it gets the other keys
+abbrev pub right_view : List ℕ → View → View
+right_view keys v = record v {
+  worker = idle_worker (part_off keys v.worker.ledger) v.worker.facts;
+  here = None;
+  next = None;
+  filling = [];
+  filled = [];
+  found = None;
+  answers = 0;
+  hindrances = 0;
+}
+
+-- an entry put into an ascending ledger at its place, or in place of that of its key
+abbrev pub put_entry : ℕ × Bool → List (ℕ × Bool) → List (ℕ × Bool)
+put_entry e [] = e ∷ []
+put_entry e (d ∷ ds) = if nat_lt e.0 d.0 then e ∷ d ∷ ds else if e.0 == d.0 then e ∷ ds else d ∷ put_entry e ds
+
+-- two ascending ledgers in one
+abbrev pub united : List (ℕ × Bool) → List (ℕ × Bool) → List (ℕ × Bool)
+united [] ds = ds
+united (e ∷ es) ds = put_entry e (united es ds)
+
+-- join: one pass with the keys, the facts and the counts of two, and what both were told
+abbrev pub joined_view : View → View → View
+joined_view v w = record {
+  worker = idle_worker (united v.worker.ledger w.worker.ledger) (v.worker.facts ++ w.worker.facts);
+  told = v.told ++ w.told;
+  here = None;
+  next = None;
+  filling = [];
+  filled = [];
+  found = None;
+  answers = v.answers + w.answers;
+  hindrances = v.hindrances + w.hindrances;
+}

@@ -1,0 +1,200 @@
+use Rattle.std.specs.Prelude.{◌≡◌, ◌≢◌, ℕ, ◌⊎◌, ◌==◌, nat_le, Bool, true, false, Some, None}
+use Rattle.ell_ops.specs.declared.op.Op.{Op}
+use Rattle.ell_ops.specs.declared.op.Op.TheVariants.{Find, Insert, Delete}
+use Rattle.ell_ops.specs.Meaning.{key_of}
+use Rattle.ell_word.specs.declared.update.Update.{Update}
+use Rattle.ell_word.specs.Node.{IsInternal}
+use Rattle.ell_word.specs.Word.{packed}
+use Rattle.ell_core.specs.declared.fact.Fact.TheVariants.{IFlagged, IChanged, IOver, DFlagged, Marked, Unmarkable, Cut, DOver, Backed}
+use Rattle.ell_core.specs.declared.field.Field.{Field}
+use Rattle.ell_core.specs.declared.field.Field.TheVariants as field
+use Rattle.ell_core.specs.declared.view.Seen.{Seen}
+use Rattle.ell_core.specs.state.Machine.{ledger_of}
+use Rattle.ell_core.specs.state.Cards.{stored}
+use Rattle.ell_core.specs.acts.Searching.{IsLeaf, IsClean, leaf_answer}
+use Rattle.ell_cards.specs.declared.view.Told.TheVariants.{Key, Info, Frozen}
+use Rattle.ell_cards.specs.declared.view.View.{View}
+use Rattle.ell_cards.specs.Models.{IsTold, Knows, KnowsCard, Does, StandsAt, IsFree, stored_at}
+
+-- begin: nothing is in hand, and the key is owned
+pub record MayBegin (v : View) (op : Op) : Type 0 where
+  pub free : IsFree v
+  pub owned : ledger_of v.worker.ledger (key_of op) ≢ None
+
+-- again and leave: an operation is in hand, and its card, if that is flagged, is known backed
+pub record MayStop (v : View) : Type 0 where
+  pub op : Op
+  pub busy : Does v op
+  pub backed : (c : ℕ) → v.worker.card ≡ Some c → v.worker.flagged ≡ true → Knows v (Backed c)
+
+-- an answer at the leaf where the pass stands, whose key it was told
+pub record AnswersAtLeaf (v : View) (op : Op) (said : Bool) : Type 0 where
+  pub leaf : ℕ
+  pub key : ℕ
+  pub stands : StandsAt v leaf
+  pub outer : IsLeaf leaf
+  pub told : v.here ≡ Some key
+  pub says : leaf_answer op (key == key_of op) ≡ Some said
+
+-- the card of an operation is known to be over
+abbrev pub IsOver : View → Op → ℕ → Type 0
+IsOver v (Find k) c = ⊥
+IsOver v (Insert k) c = Knows v (IOver c)
+IsOver v (Delete k) c = Knows v (DOver c)
+
+-- an answer by the card in hand, which is over: yes
+pub record AnswersByCard (v : View) (op : Op) (said : Bool) : Type 0 where
+  pub card : ℕ
+  pub holds : v.worker.card ≡ Some card
+  pub flagged : v.worker.flagged ≡ true
+  pub over : IsOver v op card
+  pub yes : said ≡ true
+
+-- answer: an operation is in hand, and has this answer
+pub record MayAnswer (v : View) (said : Bool) : Type 0 where
+  pub op : Op
+  pub busy : Does v op
+  pub answers : AnswersAtLeaf v op said ⊎ AnswersByCard v op said
+
+-- upd: the pass stands at this internal node, and has not read its update word
+pub record MayRead (v : View) (x : ℕ) : Type 0 where
+  pub stands : StandsAt v x
+  pub inner : IsInternal x
+  pub unread : v.worker.search.read ≡ None
+
+-- down: the pass stands at this internal node, has read its update word and was told its key, and this is the operation's side
+pub record MayGoDown (v : View) (x : ℕ) (right : Bool) : Type 0 where
+  pub op : Op
+  pub word : ℕ
+  pub key : ℕ
+  pub busy : Does v op
+  pub stands : StandsAt v x
+  pub inner : IsInternal x
+  pub read : v.worker.search.read ≡ Some word
+  pub told : v.here ≡ Some key
+  pub side : right ≡ nat_le key (key_of op)
+
+-- the words of a card that a pass may ask for
+abbrev pub IsAsked : Field → Type 0
+IsAsked field.Gp = Unit {0}
+IsAsked field.P = Unit {0}
+IsAsked field.L = Unit {0}
+IsAsked field.Was = Unit {0}
+IsAsked field.Key = Unit {0}
+IsAsked _ = ⊥
+
+-- info: the card is known flagged or marked
+pub record MayAsk (v : View) (c : ℕ) (f : Field) : Type 0 where
+  pub knows : KnowsCard v c
+  pub asked : IsAsked f
+
+-- frozen_child: the card is known marked, and this is its parent
+pub record MaySee (v : View) (c p : ℕ) : Type 0 where
+  pub knows : Knows v (Marked c)
+  pub parent : IsTold v (Info c field.P p)
+
+-- what a claim is for at a leaf of this key: an insert of another key, or a delete of this one whose grandparent was read clean
+abbrev pub Wants : View → Op → ℕ → Type 0
+Wants v (Find k) key = ⊥
+Wants v (Insert k) key = key ≢ k
+Wants v (Delete k) key = (key ≡ k) × ((above : Seen) × (v.worker.search.grandparent ≡ Some above) × IsClean above.word)
+
+-- claim: the card was read by next in this try; the pass stands at a leaf, whose key it was told, without a card, behind a
+-- parent that was read clean
+pub record MayClaim (v : View) (c : ℕ) : Type 0 where
+  pub op : Op
+  pub leaf : ℕ
+  pub key : ℕ
+  pub parent : Seen
+  pub read : v.next ≡ Some c
+  pub no_card : v.worker.card ≡ None
+  pub busy : Does v op
+  pub stands : StandsAt v leaf
+  pub outer : IsLeaf leaf
+  pub told : v.here ≡ Some key
+  pub behind : v.worker.search.parent ≡ Some parent
+  pub calm : IsClean parent.word
+  pub wants : Wants v op key
+
+-- fill: the card is in hand, not flagged
+pub record MayFill (v : View) (c : ℕ) : Type 0 where
+  pub holds : v.worker.card ≡ Some c
+  pub unflagged : v.worker.flagged ≡ false
+
+-- the card in hand is filled: what was stored is what it is to say, in every field
+abbrev pub IsFilled : View → Type 0
+IsFilled v = (f : Field) → stored_at v.filled f ≡ stored v.filling f 0
+
+-- iflag: an insert's card is in hand, filled and not flagged, and this is the parent with the update that was read there
+pub record MayIFlag (v : View) (c p : ℕ) (from : Update) : Type 0 where
+  pub key : ℕ
+  pub leaf : ℕ
+  pub busy : Does v (Insert key)
+  pub may : MayFill v c
+  pub stands : StandsAt v leaf
+  pub behind : v.worker.search.parent ≡ Some (record { node = p; word = packed from })
+  pub filled : IsFilled v
+
+-- dflag: the same of a delete's card, at the grandparent
+pub record MayDFlag (v : View) (c gp : ℕ) (from : Update) : Type 0 where
+  pub key : ℕ
+  pub leaf : ℕ
+  pub parent : Seen
+  pub busy : Does v (Delete key)
+  pub may : MayFill v c
+  pub stands : StandsAt v leaf
+  pub behind : v.worker.search.parent ≡ Some parent
+  pub above : v.worker.search.grandparent ≡ Some (record { node = gp; word = packed from })
+  pub filled : IsFilled v
+
+-- ichild: the card is known flagged; these are its parent and leaf, and the side of its key at the parent
+pub record MayIChild (v : View) (c p l : ℕ) (right : Bool) : Type 0 where
+  pub parent_key : ℕ
+  pub card_key : ℕ
+  pub knows : Knows v (IFlagged c)
+  pub parent : IsTold v (Info c field.P p)
+  pub leaf : IsTold v (Info c field.L l)
+  pub told_parent : IsTold v (Key p parent_key)
+  pub told_card : IsTold v (Info c field.Key card_key)
+  pub side : right ≡ nat_le parent_key card_key
+
+-- iunflag: the card is known changed, and this is its parent
+pub record MayIUnflag (v : View) (c p : ℕ) : Type 0 where
+  pub knows : Knows v (IChanged c)
+  pub parent : IsTold v (Info c field.P p)
+
+-- mark: the card is known flagged, and these are its parent and the update word that its search read there
+pub record MayMark (v : View) (c p was : ℕ) : Type 0 where
+  pub knows : Knows v (DFlagged c)
+  pub parent : IsTold v (Info c field.P p)
+  pub read : IsTold v (Info c field.Was was)
+
+-- the sibling of leaf l at the parent that the card marked: the right child, or the left one where the right one is l
+abbrev pub IsSibling : View → ℕ → ℕ → ℕ → Type 0
+IsSibling v c l s =
+    (IsTold v (Frozen c true s) × (s ≢ l)) ⊎ (IsTold v (Frozen c true l) × IsTold v (Frozen c false s))
+
+-- dchild: the card is known marked; these are its grandparent and parent, the sibling of its leaf, and the sibling's side at the
+-- grandparent
+pub record MayDChild (v : View) (c gp p s : ℕ) (right : Bool) : Type 0 where
+  pub leaf : ℕ
+  pub grandparent_key : ℕ
+  pub sibling_key : ℕ
+  pub knows : Knows v (Marked c)
+  pub grandparent : IsTold v (Info c field.Gp gp)
+  pub parent : IsTold v (Info c field.P p)
+  pub below : IsTold v (Info c field.L leaf)
+  pub sibling : IsSibling v c leaf s
+  pub told_grandparent : IsTold v (Key gp grandparent_key)
+  pub told_sibling : IsTold v (Key s sibling_key)
+  pub side : right ≡ nat_le grandparent_key sibling_key
+
+-- dunflag: the card is known cut, and this is its grandparent
+pub record MayDUnflag (v : View) (c gp : ℕ) : Type 0 where
+  pub knows : Knows v (Cut c)
+  pub grandparent : IsTold v (Info c field.Gp gp)
+
+-- backtrack: the card is known unmarkable, and this is its grandparent
+pub record MayBacktrack (v : View) (c gp : ℕ) : Type 0 where
+  pub knows : Knows v (Unmarkable c)
+  pub grandparent : IsTold v (Info c field.Gp gp)

@@ -1,0 +1,85 @@
+use Rattle.std.specs.Prelude.{◌≡◌, ℕ, ◌⊎◌, ◌+◌, ◌≤◌, ◌*◌, ◌==◌, if◌then◌else◌, true, Some, None, List, [], ◌∷◌, min}
+use Rattle.atomic_table.specs.Seated.{TableId}
+use Rattle.ell_ops.specs.declared.op.Op.{Op}
+use Rattle.ell_word.specs.Node.{greatest_card}
+use Rattle.ell_core.specs.declared.fact.Fact.{Fact}
+use Rattle.ell_core.specs.declared.fact.Fact.TheVariants.{IFlagged, DFlagged, Marked}
+use Rattle.ell_core.specs.declared.field.Field.{Field}
+use Rattle.ell_core.specs.state.Layout.{place}
+use Rattle.ell_core.specs.state.Facts.{known_of}
+use Rattle.ell_cards.specs.declared.fault.CardFault.{CardFault}
+use Rattle.ell_cards.specs.declared.fault.CardFault.TheVariants.{BadCards, NoMemory}
+use Rattle.ell_cards.specs.declared.view.Told.{Told}
+use Rattle.ell_cards.specs.declared.view.View.{View}
+
+-- which table it is, the keys that its passes own, and how many cards it has beside card 0
+pub record TableModel : Type 0 where
+  pub id : TableId
+  pub keys : List ℕ
+  pub cards : ℕ
+
+-- the table that a pass belongs to, what it knows, the atomic steps made through it, and its label
+pub record PassModel : Type 0 where
+  pub table : TableId
+  pub view : View
+  pub steps : ℕ
+  pub label : ℕ
+
+-- one step more, but no more than 64 bits hold
+abbrev pub one_more : ℕ → ℕ
+one_more n = min (n + 1) 18446744073709551615
+
+-- the pass made one step, and knows this now
+abbrev pub Steps : PassModel → PassModel → View → Type 0
+Steps old new v = new ≡ record { table = old.table; view = v; steps = one_more old.steps; label = old.label }
+
+-- a list tells this
+pub data Has : List Told → Told → Type 0 where
+  latest : (e : Told) (es : List Told) → Has (e ∷ es) e
+  earlier : (e d : Told) (es : List Told) → Has es e → Has (d ∷ es) e
+
+-- the pass was told this
+abbrev pub IsTold : View → Told → Type 0
+IsTold v e = Has v.told e
+
+-- the pass knows a fact
+abbrev pub Knows : View → Fact → Type 0
+Knows v fact = known_of v.worker.facts fact ≡ true
+
+-- the pass knows the flag or the mark of a delete's card
+abbrev pub KnowsDelete : View → ℕ → Type 0
+KnowsDelete v c = Knows v (DFlagged c) ⊎ Knows v (Marked c)
+
+-- the pass knows the flag or the mark of a card
+abbrev pub KnowsCard : View → ℕ → Type 0
+KnowsCard v c = Knows v (IFlagged c) ⊎ KnowsDelete v c
+
+-- the pass has this operation in hand
+abbrev pub Does : View → Op → Type 0
+Does v op = v.worker.operation ≡ Some op
+
+-- the pass stands at a node
+abbrev pub StandsAt : View → ℕ → Type 0
+StandsAt v x = v.worker.search.node ≡ Some x
+
+-- the pass has nothing in hand
+abbrev pub IsFree : View → Type 0
+IsFree v = v.worker.operation ≡ None
+
+-- a node of a table of so many cards
+abbrev pub InTable : ℕ → ℕ → Type 0
+InTable cards x = x ≤ 3 * cards + 2
+
+-- the word that a list of stores, the last first, leaves in a field that had 0
+abbrev pub stored_at : List (Field × ℕ) → Field → ℕ
+stored_at [] f = 0
+stored_at (e ∷ es) f = if place e.0 == place f then e.1 else stored_at es f
+
+-- so many cards a table may have beside card 0
+abbrev pub IsCardCount : ℕ → Type 0
+IsCardCount cards = (1 ≤ cards) × (cards ≤ greatest_card)
+
+-- when a table of so many cards is refused: for its cards exactly where there may not be so many
+abbrev pub Refuses : ℕ → CardFault → Type 0
+Refuses cards BadCards = ¬ IsCardCount cards
+Refuses cards NoMemory = IsCardCount cards

@@ -1,0 +1,41 @@
+use Rattle.std.specs.Prelude.{◌≡◌, ℕ, ◌≤◌, Some}
+use Rattle.ell_word.specs.Node.{card}
+use Rattle.ell_word.specs.Word.{unpacked}
+use Rattle.ell_core.specs.declared.fact.Fact.{Fact}
+use Rattle.ell_core.specs.declared.field.Field.{Field}
+use Rattle.ell_core.specs.declared.field.Field.TheVariants.{Gp, P, L}
+use Rattle.ell_core.specs.declared.view.Seen.{Seen}
+use Rattle.ell_core.specs.state.Facts.{card_of_fact}
+use Rattle.ell_cards.specs.declared.view.Told.{Told}
+use Rattle.ell_cards.specs.declared.view.Told.TheVariants.{Met, Key, Info, Frozen}
+use Rattle.ell_cards.specs.declared.view.View.{View}
+use Rattle.ell_cards.specs.Models.{IsTold, Knows}
+
+-- a word of a card that is a node is one of the table
+abbrev pub InfoIsNamed : ℕ → Field → ℕ → Type 0
+InfoIsNamed cards Gp x = card x ≤ cards
+InfoIsNamed cards P x = card x ≤ cards
+InfoIsNamed cards L x = card x ≤ cards
+InfoIsNamed cards _ x = Unit {0}
+
+-- what was told names nodes and cards of the table
+abbrev pub EntryIsNamed : ℕ → Told → Type 0
+EntryIsNamed cards (Met x) = card x ≤ cards
+EntryIsNamed cards (Key x key) = card x ≤ cards
+EntryIsNamed cards (Info c f x) = (c ≤ cards) × InfoIsNamed cards f x
+EntryIsNamed cards (Frozen c right x) = (c ≤ cards) × (card x ≤ cards)
+
+-- a node with an update word is one of the table, and so is the word's card
+pub record SeenIsNamed (cards : ℕ) (seen : Seen) : Type 0 where
+  pub node : card seen.node ≤ cards
+  pub word : (unpacked seen.word).card ≤ cards
+
+-- all that a pass names is in a table of so many cards
+pub record IsNamed (cards : ℕ) (v : View) : Type 0 where
+  pub node : (x : ℕ) → v.worker.search.node ≡ Some x → card x ≤ cards
+  pub parent : (x : ℕ) (seen : Seen) → v.worker.search.node ≡ Some x → v.worker.search.parent ≡ Some seen → SeenIsNamed cards seen
+  pub grandparent : (x : ℕ) (seen above : Seen) → v.worker.search.node ≡ Some x → v.worker.search.parent ≡ Some seen
+      → v.worker.search.grandparent ≡ Some above → SeenIsNamed cards above
+  pub hand : (c : ℕ) → v.worker.card ≡ Some c → c ≤ cards
+  pub facts : (fact : Fact) → Knows v fact → card_of_fact fact ≤ cards
+  pub entries : (e : Told) → IsTold v e → EntryIsNamed cards e

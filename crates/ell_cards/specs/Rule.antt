@@ -1,0 +1,75 @@
+use Rattle.std.specs.Prelude.{◌≡◌, ℕ, ◌<◌, Bool, true, false, List, length, slice_index, Some, Contains}
+use mathlib.Core.Option.{Option, some, none}
+use lib.ListN.{get_elem?}
+use Rattle.atomic_table.specs.Table.{State}
+use Rattle.ell_core.specs.declared.field.Field.{Field}
+use Rattle.ell_core.specs.declared.field.Field.TheVariants.{Left, Right, Update}
+use Rattle.ell_core.specs.state.Layout.{listed, table_size}
+use Rattle.ell_core.specs.state.Words.{Words, word}
+use Rattle.ell_core.specs.state.Machine.{Worker, Machine, nobody, worker_of}
+use Rattle.ell_core.specs.state.Cards.{marked, stored}
+use Rattle.ell_core.specs.soundness.Sound.{Owns}
+use Rattle.ell_core.specs.history.Stages.{Stages, Born, waits}
+use Rattle.ell_core.specs.history.Invariant.{Invariant}
+use Rattle.ell_cards.specs.declared.view.Told.{Told}
+use Rattle.ell_cards.specs.declared.view.Told.TheVariants.{Met, Key, Info, Frozen}
+use Rattle.ell_cards.specs.declared.view.View.{View}
+use Rattle.ell_cards.specs.Models.{IsTold, stored_at}
+
+-- the state of a table without slots
+abbrev pub TableState : Type 0
+TableState = State (Unit {0}) View
+
+-- the worker that a seat is, or nobody
+abbrev pub seat_worker : Option View → Worker
+seat_worker none = nobody
+seat_worker (some v) = worker_of v.worker
+
+-- the machine of these words and views
+abbrev pub seated : Words → List View → ℕ → Machine
+seated w views cards = record {
+  words = w;
+  worker = λ i. seat_worker (get_elem? views i);
+  count = length views;
+  cards = cards;
+}
+
+-- a field that never changes once its card is claimed
+abbrev pub is_fixed : Field → Bool
+is_fixed Left = false
+is_fixed Right = false
+is_fixed Update = false
+is_fixed _ = true
+
+-- what was told holds of the machine's words: a node that was met came into the tree; a key, or a fixed word of a claimed card,
+-- is what was told; and so is a child of a parent that stays marked
+abbrev pub EntryHolds : Words → Stages → Told → Type 0
+EntryHolds w stage (Met x) = Born stage x
+EntryHolds w stage (Key x key) = Born stage x × (w.key x ≡ key)
+EntryHolds w stage (Info c f x) = (c < w.next) × (is_fixed f ≡ true) × (word w c f ≡ x)
+EntryHolds w stage (Frozen c right x) =
+    (c < w.next) × (w.update (w.p c) ≡ marked c) × (w.child (w.p c) right ≡ x) × Born stage x
+
+-- the card in hand that is not flagged: in the machine it says what it is to say; in the table, what was stored of it
+pub record HandHolds (words : List ℕ) (w : Words) (filling filled : List (Field × ℕ)) (c : ℕ) : Type 0 where
+  pub machine : (f : Field) → word w c f ≡ stored filling f 0
+  pub table : (f : Field) → listed words c f ≡ stored_at filled f
+
+-- what a pass knows beside the worker that it is
+pub record ViewHolds (words : List ℕ) (w : Words) (stage : Stages) (v : View) : Type 0 where
+  pub entries : (e : Told) → IsTold v e → EntryHolds w stage e
+  pub here : (x key : ℕ) → v.worker.search.node ≡ Some x → v.here ≡ Some key → IsTold v (Key x key)
+  pub hand : (c : ℕ) → v.worker.card ≡ Some c → v.worker.flagged ≡ false → HandHolds words w v.filling v.filled c
+
+-- the rule of a table with these keys and so many cards: there is a machine that the invariant holds of, its workers the
+-- passes; the table has its claim word, and its words at every card that does not wait for its flag; what passes know holds;
+-- and every key that a pass owns is one of the table's
+pub record Kept (keys : List ℕ) (cards : ℕ) (s : TableState) : Type 0 where
+  pub words : Words
+  pub stages : Stages
+  pub invariant : Invariant (seated words s.views cards) stages
+  pub size : length s.words ≡ table_size cards
+  pub next : slice_index s.words 0 ≡ words.next
+  pub settled : (c : ℕ) (f : Field) → waits (stages c) ≡ false → listed s.words c f ≡ word words c f
+  pub views : (j : ℕ) (v : View) → get_elem? s.views j ≡ some v → ViewHolds s.words words stages v
+  pub owned : (j k : ℕ) (v : View) → get_elem? s.views j ≡ some v → Owns (worker_of v.worker) k → Contains keys k

@@ -1,0 +1,59 @@
+use Rattle.std.specs.Prelude.{◌≡◌, ℕ, ◌==◌, List, []}
+use prog.Atomic.{either}
+use Rattle.std.specs.List.Sorted.{IsStrictlyIncreasing}
+use Rattle.atomic_table.specs.Table.{Allows, Splits, Joins}
+use Rattle.ell_cards.specs.declared.call.Call.{Call}
+use Rattle.ell_cards.specs.declared.view.View.{View}
+use Rattle.ell_cards.specs.Models.{PassModel, one_more}
+use Rattle.ell_cards.specs.Changes.{keys_of}
+use Rattle.ell_cards.specs.Naming.{IsNamed}
+use Rattle.ell_cards.specs.Calls.{after, Tells}
+use Rattle.ell_cards.specs.Rule.{Kept}
+
+-- whatever the table is, a load of a word keeps the rule, and this holds of the word found and of what the pass knows after
+abbrev pub MayLoad : List ℕ → ℕ → View → ℕ → (ℕ → View → Type 0) → Type 0
+MayLoad keys cards v i then =
+    (id : ℕ) → Allows (Kept keys cards) 0 id (v, []) i (λ n. n) (λ n me. then n me.0 × (me.1 ≡ []))
+
+-- so does a store of a value
+abbrev pub MayStore : List ℕ → ℕ → View → ℕ → ℕ → (ℕ → View → Type 0) → Type 0
+MayStore keys cards v i value then =
+    (id : ℕ) → Allows (Kept keys cards) 0 id (v, []) i (λ n. value) (λ n me. then value me.0 × (me.1 ≡ []))
+
+-- and an exchange of an expected value for another
+abbrev pub MayExchange : List ℕ → ℕ → View → ℕ → ℕ → ℕ → (ℕ → View → Type 0) → Type 0
+MayExchange keys cards v i expected value then =
+    (id : ℕ) → Allows (Kept keys cards) 0 id (v, []) i (λ n. either (n == expected) value n) (λ n me. then n me.0 × (me.1 ≡ []))
+
+-- whatever the table is, the view of a seat may be cut in these two
+abbrev pub MaySplit : List ℕ → ℕ → View → View → View → Type 0
+MaySplit keys cards v left right = (id : ℕ) → Splits (Kept keys cards) id v left right
+
+-- and the views of two seats may become one, and this
+abbrev pub MayJoin : List ℕ → ℕ → View → View → View → View → Type 0
+MayJoin keys cards v w both spent = (id other : ℕ) → Joins (Kept keys cards) id v other w both spent
+
+-- a pass with these keys may know this, where a pass of its table knew that
+pub record MayHave (cards : ℕ) (old : View) (keys : List ℕ) (v : View) : Type 0 where
+  pub owned : keys ≡ keys_of v.worker.ledger
+  pub ascending : IsStrictlyIncreasing keys
+  pub named : IsNamed cards old → IsNamed cards v
+
+-- what a step tells says that the pass owns the keys that it owned, and names what is in the table
+abbrev pub KeepsPass : ℕ → View → (ℕ → View → Type 0) → Type 0
+KeepsPass cards v then =
+    (n : ℕ) (w : View) → then n w → (keys_of w.worker.ledger ≡ keys_of v.worker.ledger) × IsNamed cards w
+
+-- a pass made one step: its table and its label are as they were
+pub record StepsBy (old new : PassModel) : Type 0 where
+  pub table : new.table ≡ old.table
+  pub steps : new.steps ≡ one_more old.steps
+  pub label : new.label ≡ old.label
+
+-- what a step call that found this word leaves of a pass: what it knows is as the call says, and what the call tells is so; the
+-- pass owns the keys that it owned, and names what is in its table
+pub record IsTaken (cards : ℕ) (c : Call) (v : View) (n : ℕ) (w : View) : Type 0 where
+  pub view : w ≡ after c n v
+  pub tells : Tells cards c v n
+  pub keys : keys_of w.worker.ledger ≡ keys_of v.worker.ledger
+  pub named : IsNamed cards w

@@ -1,0 +1,49 @@
+//! The step calls as data, so that a law can speak of all of them.
+use ell_core::Field;
+use ell_ops::Op;
+use ell_word::Update;
+
+/// A step call of a pass, with its arguments. Each is one atomic step.
+#[derive(Clone, Copy, Debug, PartialEq, Eq, Hash)]
+pub enum Call {
+    /// Takes an operation in hand.
+    Begin(Op),
+    /// Starts the search anew.
+    Again,
+    /// Lays the operation down.
+    Leave,
+    /// Answers the operation.
+    Answer(bool),
+    /// Reads the update word of a node.
+    Upd(u64),
+    /// Goes down from a node, to the right child or to the left one.
+    Down(u64, bool),
+    /// Reads the claim word.
+    Next,
+    /// Reads the key of a node.
+    KeyOf(u64),
+    /// Reads a word of a card.
+    Info(u64, Field),
+    /// Reads a child, the right one or the left one, of the parent of a card: card, parent, side.
+    FrozenChild(u64, u64, bool),
+    /// Takes a card.
+    Claim(u64),
+    /// Stores a word of a card.
+    Fill(u64, Field, u64),
+    /// Flags the parent for an insert: card, parent, the update that was read there.
+    IFlag(u64, u64, Update),
+    /// Exchanges a child for an insert: card, parent, leaf, side.
+    IChild(u64, u64, u64, bool),
+    /// Takes an insert's flag away: card, parent.
+    IUnflag(u64, u64),
+    /// Flags the grandparent for a delete: card, grandparent, the update that was read there.
+    DFlag(u64, u64, Update),
+    /// Marks the parent of a delete: card, parent, the word that its search read there.
+    Mark(u64, u64, u64),
+    /// Exchanges a child for a delete: card, grandparent, parent, sibling, side.
+    DChild(u64, u64, u64, u64, bool),
+    /// Takes a delete's flag away after its child exchange: card, grandparent.
+    DUnflag(u64, u64),
+    /// Takes a delete's flag away after its lost mark: card, grandparent.
+    Backtrack(u64, u64),
+}

@@ -1,0 +1,96 @@
+//! The end of a table.
+ghost use Rattle.std.specs.Prelude.{◌≡◌, ◌≢◌, ◌≤◌, length, None};
+ghost use Rattle.std.specs.List.{All};
+ghost use Rattle.std.specs.Slots.{slots_items, slots_len, IsFull};
+ghost use Rattle.ell_word.specs.Node.{card, greatest_card};
+ghost use Rattle.ell_core.specs.state.Layout.{listed, table_size};
+ghost use Rattle.ell_core.specs.state.Words.{words_of};
+ghost use Rattle.ell_core.specs.state.Machine.{ledger_of};
+ghost use Rattle.ell_cards.specs.Models.{IsFree};
+ghost use Rattle.ell_cards.specs.Ends.{ClosedModel, Ends};
+
+use crate::pass::Pass;
+use crate::table::CardTable;
+use ell_core::{Field, TreeWords, child_field, key_field};
+use ell_word::card_of;
+use std::alloc::Allocator;
+use std::marker::Model;
+
+/// The words of a table that has ended.
+pub struct Closed<A: Allocator + Copy> {
+    closed: atomic_table::Closed<(), A>,
+    cards: u64,
+}
+
+impl<A: Allocator + Copy> Model for Closed<A> {
+    ghost Value = { ClosedModel };
+
+    ghost view = { λ c. record { words = slots_items c.closed.words; cards = c.cards } };
+
+    ghost invariant = { λ c. IsFull c.closed.words × (slots_len c.closed.words ≡ length (slots_items c.closed.words)) × (slots_len c.closed.slots ≡ 0) × (length (slots_items c.closed.words) ≡ table_size c.cards) × (c.cards ≤ greatest_card) };
+}
+
+impl<A: Allocator + Copy> CardTable<A> {
+    /// Ends the table, by a pass with nothing in hand that owns each of its keys.
+    pub fn close(self, pass: Pass<A>) -> Closed<A>
+        requires own { pass.table ≡ self.id }
+        requires free { IsFree pass.view }
+        requires all { All (λ k. ledger_of pass.view.worker.ledger k ≢ None) self.keys }
+        ensures ends { Ends self.keys pass.view result }
+        ensures cards { result.cards ≡ self.cards }
+    {
+        let CardTable {
+            table,
+            alloc: _,
+            cards,
+        } = self;
+        let Pass {
+            keys: _,
+            label: _,
+            steps: _,
+            seat,
+        } = pass;
+        Closed {
+            closed: table.close_with(seat),
+            cards,
+        }
+    }
+}
+
+impl<A: Allocator + Copy> Closed<A> {
+    /// How many cards the table has beside card 0.
+    pub fn cards(&self) -> u64
+        ensures { result ≡ self.now.cards }
+    {
+        self.cards
+    }
+
+    /// A word of a card.
+    pub fn word(&self, card: u64, field: Field) -> u64
+        requires { card ≤ self.now.cards }
+        ensures { result ≡ listed self.now.words card field }
+    {
+        self.closed.word(field.address(card))
+    }
+}
+
+impl<A: Allocator + Copy> TreeWords for Closed<A> {
+    ghost words = { λ c. words_of c.words };
+
+    ghost can_read = { λ c node. card node ≤ c.cards };
+
+    fn key(&self, node: u64) -> u64 {
+        self.word(card_of(node), key_field(node))
+    }
+
+    fn child(&self, node: u64, right: bool) -> u64 {
+        self.word(card_of(node), child_field(right))
+    }
+}
+
+impl<A: Allocator + Copy> Drop for Closed<A> {
+    fn drop(self) {
+        let Closed { closed, cards: _ } = self;
+        closed.free();
+    }
+}

@@ -1,0 +1,23 @@
+//! Why a table is not made.
+ghost use Rattle.std.specs.Prelude.{◌≡◌};
+
+use std::alloc::AllocError;
+
+/// Why a table is not made. The refusals are tested in this order.
+#[derive(Clone, Copy, Debug, PartialEq, Eq)]
+pub enum CardFault {
+    /// The cards are not 1 to `CARD_MAX`.
+    BadCards,
+    /// There was no memory.
+    NoMemory,
+}
+
+impl From<AllocError> for CardFault {
+    ghost use Rattle.ell_cards.specs.declared.fault.CardFault.TheVariants as fault;
+
+    ghost from_gives = { λ _ r. r ≡ fault.NoMemory };
+
+    fn from(_: AllocError) -> CardFault {
+        CardFault::NoMemory
+    }
+}

@@ -1,0 +1,161 @@
+//! The step calls by which a pass finishes an operation, its own or another's, of whose card it knows how far it has come. Each
+//! is one atomic step.
+ghost use Rattle.std.specs.Prelude.{◌≡◌, ◌≢◌, ◌≤◌, ◌<◌, is_ok, IfErr};
+ghost use Rattle.ell_word.specs.Word.{packed, unpacked};
+ghost use Rattle.ell_core.specs.declared.fact.Fact.TheVariants.{IChanged, IOver, Cut, DOver, Backed};
+ghost use Rattle.ell_core.specs.state.Cards.{iflag, dflag};
+ghost use Rattle.ell_cards.specs.Models.{Steps, InTable};
+ghost use Rattle.ell_cards.specs.Changes.{after_info, after_frozen_child, after_mark, learning, with_found, found_update, found_word, found_child};
+ghost use Rattle.ell_cards.specs.Guards.{MayAsk, MaySee, MayIChild, MayIUnflag, MayMark, MayDChild, MayDUnflag, MayBacktrack};
+ghost use Rattle.ell_cards.specs.Calls.{TellsNode, TellsDepth};
+
+use crate::call::Call;
+use crate::outcomes::{child_outcome, update_outcome};
+use crate::pass::Pass;
+use crate::places::{child_at, update_at};
+use crate::table::CardTable;
+use ell_core::{Field, update_word};
+use ell_word::{State, Update, internal_of, unpack};
+use std::alloc::Allocator;
+
+impl<A: Allocator + Copy> CardTable<A> {
+    /// Reads a word of a card that the pass knows flagged or marked: grandparent, parent, leaf, the word that was read, or key.
+    /// The first three are nodes of the table, ever deeper; an insert's grandparent is 0.
+    #[inline(always)]
+    pub fn info(&self, pass: &mut Pass<A>, card: u64, field: Field) -> u64
+        requires own { pass.old.table ≡ self.now.id }
+        requires may { MayAsk pass.old.view card field }
+        ensures step { Steps pass.old pass.new (after_info card field result pass.old.view) }
+        ensures node { TellsNode self.now.cards field result }
+        ensures depth { TellsDepth pass.old.view card field result }
+    {
+        self.names(pass);
+        self.load(pass, Call::Info(card, field), field.address(card))
+    }
+
+    /// Reads a child of the parent of a card that the pass knows marked. It never changes.
+    #[inline(always)]
+    pub fn frozen_child(&self, pass: &mut Pass<A>, card: u64, parent: u64, right: bool) -> u64
+        requires own { pass.old.table ≡ self.now.id }
+        requires may { MaySee pass.old.view card parent }
+        ensures step { Steps pass.old pass.new (after_frozen_child card right result pass.old.view) }
+        ensures greater { parent < result }
+        ensures there { InTable self.now.cards result }
+    {
+        self.names(pass);
+        let call = Call::FrozenChild(card, parent, right);
+        self.load(pass, call, child_at(parent, right))
+    }
+
+    /// Exchanges the child of an insert's parent, from the leaf to the card's internal node. Else the error is the child that was
+    /// found. Either way the pass knows the card changed.
+    #[inline(always)]
+    pub fn ichild(
+        &self,
+        pass: &mut Pass<A>,
+        card: u64,
+        parent: u64,
+        leaf: u64,
+        right: bool,
+    ) -> Result<(), u64>
+        requires own { pass.old.table ≡ self.now.id }
+        requires may { MayIChild pass.old.view card parent leaf right }
+        ensures step { Steps pass.old pass.new (with_found (found_child leaf result) (learning (IChanged card) pass.old.view)) }
+        ensures lost { IfErr result (λ found. found ≢ leaf) }
+    {
+        self.names(pass);
+        let call = Call::IChild(card, parent, leaf, right);
+        let found = self.exchange(pass, call, child_at(parent, right), leaf, internal_of(card));
+        child_outcome(leaf, found)
+    }
+
+    /// Takes an insert's flag away. Else the error is the update that was found. Either way the pass knows the card over.
+    #[inline(always)]
+    pub fn iunflag(&self, pass: &mut Pass<A>, card: u64, parent: u64) -> Result<(), Update>
+        requires own { pass.old.table ≡ self.now.id }
+        requires may { MayIUnflag pass.old.view card parent }
+        ensures step { Steps pass.old pass.new (with_found (found_word (iflag card) result) (learning (IOver card) pass.old.view)) }
+        ensures lost { IfErr result (λ found. packed found ≢ iflag card) }
+    {
+        self.names(pass);
+        let flag = update_word(State::IFlag, card);
+        let clean = update_word(State::Clean, card);
+        let call = Call::IUnflag(card, parent);
+        let found = self.exchange(pass, call, update_at(parent), flag, clean);
+        update_outcome(flag, found)
+    }
+
+    /// Marks the parent of a delete: exchanges the word that its search read there for the card's mark. Else the error is the
+    /// update that was found: the card's own mark, or another one, and then the card can't be marked any more.
+    #[inline(always)]
+    pub fn mark(&self, pass: &mut Pass<A>, card: u64, parent: u64, was: u64) -> Result<(), Update>
+        requires own { pass.old.table ≡ self.now.id }
+        requires may { MayMark pass.old.view card parent was }
+        ensures step { Steps pass.old pass.new (with_found (found_word was result) (after_mark (is_ok result) card parent (found_update (unpacked was) result) pass.old.view)) }
+        ensures lost { IfErr result (λ found. packed found ≢ was) }
+        ensures card { IfErr result (λ found. found.card ≤ self.now.cards) }
+    {
+        self.names(pass);
+        let call = Call::Mark(card, parent, was);
+        let mark = update_word(State::Mark, card);
+        let found = self.exchange(pass, call, update_at(parent), was, mark);
+        update_outcome(was, found)
+    }
+
+    /// Exchanges the child of a delete's grandparent, from the parent to the sibling of the leaf. Else the error is the child
+    /// that was found. Either way the pass knows the card cut.
+    #[inline(always)]
+    pub fn dchild(
+        &self,
+        pass: &mut Pass<A>,
+        card: u64,
+        grandparent: u64,
+        parent: u64,
+        sibling: u64,
+        right: bool,
+    ) -> Result<(), u64>
+        requires own { pass.old.table ≡ self.now.id }
+        requires may { MayDChild pass.old.view card grandparent parent sibling right }
+        ensures step { Steps pass.old pass.new (with_found (found_child parent result) (learning (Cut card) pass.old.view)) }
+        ensures lost { IfErr result (λ found. found ≢ parent) }
+    {
+        self.names(pass);
+        let call = Call::DChild(card, grandparent, parent, sibling, right);
+        let found = self.exchange(pass, call, child_at(grandparent, right), parent, sibling);
+        child_outcome(parent, found)
+    }
+
+    /// Takes a delete's flag away after its child exchange. Else the error is the update that was found. Either way the pass
+    /// knows the card over.
+    #[inline(always)]
+    pub fn dunflag(&self, pass: &mut Pass<A>, card: u64, grandparent: u64) -> Result<(), Update>
+        requires own { pass.old.table ≡ self.now.id }
+        requires may { MayDUnflag pass.old.view card grandparent }
+        ensures step { Steps pass.old pass.new (with_found (found_word (dflag card) result) (learning (DOver card) pass.old.view)) }
+        ensures lost { IfErr result (λ found. packed found ≢ dflag card) }
+    {
+        self.names(pass);
+        let flag = update_word(State::DFlag, card);
+        let clean = update_word(State::Clean, card);
+        let call = Call::DUnflag(card, grandparent);
+        let found = self.exchange(pass, call, update_at(grandparent), flag, clean);
+        update_outcome(flag, found)
+    }
+
+    /// Takes a delete's flag away after its lost mark. Else the error is the update that was found. Either way the pass knows the
+    /// card backed.
+    #[inline(always)]
+    pub fn backtrack(&self, pass: &mut Pass<A>, card: u64, grandparent: u64) -> Result<(), Update>
+        requires own { pass.old.table ≡ self.now.id }
+        requires may { MayBacktrack pass.old.view card grandparent }
+        ensures step { Steps pass.old pass.new (with_found (found_word (dflag card) result) (learning (Backed card) pass.old.view)) }
+        ensures lost { IfErr result (λ found. packed found ≢ dflag card) }
+    {
+        self.names(pass);
+        let flag = update_word(State::DFlag, card);
+        let clean = update_word(State::Clean, card);
+        let call = Call::Backtrack(card, grandparent);
+        let found = self.exchange(pass, call, update_at(grandparent), flag, clean);
+        update_outcome(flag, found)
+    }
+}

@@ -1,0 +1,29 @@
+//! A table of cards: the machine's words in atomic words, which many passes share.
+#![tactic(auto)]
+
+mod call;
+mod closed;
+mod fault;
+mod helping;
+mod laws;
+mod lifetime;
+mod outcomes;
+mod own_card;
+mod pass;
+mod places;
+mod rule;
+mod table;
+mod view;
+mod walking;
+
+pub use call::Call;
+pub use closed::Closed;
+pub use fault::CardFault;
+pub use laws::{
+    moves_are_moves, rule_is_sound, runs_are_lawful, runs_from_starts_are_lawful, steps_are_events,
+    table_answers_are_the_sets, table_keys_change_at_wins, table_nodes_go_on,
+    table_wins_are_in_order, tables_start,
+};
+pub use pass::Pass;
+pub use table::CardTable;
+pub use view::{Plan, Told, View};

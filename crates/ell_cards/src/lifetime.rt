@@ -1,0 +1,252 @@
+//! How a table begins, and how its passes part and come together.
+ghost use Rattle.std.specs.Prelude.{◌≡◌, ◌≢◌, ◌≤◌, filter, not, max, true, None, IfOk, IfErr, OnOk};
+ghost use Rattle.std.specs.List.{All};
+ghost use Rattle.std.specs.List.Sorted.{IsStrictlyIncreasing};
+ghost use Rattle.ell_ops.specs.Meaning.{greatest_key};
+ghost use Rattle.ell_word.specs.Node.{greatest_card};
+ghost use Rattle.ell_core.specs.state.Opening.{opening_list};
+ghost use Rattle.ell_core.specs.state.Machine.{ledger_of};
+ghost use Rattle.ell_cards.specs.Models.{Steps, IsFree, IsCardCount, Refuses, one_more};
+ghost use Rattle.ell_cards.specs.Changes.{is_among, first_view, left_view, right_view, joined_view};
+ghost use Rattle.ell_cards.specs.Inside.{keys_united, IsOpened};
+ghost use Rattle.ell_cards.specs.Stepping.{MaySplit, MayHave};
+
+use crate::fault::CardFault;
+use crate::pass::Pass;
+use crate::rule::{CardRule, Joined, PartedBy, Parting};
+use crate::table::CardTable;
+use crate::view::{Plan, View};
+use atomic_table::{Seat, Table};
+use ell_core::{Field, table_size, update_word};
+use ell_ops::NoMemory;
+use ell_word::{CARD_MAX, INF1, INF2, State, left_leaf_of, right_leaf_of};
+use std::alloc::{AllocError, Allocator};
+use std::cmp::Ordering;
+use std::marker::Brand;
+
+impl<A: Allocator + Copy> CardTable<A> {
+    /// A table with the opening tree and so many cards beside card 0, 1 to `CARD_MAX`, and one pass that owns all these keys,
+    /// each absent. Conditions: the keys are strictly ascending, and at most `KEY_MAX`.
+    pub fn reserve(alloc: A, keys: &[u64], cards: u64) -> Result<(CardTable<A>, Pass<A>), CardFault>
+        requires ascending { IsStrictlyIncreasing keys.now }
+        requires real { All (λ k. k ≤ greatest_key) keys.now }
+        ensures cards { OnOk result (IsCardCount cards) }
+        ensures table { IfOk result (λ made. (made.0.keys ≡ keys.now) × (made.0.cards ≡ cards)) }
+        ensures pass { IfOk result (λ made. made.1 ≡ record { table = made.0.id; view = first_view keys.now; steps = 0; label = 0 }) }
+        ensures refused { IfErr result (Refuses cards) }
+    {
+        if cards < 1 || cards > CARD_MAX {
+            return Err(CardFault::BadCards);
+        }
+        let mut copy = Vec::with_capacity(alloc, keys.len())?;
+        copy.extend_from_slice(keys)?;
+        let plan = Plan { keys: copy, cards };
+        let (table, seat) = opened(alloc, &plan)?;
+        let Plan { keys, cards: _ } = plan;
+        let pass = Pass {
+            keys,
+            label: 0,
+            steps: 0,
+            seat,
+        };
+        let table = CardTable {
+            table,
+            alloc,
+            cards,
+        };
+        Ok((table, pass))
+    }
+
+    /// How many cards there are beside card 0.
+    pub fn cards(&self) -> u64
+        ensures { result ≡ self.now.cards }
+    {
+        self.cards
+    }
+
+    /// Parts a pass with nothing in hand: the left part gets these keys of its own, ascending, and the right part the rest.
+    /// Where memory is refused, the pass is as it was.
+    pub fn split(
+        &self,
+        pass: Pass<A>,
+        left_keys: &[u64],
+    ) -> Result<(Pass<A>, Pass<A>), (Pass<A>, NoMemory)>
+        requires own { pass.table ≡ self.now.id }
+        requires free { IsFree pass.view }
+        requires ascending { IsStrictlyIncreasing left_keys.now }
+        requires owned { All (λ k. ledger_of pass.view.worker.ledger k ≢ None) left_keys.now }
+        ensures left { IfOk result (λ parts. Steps pass parts.0 (left_view left_keys.now pass.view)) }
+        ensures right { IfOk result (λ parts. Steps pass parts.1 (right_view left_keys.now pass.view)) }
+        ensures refused { IfErr result (λ refused. refused.0 ≡ pass) }
+    {
+        let Ok((left, right)) = parted(self.alloc, pass.keys.as_slice(), left_keys) else {
+            return Err((pass, NoMemory));
+        };
+        Ok(self.split_as::<Brand>(pass, left, right))
+    }
+
+    // Parts a pass: one part has these keys, and the other those.
+    fn split_as<J: Parting>(
+        &self,
+        pass: Pass<A>,
+        left: Vec<u64, A>,
+        right: Vec<u64, A>,
+    ) -> (Pass<A>, Pass<A>)
+        requires own { pass.table ≡ self.now.id }
+        requires rule { MaySplit self.now.keys self.now.cards pass.view J.left J.right }
+        requires left { MayHave self.now.cards pass.view left.items J.left }
+        requires right { MayHave self.now.cards pass.view right.items J.right }
+        ensures left { Steps pass result.0 J.left }
+        ensures right { Steps pass result.1 J.right }
+    {
+        let Pass {
+            keys: _,
+            label,
+            steps,
+            mut seat,
+        } = pass;
+        let other = self.table.shared.split_seat::<PartedBy<J>>(&mut seat);
+        let steps = steps.saturating_add(1);
+        let left = Pass {
+            keys: left,
+            label,
+            steps,
+            seat,
+        };
+        let right = Pass {
+            keys: right,
+            label,
+            steps,
+            seat: other,
+        };
+        (left, right)
+    }
+
+    /// One pass of two with nothing in hand: it gets the keys of both, and the left one's label. Where memory is refused, both
+    /// are as they were.
+    pub fn join(
+        &self,
+        left: Pass<A>,
+        right: Pass<A>,
+    ) -> Result<Pass<A>, (Pass<A>, Pass<A>, NoMemory)>
+        requires left { left.table ≡ self.now.id }
+        requires right { right.table ≡ self.now.id }
+        requires left_free { IsFree left.view }
+        requires right_free { IsFree right.view }
+        ensures joined { IfOk result (λ both. both ≡ record { table = left.table; view = joined_view left.view right.view; steps = one_more (max left.steps right.steps); label = left.label }) }
+        ensures refused { IfErr result (λ refused. (refused.0 ≡ left) × (refused.1 ≡ right)) }
+    {
+        let Ok(keys) = united(self.alloc, left.keys.as_slice(), right.keys.as_slice()) else {
+            return Err((left, right, NoMemory));
+        };
+        let Pass {
+            keys: _,
+            label,
+            steps,
+            mut seat,
+        } = left;
+        let Pass {
+            keys: _,
+            label: _,
+            steps: others,
+            seat: other,
+        } = right;
+        self.table.shared.join_seat::<Joined>(&mut seat, other);
+        let steps = steps.max(others).saturating_add(1);
+        Ok(Pass {
+            keys,
+            label,
+            steps,
+            seat,
+        })
+    }
+}
+
+// The words of the opening tree, and of cards whose words are 0.
+fn opening_words<A: Allocator + Copy>(alloc: A, cards: u64) -> Result<Vec<u64, A>, AllocError>
+    requires { cards ≤ greatest_card }
+    ensures { IfOk result (λ words. words.items ≡ opening_list cards) }
+{
+    let mut words = vec![in alloc; 0; table_size(cards)]?;
+    words[0] = 1;
+    words[Field::Key.address(0)] = INF2;
+    words[Field::Left.address(0)] = left_leaf_of(0);
+    words[Field::Right.address(0)] = right_leaf_of(0);
+    words[Field::Update.address(0)] = update_word(State::Clean, 0);
+    words[Field::LeftLeafKey.address(0)] = INF1;
+    words[Field::RightLeafKey.address(0)] = INF2;
+    Ok(words)
+}
+
+// The opening table. It copies the words, and their first list goes at once.
+fn opened<A: Allocator + Copy>(
+    alloc: A,
+    plan: &Plan<A>,
+) -> Result<(Table<(), View, Plan<A>, CardRule, A>, Seat<(), View>), AllocError>
+    requires cards { plan.now.cards ≤ greatest_card }
+    requires ascending { IsStrictlyIncreasing plan.now.keys.items }
+    requires real { All (λ k. k ≤ greatest_key) plan.now.keys.items }
+    ensures { IfOk result (λ made. IsOpened plan.now.cards made.0.shared.table_id made.1.table_id made.1.me (first_view plan.now.keys.items) × (made.0.shared.key ≡ plan.now)) }
+{
+    let words = opening_words(alloc, plan.cards)?;
+    Table::of_words(alloc, words.as_slice(), plan)
+}
+
+// A copy of some of the keys, and the rest of the keys.
+fn parted<A: Allocator + Copy>(
+    alloc: A,
+    keys: &[u64],
+    some: &[u64],
+) -> Result<(Vec<u64, A>, Vec<u64, A>), AllocError>
+    requires ascending { IsStrictlyIncreasing keys.now }
+    requires some_ascending { IsStrictlyIncreasing some.now }
+    requires among { All (λ k. is_among keys.now k ≡ true) some.now }
+    ensures some { IfOk result (λ parts. parts.0.items ≡ some.now) }
+    ensures rest { IfOk result (λ parts. parts.1.items ≡ filter (λ k. not (is_among some.now k)) keys.now) }
+{
+    let mut copy = Vec::with_capacity(alloc, some.len())?;
+    copy.extend_from_slice(some)?;
+    let mut rest = Vec::with_capacity(alloc, keys.len() - some.len())?;
+    let mut left = some;
+    for key in keys {
+        match left {
+            [first, others @ ..] if first == key => left = others,
+            _ => rest.push(*key)?,
+        }
+    }
+    Ok((copy, rest))
+}
+
+// The keys of two ascending lists, ascending.
+fn united<A: Allocator + Copy>(
+    alloc: A,
+    left: &[u64],
+    right: &[u64],
+) -> Result<Vec<u64, A>, AllocError>
+    requires left { IsStrictlyIncreasing left.now }
+    requires right { IsStrictlyIncreasing right.now }
+    ensures { IfOk result (λ both. both.items ≡ keys_united left.now right.now) }
+{
+    let mut both = Vec::with_capacity(alloc, left.len() + right.len())?;
+    let (mut ours, mut theirs) = (left, right);
+    while let ([first, rest @ ..], [other, others @ ..]) = (ours, theirs) {
+        match first.cmp(other) {
+            Ordering::Less => {
+                both.push(*first)?;
+                ours = rest;
+            }
+            Ordering::Equal => {
+                both.push(*first)?;
+                ours = rest;
+                theirs = others;
+            }
+            Ordering::Greater => {
+                both.push(*other)?;
+                theirs = others;
+            }
+        }
+    }
+    both.extend_from_slice(ours)?;
+    both.extend_from_slice(theirs)?;
+    Ok(both)
+}

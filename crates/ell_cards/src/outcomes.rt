@@ -1,0 +1,29 @@
+//! What exchanges answer.
+ghost use Rattle.std.specs.Prelude.{◌≡◌};
+ghost use Rattle.ell_cards.specs.Changes.{update_outcome, child_outcome};
+
+use ell_word::{Update, unpack};
+
+/// What the exchange of an update word answers: the update that was found where it was not the expected one.
+#[inline(always)]
+pub(crate) fn update_outcome(expected: u64, found: u64) -> Result<(), Update>
+    ensures { result ≡ update_outcome expected found }
+{
+    if found == expected {
+        Ok(())
+    } else {
+        Err(unpack(found))
+    }
+}
+
+/// What the exchange of a child answers: the node that was found where it was not the expected one.
+#[inline(always)]
+pub(crate) fn child_outcome(expected: u64, found: u64) -> Result<(), u64>
+    ensures { result ≡ child_outcome expected found }
+{
+    if found == expected {
+        Ok(())
+    } else {
+        Err(found)
+    }
+}

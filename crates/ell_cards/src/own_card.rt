@@ -1,0 +1,89 @@
+//! The step calls by which a pass takes a card, fills it and sets its flag. Each is one atomic step.
+ghost use Rattle.std.specs.Prelude.{◌≡◌, ◌≢◌, ◌≤◌, is_ok, IfErr};
+ghost use Rattle.ell_core.specs.declared.fact.Fact.TheVariants.{IFlagged, DFlagged};
+ghost use Rattle.ell_word.specs.Word.{packed};
+ghost use Rattle.ell_cards.specs.Models.{Steps};
+ghost use Rattle.ell_cards.specs.Changes.{after_claim, after_fill, after_flag, with_found, found_update, found_word};
+ghost use Rattle.ell_cards.specs.Guards.{MayClaim, MayFill, MayIFlag, MayDFlag};
+
+use crate::call::Call;
+use crate::outcomes::update_outcome;
+use crate::pass::Pass;
+use crate::places::update_at;
+use crate::table::CardTable;
+use ell_core::{Field, update_word};
+use ell_word::{State, Update, pack};
+use std::alloc::Allocator;
+
+impl<A: Allocator + Copy> CardTable<A> {
+    /// Takes the card that `next` read in this try, where it is still the next one: whether it did.
+    #[inline(always)]
+    pub fn claim(&self, pass: &mut Pass<A>, card: u64) -> bool
+        requires own { pass.old.table ≡ self.now.id }
+        requires may { MayClaim pass.old.view card }
+        requires room { card ≤ self.now.cards }
+        ensures step { Steps pass.old pass.new (after_claim result card pass.old.view) }
+    {
+        self.names(pass);
+        self.exchange(pass, Call::Claim(card), 0, card, card + 1) == card
+    }
+
+    /// Stores a word of the card in hand, which is not flagged.
+    #[inline(always)]
+    pub fn fill(&self, pass: &mut Pass<A>, card: u64, field: Field, value: u64)
+        requires own { pass.old.table ≡ self.now.id }
+        requires may { MayFill pass.old.view card }
+        ensures step { Steps pass.old pass.new (after_fill field value pass.old.view) }
+    {
+        self.names(pass);
+        self.store(pass, card, field, field.address(card), value);
+    }
+
+    /// Flags the parent for the insert whose card is in hand, filled: exchanges the update that was read there for the card's
+    /// flag. Else the error is the update that was found, and the card is laid aside.
+    #[inline(always)]
+    pub fn iflag(
+        &self,
+        pass: &mut Pass<A>,
+        card: u64,
+        parent: u64,
+        from: Update,
+    ) -> Result<(), Update>
+        requires own { pass.old.table ≡ self.now.id }
+        requires may { MayIFlag pass.old.view card parent from }
+        ensures step { Steps pass.old pass.new (with_found (found_word (packed from) result) (after_flag (is_ok result) (IFlagged card) parent (found_update from result) pass.old.view)) }
+        ensures lost { IfErr result (λ found. found ≢ from) }
+        ensures card { IfErr result (λ found. found.card ≤ self.now.cards) }
+    {
+        self.names(pass);
+        let expected = pack(from);
+        let flag = update_word(State::IFlag, card);
+        let call = Call::IFlag(card, parent, from);
+        let found = self.exchange(pass, call, update_at(parent), expected, flag);
+        update_outcome(expected, found)
+    }
+
+    /// Flags the grandparent for the delete whose card is in hand, filled: exchanges the update that was read there for the
+    /// card's flag. Else the error is the update that was found, and the card is laid aside.
+    #[inline(always)]
+    pub fn dflag(
+        &self,
+        pass: &mut Pass<A>,
+        card: u64,
+        grandparent: u64,
+        from: Update,
+    ) -> Result<(), Update>
+        requires own { pass.old.table ≡ self.now.id }
+        requires may { MayDFlag pass.old.view card grandparent from }
+        ensures step { Steps pass.old pass.new (with_found (found_word (packed from) result) (after_flag (is_ok result) (DFlagged card) grandparent (found_update from result) pass.old.view)) }
+        ensures lost { IfErr result (λ found. found ≢ from) }
+        ensures card { IfErr result (λ found. found.card ≤ self.now.cards) }
+    {
+        self.names(pass);
+        let expected = pack(from);
+        let flag = update_word(State::DFlag, card);
+        let call = Call::DFlag(card, grandparent, from);
+        let found = self.exchange(pass, call, update_at(grandparent), expected, flag);
+        update_outcome(expected, found)
+    }
+}

@@ -1,0 +1,153 @@
+//! The table, and its one atomic step of each kind.
+ghost use Rattle.std.specs.Prelude.{◌≡◌, ℕ, ◌<◌, ◌≤◌, ◌==◌, [], OnOk};
+ghost use prog.Atomic.{either};
+ghost use Rattle.atomic_table.specs.Table.{Allows};
+ghost use Rattle.ell_word.specs.Node.{greatest_card};
+ghost use Rattle.ell_core.specs.state.Layout.{address, table_size};
+ghost use Rattle.ell_cards.specs.Models.{TableModel, Steps};
+ghost use Rattle.ell_cards.specs.Changes.{after_fill};
+ghost use Rattle.ell_cards.specs.Naming.{IsNamed};
+ghost use Rattle.ell_cards.specs.Guards.{MayFill};
+ghost use Rattle.ell_cards.specs.Calls.{word_of, atomic_of, Load, Exchange, after, May, Tells};
+ghost use Rattle.ell_cards.specs.Stepping.{MayLoad, MayStore, MayExchange, KeepsPass, StepsBy};
+
+use crate::call::Call;
+use crate::pass::{Pass, one_more};
+use crate::rule::{By, CardRule, Telling};
+use crate::view::{Plan, View};
+use atomic_table::Table;
+use ell_core::Field;
+use std::alloc::Allocator;
+use std::marker::{Brand, Model};
+
+/// A table of cards, whose words many passes share.
+#[derive(Drop)]
+pub struct CardTable<A: Allocator + Copy> {
+    pub(crate) table: Table<(), View, Plan<A>, CardRule, A>,
+    pub(crate) alloc: A,
+    pub(crate) cards: u64,
+}
+
+impl<A: Allocator + Copy> Model for CardTable<A> {
+    ghost Value = { TableModel };
+
+    ghost view = { λ t. record { id = t.table.shared.table_id; keys = t.table.shared.key.keys.items; cards = t.table.shared.key.cards } };
+
+    ghost invariant = { λ t. (t.table.shared.table_id.words ≡ table_size t.table.shared.key.cards) × (t.table.shared.table_id.slots ≡ 0) × (t.table.shared.key.cards ≤ greatest_card) × (t.cards ≡ t.table.shared.key.cards) };
+}
+
+impl<A: Allocator + Copy> CardTable<A> {
+    // What the pass names is in the table.
+    #[inline(always)]
+    pub(crate) fn names(&self, pass: &Pass<A>)
+        requires own { pass.now.table ≡ self.now.id }
+        ensures named { IsNamed self.now.cards pass.now.view }
+        ensures room { self.now.cards ≤ greatest_card }
+    {
+        let _ = &self.table;
+        let _ = &pass.seat;
+    }
+
+    // Loads a word.
+    #[inline(always)]
+    fn load_as<J: Telling>(&self, pass: &mut Pass<A>, call: Call, word: usize) -> u64
+        requires own { pass.old.table ≡ self.now.id }
+        requires word { IsNamed self.now.cards pass.old.view → word < table_size self.now.cards }
+        requires rule { MayLoad self.now.keys self.now.cards pass.old.view word J.then }
+        requires keeps { KeepsPass self.now.cards pass.old.view J.then }
+        ensures told { J.then result pass.new.view }
+        ensures step { StepsBy pass.old pass.new }
+    {
+        let _ = call;
+        let found = self.table.shared.load::<By<J>>(&mut pass.seat, word);
+        pass.steps = one_more(pass.steps);
+        found
+    }
+
+    /// A step call that loads its word.
+    #[inline(always)]
+    pub(crate) fn load(&self, pass: &mut Pass<A>, call: Call, word: usize) -> u64
+        requires own { pass.old.table ≡ self.now.id }
+        requires may { May self.now.cards call pass.old.view }
+        requires word { word ≡ word_of call }
+        requires atomic { atomic_of call ≡ Load }
+        ensures step { Steps pass.old pass.new (after call result pass.old.view) }
+        ensures tells { Tells self.now.cards call pass.old.view result }
+    {
+        self.load_as::<Brand>(pass, call, word)
+    }
+
+    // Stores a word.
+    #[inline(always)]
+    fn store_as<J: Telling>(&self, pass: &mut Pass<A>, call: Call, word: usize, value: u64)
+        requires own { pass.old.table ≡ self.now.id }
+        requires word { IsNamed self.now.cards pass.old.view → word < table_size self.now.cards }
+        requires rule { MayStore self.now.keys self.now.cards pass.old.view word value J.then }
+        requires keeps { KeepsPass self.now.cards pass.old.view J.then }
+        ensures told { J.then value pass.new.view }
+        ensures step { StepsBy pass.old pass.new }
+    {
+        let _ = call;
+        self.table
+            .shared
+            .store::<By<J>>(&mut pass.seat, word, value);
+        pass.steps = one_more(pass.steps);
+    }
+
+    /// The step call that stores a word of the card in hand.
+    #[inline(always)]
+    pub(crate) fn store(&self, pass: &mut Pass<A>, card: u64, field: Field, word: usize, value: u64)
+        requires own { pass.old.table ≡ self.now.id }
+        requires may { MayFill pass.old.view card }
+        requires word { word ≡ address card field }
+        ensures step { Steps pass.old pass.new (after_fill field value pass.old.view) }
+    {
+        self.store_as::<Brand>(pass, Call::Fill(card, field, value), word, value)
+    }
+
+    // Exchanges a word.
+    #[inline(always)]
+    fn exchange_as<J: Telling>(
+        &self,
+        pass: &mut Pass<A>,
+        call: Call,
+        word: usize,
+        expected: u64,
+        value: u64,
+    ) -> u64
+        requires own { pass.old.table ≡ self.now.id }
+        requires word { IsNamed self.now.cards pass.old.view → word < table_size self.now.cards }
+        requires rule { MayExchange self.now.keys self.now.cards pass.old.view word expected value J.then }
+        requires keeps { KeepsPass self.now.cards pass.old.view J.then }
+        ensures told { J.then result pass.new.view }
+        ensures step { StepsBy pass.old pass.new }
+    {
+        let _ = call;
+        let found = self
+            .table
+            .shared
+            .compare_exchange::<By<J>>(&mut pass.seat, word, expected, value);
+        pass.steps = one_more(pass.steps);
+        found
+    }
+
+    /// A step call that exchanges its word, where it has the expected value: what it found.
+    #[inline(always)]
+    pub(crate) fn exchange(
+        &self,
+        pass: &mut Pass<A>,
+        call: Call,
+        word: usize,
+        expected: u64,
+        value: u64,
+    ) -> u64
+        requires own { pass.old.table ≡ self.now.id }
+        requires may { May self.now.cards call pass.old.view }
+        requires word { word ≡ word_of call }
+        requires atomic { atomic_of call ≡ Exchange expected value }
+        ensures step { Steps pass.old pass.new (after call result pass.old.view) }
+        ensures tells { Tells self.now.cards call pass.old.view result }
+    {
+        self.exchange_as::<Brand>(pass, call, word, expected, value)
+    }
+}

@@ -1,0 +1,49 @@
+//! What a pass knows, as contracts see it.
+use ell_core::{Field, WorkerView};
+use std::alloc::Allocator;
+use std::collections::LinkedList;
+
+/// What a pass was told, and what never changes.
+#[derive(Clone, Copy, Debug, PartialEq, Eq, Hash)]
+pub enum Told {
+    /// The pass has met this node, which came into the tree.
+    Met(u64),
+    /// This node has this key.
+    Key(u64, u64),
+    /// This card has this word in this field.
+    Info(u64, Field, u64),
+    /// The parent that this card marked has on this side (true is right) this child.
+    Frozen(u64, bool, u64),
+}
+
+/// What a pass knows. No value of this type is made.
+#[derive(Drop)]
+pub struct View {
+    /// The worker of the machine that the pass is.
+    pub worker: WorkerView,
+    /// What it was told, the last first.
+    pub told: LinkedList<Told>,
+    /// The key of the node where it stands, once it was told.
+    pub here: Option<u64>,
+    /// The claim word, once it was read in this try.
+    pub next: Option<u64>,
+    /// What the card in hand is to say, by its claim.
+    pub filling: LinkedList<(Field, u64)>,
+    /// What was stored of the card in hand, the last first.
+    pub filled: LinkedList<(Field, u64)>,
+    /// The word that the last exchange found, that of the claim word apart.
+    pub found: Option<u64>,
+    /// How many operations it has answered.
+    pub answers: u64,
+    /// How often something was in its way.
+    pub hindrances: u64,
+}
+
+/// What a table is made for. A table keeps the numbers; the keys go to its first pass.
+#[derive(Drop)]
+pub struct Plan<A: Allocator + Copy> {
+    /// The keys that passes own, strictly ascending.
+    pub keys: Vec<u64, A>,
+    /// How many cards there are beside card 0.
+    pub cards: u64,
+}

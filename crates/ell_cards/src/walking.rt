@@ -1,0 +1,109 @@
+//! The step calls by which a pass begins, searches and ends its operation. Each is one atomic step.
+ghost use Rattle.std.specs.Prelude.{◌≡◌, ◌≤◌, ◌<◌, ◌+◌, Some};
+ghost use Rattle.ell_core.specs.state.Machine.{ledger_of};
+ghost use Rattle.ell_core.specs.statements.StepLaws.{AnswersAsSet};
+ghost use Rattle.ell_cards.specs.declared.view.Told.TheVariants.{Met};
+ghost use Rattle.ell_cards.specs.Models.{Steps, IsTold, InTable};
+ghost use Rattle.ell_cards.specs.Changes.{after_begin, after_leave, after_answer, after_upd, after_down, after_next, after_key_of};
+ghost use Rattle.ell_cards.specs.Guards.{MayBegin, MayStop, MayAnswer, MayRead, MayGoDown};
+ghost use Rattle.ell_cards.specs.Calls.{TellsLeaf};
+
+use crate::call::Call;
+use crate::pass::Pass;
+use crate::places::{child_at, key_at, update_at};
+use crate::table::CardTable;
+use ell_ops::Op;
+use ell_word::{Update, unpack};
+use std::alloc::Allocator;
+
+impl<A: Allocator + Copy> CardTable<A> {
+    /// Takes an operation on a key of the pass in hand, and stands at the root.
+    #[inline(always)]
+    pub fn begin(&self, pass: &mut Pass<A>, op: Op)
+        requires own { pass.old.table ≡ self.now.id }
+        requires may { MayBegin pass.old.view op }
+        ensures step { Steps pass.old pass.new (after_begin (Some op) pass.old.view) }
+    {
+        self.load(pass, Call::Begin(op), 0);
+    }
+
+    /// Starts the search anew. Condition: the card in hand, if it is flagged, is known backed.
+    #[inline(always)]
+    pub fn again(&self, pass: &mut Pass<A>)
+        requires own { pass.old.table ≡ self.now.id }
+        requires may { MayStop pass.old.view }
+        ensures step { Steps pass.old pass.new (after_begin pass.old.view.worker.operation pass.old.view) }
+    {
+        self.load(pass, Call::Again, 0);
+    }
+
+    /// Lays the operation down without an answer. Condition: as of `again`.
+    #[inline(always)]
+    pub fn leave(&self, pass: &mut Pass<A>)
+        requires own { pass.old.table ≡ self.now.id }
+        requires may { MayStop pass.old.view }
+        ensures step { Steps pass.old pass.new (after_leave pass.old.view) }
+    {
+        self.load(pass, Call::Leave, 0);
+    }
+
+    /// Answers the operation in hand. What is said is the set's answer on the pass's ledger, which becomes the set after it.
+    #[inline(always)]
+    pub fn answer(&self, pass: &mut Pass<A>, said: bool)
+        requires own { pass.old.table ≡ self.now.id }
+        requires may { MayAnswer pass.old.view said }
+        ensures step { Steps pass.old pass.new (after_answer said pass.old.view) }
+        ensures set { AnswersAsSet (ledger_of pass.old.view.worker.ledger) (ledger_of pass.new.view.worker.ledger) pass.old.view.worker.operation said }
+    {
+        self.load(pass, Call::Answer(said), 0);
+    }
+
+    /// Reads the update word of the internal node where the pass stands.
+    #[inline(always)]
+    pub fn upd(&self, pass: &mut Pass<A>, node: u64) -> Update
+        requires own { pass.old.table ≡ self.now.id }
+        requires may { MayRead pass.old.view node }
+        ensures step { Steps pass.old pass.new (after_upd node result pass.old.view) }
+        ensures card { result.card ≤ self.now.cards }
+    {
+        self.names(pass);
+        unpack(self.load(pass, Call::Upd(node), update_at(node)))
+    }
+
+    /// Goes down from the internal node where the pass stands to the child on its key's side: a greater node of the table.
+    #[inline(always)]
+    pub fn down(&self, pass: &mut Pass<A>, node: u64, right: bool) -> u64
+        requires own { pass.old.table ≡ self.now.id }
+        requires may { MayGoDown pass.old.view node right }
+        ensures step { Steps pass.old pass.new (after_down node result pass.old.view) }
+        ensures greater { node < result }
+        ensures there { InTable self.now.cards result }
+    {
+        self.names(pass);
+        self.load(pass, Call::Down(node, right), child_at(node, right))
+    }
+
+    /// Reads the claim word: the number of the next card, one more than the number of cards where all are claimed.
+    #[inline(always)]
+    pub fn next(&self, pass: &mut Pass<A>) -> u64
+        requires own { pass.old.table ≡ self.now.id }
+        ensures step { Steps pass.old pass.new (after_next result pass.old.view) }
+        ensures some { 1 ≤ result }
+        ensures room { result ≤ self.now.cards + 1 }
+    {
+        self.load(pass, Call::Next, 0)
+    }
+
+    /// Reads the key of a node that the pass has met. Of the leaf where it stands it is the operation's exactly where the pass
+    /// has that present, and then the leaf has a grandparent.
+    #[inline(always)]
+    pub fn key_of(&self, pass: &mut Pass<A>, node: u64) -> u64
+        requires own { pass.old.table ≡ self.now.id }
+        requires met { IsTold pass.old.view (Met node) }
+        ensures step { Steps pass.old pass.new (after_key_of node result pass.old.view) }
+        ensures leaf { TellsLeaf pass.old.view node result }
+    {
+        self.names(pass);
+        self.load(pass, Call::KeyOf(node), key_at(node))
+    }
+}
