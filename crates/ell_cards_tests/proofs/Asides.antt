@@ -1,0 +1,175 @@
+use Rattle.std.proofs.Common.{◌≡◌, ℕ, Bool, true, false, if◌then◌else◌, List, refl, sym, ◌∙◌, subst, inl, inr}
+use Rattle.ell_word.specs.declared.update.Update.{Update}
+use Rattle.ell_core.specs.declared.fact.Fact.{Fact}
+use Rattle.ell_core.specs.declared.fact.Fact.TheVariants as fact
+use Rattle.ell_core.specs.declared.field.Field.{Field}
+use Rattle.ell_core.specs.declared.field.Field.TheVariants as field
+use Rattle.ell_cards.specs.declared.view.Told.{Told}
+use Rattle.ell_cards.specs.declared.view.Told.TheVariants.{Met, Info, Frozen}
+use Rattle.ell_cards.specs.declared.view.View.{View}
+use Rattle.ell_cards.specs.Models.{PassModel, Steps, Has, latest, earlier, IsTold, Knows, KnowsCard}
+use Rattle.ell_cards.specs.Changes.{learning, with_found, after_key_of, told_info, after_info, after_frozen_child, after_next, after_claim, after_mark, is_mark_of, unmarking}
+use Rattle.ell_cards.specs.Guards.{IsSibling}
+use Rattle.ell_cards_tests.specs.Fitting.{Aside, StepsAside, NamesNode}
+use Rattle.ell_cards_tests.proofs.Keepings.{view_after, keeps_view_trans, learning_kept, with_found_kept, mark_kept, frozen_told}
+
+pub aside_told : (a b : PassModel) (e : Told) → StepsAside a b → IsTold a.view e → IsTold b.view e
+aside_told a b e s h = s.view.keeps.told e h
+
+pub aside_knows : (a b : PassModel) (f : Fact) → StepsAside a b → Knows a.view f → Knows b.view f
+aside_knows a b f s h = s.view.keeps.knows f h
+
+pub aside_knows_card : (a b : PassModel) (c : ℕ) → StepsAside a b → KnowsCard a.view c → KnowsCard b.view c
+aside_knows_card a b c s (inl h) = inl (s.view.keeps.knows (fact.IFlagged c) h)
+aside_knows_card a b c s (inr (inl h)) = inr (inl (s.view.keeps.knows (fact.DFlagged c) h))
+aside_knows_card a b c s (inr (inr h)) = inr (inr (s.view.keeps.knows (fact.Marked c) h))
+
+pub aside_sibling : (a b : PassModel) (c l s : ℕ) → StepsAside a b → IsSibling a.view c l s → IsSibling b.view c l s
+aside_sibling a b c l s e (inl h) = inl (e.view.keeps.told (Frozen c true s) h.0, h.1)
+aside_sibling a b c l s e (inr h) = inr (e.view.keeps.told (Frozen c true l) h.0, e.view.keeps.told _ h.1)
+
+pub aside_trans : (a b d : PassModel) → StepsAside a b → StepsAside b d → StepsAside a d
+aside_trans a b d h k = record {
+  table = k.table ∙ h.table;
+  view = record {
+    keeps = keeps_view_trans a.view b.view d.view h.view.keeps k.view.keeps;
+    search = k.view.search ∙ h.view.search;
+    filling = k.view.filling ∙ h.view.filling;
+    filled = k.view.filled ∙ h.view.filled;
+  };
+}
+
+-- a step to a view beside
+step_aside : (old new : PassModel) (v : View) → Steps old new v → Aside old.view v → StepsAside old new
+step_aside old new v s k = subst (λ (m : PassModel). StepsAside old m) (sym s) (record { table = refl; view = k })
+
+pub key_aside : (old new : PassModel) (x key : ℕ) → Steps old new (after_key_of x key old.view) → StepsAside old new
+key_aside old new x key s = step_aside old new (after_key_of x key old.view) s (record {
+  keeps = record { ledger = refl; operation = refl; card = refl; flagged = refl; knows = λ f h. h; told = λ e h. earlier e _ _ h };
+  search = refl;
+  filling = refl;
+  filled = refl;
+})
+
+told_info_more : (c : ℕ) (f : Field) (x : ℕ) (es : List Told) (e : Told) → Has es e → Has (told_info c f x es) e
+told_info_more c field.Gp x es e h = earlier e _ _ (earlier e _ es h)
+told_info_more c field.P x es e h = earlier e _ _ (earlier e _ es h)
+told_info_more c field.L x es e h = earlier e _ _ (earlier e _ es h)
+told_info_more c field.Was x es e h = earlier e _ es h
+told_info_more c field.Key x es e h = earlier e _ es h
+told_info_more c field.Left x es e h = earlier e _ es h
+told_info_more c field.Right x es e h = earlier e _ es h
+told_info_more c field.Update x es e h = earlier e _ es h
+told_info_more c field.LeftLeafKey x es e h = earlier e _ es h
+told_info_more c field.RightLeafKey x es e h = earlier e _ es h
+
+info_latest : (c : ℕ) (f : Field) (x : ℕ) (es : List Told) → Has (told_info c f x es) (Info c f x)
+info_latest c field.Gp x es = latest _ _
+info_latest c field.P x es = latest _ _
+info_latest c field.L x es = latest _ _
+info_latest c field.Was x es = latest _ _
+info_latest c field.Key x es = latest _ _
+info_latest c field.Left x es = latest _ _
+info_latest c field.Right x es = latest _ _
+info_latest c field.Update x es = latest _ _
+info_latest c field.LeftLeafKey x es = latest _ _
+info_latest c field.RightLeafKey x es = latest _ _
+
+info_node : (c : ℕ) (f : Field) (x : ℕ) (es : List Told) → NamesNode f → Has (told_info c f x es) (Met x)
+info_node c field.Gp x es h = earlier _ _ _ (latest _ _)
+info_node c field.P x es h = earlier _ _ _ (latest _ _)
+info_node c field.L x es h = earlier _ _ _ (latest _ _)
+info_node c field.Was x es h = absurd h
+info_node c field.Key x es h = absurd h
+info_node c field.Left x es h = absurd h
+info_node c field.Right x es h = absurd h
+info_node c field.Update x es h = absurd h
+info_node c field.LeftLeafKey x es h = absurd h
+info_node c field.RightLeafKey x es h = absurd h
+
+pub info_aside : (old new : PassModel) (c : ℕ) (f : Field) (x : ℕ) → Steps old new (after_info c f x old.view) → StepsAside old new
+info_aside old new c f x s = step_aside old new (after_info c f x old.view) s (record {
+  keeps = record { ledger = refl; operation = refl; card = refl; flagged = refl; knows = λ g h. h; told = told_info_more c f x old.view.told };
+  search = refl;
+  filling = refl;
+  filled = refl;
+})
+
+pub info_told : (old new : PassModel) (c : ℕ) (f : Field) (x : ℕ) → Steps old new (after_info c f x old.view) → IsTold new.view (Info c f x)
+info_told old new c f x s = subst (λ (w : View). IsTold w (Info c f x)) (sym (view_after old new (after_info c f x old.view) s)) (info_latest c f x old.view.told)
+
+pub info_met : (old new : PassModel) (c : ℕ) (f : Field) (x : ℕ) → Steps old new (after_info c f x old.view) → NamesNode f → IsTold new.view (Met x)
+info_met old new c f x s h = subst (λ (w : View). IsTold w (Met x)) (sym (view_after old new (after_info c f x old.view) s)) (info_node c f x old.view.told h)
+
+pub frozen_aside : (old new : PassModel) (c : ℕ) (right : Bool) (x : ℕ) → Steps old new (after_frozen_child c right x old.view) → StepsAside old new
+frozen_aside old new c right x s = step_aside old new (after_frozen_child c right x old.view) s (record {
+  keeps = record { ledger = refl; operation = refl; card = refl; flagged = refl; knows = λ f h. h; told = λ e h. earlier e _ _ (earlier e _ _ h) };
+  search = refl;
+  filling = refl;
+  filled = refl;
+})
+
+pub frozen_child_told : (old new : PassModel) (c : ℕ) (right : Bool) (x : ℕ) → Steps old new (after_frozen_child c right x old.view) → IsTold new.view (Frozen c right x)
+frozen_child_told old new c right x s = (frozen_told old new c right x s).0
+
+pub frozen_child_met : (old new : PassModel) (c : ℕ) (right : Bool) (x : ℕ) → Steps old new (after_frozen_child c right x old.view) → IsTold new.view (Met x)
+frozen_child_met old new c right x s = (frozen_told old new c right x s).1
+
+-- a step that teaches a fact
+pub learn_aside : (old new : PassModel) (f : Fact) (n : ℕ) → Steps old new (with_found n (learning f old.view)) → StepsAside old new
+learn_aside old new f n s = step_aside old new (with_found n (learning f old.view)) s (record {
+  keeps = with_found_kept n old.view (learning f old.view) (learning_kept f old.view);
+  search = refl;
+  filling = refl;
+  filled = refl;
+})
+
+-- a mark, won or lost
+pub mark_aside : (old new : PassModel) (n : ℕ) (won : Bool) (c x : ℕ) (u : Update) → Steps old new (with_found n (after_mark won c x u old.view)) → StepsAside old new
+mark_aside old new n won c x u s = step_aside old new (with_found n (after_mark won c x u old.view)) s (record {
+  keeps = with_found_kept n old.view (after_mark won c x u old.view) (mark_kept won c x u old.view);
+  search = same_search won;
+  filling = same_filling won;
+  filled = same_filled won;
+})
+  where
+    same_search : (b : Bool) → (after_mark b c x u old.view).worker.search ≡ old.view.worker.search
+    same_search true = refl
+    same_search false = by (is_mark_of c u.state u.card)
+      where
+        by : (b : Bool) → (if b then learning (fact.Marked c) old.view else unmarking c x u old.view).worker.search ≡ old.view.worker.search
+        by true = refl
+        by false = refl
+
+    same_filling : (b : Bool) → (after_mark b c x u old.view).filling ≡ old.view.filling
+    same_filling true = refl
+    same_filling false = by (is_mark_of c u.state u.card)
+      where
+        by : (b : Bool) → (if b then learning (fact.Marked c) old.view else unmarking c x u old.view).filling ≡ old.view.filling
+        by true = refl
+        by false = refl
+
+    same_filled : (b : Bool) → (after_mark b c x u old.view).filled ≡ old.view.filled
+    same_filled true = refl
+    same_filled false = by (is_mark_of c u.state u.card)
+      where
+        by : (b : Bool) → (if b then learning (fact.Marked c) old.view else unmarking c x u old.view).filled ≡ old.view.filled
+        by true = refl
+        by false = refl
+
+-- the claim word was read, and the claim was lost
+pub next_aside : (old new : PassModel) (n : ℕ) → Steps old new (after_next n old.view) → StepsAside old new
+next_aside old new n s = step_aside old new (after_next n old.view) s (record {
+  keeps = record { ledger = refl; operation = refl; card = refl; flagged = refl; knows = λ f h. h; told = λ e h. h };
+  search = refl;
+  filling = refl;
+  filled = refl;
+})
+
+pub lost_claim_aside : (old new : PassModel) (c : ℕ) → Steps old new (after_claim false c old.view) → StepsAside old new
+lost_claim_aside old new c s = step_aside old new (after_claim false c old.view) s (record {
+  keeps = record { ledger = refl; operation = refl; card = refl; flagged = refl; knows = λ f h. h; told = λ e h. h };
+  search = refl;
+  filling = refl;
+  filled = refl;
+})

@@ -1,0 +1,252 @@
+use Rattle.std.proofs.Common.{◌≡◌, ℕ, ◌≤◌, ◌==◌, Bool, true, false, nat_le, if◌then◌else◌, List, ◌∷◌, Option, Some, None, IfSome, MatchBool, refl, sym, ◌∙◌, ap, subst, inl, inr}
+use Rattle.ell_ops.specs.declared.op.Op.{Op}
+use Rattle.ell_ops.specs.declared.op.Op.TheVariants.{Insert, Delete}
+use Rattle.ell_ops.specs.Meaning.{key_of}
+use Rattle.ell_word.specs.Node.{greatest_card, IsInternal}
+use Rattle.ell_word.specs.Word.{packed}
+use Rattle.ell_word.specs.declared.update.Update.{Update}
+use Rattle.ell_word.specs.declared.update.State.TheVariants as state
+use Rattle.ell_core.specs.declared.fact.Fact.{Fact}
+use Rattle.ell_core.specs.declared.fact.Fact.TheVariants as fact
+use Rattle.ell_core.specs.declared.field.Field.{Field}
+use Rattle.ell_core.specs.declared.view.Search.{Search}
+use Rattle.ell_core.specs.declared.view.WorkerView.{WorkerView}
+use Rattle.std.proofs.lemmas.List.Elements.{All-replicate}
+use Rattle.ell_core.specs.state.Facts.{told_by_state}
+use Rattle.ell_core.specs.acts.Searching.{IsLeaf, leaf_answer}
+use Rattle.ell_cards.specs.declared.view.Told.TheVariants.{Met}
+use Rattle.ell_cards.specs.declared.view.View.{View}
+use Rattle.ell_cards.specs.Models.{PassModel, TableModel, Steps, IsTold, Knows}
+use Rattle.ell_cards.specs.Changes.{after_begin, after_upd, after_key_of, after_next, after_claim, after_flag, after_mark, is_mark_of, learning, unmarking, with_found}
+use Rattle.ell_cards.specs.Guards.{MayStop, MayGoDown, MayAnswer, MayDFlag, IsFilled}
+use Rattle.ell_cards.specs.Calls.{TellsLeaf}
+use Rattle.ell_cards_tests.specs.declared.memory.Memory.{Memory}
+use Rattle.ell_cards_tests.specs.declared.searching.Passed.{Passed}
+use Rattle.ell_cards_tests.specs.Places.{seen, seen_any}
+use Rattle.ell_cards_tests.specs.Tries.{with_stores}
+use Rattle.ell_cards_tests.specs.Remembering.{KnowsAny, KnowsAll, KnowsLostMark}
+use Rattle.ell_cards_tests.specs.Fitting.{Fits, IsIdle, IsNothing, IsReady, MayStopBy, ClaimsAt, StepsAside, packed_any, root_memory, ended_search}
+use Rattle.ell_cards_tests.proofs.Keepings.{view_after, knows_new, facts_by_more}
+use Rattle.ell_cards_tests.proofs.Descents.{told_here, ends_at}
+use Rattle.ell_cards_tests.proofs.Asides.{mark_aside}
+use Rattle.ell_cards_tests.proofs.Fittings.{fits_aside, fits_known, fits_root, fits_claimed, fits_flag_won, fits_flag_lost, facts_by_new}
+
+pub ready_aside : (t : TableModel) (a b : PassModel) (m : Memory) → IsReady t a m → StepsAside a b → IsReady t b m
+ready_aside t a b m h s = record { own = s.table ∙ h.own; limit = h.limit; fits = fits_aside a.view b.view m h.fits s.view }
+
+-- a step to a view that fits what is remembered now
+pub ready_step : (t : TableModel) (a b : PassModel) (m n k : Memory) (v : View) → IsReady t a m → Steps a b v → n ≡ k → Fits v k → IsReady t b n
+ready_step t a b m n k v h s e fits = record {
+  own = ap (λ (p : PassModel). p.table) s ∙ h.own;
+  limit = h.limit;
+  fits = subst (λ (w : View). Fits w n) (sym (ap (λ (p : PassModel). p.view) s)) (subst (Fits v) (sym e) fits);
+}
+
+-- a fact that is known is remembered
+pub ready_known : (t : TableModel) (a : PassModel) (m n : Memory) (o : Option Fact) → IsReady t a m → n ≡ record m { known = n.known; turn = n.turn }
+    → ((v : View) → KnowsAll v m.known → KnowsAny v o → KnowsAll v n.known) → KnowsAny a.view o → IsReady t a n
+ready_known t a m n o h e more known = record {
+  own = h.own;
+  limit = h.limit;
+  fits = fits_known a.view m n h.fits e (more a.view h.fits.knows known);
+}
+
+-- what an update that was read tells is known
+pub update_known : (a b : PassModel) (x : ℕ) (u : Update) (o : Option Fact) → Steps a b (after_upd x u a.view) → o ≡ told_by_state u.state u.card → KnowsAny b.view o
+update_known a b x u o s e =
+    subst (KnowsAny b.view) (sym e) (facts_by_new u.state u.card a.view.worker.facts b.view (ap (λ (v : View). v.worker.facts) (view_after a b (after_upd x u a.view) s)))
+
+pub ready_again : (t : TableModel) (a b : PassModel) (m n : Memory) (op : Op) → IsReady t a m → m.op ≡ Some op → Steps a b (after_begin a.view.worker.operation a.view)
+    → n ≡ root_memory (Some op) m → IsReady t b n
+ready_again t a b m n op h busy s e =
+    ready_step t a b m n (root_memory (Some op) m) (after_begin a.view.worker.operation a.view) h s e
+    (subst (λ (o : Option Op). Fits (after_begin o a.view) (root_memory (Some op) m)) (sym (h.fits.operation ∙ busy)) (fits_root a.view m (Some op) h.fits.knows))
+
+-- where the card in hand, if it is flagged, is remembered backed, the operation may stop
+pub may_stop_by : (v : View) (m : Memory) (op : Op) → Fits v m → m.op ≡ Some op → MayStopBy m → MayStop v
+may_stop_by v m op h busy stops = record {
+  op = op;
+  busy = h.operation ∙ busy;
+  backed = λ c holds flagged. stops v h.knows c (sym h.card ∙ holds) (sym h.flagged ∙ flagged);
+}
+
+pub may_go_down_by : (a b : PassModel) (m : Memory) (op : Op) (x : ℕ) (u : Update) (key k : ℕ) → Fits a.view m → Steps a b (after_key_of x key a.view)
+    → m.op ≡ Some op → m.node ≡ Some x → m.read ≡ Some u → IsInternal x → k ≡ key_of op → MayGoDown b.view x (nat_le key k)
+may_go_down_by a b m op x u key k h s busy at read inner same =
+    let stands = ap (λ (z : Search). z.node) h.search ∙ at in
+    subst (λ (w : View). MayGoDown w x (nat_le key k)) (sym (view_after a b (after_key_of x key a.view) s)) (record {
+      op = op;
+      word = packed u;
+      key = key;
+      busy = h.operation ∙ busy;
+      stands = stands;
+      inner = inner;
+      read = ap (λ (z : Search). z.read) h.search ∙ ap packed_any read;
+      told = told_here a.view.worker.search.node a.view.here x key stands;
+      side = ap (nat_le key) same;
+    })
+
+-- the answer at a leaf, if there is one
+pub leaf_may : (a b : PassModel) (m : Memory) (op : Op) (x key k : ℕ) (o : Option Bool) → Fits a.view m → Steps a b (after_key_of x key a.view)
+    → m.op ≡ Some op → m.node ≡ Some x → IsLeaf x → k ≡ key_of op → o ≡ leaf_answer op (key == k) → IfSome o (λ said. MayAnswer b.view said)
+leaf_may a b m op x key k None h s busy at outer same e = tt
+leaf_may a b m op x key k (Some said) h s busy at outer same e =
+    let stands = ap (λ (z : Search). z.node) h.search ∙ at in
+    subst (λ (w : View). MayAnswer w said) (sym (view_after a b (after_key_of x key a.view) s)) (record {
+      op = op;
+      busy = h.operation ∙ busy;
+      answers = inl (record {
+        leaf = x;
+        key = key;
+        stands = stands;
+        outer = outer;
+        told = told_here a.view.worker.search.node a.view.here x key stands;
+        says = sym (e ∙ ap (λ (j : ℕ). leaf_answer op (key == j)) same);
+      });
+    })
+
+pub may_dflag_by : (v : View) (m : Memory) (k l c : ℕ) (parent above : Passed) → Fits v m → m.op ≡ Some (Delete k) → m.node ≡ Some l → m.parent ≡ Some parent
+    → m.grandparent ≡ Some above → m.card ≡ Some c → m.flagged ≡ false → MayDFlag v c above.node above.update
+may_dflag_by v m k l c parent above h busy at behind up holds unflagged = record {
+  key = k;
+  leaf = l;
+  parent = seen parent;
+  busy = h.operation ∙ busy;
+  may = record { holds = h.card ∙ holds; unflagged = h.flagged ∙ unflagged };
+  stands = ap (λ (z : Search). z.node) h.search ∙ at;
+  behind = ap (λ (z : Search). z.parent) h.search ∙ ap seen_any behind;
+  above = ap (λ (z : Search). z.grandparent) h.search ∙ ap seen_any up;
+  filled = h.filled c holds unflagged;
+}
+
+-- a flag that was won, and one that was lost
+pub ready_won : (t : TableModel) (a b : PassModel) (m n k : Memory) (f : Fact) (w x : ℕ) (u : Update) (ok : Bool) → IsReady t a m
+    → Steps a b (with_found w (after_flag ok f x u a.view)) → ok ≡ true → n ≡ ended_search true m → k ≡ record n { known = k.known; turn = k.turn }
+    → ((v : View) → KnowsAll v n.known → KnowsAny v (Some f) → KnowsAll v k.known) → IsReady t b k
+ready_won t a b m n k f w x u ok h s won e rest more =
+    let s' = subst (λ (o : Bool). Steps a b (with_found w (after_flag o f x u a.view))) won s in
+    ready_known t b n k (Some f)
+    (ready_step t a b m n (ended_search true m) (with_found w (after_flag true f x u a.view)) h s' e (fits_flag_won a.view m w f x u h.fits)) rest more
+    (subst (λ (v : View). Knows v f) (sym (view_after a b (with_found w (after_flag true f x u a.view)) s')) (knows_new f a.view.worker.facts))
+
+pub ready_lost : (t : TableModel) (a b : PassModel) (m n k : Memory) (f : Fact) (o : Option Fact) (w x : ℕ) (u : Update) (ok : Bool) → IsReady t a m
+    → Steps a b (with_found w (after_flag ok f x u a.view)) → ok ≡ false → n ≡ ended_search false m → k ≡ record n { known = k.known; turn = k.turn }
+    → ((v : View) → KnowsAll v n.known → KnowsAny v o → KnowsAll v k.known) → o ≡ told_by_state u.state u.card → IsReady t b k
+ready_lost t a b m n k f o w x u ok h s lost e rest more told =
+    let s' = subst (λ (z : Bool). Steps a b (with_found w (after_flag z f x u a.view))) lost s in
+    ready_known t b n k o
+    (ready_step t a b m n (ended_search false m) (with_found w (after_flag false f x u a.view)) h s' e (fits_flag_lost a.view m w f x u h.fits)) rest more
+    (subst (KnowsAny b.view) (sym told)
+    (facts_by_new u.state u.card a.view.worker.facts b.view (ap (λ (v : View). v.worker.facts) (view_after a b (with_found w (after_flag false f x u a.view)) s'))))
+
+-- a card that is claimed and filled
+pub ready_claimed : (t : TableModel) (a b d : PassModel) (m : Memory) (c : ℕ) (stores : List (Field × ℕ)) → IsReady t a m → b.table ≡ a.table → d.table ≡ b.table
+    → b.view ≡ after_claim true c (after_next c a.view) → d.view ≡ with_stores stores b.view → IsFilled d.view → IsReady t d (record m { card = Some c; flagged = false })
+ready_claimed t a b d m c stores h own own' taken stored filled =
+    let same = stored ∙ ap (with_stores stores) taken in
+    record {
+      own = own' ∙ (own ∙ h.own);
+      limit = h.limit;
+      fits = subst (λ (w : View). Fits w (record m { card = Some c; flagged = false })) (sym same)
+          (fits_claimed a.view m c stores h.fits (subst IsFilled same filled));
+    }
+
+if_some : (o : Option Passed) (P : Passed → Type 0) → ((x : Passed) → o ≡ Some x → P x) → IfSome o P
+if_some None P h = tt
+if_some (Some x) P h = h x refl
+
+-- the pass stands at a leaf behind a parent that was read clean
+pub claims_at : (a b : PassModel) (m : Memory) (op : Op) (x key : ℕ) (parent : Passed) → Fits a.view m → Steps a b (after_key_of x key a.view)
+    → m.op ≡ Some op → m.node ≡ Some x → m.read ≡ None → m.parent ≡ Some parent → m.card ≡ None → IsLeaf x → parent.update.state ≡ state.Clean
+    → parent.update.card ≤ greatest_card → TellsLeaf a.view x key
+    → ClaimsAt b.view op (record { leaf = x; key = key; parent = parent; grandparent = m.grandparent })
+claims_at a b m op x key parent h s busy at read behind no_card outer calm limit tells =
+    let same = h.search
+    ∙ (ap (λ (o : Option ℕ). record { node = o; read = packed_any m.read; parent = seen_any m.parent; grandparent = seen_any m.grandparent }) at
+    ∙ (ap (λ (o : Option Update). record { node = Some x; read = packed_any o; parent = seen_any m.parent; grandparent = seen_any m.grandparent }) read
+    ∙ ap (λ (o : Option Passed). record { node = Some x; read = None; parent = seen_any o; grandparent = seen_any m.grandparent }) behind)) in
+    subst (λ (w : View). ClaimsAt w op (record { leaf = x; key = key; parent = parent; grandparent = m.grandparent }))
+    (sym (view_after a b (after_key_of x key a.view) s)) (record {
+      ends = ends_at a.view op (record { leaf = x; key = key; parent = parent; grandparent = m.grandparent }) (h.operation ∙ busy) outer same
+          (h.met_parent parent behind) (if_some m.grandparent (λ y. IsTold a.view (Met y.node)) h.met_above) tells;
+      busy = h.operation ∙ busy;
+      no_card = h.card ∙ no_card;
+      calm = calm;
+      limit = limit;
+    })
+
+-- a mark that was won
+pub ready_marked : (t : TableModel) (a b : PassModel) (m n : Memory) (c x w : ℕ) (u : Update) (ok : Bool) → IsReady t a m
+    → Steps a b (with_found w (after_mark ok c x u a.view)) → ok ≡ true → n ≡ record m { known = n.known; turn = n.turn }
+    → ((v : View) → KnowsAll v m.known → KnowsAny v (Some (fact.Marked c)) → KnowsAll v n.known) → IsReady t b n
+ready_marked t a b m n c x w u ok h s won rest more =
+    let s' = subst (λ (o : Bool). Steps a b (with_found w (after_mark o c x u a.view))) won s in
+    ready_known t b m n (Some (fact.Marked c)) (ready_aside t a b m h (mark_aside a b w ok c x u s)) rest more
+    (subst (λ (v : View). Knows v (fact.Marked c)) (sym (view_after a b (with_found w (after_mark true c x u a.view)) s')) (knows_new (fact.Marked c) a.view.worker.facts))
+
+-- one that was lost tells of the card
+lost_mark_known : (v : View) (c x w : ℕ) (u : Update) → KnowsLostMark (with_found w (after_mark false c x u v)) c u
+lost_mark_known v c x w u = by (is_mark_of c u.state u.card)
+  where
+    by : (b : Bool) → (let v' : View = with_found w (if b then learning (fact.Marked c) v else unmarking c x u v) in
+        MatchBool b (Knows v' (fact.Marked c)) (Knows v' (fact.Unmarkable c) × KnowsAny v' (told_by_state u.state u.card)))
+    by true = knows_new (fact.Marked c) v.worker.facts
+    by false = (
+      facts_by_more u.state u.card (fact.Unmarkable c ∷ v.worker.facts) (fact.Unmarkable c) (knows_new (fact.Unmarkable c) v.worker.facts),
+      facts_by_new u.state u.card (fact.Unmarkable c ∷ v.worker.facts) (with_found w (unmarking c x u v)) refl,
+    )
+
+pub ready_lost_mark : (t : TableModel) (a b : PassModel) (m n : Memory) (c x w : ℕ) (u found : Update) (ok : Bool) → IsReady t a m
+    → Steps a b (with_found w (after_mark ok c x u a.view)) → ok ≡ false → u ≡ found → n ≡ record m { known = n.known; turn = n.turn }
+    → ((v : View) → KnowsAll v m.known → KnowsLostMark v c found → KnowsAll v n.known) → IsReady t b n
+ready_lost_mark t a b m n c x w u found ok h s lost same rest more =
+    let s' = subst (λ (o : Bool). Steps a b (with_found w (after_mark o c x u a.view))) lost s in
+    let r = ready_aside t a b m h (mark_aside a b w ok c x u s) in
+    let knows = subst (λ (v : View). KnowsLostMark v c u) (sym (view_after a b (with_found w (after_mark false c x u a.view)) s')) (lost_mark_known a.view c x w u) in
+    record {
+      own = r.own;
+      limit = r.limit;
+      fits = fits_known b.view m n r.fits rest (more b.view r.fits.knows (subst (KnowsLostMark b.view c) same knows));
+    }
+
+-- the answer by the card in hand, which is remembered over
+pub card_may_insert : (v : View) (m : Memory) (op : Op) (k c : ℕ) → op ≡ Insert k → m.card ≡ Some c → m.flagged ≡ true → (KnowsAll v m.known → Knows v (fact.IOver c))
+    → Fits v m → m.op ≡ Some op → MayAnswer v true
+card_may_insert v m op k c is holds flagged over h busy = record {
+  op = Insert k;
+  busy = h.operation ∙ (busy ∙ ap Some is);
+  answers = inr (record { card = c; holds = h.card ∙ holds; flagged = h.flagged ∙ flagged; over = over h.knows; yes = refl });
+}
+
+pub card_may_delete : (v : View) (m : Memory) (op : Op) (k c : ℕ) → op ≡ Delete k → m.card ≡ Some c → m.flagged ≡ true → (KnowsAll v m.known → Knows v (fact.DOver c))
+    → Fits v m → m.op ≡ Some op → MayAnswer v true
+card_may_delete v m op k c is holds flagged over h busy = record {
+  op = Delete k;
+  busy = h.operation ∙ (busy ∙ ap Some is);
+  answers = inr (record { card = c; holds = h.card ∙ holds; flagged = h.flagged ∙ flagged; over = over h.knows; yes = refl });
+}
+
+-- a pass with nothing in hand fits where nothing is remembered
+pub ready_idle : (t : TableModel) (p : PassModel) (m : Memory) → p.table ≡ t.id → t.cards ≤ greatest_card → IsIdle p.view → IsNothing m → IsReady t p m
+ready_idle t p m own limit idle e = record {
+  own = own;
+  limit = limit;
+  fits = subst (Fits p.view) (sym e) (record {
+    operation = ap (λ (w : WorkerView). w.operation) idle;
+    search = ap (λ (w : WorkerView). w.search) idle;
+    card = ap (λ (w : WorkerView). w.card) idle;
+    flagged = ap (λ (w : WorkerView). w.flagged) idle;
+    knows = All-replicate (KnowsAny p.view) 16 None tt;
+    met = λ x h. cc h;
+    met_parent = λ x h. cc h;
+    met_above = λ x h. cc h;
+    filled = λ c h g. cc h;
+  });
+}
+
+-- an operation is taken in hand, and what was known is forgotten
+pub ready_begun : (t : TableModel) (a b : PassModel) (m n k : Memory) (op : Op) → IsReady t a m → Steps a b (after_begin (Some op) a.view) → IsNothing k
+    → n ≡ root_memory (Some op) k → IsReady t b n
+ready_begun t a b m n k op h s nothing e =
+    ready_step t a b m n (root_memory (Some op) k) (after_begin (Some op) a.view) h s e
+    (fits_root a.view k (Some op) (subst (λ (j : Memory). KnowsAll a.view j.known) (sym nothing) (All-replicate (KnowsAny a.view) 16 None tt)))

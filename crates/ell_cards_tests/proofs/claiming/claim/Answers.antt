@@ -1,0 +1,42 @@
+use Rattle.std.proofs.Common.{◌≡◌, None, Some, ap, ◌∙◌, rules}
+use Rattle.ell_ops.specs.declared.op.Op.TheVariants.{Insert, Delete}
+use Rattle.ell_core.specs.acts.Searching.{IsLeaf}
+use Rattle.ell_word.specs.declared.update.State.TheVariants as state
+use Rattle.ell_cards_tests.proofs.Asides.{key_aside}
+use Rattle.ell_cards_tests.proofs.Readiness.{ready_aside, claims_at}
+use Rattle.ell_cards_tests.proofs.claiming.claim.Goals as goal
+
+pub claim_for_insert-requires-clause-ready : goal.claim_for_insert-requires-clause-ready
+claim_for_insert-requires-clause-ready c =
+    ready_aside c.args.table.now c.args.pass.now c.key_of-key.new.pass c.args.memory.now c.requires
+    (key_aside c.args.pass.now c.key_of-key.new.pass c.in_ok-leaf.leaf c.key_of-key.result c.key_of-key.ensures.step)
+
+pub claim_for_insert-requires-clause-at : goal.claim_for_insert-requires-clause-at
+claim_for_insert-requires-clause-at c =
+    let outer : IsLeaf c.in_ok-leaf.leaf = search rules in
+    let unread : c.args.memory.now.read ≡ None = search rules in
+    let no_card : c.args.memory.now.card ≡ None = search rules in
+    let calm : c.in_ok-parent.parent.update.state ≡ state.Clean = search rules in
+    claims_at c.args.pass.now c.key_of-key.new.pass c.args.memory.now (Insert c.in-Insert.key) c.in_ok-leaf.leaf c.key_of-key.result c.in_ok-parent.parent c.requires.fits
+    c.key_of-key.ensures.step (c.in_ok-op.was ∙ ap Some c.in-Insert.is) c.in_ok-leaf.was unread c.in_ok-parent.was no_card outer calm c.if-parent-gt-CARD_MAX.false
+    c.key_of-key.ensures.leaf
+
+pub claim_for_delete-requires-clause-ready : goal.claim_for_delete-requires-clause-ready
+claim_for_delete-requires-clause-ready c =
+    ready_aside c.args.table.now c.args.pass.now c.key_of-key.new.pass c.args.memory.now c.requires
+    (key_aside c.args.pass.now c.key_of-key.new.pass c.in_ok-leaf.leaf c.key_of-key.result c.key_of-key.ensures.step)
+
+pub claim_for_delete-requires-clause-at : goal.claim_for_delete-requires-clause-at
+claim_for_delete-requires-clause-at c =
+    let outer : IsLeaf c.in_ok-leaf.leaf = search rules in
+    let unread : c.args.memory.now.read ≡ None = search rules in
+    let no_card : c.args.memory.now.card ≡ None = search rules in
+    let calm : c.in_ok-parent.parent.update.state ≡ state.Clean = search rules in
+    claims_at c.args.pass.now c.key_of-key.new.pass c.args.memory.now (Delete c.in-Delete.key) c.in_ok-leaf.leaf c.key_of-key.result c.in_ok-parent.parent c.requires.fits
+    c.key_of-key.ensures.step (c.in_ok-op.was ∙ ap Some c.in-Delete.is) c.in_ok-leaf.was unread c.in_ok-parent.was no_card outer calm c.if-parent-gt-CARD_MAX.false
+    c.key_of-key.ensures.leaf
+
+pub returns-in-Find : goal.returns-in-Find
+returns-in-Find c =
+    ready_aside c.args.table.now c.args.pass.now c.key_of-key.new.pass c.args.memory.now c.requires
+    (key_aside c.args.pass.now c.key_of-key.new.pass c.in_ok-leaf.leaf c.key_of-key.result c.key_of-key.ensures.step)

@@ -1,0 +1,20 @@
+use Rattle.std.specs.Prelude.{ℕ, All, List, Option, Some, None, MatchBool}
+use Rattle.ell_word.specs.declared.update.Update.{Update}
+use Rattle.ell_core.specs.declared.fact.Fact.{Fact}
+use Rattle.ell_cards.specs.declared.view.View.{View}
+use Rattle.ell_cards.specs.Models.{Knows}
+use Rattle.ell_cards.specs.Changes.{is_mark_of}
+use Rattle.ell_core.specs.state.Facts.{told_by_state}
+use Rattle.ell_core.specs.declared.fact.Fact.TheVariants.{Marked, Unmarkable}
+
+-- the pass knows a fact, if there is one
+abbrev pub KnowsAny : View → Option Fact → Type 0
+KnowsAny v None = Unit {0}
+KnowsAny v (Some f) = Knows v f
+
+abbrev pub KnowsAll : View → List (Option Fact) → Type 0
+KnowsAll v facts = All (KnowsAny v) facts
+
+-- what a lost mark tells that found an update: the card's own mark, or that the card is unmarkable, and what the update tells
+abbrev pub KnowsLostMark : View → ℕ → Update → Type 0
+KnowsLostMark v c u = MatchBool (is_mark_of c u.state u.card) (Knows v (Marked c)) (Knows v (Unmarkable c) × KnowsAny v (told_by_state u.state u.card))

@@ -1,0 +1,56 @@
+//! Steps beside the search that read.
+ghost use Rattle.std.specs.Prelude.{◌≡◌};
+ghost use Rattle.ell_cards.specs.declared.view.Told.TheVariants.{Met, Key, Info, Frozen};
+ghost use Rattle.ell_cards.specs.Models.{IsTold};
+ghost use Rattle.ell_cards.specs.Guards.{MayAsk, MaySee};
+ghost use Rattle.ell_cards_tests.specs.Fitting.{NamesNode, StepsAside};
+
+use ell_cards::{CardTable, Pass};
+use ell_core::Field;
+use std::alloc::Global;
+
+#[tactic(auto, using(crate::proofs::Asides::key_aside, crate::proofs::Keepings::key_told))]
+/// Reads the key of a node that the pass has met.
+pub(crate) fn look_key(table: &CardTable<Global>, pass: &mut Pass<Global>, node: u64) -> u64
+    requires own { pass.old.table ≡ table.now.id }
+    requires met { IsTold pass.old.view (Met node) }
+    ensures aside { StepsAside pass.old pass.new }
+    ensures told { IsTold pass.new.view (Key node result) }
+{
+    table.key_of(pass, node)
+}
+
+#[tactic(auto, using(crate::proofs::Asides::info_aside, crate::proofs::Asides::info_told, crate::proofs::Asides::info_met))]
+/// Reads a word of a card that the pass knows flagged or marked.
+pub(crate) fn look_info(
+    table: &CardTable<Global>,
+    pass: &mut Pass<Global>,
+    card: u64,
+    field: Field,
+) -> u64
+    requires own { pass.old.table ≡ table.now.id }
+    requires may { MayAsk pass.old.view card field }
+    ensures aside { StepsAside pass.old pass.new }
+    ensures told { IsTold pass.new.view (Info card field result) }
+    ensures met { NamesNode field → IsTold pass.new.view (Met result) }
+{
+    table.info(pass, card, field)
+}
+
+#[tactic(auto, using(crate::proofs::Asides::frozen_aside, crate::proofs::Asides::frozen_child_told, crate::proofs::Asides::frozen_child_met))]
+/// Reads a child of the parent that a card has marked.
+pub(crate) fn look_child(
+    table: &CardTable<Global>,
+    pass: &mut Pass<Global>,
+    card: u64,
+    parent: u64,
+    right: bool,
+) -> u64
+    requires own { pass.old.table ≡ table.now.id }
+    requires may { MaySee pass.old.view card parent }
+    ensures aside { StepsAside pass.old pass.new }
+    ensures told { IsTold pass.new.view (Frozen card right result) }
+    ensures met { IsTold pass.new.view (Met result) }
+{
+    table.frozen_child(pass, card, parent, right)
+}

@@ -1,0 +1,170 @@
+//! The acts by which an operation takes a card and sets its flag, each where what it needs is remembered.
+ghost use Rattle.std.specs.Prelude.{◌≡◌, ◌≤◌, None, Some};
+ghost use Rattle.ell_ops.specs.declared.op.Op.TheVariants.{Insert, Delete};
+ghost use Rattle.ell_word.specs.Node.{greatest_card};
+ghost use Rattle.ell_word.specs.declared.update.State.TheVariants.{Clean};
+ghost use Rattle.ell_cards_tests.specs.Fitting.{ClaimsAt, IsReady, ended_search};
+
+use crate::deleting::{calm_grandparent, fill_delete};
+use crate::inserting::fill_insert;
+use crate::memory::{Memory, fact_of, remember};
+use crate::searching::Place;
+use crate::trying::take_card;
+use ell_cards::{CardTable, Pass};
+use ell_core::{Fact, Stepped};
+use ell_ops::Op;
+use ell_word::{CARD_MAX, State, is_internal};
+use std::alloc::Global;
+
+/// Takes the next card and fills it, where the pass stands at a leaf behind a parent that was read clean.
+pub(crate) fn claim(
+    table: &CardTable<Global>,
+    pass: &mut Pass<Global>,
+    memory: &mut Memory,
+) -> Option<Stepped>
+    requires { IsReady table.now pass.old memory.old }
+    ensures { IsReady table.now pass.new memory.new }
+{
+    let op = memory.op?;
+    let leaf = memory.node?;
+    let parent = memory.parent?;
+    if is_internal(leaf) || memory.read.is_some() || memory.card.is_some() {
+        return None;
+    }
+    if parent.update.state != State::Clean || parent.update.card > CARD_MAX {
+        return None;
+    }
+    let key = table.key_of(pass, leaf);
+    let place = Place {
+        leaf,
+        key,
+        parent,
+        grandparent: memory.grandparent,
+    };
+    match op {
+        Op::Find(_) => None,
+        Op::Insert(key) => claim_for_insert(table, pass, memory, key, place),
+        Op::Delete(key) => claim_for_delete(table, pass, memory, key, place),
+    }
+}
+
+fn claim_for_insert(
+    table: &CardTable<Global>,
+    pass: &mut Pass<Global>,
+    memory: &mut Memory,
+    key: u64,
+    place: Place,
+) -> Option<Stepped>
+    requires ready { IsReady table.now pass.old memory.old }
+    requires at { ClaimsAt pass.old.view (Insert key) place }
+    ensures { IsReady table.now pass.new memory.new }
+{
+    if place.key == key {
+        return None;
+    }
+    let card = take_card(table, pass, table.cards(), Op::Insert(key), place)?;
+    fill_insert(table, pass, card, key, place);
+    memory.card = Some(card);
+    memory.flagged = false;
+    Some(Stepped::Moved)
+}
+
+fn claim_for_delete(
+    table: &CardTable<Global>,
+    pass: &mut Pass<Global>,
+    memory: &mut Memory,
+    key: u64,
+    place: Place,
+) -> Option<Stepped>
+    requires ready { IsReady table.now pass.old memory.old }
+    requires at { ClaimsAt pass.old.view (Delete key) place }
+    ensures { IsReady table.now pass.new memory.new }
+{
+    if place.key != key {
+        return None;
+    }
+    let above = calm_grandparent(place)?;
+    let card = take_card(table, pass, table.cards(), Op::Delete(key), place)?;
+    fill_delete(table, pass, card, above.node, place);
+    memory.card = Some(card);
+    memory.flagged = false;
+    Some(Stepped::Moved)
+}
+
+// The search stands nowhere, and the card in hand is flagged, or laid aside.
+fn end_search(memory: &mut Memory, won: bool)
+    ensures { memory.new ≡ ended_search won memory.old }
+{
+    memory.node = None;
+    memory.read = None;
+    memory.flagged = won;
+    if !won {
+        memory.card = None;
+    }
+}
+
+/// Flags the parent for the insert whose card is in hand.
+pub(crate) fn iflag(
+    table: &CardTable<Global>,
+    pass: &mut Pass<Global>,
+    memory: &mut Memory,
+) -> Option<Stepped>
+    requires { IsReady table.now pass.old memory.old }
+    ensures { IsReady table.now pass.new memory.new }
+{
+    let Some(Op::Insert(_)) = memory.op else {
+        return None;
+    };
+    let _ = memory.node?;
+    let parent = memory.parent?;
+    let card = memory.card?;
+    if memory.flagged {
+        return None;
+    }
+    match table.iflag(pass, card, parent.node, parent.update) {
+        Ok(()) => {
+            end_search(memory, true);
+            remember(memory, Some(Fact::IFlagged(card)));
+            Some(Stepped::Won)
+        }
+        Err(found) => {
+            end_search(memory, false);
+            remember(memory, fact_of(found));
+            Some(Stepped::Lost)
+        }
+    }
+}
+
+/// Flags the grandparent for the delete whose card is in hand.
+pub(crate) fn dflag(
+    table: &CardTable<Global>,
+    pass: &mut Pass<Global>,
+    memory: &mut Memory,
+) -> Option<Stepped>
+    requires { IsReady table.now pass.old memory.old }
+    ensures { IsReady table.now pass.new memory.new }
+{
+    let op = memory.op?;
+    let Op::Delete(_) = op else {
+        return None;
+    };
+    let _ = memory.node?;
+    let _ = memory.parent?;
+    let above = memory.grandparent?;
+    let card = memory.card?;
+    if memory.flagged {
+        return None;
+    }
+    match table.dflag(pass, card, above.node, above.update) {
+        Ok(()) => {
+            end_search(memory, true);
+            remember(memory, Some(Fact::DFlagged(card)));
+            Some(Stepped::Won)
+        }
+        Err(found) => {
+            end_search(memory, false);
+            remember(memory, fact_of(found));
+            Some(Stepped::Lost)
+        }
+    }
+}

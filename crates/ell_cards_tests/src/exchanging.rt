@@ -1,0 +1,149 @@
+//! The acts that exchange for a card, each where what it needs is remembered.
+ghost use Rattle.std.specs.Prelude.{◌≡◌};
+ghost use Rattle.ell_cards.specs.declared.view.View.{View};
+ghost use Rattle.ell_cards_tests.specs.Fitting.{IsReady};
+ghost use Rattle.ell_cards_tests.specs.Remembering.{KnowsAll, KnowsLostMark};
+
+use crate::asking::look_info;
+use crate::deleting::is_mark;
+use crate::helping::{change_child, clear_delete, clear_insert, cut_parent, go_back};
+use crate::memory::{Memory, fact_of, remember, remembers};
+use ell_cards::{CardTable, Pass};
+use ell_core::{Fact, Field, Stepped};
+use ell_word::Update;
+use std::alloc::Global;
+
+// An exchange that was won or lost.
+fn won_or_lost(won: bool) -> Stepped {
+    if won { Stepped::Won } else { Stepped::Lost }
+}
+
+/// Makes the child exchange of an insert.
+pub(crate) fn ichild(
+    table: &CardTable<Global>,
+    pass: &mut Pass<Global>,
+    memory: &mut Memory,
+    card: u64,
+) -> Option<Stepped>
+    requires { IsReady table.now pass.old memory.old }
+    ensures { IsReady table.now pass.new memory.new }
+{
+    if !remembers(memory, Fact::IFlagged(card)) {
+        return None;
+    }
+    let won = change_child(table, pass, card);
+    remember(memory, Some(Fact::IChanged(card)));
+    Some(won_or_lost(won))
+}
+
+/// Takes an insert's flag away.
+pub(crate) fn iunflag(
+    table: &CardTable<Global>,
+    pass: &mut Pass<Global>,
+    memory: &mut Memory,
+    card: u64,
+) -> Option<Stepped>
+    requires { IsReady table.now pass.old memory.old }
+    ensures { IsReady table.now pass.new memory.new }
+{
+    if !remembers(memory, Fact::IFlagged(card)) || !remembers(memory, Fact::IChanged(card)) {
+        return None;
+    }
+    let won = clear_insert(table, pass, card);
+    remember(memory, Some(Fact::IOver(card)));
+    Some(won_or_lost(won))
+}
+
+/// Makes the child exchange of a delete.
+pub(crate) fn dchild(
+    table: &CardTable<Global>,
+    pass: &mut Pass<Global>,
+    memory: &mut Memory,
+    card: u64,
+) -> Option<Stepped>
+    requires { IsReady table.now pass.old memory.old }
+    ensures { IsReady table.now pass.new memory.new }
+{
+    if !remembers(memory, Fact::Marked(card)) {
+        return None;
+    }
+    let won = cut_parent(table, pass, card);
+    remember(memory, Some(Fact::Cut(card)));
+    Some(won_or_lost(won))
+}
+
+/// Takes a delete's flag away after its child exchange.
+pub(crate) fn dunflag(
+    table: &CardTable<Global>,
+    pass: &mut Pass<Global>,
+    memory: &mut Memory,
+    card: u64,
+) -> Option<Stepped>
+    requires { IsReady table.now pass.old memory.old }
+    ensures { IsReady table.now pass.new memory.new }
+{
+    if !remembers(memory, Fact::Marked(card)) || !remembers(memory, Fact::Cut(card)) {
+        return None;
+    }
+    let won = clear_delete(table, pass, card);
+    remember(memory, Some(Fact::DOver(card)));
+    Some(won_or_lost(won))
+}
+
+/// Takes a delete's flag away after its lost mark.
+pub(crate) fn backtrack(
+    table: &CardTable<Global>,
+    pass: &mut Pass<Global>,
+    memory: &mut Memory,
+    card: u64,
+) -> Option<Stepped>
+    requires { IsReady table.now pass.old memory.old }
+    ensures { IsReady table.now pass.new memory.new }
+{
+    if !remembers(memory, Fact::DFlagged(card)) || !remembers(memory, Fact::Unmarkable(card)) {
+        return None;
+    }
+    let won = go_back(table, pass, card);
+    remember(memory, Some(Fact::Backed(card)));
+    Some(won_or_lost(won))
+}
+
+/// Marks the parent of a delete.
+pub(crate) fn mark(
+    table: &CardTable<Global>,
+    pass: &mut Pass<Global>,
+    memory: &mut Memory,
+    card: u64,
+) -> Option<Stepped>
+    requires { IsReady table.now pass.old memory.old }
+    ensures { IsReady table.now pass.new memory.new }
+{
+    if !remembers(memory, Fact::DFlagged(card)) {
+        return None;
+    }
+    let parent = look_info(table, pass, card, Field::P);
+    let was = look_info(table, pass, card, Field::Was);
+    match table.mark(pass, card, parent, was) {
+        Ok(()) => {
+            remember(memory, Some(Fact::Marked(card)));
+            Some(Stepped::Won)
+        }
+        Err(found) => {
+            learn_lost_mark(memory, card, found);
+            Some(Stepped::Lost)
+        }
+    }
+}
+
+// What a lost mark found is remembered: the card's own mark, or that the card is unmarkable, and what the update tells.
+fn learn_lost_mark(memory: &mut Memory, card: u64, found: Update)
+    ensures rest { memory.new ≡ record (memory.old) { known = memory.new.known; turn = memory.new.turn } }
+    ensures known { (v : View) → KnowsAll v memory.old.known → KnowsLostMark v card found → KnowsAll v memory.new.known }
+{
+    if is_mark(card, found) {
+        remember(memory, Some(Fact::Marked(card)));
+    } else {
+        remember(memory, Some(Fact::Unmarkable(card)));
+        remember(memory, fact_of(found));
+    }
+}

@@ -1,0 +1,78 @@
+//! What a stepper remembers of its pass, to show when it runs what a step call asks.
+ghost use Rattle.std.specs.Prelude.{◌≡◌, IsTrue};
+ghost use Rattle.ell_core.specs.state.Facts.{told_by_state};
+ghost use Rattle.ell_cards.specs.declared.view.View.{View};
+ghost use Rattle.ell_cards.specs.Models.{Knows};
+ghost use Rattle.ell_cards_tests.specs.Fitting.{IsNothing};
+ghost use Rattle.ell_cards_tests.specs.Remembering.{KnowsAll, KnowsAny};
+
+use crate::searching::Passed;
+use ell_core::Fact;
+use ell_ops::Op;
+use ell_word::{State, Update};
+
+/// How many facts are remembered, the latest ones.
+const FACTS: usize = 16;
+
+/// What is remembered of a pass: operation, search, card in hand, and the latest facts that it learnt.
+#[derive(Clone, Copy, Debug, PartialEq, Eq, Hash)]
+pub struct Memory {
+    pub op: Option<Op>,
+    pub node: Option<u64>,
+    pub read: Option<Update>,
+    pub parent: Option<Passed>,
+    pub grandparent: Option<Passed>,
+    pub card: Option<u64>,
+    pub flagged: bool,
+    pub known: [Option<Fact>; 16],
+    pub turn: usize,
+}
+
+/// What is remembered of a pass with nothing in hand.
+pub fn nothing() -> Memory
+    ensures { IsNothing result }
+{
+    Memory {
+        op: None,
+        node: None,
+        read: None,
+        parent: None,
+        grandparent: None,
+        card: None,
+        flagged: false,
+        known: [None; 16],
+        turn: 0,
+    }
+}
+
+/// Remembers a fact, if there is one that is not remembered yet, in place of the oldest.
+pub(crate) fn remember(memory: &mut Memory, fact: Option<Fact>)
+    ensures rest { memory.new ≡ record (memory.old) { known = memory.new.known; turn = memory.new.turn } }
+    ensures known { (v : View) → KnowsAll v memory.old.known → KnowsAny v fact → KnowsAll v memory.new.known }
+{
+    if memory.known.iter().any(|known| *known == fact) {
+        return;
+    }
+    let turn = memory.turn % FACTS;
+    memory.known[turn] = fact;
+    memory.turn = turn + 1;
+}
+
+/// Whether a fact is remembered.
+pub(crate) fn remembers(memory: &Memory, fact: Fact) -> bool
+    ensures { (v : View) → KnowsAll v memory.now.known → IsTrue result → Knows v fact }
+{
+    memory.known.iter().any(|known| *known == Some(fact))
+}
+
+/// The fact that an update tells: a flag or a mark that of its card, a clean one none.
+pub(crate) fn fact_of(update: Update) -> Option<Fact>
+    ensures { result ≡ told_by_state update.state update.card }
+{
+    match update.state {
+        State::IFlag => Some(Fact::IFlagged(update.card)),
+        State::DFlag => Some(Fact::DFlagged(update.card)),
+        State::Mark => Some(Fact::Marked(update.card)),
+        State::Clean => None,
+    }
+}

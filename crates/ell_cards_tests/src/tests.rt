@@ -1,0 +1,8 @@
+//! Tables as a person worked them out.
+mod lifetimes;
+mod meeting;
+mod playing;
+mod random_schedules;
+mod schedules;
+mod searches;
+mod threads;

@@ -1,0 +1,280 @@
+//! 100,000 pseudo-random acts of four passes of a table, and of four workers of a world beside it.
+ghost use Rattle.std.specs.Prelude.{◌≡◌, ◌≤◌, ◌<◌, IfOk};
+ghost use Rattle.ell_word.specs.Node.{greatest_card};
+ghost use Rattle.ell_cards.specs.Models.{IsFree};
+ghost use Rattle.ell_cards_tests.specs.Fitting.{IsIdle, IsReady};
+
+use super::playing::same_words;
+use crate::memory::{Memory, nothing};
+use crate::step;
+use ell_cards::{CardTable, Pass};
+use ell_core::Act::{
+    Again, Answer, Backtrack, Begin, Claim, DChild, DFlag, DUnflag, Down, IChild, IFlag, IUnflag,
+    Leave, Mark, Upd,
+};
+use ell_core::{Act, Event, Fact, World};
+use ell_ops::Op;
+use std::alloc::Global;
+use std::process::Abort;
+use std::test::Fail;
+
+const ACTS: u64 = 100_000;
+
+// How many rounds there are at most. In a round each pass draws up to three acts; one that is not known to be lawful is not done.
+const ROUNDS: u64 = 200_000;
+
+const CARDS: u64 = 20_000;
+
+const OWNED: [(u32, u64); 8] = [
+    (0, 0),
+    (0, 1),
+    (1, 2),
+    (1, 3),
+    (2, 4),
+    (2, 5),
+    (3, 6),
+    (3, 7),
+];
+
+// A linear congruential generator, of whose 64 bits the upper ones are drawn; and how many acts were done.
+#[derive(Drop)]
+struct Dice {
+    state: u64,
+    done: u64,
+}
+
+impl Dice {
+    fn below(&mut self, bound: u64) -> u64
+        requires { 1 ≤ bound }
+        ensures { result < bound }
+    {
+        self.state = self
+            .state
+            .wrapping_mul(6_364_136_223_846_793_005)
+            .wrapping_add(1_442_695_040_888_963_407);
+        (self.state >> 33) % bound
+    }
+
+    // An act that is lawful often, if the pass has come that far.
+    fn act(&mut self, memory: &Memory, worker: u32) -> Act {
+        match self.below(100) {
+            0..=29 => self.help(memory),
+            30..=49 => Upd,
+            50..=69 => Down,
+            70..=77 => Claim,
+            78..=83 => IFlag,
+            84..=89 => DFlag,
+            90..=94 => Answer,
+            95..=98 => Begin(self.operation(worker)),
+            _ => self.end(),
+        }
+    }
+
+    // An operation on a key of a worker.
+    fn operation(&mut self, worker: u32) -> Op {
+        let key = (worker % 4) as u64 * 2 + self.below(2);
+        match self.below(5) {
+            0 => Op::Find(key),
+            1 | 2 => Op::Insert(key),
+            _ => Op::Delete(key),
+        }
+    }
+
+    // An exchange for a card of which something is remembered.
+    fn help(&mut self, memory: &Memory) -> Act {
+        let index = self.below(16) as usize;
+        match memory.known[index] {
+            Some(Fact::IFlagged(card)) => IChild(card),
+            Some(Fact::IChanged(card)) => IUnflag(card),
+            Some(Fact::DFlagged(card)) => Mark(card),
+            Some(Fact::Marked(card)) => DChild(card),
+            Some(Fact::Cut(card)) => DUnflag(card),
+            Some(Fact::Unmarkable(card)) => Backtrack(card),
+            _ => Answer,
+        }
+    }
+
+    // One of the acts that end a search.
+    fn end(&mut self) -> Act {
+        if self.below(2) == 0 { Leave } else { Again }
+    }
+}
+
+// An act of a pass, and of the worker of the world, if it is known to be lawful.
+fn both_step(
+    rt: &impl Abort,
+    table: &CardTable<Global>,
+    pass: &mut Pass<Global>,
+    memory: &mut Memory,
+    world: &mut World,
+    dice: &mut Dice,
+    event: Event,
+)
+    requires { IsReady table.now pass.old memory.old }
+    ensures ready { IsReady table.now pass.new memory.new }
+    ensures world { world.new.cards ≡ world.old.cards }
+{
+    let Some(said) = step(table, pass, memory, event.act) else {
+        return;
+    };
+    dice.done = dice.done.wrapping_add(1);
+    assert_eq!(rt; world.step(event), Ok(said), "{event:?}");
+}
+
+#[tactic(auto, using(crate::proofs::Readiness::ready_idle))]
+// A few acts more of a pass. A pass with nothing in hand is at times parted and joined again.
+fn turn(
+    rt: &impl Abort,
+    table: &CardTable<Global>,
+    pass: Pass<Global>,
+    memory: &mut Memory,
+    world: &mut World,
+    dice: &mut Dice,
+    worker: u32,
+) -> Result<Pass<Global>, Fail>
+    requires { IsReady table.now pass memory.old }
+    ensures ready { IfOk result (λ pass. IsReady table.now pass memory.new) }
+    ensures world { world.new.cards ≡ world.old.cards }
+{
+    let mut pass = pass;
+    if memory.op.is_none() && dice.below(100) == 0 {
+        pass = parted_and_joined(rt, table, pass, (worker % 4) as u64 * 2)?;
+        *memory = nothing();
+    }
+    for _ in 0..dice.below(4) {
+        let act = dice.act(memory, worker);
+        both_step(
+            rt,
+            table,
+            &mut pass,
+            memory,
+            world,
+            dice,
+            Event { worker, act },
+        );
+    }
+    Ok(pass)
+}
+
+fn parted_and_joined(
+    rt: &impl Abort,
+    table: &CardTable<Global>,
+    pass: Pass<Global>,
+    key: u64,
+) -> Result<Pass<Global>, Fail>
+    requires own { pass.table ≡ table.now.id }
+    requires free { IsFree pass.view }
+    ensures own { IfOk result (λ pass. pass.table ≡ table.now.id) }
+    ensures idle { IfOk result (λ pass. IsIdle pass.view) }
+{
+    assert!(rt; pass.owns(key));
+    let Ok((left, right)) = table.split(pass, &[key]) else {
+        return Err("no memory")?;
+    };
+    let Ok(both) = table.join(left, right) else {
+        return Err("no memory")?;
+    };
+    Ok(both)
+}
+
+// Ends what a pass has in hand.
+fn finish(
+    rt: &impl Abort,
+    table: &CardTable<Global>,
+    pass: &mut Pass<Global>,
+    memory: &mut Memory,
+    world: &mut World,
+    dice: &mut Dice,
+    worker: u32,
+)
+    requires { IsReady table.now pass.old memory.old }
+    ensures free { IsFree pass.new.view }
+    ensures ready { IsReady table.now pass.new memory.new }
+    ensures world { world.new.cards ≡ world.old.cards }
+{
+    for _ in 0..10_000 {
+        let act = match dice.below(3) {
+            0 => Answer,
+            1 => Leave,
+            _ => dice.help(memory),
+        };
+        both_step(rt, table, pass, memory, world, dice, Event { worker, act });
+    }
+    assert!(rt; memory.op.is_none());
+}
+
+// Draws acts of four passes until so many are done, and ends what they have in hand: the pass that they are joined to.
+#[tactic(auto, using(crate::proofs::Readiness::ready_idle))]
+fn random_acts(
+    rt: &impl Abort,
+    table: &CardTable<Global>,
+    passes: (Pass<Global>, Pass<Global>, Pass<Global>, Pass<Global>),
+    world: &mut World,
+) -> Result<Pass<Global>, Fail>
+    requires limit { table.now.cards ≤ greatest_card }
+    requires first { (passes.0.table ≡ table.now.id) × IsIdle passes.0.view }
+    requires second { (passes.1.table ≡ table.now.id) × IsIdle passes.1.view }
+    requires third { (passes.2.table ≡ table.now.id) × IsIdle passes.2.view }
+    requires fourth { (passes.3.table ≡ table.now.id) × IsIdle passes.3.view }
+    ensures joined { IfOk result (λ both. (both.table ≡ table.now.id) × IsFree both.view) }
+    ensures world { world.new.cards ≡ world.old.cards }
+{
+    let (mut first, mut second, mut third, mut fourth) = passes;
+    let (mut one, mut two, mut three, mut four) = (nothing(), nothing(), nothing(), nothing());
+    let mut dice = Dice {
+        state: 2010,
+        done: 0,
+    };
+    for _ in 0..ROUNDS {
+        if dice.done >= ACTS {
+            break;
+        }
+        first = turn(rt, table, first, &mut one, world, &mut dice, 0)?;
+        second = turn(rt, table, second, &mut two, world, &mut dice, 1)?;
+        third = turn(rt, table, third, &mut three, world, &mut dice, 2)?;
+        fourth = turn(rt, table, fourth, &mut four, world, &mut dice, 3)?;
+    }
+    assert!(rt; dice.done >= ACTS);
+    finish(rt, table, &mut first, &mut one, world, &mut dice, 0);
+    finish(rt, table, &mut second, &mut two, world, &mut dice, 1);
+    finish(rt, table, &mut third, &mut three, world, &mut dice, 2);
+    finish(rt, table, &mut fourth, &mut four, world, &mut dice, 3);
+    let low = joined(table, first, second)?;
+    let high = joined(table, third, fourth)?;
+    joined(table, low, high)
+}
+
+fn joined(
+    table: &CardTable<Global>,
+    left: Pass<Global>,
+    right: Pass<Global>,
+) -> Result<Pass<Global>, Fail>
+    requires left { (left.table ≡ table.now.id) × IsFree left.view }
+    requires right { (right.table ≡ table.now.id) × IsFree right.view }
+    ensures { IfOk result (λ both. (both.table ≡ table.now.id) × IsIdle both.view) }
+{
+    let Ok(both) = table.join(left, right) else {
+        return Err("no memory")?;
+    };
+    Ok(both)
+}
+
+#[test]
+fn random_acts_answer_as_the_world(rt: HostRuntime) -> Result<(), Fail> {
+    let (table, pass) = CardTable::reserve(rt.alloc(), &[0, 1, 2, 3, 4, 5, 6, 7], CARDS)?;
+    let Ok((low, high)) = table.split(pass, &[0, 1, 2, 3]) else {
+        return Err("no memory")?;
+    };
+    let Ok((a, b)) = table.split(low, &[0, 1]) else {
+        return Err("no memory")?;
+    };
+    let Ok((c, d)) = table.split(high, &[4, 5]) else {
+        return Err("no memory")?;
+    };
+    let mut world = World::new(rt.alloc(), 4, &OWNED, CARDS)?;
+    let both = random_acts(&rt, &table, (a, b, c, d), &mut world)?;
+    assert!(rt; both.owns(0) && both.owns(1) && both.owns(2) && both.owns(3));
+    assert!(rt; both.owns(4) && both.owns(5) && both.owns(6) && both.owns(7));
+    same_words(&rt, &table.close(both), &world);
+    Ok(())
+}
