@@ -1,7 +1,7 @@
 use Rattle.std.specs.Prelude.{◌≡◌, ◌≢◌, ℕ, ◌+◌, ◌<◌, ◌≤◌, ◌==◌, ◌%◌, ◌↔◌, if◌then◌else◌, Bool, true, false, Option, Some, None}
 use Rattle.ell_ops.specs.declared.op.Op.{Op}
 use Rattle.ell_ops.specs.Meaning.{key_of}
-use Rattle.ell_word.specs.Node.{card, internal}
+use Rattle.ell_word.specs.Node.{IsInternal, card, internal}
 use Rattle.ell_word.specs.Word.{packed, unpacked}
 use Rattle.ell_core.specs.declared.event.Act.{Act}
 use Rattle.ell_core.specs.declared.event.Act.TheVariants as act
@@ -188,10 +188,10 @@ TellsDepth v c field.P x =
 TellsDepth v c field.L x = (p : ℕ) → IsTold v (Info c field.P p) → p < x
 TellsDepth v c _ x = Unit {0}
 
--- a word of a card that names a node names one of the table
+-- a word of a card that names a node names one of the table; grandparent and parent are internal
 abbrev pub TellsNode : ℕ → Field → ℕ → Type 0
-TellsNode cards field.Gp x = InTable cards x
-TellsNode cards field.P x = InTable cards x
+TellsNode cards field.Gp x = InTable cards x × IsInternal x
+TellsNode cards field.P x = InTable cards x × IsInternal x
 TellsNode cards field.L x = InTable cards x
 TellsNode cards _ x = Unit {0}
 

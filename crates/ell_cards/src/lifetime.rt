@@ -59,7 +59,8 @@ impl<A: Allocator + Copy> CardTable<A> {
 
     /// How many cards there are beside card 0.
     pub fn cards(&self) -> u64
-        ensures { result ≡ self.now.cards }
+        ensures count { result ≡ self.now.cards }
+        ensures limit { result ≤ greatest_card }
     {
         self.cards
     }

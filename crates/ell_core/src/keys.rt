@@ -7,6 +7,7 @@ ghost use Rattle.ell_core.specs.tree.Room.{HasRoom, HoldsKeys};
 
 use ell_ops::KEY_MAX;
 use ell_word::is_internal;
+use std::alloc::Allocator;
 
 /// The words of a tree, read node by node.
 pub trait TreeWords {
@@ -29,7 +30,11 @@ pub trait TreeWords {
 
 /// The keys of a lawful tree, each once, ascending. Nothing is allocated: the two lists, empty as they come, have room for the
 /// nodes that wait and for the keys. The walk goes left first, and comes to each node once.
-pub fn keys_of_tree<T: TreeWords>(tree: &T, mut waiting: Vec<u64>, mut keys: Vec<u64>) -> Vec<u64>
+pub fn keys_of_tree<T: TreeWords, A: Allocator>(
+    tree: &T,
+    mut waiting: Vec<u64, A>,
+    mut keys: Vec<u64, A>,
+) -> Vec<u64, A>
     requires lawful { IsLawful (T.words tree.now) }
     requires readable { (x : ℕ) → Reached (T.words tree.now) x → T.can_read tree.now x }
     requires no_nodes { waiting.items ≡ [] }

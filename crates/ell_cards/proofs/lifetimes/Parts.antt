@@ -112,7 +112,7 @@ ascending_parts keys some rising rise all = parts keys some (rises keys rising) 
     (λ k among. let place = place_of some k 0 among in subst (λ x. is_among keys x ≡ true) place.2 (all place.0 0 place.1))
 
 -- the part of a ledger on some keys has what the ledger has on them, and the part off them nothing
-parts_on : (keys : List ℕ) (l : List (ℕ × Bool)) (k : ℕ) → is_among keys k ≡ true
+pub parts_on : (keys : List ℕ) (l : List (ℕ × Bool)) (k : ℕ) → is_among keys k ≡ true
     → (ledger_of (part_on keys l) k ≡ ledger_of l k) × (ledger_of (part_off keys l) k ≡ None)
 parts_on keys [] k on = (refl, refl)
 parts_on keys (e ∷ es) k on = by (is_among keys e.0) refl (parts_on keys es k on)
@@ -130,7 +130,7 @@ parts_on keys (e ∷ es) k on = by (is_among keys e.0) refl (parts_on keys es k 
     )
 
 -- and the other way round
-parts_off : (keys : List ℕ) (l : List (ℕ × Bool)) (k : ℕ) → is_among keys k ≡ false
+pub parts_off : (keys : List ℕ) (l : List (ℕ × Bool)) (k : ℕ) → is_among keys k ≡ false
     → (ledger_of (part_on keys l) k ≡ None) × (ledger_of (part_off keys l) k ≡ ledger_of l k)
 parts_off keys [] k off = (refl, refl)
 parts_off keys (e ∷ es) k off = by (is_among keys e.0) refl (parts_off keys es k off)

@@ -1,6 +1,7 @@
 use Rattle.std.proofs.Common.{◌≡◌, ◌∷◌, ℕ, ◌<◌, Bool, true, List, get_or, refl, sym, ap, subst, inl, inr, arith}
 use mathlib.Core.Option.{some}
 use lib.ListN.{get_elem?}
+use Rattle.ell_word.specs.Node.{IsInternal}
 use Rattle.ell_core.specs.declared.fact.Fact.TheVariants.{Marked}
 use Rattle.ell_core.specs.declared.field.Field.{Field}
 use Rattle.ell_core.specs.declared.field.Field.TheVariants as field
@@ -94,10 +95,19 @@ module _ (keys : List ℕ) (cards : ℕ) (s : TableState) (r : Kept keys cards s
       by field.LeftLeafKey fixed eq = with_entry (EntryHolds r.words r.stages) (Info c field.LeftLeafKey n) v.told (known_claimed keys cards s r id v here c k, fixed, eq) old
       by field.RightLeafKey fixed eq = with_entry (EntryHolds r.words r.stages) (Info c field.RightLeafKey n) v.told (known_claimed keys cards s r id v here c k, fixed, eq) old
 
+  -- grandparent and parent are internal
+  gp_inner : (c : ℕ) → KnowsCard v c → IsInternal (r.words.gp c)
+  gp_inner c k = elim (known_card keys cards s r id v here c k) [ inl i ↦ subst IsInternal (sym i.gp) refl | inr d ↦ d.grandparent.inner ]
+
+  p_inner : (c : ℕ) → KnowsCard v c → IsInternal (r.words.p c)
+  p_inner c k = elim (known_card keys cards s r id v here c k) [ inl i ↦ i.parent.inner | inr d ↦ d.parent.inner ]
+
   -- a word that is a node is one of the table
   tells_node : (c : ℕ) (f : Field) (n : ℕ) → KnowsCard v c → word r.words c f ≡ n → TellsNode cards f n
-  tells_node c field.Gp n k is = subst (InTable cards) is (born_in_table keys cards s r id v here (r.words.gp c) (gp_born c k))
-  tells_node c field.P n k is = subst (InTable cards) is (born_in_table keys cards s r id v here (r.words.p c) (p_born c k))
+  tells_node c field.Gp n k is =
+      (subst (InTable cards) is (born_in_table keys cards s r id v here (r.words.gp c) (gp_born c k)), subst IsInternal is (gp_inner c k))
+  tells_node c field.P n k is =
+      (subst (InTable cards) is (born_in_table keys cards s r id v here (r.words.p c) (p_born c k)), subst IsInternal is (p_inner c k))
   tells_node c field.L n k is = subst (InTable cards) is (born_in_table keys cards s r id v here (r.words.l c) (l_born c k))
   tells_node c field.Was n k is = tt
   tells_node c field.Key n k is = tt
