@@ -1,0 +1,231 @@
+use Rattle.std.proofs.Common.{◌⊎◌, ◌≡◌, ◌≢◌, ℕ, ◌+◌, ◌≤◌, ◌==◌, if◌then◌else◌, Bool, true, false, ◌||◌, List, ◌∷◌, Option, None, Some, refl, sym, ◌∙◌, ap, subst, arith, inl, inr, eq-eqb}
+use Rattle.ell_word.specs.declared.update.Update.{Update}
+use Rattle.ell_word.specs.declared.update.State.{State}
+use Rattle.ell_word.specs.declared.update.State.TheVariants as state
+use Rattle.ell_core.specs.declared.fact.Fact.{Fact}
+use Rattle.ell_core.specs.declared.fact.Fact.TheVariants as fact
+use Rattle.ell_core.specs.declared.field.Field.{Field}
+use Rattle.ell_core.specs.declared.field.Field.TheVariants as field
+use Rattle.ell_core.specs.state.Facts.{known_of, same_fact}
+use Rattle.ell_core.proofs.words.SameFact.{same_fact-itself}
+use Rattle.ell_cards.specs.declared.view.Told.{Told}
+use Rattle.ell_cards.specs.declared.view.Told.TheVariants.{Met, Key, Info, Frozen}
+use Rattle.ell_cards.specs.declared.view.View.{View}
+use Rattle.ell_cards.specs.Models.{PassModel, Steps, Has, latest, earlier, IsTold, Knows}
+use Rattle.ell_cards.specs.Changes.{facts_by, places_by, hindered_by, learning, with_found, after_upd, after_down, after_key_of, after_info, told_info, after_frozen_child, after_next, after_claim}
+use Rattle.ell_tree.specs.Keeping.{Keeps, Goes, Walks, IsInnerMet, TellsPlace, IsSeenAt}
+
+or_true : (a : Bool) → (a || true) ≡ true
+or_true true = refl
+or_true false = refl
+
+-- a fact is known once it is learnt, and the facts before it stay known
+pub knows_new : (f : Fact) (fs : List Fact) → known_of (f ∷ fs) f ≡ true
+knows_new f fs = ap (λ b. b || known_of fs f) (same_fact-itself f)
+
+pub knows_more : (f g : Fact) (fs : List Fact) → known_of fs g ≡ true → known_of (f ∷ fs) g ≡ true
+knows_more f g fs h = ap (λ b. same_fact g f || b) h ∙ or_true (same_fact g f)
+
+-- so they do beside what an update tells
+pub facts_by_more : (s : State) (c : ℕ) (fs : List Fact) (g : Fact) → known_of fs g ≡ true → known_of (facts_by s c fs) g ≡ true
+facts_by_more state.IFlag c fs g h = knows_more (fact.IFlagged c) g fs h
+facts_by_more state.DFlag c fs g h = knows_more (fact.DFlagged c) g fs h
+facts_by_more state.Mark c fs g h = knows_more (fact.Marked c) g fs h
+facts_by_more state.Clean c fs g h = h
+
+pub places_by_more : (x : ℕ) (s : State) (c : ℕ) (es : List Told) (e : Told) → Has es e → Has (places_by x s c es) e
+places_by_more x state.IFlag c es e h = earlier e _ es h
+places_by_more x state.DFlag c es e h = earlier e _ es h
+places_by_more x state.Mark c es e h = earlier e _ es h
+places_by_more x state.Clean c es e h = h
+
+-- and beside a word of a card
+pub told_info_more : (c : ℕ) (f : Field) (x : ℕ) (es : List Told) (e : Told) → Has es e → Has (told_info c f x es) e
+told_info_more c field.Gp x es e h = earlier e _ _ (earlier e _ es h)
+told_info_more c field.P x es e h = earlier e _ _ (earlier e _ es h)
+told_info_more c field.L x es e h = earlier e _ _ (earlier e _ es h)
+told_info_more c field.Was x es e h = earlier e _ es h
+told_info_more c field.Key x es e h = earlier e _ es h
+told_info_more c field.Left x es e h = earlier e _ es h
+told_info_more c field.Right x es e h = earlier e _ es h
+told_info_more c field.Update x es e h = earlier e _ es h
+told_info_more c field.LeftLeafKey x es e h = earlier e _ es h
+told_info_more c field.RightLeafKey x es e h = earlier e _ es h
+
+-- an update other than clean is a hindrance
+pub hindered_more : (s : State) (n : ℕ) → n ≤ hindered_by s n
+hindered_more state.IFlag n = omega arith
+hindered_more state.DFlag n = omega arith
+hindered_more state.Mark n = omega arith
+hindered_more state.Clean n = omega arith
+
+pub hindered_once_more : (s : State) (n : ℕ) → s ≢ state.Clean → n + 1 ≤ hindered_by s n
+hindered_once_more state.IFlag n h = omega arith
+hindered_once_more state.DFlag n h = omega arith
+hindered_once_more state.Mark n h = omega arith
+hindered_once_more state.Clean n h = absurd (h refl)
+
+pub keeps_all : (v : View) → Keeps v v
+keeps_all v = record { ledger = refl; operation = refl; answers = refl; hindrances = omega arith; knows = λ f h. h; told = λ e h. h }
+
+pub keeps_trans : (u v w : View) → Keeps u v → Keeps v w → Keeps u w
+keeps_trans u v w a b = record {
+  ledger = b.ledger ∙ a.ledger;
+  operation = b.operation ∙ a.operation;
+  answers = b.answers ∙ a.answers;
+  hindrances = omega (arith, a.hindrances, b.hindrances);
+  knows = λ f h. b.knows f (a.knows f h);
+  told = λ e h. b.told e (a.told e h);
+}
+
+pub goes_trans : (a b c : PassModel) (m n k : ℕ) → Goes a b m → Goes b c n → m + n ≤ k → Goes a c k
+goes_trans a b c m n k h h' le = record {
+  table = h'.table ∙ h.table;
+  label = h'.label ∙ h.label;
+  view = keeps_trans a.view b.view c.view h.view h'.view;
+  steps = omega (arith, h.steps, h'.steps, le);
+}
+
+pub walks_trans : (a b c : PassModel) (m n k : ℕ) → Walks a b m → Walks b c n → m + n ≤ k → Walks a c k
+walks_trans a b c m n k h h' le = record {
+  goes = goes_trans a b c m n k h.goes h'.goes le;
+  card = h'.card ∙ h.card;
+  flagged = h'.flagged ∙ h.flagged;
+}
+
+pub walks_more : (a b : PassModel) (m n : ℕ) → Walks a b m → m ≤ n → Walks a b n
+walks_more a b m n h le = record {
+  goes = record { table = h.goes.table; label = h.goes.label; view = h.goes.view; steps = omega (arith, h.goes.steps, le) };
+  card = h.card;
+  flagged = h.flagged;
+}
+
+pub walks_none : (a : PassModel) (n : ℕ) → Walks a a n
+walks_none a n = record {
+  goes = record { table = refl; label = refl; view = keeps_all a.view; steps = omega arith };
+  card = refl;
+  flagged = refl;
+}
+
+-- what was told and known stays so
+pub walks_told : (a b : PassModel) (n : ℕ) (e : Told) → Walks a b n → IsTold a.view e → IsTold b.view e
+walks_told a b n e w h = w.goes.view.told e h
+
+pub walks_knows : (a b : PassModel) (n : ℕ) (f : Fact) → Walks a b n → Knows a.view f → Knows b.view f
+walks_knows a b n f w h = w.goes.view.knows f h
+
+pub inner_kept : (cards : ℕ) (v w : View) (x : ℕ) → Keeps v w → IsInnerMet cards v x → IsInnerMet cards w x
+inner_kept cards v w x k h = record { met = k.told (Met x) h.met; inner = h.inner; there = h.there }
+
+place_kept : (v w : View) (x : ℕ) (s : State) (c : ℕ) → Keeps v w → TellsPlace v x s c → TellsPlace w x s c
+place_kept v w x state.IFlag c k h = (k.knows (fact.IFlagged c) h.0, k.told _ h.1)
+place_kept v w x state.DFlag c k h = (k.knows (fact.DFlagged c) h.0, k.told _ h.1)
+place_kept v w x state.Mark c k h = (k.knows (fact.Marked c) h.0, k.told _ h.1)
+place_kept v w x state.Clean c k h = tt
+
+pub seen_kept : (cards : ℕ) (v w : View) (x : ℕ) (u : Update) → Keeps v w → IsSeenAt cards v x u → IsSeenAt cards w x u
+seen_kept cards v w x u k h = record {
+  node = inner_kept cards v w x k h.node;
+  named = h.named;
+  place = place_kept v w x u.state u.card k h.place;
+}
+
+-- the place of an update's card, once the update was read or found at a node
+pub place_told : (x : ℕ) (s : State) (c : ℕ) (v w : View) → w.worker.facts ≡ facts_by s c v.worker.facts → w.told ≡ places_by x s c v.told → TellsPlace w x s c
+place_told x state.IFlag c v w f t = (
+  subst (λ (fs : List Fact). known_of fs (fact.IFlagged c) ≡ true) (sym f) (knows_new (fact.IFlagged c) v.worker.facts),
+  subst (λ (es : List Told). Has es (Info c field.P x)) (sym t) (latest _ v.told),
+)
+place_told x state.DFlag c v w f t = (
+  subst (λ (fs : List Fact). known_of fs (fact.DFlagged c) ≡ true) (sym f) (knows_new (fact.DFlagged c) v.worker.facts),
+  subst (λ (es : List Told). Has es (Info c field.Gp x)) (sym t) (latest _ v.told),
+)
+place_told x state.Mark c v w f t = (
+  subst (λ (fs : List Fact). known_of fs (fact.Marked c) ≡ true) (sym f) (knows_new (fact.Marked c) v.worker.facts),
+  subst (λ (es : List Told). Has es (Info c field.P x)) (sym t) (latest _ v.told),
+)
+place_told x state.Clean c v w f t = tt
+
+-- the view after a step
+pub view_after : (old new : PassModel) (v : View) → Steps old new v → new.view ≡ v
+view_after old new v s = ap (λ (m : PassModel). m.view) s
+
+-- a step to a view that keeps these
+pub goes_step : (old new : PassModel) (v : View) → Steps old new v → Keeps old.view v → Goes old new 1
+goes_step old new v s k = subst (λ (m : PassModel). Goes old m 1) (sym s) (record { table = refl; label = refl; view = k; steps = omega arith })
+
+pub walks_step : (old new : PassModel) (v : View) → Steps old new v → Keeps old.view v → v.worker.card ≡ old.view.worker.card
+    → v.worker.flagged ≡ old.view.worker.flagged → Walks old new 1
+walks_step old new v s k card flagged =
+    subst (λ (m : PassModel). Walks old m 1) (sym s)
+    (record { goes = record { table = refl; label = refl; view = k; steps = omega arith }; card = card; flagged = flagged })
+
+pub upd_keeps : (x : ℕ) (u : Update) (v : View) → Keeps v (after_upd x u v)
+upd_keeps x u v = record {
+  ledger = refl;
+  operation = refl;
+  answers = refl;
+  hindrances = hindered_more u.state v.hindrances;
+  knows = facts_by_more u.state u.card v.worker.facts;
+  told = places_by_more x u.state u.card v.told;
+}
+
+pub key_of_keeps : (x key : ℕ) (v : View) → Keeps v (after_key_of x key v)
+key_of_keeps x key v = record {
+  ledger = refl;
+  operation = refl;
+  answers = refl;
+  hindrances = omega arith;
+  knows = λ f h. h;
+  told = λ e h. earlier e _ _ h;
+}
+
+pub down_keeps : (x child : ℕ) (v : View) → Keeps v (after_down x child v)
+down_keeps x child v = record {
+  ledger = refl;
+  operation = refl;
+  answers = refl;
+  hindrances = omega arith;
+  knows = λ f h. h;
+  told = λ e h. earlier e _ _ h;
+}
+
+pub info_keeps : (c : ℕ) (f : Field) (x : ℕ) (v : View) → Keeps v (after_info c f x v)
+info_keeps c f x v = record {
+  ledger = refl;
+  operation = refl;
+  answers = refl;
+  hindrances = omega arith;
+  knows = λ g h. h;
+  told = told_info_more c f x v.told;
+}
+
+pub frozen_keeps : (c : ℕ) (right : Bool) (x : ℕ) (v : View) → Keeps v (after_frozen_child c right x v)
+frozen_keeps c right x v = record {
+  ledger = refl;
+  operation = refl;
+  answers = refl;
+  hindrances = omega arith;
+  knows = λ f h. h;
+  told = λ e h. earlier e _ _ (earlier e _ _ h);
+}
+
+pub learning_keeps : (n : ℕ) (f : Fact) (v : View) → Keeps v (with_found n (learning f v))
+learning_keeps n f v = record {
+  ledger = refl;
+  operation = refl;
+  answers = refl;
+  hindrances = omega arith;
+  knows = λ g h. knows_more f g v.worker.facts h;
+  told = λ e h. h;
+}
+
+pub next_keeps : (n : ℕ) (v : View) → Keeps v (after_next n v)
+next_keeps n v = record { ledger = refl; operation = refl; answers = refl; hindrances = omega arith; knows = λ f h. h; told = λ e h. h }
+
+-- a step that teaches a fact
+pub learns : (old new : PassModel) (n : ℕ) (f : Fact) → Steps old new (with_found n (learning f old.view)) → Walks old new 1 × Knows new.view f
+learns old new n f s = (
+  walks_step old new (with_found n (learning f old.view)) s (learning_keeps n f old.view) refl refl,
+  subst (λ (m : PassModel). Knows m.view f) (sym s) (knows_new f old.view.worker.facts),
+)

@@ -1,0 +1,10 @@
+-- what steps keep
+pub mod Keeping
+-- steps that read a word
+pub mod Looking
+-- a search, node by node
+pub mod Descending
+-- a mark, won or lost
+pub mod Marking
+-- the start of a search
+pub mod Beginning

@@ -1,0 +1,17 @@
+use Rattle.std.proofs.Common.{◌≡◌, ◌+◌, ◌*◌, ◌-◌, ◌≤◌}
+use Rattle.ell_word.specs.Node.{card}
+use Rattle.ell_tree.specs.Keeping.{Walks}
+use Rattle.ell_tree.specs.Helps.{IsFlag}
+use Rattle.ell_tree.proofs.helping.help_delete.Given as goal
+
+-- the steps so far are four for each internal node that the chain went down
+abbrev pub invariant-loop-next : goal.invariant-loop-next
+invariant-loop-next g l = record {
+  same : l.table ≡ l.fn.table;
+  flag : IsFlag l.table.cards l.pass.view l.flag;
+  down : card l.fn.flag.grandparent ≤ card l.flag.grandparent;
+  walks : Walks l.fn.pass l.pass (4 * (card l.flag.grandparent - card l.fn.flag.grandparent));
+}
+
+abbrev pub decreases-loop-next : goal.decreases-loop-next
+decreases-loop-next g l = 3 * l.table.cards + 3 - l.flag.grandparent

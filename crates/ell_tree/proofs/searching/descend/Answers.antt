@@ -1,0 +1,35 @@
+use Rattle.std.proofs.Common.{refl}
+use Rattle.ell_cards.specs.declared.view.Told.TheVariants.{Met}
+use Rattle.ell_tree.proofs.Keeping.{walks_step, upd_keeps}
+use Rattle.ell_tree.proofs.Descending.{descend_walks, descend_search, descend_met, descend_passed, may_go_down}
+use Rattle.ell_tree.proofs.searching.descend.Goals as goal
+
+pub key_of-node_key-requires-clause-met : goal.key_of-node_key-requires-clause-met
+key_of-node_key-requires-clause-met g c =
+    let walks = walks_step c.args.pass.now c.upd-update.new.pass _ c.upd-update.ensures.step (upd_keeps c.args.node c.upd-update.result c.args.pass.now.view) refl refl in
+    walks.goes.view.told (Met c.args.node) c.requires.node.met
+
+pub down-child-requires-clause-may : goal.down-child-requires-clause-may
+down-child-requires-clause-may g c =
+    may_go_down c.args.pass.now c.upd-update.new.pass c.key_of-node_key.new.pass c.args.op c.args.node c.upd-update.result c.key_of-node_key.result c.key.result
+    c.upd-update.ensures.step c.key_of-node_key.ensures.step c.key.ensures c.requires.busy c.requires.stands c.requires.node.inner
+
+pub returns : goal.returns
+returns g c =
+    let a = c.args.pass.now in
+    let b = c.upd-update.new.pass in
+    let d = c.key_of-node_key.new.pass in
+    let e = c.down-child.new.pass in
+    let read = c.upd-update.ensures.step in
+    let asked = c.key_of-node_key.ensures.step in
+    let gone = c.down-child.ensures.step in
+    record {
+      walks = descend_walks a b d e c.args.node c.upd-update.result c.key_of-node_key.result c.down-child.result read asked gone;
+      here = refl;
+      deeper = c.down-child.ensures.greater;
+      there = c.down-child.ensures.there;
+      search = descend_search a b d e c.args.node c.upd-update.result c.key_of-node_key.result c.down-child.result read asked gone;
+      met = descend_met a b d e c.args.node c.upd-update.result c.key_of-node_key.result c.down-child.result read asked gone;
+      passed = descend_passed a b d e c.args.node c.upd-update.result c.key_of-node_key.result c.down-child.result read asked gone
+          c.args.table.now.cards c.requires.node c.upd-update.ensures.card;
+    }

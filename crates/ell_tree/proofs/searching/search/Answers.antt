@@ -1,0 +1,36 @@
+use Rattle.std.proofs.Common.{◌≡◌, ◌+◌, ◌*◌, refl, ◌∙◌, sym, subst, arith, rules}
+use Rattle.ell_word.specs.Node.{IsInternal}
+use Rattle.ell_core.specs.acts.Searching.{IsLeaf}
+use Rattle.ell_tree.proofs.Keeping.{walks_step, walks_trans, key_of_keeps}
+use Rattle.ell_tree.proofs.Descending.{stands_next, search_ends}
+use Rattle.ell_tree.proofs.searching.search.Goals as goal
+
+pub loop-grandparent-preserved : goal.loop-grandparent-preserved
+loop-grandparent-preserved g c =
+    let l = c.loop-grandparent in
+    let i = l.invariant in
+    let d = c.descend-child in
+    let inner : IsInternal l.node = search rules in
+    record {
+      same = (refl, refl);
+      stands = stands_next c.args.table.now.cards c.args.pass.now.view l.pass.view d.new.pass.view l.node d.result.1 l.parent d.result.0 l.grandparent
+          i.walks.goes.view d.ensures.walks.goes.view i.stands d.ensures.search d.ensures.met d.ensures.there d.ensures.passed;
+      down = omega (arith, d.ensures.here, d.ensures.deeper);
+      walks = walks_trans c.args.pass.now l.pass d.new.pass (l.parent.node + 3) 3 (d.result.0.node + 3) i.walks d.ensures.walks
+          (omega (arith, i.down, i.stands.passed.known.node.inner, inner, d.ensures.here));
+    }
+
+pub returns : goal.returns
+returns g c =
+    let l = c.loop-grandparent in
+    let i = l.invariant in
+    let k = c.key_of-key in
+    let outer : IsLeaf l.node = search rules in
+    record {
+      walks = walks_trans c.args.pass.now l.pass k.new.pass (l.parent.node + 3) 1 (3 * c.args.table.now.cards + 4) i.walks
+          (walks_step l.pass k.new.pass _ k.ensures.step (key_of_keeps l.node k.result l.pass.view) refl refl)
+          (omega (arith, i.stands.passed.known.node.inner, i.stands.passed.known.node.there));
+      ends = search_ends c.args.table.now.cards c.args.pass.now.view l.pass k.new.pass c.args.op
+          (record { leaf = l.node; key = k.result; parent = l.parent; grandparent = l.grandparent }) k.ensures.step
+          (i.walks.goes.view.operation ∙ c.requires.root.busy) outer i.stands k.ensures.leaf;
+    }

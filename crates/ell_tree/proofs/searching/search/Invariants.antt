@@ -1,0 +1,17 @@
+use Rattle.std.proofs.Common.{◌≡◌, ◌+◌, ◌*◌, ◌<◌, ◌≤◌, ◌-◌}
+use Rattle.ell_word.specs.Node.{IsInternal}
+use Rattle.ell_tree.specs.Keeping.{Walks}
+use Rattle.ell_tree.specs.Searches.{Stands}
+use Rattle.ell_tree.proofs.searching.search.Given as goal
+
+-- the steps so far are three for each internal node that there is down to the parent
+abbrev pub invariant-loop-grandparent : goal.invariant-loop-grandparent
+invariant-loop-grandparent g l = record {
+  same : (l.op ≡ l.fn.op) × (l.table ≡ l.fn.table);
+  stands : Stands l.table.cards l.fn.pass.view l.pass.view l.node l.parent l.grandparent;
+  down : l.parent.node < l.node;
+  walks : Walks l.fn.pass l.pass (l.parent.node + 3);
+}
+
+abbrev pub decreases-loop-grandparent : goal.decreases-loop-grandparent
+decreases-loop-grandparent g l = 3 * l.table.cards + 3 - l.node

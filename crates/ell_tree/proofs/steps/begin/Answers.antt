@@ -1,0 +1,5 @@
+use Rattle.ell_tree.proofs.Beginning.{begins}
+use Rattle.ell_tree.proofs.steps.begin.Goals as goal
+
+pub returns : goal.returns
+returns g c = begins c.args.pass.now c.begin.new.pass c.args.op c.begin.ensures.step

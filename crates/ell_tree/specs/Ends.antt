@@ -1,0 +1,49 @@
+use Rattle.std.specs.Prelude.{◌≡◌, ℕ, ◌+◌, ◌*◌, ◌≤◌, ◌↔◌, Bool, true, None, Some, Result, Ok, Err}
+use Rattle.ell_ops.specs.declared.op.Op.{Op}
+use Rattle.ell_ops.specs.Meaning.{reply_of, after}
+use Rattle.ell_cards.specs.Models.{PassModel}
+use Rattle.ell_tree.specs.declared.operations.Held.{Held}
+use Rattle.ell_tree.specs.declared.operations.Held.TheVariants.{Busy, Spent}
+use Rattle.ell_tree.specs.Ledgers.{present_in, Owns, answers, hindrances, IsIdle}
+
+-- an operation was answered: as a set answers it that has the pass's keys present, which becomes the set after it
+pub record Answers (op : Op) (said : Bool) (old new : PassModel) : Type 0 where
+  pub table : new.table ≡ old.table
+  pub label : new.label ≡ old.label
+  pub says : said ≡ reply_of op (present_in old)
+  pub set : (key : ℕ) → present_in new key ≡ after op (present_in old) key
+  pub owned : (key : ℕ) → Owns new key ↔ Owns old key
+  pub answered : answers new ≡ answers old + 1
+  pub idle : IsIdle new
+
+-- an operation that would change the set was laid down without an answer: the ledger is as it was, and nothing is in hand
+pub record LaidDown (op : Op) (old new : PassModel) : Type 0 where
+  pub table : new.table ≡ old.table
+  pub label : new.label ≡ old.label
+  pub ledger : new.view.worker.ledger ≡ old.view.worker.ledger
+  pub answered : answers new ≡ answers old
+  pub would : reply_of op (present_in old) ≡ true
+  pub idle : IsIdle new
+  pub no_card : new.view.worker.card ≡ None
+
+-- why: something was in its way at each try; or the claim word, as its last try read it, says that all cards are given out
+abbrev pub HeldFor : ℕ → ℕ → PassModel → PassModel → Held → Type 0
+HeldFor cards tries old new Busy = hindrances old + tries ≤ hindrances new
+HeldFor cards tries old new Spent = new.view.next ≡ Some (cards + 1)
+
+-- how an insert or a delete ends
+abbrev pub Ends : ℕ → ℕ → Op → PassModel → PassModel → Result Bool Held → Type 0
+Ends cards tries op old new (Ok said) = Answers op said old new
+Ends cards tries op old new (Err why) = LaidDown op old new × HeldFor cards tries old new why
+
+-- the most steps of a find in a tree of so many cards
+abbrev pub find_steps : ℕ → ℕ
+find_steps cards = 3 * cards + 6
+
+-- the most steps of one try of an insert or a delete, helping included
+abbrev pub try_steps : ℕ → ℕ
+try_steps cards = 7 * cards + 24
+
+-- the most steps of so many tries
+abbrev pub change_steps : ℕ → ℕ → ℕ
+change_steps cards tries = tries * try_steps cards + 1

@@ -1,0 +1,53 @@
+use Rattle.std.specs.Prelude.{◌≡◌, ℕ, ◌+◌, ◌≤◌}
+use Rattle.ell_word.specs.declared.update.Update.{Update}
+use Rattle.ell_word.specs.declared.update.State.{State}
+use Rattle.ell_word.specs.declared.update.State.TheVariants as state
+use Rattle.ell_word.specs.Node.{IsInternal}
+use Rattle.ell_core.specs.declared.fact.Fact.{Fact}
+use Rattle.ell_core.specs.declared.fact.Fact.TheVariants as fact
+use Rattle.ell_core.specs.declared.field.Field.TheVariants as field
+use Rattle.ell_cards.specs.declared.view.Told.{Told}
+use Rattle.ell_cards.specs.declared.view.Told.TheVariants.{Met, Info}
+use Rattle.ell_cards.specs.declared.view.View.{View}
+use Rattle.ell_cards.specs.Models.{PassModel, InTable, IsTold, Knows}
+
+-- ledger, operation and answers stay, hindrances only rise, and nothing is forgotten
+pub record Keeps (v w : View) : Type 0 where
+  pub ledger : w.worker.ledger ≡ v.worker.ledger
+  pub operation : w.worker.operation ≡ v.worker.operation
+  pub answers : w.answers ≡ v.answers
+  pub hindrances : v.hindrances ≤ w.hindrances
+  pub knows : (f : Fact) → Knows v f → Knows w f
+  pub told : (e : Told) → IsTold v e → IsTold w e
+
+-- a pass made at most so many steps, and kept these
+pub record Goes (old new : PassModel) (n : ℕ) : Type 0 where
+  pub table : new.table ≡ old.table
+  pub label : new.label ≡ old.label
+  pub view : Keeps old.view new.view
+  pub steps : new.steps ≤ old.steps + n
+
+-- and has the same card in hand
+pub record Walks (old new : PassModel) (n : ℕ) : Type 0 where
+  pub goes : Goes old new n
+  pub card : new.view.worker.card ≡ old.view.worker.card
+  pub flagged : new.view.worker.flagged ≡ old.view.worker.flagged
+
+-- an internal node of the table that the pass has met
+pub record IsInnerMet (cards : ℕ) (v : View) (x : ℕ) : Type 0 where
+  pub met : IsTold v (Met x)
+  pub inner : IsInternal x
+  pub there : InTable cards x
+
+-- a flag or a mark at a node: its card is known so far, and goes there
+abbrev pub TellsPlace : View → ℕ → State → ℕ → Type 0
+TellsPlace v x state.IFlag c = Knows v (fact.IFlagged c) × IsTold v (Info c field.P x)
+TellsPlace v x state.DFlag c = Knows v (fact.DFlagged c) × IsTold v (Info c field.Gp x)
+TellsPlace v x state.Mark c = Knows v (fact.Marked c) × IsTold v (Info c field.P x)
+TellsPlace v x state.Clean c = Unit {0}
+
+-- an update that was read or found at a node
+pub record IsSeenAt (cards : ℕ) (v : View) (x : ℕ) (u : Update) : Type 0 where
+  pub node : IsInnerMet cards v x
+  pub named : u.card ≤ cards
+  pub place : TellsPlace v x u.state u.card

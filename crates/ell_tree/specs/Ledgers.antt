@@ -1,0 +1,33 @@
+use Rattle.std.specs.Prelude.{◌≡◌, ◌≢◌, ℕ, None}
+use Rattle.ell_ops.specs.KeySet.{KeySet}
+use Rattle.ell_core.specs.state.Machine.{Ledger, ledger_of}
+use Rattle.ell_core.specs.statements.StepLaws.{set_in}
+use Rattle.ell_cards.specs.Models.{PassModel, TableModel}
+
+-- how a contract sees a tree: which table it stands on, the keys that its passes own, and how many cards it has
+abbrev pub TreeModel : Type 0
+TreeModel = TableModel
+
+-- the ledger of a pass: each key of its own with whether it is present
+abbrev pub ledger : PassModel → Ledger
+ledger p = ledger_of p.view.worker.ledger
+
+-- the keys of its own that are present
+abbrev pub present_in : PassModel → KeySet
+present_in p = set_in (ledger p)
+
+-- a pass owns a key
+abbrev pub Owns : PassModel → ℕ → Type 0
+Owns p key = ledger p key ≢ None
+
+-- how many operations it has answered
+abbrev pub answers : PassModel → ℕ
+answers p = p.view.answers
+
+-- how often something was in its way
+abbrev pub hindrances : PassModel → ℕ
+hindrances p = p.view.hindrances
+
+-- it has nothing in hand
+abbrev pub IsIdle : PassModel → Type 0
+IsIdle p = p.view.worker.operation ≡ None

@@ -1,0 +1,16 @@
+-- what a contract sees of a tree and its passes
+pub mod Ledgers
+-- how an operation ends
+pub mod Ends
+-- how passes begin, part and come together
+pub mod Parts
+-- how a tree ends
+pub mod Closing
+-- what steps keep
+pub mod Keeping
+-- where a search ends
+pub mod Searches
+-- what helping comes to
+pub mod Helps
+-- what a try comes to
+pub mod Tries

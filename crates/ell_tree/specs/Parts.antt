@@ -1,0 +1,49 @@
+use Rattle.std.specs.Prelude.{◌≡◌, ℕ, ◌+◌, if◌then◌else◌, false, Option, Some, None, Bool, List, max}
+use Rattle.ell_cards.specs.Models.{PassModel, one_more}
+use Rattle.ell_cards.specs.Changes.{is_among}
+use Rattle.ell_tree.specs.Ledgers.{TreeModel, ledger, answers, hindrances, IsIdle}
+
+-- the first pass of a tree: it owns all keys, each absent
+pub record IsFirst (t : TreeModel) (p : PassModel) : Type 0 where
+  pub own : p.table ≡ t.id
+  pub ledger : (k : ℕ) → ledger p k ≡ (if is_among t.keys k then Some false else None)
+  pub answers : answers p ≡ 0
+  pub hindrances : hindrances p ≡ 0
+  pub steps : p.steps ≡ 0
+  pub label : p.label ≡ 0
+  pub idle : IsIdle p
+
+-- the left part of a pass: it has these keys as the pass had them, and keeps the counts
+pub record IsLeftPart (keys : List ℕ) (p part : PassModel) : Type 0 where
+  pub own : part.table ≡ p.table
+  pub ledger : (k : ℕ) → ledger part k ≡ (if is_among keys k then ledger p k else None)
+  pub answers : answers part ≡ answers p
+  pub hindrances : hindrances part ≡ hindrances p
+  pub steps : part.steps ≡ one_more p.steps
+  pub label : part.label ≡ p.label
+  pub idle : IsIdle part
+
+-- the right part: it has the other keys, and counts anew
+pub record IsRightPart (keys : List ℕ) (p part : PassModel) : Type 0 where
+  pub own : part.table ≡ p.table
+  pub ledger : (k : ℕ) → ledger part k ≡ (if is_among keys k then None else ledger p k)
+  pub answers : answers part ≡ 0
+  pub hindrances : hindrances part ≡ 0
+  pub steps : part.steps ≡ one_more p.steps
+  pub label : part.label ≡ p.label
+  pub idle : IsIdle part
+
+-- an entry of one ledger, or else of another
+abbrev pub or_else : Option Bool → Option Bool → Option Bool
+or_else (Some present) other = Some present
+or_else None other = other
+
+-- two passes in one: it has the keys of both, and adds the counts
+pub record IsUnion (left right both : PassModel) : Type 0 where
+  pub own : both.table ≡ left.table
+  pub ledger : (k : ℕ) → ledger both k ≡ or_else (ledger left k) (ledger right k)
+  pub answers : answers both ≡ answers left + answers right
+  pub hindrances : hindrances both ≡ hindrances left + hindrances right
+  pub steps : both.steps ≡ one_more (max left.steps right.steps)
+  pub label : both.label ≡ left.label
+  pub idle : IsIdle both

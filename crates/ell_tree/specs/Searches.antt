@@ -1,0 +1,62 @@
+use Rattle.std.specs.Prelude.{◌≡◌, ◌≢◌, ℕ, ◌+◌, ◌<◌, ◌≤◌, ◌↔◌, IfSome, true, Option, Some, None}
+use Rattle.ell_ops.specs.declared.op.Op.{Op}
+use Rattle.ell_ops.specs.Meaning.{key_of}
+use Rattle.ell_word.specs.declared.update.State.TheVariants as state
+use Rattle.ell_word.specs.Word.{packed}
+use Rattle.ell_core.specs.declared.view.Seen.{Seen}
+use Rattle.ell_core.specs.declared.view.Search.{Search}
+use Rattle.ell_core.specs.state.Machine.{ledger_of}
+use Rattle.ell_core.specs.acts.Searching.{IsLeaf, at_root}
+use Rattle.ell_cards.specs.declared.view.Told.TheVariants.{Met}
+use Rattle.ell_cards.specs.declared.view.View.{View}
+use Rattle.ell_cards.specs.Models.{IsTold, Does, StandsAt, InTable}
+use Rattle.ell_tree.specs.declared.searching.Passed.{Passed}
+use Rattle.ell_tree.specs.declared.searching.Place.{Place}
+use Rattle.ell_tree.specs.Keeping.{IsSeenAt}
+
+-- an operation is in hand, and its search stands at the root
+pub record AtRoot (op : Op) (v : View) : Type 0 where
+  pub busy : Does v op
+  pub root : v.worker.search ≡ at_root
+  pub no_card : v.worker.card ≡ None
+  pub met : IsTold v (Met 0)
+
+-- a node that a search passed, as the view has it
+abbrev pub seen : Passed → Seen
+seen x = record { node = x.node; word = packed x.update }
+
+abbrev pub seen_any : Option Passed → Option Seen
+seen_any None = None
+seen_any (Some x) = Some (seen x)
+
+-- a search that stands at a child of a node that it passed
+abbrev pub below : ℕ → Passed → Option Seen → Search
+below child x above = record { node = Some child; read = None; parent = Some (seen x); grandparent = above }
+
+-- what a search read at a node that it passed is known; an update other than clean was a hindrance
+pub record Passes (cards : ℕ) (v w : View) (x : Passed) : Type 0 where
+  pub known : IsSeenAt cards w x.node x.update
+  pub hindered : x.update.state ≢ state.Clean → v.hindrances + 1 ≤ w.hindrances
+
+-- a search that began with one view stands at a node, below a parent and perhaps a grandparent
+pub record Stands (cards : ℕ) (v w : View) (node : ℕ) (parent : Passed) (grandparent : Option Passed) : Type 0 where
+  pub search : w.worker.search ≡ below node parent (seen_any grandparent)
+  pub met : IsTold w (Met node)
+  pub there : InTable cards node
+  pub passed : Passes cards v w parent
+  pub passed_above : IfSome grandparent (λ x. Passes cards v w x)
+
+-- a search stands at the leaf of a place, and was told its key
+pub record IsAt (w : View) (place : Place) : Type 0 where
+  pub search : w.worker.search ≡ below place.leaf place.parent (seen_any place.grandparent)
+  pub outer : IsLeaf place.leaf
+  pub told : w.here ≡ Some place.key
+
+-- a search ended at a place, whose key is the operation's exactly where the ledger has that present; and then there is a
+-- grandparent
+pub record EndsAt (cards : ℕ) (v w : View) (op : Op) (place : Place) : Type 0 where
+  pub at : IsAt w place
+  pub passed : Passes cards v w place.parent
+  pub passed_above : IfSome place.grandparent (λ x. Passes cards v w x)
+  pub present : (place.key ≡ key_of op) ↔ (ledger_of w.worker.ledger (key_of op) ≡ Some true)
+  pub deep : place.key ≡ key_of op → place.grandparent ≢ None

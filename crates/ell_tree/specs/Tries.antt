@@ -1,0 +1,115 @@
+use Rattle.std.specs.Prelude.{◌≡◌, ℕ, ◌+◌, ◌≤◌, true, Some, None, List, [], ◌∷◌, min, max, Result, Ok, Err}
+use Rattle.ell_ops.specs.declared.op.Op.{Op}
+use Rattle.ell_ops.specs.declared.op.Op.TheVariants.{Insert, Delete}
+use Rattle.ell_ops.specs.Meaning.{reply_of}
+use Rattle.ell_word.specs.declared.update.Update.{Update}
+use Rattle.ell_word.specs.Node.{left_leaf, right_leaf}
+use Rattle.ell_word.specs.Word.{packed}
+use Rattle.ell_core.specs.declared.fact.Fact.{Fact}
+use Rattle.ell_core.specs.declared.fact.Fact.TheVariants as fact
+use Rattle.ell_core.specs.declared.field.Field.{Field}
+use Rattle.ell_core.specs.declared.field.Field.TheVariants as field
+use Rattle.ell_core.specs.state.Cards.{clean}
+use Rattle.ell_cards.specs.declared.view.Told.{Told}
+use Rattle.ell_cards.specs.declared.view.View.{View}
+use Rattle.ell_cards.specs.Models.{PassModel, Has, IsTold, Knows, Does, StandsAt}
+use Rattle.ell_cards.specs.Changes.{told_filling, filling_of}
+use Rattle.ell_cards.specs.Guards.{MayFill}
+use Rattle.ell_tree.specs.declared.operations.Change.{Change}
+use Rattle.ell_tree.specs.declared.operations.Change.TheVariants as change
+use Rattle.ell_tree.specs.declared.searching.Place.{Place}
+use Rattle.ell_tree.specs.declared.trying.Claimed.{Claimed}
+use Rattle.ell_tree.specs.declared.trying.Claimed.TheVariants as claimed
+use Rattle.ell_tree.specs.declared.trying.Tried.{Tried}
+use Rattle.ell_tree.specs.declared.trying.Tried.TheVariants as tried
+use Rattle.ell_tree.specs.Ledgers.{present_in, IsIdle}
+use Rattle.ell_tree.specs.Ends.{Answers}
+use Rattle.ell_tree.specs.Keeping.{Goes, Walks, IsSeenAt}
+use Rattle.ell_tree.specs.Searches.{AtRoot, seen, seen_any}
+
+-- an operation starts, or starts anew, at the root
+pub record Begins (op : Op) (old new : PassModel) : Type 0 where
+  pub table : new.table ≡ old.table
+  pub label : new.label ≡ old.label
+  pub ledger : new.view.worker.ledger ≡ old.view.worker.ledger
+  pub answers : new.view.answers ≡ old.view.answers
+  pub hindrances : new.view.hindrances ≡ old.view.hindrances
+  pub root : AtRoot op new.view
+  pub steps : new.steps ≤ old.steps + 1
+
+-- an operation may start anew, or be laid down: its card, if that is flagged, is known backed
+pub record Stops (op : Op) (v : View) : Type 0 where
+  pub busy : Does v op
+  pub backed : (c : ℕ) → v.worker.card ≡ Some c → v.worker.flagged ≡ true → Knows v (fact.Backed c)
+
+-- an operation is laid down: nothing is in hand any more
+pub record Lays (old new : PassModel) : Type 0 where
+  pub table : new.table ≡ old.table
+  pub label : new.label ≡ old.label
+  pub ledger : new.view.worker.ledger ≡ old.view.worker.ledger
+  pub answers : new.view.answers ≡ old.view.answers
+  pub hindrances : new.view.hindrances ≡ old.view.hindrances
+  pub next : new.view.next ≡ old.view.next
+  pub idle : IsIdle new
+  pub no_card : new.view.worker.card ≡ None
+  pub steps : new.steps ≤ old.steps + 1
+
+-- a try ended without an answer, though the operation would change the set; nothing of it is under way
+pub record Halts (op : Op) (old new : PassModel) : Type 0 where
+  pub table : new.table ≡ old.table
+  pub label : new.label ≡ old.label
+  pub ledger : new.view.worker.ledger ≡ old.view.worker.ledger
+  pub answers : new.view.answers ≡ old.view.answers
+  pub hindrances : old.view.hindrances ≤ new.view.hindrances
+  pub would : reply_of op (present_in old) ≡ true
+  pub stops : Stops op new.view
+
+-- how a try ends
+abbrev pub TryEnds : ℕ → Op → PassModel → PassModel → Tried → Type 0
+TryEnds cards op old new (tried.Answered said) = Answers op said old new
+TryEnds cards op old new tried.Spent = Halts op old new × (new.view.next ≡ Some (cards + 1))
+TryEnds cards op old new tried.Hindered = Halts op old new × (old.view.hindrances + 1 ≤ new.view.hindrances)
+
+-- a card was taken for an operation whose search ended at a place: it is to say this, nothing of it was stored, and its words
+-- that never change are told
+pub record HasCard (op : Op) (place : Place) (filling : List (Field × ℕ)) (v : View) (c : ℕ) : Type 0 where
+  pub busy : Does v op
+  pub may : MayFill v c
+  pub stands : StandsAt v place.leaf
+  pub behind : v.worker.search.parent ≡ Some (seen place.parent)
+  pub above : v.worker.search.grandparent ≡ seen_any place.grandparent
+  pub says : v.filling ≡ filling
+  pub empty : v.filled ≡ []
+  pub told : (e : Told) → Has (told_filling c filling []) e → IsTold v e
+
+-- what comes of asking for a card
+abbrev pub Claims : ℕ → Op → Place → PassModel → PassModel → Claimed → Type 0
+Claims cards op place old new (claimed.Card c) = HasCard op place (filling_of c old.view) new.view c × (c ≤ cards)
+Claims cards op place old new claimed.NoneLeft = (new.view.worker.card ≡ None) × (new.view.next ≡ Some (cards + 1))
+Claims cards op place old new claimed.Lost = (new.view.worker.card ≡ None) × (old.view.hindrances + 1 ≤ new.view.hindrances)
+
+-- the view with these stores of its card, the last first
+abbrev pub with_stores : List (Field × ℕ) → View → View
+with_stores stores v = record v { filled = stores }
+
+-- the stores of an insert's card
+abbrev pub insert_stores : ℕ → ℕ → Place → List (Field × ℕ)
+insert_stores c k place =
+    (field.RightLeafKey, max k place.key) ∷ (field.LeftLeafKey, min k place.key) ∷ (field.Update, clean 0) ∷ (field.Right, right_leaf c)
+    ∷ (field.Left, left_leaf c) ∷ (field.Key, max k place.key) ∷ (field.L, place.leaf) ∷ (field.P, place.parent.node) ∷ []
+
+-- the stores of a delete's card
+abbrev pub delete_stores : ℕ → Place → List (Field × ℕ)
+delete_stores gp place =
+    (field.Was, packed place.parent.update) ∷ (field.L, place.leaf) ∷ (field.P, place.parent.node) ∷ (field.Gp, gp) ∷ []
+
+-- a flag was set or not: then the card in hand is flagged, and its flag known; or it was laid aside, a hindrance, and what was
+-- found at the node is known
+abbrev pub Flags : ℕ → (ℕ → Fact) → ℕ → ℕ → PassModel → PassModel → Result (Unit {0}) Update → Type 0
+Flags cards flag c x old new (Ok won) = Knows new.view (flag c) × (new.view.worker.card ≡ Some c) × (new.view.worker.flagged ≡ true)
+Flags cards flag c x old new (Err found) = IsSeenAt cards new.view x found × (new.view.worker.card ≡ None) × (old.view.hindrances + 1 ≤ new.view.hindrances)
+
+-- the operation that a change is
+abbrev pub op_of : Change → Op
+op_of (change.Insert key) = Insert key
+op_of (change.Delete key) = Delete key

@@ -1,0 +1,157 @@
+//! Deletes (paper of 2010, figure 9: Delete).
+ghost use Rattle.std.specs.Prelude.{◌≡◌, ◌≤◌, ◌+◌, Some};
+ghost use Rattle.std.specs.Bool.{OnTrue, OnFalse};
+ghost use Rattle.ell_ops.specs.declared.op.Op.TheVariants.{Delete};
+ghost use Rattle.ell_word.specs.Node.{greatest_card};
+ghost use Rattle.ell_word.specs.Word.{packed};
+ghost use Rattle.ell_core.specs.declared.fact.Fact.TheVariants.{DFlagged, DOver};
+ghost use Rattle.ell_core.specs.declared.field.Field.TheVariants as field;
+ghost use Rattle.ell_core.specs.state.Cards.{delete_filling};
+ghost use Rattle.ell_cards.specs.declared.view.Told.TheVariants.{Info};
+ghost use Rattle.ell_cards.specs.Guards.{IsFilled};
+ghost use Rattle.ell_cards.specs.Models.{IsTold, Knows};
+ghost use Rattle.ell_tree.specs.Ends.{try_steps};
+ghost use Rattle.ell_tree.specs.Helps.{IsBacked, IsParent, help_steps};
+ghost use Rattle.ell_tree.specs.Keeping.{Goes, IsInnerMet, Walks};
+ghost use Rattle.ell_tree.specs.Searches.{AtRoot};
+ghost use Rattle.ell_tree.specs.Tries.{Flags, HasCard, TryEnds, delete_stores, with_stores};
+
+use crate::helping::{DeleteFlag, Ending, finish_delete, help, help_delete};
+use crate::searching::{Passed, Place, search};
+use crate::steps::answer;
+use crate::trying::{Claimed, Tried, fill, take_card};
+use ell_cards::{CardTable, Pass};
+use ell_core::Field;
+use ell_ops::Op;
+use ell_word::{Kind, State, StepGate, Update, pack};
+use std::alloc::Allocator;
+
+/// One try of a delete.
+pub(crate) fn try_delete<A: Allocator + Copy, G: StepGate>(
+    table: &CardTable<A>,
+    pass: &mut Pass<A>,
+    key: u64,
+    gate: &G,
+) -> Tried
+    requires own { pass.old.table ≡ table.now.id }
+    requires root { AtRoot (Delete key) pass.old.view }
+    ensures steps { pass.new.steps + 1 ≤ pass.old.steps + try_steps table.now.cards }
+    ensures ends { TryEnds table.now.cards (Delete key) pass.old pass.new result }
+{
+    let op = Op::Delete(key);
+    let place = search(table, pass, op, gate);
+    if place.key != key {
+        answer(table, pass, op, false, gate);
+        return Tried::Answered(false);
+    }
+    // A leaf of a key of the set has a grandparent.
+    let Some(above) = place.grandparent else {
+        return Tried::Hindered;
+    };
+    if above.update.state != State::Clean {
+        help(table, pass, above.node, above.update, gate);
+        return Tried::Hindered;
+    }
+    let parent = place.parent;
+    if parent.update.state != State::Clean {
+        help(table, pass, parent.node, parent.update, gate);
+        return Tried::Hindered;
+    }
+    let card = match take_card(table, pass, op, place, gate) {
+        Claimed::Card(card) => card,
+        Claimed::NoneLeft => return Tried::Spent,
+        Claimed::Lost => return Tried::Hindered,
+    };
+    if let Err(found) = flag_delete(table, pass, card, key, above, place, gate) {
+        help(table, pass, above.node, found, gate);
+        return Tried::Hindered;
+    }
+    if !finish_own(table, pass, card, above.node, place.parent, gate) {
+        return Tried::Hindered;
+    }
+    answer(table, pass, op, true, gate);
+    Tried::Answered(true)
+}
+
+// Fills the card of a delete, and flags the grandparent with it.
+fn flag_delete<A: Allocator + Copy, G: StepGate>(
+    table: &CardTable<A>,
+    pass: &mut Pass<A>,
+    card: u64,
+    key: u64,
+    above: Passed,
+    place: Place,
+    gate: &G,
+) -> Result<(), Update>
+    requires own { pass.old.table ≡ table.now.id }
+    requires above { place.grandparent ≡ Some above }
+    requires limit { place.parent.update.card ≤ greatest_card }
+    requires card { HasCard (Delete key) place (delete_filling above.node place.parent.node place.leaf (packed place.parent.update)) pass.old.view card }
+    requires node { IsInnerMet table.now.cards pass.old.view above.node }
+    ensures goes { Goes pass.old pass.new 5 }
+    ensures flags { Flags table.now.cards DFlagged card above.node pass.old pass.new result }
+{
+    fill_delete(table, pass, card, key, above.node, place, gate);
+    gate.before(pass.label(), Kind::DFlag);
+    table.dflag(pass, card, above.node, above.update)
+}
+
+// Fills the card of a delete: where it cuts, and the update that its search read at the parent.
+fn fill_delete<A: Allocator + Copy, G: StepGate>(
+    table: &CardTable<A>,
+    pass: &mut Pass<A>,
+    card: u64,
+    key: u64,
+    grandparent: u64,
+    place: Place,
+    gate: &G,
+)
+    requires own { pass.old.table ≡ table.now.id }
+    requires limit { place.parent.update.card ≤ greatest_card }
+    requires card { HasCard (Delete key) place (delete_filling grandparent place.parent.node place.leaf (packed place.parent.update)) pass.old.view card }
+    ensures own { pass.new.table ≡ pass.old.table }
+    ensures label { pass.new.label ≡ pass.old.label }
+    ensures steps { pass.new.steps ≤ pass.old.steps + 4 }
+    ensures view { pass.new.view ≡ with_stores (delete_stores grandparent place) pass.old.view }
+    ensures filled { IsFilled pass.new.view }
+{
+    let _ = key;
+    fill(table, pass, card, Field::Gp, grandparent, gate);
+    fill(table, pass, card, Field::P, place.parent.node, gate);
+    fill(table, pass, card, Field::L, place.leaf, gate);
+    let was = pack(place.parent.update);
+    fill(table, pass, card, Field::Was, was, gate);
+}
+
+// HelpDelete of the own card, whose flag was won: whether its parent was cut out.
+#[tactic(auto, using(crate::proofs::Keeping::walks_told, crate::proofs::Keeping::walks_knows))]
+fn finish_own<A: Allocator + Copy, G: StepGate>(
+    table: &CardTable<A>,
+    pass: &mut Pass<A>,
+    card: u64,
+    grandparent: u64,
+    parent: Passed,
+    gate: &G,
+) -> bool
+    requires own { pass.old.table ≡ table.now.id }
+    requires limit { parent.update.card ≤ greatest_card }
+    requires knows { Knows pass.old.view (DFlagged card) }
+    requires grandparent { IsTold pass.old.view (Info card field.Gp grandparent) }
+    requires node { IsInnerMet table.now.cards pass.old.view grandparent }
+    requires parent { IsParent table.now.cards pass.old.view card parent.node }
+    requires read { IsTold pass.old.view (Info card field.Was (packed parent.update)) }
+    ensures walks { Walks pass.old pass.new (help_steps table.now.cards + 2) }
+    ensures done { OnTrue result (Knows pass.new.view (DOver card)) }
+    ensures backed { OnFalse result (IsBacked card pass.old.view pass.new.view) }
+{
+    let flag = DeleteFlag { card, grandparent };
+    let was = pack(parent.update);
+    match finish_delete(table, pass, flag, parent.node, was, gate) {
+        Ending::Done => true,
+        Ending::Backed => false,
+        Ending::Behind(next) => {
+            help_delete(table, pass, next, gate);
+            false
+        }
+    }
+}

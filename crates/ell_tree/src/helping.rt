@@ -1,0 +1,235 @@
+//! Helping whoever stands in the way, by the words of its card (paper of 2010, figures 8 and 9: Help, HelpInsert, HelpDelete and
+//! HelpMarked).
+#![tactic(auto, using(crate::proofs::Keeping::walks_told, crate::proofs::Keeping::walks_knows))]
+ghost use Rattle.std.specs.Prelude.{◌≡◌};
+ghost use Rattle.ell_core.specs.declared.fact.Fact.TheVariants as fact;
+ghost use Rattle.ell_core.specs.declared.field.Field.TheVariants as field;
+ghost use Rattle.ell_cards.specs.declared.view.Told.TheVariants as told;
+ghost use Rattle.ell_cards.specs.Models.{IsTold, Knows};
+ghost use Rattle.ell_tree.specs.Helps.{DeleteEnds, HasSibling, HelpEnds, IsFlag, IsInsert, IsMarked, IsParent, chain_steps, help_steps};
+ghost use Rattle.ell_tree.specs.Keeping.{IsSeenAt, Walks};
+
+use crate::steps::{
+    KeyedNode, change_child, clear_delete, clear_insert, cut_parent, go_back, look_child,
+    look_info, look_key, set_mark,
+};
+use ell_cards::{CardTable, Pass};
+use ell_core::Field;
+use ell_word::{State, StepGate, Update};
+use std::alloc::Allocator;
+
+/// The flag of a delete, and the node where it stands.
+#[derive(Clone, Copy, Debug, PartialEq, Eq, Hash)]
+pub(crate) struct DeleteFlag {
+    pub card: u64,
+    pub grandparent: u64,
+}
+
+/// How a delete whose flag was won ends.
+#[derive(Clone, Copy, Debug, PartialEq, Eq, Hash)]
+pub(crate) enum Ending {
+    /// Its parent was cut out, and its flag taken away.
+    Done,
+    /// Its mark was lost: what was in its way was helped, and its flag taken away.
+    Backed,
+    /// Its mark was lost to the flag of another delete: its own flag was taken away.
+    Behind(DeleteFlag),
+}
+
+/// Helps what an update at a node says is under way.
+pub(crate) fn help<A: Allocator + Copy, G: StepGate>(
+    table: &CardTable<A>,
+    pass: &mut Pass<A>,
+    node: u64,
+    update: Update,
+    gate: &G,
+)
+    requires own { pass.old.table ≡ table.now.id }
+    requires seen { IsSeenAt table.now.cards pass.old.view node update }
+    ensures { Walks pass.old pass.new (help_steps table.now.cards) }
+{
+    let card = update.card;
+    match update.state {
+        State::IFlag => help_insert(table, pass, card, node, gate),
+        State::DFlag => {
+            let flag = DeleteFlag {
+                card,
+                grandparent: node,
+            };
+            help_delete(table, pass, flag, gate);
+        }
+        State::Mark => help_marked(table, pass, card, node, gate),
+        State::Clean => {}
+    }
+}
+
+/// HelpInsert: makes the child exchange of the insert whose flag stands at a node, and takes the flag away.
+pub(crate) fn help_insert<A: Allocator + Copy, G: StepGate>(
+    table: &CardTable<A>,
+    pass: &mut Pass<A>,
+    card: u64,
+    parent: u64,
+    gate: &G,
+)
+    requires own { pass.old.table ≡ table.now.id }
+    requires flagged { Knows pass.old.view (fact.IFlagged card) }
+    requires met { IsTold pass.old.view (told.Met parent) }
+    requires parent { IsTold pass.old.view (told.Info card field.P parent) }
+    ensures walks { Walks pass.old pass.new 5 }
+{
+    let leaf = look_info(table, pass, card, Field::L, gate);
+    let card_key = look_info(table, pass, card, Field::Key, gate);
+    finish_insert(table, pass, card, parent, leaf, card_key, gate);
+}
+
+/// The same where leaf and key of the card are known.
+pub(crate) fn finish_insert<A: Allocator + Copy, G: StepGate>(
+    table: &CardTable<A>,
+    pass: &mut Pass<A>,
+    card: u64,
+    parent: u64,
+    leaf: u64,
+    card_key: u64,
+    gate: &G,
+)
+    requires own { pass.old.table ≡ table.now.id }
+    requires insert { IsInsert pass.old.view card parent leaf card_key }
+    ensures walks { Walks pass.old pass.new 3 }
+    ensures over { Knows pass.new.view (fact.IOver card) }
+{
+    let above = look_key(table, pass, parent, gate);
+    change_child(table, pass, card, above, leaf, card_key, gate);
+    clear_insert(table, pass, card, parent, gate);
+}
+
+/// HelpMarked: cuts the parent that a delete has marked out of the tree.
+pub(crate) fn help_marked<A: Allocator + Copy, G: StepGate>(
+    table: &CardTable<A>,
+    pass: &mut Pass<A>,
+    card: u64,
+    parent: u64,
+    gate: &G,
+)
+    requires own { pass.old.table ≡ table.now.id }
+    requires marked { Knows pass.old.view (fact.Marked card) }
+    requires parent { IsTold pass.old.view (told.Info card field.P parent) }
+    ensures walks { Walks pass.old pass.new 8 }
+{
+    let grandparent = look_info(table, pass, card, Field::Gp, gate);
+    finish_marked(table, pass, card, grandparent, parent, gate);
+}
+
+// The same where the grandparent is known.
+fn finish_marked<A: Allocator + Copy, G: StepGate>(
+    table: &CardTable<A>,
+    pass: &mut Pass<A>,
+    card: u64,
+    grandparent: u64,
+    parent: u64,
+    gate: &G,
+)
+    requires own { pass.old.table ≡ table.now.id }
+    requires marked { IsMarked pass.old.view card grandparent parent }
+    ensures walks { Walks pass.old pass.new 7 }
+    ensures over { Knows pass.new.view (fact.DOver card) }
+{
+    let sibling = find_sibling(table, pass, card, parent, gate);
+    let above = look_key(table, pass, grandparent, gate);
+    cut_parent(table, pass, card, above, parent, sibling, gate);
+    clear_delete(table, pass, card, grandparent, gate);
+}
+
+// The sibling of the leaf of a delete, at the parent that it has marked.
+fn find_sibling<A: Allocator + Copy, G: StepGate>(
+    table: &CardTable<A>,
+    pass: &mut Pass<A>,
+    card: u64,
+    parent: u64,
+    gate: &G,
+) -> KeyedNode
+    requires own { pass.old.table ≡ table.now.id }
+    requires marked { Knows pass.old.view (fact.Marked card) }
+    requires parent { IsTold pass.old.view (told.Info card field.P parent) }
+    ensures walks { Walks pass.old pass.new 4 }
+    ensures sibling { HasSibling pass.new.view card result }
+{
+    let leaf = look_info(table, pass, card, Field::L, gate);
+    let right = look_child(table, pass, card, parent, true, gate);
+    let sibling = if right == leaf {
+        look_child(table, pass, card, parent, false, gate)
+    } else {
+        right
+    };
+    look_key(table, pass, sibling, gate)
+}
+
+/// HelpDelete of a flag that was met: marks the parent and cuts it out, or takes the flag back. Where another delete's flag is in
+/// the way, it goes on with that one, deeper in the tree.
+pub(crate) fn help_delete<A: Allocator + Copy, G: StepGate>(
+    table: &CardTable<A>,
+    pass: &mut Pass<A>,
+    flag: DeleteFlag,
+    gate: &G,
+)
+    requires own { pass.old.table ≡ table.now.id }
+    requires flag { IsFlag table.now.cards pass.old.view flag }
+    ensures { Walks pass.old pass.new (chain_steps table.now.cards flag.grandparent) }
+{
+    let mut flag = flag;
+    while let Ending::Behind(next) = help_one_delete(table, pass, flag, gate) {
+        flag = next;
+    }
+}
+
+// One delete of such a chain.
+fn help_one_delete<A: Allocator + Copy, G: StepGate>(
+    table: &CardTable<A>,
+    pass: &mut Pass<A>,
+    flag: DeleteFlag,
+    gate: &G,
+) -> Ending
+    requires own { pass.old.table ≡ table.now.id }
+    requires flag { IsFlag table.now.cards pass.old.view flag }
+    ensures { HelpEnds table.now.cards flag pass.old pass.new result }
+{
+    let parent = look_info(table, pass, flag.card, Field::P, gate);
+    let was = look_info(table, pass, flag.card, Field::Was, gate);
+    finish_delete(table, pass, flag, parent, was, gate)
+}
+
+/// HelpDelete, where the parent and the update that the delete's search read there are known, up to another delete's flag that is
+/// in the way.
+pub(crate) fn finish_delete<A: Allocator + Copy, G: StepGate>(
+    table: &CardTable<A>,
+    pass: &mut Pass<A>,
+    flag: DeleteFlag,
+    parent: u64,
+    was: u64,
+    gate: &G,
+) -> Ending
+    requires own { pass.old.table ≡ table.now.id }
+    requires flag { IsFlag table.now.cards pass.old.view flag }
+    requires parent { IsParent table.now.cards pass.old.view flag.card parent }
+    requires read { IsTold pass.old.view (told.Info flag.card field.Was was) }
+    ensures { DeleteEnds table.now.cards flag.card parent pass.old pass.new result }
+{
+    let DeleteFlag { card, grandparent } = flag;
+    let Some(found) = set_mark(table, pass, card, parent, was, gate) else {
+        finish_marked(table, pass, card, grandparent, parent, gate);
+        return Ending::Done;
+    };
+    match found.state {
+        State::DFlag => {
+            go_back(table, pass, card, grandparent, gate);
+            return Ending::Behind(DeleteFlag {
+                card: found.card,
+                grandparent: parent,
+            });
+        }
+        State::IFlag => help_insert(table, pass, found.card, parent, gate),
+        State::Mark => help_marked(table, pass, found.card, parent, gate),
+        State::Clean => {}
+    }
+    go_back(table, pass, card, grandparent, gate);
+    Ending::Backed
+}

@@ -1,0 +1,117 @@
+//! Inserts (paper of 2010, figure 8: Insert).
+ghost use Rattle.std.specs.Prelude.{◌≡◌, ◌≤◌, ◌+◌};
+ghost use Rattle.ell_ops.specs.declared.op.Op.TheVariants.{Insert};
+ghost use Rattle.ell_word.specs.Node.{greatest_card};
+ghost use Rattle.ell_core.specs.declared.fact.Fact.TheVariants.{IFlagged};
+ghost use Rattle.ell_core.specs.state.Cards.{insert_filling};
+ghost use Rattle.ell_cards.specs.Guards.{IsFilled};
+ghost use Rattle.ell_tree.specs.Ends.{try_steps};
+ghost use Rattle.ell_tree.specs.Keeping.{Goes, IsInnerMet};
+ghost use Rattle.ell_tree.specs.Searches.{AtRoot};
+ghost use Rattle.ell_tree.specs.Tries.{Flags, HasCard, TryEnds, insert_stores, with_stores};
+
+use crate::helping::{finish_insert, help};
+use crate::searching::{Passed, Place, search};
+use crate::steps::answer;
+use crate::trying::{Claimed, Tried, fill, take_card};
+use ell_cards::{CardTable, Pass};
+use ell_core::{Field, update_word};
+use ell_ops::Op;
+use ell_word::{Kind, State, StepGate, Update, left_leaf_of, right_leaf_of};
+use std::alloc::Allocator;
+
+/// One try of an insert.
+pub(crate) fn try_insert<A: Allocator + Copy, G: StepGate>(
+    table: &CardTable<A>,
+    pass: &mut Pass<A>,
+    key: u64,
+    gate: &G,
+) -> Tried
+    requires own { pass.old.table ≡ table.now.id }
+    requires root { AtRoot (Insert key) pass.old.view }
+    ensures steps { pass.new.steps + 1 ≤ pass.old.steps + try_steps table.now.cards }
+    ensures ends { TryEnds table.now.cards (Insert key) pass.old pass.new result }
+{
+    let op = Op::Insert(key);
+    let place = search(table, pass, op, gate);
+    if place.key == key {
+        answer(table, pass, op, false, gate);
+        return Tried::Answered(false);
+    }
+    let Passed {
+        node: parent,
+        update,
+    } = place.parent;
+    if update.state != State::Clean {
+        help(table, pass, parent, update, gate);
+        return Tried::Hindered;
+    }
+    let card = match take_card(table, pass, op, place, gate) {
+        Claimed::Card(card) => card,
+        Claimed::NoneLeft => return Tried::Spent,
+        Claimed::Lost => return Tried::Hindered,
+    };
+    match flag_insert(table, pass, card, key, place, gate) {
+        Ok(()) => {
+            let card_key = key.max(place.key);
+            finish_insert(table, pass, card, parent, place.leaf, card_key, gate);
+            answer(table, pass, op, true, gate);
+            Tried::Answered(true)
+        }
+        Err(found) => {
+            help(table, pass, parent, found, gate);
+            Tried::Hindered
+        }
+    }
+}
+
+// Fills the card of an insert, and flags the parent with it.
+fn flag_insert<A: Allocator + Copy, G: StepGate>(
+    table: &CardTable<A>,
+    pass: &mut Pass<A>,
+    card: u64,
+    key: u64,
+    place: Place,
+    gate: &G,
+) -> Result<(), Update>
+    requires own { pass.old.table ≡ table.now.id }
+    requires there { card ≤ table.now.cards }
+    requires card { HasCard (Insert key) place (insert_filling card key place.parent.node place.leaf place.key) pass.old.view card }
+    requires node { IsInnerMet table.now.cards pass.old.view place.parent.node }
+    ensures goes { Goes pass.old pass.new 9 }
+    ensures flags { Flags table.now.cards IFlagged card place.parent.node pass.old pass.new result }
+{
+    fill_insert(table, pass, card, key, place, gate);
+    gate.before(pass.label(), Kind::IFlag);
+    table.iflag(pass, card, place.parent.node, place.parent.update)
+}
+
+// Fills the card of an insert: an internal node, and below it the leaf of the key and a copy of the old leaf, the lesser key left.
+fn fill_insert<A: Allocator + Copy, G: StepGate>(
+    table: &CardTable<A>,
+    pass: &mut Pass<A>,
+    card: u64,
+    key: u64,
+    place: Place,
+    gate: &G,
+)
+    requires own { pass.old.table ≡ table.now.id }
+    requires limit { card ≤ greatest_card }
+    requires card { HasCard (Insert key) place (insert_filling card key place.parent.node place.leaf place.key) pass.old.view card }
+    ensures own { pass.new.table ≡ pass.old.table }
+    ensures label { pass.new.label ≡ pass.old.label }
+    ensures steps { pass.new.steps ≤ pass.old.steps + 8 }
+    ensures view { pass.new.view ≡ with_stores (insert_stores card key place) pass.old.view }
+    ensures filled { IsFilled pass.new.view }
+{
+    let (lesser, greater) = (key.min(place.key), key.max(place.key));
+    fill(table, pass, card, Field::P, place.parent.node, gate);
+    fill(table, pass, card, Field::L, place.leaf, gate);
+    fill(table, pass, card, Field::Key, greater, gate);
+    fill(table, pass, card, Field::Left, left_leaf_of(card), gate);
+    fill(table, pass, card, Field::Right, right_leaf_of(card), gate);
+    let clean = update_word(State::Clean, 0);
+    fill(table, pass, card, Field::Update, clean, gate);
+    fill(table, pass, card, Field::LeftLeafKey, lesser, gate);
+    fill(table, pass, card, Field::RightLeafKey, greater, gate);
+}

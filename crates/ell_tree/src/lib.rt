@@ -1,0 +1,16 @@
+//! A set of keys that many threads share: the non-blocking binary search tree of Ellen, Fatourou, Ruppert and van Breugel
+//! (PODC 2010). No writer waits for another; a writer that stalls is finished by its neighbours.
+#![tactic(auto)]
+
+mod deleting;
+mod helping;
+mod inserting;
+mod operations;
+mod searching;
+mod steps;
+mod tree;
+mod trying;
+
+pub use ell_cards::{CardFault, Pass};
+pub use operations::Held;
+pub use tree::Tree;

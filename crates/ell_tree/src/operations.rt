@@ -1,0 +1,158 @@
+//! The operations: find, insert and delete.
+ghost use Rattle.std.specs.Prelude.{◌≡◌, ◌≤◌, ◌+◌, true};
+ghost use Rattle.ell_ops.specs.declared.op.Op.TheVariants.{Find, Insert, Delete};
+ghost use Rattle.ell_ops.specs.Meaning.{key_of};
+ghost use Rattle.ell_tree.specs.Ends.{Answers, Ends, change_steps, find_steps, try_steps};
+ghost use Rattle.ell_tree.specs.Ledgers.{IsIdle, Owns};
+ghost use Rattle.ell_tree.specs.Searches.{AtRoot};
+ghost use Rattle.ell_tree.specs.Tries.{Begins, Stops, TryEnds, op_of};
+
+use crate::deleting::try_delete;
+use crate::inserting::try_insert;
+use crate::searching::search;
+use crate::steps::{again, answer, begin, leave};
+use crate::trying::Tried;
+use ell_cards::{CardTable, Pass};
+use ell_ops::Op;
+use ell_word::{Kind, StepGate};
+use std::alloc::Allocator;
+
+/// Why an insert or a delete has no answer. The set is as it was before, and nothing of the call is under way.
+#[derive(Clone, Copy, Debug, PartialEq, Eq, Hash)]
+pub enum Held {
+    /// All tries ended without an answer: something was in the way of each.
+    Busy,
+    /// All cards of the tree are given out.
+    Spent,
+}
+
+/// An operation that may change the set.
+#[derive(Clone, Copy, Debug, PartialEq, Eq, Hash)]
+pub(crate) enum Change {
+    Insert(u64),
+    Delete(u64),
+}
+
+/// Whether a key is present. It never helps.
+pub(crate) fn find<A: Allocator + Copy, G: StepGate>(
+    table: &CardTable<A>,
+    pass: &mut Pass<A>,
+    key: u64,
+    gate: &G,
+) -> bool
+    requires own { pass.old.table ≡ table.now.id }
+    requires idle { IsIdle pass.old }
+    requires owned { Owns pass.old key }
+    ensures answers { Answers (Find key) result pass.old pass.new }
+    ensures steps { pass.new.steps ≤ pass.old.steps + find_steps table.now.cards }
+{
+    let label = pass.label();
+    let op = Op::Find(key);
+    gate.before(label, Kind::Begin);
+    begin(table, pass, op, gate);
+    let place = search(table, pass, op, gate);
+    let found = place.key == key;
+    answer(table, pass, op, found, gate);
+    gate.after(label, true);
+    found
+}
+
+/// Makes a change, in so many tries.
+pub(crate) fn make_change<A: Allocator + Copy, G: StepGate>(
+    table: &CardTable<A>,
+    pass: &mut Pass<A>,
+    change: Change,
+    tries: u32,
+    gate: &G,
+) -> Result<bool, Held>
+    requires own { pass.old.table ≡ table.now.id }
+    requires idle { IsIdle pass.old }
+    requires owned { Owns pass.old (key_of (op_of change)) }
+    requires tries { 1 ≤ tries }
+    ensures ends { Ends table.now.cards tries (op_of change) pass.old pass.new result }
+    ensures steps { pass.new.steps ≤ pass.old.steps + change_steps table.now.cards tries }
+{
+    let label = pass.label();
+    gate.before(label, Kind::Begin);
+    let ended = try_often(table, pass, change, tries, gate);
+    gate.after(label, ended.is_ok());
+    ended
+}
+
+// Tries a change, so many times.
+fn try_often<A: Allocator + Copy, G: StepGate>(
+    table: &CardTable<A>,
+    pass: &mut Pass<A>,
+    change: Change,
+    tries: u32,
+    gate: &G,
+) -> Result<bool, Held>
+    requires own { pass.old.table ≡ table.now.id }
+    requires idle { IsIdle pass.old }
+    requires owned { Owns pass.old (key_of (op_of change)) }
+    requires tries { 1 ≤ tries }
+    ensures ends { Ends table.now.cards tries (op_of change) pass.old pass.new result }
+    ensures steps { pass.new.steps ≤ pass.old.steps + change_steps table.now.cards tries }
+{
+    let op = op_of(change);
+    begin(table, pass, op, gate);
+    for round in 0..tries {
+        restart(table, pass, op, round == 0, gate);
+        match try_once(table, pass, change, gate) {
+            Tried::Answered(said) => return Ok(said),
+            Tried::Spent => {
+                leave(table, pass, op, gate);
+                return Err(Held::Spent);
+            }
+            Tried::Hindered => {}
+        }
+    }
+    leave(table, pass, op, gate);
+    Err(Held::Busy)
+}
+
+// The operation that a change is.
+fn op_of(change: Change) -> Op
+    ensures { result ≡ op_of change }
+{
+    match change {
+        Change::Insert(key) => Op::Insert(key),
+        Change::Delete(key) => Op::Delete(key),
+    }
+}
+
+// Starts the search anew, unless this is the first try.
+fn restart<A: Allocator + Copy, G: StepGate>(
+    table: &CardTable<A>,
+    pass: &mut Pass<A>,
+    op: Op,
+    first: bool,
+    gate: &G,
+)
+    requires own { pass.old.table ≡ table.now.id }
+    requires stops { Stops op pass.old.view }
+    requires root { first ≡ true → AtRoot op pass.old.view }
+    ensures { Begins op pass.old pass.new }
+{
+    if !first {
+        again(table, pass, op, gate);
+    }
+}
+
+// One try.
+fn try_once<A: Allocator + Copy, G: StepGate>(
+    table: &CardTable<A>,
+    pass: &mut Pass<A>,
+    change: Change,
+    gate: &G,
+) -> Tried
+    requires own { pass.old.table ≡ table.now.id }
+    requires root { AtRoot (op_of change) pass.old.view }
+    ensures steps { pass.new.steps + 1 ≤ pass.old.steps + try_steps table.now.cards }
+    ensures ends { TryEnds table.now.cards (op_of change) pass.old pass.new result }
+{
+    match change {
+        Change::Insert(key) => try_insert(table, pass, key, gate),
+        Change::Delete(key) => try_delete(table, pass, key, gate),
+    }
+}

@@ -1,0 +1,88 @@
+//! The search (paper of 2010, figure 8: Search).
+ghost use Rattle.std.specs.Prelude.{◌≡◌, ◌<◌, ◌+◌, ◌*◌, None};
+ghost use Rattle.ell_cards.specs.Models.{Does, InTable, IsTold, StandsAt};
+ghost use Rattle.ell_cards.specs.declared.view.Told.TheVariants.{Met};
+ghost use Rattle.ell_tree.specs.Keeping.{IsInnerMet, Walks};
+ghost use Rattle.ell_tree.specs.Searches.{AtRoot, EndsAt, Passes, below};
+
+use ell_cards::{CardTable, Pass};
+use ell_ops::Op;
+use ell_word::{Kind, StepGate, Update, is_internal};
+use std::alloc::Allocator;
+
+/// A node that a search passed, with the update that it read there.
+#[derive(Clone, Copy, Debug, PartialEq, Eq, Hash)]
+pub(crate) struct Passed {
+    pub node: u64,
+    pub update: Update,
+}
+
+/// Where a search ended: a leaf with its key, its parent, and its grandparent if there is one.
+#[derive(Clone, Copy, Debug, PartialEq, Eq, Hash)]
+pub(crate) struct Place {
+    pub leaf: u64,
+    pub key: u64,
+    pub parent: Passed,
+    pub grandparent: Option<Passed>,
+}
+
+/// Searches for the operation's key from the root.
+pub(crate) fn search<A: Allocator + Copy, G: StepGate>(
+    table: &CardTable<A>,
+    pass: &mut Pass<A>,
+    op: Op,
+    gate: &G,
+) -> Place
+    requires own { pass.old.table ≡ table.now.id }
+    requires root { AtRoot op pass.old.view }
+    ensures walks { Walks pass.old pass.new (3 * table.now.cards + 4) }
+    ensures ends { EndsAt table.now.cards pass.old.view pass.new.view op result }
+{
+    let (mut parent, mut node) = descend(table, pass, op, 0, gate);
+    let mut grandparent = None;
+    while is_internal(node) {
+        let (passed, child) = descend(table, pass, op, node, gate);
+        grandparent = Some(parent);
+        parent = passed;
+        node = child;
+    }
+    gate.before(pass.label(), Kind::Look);
+    let key = table.key_of(pass, node);
+    Place {
+        leaf: node,
+        key,
+        parent,
+        grandparent,
+    }
+}
+
+// Goes down from an internal node, whose update it reads before the child: what it read there, and the child.
+fn descend<A: Allocator + Copy, G: StepGate>(
+    table: &CardTable<A>,
+    pass: &mut Pass<A>,
+    op: Op,
+    node: u64,
+    gate: &G,
+) -> (Passed, u64)
+    requires own { pass.old.table ≡ table.now.id }
+    requires busy { Does pass.old.view op }
+    requires stands { StandsAt pass.old.view node }
+    requires unread { pass.old.view.worker.search.read ≡ None }
+    requires node { IsInnerMet table.now.cards pass.old.view node }
+    ensures walks { Walks pass.old pass.new 3 }
+    ensures here { result.0.node ≡ node }
+    ensures deeper { node < result.1 }
+    ensures there { InTable table.now.cards result.1 }
+    ensures search { pass.new.view.worker.search ≡ below result.1 result.0 pass.old.view.worker.search.parent }
+    ensures met { IsTold pass.new.view (Met result.1) }
+    ensures passed { Passes table.now.cards pass.old.view pass.new.view result.0 }
+{
+    let label = pass.label();
+    gate.before(label, Kind::Look);
+    let update = table.upd(pass, node);
+    gate.before(label, Kind::Look);
+    let node_key = table.key_of(pass, node);
+    gate.before(label, Kind::Look);
+    let child = table.down(pass, node, node_key <= op.key());
+    (Passed { node, update }, child)
+}

@@ -1,0 +1,295 @@
+//! The atomic steps beside the search and the card, each told to the gate just before it is made.
+ghost use Rattle.std.specs.Prelude.{◌≡◌, ◌≢◌, ◌≤◌, ◌+◌, IfSome, None};
+ghost use Rattle.ell_ops.specs.Meaning.{key_of};
+ghost use Rattle.ell_core.specs.declared.fact.Fact.TheVariants as fact;
+ghost use Rattle.ell_core.specs.declared.field.Field.TheVariants as field;
+ghost use Rattle.ell_core.specs.state.Machine.{ledger_of};
+ghost use Rattle.ell_cards.specs.declared.view.Told.TheVariants as told;
+ghost use Rattle.ell_cards.specs.Models.{Does, IsFree, IsTold, Knows};
+ghost use Rattle.ell_cards.specs.Changes.{is_mark_of};
+ghost use Rattle.ell_cards.specs.Guards.{MayAnswer, MayAsk, MaySee};
+ghost use Rattle.ell_cards.specs.Calls.{TellsDepth, TellsNode};
+ghost use Rattle.ell_tree.specs.Ends.{Answers};
+ghost use Rattle.ell_tree.specs.Helps.{HasSibling, IsLost, IsMarked, IsParent, NamesNode, found_instead};
+ghost use Rattle.ell_tree.specs.Keeping.{Walks};
+ghost use Rattle.ell_tree.specs.Tries.{Begins, Lays, Stops};
+
+use ell_cards::{CardTable, Pass};
+use ell_core::Field;
+use ell_ops::Op;
+use ell_word::{Kind, State, StepGate, Update};
+use std::alloc::Allocator;
+
+/// A node with its key.
+#[derive(Clone, Copy, Debug, PartialEq, Eq, Hash)]
+pub(crate) struct KeyedNode {
+    pub node: u64,
+    pub key: u64,
+}
+
+/// Takes an operation in hand.
+pub(crate) fn begin<A: Allocator + Copy, G: StepGate>(
+    table: &CardTable<A>,
+    pass: &mut Pass<A>,
+    op: Op,
+    gate: &G,
+)
+    requires own { pass.old.table ≡ table.now.id }
+    requires free { IsFree pass.old.view }
+    requires owned { ledger_of pass.old.view.worker.ledger (key_of op) ≢ None }
+    ensures { Begins op pass.old pass.new }
+{
+    gate.before(pass.label(), Kind::Note);
+    table.begin(pass, op);
+}
+
+/// Starts the search anew.
+#[tactic(auto, using(crate::proofs::Beginning::begins_anew))]
+pub(crate) fn again<A: Allocator + Copy, G: StepGate>(
+    table: &CardTable<A>,
+    pass: &mut Pass<A>,
+    op: Op,
+    gate: &G,
+)
+    requires own { pass.old.table ≡ table.now.id }
+    requires stops { Stops op pass.old.view }
+    ensures { Begins op pass.old pass.new }
+{
+    gate.before(pass.label(), Kind::Note);
+    let _ = op;
+    table.again(pass);
+}
+
+/// Lays the operation down without an answer.
+pub(crate) fn leave<A: Allocator + Copy, G: StepGate>(
+    table: &CardTable<A>,
+    pass: &mut Pass<A>,
+    op: Op,
+    gate: &G,
+)
+    requires own { pass.old.table ≡ table.now.id }
+    requires stops { Stops op pass.old.view }
+    ensures { Lays pass.old pass.new }
+{
+    gate.before(pass.label(), Kind::Note);
+    let _ = op;
+    table.leave(pass);
+}
+
+/// Answers the operation.
+pub(crate) fn answer<A: Allocator + Copy, G: StepGate>(
+    table: &CardTable<A>,
+    pass: &mut Pass<A>,
+    op: Op,
+    said: bool,
+    gate: &G,
+)
+    requires own { pass.old.table ≡ table.now.id }
+    requires busy { Does pass.old.view op }
+    requires may { MayAnswer pass.old.view said }
+    ensures answers { Answers op said pass.old pass.new }
+    ensures steps { pass.new.steps ≤ pass.old.steps + 1 }
+{
+    gate.before(pass.label(), Kind::Note);
+    let _ = op;
+    table.answer(pass, said);
+}
+
+/// Reads the key of a node that the pass has met.
+pub(crate) fn look_key<A: Allocator + Copy, G: StepGate>(
+    table: &CardTable<A>,
+    pass: &mut Pass<A>,
+    node: u64,
+    gate: &G,
+) -> KeyedNode
+    requires own { pass.old.table ≡ table.now.id }
+    requires met { IsTold pass.old.view (told.Met node) }
+    ensures walks { Walks pass.old pass.new 1 }
+    ensures node { result.node ≡ node }
+    ensures told { IsTold pass.new.view (told.Key node result.key) }
+{
+    gate.before(pass.label(), Kind::Look);
+    let key = table.key_of(pass, node);
+    KeyedNode { node, key }
+}
+
+/// Reads a word of a card that the pass knows flagged or marked.
+pub(crate) fn look_info<A: Allocator + Copy, G: StepGate>(
+    table: &CardTable<A>,
+    pass: &mut Pass<A>,
+    card: u64,
+    field: Field,
+    gate: &G,
+) -> u64
+    requires own { pass.old.table ≡ table.now.id }
+    requires may { MayAsk pass.old.view card field }
+    ensures walks { Walks pass.old pass.new 1 }
+    ensures told { IsTold pass.new.view (told.Info card field result) }
+    ensures met { NamesNode field → IsTold pass.new.view (told.Met result) }
+    ensures node { TellsNode table.now.cards field result }
+    ensures depth { TellsDepth pass.old.view card field result }
+{
+    gate.before(pass.label(), Kind::Look);
+    table.info(pass, card, field)
+}
+
+/// Reads a child of the parent that a card has marked.
+pub(crate) fn look_child<A: Allocator + Copy, G: StepGate>(
+    table: &CardTable<A>,
+    pass: &mut Pass<A>,
+    card: u64,
+    parent: u64,
+    right: bool,
+    gate: &G,
+) -> u64
+    requires own { pass.old.table ≡ table.now.id }
+    requires may { MaySee pass.old.view card parent }
+    ensures walks { Walks pass.old pass.new 1 }
+    ensures told { IsTold pass.new.view (told.Frozen card right result) }
+    ensures met { IsTold pass.new.view (told.Met result) }
+{
+    gate.before(pass.label(), Kind::Look);
+    table.frozen_child(pass, card, parent, right)
+}
+
+/// Makes the child exchange of an insert.
+pub(crate) fn change_child<A: Allocator + Copy, G: StepGate>(
+    table: &CardTable<A>,
+    pass: &mut Pass<A>,
+    card: u64,
+    parent: KeyedNode,
+    leaf: u64,
+    card_key: u64,
+    gate: &G,
+)
+    requires own { pass.old.table ≡ table.now.id }
+    requires flagged { Knows pass.old.view (fact.IFlagged card) }
+    requires parent { IsTold pass.old.view (told.Info card field.P parent.node) }
+    requires parent_key { IsTold pass.old.view (told.Key parent.node parent.key) }
+    requires leaf { IsTold pass.old.view (told.Info card field.L leaf) }
+    requires card_key { IsTold pass.old.view (told.Info card field.Key card_key) }
+    ensures walks { Walks pass.old pass.new 1 }
+    ensures changed { Knows pass.new.view (fact.IChanged card) }
+{
+    gate.before(pass.label(), Kind::IChild);
+    let right = parent.key <= card_key;
+    let _ = table.ichild(pass, card, parent.node, leaf, right);
+}
+
+/// Takes the flag of an insert away.
+pub(crate) fn clear_insert<A: Allocator + Copy, G: StepGate>(
+    table: &CardTable<A>,
+    pass: &mut Pass<A>,
+    card: u64,
+    parent: u64,
+    gate: &G,
+)
+    requires own { pass.old.table ≡ table.now.id }
+    requires changed { Knows pass.old.view (fact.IChanged card) }
+    requires parent { IsTold pass.old.view (told.Info card field.P parent) }
+    ensures walks { Walks pass.old pass.new 1 }
+    ensures over { Knows pass.new.view (fact.IOver card) }
+{
+    gate.before(pass.label(), Kind::IUnflag);
+    let _ = table.iunflag(pass, card, parent);
+}
+
+/// Marks the parent of a delete: none where its mark stands now, else the update that was found in its place.
+pub(crate) fn set_mark<A: Allocator + Copy, G: StepGate>(
+    table: &CardTable<A>,
+    pass: &mut Pass<A>,
+    card: u64,
+    parent: u64,
+    was: u64,
+    gate: &G,
+) -> Option<Update>
+    requires own { pass.old.table ≡ table.now.id }
+    requires flagged { Knows pass.old.view (fact.DFlagged card) }
+    requires parent { IsParent table.now.cards pass.old.view card parent }
+    requires read { IsTold pass.old.view (told.Info card field.Was was) }
+    ensures walks { Walks pass.old pass.new 1 }
+    ensures marked { result ≡ None → Knows pass.new.view (fact.Marked card) }
+    ensures lost { IfSome result (λ found. IsLost table.now.cards card parent found pass.old.view pass.new.view) }
+{
+    gate.before(pass.label(), Kind::Mark);
+    let marked = table.mark(pass, card, parent, was);
+    found_instead(card, marked)
+}
+
+// What a mark found in its place, if it does not stand.
+fn found_instead(card: u64, marked: Result<(), Update>) -> Option<Update>
+    ensures { result ≡ found_instead card marked }
+{
+    match marked {
+        Err(found) if !is_mark(card, found) => Some(found),
+        _ => None,
+    }
+}
+
+// Whether an update is the mark of a card.
+fn is_mark(card: u64, update: Update) -> bool
+    ensures { result ≡ is_mark_of card update.state update.card }
+{
+    match update.state {
+        State::Mark => update.card == card,
+        State::IFlag | State::DFlag | State::Clean => false,
+    }
+}
+
+/// Makes the child exchange of a delete.
+pub(crate) fn cut_parent<A: Allocator + Copy, G: StepGate>(
+    table: &CardTable<A>,
+    pass: &mut Pass<A>,
+    card: u64,
+    grandparent: KeyedNode,
+    parent: u64,
+    sibling: KeyedNode,
+    gate: &G,
+)
+    requires own { pass.old.table ≡ table.now.id }
+    requires marked { IsMarked pass.old.view card grandparent.node parent }
+    requires above { IsTold pass.old.view (told.Key grandparent.node grandparent.key) }
+    requires sibling { HasSibling pass.old.view card sibling }
+    ensures walks { Walks pass.old pass.new 1 }
+    ensures cut { Knows pass.new.view (fact.Cut card) }
+{
+    gate.before(pass.label(), Kind::DChild);
+    let right = grandparent.key <= sibling.key;
+    let _ = table.dchild(pass, card, grandparent.node, parent, sibling.node, right);
+}
+
+/// Takes the flag of a delete away after its child exchange.
+pub(crate) fn clear_delete<A: Allocator + Copy, G: StepGate>(
+    table: &CardTable<A>,
+    pass: &mut Pass<A>,
+    card: u64,
+    grandparent: u64,
+    gate: &G,
+)
+    requires own { pass.old.table ≡ table.now.id }
+    requires cut { Knows pass.old.view (fact.Cut card) }
+    requires grandparent { IsTold pass.old.view (told.Info card field.Gp grandparent) }
+    ensures walks { Walks pass.old pass.new 1 }
+    ensures over { Knows pass.new.view (fact.DOver card) }
+{
+    gate.before(pass.label(), Kind::DUnflag);
+    let _ = table.dunflag(pass, card, grandparent);
+}
+
+/// Takes the flag of a delete away after its lost mark.
+pub(crate) fn go_back<A: Allocator + Copy, G: StepGate>(
+    table: &CardTable<A>,
+    pass: &mut Pass<A>,
+    card: u64,
+    grandparent: u64,
+    gate: &G,
+)
+    requires own { pass.old.table ≡ table.now.id }
+    requires unmarkable { Knows pass.old.view (fact.Unmarkable card) }
+    requires grandparent { IsTold pass.old.view (told.Info card field.Gp grandparent) }
+    ensures walks { Walks pass.old pass.new 1 }
+    ensures backed { Knows pass.new.view (fact.Backed card) }
+{
+    gate.before(pass.label(), Kind::Backtrack);
+    let _ = table.backtrack(pass, card, grandparent);
+}

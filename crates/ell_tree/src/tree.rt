@@ -1,0 +1,166 @@
+//! The tree.
+ghost use Rattle.std.specs.Prelude.{◌≡◌, ◌≤◌, ◌+◌, ◌*◌, [], IfOk, IfErr, OnOk, vec_capacity};
+ghost use Rattle.std.specs.List.{All};
+ghost use Rattle.std.specs.List.Sorted.{IsStrictlyIncreasing};
+ghost use Rattle.ell_ops.specs.declared.op.Op.TheVariants.{Find, Insert, Delete};
+ghost use Rattle.ell_ops.specs.Meaning.{greatest_key};
+ghost use Rattle.ell_cards.specs.Models.{IsCardCount, Refuses};
+ghost use Rattle.ell_tree.specs.Closing.{ClosesTo};
+ghost use Rattle.ell_tree.specs.Ends.{Answers, Ends, change_steps, find_steps};
+ghost use Rattle.ell_tree.specs.Ledgers.{IsIdle, Owns, TreeModel};
+ghost use Rattle.ell_tree.specs.Parts.{IsFirst, IsLeftPart, IsRightPart, IsUnion};
+
+use crate::operations::{Change, Held, find, make_change};
+use ell_cards::{CardFault, CardTable, Pass};
+use ell_core::keys_of_tree;
+use ell_ops::NoMemory;
+use ell_word::StepGate;
+use std::alloc::{AllocError, Allocator};
+use std::marker::Model;
+
+/// A set of keys that many threads share, each through a pass of its own. A pass owns some of the keys, and finds, inserts and
+/// deletes those.
+#[derive(Drop)]
+pub struct Tree<A: Allocator + Copy> {
+    table: CardTable<A>,
+    alloc: A,
+}
+
+impl<A: Allocator + Copy> Model for Tree<A> {
+    ghost Value = { TreeModel };
+
+    ghost view = { λ t. t.table };
+}
+
+impl<A: Allocator + Copy> Tree<A> {
+    /// An empty tree of so many cards, 1 to 1,000,000, and one pass that owns all these keys. Each insert that adds its key takes
+    /// a card, and each delete that takes its key away, and no card is given back. Conditions: the keys are strictly ascending,
+    /// and at most `KEY_MAX`.
+    pub fn reserve(alloc: A, keys: &[u64], cards: u64) -> Result<(Tree<A>, Pass<A>), CardFault>
+        requires ascending { IsStrictlyIncreasing keys.now }
+        requires real { All (λ k. k ≤ greatest_key) keys.now }
+        ensures cards { OnOk result (IsCardCount cards) }
+        ensures tree { IfOk result (λ made. (made.0.keys ≡ keys.now) × (made.0.cards ≡ cards)) }
+        ensures pass { IfOk result (λ made. IsFirst made.0 made.1) }
+        ensures refused { IfErr result (Refuses cards) }
+    {
+        let (table, pass) = CardTable::reserve(alloc, keys, cards)?;
+        Ok((Tree { table, alloc }, pass))
+    }
+
+    /// Parts a pass: the left part gets these keys of its own, ascending, and the right part the rest. Where memory is refused,
+    /// the pass is as it was.
+    pub fn split(
+        &self,
+        pass: Pass<A>,
+        left_keys: &[u64],
+    ) -> Result<(Pass<A>, Pass<A>), (Pass<A>, NoMemory)>
+        requires own { pass.table ≡ self.now.id }
+        requires idle { IsIdle pass }
+        requires ascending { IsStrictlyIncreasing left_keys.now }
+        requires owned { All (λ k. Owns pass k) left_keys.now }
+        ensures left { IfOk result (λ parts. IsLeftPart left_keys.now pass parts.0) }
+        ensures right { IfOk result (λ parts. IsRightPart left_keys.now pass parts.1) }
+        ensures refused { IfErr result (λ refused. refused.0 ≡ pass) }
+    {
+        self.table.split(pass, left_keys)
+    }
+
+    /// One pass of two, with the keys of both and the label of the left one. Where memory is refused, both are as they were.
+    pub fn join(
+        &self,
+        left: Pass<A>,
+        right: Pass<A>,
+    ) -> Result<Pass<A>, (Pass<A>, Pass<A>, NoMemory)>
+        requires left { left.table ≡ self.now.id }
+        requires right { right.table ≡ self.now.id }
+        requires left_idle { IsIdle left }
+        requires right_idle { IsIdle right }
+        ensures joined { IfOk result (IsUnion left right) }
+        ensures refused { IfErr result (λ refused. (refused.0 ≡ left) × (refused.1 ≡ right)) }
+    {
+        self.table.join(left, right)
+    }
+
+    /// Whether a key of the pass is present.
+    pub fn find<G: StepGate>(&self, pass: &mut Pass<A>, key: u64, gate: &G) -> bool
+        requires own { pass.old.table ≡ self.now.id }
+        requires idle { IsIdle pass.old }
+        requires owned { Owns pass.old key }
+        ensures answers { Answers (Find key) result pass.old pass.new }
+        ensures steps { pass.new.steps ≤ pass.old.steps + find_steps self.now.cards }
+        ensures promised { pass.new.steps ≤ pass.old.steps + 64 * (self.now.cards + 2) }
+    {
+        find(&self.table, pass, key, gate)
+    }
+
+    /// Adds a key of the pass: whether it was absent. Tries are 1 to 1,000,000.
+    pub fn insert<G: StepGate>(
+        &self,
+        pass: &mut Pass<A>,
+        key: u64,
+        tries: u32,
+        gate: &G,
+    ) -> Result<bool, Held>
+        requires own { pass.old.table ≡ self.now.id }
+        requires idle { IsIdle pass.old }
+        requires owned { Owns pass.old key }
+        requires tries { 1 ≤ tries }
+        ensures ends { Ends self.now.cards tries (Insert key) pass.old pass.new result }
+        ensures steps { pass.new.steps ≤ pass.old.steps + change_steps self.now.cards tries }
+        ensures promised { pass.new.steps ≤ pass.old.steps + 64 * (tries + 1) * (self.now.cards + 2) }
+    {
+        make_change(&self.table, pass, Change::Insert(key), tries, gate)
+    }
+
+    /// Takes a key of the pass away: whether it was present. Tries are 1 to 1,000,000.
+    pub fn delete<G: StepGate>(
+        &self,
+        pass: &mut Pass<A>,
+        key: u64,
+        tries: u32,
+        gate: &G,
+    ) -> Result<bool, Held>
+        requires own { pass.old.table ≡ self.now.id }
+        requires idle { IsIdle pass.old }
+        requires owned { Owns pass.old key }
+        requires tries { 1 ≤ tries }
+        ensures ends { Ends self.now.cards tries (Delete key) pass.old pass.new result }
+        ensures steps { pass.new.steps ≤ pass.old.steps + change_steps self.now.cards tries }
+        ensures promised { pass.new.steps ≤ pass.old.steps + 64 * (tries + 1) * (self.now.cards + 2) }
+    {
+        make_change(&self.table, pass, Change::Delete(key), tries, gate)
+    }
+
+    /// Ends the tree, by a pass that owns all its keys: those that are present, ascending. Where memory is refused, tree and pass
+    /// are as they were.
+    pub fn close(self, pass: Pass<A>) -> Result<Vec<u64, A>, (Tree<A>, Pass<A>, NoMemory)>
+        requires own { pass.table ≡ self.id }
+        requires idle { IsIdle pass }
+        requires all { All (λ k. Owns pass k) self.keys }
+        ensures keys { IfOk result (λ keys. ClosesTo self pass keys.items) }
+        ensures refused { IfErr result (λ refused. (refused.0 ≡ self) × (refused.1 ≡ pass)) }
+    {
+        let places = self.table.cards() as usize + 2;
+        let Ok((waiting, keys)) = lists(self.alloc, places, pass.keys().len()) else {
+            return Err((self, pass, NoMemory));
+        };
+        let Tree { table, alloc: _ } = self;
+        let closed = table.close(pass);
+        Ok(keys_of_tree(&closed, waiting, keys))
+    }
+}
+
+// Two empty lists, with room for so many nodes and so many keys.
+fn lists<A: Allocator + Copy>(
+    alloc: A,
+    nodes: usize,
+    keys: usize,
+) -> Result<(Vec<u64, A>, Vec<u64, A>), AllocError>
+    ensures nodes { IfOk result (λ made. (made.0.items ≡ []) × (nodes ≤ vec_capacity made.0)) }
+    ensures keys { IfOk result (λ made. (made.1.items ≡ []) × (keys ≤ vec_capacity made.1)) }
+{
+    let nodes = Vec::with_capacity(alloc, nodes)?;
+    let keys = Vec::with_capacity(alloc, keys)?;
+    Ok((nodes, keys))
+}

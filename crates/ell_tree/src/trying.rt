@@ -1,0 +1,84 @@
+//! One try of an insert or a delete: how it ends, and its card.
+ghost use Rattle.std.specs.Prelude.{◌≡◌, None};
+ghost use Rattle.ell_word.specs.declared.update.State.TheVariants.{Clean};
+ghost use Rattle.ell_cards.specs.Models.{Does, Steps};
+ghost use Rattle.ell_cards.specs.Guards.{MayFill, Wants};
+ghost use Rattle.ell_cards.specs.Changes.{after_fill};
+ghost use Rattle.ell_tree.specs.Keeping.{Goes};
+ghost use Rattle.ell_tree.specs.Searches.{IsAt};
+ghost use Rattle.ell_tree.specs.Tries.{Claims};
+
+use crate::searching::Place;
+use ell_cards::{CardTable, Pass};
+use ell_core::Field;
+use ell_ops::Op;
+use ell_word::{Kind, StepGate};
+use std::alloc::Allocator;
+
+/// How a try ended.
+#[derive(Clone, Copy, Debug, PartialEq, Eq, Hash)]
+pub(crate) enum Tried {
+    Answered(bool),
+    /// No card is left.
+    Spent,
+    /// Something was in its way.
+    Hindered,
+}
+
+/// What came of asking for a card.
+#[derive(Clone, Copy, Debug, PartialEq, Eq, Hash)]
+pub(crate) enum Claimed {
+    Card(u64),
+    /// All cards are given out.
+    NoneLeft,
+    /// Another pass took the one that was next.
+    Lost,
+}
+
+/// Takes the next card for an operation whose search ended at a place, if one is left and no other pass takes it first.
+pub(crate) fn take_card<A: Allocator + Copy, G: StepGate>(
+    table: &CardTable<A>,
+    pass: &mut Pass<A>,
+    op: Op,
+    place: Place,
+    gate: &G,
+) -> Claimed
+    requires own { pass.old.table ≡ table.now.id }
+    requires busy { Does pass.old.view op }
+    requires no_card { pass.old.view.worker.card ≡ None }
+    requires at { IsAt pass.old.view place }
+    requires calm { place.parent.update.state ≡ Clean }
+    requires wants { Wants pass.old.view op place.key }
+    ensures goes { Goes pass.old pass.new 2 }
+    ensures claims { Claims table.now.cards op place pass.old pass.new result }
+{
+    let label = pass.label();
+    gate.before(label, Kind::Look);
+    let card = table.next(pass);
+    if card > table.cards() {
+        return Claimed::NoneLeft;
+    }
+    gate.before(label, Kind::Claim);
+    if table.claim(pass, card) {
+        Claimed::Card(card)
+    } else {
+        Claimed::Lost
+    }
+}
+
+/// Stores a word of the card in hand.
+pub(crate) fn fill<A: Allocator + Copy, G: StepGate>(
+    table: &CardTable<A>,
+    pass: &mut Pass<A>,
+    card: u64,
+    field: Field,
+    value: u64,
+    gate: &G,
+)
+    requires own { pass.old.table ≡ table.now.id }
+    requires may { MayFill pass.old.view card }
+    ensures { Steps pass.old pass.new (after_fill field value pass.old.view) }
+{
+    gate.before(pass.label(), Kind::Fill);
+    table.fill(pass, card, field, value);
+}
