@@ -8,3 +8,7 @@ pub mod Descending
 pub mod Marking
 -- the start of a search
 pub mod Beginning
+-- a card that is claimed
+pub mod Claiming
+-- a flag, won or lost
+pub mod Flagging

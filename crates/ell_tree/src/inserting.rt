@@ -75,7 +75,7 @@ fn flag_insert<A: Allocator + Copy, G: StepGate>(
     gate: &G,
 ) -> Result<(), Update>
     requires own { pass.old.table ≡ table.now.id }
-    requires there { card ≤ table.now.cards }
+    requires limit { card ≤ greatest_card }
     requires card { HasCard (Insert key) place (insert_filling card key place.parent.node place.leaf place.key) pass.old.view card }
     requires node { IsInnerMet table.now.cards pass.old.view place.parent.node }
     ensures goes { Goes pass.old pass.new 9 }

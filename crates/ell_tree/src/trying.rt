@@ -1,6 +1,7 @@
 //! One try of an insert or a delete: how it ends, and its card.
-ghost use Rattle.std.specs.Prelude.{◌≡◌, None};
+ghost use Rattle.std.specs.Prelude.{◌≡◌, ◌≤◌, None};
 ghost use Rattle.ell_word.specs.declared.update.State.TheVariants.{Clean};
+ghost use Rattle.ell_word.specs.Node.{greatest_card};
 ghost use Rattle.ell_cards.specs.Models.{Does, Steps};
 ghost use Rattle.ell_cards.specs.Guards.{MayFill, Wants};
 ghost use Rattle.ell_cards.specs.Changes.{after_fill};
@@ -51,6 +52,7 @@ pub(crate) fn take_card<A: Allocator + Copy, G: StepGate>(
     requires wants { Wants pass.old.view op place.key }
     ensures goes { Goes pass.old pass.new 2 }
     ensures claims { Claims table.now.cards op place pass.old pass.new result }
+    ensures limit { table.now.cards ≤ greatest_card }
 {
     let label = pass.label();
     gate.before(label, Kind::Look);

@@ -1,0 +1,134 @@
+use Rattle.std.proofs.Common.{◌≡◌, ℕ, ◌+◌, ◌*◌, ◌%◌, ◌≤◌, true, false, Some, None, List, [], ◌∷◌, refl, sym, ◌∙◌, ap, subst, arith}
+use Rattle.ell_ops.specs.declared.op.Op.{Op}
+use Rattle.ell_word.specs.declared.update.State.{State}
+use Rattle.ell_word.specs.declared.update.State.TheVariants as state
+use Rattle.ell_word.specs.Word.{number_of, state_of}
+use Rattle.ell_core.specs.declared.field.Field.{Field}
+use Rattle.ell_core.specs.declared.field.Field.TheVariants as field
+use Rattle.ell_core.specs.declared.view.Search.{Search}
+use Rattle.ell_core.specs.acts.Searching.{IsClean}
+use Rattle.ell_cards.specs.declared.view.Told.{Told}
+use Rattle.ell_cards.specs.declared.view.Told.TheVariants.{Info}
+use Rattle.ell_cards.specs.declared.view.View.{View}
+use Rattle.ell_cards.specs.Models.{PassModel, Steps, Has, latest, earlier, Does}
+use Rattle.ell_cards.specs.Changes.{after_next, after_claim, filling_of, told_filling, told_fixed}
+use Rattle.ell_cards.specs.Guards.{MayClaim, Wants}
+use Rattle.ell_tree.specs.declared.searching.Place.{Place}
+use Rattle.ell_tree.specs.Keeping.{Keeps, Goes}
+use Rattle.ell_tree.specs.Searches.{seen, IsAt}
+use Rattle.ell_tree.specs.Tries.{HasCard}
+use Rattle.ell_tree.proofs.Keeping.{view_after, goes_step, goes_trans, next_keeps}
+
+-- a clean update has a clean word
+clean_word : (s : State) (c : ℕ) → s ≡ state.Clean → IsClean (4 * c + number_of s)
+clean_word state.IFlag c h = cc
+clean_word state.DFlag c h = cc
+clean_word state.Mark c h = cc
+clean_word state.Clean c h = let rest : (4 * c + 3) % 4 ≡ 3 = omega arith in ap state_of rest
+
+-- what was told stays so with what fills a card
+told_fixed_more : (c : ℕ) (f : Field) (x : ℕ) (es : List Told) (e : Told) → Has es e → Has (told_fixed c f x es) e
+told_fixed_more c field.Gp x es e h = earlier e _ es h
+told_fixed_more c field.P x es e h = earlier e _ es h
+told_fixed_more c field.L x es e h = earlier e _ es h
+told_fixed_more c field.Was x es e h = earlier e _ es h
+told_fixed_more c field.Key x es e h = earlier e _ es h
+told_fixed_more c field.Left x es e h = h
+told_fixed_more c field.Right x es e h = h
+told_fixed_more c field.Update x es e h = h
+told_fixed_more c field.LeftLeafKey x es e h = earlier e _ es h
+told_fixed_more c field.RightLeafKey x es e h = earlier e _ es h
+
+told_filling_more : (c : ℕ) (fs : List (Field × ℕ)) (es : List Told) (e : Told) → Has es e → Has (told_filling c fs es) e
+told_filling_more c [] es e h = h
+told_filling_more c (f ∷ fs) es e h = told_fixed_more c f.0 f.1 _ e (told_filling_more c fs es e h)
+
+-- and what it tells is told beside whatever was before
+one_more : (es ds : List Told) (x e : Told) → ((d : Told) → Has es d → Has ds d) → Has (x ∷ es) e → Has (x ∷ ds) e
+one_more es ds x e more (latest _ _) = latest x ds
+one_more es ds x e more (earlier _ _ _ h) = earlier e x ds (more e h)
+
+told_fixed_over : (c : ℕ) (f : Field) (x : ℕ) (es ds : List Told) (e : Told) → ((d : Told) → Has es d → Has ds d) → Has (told_fixed c f x es) e → Has (told_fixed c f x ds) e
+told_fixed_over c field.Gp x es ds e more h = one_more es ds (Info c field.Gp x) e more h
+told_fixed_over c field.P x es ds e more h = one_more es ds (Info c field.P x) e more h
+told_fixed_over c field.L x es ds e more h = one_more es ds (Info c field.L x) e more h
+told_fixed_over c field.Was x es ds e more h = one_more es ds (Info c field.Was x) e more h
+told_fixed_over c field.Key x es ds e more h = one_more es ds (Info c field.Key x) e more h
+told_fixed_over c field.Left x es ds e more h = more e h
+told_fixed_over c field.Right x es ds e more h = more e h
+told_fixed_over c field.Update x es ds e more h = more e h
+told_fixed_over c field.LeftLeafKey x es ds e more h = one_more es ds (Info c field.LeftLeafKey x) e more h
+told_fixed_over c field.RightLeafKey x es ds e more h = one_more es ds (Info c field.RightLeafKey x) e more h
+
+told_filling_over : (c : ℕ) (fs : List (Field × ℕ)) (es : List Told) (e : Told) → Has (told_filling c fs []) e → Has (told_filling c fs es) e
+told_filling_over c [] es e h = elim h [ ]
+told_filling_over c (f ∷ fs) es e h =
+    told_fixed_over c f.0 f.1 (told_filling c fs []) (told_filling c fs es) e (λ d. told_filling_over c fs es d) h
+
+won_keeps : (c : ℕ) (v : View) → Keeps v (after_claim true c v)
+won_keeps c v = record {
+  ledger = refl;
+  operation = refl;
+  answers = refl;
+  hindrances = omega arith;
+  knows = λ f h. h;
+  told = told_filling_more c (filling_of c v) v.told;
+}
+
+lost_keeps : (c : ℕ) (v : View) → Keeps v (after_claim false c v)
+lost_keeps c v = record { ledger = refl; operation = refl; answers = refl; hindrances = omega arith; knows = λ f h. h; told = λ e h. h }
+
+-- where a search stands at a leaf, and the claim word was read, a claim may be made
+pub may_claim : (old new : PassModel) (c : ℕ) (op : Op) (place : Place) → Steps old new (after_next c old.view) → Does old.view op
+    → old.view.worker.card ≡ None → IsAt old.view place → place.parent.update.state ≡ state.Clean → Wants old.view op place.key → MayClaim new.view c
+may_claim old new c op place s busy no_card at calm wants =
+    subst (λ (w : View). MayClaim w c) (sym (view_after old new (after_next c old.view) s)) (record {
+      op = op;
+      leaf = place.leaf;
+      key = place.key;
+      parent = seen place.parent;
+      read = refl;
+      no_card = no_card;
+      busy = busy;
+      stands = ap (λ (r : Search). r.node) at.search;
+      outer = at.outer;
+      told = at.told;
+      behind = ap (λ (r : Search). r.parent) at.search;
+      calm = clean_word place.parent.update.state place.parent.update.card calm;
+      wants = wants;
+    })
+
+module _ (a b d : PassModel) (c : ℕ) (read : Steps a b (after_next c a.view)) where
+  pub won_goes : Steps b d (after_claim true c b.view) → Goes a d 2
+  won_goes s =
+      goes_trans a b d 1 1 2 (goes_step a b (after_next c a.view) read (next_keeps c a.view))
+      (goes_step b d (after_claim true c b.view) s (won_keeps c b.view)) (omega arith)
+
+  -- the card is in hand then
+  pub has_card : (op : Op) (place : Place) → Steps b d (after_claim true c b.view) → Does a.view op → IsAt a.view place
+      → HasCard op place (filling_of c a.view) d.view c
+  has_card op place s busy at =
+      subst (λ (w : View). HasCard op place (filling_of c a.view) w c)
+      (sym (view_after b d (after_claim true c b.view) s ∙ ap (after_claim true c) (view_after a b (after_next c a.view) read)))
+      (record {
+        busy = busy;
+        may = record { holds = refl; unflagged = refl };
+        stands = ap (λ (r : Search). r.node) at.search;
+        behind = ap (λ (r : Search). r.parent) at.search;
+        above = ap (λ (r : Search). r.grandparent) at.search;
+        says = refl;
+        empty = refl;
+        told = told_filling_over c (filling_of c a.view) a.view.told;
+      })
+
+  pub lost_goes : Steps b d (after_claim false c b.view) → Goes a d 2
+  lost_goes s =
+      goes_trans a b d 1 1 2 (goes_step a b (after_next c a.view) read (next_keeps c a.view))
+      (goes_step b d (after_claim false c b.view) s (lost_keeps c b.view)) (omega arith)
+
+  pub lost_claims : Steps b d (after_claim false c b.view) → a.view.worker.card ≡ None
+      → (d.view.worker.card ≡ None) × (a.view.hindrances + 1 ≤ d.view.hindrances)
+  lost_claims s none =
+      subst (λ (w : View). (w.worker.card ≡ None) × (a.view.hindrances + 1 ≤ w.hindrances))
+      (sym (view_after b d (after_claim false c b.view) s ∙ ap (after_claim false c) (view_after a b (after_next c a.view) read)))
+      (none, omega arith)

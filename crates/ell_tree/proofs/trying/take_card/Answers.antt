@@ -1,0 +1,34 @@
+use Rattle.std.proofs.Common.{Bool, subst, arith}
+use Rattle.ell_cards.specs.Models.{Steps}
+use Rattle.ell_cards.specs.Changes.{after_claim}
+use Rattle.ell_tree.proofs.Claiming.{may_claim, won_goes, has_card, lost_goes, lost_claims}
+use Rattle.ell_tree.proofs.trying.take_card.Goals as goal
+
+pub claim-requires-clause-may : goal.claim-requires-clause-may
+claim-requires-clause-may g c =
+    may_claim c.args.pass.now c.next-card.new.pass c.next-card.result c.args.op c.args.place c.next-card.ensures.step c.requires.busy c.requires.no_card
+    c.requires.at c.requires.calm c.requires.wants
+
+pub returns-then-claim : goal.returns-then-claim
+returns-then-claim g c =
+    let a = c.args.pass.now in
+    let b = c.next-card.new.pass in
+    let card = c.next-card.result in
+    let won = subst (λ (w : Bool). Steps b c.claim.new.pass (after_claim w card b.view)) c.if-claim.true c.claim.ensures.step in
+    record {
+      goes = won_goes a b c.claim.new.pass card c.next-card.ensures.step won;
+      claims = (has_card a b c.claim.new.pass card c.next-card.ensures.step c.args.op c.args.place won c.requires.busy c.requires.at, omega (arith, c.cards.ensures.count));
+      limit = omega (arith, c.cards.ensures.count, c.cards.ensures.limit);
+    }
+
+pub returns-else-claim : goal.returns-else-claim
+returns-else-claim g c =
+    let a = c.args.pass.now in
+    let b = c.next-card.new.pass in
+    let card = c.next-card.result in
+    let lost = subst (λ (w : Bool). Steps b c.claim.new.pass (after_claim w card b.view)) c.if-claim.false c.claim.ensures.step in
+    record {
+      goes = lost_goes a b c.claim.new.pass card c.next-card.ensures.step lost;
+      claims = lost_claims a b c.claim.new.pass card c.next-card.ensures.step lost c.requires.no_card;
+      limit = omega (arith, c.cards.ensures.count, c.cards.ensures.limit);
+    }
