@@ -20,7 +20,7 @@ use Rattle.ell_tree.specs.Tries.{HasCard}
 use Rattle.ell_tree.proofs.Keeping.{view_after, goes_step, goes_trans, next_keeps}
 
 -- a clean update has a clean word
-clean_word : (s : State) (c : ℕ) → s ≡ state.Clean → IsClean (4 * c + number_of s)
+pub clean_word : (s : State) (c : ℕ) → s ≡ state.Clean → IsClean (4 * c + number_of s)
 clean_word state.IFlag c h = cc
 clean_word state.DFlag c h = cc
 clean_word state.Mark c h = cc

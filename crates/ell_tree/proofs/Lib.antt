@@ -10,5 +10,7 @@ pub mod Marking
 pub mod Beginning
 -- a card that is claimed
 pub mod Claiming
+-- what a card says
+pub mod Filling
 -- a flag, won or lost
 pub mod Flagging

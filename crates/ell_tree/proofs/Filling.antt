@@ -1,0 +1,72 @@
+use Rattle.std.proofs.Common.{◌≡◌, ℕ, Option, Some, List, [], refl, sym, ◌∙◌, ap, subst, unwrap_or, max}
+use Rattle.ell_ops.specs.declared.op.Op.{Op}
+use Rattle.ell_ops.specs.declared.op.Op.TheVariants.{Insert, Delete}
+use Rattle.ell_word.specs.declared.update.State.TheVariants as state
+use Rattle.ell_word.specs.Word.{packed}
+use Rattle.ell_core.specs.declared.fact.Fact.TheVariants as fact
+use Rattle.ell_core.specs.declared.field.Field.{Field}
+use Rattle.ell_core.specs.declared.field.Field.TheVariants as field
+use Rattle.ell_core.specs.declared.view.Seen.{Seen}
+use Rattle.ell_core.specs.declared.view.Search.{Search}
+use Rattle.ell_core.specs.state.Cards.{insert_filling, delete_filling}
+use Rattle.ell_cards.specs.declared.view.Told.{Told}
+use Rattle.ell_cards.specs.declared.view.Told.TheVariants.{Met, Info}
+use Rattle.ell_cards.specs.declared.view.View.{View}
+use Rattle.ell_cards.specs.Models.{Has, latest, earlier, Does, IsTold, Knows}
+use Rattle.ell_cards.specs.Changes.{filling_for, filling_of, told_filling}
+use Rattle.ell_cards.specs.Guards.{Wants}
+use Rattle.ell_tree.specs.declared.searching.Passed.{Passed}
+use Rattle.ell_tree.specs.declared.searching.Place.{Place}
+use Rattle.ell_tree.specs.Keeping.{Keeps, IsInnerMet}
+use Rattle.ell_tree.specs.Searches.{seen, seen_any, below, IsAt}
+use Rattle.ell_tree.specs.Helps.{IsInsert, IsParent}
+use Rattle.ell_tree.specs.Tries.{HasCard}
+use Rattle.ell_tree.proofs.Keeping.{inner_kept}
+use Rattle.ell_tree.proofs.Claiming.{clean_word}
+
+-- what fills a card, by a search that stands at a place
+filling_at : (c : ℕ) (op : Op) (v : View) (place : Place) → Does v op → IsAt v place
+    → filling_of c v ≡ filling_for c (Some op) (Some place.leaf) (Some (seen place.parent)) (seen_any place.grandparent) place.key
+filling_at c op v place busy at =
+    ap (λ (o : Option Op). filling_for c o v.worker.search.node v.worker.search.parent v.worker.search.grandparent (unwrap_or v.here 0)) busy
+    ∙ (ap (λ (s : Search). filling_for c (Some op) s.node s.parent s.grandparent (unwrap_or v.here 0)) at.search
+    ∙ ap (λ (o : Option ℕ). filling_for c (Some op) (Some place.leaf) (Some (seen place.parent)) (seen_any place.grandparent) (unwrap_or o 0)) at.told)
+
+-- a delete wants a card at a leaf of its key whose grandparent was read clean
+pub delete_wants : (v : View) (k : ℕ) (place : Place) (above : Passed) → IsAt v place → place.key ≡ k → place.grandparent ≡ Some above
+    → above.update.state ≡ state.Clean → Wants v (Delete k) place.key
+delete_wants v k place above at same is calm =
+    (same, (seen above, ap (λ (s : Search). s.grandparent) at.search ∙ ap seen_any is, clean_word above.update.state above.update.card calm))
+
+-- what a card tells is told still after its flag
+module _ (v t f : View) (c : ℕ) (op : Op) (place : Place) (busy : Does v op) (at : IsAt v place) (h : HasCard op place (filling_of c v) t c) (keeps : Keeps t f) where
+  told_by_card : (filling : List (Field × ℕ)) → filling_of c v ≡ filling → (e : Told) → Has (told_filling c filling []) e → IsTold f e
+  told_by_card filling is e has = keeps.told e (h.told e (subst (λ (fs : List (Field × ℕ)). Has (told_filling c fs []) e) (sym is) has))
+
+module _ (v t f : View) (c k : ℕ) (place : Place) (keeps : Keeps t f) where
+  pub is_insert : Does v (Insert k) → IsAt v place → HasCard (Insert k) place (filling_of c v) t c → Knows f (fact.IFlagged c) → IsTold t (Met place.parent.node)
+      → IsInsert f c place.parent.node place.leaf (max k place.key)
+  is_insert busy at h knows met =
+      let tells = told_by_card v t f c (Insert k) place busy at h keeps (insert_filling c k place.parent.node place.leaf place.key) (filling_at c (Insert k) v place busy at) in
+      record {
+        knows = knows;
+        met = keeps.told (Met place.parent.node) met;
+        parent = tells (Info c field.P place.parent.node) (latest _ _);
+        leaf = tells (Info c field.L place.leaf) (earlier _ _ _ (latest _ _));
+        key = tells (Info c field.Key (max k place.key)) (earlier _ _ _ (earlier _ _ _ (latest _ _)));
+      }
+
+  module _ (above : Passed) (is : place.grandparent ≡ Some above) (busy : Does v (Delete k)) (at : IsAt v place) (h : HasCard (Delete k) place (filling_of c v) t c) where
+    delete_tells : (e : Told) → Has (told_filling c (delete_filling above.node place.parent.node place.leaf (packed place.parent.update)) []) e → IsTold f e
+    delete_tells = told_by_card v t f c (Delete k) place busy at h keeps (delete_filling above.node place.parent.node place.leaf (packed place.parent.update))
+        (filling_at c (Delete k) v place busy at
+        ∙ ap (λ (o : Option Passed). filling_for c (Some (Delete k)) (Some place.leaf) (Some (seen place.parent)) (seen_any o) place.key) is)
+
+    pub told_grandparent : IsTold f (Info c field.Gp above.node)
+    told_grandparent = delete_tells _ (latest _ _)
+
+    pub told_parent : (cards : ℕ) → IsInnerMet cards t place.parent.node → IsParent cards f c place.parent.node
+    told_parent cards node = record { told = delete_tells _ (earlier _ _ _ (latest _ _)); node = inner_kept cards t f place.parent.node keeps node }
+
+    pub told_was : IsTold f (Info c field.Was (packed place.parent.update))
+    told_was = delete_tells _ (earlier _ _ _ (earlier _ _ _ (earlier _ _ _ (latest _ _))))
