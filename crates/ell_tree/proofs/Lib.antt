@@ -12,5 +12,7 @@ pub mod Beginning
 pub mod Claiming
 -- what a card says
 pub mod Filling
+-- the steps of some tries
+pub mod Counting
 -- a flag, won or lost
 pub mod Flagging

@@ -132,7 +132,8 @@ fn restart<A: Allocator + Copy, G: StepGate>(
     requires own { pass.old.table ≡ table.now.id }
     requires stops { Stops op pass.old.view }
     requires root { first ≡ true → AtRoot op pass.old.view }
-    ensures { Begins op pass.old pass.new }
+    ensures begins { Begins op pass.old pass.new }
+    ensures first { first ≡ true → pass.new.steps ≡ pass.old.steps }
 {
     if !first {
         again(table, pass, op, gate);

@@ -1,0 +1,23 @@
+use Rattle.std.proofs.Common.{◌≡◌, ◌+◌, ◌*◌, ◌≤◌, true}
+use Rattle.ell_ops.specs.Meaning.{reply_of}
+use Rattle.ell_tree.specs.Ends.{try_steps}
+use Rattle.ell_tree.specs.Ledgers.{present_in}
+use Rattle.ell_tree.specs.Searches.{AtRoot}
+use Rattle.ell_tree.specs.Tries.{Stops, op_of}
+use Rattle.ell_tree.proofs.operations.try_often.Given as goal
+
+-- each try so far met something in its way
+abbrev pub invariant-loop-round : goal.invariant-loop-round
+invariant-loop-round g l = record {
+  same : (l.op ≡ op_of l.fn.change) × (l.table ≡ l.fn.table) × (l.change ≡ l.fn.change) × (l.tries ≡ l.fn.tries);
+  table : l.pass.table ≡ l.fn.pass.table;
+  label : l.pass.label ≡ l.fn.pass.label;
+  ledger : l.pass.view.worker.ledger ≡ l.fn.pass.view.worker.ledger;
+  answers : l.pass.view.answers ≡ l.fn.pass.view.answers;
+  stops : Stops l.op l.pass.view;
+  root : l.round ≡ 0 → AtRoot l.op l.pass.view;
+  would : 1 ≤ l.round → reply_of l.op (present_in l.fn.pass) ≡ true;
+  hindrances : l.fn.pass.view.hindrances + l.round ≤ l.pass.view.hindrances;
+  first : l.round ≡ 0 → l.pass.steps ≤ l.fn.pass.steps + 1;
+  later : 1 ≤ l.round → l.pass.steps ≤ l.fn.pass.steps + l.round * try_steps l.table.cards;
+}
