@@ -16,3 +16,7 @@ pub mod Filling
 pub mod Counting
 -- a flag, won or lost
 pub mod Flagging
+-- how passes begin, part and come together
+pub mod Parting
+-- how a tree ends
+pub mod Closing

@@ -1,6 +1,7 @@
 //! Helping whoever stands in the way, by the words of its card (paper of 2010, figures 8 and 9: Help, HelpInsert, HelpDelete and
 //! HelpMarked).
 #![tactic(auto, using(crate::proofs::Keeping::walks_told, crate::proofs::Keeping::walks_knows))]
+
 ghost use Rattle.std.specs.Prelude.{◌≡◌};
 ghost use Rattle.ell_core.specs.declared.fact.Fact.TheVariants as fact;
 ghost use Rattle.ell_core.specs.declared.field.Field.TheVariants as field;

@@ -9,7 +9,7 @@ returns-in-Answered-clause-steps g c =
     let i = l.invariant in
     let most = try_steps c.args.table.now.cards in
     let few = round_steps l.round most c.args.pass.now.steps l.pass.steps c.restart.new.pass.steps c.try_once.new.pass.steps i.first i.later
-        c.restart.ensures.begins.steps (λ none. c.restart.ensures.first (eq-eqb l.round 0 none)) c.try_once.ensures.steps in
+    c.restart.ensures.begins.steps (λ none. c.restart.ensures.first (eq-eqb l.round 0 none)) c.try_once.ensures.steps in
     let all = rounds_steps l.round c.args.tries most c.loop-round-test.true in
     omega (arith, few, all)
 
@@ -19,7 +19,7 @@ returns-in-Spent-clause-steps g c =
     let i = l.invariant in
     let most = try_steps c.args.table.now.cards in
     let few = round_steps l.round most c.args.pass.now.steps l.pass.steps c.restart.new.pass.steps c.try_once.new.pass.steps i.first i.later
-        c.restart.ensures.begins.steps (λ none. c.restart.ensures.first (eq-eqb l.round 0 none)) c.try_once.ensures.steps in
+    c.restart.ensures.begins.steps (λ none. c.restart.ensures.first (eq-eqb l.round 0 none)) c.try_once.ensures.steps in
     let all = rounds_steps l.round c.args.tries most c.loop-round-test.true in
     omega (arith, few, all, c.leave.ensures.steps)
 
@@ -29,7 +29,7 @@ loop-round-preserved g c =
     let i = l.invariant in
     let most = try_steps c.args.table.now.cards in
     let few = round_steps l.round most c.args.pass.now.steps l.pass.steps c.restart.new.pass.steps c.try_once.new.pass.steps i.first i.later
-        c.restart.ensures.begins.steps (λ none. c.restart.ensures.first (eq-eqb l.round 0 none)) c.try_once.ensures.steps in
+    c.restart.ensures.begins.steps (λ none. c.restart.ensures.first (eq-eqb l.round 0 none)) c.try_once.ensures.steps in
     let halts = c.in-Hindered.ensures.ends.0 in
     let again = c.restart.ensures.begins in
     record {

@@ -1,0 +1,94 @@
+use Rattle.std.proofs.Common.{◌≡◌, ◌≢◌, ℕ, ◌+◌, ◌==◌, ◌||◌, max, if◌then◌else◌, Bool, true, false, cond, Option, Some, None, Result, Ok, Err, IfOk, List, [], ◌∷◌, refl, sym, ◌∙◌, ap, subst, inl, inr}
+use Rattle.ell_core.specs.state.Machine.{ledger_of}
+use Rattle.ell_cards.specs.Models.{PassModel, TableModel, Steps, one_more}
+use Rattle.ell_cards.specs.Changes.{all_absent, first_view, is_among, part_on, part_off, left_view, right_view, united, joined_view}
+use Rattle.ell_cards.proofs.lifetimes.Parts.{parts_on, parts_off}
+use Rattle.ell_cards.proofs.lifetimes.Unions.{ledger_united}
+use Rattle.ell_tree.specs.Parts.{IsFirst, IsLeftPart, IsRightPart, IsUnion, or_else}
+
+-- what holds of a result by what held of it
+pub if_ok : {T E : Type 0} (P Q : T → Type 0) (r : Result T E) → ((x : T) → P x → Q x) → IfOk r P → IfOk r Q
+if_ok P Q (Ok x) more h = more x h
+if_ok P Q (Err e) more h = tt
+
+-- a first pass has all keys absent
+absent : (keys : List ℕ) (k : ℕ) → ledger_of (all_absent keys) k ≡ (if is_among keys k then Some false else None)
+absent [] k = refl
+absent (x ∷ xs) k = by (k == x) (absent xs k)
+  where
+    by : (b : Bool) → ledger_of (all_absent xs) k ≡ (if is_among xs k then Some false else None)
+        → cond b (Some false) (ledger_of (all_absent xs) k) ≡ (if b || is_among xs k then Some false else None)
+    by true e = refl
+    by false e = e
+
+pub first_pass : (t : TableModel) (keys : List ℕ) (p : PassModel) → t.keys ≡ keys → p ≡ record { table = t.id; view = first_view keys; steps = 0; label = 0 } → IsFirst t p
+first_pass t keys p same e = subst (IsFirst t) (sym e) (record {
+  own = refl;
+  ledger = λ k. absent keys k ∙ ap (λ (ks : List ℕ). if is_among ks k then Some false else None) (sym same);
+  answers = refl;
+  hindrances = refl;
+  steps = refl;
+  label = refl;
+  idle = refl;
+})
+
+-- the parts of a ledger
+left_ledger : (keys : List ℕ) (l : List (ℕ × Bool)) (k : ℕ) → ledger_of (part_on keys l) k ≡ (if is_among keys k then ledger_of l k else None)
+left_ledger keys l k = by (is_among keys k) refl
+  where
+    by : (b : Bool) → is_among keys k ≡ b → ledger_of (part_on keys l) k ≡ (if b then ledger_of l k else None)
+    by true e = (parts_on keys l k e).0
+    by false e = (parts_off keys l k e).0
+
+right_ledger : (keys : List ℕ) (l : List (ℕ × Bool)) (k : ℕ) → ledger_of (part_off keys l) k ≡ (if is_among keys k then None else ledger_of l k)
+right_ledger keys l k = by (is_among keys k) refl
+  where
+    by : (b : Bool) → is_among keys k ≡ b → ledger_of (part_off keys l) k ≡ (if b then None else ledger_of l k)
+    by true e = (parts_on keys l k e).1
+    by false e = (parts_off keys l k e).1
+
+pub left_part : (keys : List ℕ) (p part : PassModel) → Steps p part (left_view keys p.view) → IsLeftPart keys p part
+left_part keys p part s = subst (IsLeftPart keys p) (sym s) (record {
+  own = refl;
+  ledger = left_ledger keys p.view.worker.ledger;
+  answers = refl;
+  hindrances = refl;
+  steps = refl;
+  label = refl;
+  idle = refl;
+})
+
+pub right_part : (keys : List ℕ) (p part : PassModel) → Steps p part (right_view keys p.view) → IsRightPart keys p part
+right_part keys p part s = subst (IsRightPart keys p) (sym s) (record {
+  own = refl;
+  ledger = right_ledger keys p.view.worker.ledger;
+  answers = refl;
+  hindrances = refl;
+  steps = refl;
+  label = refl;
+  idle = refl;
+})
+
+-- two ledgers in one
+first_or_else : (a b : Option Bool) → a ≢ None → or_else a b ≡ a
+first_or_else (Some x) b some = refl
+first_or_else None b some = absurd (some refl)
+
+both_ledger : (l m : List (ℕ × Bool)) (k : ℕ) → ledger_of (united l m) k ≡ or_else (ledger_of l k) (ledger_of m k)
+both_ledger l m k = elim (ledger_united l m k) [
+  | inl h ↦ h.0 ∙ sym (first_or_else (ledger_of l k) (ledger_of m k) h.1)
+  | inr h ↦ h.1 ∙ sym (ap (λ a. or_else a (ledger_of m k)) h.0)
+]
+
+pub union : (left right both : PassModel)
+    → both ≡ record { table = left.table; view = joined_view left.view right.view; steps = one_more (max left.steps right.steps); label = left.label }
+    → IsUnion left right both
+union left right both e = subst (IsUnion left right) (sym e) (record {
+  own = refl;
+  ledger = both_ledger left.view.worker.ledger right.view.worker.ledger;
+  answers = refl;
+  hindrances = refl;
+  steps = refl;
+  label = refl;
+  idle = refl;
+})

@@ -1,0 +1,17 @@
+use Rattle.std.proofs.Common.{◌≢◌, ◌≤◌, None, List, ℕ, length, ap, sym, subst, arith}
+use Rattle.std.specs.List.{All}
+use Rattle.ell_cards.specs.Ends.{Ends}
+use Rattle.ell_tree.specs.Ledgers.{TreeModel}
+use Rattle.ell_tree.proofs.Closing.{holds_keys, closes}
+use Rattle.ell_tree.proofs.tree.Tree.close.Goals as goal
+
+pub keys_of_tree-requires-clause-keys_room : goal.keys_of_tree-requires-clause-keys_room
+keys_of_tree-requires-clause-keys_room g c =
+    let ends = subst (λ (t : TreeModel). Ends t.keys c.args.pass.view c.close-closed.result) c.self.view_is c.close-closed.ensures.ends in
+    let same = ap length c.keys.ensures.keys in
+    holds_keys c.args.self c.args.pass c.close-closed.result ends c.requires.all _ (omega (arith, same, c.in-Ok.ensures.keys.1))
+
+pub returns-clause-keys : goal.returns-clause-keys
+returns-clause-keys g c =
+    let ends = subst (λ (t : TreeModel). Ends t.keys c.args.pass.view c.close-closed.result) c.self.view_is c.close-closed.ensures.ends in
+    closes c.args.self c.args.pass c.close-closed.result ends c.requires.all c.keys_of_tree.result.items c.keys_of_tree.ensures

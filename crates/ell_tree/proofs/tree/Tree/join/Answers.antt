@@ -1,0 +1,14 @@
+use Rattle.std.proofs.Common.{◌≡◌, max}
+use Rattle.ell_cards.specs.Models.{PassModel, one_more}
+use Rattle.ell_cards.specs.Changes.{joined_view}
+use Rattle.ell_tree.specs.Parts.{IsUnion}
+use Rattle.ell_tree.proofs.Parting.{if_ok, union}
+use Rattle.ell_tree.proofs.tree.Tree.join.Goals as goal
+
+pub returns-clause-joined : goal.returns-clause-joined
+returns-clause-joined g c =
+    let left = c.args.left in
+    let right = c.args.right in
+    if_ok
+    (λ (both : PassModel). both ≡ record { table = left.table; view = joined_view left.view right.view; steps = one_more (max left.steps right.steps); label = left.label })
+    (IsUnion left right) c.join.result (λ both e. union left right both e) c.join.ensures.joined
