@@ -55,17 +55,24 @@ impl Dice {
         (self.state >> 33) % bound
     }
 
-    // An act that is lawful often, if the pass has come that far.
+    // An act that is lawful often, if the pass has come that far: helps above all while its own flag stands.
     fn act(&mut self, memory: &Memory, worker: u32) -> Act {
+        if memory.flagged {
+            return match self.below(10) {
+                0..=6 => self.help(memory),
+                7 | 8 => Answer,
+                _ => self.end(),
+            };
+        }
         match self.below(100) {
-            0..=29 => self.help(memory),
-            30..=49 => Upd,
-            50..=69 => Down,
-            70..=77 => Claim,
-            78..=83 => IFlag,
-            84..=89 => DFlag,
-            90..=94 => Answer,
-            95..=98 => Begin(self.operation(worker)),
+            0..=4 => self.help(memory),
+            5..=29 => Upd,
+            30..=54 => Down,
+            55..=64 => Claim,
+            65..=72 => IFlag,
+            73..=80 => DFlag,
+            81..=88 => Answer,
+            89..=98 => Begin(self.operation(worker)),
             _ => self.end(),
         }
     }
@@ -273,6 +280,7 @@ fn random_acts_answer_as_the_world(rt: HostRuntime) -> Result<(), Fail> {
     };
     let mut world = World::new(rt.alloc(), 4, &OWNED, CARDS)?;
     let both = random_acts(&rt, &table, (a, b, c, d), &mut world)?;
+    assert!(rt; world.next() >= 2_000);
     assert!(rt; both.owns(0) && both.owns(1) && both.owns(2) && both.owns(3));
     assert!(rt; both.owns(4) && both.owns(5) && both.owns(6) && both.owns(7));
     same_words(&rt, &table.close(both), &world);
