@@ -75,8 +75,8 @@ fn play_turn(
     }
 }
 
-#[tactic(auto, using(crate::proofs::Readiness::ready_idle))]
 /// A schedule of worker 0, the left pass, and of worker 1, the right one: the pass that they are joined to.
+#[tactic(auto, using(crate::proofs::Readiness::ready_idle))]
 pub fn play(
     rt: &impl Abort,
     table: &CardTable<Global>,

@@ -128,8 +128,8 @@ fn both_step(
     assert_eq!(rt; world.step(event), Ok(said), "{event:?}");
 }
 
-#[tactic(auto, using(crate::proofs::Readiness::ready_idle))]
 // A few acts more of a pass. A pass with nothing in hand is at times parted and joined again.
+#[tactic(auto, using(crate::proofs::Readiness::ready_idle))]
 fn turn(
     rt: &impl Abort,
     table: &CardTable<Global>,

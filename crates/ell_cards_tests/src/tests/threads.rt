@@ -18,8 +18,8 @@ const CARDS: u64 = 10_000;
 // How often each thread tries: a try wins a card, or is lost to one that the other thread wins, or no card is left.
 const TRIES: u32 = 10_000;
 
-#[tactic(auto, using(crate::proofs::Readiness::ready_idle))]
 // Begins an insert, claims a card for it, and lays it down, over and over: the cards that it won.
+#[tactic(auto, using(crate::proofs::Readiness::ready_idle))]
 fn claim_many(
     alloc: Global,
     table: &CardTable<Global>,
