@@ -11,7 +11,7 @@ use Rattle.ell_cards.specs.Models.{PassModel, Steps, Has, latest, earlier, IsTol
 use Rattle.ell_cards.specs.Changes.{learning, with_found, after_key_of, told_info, after_info, after_frozen_child, after_next, after_claim, after_mark, is_mark_of, unmarking}
 use Rattle.ell_cards.specs.Guards.{IsSibling}
 use Rattle.ell_cards_tests.specs.Fitting.{Aside, StepsAside, NamesNode}
-use Rattle.ell_cards_tests.proofs.Keepings.{view_after, keeps_view_trans, learning_kept, with_found_kept, mark_kept, frozen_told}
+use Rattle.ell_cards_tests.proofs.Keepings.{view_after, keeps_view_trans, learning_kept, with_found_kept, mark_kept, frozen_told, learns}
 
 pub aside_told : (a b : PassModel) (e : Told) → StepsAside a b → IsTold a.view e → IsTold b.view e
 aside_told a b e s h = s.view.keeps.told e h
@@ -173,3 +173,6 @@ lost_claim_aside old new c s = step_aside old new (after_claim false c old.view)
   filling = refl;
   filled = refl;
 })
+
+-- what was known and told stays so over steps beside the search, and each of them is one
+pub ruleset asides = (aside_told, aside_knows, aside_knows_card, aside_sibling, aside_trans, learn_aside, learns)

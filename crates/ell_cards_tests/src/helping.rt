@@ -1,4 +1,6 @@
 //! Steps beside the search that exchange, each by the words of a card that the pass reads first.
+#![tactic(auto, using(crate::proofs::Asides::asides))]
+
 ghost use Rattle.std.specs.Prelude.{◌≡◌};
 ghost use Rattle.ell_core.specs.declared.fact.Fact.TheVariants as fact;
 ghost use Rattle.ell_core.specs.declared.field.Field.TheVariants as field;
@@ -13,7 +15,6 @@ use ell_core::Field;
 use std::alloc::Global;
 
 /// Makes the child exchange of an insert's card: whether it won.
-#[tactic(auto, using(crate::proofs::Asides::aside_told, crate::proofs::Asides::aside_knows, crate::proofs::Asides::aside_trans, crate::proofs::Asides::learn_aside, crate::proofs::Asides::aside_knows_card, crate::proofs::Keepings::learns, crate::proofs::Asides::aside_sibling))]
 pub(crate) fn change_child(table: &CardTable<Global>, pass: &mut Pass<Global>, card: u64) -> bool
     requires own { pass.old.table ≡ table.now.id }
     requires knows { Knows pass.old.view (fact.IFlagged card) }
@@ -29,7 +30,6 @@ pub(crate) fn change_child(table: &CardTable<Global>, pass: &mut Pass<Global>, c
 }
 
 /// Takes an insert's flag away: whether it won.
-#[tactic(auto, using(crate::proofs::Asides::aside_told, crate::proofs::Asides::aside_knows, crate::proofs::Asides::aside_trans, crate::proofs::Asides::learn_aside, crate::proofs::Asides::aside_knows_card, crate::proofs::Keepings::learns, crate::proofs::Asides::aside_sibling))]
 pub(crate) fn clear_insert(table: &CardTable<Global>, pass: &mut Pass<Global>, card: u64) -> bool
     requires own { pass.old.table ≡ table.now.id }
     requires knows { Knows pass.old.view (fact.IChanged card) }
@@ -42,7 +42,6 @@ pub(crate) fn clear_insert(table: &CardTable<Global>, pass: &mut Pass<Global>, c
 }
 
 // The sibling of a leaf at the parent that a card has marked.
-#[tactic(auto, using(crate::proofs::Asides::aside_told, crate::proofs::Asides::aside_knows, crate::proofs::Asides::aside_trans))]
 fn look_sibling(
     table: &CardTable<Global>,
     pass: &mut Pass<Global>,
@@ -64,7 +63,6 @@ fn look_sibling(
 }
 
 /// Makes the child exchange of a delete's card: whether it won.
-#[tactic(auto, using(crate::proofs::Asides::aside_told, crate::proofs::Asides::aside_knows, crate::proofs::Asides::aside_trans, crate::proofs::Asides::learn_aside, crate::proofs::Asides::aside_knows_card, crate::proofs::Keepings::learns, crate::proofs::Asides::aside_sibling))]
 pub(crate) fn cut_parent(table: &CardTable<Global>, pass: &mut Pass<Global>, card: u64) -> bool
     requires own { pass.old.table ≡ table.now.id }
     requires knows { Knows pass.old.view (fact.Marked card) }
@@ -84,7 +82,6 @@ pub(crate) fn cut_parent(table: &CardTable<Global>, pass: &mut Pass<Global>, car
 }
 
 /// Takes a delete's flag away after its child exchange: whether it won.
-#[tactic(auto, using(crate::proofs::Asides::aside_told, crate::proofs::Asides::aside_knows, crate::proofs::Asides::aside_trans, crate::proofs::Asides::learn_aside, crate::proofs::Asides::aside_knows_card, crate::proofs::Keepings::learns, crate::proofs::Asides::aside_sibling))]
 pub(crate) fn clear_delete(table: &CardTable<Global>, pass: &mut Pass<Global>, card: u64) -> bool
     requires own { pass.old.table ≡ table.now.id }
     requires knows { Knows pass.old.view (fact.Cut card) }
@@ -97,7 +94,6 @@ pub(crate) fn clear_delete(table: &CardTable<Global>, pass: &mut Pass<Global>, c
 }
 
 /// Takes a delete's flag away after its lost mark: whether it won.
-#[tactic(auto, using(crate::proofs::Asides::aside_told, crate::proofs::Asides::aside_knows, crate::proofs::Asides::aside_trans, crate::proofs::Asides::learn_aside, crate::proofs::Asides::aside_knows_card, crate::proofs::Keepings::learns, crate::proofs::Asides::aside_sibling))]
 pub(crate) fn go_back(table: &CardTable<Global>, pass: &mut Pass<Global>, card: u64) -> bool
     requires own { pass.old.table ≡ table.now.id }
     requires knows { Knows pass.old.view (fact.Unmarkable card) }
