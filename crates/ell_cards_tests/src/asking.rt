@@ -2,7 +2,7 @@
 ghost use Rattle.std.specs.Prelude.{◌≡◌};
 ghost use Rattle.ell_cards.specs.declared.view.Told.TheVariants.{Met, Key, Info, Frozen};
 ghost use Rattle.ell_cards.specs.Models.{IsTold};
-ghost use Rattle.ell_cards.specs.Guards.{MayAsk, MaySee};
+ghost use Rattle.ell_cards.specs.Guards.{IsSibling, MayAsk, MaySee};
 ghost use Rattle.ell_cards_tests.specs.Fitting.{NamesNode, StepsAside};
 
 use ell_cards::{CardTable, Pass};
@@ -53,4 +53,26 @@ pub(crate) fn look_child(
     ensures met { IsTold pass.new.view (Met result) }
 {
     table.frozen_child(pass, card, parent, right)
+}
+
+/// Reads the sibling of a leaf at the parent that a card has marked.
+#[tactic(auto, using(crate::proofs::Asides::asides))]
+pub(crate) fn look_sibling(
+    table: &CardTable<Global>,
+    pass: &mut Pass<Global>,
+    card: u64,
+    parent: u64,
+    leaf: u64,
+) -> u64
+    requires own { pass.old.table ≡ table.now.id }
+    requires may { MaySee pass.old.view card parent }
+    ensures aside { StepsAside pass.old pass.new }
+    ensures sibling { IsSibling pass.new.view card leaf result }
+    ensures met { IsTold pass.new.view (Met result) }
+{
+    let right = look_child(table, pass, card, parent, true);
+    if right != leaf {
+        return right;
+    }
+    look_child(table, pass, card, parent, false)
 }

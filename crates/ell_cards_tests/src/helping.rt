@@ -3,13 +3,10 @@
 
 ghost use Rattle.std.specs.Prelude.{◌≡◌};
 ghost use Rattle.ell_core.specs.declared.fact.Fact.TheVariants as fact;
-ghost use Rattle.ell_core.specs.declared.field.Field.TheVariants as field;
-ghost use Rattle.ell_cards.specs.declared.view.Told.TheVariants.{Info, Met};
-ghost use Rattle.ell_cards.specs.Models.{IsTold, Knows, KnowsCard};
-ghost use Rattle.ell_cards.specs.Guards.{IsSibling, MaySee};
+ghost use Rattle.ell_cards.specs.Models.{Knows, KnowsCard};
 ghost use Rattle.ell_cards_tests.specs.Fitting.{StepsAside};
 
-use crate::asking::{look_child, look_info, look_key};
+use crate::asking::{look_info, look_key, look_sibling};
 use ell_cards::{CardTable, Pass};
 use ell_core::Field;
 use std::alloc::Global;
@@ -39,27 +36,6 @@ pub(crate) fn clear_insert(table: &CardTable<Global>, pass: &mut Pass<Global>, c
 {
     let parent = look_info(table, pass, card, Field::P);
     table.iunflag(pass, card, parent).is_ok()
-}
-
-// The sibling of a leaf at the parent that a card has marked.
-fn look_sibling(
-    table: &CardTable<Global>,
-    pass: &mut Pass<Global>,
-    card: u64,
-    parent: u64,
-    leaf: u64,
-) -> u64
-    requires own { pass.old.table ≡ table.now.id }
-    requires may { MaySee pass.old.view card parent }
-    ensures aside { StepsAside pass.old pass.new }
-    ensures sibling { IsSibling pass.new.view card leaf result }
-    ensures met { IsTold pass.new.view (Met result) }
-{
-    let right = look_child(table, pass, card, parent, true);
-    if right != leaf {
-        return right;
-    }
-    look_child(table, pass, card, parent, false)
 }
 
 /// Makes the child exchange of a delete's card: whether it won.
