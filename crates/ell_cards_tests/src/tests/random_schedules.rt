@@ -4,6 +4,7 @@ ghost use Rattle.ell_word.specs.Node.{greatest_card};
 ghost use Rattle.ell_cards.specs.Models.{IsFree};
 ghost use Rattle.ell_cards_tests.specs.Fitting.{IsIdle, IsReady};
 
+use super::parting::{joined, parted};
 use super::playing::same_words;
 use crate::memory::{Memory, nothing};
 use crate::step;
@@ -175,13 +176,8 @@ fn parted_and_joined(
     ensures idle { IfOk result (λ pass. IsIdle pass.view) }
 {
     assert!(rt; pass.owns(key));
-    let Ok((left, right)) = table.split(pass, &[key]) else {
-        return Err("no memory")?;
-    };
-    let Ok(both) = table.join(left, right) else {
-        return Err("no memory")?;
-    };
-    Ok(both)
+    let (left, right) = parted(table, pass, &[key])?;
+    joined(table, left, right)
 }
 
 // Ends what a pass has in hand.
@@ -251,33 +247,12 @@ fn random_acts(
     joined(table, low, high)
 }
 
-fn joined(
-    table: &CardTable<Global>,
-    left: Pass<Global>,
-    right: Pass<Global>,
-) -> Result<Pass<Global>, Fail>
-    requires left { (left.table ≡ table.now.id) × IsFree left.view }
-    requires right { (right.table ≡ table.now.id) × IsFree right.view }
-    ensures { IfOk result (λ both. (both.table ≡ table.now.id) × IsIdle both.view) }
-{
-    let Ok(both) = table.join(left, right) else {
-        return Err("no memory")?;
-    };
-    Ok(both)
-}
-
 #[test]
 fn random_acts_answer_as_the_world(rt: HostRuntime) -> Result<(), Fail> {
     let (table, pass) = CardTable::reserve(rt.alloc(), &[0, 1, 2, 3, 4, 5, 6, 7], CARDS)?;
-    let Ok((low, high)) = table.split(pass, &[0, 1, 2, 3]) else {
-        return Err("no memory")?;
-    };
-    let Ok((a, b)) = table.split(low, &[0, 1]) else {
-        return Err("no memory")?;
-    };
-    let Ok((c, d)) = table.split(high, &[4, 5]) else {
-        return Err("no memory")?;
-    };
+    let (low, high) = parted(&table, pass, &[0, 1, 2, 3])?;
+    let (a, b) = parted(&table, low, &[0, 1])?;
+    let (c, d) = parted(&table, high, &[4, 5])?;
     let mut world = World::new(rt.alloc(), 4, &OWNED, CARDS)?;
     let both = random_acts(&rt, &table, (a, b, c, d), &mut world)?;
     assert!(rt; world.next() >= 2_000);

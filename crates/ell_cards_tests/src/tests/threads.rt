@@ -4,6 +4,7 @@ ghost use Rattle.ell_word.specs.Node.{greatest_card};
 ghost use Rattle.ell_cards_tests.specs.Fitting.{IsIdle};
 
 use super::meeting::two_threads_meet;
+use super::parting::parted;
 use crate::memory::nothing;
 use crate::step;
 use ell_cards::{CardTable, Pass};
@@ -53,9 +54,7 @@ fn two_threads_claim_each_card_once(rt: HostRuntime) -> Result<(), Fail> {
     }
     let alloc = rt.alloc();
     let (table, pass) = CardTable::reserve(alloc, &[5, 7], CARDS)?;
-    let Ok((left, right)) = table.split(pass, &[5]) else {
-        return Err("no memory")?;
-    };
+    let (left, right) = parted(&table, pass, &[5])?;
     let shared = &table;
     let (one, other) = join(
         &rt,
