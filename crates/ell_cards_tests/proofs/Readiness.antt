@@ -21,6 +21,7 @@ use Rattle.ell_cards.specs.Changes.{after_begin, after_upd, after_key_of, after_
 use Rattle.ell_cards.specs.Guards.{MayStop, MayGoDown, MayAnswer, MayDFlag, IsFilled}
 use Rattle.ell_cards.specs.Calls.{TellsLeaf}
 use Rattle.ell_cards_tests.specs.declared.memory.Memory.{Memory}
+use Rattle.ell_cards_tests.specs.declared.memory.TheConstants.{FACTS}
 use Rattle.ell_cards_tests.specs.declared.searching.Passed.{Passed}
 use Rattle.ell_cards_tests.specs.Places.{seen, seen_any}
 use Rattle.ell_cards_tests.specs.Tries.{with_stores}
@@ -236,7 +237,7 @@ ready_idle t p m own limit idle e = record {
     search = ap (λ (w : WorkerView). w.search) idle;
     card = ap (λ (w : WorkerView). w.card) idle;
     flagged = ap (λ (w : WorkerView). w.flagged) idle;
-    knows = All-replicate (KnowsAny p.view) 16 None tt;
+    knows = All-replicate (KnowsAny p.view) FACTS None tt;
     met = λ x h. cc h;
     met_parent = λ x h. cc h;
     met_above = λ x h. cc h;
@@ -249,4 +250,4 @@ pub ready_begun : (t : TableModel) (a b : PassModel) (m n k : Memory) (op : Op) 
     → n ≡ root_memory (Some op) k → IsReady t b n
 ready_begun t a b m n k op h s nothing e =
     ready_step t a b m n (root_memory (Some op) k) (after_begin (Some op) a.view) h s e
-    (fits_root a.view k (Some op) (subst (λ (j : Memory). KnowsAll a.view j.known) (sym nothing) (All-replicate (KnowsAny a.view) 16 None tt)))
+    (fits_root a.view k (Some op) (subst (λ (j : Memory). KnowsAll a.view j.known) (sym nothing) (All-replicate (KnowsAny a.view) FACTS None tt)))

@@ -14,6 +14,7 @@ use Rattle.ell_cards.specs.Models.{PassModel, TableModel, IsTold, Knows, Does}
 use Rattle.ell_cards.specs.Changes.{idle_worker}
 use Rattle.ell_cards.specs.Guards.{IsFilled}
 use Rattle.ell_cards_tests.specs.declared.memory.Memory.{Memory}
+use Rattle.ell_cards_tests.specs.declared.memory.TheConstants.{FACTS}
 use Rattle.ell_cards_tests.specs.declared.searching.Passed.{Passed}
 use Rattle.ell_cards_tests.specs.declared.searching.Place.{Place}
 use Rattle.ell_cards_tests.specs.Keeping.{KeepsView}
@@ -94,4 +95,4 @@ IsIdle v = v.worker ≡ idle_worker v.worker.ledger v.worker.facts
 
 -- nothing is remembered
 abbrev pub IsNothing : Memory → Type 0
-IsNothing m = m ≡ record { op = None; node = None; read = None; parent = None; grandparent = None; card = None; flagged = false; known = replicate 16 None; turn = 0 }
+IsNothing m = m ≡ record { op = None; node = None; read = None; parent = None; grandparent = None; card = None; flagged = false; known = replicate FACTS None; turn = 0 }

@@ -12,7 +12,7 @@ use ell_ops::Op;
 use ell_word::{State, Update};
 
 /// How many facts are remembered, the latest ones.
-const FACTS: usize = 16;
+pub(crate) const FACTS: usize = 16;
 
 /// What is remembered of a pass: operation, search, card in hand, and the latest facts that it learnt.
 #[derive(Clone, Copy, Debug, PartialEq, Eq, Hash)]
@@ -24,7 +24,7 @@ pub struct Memory {
     pub grandparent: Option<Passed>,
     pub card: Option<u64>,
     pub flagged: bool,
-    pub known: [Option<Fact>; 16],
+    pub known: [Option<Fact>; FACTS],
     pub turn: usize,
 }
 
@@ -40,7 +40,7 @@ pub fn nothing() -> Memory
         grandparent: None,
         card: None,
         flagged: false,
-        known: [None; 16],
+        known: [None; FACTS],
         turn: 0,
     }
 }

@@ -6,7 +6,7 @@ ghost use Rattle.ell_cards_tests.specs.Fitting.{IsIdle, IsReady};
 
 use super::parting::{joined, parted};
 use super::playing::same_words;
-use crate::memory::{Memory, nothing};
+use crate::memory::{FACTS, Memory, nothing};
 use crate::step;
 use ell_cards::{CardTable, Pass};
 use ell_core::Act::{
@@ -90,7 +90,7 @@ impl Dice {
 
     // An exchange for a card of which something is remembered.
     fn help(&mut self, memory: &Memory) -> Act {
-        let index = self.below(16) as usize;
+        let index = self.below(FACTS as u64) as usize;
         match memory.known[index] {
             Some(Fact::IFlagged(card)) => IChild(card),
             Some(Fact::IChanged(card)) => IUnflag(card),
