@@ -157,22 +157,5 @@ mark_aside old new n won c x u s = step_aside old new (with_found n (after_mark 
         by true = refl
         by false = refl
 
--- the claim word was read, and the claim was lost
-pub next_aside : (old new : PassModel) (n : ℕ) → Steps old new (after_next n old.view) → StepsAside old new
-next_aside old new n s = step_aside old new (after_next n old.view) s (record {
-  keeps = record { ledger = refl; operation = refl; card = refl; flagged = refl; knows = λ f h. h; told = λ e h. h };
-  search = refl;
-  filling = refl;
-  filled = refl;
-})
-
-pub lost_claim_aside : (old new : PassModel) (c : ℕ) → Steps old new (after_claim false c old.view) → StepsAside old new
-lost_claim_aside old new c s = step_aside old new (after_claim false c old.view) s (record {
-  keeps = record { ledger = refl; operation = refl; card = refl; flagged = refl; knows = λ f h. h; told = λ e h. h };
-  search = refl;
-  filling = refl;
-  filled = refl;
-})
-
 -- what was known and told stays so over steps beside the search, and each of them is one
 pub ruleset asides = (aside_told, aside_knows, aside_knows_card, aside_sibling, aside_trans, learn_aside, learns)

@@ -81,32 +81,6 @@ fits_root v m op knows = record {
   filled = λ c e g. cc e;
 }
 
-pub fits_left : (v : View) (m : Memory) → Fits v m → Fits (after_leave v) (idle_memory m)
-fits_left v m h = record {
-  operation = refl;
-  search = refl;
-  card = refl;
-  flagged = refl;
-  knows = h.knows;
-  met = λ x e. cc e;
-  met_parent = λ x e. cc e;
-  met_above = λ x e. cc e;
-  filled = λ c e g. cc e;
-}
-
-pub fits_answered : (v : View) (m : Memory) (said : Bool) → Fits v m → Fits (after_answer said v) (idle_memory m)
-fits_answered v m said h = record {
-  operation = refl;
-  search = refl;
-  card = refl;
-  flagged = refl;
-  knows = h.knows;
-  met = λ x e. cc e;
-  met_parent = λ x e. cc e;
-  met_above = λ x e. cc e;
-  filled = λ c e g. cc e;
-}
-
 pub fits_read : (v : View) (m : Memory) (x : ℕ) (u : Update) → Fits v m → Fits (after_upd x u v) (record m { read = Some u })
 fits_read v m x u h = record {
   operation = h.operation;

@@ -121,16 +121,6 @@ pub mark_keeps : (old new : PassModel) (n : ℕ) (won : Bool) (c x : ℕ) (u : U
 mark_keeps old new n won c x u s =
     keeps_step old new (with_found n (after_mark won c x u old.view)) s (with_found_kept n old.view (after_mark won c x u old.view) (mark_kept won c x u old.view))
 
-pub frozen_child_keeps : (old new : PassModel) (c : ℕ) (right : Bool) (x : ℕ) → Steps old new (after_frozen_child c right x old.view) → Keeps old new
-frozen_child_keeps old new c right x s = keeps_step old new (after_frozen_child c right x old.view) s (record {
-  ledger = refl;
-  operation = refl;
-  card = refl;
-  flagged = refl;
-  knows = λ f h. h;
-  told = λ e h. earlier e _ _ (earlier e _ _ h);
-})
-
 -- a child that was seen is told, and met
 pub frozen_told : (old new : PassModel) (c : ℕ) (right : Bool) (x : ℕ) → Steps old new (after_frozen_child c right x old.view) → IsTold new.view (Frozen c right x) × IsTold new.view (Met x)
 frozen_told old new c right x s =
