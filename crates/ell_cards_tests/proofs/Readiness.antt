@@ -1,4 +1,4 @@
-use Rattle.std.proofs.Common.{◌≡◌, ℕ, ◌≤◌, ◌==◌, Bool, true, false, nat_le, if◌then◌else◌, List, ◌∷◌, Option, Some, None, IfSome, MatchBool, refl, sym, ◌∙◌, ap, subst, inl, inr}
+use Rattle.std.proofs.Common.{◌≡◌, ℕ, ◌≤◌, ◌==◌, Bool, true, false, nat_le, if◌then◌else◌, List, ◌∷◌, Option, Some, None, Result, Ok, Err, is_ok, IfSome, MatchBool, refl, sym, ◌∙◌, ap, subst, inl, inr}
 use Rattle.ell_ops.specs.declared.op.Op.{Op}
 use Rattle.ell_ops.specs.declared.op.Op.TheVariants.{Insert, Delete}
 use Rattle.ell_ops.specs.Meaning.{key_of}
@@ -17,7 +17,7 @@ use Rattle.ell_core.specs.acts.Searching.{IsLeaf, leaf_answer}
 use Rattle.ell_cards.specs.declared.view.Told.TheVariants.{Met}
 use Rattle.ell_cards.specs.declared.view.View.{View}
 use Rattle.ell_cards.specs.Models.{PassModel, TableModel, Steps, IsTold, Knows}
-use Rattle.ell_cards.specs.Changes.{after_begin, after_upd, after_key_of, after_next, after_claim, after_flag, after_mark, is_mark_of, learning, unmarking, with_found}
+use Rattle.ell_cards.specs.Changes.{after_begin, after_upd, after_key_of, after_next, after_claim, after_flag, after_mark, is_mark_of, learning, unmarking, with_found, found_word, found_update}
 use Rattle.ell_cards.specs.Guards.{MayStop, MayGoDown, MayAnswer, MayDFlag, IsFilled}
 use Rattle.ell_cards.specs.Calls.{TellsLeaf}
 use Rattle.ell_cards_tests.specs.declared.memory.Memory.{Memory}
@@ -25,7 +25,7 @@ use Rattle.ell_cards_tests.specs.declared.memory.TheConstants.{FACTS}
 use Rattle.ell_cards_tests.specs.declared.searching.Passed.{Passed}
 use Rattle.ell_cards_tests.specs.Places.{seen, seen_any}
 use Rattle.ell_cards_tests.specs.Tries.{with_stores}
-use Rattle.ell_cards_tests.specs.Remembering.{KnowsAny, KnowsAll, KnowsLostMark}
+use Rattle.ell_cards_tests.specs.Remembering.{KnowsAny, KnowsAll, KnowsLostMark, flag_tells}
 use Rattle.ell_cards_tests.specs.Fitting.{Fits, IsIdle, IsNothing, IsReady, MayStopBy, ClaimsAt, StepsAside, packed_any, root_memory, ended_search}
 use Rattle.ell_cards_tests.proofs.Keepings.{view_after, knows_new, facts_by_more}
 use Rattle.ell_cards_tests.proofs.Descents.{told_here, ends_at}
@@ -120,25 +120,21 @@ may_dflag_by v m k l c parent above h busy at behind up holds unflagged = record
   filled = h.filled c holds unflagged;
 }
 
--- a flag that was won, and one that was lost
-pub ready_won : (t : TableModel) (a b : PassModel) (m n k : Memory) (f : Fact) (w x : ℕ) (u : Update) (ok : Bool) → IsReady t a m
-    → Steps a b (with_found w (after_flag ok f x u a.view)) → ok ≡ true → n ≡ ended_search true m → k ≡ record n { known = k.known; turn = k.turn }
-    → ((v : View) → KnowsAll v n.known → KnowsAny v (Some f) → KnowsAll v k.known) → IsReady t b k
-ready_won t a b m n k f w x u ok h s won e rest more =
-    let s' = subst (λ (o : Bool). Steps a b (with_found w (after_flag o f x u a.view))) won s in
-    ready_known t b n k (Some f)
-    (ready_step t a b m n (ended_search true m) (with_found w (after_flag true f x u a.view)) h s' e (fits_flag_won a.view m w f x u h.fits)) rest more
-    (subst (λ (v : View). Knows v f) (sym (view_after a b (with_found w (after_flag true f x u a.view)) s')) (knows_new f a.view.worker.facts))
-
-pub ready_lost : (t : TableModel) (a b : PassModel) (m n k : Memory) (f : Fact) (o : Option Fact) (w x : ℕ) (u : Update) (ok : Bool) → IsReady t a m
-    → Steps a b (with_found w (after_flag ok f x u a.view)) → ok ≡ false → n ≡ ended_search false m → k ≡ record n { known = k.known; turn = k.turn }
-    → ((v : View) → KnowsAll v n.known → KnowsAny v o → KnowsAll v k.known) → o ≡ told_by_state u.state u.card → IsReady t b k
-ready_lost t a b m n k f o w x u ok h s lost e rest more told =
-    let s' = subst (λ (z : Bool). Steps a b (with_found w (after_flag z f x u a.view))) lost s in
-    ready_known t b n k o
-    (ready_step t a b m n (ended_search false m) (with_found w (after_flag false f x u a.view)) h s' e (fits_flag_lost a.view m w f x u h.fits)) rest more
-    (subst (KnowsAny b.view) (sym told)
-    (facts_by_new u.state u.card a.view.worker.facts b.view (ap (λ (v : View). v.worker.facts) (view_after a b (with_found w (after_flag false f x u a.view)) s'))))
+-- a flag that was won, or lost
+pub ready_flagged : (t : TableModel) (a b : PassModel) (m n : Memory) (f : Fact) (x : ℕ) (u : Update) (r : Result (Unit {0}) Update) → IsReady t a m
+    → Steps a b (with_found (found_word (packed u) r) (after_flag (is_ok r) f x (found_update u r) a.view))
+    → n ≡ record (ended_search (is_ok r) m) { known = n.known; turn = n.turn } → ((v : View) → KnowsAll v m.known → KnowsAny v (flag_tells f r) → KnowsAll v n.known)
+    → IsReady t b n
+ready_flagged t a b m n f x u (Ok won) h s rest more =
+    let w = with_found (packed u) (after_flag true f x u a.view) in
+    ready_known t b (ended_search true m) n (Some f)
+    (ready_step t a b m (ended_search true m) (ended_search true m) w h s refl (fits_flag_won a.view m (packed u) f x u h.fits)) rest more
+    (subst (λ (v : View). Knows v f) (sym (view_after a b w s)) (knows_new f a.view.worker.facts))
+ready_flagged t a b m n f x u (Err found) h s rest more =
+    let w = with_found (packed found) (after_flag false f x found a.view) in
+    ready_known t b (ended_search false m) n (told_by_state found.state found.card)
+    (ready_step t a b m (ended_search false m) (ended_search false m) w h s refl (fits_flag_lost a.view m (packed found) f x found h.fits)) rest more
+    (facts_by_new found.state found.card a.view.worker.facts b.view (ap (λ (v : View). v.worker.facts) (view_after a b w s)))
 
 -- a card that is claimed and filled
 pub ready_claimed : (t : TableModel) (a b d : PassModel) (m : Memory) (c : ℕ) (stores : List (Field × ℕ)) → IsReady t a m → b.table ≡ a.table → d.table ≡ b.table

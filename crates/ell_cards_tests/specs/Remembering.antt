@@ -1,4 +1,4 @@
-use Rattle.std.specs.Prelude.{ℕ, All, List, Option, Some, None, MatchBool}
+use Rattle.std.specs.Prelude.{ℕ, All, List, Option, Some, None, Result, Ok, Err, MatchBool}
 use Rattle.ell_word.specs.declared.update.Update.{Update}
 use Rattle.ell_core.specs.declared.fact.Fact.{Fact}
 use Rattle.ell_cards.specs.declared.view.View.{View}
@@ -18,3 +18,8 @@ KnowsAll v facts = All (KnowsAny v) facts
 -- what a lost mark tells that found an update: the card's own mark, or that the card is unmarkable, and what the update tells
 abbrev pub KnowsLostMark : View → ℕ → Update → Type 0
 KnowsLostMark v c u = MatchBool (is_mark_of c u.state u.card) (Knows v (Marked c)) (Knows v (Unmarkable c) × KnowsAny v (told_by_state u.state u.card))
+
+-- what the exchange for a flag tells: its own fact, or that of the update that was found
+abbrev pub flag_tells : Fact → Result (Unit {0}) Update → Option Fact
+flag_tells new (Ok won) = Some new
+flag_tells new (Err found) = told_by_state found.state found.card
