@@ -3,9 +3,8 @@ ghost use Rattle.std.specs.Prelude.{◌≡◌, ◌≤◌, None, Some, is_ok};
 ghost use Rattle.ell_ops.specs.declared.op.Op.TheVariants.{Insert, Delete};
 ghost use Rattle.ell_word.specs.Node.{greatest_card};
 ghost use Rattle.ell_word.specs.declared.update.State.TheVariants.{Clean};
-ghost use Rattle.ell_cards.specs.declared.view.View.{View};
 ghost use Rattle.ell_cards_tests.specs.Fitting.{ClaimsAt, IsReady, ended_search};
-ghost use Rattle.ell_cards_tests.specs.Remembering.{KnowsAll, KnowsAny, flag_tells};
+ghost use Rattle.ell_cards_tests.specs.Remembering.{KnowsAny, Learns, flag_tells};
 
 use crate::deleting::{calm_grandparent, fill_delete};
 use crate::inserting::fill_insert;
@@ -95,18 +94,18 @@ fn claim_for_delete(
 
 // The search ends with the exchange for a flag: won, the card in hand is flagged, and lost, it is laid aside.
 fn end_search(memory: &mut Memory, flag: Result<(), Update>, new: Fact) -> Stepped
-    ensures rest { memory.new ≡ record (ended_search (is_ok flag) memory.old) { known = memory.new.known; turn = memory.new.turn } }
-    ensures known { (v : View) → KnowsAll v memory.old.known → KnowsAny v (flag_tells new flag) → KnowsAll v memory.new.known }
+    ensures { Learns (ended_search (is_ok flag) memory.old) memory.new (λ v. KnowsAny v (flag_tells new flag)) }
 {
     memory.node = None;
     memory.read = None;
-    memory.flagged = flag.is_ok();
     match flag {
         Ok(()) => {
+            memory.flagged = true;
             remember(memory, Some(new));
             Stepped::Won
         }
         Err(found) => {
+            memory.flagged = false;
             memory.card = None;
             remember(memory, fact_of(found));
             Stepped::Lost

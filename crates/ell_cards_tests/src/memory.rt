@@ -4,7 +4,7 @@ ghost use Rattle.ell_core.specs.state.Facts.{told_by_state};
 ghost use Rattle.ell_cards.specs.declared.view.View.{View};
 ghost use Rattle.ell_cards.specs.Models.{Knows};
 ghost use Rattle.ell_cards_tests.specs.Fitting.{IsNothing};
-ghost use Rattle.ell_cards_tests.specs.Remembering.{KnowsAll, KnowsAny};
+ghost use Rattle.ell_cards_tests.specs.Remembering.{KnowsAll, KnowsAny, Learns};
 
 use crate::searching::Passed;
 use ell_core::Fact;
@@ -47,8 +47,7 @@ pub fn nothing() -> Memory
 
 /// Remembers a fact, if there is one that is not remembered yet, in place of the oldest.
 pub(crate) fn remember(memory: &mut Memory, fact: Option<Fact>)
-    ensures rest { memory.new ≡ record (memory.old) { known = memory.new.known; turn = memory.new.turn } }
-    ensures known { (v : View) → KnowsAll v memory.old.known → KnowsAny v fact → KnowsAll v memory.new.known }
+    ensures { Learns memory.old memory.new (λ v. KnowsAny v fact) }
 {
     if memory.known.iter().any(|known| *known == fact) {
         return;

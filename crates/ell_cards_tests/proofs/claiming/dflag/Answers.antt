@@ -12,4 +12,4 @@ pub returns : goal.returns
 returns c =
     let at = c.in_ok-above.above in
     ready_flagged c.args.table.now c.args.pass.now c.dflag-flag.new.pass c.args.memory.now c.end_search.new.memory (fact.DFlagged c.in_ok-card.card) at.node at.update c.dflag-flag.result
-    c.requires c.dflag-flag.ensures.step c.end_search.ensures.rest c.end_search.ensures.known
+    c.requires c.dflag-flag.ensures.step c.end_search.ensures

@@ -6,4 +6,4 @@ pub returns : goal.returns
 returns c =
     let at = c.in_ok-parent.parent in
     ready_flagged c.args.table.now c.args.pass.now c.iflag-flag.new.pass c.args.memory.now c.end_search.new.memory (fact.IFlagged c.in_ok-card.card) at.node at.update c.iflag-flag.result
-    c.requires c.iflag-flag.ensures.step c.end_search.ensures.rest c.end_search.ensures.known
+    c.requires c.iflag-flag.ensures.step c.end_search.ensures
