@@ -8,7 +8,7 @@ use Rattle.ell_cards.specs.declared.view.Told.{Told}
 use Rattle.ell_cards.specs.declared.view.Told.TheVariants.{Met, Info, Frozen}
 use Rattle.ell_cards.specs.declared.view.View.{View}
 use Rattle.ell_cards.specs.Models.{PassModel, Steps, Has, latest, earlier, IsTold, Knows, KnowsCard}
-use Rattle.ell_cards.specs.Changes.{learning, with_found, after_key_of, told_info, after_info, after_frozen_child, after_next, after_claim, after_mark, is_mark_of, unmarking}
+use Rattle.ell_cards.specs.Changes.{learning, with_found, after_key_of, told_info, after_info, after_frozen_child, after_mark, is_mark_of, unmarking}
 use Rattle.ell_cards.specs.Guards.{IsSibling}
 use Rattle.ell_cards_tests.specs.Fitting.{Aside, StepsAside, NamesNode}
 use Rattle.ell_cards_tests.proofs.Keepings.{view_after, keeps_view_trans, learning_kept, with_found_kept, mark_kept, frozen_told, learns}

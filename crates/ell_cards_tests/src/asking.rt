@@ -10,7 +10,7 @@ use ell_core::Field;
 use std::alloc::Global;
 
 /// Reads the key of a node that the pass has met.
-#[tactic(auto, using(crate::proofs::Asides::key_aside, crate::proofs::Keepings::key_told))]
+#[tactic(auto, using(crate::proofs::Keepings::key_told))]
 pub(crate) fn look_key(table: &CardTable<Global>, pass: &mut Pass<Global>, node: u64) -> u64
     requires own { pass.old.table ≡ table.now.id }
     requires met { IsTold pass.old.view (Met node) }
@@ -21,7 +21,7 @@ pub(crate) fn look_key(table: &CardTable<Global>, pass: &mut Pass<Global>, node:
 }
 
 /// Reads a word of a card that the pass knows flagged or marked.
-#[tactic(auto, using(crate::proofs::Asides::info_aside, crate::proofs::Asides::info_told, crate::proofs::Asides::info_met))]
+#[tactic(auto, using(crate::proofs::Asides::info_told, crate::proofs::Asides::info_met))]
 pub(crate) fn look_info(
     table: &CardTable<Global>,
     pass: &mut Pass<Global>,
@@ -38,7 +38,7 @@ pub(crate) fn look_info(
 }
 
 /// Reads a child of the parent that a card has marked.
-#[tactic(auto, using(crate::proofs::Asides::frozen_aside, crate::proofs::Asides::frozen_child_told, crate::proofs::Asides::frozen_child_met))]
+#[tactic(auto, using(crate::proofs::Asides::frozen_child_told))]
 pub(crate) fn look_child(
     table: &CardTable<Global>,
     pass: &mut Pass<Global>,

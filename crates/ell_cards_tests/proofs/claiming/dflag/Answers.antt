@@ -1,5 +1,4 @@
 use Rattle.std.proofs.Common.{Some, ap, ◌∙◌}
-use Rattle.ell_core.specs.declared.fact.Fact.TheVariants as fact
 use Rattle.ell_cards_tests.proofs.Readiness.{ready_flagged, may_dflag_by}
 use Rattle.ell_cards_tests.proofs.claiming.dflag.Goals as goal
 
@@ -9,7 +8,4 @@ dflag-flag-requires-clause-may c =
     (c.in_ok-op.was ∙ ap Some c.in-Delete.is) c.in_ok-memory.was c.in_ok-memory-2.was c.in_ok-above.was c.in_ok-card.was c.if-memory.false
 
 pub returns : goal.returns
-returns c =
-    let at = c.in_ok-above.above in
-    ready_flagged c.args.table.now c.args.pass.now c.dflag-flag.new.pass c.args.memory.now c.end_search.new.memory (fact.DFlagged c.in_ok-card.card) at.node at.update c.dflag-flag.result
-    c.requires c.dflag-flag.ensures.step c.end_search.ensures
+returns c = search ready_flagged

@@ -26,9 +26,7 @@ loop-grandparent-preserved c =
     }
 
 pub returns-clause-keeps : goal.returns-clause-keeps
-returns-clause-keeps c =
-    keeps_trans c.args.pass.now c.loop-grandparent.pass c.key_of-key.new.pass c.loop-grandparent.invariant.keeps
-    (key_of_keeps c.loop-grandparent.pass c.key_of-key.new.pass c.loop-grandparent.node c.key_of-key.result c.key_of-key.ensures.step)
+returns-clause-keeps c = search (key_of_keeps, keeps_trans)
 
 pub returns-clause-ends : goal.returns-clause-ends
 returns-clause-ends c =
