@@ -1,5 +1,6 @@
 use Rattle.ell_cards.specs.declared.view.Told.TheVariants.{Met}
-use Rattle.ell_cards_tests.proofs.Keepings.{upd_keeps, key_of_keeps, down_keeps, keeps_trans}
+use Rattle.ell_cards_tests.proofs.Keepings.{upd_keeps, down_keeps, keeps_trans}
+use Rattle.ell_cards_tests.proofs.Asides.{key_of_keeps}
 use Rattle.ell_cards_tests.proofs.Descents.{may_go_down_after, child_met}
 use Rattle.ell_cards_tests.proofs.searching.descend.Goals as goal
 
