@@ -20,11 +20,8 @@ use Rattle.ell_cards_tests.specs.Keeping.{Keeps}
 use Rattle.ell_cards_tests.specs.Places.{EndsAt, seen, seen_any}
 use Rattle.ell_cards_tests.specs.Tries.{HasFlaggedDelete, delete_stores, with_stores}
 use Rattle.ell_cards_tests.proofs.Keepings.{view_after, knows_new}
+use Rattle.ell_cards_tests.proofs.Cards.{filling_at}
 use Rattle.ell_cards_tests.proofs.Flagging.{told_filling_more}
-
--- a delete that has begun is in hand after its search
-pub deletes : (a b d : PassModel) (k : ℕ) → Steps a b (after_begin (Some (Delete k)) a.view) → Keeps b d → Does d.view (Delete k)
-deletes a b d k s keeps = keeps.view.operation ∙ ap (λ (v : View). v.worker.operation) (view_after a b (after_begin (Some (Delete k)) a.view) s)
 
 module _ (v : View) (c k : ℕ) (place : Place) (above : Passed) (busy : Does v (Delete k)) (ends : EndsAt v (Delete k) place) (is : place.grandparent ≡ Some above) where
   abbrev filling : List (Field × ℕ)
@@ -36,10 +33,8 @@ module _ (v : View) (c k : ℕ) (place : Place) (above : Passed) (busy : Does v 
   -- what its card is to say
   filling_is : filling_of c v ≡ filling
   filling_is =
-      ap (λ (o : Option Op). filling_for c o v.worker.search.node v.worker.search.parent v.worker.search.grandparent (unwrap_or v.here 0)) busy
-      ∙ (ap (λ (o : Option ℕ). filling_for c (Some (Delete k)) o v.worker.search.parent v.worker.search.grandparent (unwrap_or v.here 0)) ends.stands
-      ∙ (ap (λ (o : Option Seen). filling_for c (Some (Delete k)) (Some place.leaf) o v.worker.search.grandparent (unwrap_or v.here 0)) ends.behind
-      ∙ ap (λ (o : Option Seen). filling_for c (Some (Delete k)) (Some place.leaf) (Some (seen place.parent)) o (unwrap_or v.here 0)) above_is))
+      filling_at v c (Delete k) place busy ends
+      ∙ ap (λ (o : Option Passed). filling_for c (Some (Delete k)) (Some place.leaf) (Some (seen place.parent)) (seen_any o) place.key) is
 
   -- the view where the card is taken and filled
   abbrev pub deleting : View

@@ -18,7 +18,7 @@ use Rattle.ell_cards.specs.declared.view.Told.TheVariants.{Met}
 use Rattle.ell_cards.specs.declared.view.View.{View}
 use Rattle.ell_cards.specs.Models.{PassModel, TableModel, Steps, IsTold, Knows}
 use Rattle.ell_cards.specs.Changes.{after_begin, after_upd, after_key_of, after_next, after_claim, after_flag, after_mark, is_mark_of, learning, unmarking, with_found, found_word, found_update}
-use Rattle.ell_cards.specs.Guards.{MayStop, MayGoDown, MayAnswer, MayDFlag, IsFilled}
+use Rattle.ell_cards.specs.Guards.{IsOver, MayStop, MayGoDown, MayAnswer, MayDFlag, IsFilled}
 use Rattle.ell_cards.specs.Calls.{TellsLeaf}
 use Rattle.ell_cards_tests.specs.declared.memory.Memory.{Memory}
 use Rattle.ell_cards_tests.specs.declared.memory.TheConstants.{FACTS}
@@ -197,19 +197,11 @@ ready_marked t a b m n c x w u (Err found) h s more =
     (subst (λ (v : View). KnowsLostMark v c found) (sym (view_after a b (with_found (packed found) (after_mark false c x found a.view)) s)) (lost_mark_known a.view c x (packed found) found))
 
 -- the answer by the card in hand, which is remembered over
-pub card_may_insert : (v : View) (m : Memory) (op : Op) (k c : ℕ) → op ≡ Insert k → m.card ≡ Some c → m.flagged ≡ true → (KnowsAll v m.known → Knows v (fact.IOver c))
-    → Fits v m → m.op ≡ Some op → MayAnswer v true
-card_may_insert v m op k c is holds flagged over h busy = record {
-  op = Insert k;
-  busy = h.operation ∙ (busy ∙ ap Some is);
-  answers = inr (record { card = c; holds = h.card ∙ holds; flagged = h.flagged ∙ flagged; over = over h.knows; yes = refl });
-}
-
-pub card_may_delete : (v : View) (m : Memory) (op : Op) (k c : ℕ) → op ≡ Delete k → m.card ≡ Some c → m.flagged ≡ true → (KnowsAll v m.known → Knows v (fact.DOver c))
-    → Fits v m → m.op ≡ Some op → MayAnswer v true
-card_may_delete v m op k c is holds flagged over h busy = record {
-  op = Delete k;
-  busy = h.operation ∙ (busy ∙ ap Some is);
+pub card_may : (v : View) (m : Memory) (op is : Op) (c : ℕ) → op ≡ is → m.card ≡ Some c → m.flagged ≡ true → (KnowsAll v m.known → IsOver v is c) → Fits v m → m.op ≡ Some op
+    → MayAnswer v true
+card_may v m op is c same holds flagged over h busy = record {
+  op = is;
+  busy = h.operation ∙ (busy ∙ ap Some same);
   answers = inr (record { card = c; holds = h.card ∙ holds; flagged = h.flagged ∙ flagged; over = over h.knows; yes = refl });
 }
 
