@@ -1,8 +1,6 @@
 //! The acts by which an operation takes a card and sets its flag, each where what it needs is remembered.
-ghost use Rattle.std.specs.Prelude.{◌≡◌, ◌≤◌, None, Some, is_ok};
+ghost use Rattle.std.specs.Prelude.{is_ok};
 ghost use Rattle.ell_ops.specs.declared.op.Op.TheVariants.{Insert, Delete};
-ghost use Rattle.ell_word.specs.Node.{greatest_card};
-ghost use Rattle.ell_word.specs.declared.update.State.TheVariants.{Clean};
 ghost use Rattle.ell_cards_tests.specs.Fitting.{ClaimsAt, IsReady, ended_search};
 ghost use Rattle.ell_cards_tests.specs.Remembering.{KnowsAny, Learns, flag_tells};
 

@@ -1,5 +1,4 @@
 //! The acts that exchange for a card, each where what it needs is remembered.
-ghost use Rattle.std.specs.Prelude.{◌≡◌};
 ghost use Rattle.ell_cards_tests.specs.Fitting.{IsReady};
 ghost use Rattle.ell_cards_tests.specs.Remembering.{KnowsMark, Learns};
 
