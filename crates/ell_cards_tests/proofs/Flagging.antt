@@ -1,4 +1,4 @@
-use Rattle.std.proofs.Common.{◌≡◌, ℕ, max, true, false, Some, Result, Ok, Err, List, [], ◌∷◌, refl, sym, ◌∙◌, ap, subst, is_ok}
+use Rattle.std.proofs.Common.{◌≡◌, ℕ, max, true, false, Result, Ok, Err, List, [], ◌∷◌, refl, sym, ◌∙◌, ap, subst, is_ok}
 use Rattle.ell_ops.specs.declared.op.Op.TheVariants.{Insert}
 use Rattle.ell_word.specs.declared.update.Update.{Update}
 use Rattle.ell_word.specs.Word.{packed}
@@ -10,10 +10,9 @@ use Rattle.ell_cards.specs.declared.view.Told.{Told}
 use Rattle.ell_cards.specs.declared.view.Told.TheVariants.{Met, Info}
 use Rattle.ell_cards.specs.declared.view.View.{View}
 use Rattle.ell_cards.specs.Models.{PassModel, Steps, Has, latest, earlier, Does}
-use Rattle.ell_cards.specs.Changes.{after_begin, after_next, after_claim, after_flag, with_found, found_word, found_update, told_filling, told_fixed, filling_of}
+use Rattle.ell_cards.specs.Changes.{after_next, after_claim, after_flag, with_found, found_word, found_update, told_filling, told_fixed, filling_of}
 use Rattle.ell_cards.specs.Guards.{MayIFlag, MayStop, IsFilled}
 use Rattle.ell_cards_tests.specs.declared.searching.Place.{Place}
-use Rattle.ell_cards_tests.specs.Keeping.{Keeps}
 use Rattle.ell_cards_tests.specs.Places.{EndsAt}
 use Rattle.ell_cards_tests.specs.Tries.{HasFlagged, insert_stores, with_stores}
 use Rattle.ell_cards_tests.proofs.Keepings.{view_after, knows_new}

@@ -1,22 +1,19 @@
-use Rattle.std.proofs.Common.{◌≡◌, ℕ, true, false, Option, Some, None, Result, Ok, Err, List, refl, sym, ◌∙◌, ap, subst, is_ok, unwrap_or, IfSome}
-use Rattle.ell_ops.specs.declared.op.Op.{Op}
+use Rattle.std.proofs.Common.{◌≡◌, ℕ, true, false, Option, Some, None, Result, Ok, Err, List, refl, sym, ◌∙◌, ap, subst, is_ok, IfSome}
 use Rattle.ell_ops.specs.declared.op.Op.TheVariants.{Delete}
 use Rattle.ell_word.specs.declared.update.Update.{Update}
 use Rattle.ell_word.specs.Word.{packed}
 use Rattle.ell_core.specs.declared.fact.Fact.TheVariants as fact
 use Rattle.ell_core.specs.declared.field.Field.{Field}
 use Rattle.ell_core.specs.declared.field.Field.TheVariants as field
-use Rattle.ell_core.specs.declared.view.Seen.{Seen}
 use Rattle.ell_core.specs.state.Cards.{delete_filling}
 use Rattle.ell_cards.specs.declared.view.Told.{Told}
 use Rattle.ell_cards.specs.declared.view.Told.TheVariants.{Met, Info}
 use Rattle.ell_cards.specs.declared.view.View.{View}
 use Rattle.ell_cards.specs.Models.{PassModel, Steps, Has, latest, earlier, IsTold, Does}
-use Rattle.ell_cards.specs.Changes.{after_begin, after_next, after_claim, after_flag, with_found, found_word, found_update, told_filling, filling_for, filling_of}
+use Rattle.ell_cards.specs.Changes.{after_next, after_claim, after_flag, with_found, found_word, found_update, told_filling, filling_for, filling_of}
 use Rattle.ell_cards.specs.Guards.{MayDFlag, MayStop, IsFilled}
 use Rattle.ell_cards_tests.specs.declared.searching.Passed.{Passed}
 use Rattle.ell_cards_tests.specs.declared.searching.Place.{Place}
-use Rattle.ell_cards_tests.specs.Keeping.{Keeps}
 use Rattle.ell_cards_tests.specs.Places.{EndsAt, seen, seen_any}
 use Rattle.ell_cards_tests.specs.Tries.{HasFlaggedDelete, delete_stores, with_stores}
 use Rattle.ell_cards_tests.proofs.Keepings.{view_after, knows_new}

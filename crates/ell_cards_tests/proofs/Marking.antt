@@ -1,11 +1,11 @@
-use Rattle.std.proofs.Common.{ℕ, nat_le, true, refl, ◌∙◌, inl, inr}
+use Rattle.std.proofs.Common.{ℕ, nat_le, true, refl, ◌∙◌, inr}
 use Rattle.ell_ops.specs.declared.op.Op.TheVariants.{Delete}
 use Rattle.ell_core.specs.declared.fact.Fact.TheVariants as fact
 use Rattle.ell_core.specs.declared.field.Field.TheVariants as field
-use Rattle.ell_cards.specs.declared.view.Told.TheVariants.{Met, Info, Frozen}
+use Rattle.ell_cards.specs.declared.view.Told.TheVariants.{Met, Info}
 use Rattle.ell_cards.specs.Models.{PassModel, Steps}
 use Rattle.ell_cards.specs.Changes.{after_key_of, learning, with_found}
-use Rattle.ell_cards.specs.Guards.{IsSibling, MayDChild, MayDUnflag, MayAnswer, MayStop}
+use Rattle.ell_cards.specs.Guards.{MayDChild, MayDUnflag, MayAnswer, MayStop}
 use Rattle.ell_cards_tests.specs.Keeping.{Keeps}
 use Rattle.ell_cards_tests.specs.Tries.{HasFlaggedDelete, HasMarked}
 use Rattle.ell_cards_tests.proofs.Keepings.{key_told, learns, sibling_more}

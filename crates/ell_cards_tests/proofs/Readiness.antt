@@ -1,6 +1,6 @@
 use Rattle.std.proofs.Common.{◌≡◌, ℕ, ◌≤◌, ◌==◌, Bool, true, false, nat_le, if◌then◌else◌, List, ◌∷◌, Option, Some, None, Result, Ok, Err, is_ok, IfSome, MatchBool, refl, sym, ◌∙◌, ap, subst, inl, inr}
 use Rattle.ell_ops.specs.declared.op.Op.{Op}
-use Rattle.ell_ops.specs.declared.op.Op.TheVariants.{Insert, Delete}
+use Rattle.ell_ops.specs.declared.op.Op.TheVariants.{Delete}
 use Rattle.ell_ops.specs.Meaning.{key_of}
 use Rattle.ell_word.specs.Node.{greatest_card, IsInternal}
 use Rattle.ell_word.specs.Word.{packed}
