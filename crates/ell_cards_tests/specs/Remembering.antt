@@ -16,7 +16,7 @@ KnowsAny v (Some f) = Knows v f
 abbrev pub KnowsAll : View → List (Option Fact) → Type 0
 KnowsAll v facts = All (KnowsAny v) facts
 
--- facts alone are remembered anew, and a pass knows them that knew those before and what it learnt
+-- what is remembered changes in its facts alone, and a pass that knew them, and what it learnt, knows them after
 pub record Learns (m n : Memory) (Learnt : View → Type 0) : Type 0 where
   pub rest : n ≡ record m { known = n.known; turn = n.turn }
   pub known : (v : View) → KnowsAll v m.known → Learnt v → KnowsAll v n.known
