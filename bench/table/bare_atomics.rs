@@ -120,7 +120,10 @@ impl Words {
     fn descend(&self, key: u64, node: u64) -> (Passed, u64) {
         let update = self.update(node).load(SeqCst);
         let right = self.key(node) <= key;
-        (Passed { node, update }, self.child(node, right).load(SeqCst))
+        (
+            Passed { node, update },
+            self.child(node, right).load(SeqCst),
+        )
     }
 
     fn search(&self, key: u64) -> Place {
@@ -132,7 +135,24 @@ impl Words {
             parent = passed;
             node = child;
         }
-        Place { leaf: node, key: self.key(node), parent, grandparent }
+        Place {
+            leaf: node,
+            key: self.key(node),
+            parent,
+            grandparent,
+        }
+    }
+
+    /// Goes down to the leaf where a search for a key ends, and remembers nothing of the way.
+    fn walk(&self, key: u64) {
+        self.touch();
+        let mut node = 0;
+        while is_internal(node) {
+            self.update(node).load(SeqCst);
+            let right = self.key(node) <= key;
+            node = self.child(node, right).load(SeqCst);
+        }
+        self.touch();
     }
 
     fn find(&self, key: u64) -> bool {
@@ -231,7 +251,8 @@ impl Words {
 }
 
 fn exchange(word: &AtomicU64, expected: u64, value: u64) -> bool {
-    word.compare_exchange(expected, value, SeqCst, SeqCst).is_ok()
+    word.compare_exchange(expected, value, SeqCst, SeqCst)
+        .is_ok()
 }
 
 // The factors of two pseudo-random orders. Each order has every place once where the places are a power of two.
@@ -249,6 +270,14 @@ fn insert_all(words: &Words, cards: u64, keys: &[u64]) -> bool {
         all &= words.insert(cards, keys[place]);
     }
     all
+}
+
+fn walk_many(words: &Words, keys: &[u64], walks: u64) {
+    let mut place = 0;
+    for _ in 0..walks {
+        place = next_place(place, FIND_FACTOR, keys.len());
+        words.walk(keys[place]);
+    }
 }
 
 fn find_many(words: &Words, keys: &[u64], finds: u64) -> bool {
@@ -272,8 +301,8 @@ fn renew_many(words: &Words, cards: u64, keys: &[u64], rounds: u64) -> bool {
 
 fn main() -> ExitCode {
     let numbers: Result<Vec<u64>, _> = env::args().skip(1).map(|word| word.parse()).collect();
-    let Ok(&[cards, keys, finds, rounds]) = numbers.as_deref() else {
-        eprintln!("bare_atomics: give the numbers of cards, keys, finds and rounds");
+    let Ok(&[cards, keys, walks, finds, rounds]) = numbers.as_deref() else {
+        eprintln!("bare_atomics: give the numbers of cards, keys, walks, finds and rounds");
         return ExitCode::from(2);
     };
     let keys: Vec<u64> = (0..keys).collect();
@@ -282,16 +311,19 @@ fn main() -> ExitCode {
     let reserved = Instant::now();
     let inserted = insert_all(&words, cards, &keys);
     let after_inserts = Instant::now();
+    walk_many(&words, &keys, walks);
+    let after_walks = Instant::now();
     let found = find_many(&words, &keys, finds);
     let after_finds = Instant::now();
     let renewed = renew_many(&words, cards, &keys, rounds);
     let end = Instant::now();
     println!("inserted {inserted} found {found} renewed {renewed}");
     eprintln!(
-        "{} {} {} {}",
+        "{} {} {} {} {}",
         (reserved - start).as_nanos(),
         (after_inserts - reserved).as_nanos(),
-        (after_finds - after_inserts).as_nanos(),
+        (after_walks - after_inserts).as_nanos(),
+        (after_finds - after_walks).as_nanos(),
         (end - after_finds).as_nanos(),
     );
     ExitCode::SUCCESS

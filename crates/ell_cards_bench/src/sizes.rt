@@ -10,6 +10,7 @@ use std::alloc::{AllocError, Global};
 pub struct Sizes {
     pub cards: u64,
     pub keys: u32,
+    pub walks: u64,
     pub finds: u64,
     pub rounds: u64,
     ghost some_keys: { 0 < keys },
@@ -21,10 +22,11 @@ pub fn sizes_in(words: &[String]) -> Option<Sizes> {
         [] => Some(Sizes {
             cards: 256,
             keys: 64,
+            walks: 64,
             finds: 64,
             rounds: 64,
         }),
-        [cards, keys, finds, rounds] => {
+        [cards, keys, walks, finds, rounds] => {
             let keys = keys.as_str().parse().ok()?;
             if keys == 0 {
                 return None;
@@ -32,6 +34,7 @@ pub fn sizes_in(words: &[String]) -> Option<Sizes> {
             Some(Sizes {
                 cards: cards.as_str().parse().ok()?,
                 keys,
+                walks: walks.as_str().parse().ok()?,
                 finds: finds.as_str().parse().ok()?,
                 rounds: rounds.as_str().parse().ok()?,
             })
