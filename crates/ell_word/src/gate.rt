@@ -5,9 +5,9 @@
 pub enum Kind {
     /// The start of a find, insert or delete: no step yet.
     Begin,
-    /// Reads the claim word.
+    /// Takes an operation in hand, starts its search anew, lays it down or answers it.
     Note,
-    /// Reads any other word.
+    /// Reads a word.
     Look,
     /// Takes the next card.
     Claim,
