@@ -1,18 +1,18 @@
 use Rattle.std.proofs.Common.{◌≡◌, ℕ, ap, ◌∙◌, sym, subst, arith}
 use Rattle.atomic_table.specs.Table.{Me}
 use Rattle.ell_cards.specs.declared.view.View.{View}
-use Rattle.ell_cards.specs.Models.{TableModel, PassModel, IsFree}
+use Rattle.ell_cards.specs.Models.{PassModel, IsFree}
 use Rattle.ell_cards.specs.Inside.{keys_united, PassFits}
 use Rattle.ell_cards.proofs.lifetimes.Joins.{joins, joined_fits}
+use Rattle.ell_cards.proofs.seats.Opened.{of_table}
 use Rattle.ell_cards.proofs.table.CardTable.join.Goals as goal
 
 pub join_seat-requires : goal.join_seat-requires
 join_seat-requires g c =
     let t = c.self.inside.table.shared in
-    let id_is = sym (ap (λ (m : TableModel). m.id) c.self.view_is) in
     let size = c.self.invariant.0 in (
-      ap (λ (m : PassModel). m.table) c.left.view_is ∙ c.requires.left ∙ id_is,
-      ap (λ (m : PassModel). m.table) c.right.view_is ∙ c.requires.right ∙ id_is,
+      of_table _ _ _ _ c.self.view_is c.left.view_is c.requires.left size,
+      of_table _ _ _ _ c.self.view_is c.right.view_is c.requires.right size,
       c.right.invariant.1,
       omega arith,
       joins t.key.keys.items t.key.cards c.left.inside.seat.me.0 c.right.inside.seat.me.0
