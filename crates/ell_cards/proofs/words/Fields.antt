@@ -4,10 +4,10 @@ use Rattle.ell_core.specs.declared.field.Field.{Field}
 use Rattle.ell_core.specs.declared.field.Field.TheVariants.{Update}
 use Rattle.ell_core.specs.state.Layout.{address, place, listed}
 use Rattle.ell_word.specs.Node.{card, IsInternal}
-use Rattle.ell_core.specs.state.Words.{Words, word, written, with_update, with_child, child_field}
+use Rattle.ell_core.specs.state.Words.{Words, word, words_of, written, with_update, with_child, child_field}
 use Rattle.ell_core.specs.state.Cards.{filled}
 use Rattle.ell_core.proofs.words.Writes.{written_here, written_elsewhere, internal_at_node}
-use Rattle.ell_core.proofs.words.Listed.{apart, same_place-field}
+use Rattle.ell_core.proofs.words.Listed.{apart, same_place-field, words_are_listed}
 
 if_same : (a b x y : ℕ) → a ≡ b → (if a == b then x else y) ≡ x
 if_same a b x y e = ap (λ t. if t then x else y) (eq-eqb a b e)
@@ -61,3 +61,7 @@ pub write_child_at_node : (w : Words) (x : ℕ) (right : Bool) (value : ℕ) →
     → written w (card x) (child_field right) value ≡ with_child w x right value
 write_child_at_node w x true value inner = ap (λ n. with_child w n true value) (sym (internal_at_node x inner))
 write_child_at_node w x false value inner = ap (λ n. with_child w n false value) (sym (internal_at_node x inner))
+
+-- a word of a list that was read at card c, which is d
+pub read_at : (words : List ℕ) (c d found value : ℕ) (f : Field) → found ≡ listed words c f → c ≡ d → word (words_of words) d f ≡ value → found ≡ value
+read_at words c d found value f read same is = read ∙ (ap (λ n. listed words n f) same ∙ (sym (words_are_listed words d f) ∙ is))
