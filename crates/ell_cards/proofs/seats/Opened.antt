@@ -71,9 +71,10 @@ module _ (t u : TableModel) (p q : PassModel) (same_table : t ≡ u) (same_pass 
       (subst (λ (m : PassModel). KeepsPass u.cards m.view told) (sym same_pass) keeps) n w says)
 
   -- a part of the pass, with keys that go with what it is to know
-  pub part_fits : (was keys : List ℕ) (words : ℕ) (w : View) → PassFits was p.table.words p.view → words ≡ p.table.words → MayHave u.cards q.view keys w
-      → PassFits keys words w
-  part_fits was keys words w fits same may =
-      has_keys t.cards words was keys p.view w (subst (λ i. PassFits was i p.view) (sym same) fits) (same ∙ own_size)
+  pub part_fits : (was keys : List ℕ) (words : ℕ) (w : View) (held : List (ℕ × Unit {0})) (me : Me (Unit {0}) View) → PassFits was p.table.words p.view
+      → words ≡ p.table.words → MayHave u.cards q.view keys w → me ≡ (w, held) → PassFits keys words me.0
+  part_fits was keys words w held me fits same may is =
+      subst (λ (x : Me (Unit {0}) View). PassFits keys words x.0) (sym is)
+      (has_keys t.cards words was keys p.view w (subst (λ i. PassFits was i p.view) (sym same) fits) (same ∙ own_size)
       (subst (λ (m : TableModel). MayHave m.cards p.view keys w) (sym same_table)
-      (subst (λ (m : PassModel). MayHave u.cards m.view keys w) (sym same_pass) may))
+      (subst (λ (m : PassModel). MayHave u.cards m.view keys w) (sym same_pass) may)))
