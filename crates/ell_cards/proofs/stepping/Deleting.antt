@@ -105,8 +105,7 @@ module _ (keys : List ℕ) (cards : ℕ) (s : TableState) (r : Kept keys cards s
         };
         room = λ h. h;
       } in
-      is_event keys cards s r id v here (call.Mark c p was) a (won_or_lost (n == was))
-      (exchanged_words keys cards s r id v here (card p) field.Update (marked c) (n == was))
+      is_event keys cards s r id v here (call.Mark c p was) a _ _
       (exchange_leads keys cards s r id v here a (card p) field.Update was (marked c) (λ b. with_found n (after_mark b c p (unpacked n) v))
       (in_list keys cards s r id v here p field.Update born) (born-settled (r.stages (card p)) born) happens
       (λ stages led d f wait still. absurd (flags_never keys cards s r id v here a Won (written w (card p) field.Update (marked c))
@@ -159,8 +158,7 @@ module _ (keys : List ℕ) (cards : ℕ) (s : TableState) (r : Kept keys cards s
         };
         room = λ h. h;
       } in
-      is_event keys cards s r id v here (call.DChild c gp p y right) a (won_or_lost (n == p))
-      (exchanged_words keys cards s r id v here (card gp) g y (n == p))
+      is_event keys cards s r id v here (call.DChild c gp p y right) a _ _
       (teaches keys cards s r id v here a (card gp) g p y (Cut c) kind.DChild c
       (in_list keys cards s r id v here gp g born) (born-settled (r.stages (card gp)) born)
       (λ e. (cc)) (λ e. (cc)) (λ e. refl) (λ e. refl) happens)

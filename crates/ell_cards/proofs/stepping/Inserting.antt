@@ -54,8 +54,7 @@ module _ (keys : List ℕ) (cards : ℕ) (s : TableState) (r : Kept keys cards s
         };
         room = λ h. h;
       } in
-      is_event keys cards s r id v here (call.IChild c p l right) a (won_or_lost (n == l))
-      (exchanged_words keys cards s r id v here (card p) g (internal c) (n == l))
+      is_event keys cards s r id v here (call.IChild c p l right) a _ _
       (teaches keys cards s r id v here a (card p) g l (internal c) (IChanged c) kind.IChild c
       (in_list keys cards s r id v here p g born) (born-settled (r.stages (card p)) born)
       (λ e. (cc)) (λ e. (cc)) (λ e. refl) (λ e. refl) happens)
