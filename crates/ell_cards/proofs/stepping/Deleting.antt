@@ -142,8 +142,10 @@ module _ (keys : List ℕ) (cards : ℕ) (s : TableState) (r : Kept keys cards s
       let born = subst (Born r.stages) gp_is said.grandparent.born in
       let inner = said.grandparent.inner in
       let is = child_found keys cards s r id v here (w.gp c) gp right gp_is inner said.grandparent.born in
-      let happens : Happens cards a (mine keys cards s r id v here) (won_or_lost (n == p))
-      (becomes keys cards s r id v here (exchanged_words keys cards s r id v here (card gp) g y (n == p)) (learning (Cut c) v)) = record {
+      is_event keys cards s r id v here (call.DChild c gp p y right) a _ _
+      (teaches keys cards s r id v here a (card gp) g p y (Cut c) kind.DChild c
+      (in_list keys cards s r id v here gp g born) (born-settled (r.stages (card gp)) born)
+      (λ e. (cc)) (λ e. (cc)) (λ e. refl) (λ e. refl) (record {
         owned = λ h. h;
         row = record {
           may = may.knows;
@@ -157,11 +159,7 @@ module _ (keys : List ℕ) (cards : ℕ) (s : TableState) (r : Kept keys cards s
           };
         };
         room = λ h. h;
-      } in
-      is_event keys cards s r id v here (call.DChild c gp p y right) a _ _
-      (teaches keys cards s r id v here a (card gp) g p y (Cut c) kind.DChild c
-      (in_list keys cards s r id v here gp g born) (born-settled (r.stages (card gp)) born)
-      (λ e. (cc)) (λ e. (cc)) (λ e. refl) (λ e. refl) happens)
+      }))
       refl refl tt
 
   -- dunflag

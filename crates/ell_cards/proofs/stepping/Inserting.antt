@@ -10,7 +10,6 @@ use Rattle.ell_core.specs.state.Words.{child_field}
 use Rattle.ell_core.specs.state.Machine.{worker_of}
 use Rattle.ell_core.specs.state.Cards.{iflag, exchange_side}
 use Rattle.ell_core.specs.acts.Exchanges.{won_or_lost}
-use Rattle.ell_core.specs.acts.Events.{Happens}
 use Rattle.ell_core.specs.history.Stages.{Born}
 use Rattle.ell_cards.specs.declared.call.Call.TheVariants as call
 use Rattle.ell_cards.specs.declared.view.View.{View}
@@ -19,7 +18,6 @@ use Rattle.ell_cards.specs.Guards.{MayIChild, MayIUnflag}
 use Rattle.ell_cards.specs.Rule.{TableState, Kept}
 use Rattle.ell_cards.specs.Laws.{IsEvent}
 use Rattle.ell_core.proofs.stages.Waiting.{born-settled}
-use Rattle.ell_cards.proofs.seats.Seats.{mine, becomes}
 use Rattle.ell_cards.proofs.seats.Frames.{is_event}
 use Rattle.ell_cards.proofs.stepping.Exchanges.{in_list, told_is, told_key, found_at, exchanged_words, teaches, child_exchanged, child_says, unflags}
 use Rattle.ell_cards.proofs.stepping.Known.{insert_flagged, insert_changed, child_found}
@@ -40,8 +38,10 @@ module _ (keys : List ℕ) (cards : ℕ) (s : TableState) (r : Kept keys cards s
       ∙ (ap (nat_le may.parent_key) (told_is keys cards s r id v here c field.Key may.card_key may.told_card) ∙ sym may.side) in
       let born = subst (Born r.stages) p_is said.parent.born in
       let is = child_found keys cards s r id v here (w.p c) p right p_is said.parent.inner said.parent.born in
-      let happens : Happens cards a (mine keys cards s r id v here) (won_or_lost (n == l))
-      (becomes keys cards s r id v here (exchanged_words keys cards s r id v here (card p) g (internal c) (n == l)) (learning (IChanged c) v)) = record {
+      is_event keys cards s r id v here (call.IChild c p l right) a _ _
+      (teaches keys cards s r id v here a (card p) g l (internal c) (IChanged c) kind.IChild c
+      (in_list keys cards s r id v here p g born) (born-settled (r.stages (card p)) born)
+      (λ e. (cc)) (λ e. (cc)) (λ e. refl) (λ e. refl) (record {
         owned = λ h. h;
         row = record {
           may = may.knows;
@@ -53,11 +53,7 @@ module _ (keys : List ℕ) (cards : ℕ) (s : TableState) (r : Kept keys cards s
           };
         };
         room = λ h. h;
-      } in
-      is_event keys cards s r id v here (call.IChild c p l right) a _ _
-      (teaches keys cards s r id v here a (card p) g l (internal c) (IChanged c) kind.IChild c
-      (in_list keys cards s r id v here p g born) (born-settled (r.stages (card p)) born)
-      (λ e. (cc)) (λ e. (cc)) (λ e. refl) (λ e. refl) happens)
+      }))
       refl refl tt
 
   -- iunflag
