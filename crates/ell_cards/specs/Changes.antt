@@ -308,10 +308,10 @@ abbrev pub part_off : List ℕ → List (ℕ × Bool) → List (ℕ × Bool)
 part_off keys [] = []
 part_off keys (e ∷ es) = if is_among keys e.0 then part_off keys es else e ∷ part_off keys es
 
--- split, the left part: it gets these keys, and keeps the counts
-abbrev pub left_view : List ℕ → View → View
-left_view keys v = record v {
-  worker = idle_worker (part_on keys v.worker.ledger) v.worker.facts;
+-- a part of a pass: these entries of its ledger, nothing in hand, and the facts, what was told and the counts of the pass
+abbrev pub part_view : List (ℕ × Bool) → View → View
+part_view ledger v = record v {
+  worker = idle_worker ledger v.worker.facts;
   here = None;
   next = None;
   filling = [];
@@ -319,18 +319,13 @@ left_view keys v = record v {
   found = None;
 }
 
+-- split, the left part: it gets these keys, and keeps the counts
+abbrev pub left_view : List ℕ → View → View
+left_view keys v = part_view (part_on keys v.worker.ledger) v
+
 -- split, the right part: it gets the other keys
 abbrev pub right_view : List ℕ → View → View
-right_view keys v = record v {
-  worker = idle_worker (part_off keys v.worker.ledger) v.worker.facts;
-  here = None;
-  next = None;
-  filling = [];
-  filled = [];
-  found = None;
-  answers = 0;
-  hindrances = 0;
-}
+right_view keys v = record (part_view (part_off keys v.worker.ledger) v) { answers = 0; hindrances = 0 }
 
 -- an entry put into an ascending ledger at its place, or in place of that of its key
 abbrev pub put_entry : ℕ × Bool → List (ℕ × Bool) → List (ℕ × Bool)

@@ -58,9 +58,10 @@ impl<A: Allocator + Copy> CardTable<A> {
 }
 
 impl<A: Allocator + Copy> Closed<A> {
-    /// How many cards the table has beside card 0.
+    /// How many cards the table has beside card 0, at most `CARD_MAX`.
     pub fn cards(&self) -> u64
-        ensures { result ≡ self.now.cards }
+        ensures cards { result ≡ self.now.cards }
+        ensures limit { result ≤ greatest_card }
     {
         self.cards
     }

@@ -18,7 +18,7 @@ pub fn steps_are_events()
 {}
 
 /// A split of a pass with nothing in hand, and a join of two, are those of the machine; after them the rule holds again.
-pub fn moves_are_moves()
+pub fn splits_and_joins_are_moves()
     ensures splits { SplitsAreMoves }
     ensures joins { JoinsAreMoves }
 {}

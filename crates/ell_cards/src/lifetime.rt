@@ -57,9 +57,9 @@ impl<A: Allocator + Copy> CardTable<A> {
         Ok((table, pass))
     }
 
-    /// How many cards there are beside card 0.
+    /// How many cards there are beside card 0, at most `CARD_MAX`.
     pub fn cards(&self) -> u64
-        ensures count { result ≡ self.now.cards }
+        ensures cards { result ≡ self.now.cards }
         ensures limit { result ≤ greatest_card }
     {
         self.cards

@@ -148,10 +148,11 @@ joined_named cards v w h g = rest_named cards (joined_view v w)
     refl refl
 
 -- it has the keys of both
-pub joined_fits : (words : ℕ) (ours theirs keys : List ℕ) (v w : View) → PassFits ours words v → PassFits theirs words w → keys ≡ keys_united ours theirs
-    → PassFits keys words (joined_view v w)
-joined_fits words ours theirs keys v w h g is = record {
-  owned = is ∙ ((λ t. keys_united (h.owned t) (g.owned t)) ∙ sym (keys_of_united v.worker.ledger w.worker.ledger));
-  ascending = subst IsStrictlyIncreasing (sym is) (ascends (keys_united ours theirs) (rises_united ours theirs (rises theirs g.ascending)));
-  named = λ cards size. joined_named cards v w (h.named cards size) (g.named cards size);
-}
+pub joined_fits : (words left right : ℕ) (ours theirs one other keys : List ℕ) (v w : View) → PassFits ours left v → PassFits theirs right w
+    → words ≡ left → words ≡ right → one ≡ ours → other ≡ theirs → keys ≡ keys_united one other → PassFits keys words (joined_view v w)
+joined_fits words left right ours theirs one other keys v w h g same_left same_right first second united =
+    let is = united ∙ (λ t. keys_united (first t) (second t)) in record {
+      owned = is ∙ ((λ t. keys_united (h.owned t) (g.owned t)) ∙ sym (keys_of_united v.worker.ledger w.worker.ledger));
+      ascending = subst IsStrictlyIncreasing (sym is) (ascends (keys_united ours theirs) (rises_united ours theirs (rises theirs g.ascending)));
+      named = λ cards size. joined_named cards v w (h.named cards (sym same_left ∙ size)) (g.named cards (sym same_right ∙ size));
+    }

@@ -1,4 +1,4 @@
-use Rattle.std.proofs.Common.{◌≡◌, ℕ, zero, suc, false, List, [], ◌∷◌, map, refl, sym, ap, ◌∙◌, subst}
+use Rattle.std.proofs.Common.{◌≡◌, ℕ, zero, suc, false, List, [], ◌∷◌, ◌++◌, map, refl, sym, ap, ◌∙◌, subst}
 use Rattle.std.specs.Prelude.{Contains}
 use Rattle.std.specs.List.Sorted.{IsStrictlyIncreasing}
 use mathlib.Core.Option.{some, some-injective, some-ne-none}
@@ -70,10 +70,10 @@ opening_is_kept keys cards rising real =
       opening = subst IsOpening (one_opens keys cards) one.opens;
     }
 
--- the first pass has its keys
-pub first_fits : (keys : List ℕ) (words : ℕ) → IsStrictlyIncreasing keys → PassFits keys words (first_view keys)
-first_fits keys words rising = record {
+-- the first pass has its keys, which were added to none
+pub first_fits : (none added keys : List ℕ) (words : ℕ) → none ≡ [] → keys ≡ none ++ added → IsStrictlyIncreasing added → PassFits keys words (first_view keys)
+first_fits none added keys words empty are rising = record {
   owned = sym (keys_absent keys);
-  ascending = rising;
+  ascending = subst IsStrictlyIncreasing (sym (are ∙ ap (λ l. l ++ added) empty)) rising;
   named = λ cards size. root_named cards (first_view keys) refl refl refl refl;
 }

@@ -21,27 +21,11 @@ use Rattle.ell_cards.proofs.own_words.OwnTree.{key_same, child_same, update_same
 
 -- a card of which a fact may be known does not wait
 pub allowed_settled : (f : Fact) (s : Stage) → allows f s ≡ true → waits s ≡ false
-allowed_settled (fact.IFlagged c) s h = grind arith
-allowed_settled (fact.IChanged c) s h = grind arith
-allowed_settled (fact.IOver c) s h = grind arith
-allowed_settled (fact.DFlagged c) s h = grind arith
-allowed_settled (fact.Marked c) s h = grind arith
-allowed_settled (fact.Unmarkable c) s h = grind arith
-allowed_settled (fact.Cut c) s h = grind arith
-allowed_settled (fact.DOver c) s h = grind arith
-allowed_settled (fact.Backed c) s h = grind arith
+allowed_settled f s h = grind arith
 
 -- and was claimed
 pub allowed_claimed : (f : Fact) (s : Stage) → allows f s ≡ true → is_claimed s ≡ true
-allowed_claimed (fact.IFlagged c) s h = grind arith
-allowed_claimed (fact.IChanged c) s h = grind arith
-allowed_claimed (fact.IOver c) s h = grind arith
-allowed_claimed (fact.DFlagged c) s h = grind arith
-allowed_claimed (fact.Marked c) s h = grind arith
-allowed_claimed (fact.Unmarkable c) s h = grind arith
-allowed_claimed (fact.Cut c) s h = grind arith
-allowed_claimed (fact.DOver c) s h = grind arith
-allowed_claimed (fact.Backed c) s h = grind arith
+allowed_claimed f s h = grind arith
 
 -- sound words w, and others, t, that say the same at each card that does not wait; a card of these that goes in the tree
 module _ (w t : Words) (stage : Stages) (sound : WordsAreSound w stage) (same : (c : ℕ) → waits (stage c) ≡ false → SaysTheSame w t c)

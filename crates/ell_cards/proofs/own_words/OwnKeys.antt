@@ -41,12 +41,7 @@ module _ (m : Machine) (stage : Stages) (holds : Invariant m stage) (i : ℕ) (m
   machine_keys (call.Answer said) n h = acts act.Answer (said_of (call.Answer said) n) h
   machine_keys (call.Upd x) n h = acts act.Upd Moved h
   machine_keys (call.Down x right) n h = acts act.Down Moved h
-  machine_keys call.Next n h = rests h
-  machine_keys (call.KeyOf x) n h = rests h
-  machine_keys (call.Info c f) n h = rests h
-  machine_keys (call.FrozenChild c p right) n h = rests h
   machine_keys (call.Claim c) n h = claims (n == c) h
-  machine_keys (call.Fill c f value) n h = rests h
   machine_keys (call.IFlag c p from) n h = acts act.IFlag (said_of (call.IFlag c p from) n) h
   machine_keys (call.IChild c p l right) n h = by (n == l) h
     where
@@ -63,6 +58,7 @@ module _ (m : Machine) (stage : Stages) (holds : Invariant m stage) (i : ℕ) (m
       by false h = acts (act.DChild c) (won_or_lost false) h
   machine_keys (call.DUnflag c gp) n h = acts (act.DUnflag c) (said_of (call.DUnflag c gp) n) h
   machine_keys (call.Backtrack c gp) n h = acts (act.Backtrack c) (said_of (call.Backtrack c gp) n) h
+  machine_keys _ n h = rests h
 
 -- words before and after, and others whose trees have the same keys
 module _ (w w' t t' : Words) (before : SameKeys t w) (after : SameKeys t' w') where

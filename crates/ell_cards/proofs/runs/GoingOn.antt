@@ -83,12 +83,7 @@ module _ (m : Machine) (stage : Stages) (holds : Invariant m stage) (i : ℕ) (m
   call_wins (call.Answer said) n v cards mine may h = acts act.Answer (Answered said) h
   call_wins (call.Upd x) n v cards mine may h = acts act.Upd Moved h
   call_wins (call.Down x right) n v cards mine may h = acts act.Down Moved h
-  call_wins call.Next n v cards mine may h = rests h
-  call_wins (call.KeyOf x) n v cards mine may h = rests h
-  call_wins (call.Info c f) n v cards mine may h = rests h
-  call_wins (call.FrozenChild c p right) n v cards mine may h = rests h
   call_wins (call.Claim c) n v cards mine may h = claims (n == c) h
-  call_wins (call.Fill c f value) n v cards mine may h = rests h
   call_wins (call.IFlag c p from) n v cards mine may h =
       flags act.IFlag kind.IFlag (n == packed from) c (λ hand d. refl) (mine ∙ may.may.holds) h
   call_wins (call.IChild c p l right) n v cards mine may h = tries (act.IChild c) (n == l) h
@@ -99,6 +94,7 @@ module _ (m : Machine) (stage : Stages) (holds : Invariant m stage) (i : ℕ) (m
   call_wins (call.DChild c gp p sibling right) n v cards mine may h = tries (act.DChild c) (n == p) h
   call_wins (call.DUnflag c gp) n v cards mine may h = tries (act.DUnflag c) (n == dflag c) h
   call_wins (call.Backtrack c gp) n v cards mine may h = tries (act.Backtrack c) (n == dflag c) h
+  call_wins _ n v cards mine may h = rests h
 
 module _ (keys : List ℕ) (cards : ℕ) where
   -- the wins of a turn

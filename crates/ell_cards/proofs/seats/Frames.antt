@@ -19,7 +19,7 @@ use Rattle.ell_core.specs.history.Stages.{Stages, waits}
 use Rattle.ell_core.specs.history.Invariant.{Invariant}
 use Rattle.ell_core.specs.history.Later.{wins_by}
 use Rattle.ell_core.proofs.words.Writes.{written_elsewhere, written_next}
-use Rattle.ell_core.proofs.words.Listed.{same_after_same_write}
+use Rattle.ell_core.proofs.words.Listed.{apart, same_after_same_write}
 use Rattle.ell_cards.specs.declared.call.Call.{Call}
 use Rattle.ell_cards.specs.declared.view.Told.{Told}
 use Rattle.ell_cards.specs.declared.view.Told.TheVariants.{Key}
@@ -30,7 +30,7 @@ use Rattle.ell_cards.specs.Calls.{word_of, atomic_of, left_by, act_of, said_of, 
 use Rattle.ell_cards.specs.Laws.{found_by, view_after, state_after, IsEvent}
 use Rattle.ell_core.proofs.stages.Waiting.{waits-kind, waits-wins, kind-waits}
 use Rattle.ell_core.proofs.following.WaitingCards.{hand_waits}
-use Rattle.ell_cards.proofs.words.Fields.{apart, listed_else, listed_next}
+use Rattle.ell_cards.proofs.words.Fields.{listed_else, listed_next}
 use Rattle.ell_cards.proofs.seats.Seats.{IsKept, Leads, Moves, leads, kept_event, entries_on, machine, mine, becomes, mine_sound, set_there}
 
 -- what is so of a view beside its entries after an event, whatever the words: its key is told, a card that it has in hand

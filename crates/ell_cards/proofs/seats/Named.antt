@@ -36,13 +36,7 @@ module _ (keys : List ℕ) (cards : ℕ) (s : TableState) (r : Kept keys cards s
   info_fits c field.Gp x low is = subst (λ y. card y ≤ cards) is (born_fits (r.words.gp c) ((relies keys cards s r id v here).goes c low).grandparent.born)
   info_fits c field.P x low is = subst (λ y. card y ≤ cards) is (born_fits (r.words.p c) ((relies keys cards s r id v here).goes c low).parent.born)
   info_fits c field.L x low is = subst (λ y. card y ≤ cards) is (born_fits (r.words.l c) ((relies keys cards s r id v here).goes c low).leaf)
-  info_fits c field.Was x low is = tt
-  info_fits c field.Key x low is = tt
-  info_fits c field.Left x low is = tt
-  info_fits c field.Right x low is = tt
-  info_fits c field.Update x low is = tt
-  info_fits c field.LeftLeafKey x low is = tt
-  info_fits c field.RightLeafKey x low is = tt
+  info_fits c _ x low is = tt
 
   -- what was told
   entry_fits : (e : Told) → EntryHolds r.words r.stages e → EntryIsNamed cards e

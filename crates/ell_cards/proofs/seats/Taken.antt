@@ -1,8 +1,8 @@
-use Rattle.std.proofs.Common.{◌≡◌, ◌==◌, ℕ, ◌%◌, ◌<◌, ◌≤◌, if◌then◌else◌, Bool, true, false, List, [], ◌∷◌, get_or, set, Option, Some, None, refl, sym, ap, ◌∙◌, subst, inl, inr, arith}
+use Rattle.std.proofs.Common.{◌≡◌, ◌==◌, ℕ, ◌%◌, ◌<◌, ◌≤◌, if◌then◌else◌, Bool, true, false, List, [], ◌∷◌, get_or, set, Option, Some, refl, sym, ap, ◌∙◌, subst, inl, inr, arith}
 use prog.Atomic.{either}
 use Rattle.atomic_table.specs.Table.{Allows, keeps}
 use Rattle.ell_ops.specs.declared.op.Op.{Op}
-use Rattle.ell_ops.specs.declared.op.Op.TheVariants.{Find, Insert, Delete}
+use Rattle.ell_ops.specs.declared.op.Op.TheVariants.{Insert, Delete}
 use Rattle.ell_word.specs.Node.{card}
 use Rattle.ell_word.specs.Word.{packed, unpacked}
 use Rattle.ell_core.specs.declared.fact.Fact.TheVariants.{IFlagged, DFlagged, Marked}
@@ -32,35 +32,18 @@ settled_keys k b [] = refl
 settled_keys k b (e ∷ es) = ap (λ ks. e.0 ∷ ks) (settled_keys k b es)
 
 answered_keys : (o : Option Op) (said : Bool) (l : List (ℕ × Bool)) → keys_of (answered_ledger o said l) ≡ keys_of l
-answered_keys None said l = refl
-answered_keys (Some (Find k)) said l = refl
 answered_keys (Some (Insert k)) true l = settled_keys k true l
-answered_keys (Some (Insert k)) false l = refl
 answered_keys (Some (Delete k)) true l = settled_keys k false l
-answered_keys (Some (Delete k)) false l = refl
+answered_keys _ _ l = refl
 
 -- no step call changes which keys a pass owns
 keys_stay : (c : Call) (n : ℕ) (v : View) → keys_of (after c n v).worker.ledger ≡ keys_of v.worker.ledger
-keys_stay (call.Begin op) n v = refl
-keys_stay call.Again n v = refl
-keys_stay call.Leave n v = refl
 keys_stay (call.Answer said) n v = answered_keys v.worker.operation said v.worker.ledger
-keys_stay (call.Upd x) n v = refl
-keys_stay (call.Down x right) n v = refl
-keys_stay call.Next n v = refl
-keys_stay (call.KeyOf x) n v = refl
-keys_stay (call.Info c f) n v = refl
-keys_stay (call.FrozenChild c p right) n v = refl
 keys_stay (call.Claim c) n v = ap keys_of (claim_ledger (n == c) c v)
-keys_stay (call.Fill c f value) n v = refl
 keys_stay (call.IFlag c p from) n v = ap keys_of (flag_ledger (n == packed from) (IFlagged c) p (unpacked n) v)
-keys_stay (call.IChild c p l right) n v = refl
-keys_stay (call.IUnflag c p) n v = refl
 keys_stay (call.DFlag c gp from) n v = ap keys_of (flag_ledger (n == packed from) (DFlagged c) gp (unpacked n) v)
 keys_stay (call.Mark c p was) n v = ap keys_of (mark_ledger (n == was) c p (unpacked n) v)
-keys_stay (call.DChild c gp p sibling right) n v = refl
-keys_stay (call.DUnflag c gp) n v = refl
-keys_stay (call.Backtrack c gp) n v = refl
+keys_stay _ n v = refl
 
 -- a step call keeps the rule, whatever the table is, and leaves of its pass what the call says
 taken : (keys : List ℕ) (cards : ℕ) (c : Call) (v : View) (f : ℕ → ℕ) → ((n : ℕ) → f n ≡ left_by (atomic_of c) n) → May cards c v
@@ -131,17 +114,11 @@ known_fits cards v c named (inr (inr k)) = named.facts (Marked c) k
 
 -- the word that a call touches is in the table
 pub word_fits : (cards : ℕ) (c : Call) (v : View) → IsNamed cards v → May cards c v → word_of c < table_size cards
-word_fits cards (call.Begin op) v named may = omega arith
-word_fits cards call.Again v named may = omega arith
-word_fits cards call.Leave v named may = omega arith
-word_fits cards (call.Answer said) v named may = omega arith
 word_fits cards (call.Upd x) v named may = address_fits cards (card x) field.Update (named.node x may.stands)
 word_fits cards (call.Down x right) v named may = address_fits cards (card x) (child_field right) (named.node x may.stands)
-word_fits cards call.Next v named may = omega arith
 word_fits cards (call.KeyOf x) v named may = address_fits cards (card x) (key_field (x % 3)) (named.entries (Met x) may)
 word_fits cards (call.Info c f) v named may = address_fits cards c f (known_fits cards v c named may.knows)
 word_fits cards (call.FrozenChild c p right) v named may = address_fits cards (card p) (child_field right) (named.entries (Info c field.P p) may.parent).1
-word_fits cards (call.Claim c) v named may = omega arith
 word_fits cards (call.Fill c f value) v named may = address_fits cards c f (named.hand c may.holds)
 word_fits cards (call.IFlag c p from) v named may = address_fits cards (card p) field.Update (named.parent may.leaf _ may.stands may.behind).node
 word_fits cards (call.IChild c p l right) v named may = address_fits cards (card p) (child_field right) (named.entries (Info c field.P p) may.parent).1
@@ -153,6 +130,7 @@ word_fits cards (call.DChild c gp p sibling right) v named may =
     address_fits cards (card gp) (child_field right) (named.entries (Info c field.Gp gp) may.grandparent).1
 word_fits cards (call.DUnflag c gp) v named may = address_fits cards (card gp) field.Update (named.entries (Info c field.Gp gp) may.grandparent).1
 word_fits cards (call.Backtrack c gp) v named may = address_fits cards (card gp) field.Update (named.entries (Info c field.Gp gp) may.grandparent).1
+word_fits cards _ v named may = omega arith
 
 -- a pass after one step that took this call
 pub steps_by : (old new : PassModel) (v : View) → StepsBy old new → new.view ≡ v → Steps old new v

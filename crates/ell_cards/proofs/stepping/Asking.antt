@@ -27,29 +27,17 @@ use Rattle.ell_cards.proofs.stepping.Known.{known_delete, known_card, known_clai
 
 -- a field that may be asked for never changes
 asked_fixed : (f : Field) → IsAsked f → is_fixed f ≡ true
-asked_fixed field.Gp a = refl
-asked_fixed field.P a = refl
-asked_fixed field.L a = refl
-asked_fixed field.Was a = refl
-asked_fixed field.Key a = refl
 asked_fixed field.Left a = absurd a
 asked_fixed field.Right a = absurd a
 asked_fixed field.Update a = absurd a
-asked_fixed field.LeftLeafKey a = refl
-asked_fixed field.RightLeafKey a = refl
+asked_fixed _ a = refl
 
 -- what was told before is told
 info_more : (c : ℕ) (f : Field) (x : ℕ) (told : List Told) (e : Told) → Has told e → Has (told_info c f x told) e
 info_more c field.Gp x told e h = earlier e (Info c field.Gp x) (Met x ∷ told) (earlier e (Met x) told h)
 info_more c field.P x told e h = earlier e (Info c field.P x) (Met x ∷ told) (earlier e (Met x) told h)
 info_more c field.L x told e h = earlier e (Info c field.L x) (Met x ∷ told) (earlier e (Met x) told h)
-info_more c field.Was x told e h = earlier e (Info c field.Was x) told h
-info_more c field.Key x told e h = earlier e (Info c field.Key x) told h
-info_more c field.Left x told e h = earlier e (Info c field.Left x) told h
-info_more c field.Right x told e h = earlier e (Info c field.Right x) told h
-info_more c field.Update x told e h = earlier e (Info c field.Update x) told h
-info_more c field.LeftLeafKey x told e h = earlier e (Info c field.LeftLeafKey x) told h
-info_more c field.RightLeafKey x told e h = earlier e (Info c field.RightLeafKey x) told h
+info_more c f x told e h = earlier e (Info c f x) told h
 
 module _ (keys : List ℕ) (cards : ℕ) (s : TableState) (r : Kept keys cards s) (id : ℕ) (v : View) (here : get_elem? s.views id ≡ some v) where
   -- where a known card goes came into the tree; an insert's has no grandparent, which is node 0
@@ -87,13 +75,7 @@ module _ (keys : List ℕ) (cards : ℕ) (s : TableState) (r : Kept keys cards s
           (known_claimed keys cards s r id v here c k, fixed, eq) (met (r.words.p c) (p_born c k) eq)
       by field.L fixed eq = with_entry (EntryHolds r.words r.stages) (Info c field.L n) (Met n ∷ v.told)
           (known_claimed keys cards s r id v here c k, fixed, eq) (met (r.words.l c) (l_born c k) eq)
-      by field.Was fixed eq = with_entry (EntryHolds r.words r.stages) (Info c field.Was n) v.told (known_claimed keys cards s r id v here c k, fixed, eq) old
-      by field.Key fixed eq = with_entry (EntryHolds r.words r.stages) (Info c field.Key n) v.told (known_claimed keys cards s r id v here c k, fixed, eq) old
-      by field.Left fixed eq = with_entry (EntryHolds r.words r.stages) (Info c field.Left n) v.told (known_claimed keys cards s r id v here c k, fixed, eq) old
-      by field.Right fixed eq = with_entry (EntryHolds r.words r.stages) (Info c field.Right n) v.told (known_claimed keys cards s r id v here c k, fixed, eq) old
-      by field.Update fixed eq = with_entry (EntryHolds r.words r.stages) (Info c field.Update n) v.told (known_claimed keys cards s r id v here c k, fixed, eq) old
-      by field.LeftLeafKey fixed eq = with_entry (EntryHolds r.words r.stages) (Info c field.LeftLeafKey n) v.told (known_claimed keys cards s r id v here c k, fixed, eq) old
-      by field.RightLeafKey fixed eq = with_entry (EntryHolds r.words r.stages) (Info c field.RightLeafKey n) v.told (known_claimed keys cards s r id v here c k, fixed, eq) old
+      by g fixed eq = with_entry (EntryHolds r.words r.stages) (Info c g n) v.told (known_claimed keys cards s r id v here c k, fixed, eq) old
 
   -- grandparent and parent are internal
   gp_inner : (c : ℕ) → KnowsCard v c → IsInternal (r.words.gp c)
@@ -109,13 +91,7 @@ module _ (keys : List ℕ) (cards : ℕ) (s : TableState) (r : Kept keys cards s
   tells_node c field.P n k is =
       (subst (InTable cards) is (born_in_table keys cards s r id v here (r.words.p c) (p_born c k)), subst IsInternal is (p_inner c k))
   tells_node c field.L n k is = subst (InTable cards) is (born_in_table keys cards s r id v here (r.words.l c) (l_born c k))
-  tells_node c field.Was n k is = tt
-  tells_node c field.Key n k is = tt
-  tells_node c field.Left n k is = tt
-  tells_node c field.Right n k is = tt
-  tells_node c field.Update n k is = tt
-  tells_node c field.LeftLeafKey n k is = tt
-  tells_node c field.RightLeafKey n k is = tt
+  tells_node c _ n k is = tt
 
   -- where the card goes is ever deeper
   tells_depth : (c : ℕ) (f : Field) (n : ℕ) → KnowsCard v c → word r.words c f ≡ n → TellsDepth v c f n
@@ -131,13 +107,7 @@ module _ (keys : List ℕ) (cards : ℕ) (s : TableState) (r : Kept keys cards s
     λ l told. let above = deeper c k in let l_is = told_is keys cards s r id v here c field.L l told in omega arith,
   )
   tells_depth c field.L n k is = λ p told. let above = deeper c k in let p_is = told_is keys cards s r id v here c field.P p told in omega arith
-  tells_depth c field.Was n k is = tt
-  tells_depth c field.Key n k is = tt
-  tells_depth c field.Left n k is = tt
-  tells_depth c field.Right n k is = tt
-  tells_depth c field.Update n k is = tt
-  tells_depth c field.LeftLeafKey n k is = tt
-  tells_depth c field.RightLeafKey n k is = tt
+  tells_depth c _ n k is = tt
 
   -- info
   pub keeps_info : (c : ℕ) (f : Field) → MayAsk v c f → IsEvent keys cards s r id v (call.Info c f)

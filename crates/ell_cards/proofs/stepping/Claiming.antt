@@ -18,6 +18,7 @@ use Rattle.ell_core.specs.history.Stages.{Stages, is_claimed, waits}
 use Rattle.ell_core.proofs.stages.Waiting.{kind-waits, unclaimed-wins, unclaimed-settled, waits-claimed}
 use Rattle.ell_core.proofs.following.WaitingCards.{claimed_cards_say}
 use Rattle.ell_core.proofs.following.ClaimedFacts.{not_claimed}
+use Rattle.ell_core.proofs.words.Listed.{same_but_next}
 use Rattle.ell_cards.specs.declared.call.Call.TheVariants as call
 use Rattle.ell_cards.specs.declared.view.Told.{Told}
 use Rattle.ell_cards.specs.declared.view.Told.TheVariants.{Key, Info}
@@ -36,16 +37,10 @@ use Rattle.ell_cards.proofs.stepping.Looks.{here_key}
 
 -- what was told before is told
 fixed_more : (c : ℕ) (f : Field) (x : ℕ) (told : List Told) (e : Told) → Has told e → Has (told_fixed c f x told) e
-fixed_more c field.Gp x told e h = earlier e (Info c field.Gp x) told h
-fixed_more c field.P x told e h = earlier e (Info c field.P x) told h
-fixed_more c field.L x told e h = earlier e (Info c field.L x) told h
-fixed_more c field.Was x told e h = earlier e (Info c field.Was x) told h
-fixed_more c field.Key x told e h = earlier e (Info c field.Key x) told h
 fixed_more c field.Left x told e h = h
 fixed_more c field.Right x told e h = h
 fixed_more c field.Update x told e h = h
-fixed_more c field.LeftLeafKey x told e h = earlier e (Info c field.LeftLeafKey x) told h
-fixed_more c field.RightLeafKey x told e h = earlier e (Info c field.RightLeafKey x) told h
+fixed_more c f x told e h = earlier e (Info c f x) told h
 
 filling_more : (c : ℕ) (es : List (Field × ℕ)) (told : List Told) (e : Told) → Has told e → Has (told_filling c es told) e
 filling_more c [] told e h = h
@@ -54,16 +49,10 @@ filling_more c (d ∷ es) told e h = fixed_more c d.0 d.1 (told_filling c es tol
 -- what holds of a card's word is told of it
 fixed_holds : (w : Words) (stage : Stages) (c : ℕ) (f : Field) (x : ℕ) (told : List Told) → c < w.next → word w c f ≡ x
     → ((e : Told) → Has told e → EntryHolds w stage e) → (e : Told) → Has (told_fixed c f x told) e → EntryHolds w stage e
-fixed_holds w stage c field.Gp x told low is old = with_entry (EntryHolds w stage) (Info c field.Gp x) told (low, refl, is) old
-fixed_holds w stage c field.P x told low is old = with_entry (EntryHolds w stage) (Info c field.P x) told (low, refl, is) old
-fixed_holds w stage c field.L x told low is old = with_entry (EntryHolds w stage) (Info c field.L x) told (low, refl, is) old
-fixed_holds w stage c field.Was x told low is old = with_entry (EntryHolds w stage) (Info c field.Was x) told (low, refl, is) old
-fixed_holds w stage c field.Key x told low is old = with_entry (EntryHolds w stage) (Info c field.Key x) told (low, refl, is) old
 fixed_holds w stage c field.Left x told low is old = old
 fixed_holds w stage c field.Right x told low is old = old
 fixed_holds w stage c field.Update x told low is old = old
-fixed_holds w stage c field.LeftLeafKey x told low is old = with_entry (EntryHolds w stage) (Info c field.LeftLeafKey x) told (low, refl, is) old
-fixed_holds w stage c field.RightLeafKey x told low is old = with_entry (EntryHolds w stage) (Info c field.RightLeafKey x) told (low, refl, is) old
+fixed_holds w stage c f x told low is old = with_entry (EntryHolds w stage) (Info c f x) told (low, refl, is) old
 
 -- a card says each entry of a list
 abbrev Says : Words → ℕ → List (Field × ℕ) → Type 0
@@ -75,19 +64,6 @@ filling_holds : (w : Words) (stage : Stages) (c : ℕ) (es : List (Field × ℕ)
 filling_holds w stage c [] told low says old = old
 filling_holds w stage c (d ∷ es) told low says old =
     fixed_holds w stage c d.0 d.1 (told_filling c es told) low says.0 (filling_holds w stage c es told low says.1 old)
-
--- another claim word leaves the words of the cards
-other_next : (w : Words) (value c : ℕ) (f : Field) → word (record w { next = value }) c f ≡ word w c f
-other_next w value c field.Gp = refl
-other_next w value c field.P = refl
-other_next w value c field.L = refl
-other_next w value c field.Was = refl
-other_next w value c field.Key = refl
-other_next w value c field.Left = refl
-other_next w value c field.Right = refl
-other_next w value c field.Update = refl
-other_next w value c field.LeftLeafKey = refl
-other_next w value c field.RightLeafKey = refl
 
 -- the view after a won claim, with this filling
 abbrev taking : ℕ → List (Field × ℕ) → View → View
@@ -133,7 +109,7 @@ module _ (keys : List ℕ) (cards : ℕ) (s : TableState) (r : Kept keys cards s
       let listed_same : (c : ℕ) (f : Field) → listed list c f ≡ listed s.words c f =
       λ c f. get_or-set_other s.words 0 (address c f) (next + 1) 0 (λ e. omega arith) in
       let word_same : (c : ℕ) (f : Field) → c ≢ next → word new c f ≡ word r.words c f =
-      λ c f n. other_next (filled r.words next es) (next + 1) c f ∙ filled_else r.words next es c f n in
+      λ c f n. sym (same_but_next (filled r.words next es) (next + 1) c f) ∙ filled_else r.words next es c f n in
       let blank = (r.invariant.words.cards next).blank fresh in record {
         kept = kept_event keys cards s r id v here act.Claim Moved new after list l.0 l.1 (record {
           size = length-set s.words 0 (next + 1);

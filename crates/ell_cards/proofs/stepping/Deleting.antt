@@ -11,7 +11,7 @@ use Rattle.ell_core.specs.declared.field.Field.TheVariants as field
 use Rattle.ell_core.specs.state.Words.{child_field, written}
 use Rattle.ell_core.specs.state.Facts.{known_of, learned, learned_any, told_by}
 use Rattle.ell_core.specs.state.Machine.{Worker, worker_of}
-use Rattle.ell_core.specs.state.Cards.{dflag, marked, clean, exchange_side, sibling}
+use Rattle.ell_core.specs.state.Cards.{dflag, marked, exchange_side, sibling}
 use Rattle.ell_core.specs.acts.Exchanges.{won_or_lost, exchanged_child, found_child, knowing, mark_teaches}
 use Rattle.ell_core.specs.acts.Events.{Happens}
 use Rattle.ell_core.specs.history.Stages.{Born}
@@ -31,7 +31,7 @@ use Rattle.ell_cards.proofs.seats.Entries.{facts_known, places_more}
 use Rattle.ell_cards.proofs.seats.Seats.{mine, becomes, mine_is, relies}
 use Rattle.ell_cards.proofs.seats.Frames.{Onward, is_event}
 use Rattle.ell_cards.proofs.stepping.Looks.{found_entries, names_card}
-use Rattle.ell_cards.proofs.stepping.Exchanges.{in_list, told_is, told_key, flags_never, found_at, exchanged_words, learning_on, exchange_leads, teaches, update_exchanged, update_says, child_exchanged, child_says}
+use Rattle.ell_cards.proofs.stepping.Exchanges.{in_list, told_is, told_key, flags_never, found_at, exchanged_words, learning_on, exchange_leads, teaches, update_exchanged, update_says, child_exchanged, child_says, unflags}
 use Rattle.ell_cards.proofs.stepping.Known.{known_delete, delete_cut, delete_unmarkable, update_found, child_found}
 
 -- what a mark teaches, as the view has it
@@ -105,8 +105,7 @@ module _ (keys : List ℕ) (cards : ℕ) (s : TableState) (r : Kept keys cards s
         };
         room = λ h. h;
       } in
-      is_event keys cards s r id v here (call.Mark c p was) a (won_or_lost (n == was))
-      (exchanged_words keys cards s r id v here (card p) field.Update (marked c) (n == was))
+      is_event keys cards s r id v here (call.Mark c p was) a _ _
       (exchange_leads keys cards s r id v here a (card p) field.Update was (marked c) (λ b. with_found n (after_mark b c p (unpacked n) v))
       (in_list keys cards s r id v here p field.Update born) (born-settled (r.stages (card p)) born) happens
       (λ stages led d f wait still. absurd (flags_never keys cards s r id v here a Won (written w (card p) field.Update (marked c))
@@ -143,8 +142,10 @@ module _ (keys : List ℕ) (cards : ℕ) (s : TableState) (r : Kept keys cards s
       let born = subst (Born r.stages) gp_is said.grandparent.born in
       let inner = said.grandparent.inner in
       let is = child_found keys cards s r id v here (w.gp c) gp right gp_is inner said.grandparent.born in
-      let happens : Happens cards a (mine keys cards s r id v here) (won_or_lost (n == p))
-      (becomes keys cards s r id v here (exchanged_words keys cards s r id v here (card gp) g y (n == p)) (learning (Cut c) v)) = record {
+      is_event keys cards s r id v here (call.DChild c gp p y right) a _ _
+      (teaches keys cards s r id v here a (card gp) g p y (Cut c) kind.DChild c
+      (in_list keys cards s r id v here gp g born) (born-settled (r.stages (card gp)) born)
+      (λ e. (cc)) (λ e. (cc)) (λ e. refl) (λ e. refl) (record {
         owned = λ h. h;
         row = record {
           may = may.knows;
@@ -158,76 +159,25 @@ module _ (keys : List ℕ) (cards : ℕ) (s : TableState) (r : Kept keys cards s
           };
         };
         room = λ h. h;
-      } in
-      is_event keys cards s r id v here (call.DChild c gp p y right) a (won_or_lost (n == p))
-      (exchanged_words keys cards s r id v here (card gp) g y (n == p))
-      (teaches keys cards s r id v here a (card gp) g p y (Cut c) kind.DChild c
-      (in_list keys cards s r id v here gp g born) (born-settled (r.stages (card gp)) born)
-      (λ e. (cc)) (λ e. (cc)) (λ e. refl) (λ e. refl) happens)
+      }))
       refl refl tt
 
   -- dunflag
   pub keeps_dunflag : (c gp : ℕ) → MayDUnflag v c gp → IsEvent keys cards s r id v (call.DUnflag c gp)
   keeps_dunflag c gp may =
-      let w = r.words in
-      let a = act.DUnflag c in
-      let n = found_at keys cards s r id v here (card gp) field.Update in
-      let said = delete_cut keys cards s r id v here c may.knows in
-      let gp_is : w.gp c ≡ gp = told_is keys cards s r id v here c field.Gp gp may.grandparent in
-      let born = subst (Born r.stages) gp_is said.grandparent.born in
-      let inner = said.grandparent.inner in
-      let is = update_found keys cards s r id v here (w.gp c) gp gp_is inner said.grandparent.born in
-      let happens : Happens cards a (mine keys cards s r id v here) (won_or_lost (n == dflag c))
-      (becomes keys cards s r id v here (exchanged_words keys cards s r id v here (card gp) field.Update (clean c) (n == dflag c)) (learning (DOver c) v)) = record {
-        owned = λ h. h;
-        row = record {
-          may = may.knows;
-          does = record {
-            says = update_says w (w.gp c) gp (dflag c) (clean c) n gp_is inner is;
-            gives = λ t. record {
-              words = update_exchanged w (w.gp c) gp (dflag c) (clean c) n gp_is inner is t;
-              worker = worker_of (learning (DOver c) v).worker;
-            };
-          };
-        };
-        room = λ h. h;
-      } in
-      is_event keys cards s r id v here (call.DUnflag c gp) a (won_or_lost (n == dflag c))
-      (exchanged_words keys cards s r id v here (card gp) field.Update (clean c) (n == dflag c))
-      (teaches keys cards s r id v here a (card gp) field.Update (dflag c) (clean c) (DOver c) kind.DUnflag c
-      (in_list keys cards s r id v here gp field.Update born) (born-settled (r.stages (card gp)) born)
-      (λ e. (cc)) (λ e. (cc)) (λ e. refl) (λ e. refl) happens)
+      is_event keys cards s r id v here (call.DUnflag c gp) (act.DUnflag c) _ _
+      (unflags keys cards s r id v here (act.DUnflag c) c (r.words.gp c) gp (dflag c) (DOver c) kind.DUnflag
+      (told_is keys cards s r id v here c field.Gp gp may.grandparent) (delete_cut keys cards s r id v here c may.knows).grandparent
+      (λ e. (cc)) (λ e. (cc)) (λ e. refl) (λ e. refl)
+      (λ says gives. record { owned = λ h. h; row = record { may = may.knows; does = record { says = says; gives = gives } }; room = λ h. h }))
       refl refl tt
 
   -- backtrack
   pub keeps_backtrack : (c gp : ℕ) → MayBacktrack v c gp → IsEvent keys cards s r id v (call.Backtrack c gp)
   keeps_backtrack c gp may =
-      let w = r.words in
-      let a = act.Backtrack c in
-      let n = found_at keys cards s r id v here (card gp) field.Update in
-      let said = delete_unmarkable keys cards s r id v here c may.knows in
-      let gp_is : w.gp c ≡ gp = told_is keys cards s r id v here c field.Gp gp may.grandparent in
-      let born = subst (Born r.stages) gp_is said.grandparent.born in
-      let inner = said.grandparent.inner in
-      let is = update_found keys cards s r id v here (w.gp c) gp gp_is inner said.grandparent.born in
-      let happens : Happens cards a (mine keys cards s r id v here) (won_or_lost (n == dflag c))
-      (becomes keys cards s r id v here (exchanged_words keys cards s r id v here (card gp) field.Update (clean c) (n == dflag c)) (learning (Backed c) v)) = record {
-        owned = λ h. h;
-        row = record {
-          may = may.knows;
-          does = record {
-            says = update_says w (w.gp c) gp (dflag c) (clean c) n gp_is inner is;
-            gives = λ t. record {
-              words = update_exchanged w (w.gp c) gp (dflag c) (clean c) n gp_is inner is t;
-              worker = worker_of (learning (Backed c) v).worker;
-            };
-          };
-        };
-        room = λ h. h;
-      } in
-      is_event keys cards s r id v here (call.Backtrack c gp) a (won_or_lost (n == dflag c))
-      (exchanged_words keys cards s r id v here (card gp) field.Update (clean c) (n == dflag c))
-      (teaches keys cards s r id v here a (card gp) field.Update (dflag c) (clean c) (Backed c) kind.Backtrack c
-      (in_list keys cards s r id v here gp field.Update born) (born-settled (r.stages (card gp)) born)
-      (λ e. (cc)) (λ e. (cc)) (λ e. refl) (λ e. refl) happens)
+      is_event keys cards s r id v here (call.Backtrack c gp) (act.Backtrack c) _ _
+      (unflags keys cards s r id v here (act.Backtrack c) c (r.words.gp c) gp (dflag c) (Backed c) kind.Backtrack
+      (told_is keys cards s r id v here c field.Gp gp may.grandparent) (delete_unmarkable keys cards s r id v here c may.knows).grandparent
+      (λ e. (cc)) (λ e. (cc)) (λ e. refl) (λ e. refl)
+      (λ says gives. record { owned = λ h. h; row = record { may = may.knows; does = record { says = says; gives = gives } }; room = λ h. h }))
       refl refl tt

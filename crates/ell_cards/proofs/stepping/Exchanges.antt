@@ -1,4 +1,4 @@
-use Rattle.std.proofs.Common.{◌≡◌, ◌≢◌, ℕ, ◌<◌, ◌==◌, if◌then◌else◌, Bool, true, false, List, [], ◌∷◌, ◌++◌, length, get_or, set, refl, sym, ap, ◌∙◌, inl, inr, arith, true≢false}
+use Rattle.std.proofs.Common.{◌≡◌, ◌≢◌, ℕ, ◌<◌, ◌==◌, if◌then◌else◌, Bool, true, false, List, [], ◌∷◌, ◌++◌, length, get_or, set, refl, sym, ap, ◌∙◌, subst, inl, inr, arith, true≢false}
 use Rattle.std.specs.Prelude.{Some}
 use mathlib.Core.Option.{some}
 use lib.ListN.{get_elem?}
@@ -13,10 +13,13 @@ use Rattle.ell_core.specs.declared.field.Field.{Field}
 use Rattle.ell_core.specs.declared.field.Field.TheVariants as field
 use Rattle.ell_core.specs.state.Layout.{listed, address}
 use Rattle.ell_core.specs.state.Words.{Words, word, written, with_child, child_field}
-use Rattle.ell_core.specs.state.Cards.{exchange_side}
-use Rattle.ell_core.specs.acts.Exchanges.{won_or_lost, exchanged_update, exchanged_child, found_child}
+use Rattle.ell_core.specs.state.Machine.{worker_of}
+use Rattle.ell_core.specs.state.Cards.{clean, exchange_side}
+use Rattle.ell_core.specs.state.Facts.{learned}
+use Rattle.ell_core.specs.acts.Exchanges.{won_or_lost, exchanged_update, exchanged_child, found_child, knowing}
 use Rattle.ell_core.specs.acts.Events.{Happens}
 use Rattle.ell_core.specs.history.Stages.{Stages, Born, waits}
+use Rattle.ell_core.specs.history.Invariant.{IsInnerBorn}
 use Rattle.ell_core.specs.history.Later.{wins_by, win_for}
 use Rattle.ell_core.proofs.words.Listed.{address_inside}
 use Rattle.ell_cards.specs.declared.view.Told.{Told}
@@ -26,10 +29,11 @@ use Rattle.ell_cards.specs.Models.{IsTold}
 use Rattle.ell_cards.specs.Changes.{learning, with_found}
 use Rattle.ell_cards.specs.Rule.{TableState, EntryHolds, Kept}
 use Rattle.ell_cards.specs.Calls.{after}
-use Rattle.ell_core.proofs.stages.Waiting.{waits-wins, first_win}
+use Rattle.ell_core.proofs.stages.Waiting.{born-settled, waits-wins, first_win}
 use Rattle.ell_cards.proofs.words.Fields.{write_update_at_node, write_child_at_node}
 use Rattle.ell_cards.proofs.seats.Seats.{Leads, leads, kept_event, mine, becomes, born_claimed, entries_on}
 use Rattle.ell_cards.proofs.seats.Frames.{Onward, IsReached, looks, waits_on, view_on, moves_write}
+use Rattle.ell_cards.proofs.stepping.Known.{update_found}
 
 module _ (keys : List ℕ) (cards : ℕ) (s : TableState) (r : Kept keys cards s) (id : ℕ) (v : View) (here : get_elem? s.views id ≡ some v) where
   -- a field of a node that came into the tree has an address in the table
@@ -138,3 +142,26 @@ module _ (w : Words) (x y expected value n : ℕ) (right : Bool) (same : x ≡ y
 
   pub child_says : won_or_lost (n == expected) ≡ won_or_lost (found_child w x value == expected)
   child_says = ap (λ m. won_or_lost (m == expected)) (sym found_is)
+
+module _ (keys : List ℕ) (cards : ℕ) (s : TableState) (r : Kept keys cards s) (id : ℕ) (v : View) (here : get_elem? s.views id ≡ some v) where
+  -- an exchange of a flag of card c for a clean word, at node x, which was told to be y: it teaches one fact, and its row follows from
+  -- what it says and gives
+  pub unflags : (a : Act) (c x y flag : ℕ) (new : Fact) (k : Kind) → x ≡ y → IsInnerBorn r.stages x → k ≢ kind.IFlag → k ≢ kind.DFlag
+      → ((e : ℕ) → wins_by a v.worker.card Won e ≡ win_for (Some c) k e) → ((e : ℕ) → wins_by a v.worker.card Lost e ≡ [])
+      → (won_or_lost (found_at keys cards s r id v here (card y) field.Update == flag) ≡ won_or_lost (r.words.update x == flag)
+      → becomes keys cards s r id v here (exchanged_words keys cards s r id v here (card y) field.Update (clean c) (found_at keys cards s r id v here (card y) field.Update == flag)) (learning new v)
+      ≡ record { words = exchanged_update r.words x flag (clean c); worker = knowing (worker_of v.worker) (learned (worker_of v.worker).knows new) }
+      → Happens cards a (mine keys cards s r id v here) (won_or_lost (found_at keys cards s r id v here (card y) field.Update == flag))
+      (becomes keys cards s r id v here (exchanged_words keys cards s r id v here (card y) field.Update (clean c) (found_at keys cards s r id v here (card y) field.Update == flag)) (learning new v)))
+      → IsReached keys cards s r id v here
+      (set s.words (address (card y) field.Update) (if found_at keys cards s r id v here (card y) field.Update == flag then clean c else found_at keys cards s r id v here (card y) field.Update))
+      (exchanged_words keys cards s r id v here (card y) field.Update (clean c) (found_at keys cards s r id v here (card y) field.Update == flag))
+      (with_found (found_at keys cards s r id v here (card y) field.Update) (learning new v)) a (won_or_lost (found_at keys cards s r id v here (card y) field.Update == flag))
+  unflags a c x y flag new k same node not_i not_d wins none happens =
+      let n = found_at keys cards s r id v here (card y) field.Update in
+      let born = subst (Born r.stages) same node.born in
+      let is = update_found keys cards s r id v here x y same node.inner node.born in
+      teaches keys cards s r id v here a (card y) field.Update flag (clean c) new k c
+      (in_list keys cards s r id v here y field.Update born) (born-settled (r.stages (card y)) born) not_i not_d wins none
+      (happens (update_says r.words x y flag (clean c) n same node.inner is)
+      (λ t. record { words = update_exchanged r.words x y flag (clean c) n same node.inner is t; worker = worker_of (learning new v).worker }))

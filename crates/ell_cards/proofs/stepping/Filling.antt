@@ -6,7 +6,7 @@ use Rattle.ell_core.specs.state.Layout.{place, address, listed}
 use Rattle.ell_core.specs.state.Machine.{Worker, worker_of}
 use Rattle.ell_core.specs.history.Stages.{waits}
 use Rattle.ell_core.specs.statements.Waiting.{IsUnflagged}
-use Rattle.ell_core.proofs.words.Listed.{address_inside}
+use Rattle.ell_core.proofs.words.Listed.{address_inside, apart}
 use Rattle.ell_core.proofs.stages.Waiting.{waits-claimed}
 use Rattle.ell_core.proofs.following.WaitingCards.{hand_waits, one_hand}
 use Rattle.ell_cards.specs.declared.call.Call.TheVariants as call
@@ -16,7 +16,7 @@ use Rattle.ell_cards.specs.Changes.{after_fill}
 use Rattle.ell_cards.specs.Guards.{MayFill}
 use Rattle.ell_cards.specs.Rule.{TableState, seat_worker, Kept}
 use Rattle.ell_cards.specs.Laws.{IsEvent}
-use Rattle.ell_cards.proofs.words.Fields.{apart, listed_else, listed_next, listed_there}
+use Rattle.ell_cards.proofs.words.Fields.{listed_else, listed_next, listed_there}
 use Rattle.ell_cards.proofs.seats.Seats.{machine, mine_is, mine_sound}
 use Rattle.ell_cards.proofs.seats.Frames.{kept_note, is_no_event}
 

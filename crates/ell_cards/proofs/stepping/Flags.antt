@@ -110,8 +110,7 @@ module _ (keys : List ℕ) (cards : ℕ) (s : TableState) (r : Kept keys cards s
       let reads = ((relies keys cards s r id v here).parent may.leaf seen (ap (λ (z : Worker). z.search.node) same ∙ may.stands)
       (ap (λ (z : Worker). z.search.parent) same ∙ may.behind)).node in
       let is = update_listed keys cards s r id v here p reads.inner reads.born in
-      is_event keys cards s r id v here (call.IFlag c p from) act.IFlag (won_or_lost (n == packed from))
-      (exchanged_words keys cards s r id v here (card p) field.Update (iflag c) (n == packed from))
+      is_event keys cards s r id v here (call.IFlag c p from) act.IFlag _ _
       (flag_leads act.IFlag p (packed from) (iflag c) c (IFlagged c) kind.IFlag reads may.may may.filled (λ d. refl) (λ d. refl) (record {
         owned = λ h. h;
         row = record {
@@ -138,8 +137,7 @@ module _ (keys : List ℕ) (cards : ℕ) (s : TableState) (r : Kept keys cards s
       let reads = ((relies keys cards s r id v here).grandparent may.leaf may.parent seen (ap (λ (z : Worker). z.search.node) same ∙ may.stands)
       (ap (λ (z : Worker). z.search.parent) same ∙ may.behind) (ap (λ (z : Worker). z.search.grandparent) same ∙ may.above)).node in
       let is = update_listed keys cards s r id v here gp reads.inner reads.born in
-      is_event keys cards s r id v here (call.DFlag c gp from) act.DFlag (won_or_lost (n == packed from))
-      (exchanged_words keys cards s r id v here (card gp) field.Update (dflag c) (n == packed from))
+      is_event keys cards s r id v here (call.DFlag c gp from) act.DFlag _ _
       (flag_leads act.DFlag gp (packed from) (dflag c) c (DFlagged c) kind.DFlag reads may.may may.filled (λ d. refl) (λ d. refl) (record {
         owned = λ h. h;
         row = record {

@@ -8,9 +8,8 @@ use Rattle.ell_core.specs.declared.fact.Fact.TheVariants.{IChanged, IOver}
 use Rattle.ell_core.specs.declared.field.Field.TheVariants as field
 use Rattle.ell_core.specs.state.Words.{child_field}
 use Rattle.ell_core.specs.state.Machine.{worker_of}
-use Rattle.ell_core.specs.state.Cards.{iflag, clean, exchange_side}
+use Rattle.ell_core.specs.state.Cards.{iflag, exchange_side}
 use Rattle.ell_core.specs.acts.Exchanges.{won_or_lost}
-use Rattle.ell_core.specs.acts.Events.{Happens}
 use Rattle.ell_core.specs.history.Stages.{Born}
 use Rattle.ell_cards.specs.declared.call.Call.TheVariants as call
 use Rattle.ell_cards.specs.declared.view.View.{View}
@@ -19,10 +18,9 @@ use Rattle.ell_cards.specs.Guards.{MayIChild, MayIUnflag}
 use Rattle.ell_cards.specs.Rule.{TableState, Kept}
 use Rattle.ell_cards.specs.Laws.{IsEvent}
 use Rattle.ell_core.proofs.stages.Waiting.{born-settled}
-use Rattle.ell_cards.proofs.seats.Seats.{mine, becomes}
 use Rattle.ell_cards.proofs.seats.Frames.{is_event}
-use Rattle.ell_cards.proofs.stepping.Exchanges.{in_list, told_is, told_key, found_at, exchanged_words, teaches, update_exchanged, update_says, child_exchanged, child_says}
-use Rattle.ell_cards.proofs.stepping.Known.{insert_flagged, insert_changed, update_found, child_found}
+use Rattle.ell_cards.proofs.stepping.Exchanges.{in_list, told_is, told_key, found_at, exchanged_words, teaches, child_exchanged, child_says, unflags}
+use Rattle.ell_cards.proofs.stepping.Known.{insert_flagged, insert_changed, child_found}
 
 module _ (keys : List ℕ) (cards : ℕ) (s : TableState) (r : Kept keys cards s) (id : ℕ) (v : View) (here : get_elem? s.views id ≡ some v) where
   -- ichild
@@ -40,8 +38,10 @@ module _ (keys : List ℕ) (cards : ℕ) (s : TableState) (r : Kept keys cards s
       ∙ (ap (nat_le may.parent_key) (told_is keys cards s r id v here c field.Key may.card_key may.told_card) ∙ sym may.side) in
       let born = subst (Born r.stages) p_is said.parent.born in
       let is = child_found keys cards s r id v here (w.p c) p right p_is said.parent.inner said.parent.born in
-      let happens : Happens cards a (mine keys cards s r id v here) (won_or_lost (n == l))
-      (becomes keys cards s r id v here (exchanged_words keys cards s r id v here (card p) g (internal c) (n == l)) (learning (IChanged c) v)) = record {
+      is_event keys cards s r id v here (call.IChild c p l right) a _ _
+      (teaches keys cards s r id v here a (card p) g l (internal c) (IChanged c) kind.IChild c
+      (in_list keys cards s r id v here p g born) (born-settled (r.stages (card p)) born)
+      (λ e. (cc)) (λ e. (cc)) (λ e. refl) (λ e. refl) (record {
         owned = λ h. h;
         row = record {
           may = may.knows;
@@ -53,40 +53,15 @@ module _ (keys : List ℕ) (cards : ℕ) (s : TableState) (r : Kept keys cards s
           };
         };
         room = λ h. h;
-      } in
-      is_event keys cards s r id v here (call.IChild c p l right) a (won_or_lost (n == l))
-      (exchanged_words keys cards s r id v here (card p) g (internal c) (n == l))
-      (teaches keys cards s r id v here a (card p) g l (internal c) (IChanged c) kind.IChild c
-      (in_list keys cards s r id v here p g born) (born-settled (r.stages (card p)) born)
-      (λ e. (cc)) (λ e. (cc)) (λ e. refl) (λ e. refl) happens)
+      }))
       refl refl tt
 
   -- iunflag
   pub keeps_iunflag : (c p : ℕ) → MayIUnflag v c p → IsEvent keys cards s r id v (call.IUnflag c p)
   keeps_iunflag c p may =
-      let w = r.words in
-      let a = act.IUnflag c in
-      let n = found_at keys cards s r id v here (card p) field.Update in
-      let said = insert_changed keys cards s r id v here c may.knows in
-      let p_is : w.p c ≡ p = told_is keys cards s r id v here c field.P p may.parent in
-      let born = subst (Born r.stages) p_is said.parent.born in
-      let is = update_found keys cards s r id v here (w.p c) p p_is said.parent.inner said.parent.born in
-      let happens : Happens cards a (mine keys cards s r id v here) (won_or_lost (n == iflag c))
-      (becomes keys cards s r id v here (exchanged_words keys cards s r id v here (card p) field.Update (clean c) (n == iflag c)) (learning (IOver c) v)) = record {
-        owned = λ h. h;
-        row = record {
-          may = may.knows;
-          says = update_says w (w.p c) p (iflag c) (clean c) n p_is said.parent.inner is;
-          gives = λ t. record {
-            words = update_exchanged w (w.p c) p (iflag c) (clean c) n p_is said.parent.inner is t;
-            worker = worker_of (learning (IOver c) v).worker;
-          };
-        };
-        room = λ h. h;
-      } in
-      is_event keys cards s r id v here (call.IUnflag c p) a (won_or_lost (n == iflag c))
-      (exchanged_words keys cards s r id v here (card p) field.Update (clean c) (n == iflag c))
-      (teaches keys cards s r id v here a (card p) field.Update (iflag c) (clean c) (IOver c) kind.IUnflag c
-      (in_list keys cards s r id v here p field.Update born) (born-settled (r.stages (card p)) born)
-      (λ e. (cc)) (λ e. (cc)) (λ e. refl) (λ e. refl) happens)
+      is_event keys cards s r id v here (call.IUnflag c p) (act.IUnflag c) _ _
+      (unflags keys cards s r id v here (act.IUnflag c) c (r.words.p c) p (iflag c) (IOver c) kind.IUnflag
+      (told_is keys cards s r id v here c field.P p may.parent) (insert_changed keys cards s r id v here c may.knows).parent
+      (λ e. (cc)) (λ e. (cc)) (λ e. refl) (λ e. refl)
+      (λ says gives. record { owned = λ h. h; row = record { may = may.knows; says = says; gives = gives }; room = λ h. h }))
       refl refl tt

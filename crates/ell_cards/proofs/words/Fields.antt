@@ -1,47 +1,13 @@
-use Rattle.std.proofs.Common.{◌≡◌, ◌≢◌, ℕ, zero, suc, ◌<◌, ◌==◌, if◌then◌else◌, eq-eqb, ne_eqb, Bool, true, false, List, [], ◌∷◌, length, get_or, set, refl, sym, ap, ◌∙◌, arith, inl, inr, get_or-set_same, get_or-set_other}
+use Rattle.std.proofs.Common.{◌≡◌, ◌≢◌, ℕ, ◌<◌, ◌==◌, if◌then◌else◌, eq-eqb, ne_eqb, Bool, true, false, List, [], ◌∷◌, length, get_or, set, refl, sym, ap, ◌∙◌, arith, inl, inr, get_or-set_same, get_or-set_other}
 use Rattle.std.proofs.lemmas.Bool.{cases_eq}
 use Rattle.ell_core.specs.declared.field.Field.{Field}
-use Rattle.ell_core.specs.declared.field.Field.TheVariants.{Gp, P, L, Was, Key, Left, Right, Update, LeftLeafKey, RightLeafKey}
+use Rattle.ell_core.specs.declared.field.Field.TheVariants.{Update}
 use Rattle.ell_core.specs.state.Layout.{address, place, listed}
 use Rattle.ell_word.specs.Node.{card, IsInternal}
-use Rattle.ell_core.specs.state.Words.{Words, word, written, with_update, with_child, child_field}
+use Rattle.ell_core.specs.state.Words.{Words, word, words_of, written, with_update, with_child, child_field}
 use Rattle.ell_core.specs.state.Cards.{filled}
 use Rattle.ell_core.proofs.words.Writes.{written_here, written_elsewhere, internal_at_node}
-use Rattle.ell_core.proofs.words.Listed.{same_card}
-
--- another card's words stand at other addresses
-pub apart : (c : ℕ) (f : Field) (d : ℕ) (g : Field) → c ≢ d → address c f ≢ address d g
-apart c f d g n e = n (same_card c f d g e)
-
--- the field that stands at a place
-field_at : ℕ → Field
-field_at zero = Gp
-field_at (suc zero) = P
-field_at (suc (suc zero)) = L
-field_at (suc (suc (suc zero))) = Was
-field_at (suc (suc (suc (suc zero)))) = Key
-field_at (suc (suc (suc (suc (suc zero))))) = Left
-field_at (suc (suc (suc (suc (suc (suc zero)))))) = Right
-field_at (suc (suc (suc (suc (suc (suc (suc zero))))))) = Update
-field_at (suc (suc (suc (suc (suc (suc (suc (suc zero)))))))) = LeftLeafKey
-field_at (suc (suc (suc (suc (suc (suc (suc (suc (suc n))))))))) = RightLeafKey
-
-field_of_place : (f : Field) → field_at (place f) ≡ f
-unfolding field_at
-field_of_place Gp = refl
-field_of_place P = refl
-field_of_place L = refl
-field_of_place Was = refl
-field_of_place Key = refl
-field_of_place Left = refl
-field_of_place Right = refl
-field_of_place Update = refl
-field_of_place LeftLeafKey = refl
-field_of_place RightLeafKey = refl
-
--- the same place is that of the same field
-pub field_is : (f g : Field) → place f ≡ place g → f ≡ g
-field_is f g e = sym (field_of_place f) ∙ (ap field_at e ∙ field_of_place g)
+use Rattle.ell_core.proofs.words.Listed.{apart, same_place-field, words_are_listed}
 
 if_same : (a b x y : ℕ) → a ≡ b → (if a == b then x else y) ≡ x
 if_same a b x y e = ap (λ t. if t then x else y) (eq-eqb a b e)
@@ -62,7 +28,7 @@ module _ (words : List ℕ) (d : ℕ) (g : Field) (x : ℕ) where
   pub listed_there : (f : Field) → address d g < length words
       → listed (set words (address d g) x) d f ≡ (if place g == place f then x else listed words d f)
   listed_there f fits = elim (cases_eq (place g) (place f)) [
-    | inl e ↦ ap (λ (h : Field). listed (set words (address d g) x) d h) (sym (field_is g f e))
+    | inl e ↦ ap (λ (h : Field). listed (set words (address d g) x) d h) (sym (same_place-field g f e))
         ∙ (get_or-set_same words (address d g) x 0 fits ∙ sym (if_same (place g) (place f) x (listed words d f) e))
     | inr n ↦ listed_else d f (λ e. n (omega arith)) ∙ sym (if_other (place g) (place f) x (listed words d f) n)
   ]
@@ -71,7 +37,7 @@ module _ (words : List ℕ) (d : ℕ) (g : Field) (x : ℕ) where
 pub written_there : (w : Words) (c : ℕ) (g : Field) (x : ℕ) (f : Field)
     → word (written w c g x) c f ≡ (if place g == place f then x else word w c f)
 written_there w c g x f = elim (cases_eq (place g) (place f)) [
-  | inl e ↦ ap (λ (h : Field). word (written w c g x) c h) (sym (field_is g f e))
+  | inl e ↦ ap (λ (h : Field). word (written w c g x) c h) (sym (same_place-field g f e))
       ∙ (written_here w c g x ∙ sym (if_same (place g) (place f) x (word w c f) e))
   | inr n ↦ written_elsewhere w c f c g x (λ e. n (omega arith)) ∙ sym (if_other (place g) (place f) x (word w c f) n)
 ]
@@ -95,3 +61,7 @@ pub write_child_at_node : (w : Words) (x : ℕ) (right : Bool) (value : ℕ) →
     → written w (card x) (child_field right) value ≡ with_child w x right value
 write_child_at_node w x true value inner = ap (λ n. with_child w n true value) (sym (internal_at_node x inner))
 write_child_at_node w x false value inner = ap (λ n. with_child w n false value) (sym (internal_at_node x inner))
+
+-- a word of a list that was read at card c, which is d
+pub read_at : (words : List ℕ) (c d found value : ℕ) (f : Field) → found ≡ listed words c f → c ≡ d → word (words_of words) d f ≡ value → found ≡ value
+read_at words c d found value f read same is = read ∙ (ap (λ n. listed words n f) same ∙ (sym (words_are_listed words d f) ∙ is))

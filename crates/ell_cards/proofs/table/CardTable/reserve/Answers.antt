@@ -1,5 +1,4 @@
-use Rattle.std.proofs.Common.{List, ℕ, ◌++◌, ap, ◌∙◌, sym, subst}
-use Rattle.std.specs.List.Sorted.{IsStrictlyIncreasing}
+use Rattle.std.proofs.Common.{ap, sym, subst}
 use Rattle.atomic_table.specs.Table.{Me}
 use Rattle.ell_cards.specs.declared.view.View.{View}
 use Rattle.ell_cards.specs.Inside.{PassFits}
@@ -10,9 +9,8 @@ pub invariant_of-pass : goal.invariant_of-pass
 invariant_of-pass g c =
     let keys = c.extend_from_slice.new.self.items in
     let words = c.in_ok-table.seat.table_id.words in
-    let knows = c.in_ok-table.ensures.0.knows in
-    let are = c.in_ok-extend_from_slice.ensures.items ∙ ap (λ (l : List ℕ). l ++ c.args.keys.now) c.in_ok-copy.ensures.items in (
+    let knows = c.in_ok-table.ensures.0.knows in (
       subst (λ (m : Me (Unit {0}) View). PassFits keys words m.0) (sym knows)
-          (first_fits keys words (subst IsStrictlyIncreasing (sym are) c.requires.ascending)),
+          (first_fits _ _ keys words c.in_ok-copy.ensures.items c.in_ok-extend_from_slice.ensures.items c.requires.ascending),
       ap (λ (m : Me (Unit {0}) View). m.1) knows,
     )
