@@ -17,8 +17,8 @@ returns-then-claim g c =
     let won = subst (λ (w : Bool). Steps b c.claim.new.pass (after_claim w card b.view)) c.if-claim.true c.claim.ensures.step in
     record {
       goes = won_goes a b c.claim.new.pass card c.next-card.ensures.step won;
-      claims = (has_card a b c.claim.new.pass card c.next-card.ensures.step c.args.op c.args.place won c.requires.busy c.requires.at, omega (arith, c.cards.ensures.count));
-      limit = omega (arith, c.cards.ensures.count, c.cards.ensures.limit);
+      claims = (has_card a b c.claim.new.pass card c.next-card.ensures.step c.args.op c.args.place won c.requires.busy c.requires.at, omega (arith, c.cards.ensures.cards));
+      limit = omega (arith, c.cards.ensures.cards, c.cards.ensures.limit);
     }
 
 pub returns-else-claim : goal.returns-else-claim
@@ -30,5 +30,5 @@ returns-else-claim g c =
     record {
       goes = lost_goes a b c.claim.new.pass card c.next-card.ensures.step lost;
       claims = lost_claims a b c.claim.new.pass card c.next-card.ensures.step lost c.requires.no_card;
-      limit = omega (arith, c.cards.ensures.count, c.cards.ensures.limit);
+      limit = omega (arith, c.cards.ensures.cards, c.cards.ensures.limit);
     }
