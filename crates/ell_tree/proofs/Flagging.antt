@@ -10,12 +10,13 @@ use Rattle.ell_cards.specs.declared.view.View.{View}
 use Rattle.ell_cards.specs.Models.{PassModel, Steps, Knows}
 use Rattle.ell_cards.specs.Changes.{after_flag, with_found, found_word, found_update}
 use Rattle.ell_cards.specs.Guards.{MayFill, MayIFlag, MayDFlag}
+use Rattle.ell_cards.proofs.seats.Entries.{places_more}
 use Rattle.ell_tree.specs.declared.searching.Passed.{Passed}
 use Rattle.ell_tree.specs.declared.searching.Place.{Place}
 use Rattle.ell_tree.specs.Keeping.{Keeps, Goes, IsInnerMet, IsSeenAt}
 use Rattle.ell_tree.specs.Searches.{seen, seen_any}
 use Rattle.ell_tree.specs.Tries.{HasCard, Fills, Flags, with_stores}
-use Rattle.ell_tree.proofs.Keeping.{knows_new, knows_more, facts_by_more, places_by_more, place_told, view_after}
+use Rattle.ell_tree.proofs.Keeping.{knows_new, knows_more, facts_by_more, place_told, view_after}
 
 -- a card that is filled is in hand, not flagged, as before
 may_fill_still : (a b : PassModel) (n c : ℕ) → Fills a b n → MayFill a.view c → MayFill b.view c
@@ -73,7 +74,7 @@ module _ (flag : ℕ → Fact) (c x : ℕ) (from : Update) where
     answers = refl;
     hindrances = omega arith;
     knows = facts_by_more u.state u.card v.worker.facts;
-    told = places_by_more x u.state u.card v.told;
+    told = places_more x u.state u.card v.told;
   }
 
   module _ (a b d : PassModel) (n : ℕ) (r : Result (Unit {0}) Update) (fills : Fills a b n) (step : Steps b d (flagging r b.view)) where
@@ -96,7 +97,7 @@ module _ (flag : ℕ → Fact) (c x : ℕ) (from : Update) where
             (knows_new (flag c) a.view.worker.facts, holds, refl)
         by (Err u) e m = subst (λ (v : View). IsSeenAt cards v x u × (v.worker.card ≡ None) × (a.view.hindrances + 1 ≤ v.hindrances)) (sym e) (
           record {
-            node = record { met = places_by_more x u.state u.card a.view.told (Met x) node.met; inner = node.inner; there = node.there };
+            node = record { met = places_more x u.state u.card a.view.told (Met x) node.met; inner = node.inner; there = node.there };
             named = m;
             place = place_told x u.state u.card a.view (flagging (Err u) (with_stores b.view.filled a.view)) refl refl;
           },
