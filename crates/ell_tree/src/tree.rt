@@ -82,7 +82,7 @@ impl<A: Allocator + Copy> Tree<A> {
         self.table.join(left, right)
     }
 
-    /// Whether a key of the pass is present. It helps nobody, and takes three steps for each card of the tree and six at most.
+    /// Whether a key of the pass is present. It helps nobody, and takes at most `3 * cards + 6` steps.
     pub fn find<G: StepGate>(&self, pass: &mut Pass<A>, key: u64, gate: &G) -> bool
         requires own { pass.old.table ≡ self.now.id }
         requires idle { IsIdle pass.old }
@@ -94,9 +94,9 @@ impl<A: Allocator + Copy> Tree<A> {
         find(&self.table, pass, key, gate)
     }
 
-    /// Adds a key of the pass: whether it was absent. It is tried so often at most, and at least once. `Busy` comes where something
-    /// was in the way of every try, and `Spent` where a try that would add the key finds all cards given out. After either the
-    /// set is as it was, and nothing of the call is under way.
+    /// Adds a key of the pass: whether it was absent. It is tried so often at most, at least once, in at most
+    /// `tries * (7 * cards + 24) + 1` steps. `Busy` comes where something was in the way of every try, and `Spent` where a try
+    /// that would add the key finds all cards given out. After either the set is as it was, and nothing of the call is under way.
     pub fn insert<G: StepGate>(
         &self,
         pass: &mut Pass<A>,
@@ -115,7 +115,7 @@ impl<A: Allocator + Copy> Tree<A> {
         make_change(&self.table, pass, Change::Insert(key), tries, gate)
     }
 
-    /// Takes a key of the pass away: whether it was present. Tries, errors and what they leave are as of `insert`.
+    /// Takes a key of the pass away: whether it was present. Tries, steps and errors are as of `insert`.
     pub fn delete<G: StepGate>(
         &self,
         pass: &mut Pass<A>,
