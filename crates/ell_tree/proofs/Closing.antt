@@ -43,14 +43,15 @@ module _ (t : TreeModel) (p : PassModel) (closed : ClosedModel) (ends : Ends t.k
   planned : (k : ℕ) → ledger p k ≢ None → Contains t.keys k
   planned k owns = ends.kept.owned ends.seat k p.view ends.seen owns
 
-  pub closes : (keys : List ℕ) → ListsKeys (words_of closed.words) keys → ClosesTo t p keys
-  closes keys lists = record {
+  pub closes : (keys : List ℕ) → closed.cards ≡ t.cards → ListsKeys (words_of closed.words) keys → ClosesTo t p keys
+  closes keys cards lists = record {
     ascending = lists.ascending;
     present = λ k. (
       λ has. let is = (lists.each k).0 has in (ends.shows.present k (ends.shows.owned k is)).0 is,
       λ here. (lists.each k).1 ((ends.shows.present k (planned k (λ none. cc (here, none)))).1 here),
     );
     closed = closed;
+    cards = cards;
     ends = ends;
     tree = lists;
   }

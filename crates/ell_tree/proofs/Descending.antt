@@ -12,11 +12,12 @@ use Rattle.ell_cards.specs.Models.{PassModel, Steps, latest, earlier, Does, IsTo
 use Rattle.ell_cards.specs.Changes.{after_upd, after_key_of, after_down, is_at}
 use Rattle.ell_cards.specs.Guards.{MayGoDown}
 use Rattle.ell_cards.specs.Calls.{TellsLeaf}
+use Rattle.ell_cards.proofs.seats.Entries.{places_more}
 use Rattle.ell_tree.specs.declared.searching.Passed.{Passed}
 use Rattle.ell_tree.specs.declared.searching.Place.{Place}
 use Rattle.ell_tree.specs.Keeping.{Keeps, Goes, Walks, IsInnerMet}
 use Rattle.ell_tree.specs.Searches.{seen, seen_any, below, Passes, Stands, IsAt, EndsAt}
-use Rattle.ell_tree.proofs.Keeping.{view_after, walks_step, walks_trans, upd_keeps, key_of_keeps, down_keeps, keeps_trans, inner_kept, seen_kept, places_by_more, place_told, hindered_once_more}
+use Rattle.ell_tree.proofs.Keeping.{view_after, walks_step, walks_trans, upd_keeps, key_of_keeps, down_keeps, keeps_trans, inner_kept, seen_kept, place_told, hindered_once_more}
 
 -- the key that was asked is that of the place
 told_here : (o here : Option ℕ) (x key : ℕ) → o ≡ Some x → (if is_at o x then Some key else here) ≡ Some key
@@ -55,7 +56,7 @@ module _ (a b d e : PassModel) (x : ℕ) (u : Update) (key child : ℕ)
       let w = after_down x child (after_key_of x key v) in
       subst (λ (y : View). Passes cards a.view y (record { node = x; update = u })) (sym gone_view) (record {
         known = seen_kept cards v w x u (keeps_trans v (after_key_of x key v) w (key_of_keeps x key v) (down_keeps x child (after_key_of x key v))) (record {
-          node = record { met = places_by_more x u.state u.card a.view.told (Met x) node.met; inner = node.inner; there = node.there };
+          node = record { met = places_more x u.state u.card a.view.told (Met x) node.met; inner = node.inner; there = node.there };
           named = named;
           place = place_told x u.state u.card a.view v refl refl;
         });

@@ -9,50 +9,58 @@ use Rattle.ell_cards.specs.declared.view.Told.TheVariants.{Met}
 use Rattle.ell_cards.specs.declared.view.View.{View}
 use Rattle.ell_cards.specs.Models.{PassModel, Steps, Knows}
 use Rattle.ell_cards.specs.Changes.{after_flag, with_found, found_word, found_update}
-use Rattle.ell_cards.specs.Guards.{MayIFlag, MayDFlag, IsFilled}
+use Rattle.ell_cards.specs.Guards.{MayFill, MayIFlag, MayDFlag}
+use Rattle.ell_cards.proofs.seats.Entries.{places_more}
 use Rattle.ell_tree.specs.declared.searching.Passed.{Passed}
 use Rattle.ell_tree.specs.declared.searching.Place.{Place}
 use Rattle.ell_tree.specs.Keeping.{Keeps, Goes, IsInnerMet, IsSeenAt}
 use Rattle.ell_tree.specs.Searches.{seen, seen_any}
-use Rattle.ell_tree.specs.Tries.{HasCard, Flags, with_stores, insert_stores, delete_stores}
-use Rattle.ell_tree.proofs.Keeping.{knows_new, knows_more, facts_by_more, places_by_more, place_told, view_after}
+use Rattle.ell_tree.specs.Tries.{HasCard, Fills, Flags, with_stores}
+use Rattle.ell_tree.proofs.Keeping.{knows_new, knows_more, facts_by_more, place_told, view_after}
+
+-- a card that is filled is in hand, not flagged, as before
+may_fill_still : (a b : PassModel) (n c : ℕ) → Fills a b n → MayFill a.view c → MayFill b.view c
+may_fill_still a b n c fills may = record {
+  holds = ap (λ (u : View). u.worker.card) fills.view ∙ may.holds;
+  unflagged = ap (λ (u : View). u.worker.flagged) fills.view ∙ may.unflagged;
+}
 
 -- an insert's card that is filled may flag the parent
-pub may_iflag : (v w : View) (c k : ℕ) (place : Place) → HasCard (Insert k) place (insert_filling c k place.parent.node place.leaf place.key) v c
-    → w ≡ with_stores (insert_stores c k place) v → IsFilled w → MayIFlag w c place.parent.node place.parent.update
-may_iflag v w c k place h e filled = record {
+pub may_iflag : (a b : PassModel) (n c k : ℕ) (place : Place) → HasCard (Insert k) place (insert_filling c k place.parent.node place.leaf place.key) a.view c
+    → Fills a b n → MayIFlag b.view c place.parent.node place.parent.update
+may_iflag a b n c k place h fills = record {
   key = k;
   leaf = place.leaf;
-  busy = ap (λ (u : View). u.worker.operation) e ∙ h.busy;
-  may = record { holds = ap (λ (u : View). u.worker.card) e ∙ h.may.holds; unflagged = ap (λ (u : View). u.worker.flagged) e ∙ h.may.unflagged };
-  stands = ap (λ (u : View). u.worker.search.node) e ∙ h.stands;
-  behind = ap (λ (u : View). u.worker.search.parent) e ∙ h.behind;
-  filled = filled;
+  busy = ap (λ (u : View). u.worker.operation) fills.view ∙ h.busy;
+  may = may_fill_still a b n c fills h.may;
+  stands = ap (λ (u : View). u.worker.search.node) fills.view ∙ h.stands;
+  behind = ap (λ (u : View). u.worker.search.parent) fills.view ∙ h.behind;
+  filled = fills.filled;
 }
 
 -- a delete's the grandparent
-pub may_dflag : (v w : View) (c k : ℕ) (place : Place) (above : Passed) → place.grandparent ≡ Some above
-    → HasCard (Delete k) place (delete_filling above.node place.parent.node place.leaf (packed place.parent.update)) v c
-    → w ≡ with_stores (delete_stores above.node place) v → IsFilled w → MayDFlag w c above.node above.update
-may_dflag v w c k place above is h e filled = record {
+pub may_dflag : (a b : PassModel) (n c k : ℕ) (place : Place) (above : Passed) → place.grandparent ≡ Some above
+    → HasCard (Delete k) place (delete_filling above.node place.parent.node place.leaf (packed place.parent.update)) a.view c
+    → Fills a b n → MayDFlag b.view c above.node above.update
+may_dflag a b n c k place above is h fills = record {
   key = k;
   leaf = place.leaf;
   parent = seen place.parent;
-  busy = ap (λ (u : View). u.worker.operation) e ∙ h.busy;
-  may = record { holds = ap (λ (u : View). u.worker.card) e ∙ h.may.holds; unflagged = ap (λ (u : View). u.worker.flagged) e ∙ h.may.unflagged };
-  stands = ap (λ (u : View). u.worker.search.node) e ∙ h.stands;
-  behind = ap (λ (u : View). u.worker.search.parent) e ∙ h.behind;
-  above = ap (λ (u : View). u.worker.search.grandparent) e ∙ (h.above ∙ ap seen_any is);
-  filled = filled;
+  busy = ap (λ (u : View). u.worker.operation) fills.view ∙ h.busy;
+  may = may_fill_still a b n c fills h.may;
+  stands = ap (λ (u : View). u.worker.search.node) fills.view ∙ h.stands;
+  behind = ap (λ (u : View). u.worker.search.parent) fills.view ∙ h.behind;
+  above = ap (λ (u : View). u.worker.search.grandparent) fills.view ∙ (h.above ∙ ap seen_any is);
+  filled = fills.filled;
 }
 
-module _ (flag : ℕ → Fact) (c x : ℕ) (from : Update) (stores : List (Field × ℕ)) where
+module _ (flag : ℕ → Fact) (c x : ℕ) (from : Update) where
   -- the view after a flag that was answered so
   abbrev flagging : Result (Unit {0}) Update → View → View
   flagging r v = with_found (found_word (packed from) r) (after_flag (is_ok r) (flag c) x (found_update from r) v)
 
-  flagging_keeps : (r : Result (Unit {0}) Update) (v : View) → Keeps v (flagging r (with_stores stores v))
-  flagging_keeps (Ok won) v = record {
+  flagging_keeps : (stores : List (Field × ℕ)) (r : Result (Unit {0}) Update) (v : View) → Keeps v (flagging r (with_stores stores v))
+  flagging_keeps stores (Ok won) v = record {
     ledger = refl;
     operation = refl;
     answers = refl;
@@ -60,38 +68,38 @@ module _ (flag : ℕ → Fact) (c x : ℕ) (from : Update) (stores : List (Field
     knows = λ g h. knows_more (flag c) g v.worker.facts h;
     told = λ e h. h;
   }
-  flagging_keeps (Err u) v = record {
+  flagging_keeps stores (Err u) v = record {
     ledger = refl;
     operation = refl;
     answers = refl;
     hindrances = omega arith;
     knows = facts_by_more u.state u.card v.worker.facts;
-    told = places_by_more x u.state u.card v.told;
+    told = places_more x u.state u.card v.told;
   }
 
-  module _ (a b d : PassModel) (r : Result (Unit {0}) Update) (fills : b.view ≡ with_stores stores a.view) (step : Steps b d (flagging r b.view)) where
-    flagged_view : d.view ≡ flagging r (with_stores stores a.view)
-    flagged_view = view_after b d (flagging r b.view) step ∙ ap (flagging r) fills
+  module _ (a b d : PassModel) (n : ℕ) (r : Result (Unit {0}) Update) (fills : Fills a b n) (step : Steps b d (flagging r b.view)) where
+    flagged_view : d.view ≡ flagging r (with_stores b.view.filled a.view)
+    flagged_view = view_after b d (flagging r b.view) step ∙ ap (flagging r) fills.view
 
-    pub flag_goes : (m n : ℕ) → b.table ≡ a.table → b.label ≡ a.label → b.steps ≤ a.steps + m → m + 1 ≤ n → Goes a d n
-    flag_goes m n table label steps le = record {
-      table = ap (λ (p : PassModel). p.table) step ∙ table;
-      label = ap (λ (p : PassModel). p.label) step ∙ label;
-      view = subst (Keeps a.view) (sym flagged_view) (flagging_keeps r a.view);
-      steps = let taken = ap (λ (p : PassModel). p.steps) step in omega (arith, taken, steps, le);
+    pub flag_goes : Goes a d (n + 1)
+    flag_goes = record {
+      table = ap (λ (p : PassModel). p.table) step ∙ fills.table;
+      label = ap (λ (p : PassModel). p.label) step ∙ fills.label;
+      view = subst (Keeps a.view) (sym flagged_view) (flagging_keeps b.view.filled r a.view);
+      steps = let taken = ap (λ (p : PassModel). p.steps) step in omega (arith, taken, fills.steps);
     }
 
     pub flag_ends : (cards : ℕ) → a.view.worker.card ≡ Some c → IsInnerMet cards a.view x → IfErr r (λ u. u.card ≤ cards) → Flags cards flag c x a d r
     flag_ends cards holds node named = by r flagged_view named
       where
-        by : (q : Result (Unit {0}) Update) → d.view ≡ flagging q (with_stores stores a.view) → IfErr q (λ u. u.card ≤ cards) → Flags cards flag c x a d q
-        by (Ok won) e n = subst (λ (v : View). Knows v (flag c) × (v.worker.card ≡ Some c) × (v.worker.flagged ≡ true)) (sym e)
+        by : (q : Result (Unit {0}) Update) → d.view ≡ flagging q (with_stores b.view.filled a.view) → IfErr q (λ u. u.card ≤ cards) → Flags cards flag c x a d q
+        by (Ok won) e m = subst (λ (v : View). Knows v (flag c) × (v.worker.card ≡ Some c) × (v.worker.flagged ≡ true)) (sym e)
             (knows_new (flag c) a.view.worker.facts, holds, refl)
-        by (Err u) e n = subst (λ (v : View). IsSeenAt cards v x u × (v.worker.card ≡ None) × (a.view.hindrances + 1 ≤ v.hindrances)) (sym e) (
+        by (Err u) e m = subst (λ (v : View). IsSeenAt cards v x u × (v.worker.card ≡ None) × (a.view.hindrances + 1 ≤ v.hindrances)) (sym e) (
           record {
-            node = record { met = places_by_more x u.state u.card a.view.told (Met x) node.met; inner = node.inner; there = node.there };
-            named = n;
-            place = place_told x u.state u.card a.view (flagging (Err u) (with_stores stores a.view)) refl refl;
+            node = record { met = places_more x u.state u.card a.view.told (Met x) node.met; inner = node.inner; there = node.there };
+            named = m;
+            place = place_told x u.state u.card a.view (flagging (Err u) (with_stores b.view.filled a.view)) refl refl;
           },
           refl,
           omega arith,

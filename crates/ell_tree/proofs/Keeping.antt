@@ -13,6 +13,7 @@ use Rattle.ell_cards.specs.declared.view.Told.TheVariants.{Met, Key, Info, Froze
 use Rattle.ell_cards.specs.declared.view.View.{View}
 use Rattle.ell_cards.specs.Models.{PassModel, Steps, Has, latest, earlier, IsTold, Knows}
 use Rattle.ell_cards.specs.Changes.{facts_by, places_by, hindered_by, learning, with_found, after_upd, after_down, after_key_of, after_info, told_info, after_frozen_child, after_next, after_claim}
+use Rattle.ell_cards.proofs.seats.Entries.{places_more}
 use Rattle.ell_tree.specs.Keeping.{Keeps, Goes, Walks, IsInnerMet, TellsPlace, IsSeenAt}
 
 or_true : (a : Bool) → (a || true) ≡ true
@@ -33,13 +34,7 @@ facts_by_more state.DFlag c fs g h = knows_more (fact.DFlagged c) g fs h
 facts_by_more state.Mark c fs g h = knows_more (fact.Marked c) g fs h
 facts_by_more state.Clean c fs g h = h
 
-pub places_by_more : (x : ℕ) (s : State) (c : ℕ) (es : List Told) (e : Told) → Has es e → Has (places_by x s c es) e
-places_by_more x state.IFlag c es e h = earlier e _ es h
-places_by_more x state.DFlag c es e h = earlier e _ es h
-places_by_more x state.Mark c es e h = earlier e _ es h
-places_by_more x state.Clean c es e h = h
-
--- and beside a word of a card
+-- what was told stays so beside a word of a card
 pub told_info_more : (c : ℕ) (f : Field) (x : ℕ) (es : List Told) (e : Told) → Has es e → Has (told_info c f x es) e
 told_info_more c field.Gp x es e h = earlier e _ _ (earlier e _ es h)
 told_info_more c field.P x es e h = earlier e _ _ (earlier e _ es h)
@@ -65,9 +60,6 @@ hindered_once_more state.DFlag n h = omega arith
 hindered_once_more state.Mark n h = omega arith
 hindered_once_more state.Clean n h = absurd (h refl)
 
-pub keeps_all : (v : View) → Keeps v v
-keeps_all v = record { ledger = refl; operation = refl; answers = refl; hindrances = omega arith; knows = λ f h. h; told = λ e h. h }
-
 pub keeps_trans : (u v w : View) → Keeps u v → Keeps v w → Keeps u w
 keeps_trans u v w a b = record {
   ledger = b.ledger ∙ a.ledger;
@@ -91,20 +83,6 @@ walks_trans a b c m n k h h' le = record {
   goes = goes_trans a b c m n k h.goes h'.goes le;
   card = h'.card ∙ h.card;
   flagged = h'.flagged ∙ h.flagged;
-}
-
-pub walks_more : (a b : PassModel) (m n : ℕ) → Walks a b m → m ≤ n → Walks a b n
-walks_more a b m n h le = record {
-  goes = record { table = h.goes.table; label = h.goes.label; view = h.goes.view; steps = omega (arith, h.goes.steps, le) };
-  card = h.card;
-  flagged = h.flagged;
-}
-
-pub walks_none : (a : PassModel) (n : ℕ) → Walks a a n
-walks_none a n = record {
-  goes = record { table = refl; label = refl; view = keeps_all a.view; steps = omega arith };
-  card = refl;
-  flagged = refl;
 }
 
 -- what was told and known stays so
@@ -167,48 +145,20 @@ upd_keeps x u v = record {
   answers = refl;
   hindrances = hindered_more u.state v.hindrances;
   knows = facts_by_more u.state u.card v.worker.facts;
-  told = places_by_more x u.state u.card v.told;
+  told = places_more x u.state u.card v.told;
 }
 
 pub key_of_keeps : (x key : ℕ) (v : View) → Keeps v (after_key_of x key v)
-key_of_keeps x key v = record {
-  ledger = refl;
-  operation = refl;
-  answers = refl;
-  hindrances = omega arith;
-  knows = λ f h. h;
-  told = λ e h. earlier e _ _ h;
-}
+key_of_keeps x key v = record { ledger = refl; operation = refl; answers = refl; hindrances = omega arith; knows = λ f h. h; told = λ e h. earlier e _ _ h }
 
 pub down_keeps : (x child : ℕ) (v : View) → Keeps v (after_down x child v)
-down_keeps x child v = record {
-  ledger = refl;
-  operation = refl;
-  answers = refl;
-  hindrances = omega arith;
-  knows = λ f h. h;
-  told = λ e h. earlier e _ _ h;
-}
+down_keeps x child v = record { ledger = refl; operation = refl; answers = refl; hindrances = omega arith; knows = λ f h. h; told = λ e h. earlier e _ _ h }
 
 pub info_keeps : (c : ℕ) (f : Field) (x : ℕ) (v : View) → Keeps v (after_info c f x v)
-info_keeps c f x v = record {
-  ledger = refl;
-  operation = refl;
-  answers = refl;
-  hindrances = omega arith;
-  knows = λ g h. h;
-  told = told_info_more c f x v.told;
-}
+info_keeps c f x v = record { ledger = refl; operation = refl; answers = refl; hindrances = omega arith; knows = λ g h. h; told = told_info_more c f x v.told }
 
 pub frozen_keeps : (c : ℕ) (right : Bool) (x : ℕ) (v : View) → Keeps v (after_frozen_child c right x v)
-frozen_keeps c right x v = record {
-  ledger = refl;
-  operation = refl;
-  answers = refl;
-  hindrances = omega arith;
-  knows = λ f h. h;
-  told = λ e h. earlier e _ _ (earlier e _ _ h);
-}
+frozen_keeps c right x v = record { ledger = refl; operation = refl; answers = refl; hindrances = omega arith; knows = λ f h. h; told = λ e h. earlier e _ _ (earlier e _ _ h) }
 
 pub learning_keeps : (n : ℕ) (f : Fact) (v : View) → Keeps v (with_found n (learning f v))
 learning_keeps n f v = record {
@@ -222,10 +172,3 @@ learning_keeps n f v = record {
 
 pub next_keeps : (n : ℕ) (v : View) → Keeps v (after_next n v)
 next_keeps n v = record { ledger = refl; operation = refl; answers = refl; hindrances = omega arith; knows = λ f h. h; told = λ e h. h }
-
--- a step that teaches a fact
-pub learns : (old new : PassModel) (n : ℕ) (f : Fact) → Steps old new (with_found n (learning f old.view)) → Walks old new 1 × Knows new.view f
-learns old new n f s = (
-  walks_step old new (with_found n (learning f old.view)) s (learning_keeps n f old.view) refl refl,
-  subst (λ (m : PassModel). Knows m.view f) (sym s) (knows_new f old.view.worker.facts),
-)

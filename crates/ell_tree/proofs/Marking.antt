@@ -6,9 +6,10 @@ use Rattle.ell_cards.specs.declared.view.Told.TheVariants.{Met}
 use Rattle.ell_cards.specs.declared.view.View.{View}
 use Rattle.ell_cards.specs.Models.{PassModel, Steps, IsTold, Knows}
 use Rattle.ell_cards.specs.Changes.{learning, with_found, found_word, found_update, is_mark_of, is_held, unmarking, after_mark}
+use Rattle.ell_cards.proofs.seats.Entries.{places_more}
 use Rattle.ell_tree.specs.Keeping.{Keeps, Walks, IsInnerMet}
 use Rattle.ell_tree.specs.Helps.{IsLost, found_instead}
-use Rattle.ell_tree.proofs.Keeping.{view_after, walks_step, learning_keeps, knows_new, knows_more, facts_by_more, places_by_more, place_told}
+use Rattle.ell_tree.proofs.Keeping.{view_after, walks_step, learning_keeps, knows_new, knows_more, facts_by_more, place_told}
 
 -- the view after a mark that was answered so
 abbrev marking : ℕ → ℕ → ℕ → Result (Unit {0}) Update → View → View
@@ -31,7 +32,7 @@ unmarking_keeps n c p u v = record {
   answers = refl;
   hindrances = one_more_if (is_held v.worker.card c) v.hindrances;
   knows = λ g h. facts_by_more u.state u.card (fact.Unmarkable c ∷ v.worker.facts) g (knows_more (fact.Unmarkable c) g v.worker.facts h);
-  told = places_by_more p u.state u.card v.told;
+  told = places_more p u.state u.card v.told;
 }
 
 module _ (n c p : ℕ) (u : Update) (old new : PassModel) where
@@ -53,7 +54,7 @@ module _ (n c p : ℕ) (u : Update) (old new : PassModel) where
   either_lost cards false s node named = subst (λ (w : View). IsLost cards c p u old.view w) (sym (view_after old new (either false) s)) (record {
     knows = facts_by_more u.state u.card (fact.Unmarkable c ∷ old.view.worker.facts) (fact.Unmarkable c) (knows_new (fact.Unmarkable c) old.view.worker.facts);
     seen = record {
-      node = record { met = places_by_more p u.state u.card old.view.told (Met p) node.met; inner = node.inner; there = node.there };
+      node = record { met = places_more p u.state u.card old.view.told (Met p) node.met; inner = node.inner; there = node.there };
       named = named;
       place = place_told p u.state u.card (learning (fact.Unmarkable c) old.view) (either false) refl refl;
     };

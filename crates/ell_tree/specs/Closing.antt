@@ -12,5 +12,6 @@ pub record ClosesTo (t : TreeModel) (p : PassModel) (keys : List ℕ) : Type 0 w
   pub ascending : IsStrictlyIncreasing keys
   pub present : (k : ℕ) → Contains keys k ↔ (ledger p k ≡ Some true)
   pub closed : ClosedModel
+  pub cards : closed.cards ≡ t.cards
   pub ends : Ends t.keys p.view closed
   pub tree : ListsKeys (words_of closed.words) keys

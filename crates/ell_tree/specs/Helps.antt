@@ -1,5 +1,7 @@
-use Rattle.std.specs.Prelude.{◌≡◌, ◌≢◌, ℕ, ◌+◌, ◌-◌, ◌*◌, ◌<◌, ◌≤◌, if◌then◌else◌, Option, Some, None, Result, Ok, Err}
+use Rattle.std.specs.Prelude.{◌≡◌, ◌≢◌, ℕ, ◌⊎◌, ◌+◌, ◌-◌, ◌*◌, ◌<◌, ◌≤◌, if◌then◌else◌, Option, Some, None, Result, Ok, Err}
 use Rattle.ell_word.specs.declared.update.Update.{Update}
+use Rattle.ell_word.specs.declared.update.State.{State}
+use Rattle.ell_word.specs.declared.update.State.TheVariants as state
 use Rattle.ell_word.specs.Node.{card}
 use Rattle.ell_core.specs.declared.fact.Fact.TheVariants as fact
 use Rattle.ell_core.specs.declared.field.Field.{Field}
@@ -71,16 +73,28 @@ pub record IsBacked (c : ℕ) (v w : View) : Type 0 where
   pub knows : Knows w (fact.Backed c)
   pub hindered : v.worker.card ≡ Some c → v.hindrances + 1 ≤ w.hindrances
 
+-- a delete whose flag was won is known to have ended: its parent was cut out, or its flag taken back
+abbrev pub IsDeleteEnded : View → ℕ → Type 0
+IsDeleteEnded v c = Knows v (fact.DOver c) ⊎ Knows v (fact.Backed c)
+
+-- what a flag or a mark of a card says is under way is known to have ended
+abbrev pub IsEnded : View → State → ℕ → Type 0
+IsEnded v state.IFlag c = Knows v (fact.IOver c)
+IsEnded v state.DFlag c = IsDeleteEnded v c
+IsEnded v state.Mark c = Knows v (fact.DOver c)
+IsEnded v state.Clean c = Unit {0}
+
 -- how a delete ends whose flag was won, and in how many steps
 abbrev pub DeleteEnds : ℕ → ℕ → ℕ → PassModel → PassModel → Ending → Type 0
 DeleteEnds cards c p old new Done = Walks old new 8 × Knows new.view (fact.DOver c)
 DeleteEnds cards c p old new Backed = Walks old new 10 × IsBacked c old.view new.view
 DeleteEnds cards c p old new (Behind flag) = Walks old new 2 × IsBacked c old.view new.view × IsFlag cards new.view flag × (flag.grandparent ≡ p)
 
--- the help of one delete leads to another's that is deeper, or there is no more to do
+-- one delete is helped to its end, which leads to another's flag that is deeper, or there is no more to do
 abbrev pub HelpEnds : ℕ → DeleteFlag → PassModel → PassModel → Ending → Type 0
-HelpEnds cards flag old new (Behind next) = Walks old new 4 × IsFlag cards new.view next × (flag.grandparent < next.grandparent)
-HelpEnds cards flag old new _ = Walks old new 12 × (card flag.grandparent + 1 ≤ cards)
+HelpEnds cards flag old new Done = Walks old new 12 × (card flag.grandparent + 1 ≤ cards) × Knows new.view (fact.DOver flag.card)
+HelpEnds cards flag old new Backed = Walks old new 12 × (card flag.grandparent + 1 ≤ cards) × Knows new.view (fact.Backed flag.card)
+HelpEnds cards flag old new (Behind next) = Walks old new 4 × IsFlag cards new.view next × (flag.grandparent < next.grandparent) × Knows new.view (fact.Backed flag.card)
 
 -- the most steps of a chain of helps that begins with a delete's flag at this node
 abbrev pub chain_steps : ℕ → ℕ → ℕ

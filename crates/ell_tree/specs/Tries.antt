@@ -14,7 +14,7 @@ use Rattle.ell_cards.specs.declared.view.Told.{Told}
 use Rattle.ell_cards.specs.declared.view.View.{View}
 use Rattle.ell_cards.specs.Models.{PassModel, Has, IsTold, Knows, Does, StandsAt}
 use Rattle.ell_cards.specs.Changes.{told_filling, filling_of}
-use Rattle.ell_cards.specs.Guards.{MayFill}
+use Rattle.ell_cards.specs.Guards.{IsFilled, MayFill}
 use Rattle.ell_tree.specs.declared.operations.Change.{Change}
 use Rattle.ell_tree.specs.declared.operations.Change.TheVariants as change
 use Rattle.ell_tree.specs.declared.searching.Place.{Place}
@@ -92,16 +92,13 @@ Claims cards op place old new claimed.Lost = (new.view.worker.card ≡ None) × 
 abbrev pub with_stores : List (Field × ℕ) → View → View
 with_stores stores v = record v { filled = stores }
 
--- the stores of an insert's card
-abbrev pub insert_stores : ℕ → ℕ → Place → List (Field × ℕ)
-insert_stores c k place =
-    (field.RightLeafKey, max k place.key) ∷ (field.LeftLeafKey, min k place.key) ∷ (field.Update, clean 0) ∷ (field.Right, right_leaf c)
-    ∷ (field.Left, left_leaf c) ∷ (field.Key, max k place.key) ∷ (field.L, place.leaf) ∷ (field.P, place.parent.node) ∷ []
-
--- the stores of a delete's card
-abbrev pub delete_stores : ℕ → Place → List (Field × ℕ)
-delete_stores gp place =
-    (field.Was, packed place.parent.update) ∷ (field.L, place.leaf) ∷ (field.P, place.parent.node) ∷ (field.Gp, gp) ∷ []
+-- the card in hand was filled in so many steps, and nothing else was done
+pub record Fills (old new : PassModel) (n : ℕ) : Type 0 where
+  pub table : new.table ≡ old.table
+  pub label : new.label ≡ old.label
+  pub steps : new.steps ≤ old.steps + n
+  pub view : new.view ≡ with_stores new.view.filled old.view
+  pub filled : IsFilled new.view
 
 -- a flag was set or not: then the card in hand is flagged, and its flag known; or it was laid aside, a hindrance, and what was
 -- found at the node is known

@@ -8,13 +8,12 @@ ghost use Rattle.ell_core.specs.declared.fact.Fact.TheVariants.{DFlagged, DOver}
 ghost use Rattle.ell_core.specs.declared.field.Field.TheVariants as field;
 ghost use Rattle.ell_core.specs.state.Cards.{delete_filling};
 ghost use Rattle.ell_cards.specs.declared.view.Told.TheVariants.{Info};
-ghost use Rattle.ell_cards.specs.Guards.{IsFilled};
 ghost use Rattle.ell_cards.specs.Models.{IsTold, Knows};
 ghost use Rattle.ell_tree.specs.Ends.{try_steps};
 ghost use Rattle.ell_tree.specs.Helps.{IsBacked, IsParent, help_steps};
 ghost use Rattle.ell_tree.specs.Keeping.{Goes, IsInnerMet, Walks};
 ghost use Rattle.ell_tree.specs.Searches.{AtRoot};
-ghost use Rattle.ell_tree.specs.Tries.{Flags, HasCard, TryEnds, delete_stores, with_stores};
+ghost use Rattle.ell_tree.specs.Tries.{Fills, Flags, HasCard, TryEnds};
 
 use crate::helping::{DeleteFlag, Ending, finish_delete, help, help_delete};
 use crate::searching::{Passed, Place, search};
@@ -109,11 +108,7 @@ fn fill_delete<A: Allocator + Copy, G: StepGate>(
     requires own { pass.old.table ≡ table.now.id }
     requires limit { place.parent.update.card ≤ greatest_card }
     requires card { HasCard (Delete key) place (delete_filling grandparent place.parent.node place.leaf (packed place.parent.update)) pass.old.view card }
-    ensures own { pass.new.table ≡ pass.old.table }
-    ensures label { pass.new.label ≡ pass.old.label }
-    ensures steps { pass.new.steps ≤ pass.old.steps + 4 }
-    ensures view { pass.new.view ≡ with_stores (delete_stores grandparent place) pass.old.view }
-    ensures filled { IsFilled pass.new.view }
+    ensures { Fills pass.old pass.new 4 }
 {
     let _ = key;
     fill(table, pass, card, Field::Gp, grandparent, gate);

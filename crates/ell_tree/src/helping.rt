@@ -7,7 +7,7 @@ ghost use Rattle.ell_core.specs.declared.fact.Fact.TheVariants as fact;
 ghost use Rattle.ell_core.specs.declared.field.Field.TheVariants as field;
 ghost use Rattle.ell_cards.specs.declared.view.Told.TheVariants as told;
 ghost use Rattle.ell_cards.specs.Models.{IsTold, Knows};
-ghost use Rattle.ell_tree.specs.Helps.{DeleteEnds, HasSibling, HelpEnds, IsFlag, IsInsert, IsMarked, IsParent, chain_steps, help_steps};
+ghost use Rattle.ell_tree.specs.Helps.{DeleteEnds, HasSibling, HelpEnds, IsDeleteEnded, IsEnded, IsFlag, IsInsert, IsMarked, IsParent, chain_steps, help_steps};
 ghost use Rattle.ell_tree.specs.Keeping.{IsSeenAt, Walks};
 
 use crate::steps::{
@@ -47,7 +47,8 @@ pub(crate) fn help<A: Allocator + Copy, G: StepGate>(
 )
     requires own { pass.old.table ≡ table.now.id }
     requires seen { IsSeenAt table.now.cards pass.old.view node update }
-    ensures { Walks pass.old pass.new (help_steps table.now.cards) }
+    ensures walks { Walks pass.old pass.new (help_steps table.now.cards) }
+    ensures ended { IsEnded pass.new.view update.state update.card }
 {
     let card = update.card;
     match update.state {
@@ -77,13 +78,14 @@ pub(crate) fn help_insert<A: Allocator + Copy, G: StepGate>(
     requires met { IsTold pass.old.view (told.Met parent) }
     requires parent { IsTold pass.old.view (told.Info card field.P parent) }
     ensures walks { Walks pass.old pass.new 5 }
+    ensures over { Knows pass.new.view (fact.IOver card) }
 {
     let leaf = look_info(table, pass, card, Field::L, gate);
     let card_key = look_info(table, pass, card, Field::Key, gate);
     finish_insert(table, pass, card, parent, leaf, card_key, gate);
 }
 
-/// The same where leaf and key of the card are known.
+/// As `help_insert`, where leaf and key of the card are known.
 pub(crate) fn finish_insert<A: Allocator + Copy, G: StepGate>(
     table: &CardTable<A>,
     pass: &mut Pass<A>,
@@ -115,12 +117,13 @@ pub(crate) fn help_marked<A: Allocator + Copy, G: StepGate>(
     requires marked { Knows pass.old.view (fact.Marked card) }
     requires parent { IsTold pass.old.view (told.Info card field.P parent) }
     ensures walks { Walks pass.old pass.new 8 }
+    ensures over { Knows pass.new.view (fact.DOver card) }
 {
     let grandparent = look_info(table, pass, card, Field::Gp, gate);
     finish_marked(table, pass, card, grandparent, parent, gate);
 }
 
-// The same where the grandparent is known.
+// As `help_marked`, where the grandparent is known.
 fn finish_marked<A: Allocator + Copy, G: StepGate>(
     table: &CardTable<A>,
     pass: &mut Pass<A>,
@@ -174,7 +177,8 @@ pub(crate) fn help_delete<A: Allocator + Copy, G: StepGate>(
 )
     requires own { pass.old.table ≡ table.now.id }
     requires flag { IsFlag table.now.cards pass.old.view flag }
-    ensures { Walks pass.old pass.new (chain_steps table.now.cards flag.grandparent) }
+    ensures walks { Walks pass.old pass.new (chain_steps table.now.cards flag.grandparent) }
+    ensures ended { IsDeleteEnded pass.new.view flag.card }
 {
     let mut flag = flag;
     while let Ending::Behind(next) = help_one_delete(table, pass, flag, gate) {

@@ -4,11 +4,10 @@ ghost use Rattle.ell_ops.specs.declared.op.Op.TheVariants.{Insert};
 ghost use Rattle.ell_word.specs.Node.{greatest_card};
 ghost use Rattle.ell_core.specs.declared.fact.Fact.TheVariants.{IFlagged};
 ghost use Rattle.ell_core.specs.state.Cards.{insert_filling};
-ghost use Rattle.ell_cards.specs.Guards.{IsFilled};
 ghost use Rattle.ell_tree.specs.Ends.{try_steps};
 ghost use Rattle.ell_tree.specs.Keeping.{Goes, IsInnerMet};
 ghost use Rattle.ell_tree.specs.Searches.{AtRoot};
-ghost use Rattle.ell_tree.specs.Tries.{Flags, HasCard, TryEnds, insert_stores, with_stores};
+ghost use Rattle.ell_tree.specs.Tries.{Fills, Flags, HasCard, TryEnds};
 
 use crate::helping::{finish_insert, help};
 use crate::searching::{Passed, Place, search};
@@ -98,11 +97,7 @@ fn fill_insert<A: Allocator + Copy, G: StepGate>(
     requires own { pass.old.table ≡ table.now.id }
     requires limit { card ≤ greatest_card }
     requires card { HasCard (Insert key) place (insert_filling card key place.parent.node place.leaf place.key) pass.old.view card }
-    ensures own { pass.new.table ≡ pass.old.table }
-    ensures label { pass.new.label ≡ pass.old.label }
-    ensures steps { pass.new.steps ≤ pass.old.steps + 8 }
-    ensures view { pass.new.view ≡ with_stores (insert_stores card key place) pass.old.view }
-    ensures filled { IsFilled pass.new.view }
+    ensures { Fills pass.old pass.new 8 }
 {
     let (lesser, greater) = (key.min(place.key), key.max(place.key));
     fill(table, pass, card, Field::P, place.parent.node, gate);

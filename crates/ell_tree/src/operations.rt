@@ -57,7 +57,7 @@ pub(crate) fn find<A: Allocator + Copy, G: StepGate>(
     found
 }
 
-/// Makes a change, in so many tries.
+/// Makes a change in at most so many tries, and tells the gate of its start and its end.
 pub(crate) fn make_change<A: Allocator + Copy, G: StepGate>(
     table: &CardTable<A>,
     pass: &mut Pass<A>,
@@ -79,7 +79,7 @@ pub(crate) fn make_change<A: Allocator + Copy, G: StepGate>(
     ended
 }
 
-// Tries a change, so many times.
+// Takes a change in hand, and tries it until a try is answered or finds no card, at most so many times.
 fn try_often<A: Allocator + Copy, G: StepGate>(
     table: &CardTable<A>,
     pass: &mut Pass<A>,
@@ -140,7 +140,7 @@ fn restart<A: Allocator + Copy, G: StepGate>(
     }
 }
 
-// One try.
+// One try of a change.
 fn try_once<A: Allocator + Copy, G: StepGate>(
     table: &CardTable<A>,
     pass: &mut Pass<A>,

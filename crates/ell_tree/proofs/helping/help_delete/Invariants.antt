@@ -1,15 +1,16 @@
-use Rattle.std.proofs.Common.{◌≡◌, ◌+◌, ◌*◌, ◌-◌, ◌≤◌}
+use Rattle.std.proofs.Common.{◌⊎◌, ◌≡◌, ◌+◌, ◌*◌, ◌-◌, ◌≤◌}
 use Rattle.ell_word.specs.Node.{card}
 use Rattle.ell_tree.specs.Keeping.{Walks}
-use Rattle.ell_tree.specs.Helps.{IsFlag}
+use Rattle.ell_tree.specs.Helps.{IsDeleteEnded, IsFlag}
 use Rattle.ell_tree.proofs.helping.help_delete.Given as goal
 
--- the steps so far are four for each internal node that the chain went down
+-- the steps so far are four for each internal node that the chain went down; the first delete has ended once another is at hand
 abbrev pub invariant-loop-next : goal.invariant-loop-next
 invariant-loop-next g l = record {
   same : l.table ≡ l.fn.table;
   flag : IsFlag l.table.cards l.pass.view l.flag;
   down : card l.fn.flag.grandparent ≤ card l.flag.grandparent;
+  ended : (l.flag ≡ l.fn.flag) ⊎ IsDeleteEnded l.pass.view l.fn.flag.card;
   walks : Walks l.fn.pass l.pass (4 * (card l.flag.grandparent - card l.fn.flag.grandparent));
 }
 

@@ -1,4 +1,4 @@
-use Rattle.std.proofs.Common.{◌≢◌, ◌≤◌, None, List, ℕ, length, ap, sym, subst, arith}
+use Rattle.std.proofs.Common.{◌≢◌, ◌≤◌, None, List, ℕ, length, ap, sym, ◌∙◌, subst, arith}
 use Rattle.std.specs.List.{All}
 use Rattle.ell_cards.specs.Ends.{Ends}
 use Rattle.ell_tree.specs.Ledgers.{TreeModel}
@@ -14,4 +14,5 @@ keys_of_tree-requires-clause-keys_room g c =
 pub returns-clause-keys : goal.returns-clause-keys
 returns-clause-keys g c =
     let ends = subst (λ (t : TreeModel). Ends t.keys c.args.pass.view c.close-closed.result) c.self.view_is c.close-closed.ensures.ends in
-    closes c.args.self c.args.pass c.close-closed.result ends c.requires.all c.keys_of_tree.result.items c.keys_of_tree.ensures
+    let cards = c.close-closed.ensures.cards ∙ ap (λ (t : TreeModel). t.cards) c.self.view_is in
+    closes c.args.self c.args.pass c.close-closed.result ends c.requires.all c.keys_of_tree.result.items cards c.keys_of_tree.ensures
