@@ -1,0 +1,2 @@
+-- a pass that may ask
+pub mod Readiness
