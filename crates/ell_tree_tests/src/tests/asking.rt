@@ -1,6 +1,6 @@
 //! Operations of one pass on a tree, and the end of a tree.
 ghost use Rattle.std.specs.Prelude.{◌≡◌, ◌≤◌};
-ghost use Rattle.ell_tree_tests.specs.Readiness.{IsReady};
+ghost use Rattle.ell_tree.specs.Ledgers.{IsIdle};
 
 use ell_ops::Op;
 use ell_tree::{Held, Pass, Tree};
@@ -21,9 +21,11 @@ pub fn ask<G: StepGate>(
     tries: u32,
     gate: &G,
 ) -> Result<bool, Held>
-    requires ready { IsReady tree.now pass.old }
+    requires own { pass.old.table ≡ tree.now.id }
+    requires idle { IsIdle pass.old }
     requires tries { 1 ≤ tries }
-    ensures { IsReady tree.now pass.new }
+    ensures own { pass.new.table ≡ tree.now.id }
+    ensures idle { IsIdle pass.new }
 {
     assert!(rt; pass.owns(op.key()), "{op:?}");
     match op {
@@ -42,9 +44,11 @@ pub fn play<G: StepGate>(
     gate: &G,
     rows: &[Row],
 ) -> Pass<Global>
-    requires ready { IsReady tree.now pass }
+    requires own { pass.table ≡ tree.now.id }
+    requires idle { IsIdle pass }
     requires tries { 1 ≤ tries }
-    ensures { IsReady tree.now result }
+    ensures own { result.table ≡ tree.now.id }
+    ensures idle { IsIdle result }
 {
     let mut pass = pass;
     for (op, want) in rows {
@@ -61,7 +65,8 @@ pub fn close(
     pass: Pass<Global>,
     keys: &[u64],
 ) -> Result<Vec<u64>, Fail>
-    requires ready { IsReady tree pass }
+    requires own { pass.table ≡ tree.id }
+    requires idle { IsIdle pass }
     requires keys { tree.keys ≡ keys.now }
 {
     assert!(rt; keys.iter().all(|key| pass.owns(*key)));

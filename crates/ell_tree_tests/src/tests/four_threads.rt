@@ -1,6 +1,6 @@
 //! Four threads on one tree, whose keys lie between one another's, each beside a plain set of its own.
-ghost use Rattle.std.specs.Prelude.{IfOk};
-ghost use Rattle.ell_tree_tests.specs.Readiness.{IsReady};
+ghost use Rattle.std.specs.Prelude.{◌≡◌, IfOk};
+ghost use Rattle.ell_tree.specs.Ledgers.{IsIdle};
 
 use super::asking::{ask, close};
 use super::dice::Dice;
@@ -37,8 +37,10 @@ fn ask_often(
     pass: &mut Pass<Global>,
     op: Op,
 ) -> Result<bool, Held>
-    requires { IsReady tree.now pass.old }
-    ensures { IsReady tree.now pass.new }
+    requires own { pass.old.table ≡ tree.now.id }
+    requires idle { IsIdle pass.old }
+    ensures own { pass.new.table ≡ tree.now.id }
+    ensures idle { IsIdle pass.new }
 {
     for _ in 0..ROUNDS {
         let ended = ask(rt, tree, pass, op, TRIES, &NoGate);
@@ -51,8 +53,10 @@ fn ask_often(
 
 // One thread's operations, each of which is to answer as a plain set does: that set is what it leaves.
 fn work(rt: &impl Abort, tree: &Tree<Global>, pass: Pass<Global>, thread: u64) -> Done
-    requires { IsReady tree.now pass }
-    ensures { IsReady tree.now result.pass }
+    requires own { pass.table ≡ tree.now.id }
+    requires idle { IsIdle pass }
+    ensures own { result.pass.table ≡ tree.now.id }
+    ensures idle { IsIdle result.pass }
 {
     let mut pass = pass;
     let (mut dice, mut plain) = (Dice::new(thread), [false; 256]);
@@ -77,9 +81,10 @@ fn parted(
     pass: Pass<Global>,
     places: &[u64],
 ) -> Result<(Pass<Global>, Pass<Global>), Fail>
-    requires { IsReady tree.now pass }
-    ensures left { IfOk result (λ parts. IsReady tree.now parts.0) }
-    ensures right { IfOk result (λ parts. IsReady tree.now parts.1) }
+    requires own { pass.table ≡ tree.now.id }
+    requires idle { IsIdle pass }
+    ensures left { IfOk result (λ parts. (parts.0.table ≡ tree.now.id) × IsIdle parts.0) }
+    ensures right { IfOk result (λ parts. (parts.1.table ≡ tree.now.id) × IsIdle parts.1) }
 {
     let keys = keys_below(rt, KEYS, places)?;
     assert!(rt; keys.iter().all(|key| pass.owns(*key)));
@@ -96,10 +101,10 @@ fn work_by_two<R: Threads + Abort + Sync>(
     passes: (Pass<Global>, Pass<Global>),
     threads: (u64, u64),
 ) -> (Done, Done)
-    requires first { IsReady tree.now passes.0 }
-    requires second { IsReady tree.now passes.1 }
-    ensures first { IsReady tree.now result.0.pass }
-    ensures second { IsReady tree.now result.1.pass }
+    requires first { (passes.0.table ≡ tree.now.id) × IsIdle passes.0 }
+    requires second { (passes.1.table ≡ tree.now.id) × IsIdle passes.1 }
+    ensures first { (result.0.pass.table ≡ tree.now.id) × IsIdle result.0.pass }
+    ensures second { (result.1.pass.table ≡ tree.now.id) × IsIdle result.1.pass }
 {
     let (one, other) = passes;
     join(
@@ -111,9 +116,9 @@ fn work_by_two<R: Threads + Abort + Sync>(
 
 // What two threads leave, in one: the pass of both, and the union of their plain sets.
 fn together(tree: &Tree<Global>, one: Done, other: Done) -> Result<Done, Fail>
-    requires first { IsReady tree.now one.pass }
-    requires second { IsReady tree.now other.pass }
-    ensures { IfOk result (λ both. IsReady tree.now both.pass) }
+    requires first { (one.pass.table ≡ tree.now.id) × IsIdle one.pass }
+    requires second { (other.pass.table ≡ tree.now.id) × IsIdle other.pass }
+    ensures { IfOk result (λ both. (both.pass.table ≡ tree.now.id) × IsIdle both.pass) }
 {
     let Ok(pass) = tree.join(one.pass, other.pass) else {
         return Err("no memory")?;

@@ -1,5 +1,6 @@
 //! 100,000 pseudo-random operations of one pass on 64 keys, beside a plain set.
-ghost use Rattle.ell_tree_tests.specs.Readiness.{IsReady};
+ghost use Rattle.std.specs.Prelude.{◌≡◌};
+ghost use Rattle.ell_tree.specs.Ledgers.{IsIdle};
 
 use super::asking::{ask, close};
 use super::dice::Dice;
@@ -41,8 +42,10 @@ fn changes() -> u64 {
 
 // Does the operations on a tree, each of which is to answer as a plain set does: that set.
 fn play_random(rt: &impl Abort, tree: &Tree<Global>, pass: &mut Pass<Global>) -> PlainSet
-    requires { IsReady tree.now pass.old }
-    ensures { IsReady tree.now pass.new }
+    requires own { pass.old.table ≡ tree.now.id }
+    requires idle { IsIdle pass.old }
+    ensures own { pass.new.table ≡ tree.now.id }
+    ensures idle { IsIdle pass.new }
 {
     let (mut dice, mut plain) = (Dice::new(SEED), [false; 256]);
     for number in 0..OPERATIONS {

@@ -1,6 +1,6 @@
 //! Trees of a few keys on one thread, as a person worked them out.
 ghost use Rattle.std.specs.Prelude.{◌≡◌};
-ghost use Rattle.ell_tree_tests.specs.Readiness.{IsReady};
+ghost use Rattle.ell_tree.specs.Ledgers.{IsIdle};
 
 use super::asking::{Row, ask, close};
 use ell_ops::Op::{Delete, Find, Insert};
@@ -19,8 +19,10 @@ const MOST_STEPS: u64 = 640;
 
 // Does the operations of rows with one try each, and counts the steps of those that may change the set.
 fn play_counted(rt: &impl Abort, tree: &Tree<Global>, pass: &mut Pass<Global>, rows: &[Row])
-    requires { IsReady tree.now pass.old }
-    ensures { IsReady tree.now pass.new }
+    requires own { pass.old.table ≡ tree.now.id }
+    requires idle { IsIdle pass.old }
+    ensures own { pass.new.table ≡ tree.now.id }
+    ensures idle { IsIdle pass.new }
 {
     for (op, want) in rows {
         let before = pass.steps();
@@ -40,7 +42,29 @@ enum Part {
     Right,
 }
 
-// Plays rows by the whole pass of a tree, then parts it by 5, plays rows of the parts in turn, and ends the tree.
+// Plays rows of the left and of the right part of a pass in turn.
+fn play_parted(
+    rt: &impl Abort,
+    tree: &Tree<Global>,
+    parts: (Pass<Global>, Pass<Global>),
+    rows: &[(Part, Row)],
+) -> (Pass<Global>, Pass<Global>)
+    requires left { (parts.0.table ≡ tree.now.id) × IsIdle parts.0 }
+    requires right { (parts.1.table ≡ tree.now.id) × IsIdle parts.1 }
+    ensures left { (result.0.table ≡ tree.now.id) × IsIdle result.0 }
+    ensures right { (result.1.table ≡ tree.now.id) × IsIdle result.1 }
+{
+    let (mut left, mut right) = parts;
+    for (part, row) in rows {
+        match part {
+            Part::Left => play_counted(rt, tree, &mut left, &[*row]),
+            Part::Right => play_counted(rt, tree, &mut right, &[*row]),
+        }
+    }
+    (left, right)
+}
+
+// Plays rows by the whole pass of a tree, then parts it by 5, plays rows of the parts, and ends the tree.
 fn played(
     rt: &(impl Abort + AllocGlobal),
     whole: &[Row],
@@ -50,15 +74,10 @@ fn played(
     assert!(rt; pass.owns(5) && !pass.owns(6));
     play_counted(rt, &tree, &mut pass, whole);
     assert!(rt; pass.owns(5));
-    let Ok((mut left, mut right)) = tree.split(pass, &[5]) else {
+    let Ok(parts) = tree.split(pass, &[5]) else {
         return Err("no memory")?;
     };
-    for (part, row) in parted {
-        match part {
-            Part::Left => play_counted(rt, &tree, &mut left, &[*row]),
-            Part::Right => play_counted(rt, &tree, &mut right, &[*row]),
-        }
-    }
+    let (left, right) = play_parted(rt, &tree, parts, parted);
     let Ok(both) = tree.join(left, right) else {
         return Err("no memory")?;
     };

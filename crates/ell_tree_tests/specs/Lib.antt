@@ -1,2 +1,0 @@
--- a pass that may ask
-pub mod Readiness
