@@ -7,7 +7,7 @@
 ghost use Rattle.std.specs.Prelude.{◌≡◌, IfOk};
 ghost use Rattle.ell_tree.specs.Ledgers.{IsIdle};
 
-use anyhow::{Result, anyhow, bail, ensure};
+use anyhow::{Result, bail, ensure};
 use ell_tree::{Held, Pass, Tree};
 use ell_word::NoGate;
 use std::alloc::Global;
@@ -21,89 +21,62 @@ const CARDS: u64 = 10_000;
 // How often a change is tried before it is `Busy`.
 const TRIES: u32 = 1_000;
 
-// What a thread leaves: its pass, and how many of its numbers are in the set.
-#[derive(Drop)]
-struct Sifted {
-    pass: Pass<Global>,
-    left: Result<u64, Held>,
-}
-
 // Whether a number has just two divisors.
 fn is_prime(number: u64) -> bool {
-    (1..=number)
-        .filter(|divisor| number % *divisor == 0)
-        .count()
-        == 2
+    let divisors = (1..=number).filter(|divisor| number % *divisor == 0);
+    divisors.count() == 2
 }
 
-// Adds each number that the pass owns, and takes those that are not prime away again: how many are left.
-fn sift(set: &Tree<Global>, pass: &mut Pass<Global>) -> Result<u64, Held>
-    requires own { pass.old.table ≡ set.now.id }
-    requires idle { IsIdle pass.old }
-    ensures own { pass.new.table ≡ set.now.id }
-    ensures idle { IsIdle pass.new }
+// What a change has answered, or why it has not: then it has changed nothing, and may be asked anew.
+fn answer(ended: Result<bool, Held>) -> Result<bool> {
+    match ended {
+        Ok(said) => Ok(said),
+        Err(Held::Busy) => bail!("something was in the way of all {TRIES} tries"),
+        Err(Held::Spent) => bail!("all {CARDS} cards are given out"),
+    }
+}
+
+// One thread: adds each number that its pass owns, and takes those that are not prime away again.
+fn sift(set: &Tree<Global>, pass: Pass<Global>) -> Result<Pass<Global>>
+    requires own { pass.table ≡ set.now.id }
+    requires idle { IsIdle pass }
+    ensures { IfOk result (λ pass. (pass.table ≡ set.now.id) × IsIdle pass) }
 {
-    let mut left: u64 = 0;
+    let mut pass = pass;
     for number in NUMBERS {
         if !pass.owns(number) {
             continue;
         }
-        set.insert(pass, number, TRIES, &NoGate)?;
+        answer(set.insert(&mut pass, number, TRIES, &NoGate))?;
         if !is_prime(number) {
-            set.delete(pass, number, TRIES, &NoGate)?;
+            answer(set.delete(&mut pass, number, TRIES, &NoGate))?;
         }
-        if set.find(pass, number, &NoGate) {
-            left = left.saturating_add(1);
-        }
+        // No other thread changes a number of this pass.
+        let is_left = set.find(&mut pass, number, &NoGate);
+        ensure!(
+            is_left == is_prime(number),
+            "{number} is not as it was left"
+        );
     }
-    Ok(left)
+    Ok(pass)
 }
 
-// One thread. A call that is `Busy` has changed nothing, and so has one that is `Spent`: what is `Busy` may be asked anew.
-fn work(set: &Tree<Global>, pass: Pass<Global>) -> Sifted
-    requires own { pass.table ≡ set.now.id }
-    requires idle { IsIdle pass }
-    ensures own { result.pass.table ≡ set.now.id }
-    ensures idle { IsIdle result.pass }
-{
-    let mut pass = pass;
-    let left = match sift(set, &mut pass) {
-        Err(Held::Busy) => sift(set, &mut pass),
-        ended => ended,
-    };
-    Sifted { pass, left }
-}
-
-// Two threads, each with a pass of its own.
-fn work_by_two<R: Threads>(
+// Two threads, each with a part of a pass: the pass that both leave.
+fn sift_by_two<R: Threads>(
     rt: &R,
     set: &Tree<Global>,
-    passes: (Pass<Global>, Pass<Global>),
-) -> (Sifted, Sifted)
-    requires one { (passes.0.table ≡ set.now.id) × IsIdle passes.0 }
-    requires other { (passes.1.table ≡ set.now.id) × IsIdle passes.1 }
-    ensures one { (result.0.pass.table ≡ set.now.id) × IsIdle result.0.pass }
-    ensures other { (result.1.pass.table ≡ set.now.id) × IsIdle result.1.pass }
+    parts: (Pass<Global>, Pass<Global>),
+) -> Result<Pass<Global>>
+    requires left { (parts.0.table ≡ set.now.id) × IsIdle parts.0 }
+    requires right { (parts.1.table ≡ set.now.id) × IsIdle parts.1 }
+    ensures { IfOk result (λ pass. (pass.table ≡ set.now.id) × IsIdle pass) }
 {
-    let (one, other) = passes;
-    join(rt, move || work(set, one), move || work(set, other))
-}
-
-// What two threads leave, in one.
-fn together(set: &Tree<Global>, sifted: (Sifted, Sifted)) -> Result<Sifted>
-    requires one { (sifted.0.pass.table ≡ set.now.id) × IsIdle sifted.0.pass }
-    requires other { (sifted.1.pass.table ≡ set.now.id) × IsIdle sifted.1.pass }
-    ensures { IfOk result (λ both. (both.pass.table ≡ set.now.id) × IsIdle both.pass) }
-{
-    let (one, other) = sifted;
-    let Ok(pass) = set.join(one.pass, other.pass) else {
+    let (left, right) = parts;
+    let (left, right) = join(rt, move || sift(set, left), move || sift(set, right));
+    let Ok(both) = set.join(left?, right?) else {
         bail!("no memory to join two passes");
     };
-    let left = match (one.left, other.left) {
-        (Ok(some), Ok(more)) => Ok(some.saturating_add(more)),
-        (Err(held), _) | (_, Err(held)) => Err(held),
-    };
-    Ok(Sifted { pass, left })
+    Ok(both)
 }
 
 // Ends the set, by a pass that is to own all its numbers: those that are left.
@@ -112,10 +85,8 @@ fn close(set: Tree<Global>, pass: Pass<Global>, numbers: &[u64]) -> Result<Vec<u
     requires idle { IsIdle pass }
     requires numbers { set.keys ≡ numbers.now }
 {
-    ensure!(
-        numbers.iter().all(|number| pass.owns(*number)),
-        "a number has no owner"
-    );
+    let owns_all = numbers.iter().all(|number| pass.owns(*number));
+    ensure!(owns_all, "a number has no owner");
     let Ok(left) = set.close(pass) else {
         bail!("no memory for the numbers that are left");
     };
@@ -126,7 +97,7 @@ fn main(rt: HostRuntime) -> Result<()> {
     let Ok((set, pass)) = Tree::reserve(rt.alloc(), &NUMBERS, CARDS) else {
         bail!("no memory for a set");
     };
-    // One pass owns all numbers. Its parts own a quarter each.
+    // One pass owns all numbers, and its parts a quarter each.
     let Ok((even, odd)) = set.split(pass, &[0, 2, 4, 6, 8, 10, 12, 14]) else {
         bail!("no memory to part a pass");
     };
@@ -139,13 +110,13 @@ fn main(rt: HostRuntime) -> Result<()> {
     let (host, shared) = (&rt, &set);
     let (even, odd) = join(
         host,
-        move || work_by_two(host, shared, even),
-        move || work_by_two(host, shared, odd),
+        move || sift_by_two(host, shared, even),
+        move || sift_by_two(host, shared, odd),
     );
-    let sifted = (together(&set, even)?, together(&set, odd)?);
-    let all = together(&set, sifted)?;
-    let count = all.left.map_err(|held| anyhow!("{held:?}"))?;
-    let primes = close(set, all.pass, &NUMBERS)?;
-    println!(rt; "{count} primes: {primes:?}")?;
+    let Ok(all) = set.join(even?, odd?) else {
+        bail!("no memory to join two passes");
+    };
+    let primes = close(set, all, &NUMBERS)?;
+    println!(rt; "primes: {primes:?}")?;
     Ok(())
 }
