@@ -6,7 +6,7 @@ use super::holding::Holding;
 use super::meeting::two_threads_meet;
 use ell_ops::Op::{Delete, Insert};
 use ell_tree::{Held, Tree};
-use ell_word::Kind;
+use ell_word::{Kind, NoGate};
 use std::process::Abort;
 use std::test::Fail;
 use std::thread::{Threads, join};
@@ -14,6 +14,7 @@ use std::thread::{Threads, join};
 const KEYS: [u64; 2] = [5, 7];
 
 // What two workers do at once: worker 0, which owns 5, is held at its first step of a kind until worker 1, which owns 7, has ended.
+// What one worker does afterwards, with one try each; and the keys at the end.
 #[derive(Clone, Copy, Debug)]
 struct Crossing<'a> {
     cards: u64,
@@ -21,6 +22,7 @@ struct Crossing<'a> {
     held_at: Kind,
     left: &'a [Row],
     right: Row,
+    afterwards: &'a [Row],
     keys: &'a [u64],
 }
 
@@ -29,15 +31,13 @@ fn cross<R: Threads + Abort + AllocGlobal + Sync>(rt: &R, crossing: Crossing) ->
     requires { 1 ≤ crossing.tries }
 {
     let Crossing {
-        cards,
         tries,
-        held_at,
         left,
         right,
-        keys,
+        ..
     } = crossing;
-    let gate = Holding::at(held_at);
-    let (tree, pass) = Tree::reserve(rt.alloc(), &KEYS, cards)?;
+    let gate = Holding::at(crossing.held_at);
+    let (tree, pass) = Tree::reserve(rt.alloc(), &KEYS, crossing.cards)?;
     assert!(rt; pass.owns(5));
     let Ok((five, mut seven)) = tree.split(pass, &[5]) else {
         return Err("no memory")?;
@@ -54,8 +54,9 @@ fn cross<R: Threads + Abort + AllocGlobal + Sync>(rt: &R, crossing: Crossing) ->
     let Ok(both) = tree.join(five, seven) else {
         return Err("no memory")?;
     };
+    let both = play(rt, &tree, both, 1, &NoGate, crossing.afterwards);
     let present = close(rt, tree, both, &KEYS)?;
-    assert_eq!(rt; present.as_slice(), keys);
+    assert_eq!(rt; present.as_slice(), crossing.keys);
     Ok(())
 }
 
@@ -72,6 +73,7 @@ fn an_insert_goes_past_one_that_is_held(rt: HostRuntime) -> Result<(), Fail> {
             held_at: Kind::IChild,
             left: &[(Insert(5), Ok(true))],
             right: (Insert(7), Ok(true)),
+            afterwards: &[],
             keys: &[5, 7],
         },
     )
@@ -90,6 +92,7 @@ fn an_insert_goes_past_a_delete_that_is_held(rt: HostRuntime) -> Result<(), Fail
             held_at: Kind::DChild,
             left: &[(Insert(5), Ok(true)), (Delete(5), Ok(true))],
             right: (Insert(7), Ok(true)),
+            afterwards: &[],
             keys: &[7],
         },
     )
@@ -106,6 +109,7 @@ fn a_try_that_helps_is_over(rt: HostRuntime) -> Result<(), Fail> {
         held_at: Kind::IChild,
         left: &[(Insert(5), Ok(true))],
         right: (Insert(7), Err(Held::Busy)),
+        afterwards: &[],
         keys: &[5],
     };
     cross(&rt, at_its_flag)?;
@@ -131,6 +135,7 @@ fn a_helper_may_find_all_cards_given_out(rt: HostRuntime) -> Result<(), Fail> {
             held_at: Kind::IChild,
             left: &[(Insert(5), Ok(true))],
             right: (Insert(7), Err(Held::Spent)),
+            afterwards: &[],
             keys: &[5],
         },
     )
@@ -147,13 +152,14 @@ fn a_delete_that_loses_its_mark_tries_again(rt: HostRuntime) -> Result<(), Fail>
         held_at: Kind::Mark,
         left: &[(Insert(5), Ok(true)), (Delete(5), Err(Held::Busy))],
         right: (Insert(7), Ok(true)),
-        keys: &[5, 7],
+        afterwards: &[(Delete(5), Ok(true)), (Delete(7), Ok(true))],
+        keys: &[],
     };
     cross(&rt, with_one_try)?;
     let with_two = Crossing {
         tries: 2,
         left: &[(Insert(5), Ok(true)), (Delete(5), Ok(true))],
-        keys: &[7],
+        afterwards: &[(Delete(7), Ok(true))],
         ..with_one_try
     };
     cross(&rt, with_two)
