@@ -1,6 +1,6 @@
-use Rattle.std.proofs.Common.{◌≡◌, ℕ, ◌+◌, ◌≤◌, Option, Some, refl, sym, subst, arith}
+use Rattle.std.proofs.Common.{Option, Some, refl, sym, subst, arith}
 use Rattle.ell_ops.specs.declared.op.Op.{Op}
-use Rattle.ell_cards.specs.Models.{PassModel, Steps, latest, Does}
+use Rattle.ell_cards.specs.Models.{PassModel, Steps, latest}
 use Rattle.ell_cards.specs.Changes.{after_begin}
 use Rattle.ell_tree.specs.Tries.{Begins, Stops}
 

@@ -1,4 +1,4 @@
-use Rattle.std.proofs.Common.{◌≡◌, ◌≢◌, ◌↔◌, ℕ, ◌≤◌, ◌<◌, true, Option, Some, None, List, Contains, length, refl, sym, ◌∙◌, subst, arith}
+use Rattle.std.proofs.Common.{◌≡◌, ◌≢◌, ℕ, ◌≤◌, None, List, Contains, length, arith}
 use Rattle.std.specs.List.{All}
 use Rattle.std.specs.List.Sorted.{IsStrictlyIncreasing}
 use Rattle.std.specs.Cmp.{nat_eq_equiv}
@@ -8,7 +8,6 @@ use Rattle.std.proofs.lemmas.List.Kept.{AllPairs-from_increasing}
 use Rattle.std.proofs.lemmas.Map.Made.{IsDistinct-from_AllPairs, length-le_from_is_member}
 use Rattle.std.proofs.lemmas.Map.Views.{list_any-from_Contains}
 use Rattle.ell_core.specs.state.Words.{words_of}
-use Rattle.ell_core.specs.state.Machine.{ledger_of}
 use Rattle.ell_core.specs.tree.Tree.{ListsKeys}
 use Rattle.ell_core.specs.tree.Room.{HoldsKeys}
 use Rattle.ell_core.proofs.tree.Pairs.{Contains-from_list_any}

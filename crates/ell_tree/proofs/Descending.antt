@@ -1,4 +1,4 @@
-use Rattle.std.proofs.Common.{◌≡◌, ◌≢◌, ℕ, ◌+◌, ◌≤◌, nat_le, ◌==◌, if◌then◌else◌, true, Option, Some, None, IfSome, refl, sym, ◌∙◌, ap, subst, arith, eq-eqb}
+use Rattle.std.proofs.Common.{◌≡◌, ℕ, ◌≤◌, nat_le, ◌==◌, if◌then◌else◌, true, Option, Some, None, IfSome, refl, sym, ◌∙◌, ap, subst, arith, eq-eqb}
 use Rattle.ell_ops.specs.declared.op.Op.{Op}
 use Rattle.ell_ops.specs.Meaning.{key_of}
 use Rattle.ell_word.specs.Node.{IsInternal}
@@ -8,16 +8,16 @@ use Rattle.ell_core.specs.declared.view.Search.{Search}
 use Rattle.ell_core.specs.acts.Searching.{IsLeaf}
 use Rattle.ell_cards.specs.declared.view.Told.TheVariants.{Met}
 use Rattle.ell_cards.specs.declared.view.View.{View}
-use Rattle.ell_cards.specs.Models.{PassModel, Steps, latest, earlier, Does, IsTold, StandsAt, InTable}
+use Rattle.ell_cards.specs.Models.{PassModel, Steps, latest, Does, IsTold, StandsAt, InTable}
 use Rattle.ell_cards.specs.Changes.{after_upd, after_key_of, after_down, is_at}
 use Rattle.ell_cards.specs.Guards.{MayGoDown}
 use Rattle.ell_cards.specs.Calls.{TellsLeaf}
 use Rattle.ell_cards.proofs.seats.Entries.{places_more}
 use Rattle.ell_tree.specs.declared.searching.Passed.{Passed}
 use Rattle.ell_tree.specs.declared.searching.Place.{Place}
-use Rattle.ell_tree.specs.Keeping.{Keeps, Goes, Walks, IsInnerMet}
-use Rattle.ell_tree.specs.Searches.{seen, seen_any, below, Passes, Stands, IsAt, EndsAt}
-use Rattle.ell_tree.proofs.Keeping.{view_after, walks_step, walks_trans, upd_keeps, key_of_keeps, down_keeps, keeps_trans, inner_kept, seen_kept, place_told, hindered_once_more}
+use Rattle.ell_tree.specs.Keeping.{Keeps, Walks, IsInnerMet}
+use Rattle.ell_tree.specs.Searches.{seen_any, below, Passes, Stands, EndsAt}
+use Rattle.ell_tree.proofs.Keeping.{view_after, walks_step, walks_trans, upd_keeps, key_of_keeps, down_keeps, keeps_trans, seen_kept, place_told, hindered_once_more}
 
 -- the key that was asked is that of the place
 told_here : (o here : Option ℕ) (x key : ℕ) → o ≡ Some x → (if is_at o x then Some key else here) ≡ Some key

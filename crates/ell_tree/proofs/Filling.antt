@@ -1,4 +1,4 @@
-use Rattle.std.proofs.Common.{◌≡◌, ℕ, Option, Some, List, [], refl, sym, ◌∙◌, ap, subst, unwrap_or, max}
+use Rattle.std.proofs.Common.{◌≡◌, ℕ, Option, Some, List, [], sym, ◌∙◌, ap, subst, unwrap_or, max}
 use Rattle.ell_ops.specs.declared.op.Op.{Op}
 use Rattle.ell_ops.specs.declared.op.Op.TheVariants.{Insert, Delete}
 use Rattle.ell_word.specs.declared.update.State.TheVariants as state
@@ -6,7 +6,6 @@ use Rattle.ell_word.specs.Word.{packed}
 use Rattle.ell_core.specs.declared.fact.Fact.TheVariants as fact
 use Rattle.ell_core.specs.declared.field.Field.{Field}
 use Rattle.ell_core.specs.declared.field.Field.TheVariants as field
-use Rattle.ell_core.specs.declared.view.Seen.{Seen}
 use Rattle.ell_core.specs.declared.view.Search.{Search}
 use Rattle.ell_core.specs.state.Cards.{insert_filling, delete_filling}
 use Rattle.ell_cards.specs.declared.view.Told.{Told}
@@ -18,7 +17,7 @@ use Rattle.ell_cards.specs.Guards.{Wants}
 use Rattle.ell_tree.specs.declared.searching.Passed.{Passed}
 use Rattle.ell_tree.specs.declared.searching.Place.{Place}
 use Rattle.ell_tree.specs.Keeping.{Keeps, IsInnerMet}
-use Rattle.ell_tree.specs.Searches.{seen, seen_any, below, IsAt}
+use Rattle.ell_tree.specs.Searches.{seen, seen_any, IsAt}
 use Rattle.ell_tree.specs.Helps.{IsInsert, IsParent}
 use Rattle.ell_tree.specs.Tries.{HasCard}
 use Rattle.ell_tree.proofs.Keeping.{inner_kept}

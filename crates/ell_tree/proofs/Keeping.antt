@@ -1,4 +1,4 @@
-use Rattle.std.proofs.Common.{◌⊎◌, ◌≡◌, ◌≢◌, ℕ, ◌+◌, ◌≤◌, ◌==◌, if◌then◌else◌, Bool, true, false, ◌||◌, List, ◌∷◌, Option, None, Some, refl, sym, ◌∙◌, ap, subst, arith, inl, inr, eq-eqb}
+use Rattle.std.proofs.Common.{◌≡◌, ◌≢◌, ℕ, ◌+◌, ◌≤◌, Bool, true, false, ◌||◌, List, ◌∷◌, refl, sym, ◌∙◌, ap, subst, arith}
 use Rattle.ell_word.specs.declared.update.Update.{Update}
 use Rattle.ell_word.specs.declared.update.State.{State}
 use Rattle.ell_word.specs.declared.update.State.TheVariants as state
@@ -9,10 +9,10 @@ use Rattle.ell_core.specs.declared.field.Field.TheVariants as field
 use Rattle.ell_core.specs.state.Facts.{known_of, same_fact}
 use Rattle.ell_core.proofs.words.SameFact.{same_fact-itself}
 use Rattle.ell_cards.specs.declared.view.Told.{Told}
-use Rattle.ell_cards.specs.declared.view.Told.TheVariants.{Met, Key, Info, Frozen}
+use Rattle.ell_cards.specs.declared.view.Told.TheVariants.{Met, Info}
 use Rattle.ell_cards.specs.declared.view.View.{View}
 use Rattle.ell_cards.specs.Models.{PassModel, Steps, Has, latest, earlier, IsTold, Knows}
-use Rattle.ell_cards.specs.Changes.{facts_by, places_by, hindered_by, learning, with_found, after_upd, after_down, after_key_of, after_info, told_info, after_frozen_child, after_next, after_claim}
+use Rattle.ell_cards.specs.Changes.{facts_by, places_by, hindered_by, learning, with_found, after_upd, after_down, after_key_of, after_info, told_info, after_frozen_child, after_next}
 use Rattle.ell_cards.proofs.seats.Entries.{places_more}
 use Rattle.ell_tree.specs.Keeping.{Keeps, Goes, Walks, IsInnerMet, TellsPlace, IsSeenAt}
 

@@ -1,4 +1,4 @@
-use Rattle.std.proofs.Common.{◌≡◌, ℕ, Bool, List, refl, sym, subst}
+use Rattle.std.proofs.Common.{ℕ, Bool, List, refl, sym, subst}
 use Rattle.ell_core.specs.declared.field.Field.{Field}
 use Rattle.ell_core.specs.declared.field.Field.TheVariants as field
 use Rattle.ell_cards.specs.declared.view.Told.{Told}

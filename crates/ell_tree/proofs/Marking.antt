@@ -1,10 +1,10 @@
-use Rattle.std.proofs.Common.{◌≡◌, ℕ, ◌+◌, ◌≤◌, ◌==◌, if◌then◌else◌, Bool, true, false, Option, Some, None, Result, Ok, Err, ◌∷◌, IfSome, IfErr, refl, sym, ap, subst, arith, is_ok, eq-eqb}
+use Rattle.std.proofs.Common.{◌≡◌, ℕ, ◌+◌, ◌≤◌, ◌==◌, if◌then◌else◌, Bool, true, false, Option, Some, None, Result, Ok, Err, ◌∷◌, IfSome, IfErr, refl, sym, subst, arith, is_ok, eq-eqb}
 use Rattle.ell_word.specs.declared.update.Update.{Update}
 use Rattle.ell_word.specs.Word.{unpacked}
 use Rattle.ell_core.specs.declared.fact.Fact.TheVariants as fact
 use Rattle.ell_cards.specs.declared.view.Told.TheVariants.{Met}
 use Rattle.ell_cards.specs.declared.view.View.{View}
-use Rattle.ell_cards.specs.Models.{PassModel, Steps, IsTold, Knows}
+use Rattle.ell_cards.specs.Models.{PassModel, Steps, Knows}
 use Rattle.ell_cards.specs.Changes.{learning, with_found, found_word, found_update, is_mark_of, is_held, unmarking, after_mark}
 use Rattle.ell_cards.proofs.seats.Entries.{places_more}
 use Rattle.ell_tree.specs.Keeping.{Keeps, Walks, IsInnerMet}

@@ -1,15 +1,11 @@
-use Rattle.std.specs.Prelude.{◌≡◌, ℕ, ◌+◌, ◌≤◌, true, Some, None, List, [], ◌∷◌, min, max, Result, Ok, Err}
+use Rattle.std.specs.Prelude.{◌≡◌, ℕ, ◌+◌, ◌≤◌, true, Some, None, List, [], Result, Ok, Err}
 use Rattle.ell_ops.specs.declared.op.Op.{Op}
 use Rattle.ell_ops.specs.declared.op.Op.TheVariants.{Insert, Delete}
 use Rattle.ell_ops.specs.Meaning.{reply_of}
 use Rattle.ell_word.specs.declared.update.Update.{Update}
-use Rattle.ell_word.specs.Node.{left_leaf, right_leaf}
-use Rattle.ell_word.specs.Word.{packed}
 use Rattle.ell_core.specs.declared.fact.Fact.{Fact}
 use Rattle.ell_core.specs.declared.fact.Fact.TheVariants as fact
 use Rattle.ell_core.specs.declared.field.Field.{Field}
-use Rattle.ell_core.specs.declared.field.Field.TheVariants as field
-use Rattle.ell_core.specs.state.Cards.{clean}
 use Rattle.ell_cards.specs.declared.view.Told.{Told}
 use Rattle.ell_cards.specs.declared.view.View.{View}
 use Rattle.ell_cards.specs.Models.{PassModel, Has, IsTold, Knows, Does, StandsAt}
@@ -24,7 +20,7 @@ use Rattle.ell_tree.specs.declared.trying.Tried.{Tried}
 use Rattle.ell_tree.specs.declared.trying.Tried.TheVariants as tried
 use Rattle.ell_tree.specs.Ledgers.{present_in, IsIdle}
 use Rattle.ell_tree.specs.Ends.{Answers}
-use Rattle.ell_tree.specs.Keeping.{Goes, Walks, IsSeenAt}
+use Rattle.ell_tree.specs.Keeping.{IsSeenAt}
 use Rattle.ell_tree.specs.Searches.{AtRoot, seen, seen_any}
 
 -- an operation starts, or starts anew, at the root

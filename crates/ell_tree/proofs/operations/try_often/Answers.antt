@@ -1,4 +1,4 @@
-use Rattle.std.proofs.Common.{◌≡◌, ◌+◌, ◌*◌, ◌≤◌, refl, sym, ◌∙◌, ap, arith, rules, eq-eqb}
+use Rattle.std.proofs.Common.{◌≡◌, ◌*◌, ◌∙◌, ap, arith, rules, eq-eqb}
 use Rattle.ell_tree.specs.Ends.{try_steps}
 use Rattle.ell_tree.proofs.Counting.{round_steps, rounds_steps}
 use Rattle.ell_tree.proofs.operations.try_often.Goals as goal

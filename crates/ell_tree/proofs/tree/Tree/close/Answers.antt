@@ -1,5 +1,4 @@
-use Rattle.std.proofs.Common.{◌≢◌, ◌≤◌, None, List, ℕ, length, ap, sym, ◌∙◌, subst, arith}
-use Rattle.std.specs.List.{All}
+use Rattle.std.proofs.Common.{length, ap, ◌∙◌, subst, arith}
 use Rattle.ell_cards.specs.Ends.{Ends}
 use Rattle.ell_tree.specs.Ledgers.{TreeModel}
 use Rattle.ell_tree.proofs.Closing.{holds_keys, closes}
