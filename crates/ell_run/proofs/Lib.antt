@@ -6,3 +6,9 @@ pub mod CutShort
 pub mod OnKey
 -- Which workers have something to do.
 pub mod Busy
+-- How a worker does a front of its part, operation by operation.
+pub mod Fronts
+-- A pass in two halves: what is done with each comes to what is done with the whole.
+pub mod Halves
+-- What a row of workers leaves, worker by worker.
+pub mod Rows

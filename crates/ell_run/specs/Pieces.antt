@@ -1,4 +1,4 @@
-use Rattle.std.specs.Prelude.{◌≡◌, ℕ, ◌≤◌, nat_lt, Bool, true, List, [], ◌∷◌, ◌++◌, Some, length, map, filter, take, slice_get}
+use Rattle.std.specs.Prelude.{◌≡◌, ℕ, ◌≤◌, nat_lt, Bool, true, List, [], ◌∷◌, ◌++◌, Some, length, map, filter, take, slice_get, slice_index_or}
 use Rattle.std.specs.List.{range_with_len, zip}
 use Rattle.ell_ops.specs.declared.op.Op.{Op}
 use Rattle.ell_ops.specs.KeySet.{KeySet}
@@ -32,6 +32,10 @@ ArePieces set parting [] (piece ∷ pieces) = ⊥
 ArePieces set parting (worker ∷ workers) [] = ⊥
 ArePieces set parting (worker ∷ workers) (piece ∷ pieces) =
     IsPiece set (part parting worker) piece × ArePieces set parting workers pieces
+
+-- how many operations of its part a worker's piece answers
+abbrev pub count_of : List (List (ℕ × Bool)) → ℕ → ℕ
+count_of pieces worker = length (slice_index_or pieces worker [])
 
 -- the operations that the pieces of workers answer, worker by worker
 abbrev pub ops_done : Parting → List ℕ → List (List (ℕ × Bool)) → List Op

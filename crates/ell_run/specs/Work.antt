@@ -31,14 +31,14 @@ pub record AreReady (tree : TreeModel) (parting : Parting) (workers : List ℕ) 
 pub record AreHalves (parting : Parting) (low : List ℕ) (pass left right : PassModel) : Type 0 where
   pub keys : List ℕ
   pub listed : Lists (keys_for parting low) keys
-  pub left : IsLeftPart keys pass left
-  pub right : IsRightPart keys pass right
+  pub on_left : IsLeftPart keys pass left
+  pub on_right : IsRightPart keys pass right
 
 -- a front of numbered operations was done with a pass, which is its own piece's
 pub record IsWorkedOff (items : List (ℕ × Op)) (before after : PassModel) (piece : List (ℕ × Bool)) : Type 0 where
   pub table : after.table ≡ before.table
   pub idle : IsIdle after
-  pub piece : IsPiece (present_in before) items piece
+  pub told : IsPiece (present_in before) items piece
   pub set : present_in after ≡ final (present_in before) (ops_in (front items piece))
   pub owned : (key : ℕ) → Owns after key ↔ Owns before key
   pub answers : answers after ≡ answers before + length piece
@@ -48,7 +48,7 @@ pub record IsWorkedOff (items : List (ℕ × Op)) (before after : PassModel) (pi
 pub record IsWorked (parting : Parting) (workers : List ℕ) (before after : PassModel) (pieces : List (List (ℕ × Bool))) : Type 0 where
   pub table : after.table ≡ before.table
   pub idle : IsIdle after
-  pub pieces : ArePieces (present_in before) parting workers pieces
+  pub told : ArePieces (present_in before) parting workers pieces
   pub set : present_in after ≡ final (present_in before) (ops_done parting workers pieces)
   pub owned : (key : ℕ) → Owns after key ↔ Owns before key
   pub answers : answers after ≡ answers before + sum_by length pieces

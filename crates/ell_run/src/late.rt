@@ -1,12 +1,13 @@
 //! What the workers left undone, done by one thread after they have ended.
-ghost use Rattle.std.specs.Prelude.{◌≡◌, ◌≤◌, ◌||◌, ℕ, ◌<◌, All, IfOk, Some, length, map, slice_get, slice_index_or, false};
+ghost use Rattle.std.specs.Prelude.{◌≡◌, ◌≤◌, ◌<◌, ◌++◌, ℕ, Bool, List, All, IfOk, IsTrue, length, map};
 ghost use Rattle.std.specs.List.{flat_map};
 ghost use Rattle.std.specs.List.Sorted.{IsStrictlyIncreasing};
 ghost use Rattle.ell_ops.specs.KeySet.{Lists, empty, set_of};
 ghost use Rattle.ell_ops.specs.Meaning.{final};
+ghost use Rattle.ell_parts.specs.Parting.{part};
 ghost use Rattle.ell_run.specs.ByParts.{ops_in};
-ghost use Rattle.ell_run.specs.Late.{is_answered, late_ops};
-ghost use Rattle.ell_run.specs.Pieces.{ArePieces, all_workers, piece_from};
+ghost use Rattle.ell_run.specs.Late.{AreMarks, late_ops};
+ghost use Rattle.ell_run.specs.Pieces.{ArePieces, all_workers, count_of, piece_from};
 
 use crate::pieces::{Piece, with_positions};
 use ell_ops::{NoMemory, Op, apply_from};
@@ -38,7 +39,11 @@ pub(crate) fn late_ops(
 }
 
 // Whether each piece is as long as the part that it is of.
-fn is_all_done(parts: &Parts<Global>, pieces: &[Piece]) -> bool {
+fn is_all_done(parts: &Parts<Global>, pieces: &[Piece]) -> bool
+    requires { length pieces.now ≡ parts.now.workers }
+    ensures { IsTrue result → (worker : ℕ) → worker < parts.now.workers →
+        length (part parts.now worker) ≤ count_of (map (λ piece. piece.items) pieces.now) worker }
+{
     for worker in 0..parts.workers() {
         if pieces[worker as usize].len() < parts.part(worker).len() {
             return false;
@@ -48,7 +53,11 @@ fn is_all_done(parts: &Parts<Global>, pieces: &[Piece]) -> bool {
 }
 
 // Whether each position below `n` is answered by an item of a piece.
-fn answered(alloc: Global, n: usize, pieces: &[Piece]) -> Result<Vec<bool>, NoMemory> {
+fn answered(alloc: Global, n: usize, pieces: &[Piece]) -> Result<Vec<bool>, NoMemory>
+    requires { All (λ piece. All (λ item. item.0 < n) piece.items) pieces.now }
+    ensures count { IfOk result (λ marks. length marks.items ≡ n) }
+    ensures marks { IfOk result (λ marks. AreMarks (flat_map (λ piece. piece.items) pieces.now) marks.items) }
+{
     let mut answered = vec![in alloc; false; n]?;
     for piece in pieces {
         mark(&mut answered, piece);
@@ -58,6 +67,8 @@ fn answered(alloc: Global, n: usize, pieces: &[Piece]) -> Result<Vec<bool>, NoMe
 
 // Marks the positions of the items of a piece.
 fn mark(answered: &mut [bool], piece: &[(usize, bool)])
+    requires { All (λ item. item.0 < length answered.old) piece.now }
+    ensures { (items : List (ℕ × Bool)) → AreMarks items answered.old → AreMarks (items ++ piece.now) answered.new }
 {
     for (position, _) in piece {
         answered[*position] = true;

@@ -149,7 +149,11 @@ fn few_cards_and_one_try_change_no_answer(rt: HostRuntime) -> Result<(), Fail> {
         let parts = Parts::striped(rt.alloc(), &ops, workers)?;
         let limits = Limits { cards, tries };
         let outcome = run(&rt, rt.alloc(), &ops, &parts, limits, &NoGate)?;
-        assert_eq!(rt; outcome.replies.as_slice(), replies.as_slice(), "by {limits:?}");
+        assert_eq!(rt;
+            outcome.replies.as_slice(),
+            replies.as_slice(),
+            "by {limits:?}"
+        );
         assert_eq!(rt; outcome.keys.as_slice(), [6].as_slice(), "by {limits:?}");
         assert!(rt; outcome.late <= 6);
         assert!(rt; cards == 1 || tries == 1 || outcome.late == 0);

@@ -1,5 +1,5 @@
 //! Workers that share one tree: each does its part with a pass of its own, in a thread of its own where one can be made.
-ghost use Rattle.std.specs.Prelude.{◌≡◌, ◌≤◌, ◌++◌, ◌∷◌, [], ℕ, List, All, IfOk, length, map};
+ghost use Rattle.std.specs.Prelude.{◌≡◌, ◌<◌, ◌≤◌, ◌++◌, ℕ, List, All, IfOk, length, map};
 ghost use Rattle.std.specs.Thread.{IsSync};
 ghost use Rattle.ell_ops.specs.KeySet.{Lists};
 ghost use Rattle.ell_ops.specs.Meaning.{key_of};
@@ -74,7 +74,7 @@ fn do_workers<R: Threads + Sync, G: StepGate + Sync>(
         return do_one(alloc, tree, pass, parts, workers, tries, gate);
     }
     let (low, high) = workers.split_at(workers.len() / 2);
-    let (left, right) = halves(alloc, tree, pass, parts, low)?;
+    let (left, right) = halves(alloc, tree, pass, parts, low, high)?;
     let front = move || -> Result<(Pass<Global>, Vec<Piece>), NoMemory>
         requires { IsSync R.row × IsSync G.row × AreReady tree.now parts.now low.now left × (1 ≤ tries) }
         ensures { IfOk result (λ done. IsWorked parts.entry.now low.entry.now left done.0 (map (λ piece. piece.items) done.1.items)) }
@@ -111,17 +111,21 @@ fn do_one<G: StepGate>(
     Ok((pass, pieces))
 }
 
-// Splits a pass: the left part gets the keys of these workers.
+// Splits a pass between two rows of workers: the left part gets the keys of the first row.
 fn halves(
     alloc: Global,
     tree: &Tree<Global>,
     pass: Pass<Global>,
     parts: &Parts<Global>,
     low: &[u32],
+    high: &[u32],
 ) -> Result<(Pass<Global>, Pass<Global>), NoMemory>
-    requires { AreReady tree.now parts.now low.now pass }
-    ensures { IfOk result (λ parted. AreHalves parts.now low.now pass parted.0 parted.1) }
+    requires { AreReady tree.now parts.now (low.now ++ high.now) pass }
+    ensures halves { IfOk result (λ parted. AreHalves parts.now low.now pass parted.0 parted.1) }
+    ensures left { IfOk result (λ parted. AreReady tree.now parts.now low.now parted.0) }
+    ensures right { IfOk result (λ parted. AreReady tree.now parts.now high.now parted.1) }
 {
+    let _ = high;
     let keys = keys_for(alloc, parts, low)?;
     match tree.split(pass, &keys) {
         Ok(parted) => Ok(parted),

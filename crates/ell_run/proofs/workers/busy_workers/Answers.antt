@@ -10,9 +10,9 @@ loop-worker-preserved c =
     elim c.if-not-is_empty.branch [
       | then-not-is_empty+in_ok-push w ↦
           ap (λ workers. workers.items) w.workers-is ∙ w.in_ok-push.ensures.items
-              ∙ ap (λ workers. workers ++ worker ∷ []) c.loop-worker.invariant
-              ∙ sym (busy_more parting worker c.part.result.now c.part.ensures w.if-not-is_empty.ensures)
+          ∙ ap (λ workers. workers ++ worker ∷ []) c.loop-worker.invariant
+          ∙ sym (busy_more parting worker c.part.result.now c.part.ensures w.if-not-is_empty.ensures)
       | else-not-is_empty w ↦
           ap (λ workers. workers.items) w.workers-is ∙ c.loop-worker.invariant
-              ∙ sym (idle_more parting worker c.part.result.now c.part.ensures w.if-not-is_empty.ensures)
+          ∙ sym (idle_more parting worker c.part.result.now c.part.ensures w.if-not-is_empty.ensures)
     ]
