@@ -31,10 +31,10 @@ no_items (x ∷ xs) none = let no : ⊥ = grind (arith, nat_tests) in absurd no
 abbrev pub busy_below : Parting → ℕ → List ℕ
 busy_below parting workers = filter (is_busy parting) (range_with_len 0 workers)
 
-some_items : (n : ℕ) → false ≡ eqb n 0 → nat_lt 0 n ≡ true
+pub some_items : (n : ℕ) → false ≡ eqb n 0 → nat_lt 0 n ≡ true
 some_items n none = grind (arith, nat_tests)
 
-none_left : (n : ℕ) → true ≡ eqb n 0 → nat_lt 0 n ≡ false
+pub none_left : (n : ℕ) → true ≡ eqb n 0 → nat_lt 0 n ≡ false
 none_left n none = grind (arith, nat_tests)
 
 -- one worker more: it is busy where its part is not empty

@@ -12,3 +12,9 @@ pub mod Fronts
 pub mod Halves
 -- What a row of workers leaves, worker by worker.
 pub mod Rows
+-- Empty pieces between those of busy workers.
+pub mod Filling
+-- A fresh tree, and what a closed one leaves.
+pub mod Closed
+-- Marks of the positions that are answered.
+pub mod Marks

@@ -8,7 +8,8 @@ use Rattle.ell_run.proofs.workers.keys_for.Goals as goal
 pub loop-worker-preserved : goal.loop-worker-preserved
 loop-worker-preserved c =
     keys_more c.args.parts.now c.args.workers.now c.loop-worker.worker-index 0 c.loop-worker.keys.items c.keys.result.now c.extend_from_slice.new.self.items
-    c.loop-worker-test.true c.loop-worker.invariant c.keys.ensures.each ?
+    c.loop-worker-test.true c.loop-worker.invariant c.keys.ensures.each
+    c.in_ok-extend_from_slice.ensures.items
 
 pub returns : goal.returns
 returns c = record {

@@ -1,0 +1,35 @@
+use Rattle.std.proofs.Common.{◌≡◌, ◌<◌, ◌+◌, ◌++◌, All, length, get_or, take, arith, ap, sym, subst, ◌∙◌}
+use Rattle.std.specs.List.{flat_map}
+use Rattle.std.proofs.lemmas.List.{take_all}
+use Rattle.ell_ops.proofs.Places.{flat_map-take_more}
+use Rattle.ell_parts.proofs.Placings.{take-written}
+use Rattle.ell_run.specs.Late.{AreMarks}
+use Rattle.ell_run.proofs.Marks.{marks_none}
+use Rattle.ell_run.proofs.late.answered.Goals as goal
+
+pub loop-piece-init : goal.loop-piece-init
+loop-piece-init c = ?
+
+pub mark-requires : goal.mark-requires
+mark-requires c = ?
+
+pub loop-piece-preserved : goal.loop-piece-preserved
+loop-piece-preserved c =
+    let pieces = c.args.pieces.now in
+    let i = c.loop-piece.piece-index in
+    let before = flat_map (λ piece. piece.items) (take i pieces) in
+    let same = c.loop-piece.invariant.count in
+    let count : length c.mark.new.answered ≡ c.args.n = (let h = ap length c.deref_mut.ensures.value in omega arith) in
+    let written = take-written c.loop-piece.answered.len c.mark.new.answered c.loop-piece.answered.items (omega arith) (omega arith) in
+    let more : flat_map (λ piece. piece.items) (take (i + 1) pieces) ≡ before ++ c.deref.result.now =
+    flat_map-take_more (λ piece. piece.items) pieces i c.piece-item.result c.loop-piece-test.true
+    ∙ ap (λ p. before ++ p) (sym (c.deref.ensures.value ∙ ap (λ piece. piece.items) c.piece-item.is)) in
+    rw (written, more) (record {
+      count = count;
+      marks = c.mark.ensures before (subst (AreMarks before) (sym c.deref_mut.ensures.value) c.loop-piece.invariant.marks);
+    })
+
+pub returns-clause-marks : goal.returns-clause-marks
+returns-clause-marks c =
+    subst (λ taken. AreMarks (flat_map (λ piece. piece.items) taken) c.loop-piece.answered.items)
+    (take_all c.loop-piece.piece-index c.args.pieces.now c.loop-piece-test.false) c.loop-piece.invariant.marks
