@@ -88,7 +88,14 @@ pub(crate) fn do_late(
     if late.is_empty() {
         return Ok((Vec::new(alloc), keys));
     }
-    let ops: Vec<Op> = late.iter().map(|item| item.1).collect(alloc)?;
+    let ops = ops_of(alloc, late)?;
     let (replies, keys) = apply_from(alloc, &keys, &ops)?;
     Ok((with_positions(alloc, late, &replies)?, keys))
+}
+
+// The operations of numbered ones.
+fn ops_of(alloc: Global, items: &[(usize, Op)]) -> Result<Vec<Op>, NoMemory>
+    ensures { IfOk result (λ ops. ops.items ≡ ops_in items.now) }
+{
+    Ok(items.iter().map(|item| item.1).collect(alloc)?)
 }
