@@ -18,3 +18,9 @@ pub mod Filling
 pub mod Closed
 -- Marks of the positions that are answered.
 pub mod Marks
+-- The pieces of all workers have a reply for each operation that was done, and it is that of one thread.
+pub mod Gathering
+-- Gathering items that have one reply of one thread for each position.
+pub mod Replies
+-- What is late completes what was done to what one thread does.
+pub mod Leftovers

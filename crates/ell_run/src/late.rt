@@ -4,7 +4,7 @@ ghost use Rattle.std.specs.List.{flat_map};
 ghost use Rattle.std.specs.List.Sorted.{IsStrictlyIncreasing};
 ghost use Rattle.ell_ops.specs.KeySet.{Lists, empty, set_of};
 ghost use Rattle.ell_ops.specs.Meaning.{final};
-ghost use Rattle.ell_parts.specs.Parting.{part};
+ghost use Rattle.ell_parts.specs.Parting.{IsLawful, part};
 ghost use Rattle.ell_run.specs.ByParts.{ops_in};
 ghost use Rattle.ell_run.specs.Late.{AreMarks, late_ops};
 ghost use Rattle.ell_run.specs.Pieces.{ArePieces, all_workers, count_of, piece_from};
@@ -41,7 +41,8 @@ pub(crate) fn late_ops(
 // Whether each piece is as long as the part that it is of.
 fn is_all_done(parts: &Parts<Global>, pieces: &[Piece]) -> bool
     requires { length pieces.now ≡ parts.now.workers }
-    ensures { IsTrue result → (worker : ℕ) → worker < parts.now.workers →
+    ensures lawful { IsLawful parts.now }
+    ensures done { IsTrue result → (worker : ℕ) → worker < parts.now.workers →
         length (part parts.now worker) ≤ count_of (map (λ piece. piece.items) pieces.now) worker }
 {
     for worker in 0..parts.workers() {

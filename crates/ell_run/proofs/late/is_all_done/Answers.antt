@@ -22,8 +22,8 @@ loop-worker-preserved c = λ worker below.
     (λ other. c.loop-worker.invariant worker (omega arith))
     (cases_eq worker here)
 
-pub returns : goal.returns
-returns c = λ yes worker below.
+pub returns-clause-done : goal.returns-clause-done
+returns-clause-done c = λ yes worker below.
     let end = c.workers-worker-end.ensures.value in
     let past = c.loop-worker-test.false in
     c.loop-worker.invariant worker (omega arith)
