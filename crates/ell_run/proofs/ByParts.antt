@@ -94,6 +94,18 @@ stands_at owner s (o ∷ ops) worker j i op e =
     })
     (cases_Bool (eqb (owner s) worker))
 
+-- the owner of a position
+abbrev pub owner_in : Parting → ℕ → ℕ
+owner_in parting position = slice_index parting.owners position
+
+-- an item of a part stands at its position in the list, which is its worker's
+pub part_item : (parting : Parting) (worker k position : ℕ) (op : Op) → slice_get (part parting worker) k ≡ Some (position, op) →
+    (owner_in parting position ≡ worker) × (slice_get parting.ops position ≡ Some op)
+part_item parting worker k position op e =
+    let h = stands_at (owner_in parting) 0 parting.ops worker k position op e in
+    let same : h.behind ≡ position = (let place = h.place in omega arith) in
+    (h.owned, subst (λ n. slice_get parting.ops n ≡ Some op) same h.there)
+
 -- the operations on an owned key are those of its worker's part
 part_on_key : (owner : ℕ → ℕ) (s : ℕ) (ops : List Op) (worker key : ℕ) →
     ((d : ℕ) (op : Op) → slice_get ops d ≡ Some op → key_of op ≡ key → owner (s + d) ≡ worker) →

@@ -2,13 +2,25 @@
 pub mod ByParts
 -- What a write that was cut short tells of the run before it.
 pub mod CutShort
--- The pieces of all workers have one reply for each position, and it is that of one thread.
-pub mod Gathering
--- The keys that all workers leave are those of one thread: each key comes from the worker that owns it.
-pub mod KeysLeft
 -- What a list does to one key comes from its operations on that key alone.
 pub mod OnKey
--- Gathering the pieces of all workers does not fail but for memory, and gives the replies of one thread.
+-- Which workers have something to do.
+pub mod Busy
+-- How a worker does a front of its part, operation by operation.
+pub mod Fronts
+-- A pass in two halves: what is done with each comes to what is done with the whole.
+pub mod Halves
+-- What a row of workers leaves, worker by worker.
+pub mod Rows
+-- Empty pieces between those of busy workers.
+pub mod Filling
+-- A fresh tree, and what a closed one leaves.
+pub mod Closed
+-- Marks of the positions that are answered.
+pub mod Marks
+-- The pieces of all workers have a reply for each operation that was done, and it is that of one thread.
+pub mod Gathering
+-- Gathering items that have one reply of one thread for each position.
 pub mod Replies
--- What workers leave: one worker, two rows of them, and those that have something to do.
-pub mod Workers
+-- What is late completes what was done to what one thread does.
+pub mod Leftovers

@@ -1,17 +1,18 @@
-use Rattle.std.proofs.Common.{◌≡◌, ℕ, true, false, cond, not, List, [], ◌∷◌, ◌++◌, eqb, refl, ap, sym, ◌∙◌, ⊎_elim}
+use Rattle.std.proofs.Common.{◌≡◌, ◌≢◌, ℕ, true, false, cond, not, All, List, [], ◌∷◌, ◌++◌, eqb, refl, ap, ap₂, sym, ◌∙◌, ⊎_elim}
 use Rattle.std.specs.Prelude.{filter, ◌==◌}
 use Rattle.std.proofs.lemmas.Bool.{cases_Bool, ne_eqb, eqb-false, cond-true, cond-false}
+use Rattle.std.proofs.lemmas.List.Elements.{All-head, All-tail, All-weaker, filter-append}
 use Rattle.ell_ops.specs.declared.Op.{Op}
 use Rattle.ell_ops.specs.declared.Op.TheVariants.{Find, Insert, Delete}
 use Rattle.ell_ops.specs.KeySet.{KeySet}
-use Rattle.ell_ops.specs.Meaning.{key_of, reply_of, after, final}
+use Rattle.ell_ops.specs.Meaning.{key_of, reply_of, after, replies, final}
 
 -- the operations on a key
 abbrev pub on_key : ℕ → List Op → List Op
 on_key key ops = filter (λ op. key_of op == key) ops
 
 -- sets that agree at a key agree there after an operation
-after_alike : (op : Op) (s t : KeySet) (key : ℕ) → s key ≡ t key → after op s key ≡ after op t key
+pub after_alike : (op : Op) (s t : KeySet) (key : ℕ) → s key ≡ t key → after op s key ≡ after op t key
 after_alike (Find k) s t key same = same
 after_alike (Insert k) s t key same = ap (cond (eqb key k) true) same
 after_alike (Delete k) s t key same = ap (cond (eqb key k) false) same
@@ -47,3 +48,27 @@ pub reply_alike : (op : Op) (s t : KeySet) → s (key_of op) ≡ t (key_of op) �
 reply_alike (Find k) s t same = same
 reply_alike (Insert k) s t same = ap not same
 reply_alike (Delete k) s t same = same
+
+-- so sets that agree at a key agree there after a list
+pub final_agree : (ops : List Op) (s t : KeySet) (key : ℕ) → s key ≡ t key → final s ops key ≡ final t ops key
+final_agree ops s t key same = final_alike ops ops s t key same refl
+
+-- the replies to a list go by its keys alone
+pub replies_alike : (ops : List Op) (s t : KeySet) → All (λ op. s (key_of op) ≡ t (key_of op)) ops → replies s ops ≡ replies t ops
+replies_alike [] s t same = refl
+replies_alike (op ∷ ops) s t same =
+    ap₂ ◌∷◌ (reply_alike op s t (All-head (λ o. s (key_of o) ≡ t (key_of o)) op ops same))
+    (replies_alike ops (after op s) (after op t)
+    (All-weaker (λ o. s (key_of o) ≡ t (key_of o)) (λ o. after op s (key_of o) ≡ after op t (key_of o)) (λ o e. after_alike op s t (key_of o) e) ops
+    (All-tail (λ o. s (key_of o) ≡ t (key_of o)) op ops same)))
+
+-- the operations on a key of two lists
+pub on_key-append : (key : ℕ) (xs ys : List Op) → on_key key (xs ++ ys) ≡ on_key key xs ++ on_key key ys
+on_key-append key xs ys = filter-append (λ op. eqb (key_of op) key) xs ys
+
+-- a list without the key has nothing on it
+pub none_on_key : (ops : List Op) (key : ℕ) → All (λ op. key_of op ≢ key) ops → on_key key ops ≡ []
+none_on_key [] key none = refl
+none_on_key (op ∷ ops) key none =
+    cond-false (eqb (key_of op) key) (op ∷ on_key key ops) (on_key key ops) (ne_eqb (key_of op) key (All-head (λ o. key_of o ≢ key) op ops none))
+    ∙ none_on_key ops key (All-tail (λ o. key_of o ≢ key) op ops none)

@@ -1,41 +1,53 @@
-use Rattle.std.specs.Prelude.{◌≡◌, ℕ, nat_lt, Bool, List, length, map, filter}
-use Rattle.std.specs.List.{flat_map, list_any, range_with_len, zip}
+use Rattle.std.specs.Prelude.{◌≡◌, ℕ, ◌≤◌, nat_lt, Bool, true, List, [], ◌∷◌, ◌++◌, Some, length, map, filter, take, slice_get, slice_index_or}
+use Rattle.std.specs.List.{range_with_len, zip}
 use Rattle.ell_ops.specs.declared.op.Op.{Op}
-use Rattle.ell_ops.specs.KeySet.{KeySet, empty, set_of}
-use Rattle.ell_ops.specs.Meaning.{replies, final}
+use Rattle.ell_ops.specs.KeySet.{KeySet}
+use Rattle.ell_ops.specs.Meaning.{reply_of, replies, final}
 use Rattle.ell_parts.specs.Parting.{Parting, part}
 use Rattle.ell_run.specs.ByParts.{ops_in}
-use Rattle.ell_run.specs.declared.pieces.Left.{Left}
 
 -- replies, with the positions of the operations that they are for
 abbrev pub numbered : List (ℕ × Op) → List Bool → List (ℕ × Bool)
 numbered items said = map (λ answered. (answered.0.0, answered.1)) (zip items said)
 
--- the replies to numbered operations, with their positions
-abbrev pub piece_of : List (ℕ × Op) → List (ℕ × Bool)
-piece_of items = numbered items (replies empty (ops_in items))
+-- the replies to numbered operations from a set, with their positions
+abbrev pub piece_from : KeySet → List (ℕ × Op) → List (ℕ × Bool)
+piece_from set items = numbered items (replies set (ops_in items))
+
+-- the front of a part that a piece answers
+abbrev pub front : List (ℕ × Op) → List (ℕ × Bool) → List (ℕ × Op)
+front items piece = take (length piece) items
+
+-- a piece has the replies of a front of a part, done from a set; the operation behind it, if there is one, would change the set
+pub record IsPiece (set : KeySet) (items : List (ℕ × Op)) (piece : List (ℕ × Bool)) : Type 0 where
+  pub few : length piece ≤ length items
+  pub done : piece ≡ piece_from set (front items piece)
+  pub held : (position : ℕ) (op : Op) → slice_get items (length piece) ≡ Some (position, op) →
+      reply_of op (final set (ops_in (front items piece))) ≡ true
+
+-- one piece for each worker, in their order, each done from a set
+abbrev pub ArePieces : KeySet → Parting → List ℕ → List (List (ℕ × Bool)) → Type 0
+ArePieces set parting [] [] = Unit {0}
+ArePieces set parting [] (piece ∷ pieces) = ⊥
+ArePieces set parting (worker ∷ workers) [] = ⊥
+ArePieces set parting (worker ∷ workers) (piece ∷ pieces) =
+    IsPiece set (part parting worker) piece × ArePieces set parting workers pieces
+
+-- how many operations of its part a worker's piece answers
+abbrev pub count_of : List (List (ℕ × Bool)) → ℕ → ℕ
+count_of pieces worker = length (slice_index_or pieces worker [])
+
+-- the operations that the pieces of workers answer, worker by worker
+abbrev pub ops_done : Parting → List ℕ → List (List (ℕ × Bool)) → List Op
+ops_done parting [] pieces = []
+ops_done parting (worker ∷ workers) [] = []
+ops_done parting (worker ∷ workers) (piece ∷ pieces) =
+    ops_in (front (part parting worker) piece) ++ ops_done parting workers pieces
+
+-- all workers, ascending
+abbrev pub all_workers : Parting → List ℕ
+all_workers parting = range_with_len 0 parting.workers
 
 -- the workers that have something to do, ascending
 abbrev pub busy : Parting → List ℕ
-busy parting = filter (λ worker. nat_lt 0 (length (part parting worker))) (range_with_len 0 parting.workers)
-
--- the pieces of workers, one after the other
-abbrev pub pieces_by : Parting → List ℕ → List (ℕ × Bool)
-pieces_by parting workers = flat_map (λ worker. piece_of (part parting worker)) workers
-
--- the keys that workers leave
-abbrev pub keys_by : Parting → List ℕ → KeySet
-keys_by parting workers = λ key. list_any (λ worker. final empty (ops_in (part parting worker)) key) workers
-
--- the pieces of the first workers
-abbrev pub pieces_of : Parting → ℕ → List (ℕ × Bool)
-pieces_of parting workers = pieces_by parting (range_with_len 0 workers)
-
--- the keys that the first workers leave
-abbrev pub keys_left : Parting → ℕ → KeySet
-keys_left parting workers = keys_by parting (range_with_len 0 workers)
-
--- what workers leave has the piece of each, in their order, and the keys of all
-pub record IsLeftBy (parting : Parting) (workers : List ℕ) (left : Left) : Type 0 where
-  pub told : flat_map (λ piece. piece.items) left.pieces.items ≡ pieces_by parting workers
-  pub kept : set_of left.keys.items ≡ keys_by parting workers
+busy parting = filter (λ worker. nat_lt 0 (length (part parting worker))) (all_workers parting)

@@ -87,7 +87,6 @@ pub fn run_bytes<R: Threads + Sync, I: Read, O: Write>(
 ) -> Result<Report, RunFault>
     requires { AreSettings settings }
     ensures ok { OnOk result (IsAnswered (I.remaining reader.old) (O.contents writer.old) (O.contents writer.new)) }
-    ensures none_late { IfOk result (λ report. report.late ≡ 0) }
     ensures late { IfOk result (λ report. IsCounted (I.remaining reader.old) report.late) }
     ensures fault { IfErr result (λ fault.
         Tells fault (I.remaining reader.old) (O.contents writer.old) (O.contents writer.new)) }

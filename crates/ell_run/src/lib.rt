@@ -1,19 +1,24 @@
-//! A list of operations run by workers, each on its own part in a thread of its own, and the same for a text, from bytes to
-//! bytes.
+//! A list of operations run by workers on one tree, each on its own part in a thread of its own, and the same for a text, from
+//! bytes to bytes.
 #![tactic(auto)]
 
 mod bytes;
+mod late;
 mod laws;
 mod pieces;
 mod runs;
 mod settings;
+mod workers;
 
 pub use bytes::{RunFault, run_bytes};
 pub use ell_ops::{KEY_MAX, WORKERS_MAX};
 pub use ell_text::CARDS_MAX;
+pub use ell_tree::{Pass, Tree};
 pub use laws::{by_parts, limits_are_as_defined};
+pub use pieces::Piece;
 pub use runs::{Limits, Outcome, run};
 pub use settings::{Parting, Report, Settings, TRIES_MAX, parts_for};
+pub use workers::work;
 
 #[cfg(test)]
 mod tests;

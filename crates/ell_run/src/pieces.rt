@@ -1,145 +1,91 @@
-//! What each worker does on its part, in a thread of its own, and what the workers leave together.
-ghost use Rattle.std.specs.Prelude.{◌≡◌, ◌<◌, ℕ, List, [], ◌∷◌, ◌++◌, All, IfOk};
-ghost use Rattle.std.specs.List.{flat_map};
-ghost use Rattle.std.specs.Thread.{IsSync};
-ghost use Rattle.ell_ops.specs.KeySet.{Lists, empty};
-ghost use Rattle.ell_ops.specs.Meaning.{final, replies};
-ghost use Rattle.ell_parts.specs.Parting.{Parting};
-ghost use Rattle.ell_run.specs.ByParts.{ops_in};
-ghost use Rattle.ell_run.specs.Pieces.{IsLeftBy, busy, keys_left, numbered, pieces_of};
+//! What one worker does on its part, with a pass of the shared tree, and the pieces that workers leave.
+ghost use Rattle.std.specs.Prelude.{◌≡◌, ◌≤◌, ℕ, List, All, IfOk, length, map};
+ghost use Rattle.ell_ops.specs.Meaning.{key_of};
+ghost use Rattle.ell_tree.specs.Ends.{Ends};
+ghost use Rattle.ell_tree.specs.Ledgers.{IsIdle, Owns, PassModel};
+ghost use Rattle.ell_run.specs.Pieces.{all_workers, busy, numbered};
+ghost use Rattle.ell_run.specs.Work.{IsWorked, IsWorkedOff, OwnsAll};
 
-use ell_ops::{NoMemory, Op, apply, distinct_keys};
+use ell_ops::{NoMemory, Op};
 use ell_parts::Parts;
-use ell_word::{Kind, StepGate};
+use ell_tree::{Held, Pass, Tree};
+use ell_word::StepGate;
 use std::alloc::Global;
-use std::collections::BTreeSet;
-use std::thread::{Threads, join};
 
 /// The replies of a worker, with their positions in the whole list.
-pub(crate) type Piece = Vec<(usize, bool)>;
+pub type Piece = Vec<(usize, bool)>;
 
-/// What workers leave: a piece each, in their order, and their keys, in any order.
-#[derive(Drop)]
-pub(crate) struct Left {
-    pub pieces: Vec<Piece>,
-    pub keys: Vec<u64>,
+// Works a part off, operation by operation, and leaves the rest of it from the first operation on that is held.
+pub(crate) fn work_off<G: StepGate>(
+    alloc: Global,
+    tree: &Tree<Global>,
+    pass: &mut Pass<Global>,
+    part: &[(usize, Op)],
+    tries: u32,
+    gate: &G,
+) -> Result<Piece, NoMemory>
+    requires own { pass.old.table ≡ tree.now.id }
+    requires idle { IsIdle pass.old }
+    requires owned { OwnsAll pass.old part.now }
+    requires tries { 1 ≤ tries }
+    ensures { IfOk result (λ piece. IsWorkedOff part.now pass.old pass.new piece.items) }
+{
+    let mut piece = Vec::with_capacity(alloc, part.len())?;
+    for (position, op) in part {
+        let Ok(reply) = do_op(tree, pass, *op, tries, gate) else {
+            return Ok(piece);
+        };
+        piece.push((*position, reply))?;
+    }
+    Ok(piece)
 }
 
-/// Has each worker do its part from the empty set, where it is not empty, each in a thread of its own where one can be made.
-/// Answers their pieces, and the keys that they leave, ascending.
-pub(crate) fn do_parts<R: Threads + Sync, G: StepGate + Sync>(
-    rt: &R,
+// Does one operation on a key of the pass.
+fn do_op<G: StepGate>(
+    tree: &Tree<Global>,
+    pass: &mut Pass<Global>,
+    op: Op,
+    tries: u32,
+    gate: &G,
+) -> Result<bool, Held>
+    requires own { pass.old.table ≡ tree.now.id }
+    requires idle { IsIdle pass.old }
+    requires owned { Owns pass.old (key_of op) }
+    requires tries { 1 ≤ tries }
+    ensures { Ends tree.now.cards tries op pass.old pass.new result }
+{
+    match op {
+        Op::Find(key) => Ok(tree.find(pass, key, gate)),
+        Op::Insert(key) => tree.insert(pass, key, tries, gate),
+        Op::Delete(key) => tree.delete(pass, key, tries, gate),
+    }
+}
+
+// Puts empty pieces between those of the busy workers: one piece for each worker, in order.
+pub(crate) fn with_empty_pieces(
     alloc: Global,
     parts: &Parts<Global>,
-    gate: &G,
-) -> Result<(Vec<Piece>, Vec<u64>), NoMemory>
-    ensures pieces { IfOk result (λ done. flat_map (λ piece. piece.items) done.0.items ≡ pieces_of parts.now parts.now.workers) }
-    ensures keys { IfOk result (λ done. Lists (keys_left parts.now parts.now.workers) done.1.items) }
+    mut pieces: Vec<Piece>,
+) -> Result<Vec<Piece>, NoMemory>
+    requires { length pieces.items ≡ length (busy parts.now) }
+    ensures { (before after : PassModel) →
+        IsWorked parts.now (busy parts.now) before after (map (λ piece. piece.items) pieces.items) →
+        IfOk result (λ all. IsWorked parts.now (all_workers parts.now) before after (map (λ piece. piece.items) all.items)) }
 {
-    let workers = busy_workers(alloc, parts)?;
-    let left = do_workers(rt, alloc, parts, &workers, gate)?;
-    Ok((left.pieces, distinct_keys(left.keys)))
-}
-
-// The workers whose parts are not empty, ascending.
-fn busy_workers(alloc: Global, parts: &Parts<Global>) -> Result<Vec<u32>, NoMemory>
-    ensures busy { IfOk result (λ workers. workers.items ≡ busy parts.now) }
-    ensures known { IfOk result (λ workers. All (λ worker. worker < parts.now.workers) workers.items) }
-{
-    let mut workers = Vec::new(alloc);
     for worker in 0..parts.workers() {
-        if !parts.part(worker).is_empty() {
-            workers.push(worker)?;
+        if parts.part(worker).is_empty() {
+            pieces.insert(worker as usize, Vec::new(alloc))?;
         }
     }
-    Ok(workers)
-}
-
-// Has these workers do their parts: halves of them in two threads, down to one worker a thread.
-#[cycle(halves)]
-fn do_workers<R: Threads + Sync, G: StepGate + Sync>(
-    rt: &R,
-    alloc: Global,
-    parts: &Parts<Global>,
-    workers: &[u32],
-    gate: &G,
-) -> Result<Left, NoMemory>
-    requires { All (λ worker. worker < parts.now.workers) workers.now }
-    ensures { IfOk result (IsLeftBy parts.now workers.now) }
-{
-    if workers.is_empty() {
-        return Ok(Left {
-            pieces: Vec::new(alloc),
-            keys: Vec::new(alloc),
-        });
-    }
-    if workers.len() == 1 {
-        return do_worker(alloc, parts, workers[0], gate);
-    }
-    let (low, high) = workers.split_at(workers.len() / 2);
-    let front = || -> Result<Left, NoMemory>
-        requires { IsSync R.row × IsSync G.row × All (λ worker. worker < parts.now.workers) low.now }
-        ensures { IfOk result (IsLeftBy parts.entry.now low.entry.now) }
-    { do_workers(rt, alloc, parts, low, gate) };
-    let back = || -> Result<Left, NoMemory>
-        requires { IsSync R.row × IsSync G.row × All (λ worker. worker < parts.now.workers) high.now }
-        ensures { IfOk result (IsLeftBy parts.entry.now high.entry.now) }
-    { do_workers(rt, alloc, parts, high, gate) };
-    let (first, second) = join(rt, front, back);
-    both(first?, second?)
-}
-
-// What two rows of workers leave, of what each of them leaves.
-fn both(mut first: Left, mut second: Left) -> Result<Left, NoMemory>
-    ensures { (parting : Parting) (low high : List ℕ) → IsLeftBy parting low first → IsLeftBy parting high second →
-        IfOk result (IsLeftBy parting (low ++ high)) }
-{
-    first.pieces.append(&mut second.pieces)?;
-    first.keys.append(&mut second.keys)?;
-    Ok(first)
-}
-
-// Has one worker do its part, in this thread.
-fn do_worker<G: StepGate>(
-    alloc: Global,
-    parts: &Parts<Global>,
-    worker: u32,
-    gate: &G,
-) -> Result<Left, NoMemory>
-    requires { worker < parts.now.workers }
-    ensures { IfOk result (IsLeftBy parts.now (worker ∷ [])) }
-{
-    let part = parts.part(worker);
-    let (replies, keys) = do_part(alloc, worker, part, gate)?;
-    let mut pieces = Vec::new(alloc);
-    pieces.push(with_positions(alloc, part, &replies)?)?;
-    Ok(Left { pieces, keys })
-}
-
-// Does a part, operation by operation. Answers its replies, and the keys that it leaves, ascending.
-fn do_part<G: StepGate>(
-    alloc: Global,
-    worker: u32,
-    part: &[(usize, Op)],
-    gate: &G,
-) -> Result<(Vec<bool>, Vec<u64>), NoMemory>
-    ensures replies { IfOk result (λ done. done.0.items ≡ replies empty (ops_in part.now)) }
-    ensures keys { IfOk result (λ done. Lists (final empty (ops_in part.now)) done.1.items) }
-{
-    let mut set = BTreeSet::new(alloc);
-    let mut replies = Vec::with_capacity(alloc, part.len())?;
-    for (_, op) in part {
-        gate.before(worker, Kind::Begin);
-        let reply = apply(&mut set, *op);
-        gate.after(worker, reply.is_ok());
-        replies.push(reply?)?;
-    }
-    let keys = set.iter().copied().collect(alloc)?;
-    Ok((replies, keys))
+    Ok(pieces)
 }
 
 // Replies with the positions of the operations that they are for.
-fn with_positions(alloc: Global, part: &[(usize, Op)], replies: &[bool]) -> Result<Piece, NoMemory>
+pub(crate) fn with_positions(
+    alloc: Global,
+    part: &[(usize, Op)],
+    replies: &[bool],
+) -> Result<Piece, NoMemory>
     ensures { IfOk result (λ piece. piece.items ≡ numbered part.now replies.now) }
 {
     let items = part.iter().zip(replies);

@@ -1,12 +1,17 @@
 //! A run: a list of operations, parted among workers.
-ghost use Rattle.std.specs.Prelude.{◌≡◌, ◌≤◌, All, IfOk, length};
+ghost use Rattle.std.specs.Prelude.{◌≡◌, ◌≤◌, All, IfOk, IfErr, length, map};
 ghost use Rattle.ell_ops.specs.KeySet.{Lists, empty};
 ghost use Rattle.ell_ops.specs.Meaning.{Fits, replies, final};
+ghost use Rattle.ell_parts.specs.Parting.{keys_of};
+ghost use Rattle.ell_run.specs.Late.{AreLeft};
 ghost use Rattle.ell_run.specs.Limits.{AreLimits};
 
-use crate::pieces::do_parts;
-use ell_ops::{NoMemory, Op};
+use crate::late::{do_late, late_ops};
+use crate::pieces::Piece;
+use crate::workers::work;
+use ell_ops::{NoMemory, Op, distinct_keys};
 use ell_parts::{GatherFault, Parts, gather};
+use ell_tree::{CardFault, Tree};
 use ell_word::StepGate;
 use std::alloc::Global;
 use std::thread::Threads;
@@ -31,9 +36,9 @@ pub struct Outcome {
     pub late: usize,
 }
 
-/// Runs a list of operations from the empty set, each worker of the parting on its own part, in a thread of its own where one
-/// can be made. Replies and keys are those of one thread over the whole list. The gate sees each operation of a worker begin
-/// and end. The limits have no effect yet.
+/// Runs a list of operations from the empty set: each worker of the parting works its own part off on one tree that all share, in
+/// a thread of its own where one can be made, and what they leave is done by one thread after they have ended. Replies and keys
+/// are those of one thread over the whole list. The gate sees each call of the tree, under the number of its worker.
 pub fn run<R: Threads + Sync, G: StepGate + Sync>(
     rt: &R,
     alloc: Global,
@@ -47,10 +52,73 @@ pub fn run<R: Threads + Sync, G: StepGate + Sync>(
     requires limits { AreLimits limits }
     ensures replies { IfOk result (λ outcome. outcome.replies.items ≡ replies empty ops.now) }
     ensures keys { IfOk result (λ outcome. Lists (final empty ops.now) outcome.keys.items) }
-    ensures none_late { IfOk result (λ outcome. outcome.late ≡ 0) }
     ensures late { IfOk result (λ outcome. outcome.late ≤ length ops.now) }
 {
-    let (pieces, keys) = do_parts(rt, alloc, parts, gate)?;
+    let (pieces, keys) = run_workers(rt, alloc, ops, parts, limits, gate)?;
+    finish(alloc, ops, parts, pieces, keys)
+}
+
+// Has the workers do their parts on one tree, and ends the tree.
+fn run_workers<R: Threads + Sync, G: StepGate + Sync>(
+    rt: &R,
+    alloc: Global,
+    ops: &[Op],
+    parts: &Parts<Global>,
+    limits: Limits,
+    gate: &G,
+) -> Result<(Vec<Piece>, Vec<u64>), NoMemory>
+    requires fits { All Fits ops.now }
+    requires parted { parts.now.ops ≡ ops.now }
+    requires limits { AreLimits limits }
+    ensures { IfOk result (λ left. AreLeft parts.now (map (λ piece. piece.items) left.0.items) left.1.items) }
+{
+    let keys = keys_of(alloc, ops)?;
+    let (tree, pass) = match Tree::reserve(alloc, &keys, limits.cards) {
+        Ok(made) => made,
+        Err(fault) => return Err(no_cards(fault)),
+    };
+    let (pass, pieces) = work(rt, alloc, &tree, pass, parts, limits.tries, gate)?;
+    match tree.close(pass) {
+        Ok(keys) => Ok((pieces, keys)),
+        Err(_) => Err(NoMemory),
+    }
+}
+
+// The distinct keys of operations, ascending.
+fn keys_of(alloc: Global, ops: &[Op]) -> Result<Vec<u64>, NoMemory>
+    ensures { IfOk result (λ keys. Lists (keys_of ops.now) keys.items) }
+{
+    let keys = ops.iter().map(|op| op.key()).collect(alloc)?;
+    Ok(distinct_keys(keys))
+}
+
+// The one fault that a tree of as many cards as there may be can have.
+fn no_cards(fault: CardFault) -> NoMemory
+    requires { fault ≡ CardFault.NoMemory }
+{
+    match fault {
+        CardFault::NoMemory => NoMemory,
+        _ => unreachable!(),
+    }
+}
+
+// Does what the workers left, and gathers all replies.
+fn finish(
+    alloc: Global,
+    ops: &[Op],
+    parts: &Parts<Global>,
+    mut pieces: Vec<Piece>,
+    keys: Vec<u64>,
+) -> Result<Outcome, NoMemory>
+    requires parted { parts.now.ops ≡ ops.now }
+    requires left { AreLeft parts.now (map (λ piece. piece.items) pieces.items) keys.items }
+    ensures replies { IfOk result (λ outcome. outcome.replies.items ≡ replies empty ops.now) }
+    ensures keys { IfOk result (λ outcome. Lists (final empty ops.now) outcome.keys.items) }
+    ensures late { IfOk result (λ outcome. outcome.late ≤ length ops.now) }
+{
+    let late = late_ops(alloc, ops, parts, &pieces)?;
+    let (piece, keys) = do_late(alloc, keys, &late)?;
+    pieces.push(piece)?;
     let replies = match gather(alloc, parts.len(), &pieces) {
         Ok(replies) => replies,
         Err(fault) => return Err(only_memory(fault)),
@@ -58,11 +126,11 @@ pub fn run<R: Threads + Sync, G: StepGate + Sync>(
     Ok(Outcome {
         replies,
         keys,
-        late: 0,
+        late: late.len(),
     })
 }
 
-// The one fault that gathering the pieces of all parts can have.
+// The one fault that gathering the pieces of all parts and what was late can have.
 fn only_memory(fault: GatherFault) -> NoMemory
     requires { fault ≡ GatherFault.NoMemory }
 {

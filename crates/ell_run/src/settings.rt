@@ -1,5 +1,5 @@
 //! How a bulk text is run, and what a run reports.
-ghost use Rattle.std.specs.Prelude.{◌≡◌, ◌≤◌, IfOk, length};
+ghost use Rattle.std.specs.Prelude.{◌≡◌, ◌≤◌, ◌+◌, ◌*◌, IfOk, length, unwrap_or};
 ghost use Rattle.ell_text.specs.Limits.{most_operations};
 ghost use Rattle.ell_run.specs.Limits.{AreLimits};
 ghost use Rattle.ell_run.specs.Settings.{AreSettings, IsPartedAs};
@@ -66,7 +66,9 @@ fn only_memory(fault: PartFault) -> NoMemory
 pub(crate) fn limits_for(ops: &[Op], settings: Settings) -> Limits
     requires settings { AreSettings settings }
     requires few { length ops.now ≤ most_operations }
-    ensures { AreLimits result }
+    ensures limits { AreLimits result }
+    ensures cards { result.cards ≡ unwrap_or settings.cards (4 * length ops.now + 64) }
+    ensures tries { result.tries ≡ settings.tries }
 {
     let cards = settings.cards.unwrap_or(4 * ops.len() as u64 + 64);
     Limits {

@@ -1,5 +1,5 @@
 //! Runs of small lists and texts, with the replies and keys that a person gave them.
-use crate::{Limits, Parting, Settings, parts_for, run, run_bytes};
+use crate::{Limits, Parting, Settings, Tree, parts_for, run, run_bytes, work};
 use ell_ops::Op;
 use ell_parts::Parts;
 use ell_word::NoGate;
@@ -102,5 +102,81 @@ fn a_list_by_its_owners(rt: HostRuntime) -> Result<(), Fail> {
     assert_eq!(rt; outcome.replies.as_slice(), [true; 4].as_slice());
     assert_eq!(rt; outcome.keys.as_slice(), [7].as_slice());
     assert_eq!(rt; outcome.late, 0);
+    Ok(())
+}
+
+#[test]
+fn a_worker_leaves_what_is_held(rt: HostRuntime) -> Result<(), Fail> {
+    let ops = [Op::Insert(5), Op::Insert(6), Op::Find(5)];
+    let parts = Parts::striped(rt.alloc(), &ops, 1)?;
+    let Ok((tree, pass)) = Tree::reserve(rt.alloc(), &[5, 6], 1) else {
+        return Err(Fail::new("no tree"));
+    };
+    let (pass, pieces) = work(&rt, rt.alloc(), &tree, pass, &parts, 8, &NoGate)?;
+    assert_eq!(rt; pieces.len(), 1);
+    assert_eq!(rt; pieces[0].as_slice(), [(0, true)].as_slice());
+    let Ok(keys) = tree.close(pass) else {
+        return Err(Fail::new("no keys"));
+    };
+    assert_eq!(rt; keys.as_slice(), [5].as_slice());
+    Ok(())
+}
+
+#[test]
+fn what_is_left_is_done_afterwards(rt: HostRuntime) -> Result<(), Fail> {
+    let ops = [Op::Insert(5), Op::Insert(6), Op::Find(5)];
+    let parts = Parts::striped(rt.alloc(), &ops, 1)?;
+    let limits = Limits { cards: 1, tries: 8 };
+    let outcome = run(&rt, rt.alloc(), &ops, &parts, limits, &NoGate)?;
+    assert_eq!(rt; outcome.replies.as_slice(), [true; 3].as_slice());
+    assert_eq!(rt; outcome.keys.as_slice(), [5, 6].as_slice());
+    assert_eq!(rt; outcome.late, 2);
+    Ok(())
+}
+
+#[test]
+fn few_cards_and_one_try_change_no_answer(rt: HostRuntime) -> Result<(), Fail> {
+    let ops = [
+        Op::Insert(5),
+        Op::Insert(6),
+        Op::Delete(5),
+        Op::Find(5),
+        Op::Delete(6),
+        Op::Insert(6),
+    ];
+    let replies = [true, true, true, false, true, true];
+    for (workers, cards, tries) in [(1, 1, 1), (2, 1, 1), (64, 1, 1), (64, 88, 1), (64, 88, 8)] {
+        let parts = Parts::striped(rt.alloc(), &ops, workers)?;
+        let limits = Limits { cards, tries };
+        let outcome = run(&rt, rt.alloc(), &ops, &parts, limits, &NoGate)?;
+        assert_eq!(rt;
+            outcome.replies.as_slice(),
+            replies.as_slice(),
+            "by {limits:?}"
+        );
+        assert_eq!(rt; outcome.keys.as_slice(), [6].as_slice(), "by {limits:?}");
+        assert!(rt; outcome.late <= 6);
+        assert!(rt; cards == 1 || tries == 1 || outcome.late == 0);
+    }
+    Ok(())
+}
+
+#[test]
+fn each_worker_has_a_piece(rt: HostRuntime) -> Result<(), Fail> {
+    let ops = [Op::Insert(2), Op::Insert(3), Op::Find(2), Op::Delete(3)];
+    let parts = Parts::striped(rt.alloc(), &ops, 64)?;
+    let Ok((tree, pass)) = Tree::reserve(rt.alloc(), &[2, 3], 80) else {
+        return Err(Fail::new("no tree"));
+    };
+    let (pass, pieces) = work(&rt, rt.alloc(), &tree, pass, &parts, 1000, &NoGate)?;
+    assert_eq!(rt; pieces.len(), 64);
+    assert_eq!(rt; pieces[2].as_slice(), [(0, true), (2, true)].as_slice());
+    assert_eq!(rt; pieces[3].as_slice(), [(1, true), (3, true)].as_slice());
+    assert!(rt; pieces.iter().map(|piece| piece.len()).max() == Some(2));
+    assert!(rt; pieces[0].is_empty() && pieces[1].is_empty() && pieces[63].is_empty());
+    let Ok(keys) = tree.close(pass) else {
+        return Err(Fail::new("no keys"));
+    };
+    assert_eq!(rt; keys.as_slice(), [2].as_slice());
     Ok(())
 }

@@ -2,7 +2,8 @@ use Rattle.std.specs.Prelude.{◌≡◌, ◌≢◌, ℕ, None}
 use Rattle.ell_ops.specs.KeySet.{KeySet}
 use Rattle.ell_core.specs.state.Machine.{Ledger, ledger_of}
 use Rattle.ell_core.specs.statements.StepLaws.{set_in}
-use Rattle.ell_cards.specs.Models.{PassModel, TableModel}
+pub use Rattle.ell_cards.specs.Models.{PassModel}
+use Rattle.ell_cards.specs.Models.{TableModel}
 
 -- how a contract sees a tree: which table it stands on, the keys that its passes own, and how many cards it has
 abbrev pub TreeModel : Type 0

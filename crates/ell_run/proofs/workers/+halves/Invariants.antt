@@ -1,5 +1,5 @@
 use Rattle.std.proofs.Common.{◌+◌, ◌*◌, length}
-use Rattle.ell_run.proofs.pieces.+halves.Given as goal
+use Rattle.ell_run.proofs.workers.+halves.Given as goal
 
 abbrev pub decreases-do_workers : goal.decreases-do_workers
 decreases-do_workers g l = 2 * length l.workers.now

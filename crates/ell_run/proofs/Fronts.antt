@@ -1,0 +1,117 @@
+use Rattle.std.proofs.Common.{◌≡◌, ◌≢◌, ◌↔◌, ℕ, ◌+◌, ◌<◌, ◌≤◌, Bool, true, List, [], ◌∷◌, ◌++◌, Some, length, get_or, take, arith, refl, ap, sym, ◌∙◌}
+use Rattle.std.specs.Prelude.{slice_get}
+use Rattle.std.proofs.lemmas.List.{length_push, map-append, take_more}
+use Rattle.std.proofs.lemmas.Option.{slice_get_within, get_or_from_slice_get}
+use Rattle.ell_ops.specs.declared.op.Op.{Op}
+use Rattle.ell_ops.specs.KeySet.{KeySet}
+use Rattle.ell_ops.specs.Meaning.{reply_of, final}
+use Rattle.ell_ops.specs.Meaning.{after as after_op}
+use Rattle.ell_tree.specs.Ends.{Answers, LaidDown}
+use Rattle.ell_tree.specs.Ledgers.{PassModel, Owns, IsIdle, answers, present_in}
+use Rattle.ell_run.specs.ByParts.{ops_in}
+use Rattle.ell_run.specs.Pieces.{piece_from}
+use Rattle.ell_run.specs.Work.{IsWorkedOff}
+use Rattle.ell_run.proofs.OnKey.{final-append}
+
+-- so many operations of a part were done with a pass
+pub record IsFrontDone (items : List (ℕ × Op)) (i : ℕ) (before after : PassModel) (piece : List (ℕ × Bool)) : Type 0 where
+  pub table : after.table ≡ before.table
+  pub idle : IsIdle after
+  pub few : i ≤ length items
+  pub count : length piece ≡ i
+  pub told : piece ≡ piece_from (present_in before) (take i items)
+  pub set : present_in after ≡ final (present_in before) (ops_in (take i items))
+  pub owned : (key : ℕ) → Owns after key ↔ Owns before key
+  pub answered : answers after ≡ answers before + i
+
+-- one operation more has its reply on the set behind those before it
+pub piece_from-push : (s : KeySet) (items : List (ℕ × Op)) (item : ℕ × Op) →
+    piece_from s (items ++ item ∷ []) ≡ piece_from s items ++ (item.0, reply_of item.1 (final s (ops_in items))) ∷ []
+piece_from-push s [] item = refl
+piece_from-push s (x ∷ items) item = ap (λ l. (x.0, reply_of x.1 s) ∷ l) (piece_from-push (after_op x.1 s) items item)
+
+-- and none are done at the beginning
+pub front_none : (items : List (ℕ × Op)) (p : PassModel) → IsIdle p → IsFrontDone items 0 p p []
+front_none items p idle = record {
+  table = refl;
+  idle = idle;
+  few = omega arith;
+  count = refl;
+  told = refl;
+  set = refl;
+  owned = λ key. (λ h. h, λ h. h);
+  answered = omega arith;
+}
+
+pub front_more : (items : List (ℕ × Op)) (i : ℕ) (d : ℕ × Op) (before mid after : PassModel) (piece : List (ℕ × Bool)) (reply : Bool) → i < length items →
+    IsFrontDone items i before mid piece → Answers (get_or items i d).1 reply mid after →
+    IsFrontDone items (i + 1) before after (piece ++ ((get_or items i d).0, reply) ∷ [])
+front_more items i d before mid after piece reply below h a =
+    let item = get_or items i d in
+    let s = present_in before in
+    let more : take (i + 1) items ≡ take i items ++ item ∷ [] = take_more items i d below in
+    let says : reply ≡ reply_of item.1 (final s (ops_in (take i items))) = a.says ∙ ap (reply_of item.1) h.set in
+    let few = h.few in
+    let one = a.answered in
+    let others = h.answered in
+    let same : present_in after ≡ after_op item.1 (present_in mid) = λ j key. a.set key j in
+    record {
+      table = a.table ∙ h.table;
+      idle = a.idle;
+      few = omega arith;
+      count = length_push piece (item.0, reply) ∙ ap (λ n. n + 1) h.count;
+      told = ap (λ r. piece ++ (item.0, r) ∷ []) says
+          ∙ ap (λ l. l ++ (item.0, reply_of item.1 (final s (ops_in (take i items)))) ∷ []) h.told
+          ∙ sym (piece_from-push s (take i items) item) ∙ ap (piece_from s) (sym more);
+      set = same ∙ ap (after_op item.1) h.set ∙ sym (final-append (ops_in (take i items)) (item.1 ∷ []) s)
+          ∙ ap (final s) (sym (ap ops_in more ∙ map-append (λ (x : ℕ × Op). x.1) (take i items) (item ∷ [])));
+      owned = λ key. let old = h.owned key in let new = a.owned key in (λ o. old.0 (new.0 o), λ o. new.1 (old.1 o));
+      answered = omega arith;
+    }
+-- all operations are done
+pub front_all : (items : List (ℕ × Op)) (i : ℕ) (before after : PassModel) (piece : List (ℕ × Bool)) → length items ≤ i →
+    IsFrontDone items i before after piece → IsWorkedOff items before after piece
+front_all items i before after piece all h =
+    let few = h.few in
+    let count = h.count in
+    let answered = h.answered in
+    let same : take i items ≡ take (length piece) items = ap (λ n. take n items) (sym count) in
+    record {
+      table = h.table;
+      idle = h.idle;
+      told = record {
+        few = omega arith;
+        done = h.told ∙ ap (piece_from (present_in before)) same;
+        held = λ position op e. absurd (let within = slice_get_within items (length piece) (position, op) e in omega arith);
+      };
+      set = h.set ∙ ap (λ l. final (present_in before) (ops_in l)) same;
+      owned = h.owned;
+      answers = omega arith;
+    }
+
+-- the next operation is held
+pub front_held : (items : List (ℕ × Op)) (i : ℕ) (d : ℕ × Op) (before mid after : PassModel) (piece : List (ℕ × Bool)) → i < length items →
+    IsFrontDone items i before mid piece → LaidDown (get_or items i d).1 mid after → IsWorkedOff items before after piece
+front_held items i d before mid after piece below h l =
+    let few = h.few in
+    let count = h.count in
+    let answered = h.answered in
+    let none = l.answered in
+    let same : take i items ≡ take (length piece) items = ap (λ n. take n items) (sym count) in
+    let kept : present_in after ≡ present_in mid = rw l.ledger refl in
+    record {
+      table = l.table ∙ h.table;
+      idle = l.idle;
+      told = record {
+        few = omega arith;
+        done = h.told ∙ ap (piece_from (present_in before)) same;
+        held = λ position op e.
+            let here : get_or items i d ≡ (position, op) =
+            ap (λ n. get_or items n d) (sym count) ∙ get_or_from_slice_get items (length piece) (position, op) d e in
+            ap (λ l. reply_of op (final (present_in before) (ops_in l))) (sym same) ∙ ap (reply_of op) (sym h.set)
+            ∙ ap (λ (x : ℕ × Op). reply_of x.1 (present_in mid)) (sym here) ∙ l.would;
+      };
+      set = kept ∙ h.set ∙ ap (λ l. final (present_in before) (ops_in l)) same;
+      owned = λ key. let old = h.owned key in rw l.ledger old;
+      answers = omega arith;
+    }

@@ -1,0 +1,8 @@
+use Rattle.std.proofs.Common.{ℕ, Bool, List, ◌++◌, take}
+use Rattle.ell_run.specs.Late.{AreMarks}
+use Rattle.ell_run.proofs.late.mark.Given as goal
+
+-- the items so far are marked, behind those that were
+abbrev pub invariant-loop-position : goal.invariant-loop-position
+invariant-loop-position l =
+    (items : List (ℕ × Bool)) → AreMarks items l.initial.answered → AreMarks (items ++ take l.position-index l.piece) l.answered

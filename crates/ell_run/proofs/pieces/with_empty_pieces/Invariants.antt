@@ -1,0 +1,14 @@
+use Rattle.std.proofs.Common.{◌≡◌, length, map}
+use Rattle.ell_tree.specs.Ledgers.{PassModel}
+use Rattle.ell_run.specs.Pieces.{busy}
+use Rattle.ell_run.specs.Work.{IsWorked}
+use Rattle.ell_run.proofs.Filling.{mixed}
+use Rattle.ell_run.proofs.pieces.with_empty_pieces.Given as goal
+
+-- the workers so far have their pieces, and the busy ones from here on
+abbrev pub invariant-loop-worker : goal.invariant-loop-worker
+invariant-loop-worker l = record {
+  count : length l.pieces.items ≡ length (mixed l.parts l.worker);
+  worked : (before after : PassModel) → IsWorked l.parts (busy l.parts) before after (map (λ piece. piece.items) l.initial.pieces.items) →
+      IsWorked l.parts (mixed l.parts l.worker) before after (map (λ piece. piece.items) l.pieces.items);
+}

@@ -1,0 +1,6 @@
+use Rattle.ell_run.proofs.Fronts.{IsFrontDone}
+use Rattle.ell_run.proofs.pieces.work_off.Given as goal
+
+-- the operations so far are done
+abbrev pub invariant-loop-position : goal.invariant-loop-position
+invariant-loop-position g l = IsFrontDone l.part l.position-index l.initial.pass l.pass l.piece.items

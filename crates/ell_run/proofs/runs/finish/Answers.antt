@@ -1,0 +1,59 @@
+use Rattle.std.proofs.Common.{◌≡◌, ◌≤◌, ◌++◌, ◌∷◌, [], length, arith, ap, sym, subst, ◌∙◌}
+use Rattle.std.specs.List.{flat_map}
+use Rattle.ell_ops.specs.KeySet.{Lists, empty, set_of}
+use Rattle.ell_ops.specs.Meaning.{final, replies}
+use Rattle.ell_parts.specs.Gathering.{IsFault, IsGathered}
+use Rattle.ell_run.specs.ByParts.{ops_in}
+use Rattle.ell_run.specs.Late.{late_ops}
+use Rattle.ell_run.specs.Pieces.{piece_from}
+use Rattle.ell_run.proofs.Leftovers.{all_answer, few_late, last_set}
+use Rattle.ell_run.proofs.Replies.{AreAnswers, only_memory, gathered}
+use Rattle.ell_run.proofs.runs.finish.Goals as goal
+
+pub only_memory-requires : goal.only_memory-requires
+only_memory-requires c =
+    let parting = c.args.parts.now in
+    let late : c.in_ok-late.late.items ≡ late_ops parting.ops (flat_map (λ piece. piece.items) c.args.pieces.items) =
+    c.in_ok-late.ensures ∙ ap (λ pieces. late_ops c.args.ops.now (flat_map (λ piece. piece.items) pieces)) c.deref.ensures.value
+    ∙ ap (λ ops. late_ops ops (flat_map (λ piece. piece.items) c.args.pieces.items)) (sym c.requires.parted) in
+    let piece = c.in_ok-piece.ensures.piece ∙ ap (piece_from (set_of c.args.keys.items)) c.deref-2.ensures.value in
+    let items = flat_map (λ piece. piece.items) c.deref-3.result.now in
+    let answers : AreAnswers parting.ops items =
+    subst (λ pieces. AreAnswers parting.ops (flat_map (λ piece. piece.items) pieces)) (sym (c.deref-3.ensures.value ∙ c.in_ok-push.ensures.items))
+    (all_answer (λ piece. piece.items) parting c.args.pieces.items c.requires.left.told c.len.ensures.lawful c.args.keys.items c.requires.left.listed
+    c.in_ok-late.late.items late c.in_ok-piece.piece piece) in
+    only_memory parting.ops items answers c.in-Err.fault (subst (λ n. IsFault n items c.in-Err.fault) c.len.ensures.value c.in-Err.ensures.fault)
+
+pub returns-clause-replies : goal.returns-clause-replies
+returns-clause-replies c =
+    let parting = c.args.parts.now in
+    let late : c.in_ok-late.late.items ≡ late_ops parting.ops (flat_map (λ piece. piece.items) c.args.pieces.items) =
+    c.in_ok-late.ensures ∙ ap (λ pieces. late_ops c.args.ops.now (flat_map (λ piece. piece.items) pieces)) c.deref.ensures.value
+    ∙ ap (λ ops. late_ops ops (flat_map (λ piece. piece.items) c.args.pieces.items)) (sym c.requires.parted) in
+    let piece = c.in_ok-piece.ensures.piece ∙ ap (piece_from (set_of c.args.keys.items)) c.deref-2.ensures.value in
+    let items = flat_map (λ piece. piece.items) c.deref-3.result.now in
+    let answers : AreAnswers parting.ops items =
+    subst (λ pieces. AreAnswers parting.ops (flat_map (λ piece. piece.items) pieces)) (sym (c.deref-3.ensures.value ∙ c.in_ok-push.ensures.items))
+    (all_answer (λ piece. piece.items) parting c.args.pieces.items c.requires.left.told c.len.ensures.lawful c.args.keys.items c.requires.left.listed
+    c.in_ok-late.late.items late c.in_ok-piece.piece piece) in
+    gathered parting.ops items answers c.in-Ok.replies.items (subst (λ n. IsGathered n items c.in-Ok.replies.items) c.len.ensures.value c.in-Ok.ensures.ok)
+    ∙ ap (replies empty) c.requires.parted
+
+pub returns-clause-keys : goal.returns-clause-keys
+returns-clause-keys c =
+    let parting = c.args.parts.now in
+    let late : c.in_ok-late.late.items ≡ late_ops parting.ops (flat_map (λ piece. piece.items) c.args.pieces.items) =
+    c.in_ok-late.ensures ∙ ap (λ pieces. late_ops c.args.ops.now (flat_map (λ piece. piece.items) pieces)) c.deref.ensures.value
+    ∙ ap (λ ops. late_ops ops (flat_map (λ piece. piece.items) c.args.pieces.items)) (sym c.requires.parted) in
+    subst (λ set. Lists set c.in_ok-piece.keys.items)
+    (ap (λ items. final (set_of c.args.keys.items) (ops_in items)) c.deref-2.ensures.value
+    ∙ last_set (λ piece. piece.items) parting c.args.pieces.items c.requires.left.told c.len.ensures.lawful c.args.keys.items c.requires.left.listed
+    c.in_ok-late.late.items late
+    ∙ ap (final empty) c.requires.parted)
+    c.in_ok-piece.ensures.keys
+
+pub returns-clause-late : goal.returns-clause-late
+returns-clause-late c =
+    let same = ap length c.in_ok-late.ensures in
+    let value = c.len-2.ensures in
+    omega (arith, few_late c.args.ops.now (flat_map (λ piece. piece.items) c.deref.result.now))

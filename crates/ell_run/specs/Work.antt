@@ -1,0 +1,54 @@
+use Rattle.std.specs.Prelude.{◌≡◌, ℕ, ◌+◌, ◌<◌, ◌↔◌, Bool, List, length, All}
+use Rattle.std.specs.List.{list_any, sum_by}
+use Rattle.std.specs.List.Sorted.{IsStrictlyIncreasing}
+use Rattle.ell_ops.specs.declared.op.Op.{Op}
+use Rattle.ell_ops.specs.KeySet.{KeySet, Lists}
+use Rattle.ell_ops.specs.Meaning.{key_of, final}
+use Rattle.ell_parts.specs.Parting.{Parting, IsLawful, part, keys_in}
+use Rattle.ell_tree.specs.Ledgers.{PassModel, TreeModel, Owns, IsIdle, answers, present_in}
+use Rattle.ell_tree.specs.Parts.{IsLeftPart, IsRightPart}
+use Rattle.ell_run.specs.ByParts.{ops_in}
+use Rattle.ell_run.specs.Pieces.{ArePieces, IsPiece, front, ops_done}
+
+-- the pass owns the keys of numbered operations
+abbrev pub OwnsAll : PassModel → List (ℕ × Op) → Type 0
+OwnsAll pass items = All (λ item. Owns pass (key_of item.1)) items
+
+-- the keys of the parts of workers
+abbrev pub keys_for : Parting → List ℕ → KeySet
+keys_for parting workers = λ key. list_any (λ worker. keys_in (part parting worker) key) workers
+
+-- workers can set to work on their parts with a pass
+pub record AreReady (tree : TreeModel) (parting : Parting) (workers : List ℕ) (pass : PassModel) : Type 0 where
+  pub lawful : IsLawful parting
+  pub known : All (λ worker. worker < parting.workers) workers
+  pub ascending : IsStrictlyIncreasing workers
+  pub own : pass.table ≡ tree.id
+  pub idle : IsIdle pass
+  pub owned : All (λ worker. OwnsAll pass (part parting worker)) workers
+
+-- a pass was split: its left part has the keys of these workers, and its right part the rest
+pub record AreHalves (parting : Parting) (low : List ℕ) (pass left right : PassModel) : Type 0 where
+  pub keys : List ℕ
+  pub listed : Lists (keys_for parting low) keys
+  pub on_left : IsLeftPart keys pass left
+  pub on_right : IsRightPart keys pass right
+
+-- a front of numbered operations was done with a pass, which is its own piece's
+pub record IsWorkedOff (items : List (ℕ × Op)) (before after : PassModel) (piece : List (ℕ × Bool)) : Type 0 where
+  pub table : after.table ≡ before.table
+  pub idle : IsIdle after
+  pub told : IsPiece (present_in before) items piece
+  pub set : present_in after ≡ final (present_in before) (ops_in (front items piece))
+  pub owned : (key : ℕ) → Owns after key ↔ Owns before key
+  pub answers : answers after ≡ answers before + length piece
+
+-- workers have worked with a pass, and left these pieces: the pass has the set that their operations leave, one worker's after the
+-- other's
+pub record IsWorked (parting : Parting) (workers : List ℕ) (before after : PassModel) (pieces : List (List (ℕ × Bool))) : Type 0 where
+  pub table : after.table ≡ before.table
+  pub idle : IsIdle after
+  pub told : ArePieces (present_in before) parting workers pieces
+  pub set : present_in after ≡ final (present_in before) (ops_done parting workers pieces)
+  pub owned : (key : ℕ) → Owns after key ↔ Owns before key
+  pub answers : answers after ≡ answers before + sum_by length pieces

@@ -1,0 +1,102 @@
+//! What the workers left undone, done by one thread after they have ended.
+ghost use Rattle.std.specs.Prelude.{◌≡◌, ◌≤◌, ◌<◌, ◌++◌, ℕ, Bool, List, All, IfOk, IsTrue, length, map};
+ghost use Rattle.std.specs.List.{flat_map};
+ghost use Rattle.std.specs.List.Sorted.{IsStrictlyIncreasing};
+ghost use Rattle.ell_ops.specs.KeySet.{Lists, empty, set_of};
+ghost use Rattle.ell_ops.specs.Meaning.{final};
+ghost use Rattle.ell_parts.specs.Parting.{IsLawful, part};
+ghost use Rattle.ell_run.specs.ByParts.{ops_in};
+ghost use Rattle.ell_run.specs.Late.{AreMarks, late_ops};
+ghost use Rattle.ell_run.specs.Pieces.{ArePieces, all_workers, count_of, piece_from};
+
+use crate::pieces::{Piece, with_positions};
+use ell_ops::{NoMemory, Op, apply_from};
+use ell_parts::Parts;
+use std::alloc::Global;
+
+// The operations that no piece answers, with their positions, in the order of the list.
+pub(crate) fn late_ops(
+    alloc: Global,
+    ops: &[Op],
+    parts: &Parts<Global>,
+    pieces: &[Piece],
+) -> Result<Vec<(usize, Op)>, NoMemory>
+    requires parted { parts.now.ops ≡ ops.now }
+    requires pieces { ArePieces empty parts.now (all_workers parts.now) (map (λ piece. piece.items) pieces.now) }
+    ensures { IfOk result (λ late. late.items ≡ late_ops ops.now (flat_map (λ piece. piece.items) pieces.now)) }
+{
+    let mut late = Vec::new(alloc);
+    if is_all_done(parts, pieces) {
+        return Ok(late);
+    }
+    let answered = answered(alloc, ops.len(), pieces)?;
+    for (at, op) in ops.iter().enumerate() {
+        if !answered[at] {
+            late.push((at, *op))?;
+        }
+    }
+    Ok(late)
+}
+
+// Whether each piece is as long as the part that it is of.
+fn is_all_done(parts: &Parts<Global>, pieces: &[Piece]) -> bool
+    requires { length pieces.now ≡ parts.now.workers }
+    ensures lawful { IsLawful parts.now }
+    ensures done { IsTrue result → (worker : ℕ) → worker < parts.now.workers →
+        length (part parts.now worker) ≤ count_of (map (λ piece. piece.items) pieces.now) worker }
+{
+    for worker in 0..parts.workers() {
+        if pieces[worker as usize].len() < parts.part(worker).len() {
+            return false;
+        }
+    }
+    true
+}
+
+// Whether each position below `n` is answered by an item of a piece.
+fn answered(alloc: Global, n: usize, pieces: &[Piece]) -> Result<Vec<bool>, NoMemory>
+    requires { All (λ piece. All (λ item. item.0 < n) piece.items) pieces.now }
+    ensures count { IfOk result (λ marks. length marks.items ≡ n) }
+    ensures marks { IfOk result (λ marks. AreMarks (flat_map (λ piece. piece.items) pieces.now) marks.items) }
+{
+    let mut answered = vec![in alloc; false; n]?;
+    for piece in pieces {
+        mark(&mut answered, piece);
+    }
+    Ok(answered)
+}
+
+// Marks the positions of the items of a piece.
+fn mark(answered: &mut [bool], piece: &[(usize, bool)])
+    requires { All (λ item. item.0 < length answered.old) piece.now }
+    ensures { (items : List (ℕ × Bool)) → AreMarks items answered.old → AreMarks (items ++ piece.now) answered.new }
+{
+    for (position, _) in piece {
+        answered[*position] = true;
+    }
+}
+
+// Does operations that are left, from a set of keys: their replies, with their positions, and the keys after them.
+pub(crate) fn do_late(
+    alloc: Global,
+    keys: Vec<u64>,
+    late: &[(usize, Op)],
+) -> Result<(Piece, Vec<u64>), NoMemory>
+    requires { IsStrictlyIncreasing keys.items }
+    ensures piece { IfOk result (λ done. done.0.items ≡ piece_from (set_of keys.items) late.now) }
+    ensures keys { IfOk result (λ done. Lists (final (set_of keys.items) (ops_in late.now)) done.1.items) }
+{
+    if late.is_empty() {
+        return Ok((Vec::new(alloc), keys));
+    }
+    let ops = ops_of(alloc, late)?;
+    let (replies, keys) = apply_from(alloc, &keys, &ops)?;
+    Ok((with_positions(alloc, late, &replies)?, keys))
+}
+
+// The operations of numbered ones.
+fn ops_of(alloc: Global, items: &[(usize, Op)]) -> Result<Vec<Op>, NoMemory>
+    ensures { IfOk result (λ ops. ops.items ≡ ops_in items.now) }
+{
+    Ok(items.iter().map(|item| item.1).collect(alloc)?)
+}

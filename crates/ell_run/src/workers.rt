@@ -1,0 +1,171 @@
+//! Workers that share one tree: each does its part with a pass of its own, in a thread of its own where one can be made.
+ghost use Rattle.std.specs.Prelude.{◌≡◌, ◌<◌, ◌≤◌, ◌++◌, ℕ, List, All, IfOk, length, map};
+ghost use Rattle.std.specs.Thread.{IsSync};
+ghost use Rattle.ell_ops.specs.KeySet.{Lists};
+ghost use Rattle.ell_ops.specs.Meaning.{key_of};
+ghost use Rattle.ell_parts.specs.Parting.{IsLawful, Parting};
+ghost use Rattle.ell_tree.specs.Ledgers.{IsIdle, Owns, PassModel};
+ghost use Rattle.ell_run.specs.Pieces.{all_workers, busy};
+ghost use Rattle.ell_run.specs.Work.{AreHalves, AreReady, IsWorked, keys_for};
+
+use crate::pieces::{Piece, with_empty_pieces, work_off};
+use ell_ops::{NoMemory, Op, distinct_keys};
+use ell_parts::Parts;
+use ell_tree::{Pass, Tree};
+use ell_word::StepGate;
+use std::alloc::Global;
+use std::thread::{Threads, join};
+
+/// Has each worker work its part off with a pass of the tree, in a thread of its own where one can be made. A worker leaves the
+/// rest of its part from the first operation on that is held. Answers the pass, with all its keys, and a piece for each worker, in
+/// their order: its replies, with their positions. After `NoMemory` the pass is gone.
+pub fn work<R: Threads + Sync, G: StepGate + Sync>(
+    rt: &R,
+    alloc: Global,
+    tree: &Tree<Global>,
+    pass: Pass<Global>,
+    parts: &Parts<Global>,
+    tries: u32,
+    gate: &G,
+) -> Result<(Pass<Global>, Vec<Piece>), NoMemory>
+    requires own { pass.table ≡ tree.now.id }
+    requires idle { IsIdle pass }
+    requires owned { All (λ op. Owns pass (key_of op)) parts.now.ops }
+    requires tries { 1 ≤ tries }
+    ensures { IfOk result (λ done.
+        IsWorked parts.now (all_workers parts.now) pass done.0 (map (λ piece. piece.items) done.1.items)) }
+{
+    let workers = busy_workers(alloc, parts)?;
+    let (pass, pieces) = do_workers(rt, alloc, tree, pass, parts, &workers, tries, gate)?;
+    Ok((pass, with_empty_pieces(alloc, parts, pieces)?))
+}
+
+// The workers whose parts are not empty, ascending.
+fn busy_workers(alloc: Global, parts: &Parts<Global>) -> Result<Vec<u32>, NoMemory>
+    ensures lawful { IsLawful parts.now }
+    ensures busy { IfOk result (λ workers. workers.items ≡ busy parts.now) }
+{
+    let mut workers = Vec::new(alloc);
+    for worker in 0..parts.workers() {
+        if !parts.part(worker).is_empty() {
+            workers.push(worker)?;
+        }
+    }
+    Ok(workers)
+}
+
+// Has these workers do their parts: halves of them in two threads, each with a half of the pass, down to one worker a thread.
+#[cycle(halves)]
+fn do_workers<R: Threads + Sync, G: StepGate + Sync>(
+    rt: &R,
+    alloc: Global,
+    tree: &Tree<Global>,
+    pass: Pass<Global>,
+    parts: &Parts<Global>,
+    workers: &[u32],
+    tries: u32,
+    gate: &G,
+) -> Result<(Pass<Global>, Vec<Piece>), NoMemory>
+    requires ready { AreReady tree.now parts.now workers.now pass }
+    requires tries { 1 ≤ tries }
+    ensures { IfOk result (λ done. IsWorked parts.now workers.now pass done.0 (map (λ piece. piece.items) done.1.items)) }
+{
+    if workers.len() < 2 {
+        return do_one(alloc, tree, pass, parts, workers, tries, gate);
+    }
+    let (low, high) = workers.split_at(workers.len() / 2);
+    let (left, right) = halves(alloc, tree, pass, parts, low, high)?;
+    let front = move || -> Result<(Pass<Global>, Vec<Piece>), NoMemory>
+        requires { IsSync R.row × IsSync G.row × AreReady tree.now parts.now low.now left × (1 ≤ tries) }
+        ensures { IfOk result (λ done. IsWorked parts.entry.now low.entry.now left done.0 (map (λ piece. piece.items) done.1.items)) }
+    { do_workers(rt, alloc, tree, left, parts, low, tries, gate) };
+    let back = move || -> Result<(Pass<Global>, Vec<Piece>), NoMemory>
+        requires { IsSync R.row × IsSync G.row × AreReady tree.now parts.now high.now right × (1 ≤ tries) }
+        ensures { IfOk result (λ done. IsWorked parts.entry.now high.entry.now right done.0 (map (λ piece. piece.items) done.1.items)) }
+    { do_workers(rt, alloc, tree, right, parts, high, tries, gate) };
+    let (first, second) = join(rt, front, back);
+    both(tree, first?, second?)
+}
+
+// Has one worker do its part, if there is one, in this thread.
+fn do_one<G: StepGate>(
+    alloc: Global,
+    tree: &Tree<Global>,
+    mut pass: Pass<Global>,
+    parts: &Parts<Global>,
+    workers: &[u32],
+    tries: u32,
+    gate: &G,
+) -> Result<(Pass<Global>, Vec<Piece>), NoMemory>
+    requires one { length workers.now ≤ 1 }
+    requires ready { AreReady tree.now parts.now workers.now pass }
+    requires tries { 1 ≤ tries }
+    ensures { IfOk result (λ done. IsWorked parts.now workers.now pass done.0 (map (λ piece. piece.items) done.1.items)) }
+{
+    let mut pieces = Vec::new(alloc);
+    if let Some(worker) = workers.first() {
+        pass.relabel(*worker);
+        let piece = work_off(alloc, tree, &mut pass, parts.part(*worker), tries, gate)?;
+        pieces.push(piece)?;
+    }
+    Ok((pass, pieces))
+}
+
+// Splits a pass between two rows of workers: the left part gets the keys of the first row.
+fn halves(
+    alloc: Global,
+    tree: &Tree<Global>,
+    pass: Pass<Global>,
+    parts: &Parts<Global>,
+    low: &[u32],
+    high: &[u32],
+) -> Result<(Pass<Global>, Pass<Global>), NoMemory>
+    requires { AreReady tree.now parts.now (low.now ++ high.now) pass }
+    ensures halves { IfOk result (λ parted. AreHalves parts.now low.now pass parted.0 parted.1) }
+    ensures left { IfOk result (λ parted. AreReady tree.now parts.now low.now parted.0) }
+    ensures right { IfOk result (λ parted. AreReady tree.now parts.now high.now parted.1) }
+{
+    let _ = high;
+    let keys = keys_for(alloc, parts, low)?;
+    match tree.split(pass, &keys) {
+        Ok(parted) => Ok(parted),
+        Err(_) => Err(NoMemory),
+    }
+}
+
+// The keys of the parts of workers, ascending.
+fn keys_for(alloc: Global, parts: &Parts<Global>, workers: &[u32]) -> Result<Vec<u64>, NoMemory>
+    requires { All (λ worker. worker < parts.now.workers) workers.now }
+    ensures { IfOk result (λ keys. Lists (keys_for parts.now workers.now) keys.items) }
+{
+    let mut keys = Vec::new(alloc);
+    for worker in workers {
+        keys.extend_from_slice(parts.keys(*worker))?;
+    }
+    Ok(distinct_keys(keys))
+}
+
+// One pass of two that have come back from two rows of workers, and the pieces of both rows.
+fn both(
+    tree: &Tree<Global>,
+    first: (Pass<Global>, Vec<Piece>),
+    second: (Pass<Global>, Vec<Piece>),
+) -> Result<(Pass<Global>, Vec<Piece>), NoMemory>
+    requires left { first.0.table ≡ tree.now.id }
+    requires right { second.0.table ≡ tree.now.id }
+    requires left_idle { IsIdle first.0 }
+    requires right_idle { IsIdle second.0 }
+    ensures { (parting : Parting) (low high : List ℕ) (pass left right : PassModel) →
+        AreReady tree.now parting (low ++ high) pass → AreHalves parting low pass left right →
+        IsWorked parting low left first.0 (map (λ piece. piece.items) first.1.items) →
+        IsWorked parting high right second.0 (map (λ piece. piece.items) second.1.items) →
+        IfOk result (λ done. IsWorked parting (low ++ high) pass done.0 (map (λ piece. piece.items) done.1.items)) }
+{
+    let (left, mut pieces) = first;
+    let (right, mut behind) = second;
+    pieces.append(&mut behind)?;
+    match tree.join(left, right) {
+        Ok(pass) => Ok((pass, pieces)),
+        Err(_) => Err(NoMemory),
+    }
+}
