@@ -1,5 +1,4 @@
-use Rattle.std.proofs.Common.{◌≡◌, ◌≢◌, ◌↔◌, ℕ, ◌+◌, ◌<◌, ◌≤◌, Bool, true, List, [], ◌∷◌, ◌++◌, Some, length, get_or, take, arith, refl, ap, sym, ◌∙◌}
-use Rattle.std.specs.Prelude.{slice_get}
+use Rattle.std.proofs.Common.{◌≡◌, ◌↔◌, ℕ, ◌+◌, ◌<◌, ◌≤◌, Bool, List, [], ◌∷◌, ◌++◌, length, get_or, take, arith, refl, ap, sym, ◌∙◌}
 use Rattle.std.proofs.lemmas.List.{length_push, map-append, take_more}
 use Rattle.std.proofs.lemmas.Option.{slice_get_within, get_or_from_slice_get}
 use Rattle.ell_ops.specs.declared.op.Op.{Op}
@@ -68,6 +67,7 @@ front_more items i d before mid after piece reply below h a =
       owned = λ key. let old = h.owned key in let new = a.owned key in (λ o. old.0 (new.0 o), λ o. new.1 (old.1 o));
       answered = omega arith;
     }
+
 -- all operations are done
 pub front_all : (items : List (ℕ × Op)) (i : ℕ) (before after : PassModel) (piece : List (ℕ × Bool)) → length items ≤ i →
     IsFrontDone items i before after piece → IsWorkedOff items before after piece
