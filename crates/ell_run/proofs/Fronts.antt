@@ -29,19 +29,7 @@ pub piece_from-push : (s : KeySet) (items : List (ℕ × Op)) (item : ℕ × Op)
 piece_from-push s [] item = refl
 piece_from-push s (x ∷ items) item = ap (λ l. (x.0, reply_of x.1 s) ∷ l) (piece_from-push (after_op x.1 s) items item)
 
--- and none are done at the beginning
-pub front_none : (items : List (ℕ × Op)) (p : PassModel) → IsIdle p → IsFrontDone items 0 p p []
-front_none items p idle = record {
-  table = refl;
-  idle = idle;
-  few = omega arith;
-  count = refl;
-  told = refl;
-  set = refl;
-  owned = λ key. (λ h. h, λ h. h);
-  answered = omega arith;
-}
-
+-- one operation further
 pub front_more : (items : List (ℕ × Op)) (i : ℕ) (d : ℕ × Op) (before mid after : PassModel) (piece : List (ℕ × Bool)) (reply : Bool) → i < length items →
     IsFrontDone items i before mid piece → Answers (get_or items i d).1 reply mid after →
     IsFrontDone items (i + 1) before after (piece ++ ((get_or items i d).0, reply) ∷ [])

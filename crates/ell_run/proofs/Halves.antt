@@ -276,8 +276,3 @@ keys_owned tree parting low high pass keys ready listed j d below =
     let owned : All (λ item. Owns pass (key_of item.1)) (part parting has.worker) =
     All-contains (λ worker. OwnsAll pass (part parting worker)) (low ++ high) has.worker ready.owned worker in
     subst (Owns pass) has.on (all_at (λ item. Owns pass (key_of item.1)) (part parting has.worker) has.place has.item owned has.there)
-
-pub known_low : (tree : TreeModel) (parting : Parting) (low high : List ℕ) (pass : PassModel) → AreReady tree parting (low ++ high) pass →
-    All (λ worker. worker < parting.workers) low
-known_low tree parting low high pass ready j d below =
-    subst (λ w. w < parting.workers) (get_or_first low high j d below) (ready.known j d (omega (arith, length-append low high)))
