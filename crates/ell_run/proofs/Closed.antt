@@ -1,5 +1,5 @@
-use Rattle.std.proofs.Common.{◌≡◌, ◌≢◌, ◌↔◌, ℕ, ◌+◌, ◌<◌, ◌≤◌, Bool, true, false, All, Option, None, Some, List, ◌⊎◌, inl, inr, ⊎_elim, eqb, length, get_or, map, arith, refl, ap, sym, subst, ◌∙◌}
-use Rattle.std.specs.List.{Contains, list_any, range_with_len}
+use Rattle.std.proofs.Common.{◌≡◌, ℕ, ◌+◌, ◌<◌, ◌≤◌, Bool, true, false, All, Option, None, Some, List, ◌⊎◌, inl, inr, ⊎_elim, eqb, length, get_or, map, arith, refl, ap, sym, subst, ◌∙◌}
+use Rattle.std.specs.List.{Contains, list_any}
 use Rattle.std.proofs.lemmas.Bool.{cases_Bool, eq-eqb, eqb-true, cond-true, cond-false}
 use Rattle.std.proofs.lemmas.List.{get_or_default, get_or-map, length-map}
 use Rattle.std.proofs.lemmas.List.Elements.{All-filter}
@@ -99,6 +99,7 @@ closed_set tree pass keys closes = λ i key. pointwise key i where
       absurd (never ((closes.present key).0 (subst (Contains keys) (sym same) (at.0, at.2, at.3)))))
       (λ none. none)
       (cases_Bool (list_any (λ other. eqb key other) keys))
+
   pointwise : (key : ℕ) → set_of keys key ≡ present_in pass key
   pointwise key =
       ⊎_elim

@@ -1,21 +1,19 @@
-use Rattle.std.proofs.Common.{◌≡◌, ℕ, zero, suc, ◌+◌, ◌-◌, ◌<◌, ◌≤◌, Bool, true, false, eqb, List, [], ◌∷◌, ◌++◌, length, filter, take, drop, map, arith, refl, ap, ap₂, sym, subst, ◌∙◌}
+use Rattle.std.proofs.Common.{◌≡◌, ℕ, zero, suc, ◌+◌, ◌-◌, ◌<◌, ◌≤◌, Bool, true, false, eqb, List, [], ◌∷◌, ◌++◌, length, filter, take, drop, map, arith, refl, ap, sym, subst, ◌∙◌}
 use Rattle.std.specs.Prelude.{nat_lt, slice_get}
 use Rattle.std.specs.List.{insert, range_with_len, sum_by}
 use Rattle.std.proofs.lemmas.Bool.{cond-true, cond-false}
 use Rattle.std.proofs.lemmas.List.{append-nil, append_assoc, length-append}
-use Rattle.std.proofs.lemmas.List.Edits.{length-insert}
 use Rattle.std.proofs.lemmas.List.FromFn.{length-range_with_len}
 use Rattle.std.proofs.lemmas.List.Sums.{sum_by-append, sum_by-cons, sum_by-take-drop}
 use Rattle.ell_ops.specs.declared.op.Op.{Op}
 use Rattle.ell_ops.specs.KeySet.{KeySet}
 use Rattle.ell_ops.specs.Meaning.{final}
 use Rattle.ell_parts.specs.Parting.{Parting, part}
-use Rattle.ell_tree.specs.Ledgers.{PassModel, answers, present_in}
+use Rattle.ell_tree.specs.Ledgers.{PassModel, present_in}
 use Rattle.ell_run.specs.ByParts.{ops_in}
 use Rattle.ell_run.specs.Pieces.{ArePieces, IsPiece, all_workers, busy, front, ops_done}
 use Rattle.ell_run.specs.Work.{IsWorked}
 use Rattle.ell_run.proofs.Busy.{counted, is_busy, no_items, some_items, none_left}
-use Rattle.ell_run.proofs.Rows.{length-pieces}
 
 -- the busy workers from one on
 abbrev busy_from : Parting → ℕ → List ℕ
@@ -92,8 +90,12 @@ sum-insert : (ps : List (List (ℕ × Bool))) (n : ℕ) → sum_by length (inser
 sum-insert ps n =
     let front = take n ps in
     let back = drop n ps in
-    omega (arith, sum_by-append (λ (p : List (ℕ × Bool)). length p) front ([] ∷ back), sum_by-cons (λ (p : List (ℕ × Bool)). length p) [] back,
-      sum_by-take-drop (λ (p : List (ℕ × Bool)). length p) ps n)
+    omega (
+      arith,
+      sum_by-append (λ (p : List (ℕ × Bool)). length p) front ([] ∷ back),
+      sum_by-cons (λ (p : List (ℕ × Bool)). length p) [] back,
+      sum_by-take-drop (λ (p : List (ℕ × Bool)). length p) ps n,
+    )
 
 worked-insert : (parting : Parting) (xs ys : List ℕ) (worker : ℕ) (before after : PassModel) (ps : List (List (ℕ × Bool))) → part parting worker ≡ [] →
     IsWorked parting (xs ++ ys) before after ps → IsWorked parting (xs ++ worker ∷ ys) before after (insert ps (length xs) [])

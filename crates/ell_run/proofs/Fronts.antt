@@ -1,5 +1,4 @@
-use Rattle.std.proofs.Common.{◌≡◌, ◌≢◌, ◌↔◌, ℕ, ◌+◌, ◌<◌, ◌≤◌, Bool, true, List, [], ◌∷◌, ◌++◌, Some, length, get_or, take, arith, refl, ap, sym, ◌∙◌}
-use Rattle.std.specs.Prelude.{slice_get}
+use Rattle.std.proofs.Common.{◌≡◌, ◌↔◌, ℕ, ◌+◌, ◌<◌, ◌≤◌, Bool, List, [], ◌∷◌, ◌++◌, length, get_or, take, arith, refl, ap, sym, ◌∙◌}
 use Rattle.std.proofs.lemmas.List.{length_push, map-append, take_more}
 use Rattle.std.proofs.lemmas.Option.{slice_get_within, get_or_from_slice_get}
 use Rattle.ell_ops.specs.declared.op.Op.{Op}
@@ -30,19 +29,7 @@ pub piece_from-push : (s : KeySet) (items : List (ℕ × Op)) (item : ℕ × Op)
 piece_from-push s [] item = refl
 piece_from-push s (x ∷ items) item = ap (λ l. (x.0, reply_of x.1 s) ∷ l) (piece_from-push (after_op x.1 s) items item)
 
--- and none are done at the beginning
-pub front_none : (items : List (ℕ × Op)) (p : PassModel) → IsIdle p → IsFrontDone items 0 p p []
-front_none items p idle = record {
-  table = refl;
-  idle = idle;
-  few = omega arith;
-  count = refl;
-  told = refl;
-  set = refl;
-  owned = λ key. (λ h. h, λ h. h);
-  answered = omega arith;
-}
-
+-- one operation further
 pub front_more : (items : List (ℕ × Op)) (i : ℕ) (d : ℕ × Op) (before mid after : PassModel) (piece : List (ℕ × Bool)) (reply : Bool) → i < length items →
     IsFrontDone items i before mid piece → Answers (get_or items i d).1 reply mid after →
     IsFrontDone items (i + 1) before after (piece ++ ((get_or items i d).0, reply) ∷ [])
@@ -68,6 +55,7 @@ front_more items i d before mid after piece reply below h a =
       owned = λ key. let old = h.owned key in let new = a.owned key in (λ o. old.0 (new.0 o), λ o. new.1 (old.1 o));
       answered = omega arith;
     }
+
 -- all operations are done
 pub front_all : (items : List (ℕ × Op)) (i : ℕ) (before after : PassModel) (piece : List (ℕ × Bool)) → length items ≤ i →
     IsFrontDone items i before after piece → IsWorkedOff items before after piece

@@ -1,22 +1,21 @@
-use Rattle.std.proofs.Common.{◌≡◌, ◌≢◌, ◌↔◌, ℕ, zero, suc, ◌+◌, ◌<◌, Bool, true, false, cond, All, Option, None, Some, List, [], ◌∷◌, ◌++◌, ◌⊎◌, inl, inr, ⊎_elim, eqb, ◌||◌, length, take, get_or, map, arith, refl, ap, ap₂, sym, subst, ◌∙◌}
-use Rattle.std.specs.Prelude.{slice_get, slice_index}
-use Rattle.std.specs.List.{Contains, list_any, sum_by}
+use Rattle.std.proofs.Common.{◌≡◌, ◌≢◌, ◌↔◌, ℕ, zero, suc, ◌+◌, ◌<◌, Bool, true, false, All, Option, None, Some, List, [], ◌∷◌, ◌++◌, ◌⊎◌, inl, inr, ⊎_elim, eqb, ◌||◌, length, take, get_or, map, arith, refl, ap, ap₂, sym, subst, ◌∙◌}
+use Rattle.std.specs.Prelude.{slice_get}
+use Rattle.std.specs.List.{Contains, list_any}
 use Rattle.std.specs.List.Sorted.{IsStrictlyIncreasing}
 use Rattle.std.proofs.lemmas.Bool.{cases_Bool, eq-eqb, eqb-true, eqb-false, cond-true, cond-false}
 use Rattle.std.proofs.lemmas.List.{append-nil, get_or-append-add, get_or-map, get_or_default, length-append, length-map}
-use Rattle.std.proofs.lemmas.List.Elements.{All-contains, Contains-append_left, Contains-append_right}
+use Rattle.std.proofs.lemmas.List.Elements.{All-contains, Contains-append_left}
 use Rattle.std.proofs.lemmas.List.Folds.{Any-from_list_any, list_any-append, list_any_at, list_any_more}
 use Rattle.std.proofs.lemmas.List.Kept.{AllPairs-from_increasing}
 use Rattle.std.proofs.lemmas.List.Sums.{sum_by-append}
 use Rattle.std.proofs.lemmas.Option.{slice_get-get_or}
 use Rattle.ell_ops.specs.declared.op.Op.{Op}
 use Rattle.ell_ops.specs.declared.op.Op.TheVariants.{Find}
-use Rattle.ell_ops.specs.KeySet.{KeySet, Lists, set_of}
+use Rattle.ell_ops.specs.KeySet.{Lists, set_of}
 use Rattle.ell_ops.specs.Meaning.{key_of, final}
 use Rattle.ell_parts.specs.Parting.{Parting, IsLawful, part, keys_in}
-use Rattle.ell_tree.specs.Ledgers.{PassModel, TreeModel, Owns, IsIdle, answers, ledger, present_in}
+use Rattle.ell_tree.specs.Ledgers.{PassModel, TreeModel, Owns, ledger, present_in}
 use Rattle.ell_tree.specs.Parts.{IsUnion, or_else}
-use Rattle.ell_run.specs.ByParts.{ops_in}
 use Rattle.ell_run.specs.Pieces.{ops_done}
 use Rattle.ell_run.specs.Work.{AreHalves, AreReady, IsWorked, OwnsAll, keys_for}
 use Rattle.ell_run.proofs.ByParts.{part_item}
@@ -277,8 +276,3 @@ keys_owned tree parting low high pass keys ready listed j d below =
     let owned : All (λ item. Owns pass (key_of item.1)) (part parting has.worker) =
     All-contains (λ worker. OwnsAll pass (part parting worker)) (low ++ high) has.worker ready.owned worker in
     subst (Owns pass) has.on (all_at (λ item. Owns pass (key_of item.1)) (part parting has.worker) has.place has.item owned has.there)
-
-pub known_low : (tree : TreeModel) (parting : Parting) (low high : List ℕ) (pass : PassModel) → AreReady tree parting (low ++ high) pass →
-    All (λ worker. worker < parting.workers) low
-known_low tree parting low high pass ready j d below =
-    subst (λ w. w < parting.workers) (get_or_first low high j d below) (ready.known j d (omega (arith, length-append low high)))

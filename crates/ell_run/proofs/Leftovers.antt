@@ -1,7 +1,7 @@
 use Rattle.std.proofs.Common.{◌≡◌, ◌≢◌, ℕ, zero, suc, ◌+◌, ◌-◌, ◌<◌, ◌≤◌, Bool, true, false, not, cond, eqb, All, List, [], ◌∷◌, ◌++◌, Some, length, filter, take, drop, get_or, map, arith, refl, ap, ap₂, sym, subst, ◌∙◌, ⊎_elim}
 use Rattle.std.specs.Prelude.{slice_get, slice_index, ◌==◌}
-use Rattle.std.specs.List.{enumerate_from, flat_map, list_any, range_with_len}
-use Rattle.std.proofs.lemmas.Bool.{cases_Bool, cases_eq, cases_lt, eq-eqb, eqb-true, ne_eqb, cond-true, cond-false}
+use Rattle.std.specs.List.{enumerate_from, flat_map, range_with_len}
+use Rattle.std.proofs.lemmas.Bool.{cases_Bool, cases_eq, cases_lt, eq-eqb, eqb-true, cond-true, cond-false}
 use Rattle.std.proofs.lemmas.List.{append-nil, get_or-map, get_or_past, length-map, take-append-drop}
 use Rattle.std.proofs.lemmas.Grind.{flat_map-append}
 use Rattle.std.proofs.lemmas.List.Elements.{filter-append, filter_agree}
@@ -12,13 +12,13 @@ use Rattle.std.proofs.lemmas.Map.Keys.{any_passes_from_place}
 use Rattle.std.proofs.lemmas.Option.{slice_get-get_or, slice_get_within}
 use Rattle.ell_ops.specs.declared.op.Op.{Op}
 use Rattle.ell_ops.specs.KeySet.{KeySet, Lists, empty, set_of}
-use Rattle.ell_ops.specs.Meaning.{final, key_of, replies, reply_of}
-use Rattle.ell_ops.proofs.Places.{slice_get_below, slice_get-append, slice_get-append_behind, slice_get-append_cases, slice_get-drop, slice_get-take, slice_get_from_take, slice_get_within_take}
+use Rattle.ell_ops.specs.Meaning.{final, replies, reply_of}
+use Rattle.ell_ops.proofs.Places.{slice_get_below, slice_get-append, slice_get-append_behind, slice_get-append_cases, slice_get-drop, slice_get_from_take, slice_get_within_take}
 use Rattle.ell_ops.proofs.Presence.{reply_at}
 use Rattle.ell_parts.specs.Gathering.{AreSound, IsFor}
 use Rattle.ell_parts.specs.Parting.{Parting, IsLawful, part}
 use Rattle.ell_run.specs.ByParts.{AreDone, IsAsOneThread, IsRest, Owns, done, ops_in}
-use Rattle.ell_run.specs.Late.{AreLeft, is_answered, late_ops}
+use Rattle.ell_run.specs.Late.{is_answered, late_ops}
 use Rattle.ell_run.specs.Pieces.{ArePieces, IsPiece, all_workers, count_of, front, ops_done, piece_from}
 use Rattle.ell_run.proofs.ByParts.{op_at, owner_in, part_from, part_item, parts_serve, stands_at}
 use Rattle.ell_run.proofs.Gathering.{any_tells, done_has, part_ascends, part_has, pieces_of, pieces_sound, tagged, together_sound, untagged}
@@ -124,8 +124,11 @@ late_item ops items k position op e =
 -- late operations are no more than all
 pub few_late : (ops : List Op) (items : List (ℕ × Bool)) → length (late_ops ops items) ≤ length ops
 few_late ops items =
-    omega (arith, length-filter_both (λ (item : ℕ × Op). not (is_answered items item.0)) (λ item. not (not (is_answered items item.0))) (λ item. refl) (enumerate_from 0 ops),
-      length-enumerate_from 0 ops)
+    omega (
+      arith,
+      length-filter_both (λ (item : ℕ × Op). not (is_answered items item.0)) (λ item. not (not (is_answered items item.0))) (λ item. refl) (enumerate_from 0 ops),
+      length-enumerate_from 0 ops,
+    )
 
 -- an item answers its position
 answers_it : (items : List (ℕ × Bool)) (k position : ℕ) → IsFor items k position → is_answered items position ≡ true

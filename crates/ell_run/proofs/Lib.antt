@@ -1,26 +1,26 @@
--- Each key's operations stand in one part, in the order of the list: so the parts alone say what becomes of the key.
-pub mod ByParts
--- What a write that was cut short tells of the run before it.
-pub mod CutShort
--- What a list does to one key comes from its operations on that key alone.
-pub mod OnKey
 -- Which workers have something to do.
 pub mod Busy
--- How a worker does a front of its part, operation by operation.
-pub mod Fronts
--- A pass in two halves: what is done with each comes to what is done with the whole.
-pub mod Halves
--- What a row of workers leaves, worker by worker.
-pub mod Rows
--- Empty pieces between those of busy workers.
-pub mod Filling
+-- Each key's operations stand in one part, in the order of the list: so the parts alone say what becomes of the key.
+pub mod ByParts
 -- A fresh tree, and what a closed one leaves.
 pub mod Closed
--- Marks of the positions that are answered.
-pub mod Marks
+-- What a write that was cut short tells of the run before it.
+pub mod CutShort
+-- Empty pieces between those of busy workers.
+pub mod Filling
+-- How a worker does a front of its part, operation by operation.
+pub mod Fronts
 -- The pieces of all workers have a reply for each operation that was done, and it is that of one thread.
 pub mod Gathering
--- Gathering items that have one reply of one thread for each position.
-pub mod Replies
+-- A pass in two halves: what is done with each comes to what is done with the whole.
+pub mod Halves
 -- What is late completes what was done to what one thread does.
 pub mod Leftovers
+-- Marks of the positions that are answered.
+pub mod Marks
+-- What a list does to one key comes from its operations on that key alone.
+pub mod OnKey
+-- Gathering items that have one reply of one thread for each position does not fail but for memory, and gives these.
+pub mod Replies
+-- What a row of workers leaves, worker by worker.
+pub mod Rows

@@ -1,10 +1,10 @@
-use Rattle.std.proofs.Common.{◌≡◌, ◌≢◌, ℕ, ◌+◌, ◌<◌, ◌≤◌, Bool, true, false, not, cond, All, List, [], ◌∷◌, ◌++◌, ◌||◌, Some, eqb, length, set, get_or, take, replicate, filter, arith, refl, ap, sym, subst, ◌∙◌, ⊎_elim, length-set}
+use Rattle.std.proofs.Common.{◌≡◌, ℕ, ◌+◌, ◌<◌, ◌≤◌, Bool, true, false, not, cond, List, [], ◌∷◌, ◌++◌, ◌||◌, Some, eqb, length, set, get_or, take, replicate, filter, arith, refl, ap, sym, ◌∙◌, ⊎_elim, length-set}
 use Rattle.std.specs.Prelude.{slice_get}
-use Rattle.std.specs.List.{enumerate_from, list_any}
+use Rattle.std.specs.List.{enumerate_from}
 use Rattle.std.proofs.Math.Bool.{or-false}
 use Rattle.std.proofs.lemmas.Bool.{cases_eq, eq-eqb, ne_eqb}
 use Rattle.std.proofs.lemmas.List.{append-nil, length-replicate, get_or-replicate, take_all}
-use Rattle.std.proofs.lemmas.List.Elements.{filter-append, filter_more}
+use Rattle.std.proofs.lemmas.List.Elements.{filter_more}
 use Rattle.std.proofs.lemmas.List.Folds.{list_any-append}
 use Rattle.std.proofs.lemmas.List.FromFn.{get_or-enumerate_from, length-enumerate_from}
 use Rattle.std.proofs.lemmas.Option.{slice_get-get_or}

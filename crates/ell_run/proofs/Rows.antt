@@ -1,17 +1,14 @@
-use Rattle.std.proofs.Common.{◌≡◌, ◌≢◌, ◌↔◌, ℕ, zero, suc, ◌+◌, ◌<◌, Bool, true, false, All, List, [], ◌∷◌, ◌++◌, Some, length, take, map, arith, refl, ap, ap₂, sym, subst, ◌∙◌}
+use Rattle.std.proofs.Common.{◌≡◌, ◌≢◌, ℕ, suc, Bool, All, List, [], ◌∷◌, ◌++◌, Some, length, take, refl, ap, ap₂, sym, subst, ◌∙◌}
 use Rattle.std.specs.Prelude.{slice_get}
-use Rattle.std.specs.List.{sum_by}
-use Rattle.std.proofs.lemmas.List.{append-nil, append_assoc}
+use Rattle.std.proofs.lemmas.List.{append_assoc}
 use Rattle.std.proofs.lemmas.List.Elements.{All-head, All-tail, All-take, All-map}
 use Rattle.std.proofs.lemmas.Option.{slice_get_within, get_or_from_slice_get}
 use Rattle.ell_ops.specs.declared.op.Op.{Op}
 use Rattle.ell_ops.specs.KeySet.{KeySet}
-use Rattle.ell_ops.specs.Meaning.{key_of, reply_of, final}
+use Rattle.ell_ops.specs.Meaning.{key_of, final}
 use Rattle.ell_parts.specs.Parting.{Parting, part}
-use Rattle.ell_tree.specs.Ledgers.{PassModel, IsIdle}
 use Rattle.ell_run.specs.ByParts.{ops_in}
 use Rattle.ell_run.specs.Pieces.{ArePieces, IsPiece, front, numbered, ops_done}
-use Rattle.ell_run.specs.Work.{IsWorked, IsWorkedOff}
 use Rattle.ell_run.proofs.OnKey.{on_key, on_key-append, none_on_key, final_agree, replies_alike, reply_alike}
 
 -- what holds of all elements holds of one
@@ -93,28 +90,3 @@ done_off_key parting key (worker ∷ workers) (piece ∷ pieces) off =
     on_key-append key (ops_in (front (part parting worker) piece)) (ops_done parting workers pieces)
     ∙ ap₂ ◌++◌ (front_off_key (part parting worker) key (length piece) (All-head (IsOffKey parting key) worker workers off))
     (done_off_key parting key workers pieces (All-tail (IsOffKey parting key) worker workers off))
-
--- no worker has nothing to do
-pub worked_none : (parting : Parting) (p : PassModel) → IsIdle p → IsWorked parting [] p p []
-worked_none parting p idle = record {
-  table = refl;
-  idle = idle;
-  told = tt;
-  set = refl;
-  owned = λ key. (λ h. h, λ h. h);
-  answers = omega arith;
-}
-
--- one worker does its part
-pub worked_one : (parting : Parting) (worker : ℕ) (before after : PassModel) (piece : List (ℕ × Bool)) →
-    IsWorkedOff (part parting worker) before after piece → IsWorked parting (worker ∷ []) before after (piece ∷ [])
-worked_one parting worker before after piece h =
-    let answered = h.answers in
-    record {
-      table = h.table;
-      idle = h.idle;
-      told = (h.told, tt);
-      set = h.set ∙ ap (final _) (sym (append-nil (ops_in (front (part parting worker) piece))));
-      owned = h.owned;
-      answers = omega arith;
-    }

@@ -1,4 +1,4 @@
-use Rattle.std.proofs.Common.{◌≡◌, ◌<◌, ◌+◌, ◌++◌, ◌∷◌, true, false, [], All, length, map, get_or, arith, ap, rules, sym, subst, ◌∙◌}
+use Rattle.std.proofs.Common.{◌≡◌, ◌<◌, ◌++◌, ◌∷◌, true, false, [], All, length, get_or, ap, sym, subst, ◌∙◌}
 use Rattle.std.specs.List.{flat_map}
 use Rattle.ell_ops.specs.declared.op.Op.TheVariants.{Find}
 use Rattle.ell_run.specs.Late.{late_ops}
@@ -18,12 +18,12 @@ loop-at-preserved c =
       | then-not-index+in_ok-push w ↦
           let unmarked : c.index.result.now ≡ false = w.if-not-index.true in
           ap (λ late. late.items) w.late-is ∙ w.in_ok-push.ensures.items
-              ∙ sym (late_left ops items marks i (Find 0) c.index.result.now c.in_ok-answered.ensures.marks c.in_ok-answered.ensures.count c.loop-at-test.true here unmarked
-              ∙ ap (λ late. late ++ (i, get_or ops i (Find 0)) ∷ []) (sym c.loop-at.invariant))
+          ∙ sym (late_left ops items marks i (Find 0) c.index.result.now c.in_ok-answered.ensures.marks c.in_ok-answered.ensures.count c.loop-at-test.true here unmarked
+          ∙ ap (λ late. late ++ (i, get_or ops i (Find 0)) ∷ []) (sym c.loop-at.invariant))
       | else-not-index w ↦
           let marked : c.index.result.now ≡ true = w.if-not-index.false in
           ap (λ late. late.items) w.late-is ∙ c.loop-at.invariant
-              ∙ sym (late_taken ops items marks i (Find 0) c.index.result.now c.in_ok-answered.ensures.marks c.in_ok-answered.ensures.count c.loop-at-test.true here marked)
+          ∙ sym (late_taken ops items marks i (Find 0) c.index.result.now c.in_ok-answered.ensures.marks c.in_ok-answered.ensures.count c.loop-at-test.true here marked)
     ]
 
 pub is_all_done-requires : goal.is_all_done-requires

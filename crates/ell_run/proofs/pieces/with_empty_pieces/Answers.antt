@@ -1,4 +1,4 @@
-use Rattle.std.proofs.Common.{◌≡◌, ◌<◌, ◌+◌, [], ap, map, length, arith, sym, subst, ◌∙◌}
+use Rattle.std.proofs.Common.{◌≡◌, ◌<◌, ◌+◌, ap, map, length, arith, sym, subst, ◌∙◌}
 use Rattle.std.specs.List.{insert}
 use Rattle.std.proofs.lemmas.List.Edits.{length-insert}
 use Rattle.ell_run.specs.Work.{IsWorked}
@@ -28,8 +28,11 @@ loop-worker-preserved c =
       | then-is_empty+in_ok-insert w ↦
           let none = w.if-is_empty.ensures in
           let items = ap (λ pieces. pieces.items) w.pieces-is ∙ w.in_ok-insert.ensures.items in record {
-            count = ap length items ∙ omega (arith, length-insert ps worker w.new.result (omega (arith, mixed_room parting worker)),
-              length-mixed_idle parting worker c.part.result.now below c.part.ensures none);
+            count = ap length items ∙ omega (
+              arith,
+              length-insert ps worker w.new.result (omega (arith, mixed_room parting worker)),
+              length-mixed_idle parting worker c.part.result.now below c.part.ensures none,
+            );
             worked = λ before after h.
                 subst (IsWorked parting (mixed parting (worker + 1)) before after)
                 (sym (ap (map (λ piece. piece.items)) items ∙ map-insert (λ piece. piece.items) ps worker w.new.result

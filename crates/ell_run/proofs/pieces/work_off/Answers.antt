@@ -1,5 +1,5 @@
 use Rattle.ell_ops.specs.declared.op.Op.TheVariants.{Find}
-use Rattle.ell_run.proofs.Fronts.{front_more, front_all}
+use Rattle.ell_run.proofs.Fronts.{front_all, front_held, front_more}
 use Rattle.ell_run.proofs.pieces.work_off.Goals as goal
 
 pub loop-position-preserved : goal.loop-position-preserved
@@ -12,3 +12,8 @@ pub returns : goal.returns
 returns g c =
     front_all c.args.part.now c.loop-position.position-index c.args.pass.now c.loop-position.pass c.loop-position.piece.items
     c.loop-position-test.false c.loop-position.invariant
+
+pub returns-in_default : goal.returns-in_default
+returns-in_default g c =
+    front_held c.args.part.now c.loop-position.position-index (0, Find 0) c.args.pass.now c.loop-position.pass c.do_op.new.pass c.loop-position.piece.items
+    c.loop-position-test.true c.loop-position.invariant c.in_default.ensures.0

@@ -1,7 +1,5 @@
-use Rattle.std.proofs.Common.{All, map, ap, sym, subst, ◌≤◌, ◌∙◌}
-use Rattle.ell_ops.specs.KeySet.{Lists}
+use Rattle.std.proofs.Common.{All, map, sym, subst, ◌≤◌, ◌∙◌}
 use Rattle.ell_ops.specs.Meaning.{greatest_key, key_of}
-use Rattle.ell_parts.specs.Parting.{keys_of}
 use Rattle.ell_tree.specs.Ledgers.{Owns}
 use Rattle.ell_run.proofs.Closed.{keys_fit, left_behind, owns_first}
 use Rattle.ell_run.proofs.runs.run_workers.Goals as goal

@@ -1,6 +1,5 @@
-use Rattle.std.proofs.Common.{◌∙◌, ap, subst}
+use Rattle.std.proofs.Common.{◌∙◌, ap}
 use Rattle.ell_run.specs.Work.{keys_for}
-use Rattle.ell_ops.specs.KeySet.{Lists}
 use Rattle.std.proofs.lemmas.List.{take_all}
 use Rattle.ell_run.proofs.Halves.{keys_more}
 use Rattle.ell_run.proofs.workers.keys_for.Goals as goal

@@ -1,7 +1,6 @@
 use Rattle.std.proofs.Common.{map, length, ap, sym, subst, ◌∙◌}
 use Rattle.std.proofs.lemmas.List.{length-map}
 use Rattle.ell_tree.specs.Ledgers.{present_in}
-use Rattle.ell_run.specs.Pieces.{all_workers, busy}
 use Rattle.ell_run.specs.Work.{AreReady, IsWorked}
 use Rattle.ell_run.proofs.Closed.{busy_ready}
 use Rattle.ell_run.proofs.Rows.{length-pieces}
