@@ -1,4 +1,4 @@
-use Rattle.std.proofs.Common.{◌≡◌, ℕ, Bool, true, false, if◌then◌else◌, List, refl, sym, ◌∙◌, subst, inl, inr}
+use Rattle.std.proofs.Common.{ℕ, Bool, true, false, if◌then◌else◌, List, ◌∷◌, refl, sym, ◌∙◌, subst, inl, inr}
 use Rattle.ell_word.specs.declared.update.Update.{Update}
 use Rattle.ell_core.specs.declared.fact.Fact.{Fact}
 use Rattle.ell_core.specs.declared.fact.Fact.TheVariants as fact
@@ -8,10 +8,11 @@ use Rattle.ell_cards.specs.declared.view.Told.{Told}
 use Rattle.ell_cards.specs.declared.view.Told.TheVariants.{Met, Info, Frozen}
 use Rattle.ell_cards.specs.declared.view.View.{View}
 use Rattle.ell_cards.specs.Models.{PassModel, Steps, Has, latest, earlier, IsTold, Knows, KnowsCard}
-use Rattle.ell_cards.specs.Changes.{learning, with_found, after_key_of, told_info, after_info, after_frozen_child, after_next, after_claim, after_mark, is_mark_of, unmarking}
+use Rattle.ell_cards.specs.Changes.{learning, with_found, after_key_of, told_info, after_info, after_frozen_child, after_mark, is_mark_of, unmarking}
 use Rattle.ell_cards.specs.Guards.{IsSibling}
 use Rattle.ell_cards_tests.specs.Fitting.{Aside, StepsAside, NamesNode}
-use Rattle.ell_cards_tests.proofs.Keepings.{view_after, keeps_view_trans, learning_kept, with_found_kept, mark_kept, frozen_told}
+use Rattle.ell_cards_tests.proofs.Keepings.{view_after, keeps_view_trans, sibling_more, knows_more, facts_by_more, places_by_more, frozen_told, learns}
+use Rattle.ell_cards_tests.specs.Keeping.{Keeps}
 
 pub aside_told : (a b : PassModel) (e : Told) → StepsAside a b → IsTold a.view e → IsTold b.view e
 aside_told a b e s h = s.view.keeps.told e h
@@ -25,8 +26,7 @@ aside_knows_card a b c s (inr (inl h)) = inr (inl (s.view.keeps.knows (fact.DFla
 aside_knows_card a b c s (inr (inr h)) = inr (inr (s.view.keeps.knows (fact.Marked c) h))
 
 pub aside_sibling : (a b : PassModel) (c l s : ℕ) → StepsAside a b → IsSibling a.view c l s → IsSibling b.view c l s
-aside_sibling a b c l s e (inl h) = inl (e.view.keeps.told (Frozen c true s) h.0, h.1)
-aside_sibling a b c l s e (inr h) = inr (e.view.keeps.told (Frozen c true l) h.0, e.view.keeps.told _ h.1)
+aside_sibling a b c l s e = sibling_more a.view b.view c l s e.view.keeps
 
 pub aside_trans : (a b d : PassModel) → StepsAside a b → StepsAside b d → StepsAside a d
 aside_trans a b d h k = record {
@@ -38,6 +38,9 @@ aside_trans a b d h k = record {
     filled = k.view.filled ∙ h.view.filled;
   };
 }
+
+pub aside_keeps : (a b : PassModel) → StepsAside a b → Keeps a b
+aside_keeps a b s = record { table = s.table; view = s.view.keeps }
 
 -- a step to a view beside
 step_aside : (old new : PassModel) (v : View) → Steps old new v → Aside old.view v → StepsAside old new
@@ -115,61 +118,57 @@ frozen_child_told old new c right x s = (frozen_told old new c right x s).0
 pub frozen_child_met : (old new : PassModel) (c : ℕ) (right : Bool) (x : ℕ) → Steps old new (after_frozen_child c right x old.view) → IsTold new.view (Met x)
 frozen_child_met old new c right x s = (frozen_told old new c right x s).1
 
+beside_found : (n : ℕ) (v w : View) → Aside v w → Aside v (with_found n w)
+beside_found n v w a = record {
+  keeps = record { ledger = a.keeps.ledger; operation = a.keeps.operation; card = a.keeps.card; flagged = a.keeps.flagged; knows = a.keeps.knows; told = a.keeps.told };
+  search = a.search;
+  filling = a.filling;
+  filled = a.filled;
+}
+
 -- a step that teaches a fact
-pub learn_aside : (old new : PassModel) (f : Fact) (n : ℕ) → Steps old new (with_found n (learning f old.view)) → StepsAside old new
-learn_aside old new f n s = step_aside old new (with_found n (learning f old.view)) s (record {
-  keeps = with_found_kept n old.view (learning f old.view) (learning_kept f old.view);
+beside_learning : (f : Fact) (v : View) → Aside v (learning f v)
+beside_learning f v = record {
+  keeps = record { ledger = refl; operation = refl; card = refl; flagged = refl; knows = λ g h. knows_more f g v.worker.facts h; told = λ e h. h };
   search = refl;
   filling = refl;
   filled = refl;
-})
+}
+
+pub learn_aside : (old new : PassModel) (f : Fact) (n : ℕ) → Steps old new (with_found n (learning f old.view)) → StepsAside old new
+learn_aside old new f n s = step_aside old new (with_found n (learning f old.view)) s (beside_found n old.view (learning f old.view) (beside_learning f old.view))
 
 -- a mark, won or lost
-pub mark_aside : (old new : PassModel) (n : ℕ) (won : Bool) (c x : ℕ) (u : Update) → Steps old new (with_found n (after_mark won c x u old.view)) → StepsAside old new
-mark_aside old new n won c x u s = step_aside old new (with_found n (after_mark won c x u old.view)) s (record {
-  keeps = with_found_kept n old.view (after_mark won c x u old.view) (mark_kept won c x u old.view);
-  search = same_search won;
-  filling = same_filling won;
-  filled = same_filled won;
-})
+beside_mark : (won : Bool) (c x : ℕ) (u : Update) (v : View) → Aside v (after_mark won c x u v)
+beside_mark true c x u v = beside_learning (fact.Marked c) v
+beside_mark false c x u v = by (is_mark_of c u.state u.card)
   where
-    same_search : (b : Bool) → (after_mark b c x u old.view).worker.search ≡ old.view.worker.search
-    same_search true = refl
-    same_search false = by (is_mark_of c u.state u.card)
-      where
-        by : (b : Bool) → (if b then learning (fact.Marked c) old.view else unmarking c x u old.view).worker.search ≡ old.view.worker.search
-        by true = refl
-        by false = refl
+    by : (b : Bool) → Aside v (if b then learning (fact.Marked c) v else unmarking c x u v)
+    by true = beside_learning (fact.Marked c) v
+    by false = record {
+      keeps = record {
+        ledger = refl;
+        operation = refl;
+        card = refl;
+        flagged = refl;
+        knows = λ g h. facts_by_more u.state u.card (fact.Unmarkable c ∷ v.worker.facts) g (knows_more (fact.Unmarkable c) g v.worker.facts h);
+        told = places_by_more x u.state u.card v.told;
+      };
+      search = refl;
+      filling = refl;
+      filled = refl;
+    }
 
-    same_filling : (b : Bool) → (after_mark b c x u old.view).filling ≡ old.view.filling
-    same_filling true = refl
-    same_filling false = by (is_mark_of c u.state u.card)
-      where
-        by : (b : Bool) → (if b then learning (fact.Marked c) old.view else unmarking c x u old.view).filling ≡ old.view.filling
-        by true = refl
-        by false = refl
+pub mark_aside : (old new : PassModel) (n : ℕ) (won : Bool) (c x : ℕ) (u : Update) → Steps old new (with_found n (after_mark won c x u old.view)) → StepsAside old new
+mark_aside old new n won c x u s =
+    step_aside old new (with_found n (after_mark won c x u old.view)) s (beside_found n old.view (after_mark won c x u old.view) (beside_mark won c x u old.view))
 
-    same_filled : (b : Bool) → (after_mark b c x u old.view).filled ≡ old.view.filled
-    same_filled true = refl
-    same_filled false = by (is_mark_of c u.state u.card)
-      where
-        by : (b : Bool) → (if b then learning (fact.Marked c) old.view else unmarking c x u old.view).filled ≡ old.view.filled
-        by true = refl
-        by false = refl
+-- so an operation keeps what it counts on
+pub key_of_keeps : (old new : PassModel) (x key : ℕ) → Steps old new (after_key_of x key old.view) → Keeps old new
+key_of_keeps old new x key s = aside_keeps old new (key_aside old new x key s)
 
--- the claim word was read, and the claim was lost
-pub next_aside : (old new : PassModel) (n : ℕ) → Steps old new (after_next n old.view) → StepsAside old new
-next_aside old new n s = step_aside old new (after_next n old.view) s (record {
-  keeps = record { ledger = refl; operation = refl; card = refl; flagged = refl; knows = λ f h. h; told = λ e h. h };
-  search = refl;
-  filling = refl;
-  filled = refl;
-})
+pub learn_keeps : (old new : PassModel) (f : Fact) (n : ℕ) → Steps old new (with_found n (learning f old.view)) → Keeps old new
+learn_keeps old new f n s = aside_keeps old new (learn_aside old new f n s)
 
-pub lost_claim_aside : (old new : PassModel) (c : ℕ) → Steps old new (after_claim false c old.view) → StepsAside old new
-lost_claim_aside old new c s = step_aside old new (after_claim false c old.view) s (record {
-  keeps = record { ledger = refl; operation = refl; card = refl; flagged = refl; knows = λ f h. h; told = λ e h. h };
-  search = refl;
-  filling = refl;
-  filled = refl;
-})
+-- what was known and told stays so over steps beside the search, and each of them is one
+pub ruleset asides = (aside_told, aside_knows, aside_knows_card, aside_sibling, aside_trans, learn_aside, learns)

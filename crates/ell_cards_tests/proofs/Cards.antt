@@ -1,18 +1,16 @@
 use Rattle.std.proofs.Common.{◌≡◌, ℕ, ◌+◌, ◌*◌, ◌%◌, Option, Some, None, refl, sym, ◌∙◌, ap, subst, unwrap_or, arith}
 use Rattle.ell_ops.specs.declared.op.Op.{Op}
-use Rattle.ell_ops.specs.declared.op.Op.TheVariants.{Insert}
 use Rattle.ell_word.specs.declared.update.State.{State}
 use Rattle.ell_word.specs.declared.update.State.TheVariants as state
 use Rattle.ell_word.specs.Word.{number_of, state_of}
 use Rattle.ell_core.specs.declared.view.Seen.{Seen}
-use Rattle.ell_core.specs.state.Cards.{insert_filling}
 use Rattle.ell_core.specs.acts.Searching.{IsClean}
 use Rattle.ell_cards.specs.declared.view.View.{View}
 use Rattle.ell_cards.specs.Models.{PassModel, Steps, Does}
 use Rattle.ell_cards.specs.Changes.{after_next, filling_for, filling_of}
 use Rattle.ell_cards.specs.Guards.{MayClaim, Wants}
 use Rattle.ell_cards_tests.specs.declared.searching.Place.{Place}
-use Rattle.ell_cards_tests.specs.Places.{EndsAt, seen}
+use Rattle.ell_cards_tests.specs.Places.{EndsAt, seen, seen_any}
 use Rattle.ell_cards_tests.proofs.Keepings.{view_after}
 
 -- a clean update has a clean word
@@ -42,11 +40,12 @@ may_claim old new n op place s e busy no_card calm wants =
       wants = wants;
     })
 
--- what an insert's card is to say
-pub insert_filling_of : (v : View) (c k : ℕ) (place : Place) → Does v (Insert k) → EndsAt v (Insert k) place
-    → filling_of c v ≡ insert_filling c k place.parent.node place.leaf place.key
-insert_filling_of v c k place busy e =
+-- what the card of an operation is to say whose search ended at a place
+pub filling_at : (v : View) (c : ℕ) (op : Op) (place : Place) → Does v op → EndsAt v op place
+    → filling_of c v ≡ filling_for c (Some op) (Some place.leaf) (Some (seen place.parent)) (seen_any place.grandparent) place.key
+filling_at v c op place busy e =
     ap (λ (o : Option Op). filling_for c o v.worker.search.node v.worker.search.parent v.worker.search.grandparent (unwrap_or v.here 0)) busy
-    ∙ (ap (λ (o : Option ℕ). filling_for c (Some (Insert k)) o v.worker.search.parent v.worker.search.grandparent (unwrap_or v.here 0)) e.stands
-    ∙ (ap (λ (o : Option Seen). filling_for c (Some (Insert k)) (Some place.leaf) o v.worker.search.grandparent (unwrap_or v.here 0)) e.behind
-    ∙ ap (λ (o : Option ℕ). filling_for c (Some (Insert k)) (Some place.leaf) (Some (seen place.parent)) v.worker.search.grandparent (unwrap_or o 0)) e.told))
+    ∙ (ap (λ (o : Option ℕ). filling_for c (Some op) o v.worker.search.parent v.worker.search.grandparent (unwrap_or v.here 0)) e.stands
+    ∙ (ap (λ (o : Option Seen). filling_for c (Some op) (Some place.leaf) o v.worker.search.grandparent (unwrap_or v.here 0)) e.behind
+    ∙ (ap (λ (o : Option Seen). filling_for c (Some op) (Some place.leaf) (Some (seen place.parent)) o (unwrap_or v.here 0)) e.above
+    ∙ ap (λ (o : Option ℕ). filling_for c (Some op) (Some place.leaf) (Some (seen place.parent)) (seen_any place.grandparent) (unwrap_or o 0)) e.told)))

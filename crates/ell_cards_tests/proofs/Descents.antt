@@ -17,6 +17,7 @@ use Rattle.ell_core.specs.acts.Searching.{IsLeaf}
 use Rattle.ell_cards_tests.specs.declared.searching.Passed.{Passed}
 use Rattle.ell_cards_tests.specs.declared.searching.Place.{Place}
 use Rattle.ell_cards_tests.proofs.Keepings.{view_after}
+use Rattle.ell_cards_tests.specs.Keeping.{Keeps}
 use Rattle.ell_cards_tests.specs.Places.{EndsAt, seen, seen_any}
 
 -- the key that was asked is that of the place
@@ -60,6 +61,10 @@ child_met a b x child s =
 pub root_met : (a b : PassModel) (op : Op) → Steps a b (after_begin (Some op) a.view) → Does b.view op × StandsAt b.view 0 × IsTold b.view (Met 0)
 root_met a b op s =
     subst (λ (w : View). Does w op × StandsAt w 0 × IsTold w (Met 0)) (sym (view_after a b (after_begin (Some op) a.view) s)) (refl, refl, latest _ _)
+
+-- and is in hand after steps that keep it
+pub begun : (a b d : PassModel) (op : Op) → Steps a b (after_begin (Some op) a.view) → Keeps b d → Does d.view op
+begun a b d op s keeps = keeps.view.operation ∙ (root_met a b op s).0
 
 -- a find answers at a leaf by its key
 pub find_may_answer : (a b : PassModel) (k x key : ℕ) → Steps a b (after_key_of x key a.view) → Does a.view (Find k) → StandsAt a.view x → IsLeaf x → MayAnswer b.view (key == k)

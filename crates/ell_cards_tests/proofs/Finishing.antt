@@ -8,7 +8,8 @@ use Rattle.ell_cards.specs.Changes.{after_key_of, learning, with_found}
 use Rattle.ell_cards.specs.Guards.{MayIChild, MayIUnflag, MayAnswer}
 use Rattle.ell_cards_tests.specs.Keeping.{Keeps}
 use Rattle.ell_cards_tests.specs.Tries.{HasFlagged}
-use Rattle.ell_cards_tests.proofs.Keepings.{key_of_keeps, key_told, learn_keeps, learns}
+use Rattle.ell_cards_tests.proofs.Keepings.{key_told, learns}
+use Rattle.ell_cards_tests.proofs.Asides.{key_of_keeps, learn_keeps}
 
 module _ (c k p l card_key : ℕ) where
   -- an insert's flag that was won stays so over other steps

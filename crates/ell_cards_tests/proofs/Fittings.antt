@@ -1,4 +1,4 @@
-use Rattle.std.proofs.Common.{◌≡◌, ℕ, Bool, true, false, Option, Some, None, List, refl, sym, ◌∙◌, ap, subst}
+use Rattle.std.proofs.Common.{◌≡◌, ℕ, true, false, Option, Some, None, List, refl, sym, ◌∙◌, ap, subst}
 use Rattle.ell_ops.specs.declared.op.Op.{Op}
 use Rattle.ell_word.specs.declared.update.Update.{Update}
 use Rattle.ell_word.specs.declared.update.State.{State}
@@ -15,12 +15,12 @@ use Rattle.ell_cards.specs.declared.view.Told.TheVariants.{Met}
 use Rattle.ell_cards.specs.declared.view.View.{View}
 use Rattle.ell_cards.specs.Models.{latest, earlier, IsTold, Knows, stored_at}
 use Rattle.ell_core.specs.state.Cards.{stored}
-use Rattle.ell_cards.specs.Changes.{after_begin, after_leave, after_answer, after_upd, after_down, after_next, after_claim, after_flag, with_found, seen_at, facts_by, filling_of, nowhere}
+use Rattle.ell_cards.specs.Changes.{after_begin, after_upd, after_down, after_next, after_claim, after_flag, with_found, seen_at, facts_by, filling_of, nowhere}
 use Rattle.ell_cards.specs.Guards.{IsFilled}
 use Rattle.ell_cards_tests.specs.declared.memory.Memory.{Memory}
 use Rattle.ell_cards_tests.specs.declared.searching.Passed.{Passed}
 use Rattle.ell_cards_tests.specs.Remembering.{KnowsAny, KnowsAll}
-use Rattle.ell_cards_tests.specs.Fitting.{Fits, Aside, packed_any, root_memory, idle_memory, ended_search}
+use Rattle.ell_cards_tests.specs.Fitting.{Fits, Aside, packed_any, root_memory, ended_search}
 use Rattle.ell_cards_tests.specs.Tries.{with_stores}
 use Rattle.ell_cards_tests.proofs.Keepings.{knows_new, knows_more, facts_by_more, places_by_more}
 use Rattle.ell_cards_tests.proofs.Flagging.{told_filling_more}
@@ -76,32 +76,6 @@ fits_root v m op knows = record {
   flagged = refl;
   knows = knows;
   met = λ x e. subst (λ (y : ℕ). IsTold (after_begin op v) (Met y)) (cc e) (latest _ _);
-  met_parent = λ x e. cc e;
-  met_above = λ x e. cc e;
-  filled = λ c e g. cc e;
-}
-
-pub fits_left : (v : View) (m : Memory) → Fits v m → Fits (after_leave v) (idle_memory m)
-fits_left v m h = record {
-  operation = refl;
-  search = refl;
-  card = refl;
-  flagged = refl;
-  knows = h.knows;
-  met = λ x e. cc e;
-  met_parent = λ x e. cc e;
-  met_above = λ x e. cc e;
-  filled = λ c e g. cc e;
-}
-
-pub fits_answered : (v : View) (m : Memory) (said : Bool) → Fits v m → Fits (after_answer said v) (idle_memory m)
-fits_answered v m said h = record {
-  operation = refl;
-  search = refl;
-  card = refl;
-  flagged = refl;
-  knows = h.knows;
-  met = λ x e. cc e;
   met_parent = λ x e. cc e;
   met_above = λ x e. cc e;
   filled = λ c e g. cc e;

@@ -1,4 +1,4 @@
-use Rattle.std.proofs.Common.{◌≡◌, ℕ, max, true, false, Some, Result, Ok, Err, List, [], ◌∷◌, refl, sym, ◌∙◌, ap, subst, is_ok}
+use Rattle.std.proofs.Common.{◌≡◌, ℕ, max, true, false, Result, Ok, Err, List, [], ◌∷◌, refl, sym, ◌∙◌, ap, subst, is_ok}
 use Rattle.ell_ops.specs.declared.op.Op.TheVariants.{Insert}
 use Rattle.ell_word.specs.declared.update.Update.{Update}
 use Rattle.ell_word.specs.Word.{packed}
@@ -10,14 +10,13 @@ use Rattle.ell_cards.specs.declared.view.Told.{Told}
 use Rattle.ell_cards.specs.declared.view.Told.TheVariants.{Met, Info}
 use Rattle.ell_cards.specs.declared.view.View.{View}
 use Rattle.ell_cards.specs.Models.{PassModel, Steps, Has, latest, earlier, Does}
-use Rattle.ell_cards.specs.Changes.{after_begin, after_next, after_claim, after_flag, with_found, found_word, found_update, told_filling, told_fixed, filling_of}
+use Rattle.ell_cards.specs.Changes.{after_next, after_claim, after_flag, with_found, found_word, found_update, told_filling, told_fixed, filling_of}
 use Rattle.ell_cards.specs.Guards.{MayIFlag, MayStop, IsFilled}
 use Rattle.ell_cards_tests.specs.declared.searching.Place.{Place}
-use Rattle.ell_cards_tests.specs.Keeping.{Keeps}
 use Rattle.ell_cards_tests.specs.Places.{EndsAt}
 use Rattle.ell_cards_tests.specs.Tries.{HasFlagged, insert_stores, with_stores}
 use Rattle.ell_cards_tests.proofs.Keepings.{view_after, knows_new}
-use Rattle.ell_cards_tests.proofs.Cards.{insert_filling_of}
+use Rattle.ell_cards_tests.proofs.Cards.{filling_at}
 
 -- what was told stays so with what fills a card
 told_fixed_more : (c : ℕ) (f : Field) (x : ℕ) (es : List Told) (e : Told) → Has es e → Has (told_fixed c f x es) e
@@ -42,10 +41,6 @@ inserting c k place v = with_stores (insert_stores c k place) (after_claim true 
 
 pub filled_view : (v u w : View) (c k : ℕ) (place : Place) → u ≡ after_claim true c (after_next c v) → w ≡ with_stores (insert_stores c k place) u → w ≡ inserting c k place v
 filled_view v u w c k place e h = h ∙ ap (with_stores (insert_stores c k place)) e
-
--- an insert that has begun is in hand after its search
-pub inserts : (a b d : PassModel) (k : ℕ) → Steps a b (after_begin (Some (Insert k)) a.view) → Keeps b d → Does d.view (Insert k)
-inserts a b d k s keeps = keeps.view.operation ∙ ap (λ (v : View). v.worker.operation) (view_after a b (after_begin (Some (Insert k)) a.view) s)
 
 -- it may flag the parent
 pub may_iflag : (v w : View) (c k : ℕ) (place : Place) → w ≡ inserting c k place v → Does v (Insert k) → EndsAt v (Insert k) place → IsFilled w
@@ -77,7 +72,7 @@ flagged_view v u a b c k place r e h s =
 pub has_flagged : (v w : View) (c k : ℕ) (place : Place) (r : Result (Unit {0}) Update) → w ≡ flagging c k place r v → is_ok r ≡ true → Does v (Insert k)
     → EndsAt v (Insert k) place → HasFlagged w c k place.parent.node place.leaf (max k place.key)
 has_flagged v w c k place (Ok won) e ok busy ends =
-    let fills : filling_of c (after_next c v) ≡ insert_filling c k place.parent.node place.leaf place.key = insert_filling_of v c k place busy ends in
+    let fills : filling_of c (after_next c v) ≡ insert_filling c k place.parent.node place.leaf place.key = filling_at v c (Insert k) place busy ends in
     let told : (flagging c k place (Ok won) v).told ≡ told_filling c (insert_filling c k place.parent.node place.leaf place.key) v.told
     = ap (λ fs. told_filling c fs v.told) fills in
     subst (λ (u : View). HasFlagged u c k place.parent.node place.leaf (max k place.key)) (sym e) (record {

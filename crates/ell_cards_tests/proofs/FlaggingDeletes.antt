@@ -1,30 +1,24 @@
-use Rattle.std.proofs.Common.{◌≡◌, ℕ, true, false, Option, Some, None, Result, Ok, Err, List, refl, sym, ◌∙◌, ap, subst, is_ok, unwrap_or, IfSome}
-use Rattle.ell_ops.specs.declared.op.Op.{Op}
+use Rattle.std.proofs.Common.{◌≡◌, ℕ, true, false, Option, Some, None, Result, Ok, Err, List, refl, sym, ◌∙◌, ap, subst, is_ok, IfSome}
 use Rattle.ell_ops.specs.declared.op.Op.TheVariants.{Delete}
 use Rattle.ell_word.specs.declared.update.Update.{Update}
 use Rattle.ell_word.specs.Word.{packed}
 use Rattle.ell_core.specs.declared.fact.Fact.TheVariants as fact
 use Rattle.ell_core.specs.declared.field.Field.{Field}
 use Rattle.ell_core.specs.declared.field.Field.TheVariants as field
-use Rattle.ell_core.specs.declared.view.Seen.{Seen}
 use Rattle.ell_core.specs.state.Cards.{delete_filling}
 use Rattle.ell_cards.specs.declared.view.Told.{Told}
 use Rattle.ell_cards.specs.declared.view.Told.TheVariants.{Met, Info}
 use Rattle.ell_cards.specs.declared.view.View.{View}
 use Rattle.ell_cards.specs.Models.{PassModel, Steps, Has, latest, earlier, IsTold, Does}
-use Rattle.ell_cards.specs.Changes.{after_begin, after_next, after_claim, after_flag, with_found, found_word, found_update, told_filling, filling_for, filling_of}
+use Rattle.ell_cards.specs.Changes.{after_next, after_claim, after_flag, with_found, found_word, found_update, told_filling, filling_for, filling_of}
 use Rattle.ell_cards.specs.Guards.{MayDFlag, MayStop, IsFilled}
 use Rattle.ell_cards_tests.specs.declared.searching.Passed.{Passed}
 use Rattle.ell_cards_tests.specs.declared.searching.Place.{Place}
-use Rattle.ell_cards_tests.specs.Keeping.{Keeps}
 use Rattle.ell_cards_tests.specs.Places.{EndsAt, seen, seen_any}
 use Rattle.ell_cards_tests.specs.Tries.{HasFlaggedDelete, delete_stores, with_stores}
 use Rattle.ell_cards_tests.proofs.Keepings.{view_after, knows_new}
+use Rattle.ell_cards_tests.proofs.Cards.{filling_at}
 use Rattle.ell_cards_tests.proofs.Flagging.{told_filling_more}
-
--- a delete that has begun is in hand after its search
-pub deletes : (a b d : PassModel) (k : ℕ) → Steps a b (after_begin (Some (Delete k)) a.view) → Keeps b d → Does d.view (Delete k)
-deletes a b d k s keeps = keeps.view.operation ∙ ap (λ (v : View). v.worker.operation) (view_after a b (after_begin (Some (Delete k)) a.view) s)
 
 module _ (v : View) (c k : ℕ) (place : Place) (above : Passed) (busy : Does v (Delete k)) (ends : EndsAt v (Delete k) place) (is : place.grandparent ≡ Some above) where
   abbrev filling : List (Field × ℕ)
@@ -36,10 +30,8 @@ module _ (v : View) (c k : ℕ) (place : Place) (above : Passed) (busy : Does v 
   -- what its card is to say
   filling_is : filling_of c v ≡ filling
   filling_is =
-      ap (λ (o : Option Op). filling_for c o v.worker.search.node v.worker.search.parent v.worker.search.grandparent (unwrap_or v.here 0)) busy
-      ∙ (ap (λ (o : Option ℕ). filling_for c (Some (Delete k)) o v.worker.search.parent v.worker.search.grandparent (unwrap_or v.here 0)) ends.stands
-      ∙ (ap (λ (o : Option Seen). filling_for c (Some (Delete k)) (Some place.leaf) o v.worker.search.grandparent (unwrap_or v.here 0)) ends.behind
-      ∙ ap (λ (o : Option Seen). filling_for c (Some (Delete k)) (Some place.leaf) (Some (seen place.parent)) o (unwrap_or v.here 0)) above_is))
+      filling_at v c (Delete k) place busy ends
+      ∙ ap (λ (o : Option Passed). filling_for c (Some (Delete k)) (Some place.leaf) (Some (seen place.parent)) (seen_any o) place.key) is
 
   -- the view where the card is taken and filled
   abbrev pub deleting : View

@@ -1,4 +1,4 @@
-use Rattle.std.proofs.Common.{◌≡◌, ℕ, Bool, true, false, ◌||◌, if◌then◌else◌, List, ◌∷◌, refl, sym, ◌∙◌, ap, subst}
+use Rattle.std.proofs.Common.{◌≡◌, ℕ, Bool, true, false, ◌||◌, List, ◌∷◌, refl, sym, ◌∙◌, ap, subst, inl, inr}
 use Rattle.ell_word.specs.declared.update.Update.{Update}
 use Rattle.ell_word.specs.declared.update.State.{State}
 use Rattle.ell_word.specs.declared.update.State.TheVariants as state
@@ -10,7 +10,8 @@ use Rattle.ell_cards.specs.declared.view.Told.{Told}
 use Rattle.ell_cards.specs.declared.view.Told.TheVariants.{Met, Key, Frozen}
 use Rattle.ell_cards.specs.declared.view.View.{View}
 use Rattle.ell_cards.specs.Models.{PassModel, Steps, Has, latest, earlier, IsTold, Knows}
-use Rattle.ell_cards.specs.Changes.{facts_by, places_by, learning, with_found, after_upd, after_down, after_key_of, after_frozen_child, after_mark, is_mark_of, unmarking}
+use Rattle.ell_cards.specs.Changes.{facts_by, places_by, learning, with_found, after_upd, after_down, after_key_of, after_frozen_child}
+use Rattle.ell_cards.specs.Guards.{IsSibling}
 use Rattle.ell_cards_tests.specs.Keeping.{KeepsView, Keeps}
 
 or_true : (a : Bool) → (a || true) ≡ true
@@ -47,6 +48,10 @@ keeps_view_trans u v w h k = record {
   told = λ d e. k.told d (h.told d e);
 }
 
+pub sibling_more : (v w : View) (c l s : ℕ) → KeepsView v w → IsSibling v c l s → IsSibling w c l s
+sibling_more v w c l s k (inl h) = inl (k.told (Frozen c true s) h.0, h.1)
+sibling_more v w c l s k (inr h) = inr (k.told (Frozen c true l) h.0, k.told (Frozen c false s) h.1)
+
 pub keeps_trans : (a b c : PassModel) → Keeps a b → Keeps b c → Keeps a c
 keeps_trans a b c h k = record { table = k.table ∙ h.table; view = keeps_view_trans a.view b.view c.view h.view k.view }
 
@@ -68,16 +73,6 @@ upd_keeps old new x u s = keeps_step old new (after_upd x u old.view) s (record 
   told = places_by_more x u.state u.card old.view.told;
 })
 
-pub key_of_keeps : (old new : PassModel) (x key : ℕ) → Steps old new (after_key_of x key old.view) → Keeps old new
-key_of_keeps old new x key s = keeps_step old new (after_key_of x key old.view) s (record {
-  ledger = refl;
-  operation = refl;
-  card = refl;
-  flagged = refl;
-  knows = λ f h. h;
-  told = λ e h. earlier e _ _ h;
-})
-
 pub down_keeps : (old new : PassModel) (x child : ℕ) → Steps old new (after_down x child old.view) → Keeps old new
 down_keeps old new x child s = keeps_step old new (after_down x child old.view) s (record {
   ledger = refl;
@@ -88,58 +83,12 @@ down_keeps old new x child s = keeps_step old new (after_down x child old.view) 
   told = λ e h. earlier e _ _ h;
 })
 
-pub learning_kept : (f : Fact) (v : View) → KeepsView v (learning f v)
-learning_kept f v = record {
-  ledger = refl;
-  operation = refl;
-  card = refl;
-  flagged = refl;
-  knows = λ g h. knows_more f g v.worker.facts h;
-  told = λ e h. h;
-}
-
--- a mark, won or lost
-pub mark_kept : (won : Bool) (c x : ℕ) (u : Update) (v : View) → KeepsView v (after_mark won c x u v)
-mark_kept true c x u v = learning_kept (fact.Marked c) v
-mark_kept false c x u v = by (is_mark_of c u.state u.card)
-  where
-    by : (b : Bool) → KeepsView v (if b then learning (fact.Marked c) v else unmarking c x u v)
-    by true = learning_kept (fact.Marked c) v
-    by false = record {
-      ledger = refl;
-      operation = refl;
-      card = refl;
-      flagged = refl;
-      knows = λ g h. facts_by_more u.state u.card (fact.Unmarkable c ∷ v.worker.facts) g (knows_more (fact.Unmarkable c) g v.worker.facts h);
-      told = places_by_more x u.state u.card v.told;
-    }
-
-pub with_found_kept : (n : ℕ) (v w : View) → KeepsView v w → KeepsView v (with_found n w)
-with_found_kept n v w k = record { ledger = k.ledger; operation = k.operation; card = k.card; flagged = k.flagged; knows = k.knows; told = k.told }
-
-pub mark_keeps : (old new : PassModel) (n : ℕ) (won : Bool) (c x : ℕ) (u : Update) → Steps old new (with_found n (after_mark won c x u old.view)) → Keeps old new
-mark_keeps old new n won c x u s =
-    keeps_step old new (with_found n (after_mark won c x u old.view)) s (with_found_kept n old.view (after_mark won c x u old.view) (mark_kept won c x u old.view))
-
-pub frozen_child_keeps : (old new : PassModel) (c : ℕ) (right : Bool) (x : ℕ) → Steps old new (after_frozen_child c right x old.view) → Keeps old new
-frozen_child_keeps old new c right x s = keeps_step old new (after_frozen_child c right x old.view) s (record {
-  ledger = refl;
-  operation = refl;
-  card = refl;
-  flagged = refl;
-  knows = λ f h. h;
-  told = λ e h. earlier e _ _ (earlier e _ _ h);
-})
-
 -- a child that was seen is told, and met
 pub frozen_told : (old new : PassModel) (c : ℕ) (right : Bool) (x : ℕ) → Steps old new (after_frozen_child c right x old.view) → IsTold new.view (Frozen c right x) × IsTold new.view (Met x)
 frozen_told old new c right x s =
     subst (λ (w : View). IsTold w (Frozen c right x) × IsTold w (Met x)) (sym (view_after old new (after_frozen_child c right x old.view) s)) (latest _ _, earlier _ _ _ (latest _ _))
 
 -- a step that teaches a fact
-pub learn_keeps : (old new : PassModel) (f : Fact) (n : ℕ) → Steps old new (with_found n (learning f old.view)) → Keeps old new
-learn_keeps old new f n s = keeps_step old new (with_found n (learning f old.view)) s (with_found_kept n old.view (learning f old.view) (learning_kept f old.view))
-
 pub learns : (old new : PassModel) (f : Fact) (n : ℕ) → Steps old new (with_found n (learning f old.view)) → Knows new.view f
 learns old new f n s = subst (λ (w : View). Knows w f) (sym (view_after old new (with_found n (learning f old.view)) s)) (knows_new f old.view.worker.facts)
 

@@ -1,18 +1,15 @@
-use Rattle.std.proofs.Common.{ℕ, nat_le, true, refl, ◌∙◌, inl, inr}
+use Rattle.std.proofs.Common.{ℕ, nat_le, true, refl, ◌∙◌, inr}
 use Rattle.ell_ops.specs.declared.op.Op.TheVariants.{Delete}
 use Rattle.ell_core.specs.declared.fact.Fact.TheVariants as fact
 use Rattle.ell_core.specs.declared.field.Field.TheVariants as field
-use Rattle.ell_cards.specs.declared.view.Told.TheVariants.{Met, Info, Frozen}
+use Rattle.ell_cards.specs.declared.view.Told.TheVariants.{Met, Info}
 use Rattle.ell_cards.specs.Models.{PassModel, Steps}
 use Rattle.ell_cards.specs.Changes.{after_key_of, learning, with_found}
-use Rattle.ell_cards.specs.Guards.{IsSibling, MayDChild, MayDUnflag, MayAnswer, MayStop}
+use Rattle.ell_cards.specs.Guards.{MayDChild, MayDUnflag, MayAnswer, MayStop}
 use Rattle.ell_cards_tests.specs.Keeping.{Keeps}
 use Rattle.ell_cards_tests.specs.Tries.{HasFlaggedDelete, HasMarked}
-use Rattle.ell_cards_tests.proofs.Keepings.{key_of_keeps, key_told, learn_keeps, learns}
-
-sibling_kept : (a b : PassModel) (c l s : ℕ) → Keeps a b → IsSibling a.view c l s → IsSibling b.view c l s
-sibling_kept a b c l s keeps (inl h) = inl (keeps.view.told (Frozen c true s) h.0, h.1)
-sibling_kept a b c l s keeps (inr h) = inr (keeps.view.told (Frozen c true l) h.0, keeps.view.told _ h.1)
+use Rattle.ell_cards_tests.proofs.Keepings.{key_told, learns, sibling_more}
+use Rattle.ell_cards_tests.proofs.Asides.{key_of_keeps, learn_keeps}
 
 module _ (c k gp p l was : ℕ) where
   -- a delete's flag that was won stays so over other steps
@@ -40,7 +37,7 @@ module _ (c k gp p l was : ℕ) where
     marked_kept a b keeps h = record {
       flagged = flagged_delete_kept a b keeps h.flagged;
       marked = keeps.view.knows (fact.Marked c) h.marked;
-      sibling = sibling_kept a b c l s keeps h.sibling;
+      sibling = sibling_more a.view b.view c l s keeps.view h.sibling;
       met = keeps.view.told (Met s) h.met;
     }
 

@@ -1,6 +1,6 @@
-use Rattle.std.proofs.Common.{◌≡◌, ℕ, ◌≤◌, ◌==◌, Bool, true, false, nat_le, if◌then◌else◌, List, ◌∷◌, Option, Some, None, IfSome, MatchBool, refl, sym, ◌∙◌, ap, subst, inl, inr}
+use Rattle.std.proofs.Common.{◌≡◌, ℕ, ◌≤◌, ◌==◌, Bool, true, false, nat_le, if◌then◌else◌, List, ◌∷◌, Option, Some, None, Result, Ok, Err, is_ok, IfSome, MatchBool, refl, sym, ◌∙◌, ap, subst, inl, inr}
 use Rattle.ell_ops.specs.declared.op.Op.{Op}
-use Rattle.ell_ops.specs.declared.op.Op.TheVariants.{Insert, Delete}
+use Rattle.ell_ops.specs.declared.op.Op.TheVariants.{Delete}
 use Rattle.ell_ops.specs.Meaning.{key_of}
 use Rattle.ell_word.specs.Node.{greatest_card, IsInternal}
 use Rattle.ell_word.specs.Word.{packed}
@@ -17,14 +17,15 @@ use Rattle.ell_core.specs.acts.Searching.{IsLeaf, leaf_answer}
 use Rattle.ell_cards.specs.declared.view.Told.TheVariants.{Met}
 use Rattle.ell_cards.specs.declared.view.View.{View}
 use Rattle.ell_cards.specs.Models.{PassModel, TableModel, Steps, IsTold, Knows}
-use Rattle.ell_cards.specs.Changes.{after_begin, after_upd, after_key_of, after_next, after_claim, after_flag, after_mark, is_mark_of, learning, unmarking, with_found}
-use Rattle.ell_cards.specs.Guards.{MayStop, MayGoDown, MayAnswer, MayDFlag, IsFilled}
+use Rattle.ell_cards.specs.Changes.{after_begin, after_upd, after_key_of, after_next, after_claim, after_flag, after_mark, is_mark_of, learning, unmarking, with_found, found_word, found_update}
+use Rattle.ell_cards.specs.Guards.{IsOver, MayStop, MayGoDown, MayAnswer, MayDFlag, IsFilled}
 use Rattle.ell_cards.specs.Calls.{TellsLeaf}
 use Rattle.ell_cards_tests.specs.declared.memory.Memory.{Memory}
+use Rattle.ell_cards_tests.specs.declared.memory.TheConstants.{FACTS}
 use Rattle.ell_cards_tests.specs.declared.searching.Passed.{Passed}
 use Rattle.ell_cards_tests.specs.Places.{seen, seen_any}
 use Rattle.ell_cards_tests.specs.Tries.{with_stores}
-use Rattle.ell_cards_tests.specs.Remembering.{KnowsAny, KnowsAll, KnowsLostMark}
+use Rattle.ell_cards_tests.specs.Remembering.{KnowsAny, KnowsAll, KnowsLostMark, KnowsMark, Learns, flag_tells}
 use Rattle.ell_cards_tests.specs.Fitting.{Fits, IsIdle, IsNothing, IsReady, MayStopBy, ClaimsAt, StepsAside, packed_any, root_memory, ended_search}
 use Rattle.ell_cards_tests.proofs.Keepings.{view_after, knows_new, facts_by_more}
 use Rattle.ell_cards_tests.proofs.Descents.{told_here, ends_at}
@@ -42,14 +43,17 @@ ready_step t a b m n k v h s e fits = record {
   fits = subst (λ (w : View). Fits w n) (sym (ap (λ (p : PassModel). p.view) s)) (subst (Fits v) (sym e) fits);
 }
 
--- a fact that is known is remembered
-pub ready_known : (t : TableModel) (a : PassModel) (m n : Memory) (o : Option Fact) → IsReady t a m → n ≡ record m { known = n.known; turn = n.turn }
-    → ((v : View) → KnowsAll v m.known → KnowsAny v o → KnowsAll v n.known) → KnowsAny a.view o → IsReady t a n
-ready_known t a m n o h e more known = record {
+-- what is known is remembered
+pub ready_known : (t : TableModel) (a : PassModel) (m n : Memory) (Learnt : View → Type 0) → IsReady t a m → Learns m n Learnt → Learnt a.view → IsReady t a n
+ready_known t a m n Learnt h more known = record {
   own = h.own;
   limit = h.limit;
-  fits = fits_known a.view m n h.fits e (more a.view h.fits.knows known);
+  fits = fits_known a.view m n h.fits more.rest (more.known a.view h.fits.knows known);
 }
+
+-- what steps beside the search taught is remembered
+pub ready_learnt : (t : TableModel) (a b : PassModel) (m n : Memory) (Learnt : View → Type 0) → IsReady t a m → StepsAside a b → Learns m n Learnt → Learnt b.view → IsReady t b n
+ready_learnt t a b m n Learnt h s = ready_known t b m n Learnt (ready_aside t a b m h s)
 
 -- what an update that was read tells is known
 pub update_known : (a b : PassModel) (x : ℕ) (u : Update) (o : Option Fact) → Steps a b (after_upd x u a.view) → o ≡ told_by_state u.state u.card → KnowsAny b.view o
@@ -119,25 +123,20 @@ may_dflag_by v m k l c parent above h busy at behind up holds unflagged = record
   filled = h.filled c holds unflagged;
 }
 
--- a flag that was won, and one that was lost
-pub ready_won : (t : TableModel) (a b : PassModel) (m n k : Memory) (f : Fact) (w x : ℕ) (u : Update) (ok : Bool) → IsReady t a m
-    → Steps a b (with_found w (after_flag ok f x u a.view)) → ok ≡ true → n ≡ ended_search true m → k ≡ record n { known = k.known; turn = k.turn }
-    → ((v : View) → KnowsAll v n.known → KnowsAny v (Some f) → KnowsAll v k.known) → IsReady t b k
-ready_won t a b m n k f w x u ok h s won e rest more =
-    let s' = subst (λ (o : Bool). Steps a b (with_found w (after_flag o f x u a.view))) won s in
-    ready_known t b n k (Some f)
-    (ready_step t a b m n (ended_search true m) (with_found w (after_flag true f x u a.view)) h s' e (fits_flag_won a.view m w f x u h.fits)) rest more
-    (subst (λ (v : View). Knows v f) (sym (view_after a b (with_found w (after_flag true f x u a.view)) s')) (knows_new f a.view.worker.facts))
-
-pub ready_lost : (t : TableModel) (a b : PassModel) (m n k : Memory) (f : Fact) (o : Option Fact) (w x : ℕ) (u : Update) (ok : Bool) → IsReady t a m
-    → Steps a b (with_found w (after_flag ok f x u a.view)) → ok ≡ false → n ≡ ended_search false m → k ≡ record n { known = k.known; turn = k.turn }
-    → ((v : View) → KnowsAll v n.known → KnowsAny v o → KnowsAll v k.known) → o ≡ told_by_state u.state u.card → IsReady t b k
-ready_lost t a b m n k f o w x u ok h s lost e rest more told =
-    let s' = subst (λ (z : Bool). Steps a b (with_found w (after_flag z f x u a.view))) lost s in
-    ready_known t b n k o
-    (ready_step t a b m n (ended_search false m) (with_found w (after_flag false f x u a.view)) h s' e (fits_flag_lost a.view m w f x u h.fits)) rest more
-    (subst (KnowsAny b.view) (sym told)
-    (facts_by_new u.state u.card a.view.worker.facts b.view (ap (λ (v : View). v.worker.facts) (view_after a b (with_found w (after_flag false f x u a.view)) s'))))
+-- a flag that was won, or lost
+pub ready_flagged : (t : TableModel) (a b : PassModel) (m n : Memory) (f : Fact) (x : ℕ) (u : Update) (r : Result (Unit {0}) Update) → IsReady t a m
+    → Steps a b (with_found (found_word (packed u) r) (after_flag (is_ok r) f x (found_update u r) a.view))
+    → Learns (ended_search (is_ok r) m) n (λ v. KnowsAny v (flag_tells f r)) → IsReady t b n
+ready_flagged t a b m n f x u (Ok won) h s more =
+    let w = with_found (packed u) (after_flag true f x u a.view) in
+    ready_known t b (ended_search true m) n (λ v. Knows v f)
+    (ready_step t a b m (ended_search true m) (ended_search true m) w h s refl (fits_flag_won a.view m (packed u) f x u h.fits)) more
+    (subst (λ (v : View). Knows v f) (sym (view_after a b w s)) (knows_new f a.view.worker.facts))
+ready_flagged t a b m n f x u (Err found) h s more =
+    let w = with_found (packed found) (after_flag false f x found a.view) in
+    ready_known t b (ended_search false m) n (λ v. KnowsAny v (told_by_state found.state found.card))
+    (ready_step t a b m (ended_search false m) (ended_search false m) w h s refl (fits_flag_lost a.view m (packed found) f x found h.fits)) more
+    (facts_by_new found.state found.card a.view.worker.facts b.view (ap (λ (v : View). v.worker.facts) (view_after a b w s)))
 
 -- a card that is claimed and filled
 pub ready_claimed : (t : TableModel) (a b d : PassModel) (m : Memory) (c : ℕ) (stores : List (Field × ℕ)) → IsReady t a m → b.table ≡ a.table → d.table ≡ b.table
@@ -175,16 +174,7 @@ claims_at a b m op x key parent h s busy at read behind no_card outer calm limit
       limit = limit;
     })
 
--- a mark that was won
-pub ready_marked : (t : TableModel) (a b : PassModel) (m n : Memory) (c x w : ℕ) (u : Update) (ok : Bool) → IsReady t a m
-    → Steps a b (with_found w (after_mark ok c x u a.view)) → ok ≡ true → n ≡ record m { known = n.known; turn = n.turn }
-    → ((v : View) → KnowsAll v m.known → KnowsAny v (Some (fact.Marked c)) → KnowsAll v n.known) → IsReady t b n
-ready_marked t a b m n c x w u ok h s won rest more =
-    let s' = subst (λ (o : Bool). Steps a b (with_found w (after_mark o c x u a.view))) won s in
-    ready_known t b m n (Some (fact.Marked c)) (ready_aside t a b m h (mark_aside a b w ok c x u s)) rest more
-    (subst (λ (v : View). Knows v (fact.Marked c)) (sym (view_after a b (with_found w (after_mark true c x u a.view)) s')) (knows_new (fact.Marked c) a.view.worker.facts))
-
--- one that was lost tells of the card
+-- a lost mark tells of its card
 lost_mark_known : (v : View) (c x w : ℕ) (u : Update) → KnowsLostMark (with_found w (after_mark false c x u v)) c u
 lost_mark_known v c x w u = by (is_mark_of c u.state u.card)
   where
@@ -196,33 +186,22 @@ lost_mark_known v c x w u = by (is_mark_of c u.state u.card)
       facts_by_new u.state u.card (fact.Unmarkable c ∷ v.worker.facts) (with_found w (unmarking c x u v)) refl,
     )
 
-pub ready_lost_mark : (t : TableModel) (a b : PassModel) (m n : Memory) (c x w : ℕ) (u found : Update) (ok : Bool) → IsReady t a m
-    → Steps a b (with_found w (after_mark ok c x u a.view)) → ok ≡ false → u ≡ found → n ≡ record m { known = n.known; turn = n.turn }
-    → ((v : View) → KnowsAll v m.known → KnowsLostMark v c found → KnowsAll v n.known) → IsReady t b n
-ready_lost_mark t a b m n c x w u found ok h s lost same rest more =
-    let s' = subst (λ (o : Bool). Steps a b (with_found w (after_mark o c x u a.view))) lost s in
-    let r = ready_aside t a b m h (mark_aside a b w ok c x u s) in
-    let knows = subst (λ (v : View). KnowsLostMark v c u) (sym (view_after a b (with_found w (after_mark false c x u a.view)) s')) (lost_mark_known a.view c x w u) in
-    record {
-      own = r.own;
-      limit = r.limit;
-      fits = fits_known b.view m n r.fits rest (more b.view r.fits.knows (subst (KnowsLostMark b.view c) same knows));
-    }
+-- a mark that was won, or lost
+pub ready_marked : (t : TableModel) (a b : PassModel) (m n : Memory) (c x w : ℕ) (u : Update) (r : Result (Unit {0}) Update) → IsReady t a m
+    → Steps a b (with_found (found_word w r) (after_mark (is_ok r) c x (found_update u r) a.view)) → Learns m n (λ v. KnowsMark v c r) → IsReady t b n
+ready_marked t a b m n c x w u (Ok won) h s more =
+    ready_learnt t a b m n (λ v. Knows v (fact.Marked c)) h (mark_aside a b w true c x u s) more
+    (subst (λ (v : View). Knows v (fact.Marked c)) (sym (view_after a b (with_found w (after_mark true c x u a.view)) s)) (knows_new (fact.Marked c) a.view.worker.facts))
+ready_marked t a b m n c x w u (Err found) h s more =
+    ready_learnt t a b m n (λ v. KnowsLostMark v c found) h (mark_aside a b (packed found) false c x found s) more
+    (subst (λ (v : View). KnowsLostMark v c found) (sym (view_after a b (with_found (packed found) (after_mark false c x found a.view)) s)) (lost_mark_known a.view c x (packed found) found))
 
 -- the answer by the card in hand, which is remembered over
-pub card_may_insert : (v : View) (m : Memory) (op : Op) (k c : ℕ) → op ≡ Insert k → m.card ≡ Some c → m.flagged ≡ true → (KnowsAll v m.known → Knows v (fact.IOver c))
-    → Fits v m → m.op ≡ Some op → MayAnswer v true
-card_may_insert v m op k c is holds flagged over h busy = record {
-  op = Insert k;
-  busy = h.operation ∙ (busy ∙ ap Some is);
-  answers = inr (record { card = c; holds = h.card ∙ holds; flagged = h.flagged ∙ flagged; over = over h.knows; yes = refl });
-}
-
-pub card_may_delete : (v : View) (m : Memory) (op : Op) (k c : ℕ) → op ≡ Delete k → m.card ≡ Some c → m.flagged ≡ true → (KnowsAll v m.known → Knows v (fact.DOver c))
-    → Fits v m → m.op ≡ Some op → MayAnswer v true
-card_may_delete v m op k c is holds flagged over h busy = record {
-  op = Delete k;
-  busy = h.operation ∙ (busy ∙ ap Some is);
+pub card_may : (v : View) (m : Memory) (op is : Op) (c : ℕ) → op ≡ is → m.card ≡ Some c → m.flagged ≡ true → (KnowsAll v m.known → IsOver v is c) → Fits v m → m.op ≡ Some op
+    → MayAnswer v true
+card_may v m op is c same holds flagged over h busy = record {
+  op = is;
+  busy = h.operation ∙ (busy ∙ ap Some same);
   answers = inr (record { card = c; holds = h.card ∙ holds; flagged = h.flagged ∙ flagged; over = over h.knows; yes = refl });
 }
 
@@ -236,7 +215,7 @@ ready_idle t p m own limit idle e = record {
     search = ap (λ (w : WorkerView). w.search) idle;
     card = ap (λ (w : WorkerView). w.card) idle;
     flagged = ap (λ (w : WorkerView). w.flagged) idle;
-    knows = All-replicate (KnowsAny p.view) 16 None tt;
+    knows = All-replicate (KnowsAny p.view) FACTS None tt;
     met = λ x h. cc h;
     met_parent = λ x h. cc h;
     met_above = λ x h. cc h;
@@ -249,4 +228,4 @@ pub ready_begun : (t : TableModel) (a b : PassModel) (m n k : Memory) (op : Op) 
     → n ≡ root_memory (Some op) k → IsReady t b n
 ready_begun t a b m n k op h s nothing e =
     ready_step t a b m n (root_memory (Some op) k) (after_begin (Some op) a.view) h s e
-    (fits_root a.view k (Some op) (subst (λ (j : Memory). KnowsAll a.view j.known) (sym nothing) (All-replicate (KnowsAny a.view) 16 None tt)))
+    (fits_root a.view k (Some op) (subst (λ (j : Memory). KnowsAll a.view j.known) (sym nothing) (All-replicate (KnowsAny a.view) FACTS None tt)))

@@ -14,6 +14,7 @@ use Rattle.ell_cards.specs.Models.{PassModel, TableModel, IsTold, Knows, Does}
 use Rattle.ell_cards.specs.Changes.{idle_worker}
 use Rattle.ell_cards.specs.Guards.{IsFilled}
 use Rattle.ell_cards_tests.specs.declared.memory.Memory.{Memory}
+use Rattle.ell_cards_tests.specs.declared.memory.TheConstants.{FACTS}
 use Rattle.ell_cards_tests.specs.declared.searching.Passed.{Passed}
 use Rattle.ell_cards_tests.specs.declared.searching.Place.{Place}
 use Rattle.ell_cards_tests.specs.Keeping.{KeepsView}
@@ -46,12 +47,12 @@ pub record IsReady (t : TableModel) (p : PassModel) (m : Memory) : Type 0 where
   pub limit : t.cards ≤ greatest_card
   pub fits : Fits p.view m
 
--- what is remembered where the search stands at the root, and with nothing in hand
-abbrev pub root_memory : Option Op → Memory → Memory
-root_memory op m = record m { op = op; node = Some 0; read = None; parent = None; grandparent = None; card = None; flagged = false }
-
+-- what is remembered with nothing in hand, and where the search stands at the root
 abbrev pub idle_memory : Memory → Memory
 idle_memory m = record m { op = None; node = None; read = None; parent = None; grandparent = None; card = None; flagged = false }
+
+abbrev pub root_memory : Option Op → Memory → Memory
+root_memory op m = record (idle_memory m) { op = op; node = Some 0 }
 
 -- and after a flag that was won, or lost
 abbrev pub ended_search : Bool → Memory → Memory
@@ -94,4 +95,4 @@ IsIdle v = v.worker ≡ idle_worker v.worker.ledger v.worker.facts
 
 -- nothing is remembered
 abbrev pub IsNothing : Memory → Type 0
-IsNothing m = m ≡ record { op = None; node = None; read = None; parent = None; grandparent = None; card = None; flagged = false; known = replicate 16 None; turn = 0 }
+IsNothing m = m ≡ record { op = None; node = None; read = None; parent = None; grandparent = None; card = None; flagged = false; known = replicate FACTS None; turn = 0 }

@@ -2,15 +2,15 @@
 ghost use Rattle.std.specs.Prelude.{◌≡◌};
 ghost use Rattle.ell_cards.specs.declared.view.Told.TheVariants.{Met, Key, Info, Frozen};
 ghost use Rattle.ell_cards.specs.Models.{IsTold};
-ghost use Rattle.ell_cards.specs.Guards.{MayAsk, MaySee};
+ghost use Rattle.ell_cards.specs.Guards.{IsSibling, MayAsk, MaySee};
 ghost use Rattle.ell_cards_tests.specs.Fitting.{NamesNode, StepsAside};
 
 use ell_cards::{CardTable, Pass};
 use ell_core::Field;
 use std::alloc::Global;
 
-#[tactic(auto, using(crate::proofs::Asides::key_aside, crate::proofs::Keepings::key_told))]
 /// Reads the key of a node that the pass has met.
+#[tactic(auto, using(crate::proofs::Keepings::key_told))]
 pub(crate) fn look_key(table: &CardTable<Global>, pass: &mut Pass<Global>, node: u64) -> u64
     requires own { pass.old.table ≡ table.now.id }
     requires met { IsTold pass.old.view (Met node) }
@@ -20,8 +20,8 @@ pub(crate) fn look_key(table: &CardTable<Global>, pass: &mut Pass<Global>, node:
     table.key_of(pass, node)
 }
 
-#[tactic(auto, using(crate::proofs::Asides::info_aside, crate::proofs::Asides::info_told, crate::proofs::Asides::info_met))]
 /// Reads a word of a card that the pass knows flagged or marked.
+#[tactic(auto, using(crate::proofs::Asides::info_told, crate::proofs::Asides::info_met))]
 pub(crate) fn look_info(
     table: &CardTable<Global>,
     pass: &mut Pass<Global>,
@@ -37,8 +37,8 @@ pub(crate) fn look_info(
     table.info(pass, card, field)
 }
 
-#[tactic(auto, using(crate::proofs::Asides::frozen_aside, crate::proofs::Asides::frozen_child_told, crate::proofs::Asides::frozen_child_met))]
 /// Reads a child of the parent that a card has marked.
+#[tactic(auto, using(crate::proofs::Asides::frozen_child_told))]
 pub(crate) fn look_child(
     table: &CardTable<Global>,
     pass: &mut Pass<Global>,
@@ -53,4 +53,26 @@ pub(crate) fn look_child(
     ensures met { IsTold pass.new.view (Met result) }
 {
     table.frozen_child(pass, card, parent, right)
+}
+
+/// Reads the sibling of a leaf at the parent that a card has marked.
+#[tactic(auto, using(crate::proofs::Asides::asides))]
+pub(crate) fn look_sibling(
+    table: &CardTable<Global>,
+    pass: &mut Pass<Global>,
+    card: u64,
+    parent: u64,
+    leaf: u64,
+) -> u64
+    requires own { pass.old.table ≡ table.now.id }
+    requires may { MaySee pass.old.view card parent }
+    ensures aside { StepsAside pass.old pass.new }
+    ensures sibling { IsSibling pass.new.view card leaf result }
+    ensures met { IsTold pass.new.view (Met result) }
+{
+    let right = look_child(table, pass, card, parent, true);
+    if right != leaf {
+        return right;
+    }
+    look_child(table, pass, card, parent, false)
 }

@@ -1,9 +1,8 @@
 //! The acts by which an operation takes a card and sets its flag, each where what it needs is remembered.
-ghost use Rattle.std.specs.Prelude.{◌≡◌, ◌≤◌, None, Some};
+ghost use Rattle.std.specs.Prelude.{is_ok};
 ghost use Rattle.ell_ops.specs.declared.op.Op.TheVariants.{Insert, Delete};
-ghost use Rattle.ell_word.specs.Node.{greatest_card};
-ghost use Rattle.ell_word.specs.declared.update.State.TheVariants.{Clean};
 ghost use Rattle.ell_cards_tests.specs.Fitting.{ClaimsAt, IsReady, ended_search};
+ghost use Rattle.ell_cards_tests.specs.Remembering.{KnowsAny, Learns, flag_tells};
 
 use crate::deleting::{calm_grandparent, fill_delete};
 use crate::inserting::fill_insert;
@@ -13,7 +12,7 @@ use crate::trying::take_card;
 use ell_cards::{CardTable, Pass};
 use ell_core::{Fact, Stepped};
 use ell_ops::Op;
-use ell_word::{CARD_MAX, State, is_internal};
+use ell_word::{CARD_MAX, State, Update, is_internal};
 use std::alloc::Global;
 
 /// Takes the next card and fills it, where the pass stands at a leaf behind a parent that was read clean.
@@ -91,15 +90,24 @@ fn claim_for_delete(
     Some(Stepped::Moved)
 }
 
-// The search stands nowhere, and the card in hand is flagged, or laid aside.
-fn end_search(memory: &mut Memory, won: bool)
-    ensures { memory.new ≡ ended_search won memory.old }
+// The search ends with the exchange for a flag: won, the card in hand is flagged, and lost, it is laid aside.
+fn end_search(memory: &mut Memory, flag: Result<(), Update>, new: Fact) -> Stepped
+    ensures { Learns (ended_search (is_ok flag) memory.old) memory.new (λ v. KnowsAny v (flag_tells new flag)) }
 {
     memory.node = None;
     memory.read = None;
-    memory.flagged = won;
-    if !won {
-        memory.card = None;
+    match flag {
+        Ok(()) => {
+            memory.flagged = true;
+            remember(memory, Some(new));
+            Stepped::Won
+        }
+        Err(found) => {
+            memory.flagged = false;
+            memory.card = None;
+            remember(memory, fact_of(found));
+            Stepped::Lost
+        }
     }
 }
 
@@ -121,18 +129,8 @@ pub(crate) fn iflag(
     if memory.flagged {
         return None;
     }
-    match table.iflag(pass, card, parent.node, parent.update) {
-        Ok(()) => {
-            end_search(memory, true);
-            remember(memory, Some(Fact::IFlagged(card)));
-            Some(Stepped::Won)
-        }
-        Err(found) => {
-            end_search(memory, false);
-            remember(memory, fact_of(found));
-            Some(Stepped::Lost)
-        }
-    }
+    let flag = table.iflag(pass, card, parent.node, parent.update);
+    Some(end_search(memory, flag, Fact::IFlagged(card)))
 }
 
 /// Flags the grandparent for the delete whose card is in hand.
@@ -155,16 +153,6 @@ pub(crate) fn dflag(
     if memory.flagged {
         return None;
     }
-    match table.dflag(pass, card, above.node, above.update) {
-        Ok(()) => {
-            end_search(memory, true);
-            remember(memory, Some(Fact::DFlagged(card)));
-            Some(Stepped::Won)
-        }
-        Err(found) => {
-            end_search(memory, false);
-            remember(memory, fact_of(found));
-            Some(Stepped::Lost)
-        }
-    }
+    let flag = table.dflag(pass, card, above.node, above.update);
+    Some(end_search(memory, flag, Fact::DFlagged(card)))
 }

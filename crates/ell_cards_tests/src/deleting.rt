@@ -8,14 +8,14 @@ ghost use Rattle.ell_word.specs.Word.{packed};
 ghost use Rattle.ell_core.specs.declared.fact.Fact.TheVariants.{Marked, Unmarkable};
 ghost use Rattle.ell_core.specs.state.Cards.{delete_filling};
 ghost use Rattle.ell_core.specs.state.Machine.{ledger_of};
-ghost use Rattle.ell_cards.specs.declared.view.Told.TheVariants.{Met};
-ghost use Rattle.ell_cards.specs.Models.{IsFree, IsTold, Knows};
+ghost use Rattle.ell_cards.specs.Models.{IsFree, Knows};
 ghost use Rattle.ell_cards.specs.Changes.{is_mark_of};
-ghost use Rattle.ell_cards.specs.Guards.{IsFilled, IsSibling, MayMark, MaySee};
+ghost use Rattle.ell_cards.specs.Guards.{IsFilled, MayMark};
 ghost use Rattle.ell_cards_tests.specs.declared.trying.Tried.TheVariants.{Answered};
 ghost use Rattle.ell_cards_tests.specs.Keeping.{Keeps};
 ghost use Rattle.ell_cards_tests.specs.Tries.{EndsAs, HasFlaggedDelete, HasMarked, IsFresh, delete_stores, with_stores};
 
+use crate::asking::look_sibling;
 use crate::searching::{Passed, Place, search};
 use crate::trying::{Tried, take_card};
 use ell_cards::{CardTable, Pass};
@@ -75,27 +75,6 @@ fn set_mark(
     }
 }
 
-// The sibling of the leaf at the parent that a delete has marked.
-fn find_sibling(
-    table: &CardTable<Global>,
-    pass: &mut Pass<Global>,
-    card: u64,
-    parent: u64,
-    leaf: u64,
-) -> u64
-    requires own { pass.old.table ≡ table.now.id }
-    requires may { MaySee pass.old.view card parent }
-    ensures keeps { Keeps pass.old pass.new }
-    ensures sibling { IsSibling pass.new.view card leaf result }
-    ensures met { IsTold pass.new.view (Met result) }
-{
-    let right = table.frozen_child(pass, card, parent, true);
-    if right != leaf {
-        return right;
-    }
-    table.frozen_child(pass, card, parent, false)
-}
-
 // Cuts the parent that a delete has marked out of the tree, takes the flag away, and answers.
 fn cut(
     table: &CardTable<Global>,
@@ -143,7 +122,7 @@ pub fn finish_delete(
         table.leave(pass);
         return Tried::Left;
     }
-    let sibling = find_sibling(table, pass, card, parent, place.leaf);
+    let sibling = look_sibling(table, pass, card, parent, place.leaf);
     cut(table, pass, card, key, grandparent, place, sibling);
     Tried::Answered(true)
 }

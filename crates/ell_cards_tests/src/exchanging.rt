@@ -1,8 +1,6 @@
 //! The acts that exchange for a card, each where what it needs is remembered.
-ghost use Rattle.std.specs.Prelude.{◌≡◌};
-ghost use Rattle.ell_cards.specs.declared.view.View.{View};
 ghost use Rattle.ell_cards_tests.specs.Fitting.{IsReady};
-ghost use Rattle.ell_cards_tests.specs.Remembering.{KnowsAll, KnowsLostMark};
+ghost use Rattle.ell_cards_tests.specs.Remembering.{KnowsMark, Learns};
 
 use crate::asking::look_info;
 use crate::deleting::is_mark;
@@ -123,27 +121,28 @@ pub(crate) fn mark(
     }
     let parent = look_info(table, pass, card, Field::P);
     let was = look_info(table, pass, card, Field::Was);
-    match table.mark(pass, card, parent, was) {
-        Ok(()) => {
-            remember(memory, Some(Fact::Marked(card)));
-            Some(Stepped::Won)
-        }
-        Err(found) => {
-            learn_lost_mark(memory, card, found);
-            Some(Stepped::Lost)
-        }
-    }
+    let mark = table.mark(pass, card, parent, was);
+    Some(learn_mark(memory, card, mark))
 }
 
-// What a lost mark found is remembered: the card's own mark, or that the card is unmarkable, and what the update tells.
-fn learn_lost_mark(memory: &mut Memory, card: u64, found: Update)
-    ensures rest { memory.new ≡ record (memory.old) { known = memory.new.known; turn = memory.new.turn } }
-    ensures known { (v : View) → KnowsAll v memory.old.known → KnowsLostMark v card found → KnowsAll v memory.new.known }
+// What a mark tells is remembered: won, that it stands, and lost, the card's own mark, or that the card is unmarkable, and what the
+// update tells that was found.
+fn learn_mark(memory: &mut Memory, card: u64, mark: Result<(), Update>) -> Stepped
+    ensures { Learns memory.old memory.new (λ v. KnowsMark v card mark) }
 {
-    if is_mark(card, found) {
-        remember(memory, Some(Fact::Marked(card)));
-    } else {
-        remember(memory, Some(Fact::Unmarkable(card)));
-        remember(memory, fact_of(found));
+    match mark {
+        Ok(()) => {
+            remember(memory, Some(Fact::Marked(card)));
+            Stepped::Won
+        }
+        Err(found) => {
+            if is_mark(card, found) {
+                remember(memory, Some(Fact::Marked(card)));
+            } else {
+                remember(memory, Some(Fact::Unmarkable(card)));
+                remember(memory, fact_of(found));
+            }
+            Stepped::Lost
+        }
     }
 }

@@ -1,19 +1,17 @@
 //! Steps beside the search that exchange, each by the words of a card that the pass reads first.
+#![tactic(auto, using(crate::proofs::Asides::asides))]
+
 ghost use Rattle.std.specs.Prelude.{◌≡◌};
 ghost use Rattle.ell_core.specs.declared.fact.Fact.TheVariants as fact;
-ghost use Rattle.ell_core.specs.declared.field.Field.TheVariants as field;
-ghost use Rattle.ell_cards.specs.declared.view.Told.TheVariants.{Info, Met};
-ghost use Rattle.ell_cards.specs.Models.{IsTold, Knows, KnowsCard};
-ghost use Rattle.ell_cards.specs.Guards.{IsSibling, MaySee};
+ghost use Rattle.ell_cards.specs.Models.{Knows, KnowsCard};
 ghost use Rattle.ell_cards_tests.specs.Fitting.{StepsAside};
 
-use crate::asking::{look_child, look_info, look_key};
+use crate::asking::{look_info, look_key, look_sibling};
 use ell_cards::{CardTable, Pass};
 use ell_core::Field;
 use std::alloc::Global;
 
 /// Makes the child exchange of an insert's card: whether it won.
-#[tactic(auto, using(crate::proofs::Asides::aside_told, crate::proofs::Asides::aside_knows, crate::proofs::Asides::aside_trans, crate::proofs::Asides::learn_aside, crate::proofs::Asides::aside_knows_card, crate::proofs::Keepings::learns, crate::proofs::Asides::aside_sibling))]
 pub(crate) fn change_child(table: &CardTable<Global>, pass: &mut Pass<Global>, card: u64) -> bool
     requires own { pass.old.table ≡ table.now.id }
     requires knows { Knows pass.old.view (fact.IFlagged card) }
@@ -29,7 +27,6 @@ pub(crate) fn change_child(table: &CardTable<Global>, pass: &mut Pass<Global>, c
 }
 
 /// Takes an insert's flag away: whether it won.
-#[tactic(auto, using(crate::proofs::Asides::aside_told, crate::proofs::Asides::aside_knows, crate::proofs::Asides::aside_trans, crate::proofs::Asides::learn_aside, crate::proofs::Asides::aside_knows_card, crate::proofs::Keepings::learns, crate::proofs::Asides::aside_sibling))]
 pub(crate) fn clear_insert(table: &CardTable<Global>, pass: &mut Pass<Global>, card: u64) -> bool
     requires own { pass.old.table ≡ table.now.id }
     requires knows { Knows pass.old.view (fact.IChanged card) }
@@ -41,30 +38,7 @@ pub(crate) fn clear_insert(table: &CardTable<Global>, pass: &mut Pass<Global>, c
     table.iunflag(pass, card, parent).is_ok()
 }
 
-// The sibling of a leaf at the parent that a card has marked.
-#[tactic(auto, using(crate::proofs::Asides::aside_told, crate::proofs::Asides::aside_knows, crate::proofs::Asides::aside_trans))]
-fn look_sibling(
-    table: &CardTable<Global>,
-    pass: &mut Pass<Global>,
-    card: u64,
-    parent: u64,
-    leaf: u64,
-) -> u64
-    requires own { pass.old.table ≡ table.now.id }
-    requires may { MaySee pass.old.view card parent }
-    ensures aside { StepsAside pass.old pass.new }
-    ensures sibling { IsSibling pass.new.view card leaf result }
-    ensures met { IsTold pass.new.view (Met result) }
-{
-    let right = look_child(table, pass, card, parent, true);
-    if right != leaf {
-        return right;
-    }
-    look_child(table, pass, card, parent, false)
-}
-
 /// Makes the child exchange of a delete's card: whether it won.
-#[tactic(auto, using(crate::proofs::Asides::aside_told, crate::proofs::Asides::aside_knows, crate::proofs::Asides::aside_trans, crate::proofs::Asides::learn_aside, crate::proofs::Asides::aside_knows_card, crate::proofs::Keepings::learns, crate::proofs::Asides::aside_sibling))]
 pub(crate) fn cut_parent(table: &CardTable<Global>, pass: &mut Pass<Global>, card: u64) -> bool
     requires own { pass.old.table ≡ table.now.id }
     requires knows { Knows pass.old.view (fact.Marked card) }
@@ -84,7 +58,6 @@ pub(crate) fn cut_parent(table: &CardTable<Global>, pass: &mut Pass<Global>, car
 }
 
 /// Takes a delete's flag away after its child exchange: whether it won.
-#[tactic(auto, using(crate::proofs::Asides::aside_told, crate::proofs::Asides::aside_knows, crate::proofs::Asides::aside_trans, crate::proofs::Asides::learn_aside, crate::proofs::Asides::aside_knows_card, crate::proofs::Keepings::learns, crate::proofs::Asides::aside_sibling))]
 pub(crate) fn clear_delete(table: &CardTable<Global>, pass: &mut Pass<Global>, card: u64) -> bool
     requires own { pass.old.table ≡ table.now.id }
     requires knows { Knows pass.old.view (fact.Cut card) }
@@ -97,7 +70,6 @@ pub(crate) fn clear_delete(table: &CardTable<Global>, pass: &mut Pass<Global>, c
 }
 
 /// Takes a delete's flag away after its lost mark: whether it won.
-#[tactic(auto, using(crate::proofs::Asides::aside_told, crate::proofs::Asides::aside_knows, crate::proofs::Asides::aside_trans, crate::proofs::Asides::learn_aside, crate::proofs::Asides::aside_knows_card, crate::proofs::Keepings::learns, crate::proofs::Asides::aside_sibling))]
 pub(crate) fn go_back(table: &CardTable<Global>, pass: &mut Pass<Global>, card: u64) -> bool
     requires own { pass.old.table ≡ table.now.id }
     requires knows { Knows pass.old.view (fact.Unmarkable card) }

@@ -4,7 +4,7 @@ ghost use Rattle.ell_core.specs.state.Facts.{told_by_state};
 ghost use Rattle.ell_cards.specs.declared.view.View.{View};
 ghost use Rattle.ell_cards.specs.Models.{Knows};
 ghost use Rattle.ell_cards_tests.specs.Fitting.{IsNothing};
-ghost use Rattle.ell_cards_tests.specs.Remembering.{KnowsAll, KnowsAny};
+ghost use Rattle.ell_cards_tests.specs.Remembering.{KnowsAll, KnowsAny, Learns};
 
 use crate::searching::Passed;
 use ell_core::Fact;
@@ -12,7 +12,7 @@ use ell_ops::Op;
 use ell_word::{State, Update};
 
 /// How many facts are remembered, the latest ones.
-const FACTS: usize = 16;
+pub(crate) const FACTS: usize = 16;
 
 /// What is remembered of a pass: operation, search, card in hand, and the latest facts that it learnt.
 #[derive(Clone, Copy, Debug, PartialEq, Eq, Hash)]
@@ -24,7 +24,7 @@ pub struct Memory {
     pub grandparent: Option<Passed>,
     pub card: Option<u64>,
     pub flagged: bool,
-    pub known: [Option<Fact>; 16],
+    pub known: [Option<Fact>; FACTS],
     pub turn: usize,
 }
 
@@ -40,15 +40,14 @@ pub fn nothing() -> Memory
         grandparent: None,
         card: None,
         flagged: false,
-        known: [None; 16],
+        known: [None; FACTS],
         turn: 0,
     }
 }
 
 /// Remembers a fact, if there is one that is not remembered yet, in place of the oldest.
 pub(crate) fn remember(memory: &mut Memory, fact: Option<Fact>)
-    ensures rest { memory.new ≡ record (memory.old) { known = memory.new.known; turn = memory.new.turn } }
-    ensures known { (v : View) → KnowsAll v memory.old.known → KnowsAny v fact → KnowsAll v memory.new.known }
+    ensures { Learns memory.old memory.new (λ v. KnowsAny v fact) }
 {
     if memory.known.iter().any(|known| *known == fact) {
         return;

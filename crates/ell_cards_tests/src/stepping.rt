@@ -44,30 +44,24 @@ pub fn step(
     }
 }
 
-// The search stands at the root.
-fn to_root(memory: &mut Memory, op: Option<Op>)
-    ensures { memory.new ≡ root_memory op memory.old }
-{
-    memory.op = op;
-    memory.node = Some(0);
-    memory.read = None;
-    memory.parent = None;
-    memory.grandparent = None;
-    memory.card = None;
-    memory.flagged = false;
-}
-
 // Nothing is in hand.
 fn lay_down(memory: &mut Memory)
     ensures { memory.new ≡ idle_memory memory.old }
 {
-    memory.op = None;
-    memory.node = None;
-    memory.read = None;
-    memory.parent = None;
-    memory.grandparent = None;
-    memory.card = None;
-    memory.flagged = false;
+    *memory = Memory {
+        known: memory.known,
+        turn: memory.turn,
+        ..nothing()
+    };
+}
+
+// The search stands at the root.
+fn to_root(memory: &mut Memory, op: Option<Op>)
+    ensures { memory.new ≡ root_memory op memory.old }
+{
+    lay_down(memory);
+    memory.op = op;
+    memory.node = Some(0);
 }
 
 // Takes an operation in hand. What was known before is forgotten.

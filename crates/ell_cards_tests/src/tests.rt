@@ -1,6 +1,7 @@
 //! Tables as a person worked them out.
 mod lifetimes;
 mod meeting;
+mod parting;
 mod playing;
 mod random_schedules;
 mod schedules;

@@ -1,4 +1,5 @@
 //! How a table begins, how its pass parts and comes together, and the words of its end.
+use super::parting::{joined, parted};
 use ell_cards::{CardFault, CardTable};
 use ell_core::Field;
 use std::test::Fail;
@@ -28,13 +29,9 @@ fn a_table_has_one_to_a_million_cards(rt: HostRuntime) {
 fn a_table_begins_parts_and_ends(rt: HostRuntime) -> Result<(), Fail> {
     let (table, mut pass) = CardTable::reserve(rt.alloc(), &[5, 7], 2)?;
     assert_eq!(rt; table.next(&mut pass), 1);
-    let Ok((left, right)) = table.split(pass, &[5]) else {
-        return Err("no memory")?;
-    };
+    let (left, right) = parted(&table, pass, &[5])?;
     assert!(rt; left.owns(5) && !left.owns(7) && right.owns(7) && !right.owns(5));
-    let Ok(both) = table.join(left, right) else {
-        return Err("no memory")?;
-    };
+    let both = joined(&table, left, right)?;
     assert!(rt; both.owns(5) && both.owns(7) && !both.owns(6));
     let closed = table.close(both);
     assert_eq!(rt; closed.cards(), 2);

@@ -4,6 +4,7 @@ ghost use Rattle.ell_word.specs.Node.{greatest_card};
 ghost use Rattle.ell_cards.specs.Models.{IsFree};
 ghost use Rattle.ell_cards_tests.specs.Fitting.{IsIdle, IsReady};
 
+use super::parting::joined;
 use crate::memory::{Memory, nothing};
 use crate::step;
 use ell_cards::{CardTable, Closed, Pass};
@@ -75,8 +76,8 @@ fn play_turn(
     }
 }
 
-#[tactic(auto, using(crate::proofs::Readiness::ready_idle))]
 /// A schedule of worker 0, the left pass, and of worker 1, the right one: the pass that they are joined to.
+#[tactic(auto, using(crate::proofs::Readiness::ready_idle))]
 pub fn play(
     rt: &impl Abort,
     table: &CardTable<Global>,
@@ -101,10 +102,7 @@ pub fn play(
         }
     }
     assert!(rt; one.op.is_none() && other.op.is_none());
-    let Ok(both) = table.join(first, second) else {
-        return Err("no memory")?;
-    };
-    Ok(both)
+    joined(table, first, second)
 }
 
 /// Each word of each card is the world's.

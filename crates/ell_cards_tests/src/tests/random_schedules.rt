@@ -4,8 +4,9 @@ ghost use Rattle.ell_word.specs.Node.{greatest_card};
 ghost use Rattle.ell_cards.specs.Models.{IsFree};
 ghost use Rattle.ell_cards_tests.specs.Fitting.{IsIdle, IsReady};
 
+use super::parting::{joined, parted};
 use super::playing::same_words;
-use crate::memory::{Memory, nothing};
+use crate::memory::{FACTS, Memory, nothing};
 use crate::step;
 use ell_cards::{CardTable, Pass};
 use ell_core::Act::{
@@ -55,17 +56,24 @@ impl Dice {
         (self.state >> 33) % bound
     }
 
-    // An act that is lawful often, if the pass has come that far.
+    // An act that is lawful often, if the pass has come that far: helps above all while its own flag stands.
     fn act(&mut self, memory: &Memory, worker: u32) -> Act {
+        if memory.flagged {
+            return match self.below(10) {
+                0..=6 => self.help(memory),
+                7 | 8 => Answer,
+                _ => self.end(),
+            };
+        }
         match self.below(100) {
-            0..=29 => self.help(memory),
-            30..=49 => Upd,
-            50..=69 => Down,
-            70..=77 => Claim,
-            78..=83 => IFlag,
-            84..=89 => DFlag,
-            90..=94 => Answer,
-            95..=98 => Begin(self.operation(worker)),
+            0..=4 => self.help(memory),
+            5..=29 => Upd,
+            30..=54 => Down,
+            55..=64 => Claim,
+            65..=72 => IFlag,
+            73..=80 => DFlag,
+            81..=88 => Answer,
+            89..=98 => Begin(self.operation(worker)),
             _ => self.end(),
         }
     }
@@ -82,7 +90,7 @@ impl Dice {
 
     // An exchange for a card of which something is remembered.
     fn help(&mut self, memory: &Memory) -> Act {
-        let index = self.below(16) as usize;
+        let index = self.below(FACTS as u64) as usize;
         match memory.known[index] {
             Some(Fact::IFlagged(card)) => IChild(card),
             Some(Fact::IChanged(card)) => IUnflag(card),
@@ -121,8 +129,8 @@ fn both_step(
     assert_eq!(rt; world.step(event), Ok(said), "{event:?}");
 }
 
-#[tactic(auto, using(crate::proofs::Readiness::ready_idle))]
 // A few acts more of a pass. A pass with nothing in hand is at times parted and joined again.
+#[tactic(auto, using(crate::proofs::Readiness::ready_idle))]
 fn turn(
     rt: &impl Abort,
     table: &CardTable<Global>,
@@ -168,13 +176,8 @@ fn parted_and_joined(
     ensures idle { IfOk result (λ pass. IsIdle pass.view) }
 {
     assert!(rt; pass.owns(key));
-    let Ok((left, right)) = table.split(pass, &[key]) else {
-        return Err("no memory")?;
-    };
-    let Ok(both) = table.join(left, right) else {
-        return Err("no memory")?;
-    };
-    Ok(both)
+    let (left, right) = parted(table, pass, &[key])?;
+    joined(table, left, right)
 }
 
 // Ends what a pass has in hand.
@@ -244,35 +247,15 @@ fn random_acts(
     joined(table, low, high)
 }
 
-fn joined(
-    table: &CardTable<Global>,
-    left: Pass<Global>,
-    right: Pass<Global>,
-) -> Result<Pass<Global>, Fail>
-    requires left { (left.table ≡ table.now.id) × IsFree left.view }
-    requires right { (right.table ≡ table.now.id) × IsFree right.view }
-    ensures { IfOk result (λ both. (both.table ≡ table.now.id) × IsIdle both.view) }
-{
-    let Ok(both) = table.join(left, right) else {
-        return Err("no memory")?;
-    };
-    Ok(both)
-}
-
 #[test]
 fn random_acts_answer_as_the_world(rt: HostRuntime) -> Result<(), Fail> {
     let (table, pass) = CardTable::reserve(rt.alloc(), &[0, 1, 2, 3, 4, 5, 6, 7], CARDS)?;
-    let Ok((low, high)) = table.split(pass, &[0, 1, 2, 3]) else {
-        return Err("no memory")?;
-    };
-    let Ok((a, b)) = table.split(low, &[0, 1]) else {
-        return Err("no memory")?;
-    };
-    let Ok((c, d)) = table.split(high, &[4, 5]) else {
-        return Err("no memory")?;
-    };
+    let (low, high) = parted(&table, pass, &[0, 1, 2, 3])?;
+    let (a, b) = parted(&table, low, &[0, 1])?;
+    let (c, d) = parted(&table, high, &[4, 5])?;
     let mut world = World::new(rt.alloc(), 4, &OWNED, CARDS)?;
     let both = random_acts(&rt, &table, (a, b, c, d), &mut world)?;
+    assert!(rt; world.next() >= 2_000);
     assert!(rt; both.owns(0) && both.owns(1) && both.owns(2) && both.owns(3));
     assert!(rt; both.owns(4) && both.owns(5) && both.owns(6) && both.owns(7));
     same_words(&rt, &table.close(both), &world);

@@ -1,4 +1,5 @@
 //! Schedules that a person worked out, on a table beside a world.
+use super::parting::parted;
 use super::playing::{LOST, MOVED, NO, NOT_NOW, Turn, WON, YES, play, same_words};
 use ell_cards::CardTable;
 use ell_core::Act::{
@@ -13,9 +14,7 @@ use std::test::Fail;
 // Plays a schedule of worker 0, which owns 5 and 6, and of worker 1, which owns 7.
 fn played(rt: &(impl Abort + AllocGlobal), turns: &[Turn]) -> Result<(), Fail> {
     let (table, pass) = CardTable::reserve(rt.alloc(), &[5, 6, 7], 5)?;
-    let Ok((left, right)) = table.split(pass, &[5, 6]) else {
-        return Err("no memory")?;
-    };
+    let (left, right) = parted(&table, pass, &[5, 6])?;
     let mut world = World::new(rt.alloc(), 2, &[(0, 5), (0, 6), (1, 7)], 5)?;
     let both = play(rt, &table, left, right, &mut world, turns)?;
     assert!(rt; both.owns(5) && both.owns(6) && both.owns(7));

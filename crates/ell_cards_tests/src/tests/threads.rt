@@ -4,6 +4,7 @@ ghost use Rattle.ell_word.specs.Node.{greatest_card};
 ghost use Rattle.ell_cards_tests.specs.Fitting.{IsIdle};
 
 use super::meeting::two_threads_meet;
+use super::parting::parted;
 use crate::memory::nothing;
 use crate::step;
 use ell_cards::{CardTable, Pass};
@@ -18,8 +19,8 @@ const CARDS: u64 = 10_000;
 // How often each thread tries: a try wins a card, or is lost to one that the other thread wins, or no card is left.
 const TRIES: u32 = 10_000;
 
-#[tactic(auto, using(crate::proofs::Readiness::ready_idle))]
 // Begins an insert, claims a card for it, and lays it down, over and over: the cards that it won.
+#[tactic(auto, using(crate::proofs::Readiness::ready_idle))]
 fn claim_many(
     alloc: Global,
     table: &CardTable<Global>,
@@ -53,9 +54,7 @@ fn two_threads_claim_each_card_once(rt: HostRuntime) -> Result<(), Fail> {
     }
     let alloc = rt.alloc();
     let (table, pass) = CardTable::reserve(alloc, &[5, 7], CARDS)?;
-    let Ok((left, right)) = table.split(pass, &[5]) else {
-        return Err("no memory")?;
-    };
+    let (left, right) = parted(&table, pass, &[5])?;
     let shared = &table;
     let (one, other) = join(
         &rt,

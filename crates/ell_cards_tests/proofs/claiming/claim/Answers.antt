@@ -7,9 +7,7 @@ use Rattle.ell_cards_tests.proofs.Readiness.{ready_aside, claims_at}
 use Rattle.ell_cards_tests.proofs.claiming.claim.Goals as goal
 
 pub claim_for_insert-requires-clause-ready : goal.claim_for_insert-requires-clause-ready
-claim_for_insert-requires-clause-ready c =
-    ready_aside c.args.table.now c.args.pass.now c.key_of-key.new.pass c.args.memory.now c.requires
-    (key_aside c.args.pass.now c.key_of-key.new.pass c.in_ok-leaf.leaf c.key_of-key.result c.key_of-key.ensures.step)
+claim_for_insert-requires-clause-ready c = search (key_aside, ready_aside)
 
 pub claim_for_insert-requires-clause-at : goal.claim_for_insert-requires-clause-at
 claim_for_insert-requires-clause-at c =
@@ -22,9 +20,7 @@ claim_for_insert-requires-clause-at c =
     c.key_of-key.ensures.leaf
 
 pub claim_for_delete-requires-clause-ready : goal.claim_for_delete-requires-clause-ready
-claim_for_delete-requires-clause-ready c =
-    ready_aside c.args.table.now c.args.pass.now c.key_of-key.new.pass c.args.memory.now c.requires
-    (key_aside c.args.pass.now c.key_of-key.new.pass c.in_ok-leaf.leaf c.key_of-key.result c.key_of-key.ensures.step)
+claim_for_delete-requires-clause-ready c = search (key_aside, ready_aside)
 
 pub claim_for_delete-requires-clause-at : goal.claim_for_delete-requires-clause-at
 claim_for_delete-requires-clause-at c =
@@ -37,6 +33,4 @@ claim_for_delete-requires-clause-at c =
     c.key_of-key.ensures.leaf
 
 pub returns-in-Find : goal.returns-in-Find
-returns-in-Find c =
-    ready_aside c.args.table.now c.args.pass.now c.key_of-key.new.pass c.args.memory.now c.requires
-    (key_aside c.args.pass.now c.key_of-key.new.pass c.in_ok-leaf.leaf c.key_of-key.result c.key_of-key.ensures.step)
+returns-in-Find c = search (key_aside, ready_aside)

@@ -11,11 +11,7 @@ key_of-requires-clause-met c =
     c.args.pass.now c.key_of-above.new.pass c.args.grandparent c.key_of-above.result c.key_of-above.ensures.step c.requires.marked).met
 
 pub dchild-requires-clause-may : goal.dchild-requires-clause-may
-dchild-requires-clause-may c =
-    let place = c.args.place in
-    may_dchild c.args.card c.args.key c.args.grandparent place.parent.node place.leaf (packed place.parent.update) c.args.sibling
-    c.args.pass.now c.key_of-above.new.pass c.key_of.new.pass c.key_of-above.result c.key_of.result c.key_of-above.ensures.step c.key_of.ensures.step
-    c.requires.marked
+dchild-requires-clause-may c = search may_dchild
 
 pub dunflag-requires-clause-may : goal.dunflag-requires-clause-may
 dunflag-requires-clause-may c =

@@ -1,10 +1,5 @@
-use Rattle.std.proofs.Common.{Some}
-use Rattle.ell_core.specs.declared.fact.Fact.TheVariants as fact
-use Rattle.ell_cards_tests.proofs.Readiness.{ready_aside, ready_known}
+use Rattle.ell_cards_tests.proofs.Readiness.{ready_learnt}
 use Rattle.ell_cards_tests.proofs.exchanging.iunflag.Goals as goal
 
 pub returns : goal.returns
-returns c =
-    ready_known c.args.table.now c.clear_insert-won.new.pass c.args.memory.now c.remember.new.memory (Some (fact.IOver c.args.card))
-    (ready_aside c.args.table.now c.args.pass.now c.clear_insert-won.new.pass c.args.memory.now c.requires c.clear_insert-won.ensures.aside)
-    c.remember.ensures.rest c.remember.ensures.known c.clear_insert-won.ensures.learns
+returns c = search ready_learnt

@@ -1,7 +1,7 @@
 use Rattle.std.proofs.Common.{ap, is_ok}
 use Rattle.ell_ops.specs.declared.op.Op.TheVariants.{Insert}
-use Rattle.ell_cards_tests.proofs.Descents.{root_met}
-use Rattle.ell_cards_tests.proofs.Flagging.{filled_view, flagged_view, inserts, may_iflag, has_flagged, may_stop}
+use Rattle.ell_cards_tests.proofs.Descents.{root_met, begun}
+use Rattle.ell_cards_tests.proofs.Flagging.{filled_view, flagged_view, may_iflag, has_flagged, may_stop}
 use Rattle.ell_cards_tests.proofs.inserting.insert.Goals as goal
 
 pub search-place-requires-clause-met : goal.search-place-requires-clause-met
@@ -12,7 +12,7 @@ iflag-requires-clause-may c =
     may_iflag c.search-place.new.pass.view c.fill_insert.new.pass.view c.in-Some.card c.args.key c.search-place.result
     (filled_view c.search-place.new.pass.view c.take_card.new.pass.view c.fill_insert.new.pass.view c.in-Some.card c.args.key c.search-place.result
     c.in-Some.ensures.taken c.fill_insert.ensures.view)
-    (inserts c.args.pass.now c.begin.new.pass c.search-place.new.pass c.args.key c.begin.ensures.step c.search-place.ensures.keeps)
+    (begun c.args.pass.now c.begin.new.pass c.search-place.new.pass (Insert c.args.key) c.begin.ensures.step c.search-place.ensures.keeps)
     c.search-place.ensures.ends c.fill_insert.ensures.filled
 
 pub finish_insert-requires-clause-flagged : goal.finish_insert-requires-clause-flagged
@@ -21,7 +21,7 @@ finish_insert-requires-clause-flagged c =
     (flagged_view c.search-place.new.pass.view c.take_card.new.pass.view c.fill_insert.new.pass c.iflag.new.pass c.in-Some.card c.args.key c.search-place.result
     c.iflag.result c.in-Some.ensures.taken c.fill_insert.ensures.view c.iflag.ensures.step)
     (ap is_ok c.in-Ok.is)
-    (inserts c.args.pass.now c.begin.new.pass c.search-place.new.pass c.args.key c.begin.ensures.step c.search-place.ensures.keeps)
+    (begun c.args.pass.now c.begin.new.pass c.search-place.new.pass (Insert c.args.key) c.begin.ensures.step c.search-place.ensures.keeps)
     c.search-place.ensures.ends
 
 pub leave-requires-in-Err-clause-may : goal.leave-requires-in-Err-clause-may
@@ -30,4 +30,4 @@ leave-requires-in-Err-clause-may c =
     (flagged_view c.search-place.new.pass.view c.take_card.new.pass.view c.fill_insert.new.pass c.iflag.new.pass c.in-Some.card c.args.key c.search-place.result
     c.iflag.result c.in-Some.ensures.taken c.fill_insert.ensures.view c.iflag.ensures.step)
     (ap is_ok c.in-Err.is)
-    (inserts c.args.pass.now c.begin.new.pass c.search-place.new.pass c.args.key c.begin.ensures.step c.search-place.ensures.keeps)
+    (begun c.args.pass.now c.begin.new.pass c.search-place.new.pass (Insert c.args.key) c.begin.ensures.step c.search-place.ensures.keeps)

@@ -1,5 +1,6 @@
 use Rattle.ell_cards.specs.declared.view.Told.TheVariants.{Met}
-use Rattle.ell_cards_tests.proofs.Keepings.{upd_keeps, key_of_keeps, down_keeps, keeps_trans}
+use Rattle.ell_cards_tests.proofs.Keepings.{upd_keeps, down_keeps, keeps_trans}
+use Rattle.ell_cards_tests.proofs.Asides.{key_of_keeps}
 use Rattle.ell_cards_tests.proofs.Descents.{may_go_down_after, child_met}
 use Rattle.ell_cards_tests.proofs.searching.descend.Goals as goal
 
@@ -8,17 +9,10 @@ key_of-node_key-requires-clause-met c =
     (upd_keeps c.args.pass.now c.upd-update.new.pass c.args.node c.upd-update.result c.upd-update.ensures.step).view.told (Met c.args.node) c.requires.met
 
 pub down-child-requires-clause-may : goal.down-child-requires-clause-may
-down-child-requires-clause-may c =
-    may_go_down_after c.args.pass.now c.upd-update.new.pass c.key_of-node_key.new.pass c.args.op c.args.node c.upd-update.result c.key_of-node_key.result c.key.result
-    c.upd-update.ensures.step c.key_of-node_key.ensures.step c.key.ensures c.requires.busy c.requires.stands c.requires.inner
+down-child-requires-clause-may c = search may_go_down_after
 
 pub returns-clause-keeps : goal.returns-clause-keeps
-returns-clause-keeps c =
-    keeps_trans c.args.pass.now c.key_of-node_key.new.pass c.down-child.new.pass
-    (keeps_trans c.args.pass.now c.upd-update.new.pass c.key_of-node_key.new.pass
-    (upd_keeps c.args.pass.now c.upd-update.new.pass c.args.node c.upd-update.result c.upd-update.ensures.step)
-    (key_of_keeps c.upd-update.new.pass c.key_of-node_key.new.pass c.args.node c.key_of-node_key.result c.key_of-node_key.ensures.step))
-    (down_keeps c.key_of-node_key.new.pass c.down-child.new.pass c.args.node c.down-child.result c.down-child.ensures.step)
+returns-clause-keeps c = search (upd_keeps, key_of_keeps, down_keeps, keeps_trans)
 
 pub returns-clause-met : goal.returns-clause-met
 returns-clause-met c = (child_met c.key_of-node_key.new.pass c.down-child.new.pass c.args.node c.down-child.result c.down-child.ensures.step).1

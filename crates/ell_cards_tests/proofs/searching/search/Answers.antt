@@ -6,7 +6,8 @@ use Rattle.ell_cards.specs.Models.{IsTold}
 use Rattle.ell_cards.specs.Changes.{after_key_of}
 use Rattle.ell_cards_tests.specs.declared.searching.Place.{Place}
 use Rattle.ell_cards_tests.specs.Places.{EndsAt}
-use Rattle.ell_cards_tests.proofs.Keepings.{key_of_keeps, keeps_trans, view_after}
+use Rattle.ell_cards_tests.proofs.Keepings.{keeps_trans, view_after}
+use Rattle.ell_cards_tests.proofs.Asides.{key_of_keeps}
 use Rattle.ell_cards_tests.proofs.Descents.{gone_deeper, ends_at}
 use Rattle.ell_cards_tests.proofs.searching.search.Goals as goal
 
@@ -26,9 +27,7 @@ loop-grandparent-preserved c =
     }
 
 pub returns-clause-keeps : goal.returns-clause-keeps
-returns-clause-keeps c =
-    keeps_trans c.args.pass.now c.loop-grandparent.pass c.key_of-key.new.pass c.loop-grandparent.invariant.keeps
-    (key_of_keeps c.loop-grandparent.pass c.key_of-key.new.pass c.loop-grandparent.node c.key_of-key.result c.key_of-key.ensures.step)
+returns-clause-keeps c = search (key_of_keeps, keeps_trans)
 
 pub returns-clause-ends : goal.returns-clause-ends
 returns-clause-ends c =

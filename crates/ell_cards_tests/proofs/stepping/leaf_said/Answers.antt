@@ -5,9 +5,7 @@ use Rattle.ell_cards_tests.proofs.Readiness.{ready_aside, leaf_may}
 use Rattle.ell_cards_tests.proofs.stepping.leaf_said.Goals as goal
 
 pub returns-clause-ready : goal.returns-clause-ready
-returns-clause-ready c =
-    ready_aside c.args.table.now c.args.pass.now c.key_of-key.new.pass c.args.memory.now c.requires.ready
-    (key_aside c.args.pass.now c.key_of-key.new.pass c.in_ok-node.node c.key_of-key.result c.key_of-key.ensures.step)
+returns-clause-ready c = search (key_aside, ready_aside)
 
 pub returns-clause-may : goal.returns-clause-may
 returns-clause-may c =

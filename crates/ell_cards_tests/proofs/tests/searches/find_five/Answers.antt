@@ -2,7 +2,8 @@ use Rattle.std.proofs.Common.{refl, ◌∙◌, rules}
 use Rattle.ell_core.specs.acts.Searching.{IsLeaf}
 use Rattle.ell_ops.specs.declared.op.Op.TheVariants.{Find}
 use Rattle.ell_cards.specs.declared.view.Told.TheVariants.{Met}
-use Rattle.ell_cards_tests.proofs.Keepings.{upd_keeps, key_of_keeps, down_keeps}
+use Rattle.ell_cards_tests.proofs.Keepings.{upd_keeps, down_keeps}
+use Rattle.ell_cards_tests.proofs.Asides.{key_of_keeps}
 use Rattle.ell_cards_tests.proofs.Descents.{root_met, child_met, may_go_down_after, find_may_answer}
 use Rattle.ell_cards_tests.proofs.tests.searches.find_five.Goals as goal
 

@@ -1,0 +1,2 @@
+-- the first pass of a table is ready
+pub mod Readiness

@@ -1,0 +1,2 @@
+-- a pass with which the loops start
+pub mod Ready
