@@ -1,0 +1,367 @@
+//! The tree of Ellen, Fatourou, Ruppert and van Breugel over bare atomic words. The words lie as those of `ell_cards` do, and each
+//! step is the same load, store or exchange, sequentially consistent.
+
+use std::ops::Index;
+use std::sync::atomic::AtomicU64;
+use std::sync::atomic::Ordering::{Relaxed, SeqCst};
+
+const INF1: u64 = u64::MAX - 1;
+const INF2: u64 = u64::MAX;
+const TRIES: u32 = 1_000_000;
+
+/// The ten words of a card, in their order.
+#[derive(Clone, Copy)]
+enum Field {
+    Gp,
+    P,
+    L,
+    Was,
+    Key,
+    Left,
+    Right,
+    Update,
+    LeftLeafKey,
+    RightLeafKey,
+}
+
+/// An update word is four times a card, and one of these.
+#[derive(Clone, Copy, PartialEq)]
+enum State {
+    IFlag,
+    DFlag,
+    Mark,
+    Clean,
+}
+
+fn update_word(state: State, card: u64) -> u64 {
+    4 * card + state as u64
+}
+
+fn state_of(update: u64) -> State {
+    match update % 4 {
+        0 => State::IFlag,
+        1 => State::DFlag,
+        2 => State::Mark,
+        _ => State::Clean,
+    }
+}
+
+fn is_clean(update: u64) -> bool {
+    state_of(update) == State::Clean
+}
+
+fn is_internal(node: u64) -> bool {
+    node % 3 == 0
+}
+
+/// A node that a search passed, with the update word that it read there.
+#[derive(Clone, Copy)]
+struct Passed {
+    node: u64,
+    update: u64,
+}
+
+/// Where a search ended: a leaf with its key, its parent, and its grandparent if there is one.
+struct Place {
+    leaf: u64,
+    key: u64,
+    parent: Passed,
+    grandparent: Option<Passed>,
+}
+
+/// How a try ended.
+enum Tried {
+    Answered(bool),
+    Spent,
+    Hindered,
+}
+
+/// What came of asking for a card.
+enum Claimed {
+    Card(u64),
+    NoneLeft,
+    Lost,
+}
+
+/// The claim word, and then the words of each card.
+pub struct BareTree {
+    words: Vec<AtomicU64>,
+    cards: u64,
+}
+
+impl Index<(u64, Field)> for BareTree {
+    type Output = AtomicU64;
+
+    fn index(&self, (card, field): (u64, Field)) -> &AtomicU64 {
+        &self.words[(1 + 10 * card + field as u64) as usize]
+    }
+}
+
+impl BareTree {
+    /// The opening tree, and so many cards of which all words are 0.
+    pub fn reserve(cards: u64) -> BareTree {
+        let words = (0..11 + 10 * cards).map(|_| AtomicU64::new(0)).collect();
+        let tree = BareTree { words, cards };
+        // Else the system would hand out the memory later, in the loops that are timed.
+        for word in &tree.words {
+            word.store(0, Relaxed);
+        }
+        tree.claimed().store(1, SeqCst);
+        tree.fill(0, Field::Key, INF2);
+        tree.fill(0, Field::Left, 1);
+        tree.fill(0, Field::Right, 2);
+        tree.fill(0, Field::Update, update_word(State::Clean, 0));
+        tree.fill(0, Field::LeftLeafKey, INF1);
+        tree.fill(0, Field::RightLeafKey, INF2);
+        tree
+    }
+
+    fn claimed(&self) -> &AtomicU64 {
+        &self.words[0]
+    }
+
+    /// The step that begins or ends an operation: a load that tells nothing.
+    fn touch(&self) {
+        self.claimed().load(SeqCst);
+    }
+
+    fn update(&self, node: u64) -> &AtomicU64 {
+        &self[(node / 3, Field::Update)]
+    }
+
+    fn child(&self, node: u64, right: bool) -> &AtomicU64 {
+        &self[(node / 3, if right { Field::Right } else { Field::Left })]
+    }
+
+    fn key(&self, node: u64) -> u64 {
+        let field = match node % 3 {
+            0 => Field::Key,
+            1 => Field::LeftLeafKey,
+            _ => Field::RightLeafKey,
+        };
+        self.word(node / 3, field)
+    }
+
+    fn word(&self, card: u64, field: Field) -> u64 {
+        self[(card, field)].load(SeqCst)
+    }
+
+    fn fill(&self, card: u64, field: Field, value: u64) {
+        self[(card, field)].store(value, SeqCst);
+    }
+
+    fn descend(&self, key: u64, node: u64) -> (Passed, u64) {
+        let update = self.update(node).load(SeqCst);
+        let right = self.key(node) <= key;
+        (
+            Passed { node, update },
+            self.child(node, right).load(SeqCst),
+        )
+    }
+
+    fn search(&self, key: u64) -> Place {
+        let (mut parent, mut node) = self.descend(key, 0);
+        let mut grandparent = None;
+        while is_internal(node) {
+            let (passed, child) = self.descend(key, node);
+            grandparent = Some(parent);
+            parent = passed;
+            node = child;
+        }
+        Place {
+            leaf: node,
+            key: self.key(node),
+            parent,
+            grandparent,
+        }
+    }
+
+    pub fn find(&self, key: u64) -> bool {
+        self.touch();
+        let place = self.search(key);
+        self.touch();
+        place.key == key
+    }
+
+    /// None where no card is left.
+    pub fn insert(&self, key: u64) -> Option<bool> {
+        self.try_often(|| self.try_insert(key))
+    }
+
+    /// None where no card is left.
+    pub fn delete(&self, key: u64) -> Option<bool> {
+        self.try_often(|| self.try_delete(key))
+    }
+
+    fn try_often(&self, try_once: impl Fn() -> Tried) -> Option<bool> {
+        self.touch();
+        for round in 0..TRIES {
+            if round > 0 {
+                self.touch();
+            }
+            match try_once() {
+                Tried::Answered(said) => return Some(said),
+                Tried::Spent => break,
+                Tried::Hindered => {}
+            }
+        }
+        self.touch();
+        None
+    }
+
+    fn take_card(&self) -> Claimed {
+        let card = self.claimed().load(SeqCst);
+        if card > self.cards {
+            Claimed::NoneLeft
+        } else if exchange(self.claimed(), card, card + 1).is_ok() {
+            Claimed::Card(card)
+        } else {
+            Claimed::Lost
+        }
+    }
+
+    fn try_insert(&self, key: u64) -> Tried {
+        let place = self.search(key);
+        if place.key == key {
+            self.touch();
+            return Tried::Answered(false);
+        }
+        let parent = place.parent;
+        if !is_clean(parent.update) {
+            self.help(parent.node, parent.update);
+            return Tried::Hindered;
+        }
+        let card = match self.take_card() {
+            Claimed::Card(card) => card,
+            Claimed::NoneLeft => return Tried::Spent,
+            Claimed::Lost => return Tried::Hindered,
+        };
+        let (lesser, greater) = (key.min(place.key), key.max(place.key));
+        self.fill(card, Field::P, parent.node);
+        self.fill(card, Field::L, place.leaf);
+        self.fill(card, Field::Key, greater);
+        self.fill(card, Field::Left, 3 * card + 1);
+        self.fill(card, Field::Right, 3 * card + 2);
+        self.fill(card, Field::Update, update_word(State::Clean, 0));
+        self.fill(card, Field::LeftLeafKey, lesser);
+        self.fill(card, Field::RightLeafKey, greater);
+        let flag = update_word(State::IFlag, card);
+        if let Err(found) = exchange(self.update(parent.node), parent.update, flag) {
+            self.help(parent.node, found);
+            return Tried::Hindered;
+        }
+        self.finish_insert(card, parent.node, place.leaf, greater);
+        self.touch();
+        Tried::Answered(true)
+    }
+
+    fn try_delete(&self, key: u64) -> Tried {
+        let place = self.search(key);
+        if place.key != key {
+            self.touch();
+            return Tried::Answered(false);
+        }
+        let Some(above) = place.grandparent else {
+            return Tried::Hindered;
+        };
+        if !is_clean(above.update) {
+            self.help(above.node, above.update);
+            return Tried::Hindered;
+        }
+        let parent = place.parent;
+        if !is_clean(parent.update) {
+            self.help(parent.node, parent.update);
+            return Tried::Hindered;
+        }
+        let card = match self.take_card() {
+            Claimed::Card(card) => card,
+            Claimed::NoneLeft => return Tried::Spent,
+            Claimed::Lost => return Tried::Hindered,
+        };
+        self.fill(card, Field::Gp, above.node);
+        self.fill(card, Field::P, parent.node);
+        self.fill(card, Field::L, place.leaf);
+        self.fill(card, Field::Was, parent.update);
+        let flag = update_word(State::DFlag, card);
+        if let Err(found) = exchange(self.update(above.node), above.update, flag) {
+            self.help(above.node, found);
+            return Tried::Hindered;
+        }
+        if !self.finish_delete(card, above.node, parent.node, parent.update) {
+            return Tried::Hindered;
+        }
+        self.touch();
+        Tried::Answered(true)
+    }
+
+    fn help(&self, node: u64, update: u64) {
+        let card = update / 4;
+        match state_of(update) {
+            State::IFlag => {
+                let leaf = self.word(card, Field::L);
+                let card_key = self.word(card, Field::Key);
+                self.finish_insert(card, node, leaf, card_key);
+            }
+            State::DFlag => {
+                let parent = self.word(card, Field::P);
+                let was = self.word(card, Field::Was);
+                self.finish_delete(card, node, parent, was);
+            }
+            State::Mark => {
+                let grandparent = self.word(card, Field::Gp);
+                self.finish_marked(card, grandparent, node);
+            }
+            State::Clean => {}
+        }
+    }
+
+    fn finish_insert(&self, card: u64, parent: u64, leaf: u64, card_key: u64) {
+        let right = self.key(parent) <= card_key;
+        let flag = update_word(State::IFlag, card);
+        let clean = update_word(State::Clean, card);
+        let _ = exchange(self.child(parent, right), leaf, 3 * card);
+        let _ = exchange(self.update(parent), flag, clean);
+    }
+
+    /// Whether the parent was cut out.
+    fn finish_delete(&self, card: u64, grandparent: u64, parent: u64, was: u64) -> bool {
+        let mark = update_word(State::Mark, card);
+        let found = match exchange(self.update(parent), was, mark) {
+            Err(found) if found != mark => found,
+            _ => {
+                self.finish_marked(card, grandparent, parent);
+                return true;
+            }
+        };
+        let help_first = state_of(found) != State::DFlag;
+        if help_first {
+            self.help(parent, found);
+        }
+        let flag = update_word(State::DFlag, card);
+        let clean = update_word(State::Clean, card);
+        let _ = exchange(self.update(grandparent), flag, clean);
+        if !help_first {
+            self.help(parent, found);
+        }
+        false
+    }
+
+    fn finish_marked(&self, card: u64, grandparent: u64, parent: u64) {
+        let leaf = self.word(card, Field::L);
+        let right_child = self.child(parent, true).load(SeqCst);
+        let sibling = if right_child == leaf {
+            self.child(parent, false).load(SeqCst)
+        } else {
+            right_child
+        };
+        let right = self.key(grandparent) <= self.key(sibling);
+        let flag = update_word(State::DFlag, card);
+        let clean = update_word(State::Clean, card);
+        let _ = exchange(self.child(grandparent, right), parent, sibling);
+        let _ = exchange(self.update(grandparent), flag, clean);
+    }
+}
+
+fn exchange(word: &AtomicU64, expected: u64, value: u64) -> Result<u64, u64> {
+    word.compare_exchange(expected, value, SeqCst, SeqCst)
+}

@@ -1,0 +1,2 @@
+-- passes stay ready
+pub mod Readiness

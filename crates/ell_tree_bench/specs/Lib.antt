@@ -1,0 +1,2 @@
+-- what a worker is ready with
+pub mod Ready
