@@ -63,6 +63,9 @@ const RUN_AFTER_HELP: &str = "Example:
     no
     keys 0
 
+The tree is not rebalanced: where keys come sorted, it is deep, and a run slow.
+Shuffled files, `--workers 64` or `--cards 1` (one thread's run) are fast.
+
 Exit status:
   0  success, or help was asked for
   2  a fault in the text, too long an input, or arguments that are refused
