@@ -42,8 +42,8 @@ pub(crate) fn search<A: Allocator + Copy, G: StepGate>(
     let mut grandparent = None;
     while is_internal(node) {
         let (passed, child) = descend(table, pass, op, node, gate);
-        grandparent = Some(parent);
-        parent = passed;
+        grandparent = Some(anew(parent));
+        parent = anew(passed);
         node = child;
     }
     gate.before(pass.label(), Kind::Look);
@@ -53,6 +53,18 @@ pub(crate) fn search<A: Allocator + Copy, G: StepGate>(
         key,
         parent,
         grandparent,
+    }
+}
+
+// The same value, made from its parts. A move would copy the unused bytes beside the state too, for which the processor waits.
+#[inline(always)]
+fn anew(passed: Passed) -> Passed
+    ensures { result ≡ passed }
+{
+    let Update { state, card } = passed.update;
+    Passed {
+        node: passed.node,
+        update: Update { state, card },
     }
 }
 

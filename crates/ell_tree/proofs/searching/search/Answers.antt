@@ -1,4 +1,4 @@
-use Rattle.std.proofs.Common.{◌≡◌, ◌+◌, ◌*◌, refl, ◌∙◌, sym, subst, arith, rules}
+use Rattle.std.proofs.Common.{◌+◌, ◌*◌, refl, ◌∙◌, arith, rules}
 use Rattle.ell_word.specs.Node.{IsInternal}
 use Rattle.ell_core.specs.acts.Searching.{IsLeaf}
 use Rattle.ell_tree.proofs.Keeping.{walks_step, walks_trans, key_of_keeps}
@@ -11,14 +11,14 @@ loop-grandparent-preserved g c =
     let i = l.invariant in
     let d = c.descend-child in
     let inner : IsInternal l.node = search rules in
-    record {
+    rw (c.anew.ensures, c.anew-parent.ensures) (record {
       same = (refl, refl);
       stands = stands_next c.args.table.now.cards c.args.pass.now.view l.pass.view d.new.pass.view l.node d.result.1 l.parent d.result.0 l.grandparent
           i.walks.goes.view d.ensures.walks.goes.view i.stands d.ensures.search d.ensures.met d.ensures.there d.ensures.passed;
       down = omega (arith, d.ensures.here, d.ensures.deeper);
       walks = walks_trans c.args.pass.now l.pass d.new.pass (l.parent.node + 3) 3 (d.result.0.node + 3) i.walks d.ensures.walks
           (omega (arith, i.down, i.stands.passed.known.node.inner, inner, d.ensures.here));
-    }
+    })
 
 pub returns : goal.returns
 returns g c =

@@ -1,5 +1,4 @@
-use Rattle.std.proofs.Common.{◌≡◌, ◌+◌, ◌*◌, ◌<◌, ◌≤◌, ◌-◌}
-use Rattle.ell_word.specs.Node.{IsInternal}
+use Rattle.std.proofs.Common.{◌≡◌, ◌+◌, ◌*◌, ◌<◌, ◌-◌}
 use Rattle.ell_tree.specs.Keeping.{Walks}
 use Rattle.ell_tree.specs.Searches.{Stands}
 use Rattle.ell_tree.proofs.searching.search.Given as goal
