@@ -351,6 +351,12 @@ module _ (parting : Parting) (lawful : IsLawful parting) (pieces : List (List (�
           (slice_get-append_cases early last k (position, reply) e);
     }
 
+-- what is late of one list of pieces is late of another name for it
+pub late_here : {V : Type 0} (seen : V → List (ℕ × Bool)) (parting : Parting) (ops : List Op) (pieces shown : List V) (late : List (ℕ × Op)) →
+    parting.ops ≡ ops → shown ≡ pieces → late ≡ late_ops ops (flat_map seen shown) → late ≡ late_ops parting.ops (flat_map seen pieces)
+late_here seen parting ops pieces shown late parted same is =
+    is ∙ ap (λ p. late_ops ops (flat_map seen p)) same ∙ ap (λ o. late_ops o (flat_map seen pieces)) (sym parted)
+
 -- the same of pieces that are seen as lists
 flat_map-seen : {X Y : Type 0} (seen : X → List Y) (xs : List X) → flat_map seen xs ≡ flat_map (λ l. l) (map seen xs)
 flat_map-seen seen [] = refl

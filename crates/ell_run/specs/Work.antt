@@ -34,7 +34,7 @@ pub record AreHalves (parting : Parting) (low : List ℕ) (pass left right : Pas
   pub on_left : IsLeftPart keys pass left
   pub on_right : IsRightPart keys pass right
 
--- a front of numbered operations was done with a pass, which is its own piece's
+-- a front of numbered operations was done with a pass, and this piece answers it
 pub record IsWorkedOff (items : List (ℕ × Op)) (before after : PassModel) (piece : List (ℕ × Bool)) : Type 0 where
   pub table : after.table ≡ before.table
   pub idle : IsIdle after
@@ -43,8 +43,8 @@ pub record IsWorkedOff (items : List (ℕ × Op)) (before after : PassModel) (pi
   pub owned : (key : ℕ) → Owns after key ↔ Owns before key
   pub answers : answers after ≡ answers before + length piece
 
--- workers have worked with a pass, and left these pieces: the pass has the set that their operations leave, one worker's after the
--- other's
+-- workers have worked with a pass, and left these pieces: the pass has the set that what they did leaves, one worker's operations
+-- after the other's
 pub record IsWorked (parting : Parting) (workers : List ℕ) (before after : PassModel) (pieces : List (List (ℕ × Bool))) : Type 0 where
   pub table : after.table ≡ before.table
   pub idle : IsIdle after

@@ -148,6 +148,18 @@ fn a_report_goes_to_standard_error(rt: HostRuntime) {
 }
 
 #[test]
+fn a_report_tells_what_was_late(rt: HostRuntime) {
+    let words = ["run", "--workers", "1", "--cards", "1", "--report"];
+    let mut out = Vec::new(rt.alloc());
+    let mut err = Vec::new(rt.alloc());
+    let mut input = b"insert 5\ninsert 6\nfind 5\n".as_slice();
+    let status = elltree(&rt, rt.alloc(), &words, &mut input, &mut out, &mut err);
+    assert_eq!(rt; status, 0);
+    assert_eq!(rt; out.as_slice(), b"yes\nyes\nyes\nkeys 2\n5\n6\n".as_slice());
+    assert_eq!(rt; err.as_slice(), b"late 2\n".as_slice());
+}
+
+#[test]
 fn a_report_comes_before_the_flush(rt: HostRuntime) {
     let mut out = Narrow::new(rt.alloc(), usize::MAX, false);
     let mut err = Vec::new(rt.alloc());

@@ -6,16 +6,15 @@ use Rattle.ell_parts.specs.Gathering.{IsFault, IsGathered}
 use Rattle.ell_run.specs.ByParts.{ops_in}
 use Rattle.ell_run.specs.Late.{late_ops}
 use Rattle.ell_run.specs.Pieces.{piece_from}
-use Rattle.ell_run.proofs.Leftovers.{all_answer, few_late, last_set}
+use Rattle.ell_run.proofs.Leftovers.{all_answer, few_late, last_set, late_here}
 use Rattle.ell_run.proofs.Replies.{AreAnswers, only_memory, gathered}
 use Rattle.ell_run.proofs.runs.finish.Goals as goal
 
 pub only_memory-requires : goal.only_memory-requires
 only_memory-requires c =
     let parting = c.args.parts.now in
-    let late : c.in_ok-late.late.items ≡ late_ops parting.ops (flat_map (λ piece. piece.items) c.args.pieces.items) =
-    c.in_ok-late.ensures ∙ ap (λ pieces. late_ops c.args.ops.now (flat_map (λ piece. piece.items) pieces)) c.deref.ensures.value
-    ∙ ap (λ ops. late_ops ops (flat_map (λ piece. piece.items) c.args.pieces.items)) (sym c.requires.parted) in
+    let late = late_here (λ piece. piece.items) parting c.args.ops.now c.args.pieces.items c.deref.result.now c.in_ok-late.late.items
+    c.requires.parted c.deref.ensures.value c.in_ok-late.ensures in
     let piece = c.in_ok-piece.ensures.piece ∙ ap (piece_from (set_of c.args.keys.items)) c.deref-2.ensures.value in
     let items = flat_map (λ piece. piece.items) c.deref-3.result.now in
     let answers : AreAnswers parting.ops items =
@@ -27,9 +26,8 @@ only_memory-requires c =
 pub returns-clause-replies : goal.returns-clause-replies
 returns-clause-replies c =
     let parting = c.args.parts.now in
-    let late : c.in_ok-late.late.items ≡ late_ops parting.ops (flat_map (λ piece. piece.items) c.args.pieces.items) =
-    c.in_ok-late.ensures ∙ ap (λ pieces. late_ops c.args.ops.now (flat_map (λ piece. piece.items) pieces)) c.deref.ensures.value
-    ∙ ap (λ ops. late_ops ops (flat_map (λ piece. piece.items) c.args.pieces.items)) (sym c.requires.parted) in
+    let late = late_here (λ piece. piece.items) parting c.args.ops.now c.args.pieces.items c.deref.result.now c.in_ok-late.late.items
+    c.requires.parted c.deref.ensures.value c.in_ok-late.ensures in
     let piece = c.in_ok-piece.ensures.piece ∙ ap (piece_from (set_of c.args.keys.items)) c.deref-2.ensures.value in
     let items = flat_map (λ piece. piece.items) c.deref-3.result.now in
     let answers : AreAnswers parting.ops items =
@@ -42,9 +40,8 @@ returns-clause-replies c =
 pub returns-clause-keys : goal.returns-clause-keys
 returns-clause-keys c =
     let parting = c.args.parts.now in
-    let late : c.in_ok-late.late.items ≡ late_ops parting.ops (flat_map (λ piece. piece.items) c.args.pieces.items) =
-    c.in_ok-late.ensures ∙ ap (λ pieces. late_ops c.args.ops.now (flat_map (λ piece. piece.items) pieces)) c.deref.ensures.value
-    ∙ ap (λ ops. late_ops ops (flat_map (λ piece. piece.items) c.args.pieces.items)) (sym c.requires.parted) in
+    let late = late_here (λ piece. piece.items) parting c.args.ops.now c.args.pieces.items c.deref.result.now c.in_ok-late.late.items
+    c.requires.parted c.deref.ensures.value c.in_ok-late.ensures in
     subst (λ set. Lists set c.in_ok-piece.keys.items)
     (ap (λ items. final (set_of c.args.keys.items) (ops_in items)) c.deref-2.ensures.value
     ∙ last_set (λ piece. piece.items) parting c.args.pieces.items c.requires.left.told c.len.ensures.lawful c.args.keys.items c.requires.left.listed
