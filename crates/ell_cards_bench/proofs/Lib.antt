@@ -1,2 +1,0 @@
--- the first pass of a table is ready
-pub mod Readiness

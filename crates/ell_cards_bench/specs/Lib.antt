@@ -1,2 +1,0 @@
--- a pass with which the loops start
-pub mod Ready
