@@ -1,5 +1,6 @@
 //! An allocator that counts growths, and refuses those that it is told to.
-use std::alloc::{AllocError, Allocator};
+use super::sweeping::Ended;
+use std::alloc::{AllocError, Allocator, Global};
 use std::sync::atomic::{AtomicU64, Ordering};
 
 /// Which growths are refused. They are counted from 1.
@@ -53,6 +54,9 @@ impl Growths {
     }
 }
 
+/// The allocator of these tests, which take a `&` to it.
+pub(crate) type Heap = Refusing<Global>;
+
 /// An allocator that counts its growths, and refuses some. Collections take a `&` to it, also those of several threads.
 #[derive(Drop)]
 pub(crate) struct Refusing<B: Allocator> {
@@ -78,6 +82,16 @@ impl<B: Allocator> Refusing<B> {
     pub(crate) fn growths(&self) -> u64 {
         self.growths.count()
     }
+
+    /// How a call ended for which growths were refused, by whether it answered that it had no memory. From now on none is.
+    pub(crate) fn ended(&self, is_refused: bool) -> Ended {
+        let growths = self.growths();
+        self.refuse(Refusal::None);
+        Ended {
+            growths,
+            is_refused,
+        }
+    }
 }
 
 unsafe impl<B: Allocator> Allocator for Refusing<B> {
@@ -97,7 +111,7 @@ unsafe impl<B: Allocator> Allocator for Refusing<B> {
 
 #[test]
 fn growths_are_counted_and_refused(rt: HostRuntime) {
-    let heap = Refusing::new(rt.alloc());
+    let heap = Heap::new(rt.alloc());
     for (refusal, want) in [
         (Refusal::None, [true; 4]),
         (Refusal::At(2), [true, false, true, true]),
