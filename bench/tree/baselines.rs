@@ -1,6 +1,7 @@
 // The programs that bench/tree/run measures the tree against, with the keys and operations of crates/ell_tree_bench in the same
 // order: the same tree over bare atomic words, a BTreeSet behind a Mutex, and a BTreeSet in one thread.
 
+#[path = "../plain/bare_tree.rs"]
 mod bare_tree;
 
 use bare_tree::BareTree;
@@ -175,6 +176,13 @@ fn measure<S: Set>(reserve: impl FnOnce() -> S, threads: u64, [keys, finds, mixe
     eprintln!("{reserved} {inserts_took} {finds_took} {mixed_took}");
 }
 
+/// A tree of which all memory is there before it is used, as that of the card table is.
+fn reserve_bare(cards: u64) -> BareTree {
+    let tree = BareTree::reserve(cards);
+    tree.take_memory();
+    tree
+}
+
 fn main() -> ExitCode {
     let words: Vec<String> = env::args().skip(1).collect();
     let numbers: Vec<u64> = words.iter().filter_map(|word| word.parse().ok()).collect();
@@ -184,7 +192,7 @@ fn main() -> ExitCode {
         return ExitCode::from(2);
     };
     match kind {
-        Some("bare") => measure(|| Arc::new(BareTree::reserve(cards)), threads, sizes),
+        Some("bare") => measure(|| Arc::new(reserve_bare(cards)), threads, sizes),
         Some("mutex") => measure(|| Arc::new(Mutex::new(BTreeSet::new())), threads, sizes),
         Some("plain") if threads == 1 => measure(BTreeSet::new, threads, sizes),
         _ => {

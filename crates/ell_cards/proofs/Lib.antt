@@ -1,5 +1,7 @@
 -- words of updates, of fields, and lists of keys
 pub mod words
+-- what a pass knows and was told, after what it knew and was told
+pub mod views
 -- passes in their seats, and what a step owes the rule
 pub mod seats
 -- each step call as an event of the machine

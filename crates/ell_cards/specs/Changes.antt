@@ -217,6 +217,10 @@ after_claim false c v = record v { hindrances = v.hindrances + 1 }
 abbrev pub after_fill : Field → ℕ → View → View
 after_fill f x v = record v { filled = (f, x) ∷ v.filled }
 
+-- the view where these words of the card in hand were stored, the last first
+abbrev pub with_stores : List (Field × ℕ) → View → View
+with_stores stores v = record v { filled = stores }
+
 -- the search stands nowhere any more
 abbrev pub nowhere : Search → Search
 nowhere search = record search { node = None; read = None }

@@ -83,6 +83,13 @@ IsAsked field.Was = Unit {0}
 IsAsked field.Key = Unit {0}
 IsAsked _ = ⊥
 
+-- the words of a card that are nodes
+abbrev pub NamesNode : Field → Type 0
+NamesNode field.Gp = Unit {0}
+NamesNode field.P = Unit {0}
+NamesNode field.L = Unit {0}
+NamesNode _ = ⊥
+
 -- info: the card is known flagged or marked
 pub record MayAsk (v : View) (c : ℕ) (f : Field) : Type 0 where
   pub knows : KnowsCard v c

@@ -1,4 +1,4 @@
-use Rattle.std.specs.Prelude.{◌≡◌, ℕ, ◌==◌, if◌then◌else◌, List, [], ◌∷◌, nat_lt}
+use Rattle.std.specs.Prelude.{◌≡◌, ℕ, List, []}
 use Rattle.std.specs.List.Sorted.{IsStrictlyIncreasing}
 use Rattle.atomic_table.specs.Seated.{TableId}
 use Rattle.atomic_table.specs.Table.{Me}
@@ -16,16 +16,6 @@ pub record PassFits (keys : List ℕ) (words : ℕ) (v : View) : Type 0 where
 
 abbrev pub IsPass : {A : Type 0} → Inside A → Type 0
 IsPass p = PassFits p.keys.items p.seat.table_id.words p.seat.me.0 × (p.seat.me.1 ≡ [])
-
--- a key put into ascending keys at its place, unless it is there
-abbrev pub put_key : ℕ → List ℕ → List ℕ
-put_key k [] = k ∷ []
-put_key k (x ∷ xs) = if nat_lt k x then k ∷ x ∷ xs else if k == x then k ∷ xs else x ∷ put_key k xs
-
--- the keys of two ascending lists, ascending
-abbrev pub keys_united : List ℕ → List ℕ → List ℕ
-keys_united [] ys = ys
-keys_united (x ∷ xs) ys = put_key x (keys_united xs ys)
 
 -- a table as it is made, and its first seat
 pub record IsOpened (cards : ℕ) (table seat : TableId) (me : Me (Unit {0}) View) (v : View) : Type 0 where

@@ -8,7 +8,7 @@ ghost use Rattle.ell_core.specs.state.Opening.{opening_list};
 ghost use Rattle.ell_core.specs.state.Machine.{ledger_of};
 ghost use Rattle.ell_cards.specs.Models.{Steps, IsFree, IsCardCount, Refuses, one_more};
 ghost use Rattle.ell_cards.specs.Changes.{is_among, first_view, left_view, right_view, joined_view};
-ghost use Rattle.ell_cards.specs.Inside.{keys_united, IsOpened};
+ghost use Rattle.ell_cards.specs.Inside.{IsOpened};
 ghost use Rattle.ell_cards.specs.Stepping.{MaySplit, MayHave};
 
 use crate::fault::CardFault;
@@ -18,10 +18,9 @@ use crate::table::CardTable;
 use crate::view::{Plan, View};
 use atomic_table::{Seat, Table};
 use ell_core::{Field, table_size, update_word};
-use ell_ops::NoMemory;
+use ell_ops::{NoMemory, united_keys};
 use ell_word::{CARD_MAX, INF1, INF2, State, left_leaf_of, right_leaf_of};
 use std::alloc::{AllocError, Allocator};
-use std::cmp::Ordering;
 use std::marker::Brand;
 
 impl<A: Allocator + Copy> CardTable<A> {
@@ -137,7 +136,7 @@ impl<A: Allocator + Copy> CardTable<A> {
         ensures joined { IfOk result (λ both. both ≡ record { table = left.table; view = joined_view left.view right.view; steps = one_more (max left.steps right.steps); label = left.label }) }
         ensures refused { IfErr result (λ refused. (refused.0 ≡ left) × (refused.1 ≡ right)) }
     {
-        let Ok(keys) = united(self.alloc, left.keys.as_slice(), right.keys.as_slice()) else {
+        let Ok(keys) = united_keys(self.alloc, left.keys.as_slice(), right.keys.as_slice()) else {
             return Err((left, right, NoMemory));
         };
         let Pass {
@@ -216,38 +215,4 @@ fn parted<A: Allocator + Copy>(
         }
     }
     Ok((copy, rest))
-}
-
-// The keys of two ascending lists, ascending.
-fn united<A: Allocator + Copy>(
-    alloc: A,
-    left: &[u64],
-    right: &[u64],
-) -> Result<Vec<u64, A>, AllocError>
-    requires left { IsStrictlyIncreasing left.now }
-    requires right { IsStrictlyIncreasing right.now }
-    ensures { IfOk result (λ both. both.items ≡ keys_united left.now right.now) }
-{
-    let mut both = Vec::with_capacity(alloc, left.len() + right.len())?;
-    let (mut ours, mut theirs) = (left, right);
-    while let ([first, rest @ ..], [other, others @ ..]) = (ours, theirs) {
-        match first.cmp(other) {
-            Ordering::Less => {
-                both.push(*first)?;
-                ours = rest;
-            }
-            Ordering::Equal => {
-                both.push(*first)?;
-                ours = rest;
-                theirs = others;
-            }
-            Ordering::Greater => {
-                both.push(*other)?;
-                theirs = others;
-            }
-        }
-    }
-    both.extend_from_slice(ours)?;
-    both.extend_from_slice(theirs)?;
-    Ok(both)
 }

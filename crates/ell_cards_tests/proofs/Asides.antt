@@ -1,17 +1,17 @@
-use Rattle.std.proofs.Common.{ℕ, Bool, true, false, if◌then◌else◌, List, ◌∷◌, refl, sym, ◌∙◌, subst, inl, inr}
+use Rattle.std.proofs.Common.{ℕ, Bool, true, false, if◌then◌else◌, ◌∷◌, refl, sym, ◌∙◌, subst, inl, inr}
 use Rattle.ell_word.specs.declared.update.Update.{Update}
 use Rattle.ell_core.specs.declared.fact.Fact.{Fact}
 use Rattle.ell_core.specs.declared.fact.Fact.TheVariants as fact
 use Rattle.ell_core.specs.declared.field.Field.{Field}
-use Rattle.ell_core.specs.declared.field.Field.TheVariants as field
 use Rattle.ell_cards.specs.declared.view.Told.{Told}
-use Rattle.ell_cards.specs.declared.view.Told.TheVariants.{Met, Info, Frozen}
 use Rattle.ell_cards.specs.declared.view.View.{View}
-use Rattle.ell_cards.specs.Models.{PassModel, Steps, Has, latest, earlier, IsTold, Knows, KnowsCard}
-use Rattle.ell_cards.specs.Changes.{learning, with_found, after_key_of, told_info, after_info, after_frozen_child, after_mark, is_mark_of, unmarking}
+use Rattle.ell_cards.specs.Models.{PassModel, Steps, earlier, IsTold, Knows, KnowsCard}
+use Rattle.ell_cards.specs.Changes.{learning, with_found, after_key_of, after_info, after_frozen_child, after_mark, is_mark_of, unmarking}
 use Rattle.ell_cards.specs.Guards.{IsSibling}
-use Rattle.ell_cards_tests.specs.Fitting.{Aside, StepsAside, NamesNode}
-use Rattle.ell_cards_tests.proofs.Keepings.{view_after, keeps_view_trans, sibling_more, knows_more, facts_by_more, places_by_more, frozen_told, learns}
+use Rattle.ell_cards.proofs.views.Facts.{knows_more, facts_by_more}
+use Rattle.ell_cards.proofs.views.Entries.{places_more, info_more}
+use Rattle.ell_cards_tests.specs.Fitting.{Aside, StepsAside}
+use Rattle.ell_cards_tests.proofs.Keepings.{keeps_view_trans, sibling_more, learns}
 use Rattle.ell_cards_tests.specs.Keeping.{Keeps}
 
 pub aside_told : (a b : PassModel) (e : Told) → StepsAside a b → IsTold a.view e → IsTold b.view e
@@ -54,55 +54,13 @@ key_aside old new x key s = step_aside old new (after_key_of x key old.view) s (
   filled = refl;
 })
 
-told_info_more : (c : ℕ) (f : Field) (x : ℕ) (es : List Told) (e : Told) → Has es e → Has (told_info c f x es) e
-told_info_more c field.Gp x es e h = earlier e _ _ (earlier e _ es h)
-told_info_more c field.P x es e h = earlier e _ _ (earlier e _ es h)
-told_info_more c field.L x es e h = earlier e _ _ (earlier e _ es h)
-told_info_more c field.Was x es e h = earlier e _ es h
-told_info_more c field.Key x es e h = earlier e _ es h
-told_info_more c field.Left x es e h = earlier e _ es h
-told_info_more c field.Right x es e h = earlier e _ es h
-told_info_more c field.Update x es e h = earlier e _ es h
-told_info_more c field.LeftLeafKey x es e h = earlier e _ es h
-told_info_more c field.RightLeafKey x es e h = earlier e _ es h
-
-info_latest : (c : ℕ) (f : Field) (x : ℕ) (es : List Told) → Has (told_info c f x es) (Info c f x)
-info_latest c field.Gp x es = latest _ _
-info_latest c field.P x es = latest _ _
-info_latest c field.L x es = latest _ _
-info_latest c field.Was x es = latest _ _
-info_latest c field.Key x es = latest _ _
-info_latest c field.Left x es = latest _ _
-info_latest c field.Right x es = latest _ _
-info_latest c field.Update x es = latest _ _
-info_latest c field.LeftLeafKey x es = latest _ _
-info_latest c field.RightLeafKey x es = latest _ _
-
-info_node : (c : ℕ) (f : Field) (x : ℕ) (es : List Told) → NamesNode f → Has (told_info c f x es) (Met x)
-info_node c field.Gp x es h = earlier _ _ _ (latest _ _)
-info_node c field.P x es h = earlier _ _ _ (latest _ _)
-info_node c field.L x es h = earlier _ _ _ (latest _ _)
-info_node c field.Was x es h = absurd h
-info_node c field.Key x es h = absurd h
-info_node c field.Left x es h = absurd h
-info_node c field.Right x es h = absurd h
-info_node c field.Update x es h = absurd h
-info_node c field.LeftLeafKey x es h = absurd h
-info_node c field.RightLeafKey x es h = absurd h
-
 pub info_aside : (old new : PassModel) (c : ℕ) (f : Field) (x : ℕ) → Steps old new (after_info c f x old.view) → StepsAside old new
 info_aside old new c f x s = step_aside old new (after_info c f x old.view) s (record {
-  keeps = record { ledger = refl; operation = refl; card = refl; flagged = refl; knows = λ g h. h; told = told_info_more c f x old.view.told };
+  keeps = record { ledger = refl; operation = refl; card = refl; flagged = refl; knows = λ g h. h; told = info_more c f x old.view.told };
   search = refl;
   filling = refl;
   filled = refl;
 })
-
-pub info_told : (old new : PassModel) (c : ℕ) (f : Field) (x : ℕ) → Steps old new (after_info c f x old.view) → IsTold new.view (Info c f x)
-info_told old new c f x s = subst (λ (w : View). IsTold w (Info c f x)) (sym (view_after old new (after_info c f x old.view) s)) (info_latest c f x old.view.told)
-
-pub info_met : (old new : PassModel) (c : ℕ) (f : Field) (x : ℕ) → Steps old new (after_info c f x old.view) → NamesNode f → IsTold new.view (Met x)
-info_met old new c f x s h = subst (λ (w : View). IsTold w (Met x)) (sym (view_after old new (after_info c f x old.view) s)) (info_node c f x old.view.told h)
 
 pub frozen_aside : (old new : PassModel) (c : ℕ) (right : Bool) (x : ℕ) → Steps old new (after_frozen_child c right x old.view) → StepsAside old new
 frozen_aside old new c right x s = step_aside old new (after_frozen_child c right x old.view) s (record {
@@ -111,12 +69,6 @@ frozen_aside old new c right x s = step_aside old new (after_frozen_child c righ
   filling = refl;
   filled = refl;
 })
-
-pub frozen_child_told : (old new : PassModel) (c : ℕ) (right : Bool) (x : ℕ) → Steps old new (after_frozen_child c right x old.view) → IsTold new.view (Frozen c right x)
-frozen_child_told old new c right x s = (frozen_told old new c right x s).0
-
-pub frozen_child_met : (old new : PassModel) (c : ℕ) (right : Bool) (x : ℕ) → Steps old new (after_frozen_child c right x old.view) → IsTold new.view (Met x)
-frozen_child_met old new c right x s = (frozen_told old new c right x s).1
 
 beside_found : (n : ℕ) (v w : View) → Aside v w → Aside v (with_found n w)
 beside_found n v w a = record {
@@ -152,7 +104,7 @@ beside_mark false c x u v = by (is_mark_of c u.state u.card)
         card = refl;
         flagged = refl;
         knows = λ g h. facts_by_more u.state u.card (fact.Unmarkable c ∷ v.worker.facts) g (knows_more (fact.Unmarkable c) g v.worker.facts h);
-        told = places_by_more x u.state u.card v.told;
+        told = places_more x u.state u.card v.told;
       };
       search = refl;
       filling = refl;

@@ -1,56 +1,21 @@
-use Rattle.std.proofs.Common.{◌≡◌, ℕ, nat_le, refl, sym, ◌∙◌, ap, subst, Option, Some, None, true, ◌==◌, eq-eqb, if◌then◌else◌, IfSome, inl}
+use Rattle.std.proofs.Common.{◌≡◌, ℕ, refl, sym, ◌∙◌, ap, subst, Option, Some, None, ◌==◌, IfSome, inl}
 use Rattle.ell_ops.specs.declared.op.Op.{Op}
 use Rattle.ell_ops.specs.declared.op.Op.TheVariants.{Find}
-use Rattle.ell_ops.specs.Meaning.{key_of}
-use Rattle.ell_word.specs.declared.update.Update.{Update}
-use Rattle.ell_word.specs.Node.{IsInternal}
-use Rattle.ell_word.specs.Word.{packed}
 use Rattle.ell_core.specs.declared.view.Search.{Search}
 use Rattle.ell_cards.specs.declared.view.View.{View}
 use Rattle.ell_cards.specs.declared.view.Told.TheVariants.{Met}
 use Rattle.ell_cards.specs.Models.{PassModel, Steps, latest, earlier, IsTold, Does, StandsAt}
-use Rattle.ell_cards.specs.Changes.{after_begin, after_upd, after_key_of, after_down, is_at}
-use Rattle.ell_cards.specs.Guards.{MayGoDown, MayAnswer}
+use Rattle.ell_cards.specs.Changes.{after_begin, after_key_of, after_down}
+use Rattle.ell_cards.specs.Guards.{MayAnswer}
 use Rattle.ell_cards.specs.Calls.{TellsLeaf}
 use Rattle.ell_cards.specs.declared.view.Told.{Told}
 use Rattle.ell_core.specs.acts.Searching.{IsLeaf}
+use Rattle.ell_cards.proofs.views.Steps.{view_after}
+use Rattle.ell_cards.proofs.views.Searches.{told_here}
 use Rattle.ell_cards_tests.specs.declared.searching.Passed.{Passed}
 use Rattle.ell_cards_tests.specs.declared.searching.Place.{Place}
-use Rattle.ell_cards_tests.proofs.Keepings.{view_after}
 use Rattle.ell_cards_tests.specs.Keeping.{Keeps}
 use Rattle.ell_cards_tests.specs.Places.{EndsAt, seen, seen_any}
-
--- the key that was asked is that of the place
-pub told_here : (o here : Option ℕ) (x key : ℕ) → o ≡ Some x → (if is_at o x then Some key else here) ≡ Some key
-told_here None here x key e = cc
-told_here (Some y) here x key e =
-    let same : (y == x) ≡ true = eq-eqb y x (cc) in rw same
-
--- the view after update word and key were read at a node
-abbrev pub looked : ℕ → Update → ℕ → View → View
-looked x u key v = after_key_of x key (after_upd x u v)
-
-pub may_go_down : (v : View) (op : Op) (x : ℕ) (u : Update) (key k : ℕ) → k ≡ key_of op → Does v op → StandsAt v x → IsInternal x
-    → MayGoDown (looked x u key v) x (nat_le key k)
-may_go_down v op x u key k same busy stands inner = record {
-  op = op;
-  word = packed u;
-  key = key;
-  busy = busy;
-  stands = stands;
-  inner = inner;
-  read = refl;
-  told = told_here v.worker.search.node v.here x key stands;
-  side = ap (nat_le key) same;
-}
-
--- update word and key were read where the pass stands, and it may go down
-pub may_go_down_after : (a b d : PassModel) (op : Op) (x : ℕ) (u : Update) (key k : ℕ) → Steps a b (after_upd x u a.view) → Steps b d (after_key_of x key b.view)
-    → k ≡ key_of op → Does a.view op → StandsAt a.view x → IsInternal x → MayGoDown d.view x (nat_le key k)
-may_go_down_after a b d op x u key k s s' same busy stands inner =
-    subst (λ (w : View). MayGoDown w x (nat_le key k))
-    (sym (view_after b d (after_key_of x key b.view) s' ∙ ap (after_key_of x key) (view_after a b (after_upd x u a.view) s)))
-    (may_go_down a.view op x u key k same busy stands inner)
 
 -- it stands at the child then, and has met it
 pub child_met : (a b : PassModel) (x child : ℕ) → Steps a b (after_down x child a.view) → StandsAt b.view child × IsTold b.view (Met child)

@@ -15,15 +15,14 @@ use Rattle.ell_cards.specs.declared.view.Told.TheVariants.{Met}
 use Rattle.ell_cards.specs.declared.view.View.{View}
 use Rattle.ell_cards.specs.Models.{latest, earlier, IsTold, Knows, stored_at}
 use Rattle.ell_core.specs.state.Cards.{stored}
-use Rattle.ell_cards.specs.Changes.{after_begin, after_upd, after_down, after_next, after_claim, after_flag, with_found, seen_at, facts_by, filling_of, nowhere}
+use Rattle.ell_cards.specs.Changes.{after_begin, after_upd, after_down, after_next, after_claim, after_flag, with_found, seen_at, facts_by, filling_of, with_stores, nowhere}
 use Rattle.ell_cards.specs.Guards.{IsFilled}
+use Rattle.ell_cards.proofs.views.Facts.{knows_new, knows_more, facts_by_more}
+use Rattle.ell_cards.proofs.views.Entries.{places_more, filling_more}
 use Rattle.ell_cards_tests.specs.declared.memory.Memory.{Memory}
 use Rattle.ell_cards_tests.specs.declared.searching.Passed.{Passed}
 use Rattle.ell_cards_tests.specs.Remembering.{KnowsAny, KnowsAll}
 use Rattle.ell_cards_tests.specs.Fitting.{Fits, Aside, packed_any, root_memory, ended_search}
-use Rattle.ell_cards_tests.specs.Tries.{with_stores}
-use Rattle.ell_cards_tests.proofs.Keepings.{knows_new, knows_more, facts_by_more, places_by_more}
-use Rattle.ell_cards_tests.proofs.Flagging.{told_filling_more}
 
 -- facts that are known stay so
 knows_any_more : (v w : View) → ((f : Fact) → Knows v f → Knows w f) → (o : Option Fact) → KnowsAny v o → KnowsAny w o
@@ -88,9 +87,9 @@ fits_read v m x u h = record {
   card = h.card;
   flagged = h.flagged;
   knows = knows_all_more v (after_upd x u v) (facts_by_more u.state u.card v.worker.facts) m.known h.knows;
-  met = λ y e. places_by_more x u.state u.card v.told (Met y) (h.met y e);
-  met_parent = λ y e. places_by_more x u.state u.card v.told (Met y.node) (h.met_parent y e);
-  met_above = λ y e. places_by_more x u.state u.card v.told (Met y.node) (h.met_above y e);
+  met = λ y e. places_more x u.state u.card v.told (Met y) (h.met y e);
+  met_parent = λ y e. places_more x u.state u.card v.told (Met y.node) (h.met_parent y e);
+  met_above = λ y e. places_more x u.state u.card v.told (Met y.node) (h.met_above y e);
   filled = h.filled;
 }
 
@@ -115,7 +114,7 @@ fits_down v m x child u h at read = record {
 pub fits_claimed : (v : View) (m : Memory) (c : ℕ) (stores : List (Field × ℕ)) → Fits v m → IsFilled (with_stores stores (after_claim true c (after_next c v)))
     → Fits (with_stores stores (after_claim true c (after_next c v))) (record m { card = Some c; flagged = false })
 fits_claimed v m c stores h filled =
-    let more = told_filling_more c (filling_of c (after_next c v)) v.told in
+    let more = filling_more c (filling_of c (after_next c v)) v.told in
     record {
       operation = h.operation;
       search = h.search;
@@ -151,7 +150,7 @@ fits_flag_lost v m n f x u h = record {
   flagged = refl;
   knows = knows_all_more v (after_flag false f x u v) (facts_by_more u.state u.card v.worker.facts) m.known h.knows;
   met = λ y e. cc e;
-  met_parent = λ y e. places_by_more x u.state u.card v.told (Met y.node) (h.met_parent y e);
-  met_above = λ y e. places_by_more x u.state u.card v.told (Met y.node) (h.met_above y e);
+  met_parent = λ y e. places_more x u.state u.card v.told (Met y.node) (h.met_parent y e);
+  met_above = λ y e. places_more x u.state u.card v.told (Met y.node) (h.met_above y e);
   filled = λ c e g. cc e;
 }

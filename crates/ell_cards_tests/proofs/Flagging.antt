@@ -1,39 +1,23 @@
-use Rattle.std.proofs.Common.{◌≡◌, ℕ, max, true, false, Result, Ok, Err, List, [], ◌∷◌, refl, sym, ◌∙◌, ap, subst, is_ok}
+use Rattle.std.proofs.Common.{◌≡◌, ℕ, max, true, false, Result, Ok, Err, List, refl, sym, ◌∙◌, ap, subst, is_ok}
 use Rattle.ell_ops.specs.declared.op.Op.TheVariants.{Insert}
 use Rattle.ell_word.specs.declared.update.Update.{Update}
 use Rattle.ell_word.specs.Word.{packed}
 use Rattle.ell_core.specs.declared.fact.Fact.TheVariants as fact
-use Rattle.ell_core.specs.declared.field.Field.{Field}
 use Rattle.ell_core.specs.declared.field.Field.TheVariants as field
 use Rattle.ell_core.specs.state.Cards.{insert_filling}
 use Rattle.ell_cards.specs.declared.view.Told.{Told}
 use Rattle.ell_cards.specs.declared.view.Told.TheVariants.{Met, Info}
 use Rattle.ell_cards.specs.declared.view.View.{View}
 use Rattle.ell_cards.specs.Models.{PassModel, Steps, Has, latest, earlier, Does}
-use Rattle.ell_cards.specs.Changes.{after_next, after_claim, after_flag, with_found, found_word, found_update, told_filling, told_fixed, filling_of}
+use Rattle.ell_cards.specs.Changes.{after_next, after_claim, after_flag, with_found, found_word, found_update, told_filling, filling_of, with_stores}
 use Rattle.ell_cards.specs.Guards.{MayIFlag, MayStop, IsFilled}
+use Rattle.ell_cards.proofs.views.Facts.{knows_new}
+use Rattle.ell_cards.proofs.views.Entries.{filling_more}
+use Rattle.ell_cards.proofs.views.Steps.{view_after}
 use Rattle.ell_cards_tests.specs.declared.searching.Place.{Place}
 use Rattle.ell_cards_tests.specs.Places.{EndsAt}
-use Rattle.ell_cards_tests.specs.Tries.{HasFlagged, insert_stores, with_stores}
-use Rattle.ell_cards_tests.proofs.Keepings.{view_after, knows_new}
-use Rattle.ell_cards_tests.proofs.Cards.{filling_at}
-
--- what was told stays so with what fills a card
-told_fixed_more : (c : ℕ) (f : Field) (x : ℕ) (es : List Told) (e : Told) → Has es e → Has (told_fixed c f x es) e
-told_fixed_more c field.Gp x es e h = earlier e _ es h
-told_fixed_more c field.P x es e h = earlier e _ es h
-told_fixed_more c field.L x es e h = earlier e _ es h
-told_fixed_more c field.Was x es e h = earlier e _ es h
-told_fixed_more c field.Key x es e h = earlier e _ es h
-told_fixed_more c field.Left x es e h = h
-told_fixed_more c field.Right x es e h = h
-told_fixed_more c field.Update x es e h = h
-told_fixed_more c field.LeftLeafKey x es e h = earlier e _ es h
-told_fixed_more c field.RightLeafKey x es e h = earlier e _ es h
-
-pub told_filling_more : (c : ℕ) (fs : List (Field × ℕ)) (es : List Told) (e : Told) → Has es e → Has (told_filling c fs es) e
-told_filling_more c [] es e h = h
-told_filling_more c (f ∷ fs) es e h = told_fixed_more c f.0 f.1 _ e (told_filling_more c fs es e h)
+use Rattle.ell_cards_tests.specs.Tries.{HasFlagged, insert_stores}
+use Rattle.ell_cards_tests.proofs.Cards.{filling_there}
 
 -- the view of an insert whose card is taken and filled
 abbrev pub inserting : ℕ → ℕ → Place → View → View
@@ -72,7 +56,7 @@ flagged_view v u a b c k place r e h s =
 pub has_flagged : (v w : View) (c k : ℕ) (place : Place) (r : Result (Unit {0}) Update) → w ≡ flagging c k place r v → is_ok r ≡ true → Does v (Insert k)
     → EndsAt v (Insert k) place → HasFlagged w c k place.parent.node place.leaf (max k place.key)
 has_flagged v w c k place (Ok won) e ok busy ends =
-    let fills : filling_of c (after_next c v) ≡ insert_filling c k place.parent.node place.leaf place.key = filling_at v c (Insert k) place busy ends in
+    let fills : filling_of c (after_next c v) ≡ insert_filling c k place.parent.node place.leaf place.key = filling_there v c (Insert k) place busy ends in
     let told : (flagging c k place (Ok won) v).told ≡ told_filling c (insert_filling c k place.parent.node place.leaf place.key) v.told
     = ap (λ fs. told_filling c fs v.told) fills in
     subst (λ (u : View). HasFlagged u c k place.parent.node place.leaf (max k place.key)) (sym e) (record {
@@ -81,7 +65,7 @@ has_flagged v w c k place (Ok won) e ok busy ends =
       flagged = refl;
       knows = knows_new (fact.IFlagged c) v.worker.facts;
       met = subst (λ (es : List Told). Has es (Met place.parent.node)) (sym told)
-          (told_filling_more c (insert_filling c k place.parent.node place.leaf place.key) v.told (Met place.parent.node) ends.met_parent);
+          (filling_more c (insert_filling c k place.parent.node place.leaf place.key) v.told (Met place.parent.node) ends.met_parent);
       parent = subst (λ (es : List Told). Has es (Info c field.P place.parent.node)) (sym told) (latest _ _);
       leaf = subst (λ (es : List Told). Has es (Info c field.L place.leaf)) (sym told) (earlier _ _ _ (latest _ _));
       key = subst (λ (es : List Told). Has es (Info c field.Key (max k place.key))) (sym told) (earlier _ _ _ (earlier _ _ _ (latest _ _)));

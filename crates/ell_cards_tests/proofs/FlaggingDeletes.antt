@@ -10,15 +10,16 @@ use Rattle.ell_cards.specs.declared.view.Told.{Told}
 use Rattle.ell_cards.specs.declared.view.Told.TheVariants.{Met, Info}
 use Rattle.ell_cards.specs.declared.view.View.{View}
 use Rattle.ell_cards.specs.Models.{PassModel, Steps, Has, latest, earlier, IsTold, Does}
-use Rattle.ell_cards.specs.Changes.{after_next, after_claim, after_flag, with_found, found_word, found_update, told_filling, filling_for, filling_of}
+use Rattle.ell_cards.specs.Changes.{after_next, after_claim, after_flag, with_found, found_word, found_update, told_filling, filling_for, filling_of, with_stores}
 use Rattle.ell_cards.specs.Guards.{MayDFlag, MayStop, IsFilled}
+use Rattle.ell_cards.proofs.views.Facts.{knows_new}
+use Rattle.ell_cards.proofs.views.Entries.{filling_more}
+use Rattle.ell_cards.proofs.views.Steps.{view_after}
 use Rattle.ell_cards_tests.specs.declared.searching.Passed.{Passed}
 use Rattle.ell_cards_tests.specs.declared.searching.Place.{Place}
 use Rattle.ell_cards_tests.specs.Places.{EndsAt, seen, seen_any}
-use Rattle.ell_cards_tests.specs.Tries.{HasFlaggedDelete, delete_stores, with_stores}
-use Rattle.ell_cards_tests.proofs.Keepings.{view_after, knows_new}
-use Rattle.ell_cards_tests.proofs.Cards.{filling_at}
-use Rattle.ell_cards_tests.proofs.Flagging.{told_filling_more}
+use Rattle.ell_cards_tests.specs.Tries.{HasFlaggedDelete, delete_stores}
+use Rattle.ell_cards_tests.proofs.Cards.{filling_there}
 
 module _ (v : View) (c k : ℕ) (place : Place) (above : Passed) (busy : Does v (Delete k)) (ends : EndsAt v (Delete k) place) (is : place.grandparent ≡ Some above) where
   abbrev filling : List (Field × ℕ)
@@ -30,7 +31,7 @@ module _ (v : View) (c k : ℕ) (place : Place) (above : Passed) (busy : Does v 
   -- what its card is to say
   filling_is : filling_of c v ≡ filling
   filling_is =
-      filling_at v c (Delete k) place busy ends
+      filling_there v c (Delete k) place busy ends
       ∙ ap (λ (o : Option Passed). filling_for c (Some (Delete k)) (Some place.leaf) (Some (seen place.parent)) (seen_any o) place.key) is
 
   -- the view where the card is taken and filled
@@ -75,7 +76,7 @@ module _ (v : View) (c k : ℕ) (place : Place) (above : Passed) (busy : Does v 
         holds = refl;
         flagged = refl;
         knows = knows_new (fact.DFlagged c) v.worker.facts;
-        met = subst (λ (es : List Told). Has es (Met above.node)) (sym told) (told_filling_more c filling v.told (Met above.node) met);
+        met = subst (λ (es : List Told). Has es (Met above.node)) (sym told) (filling_more c filling v.told (Met above.node) met);
         grandparent = subst (λ (es : List Told). Has es (Info c field.Gp above.node)) (sym told) (latest _ _);
         parent = subst (λ (es : List Told). Has es (Info c field.P place.parent.node)) (sym told) (earlier _ _ _ (latest _ _));
         leaf = subst (λ (es : List Told). Has es (Info c field.L place.leaf)) (sym told) (earlier _ _ _ (earlier _ _ _ (latest _ _)));

@@ -6,9 +6,10 @@ use Rattle.ell_cards.specs.declared.view.Told.TheVariants.{Met, Info}
 use Rattle.ell_cards.specs.Models.{PassModel, Steps}
 use Rattle.ell_cards.specs.Changes.{after_key_of, learning, with_found}
 use Rattle.ell_cards.specs.Guards.{MayDChild, MayDUnflag, MayAnswer, MayStop}
+use Rattle.ell_cards.proofs.views.Steps.{key_told}
 use Rattle.ell_cards_tests.specs.Keeping.{Keeps}
 use Rattle.ell_cards_tests.specs.Tries.{HasFlaggedDelete, HasMarked}
-use Rattle.ell_cards_tests.proofs.Keepings.{key_told, learns, sibling_more}
+use Rattle.ell_cards_tests.proofs.Keepings.{learns, sibling_more}
 use Rattle.ell_cards_tests.proofs.Asides.{key_of_keeps, learn_keeps}
 
 module _ (c k gp p l was : ℕ) where

@@ -17,18 +17,19 @@ use Rattle.ell_core.specs.acts.Searching.{IsLeaf, leaf_answer}
 use Rattle.ell_cards.specs.declared.view.Told.TheVariants.{Met}
 use Rattle.ell_cards.specs.declared.view.View.{View}
 use Rattle.ell_cards.specs.Models.{PassModel, TableModel, Steps, IsTold, Knows}
-use Rattle.ell_cards.specs.Changes.{after_begin, after_upd, after_key_of, after_next, after_claim, after_flag, after_mark, is_mark_of, learning, unmarking, with_found, found_word, found_update}
+use Rattle.ell_cards.specs.Changes.{after_begin, after_upd, after_key_of, after_next, after_claim, after_flag, after_mark, is_mark_of, learning, unmarking, with_found, found_word, found_update, with_stores}
 use Rattle.ell_cards.specs.Guards.{IsOver, MayStop, MayGoDown, MayAnswer, MayDFlag, IsFilled}
 use Rattle.ell_cards.specs.Calls.{TellsLeaf}
 use Rattle.ell_cards_tests.specs.declared.memory.Memory.{Memory}
 use Rattle.ell_cards_tests.specs.declared.memory.TheConstants.{FACTS}
 use Rattle.ell_cards_tests.specs.declared.searching.Passed.{Passed}
 use Rattle.ell_cards_tests.specs.Places.{seen, seen_any}
-use Rattle.ell_cards_tests.specs.Tries.{with_stores}
 use Rattle.ell_cards_tests.specs.Remembering.{KnowsAny, KnowsAll, KnowsLostMark, KnowsMark, Learns, flag_tells}
 use Rattle.ell_cards_tests.specs.Fitting.{Fits, IsIdle, IsNothing, IsReady, MayStopBy, ClaimsAt, StepsAside, packed_any, root_memory, ended_search}
-use Rattle.ell_cards_tests.proofs.Keepings.{view_after, knows_new, facts_by_more}
-use Rattle.ell_cards_tests.proofs.Descents.{told_here, ends_at}
+use Rattle.ell_cards.proofs.views.Facts.{knows_new, facts_by_more}
+use Rattle.ell_cards.proofs.views.Steps.{view_after}
+use Rattle.ell_cards.proofs.views.Searches.{told_here}
+use Rattle.ell_cards_tests.proofs.Descents.{ends_at}
 use Rattle.ell_cards_tests.proofs.Asides.{mark_aside}
 use Rattle.ell_cards_tests.proofs.Fittings.{fits_aside, fits_known, fits_root, fits_claimed, fits_flag_won, fits_flag_lost, facts_by_new}
 

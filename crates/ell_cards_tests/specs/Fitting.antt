@@ -5,8 +5,6 @@ use Rattle.ell_word.specs.declared.update.State.TheVariants as state
 use Rattle.ell_word.specs.declared.update.Update.{Update}
 use Rattle.ell_core.specs.declared.fact.Fact.TheVariants.{Backed}
 use Rattle.ell_word.specs.Word.{packed}
-use Rattle.ell_core.specs.declared.field.Field.{Field}
-use Rattle.ell_core.specs.declared.field.Field.TheVariants as field
 use Rattle.ell_core.specs.declared.view.Search.{Search}
 use Rattle.ell_cards.specs.declared.view.Told.TheVariants.{Met}
 use Rattle.ell_cards.specs.declared.view.View.{View}
@@ -81,13 +79,6 @@ pub record Aside (v w : View) : Type 0 where
 pub record StepsAside (old new : PassModel) : Type 0 where
   pub table : new.table ≡ old.table
   pub view : Aside old.view new.view
-
--- a field of a card that names a node
-abbrev pub NamesNode : Field → Type 0
-NamesNode field.Gp = Unit {0}
-NamesNode field.P = Unit {0}
-NamesNode field.L = Unit {0}
-NamesNode _ = ⊥
 
 -- a pass with nothing in hand and nowhere to stand
 abbrev pub IsIdle : View → Type 0

@@ -23,10 +23,6 @@ pub record IsFresh (v : View) (c : ℕ) (filling : List (Field × ℕ)) : Type 0
   pub says : v.filling ≡ filling
   pub empty : v.filled ≡ []
 
--- what was stored of the card in hand, the last first
-abbrev pub with_stores : List (Field × ℕ) → View → View
-with_stores stores v = record v { filled = stores }
-
 -- the stores of an insert's card
 abbrev pub insert_stores : ℕ → ℕ → Place → List (Field × ℕ)
 insert_stores c k place =

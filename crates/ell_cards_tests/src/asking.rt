@@ -2,15 +2,15 @@
 ghost use Rattle.std.specs.Prelude.{◌≡◌};
 ghost use Rattle.ell_cards.specs.declared.view.Told.TheVariants.{Met, Key, Info, Frozen};
 ghost use Rattle.ell_cards.specs.Models.{IsTold};
-ghost use Rattle.ell_cards.specs.Guards.{IsSibling, MayAsk, MaySee};
-ghost use Rattle.ell_cards_tests.specs.Fitting.{NamesNode, StepsAside};
+ghost use Rattle.ell_cards.specs.Guards.{IsSibling, MayAsk, MaySee, NamesNode};
+ghost use Rattle.ell_cards_tests.specs.Fitting.{StepsAside};
 
 use ell_cards::{CardTable, Pass};
 use ell_core::Field;
 use std::alloc::Allocator;
 
 /// Reads the key of a node that the pass has met.
-#[tactic(auto, using(crate::proofs::Keepings::key_told))]
+#[tactic(auto, using(ell_cards::proofs::views::Steps::key_told))]
 pub(crate) fn look_key<A: Allocator + Copy>(table: &CardTable<A>, pass: &mut Pass<A>, node: u64) -> u64
     requires own { pass.old.table ≡ table.now.id }
     requires met { IsTold pass.old.view (Met node) }
@@ -21,7 +21,7 @@ pub(crate) fn look_key<A: Allocator + Copy>(table: &CardTable<A>, pass: &mut Pas
 }
 
 /// Reads a word of a card that the pass knows flagged or marked.
-#[tactic(auto, using(crate::proofs::Asides::info_told, crate::proofs::Asides::info_met))]
+#[tactic(auto, using(ell_cards::proofs::views::Steps::info_told, ell_cards::proofs::views::Steps::info_met))]
 pub(crate) fn look_info<A: Allocator + Copy>(
     table: &CardTable<A>,
     pass: &mut Pass<A>,
@@ -38,7 +38,7 @@ pub(crate) fn look_info<A: Allocator + Copy>(
 }
 
 /// Reads a child of the parent that a card has marked.
-#[tactic(auto, using(crate::proofs::Asides::frozen_child_told))]
+#[tactic(auto, using(ell_cards::proofs::views::Steps::frozen_told))]
 pub(crate) fn look_child<A: Allocator + Copy>(
     table: &CardTable<A>,
     pass: &mut Pass<A>,

@@ -9,11 +9,11 @@ ghost use Rattle.ell_core.specs.declared.fact.Fact.TheVariants.{Marked, Unmarkab
 ghost use Rattle.ell_core.specs.state.Cards.{delete_filling};
 ghost use Rattle.ell_core.specs.state.Machine.{ledger_of};
 ghost use Rattle.ell_cards.specs.Models.{IsFree, Knows};
-ghost use Rattle.ell_cards.specs.Changes.{is_mark_of};
+ghost use Rattle.ell_cards.specs.Changes.{is_mark_of, with_stores};
 ghost use Rattle.ell_cards.specs.Guards.{IsFilled, MayMark};
 ghost use Rattle.ell_cards_tests.specs.declared.trying.Tried.TheVariants.{Answered};
 ghost use Rattle.ell_cards_tests.specs.Keeping.{Keeps};
-ghost use Rattle.ell_cards_tests.specs.Tries.{EndsAs, HasFlaggedDelete, HasMarked, IsFresh, delete_stores, with_stores};
+ghost use Rattle.ell_cards_tests.specs.Tries.{EndsAs, HasFlaggedDelete, HasMarked, IsFresh, delete_stores};
 
 use crate::asking::look_sibling;
 use crate::searching::{Passed, Place, search};

@@ -6,8 +6,9 @@ ghost use Rattle.ell_core.specs.state.Cards.{insert_filling};
 ghost use Rattle.ell_core.specs.state.Machine.{ledger_of};
 ghost use Rattle.ell_core.specs.statements.StepLaws.{AnswersAsSet};
 ghost use Rattle.ell_cards.specs.Models.{IsFree};
+ghost use Rattle.ell_cards.specs.Changes.{with_stores};
 ghost use Rattle.ell_cards.specs.Guards.{IsFilled};
-ghost use Rattle.ell_cards_tests.specs.Tries.{EndsAs, HasFlagged, IsFresh, insert_stores, with_stores};
+ghost use Rattle.ell_cards_tests.specs.Tries.{EndsAs, HasFlagged, IsFresh, insert_stores};
 
 use crate::searching::{Place, search};
 use crate::trying::{Tried, take_card};

@@ -1,4 +1,4 @@
-use Rattle.std.specs.Prelude.{◌≡◌, ℕ, Bool, true, false, List, ◌==◌, if◌then◌else◌}
+use Rattle.std.specs.Prelude.{◌≡◌, ℕ, Bool, true, false, List, ◌==◌, ◌||◌, if◌then◌else◌}
 use Rattle.std.specs.List.{list_any}
 use Rattle.std.specs.List.Sorted.{IsStrictlyIncreasing}
 
@@ -15,6 +15,10 @@ with_key set key = λ q. if q == key then true else set q
 -- the set without the key
 abbrev pub without_key : KeySet → ℕ → KeySet
 without_key set key = λ q. if q == key then false else set q
+
+-- the keys of either set
+abbrev pub union : KeySet → KeySet → KeySet
+union left right = λ q. left q || right q
 
 -- the set of the keys in a list
 abbrev pub set_of : List ℕ → KeySet

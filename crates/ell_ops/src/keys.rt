@@ -1,7 +1,10 @@
 //! Lists of keys as sets.
-ghost use Rattle.ell_ops.specs.KeySet.{set_of, Lists};
+ghost use Rattle.std.specs.Prelude.{IfOk};
+ghost use Rattle.std.specs.List.Sorted.{IsStrictlyIncreasing};
+ghost use Rattle.ell_ops.specs.KeySet.{set_of, union, Lists};
 
-use std::alloc::Allocator;
+use std::alloc::{AllocError, Allocator};
+use std::cmp::Ordering;
 
 /// The keys of a list, each once, ascending. Allocates nothing.
 pub fn distinct_keys<A: Allocator>(mut keys: Vec<u64, A>) -> Vec<u64, A>
@@ -10,4 +13,38 @@ pub fn distinct_keys<A: Allocator>(mut keys: Vec<u64, A>) -> Vec<u64, A>
     keys.sort_unstable();
     keys.dedup();
     keys
+}
+
+/// The keys of two ascending lists, each once, ascending. Conditions: each list is strictly ascending.
+pub fn united_keys<A: Allocator>(
+    alloc: A,
+    left: &[u64],
+    right: &[u64],
+) -> Result<Vec<u64, A>, AllocError>
+    requires left { IsStrictlyIncreasing left.now }
+    requires right { IsStrictlyIncreasing right.now }
+    ensures { IfOk result (λ both. Lists (union (set_of left.now) (set_of right.now)) both.items) }
+{
+    let mut both = Vec::with_capacity(alloc, left.len() + right.len())?;
+    let (mut ours, mut theirs) = (left, right);
+    while let ([first, rest @ ..], [other, others @ ..]) = (ours, theirs) {
+        match first.cmp(other) {
+            Ordering::Less => {
+                both.push(*first)?;
+                ours = rest;
+            }
+            Ordering::Equal => {
+                both.push(*first)?;
+                ours = rest;
+                theirs = others;
+            }
+            Ordering::Greater => {
+                both.push(*other)?;
+                theirs = others;
+            }
+        }
+    }
+    both.extend_from_slice(ours)?;
+    both.extend_from_slice(theirs)?;
+    Ok(both)
 }

@@ -10,7 +10,7 @@ mod no_memory;
 mod one_thread;
 mod op;
 
-pub use keys::distinct_keys;
+pub use keys::{distinct_keys, united_keys};
 pub use laws::{last_writer, one_listing};
 pub use limits::{WORKERS_MAX, limits_are_as_defined};
 pub use no_memory::NoMemory;

@@ -60,6 +60,15 @@ fn eight_keys_of_which_four_are_deleted(rt: HostRuntime) -> Result<(), Fail> {
 }
 
 #[test]
+fn keys_of_two_lists(rt: HostRuntime) -> Result<(), Fail> {
+    let both = united_keys(rt.alloc(), &[1, 3, 5], &[2, 3, 9])?;
+    assert_eq!(rt; both.as_slice(), [1, 2, 3, 5, 9].as_slice());
+    let both = united_keys(rt.alloc(), &[], &[7])?;
+    assert_eq!(rt; both.as_slice(), [7].as_slice());
+    Ok(())
+}
+
+#[test]
 fn want_of_memory_has_a_text(rt: HostRuntime) -> Result<(), Fail> {
     assert_eq!(rt; NoMemory.to_string(rt.alloc())?.as_str(), "out of memory");
     Ok(())

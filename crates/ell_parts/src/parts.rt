@@ -161,7 +161,8 @@ fn parts_of<A: Allocator + Copy>(
     ensures parts { IfOk result (λ parts.
         AreParts (λ list. list.items) (record { ops = ops.now; owners = owners.now; workers = workers }) parts.items) }
 {
-    let mut parts = empty_parts(alloc, workers)?;
+    let sizes = part_sizes(alloc, owners, workers)?;
+    let mut parts = empty_parts(alloc, &sizes)?;
     for (at, op) in ops.iter().enumerate() {
         let part = &mut parts[owners[at] as usize];
         part.push((at, *op))?;
@@ -169,17 +170,34 @@ fn parts_of<A: Allocator + Copy>(
     Ok(parts)
 }
 
-// As many empty parts as there are workers.
+// How many operations each worker has: what its part is reserved for.
+fn part_sizes<A: Allocator>(
+    alloc: A,
+    owners: &[u32],
+    workers: u32,
+) -> Result<Vec<usize, A>, AllocError>
+    requires { All (λ owner. owner < workers) owners.now }
+    ensures { IfOk result (λ sizes. length sizes.items ≡ workers) }
+{
+    let mut sizes = vec![in alloc; 0; workers as usize]?;
+    for owner in owners {
+        let size: &mut usize = &mut sizes[*owner as usize];
+        *size = size.saturating_add(1);
+    }
+    Ok(sizes)
+}
+
+// Empty parts, with room for so many operations each.
 fn empty_parts<A: Allocator + Copy>(
     alloc: A,
-    workers: u32,
+    sizes: &[usize],
 ) -> Result<Vec<Vec<(usize, Op), A>, A>, AllocError>
-    ensures count { IfOk result (λ parts. length parts.items ≡ workers) }
+    ensures count { IfOk result (λ parts. length parts.items ≡ length sizes.now) }
     ensures empty { IfOk result (λ parts. All (λ part. part.items ≡ []) parts.items) }
 {
-    let mut parts = Vec::with_capacity(alloc, workers as usize)?;
-    for _ in 0..workers {
-        parts.push(Vec::new(alloc))?;
+    let mut parts = Vec::with_capacity(alloc, sizes.len())?;
+    for size in sizes {
+        parts.push(Vec::with_capacity(alloc, *size)?)?;
     }
     Ok(parts)
 }

@@ -1,9 +1,11 @@
-use Rattle.std.proofs.Common.{◌≡◌, ℕ, zero, suc, ◌+◌, eqb, Bool, true, false, List, [], ◌∷◌, ◌++◌, length, filter, arith, refl, ap, sym, ◌∙◌}
+use Rattle.std.proofs.Common.{◌≡◌, ℕ, zero, suc, ◌+◌, ◌<◌, All, eqb, Bool, true, false, List, [], ◌∷◌, ◌++◌, length, filter, arith, refl, ap, sym, ◌∙◌}
 use Rattle.std.specs.Prelude.{nat_lt}
 use Rattle.std.proofs.lemmas.Bool.{cond-true, cond-false}
 use Rattle.std.proofs.lemmas.Bool.Decides.{nat_tests}
 use Rattle.std.proofs.lemmas.List.{append-nil}
-use Rattle.std.proofs.lemmas.List.Elements.{filter-append}
+use Rattle.std.proofs.lemmas.List.Elements.{All-filter, filter-append}
+use Rattle.std.proofs.lemmas.List.FromFn.{get_or-range_with_len, length-range_with_len}
+use Rattle.ell_run.specs.Pieces.{all_workers, busy}
 use Rattle.std.specs.List.{range_with_len}
 use Rattle.ell_ops.specs.declared.op.Op.{Op}
 use Rattle.ell_parts.specs.Parting.{Parting, part}
@@ -56,3 +58,12 @@ idle_more parting worker items same none =
     ∙ filter-append (is_busy parting) (range_with_len 0 worker) (worker ∷ [])
     ∙ ap (λ l. busy_below parting worker ++ l) (cond-false (is_busy parting worker) (worker ∷ []) [] idle)
     ∙ append-nil (busy_below parting worker)
+
+-- the busy workers are among all
+pub busy_known : (parting : Parting) → All (λ worker. worker < parting.workers) (busy parting)
+busy_known parting =
+    All-filter (is_busy parting) (λ worker. worker < parting.workers) (all_workers parting)
+    (λ k d below.
+    let within : k < parting.workers = omega (arith, length-range_with_len 0 parting.workers) in
+    let here = get_or-range_with_len 0 parting.workers k d within in
+    omega arith)

@@ -18,7 +18,7 @@ use Rattle.ell_tree.specs.Parts.{IsFirst}
 use Rattle.ell_run.specs.Late.{AreLeft}
 use Rattle.ell_run.specs.Pieces.{ArePieces, all_workers, busy, ops_done}
 use Rattle.ell_run.specs.Work.{AreReady, IsWorked}
-use Rattle.ell_run.proofs.Busy.{is_busy}
+use Rattle.ell_run.proofs.Busy.{is_busy, busy_known}
 use Rattle.ell_run.proofs.ByParts.{part_item}
 use Rattle.ell_run.proofs.Rows.{all_at}
 
@@ -27,11 +27,7 @@ pub busy_ready : (tree : TreeModel) (parting : Parting) (pass : PassModel) → I
     All (λ op. Owns pass (key_of op)) parting.ops → AreReady tree parting (busy parting) pass
 busy_ready tree parting pass lawful own idle owned = record {
   lawful = lawful;
-  known = All-filter (is_busy parting) (λ worker. worker < parting.workers) (all_workers parting)
-      (λ k d below.
-      let within : k < parting.workers = omega (arith, length-range_with_len 0 parting.workers) in
-      let here = get_or-range_with_len 0 parting.workers k d within in
-      omega arith);
+  known = busy_known parting;
   ascending = IsStrictlyIncreasing-filter (is_busy parting) (all_workers parting)
       (λ k below.
       let within : k + 1 < parting.workers = omega (arith, length-range_with_len 0 parting.workers) in

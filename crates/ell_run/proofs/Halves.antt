@@ -1,17 +1,17 @@
-use Rattle.std.proofs.Common.{◌≡◌, ◌≢◌, ◌↔◌, ℕ, zero, suc, ◌+◌, ◌<◌, Bool, true, false, All, Option, None, Some, List, [], ◌∷◌, ◌++◌, ◌⊎◌, inl, inr, ⊎_elim, eqb, ◌||◌, length, take, get_or, map, arith, refl, ap, ap₂, sym, subst, ◌∙◌}
+use Rattle.std.proofs.Common.{◌≡◌, ◌≢◌, ◌↔◌, ℕ, zero, suc, ◌+◌, ◌<◌, Bool, true, false, All, Option, None, Some, List, [], ◌∷◌, ◌++◌, ◌⊎◌, inl, inr, ⊎_elim, eqb, length, get_or, map, arith, refl, ap, sym, subst, ◌∙◌}
 use Rattle.std.specs.Prelude.{slice_get}
 use Rattle.std.specs.List.{Contains, list_any}
 use Rattle.std.specs.List.Sorted.{IsStrictlyIncreasing}
 use Rattle.std.proofs.lemmas.Bool.{cases_Bool, eq-eqb, eqb-true, eqb-false, cond-true, cond-false}
 use Rattle.std.proofs.lemmas.List.{append-nil, get_or-append-add, get_or-map, get_or_default, length-append, length-map}
 use Rattle.std.proofs.lemmas.List.Elements.{All-contains, Contains-append_left}
-use Rattle.std.proofs.lemmas.List.Folds.{Any-from_list_any, list_any-append, list_any_at, list_any_more}
+use Rattle.std.proofs.lemmas.List.Folds.{Any-from_list_any, list_any_at}
 use Rattle.std.proofs.lemmas.List.Kept.{AllPairs-from_increasing}
 use Rattle.std.proofs.lemmas.List.Sums.{sum_by-append}
 use Rattle.std.proofs.lemmas.Option.{slice_get-get_or}
 use Rattle.ell_ops.specs.declared.op.Op.{Op}
 use Rattle.ell_ops.specs.declared.op.Op.TheVariants.{Find}
-use Rattle.ell_ops.specs.KeySet.{Lists, set_of}
+use Rattle.ell_ops.specs.KeySet.{Lists}
 use Rattle.ell_ops.specs.Meaning.{key_of, final}
 use Rattle.ell_parts.specs.Parting.{Parting, IsLawful, part, keys_in}
 use Rattle.ell_tree.specs.Ledgers.{PassModel, TreeModel, Owns, ledger, present_in}
@@ -40,16 +40,16 @@ off_key items key none k d below = λ on.
     eqb-false key (get_or keys k 0) miss (sym (same ∙ on))
 
 -- an item of a worker's part on a key
-record HasKey (parting : Parting) (workers : List ℕ) (key : ℕ) : Type 0 where
-  worker : ℕ
-  within : Contains workers worker
-  place : ℕ
-  item : ℕ × Op
-  there : slice_get (part parting worker) place ≡ Some item
-  on : key_of item.1 ≡ key
+pub record HasKey (parting : Parting) (workers : List ℕ) (key : ℕ) : Type 0 where
+  pub worker : ℕ
+  pub within : Contains workers worker
+  pub place : ℕ
+  pub item : ℕ × Op
+  pub there : slice_get (part parting worker) place ≡ Some item
+  pub on : key_of item.1 ≡ key
 
 -- a key of workers is that of some item
-has_key : (parting : Parting) (workers : List ℕ) (key : ℕ) → keys_for parting workers key ≡ true → HasKey parting workers key
+pub has_key : (parting : Parting) (workers : List ℕ) (key : ℕ) → keys_for parting workers key ≡ true → HasKey parting workers key
 has_key parting workers key some =
     let w = Any-from_list_any (λ worker. keys_in (part parting worker) key) workers some in
     let items = part parting w.1 in
@@ -254,15 +254,6 @@ module _ (tree : TreeModel) (parting : Parting) (low high : List ℕ) (pass left
           owned = owned_at;
           answers = omega (arith, sum_by-append (λ (piece : List (ℕ × Bool)). length piece) ps qs);
         }
-
--- the keys of one worker more
-pub keys_more : (parting : Parting) (workers : List ℕ) (i d : ℕ) (keys more all : List ℕ) → i < length workers →
-    set_of keys ≡ keys_for parting (take i workers) → set_of more ≡ keys_in (part parting (get_or workers i d)) → all ≡ keys ++ more →
-    set_of all ≡ keys_for parting (take (i + 1) workers)
-keys_more parting workers i d keys more all below so_far new same =
-    ap set_of same
-    ∙ (λ j key. (list_any-append (λ k. eqb key k) keys more ∙ ap₂ ◌||◌ (ap (λ s. s key) so_far) (ap (λ s. s key) new)
-    ∙ sym (list_any_more (λ worker. keys_in (part parting worker) key) workers i d below)) j)
 
 -- the keys that a half is to get are the pass's
 pub keys_owned : (tree : TreeModel) (parting : Parting) (low high : List ℕ) (pass : PassModel) (keys : List ℕ) → AreReady tree parting (low ++ high) pass →

@@ -8,8 +8,8 @@ ghost use Rattle.ell_run.specs.Limits.{AreLimits};
 
 use crate::late::{do_late, late_ops};
 use crate::pieces::Piece;
-use crate::workers::work;
-use ell_ops::{NoMemory, Op, distinct_keys};
+use crate::workers::{busy_workers, keys_for, work};
+use ell_ops::{NoMemory, Op};
 use ell_parts::{GatherFault, Parts, gather};
 use ell_tree::{CardFault, Tree};
 use ell_word::StepGate;
@@ -54,7 +54,7 @@ pub fn run<R: Threads + Sync, G: StepGate + Sync>(
     ensures keys { IfOk result (λ outcome. Lists (final empty ops.now) outcome.keys.items) }
     ensures late { IfOk result (λ outcome. outcome.late ≤ length ops.now) }
 {
-    let (pieces, keys) = run_workers(rt, alloc, ops, parts, limits, gate)?;
+    let (pieces, keys) = run_workers(rt, alloc, parts, limits, gate)?;
     finish(alloc, ops, parts, pieces, keys)
 }
 
@@ -62,17 +62,15 @@ pub fn run<R: Threads + Sync, G: StepGate + Sync>(
 fn run_workers<R: Threads + Sync, G: StepGate + Sync>(
     rt: &R,
     alloc: Global,
-    ops: &[Op],
     parts: &Parts<Global>,
     limits: Limits,
     gate: &G,
 ) -> Result<(Vec<Piece>, Vec<u64>), NoMemory>
-    requires fits { All Fits ops.now }
-    requires parted { parts.now.ops ≡ ops.now }
+    requires fits { All Fits parts.now.ops }
     requires limits { AreLimits limits }
     ensures { IfOk result (λ left. AreLeft parts.now (map (λ piece. piece.items) left.0.items) left.1.items) }
 {
-    let keys = keys_of(alloc, ops)?;
+    let keys = all_keys(alloc, parts)?;
     let (tree, pass) = match Tree::reserve(alloc, &keys, limits.cards) {
         Ok(made) => made,
         Err(fault) => return Err(no_cards(fault)),
@@ -84,12 +82,12 @@ fn run_workers<R: Threads + Sync, G: StepGate + Sync>(
     }
 }
 
-// The distinct keys of operations, ascending.
-fn keys_of(alloc: Global, ops: &[Op]) -> Result<Vec<u64>, NoMemory>
-    ensures { IfOk result (λ keys. Lists (keys_of ops.now) keys.items) }
+// The distinct keys of all parts, ascending.
+fn all_keys(alloc: Global, parts: &Parts<Global>) -> Result<Vec<u64>, NoMemory>
+    ensures { IfOk result (λ keys. Lists (keys_of parts.now.ops) keys.items) }
 {
-    let keys = ops.iter().map(|op| op.key()).collect(alloc)?;
-    Ok(distinct_keys(keys))
+    let workers = busy_workers(alloc, parts)?;
+    keys_for(alloc, parts, &workers)
 }
 
 // The one fault that a tree of as many cards as there may be can have.

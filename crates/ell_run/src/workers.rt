@@ -9,7 +9,7 @@ ghost use Rattle.ell_run.specs.Pieces.{all_workers, busy};
 ghost use Rattle.ell_run.specs.Work.{AreHalves, AreReady, IsWorked, keys_for};
 
 use crate::pieces::{Piece, with_empty_pieces, work_off};
-use ell_ops::{NoMemory, Op, distinct_keys};
+use ell_ops::{NoMemory, Op, united_keys};
 use ell_parts::Parts;
 use ell_tree::{Pass, Tree};
 use ell_word::StepGate;
@@ -41,7 +41,7 @@ pub fn work<R: Threads + Sync, G: StepGate + Sync>(
 }
 
 // The workers whose parts are not empty, ascending.
-fn busy_workers(alloc: Global, parts: &Parts<Global>) -> Result<Vec<u32>, NoMemory>
+pub(crate) fn busy_workers(alloc: Global, parts: &Parts<Global>) -> Result<Vec<u32>, NoMemory>
     ensures lawful { IsLawful parts.now }
     ensures busy { IfOk result (λ workers. workers.items ≡ busy parts.now) }
 {
@@ -134,15 +134,24 @@ fn halves(
 }
 
 // The keys of the parts of workers, ascending.
-fn keys_for(alloc: Global, parts: &Parts<Global>, workers: &[u32]) -> Result<Vec<u64>, NoMemory>
+pub(crate) fn keys_for(
+    alloc: Global,
+    parts: &Parts<Global>,
+    workers: &[u32],
+) -> Result<Vec<u64>, NoMemory>
     requires { All (λ worker. worker < parts.now.workers) workers.now }
     ensures { IfOk result (λ keys. Lists (keys_for parts.now workers.now) keys.items) }
 {
-    let mut keys = Vec::new(alloc);
-    for worker in workers {
-        keys.extend_from_slice(parts.keys(*worker))?;
+    match workers {
+        [] => Ok(Vec::new(alloc)),
+        [worker] => Ok(Vec::from_slice(alloc, parts.keys(*worker))?),
+        _ => {
+            let (low, high) = workers.split_at(workers.len() / 2);
+            let left = keys_for(alloc, parts, low)?;
+            let right = keys_for(alloc, parts, high)?;
+            Ok(united_keys(alloc, &left, &right)?)
+        }
     }
-    Ok(distinct_keys(keys))
 }
 
 // One pass of two that have come back from two rows of workers, and the pieces of both rows.

@@ -1,49 +1,26 @@
-use Rattle.std.proofs.Common.{◌≡◌, ℕ, ◌+◌, ◌*◌, ◌%◌, ◌≤◌, true, false, None, List, [], ◌∷◌, refl, sym, ◌∙◌, ap, subst, arith}
+use Rattle.std.proofs.Common.{◌≡◌, ℕ, ◌+◌, ◌≤◌, true, false, None, List, [], ◌∷◌, refl, sym, ◌∙◌, ap, subst, arith}
 use Rattle.ell_ops.specs.declared.op.Op.{Op}
-use Rattle.ell_word.specs.declared.update.State.{State}
 use Rattle.ell_word.specs.declared.update.State.TheVariants as state
-use Rattle.ell_word.specs.Word.{number_of, state_of}
 use Rattle.ell_core.specs.declared.field.Field.{Field}
 use Rattle.ell_core.specs.declared.field.Field.TheVariants as field
 use Rattle.ell_core.specs.declared.view.Search.{Search}
-use Rattle.ell_core.specs.acts.Searching.{IsClean}
 use Rattle.ell_cards.specs.declared.view.Told.{Told}
 use Rattle.ell_cards.specs.declared.view.Told.TheVariants.{Info}
 use Rattle.ell_cards.specs.declared.view.View.{View}
 use Rattle.ell_cards.specs.Models.{PassModel, Steps, Has, latest, earlier, Does}
 use Rattle.ell_cards.specs.Changes.{after_next, after_claim, filling_of, told_filling, told_fixed}
 use Rattle.ell_cards.specs.Guards.{MayClaim, Wants}
+use Rattle.ell_cards.proofs.words.Updates.{clean_word}
+use Rattle.ell_cards.proofs.views.Entries.{filling_more}
+use Rattle.ell_cards.proofs.views.Steps.{view_after}
+use Rattle.ell_cards.proofs.views.Searches.{may_claim}
 use Rattle.ell_tree.specs.declared.searching.Place.{Place}
 use Rattle.ell_tree.specs.Keeping.{Keeps, Goes}
 use Rattle.ell_tree.specs.Searches.{seen, IsAt}
 use Rattle.ell_tree.specs.Tries.{HasCard}
-use Rattle.ell_tree.proofs.Keeping.{view_after, goes_step, goes_trans, next_keeps}
+use Rattle.ell_tree.proofs.Keeping.{goes_step, goes_trans, next_keeps}
 
--- a clean update has a clean word
-pub clean_word : (s : State) (c : ℕ) → s ≡ state.Clean → IsClean (4 * c + number_of s)
-clean_word state.IFlag c h = cc
-clean_word state.DFlag c h = cc
-clean_word state.Mark c h = cc
-clean_word state.Clean c h = let rest : (4 * c + 3) % 4 ≡ 3 = omega arith in ap state_of rest
-
--- what was told stays so with what fills a card
-told_fixed_more : (c : ℕ) (f : Field) (x : ℕ) (es : List Told) (e : Told) → Has es e → Has (told_fixed c f x es) e
-told_fixed_more c field.Gp x es e h = earlier e _ es h
-told_fixed_more c field.P x es e h = earlier e _ es h
-told_fixed_more c field.L x es e h = earlier e _ es h
-told_fixed_more c field.Was x es e h = earlier e _ es h
-told_fixed_more c field.Key x es e h = earlier e _ es h
-told_fixed_more c field.Left x es e h = h
-told_fixed_more c field.Right x es e h = h
-told_fixed_more c field.Update x es e h = h
-told_fixed_more c field.LeftLeafKey x es e h = earlier e _ es h
-told_fixed_more c field.RightLeafKey x es e h = earlier e _ es h
-
-told_filling_more : (c : ℕ) (fs : List (Field × ℕ)) (es : List Told) (e : Told) → Has es e → Has (told_filling c fs es) e
-told_filling_more c [] es e h = h
-told_filling_more c (f ∷ fs) es e h = told_fixed_more c f.0 f.1 _ e (told_filling_more c fs es e h)
-
--- and what it tells is told beside whatever was before
+-- what fills a card tells the same beside whatever was told before
 one_more : (es ds : List Told) (x e : Told) → ((d : Told) → Has es d → Has ds d) → Has (x ∷ es) e → Has (x ∷ ds) e
 one_more es ds x e more (latest _ _) = latest x ds
 one_more es ds x e more (earlier _ _ _ h) = earlier e x ds (more e h)
@@ -72,31 +49,18 @@ won_keeps c v = record {
   answers = refl;
   hindrances = omega arith;
   knows = λ f h. h;
-  told = told_filling_more c (filling_of c v) v.told;
+  told = filling_more c (filling_of c v) v.told;
 }
 
 lost_keeps : (c : ℕ) (v : View) → Keeps v (after_claim false c v)
 lost_keeps c v = record { ledger = refl; operation = refl; answers = refl; hindrances = omega arith; knows = λ f h. h; told = λ e h. h }
 
 -- where a search stands at a leaf, and the claim word was read, a claim may be made
-pub may_claim : (old new : PassModel) (c : ℕ) (op : Op) (place : Place) → Steps old new (after_next c old.view) → Does old.view op
+pub may_claim_at : (old new : PassModel) (c : ℕ) (op : Op) (place : Place) → Steps old new (after_next c old.view) → Does old.view op
     → old.view.worker.card ≡ None → IsAt old.view place → place.parent.update.state ≡ state.Clean → Wants old.view op place.key → MayClaim new.view c
-may_claim old new c op place s busy no_card at calm wants =
-    subst (λ (w : View). MayClaim w c) (sym (view_after old new (after_next c old.view) s)) (record {
-      op = op;
-      leaf = place.leaf;
-      key = place.key;
-      parent = seen place.parent;
-      read = refl;
-      no_card = no_card;
-      busy = busy;
-      stands = ap (λ (r : Search). r.node) at.search;
-      outer = at.outer;
-      told = at.told;
-      behind = ap (λ (r : Search). r.parent) at.search;
-      calm = clean_word place.parent.update.state place.parent.update.card calm;
-      wants = wants;
-    })
+may_claim_at old new c op place s busy no_card at calm wants =
+    may_claim old new op c place.leaf place.key (seen place.parent) s busy no_card (ap (λ (r : Search). r.node) at.search) at.outer at.told
+    (ap (λ (r : Search). r.parent) at.search) (clean_word place.parent.update.state place.parent.update.card calm) wants
 
 module _ (a b d : PassModel) (c : ℕ) (read : Steps a b (after_next c a.view)) where
   pub won_goes : Steps b d (after_claim true c b.view) → Goes a d 2

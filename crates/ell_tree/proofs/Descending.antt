@@ -1,29 +1,21 @@
-use Rattle.std.proofs.Common.{◌≡◌, ℕ, ◌≤◌, nat_le, ◌==◌, if◌then◌else◌, true, Option, Some, None, IfSome, refl, sym, ◌∙◌, ap, subst, arith, eq-eqb}
+use Rattle.std.proofs.Common.{◌≡◌, ℕ, ◌≤◌, Option, Some, None, IfSome, refl, sym, ◌∙◌, ap, subst, arith}
 use Rattle.ell_ops.specs.declared.op.Op.{Op}
-use Rattle.ell_ops.specs.Meaning.{key_of}
-use Rattle.ell_word.specs.Node.{IsInternal}
-use Rattle.ell_word.specs.Word.{packed}
 use Rattle.ell_word.specs.declared.update.Update.{Update}
 use Rattle.ell_core.specs.declared.view.Search.{Search}
 use Rattle.ell_core.specs.acts.Searching.{IsLeaf}
 use Rattle.ell_cards.specs.declared.view.Told.TheVariants.{Met}
 use Rattle.ell_cards.specs.declared.view.View.{View}
 use Rattle.ell_cards.specs.Models.{PassModel, Steps, latest, Does, IsTold, StandsAt, InTable}
-use Rattle.ell_cards.specs.Changes.{after_upd, after_key_of, after_down, is_at}
-use Rattle.ell_cards.specs.Guards.{MayGoDown}
+use Rattle.ell_cards.specs.Changes.{after_upd, after_key_of, after_down}
 use Rattle.ell_cards.specs.Calls.{TellsLeaf}
-use Rattle.ell_cards.proofs.seats.Entries.{places_more}
+use Rattle.ell_cards.proofs.views.Entries.{places_more}
+use Rattle.ell_cards.proofs.views.Steps.{view_after}
+use Rattle.ell_cards.proofs.views.Searches.{told_here}
 use Rattle.ell_tree.specs.declared.searching.Passed.{Passed}
 use Rattle.ell_tree.specs.declared.searching.Place.{Place}
 use Rattle.ell_tree.specs.Keeping.{Keeps, Walks, IsInnerMet}
 use Rattle.ell_tree.specs.Searches.{seen_any, below, Passes, Stands, EndsAt}
-use Rattle.ell_tree.proofs.Keeping.{view_after, walks_step, walks_trans, upd_keeps, key_of_keeps, down_keeps, keeps_trans, seen_kept, place_told, hindered_once_more}
-
--- the key that was asked is that of the place
-told_here : (o here : Option ℕ) (x key : ℕ) → o ≡ Some x → (if is_at o x then Some key else here) ≡ Some key
-told_here None here x key e = cc
-told_here (Some y) here x key e =
-    let same : (y == x) ≡ true = eq-eqb y x (cc) in rw same
+use Rattle.ell_tree.proofs.Keeping.{walks_step, walks_trans, upd_keeps, key_of_keeps, down_keeps, keeps_trans, seen_kept, place_told, hindered_once_more}
 
 -- a node goes by in three steps: its update, its key, its child
 module _ (a b d e : PassModel) (x : ℕ) (u : Update) (key child : ℕ)
@@ -62,24 +54,6 @@ module _ (a b d e : PassModel) (x : ℕ) (u : Update) (key child : ℕ)
         });
         hindered = λ h. hindered_once_more u.state a.view.hindrances h;
       })
-
--- update word and key were read where the pass stands, and it may go down
-pub may_go_down : (a b d : PassModel) (op : Op) (x : ℕ) (u : Update) (key k : ℕ) → Steps a b (after_upd x u a.view) → Steps b d (after_key_of x key b.view)
-    → k ≡ key_of op → Does a.view op → StandsAt a.view x → IsInternal x → MayGoDown d.view x (nat_le key k)
-may_go_down a b d op x u key k s s' same busy stands inner =
-    subst (λ (w : View). MayGoDown w x (nat_le key k))
-    (sym (view_after b d (after_key_of x key b.view) s' ∙ ap (after_key_of x key) (view_after a b (after_upd x u a.view) s)))
-    (record {
-      op = op;
-      word = packed u;
-      key = key;
-      busy = busy;
-      stands = stands;
-      inner = inner;
-      read = refl;
-      told = told_here a.view.worker.search.node a.view.here x key stands;
-      side = ap (nat_le key) same;
-    })
 
 -- what a search passed stays so
 pub passes_kept : (cards : ℕ) (v a b : View) (x : Passed) → Keeps a b → Passes cards v a x → Passes cards v b x

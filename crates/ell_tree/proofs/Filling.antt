@@ -1,4 +1,4 @@
-use Rattle.std.proofs.Common.{◌≡◌, ℕ, Option, Some, List, [], sym, ◌∙◌, ap, subst, unwrap_or, max}
+use Rattle.std.proofs.Common.{◌≡◌, ℕ, Option, Some, List, [], sym, ◌∙◌, ap, subst, max}
 use Rattle.ell_ops.specs.declared.op.Op.{Op}
 use Rattle.ell_ops.specs.declared.op.Op.TheVariants.{Insert, Delete}
 use Rattle.ell_word.specs.declared.update.State.TheVariants as state
@@ -14,6 +14,8 @@ use Rattle.ell_cards.specs.declared.view.View.{View}
 use Rattle.ell_cards.specs.Models.{Has, latest, earlier, Does, IsTold, Knows}
 use Rattle.ell_cards.specs.Changes.{filling_for, filling_of, told_filling}
 use Rattle.ell_cards.specs.Guards.{Wants}
+use Rattle.ell_cards.proofs.words.Updates.{clean_word}
+use Rattle.ell_cards.proofs.views.Searches.{filling_at}
 use Rattle.ell_tree.specs.declared.searching.Passed.{Passed}
 use Rattle.ell_tree.specs.declared.searching.Place.{Place}
 use Rattle.ell_tree.specs.Keeping.{Keeps, IsInnerMet}
@@ -21,15 +23,12 @@ use Rattle.ell_tree.specs.Searches.{seen, seen_any, IsAt}
 use Rattle.ell_tree.specs.Helps.{IsInsert, IsParent}
 use Rattle.ell_tree.specs.Tries.{HasCard}
 use Rattle.ell_tree.proofs.Keeping.{inner_kept}
-use Rattle.ell_tree.proofs.Claiming.{clean_word}
 
 -- what fills a card, by a search that stands at a place
-filling_at : (c : ℕ) (op : Op) (v : View) (place : Place) → Does v op → IsAt v place
+filling_there : (c : ℕ) (op : Op) (v : View) (place : Place) → Does v op → IsAt v place
     → filling_of c v ≡ filling_for c (Some op) (Some place.leaf) (Some (seen place.parent)) (seen_any place.grandparent) place.key
-filling_at c op v place busy at =
-    ap (λ (o : Option Op). filling_for c o v.worker.search.node v.worker.search.parent v.worker.search.grandparent (unwrap_or v.here 0)) busy
-    ∙ (ap (λ (s : Search). filling_for c (Some op) s.node s.parent s.grandparent (unwrap_or v.here 0)) at.search
-    ∙ ap (λ (o : Option ℕ). filling_for c (Some op) (Some place.leaf) (Some (seen place.parent)) (seen_any place.grandparent) (unwrap_or o 0)) at.told)
+filling_there c op v place busy at = filling_at v op c place.leaf place.key (seen place.parent) (seen_any place.grandparent) busy
+    (ap (λ (s : Search). s.node) at.search) at.told (ap (λ (s : Search). s.parent) at.search) (ap (λ (s : Search). s.grandparent) at.search)
 
 -- a delete wants a card at a leaf of its key whose grandparent was read clean
 pub delete_wants : (v : View) (k : ℕ) (place : Place) (above : Passed) → IsAt v place → place.key ≡ k → place.grandparent ≡ Some above
@@ -46,7 +45,7 @@ module _ (v t f : View) (c k : ℕ) (place : Place) (keeps : Keeps t f) where
   pub is_insert : Does v (Insert k) → IsAt v place → HasCard (Insert k) place (filling_of c v) t c → Knows f (fact.IFlagged c) → IsTold t (Met place.parent.node)
       → IsInsert f c place.parent.node place.leaf (max k place.key)
   is_insert busy at h knows met =
-      let tells = told_by_card v t f c (Insert k) place busy at h keeps (insert_filling c k place.parent.node place.leaf place.key) (filling_at c (Insert k) v place busy at) in
+      let tells = told_by_card v t f c (Insert k) place busy at h keeps (insert_filling c k place.parent.node place.leaf place.key) (filling_there c (Insert k) v place busy at) in
       record {
         knows = knows;
         met = keeps.told (Met place.parent.node) met;
@@ -58,7 +57,7 @@ module _ (v t f : View) (c k : ℕ) (place : Place) (keeps : Keeps t f) where
   module _ (above : Passed) (is : place.grandparent ≡ Some above) (busy : Does v (Delete k)) (at : IsAt v place) (h : HasCard (Delete k) place (filling_of c v) t c) where
     delete_tells : (e : Told) → Has (told_filling c (delete_filling above.node place.parent.node place.leaf (packed place.parent.update)) []) e → IsTold f e
     delete_tells = told_by_card v t f c (Delete k) place busy at h keeps (delete_filling above.node place.parent.node place.leaf (packed place.parent.update))
-        (filling_at c (Delete k) v place busy at
+        (filling_there c (Delete k) v place busy at
         ∙ ap (λ (o : Option Passed). filling_for c (Some (Delete k)) (Some place.leaf) (Some (seen place.parent)) (seen_any o) place.key) is)
 
     pub told_grandparent : IsTold f (Info c field.Gp above.node)

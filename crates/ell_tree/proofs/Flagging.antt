@@ -8,15 +8,17 @@ use Rattle.ell_core.specs.state.Cards.{insert_filling, delete_filling}
 use Rattle.ell_cards.specs.declared.view.Told.TheVariants.{Met}
 use Rattle.ell_cards.specs.declared.view.View.{View}
 use Rattle.ell_cards.specs.Models.{PassModel, Steps, Knows}
-use Rattle.ell_cards.specs.Changes.{after_flag, with_found, found_word, found_update}
+use Rattle.ell_cards.specs.Changes.{after_flag, with_found, found_word, found_update, with_stores}
 use Rattle.ell_cards.specs.Guards.{MayFill, MayIFlag, MayDFlag}
-use Rattle.ell_cards.proofs.seats.Entries.{places_more}
+use Rattle.ell_cards.proofs.views.Facts.{knows_new, knows_more, facts_by_more}
+use Rattle.ell_cards.proofs.views.Entries.{places_more}
+use Rattle.ell_cards.proofs.views.Steps.{view_after}
 use Rattle.ell_tree.specs.declared.searching.Passed.{Passed}
 use Rattle.ell_tree.specs.declared.searching.Place.{Place}
 use Rattle.ell_tree.specs.Keeping.{Keeps, Goes, IsInnerMet, IsSeenAt}
 use Rattle.ell_tree.specs.Searches.{seen, seen_any}
-use Rattle.ell_tree.specs.Tries.{HasCard, Fills, Flags, with_stores}
-use Rattle.ell_tree.proofs.Keeping.{knows_new, knows_more, facts_by_more, place_told, view_after}
+use Rattle.ell_tree.specs.Tries.{HasCard, Fills, Flags}
+use Rattle.ell_tree.proofs.Keeping.{place_told}
 
 -- a card that is filled is in hand, not flagged, as before
 may_fill_still : (a b : PassModel) (n c : ℕ) → Fills a b n → MayFill a.view c → MayFill b.view c

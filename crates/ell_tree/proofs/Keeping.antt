@@ -1,4 +1,4 @@
-use Rattle.std.proofs.Common.{◌≡◌, ◌≢◌, ℕ, ◌+◌, ◌≤◌, Bool, true, false, ◌||◌, List, ◌∷◌, refl, sym, ◌∙◌, ap, subst, arith}
+use Rattle.std.proofs.Common.{◌≡◌, ◌≢◌, ℕ, ◌+◌, ◌≤◌, Bool, true, List, refl, sym, ◌∙◌, subst, arith}
 use Rattle.ell_word.specs.declared.update.Update.{Update}
 use Rattle.ell_word.specs.declared.update.State.{State}
 use Rattle.ell_word.specs.declared.update.State.TheVariants as state
@@ -6,46 +6,15 @@ use Rattle.ell_core.specs.declared.fact.Fact.{Fact}
 use Rattle.ell_core.specs.declared.fact.Fact.TheVariants as fact
 use Rattle.ell_core.specs.declared.field.Field.{Field}
 use Rattle.ell_core.specs.declared.field.Field.TheVariants as field
-use Rattle.ell_core.specs.state.Facts.{known_of, same_fact}
-use Rattle.ell_core.proofs.words.SameFact.{same_fact-itself}
+use Rattle.ell_core.specs.state.Facts.{known_of}
 use Rattle.ell_cards.specs.declared.view.Told.{Told}
 use Rattle.ell_cards.specs.declared.view.Told.TheVariants.{Met, Info}
 use Rattle.ell_cards.specs.declared.view.View.{View}
 use Rattle.ell_cards.specs.Models.{PassModel, Steps, Has, latest, earlier, IsTold, Knows}
-use Rattle.ell_cards.specs.Changes.{facts_by, places_by, hindered_by, learning, with_found, after_upd, after_down, after_key_of, after_info, told_info, after_frozen_child, after_next}
-use Rattle.ell_cards.proofs.seats.Entries.{places_more}
+use Rattle.ell_cards.specs.Changes.{facts_by, places_by, hindered_by, learning, with_found, after_upd, after_down, after_key_of, after_info, after_frozen_child, after_next}
+use Rattle.ell_cards.proofs.views.Facts.{knows_new, knows_more, facts_by_more}
+use Rattle.ell_cards.proofs.views.Entries.{places_more, info_more}
 use Rattle.ell_tree.specs.Keeping.{Keeps, Goes, Walks, IsInnerMet, TellsPlace, IsSeenAt}
-
-or_true : (a : Bool) → (a || true) ≡ true
-or_true true = refl
-or_true false = refl
-
--- a fact is known once it is learnt, and the facts before it stay known
-pub knows_new : (f : Fact) (fs : List Fact) → known_of (f ∷ fs) f ≡ true
-knows_new f fs = ap (λ b. b || known_of fs f) (same_fact-itself f)
-
-pub knows_more : (f g : Fact) (fs : List Fact) → known_of fs g ≡ true → known_of (f ∷ fs) g ≡ true
-knows_more f g fs h = ap (λ b. same_fact g f || b) h ∙ or_true (same_fact g f)
-
--- so they do beside what an update tells
-pub facts_by_more : (s : State) (c : ℕ) (fs : List Fact) (g : Fact) → known_of fs g ≡ true → known_of (facts_by s c fs) g ≡ true
-facts_by_more state.IFlag c fs g h = knows_more (fact.IFlagged c) g fs h
-facts_by_more state.DFlag c fs g h = knows_more (fact.DFlagged c) g fs h
-facts_by_more state.Mark c fs g h = knows_more (fact.Marked c) g fs h
-facts_by_more state.Clean c fs g h = h
-
--- what was told stays so beside a word of a card
-pub told_info_more : (c : ℕ) (f : Field) (x : ℕ) (es : List Told) (e : Told) → Has es e → Has (told_info c f x es) e
-told_info_more c field.Gp x es e h = earlier e _ _ (earlier e _ es h)
-told_info_more c field.P x es e h = earlier e _ _ (earlier e _ es h)
-told_info_more c field.L x es e h = earlier e _ _ (earlier e _ es h)
-told_info_more c field.Was x es e h = earlier e _ es h
-told_info_more c field.Key x es e h = earlier e _ es h
-told_info_more c field.Left x es e h = earlier e _ es h
-told_info_more c field.Right x es e h = earlier e _ es h
-told_info_more c field.Update x es e h = earlier e _ es h
-told_info_more c field.LeftLeafKey x es e h = earlier e _ es h
-told_info_more c field.RightLeafKey x es e h = earlier e _ es h
 
 -- an update other than clean is a hindrance
 pub hindered_more : (s : State) (n : ℕ) → n ≤ hindered_by s n
@@ -124,10 +93,6 @@ place_told x state.Mark c v w f t = (
 )
 place_told x state.Clean c v w f t = tt
 
--- the view after a step
-pub view_after : (old new : PassModel) (v : View) → Steps old new v → new.view ≡ v
-view_after old new v s = ap (λ (m : PassModel). m.view) s
-
 -- a step to a view that keeps these
 pub goes_step : (old new : PassModel) (v : View) → Steps old new v → Keeps old.view v → Goes old new 1
 goes_step old new v s k = subst (λ (m : PassModel). Goes old m 1) (sym s) (record { table = refl; label = refl; view = k; steps = omega arith })
@@ -155,7 +120,7 @@ pub down_keeps : (x child : ℕ) (v : View) → Keeps v (after_down x child v)
 down_keeps x child v = record { ledger = refl; operation = refl; answers = refl; hindrances = omega arith; knows = λ f h. h; told = λ e h. earlier e _ _ h }
 
 pub info_keeps : (c : ℕ) (f : Field) (x : ℕ) (v : View) → Keeps v (after_info c f x v)
-info_keeps c f x v = record { ledger = refl; operation = refl; answers = refl; hindrances = omega arith; knows = λ g h. h; told = told_info_more c f x v.told }
+info_keeps c f x v = record { ledger = refl; operation = refl; answers = refl; hindrances = omega arith; knows = λ g h. h; told = info_more c f x v.told }
 
 pub frozen_keeps : (c : ℕ) (right : Bool) (x : ℕ) (v : View) → Keeps v (after_frozen_child c right x v)
 frozen_keeps c right x v = record { ledger = refl; operation = refl; answers = refl; hindrances = omega arith; knows = λ f h. h; told = λ e h. earlier e _ _ (earlier e _ _ h) }

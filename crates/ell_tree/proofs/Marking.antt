@@ -6,10 +6,12 @@ use Rattle.ell_cards.specs.declared.view.Told.TheVariants.{Met}
 use Rattle.ell_cards.specs.declared.view.View.{View}
 use Rattle.ell_cards.specs.Models.{PassModel, Steps, Knows}
 use Rattle.ell_cards.specs.Changes.{learning, with_found, found_word, found_update, is_mark_of, is_held, unmarking, after_mark}
-use Rattle.ell_cards.proofs.seats.Entries.{places_more}
+use Rattle.ell_cards.proofs.views.Facts.{knows_new, knows_more, facts_by_more}
+use Rattle.ell_cards.proofs.views.Entries.{places_more}
+use Rattle.ell_cards.proofs.views.Steps.{view_after}
 use Rattle.ell_tree.specs.Keeping.{Keeps, Walks, IsInnerMet}
 use Rattle.ell_tree.specs.Helps.{IsLost, found_instead}
-use Rattle.ell_tree.proofs.Keeping.{view_after, walks_step, learning_keeps, knows_new, knows_more, facts_by_more, place_told}
+use Rattle.ell_tree.proofs.Keeping.{walks_step, learning_keeps, place_told}
 
 -- the view after a mark that was answered so
 abbrev marking : ℕ → ℕ → ℕ → Result (Unit {0}) Update → View → View

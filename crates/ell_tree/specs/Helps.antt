@@ -4,7 +4,6 @@ use Rattle.ell_word.specs.declared.update.State.{State}
 use Rattle.ell_word.specs.declared.update.State.TheVariants as state
 use Rattle.ell_word.specs.Node.{card}
 use Rattle.ell_core.specs.declared.fact.Fact.TheVariants as fact
-use Rattle.ell_core.specs.declared.field.Field.{Field}
 use Rattle.ell_core.specs.declared.field.Field.TheVariants as field
 use Rattle.ell_cards.specs.declared.view.Told.TheVariants.{Info, Key, Met}
 use Rattle.ell_cards.specs.declared.view.View.{View}
@@ -16,13 +15,6 @@ use Rattle.ell_tree.specs.declared.helping.DeleteFlag.{DeleteFlag}
 use Rattle.ell_tree.specs.declared.helping.Ending.{Ending}
 use Rattle.ell_tree.specs.declared.helping.Ending.TheVariants.{Done, Backed, Behind}
 use Rattle.ell_tree.specs.Keeping.{Walks, IsInnerMet, IsSeenAt}
-
--- a word of a card that is a node
-abbrev pub NamesNode : Field → Type 0
-NamesNode field.Gp = Unit {0}
-NamesNode field.P = Unit {0}
-NamesNode field.L = Unit {0}
-NamesNode _ = ⊥
 
 -- the flag of an insert is known, and where its card goes
 pub record IsInsert (v : View) (c p l k : ℕ) : Type 0 where

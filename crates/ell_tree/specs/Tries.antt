@@ -9,7 +9,7 @@ use Rattle.ell_core.specs.declared.field.Field.{Field}
 use Rattle.ell_cards.specs.declared.view.Told.{Told}
 use Rattle.ell_cards.specs.declared.view.View.{View}
 use Rattle.ell_cards.specs.Models.{PassModel, Has, IsTold, Knows, Does, StandsAt}
-use Rattle.ell_cards.specs.Changes.{told_filling, filling_of}
+use Rattle.ell_cards.specs.Changes.{told_filling, filling_of, with_stores}
 use Rattle.ell_cards.specs.Guards.{IsFilled, MayFill}
 use Rattle.ell_tree.specs.declared.operations.Change.{Change}
 use Rattle.ell_tree.specs.declared.operations.Change.TheVariants as change
@@ -83,10 +83,6 @@ abbrev pub Claims : ℕ → Op → Place → PassModel → PassModel → Claimed
 Claims cards op place old new (claimed.Card c) = HasCard op place (filling_of c old.view) new.view c × (c ≤ cards)
 Claims cards op place old new claimed.NoneLeft = (new.view.worker.card ≡ None) × (new.view.next ≡ Some (cards + 1))
 Claims cards op place old new claimed.Lost = (new.view.worker.card ≡ None) × (old.view.hindrances + 1 ≤ new.view.hindrances)
-
--- the view with these stores of its card, the last first
-abbrev pub with_stores : List (Field × ℕ) → View → View
-with_stores stores v = record v { filled = stores }
 
 -- the card in hand was filled in so many steps, and nothing else was done
 pub record Fills (old new : PassModel) (n : ℕ) : Type 0 where

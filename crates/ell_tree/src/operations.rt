@@ -16,13 +16,16 @@ use ell_cards::{CardTable, Pass};
 use ell_ops::Op;
 use ell_word::{Kind, StepGate};
 use std::alloc::Allocator;
+use thiserror::Error;
 
 /// Why an insert or a delete has no answer. The set is as it was before, and nothing of the call is under way.
-#[derive(Clone, Copy, Debug, PartialEq, Eq, Hash)]
+#[derive(Clone, Copy, Debug, PartialEq, Eq, Hash, Error)]
 pub enum Held {
     /// All tries ended without an answer: something was in the way of each.
+    #[error("something was in the way of each try")]
     Busy,
     /// All cards of the tree are given out.
+    #[error("all cards are given out")]
     Spent,
 }
 

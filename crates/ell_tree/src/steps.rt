@@ -7,10 +7,10 @@ ghost use Rattle.ell_core.specs.state.Machine.{ledger_of};
 ghost use Rattle.ell_cards.specs.declared.view.Told.TheVariants as told;
 ghost use Rattle.ell_cards.specs.Models.{Does, IsFree, IsTold, Knows};
 ghost use Rattle.ell_cards.specs.Changes.{is_mark_of};
-ghost use Rattle.ell_cards.specs.Guards.{MayAnswer, MayAsk, MaySee};
+ghost use Rattle.ell_cards.specs.Guards.{MayAnswer, MayAsk, MaySee, NamesNode};
 ghost use Rattle.ell_cards.specs.Calls.{TellsDepth, TellsNode};
 ghost use Rattle.ell_tree.specs.Ends.{Answers};
-ghost use Rattle.ell_tree.specs.Helps.{HasSibling, IsLost, IsMarked, IsParent, NamesNode, found_instead};
+ghost use Rattle.ell_tree.specs.Helps.{HasSibling, IsLost, IsMarked, IsParent, found_instead};
 ghost use Rattle.ell_tree.specs.Keeping.{Walks};
 ghost use Rattle.ell_tree.specs.Tries.{Begins, Lays, Stops};
 

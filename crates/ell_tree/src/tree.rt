@@ -89,7 +89,7 @@ impl<A: Allocator + Copy> Tree<A> {
         requires owned { Owns pass.old key }
         ensures answers { Answers (Find key) result pass.old pass.new }
         ensures steps { pass.new.steps ≤ pass.old.steps + find_steps self.now.cards }
-        ensures promised { pass.new.steps ≤ pass.old.steps + 64 * (self.now.cards + 2) }
+        ensures rounded { pass.new.steps ≤ pass.old.steps + 64 * (self.now.cards + 2) }
     {
         find(&self.table, pass, key, gate)
     }
@@ -110,7 +110,7 @@ impl<A: Allocator + Copy> Tree<A> {
         requires tries { 1 ≤ tries }
         ensures ends { Ends self.now.cards tries (Insert key) pass.old pass.new result }
         ensures steps { pass.new.steps ≤ pass.old.steps + change_steps self.now.cards tries }
-        ensures promised { pass.new.steps ≤ pass.old.steps + 64 * (tries + 1) * (self.now.cards + 2) }
+        ensures rounded { pass.new.steps ≤ pass.old.steps + 64 * (tries + 1) * (self.now.cards + 2) }
     {
         make_change(&self.table, pass, Change::Insert(key), tries, gate)
     }
@@ -129,7 +129,7 @@ impl<A: Allocator + Copy> Tree<A> {
         requires tries { 1 ≤ tries }
         ensures ends { Ends self.now.cards tries (Delete key) pass.old pass.new result }
         ensures steps { pass.new.steps ≤ pass.old.steps + change_steps self.now.cards tries }
-        ensures promised { pass.new.steps ≤ pass.old.steps + 64 * (tries + 1) * (self.now.cards + 2) }
+        ensures rounded { pass.new.steps ≤ pass.old.steps + 64 * (tries + 1) * (self.now.cards + 2) }
     {
         make_change(&self.table, pass, Change::Delete(key), tries, gate)
     }

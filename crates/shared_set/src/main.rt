@@ -8,7 +8,7 @@ ghost use Rattle.std.specs.Prelude.{◌≡◌, IfOk};
 ghost use Rattle.ell_tree.specs.Ledgers.{IsIdle};
 
 use anyhow::{Result, bail, ensure};
-use ell_tree::{Held, Pass, Tree};
+use ell_tree::{Pass, Tree};
 use ell_word::NoGate;
 use std::alloc::Global;
 use std::thread::{Threads, join};
@@ -27,15 +27,6 @@ fn is_prime(number: u64) -> bool {
     divisors.count() == 2
 }
 
-// What a change has answered, or why it has not: then it has changed nothing, and may be asked anew.
-fn answer(ended: Result<bool, Held>) -> Result<bool> {
-    match ended {
-        Ok(said) => Ok(said),
-        Err(Held::Busy) => bail!("something was in the way of all {TRIES} tries"),
-        Err(Held::Spent) => bail!("all {CARDS} cards are given out"),
-    }
-}
-
 // One thread: adds each number that its pass owns, and takes those that are not prime away again.
 fn sift(set: &Tree<Global>, pass: Pass<Global>) -> Result<Pass<Global>>
     requires own { pass.table ≡ set.now.id }
@@ -47,9 +38,9 @@ fn sift(set: &Tree<Global>, pass: Pass<Global>) -> Result<Pass<Global>>
         if !pass.owns(number) {
             continue;
         }
-        answer(set.insert(&mut pass, number, TRIES, &NoGate))?;
+        set.insert(&mut pass, number, TRIES, &NoGate)?;
         if !is_prime(number) {
-            answer(set.delete(&mut pass, number, TRIES, &NoGate))?;
+            set.delete(&mut pass, number, TRIES, &NoGate)?;
         }
         // No other thread changes a number of this pass.
         let is_left = set.find(&mut pass, number, &NoGate);
@@ -94,9 +85,7 @@ fn close(set: Tree<Global>, pass: Pass<Global>, numbers: &[u64]) -> Result<Vec<u
 }
 
 fn main(rt: HostRuntime) -> Result<()> {
-    let Ok((set, pass)) = Tree::reserve(rt.alloc(), &NUMBERS, CARDS) else {
-        bail!("no memory for a set");
-    };
+    let (set, pass) = Tree::reserve(rt.alloc(), &NUMBERS, CARDS)?;
     // One pass owns all numbers, and its parts a quarter each.
     let Ok((even, odd)) = set.split(pass, &[0, 2, 4, 6, 8, 10, 12, 14]) else {
         bail!("no memory to part a pass");

@@ -1,6 +1,5 @@
 use Rattle.std.proofs.Common.{◌≡◌, ◌≢◌, ◌⊎◌, ℕ, true, false, ◌||◌, List, [], ◌∷◌, ◌++◌, length, set, Option, Bool, Some, None, refl, sym, ap, ◌∙◌, subst, inl, inr, ⊎_elim, length-set}
 use Rattle.std.specs.Prelude.{Contains}
-use Rattle.std.specs.List.Sorted.{IsStrictlyIncreasing}
 use mathlib.Core.Option.{some}
 use lib.ListN.{get_elem?}
 use Rattle.atomic_table.proofs.Lists.{at_set, set_else}
@@ -18,14 +17,16 @@ use Rattle.ell_cards.specs.Models.{IsFree}
 use Rattle.ell_cards.specs.Changes.{united, joined_view, spent_view}
 use Rattle.ell_cards.specs.Naming.{IsNamed}
 use Rattle.ell_cards.specs.Rule.{seat_worker, seated, EntryHolds, ViewHolds}
-use Rattle.ell_cards.specs.Inside.{keys_united, PassFits}
+use Rattle.ell_cards.specs.Inside.{PassFits}
 use Rattle.ell_cards.specs.Stepping.{MayJoin}
 use Rattle.ell_cards.specs.Laws.{JoinsAreMoves}
 use Rattle.ell_cards.proofs.seats.Entries.{told_either}
 use Rattle.ell_cards.proofs.seats.Seats.{inside, seated_put, mine_is, mine_sound}
 use Rattle.ell_cards.proofs.lifetimes.Idle.{rest_holds, rest_named, met_root}
-use Rattle.ell_cards.proofs.words.Ascending.{rises, ascends}
-use Rattle.ell_cards.proofs.lifetimes.Unions.{rises_united, keys_of_united, ledger_united}
+use Rattle.ell_ops.specs.KeySet.{Lists, set_of, union}
+use Rattle.ell_ops.proofs.Merges.{keys_united, lists_united}
+use Rattle.ell_ops.proofs.Sets.{one_list}
+use Rattle.ell_cards.proofs.lifetimes.Unions.{keys_of_united, ledger_united}
 
 -- what one of two lists of facts has, both together have
 known_either : (a b : List Fact) (f : Fact) → known_of (a ++ b) f ≡ true → (known_of a f ≡ true) ⊎ (known_of b f ≡ true)
@@ -149,10 +150,13 @@ joined_named cards v w h g = rest_named cards (joined_view v w)
 
 -- it has the keys of both
 pub joined_fits : (words left right : ℕ) (ours theirs one other keys : List ℕ) (v w : View) → PassFits ours left v → PassFits theirs right w
-    → words ≡ left → words ≡ right → one ≡ ours → other ≡ theirs → keys ≡ keys_united one other → PassFits keys words (joined_view v w)
-joined_fits words left right ours theirs one other keys v w h g same_left same_right first second united =
-    let is = united ∙ (λ t. keys_united (first t) (second t)) in record {
+    → words ≡ left → words ≡ right → one ≡ ours → other ≡ theirs → Lists (union (set_of one) (set_of other)) keys → PassFits keys words (joined_view v w)
+joined_fits words left right ours theirs one other keys v w h g same_left same_right first second listed =
+    let both = union (set_of ours) (set_of theirs) in
+    let ascending : Lists both keys =
+    subst (λ l. Lists (union (set_of ours) (set_of l)) keys) second (subst (λ l. Lists (union (set_of l) (set_of other)) keys) first listed) in
+    let is = one_list both keys (keys_united ours theirs) ascending (lists_united ours theirs g.ascending) in record {
       owned = is ∙ ((λ t. keys_united (h.owned t) (g.owned t)) ∙ sym (keys_of_united v.worker.ledger w.worker.ledger));
-      ascending = subst IsStrictlyIncreasing (sym is) (ascends (keys_united ours theirs) (rises_united ours theirs (rises theirs g.ascending)));
+      ascending = ascending.ascending;
       named = λ cards size. joined_named cards v w (h.named cards (sym same_left ∙ size)) (g.named cards (sym same_right ∙ size));
     }

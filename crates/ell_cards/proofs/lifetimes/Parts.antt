@@ -5,7 +5,8 @@ use Rattle.ell_core.specs.state.Machine.{Ledger, ledger_of}
 use Rattle.ell_core.specs.state.Moves.{Parts}
 use Rattle.ell_cards.specs.Changes.{is_among, keys_of, part_on, part_off}
 use Rattle.ell_cards.proofs.words.Keys.{place_of}
-use Rattle.ell_cards.proofs.words.Ascending.{Over, Rises, rises, over_less, over_among, not_among, among_rest}
+use Rattle.ell_ops.proofs.Rising.{Over, Rises, rises, over_less}
+use Rattle.ell_cards.proofs.words.Ascending.{over_among, not_among, among_rest}
 
 -- the keys of the part of a ledger on some keys
 pub keys_on : (keys : List ℕ) (l : List (ℕ × Bool)) → keys_of (part_on keys l) ≡ filter (is_among keys) (keys_of l)

@@ -72,13 +72,6 @@ places_hold w stage x state.DFlag c told low at old = with_entry (EntryHolds w s
 places_hold w stage x state.Mark c told low at old = with_entry (EntryHolds w stage) (Info c field.P x) told (low, refl, at (λ e. (cc))) old
 places_hold w stage x state.Clean c told low at old = old
 
--- what was told before is told
-pub places_more : (x : ℕ) (st : State) (c : ℕ) (told : List Told) (e : Told) → Has told e → Has (places_by x st c told) e
-places_more x state.IFlag c told e h = earlier e (Info c field.P x) told h
-places_more x state.DFlag c told e h = earlier e (Info c field.Gp x) told h
-places_more x state.Mark c told e h = earlier e (Info c field.P x) told h
-places_more x state.Clean c told e h = h
-
 -- what the worker knows once an update was found
 pub facts_known : (st : State) (c : ℕ) (facts : List Fact) → known_of (facts_by st c facts) ≡ learned_any (known_of facts) (told_by_state st c)
 facts_known state.IFlag c facts = refl

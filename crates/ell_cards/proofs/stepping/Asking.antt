@@ -18,6 +18,7 @@ use Rattle.ell_cards.specs.Guards.{IsAsked, MayAsk, MaySee}
 use Rattle.ell_cards.specs.Calls.{child_at, TellsNode, TellsDepth}
 use Rattle.ell_cards.specs.Rule.{TableState, is_fixed, EntryHolds, Kept}
 use Rattle.ell_cards.specs.Laws.{IsEvent}
+use Rattle.ell_cards.proofs.views.Entries.{info_more}
 use Rattle.ell_cards.proofs.seats.Entries.{with_entry}
 use Rattle.ell_cards.proofs.seats.Seats.{mine_sound}
 use Rattle.ell_cards.proofs.seats.Frames.{kept_told, is_no_event}
@@ -31,13 +32,6 @@ asked_fixed field.Left a = absurd a
 asked_fixed field.Right a = absurd a
 asked_fixed field.Update a = absurd a
 asked_fixed _ a = refl
-
--- what was told before is told
-info_more : (c : ℕ) (f : Field) (x : ℕ) (told : List Told) (e : Told) → Has told e → Has (told_info c f x told) e
-info_more c field.Gp x told e h = earlier e (Info c field.Gp x) (Met x ∷ told) (earlier e (Met x) told h)
-info_more c field.P x told e h = earlier e (Info c field.P x) (Met x ∷ told) (earlier e (Met x) told h)
-info_more c field.L x told e h = earlier e (Info c field.L x) (Met x ∷ told) (earlier e (Met x) told h)
-info_more c f x told e h = earlier e (Info c f x) told h
 
 module _ (keys : List ℕ) (cards : ℕ) (s : TableState) (r : Kept keys cards s) (id : ℕ) (v : View) (here : get_elem? s.views id ≡ some v) where
   -- where a known card goes came into the tree; an insert's has no grandparent, which is node 0

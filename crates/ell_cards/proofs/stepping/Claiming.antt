@@ -23,28 +23,18 @@ use Rattle.ell_cards.specs.declared.call.Call.TheVariants as call
 use Rattle.ell_cards.specs.declared.view.Told.{Told}
 use Rattle.ell_cards.specs.declared.view.Told.TheVariants.{Key, Info}
 use Rattle.ell_cards.specs.declared.view.View.{View}
-use Rattle.ell_cards.specs.Models.{Has, earlier}
+use Rattle.ell_cards.specs.Models.{Has}
 use Rattle.ell_cards.specs.Changes.{told_fixed, told_filling, filling_for, filling_of, after_claim}
 use Rattle.ell_cards.specs.Guards.{MayClaim, Wants}
 use Rattle.ell_cards.specs.Rule.{TableState, EntryHolds, seated, Kept}
 use Rattle.ell_cards.specs.Laws.{IsEvent}
 use Rattle.ell_cards.specs.Calls.{Becomes}
 use Rattle.ell_cards.proofs.words.Fields.{filled_else}
+use Rattle.ell_cards.proofs.views.Entries.{filling_more}
 use Rattle.ell_cards.proofs.seats.Entries.{with_entry}
 use Rattle.ell_cards.proofs.seats.Seats.{machine, leads, kept_event, mine, becomes, entries_on}
 use Rattle.ell_cards.proofs.seats.Frames.{IsReached, waits_on, kept_told, same_machine}
 use Rattle.ell_cards.proofs.stepping.Looks.{here_key}
-
--- what was told before is told
-fixed_more : (c : ℕ) (f : Field) (x : ℕ) (told : List Told) (e : Told) → Has told e → Has (told_fixed c f x told) e
-fixed_more c field.Left x told e h = h
-fixed_more c field.Right x told e h = h
-fixed_more c field.Update x told e h = h
-fixed_more c f x told e h = earlier e (Info c f x) told h
-
-filling_more : (c : ℕ) (es : List (Field × ℕ)) (told : List Told) (e : Told) → Has told e → Has (told_filling c es told) e
-filling_more c [] told e h = h
-filling_more c (d ∷ es) told e h = fixed_more c d.0 d.1 (told_filling c es told) e (filling_more c es told e h)
 
 -- what holds of a card's word is told of it
 fixed_holds : (w : Words) (stage : Stages) (c : ℕ) (f : Field) (x : ℕ) (told : List Told) → c < w.next → word w c f ≡ x

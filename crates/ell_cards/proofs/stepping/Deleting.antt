@@ -27,7 +27,8 @@ use Rattle.ell_cards.specs.Rule.{TableState, EntryHolds, Kept}
 use Rattle.ell_cards.specs.Laws.{IsEvent}
 use Rattle.ell_cards.proofs.words.Updates.{is_mark}
 use Rattle.ell_core.proofs.stages.Waiting.{born-settled}
-use Rattle.ell_cards.proofs.seats.Entries.{facts_known, places_more}
+use Rattle.ell_cards.proofs.views.Entries.{places_more}
+use Rattle.ell_cards.proofs.seats.Entries.{facts_known}
 use Rattle.ell_cards.proofs.seats.Seats.{mine, becomes, mine_is, relies}
 use Rattle.ell_cards.proofs.seats.Frames.{Onward, is_event}
 use Rattle.ell_cards.proofs.stepping.Looks.{found_entries, names_card}

@@ -29,7 +29,8 @@ use Rattle.ell_cards.specs.Rule.{TableState, EntryHolds, Kept}
 use Rattle.ell_cards.specs.Laws.{IsEvent}
 use Rattle.ell_cards.proofs.words.Updates.{packed_again}
 use Rattle.ell_core.proofs.stages.Waiting.{born-settled}
-use Rattle.ell_cards.proofs.seats.Entries.{with_entry, places_hold, places_more, facts_known}
+use Rattle.ell_cards.proofs.views.Entries.{places_more}
+use Rattle.ell_cards.proofs.seats.Entries.{with_entry, places_hold, facts_known}
 use Rattle.ell_cards.proofs.seats.Seats.{mine, becomes, mine_is, mine_sound, relies, stands_born, born_claimed}
 use Rattle.ell_cards.proofs.seats.Frames.{looks, kept_told, is_event, is_no_event}
 

@@ -1,5 +1,6 @@
 use Rattle.std.proofs.Common.{◌≡◌, ◌≢◌, ◌==◌, false, eq-eqb, ne_eqb, sym, inl, inr, ℕ, zero, suc, ◌+◌, ◌*◌, ◌/◌, ◌%◌, ◌<◌, refl, ap, ◌∙◌, arith}
 use Rattle.std.proofs.lemmas.Bool.{cases_eq}
+use Rattle.ell_core.specs.acts.Searching.{IsClean}
 use Rattle.ell_core.specs.state.Cards.{marked}
 use Rattle.ell_cards.specs.Changes.{is_mark_of}
 use Rattle.ell_word.specs.declared.update.State.{State}
@@ -43,3 +44,10 @@ card_again u = by u.state
     by DFlag = omega arith
     by Mark = omega arith
     by Clean = omega arith
+
+-- a clean update has a clean word
+pub clean_word : (s : State) (c : ℕ) → s ≡ Clean → IsClean (4 * c + number_of s)
+clean_word IFlag c h = cc
+clean_word DFlag c h = cc
+clean_word Mark c h = cc
+clean_word Clean c h = let rest : (4 * c + 3) % 4 ≡ 3 = omega arith in ap state_of rest

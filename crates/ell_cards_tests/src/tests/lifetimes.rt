@@ -26,6 +26,17 @@ fn a_table_has_one_to_a_million_cards(rt: HostRuntime) {
 }
 
 #[test]
+fn faults_have_texts(rt: HostRuntime) -> Result<(), Fail> {
+    for (fault, text) in [
+        (CardFault::BadCards, "cards are not 1 to 1000000"),
+        (CardFault::NoMemory, "out of memory"),
+    ] {
+        assert_eq!(rt; fault.to_string(rt.alloc())?.as_str(), text);
+    }
+    Ok(())
+}
+
+#[test]
 fn a_table_begins_parts_and_ends(rt: HostRuntime) -> Result<(), Fail> {
     let (table, mut pass) = CardTable::reserve(rt.alloc(), &[5, 7], 2)?;
     assert_eq!(rt; table.next(&mut pass), 1);

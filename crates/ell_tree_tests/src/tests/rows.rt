@@ -93,6 +93,17 @@ fn a_tree_has_one_to_a_million_cards(rt: HostRuntime) {
 }
 
 #[test]
+fn held_changes_have_texts(rt: HostRuntime) -> Result<(), Fail> {
+    for (held, text) in [
+        (Held::Busy, "something was in the way of each try"),
+        (Held::Spent, "all cards are given out"),
+    ] {
+        assert_eq!(rt; held.to_string(rt.alloc())?.as_str(), text);
+    }
+    Ok(())
+}
+
+#[test]
 fn a_delete_is_spent_once_all_cards_are_given_out(rt: HostRuntime) -> Result<(), Fail> {
     let whole = [
         (Insert(5), Ok(true)),

@@ -6,7 +6,8 @@ use Rattle.ell_cards.specs.Models.{IsTold}
 use Rattle.ell_cards.specs.Changes.{after_key_of}
 use Rattle.ell_cards_tests.specs.declared.searching.Place.{Place}
 use Rattle.ell_cards_tests.specs.Places.{EndsAt}
-use Rattle.ell_cards_tests.proofs.Keepings.{keeps_trans, view_after}
+use Rattle.ell_cards.proofs.views.Steps.{view_after}
+use Rattle.ell_cards_tests.proofs.Keepings.{keeps_trans}
 use Rattle.ell_cards_tests.proofs.Asides.{key_of_keeps}
 use Rattle.ell_cards_tests.proofs.Descents.{gone_deeper, ends_at}
 use Rattle.ell_cards_tests.proofs.searching.search.Goals as goal

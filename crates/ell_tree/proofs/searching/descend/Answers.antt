@@ -1,7 +1,8 @@
 use Rattle.std.proofs.Common.{refl}
 use Rattle.ell_cards.specs.declared.view.Told.TheVariants.{Met}
 use Rattle.ell_tree.proofs.Keeping.{walks_step, upd_keeps}
-use Rattle.ell_tree.proofs.Descending.{descend_walks, descend_search, descend_met, descend_passed, may_go_down}
+use Rattle.ell_cards.proofs.views.Searches.{may_go_down}
+use Rattle.ell_tree.proofs.Descending.{descend_walks, descend_search, descend_met, descend_passed}
 use Rattle.ell_tree.proofs.searching.descend.Goals as goal
 
 pub key_of-node_key-requires-clause-met : goal.key_of-node_key-requires-clause-met

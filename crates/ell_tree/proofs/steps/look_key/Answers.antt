@@ -1,5 +1,6 @@
 use Rattle.std.proofs.Common.{refl}
-use Rattle.ell_tree.proofs.Looking.{key_walks, key_told}
+use Rattle.ell_cards.proofs.views.Steps.{key_told}
+use Rattle.ell_tree.proofs.Looking.{key_walks}
 use Rattle.ell_tree.proofs.steps.look_key.Goals as goal
 
 pub returns : goal.returns

@@ -1,12 +1,12 @@
 use Rattle.std.proofs.Common.{Bool, subst, arith}
 use Rattle.ell_cards.specs.Models.{Steps}
 use Rattle.ell_cards.specs.Changes.{after_claim}
-use Rattle.ell_tree.proofs.Claiming.{may_claim, won_goes, has_card, lost_goes, lost_claims}
+use Rattle.ell_tree.proofs.Claiming.{may_claim_at, won_goes, has_card, lost_goes, lost_claims}
 use Rattle.ell_tree.proofs.trying.take_card.Goals as goal
 
 pub claim-requires-clause-may : goal.claim-requires-clause-may
 claim-requires-clause-may g c =
-    may_claim c.args.pass.now c.next-card.new.pass c.next-card.result c.args.op c.args.place c.next-card.ensures.step c.requires.busy c.requires.no_card
+    may_claim_at c.args.pass.now c.next-card.new.pass c.next-card.result c.args.op c.args.place c.next-card.ensures.step c.requires.busy c.requires.no_card
     c.requires.at c.requires.calm c.requires.wants
 
 pub returns-then-claim : goal.returns-then-claim

@@ -4,7 +4,8 @@ use Rattle.ell_ops.specs.declared.op.Op.TheVariants.{Find}
 use Rattle.ell_cards.specs.declared.view.Told.TheVariants.{Met}
 use Rattle.ell_cards_tests.proofs.Keepings.{upd_keeps, down_keeps}
 use Rattle.ell_cards_tests.proofs.Asides.{key_of_keeps}
-use Rattle.ell_cards_tests.proofs.Descents.{root_met, child_met, may_go_down_after, find_may_answer}
+use Rattle.ell_cards.proofs.views.Searches.{may_go_down}
+use Rattle.ell_cards_tests.proofs.Descents.{root_met, child_met, find_may_answer}
 use Rattle.ell_cards_tests.proofs.tests.searches.find_five.Goals as goal
 
 pub key_of-root_key-requires-clause-met : goal.key_of-root_key-requires-clause-met
@@ -14,7 +15,7 @@ key_of-root_key-requires-clause-met g c =
 pub down-leaf-requires-clause-may : goal.down-leaf-requires-clause-may
 down-leaf-requires-clause-may g c =
     let root = root_met c.args.pass.now c.begin.new.pass (Find 5) c.begin.ensures.step in
-    may_go_down_after c.begin.new.pass c.upd.new.pass c.key_of-root_key.new.pass (Find 5) 0 c.upd.result c.key_of-root_key.result 5 c.upd.ensures.step
+    may_go_down c.begin.new.pass c.upd.new.pass c.key_of-root_key.new.pass (Find 5) 0 c.upd.result c.key_of-root_key.result 5 c.upd.ensures.step
     c.key_of-root_key.ensures.step refl root.0 root.1 refl
 
 pub key_of-leaf_key-requires-clause-met : goal.key_of-leaf_key-requires-clause-met

@@ -1,7 +1,7 @@
 use Rattle.std.proofs.Common.{◌+◌, length}
-use Rattle.ell_cards.specs.Inside.{keys_united}
-use Rattle.ell_cards.proofs.lifetimes.Unions.{IsMerged}
-use Rattle.ell_cards.proofs.lifetime.united.Given as goal
+use Rattle.ell_ops.proofs.Merges.{keys_united}
+use Rattle.ell_ops.proofs.Merges.{IsMerged}
+use Rattle.ell_ops.proofs.keys.united_keys.Given as goal
 
 abbrev pub invariant-loop-ours : goal.invariant-loop-ours
 invariant-loop-ours g l = IsMerged (keys_united l.left l.right) l.both.items l.ours l.theirs

@@ -102,10 +102,6 @@ impl BareTree {
     pub fn reserve(cards: u64) -> BareTree {
         let words = (0..11 + 10 * cards).map(|_| AtomicU64::new(0)).collect();
         let tree = BareTree { words, cards };
-        // Else the system would hand out the memory later, in the loops that are timed.
-        for word in &tree.words {
-            word.store(0, Relaxed);
-        }
         tree.claimed().store(1, SeqCst);
         tree.fill(0, Field::Key, INF2);
         tree.fill(0, Field::Left, 1);
@@ -114,6 +110,14 @@ impl BareTree {
         tree.fill(0, Field::LeftLeafKey, INF1);
         tree.fill(0, Field::RightLeafKey, INF2);
         tree
+    }
+
+    /// Has the system hand out the memory of all words now, which it would do later, at the first change of each part of it.
+    #[allow(dead_code)]
+    pub fn take_memory(&self) {
+        for word in &self.words {
+            word.store(word.load(Relaxed), Relaxed);
+        }
     }
 
     fn claimed(&self) -> &AtomicU64 {
@@ -181,6 +185,22 @@ impl BareTree {
         let place = self.search(key);
         self.touch();
         place.key == key
+    }
+
+    /// The keys of the leaves, ascending, when no thread is at work.
+    #[allow(dead_code)]
+    pub fn keys(&self) -> Vec<u64> {
+        let (mut keys, mut pending) = (Vec::new(), vec![0]);
+        while let Some(node) = pending.pop() {
+            if is_internal(node) {
+                pending.push(self.child(node, true).load(SeqCst));
+                pending.push(self.child(node, false).load(SeqCst));
+            } else {
+                keys.push(self.key(node));
+            }
+        }
+        keys.retain(|&key| key < INF1);
+        keys
     }
 
     /// None where no card is left.

@@ -1,11 +1,11 @@
 use Rattle.std.proofs.lemmas.Cmp.{ranked}
-use Rattle.std.proofs.Common.{Less, Equal, Greater, ◌⊎◌, ◌<◌, length, inl, inr, ap, rules}
+use Rattle.std.proofs.Common.{Less, Equal, Greater, ◌⊎◌, ◌<◌, length, inl, inr, ap, sym, subst, rules}
 use Rattle.std.proofs.Common.{List, ℕ, ◌++◌}
-use Rattle.ell_cards.specs.Inside.{keys_united}
-use Rattle.ell_cards.proofs.words.Ascending.{rises}
-use Rattle.ell_cards.proofs.lifetimes.Unions.{merged_left, merged_right, merged_both, merged_all}
-use Rattle.ell_cards.proofs.lifetime.united.Goals as goal
-use Rattle.ell_cards.proofs.lifetime.united.Goals.{in_default, in_default-2}
+use Rattle.ell_ops.specs.KeySet.{Lists, set_of, union}
+use Rattle.ell_ops.proofs.Rising.{rises}
+use Rattle.ell_ops.proofs.Merges.{keys_united, merged_left, merged_right, merged_both, merged_all, lists_united}
+use Rattle.ell_ops.proofs.keys.united_keys.Goals as goal
+use Rattle.ell_ops.proofs.keys.united_keys.Goals.{in_default, in_default-2}
 
 pub loop-ours-init : goal.loop-ours-init
 loop-ours-init g c = record {
@@ -31,7 +31,10 @@ loop-ours-preserved g c =
 
 pub returns : goal.returns
 returns g c =
-    let e : (length c.loop-ours.ours.now < 1) ⊎ (length c.loop-ours.theirs.now < 1) =
+    let left = c.args.left.now in
+    let right = c.args.right.now in
+    let one_done : (length c.loop-ours.ours.now < 1) ⊎ (length c.loop-ours.theirs.now < 1) =
     elim c.if-ours-lt1.branch [ in_default w ↦ inl w.in_default.len_below | in_default-2 w ↦ inr (search rules) ] in
-    merged_all (keys_united c.args.left.now c.args.right.now) c.loop-ours.both.items c.extend_from_slice.new.self.items c.extend_from_slice-2.new.self.items
-    c.loop-ours.ours.now c.loop-ours.theirs.now e c.in_ok-extend_from_slice.ensures.items c.in_ok-extend_from_slice-2.ensures.items c.loop-ours.invariant
+    let merged = merged_all (keys_united left right) c.loop-ours.both.items c.extend_from_slice.new.self.items c.extend_from_slice-2.new.self.items
+    c.loop-ours.ours.now c.loop-ours.theirs.now one_done c.in_ok-extend_from_slice.ensures.items c.in_ok-extend_from_slice-2.ensures.items c.loop-ours.invariant in
+    subst (Lists (union (set_of left) (set_of right))) (sym merged) (lists_united left right c.requires.right)

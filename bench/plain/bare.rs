@@ -1,0 +1,29 @@
+// A program that bench/run measures elltree against: the same operations in threads, on the same tree over bare atomic words.
+
+mod bare_tree;
+mod text;
+mod workers;
+
+use bare_tree::BareTree;
+use std::io;
+use std::{env, process};
+use text::{read_operations, write_answer, Operation};
+use workers::{settings, work};
+
+fn main() -> io::Result<()> {
+    let Some(settings) = settings(env::args().skip(1)) else {
+        eprintln!("bare: give the number of workers, 1 to 64, and stripe or range");
+        process::exit(2);
+    };
+    let operations = read_operations()?;
+    let tree = BareTree::reserve(4 * operations.len() as u64 + 64);
+    let replies = work(&operations, &settings, |operation| {
+        let reply = match operation {
+            Operation::Insert(key) => tree.insert(key),
+            Operation::Delete(key) => tree.delete(key),
+            Operation::Find(key) => Some(tree.find(key)),
+        };
+        reply.expect("a card for each try")
+    });
+    write_answer(&replies, tree.keys().into_iter())
+}

@@ -1,0 +1,25 @@
+// A program that bench/run measures elltree against: the same operations on a `BTreeSet`, in one thread.
+
+mod text;
+
+use std::collections::BTreeSet;
+use std::io;
+use text::{read_operations, write_answer, Operation};
+
+fn apply(operation: Operation, keys: &mut BTreeSet<u64>) -> bool {
+    match operation {
+        Operation::Insert(key) => keys.insert(key),
+        Operation::Delete(key) => keys.remove(&key),
+        Operation::Find(key) => keys.contains(&key),
+    }
+}
+
+fn main() -> io::Result<()> {
+    let operations = read_operations()?;
+    let mut keys = BTreeSet::new();
+    let replies: Vec<bool> = operations
+        .into_iter()
+        .map(|operation| apply(operation, &mut keys))
+        .collect();
+    write_answer(&replies, keys.into_iter())
+}

@@ -1,0 +1,8 @@
+-- facts that are known, beside more that were learnt
+pub mod Facts
+-- entries that were told, beside more of them
+pub mod Entries
+-- the view after a step, and what the step has told
+pub mod Steps
+-- a search that goes a node down, and the claim at its end
+pub mod Searches
