@@ -5,22 +5,17 @@ ghost use Rattle.ell_cards_tests.specs.Fitting.{IsIdle, IsReady};
 
 use super::passes::told;
 use super::refusing::{Heap, Refusal};
+use super::schedule::{CARDS, Part, TURNS, Turn};
 use super::sweeping::{Ended, sweep};
 use ell_cards::{CardFault, CardTable, Pass};
 use ell_cards_tests::{Memory, nothing, step};
-use ell_core::Act::{
-    Again, Answer, Backtrack, Begin, Claim, DChild, DFlag, DUnflag, Down, IChild, IFlag, IUnflag,
-    Leave, Mark, Upd,
-};
-use ell_core::{Act, Field, Stepped};
-use ell_ops::{NoMemory, Op};
+use ell_core::Field;
+use ell_ops::NoMemory;
 use std::alloc::Allocator;
 use std::process::Abort;
 use std::test::Fail;
 
 const KEYS: [u64; 2] = [5, 7];
-
-const CARDS: u64 = 5;
 
 // Reserves a table.
 fn reserve(rt: &(impl Abort + AllocGlobal), refusal: Refusal) -> Result<Ended, Fail> {
@@ -150,64 +145,6 @@ fn a_table_is_closed_without_memory(rt: HostRuntime) -> Result<(), Fail> {
     assert_eq!(rt; heap.growths(), 0);
     Ok(())
 }
-
-const MOVED: Stepped = Stepped::Moved;
-
-const WON: Stepped = Stepped::Won;
-
-const LOST: Stepped = Stepped::Lost;
-
-const YES: Stepped = Stepped::Answered(true);
-
-// Which of two passes does some acts, each of which is to answer the same.
-#[derive(Clone, Copy, Debug, PartialEq, Eq)]
-enum Part {
-    Left,
-    Right,
-}
-
-type Turn = (Part, &'static [Act], Stepped);
-
-// Acts of a pass that owns 5 and 6 and of one that owns 7: each act at least once, and a mark that is lost.
-const TURNS: [Turn; 21] = [
-    (Part::Left, &[Begin(Op::Insert(5)), Upd, Down, Claim], MOVED),
-    (Part::Left, &[IFlag, IChild(1), IUnflag(1)], WON),
-    (Part::Left, &[Answer], YES),
-    (
-        Part::Right,
-        &[Begin(Op::Insert(7)), Upd, Down, Upd, Down, Claim],
-        MOVED,
-    ),
-    (Part::Right, &[IFlag, IChild(2), IUnflag(2)], WON),
-    (Part::Right, &[Answer], YES),
-    (
-        Part::Right,
-        &[Begin(Op::Delete(7)), Upd, Down, Upd, Down, Upd, Down],
-        MOVED,
-    ),
-    (Part::Right, &[Claim], MOVED),
-    (Part::Right, &[DFlag], WON),
-    (
-        Part::Left,
-        &[Begin(Op::Insert(6)), Upd, Down, Upd, Down, Upd, Down],
-        MOVED,
-    ),
-    (Part::Left, &[Claim], MOVED),
-    (Part::Left, &[IFlag], WON),
-    (Part::Right, &[Mark(3)], LOST),
-    (Part::Right, &[IChild(4), IUnflag(4), Backtrack(3)], WON),
-    (
-        Part::Right,
-        &[Again, Upd, Down, Upd, Down, Upd, Down, Claim],
-        MOVED,
-    ),
-    (Part::Right, &[DFlag, Mark(5), DChild(5), DUnflag(5)], WON),
-    (Part::Right, &[Answer], YES),
-    (Part::Left, &[IChild(4), IUnflag(4)], LOST),
-    (Part::Left, &[Answer], YES),
-    (Part::Left, &[Begin(Op::Find(5)), Upd, Down, Leave], MOVED),
-    (Part::Left, &[Begin(Op::Find(6)), Upd], MOVED),
-];
 
 // Does the acts of a turn.
 fn play_turn<A: Allocator + Copy>(

@@ -1,9 +1,12 @@
 //! Texts that are read and written.
 use super::refusing::{Heap, Refusal};
 use super::sweeping::{Ended, sweep};
-use ell_core::{Shown, Stepped};
+use ell_core::{Act, Event, Shown, Stepped};
 use ell_ops::Op;
-use ell_text::{InputFault, TextFault, read_all, read_bulk, write_answer, write_trace};
+use ell_text::{
+    InputFault, ReplayFault, ScriptFault, TextFault, read_all, read_bulk, read_replay,
+    replay_bytes, write_answer, write_trace,
+};
 use std::alloc::{AllocError, Global};
 use std::process::Abort;
 use std::test::Fail;
@@ -49,6 +52,61 @@ fn read_operations(rt: &(impl Abort + AllocGlobal), refusal: Refusal) -> Result<
         Err(fault) => assert_eq!(rt; fault, TextFault::NoMemory),
     }
     Ok(ended)
+}
+
+const SCRIPT: &[u8] =
+    b"workers 2\ncards 4\nown 0 5\nown 1 7\n0 begin insert 5\n0 upd\n0 down\n0 claim\n0 iflag\n0 ichild 1\n\
+    0 iunflag 1\n0 answer\n";
+
+const TRACE: &[u8] = b"moved\nmoved\nmoved\nmoved\nwon\nwon\nwon\nyes\nkeys 1\n5\n";
+
+// Reads a script.
+fn read_script(rt: &(impl Abort + AllocGlobal), refusal: Refusal) -> Result<Ended, Fail> {
+    let heap = Heap::new(rt.alloc());
+    heap.refuse(refusal);
+    let read = read_replay(&heap, SCRIPT);
+    let ended = heap.ended(read.is_err());
+    match read {
+        Ok(script) => {
+            assert_eq!(rt; script.owned.as_slice(), [(0, 5), (1, 7)].as_slice());
+            assert_eq!(rt; script.events.len(), 8);
+            let last = Event {
+                worker: 0,
+                act: Act::Answer,
+            };
+            assert_eq!(rt; script.events.last().copied(), Some(last));
+        }
+        Err(fault) => assert_eq!(rt; fault, ReplayFault::NoMemory),
+    }
+    Ok(ended)
+}
+
+// Replays a script. Where there is no memory for it, nothing is written.
+fn replay_script(rt: &(impl Abort + AllocGlobal), refusal: Refusal) -> Result<Ended, Fail> {
+    let heap = Heap::new(rt.alloc());
+    let mut reader = SCRIPT;
+    let mut writer = Vec::new(rt.alloc());
+    heap.refuse(refusal);
+    let replayed = replay_bytes(&heap, &mut reader, &mut writer);
+    let ended = heap.ended(replayed.is_err());
+    match replayed {
+        Ok(()) => assert_eq!(rt; writer.as_slice(), TRACE),
+        Err(fault) => {
+            assert_eq!(rt; fault, ScriptFault::NoMemory);
+            assert!(rt; writer.is_empty());
+        }
+    }
+    Ok(ended)
+}
+
+#[test]
+fn scripts_are_read_or_there_is_no_memory(rt: HostRuntime) -> Result<(), Fail> {
+    sweep(&rt, |refusal| read_script(&rt, refusal))
+}
+
+#[test]
+fn scripts_are_replayed_or_there_is_no_memory(rt: HostRuntime) -> Result<(), Fail> {
+    sweep(&rt, |refusal| replay_script(&rt, refusal))
 }
 
 #[test]
