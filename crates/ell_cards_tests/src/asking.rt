@@ -7,11 +7,11 @@ ghost use Rattle.ell_cards_tests.specs.Fitting.{StepsAside};
 
 use ell_cards::{CardTable, Pass};
 use ell_core::Field;
-use std::alloc::Global;
+use std::alloc::Allocator;
 
 /// Reads the key of a node that the pass has met.
 #[tactic(auto, using(ell_cards::proofs::views::Steps::key_told))]
-pub(crate) fn look_key(table: &CardTable<Global>, pass: &mut Pass<Global>, node: u64) -> u64
+pub(crate) fn look_key<A: Allocator + Copy>(table: &CardTable<A>, pass: &mut Pass<A>, node: u64) -> u64
     requires own { pass.old.table ≡ table.now.id }
     requires met { IsTold pass.old.view (Met node) }
     ensures aside { StepsAside pass.old pass.new }
@@ -22,9 +22,9 @@ pub(crate) fn look_key(table: &CardTable<Global>, pass: &mut Pass<Global>, node:
 
 /// Reads a word of a card that the pass knows flagged or marked.
 #[tactic(auto, using(ell_cards::proofs::views::Steps::info_told, ell_cards::proofs::views::Steps::info_met))]
-pub(crate) fn look_info(
-    table: &CardTable<Global>,
-    pass: &mut Pass<Global>,
+pub(crate) fn look_info<A: Allocator + Copy>(
+    table: &CardTable<A>,
+    pass: &mut Pass<A>,
     card: u64,
     field: Field,
 ) -> u64
@@ -39,9 +39,9 @@ pub(crate) fn look_info(
 
 /// Reads a child of the parent that a card has marked.
 #[tactic(auto, using(ell_cards::proofs::views::Steps::frozen_told))]
-pub(crate) fn look_child(
-    table: &CardTable<Global>,
-    pass: &mut Pass<Global>,
+pub(crate) fn look_child<A: Allocator + Copy>(
+    table: &CardTable<A>,
+    pass: &mut Pass<A>,
     card: u64,
     parent: u64,
     right: bool,
@@ -57,9 +57,9 @@ pub(crate) fn look_child(
 
 /// Reads the sibling of a leaf at the parent that a card has marked.
 #[tactic(auto, using(crate::proofs::Asides::asides))]
-pub(crate) fn look_sibling(
-    table: &CardTable<Global>,
-    pass: &mut Pass<Global>,
+pub(crate) fn look_sibling<A: Allocator + Copy>(
+    table: &CardTable<A>,
+    pass: &mut Pass<A>,
     card: u64,
     parent: u64,
     leaf: u64,

@@ -13,12 +13,12 @@ use ell_cards::{CardTable, Pass};
 use ell_core::{Fact, Stepped};
 use ell_ops::Op;
 use ell_word::{CARD_MAX, State, Update, is_internal};
-use std::alloc::Global;
+use std::alloc::Allocator;
 
 /// Takes the next card and fills it, where the pass stands at a leaf behind a parent that was read clean.
-pub(crate) fn claim(
-    table: &CardTable<Global>,
-    pass: &mut Pass<Global>,
+pub(crate) fn claim<A: Allocator + Copy>(
+    table: &CardTable<A>,
+    pass: &mut Pass<A>,
     memory: &mut Memory,
 ) -> Option<Stepped>
     requires { IsReady table.now pass.old memory.old }
@@ -47,9 +47,9 @@ pub(crate) fn claim(
     }
 }
 
-fn claim_for_insert(
-    table: &CardTable<Global>,
-    pass: &mut Pass<Global>,
+fn claim_for_insert<A: Allocator + Copy>(
+    table: &CardTable<A>,
+    pass: &mut Pass<A>,
     memory: &mut Memory,
     key: u64,
     place: Place,
@@ -68,9 +68,9 @@ fn claim_for_insert(
     Some(Stepped::Moved)
 }
 
-fn claim_for_delete(
-    table: &CardTable<Global>,
-    pass: &mut Pass<Global>,
+fn claim_for_delete<A: Allocator + Copy>(
+    table: &CardTable<A>,
+    pass: &mut Pass<A>,
     memory: &mut Memory,
     key: u64,
     place: Place,
@@ -112,9 +112,9 @@ fn end_search(memory: &mut Memory, flag: Result<(), Update>, new: Fact) -> Stepp
 }
 
 /// Flags the parent for the insert whose card is in hand.
-pub(crate) fn iflag(
-    table: &CardTable<Global>,
-    pass: &mut Pass<Global>,
+pub(crate) fn iflag<A: Allocator + Copy>(
+    table: &CardTable<A>,
+    pass: &mut Pass<A>,
     memory: &mut Memory,
 ) -> Option<Stepped>
     requires { IsReady table.now pass.old memory.old }
@@ -134,9 +134,9 @@ pub(crate) fn iflag(
 }
 
 /// Flags the grandparent for the delete whose card is in hand.
-pub(crate) fn dflag(
-    table: &CardTable<Global>,
-    pass: &mut Pass<Global>,
+pub(crate) fn dflag<A: Allocator + Copy>(
+    table: &CardTable<A>,
+    pass: &mut Pass<A>,
     memory: &mut Memory,
 ) -> Option<Stepped>
     requires { IsReady table.now pass.old memory.old }

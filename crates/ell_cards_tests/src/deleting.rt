@@ -22,12 +22,12 @@ use ell_cards::{CardTable, Pass};
 use ell_core::Field;
 use ell_ops::Op;
 use ell_word::{State, Update, pack};
-use std::alloc::Global;
+use std::alloc::Allocator;
 
 /// Fills the card of a delete of the key of a place, below a grandparent.
-pub fn fill_delete(
-    table: &CardTable<Global>,
-    pass: &mut Pass<Global>,
+pub fn fill_delete<A: Allocator + Copy>(
+    table: &CardTable<A>,
+    pass: &mut Pass<A>,
     card: u64,
     grandparent: u64,
     place: Place,
@@ -56,9 +56,9 @@ pub(crate) fn is_mark(card: u64, update: Update) -> bool
 }
 
 // Marks the parent of a delete: whether its mark stands now.
-fn set_mark(
-    table: &CardTable<Global>,
-    pass: &mut Pass<Global>,
+fn set_mark<A: Allocator + Copy>(
+    table: &CardTable<A>,
+    pass: &mut Pass<A>,
     card: u64,
     parent: u64,
     was: u64,
@@ -76,9 +76,9 @@ fn set_mark(
 }
 
 // Cuts the parent that a delete has marked out of the tree, takes the flag away, and answers.
-fn cut(
-    table: &CardTable<Global>,
-    pass: &mut Pass<Global>,
+fn cut<A: Allocator + Copy>(
+    table: &CardTable<A>,
+    pass: &mut Pass<A>,
     card: u64,
     key: u64,
     grandparent: u64,
@@ -100,9 +100,9 @@ fn cut(
 }
 
 /// Finishes a delete whose card has won its flag: it answers, or goes back where the parent was in other hands.
-pub fn finish_delete(
-    table: &CardTable<Global>,
-    pass: &mut Pass<Global>,
+pub fn finish_delete<A: Allocator + Copy>(
+    table: &CardTable<A>,
+    pass: &mut Pass<A>,
     card: u64,
     key: u64,
     grandparent: u64,
@@ -128,7 +128,7 @@ pub fn finish_delete(
 }
 
 /// Tries once to delete a key that the pass owns.
-pub fn delete(table: &CardTable<Global>, pass: &mut Pass<Global>, cards: u64, key: u64) -> Tried
+pub fn delete<A: Allocator + Copy>(table: &CardTable<A>, pass: &mut Pass<A>, cards: u64, key: u64) -> Tried
     requires own { pass.old.table ≡ table.now.id }
     requires cards { cards ≡ table.now.cards }
     requires limit { cards ≤ greatest_card }

@@ -9,7 +9,7 @@ use crate::memory::{Memory, fact_of, remember, remembers};
 use ell_cards::{CardTable, Pass};
 use ell_core::{Fact, Field, Stepped};
 use ell_word::Update;
-use std::alloc::Global;
+use std::alloc::Allocator;
 
 // An exchange that was won or lost.
 fn won_or_lost(won: bool) -> Stepped {
@@ -17,9 +17,9 @@ fn won_or_lost(won: bool) -> Stepped {
 }
 
 /// Makes the child exchange of an insert.
-pub(crate) fn ichild(
-    table: &CardTable<Global>,
-    pass: &mut Pass<Global>,
+pub(crate) fn ichild<A: Allocator + Copy>(
+    table: &CardTable<A>,
+    pass: &mut Pass<A>,
     memory: &mut Memory,
     card: u64,
 ) -> Option<Stepped>
@@ -35,9 +35,9 @@ pub(crate) fn ichild(
 }
 
 /// Takes an insert's flag away.
-pub(crate) fn iunflag(
-    table: &CardTable<Global>,
-    pass: &mut Pass<Global>,
+pub(crate) fn iunflag<A: Allocator + Copy>(
+    table: &CardTable<A>,
+    pass: &mut Pass<A>,
     memory: &mut Memory,
     card: u64,
 ) -> Option<Stepped>
@@ -53,9 +53,9 @@ pub(crate) fn iunflag(
 }
 
 /// Makes the child exchange of a delete.
-pub(crate) fn dchild(
-    table: &CardTable<Global>,
-    pass: &mut Pass<Global>,
+pub(crate) fn dchild<A: Allocator + Copy>(
+    table: &CardTable<A>,
+    pass: &mut Pass<A>,
     memory: &mut Memory,
     card: u64,
 ) -> Option<Stepped>
@@ -71,9 +71,9 @@ pub(crate) fn dchild(
 }
 
 /// Takes a delete's flag away after its child exchange.
-pub(crate) fn dunflag(
-    table: &CardTable<Global>,
-    pass: &mut Pass<Global>,
+pub(crate) fn dunflag<A: Allocator + Copy>(
+    table: &CardTable<A>,
+    pass: &mut Pass<A>,
     memory: &mut Memory,
     card: u64,
 ) -> Option<Stepped>
@@ -89,9 +89,9 @@ pub(crate) fn dunflag(
 }
 
 /// Takes a delete's flag away after its lost mark.
-pub(crate) fn backtrack(
-    table: &CardTable<Global>,
-    pass: &mut Pass<Global>,
+pub(crate) fn backtrack<A: Allocator + Copy>(
+    table: &CardTable<A>,
+    pass: &mut Pass<A>,
     memory: &mut Memory,
     card: u64,
 ) -> Option<Stepped>
@@ -107,9 +107,9 @@ pub(crate) fn backtrack(
 }
 
 /// Marks the parent of a delete.
-pub(crate) fn mark(
-    table: &CardTable<Global>,
-    pass: &mut Pass<Global>,
+pub(crate) fn mark<A: Allocator + Copy>(
+    table: &CardTable<A>,
+    pass: &mut Pass<A>,
     memory: &mut Memory,
     card: u64,
 ) -> Option<Stepped>

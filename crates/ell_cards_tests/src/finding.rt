@@ -6,10 +6,10 @@ ghost use Rattle.ell_cards.specs.Models.{IsFree};
 use crate::searching::search;
 use ell_cards::{CardTable, Pass};
 use ell_ops::Op;
-use std::alloc::Global;
+use std::alloc::Allocator;
 
 /// Whether a key that the pass owns is present.
-pub fn find(table: &CardTable<Global>, pass: &mut Pass<Global>, key: u64) -> bool
+pub fn find<A: Allocator + Copy>(table: &CardTable<A>, pass: &mut Pass<A>, key: u64) -> bool
     requires own { pass.old.table ≡ table.now.id }
     requires free { IsFree pass.old.view }
     requires owned { ledger_of pass.old.view.worker.ledger key ≢ None }

@@ -9,10 +9,10 @@ ghost use Rattle.ell_cards_tests.specs.Fitting.{StepsAside};
 use crate::asking::{look_info, look_key, look_sibling};
 use ell_cards::{CardTable, Pass};
 use ell_core::Field;
-use std::alloc::Global;
+use std::alloc::Allocator;
 
 /// Makes the child exchange of an insert's card: whether it won.
-pub(crate) fn change_child(table: &CardTable<Global>, pass: &mut Pass<Global>, card: u64) -> bool
+pub(crate) fn change_child<A: Allocator + Copy>(table: &CardTable<A>, pass: &mut Pass<A>, card: u64) -> bool
     requires own { pass.old.table ≡ table.now.id }
     requires knows { Knows pass.old.view (fact.IFlagged card) }
     ensures aside { StepsAside pass.old pass.new }
@@ -27,7 +27,7 @@ pub(crate) fn change_child(table: &CardTable<Global>, pass: &mut Pass<Global>, c
 }
 
 /// Takes an insert's flag away: whether it won.
-pub(crate) fn clear_insert(table: &CardTable<Global>, pass: &mut Pass<Global>, card: u64) -> bool
+pub(crate) fn clear_insert<A: Allocator + Copy>(table: &CardTable<A>, pass: &mut Pass<A>, card: u64) -> bool
     requires own { pass.old.table ≡ table.now.id }
     requires knows { Knows pass.old.view (fact.IChanged card) }
     requires card { KnowsCard pass.old.view card }
@@ -39,7 +39,7 @@ pub(crate) fn clear_insert(table: &CardTable<Global>, pass: &mut Pass<Global>, c
 }
 
 /// Makes the child exchange of a delete's card: whether it won.
-pub(crate) fn cut_parent(table: &CardTable<Global>, pass: &mut Pass<Global>, card: u64) -> bool
+pub(crate) fn cut_parent<A: Allocator + Copy>(table: &CardTable<A>, pass: &mut Pass<A>, card: u64) -> bool
     requires own { pass.old.table ≡ table.now.id }
     requires knows { Knows pass.old.view (fact.Marked card) }
     ensures aside { StepsAside pass.old pass.new }
@@ -58,7 +58,7 @@ pub(crate) fn cut_parent(table: &CardTable<Global>, pass: &mut Pass<Global>, car
 }
 
 /// Takes a delete's flag away after its child exchange: whether it won.
-pub(crate) fn clear_delete(table: &CardTable<Global>, pass: &mut Pass<Global>, card: u64) -> bool
+pub(crate) fn clear_delete<A: Allocator + Copy>(table: &CardTable<A>, pass: &mut Pass<A>, card: u64) -> bool
     requires own { pass.old.table ≡ table.now.id }
     requires knows { Knows pass.old.view (fact.Cut card) }
     requires card { KnowsCard pass.old.view card }
@@ -70,7 +70,7 @@ pub(crate) fn clear_delete(table: &CardTable<Global>, pass: &mut Pass<Global>, c
 }
 
 /// Takes a delete's flag away after its lost mark: whether it won.
-pub(crate) fn go_back(table: &CardTable<Global>, pass: &mut Pass<Global>, card: u64) -> bool
+pub(crate) fn go_back<A: Allocator + Copy>(table: &CardTable<A>, pass: &mut Pass<A>, card: u64) -> bool
     requires own { pass.old.table ≡ table.now.id }
     requires knows { Knows pass.old.view (fact.Unmarkable card) }
     requires card { KnowsCard pass.old.view card }

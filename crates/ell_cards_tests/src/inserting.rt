@@ -16,12 +16,12 @@ use ell_cards::{CardTable, Pass};
 use ell_core::{Field, update_word};
 use ell_ops::Op;
 use ell_word::{State, left_leaf_of, right_leaf_of};
-use std::alloc::Global;
+use std::alloc::Allocator;
 
 /// Fills the card of an insert of a key at a place.
-pub fn fill_insert(
-    table: &CardTable<Global>,
-    pass: &mut Pass<Global>,
+pub fn fill_insert<A: Allocator + Copy>(
+    table: &CardTable<A>,
+    pass: &mut Pass<A>,
     card: u64,
     key: u64,
     place: Place,
@@ -44,9 +44,9 @@ pub fn fill_insert(
 }
 
 /// Finishes an insert whose card has won its flag, and answers it.
-pub fn finish_insert(
-    table: &CardTable<Global>,
-    pass: &mut Pass<Global>,
+pub fn finish_insert<A: Allocator + Copy>(
+    table: &CardTable<A>,
+    pass: &mut Pass<A>,
     card: u64,
     key: u64,
     place: Place,
@@ -66,7 +66,7 @@ pub fn finish_insert(
 }
 
 /// Tries once to insert a key that the pass owns.
-pub fn insert(table: &CardTable<Global>, pass: &mut Pass<Global>, cards: u64, key: u64) -> Tried
+pub fn insert<A: Allocator + Copy>(table: &CardTable<A>, pass: &mut Pass<A>, cards: u64, key: u64) -> Tried
     requires own { pass.old.table ≡ table.now.id }
     requires cards { cards ≡ table.now.cards }
     requires limit { cards ≤ greatest_card }

@@ -10,7 +10,7 @@ ghost use Rattle.ell_cards_tests.specs.Places.{EndsAt, seen};
 use ell_cards::{CardTable, Pass};
 use ell_ops::Op;
 use ell_word::{Update, is_internal};
-use std::alloc::Global;
+use std::alloc::Allocator;
 
 /// A node that a search passed, with the update that it read there.
 #[derive(Clone, Copy, Debug, PartialEq, Eq, Hash)]
@@ -29,7 +29,7 @@ pub struct Place {
 }
 
 /// Searches for the operation's key from the root.
-pub fn search(table: &CardTable<Global>, pass: &mut Pass<Global>, op: Op) -> Place
+pub fn search<A: Allocator + Copy>(table: &CardTable<A>, pass: &mut Pass<A>, op: Op) -> Place
     requires own { pass.old.table ≡ table.now.id }
     requires busy { Does pass.old.view op }
     requires root { pass.old.view.worker.search ≡ at_root }
@@ -56,7 +56,7 @@ pub fn search(table: &CardTable<Global>, pass: &mut Pass<Global>, op: Op) -> Pla
 }
 
 // Goes down from an internal node: what it read there, and the child.
-fn descend(table: &CardTable<Global>, pass: &mut Pass<Global>, op: Op, node: u64) -> (Passed, u64)
+fn descend<A: Allocator + Copy>(table: &CardTable<A>, pass: &mut Pass<A>, op: Op, node: u64) -> (Passed, u64)
     requires own { pass.old.table ≡ table.now.id }
     requires busy { Does pass.old.view op }
     requires stands { StandsAt pass.old.view node }

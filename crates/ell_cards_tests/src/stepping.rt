@@ -13,12 +13,12 @@ use ell_cards::{CardTable, Pass};
 use ell_core::{Act, Fact, Stepped, leaf_answer};
 use ell_ops::Op;
 use ell_word::is_internal;
-use std::alloc::Global;
+use std::alloc::Allocator;
 
 /// Does an act, if what is remembered shows that it may: what it answers.
-pub fn step(
-    table: &CardTable<Global>,
-    pass: &mut Pass<Global>,
+pub fn step<A: Allocator + Copy>(
+    table: &CardTable<A>,
+    pass: &mut Pass<A>,
     memory: &mut Memory,
     act: Act,
 ) -> Option<Stepped>
@@ -65,9 +65,9 @@ fn to_root(memory: &mut Memory, op: Option<Op>)
 }
 
 // Takes an operation in hand. What was known before is forgotten.
-fn begin(
-    table: &CardTable<Global>,
-    pass: &mut Pass<Global>,
+fn begin<A: Allocator + Copy>(
+    table: &CardTable<A>,
+    pass: &mut Pass<A>,
     memory: &mut Memory,
     op: Op,
 ) -> Option<Stepped>
@@ -83,7 +83,7 @@ fn begin(
     Some(Stepped::Moved)
 }
 
-fn upd(table: &CardTable<Global>, pass: &mut Pass<Global>, memory: &mut Memory) -> Option<Stepped>
+fn upd<A: Allocator + Copy>(table: &CardTable<A>, pass: &mut Pass<A>, memory: &mut Memory) -> Option<Stepped>
     requires { IsReady table.now pass.old memory.old }
     ensures { IsReady table.now pass.new memory.new }
 {
@@ -97,7 +97,7 @@ fn upd(table: &CardTable<Global>, pass: &mut Pass<Global>, memory: &mut Memory) 
     Some(Stepped::Moved)
 }
 
-fn down(table: &CardTable<Global>, pass: &mut Pass<Global>, memory: &mut Memory) -> Option<Stepped>
+fn down<A: Allocator + Copy>(table: &CardTable<A>, pass: &mut Pass<A>, memory: &mut Memory) -> Option<Stepped>
     requires { IsReady table.now pass.old memory.old }
     ensures { IsReady table.now pass.new memory.new }
 {
@@ -126,7 +126,7 @@ fn may_stop(memory: &Memory) -> bool
     }
 }
 
-fn again(table: &CardTable<Global>, pass: &mut Pass<Global>, memory: &mut Memory) -> Option<Stepped>
+fn again<A: Allocator + Copy>(table: &CardTable<A>, pass: &mut Pass<A>, memory: &mut Memory) -> Option<Stepped>
     requires { IsReady table.now pass.old memory.old }
     ensures { IsReady table.now pass.new memory.new }
 {
@@ -139,7 +139,7 @@ fn again(table: &CardTable<Global>, pass: &mut Pass<Global>, memory: &mut Memory
     Some(Stepped::Moved)
 }
 
-fn leave(table: &CardTable<Global>, pass: &mut Pass<Global>, memory: &mut Memory) -> Option<Stepped>
+fn leave<A: Allocator + Copy>(table: &CardTable<A>, pass: &mut Pass<A>, memory: &mut Memory) -> Option<Stepped>
     requires { IsReady table.now pass.old memory.old }
     ensures { IsReady table.now pass.new memory.new }
 {
@@ -152,9 +152,9 @@ fn leave(table: &CardTable<Global>, pass: &mut Pass<Global>, memory: &mut Memory
     Some(Stepped::Moved)
 }
 
-fn answer(
-    table: &CardTable<Global>,
-    pass: &mut Pass<Global>,
+fn answer<A: Allocator + Copy>(
+    table: &CardTable<A>,
+    pass: &mut Pass<A>,
     memory: &mut Memory,
 ) -> Option<Stepped>
     requires { IsReady table.now pass.old memory.old }
@@ -171,9 +171,9 @@ fn answer(
 }
 
 // The answer at the leaf where the pass stands, if it stands at one and has one there.
-fn leaf_said(
-    table: &CardTable<Global>,
-    pass: &mut Pass<Global>,
+fn leaf_said<A: Allocator + Copy>(
+    table: &CardTable<A>,
+    pass: &mut Pass<A>,
     memory: &Memory,
     op: Op,
 ) -> Option<bool>

@@ -11,7 +11,7 @@ ghost use Rattle.ell_cards_tests.specs.Places.{EndsAt};
 use crate::searching::Place;
 use ell_cards::{CardTable, Pass};
 use ell_ops::Op;
-use std::alloc::Global;
+use std::alloc::Allocator;
 
 /// How an operation that was tried once ended.
 #[derive(Clone, Copy, Debug, PartialEq, Eq, Hash)]
@@ -22,9 +22,9 @@ pub enum Tried {
 }
 
 /// Takes a card for an operation whose search ended at a place, if the next one is there and no other pass takes it first.
-pub fn take_card(
-    table: &CardTable<Global>,
-    pass: &mut Pass<Global>,
+pub fn take_card<A: Allocator + Copy>(
+    table: &CardTable<A>,
+    pass: &mut Pass<A>,
     cards: u64,
     op: Op,
     place: Place,

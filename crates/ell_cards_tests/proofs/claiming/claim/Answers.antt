@@ -7,10 +7,10 @@ use Rattle.ell_cards_tests.proofs.Readiness.{ready_aside, claims_at}
 use Rattle.ell_cards_tests.proofs.claiming.claim.Goals as goal
 
 pub claim_for_insert-requires-clause-ready : goal.claim_for_insert-requires-clause-ready
-claim_for_insert-requires-clause-ready c = search (key_aside, ready_aside)
+claim_for_insert-requires-clause-ready g c = search (key_aside, ready_aside)
 
 pub claim_for_insert-requires-clause-at : goal.claim_for_insert-requires-clause-at
-claim_for_insert-requires-clause-at c =
+claim_for_insert-requires-clause-at g c =
     let outer : IsLeaf c.in_ok-leaf.leaf = search rules in
     let unread : c.args.memory.now.read ≡ None = search rules in
     let no_card : c.args.memory.now.card ≡ None = search rules in
@@ -20,10 +20,10 @@ claim_for_insert-requires-clause-at c =
     c.key_of-key.ensures.leaf
 
 pub claim_for_delete-requires-clause-ready : goal.claim_for_delete-requires-clause-ready
-claim_for_delete-requires-clause-ready c = search (key_aside, ready_aside)
+claim_for_delete-requires-clause-ready g c = search (key_aside, ready_aside)
 
 pub claim_for_delete-requires-clause-at : goal.claim_for_delete-requires-clause-at
-claim_for_delete-requires-clause-at c =
+claim_for_delete-requires-clause-at g c =
     let outer : IsLeaf c.in_ok-leaf.leaf = search rules in
     let unread : c.args.memory.now.read ≡ None = search rules in
     let no_card : c.args.memory.now.card ≡ None = search rules in
@@ -33,4 +33,4 @@ claim_for_delete-requires-clause-at c =
     c.key_of-key.ensures.leaf
 
 pub returns-in-Find : goal.returns-in-Find
-returns-in-Find c = search (key_aside, ready_aside)
+returns-in-Find g c = search (key_aside, ready_aside)

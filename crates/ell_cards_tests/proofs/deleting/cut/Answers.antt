@@ -5,16 +5,16 @@ use Rattle.ell_cards_tests.proofs.Marking.{marked_asked, marked_cut, may_dchild,
 use Rattle.ell_cards_tests.proofs.deleting.cut.Goals as goal
 
 pub key_of-requires-clause-met : goal.key_of-requires-clause-met
-key_of-requires-clause-met c =
+key_of-requires-clause-met g c =
     let place = c.args.place in
     (marked_asked c.args.card c.args.key c.args.grandparent place.parent.node place.leaf (packed place.parent.update) c.args.sibling
     c.args.pass.now c.key_of-above.new.pass c.args.grandparent c.key_of-above.result c.key_of-above.ensures.step c.requires.marked).met
 
 pub dchild-requires-clause-may : goal.dchild-requires-clause-may
-dchild-requires-clause-may c = search may_dchild
+dchild-requires-clause-may g c = search may_dchild
 
 pub dunflag-requires-clause-may : goal.dunflag-requires-clause-may
-dunflag-requires-clause-may c =
+dunflag-requires-clause-may g c =
     let place = c.args.place in
     let was = packed place.parent.update in
     may_dunflag c.args.card c.args.key c.args.grandparent place.parent.node place.leaf was c.args.sibling
@@ -25,7 +25,7 @@ dunflag-requires-clause-may c =
     c.args.pass.now c.key_of-above.new.pass c.args.grandparent c.key_of-above.result c.key_of-above.ensures.step c.requires.marked))
 
 pub answer-requires-clause-may : goal.answer-requires-clause-may
-answer-requires-clause-may c =
+answer-requires-clause-may g c =
     let place = c.args.place in
     let was = packed place.parent.update in
     may_answer_delete c.args.card c.args.key c.args.grandparent place.parent.node place.leaf was c.args.sibling

@@ -5,10 +5,10 @@ use Rattle.ell_cards_tests.proofs.FlaggingDeletes.{may_dflag, has_flagged_delete
 use Rattle.ell_cards_tests.proofs.deleting.delete.Goals as goal
 
 pub search-place-requires-clause-met : goal.search-place-requires-clause-met
-search-place-requires-clause-met c = (root_met c.args.pass.now c.begin.new.pass (Delete c.args.key) c.begin.ensures.step).2
+search-place-requires-clause-met g c = (root_met c.args.pass.now c.begin.new.pass (Delete c.args.key) c.begin.ensures.step).2
 
 pub dflag-requires-clause-may : goal.dflag-requires-clause-may
-dflag-requires-clause-may c =
+dflag-requires-clause-may g c =
     let ends = c.search-place.ensures.ends in
     may_dflag c.search-place.new.pass.view c.in-Some-take_card.card c.args.key c.search-place.result c.in-Some.above
     (begun c.args.pass.now c.begin.new.pass c.search-place.new.pass (Delete c.args.key) c.begin.ensures.step c.search-place.ensures.keeps)
@@ -16,7 +16,7 @@ dflag-requires-clause-may c =
     c.take_card.new.pass.view c.fill_delete.new.pass.view c.in-Some-take_card.ensures.taken c.fill_delete.ensures.view c.fill_delete.ensures.filled
 
 pub finish_delete-requires-clause-flagged : goal.finish_delete-requires-clause-flagged
-finish_delete-requires-clause-flagged c =
+finish_delete-requires-clause-flagged g c =
     let ends = c.search-place.ensures.ends in
     has_flagged_delete c.search-place.new.pass.view c.in-Some-take_card.card c.args.key c.search-place.result c.in-Some.above
     (begun c.args.pass.now c.begin.new.pass c.search-place.new.pass (Delete c.args.key) c.begin.ensures.step c.search-place.ensures.keeps)
@@ -26,7 +26,7 @@ finish_delete-requires-clause-flagged c =
     (above_met c.search-place.new.pass.view c.search-place.result.grandparent c.in-Some.above c.in-Some.ensures.0 ends.met_above)
 
 pub leave-requires-in-Err-clause-may : goal.leave-requires-in-Err-clause-may
-leave-requires-in-Err-clause-may c =
+leave-requires-in-Err-clause-may g c =
     let ends = c.search-place.ensures.ends in
     may_stop_delete c.search-place.new.pass.view c.in-Some-take_card.card c.args.key c.search-place.result c.in-Some.above
     (begun c.args.pass.now c.begin.new.pass c.search-place.new.pass (Delete c.args.key) c.begin.ensures.step c.search-place.ensures.keeps)

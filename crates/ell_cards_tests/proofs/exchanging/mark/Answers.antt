@@ -2,4 +2,4 @@ use Rattle.ell_cards_tests.proofs.Readiness.{ready_aside, ready_marked}
 use Rattle.ell_cards_tests.proofs.exchanging.mark.Goals as goal
 
 pub returns : goal.returns
-returns c = search (ready_aside, ready_marked)
+returns g c = search (ready_aside, ready_marked)

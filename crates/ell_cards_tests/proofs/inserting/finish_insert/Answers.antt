@@ -5,13 +5,13 @@ use Rattle.ell_cards_tests.proofs.Finishing.{flagged_asked, flagged_changed, may
 use Rattle.ell_cards_tests.proofs.inserting.finish_insert.Goals as goal
 
 pub ichild-requires-clause-may : goal.ichild-requires-clause-may
-ichild-requires-clause-may c =
+ichild-requires-clause-may g c =
     let place = c.args.place in
     rw c.max.ensures (may_ichild c.args.card c.args.key place.parent.node place.leaf (max c.args.key place.key)
     c.args.pass.now c.key_of-parent_key.new.pass c.key_of-parent_key.result c.key_of-parent_key.ensures.step c.requires.flagged)
 
 pub iunflag-requires-clause-may : goal.iunflag-requires-clause-may
-iunflag-requires-clause-may c =
+iunflag-requires-clause-may g c =
     let place = c.args.place in
     may_iunflag c.args.card c.args.key place.parent.node place.leaf (max c.args.key place.key)
     c.key_of-parent_key.new.pass c.ichild.new.pass (found_child place.leaf c.ichild.result) c.ichild.ensures.step
@@ -19,7 +19,7 @@ iunflag-requires-clause-may c =
     c.args.pass.now c.key_of-parent_key.new.pass c.key_of-parent_key.result c.key_of-parent_key.ensures.step c.requires.flagged)
 
 pub answer-requires-clause-may : goal.answer-requires-clause-may
-answer-requires-clause-may c =
+answer-requires-clause-may g c =
     let place = c.args.place in
     may_answer_insert c.args.card c.args.key place.parent.node place.leaf (max c.args.key place.key)
     c.ichild.new.pass c.iunflag.new.pass (found_word (iflag c.args.card) c.iunflag.result) c.iunflag.ensures.step

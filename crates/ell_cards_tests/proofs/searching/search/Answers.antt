@@ -13,7 +13,7 @@ use Rattle.ell_cards_tests.proofs.Descents.{gone_deeper, ends_at}
 use Rattle.ell_cards_tests.proofs.searching.search.Goals as goal
 
 pub loop-grandparent-preserved : goal.loop-grandparent-preserved
-loop-grandparent-preserved c =
+loop-grandparent-preserved g c =
     let i = c.loop-grandparent.invariant in
     let d = c.descend-child in
     record {
@@ -28,10 +28,10 @@ loop-grandparent-preserved c =
     }
 
 pub returns-clause-keeps : goal.returns-clause-keeps
-returns-clause-keeps c = search (key_of_keeps, keeps_trans)
+returns-clause-keeps g c = search (key_of_keeps, keeps_trans)
 
 pub returns-clause-ends : goal.returns-clause-ends
-returns-clause-ends c =
+returns-clause-ends g c =
     let i = c.loop-grandparent.invariant in
     let outer : IsLeaf c.loop-grandparent.node = search rules in
     let place : Place = record { leaf = c.loop-grandparent.node; key = c.key_of-key.result; parent = c.loop-grandparent.parent; grandparent = c.loop-grandparent.grandparent } in

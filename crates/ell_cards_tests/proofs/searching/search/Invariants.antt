@@ -6,7 +6,7 @@ use Rattle.ell_cards_tests.specs.Places.{seen, seen_any}
 use Rattle.ell_cards_tests.proofs.searching.search.Given as goal
 
 abbrev pub invariant-loop-grandparent : goal.invariant-loop-grandparent
-invariant-loop-grandparent l = record {
+invariant-loop-grandparent g l = record {
   same : (l.op ≡ l.fn.op) × (l.table ≡ l.fn.table);
   keeps : Keeps l.fn.pass l.pass;
   search : l.pass.view.worker.search ≡ record { node = Some l.node; read = None; parent = Some (seen l.parent); grandparent = seen_any l.grandparent };
@@ -18,4 +18,4 @@ invariant-loop-grandparent l = record {
 }
 
 abbrev pub decreases-loop-grandparent : goal.decreases-loop-grandparent
-decreases-loop-grandparent l = 3 * l.table.cards + 3 - l.node
+decreases-loop-grandparent g l = 3 * l.table.cards + 3 - l.node

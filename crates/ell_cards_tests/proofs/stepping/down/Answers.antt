@@ -8,13 +8,13 @@ use Rattle.ell_cards_tests.proofs.Readiness.{ready_step, ready_aside, may_go_dow
 use Rattle.ell_cards_tests.proofs.stepping.down.Goals as goal
 
 pub down-child-requires-clause-may : goal.down-child-requires-clause-may
-down-child-requires-clause-may c =
+down-child-requires-clause-may g c =
     let inner : IsInternal c.in_ok-node.node = search rules in
     may_go_down_by c.args.pass.now c.key_of-key.new.pass c.args.memory.now c.in_ok-op.op c.in_ok-node.node c.in_ok-update.update c.key_of-key.result c.key.result
     c.requires.fits c.key_of-key.ensures.step c.in_ok-op.was c.in_ok-node.was c.in_ok-update.was inner c.key.ensures
 
 pub returns : goal.returns
-returns c =
+returns g c =
     let node = c.in_ok-node.node in
     let u = c.in_ok-update.update in
     let child = c.down-child.result in

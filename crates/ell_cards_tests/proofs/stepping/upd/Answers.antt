@@ -6,7 +6,7 @@ use Rattle.ell_cards_tests.proofs.Readiness.{ready_step, ready_known, update_kno
 use Rattle.ell_cards_tests.proofs.stepping.upd.Goals as goal
 
 pub returns : goal.returns
-returns c =
+returns g c =
     let node = c.in_ok-node.node in
     let u = c.upd-update.result in
     ready_known c.args.table.now c.upd-update.new.pass (record (c.args.memory.now) { read = Some u }) c.remember.new.memory (λ v. KnowsAny v c.fact_of.result)
