@@ -15,6 +15,7 @@ use crate::view::Seen;
 use crate::worker::Worker;
 use ell_ops::Op;
 use ell_word::{State, internal_of};
+use std::alloc::Allocator;
 
 // What an exchange says.
 fn won_or_lost(outcome: Result<(), u64>) -> Stepped
@@ -27,7 +28,10 @@ fn won_or_lost(outcome: Result<(), u64>) -> Stepped
 }
 
 /// Flags the parent for the insert in hand.
-pub(crate) fn iflag(memory: &mut Memory, worker: &mut Worker) -> Result<Stepped, CoreFault>
+pub(crate) fn iflag<A: Allocator + Copy>(
+    memory: &mut Memory<A>,
+    worker: &mut Worker<A>,
+) -> Result<Stepped, CoreFault>
     requires { IsReady memory.old worker.old }
     ensures { TakesTurn act.IFlag memory.old worker.old memory.new worker.new result }
 {
@@ -44,7 +48,10 @@ pub(crate) fn iflag(memory: &mut Memory, worker: &mut Worker) -> Result<Stepped,
 }
 
 /// Flags the grandparent for the delete in hand.
-pub(crate) fn dflag(memory: &mut Memory, worker: &mut Worker) -> Result<Stepped, CoreFault>
+pub(crate) fn dflag<A: Allocator + Copy>(
+    memory: &mut Memory<A>,
+    worker: &mut Worker<A>,
+) -> Result<Stepped, CoreFault>
     requires { IsReady memory.old worker.old }
     ensures { TakesTurn act.DFlag memory.old worker.old memory.new worker.new result }
 {
@@ -61,9 +68,9 @@ pub(crate) fn dflag(memory: &mut Memory, worker: &mut Worker) -> Result<Stepped,
 }
 
 // Exchanges a node's update word, from the one that was read there to the flag of the card in hand.
-fn flag(
-    memory: &mut Memory,
-    worker: &mut Worker,
+fn flag<A: Allocator + Copy>(
+    memory: &mut Memory<A>,
+    worker: &mut Worker<A>,
     seen: Seen,
     new: u64,
     fact: Fact,
@@ -100,9 +107,9 @@ fn flag(
 }
 
 /// Exchanges the child of an insert's parent, from the leaf to the card's internal node.
-pub(crate) fn ichild(
-    memory: &mut Memory,
-    worker: &mut Worker,
+pub(crate) fn ichild<A: Allocator + Copy>(
+    memory: &mut Memory<A>,
+    worker: &mut Worker<A>,
     card: u64,
 ) -> Result<Stepped, CoreFault>
     requires { IsReady memory.old worker.old }
@@ -118,9 +125,9 @@ pub(crate) fn ichild(
 }
 
 /// Takes an insert's flag away.
-pub(crate) fn iunflag(
-    memory: &mut Memory,
-    worker: &mut Worker,
+pub(crate) fn iunflag<A: Allocator + Copy>(
+    memory: &mut Memory<A>,
+    worker: &mut Worker<A>,
     card: u64,
 ) -> Result<Stepped, CoreFault>
     requires { IsReady memory.old worker.old }
@@ -137,9 +144,9 @@ pub(crate) fn iunflag(
 }
 
 /// Marks the parent of a delete. Where the mark is lost to another word, it can't be made any more.
-pub(crate) fn mark(
-    memory: &mut Memory,
-    worker: &mut Worker,
+pub(crate) fn mark<A: Allocator + Copy>(
+    memory: &mut Memory<A>,
+    worker: &mut Worker<A>,
     card: u64,
 ) -> Result<Stepped, CoreFault>
     requires { IsReady memory.old worker.old }
@@ -161,9 +168,9 @@ pub(crate) fn mark(
 }
 
 /// Exchanges the child of a delete's grandparent, from the parent to the sibling of the leaf.
-pub(crate) fn dchild(
-    memory: &mut Memory,
-    worker: &mut Worker,
+pub(crate) fn dchild<A: Allocator + Copy>(
+    memory: &mut Memory<A>,
+    worker: &mut Worker<A>,
     card: u64,
 ) -> Result<Stepped, CoreFault>
     requires { IsReady memory.old worker.old }
@@ -180,7 +187,7 @@ pub(crate) fn dchild(
 }
 
 // The sibling of a delete's leaf.
-fn sibling_of(memory: &Memory, card: u64) -> u64
+fn sibling_of<A: Allocator + Copy>(memory: &Memory<A>, card: u64) -> u64
     requires sized { IsSized memory.now }
     requires fits { WordsFit memory.now.cards (words_in memory.now) }
     requires card { card ≤ memory.now.cards }
@@ -197,9 +204,9 @@ fn sibling_of(memory: &Memory, card: u64) -> u64
 }
 
 /// Takes a delete's flag away, after its child exchange.
-pub(crate) fn dunflag(
-    memory: &mut Memory,
-    worker: &mut Worker,
+pub(crate) fn dunflag<A: Allocator + Copy>(
+    memory: &mut Memory<A>,
+    worker: &mut Worker<A>,
     card: u64,
 ) -> Result<Stepped, CoreFault>
     requires { IsReady memory.old worker.old }
@@ -213,9 +220,9 @@ pub(crate) fn dunflag(
 }
 
 /// Takes a delete's flag away, after its lost mark.
-pub(crate) fn backtrack(
-    memory: &mut Memory,
-    worker: &mut Worker,
+pub(crate) fn backtrack<A: Allocator + Copy>(
+    memory: &mut Memory<A>,
+    worker: &mut Worker<A>,
     card: u64,
 ) -> Result<Stepped, CoreFault>
     requires { IsReady memory.old worker.old }
@@ -229,7 +236,7 @@ pub(crate) fn backtrack(
 }
 
 // Exchanges the update word of a delete's grandparent, from the flag to clean.
-fn take_dflag_away(memory: &mut Memory, card: u64) -> Stepped
+fn take_dflag_away<A: Allocator + Copy>(memory: &mut Memory<A>, card: u64) -> Stepped
     requires sized { IsSized memory.old }
     requires fits { WordsFit memory.old.cards (words_in memory.old) }
     requires card { card ≤ memory.old.cards }

@@ -12,18 +12,18 @@ use crate::field::{Field, child_field, key_field, table_size, update_word};
 use crate::keys::TreeWords;
 use ell_ops::NoMemory;
 use ell_word::{INF1, INF2, State, card_of, internal_of, is_internal, left_leaf_of, right_leaf_of};
-use std::alloc::Global;
+use std::alloc::Allocator;
 
 /// The claim word and the words of card 0 and of `cards` more.
 #[derive(Drop)]
-pub(crate) struct Memory {
-    pub words: Vec<u64>,
+pub(crate) struct Memory<A: Allocator + Copy> {
+    pub words: Vec<u64, A>,
     pub cards: u64,
 }
 
-impl Memory {
+impl<A: Allocator + Copy> Memory<A> {
     /// The opening tree, and cards whose words are 0.
-    pub fn opening(alloc: Global, cards: u64) -> Result<Memory, NoMemory>
+    pub fn opening(alloc: A, cards: u64) -> Result<Memory<A>, NoMemory>
         requires { cards ≤ greatest_card }
         ensures sized { IfOk result (λ memory. IsSized memory) }
         ensures cards { IfOk result (λ memory. memory.cards ≡ cards) }
@@ -175,7 +175,7 @@ impl Memory {
     }
 }
 
-impl TreeWords for Memory {
+impl<A: Allocator + Copy> TreeWords for Memory<A> {
     ghost words = { words_in };
 
     ghost can_read = { λ memory node. IsSized memory × IsNode memory.cards node };

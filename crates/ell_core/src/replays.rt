@@ -7,12 +7,16 @@ ghost use Rattle.ell_core.specs.inside.World.{machine_of};
 use crate::event::{CoreFault, Event, Shown};
 use crate::world::World;
 use ell_ops::NoMemory;
-use std::alloc::Global;
+use std::alloc::Allocator;
 
 /// Tries each event in turn, and shows its answer or its refusal. A refused event changes nothing, and the replay goes on. The
 /// place of an answer is taken before its event; where there is no memory for it or in a step, the replay ends before that
 /// event, and the world stands after the events before. On a world as `World::new` gave it each card's wins come in their order.
-pub fn replay(alloc: Global, world: &mut World, events: &[Event]) -> Result<Vec<Shown>, NoMemory>
+pub fn replay<A: Allocator + Copy>(
+    alloc: A,
+    world: &mut World<A>,
+    events: &[Event],
+) -> Result<Vec<Shown, A>, NoMemory>
     ensures run { IfOk result (λ shown. Run (machine_of world.old) events.now shown.items (machine_of world.new)) }
     ensures order { IfOk result (λ shown. IsOpening (machine_of world.old) → WinsInOrder (machine_of world.old) events.now shown.items (machine_of world.new)) }
     ensures passes { OnErr result (Passes (machine_of world.old) events.now (machine_of world.new)) }
@@ -28,7 +32,7 @@ pub fn replay(alloc: Global, world: &mut World, events: &[Event]) -> Result<Vec<
 }
 
 // Tries one event: what is shown of it.
-fn show(world: &mut World, event: Event) -> Result<Shown, NoMemory>
+fn show<A: Allocator + Copy>(world: &mut World<A>, event: Event) -> Result<Shown, NoMemory>
     ensures shows { IfOk result (λ shown. Shows (machine_of world.old) event shown (machine_of world.new)) }
     ensures unchanged { OnErr result (world.new ≡ world.old) }
     ensures cards { world.new.cards ≡ world.old.cards }

@@ -14,6 +14,7 @@ use crate::view::{Search, Seen};
 use crate::worker::{NO_SEARCH, Worker};
 use ell_ops::Op;
 use ell_word::{State, is_internal, unpack};
+use std::alloc::Allocator;
 
 // A search that stands at the root and has seen nothing.
 const AT_ROOT: Search = Search {
@@ -24,7 +25,11 @@ const AT_ROOT: Search = Search {
 };
 
 /// Takes an operation in hand, and stands at the root.
-pub(crate) fn begin(memory: &Memory, worker: &mut Worker, op: Op) -> Result<Stepped, CoreFault>
+pub(crate) fn begin<A: Allocator + Copy>(
+    memory: &Memory<A>,
+    worker: &mut Worker<A>,
+    op: Op,
+) -> Result<Stepped, CoreFault>
     requires { IsReady memory.now worker.old }
     ensures { TakesTurn (act.Begin op) memory.now worker.old memory.now worker.new result }
 {
@@ -40,7 +45,7 @@ pub(crate) fn begin(memory: &Memory, worker: &mut Worker, op: Op) -> Result<Step
 }
 
 // Stands at the root anew, without a card.
-fn to_root(worker: &mut Worker)
+fn to_root<A: Allocator + Copy>(worker: &mut Worker<A>)
     ensures { worker_in worker.new ≡ begun (worker_in worker.old).operation (worker_in worker.old) }
 {
     worker.search = AT_ROOT;
@@ -49,7 +54,7 @@ fn to_root(worker: &mut Worker)
 }
 
 // Has nothing in hand any more.
-fn put_down(worker: &mut Worker)
+fn put_down<A: Allocator + Copy>(worker: &mut Worker<A>)
     ensures { worker_in worker.new ≡ ended (worker_in worker.old) }
 {
     worker.operation = None;
@@ -59,7 +64,10 @@ fn put_down(worker: &mut Worker)
 }
 
 /// Reads the update word of the internal node where it stands, and learns what that tells.
-pub(crate) fn upd(memory: &Memory, worker: &mut Worker) -> Result<Stepped, CoreFault>
+pub(crate) fn upd<A: Allocator + Copy>(
+    memory: &Memory<A>,
+    worker: &mut Worker<A>,
+) -> Result<Stepped, CoreFault>
     requires { IsReady memory.now worker.old }
     ensures { TakesTurn act.Upd memory.now worker.old memory.now worker.new result }
 {
@@ -76,7 +84,10 @@ pub(crate) fn upd(memory: &Memory, worker: &mut Worker) -> Result<Stepped, CoreF
 }
 
 /// Goes down to the child on its key's side from an internal node whose update word it has read.
-pub(crate) fn down(memory: &Memory, worker: &mut Worker) -> Result<Stepped, CoreFault>
+pub(crate) fn down<A: Allocator + Copy>(
+    memory: &Memory<A>,
+    worker: &mut Worker<A>,
+) -> Result<Stepped, CoreFault>
     requires { IsReady memory.now worker.old }
     ensures { TakesTurn act.Down memory.now worker.old memory.now worker.new result }
 {
@@ -111,7 +122,7 @@ fn is_clean(update: u64) -> bool
     unpack(update).state == State::Clean
 }
 
-fn clean_leaf(worker: &Worker) -> Option<CleanLeaf>
+fn clean_leaf<A: Allocator + Copy>(worker: &Worker<A>) -> Option<CleanLeaf>
     ensures some { IfSome result (λ at. AtCleanLeaf (worker_in worker.now) at.leaf at.parent) }
     ensures none { IfNone result ((leaf : ℕ) (parent : Seen) → ¬ AtCleanLeaf (worker_in worker.now) leaf parent) }
 {
@@ -125,7 +136,10 @@ fn clean_leaf(worker: &Worker) -> Option<CleanLeaf>
 }
 
 /// Claims the next card at a leaf, and fills it for the insert or delete in hand.
-pub(crate) fn claim(memory: &mut Memory, worker: &mut Worker) -> Result<Stepped, CoreFault>
+pub(crate) fn claim<A: Allocator + Copy>(
+    memory: &mut Memory<A>,
+    worker: &mut Worker<A>,
+) -> Result<Stepped, CoreFault>
     requires { IsReady memory.old worker.old }
     ensures { TakesTurn act.Claim memory.old worker.old memory.new worker.new result }
 {
@@ -139,9 +153,9 @@ pub(crate) fn claim(memory: &mut Memory, worker: &mut Worker) -> Result<Stepped,
     }
 }
 
-fn claim_for_insert(
-    memory: &mut Memory,
-    worker: &mut Worker,
+fn claim_for_insert<A: Allocator + Copy>(
+    memory: &mut Memory<A>,
+    worker: &mut Worker<A>,
     key: u64,
     at: CleanLeaf,
 ) -> Result<Stepped, CoreFault>
@@ -164,9 +178,9 @@ fn claim_for_insert(
     Ok(Stepped::Moved)
 }
 
-fn claim_for_delete(
-    memory: &mut Memory,
-    worker: &mut Worker,
+fn claim_for_delete<A: Allocator + Copy>(
+    memory: &mut Memory<A>,
+    worker: &mut Worker<A>,
     key: u64,
     at: CleanLeaf,
 ) -> Result<Stepped, CoreFault>
@@ -192,7 +206,7 @@ fn claim_for_delete(
 }
 
 // Whether the worker may stop: an operation is in hand, and its card, if that is flagged, is known backed.
-fn may_stop(worker: &Worker) -> bool
+fn may_stop<A: Allocator + Copy>(worker: &Worker<A>) -> bool
     ensures { IsTrue result ↔ MayStop (worker_in worker.now) }
 {
     let backed = match worker.card {
@@ -203,7 +217,10 @@ fn may_stop(worker: &Worker) -> bool
 }
 
 /// Starts the search anew.
-pub(crate) fn again(memory: &Memory, worker: &mut Worker) -> Result<Stepped, CoreFault>
+pub(crate) fn again<A: Allocator + Copy>(
+    memory: &Memory<A>,
+    worker: &mut Worker<A>,
+) -> Result<Stepped, CoreFault>
     requires { IsReady memory.now worker.old }
     ensures { TakesTurn act.Again memory.now worker.old memory.now worker.new result }
 {
@@ -215,7 +232,10 @@ pub(crate) fn again(memory: &Memory, worker: &mut Worker) -> Result<Stepped, Cor
 }
 
 /// Lays the operation down without an answer.
-pub(crate) fn leave(memory: &Memory, worker: &mut Worker) -> Result<Stepped, CoreFault>
+pub(crate) fn leave<A: Allocator + Copy>(
+    memory: &Memory<A>,
+    worker: &mut Worker<A>,
+) -> Result<Stepped, CoreFault>
     requires { IsReady memory.now worker.old }
     ensures { TakesTurn act.Leave memory.now worker.old memory.now worker.new result }
 {
@@ -238,7 +258,7 @@ pub fn leaf_answer(op: Op, has: bool) -> Option<bool>
 }
 
 // The answer by a flagged card.
-fn card_answer(worker: &Worker, op: Op, card: u64) -> Option<bool>
+fn card_answer<A: Allocator + Copy>(worker: &Worker<A>, op: Op, card: u64) -> Option<bool>
     ensures { result ≡ card_answer op card (worker_in worker.now).knows }
 {
     let over = match op {
@@ -250,7 +270,7 @@ fn card_answer(worker: &Worker, op: Op, card: u64) -> Option<bool>
 }
 
 // The operation's answer: at a leaf if it has one there, else by its card.
-fn answer_of(memory: &Memory, worker: &Worker, op: Op) -> Option<bool>
+fn answer_of<A: Allocator + Copy>(memory: &Memory<A>, worker: &Worker<A>, op: Op) -> Option<bool>
     requires { IsReady memory.now worker.now }
     ensures some { IfSome result (λ reply. Answers (scene_in memory.now worker.now) op reply) }
     ensures none { IfNone result ((reply : Bool) → ¬ Answers (scene_in memory.now worker.now) op reply) }
@@ -269,7 +289,10 @@ fn answer_of(memory: &Memory, worker: &Worker, op: Op) -> Option<bool>
 
 /// Answers the operation, and has nothing in hand any more. An insert or delete that answers true makes its key present or
 /// absent.
-pub(crate) fn answer(memory: &Memory, worker: &mut Worker) -> Result<Stepped, CoreFault>
+pub(crate) fn answer<A: Allocator + Copy>(
+    memory: &Memory<A>,
+    worker: &mut Worker<A>,
+) -> Result<Stepped, CoreFault>
     requires { IsReady memory.now worker.old }
     ensures { TakesTurn act.Answer memory.now worker.old memory.now worker.new result }
 {

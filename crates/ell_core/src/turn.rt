@@ -6,9 +6,14 @@ use crate::exchanges::{backtrack, dchild, dflag, dunflag, ichild, iflag, iunflag
 use crate::memory::Memory;
 use crate::searching::{again, answer, begin, claim, down, leave, upd};
 use crate::worker::Worker;
+use std::alloc::Allocator;
 
 /// Does what the act says, or refuses it and changes nothing.
-pub(crate) fn turn(memory: &mut Memory, worker: &mut Worker, act: Act) -> Result<Stepped, CoreFault>
+pub(crate) fn turn<A: Allocator + Copy>(
+    memory: &mut Memory<A>,
+    worker: &mut Worker<A>,
+    act: Act,
+) -> Result<Stepped, CoreFault>
     requires { IsReady memory.old worker.old }
     ensures { TakesTurn act memory.old worker.old memory.new worker.new result }
 {

@@ -9,18 +9,18 @@ ghost use Rattle.ell_core.specs.inside.Inside.{view_of, worker_in, LacksAny, Lac
 use crate::fact::Fact;
 use crate::view::Search;
 use ell_ops::{NoMemory, Op};
-use std::alloc::Global;
+use std::alloc::Allocator;
 use std::collections::{BTreeMap, BTreeSet};
 
 /// What a worker owns, has in hand and knows.
 #[derive(Drop)]
-pub(crate) struct Worker {
-    pub ledger: BTreeMap<u64, bool>,
+pub(crate) struct Worker<A: Allocator + Copy> {
+    pub ledger: BTreeMap<u64, bool, A>,
     pub operation: Option<Op>,
     pub search: Search,
     pub card: Option<u64>,
     pub flagged: bool,
-    pub facts: BTreeSet<Fact>,
+    pub facts: BTreeSet<Fact, A>,
 }
 
 /// A search that stands nowhere and has seen nothing.
@@ -31,9 +31,9 @@ pub(crate) const NO_SEARCH: Search = Search {
     grandparent: None,
 };
 
-impl Worker {
+impl<A: Allocator + Copy> Worker<A> {
     /// A worker without keys, with nothing in hand.
-    pub fn new(alloc: Global) -> Worker
+    pub fn new(alloc: A) -> Worker<A>
         ensures { worker_in result ≡ nobody }
     {
         Worker {

@@ -20,19 +20,19 @@ use crate::memory::Memory;
 use crate::turn::turn;
 use crate::worker::Worker;
 use ell_ops::NoMemory;
-use std::alloc::Global;
+use std::alloc::{Allocator, Global};
 use std::collections::BTreeSet;
 use std::marker::Model;
 
 /// A state of the machine, and its table of words.
 #[derive(Drop)]
-pub struct World {
-    alloc: Global,
-    memory: Memory,
-    workers: Vec<Worker>,
+pub struct World<A: Allocator + Copy = Global> {
+    alloc: A,
+    memory: Memory<A>,
+    workers: Vec<Worker<A>, A>,
 }
 
-impl Model for World {
+impl<A: Allocator + Copy> Model for World<A> {
     ghost use Rattle.ell_core.specs.inside.World.{WorldValue};
 
     ghost Value = { WorldValue };
@@ -44,16 +44,16 @@ impl Model for World {
     ghost invariant = { InsideFits };
 }
 
-impl World {
+impl<A: Allocator + Copy> World<A> {
     /// The opening tree, with workers from 0 on and the keys that the entries give them, each a worker and a key, all absent.
     /// Conditions: 1 to `WORKERS_MAX` workers, 1 to `CARD_MAX` cards, keys at most `KEY_MAX`. The fault of the first faulty entry is
     /// answered: `NoSuchWorker`, or else `OwnedTwice`. `NoMemory` may stand in place of either.
     pub fn new(
-        alloc: Global,
+        alloc: A,
         workers: u32,
         owned: &[(u32, u64)],
         cards: u64,
-    ) -> Result<World, CoreFault>
+    ) -> Result<World<A>, CoreFault>
         requires some_worker { 1 ≤ workers }
         requires most_workers { workers ≤ most_workers }
         requires some_card { 1 ≤ cards }
@@ -97,7 +97,7 @@ impl World {
     }
 
     /// The keys of the tree, each once, ascending.
-    pub fn keys(&self) -> Result<Vec<u64>, NoMemory>
+    pub fn keys(&self) -> Result<Vec<u64, A>, NoMemory>
         ensures { IfOk result (λ keys. ListsKeys (machine_of self.now).words keys.items) }
     {
         let places = self.memory.cards as usize + 2;
@@ -123,7 +123,11 @@ impl World {
 }
 
 // The workers with their keys, or the fault of the first faulty entry.
-fn owning_workers(alloc: Global, count: u32, owned: &[(u32, u64)]) -> Result<Vec<Worker>, CoreFault>
+fn owning_workers<A: Allocator + Copy>(
+    alloc: A,
+    count: u32,
+    owned: &[(u32, u64)],
+) -> Result<Vec<Worker<A>, A>, CoreFault>
     ensures count { IfOk result (λ workers. vec_len workers ≡ count) }
     ensures ledgers { IfOk result (λ workers. (i : ℕ) → worker_at workers.items i ≡ idle (opening_ledger owned.now i) (λ _. false)) }
     ensures faultless { OnOk result (Faultless count owned.now) }

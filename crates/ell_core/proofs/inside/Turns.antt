@@ -1,4 +1,4 @@
-use Rattle.std.proofs.Common.{◌≡◌, ℕ, zero, suc, ◌<◌, List, [], ◌∷◌, Some, Result, Ok, Err, IfOk, OnErr, length, set, map, get_or, Vec, vec_len, Global, refl, sym, ap, ◌∙◌, subst, inl, inr, length-set, arith}
+use Rattle.std.proofs.Common.{◌≡◌, ℕ, zero, suc, ◌<◌, List, [], ◌∷◌, Some, Result, Ok, Err, IfOk, OnErr, length, set, map, get_or, Vec, vec_len, refl, sym, ap, ◌∙◌, subst, inl, inr, length-set, arith}
 use Rattle.std.specs.Prelude.{slice_get}
 use Rattle.std.proofs.lemmas.Bool.{cases_eq}
 use Rattle.std.proofs.lemmas.Option.{slice_get_read, slice_get_within}
@@ -23,7 +23,7 @@ use Rattle.ell_core.proofs.inside.Ready.{scene_fits}
 use Rattle.ell_core.proofs.keeping.AllEvents.{steps_lawful}
 
 -- the value of a world with these words and workers
-abbrev pub world_at : Memory → List Worker → WorldValue
+abbrev pub world_at : {A : Type 0} → Memory A → List (Worker A) → WorldValue
 world_at memory workers = record { words = memory.words.items; workers = map view_of workers; cards = memory.cards }
 
 -- setting an item to itself changes nothing
@@ -38,16 +38,16 @@ map_get f (x ∷ xs) zero v h = let e : x ≡ v = cc in ap (λ y. Some (f y)) e
 map_get f (x ∷ xs) (suc i) v h = map_get f xs i v h
 
 -- what `get_mut` lends stands at its place of the list
-pub item_there : (workers : Vec Worker Global) (i : ℕ) (v : Worker) → i < vec_len workers → v ≡ get_or workers.items i v
+pub item_there : {A : Type 0} (workers : Vec (Worker A) A) (i : ℕ) (v : Worker A) → i < vec_len workers → v ≡ get_or workers.items i v
     → slice_get workers.items i ≡ Some v
 item_there workers i v within is = slice_get_read workers.items (vec_len workers) i v workers.ok.0 within is
 
 -- the machine's worker at a place of the list
-pub worker_there : (workers : List Worker) (i : ℕ) (v : Worker) → slice_get workers i ≡ Some v → worker_at workers i ≡ worker_in v
+pub worker_there : {A : Type 0} (workers : List (Worker A)) (i : ℕ) (v : Worker A) → slice_get workers i ≡ Some v → worker_at workers i ≡ worker_in v
 worker_there workers i v h = ap machine.worker_or_nobody (map_get view_of workers i v h)
 
 -- the machine's workers after one of the list was set
-workers_set : (workers : List Worker) (i : ℕ) (v : Worker) → i < length workers → (j : ℕ)
+workers_set : {A : Type 0} (workers : List (Worker A)) (i : ℕ) (v : Worker A) → i < length workers → (j : ℕ)
     → worker_at (set workers i v) j ≡ put (worker_at workers) i (worker_in v) j
 workers_set workers i v here j =
     let within : i < length (map view_of workers) = let e = length-map workers view_of in omega arith in
@@ -62,13 +62,13 @@ workers_set workers i v here j =
     ]
 
 -- what an event of worker i sees is the words and that worker
-pub scene_there : (memory : Memory) (workers : List Worker) (i : ℕ) (v : Worker) → slice_get workers i ≡ Some v
+pub scene_there : {A : Type 0} (memory : Memory A) (workers : List (Worker A)) (i : ℕ) (v : Worker A) → slice_get workers i ≡ Some v
     → scene_in memory v ≡ scene (machine_of (world_at memory workers)) i
 unfolding machine_of
 scene_there memory workers i v h = ap (λ (w : machine.Worker). record { words = words_in memory; worker = w }) (sym (worker_there workers i v h))
 
 -- the machine after the words and one worker have changed
-pub machine_after : (memory memory' : Memory) (workers : List Worker) (i : ℕ) (v' : Worker) → i < length workers
+pub machine_after : {A : Type 0} (memory memory' : Memory A) (workers : List (Worker A)) (i : ℕ) (v' : Worker A) → i < length workers
     → memory'.cards ≡ memory.cards
     → machine_of (world_at memory' (set workers i v')) ≡ with_scene (machine_of (world_at memory workers)) i (scene_in memory' v')
 unfolding machine_of
@@ -80,20 +80,20 @@ machine_after memory memory' workers i v' here cards = λ t. record {
 }
 
 -- there are as many workers as the list has
-pub count_is : (memory : Memory) (workers : List Worker) → (machine_of (world_at memory workers)).count ≡ length workers
+pub count_is : {A : Type 0} (memory : Memory A) (workers : List (Worker A)) → (machine_of (world_at memory workers)).count ≡ length workers
 unfolding machine_of
 count_is memory workers = length-map workers view_of
 
 -- the machine's words are those of the list
-pub words_are : (memory : Memory) (workers : List Worker) → words_in memory ≡ (machine_of (world_at memory workers)).words
+pub words_are : {A : Type 0} (memory : Memory A) (workers : List (Worker A)) → words_in memory ≡ (machine_of (world_at memory workers)).words
 unfolding machine_of
 words_are memory workers = refl
 
-pub cards_are : (memory : Memory) (workers : List Worker) → (machine_of (world_at memory workers)).cards ≡ memory.cards
+pub cards_are : {A : Type 0} (memory : Memory A) (workers : List (Worker A)) → (machine_of (world_at memory workers)).cards ≡ memory.cards
 unfolding machine_of
 cards_are memory workers = refl
 
-module _ (memory memory' : Memory) (workers : List Worker) (e : Event) (v v' : Worker)
+module _ {A : Type 0} (memory memory' : Memory A) (workers : List (Worker A)) (e : Event) (v v' : Worker A)
     (there : slice_get workers e.worker ≡ Some v) (same : SameSize memory memory') where
   here : e.worker < length workers
   here = slice_get_within workers e.worker v there

@@ -111,7 +111,7 @@ opening_real owned i key real owns =
     omega arith
 
 -- one more worker who is nobody leaves all of them nobody
-pub worker_at-push : (workers : List Worker) (new : Worker) (i : ℕ) → worker_in new ≡ nobody → ((j : ℕ) → worker_at workers j ≡ nobody) →
+pub worker_at-push : {A : Type 0} (workers : List (Worker A)) (new : Worker A) (i : ℕ) → worker_in new ≡ nobody → ((j : ℕ) → worker_at workers j ≡ nobody) →
     worker_at (workers ++ new ∷ []) i ≡ nobody
 worker_at-push [] new zero fresh rest = fresh
 worker_at-push [] new (suc i) fresh rest = refl
@@ -119,19 +119,19 @@ worker_at-push (v ∷ vs) new zero fresh rest = rest zero
 worker_at-push (v ∷ vs) new (suc i) fresh rest = worker_at-push vs new i fresh (λ j. rest (suc j))
 
 -- the worker at a number of the list is the one that stands there
-pub worker_at-get_or : (workers : List Worker) (i : ℕ) (d : Worker) → i < length workers → worker_at workers i ≡ worker_in (get_or workers i d)
+pub worker_at-get_or : {A : Type 0} (workers : List (Worker A)) (i : ℕ) (d : Worker A) → i < length workers → worker_at workers i ≡ worker_in (get_or workers i d)
 worker_at-get_or [] i d below = absurd (omega arith)
 worker_at-get_or (v ∷ vs) zero d below = refl
 worker_at-get_or (v ∷ vs) (suc i) d below = worker_at-get_or vs i d (omega arith)
 
 -- a worker that is put at a number of the list stands there
-pub worker_at-set_same : (workers : List Worker) (i : ℕ) (new : Worker) → i < length workers → worker_at (set workers i new) i ≡ worker_in new
+pub worker_at-set_same : {A : Type 0} (workers : List (Worker A)) (i : ℕ) (new : Worker A) → i < length workers → worker_at (set workers i new) i ≡ worker_in new
 worker_at-set_same [] i new below = absurd (omega arith)
 worker_at-set_same (v ∷ vs) zero new below = refl
 worker_at-set_same (v ∷ vs) (suc i) new below = worker_at-set_same vs i new (omega arith)
 
 -- and the workers at other numbers stay
-pub worker_at-set_other : (workers : List Worker) (i : ℕ) (new : Worker) (j : ℕ) → (i ≡ j → ⊥) → worker_at (set workers i new) j ≡ worker_at workers j
+pub worker_at-set_other : {A : Type 0} (workers : List (Worker A)) (i : ℕ) (new : Worker A) (j : ℕ) → (i ≡ j → ⊥) → worker_at (set workers i new) j ≡ worker_at workers j
 worker_at-set_other [] i new j apart = refl
 worker_at-set_other (v ∷ vs) zero new zero apart = absurd (apart refl)
 worker_at-set_other (v ∷ vs) zero new (suc j) apart = refl
@@ -174,7 +174,7 @@ opening_ledger-push_other entries entry i apart = λ t key. at key t where
       (list_any-append (gives i key) entries (entry ∷ []) ∙ elsewhere_at (list_any (gives i key) entries) (entry.0 == i) (entry.1 == key) (ne_eqb entry.0 i apart))
 
 -- the workers have the ledgers that these entries give them, and nothing else
-abbrev pub HaveLedgers : List Worker → List (ℕ × ℕ) → Type 0
+abbrev pub HaveLedgers : {A : Type 0} → List (Worker A) → List (ℕ × ℕ) → Type 0
 HaveLedgers workers entries = (i : ℕ) → worker_at workers i ≡ idle (opening_ledger entries i) (λ _. false)
 
 -- a worker with one key more, absent
@@ -182,7 +182,7 @@ abbrev pub owning : machine.Worker → ℕ → machine.Worker
 owning v key = record v { ledger = put v.ledger key (Some false) }
 
 -- the worker of one more entry gets its key
-pub HaveLedgers-push : (workers : List Worker) (entries : List (ℕ × ℕ)) (entry : ℕ × ℕ) (old new : Worker) → HaveLedgers workers entries →
+pub HaveLedgers-push : {A : Type 0} (workers : List (Worker A)) (entries : List (ℕ × ℕ)) (entry : ℕ × ℕ) (old new : Worker A) → HaveLedgers workers entries →
     entry.0 < length workers → old ≡ get_or workers entry.0 old → worker_in new ≡ owning (worker_in old) entry.1 →
     HaveLedgers (set workers entry.0 new) (entries ++ entry ∷ [])
 HaveLedgers-push workers entries entry old new have below stood owns i =
@@ -200,7 +200,7 @@ HaveLedgers-push workers entries entry old new have below stood owns i =
           ∙ ap (λ (ledger : Ledger). idle ledger (λ _. false)) (sym (opening_ledger-push_same entries entry))
 
 -- the same for the next entry of a list
-pub HaveLedgers-more : (workers : List Worker) (owned : List (ℕ × ℕ)) (n : ℕ) (old new : Worker) → n < length owned → HaveLedgers workers (take n owned) →
+pub HaveLedgers-more : {A : Type 0} (workers : List (Worker A)) (owned : List (ℕ × ℕ)) (n : ℕ) (old new : Worker A) → n < length owned → HaveLedgers workers (take n owned) →
     (get_or owned n (0, 0)).0 < length workers → old ≡ get_or workers (get_or owned n (0, 0)).0 old →
     worker_in new ≡ owning (worker_in old) (get_or owned n (0, 0)).1 →
     HaveLedgers (set workers (get_or owned n (0, 0)).0 new) (take (n + 1) owned)

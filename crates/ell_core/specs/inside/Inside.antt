@@ -16,21 +16,21 @@ use Rattle.ell_core.specs.inside.Fits.{SceneFits}
 use Rattle.ell_core.specs.acts.Events.{Happens, TurnRefused}
 
 -- the machine's words
-abbrev pub words_in : Memory → Words
+abbrev pub words_in : {A : Type 0} → Memory A → Words
 words_in memory = words_of memory.words.items
 
 -- the list has as many words as its cards need
-pub record IsSized (memory : Memory) : Type 0 where
+pub record IsSized {A : Type 0} (memory : Memory A) : Type 0 where
   pub size : length memory.words.items ≡ table_size memory.cards
   pub limit : memory.cards ≤ greatest_card
 
 -- as many words and cards as before
-pub record SameSize (old new : Memory) : Type 0 where
+pub record SameSize {A : Type 0} (old new : Memory A) : Type 0 where
   pub size : length new.words.items ≡ length old.words.items
   pub cards : new.cards ≡ old.cards
 
 -- a worker as contracts see it
-abbrev pub view_of : Worker → WorkerView
+abbrev pub view_of : {A : Type 0} → Worker A → WorkerView
 view_of v = record {
   ledger = v.ledger.entries;
   operation = v.operation;
@@ -41,19 +41,19 @@ view_of v = record {
 }
 
 -- the machine's worker
-abbrev pub worker_in : Worker → machine.Worker
+abbrev pub worker_in : {A : Type 0} → Worker A → machine.Worker
 worker_in v = worker_of (view_of v)
 
 -- the machine's worker at a number, or nobody
-abbrev pub worker_at : List Worker → ℕ → machine.Worker
+abbrev pub worker_at : {A : Type 0} → List (Worker A) → ℕ → machine.Worker
 worker_at workers i = worker_or_nobody (slice_get (map view_of workers) i)
 
 -- what an event sees and may change
-abbrev pub scene_in : Memory → Worker → Scene
+abbrev pub scene_in : {A : Type 0} → Memory A → Worker A → Scene
 scene_in memory worker = record { words = words_in memory; worker = worker_in worker }
 
 -- an event can look at these words and this worker
-pub record IsReady (memory : Memory) (worker : Worker) : Type 0 where
+pub record IsReady {A : Type 0} (memory : Memory A) (worker : Worker A) : Type 0 where
   pub sized : IsSized memory
   pub fits : SceneFits memory.cards (scene_in memory worker)
 
@@ -67,17 +67,17 @@ abbrev pub LacksEither : Knowledge → Fact → Option Fact → Type 0
 LacksEither known fact other = (known fact ≡ false) ⊎ LacksAny known other
 
 -- an act is answered, of the words and worker before and after
-abbrev pub Answered : Act → Memory → Worker → Memory → Worker → Stepped → Type 0
+abbrev pub Answered : {A : Type 0} → Act → Memory A → Worker A → Memory A → Worker A → Stepped → Type 0
 Answered a memory worker memory' worker' said =
     Happens memory.cards a (scene_in memory worker) said (scene_in memory' worker')
 
 -- an act is refused, of the words and worker before
-abbrev pub RefusedAt : Act → Memory → Worker → CoreFault → Type 0
+abbrev pub RefusedAt : {A : Type 0} → Act → Memory A → Worker A → CoreFault → Type 0
 RefusedAt a memory worker fault = TurnRefused memory.cards a (scene_in memory worker) fault
 
 -- a worker takes the turn of an act, of the words and worker before and after: the act is answered, or it is refused and the
 -- worker and the words are as they were
-pub record TakesTurn (a : Act) (memory : Memory) (worker : Worker) (memory' : Memory) (worker' : Worker) (result : Result Stepped CoreFault) : Type 0 where
+pub record TakesTurn {A : Type 0} (a : Act) (memory : Memory A) (worker : Worker A) (memory' : Memory A) (worker' : Worker A) (result : Result Stepped CoreFault) : Type 0 where
   pub done : IfOk result (Answered a memory worker memory' worker')
   pub refused : IfErr result (RefusedAt a memory worker)
   pub unchanged : OnErr result (view_of worker' ≡ view_of worker)

@@ -39,7 +39,7 @@ wants cards key card seen s deletes holds unflagged above lacks =
     }
 
 pub returns : goal.returns
-returns c =
+returns g c =
     let found = c.in-Some-Delete-Some-false-Some in
     let s = scene_in c.args.memory.now c.args.worker.now in
     let with_key : (key : ℕ) × (s.worker.operation ≡ Some (Delete key)) = search rules in

@@ -14,10 +14,10 @@ on_err (Ok x) h = tt
 on_err (Err e) h = h
 
 pub loop-event-init : goal.loop-event-init
-loop-event-init c = (rw c.new-shown.ensures.items refl, refl)
+loop-event-init g c = (rw c.new-shown.ensures.items refl, refl)
 
 pub returns-in_err-reserve-clause-passes : goal.returns-in_err-reserve-clause-passes
-returns-in_err-reserve-clause-passes c = on_err c.from_residual.result (record {
+returns-in_err-reserve-clause-passes g c = on_err c.from_residual.result (record {
   events = c.loop-event.event-index;
   left = c.loop-event-test.true;
   shown = c.loop-event.shown.items;
@@ -25,7 +25,7 @@ returns-in_err-reserve-clause-passes c = on_err c.from_residual.result (record {
 })
 
 pub returns-in_err-answer-clause-passes : goal.returns-in_err-answer-clause-passes
-returns-in_err-answer-clause-passes c = on_err c.from_residual-in_err-answer.result
+returns-in_err-answer-clause-passes g c = on_err c.from_residual-in_err-answer.result
     (subst (λ (world : WorldValue). Passes (machine_of c.args.world.now) c.args.events.now (machine_of world))
     (sym c.in_err-answer.ensures.unchanged)
     (record {
@@ -36,7 +36,7 @@ returns-in_err-answer-clause-passes c = on_err c.from_residual-in_err-answer.res
     }))
 
 pub loop-event-preserved : goal.loop-event-preserved
-loop-event-preserved c =
+loop-event-preserved g c =
     let events = c.args.events.now in
     let i = c.loop-event.event-index in
     let other : Event = record { worker = 0; act = Begin (Find 0) } in
@@ -53,10 +53,10 @@ loop-event-preserved c =
     )
 
 pub returns-clause-run : goal.returns-clause-run
-returns-clause-run c =
+returns-clause-run g c =
     subst (λ es. Run (machine_of c.args.world.now) es c.loop-event.shown.items (machine_of c.loop-event.world))
     (take_all c.loop-event.event-index c.args.events.now (omega arith)) c.loop-event.invariant.0
 
 pub returns-clause-order : goal.returns-clause-order
-returns-clause-order c is =
+returns-clause-order g c is =
     wins_ordered (machine_of c.args.world.now) c.args.events.now c.loop-event.shown.items (machine_of c.loop-event.world) is

@@ -4,7 +4,7 @@ use Rattle.ell_core.specs.inside.Inside.{scene_in}
 use Rattle.ell_core.proofs.searching.answer.Goals as goal
 
 pub returns-in_default-answer_of : goal.returns-in_default-answer_of
-returns-in_default-answer_of c =
+returns-in_default-answer_of g c =
     let s = scene_in c.args.memory.now c.args.worker.now in record {
       done = search rules;
       refused = (

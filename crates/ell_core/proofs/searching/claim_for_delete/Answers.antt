@@ -5,7 +5,7 @@ use Rattle.ell_core.specs.inside.Inside.{words_in}
 use Rattle.ell_core.proofs.searching.claim_for_delete.Goals as goal
 
 pub returns-then-card-memory : goal.returns-then-card-memory
-returns-then-card-memory c =
+returns-then-card-memory g c =
     let full : c.args.memory.now.cards < (words_in c.args.memory.now).next = omega arith in
     let calm : IsClean c.in-Some.grandparent.word = search rules in record {
       done = search rules;

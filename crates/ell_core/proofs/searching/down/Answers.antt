@@ -32,7 +32,7 @@ goes cards s op seen child busy stands internal read is = record {
 }
 
 pub returns : goal.returns
-returns c =
+returns g c =
     let words = words_in c.args.memory.now in
     let node = c.in-Some-Some-Some.node in
     record {

@@ -27,7 +27,7 @@ wants cards node s stands internal unread lacks =
     }
 
 pub returns-in_err-learn_any : goal.returns-in_err-learn_any
-returns-in_err-learn_any c =
+returns-in_err-learn_any g c =
     let p = err_from_is_err_and c.from_residual.result c.from_residual.ensures.1 in
     record {
       done = search rules;

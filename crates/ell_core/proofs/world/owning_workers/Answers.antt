@@ -9,12 +9,12 @@ use Rattle.ell_core.proofs.opening.Owners.{worker_at-push, HaveLedgers, HaveLedg
 use Rattle.ell_core.proofs.world.owning_workers.Goals as goal
 
 pub loop-init : goal.loop-init
-loop-init c =
+loop-init g c =
     let none = c.in_ok-workers.ensures.items in
     record { count = ap length none; new = λ i. ap (λ workers. worker_at workers i) none }
 
 pub loop-preserved : goal.loop-preserved
-loop-preserved c =
+loop-preserved g c =
     let pushed = c.in_ok-push.ensures.items in
     let workers = c.loop.workers.items in
     let new = c.new.result in
@@ -25,7 +25,7 @@ loop-preserved c =
     }
 
 pub loop-worker-init : goal.loop-worker-init
-loop-worker-init c =
+loop-worker-init g c =
     let count = c.loop.invariant.count in
     let all = c.loop.auto.counter-end in
     record {
@@ -36,13 +36,13 @@ loop-worker-init c =
     }
 
 pub returns-in_default-clause-refused : goal.returns-in_default-clause-refused
-returns-in_default-clause-refused c =
+returns-in_default-clause-refused g c =
     let h = c.loop-worker.invariant in
     let past = c.in_default.ensures.item.3 in
     stranger_first c.args.count c.args.owned.now c.loop-worker.worker-index h.faultless c.loop-worker-test.true (omega arith)
 
 pub returns-then-not-branch-clause-refused : goal.returns-then-not-branch-clause-refused
-returns-then-not-branch-clause-refused c =
+returns-then-not-branch-clause-refused g c =
     let h = c.loop-worker.invariant in
     let there = c.in-Some.ensures.variant.0 refl in
     let ok = c.loop-worker.workers.ok in
@@ -50,7 +50,7 @@ returns-then-not-branch-clause-refused c =
     (omega arith) (not-false _ (sym c.in_ok-insert.ensures.added ∙ c.if-not-branch.true))
 
 pub loop-worker-preserved : goal.loop-worker-preserved
-loop-worker-preserved c =
+loop-worker-preserved g c =
     let owned = c.args.owned.now in
     let n = c.loop-worker.worker-index in
     let within = c.loop-worker-test.true in
@@ -70,13 +70,13 @@ loop-worker-preserved c =
     }
 
 pub returns-clause-count : goal.returns-clause-count
-returns-clause-count c = c.loop-worker.workers.ok.0 ∙ c.loop-worker.invariant.count
+returns-clause-count g c = c.loop-worker.workers.ok.0 ∙ c.loop-worker.invariant.count
 
 pub returns-clause-ledgers : goal.returns-clause-ledgers
-returns-clause-ledgers c =
+returns-clause-ledgers g c =
     subst (HaveLedgers c.loop-worker.workers.items) (take_all c.loop-worker.worker-index c.args.owned.now c.loop-worker-test.false)
     c.loop-worker.invariant.ledgers
 
 pub returns-clause-faultless : goal.returns-clause-faultless
-returns-clause-faultless c =
+returns-clause-faultless g c =
     Faultless-all c.args.count c.args.owned.now c.loop-worker.worker-index c.loop-worker-test.false c.loop-worker.invariant.faultless

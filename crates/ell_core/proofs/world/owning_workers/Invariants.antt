@@ -8,14 +8,14 @@ use Rattle.ell_core.proofs.world.owning_workers.Given as goal
 
 -- so many workers so far, all of them nobody
 abbrev pub invariant-loop : goal.invariant-loop
-invariant-loop l = record {
+invariant-loop g l = record {
   count : length l.workers.items ≡ l.counter;
   new : (i : ℕ) → worker_at l.workers.items i ≡ nobody;
 }
 
 -- the workers have the ledgers of the entries so far, the set has their keys, and none of them has a fault
 abbrev pub invariant-loop-worker : goal.invariant-loop-worker
-invariant-loop-worker l = record {
+invariant-loop-worker g l = record {
   count : length l.workers.items ≡ l.count;
   ledgers : HaveLedgers l.workers.items (take l.worker-index l.owned);
   taken : HasKeys l.taken.keys (take l.worker-index l.owned);

@@ -6,7 +6,7 @@ use Rattle.ell_core.proofs.words.Writes.{filled_next}
 use Rattle.ell_core.proofs.memory.Memory.fill.Goals as goal
 
 pub loop-field-preserved : goal.loop-field-preserved
-loop-field-preserved c = record {
+loop-field-preserved g c = record {
   words = filled_next (words_in c.args.self.now) (words_in c.loop-field.self) (words_in c.write.new.self) c.args.card c.args.filling.now
       c.loop-field.field-index (Gp, 0) c.loop-field.invariant.words c.loop-field-test.true c.write.ensures.words;
   same = search rules;

@@ -5,7 +5,7 @@ use Rattle.ell_core.specs.inside.Inside.{words_in, SameSize}
 use Rattle.ell_core.proofs.memory.Memory.fill.Given as goal
 
 abbrev pub invariant-loop-field : goal.invariant-loop-field
-invariant-loop-field l = record {
+invariant-loop-field g l = record {
   words : words_in l.self ≡ filled (words_in l.fn.self) l.card (take l.field-index l.filling);
   same : SameSize l.fn.self l.self;
 }

@@ -5,7 +5,7 @@ use Rattle.ell_core.proofs.words.Listed.{address_inside, words_after_write}
 use Rattle.ell_core.proofs.memory.Memory.write.Goals as goal
 
 pub returns-clause-words : goal.returns-clause-words
-returns-clause-words c =
+returns-clause-words g c =
     ap (λ i. words_of (slice_set c.args.self.now.words.items i c.args.value)) c.address.ensures
     ∙ words_after_write c.args.self.now.words.items c.args.card c.args.field c.args.value
     (address_inside c.args.self.now.words.items c.args.self.now.cards c.args.card c.args.field c.requires.sized.size c.requires.card)

@@ -8,17 +8,17 @@ use Rattle.ell_core.proofs.inside.Knowledge.{known_of-updates, known_of-added, f
 use Rattle.ell_core.proofs.worker.Worker.learn_both.Goals as goal
 
 pub returns-in-Ok-clause-learned : goal.returns-in-Ok-clause-learned
-returns-in-Ok-clause-learned c =
+returns-in-Ok-clause-learned g c =
     c.in-Ok.ensures.learned
     ∙ ap (λ (known : Knowledge). knowing (worker_in c.args.self.now) (learned_any known c.args.other))
     (known_of-updates c.args.self.now.facts.keys c.insert.new.self.keys c.args.fact c.in_ok-added.ensures.updates.0)
 
 pub returns-then-added-clause-lacks : goal.returns-then-added-clause-lacks
-returns-then-added-clause-lacks c =
+returns-then-added-clause-lacks g c =
     inl (known_of-added c.args.self.now.facts.keys c.args.fact c.in_ok-added.added c.in_ok-added.ensures.added c.if-added.true)
 
 pub returns-then-added-clause-unchanged : goal.returns-then-added-clause-unchanged
-returns-then-added-clause-unchanged c =
+returns-then-added-clause-unchanged g c =
     let old = c.args.self.now in
     let kept = c.in-Err.ensures.unchanged in
     let lacks = known_of-added old.facts.keys c.args.fact c.in_ok-added.added c.in_ok-added.ensures.added c.if-added.true in

@@ -5,6 +5,6 @@ use Rattle.ell_core.proofs.inside.Ledgers.{ledger_of-updates}
 use Rattle.ell_core.proofs.worker.Worker.own.Goals as goal
 
 pub returns : goal.returns
-returns c =
+returns g c =
     ap (λ (ledger : Ledger). record (worker_in c.args.self.now) { ledger = ledger })
     (ledger_of-updates c.args.self.now.ledger.entries c.insert.new.self.entries c.args.key (Some false) c.in_ok-insert.ensures.updates.0)

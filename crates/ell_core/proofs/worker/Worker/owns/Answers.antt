@@ -5,7 +5,7 @@ use Rattle.ell_core.proofs.inside.Ledgers.{lookup-ledger_of, is_some-not_none}
 use Rattle.ell_core.proofs.worker.Worker.owns.Goals as goal
 
 pub returns : goal.returns
-returns c =
+returns g c =
     let found = (worker_in c.args.self.now).ledger c.args.key in
     subst (λ (r : Bool). IsTrue r ↔ (found ≢ None))
     (sym (c.contains_key.ensures ∙ ap is_some (lookup-ledger_of c.args.self.now.ledger.entries c.args.key)))

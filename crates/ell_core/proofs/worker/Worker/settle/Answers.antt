@@ -6,7 +6,7 @@ use Rattle.ell_core.proofs.inside.Ledgers.{ledger_of-updates}
 use Rattle.ell_core.proofs.worker.Worker.settle.Goals as goal
 
 pub returns-in-Some : goal.returns-in-Some
-returns-in-Some c =
+returns-in-Some g c =
     let found = ap is_some (sym c.get_mut.ensures.value ∙ ap option_copied_mut c.in-Some.is) in
     let written = c.get_mut.follows.holds c.args.present in
     ap (λ (ledger : Ledger). record (worker_in c.args.self.now) { ledger = ledger })

@@ -14,13 +14,13 @@ use Rattle.ell_core.proofs.inside.Turns.{words_are, cards_are}
 use Rattle.ell_core.proofs.world.World.keys.Goals as goal
 
 -- the tree is lawful
-lawful : (world : Inside) → InsideFits world → IsLawful (words_in world.memory)
+lawful : {A : Type 0} (world : Inside A) → InsideFits world → IsLawful (words_in world.memory)
 lawful world fits =
     subst IsLawful (sym (words_are world.memory world.workers.items))
     (sound (machine_of (value_in world)) fits.lawful.stages fits.lawful.invariant).tree
 
 -- a reached node is one of the table
-node : (world : Inside) → InsideFits world → (x : ℕ) → Reached (words_in world.memory) x → IsNode world.memory.cards x
+node : {A : Type 0} (world : Inside A) → InsideFits world → (x : ℕ) → Reached (words_in world.memory) x → IsNode world.memory.cards x
 node world fits x reached =
     let value = value_in world in
     let names = (sound (machine_of value) fits.lawful.stages fits.lawful.invariant).names in
@@ -30,27 +30,27 @@ node world fits x reached =
     omega arith
 
 -- two places more than the number of cards are room
-room : (world : Inside) (places : ℕ) → InsideFits world → world.memory.cards + 2 ≤ places → HasRoom (words_in world.memory) places
+room : {A : Type 0} (world : Inside A) (places : ℕ) → InsideFits world → world.memory.cards + 2 ≤ places → HasRoom (words_in world.memory) places
 room world places fits enough x reached = let inside = node world fits x reached in omega arith
 
 pub keys_of_tree-requires-clause-lawful : goal.keys_of_tree-requires-clause-lawful
-keys_of_tree-requires-clause-lawful c = lawful c.self.inside c.self.invariant
+keys_of_tree-requires-clause-lawful g c = lawful c.self.inside c.self.invariant
 
 pub keys_of_tree-requires-clause-readable : goal.keys_of_tree-requires-clause-readable
-keys_of_tree-requires-clause-readable c x reached =
+keys_of_tree-requires-clause-readable g c x reached =
     (record { size = c.self.invariant.size; limit = c.self.invariant.limit }, node c.self.inside c.self.invariant x reached)
 
 pub keys_of_tree-requires-clause-room : goal.keys_of_tree-requires-clause-room
-keys_of_tree-requires-clause-room c =
+keys_of_tree-requires-clause-room g c =
     room c.self.inside (vec_capacity c.in_ok-waiting.waiting) c.self.invariant (omega (arith, c.in_ok-waiting.ensures.capacity))
 
 pub keys_of_tree-requires-clause-keys_room : goal.keys_of_tree-requires-clause-keys_room
-keys_of_tree-requires-clause-keys_room c =
+keys_of_tree-requires-clause-keys_room g c =
     HoldsKeys-from_room (words_in c.self.inside.memory) (vec_capacity c.in_ok-keys.keys) (lawful c.self.inside c.self.invariant)
     (room c.self.inside (vec_capacity c.in_ok-keys.keys) c.self.invariant (omega (arith, c.in_ok-keys.ensures.capacity)))
 
 pub returns : goal.returns
-returns c =
+returns g c =
     subst (λ w. ListsKeys w c.keys_of_tree.result.items)
     (words_are c.self.inside.memory c.self.inside.workers.items ∙ ap (λ (value : WorldValue). (machine_of value).words) c.self.view_is)
     c.keys_of_tree.ensures

@@ -6,6 +6,6 @@ use Rattle.ell_core.proofs.following.Sound.{sound}
 use Rattle.ell_core.proofs.world.World.laws_hold.Goals as goal
 
 pub returns : goal.returns
-returns c =
+returns g c =
     let has = subst (λ (value : WorldValue). HasInvariant (machine_of value)) c.self.view_is c.self.invariant.lawful in
     record { sound = sound (machine_of c.args.self.now) has.stages has.invariant; invariant = has }

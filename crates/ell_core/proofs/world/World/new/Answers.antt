@@ -6,7 +6,7 @@ use Rattle.ell_core.proofs.opening.NewWorld.{machine_of-opening, opening_lawful}
 use Rattle.ell_core.proofs.world.World.new.Goals as goal
 
 pub invariant_of-result : goal.invariant_of-result
-invariant_of-result c =
+invariant_of-result g c =
     let memory = c.in_ok-memory.ensures in
     record {
       size = memory.sized.size;
@@ -18,7 +18,7 @@ invariant_of-result c =
     }
 
 pub returns-clause-opening : goal.returns-clause-opening
-returns-clause-opening c =
+returns-clause-opening g c =
     let memory = c.in_ok-memory.ensures in
     let workers = c.in_ok-workers.workers in
     machine_of-opening

@@ -5,6 +5,6 @@ use Rattle.ell_core.proofs.inside.Turns.{words_are}
 use Rattle.ell_core.proofs.world.World.next.Goals as goal
 
 pub returns : goal.returns
-returns c =
+returns g c =
     let words = words_are c.self.inside.memory c.self.inside.workers.items in
     c.next.ensures ∙ (ap (λ (w : Words). w.next) words ∙ ap (λ (value : WorldValue). (machine_of value).words.next) c.self.view_is)

@@ -11,7 +11,7 @@ on_err_both (Ok x) f a b = tt
 on_err_both (Err e) f a b = f a b
 
 pub returns-in_default-clause-refused : goal.returns-in_default-clause-refused
-returns-in_default-clause-refused c =
+returns-in_default-clause-refused g c =
     let inside = c.self.inside in
     let count = count_is inside.memory inside.workers.items in
     let all : (machine_of (world_at inside.memory inside.workers.items)).count ≤ c.args.event.worker =
@@ -19,20 +19,20 @@ returns-in_default-clause-refused c =
     subst (λ (value : WorldValue). (machine_of value).count ≤ c.args.event.worker) c.self.view_is all
 
 pub turn-requires : goal.turn-requires
-turn-requires c =
+turn-requires g c =
     let old = c.in-Some.worker.now in
     let there = item_there c.self.inside.workers c.args.event.worker old (c.in-Some.ensures.variant.0 refl) c.in-Some.ensures.value in
     ready c.self.inside.memory c.self.inside.memory c.self.inside.workers.items c.args.event old old there (record { size = refl; cards = refl }) c.self.invariant
 
 pub invariant_of-self-2 : goal.invariant_of-self-2
-invariant_of-self-2 c =
+invariant_of-self-2 g c =
     let old = c.in-Some.worker.now in
     let there = item_there c.self.inside.workers c.args.event.worker old (c.in-Some.ensures.variant.0 refl) c.in-Some.ensures.value in
     fits_turn c.self.inside.memory c.turn.new.memory c.self.inside.workers.items c.args.event old c.turn.new.worker there c.turn.ensures.same
     c.turn.result c.self.invariant c.turn.ensures.done c.turn.ensures.unchanged c.turn.ensures.words
 
 pub returns-clause-done : goal.returns-clause-done
-returns-clause-done c =
+returns-clause-done g c =
     let old = c.in-Some.worker.now in
     let there = item_there c.self.inside.workers c.args.event.worker old (c.in-Some.ensures.variant.0 refl) c.in-Some.ensures.value in
     IfOk-weaker c.turn.result _ _ (λ said h. subst
@@ -42,7 +42,7 @@ returns-clause-done c =
     c.turn.ensures.done
 
 pub returns-clause-refused : goal.returns-clause-refused
-returns-clause-refused c =
+returns-clause-refused g c =
     let old = c.in-Some.worker.now in
     let there = item_there c.self.inside.workers c.args.event.worker old (c.in-Some.ensures.variant.0 refl) c.in-Some.ensures.value in
     MatchResult-weaker c.turn.result c.turn.ensures.refused (λ said h. h) (λ fault h. subst
@@ -50,7 +50,7 @@ returns-clause-refused c =
     (step_refused c.self.inside.memory c.turn.new.memory c.self.inside.workers.items c.args.event old c.turn.new.worker there c.turn.ensures.same fault h))
 
 pub returns-clause-unchanged : goal.returns-clause-unchanged
-returns-clause-unchanged c =
+returns-clause-unchanged g c =
     let old = c.in-Some.worker.now in
     let there = item_there c.self.inside.workers c.args.event.worker old (c.in-Some.ensures.variant.0 refl) c.in-Some.ensures.value in
     on_err_both c.turn.result (λ view words. value_same c.self.inside.memory c.turn.new.memory c.self.inside.workers.items c.args.event old

@@ -5,7 +5,7 @@ use Rattle.ell_core.proofs.inside.Turns.{words_are}
 use Rattle.ell_core.proofs.world.World.word.Goals as goal
 
 pub returns : goal.returns
-returns c =
+returns g c =
     let words = words_are c.self.inside.memory c.self.inside.workers.items in
     c.read.ensures ∙ (ap (λ w. word w c.args.card c.args.field) words
     ∙ ap (λ (value : WorldValue). word (machine_of value).words c.args.card c.args.field) c.self.view_is)
