@@ -11,7 +11,7 @@ use crate::replay::{ReplayFault, read_replay};
 use crate::trace::write_trace;
 use ell_core::{CoreFault, World, replay};
 use ell_ops::NoMemory;
-use std::alloc::Global;
+use std::alloc::Allocator;
 use std::io::{Read, Write};
 use thiserror::Error;
 
@@ -101,8 +101,8 @@ impl From<WriteFault> for ScriptFault {
 
 /// Replays a script: reads all of the text, tries the script's events in turn from its opening state, and writes the
 /// trace, with the keys that the tree has in the end. Nothing is written before the replay has ended.
-pub fn replay_bytes<I: Read, O: Write>(
-    alloc: Global,
+pub fn replay_bytes<A: Allocator + Copy, I: Read, O: Write>(
+    alloc: A,
     reader: &mut I,
     writer: &mut O,
 ) -> Result<(), ScriptFault>

@@ -11,16 +11,16 @@ use crate::limits::LINES_MAX;
 use crate::lines::lines;
 use crate::replay_line::{Place, ReplayLineFault, Said, read_replay_line};
 use ell_core::Event;
-use std::alloc::Global;
+use std::alloc::{Allocator, Global};
 use thiserror::Error;
 
 /// A replay: how many workers and cards there are, which worker owns which key, and the events in their order.
 #[derive(Debug, Drop)]
-pub struct Script {
+pub struct Script<A: Allocator = Global> {
     pub workers: u32,
     pub cards: u64,
-    pub owned: Vec<(u32, u64)>,
-    pub events: Vec<Event>,
+    pub owned: Vec<(u32, u64), A>,
+    pub events: Vec<Event, A>,
 }
 
 /// Why a replay text was not read. Lines are counted from 1, the skipped ones too. Of several faults in
@@ -49,7 +49,7 @@ pub enum ReplayFault {
 
 /// Reads the script of a replay text. A fault is that of the first line that has one. `NoMemory` comes
 /// only at an own line or an event, where no line so far has a fault.
-pub fn read_replay(alloc: Global, bytes: &[u8]) -> Result<Script, ReplayFault>
+pub fn read_replay<A: Allocator + Copy>(alloc: A, bytes: &[u8]) -> Result<Script<A>, ReplayFault>
     ensures ok { IfOk result (λ s. script bytes.now ≡ Ok (script_value s)) }
     ensures fault { IfErr result (λ fault. fault ≢ ReplayFault.NoMemory → script bytes.now ≡ Err fault) }
     ensures no_memory { IfErr result (λ fault. fault ≡ ReplayFault.NoMemory → HasSoundEntry (lines bytes.now)) }
@@ -68,15 +68,15 @@ pub fn read_replay(alloc: Global, bytes: &[u8]) -> Result<Script, ReplayFault>
 
 // The script of the lines so far.
 #[derive(Drop)]
-struct Draft {
+struct Draft<A: Allocator> {
     workers: Option<u32>,
     cards: Option<u64>,
-    owned: Vec<(u32, u64)>,
-    events: Vec<Event>,
+    owned: Vec<(u32, u64), A>,
+    events: Vec<Event, A>,
 }
 
-impl Draft {
-    fn new(alloc: Global) -> Draft
+impl<A: Allocator + Copy> Draft<A> {
+    fn new(alloc: A) -> Draft<A>
         ensures value { draft_value result ≡ no_draft }
         ensures fits { DraftFits (draft_value result) }
     {
@@ -160,7 +160,7 @@ impl Draft {
     }
 
     // The script, where the text had both of its heads.
-    fn finish(self) -> Result<Script, ReplayFault>
+    fn finish(self) -> Result<Script<A>, ReplayFault>
         requires fits { DraftFits (draft_value self) }
         ensures value { IfOk result (λ s. finished (draft_value self) ≡ Some (script_value s)) }
         ensures fault { IfErr result (λ fault. fault ≡ ReplayFault.Ended) }

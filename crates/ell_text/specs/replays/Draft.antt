@@ -20,7 +20,7 @@ pub record DraftValue : Type 0 where
   pub events : List Event
 
 -- what a draft is, its lists without their places in memory
-abbrev pub draft_value : Draft → DraftValue
+abbrev pub draft_value : {A : Type 0} → Draft A → DraftValue
 draft_value d = record { workers = d.workers; cards = d.cards; owned = d.owned.items; events = d.events.items }
 
 -- before the first line

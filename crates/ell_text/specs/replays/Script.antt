@@ -127,5 +127,5 @@ abbrev pub script : List ℕ → Result ScriptValue ReplayFault
 script bytes = unless_replay_fault (first (replay_fault_at (lines bytes)) (length (lines bytes))) (script_of (spoken (lines bytes)))
 
 -- what a script is, its lists without their places in memory
-abbrev pub script_value : Script → ScriptValue
+abbrev pub script_value : {A : Type 0} → Script A → ScriptValue
 script_value s = record { workers = s.workers; cards = s.cards; owned = s.owned.items; events = s.events.items }

@@ -22,3 +22,8 @@ returns-clause-ok g c =
     let value = script_value c.in_ok-script.script in
     let replayed = is_replay value _ _ _ _ _ _ c.in_ok-world.ensures.opening c.deref-2.ensures.value c.in_ok-shown.ensures.run c.deref-3.ensures.value c.in_ok-keys.ensures in
     whole_trace _ _ _ c.in_ok-bytes.bytes.items value c.in_ok-shown.shown.items c.in_ok-keys.keys.items c.in_ok-bytes.ensures.bytes (search rules) replayed (search rules)
+
+pub returns-in_err-shown-clause-fault : goal.returns-in_err-shown-clause-fault
+returns-in_err-shown-clause-fault g c =
+    let p = err_from_is_err_and c.from_residual-in_err-shown.result c.from_residual-in_err-shown.ensures.1 in
+    rw (p.1, p.2) (search rules)

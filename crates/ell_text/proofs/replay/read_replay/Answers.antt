@@ -15,7 +15,7 @@ both P (Ok x) fault fact = tt
 both P (Err e) fault fact = (fault, fact)
 
 pub loop-index-init : goal.loop-index-init
-loop-index-init c =
+loop-index-init g c =
     let start = c.into_iter-index-iterator.ensures.into_iter_gives in
     record {
       drafted = drafted_none _ _ _ _ (ap enumerate_source start ∙ c.enumerate-index-items.ensures.source ∙ c.lines.ensures.value)
@@ -24,7 +24,7 @@ loop-index-init c =
     }
 
 pub loop-index-preserved : goal.loop-index-preserved
-loop-index-preserved c =
+loop-index-preserved g c =
     let step = c.in-Some.ensures.steps in
     let done = c.in_ok-append_line.ensures in
     record {
@@ -34,7 +34,7 @@ loop-index-preserved c =
     }
 
 pub returns-in_err-append_line-clause-fault : goal.returns-in_err-append_line-clause-fault
-returns-in_err-append_line-clause-fault c =
+returns-in_err-append_line-clause-fault g c =
     let step = c.in-Some.ensures.steps in
     let failed = c.in_err-append_line.ensures in
     let known = rw step.0 at c.loop-index.invariant.drafted in
@@ -42,7 +42,7 @@ returns-in_err-append_line-clause-fault c =
     rw (error.1, error.2) (λ other. drafted_fault _ _ c.in-Some.line.now _ (draft_value c.loop-index.draft) known _ (rw step.1 at (failed.fault other)))
 
 pub returns-in_err-append_line-clause-no_memory : goal.returns-in_err-append_line-clause-no_memory
-returns-in_err-append_line-clause-no_memory c =
+returns-in_err-append_line-clause-no_memory g c =
     let step = c.in-Some.ensures.steps in
     let failed = c.in_err-append_line.ensures in
     let known = rw step.0 at c.loop-index.invariant.drafted in
@@ -50,13 +50,13 @@ returns-in_err-append_line-clause-no_memory c =
     rw (error.1, error.2) (λ is. drafted_stops _ _ c.in-Some.line.now _ (draft_value c.loop-index.draft) known (rw step.1 at (failed.no_memory_sound is)) (failed.no_memory is))
 
 pub returns-clause-ok : goal.returns-clause-ok
-returns-clause-ok c =
+returns-clause-ok g c =
     let step = c.in-None.ensures.steps in
     let known = rw step.0.0 at c.loop-index.invariant.drafted in
     IfOk-weaker c.finish.result _ _ (λ s found. drafted_script _ _ (draft_value c.loop-index.draft) known (script_value s) found) c.finish.ensures.value
 
 pub returns-clause-fault : goal.returns-clause-fault
-returns-clause-fault c =
+returns-clause-fault g c =
     let step = c.in-None.ensures.steps in
     let known = rw step.0.0 at c.loop-index.invariant.drafted in
     IfErr-weaker c.finish.result _ _ (λ fault ended other. drafted_ended _ _ (draft_value c.loop-index.draft) known ended.1 ∙ ap Err (sym ended.0))

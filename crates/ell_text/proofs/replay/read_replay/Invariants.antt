@@ -6,7 +6,7 @@ use Rattle.ell_text.proofs.Scripts.{IsDraftedTo}
 use Rattle.ell_text.proofs.replay.read_replay.Given as goal
 
 abbrev pub invariant-loop-index : goal.invariant-loop-index
-invariant-loop-index l = record {
+invariant-loop-index g l = record {
   drafted : IsDraftedTo (lines l.fn.bytes) (enumerate_source l.index-iterator) (enumerate_count l.index-iterator) (draft_value l.draft);
   fits : DraftFits (draft_value l.draft);
 }
