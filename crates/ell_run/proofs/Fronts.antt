@@ -1,5 +1,5 @@
-use Rattle.std.proofs.Common.{◌≡◌, ◌↔◌, ℕ, ◌+◌, ◌<◌, ◌≤◌, Bool, List, [], ◌∷◌, ◌++◌, length, get_or, take, arith, refl, ap, sym, ◌∙◌}
-use Rattle.std.proofs.lemmas.List.{length_push, map-append, take_more}
+use Rattle.std.proofs.Common.{◌≡◌, ◌↔◌, ℕ, ◌+◌, ◌<◌, ◌≤◌, Bool, List, [], ◌∷◌, ◌++◌, length, get_or, take, arith, refl, ap, sym, subst, ◌∙◌}
+use Rattle.std.proofs.lemmas.List.{append-nil, length_push, map-append, take_more}
 use Rattle.std.proofs.lemmas.Option.{slice_get_within, get_or_from_slice_get}
 use Rattle.ell_ops.specs.declared.op.Op.{Op}
 use Rattle.ell_ops.specs.KeySet.{KeySet}
@@ -7,9 +7,10 @@ use Rattle.ell_ops.specs.Meaning.{reply_of, final}
 use Rattle.ell_ops.specs.Meaning.{after as after_op}
 use Rattle.ell_tree.specs.Ends.{Answers, LaidDown}
 use Rattle.ell_tree.specs.Ledgers.{PassModel, Owns, IsIdle, answers, present_in}
+use Rattle.ell_parts.specs.Parting.{Parting, part}
 use Rattle.ell_run.specs.ByParts.{ops_in}
-use Rattle.ell_run.specs.Pieces.{piece_from}
-use Rattle.ell_run.specs.Work.{IsWorkedOff}
+use Rattle.ell_run.specs.Pieces.{front, piece_from}
+use Rattle.ell_run.specs.Work.{IsWorked, IsWorkedOff}
 use Rattle.ell_run.proofs.OnKey.{final-append}
 
 -- so many operations of a part were done with a pass
@@ -103,3 +104,21 @@ front_held items i d before mid after piece below h l =
       owned = λ key. let old = h.owned key in rw l.ledger old;
       answers = omega arith;
     }
+
+-- one worker has worked its part off, by a pass that got another label
+pub one_worked : (parting : Parting) (workers : List ℕ) (d label : ℕ) (before told after : PassModel) (items : List (ℕ × Op)) (piece : List (ℕ × Bool))
+    (pieces : List (List (ℕ × Bool))) → 0 < length workers → length workers < 2 → told ≡ record before { label = label } →
+    items ≡ part parting (get_or workers 0 d) → IsWorkedOff items told after piece → pieces ≡ piece ∷ [] → IsWorked parting workers before after pieces
+one_worked parting [] d label before told after items piece pieces some few same own h is = absurd (omega arith)
+one_worked parting (w ∷ v ∷ ws) d label before told after items piece pieces some few same own h is = absurd (omega arith)
+one_worked parting (w ∷ []) d label before told after items piece pieces some few same own h is =
+    let off : IsWorkedOff (part parting w) (record before { label = label }) after piece =
+    subst (λ all. IsWorkedOff all (record before { label = label }) after piece) own (subst (λ p. IsWorkedOff items p after piece) same h) in
+    subst (IsWorked parting (w ∷ []) before after) (sym is) (record {
+      table = off.table;
+      idle = off.idle;
+      told = (off.told, tt);
+      set = off.set ∙ ap (final (present_in before)) (sym (append-nil (ops_in (front (part parting w) piece))));
+      owned = off.owned;
+      answers = let counted = off.answers in omega arith;
+    })

@@ -10,7 +10,7 @@ use crate::settings::{Report, Settings, limits_for, parts_for};
 use ell_ops::NoMemory;
 use ell_text::{INPUT_MAX, InputFault, TextFault, WriteFault, read_all, read_bulk, write_answer};
 use ell_word::NoGate;
-use std::alloc::Global;
+use std::alloc::Allocator;
 use std::io::{Read, Write};
 use std::thread::Threads;
 use thiserror::Error;
@@ -78,9 +78,9 @@ impl From<WriteFault> for RunFault {
 
 /// Runs a bulk text: reads all of it, runs its operations from the empty set as the settings say, and writes the answer.
 /// Nothing is written before the run has ended.
-pub fn run_bytes<R: Threads + Sync, I: Read, O: Write>(
+pub fn run_bytes<R: Threads + Sync, A: Allocator + Copy + Send + Sync, I: Read, O: Write>(
     rt: &R,
-    alloc: Global,
+    alloc: A,
     reader: &mut I,
     writer: &mut O,
     settings: Settings,

@@ -12,15 +12,15 @@ ghost use Rattle.ell_run.specs.Pieces.{ArePieces, all_workers, count_of, piece_f
 use crate::pieces::{Piece, with_positions};
 use ell_ops::{NoMemory, Op, apply_from};
 use ell_parts::Parts;
-use std::alloc::Global;
+use std::alloc::Allocator;
 
 // The operations that no piece answers, with their positions, in the order of the list.
-pub(crate) fn late_ops(
-    alloc: Global,
+pub(crate) fn late_ops<A: Allocator + Copy>(
+    alloc: A,
     ops: &[Op],
-    parts: &Parts<Global>,
-    pieces: &[Piece],
-) -> Result<Vec<(usize, Op)>, NoMemory>
+    parts: &Parts<A>,
+    pieces: &[Piece<A>],
+) -> Result<Vec<(usize, Op), A>, NoMemory>
     requires parted { parts.now.ops ≡ ops.now }
     requires pieces { ArePieces empty parts.now (all_workers parts.now) (map (λ piece. piece.items) pieces.now) }
     ensures { IfOk result (λ late. late.items ≡ late_ops ops.now (flat_map (λ piece. piece.items) pieces.now)) }
@@ -39,7 +39,7 @@ pub(crate) fn late_ops(
 }
 
 // Whether each piece is as long as the part that it is of.
-fn is_all_done(parts: &Parts<Global>, pieces: &[Piece]) -> bool
+fn is_all_done<A: Allocator + Copy>(parts: &Parts<A>, pieces: &[Piece<A>]) -> bool
     requires { length pieces.now ≡ parts.now.workers }
     ensures lawful { IsLawful parts.now }
     ensures done { IsTrue result → (worker : ℕ) → worker < parts.now.workers →
@@ -54,7 +54,11 @@ fn is_all_done(parts: &Parts<Global>, pieces: &[Piece]) -> bool
 }
 
 // Whether each position below `n` is answered by an item of a piece.
-fn answered(alloc: Global, n: usize, pieces: &[Piece]) -> Result<Vec<bool>, NoMemory>
+fn answered<A: Allocator + Copy>(
+    alloc: A,
+    n: usize,
+    pieces: &[Piece<A>],
+) -> Result<Vec<bool, A>, NoMemory>
     requires { All (λ piece. All (λ item. item.0 < n) piece.items) pieces.now }
     ensures count { IfOk result (λ marks. length marks.items ≡ n) }
     ensures marks { IfOk result (λ marks. AreMarks (flat_map (λ piece. piece.items) pieces.now) marks.items) }
@@ -77,11 +81,11 @@ fn mark(answered: &mut [bool], piece: &[(usize, bool)])
 }
 
 // Does operations that are left, from a set of keys: their replies, with their positions, and the keys after them.
-pub(crate) fn do_late(
-    alloc: Global,
-    keys: Vec<u64>,
+pub(crate) fn do_late<A: Allocator + Copy>(
+    alloc: A,
+    keys: Vec<u64, A>,
     late: &[(usize, Op)],
-) -> Result<(Piece, Vec<u64>), NoMemory>
+) -> Result<(Piece<A>, Vec<u64, A>), NoMemory>
     requires { IsStrictlyIncreasing keys.items }
     ensures piece { IfOk result (λ done. done.0.items ≡ piece_from (set_of keys.items) late.now) }
     ensures keys { IfOk result (λ done. Lists (final (set_of keys.items) (ops_in late.now)) done.1.items) }
@@ -95,7 +99,7 @@ pub(crate) fn do_late(
 }
 
 // The operations of numbered ones.
-fn ops_of(alloc: Global, items: &[(usize, Op)]) -> Result<Vec<Op>, NoMemory>
+fn ops_of<A: Allocator + Copy>(alloc: A, items: &[(usize, Op)]) -> Result<Vec<Op, A>, NoMemory>
     ensures { IfOk result (λ ops. ops.items ≡ ops_in items.now) }
 {
     Ok(items.iter().map(|item| item.1).collect(alloc)?)

@@ -10,20 +10,20 @@ use ell_ops::{NoMemory, Op};
 use ell_parts::Parts;
 use ell_tree::{Held, Pass, Tree};
 use ell_word::StepGate;
-use std::alloc::Global;
+use std::alloc::{Allocator, Global};
 
 /// The replies of a worker, with their positions in the whole list.
-pub type Piece = Vec<(usize, bool)>;
+pub type Piece<A = Global> = Vec<(usize, bool), A>;
 
 // Works a part off, operation by operation, and leaves the rest of it from the first operation on that is held.
-pub(crate) fn work_off<G: StepGate>(
-    alloc: Global,
-    tree: &Tree<Global>,
-    pass: &mut Pass<Global>,
+pub(crate) fn work_off<A: Allocator + Copy, G: StepGate>(
+    alloc: A,
+    tree: &Tree<A>,
+    pass: &mut Pass<A>,
     part: &[(usize, Op)],
     tries: u32,
     gate: &G,
-) -> Result<Piece, NoMemory>
+) -> Result<Piece<A>, NoMemory>
     requires own { pass.old.table ≡ tree.now.id }
     requires idle { IsIdle pass.old }
     requires owned { OwnsAll pass.old part.now }
@@ -41,9 +41,9 @@ pub(crate) fn work_off<G: StepGate>(
 }
 
 // Does one operation on a key of the pass.
-fn do_op<G: StepGate>(
-    tree: &Tree<Global>,
-    pass: &mut Pass<Global>,
+fn do_op<A: Allocator + Copy, G: StepGate>(
+    tree: &Tree<A>,
+    pass: &mut Pass<A>,
     op: Op,
     tries: u32,
     gate: &G,
@@ -62,11 +62,11 @@ fn do_op<G: StepGate>(
 }
 
 // Puts empty pieces between those of the busy workers: one piece for each worker, in order.
-pub(crate) fn with_empty_pieces(
-    alloc: Global,
-    parts: &Parts<Global>,
-    mut pieces: Vec<Piece>,
-) -> Result<Vec<Piece>, NoMemory>
+pub(crate) fn with_empty_pieces<A: Allocator + Copy>(
+    alloc: A,
+    parts: &Parts<A>,
+    mut pieces: Vec<Piece<A>, A>,
+) -> Result<Vec<Piece<A>, A>, NoMemory>
     requires { length pieces.items ≡ length (busy parts.now) }
     ensures { (before after : PassModel) →
         IsWorked parts.now (busy parts.now) before after (map (λ piece. piece.items) pieces.items) →
@@ -81,11 +81,11 @@ pub(crate) fn with_empty_pieces(
 }
 
 // Replies with the positions of the operations that they are for.
-pub(crate) fn with_positions(
-    alloc: Global,
+pub(crate) fn with_positions<A: Allocator + Copy>(
+    alloc: A,
     part: &[(usize, Op)],
     replies: &[bool],
-) -> Result<Piece, NoMemory>
+) -> Result<Piece<A>, NoMemory>
     ensures { IfOk result (λ piece. piece.items ≡ numbered part.now replies.now) }
 {
     let items = part.iter().zip(replies);

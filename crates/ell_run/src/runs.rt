@@ -13,7 +13,7 @@ use ell_ops::{NoMemory, Op};
 use ell_parts::{GatherFault, Parts, gather};
 use ell_tree::{CardFault, Tree};
 use ell_word::StepGate;
-use std::alloc::Global;
+use std::alloc::{Allocator, Global};
 use std::thread::Threads;
 
 /// How much a run may use.
@@ -27,11 +27,11 @@ pub struct Limits {
 
 /// What comes of a run.
 #[derive(Debug, Drop)]
-pub struct Outcome {
+pub struct Outcome<A: Allocator = Global> {
     /// The reply of each operation, in the order of the list.
-    pub replies: Vec<bool>,
+    pub replies: Vec<bool, A>,
     /// The keys of the set at the end, ascending.
-    pub keys: Vec<u64>,
+    pub keys: Vec<u64, A>,
     /// How many operations were done after the workers had ended.
     pub late: usize,
 }
@@ -39,14 +39,14 @@ pub struct Outcome {
 /// Runs a list of operations from the empty set: each worker of the parting works its own part off on one tree that all share, in
 /// a thread of its own where one can be made, and what they leave is done by one thread after they have ended. Replies and keys
 /// are those of one thread over the whole list. The gate sees each call of the tree, under the number of its worker.
-pub fn run<R: Threads + Sync, G: StepGate + Sync>(
+pub fn run<R: Threads + Sync, A: Allocator + Copy + Send + Sync, G: StepGate + Sync>(
     rt: &R,
-    alloc: Global,
+    alloc: A,
     ops: &[Op],
-    parts: &Parts<Global>,
+    parts: &Parts<A>,
     limits: Limits,
     gate: &G,
-) -> Result<Outcome, NoMemory>
+) -> Result<Outcome<A>, NoMemory>
     requires fits { All Fits ops.now }
     requires parted { parts.now.ops ≡ ops.now }
     requires limits { AreLimits limits }
@@ -59,13 +59,13 @@ pub fn run<R: Threads + Sync, G: StepGate + Sync>(
 }
 
 // Has the workers do their parts on one tree, and ends the tree.
-fn run_workers<R: Threads + Sync, G: StepGate + Sync>(
+fn run_workers<R: Threads + Sync, A: Allocator + Copy + Send + Sync, G: StepGate + Sync>(
     rt: &R,
-    alloc: Global,
-    parts: &Parts<Global>,
+    alloc: A,
+    parts: &Parts<A>,
     limits: Limits,
     gate: &G,
-) -> Result<(Vec<Piece>, Vec<u64>), NoMemory>
+) -> Result<(Vec<Piece<A>, A>, Vec<u64, A>), NoMemory>
     requires fits { All Fits parts.now.ops }
     requires limits { AreLimits limits }
     ensures { IfOk result (λ left. AreLeft parts.now (map (λ piece. piece.items) left.0.items) left.1.items) }
@@ -83,7 +83,7 @@ fn run_workers<R: Threads + Sync, G: StepGate + Sync>(
 }
 
 // The distinct keys of all parts, ascending.
-fn all_keys(alloc: Global, parts: &Parts<Global>) -> Result<Vec<u64>, NoMemory>
+fn all_keys<A: Allocator + Copy>(alloc: A, parts: &Parts<A>) -> Result<Vec<u64, A>, NoMemory>
     ensures { IfOk result (λ keys. Lists (keys_of parts.now.ops) keys.items) }
 {
     let workers = busy_workers(alloc, parts)?;
@@ -101,13 +101,13 @@ fn no_cards(fault: CardFault) -> NoMemory
 }
 
 // Does what the workers left, and gathers all replies.
-fn finish(
-    alloc: Global,
+fn finish<A: Allocator + Copy>(
+    alloc: A,
     ops: &[Op],
-    parts: &Parts<Global>,
-    mut pieces: Vec<Piece>,
-    keys: Vec<u64>,
-) -> Result<Outcome, NoMemory>
+    parts: &Parts<A>,
+    mut pieces: Vec<Piece<A>, A>,
+    keys: Vec<u64, A>,
+) -> Result<Outcome<A>, NoMemory>
     requires parted { parts.now.ops ≡ ops.now }
     requires left { AreLeft parts.now (map (λ piece. piece.items) pieces.items) keys.items }
     ensures replies { IfOk result (λ outcome. outcome.replies.items ≡ replies empty ops.now) }

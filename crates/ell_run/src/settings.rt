@@ -7,7 +7,7 @@ ghost use Rattle.ell_run.specs.Settings.{AreSettings, IsPartedAs};
 use crate::runs::Limits;
 use ell_ops::{NoMemory, Op};
 use ell_parts::{PartFault, Parts};
-use std::alloc::Global;
+use std::alloc::Allocator;
 
 /// The most tries that an insert or a delete may have.
 pub const TRIES_MAX: u32 = 1_000_000;
@@ -41,7 +41,11 @@ pub struct Report {
 }
 
 /// The parting of the operations that the settings ask for: among their workers, in stripes or in ranges.
-pub fn parts_for(alloc: Global, ops: &[Op], settings: Settings) -> Result<Parts<Global>, NoMemory>
+pub fn parts_for<A: Allocator + Copy>(
+    alloc: A,
+    ops: &[Op],
+    settings: Settings,
+) -> Result<Parts<A>, NoMemory>
     requires { AreSettings settings }
     ensures { IfOk result (IsPartedAs settings ops.now) }
 {

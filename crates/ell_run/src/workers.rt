@@ -1,6 +1,6 @@
 //! Workers that share one tree: each does its part with a pass of its own, in a thread of its own where one can be made.
 ghost use Rattle.std.specs.Prelude.{◌≡◌, ◌<◌, ◌≤◌, ◌++◌, ℕ, List, All, IfOk, length, map};
-ghost use Rattle.std.specs.Thread.{IsSync};
+ghost use denote.Param.Send.{Frees, IsSend, IsSync};
 ghost use Rattle.ell_ops.specs.KeySet.{Lists};
 ghost use Rattle.ell_ops.specs.Meaning.{key_of};
 ghost use Rattle.ell_parts.specs.Parting.{IsLawful, Parting};
@@ -13,21 +13,21 @@ use ell_ops::{NoMemory, Op, united_keys};
 use ell_parts::Parts;
 use ell_tree::{Pass, Tree};
 use ell_word::StepGate;
-use std::alloc::Global;
+use std::alloc::Allocator;
 use std::thread::{Threads, join};
 
 /// Has each worker work its part off with a pass of the tree, in a thread of its own where one can be made. A worker leaves the
 /// rest of its part from the first operation on that is held. Answers the pass, with all its keys, and a piece for each worker, in
 /// their order: its replies, with their positions. After `NoMemory` the pass is gone.
-pub fn work<R: Threads + Sync, G: StepGate + Sync>(
+pub fn work<R: Threads + Sync, A: Allocator + Copy + Send + Sync, G: StepGate + Sync>(
     rt: &R,
-    alloc: Global,
-    tree: &Tree<Global>,
-    pass: Pass<Global>,
-    parts: &Parts<Global>,
+    alloc: A,
+    tree: &Tree<A>,
+    pass: Pass<A>,
+    parts: &Parts<A>,
     tries: u32,
     gate: &G,
-) -> Result<(Pass<Global>, Vec<Piece>), NoMemory>
+) -> Result<(Pass<A>, Vec<Piece<A>, A>), NoMemory>
     requires own { pass.table ≡ tree.now.id }
     requires idle { IsIdle pass }
     requires owned { All (λ op. Owns pass (key_of op)) parts.now.ops }
@@ -41,7 +41,10 @@ pub fn work<R: Threads + Sync, G: StepGate + Sync>(
 }
 
 // The workers whose parts are not empty, ascending.
-pub(crate) fn busy_workers(alloc: Global, parts: &Parts<Global>) -> Result<Vec<u32>, NoMemory>
+pub(crate) fn busy_workers<A: Allocator + Copy>(
+    alloc: A,
+    parts: &Parts<A>,
+) -> Result<Vec<u32, A>, NoMemory>
     ensures lawful { IsLawful parts.now }
     ensures busy { IfOk result (λ workers. workers.items ≡ busy parts.now) }
 {
@@ -56,16 +59,16 @@ pub(crate) fn busy_workers(alloc: Global, parts: &Parts<Global>) -> Result<Vec<u
 
 // Has these workers do their parts: halves of them in two threads, each with a half of the pass, down to one worker a thread.
 #[cycle(halves)]
-fn do_workers<R: Threads + Sync, G: StepGate + Sync>(
+fn do_workers<R: Threads + Sync, A: Allocator + Copy + Send + Sync, G: StepGate + Sync>(
     rt: &R,
-    alloc: Global,
-    tree: &Tree<Global>,
-    pass: Pass<Global>,
-    parts: &Parts<Global>,
+    alloc: A,
+    tree: &Tree<A>,
+    pass: Pass<A>,
+    parts: &Parts<A>,
     workers: &[u32],
     tries: u32,
     gate: &G,
-) -> Result<(Pass<Global>, Vec<Piece>), NoMemory>
+) -> Result<(Pass<A>, Vec<Piece<A>, A>), NoMemory>
     requires ready { AreReady tree.now parts.now workers.now pass }
     requires tries { 1 ≤ tries }
     ensures { IfOk result (λ done. IsWorked parts.now workers.now pass done.0 (map (λ piece. piece.items) done.1.items)) }
@@ -75,12 +78,12 @@ fn do_workers<R: Threads + Sync, G: StepGate + Sync>(
     }
     let (low, high) = workers.split_at(workers.len() / 2);
     let (left, right) = halves(alloc, tree, pass, parts, low, high)?;
-    let front = move || -> Result<(Pass<Global>, Vec<Piece>), NoMemory>
-        requires { IsSync R.row × IsSync G.row × AreReady tree.now parts.now low.now left × (1 ≤ tries) }
+    let front = move || -> Result<(Pass<A>, Vec<Piece<A>, A>), NoMemory>
+        requires { IsSync R.row × IsSync G.row × IsSend A.row × IsSync A.row × Frees A.Allocator A.dealloc_token × AreReady tree.now parts.now low.now left × (1 ≤ tries) }
         ensures { IfOk result (λ done. IsWorked parts.entry.now low.entry.now left done.0 (map (λ piece. piece.items) done.1.items)) }
     { do_workers(rt, alloc, tree, left, parts, low, tries, gate) };
-    let back = move || -> Result<(Pass<Global>, Vec<Piece>), NoMemory>
-        requires { IsSync R.row × IsSync G.row × AreReady tree.now parts.now high.now right × (1 ≤ tries) }
+    let back = move || -> Result<(Pass<A>, Vec<Piece<A>, A>), NoMemory>
+        requires { IsSync R.row × IsSync G.row × IsSend A.row × IsSync A.row × Frees A.Allocator A.dealloc_token × AreReady tree.now parts.now high.now right × (1 ≤ tries) }
         ensures { IfOk result (λ done. IsWorked parts.entry.now high.entry.now right done.0 (map (λ piece. piece.items) done.1.items)) }
     { do_workers(rt, alloc, tree, right, parts, high, tries, gate) };
     let (first, second) = join(rt, front, back);
@@ -88,38 +91,39 @@ fn do_workers<R: Threads + Sync, G: StepGate + Sync>(
 }
 
 // Has one worker do its part, if there is one, in this thread.
-fn do_one<G: StepGate>(
-    alloc: Global,
-    tree: &Tree<Global>,
-    mut pass: Pass<Global>,
-    parts: &Parts<Global>,
+fn do_one<A: Allocator + Copy, G: StepGate>(
+    alloc: A,
+    tree: &Tree<A>,
+    mut pass: Pass<A>,
+    parts: &Parts<A>,
     workers: &[u32],
     tries: u32,
     gate: &G,
-) -> Result<(Pass<Global>, Vec<Piece>), NoMemory>
+) -> Result<(Pass<A>, Vec<Piece<A>, A>), NoMemory>
     requires one { length workers.now ≤ 1 }
     requires ready { AreReady tree.now parts.now workers.now pass }
     requires tries { 1 ≤ tries }
     ensures { IfOk result (λ done. IsWorked parts.now workers.now pass done.0 (map (λ piece. piece.items) done.1.items)) }
 {
     let mut pieces = Vec::new(alloc);
-    if let Some(worker) = workers.first() {
-        pass.relabel(*worker);
-        let piece = work_off(alloc, tree, &mut pass, parts.part(*worker), tries, gate)?;
-        pieces.push(piece)?;
-    }
+    let [worker] = workers else {
+        return Ok((pass, pieces));
+    };
+    pass.relabel(*worker);
+    let piece = work_off(alloc, tree, &mut pass, parts.part(*worker), tries, gate)?;
+    pieces.push(piece)?;
     Ok((pass, pieces))
 }
 
 // Splits a pass between two rows of workers: the left part gets the keys of the first row.
-fn halves(
-    alloc: Global,
-    tree: &Tree<Global>,
-    pass: Pass<Global>,
-    parts: &Parts<Global>,
+fn halves<A: Allocator + Copy>(
+    alloc: A,
+    tree: &Tree<A>,
+    pass: Pass<A>,
+    parts: &Parts<A>,
     low: &[u32],
     high: &[u32],
-) -> Result<(Pass<Global>, Pass<Global>), NoMemory>
+) -> Result<(Pass<A>, Pass<A>), NoMemory>
     requires { AreReady tree.now parts.now (low.now ++ high.now) pass }
     ensures halves { IfOk result (λ parted. AreHalves parts.now low.now pass parted.0 parted.1) }
     ensures left { IfOk result (λ parted. AreReady tree.now parts.now low.now parted.0) }
@@ -134,11 +138,11 @@ fn halves(
 }
 
 // The keys of the parts of workers, ascending.
-pub(crate) fn keys_for(
-    alloc: Global,
-    parts: &Parts<Global>,
+pub(crate) fn keys_for<A: Allocator + Copy>(
+    alloc: A,
+    parts: &Parts<A>,
     workers: &[u32],
-) -> Result<Vec<u64>, NoMemory>
+) -> Result<Vec<u64, A>, NoMemory>
     requires { All (λ worker. worker < parts.now.workers) workers.now }
     ensures { IfOk result (λ keys. Lists (keys_for parts.now workers.now) keys.items) }
 {
@@ -155,11 +159,11 @@ pub(crate) fn keys_for(
 }
 
 // One pass of two that have come back from two rows of workers, and the pieces of both rows.
-fn both(
-    tree: &Tree<Global>,
-    first: (Pass<Global>, Vec<Piece>),
-    second: (Pass<Global>, Vec<Piece>),
-) -> Result<(Pass<Global>, Vec<Piece>), NoMemory>
+fn both<A: Allocator + Copy>(
+    tree: &Tree<A>,
+    first: (Pass<A>, Vec<Piece<A>, A>),
+    second: (Pass<A>, Vec<Piece<A>, A>),
+) -> Result<(Pass<A>, Vec<Piece<A>, A>), NoMemory>
     requires left { first.0.table ≡ tree.now.id }
     requires right { second.0.table ≡ tree.now.id }
     requires left_idle { IsIdle first.0 }

@@ -8,12 +8,12 @@ use Rattle.ell_run.proofs.Marks.{marks_none}
 use Rattle.ell_run.proofs.late.answered.Goals as goal
 
 pub loop-piece-init : goal.loop-piece-init
-loop-piece-init c =
+loop-piece-init g c =
     let fresh : c.in_ok-answered.answered.items ≡ replicate c.args.n false = search rules in
     rw fresh (record { count = length-replicate c.args.n false; marks = marks_none c.args.n })
 
 pub mark-requires : goal.mark-requires
-mark-requires c =
+mark-requires g c =
     let pieces = c.args.pieces.now in
     let i = c.loop-piece.piece-index in
     let piece : c.deref.result.now ≡ (get_or pieces i c.piece-item.result).items = c.deref.ensures.value ∙ ap (λ piece. piece.items) c.piece-item.is in
@@ -22,7 +22,7 @@ mark-requires c =
     (subst (All (λ item. item.0 < c.args.n)) (sym piece) (c.requires i c.piece-item.result c.loop-piece-test.true))
 
 pub loop-piece-preserved : goal.loop-piece-preserved
-loop-piece-preserved c =
+loop-piece-preserved g c =
     let pieces = c.args.pieces.now in
     let i = c.loop-piece.piece-index in
     let before = flat_map (λ piece. piece.items) (take i pieces) in
@@ -38,6 +38,6 @@ loop-piece-preserved c =
     })
 
 pub returns-clause-marks : goal.returns-clause-marks
-returns-clause-marks c =
+returns-clause-marks g c =
     subst (λ taken. AreMarks (flat_map (λ piece. piece.items) taken) c.loop-piece.answered.items)
     (take_all c.loop-piece.piece-index c.args.pieces.now c.loop-piece-test.false) c.loop-piece.invariant.marks

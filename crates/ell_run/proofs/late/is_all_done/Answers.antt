@@ -6,7 +6,7 @@ use Rattle.ell_run.specs.Pieces.{count_of}
 use Rattle.ell_run.proofs.late.is_all_done.Goals as goal
 
 pub loop-worker-preserved : goal.loop-worker-preserved
-loop-worker-preserved c = λ worker below.
+loop-worker-preserved g c = λ worker below.
     let parting = c.args.parts.now in
     let pieces = c.args.pieces.now in
     let here = c.loop-worker.worker in
@@ -23,7 +23,7 @@ loop-worker-preserved c = λ worker below.
     (cases_eq worker here)
 
 pub returns-clause-done : goal.returns-clause-done
-returns-clause-done c = λ yes worker below.
+returns-clause-done g c = λ yes worker below.
     let end = c.workers-worker-end.ensures.value in
     let past = c.loop-worker-test.false in
     c.loop-worker.invariant worker (omega arith)

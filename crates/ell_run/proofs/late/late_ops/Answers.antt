@@ -8,7 +8,7 @@ use Rattle.ell_run.proofs.late.late_ops.Goals.{then-not-index+in_ok-push, else-n
 use Rattle.ell_run.proofs.late.late_ops.Goals as goal
 
 pub loop-at-preserved : goal.loop-at-preserved
-loop-at-preserved c =
+loop-at-preserved g c =
     let ops = c.args.ops.now in
     let items = flat_map (λ piece. piece.items) c.args.pieces.now in
     let marks = c.in_ok-answered.answered.items in
@@ -27,18 +27,18 @@ loop-at-preserved c =
     ]
 
 pub is_all_done-requires : goal.is_all_done-requires
-is_all_done-requires c = one_each (λ piece. piece.items) c.args.parts.now c.args.pieces.now c.requires.pieces
+is_all_done-requires g c = one_each (λ piece. piece.items) c.args.parts.now c.args.pieces.now c.requires.pieces
 
 pub returns-then-is_all_done : goal.returns-then-is_all_done
-returns-then-is_all_done c =
+returns-then-is_all_done g c =
     c.new-late.ensures.items
     ∙ nothing_late (λ piece. piece.items) c.args.parts.now c.args.pieces.now c.requires.pieces c.is_all_done.ensures.lawful (c.is_all_done.ensures.done c.if-is_all_done.true)
     ∙ ap (λ ops. late_ops ops (flat_map (λ piece. piece.items) c.args.pieces.now)) c.requires.parted
 
 pub answered-requires : goal.answered-requires
-answered-requires c =
+answered-requires g c =
     subst (λ ops. All (λ piece. All (λ item. item.0 < length ops) piece.items) c.args.pieces.now) c.requires.parted
     (all_within (λ piece. piece.items) c.args.parts.now c.args.pieces.now c.requires.pieces)
 
 pub returns : goal.returns
-returns c = c.loop-at.invariant ∙ late_whole c.args.ops.now (flat_map (λ piece. piece.items) c.args.pieces.now) c.loop-at.at c.loop-at-test.false
+returns g c = c.loop-at.invariant ∙ late_whole c.args.ops.now (flat_map (λ piece. piece.items) c.args.pieces.now) c.loop-at.at c.loop-at-test.false

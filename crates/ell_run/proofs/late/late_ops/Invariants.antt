@@ -5,4 +5,4 @@ use Rattle.ell_run.proofs.late.late_ops.Given as goal
 
 -- the operations so far that no item answers
 abbrev pub invariant-loop-at : goal.invariant-loop-at
-invariant-loop-at l = l.late.items ≡ late_so_far l.ops (flat_map (λ piece. piece.items) l.pieces) l.at
+invariant-loop-at g l = l.late.items ≡ late_so_far l.ops (flat_map (λ piece. piece.items) l.pieces) l.at

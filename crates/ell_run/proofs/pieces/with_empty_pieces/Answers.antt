@@ -7,7 +7,7 @@ use Rattle.ell_run.proofs.pieces.with_empty_pieces.Goals.{then-is_empty+in_ok-in
 use Rattle.ell_run.proofs.pieces.with_empty_pieces.Goals as goal
 
 pub loop-worker-init : goal.loop-worker-init
-loop-worker-init c =
+loop-worker-init g c =
     let parting = c.args.parts.now in
     record {
       count = c.requires ∙ ap length (sym (mixed_none parting));
@@ -15,10 +15,10 @@ loop-worker-init c =
     }
 
 pub insert-requires : goal.insert-requires
-insert-requires c = let count = c.loop-worker.invariant.count in omega (arith, mixed_room c.args.parts.now c.loop-worker.worker)
+insert-requires g c = let count = c.loop-worker.invariant.count in omega (arith, mixed_room c.args.parts.now c.loop-worker.worker)
 
 pub loop-worker-preserved : goal.loop-worker-preserved
-loop-worker-preserved c =
+loop-worker-preserved g c =
     let parting = c.args.parts.now in
     let worker = c.loop-worker.worker in
     let ps = c.loop-worker.pieces.items in
@@ -52,7 +52,7 @@ loop-worker-preserved c =
     ]
 
 pub returns : goal.returns
-returns c = λ before after h.
+returns g c = λ before after h.
     let parting = c.args.parts.now in
     let end = c.workers-worker-end.ensures.value in
     let past = c.loop-worker-test.false in

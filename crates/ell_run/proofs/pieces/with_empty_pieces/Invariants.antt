@@ -7,7 +7,7 @@ use Rattle.ell_run.proofs.pieces.with_empty_pieces.Given as goal
 
 -- the workers so far have their pieces, and the busy ones from here on
 abbrev pub invariant-loop-worker : goal.invariant-loop-worker
-invariant-loop-worker l = record {
+invariant-loop-worker g l = record {
   count : length l.pieces.items ≡ length (mixed l.parts l.worker);
   worked : (before after : PassModel) → IsWorked l.parts (busy l.parts) before after (map (λ piece. piece.items) l.initial.pieces.items) →
       IsWorked l.parts (mixed l.parts l.worker) before after (map (λ piece. piece.items) l.pieces.items);

@@ -11,7 +11,7 @@ use Rattle.ell_run.proofs.Replies.{AreAnswers, only_memory, gathered}
 use Rattle.ell_run.proofs.runs.finish.Goals as goal
 
 pub only_memory-requires : goal.only_memory-requires
-only_memory-requires c =
+only_memory-requires g c =
     let parting = c.args.parts.now in
     let late = late_here (λ piece. piece.items) parting c.args.ops.now c.args.pieces.items c.deref.result.now c.in_ok-late.late.items
     c.requires.parted c.deref.ensures.value c.in_ok-late.ensures in
@@ -24,7 +24,7 @@ only_memory-requires c =
     only_memory parting.ops items answers c.in-Err.fault (subst (λ n. IsFault n items c.in-Err.fault) c.len.ensures.value c.in-Err.ensures.fault)
 
 pub returns-clause-replies : goal.returns-clause-replies
-returns-clause-replies c =
+returns-clause-replies g c =
     let parting = c.args.parts.now in
     let late = late_here (λ piece. piece.items) parting c.args.ops.now c.args.pieces.items c.deref.result.now c.in_ok-late.late.items
     c.requires.parted c.deref.ensures.value c.in_ok-late.ensures in
@@ -38,7 +38,7 @@ returns-clause-replies c =
     ∙ ap (replies empty) c.requires.parted
 
 pub returns-clause-keys : goal.returns-clause-keys
-returns-clause-keys c =
+returns-clause-keys g c =
     let parting = c.args.parts.now in
     let late = late_here (λ piece. piece.items) parting c.args.ops.now c.args.pieces.items c.deref.result.now c.in_ok-late.late.items
     c.requires.parted c.deref.ensures.value c.in_ok-late.ensures in
@@ -50,7 +50,7 @@ returns-clause-keys c =
     c.in_ok-piece.ensures.keys
 
 pub returns-clause-late : goal.returns-clause-late
-returns-clause-late c =
+returns-clause-late g c =
     let same = ap length c.in_ok-late.ensures in
     let value = c.len-2.ensures in
     omega (arith, few_late c.args.ops.now (flat_map (λ piece. piece.items) c.deref.result.now))

@@ -5,7 +5,7 @@ use Rattle.ell_run.proofs.Halves.{worked_both}
 use Rattle.ell_run.proofs.workers.both.Goals as goal
 
 pub returns-in-Ok : goal.returns-in-Ok
-returns-in-Ok c = λ parting low high pass left right ready halves first second.
+returns-in-Ok g c = λ parting low high pass left right ready halves first second.
     subst (IsWorked parting (low ++ high) pass c.in-Ok.pass)
     (sym (ap (map (λ piece. piece.items)) c.in_ok-append.ensures.items ∙ map-append (λ piece. piece.items) c.args.first.1.items c.args.second.1.items))
     (worked_both c.args.tree.now parting low high pass left right ready halves c.args.first.0 c.args.second.0 c.in-Ok.pass

@@ -4,7 +4,7 @@ use Rattle.ell_run.proofs.workers.busy_workers.Goals.{then-not-is_empty+in_ok-pu
 use Rattle.ell_run.proofs.workers.busy_workers.Goals as goal
 
 pub loop-worker-preserved : goal.loop-worker-preserved
-loop-worker-preserved c =
+loop-worker-preserved g c =
     let parting = c.args.parts.now in
     let worker = c.loop-worker.worker in
     elim c.if-not-is_empty.branch [

@@ -6,4 +6,4 @@ use Rattle.ell_run.proofs.workers.busy_workers.Given as goal
 
 -- the workers so far are those with something to do among the first
 abbrev pub invariant-loop-worker : goal.invariant-loop-worker
-invariant-loop-worker l = l.workers.items ≡ filter (λ worker. nat_lt 0 (length (part l.parts worker))) (range_with_len 0 l.worker)
+invariant-loop-worker g l = l.workers.items ≡ filter (λ worker. nat_lt 0 (length (part l.parts worker))) (range_with_len 0 l.worker)

@@ -6,12 +6,12 @@ use Rattle.ell_run.proofs.Halves.{keys_owned, ready_left, ready_right}
 use Rattle.ell_run.proofs.workers.halves.Goals as goal
 
 pub split-requires-clause-owned : goal.split-requires-clause-owned
-split-requires-clause-owned c =
+split-requires-clause-owned g c =
     subst (All (λ key. Owns c.args.pass key)) (sym c.deref.ensures.value)
     (keys_owned c.args.tree.now c.args.parts.now c.args.low.now c.args.high.now c.args.pass c.in_ok-keys.keys.items c.requires c.in_ok-keys.ensures)
 
 pub returns-in-Ok-clause-left : goal.returns-in-Ok-clause-left
-returns-in-Ok-clause-left c =
+returns-in-Ok-clause-left g c =
     ready_left c.args.tree.now c.args.parts.now c.args.low.now c.args.high.now c.args.pass c.in-Ok.parted.0 c.in-Ok.parted.1 c.requires (record {
       keys = c.deref.result.now;
       listed = subst (Lists (keys_for c.args.parts.now c.args.low.now)) (sym c.deref.ensures.value) c.in_ok-keys.ensures;
@@ -20,7 +20,7 @@ returns-in-Ok-clause-left c =
     })
 
 pub returns-in-Ok-clause-right : goal.returns-in-Ok-clause-right
-returns-in-Ok-clause-right c =
+returns-in-Ok-clause-right g c =
     ready_right c.args.tree.now c.args.parts.now c.args.low.now c.args.high.now c.args.pass c.in-Ok.parted.0 c.in-Ok.parted.1 c.requires (record {
       keys = c.deref.result.now;
       listed = subst (Lists (keys_for c.args.parts.now c.args.low.now)) (sym c.deref.ensures.value) c.in_ok-keys.ensures;
