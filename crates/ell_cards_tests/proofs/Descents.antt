@@ -17,7 +17,7 @@ use Rattle.ell_cards_tests.specs.declared.searching.Place.{Place}
 use Rattle.ell_cards_tests.specs.Keeping.{Keeps}
 use Rattle.ell_cards_tests.specs.Places.{EndsAt, seen, seen_any}
 
--- it stands at the child then, and has met it
+-- after a step down the pass stands at the child, and has met it
 pub child_met : (a b : PassModel) (x child : ℕ) → Steps a b (after_down x child a.view) → StandsAt b.view child × IsTold b.view (Met child)
 child_met a b x child s =
     subst (λ (w : View). StandsAt w child × IsTold w (Met child)) (sym (view_after a b (after_down x child a.view) s)) (refl, latest _ _)

@@ -11,7 +11,11 @@ use std::alloc::Allocator;
 
 /// Reads the key of a node that the pass has met.
 #[tactic(auto, using(ell_cards::proofs::views::Steps::key_told))]
-pub(crate) fn look_key<A: Allocator + Copy>(table: &CardTable<A>, pass: &mut Pass<A>, node: u64) -> u64
+pub(crate) fn look_key<A: Allocator + Copy>(
+    table: &CardTable<A>,
+    pass: &mut Pass<A>,
+    node: u64,
+) -> u64
     requires own { pass.old.table ≡ table.now.id }
     requires met { IsTold pass.old.view (Met node) }
     ensures aside { StepsAside pass.old pass.new }

@@ -128,7 +128,12 @@ pub fn finish_delete<A: Allocator + Copy>(
 }
 
 /// Tries once to delete a key that the pass owns.
-pub fn delete<A: Allocator + Copy>(table: &CardTable<A>, pass: &mut Pass<A>, cards: u64, key: u64) -> Tried
+pub fn delete<A: Allocator + Copy>(
+    table: &CardTable<A>,
+    pass: &mut Pass<A>,
+    cards: u64,
+    key: u64,
+) -> Tried
     requires own { pass.old.table ≡ table.now.id }
     requires cards { cards ≡ table.now.cards }
     requires limit { cards ≤ greatest_card }

@@ -12,7 +12,11 @@ use ell_core::Field;
 use std::alloc::Allocator;
 
 /// Makes the child exchange of an insert's card: whether it won.
-pub(crate) fn change_child<A: Allocator + Copy>(table: &CardTable<A>, pass: &mut Pass<A>, card: u64) -> bool
+pub(crate) fn change_child<A: Allocator + Copy>(
+    table: &CardTable<A>,
+    pass: &mut Pass<A>,
+    card: u64,
+) -> bool
     requires own { pass.old.table ≡ table.now.id }
     requires knows { Knows pass.old.view (fact.IFlagged card) }
     ensures aside { StepsAside pass.old pass.new }
@@ -27,7 +31,11 @@ pub(crate) fn change_child<A: Allocator + Copy>(table: &CardTable<A>, pass: &mut
 }
 
 /// Takes an insert's flag away: whether it won.
-pub(crate) fn clear_insert<A: Allocator + Copy>(table: &CardTable<A>, pass: &mut Pass<A>, card: u64) -> bool
+pub(crate) fn clear_insert<A: Allocator + Copy>(
+    table: &CardTable<A>,
+    pass: &mut Pass<A>,
+    card: u64,
+) -> bool
     requires own { pass.old.table ≡ table.now.id }
     requires knows { Knows pass.old.view (fact.IChanged card) }
     requires card { KnowsCard pass.old.view card }
@@ -39,7 +47,11 @@ pub(crate) fn clear_insert<A: Allocator + Copy>(table: &CardTable<A>, pass: &mut
 }
 
 /// Makes the child exchange of a delete's card: whether it won.
-pub(crate) fn cut_parent<A: Allocator + Copy>(table: &CardTable<A>, pass: &mut Pass<A>, card: u64) -> bool
+pub(crate) fn cut_parent<A: Allocator + Copy>(
+    table: &CardTable<A>,
+    pass: &mut Pass<A>,
+    card: u64,
+) -> bool
     requires own { pass.old.table ≡ table.now.id }
     requires knows { Knows pass.old.view (fact.Marked card) }
     ensures aside { StepsAside pass.old pass.new }
@@ -58,7 +70,11 @@ pub(crate) fn cut_parent<A: Allocator + Copy>(table: &CardTable<A>, pass: &mut P
 }
 
 /// Takes a delete's flag away after its child exchange: whether it won.
-pub(crate) fn clear_delete<A: Allocator + Copy>(table: &CardTable<A>, pass: &mut Pass<A>, card: u64) -> bool
+pub(crate) fn clear_delete<A: Allocator + Copy>(
+    table: &CardTable<A>,
+    pass: &mut Pass<A>,
+    card: u64,
+) -> bool
     requires own { pass.old.table ≡ table.now.id }
     requires knows { Knows pass.old.view (fact.Cut card) }
     requires card { KnowsCard pass.old.view card }
@@ -70,7 +86,11 @@ pub(crate) fn clear_delete<A: Allocator + Copy>(table: &CardTable<A>, pass: &mut
 }
 
 /// Takes a delete's flag away after its lost mark: whether it won.
-pub(crate) fn go_back<A: Allocator + Copy>(table: &CardTable<A>, pass: &mut Pass<A>, card: u64) -> bool
+pub(crate) fn go_back<A: Allocator + Copy>(
+    table: &CardTable<A>,
+    pass: &mut Pass<A>,
+    card: u64,
+) -> bool
     requires own { pass.old.table ≡ table.now.id }
     requires knows { Knows pass.old.view (fact.Unmarkable card) }
     requires card { KnowsCard pass.old.view card }

@@ -66,7 +66,12 @@ pub fn finish_insert<A: Allocator + Copy>(
 }
 
 /// Tries once to insert a key that the pass owns.
-pub fn insert<A: Allocator + Copy>(table: &CardTable<A>, pass: &mut Pass<A>, cards: u64, key: u64) -> Tried
+pub fn insert<A: Allocator + Copy>(
+    table: &CardTable<A>,
+    pass: &mut Pass<A>,
+    cards: u64,
+    key: u64,
+) -> Tried
     requires own { pass.old.table ≡ table.now.id }
     requires cards { cards ≡ table.now.cards }
     requires limit { cards ≤ greatest_card }

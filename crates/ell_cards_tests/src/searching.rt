@@ -56,7 +56,12 @@ pub fn search<A: Allocator + Copy>(table: &CardTable<A>, pass: &mut Pass<A>, op:
 }
 
 // Goes down from an internal node: what it read there, and the child.
-fn descend<A: Allocator + Copy>(table: &CardTable<A>, pass: &mut Pass<A>, op: Op, node: u64) -> (Passed, u64)
+fn descend<A: Allocator + Copy>(
+    table: &CardTable<A>,
+    pass: &mut Pass<A>,
+    op: Op,
+    node: u64,
+) -> (Passed, u64)
     requires own { pass.old.table ≡ table.now.id }
     requires busy { Does pass.old.view op }
     requires stands { StandsAt pass.old.view node }

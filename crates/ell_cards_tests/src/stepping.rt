@@ -83,7 +83,11 @@ fn begin<A: Allocator + Copy>(
     Some(Stepped::Moved)
 }
 
-fn upd<A: Allocator + Copy>(table: &CardTable<A>, pass: &mut Pass<A>, memory: &mut Memory) -> Option<Stepped>
+fn upd<A: Allocator + Copy>(
+    table: &CardTable<A>,
+    pass: &mut Pass<A>,
+    memory: &mut Memory,
+) -> Option<Stepped>
     requires { IsReady table.now pass.old memory.old }
     ensures { IsReady table.now pass.new memory.new }
 {
@@ -97,7 +101,11 @@ fn upd<A: Allocator + Copy>(table: &CardTable<A>, pass: &mut Pass<A>, memory: &m
     Some(Stepped::Moved)
 }
 
-fn down<A: Allocator + Copy>(table: &CardTable<A>, pass: &mut Pass<A>, memory: &mut Memory) -> Option<Stepped>
+fn down<A: Allocator + Copy>(
+    table: &CardTable<A>,
+    pass: &mut Pass<A>,
+    memory: &mut Memory,
+) -> Option<Stepped>
     requires { IsReady table.now pass.old memory.old }
     ensures { IsReady table.now pass.new memory.new }
 {
@@ -126,7 +134,11 @@ fn may_stop(memory: &Memory) -> bool
     }
 }
 
-fn again<A: Allocator + Copy>(table: &CardTable<A>, pass: &mut Pass<A>, memory: &mut Memory) -> Option<Stepped>
+fn again<A: Allocator + Copy>(
+    table: &CardTable<A>,
+    pass: &mut Pass<A>,
+    memory: &mut Memory,
+) -> Option<Stepped>
     requires { IsReady table.now pass.old memory.old }
     ensures { IsReady table.now pass.new memory.new }
 {
@@ -139,7 +151,11 @@ fn again<A: Allocator + Copy>(table: &CardTable<A>, pass: &mut Pass<A>, memory: 
     Some(Stepped::Moved)
 }
 
-fn leave<A: Allocator + Copy>(table: &CardTable<A>, pass: &mut Pass<A>, memory: &mut Memory) -> Option<Stepped>
+fn leave<A: Allocator + Copy>(
+    table: &CardTable<A>,
+    pass: &mut Pass<A>,
+    memory: &mut Memory,
+) -> Option<Stepped>
     requires { IsReady table.now pass.old memory.old }
     ensures { IsReady table.now pass.new memory.new }
 {

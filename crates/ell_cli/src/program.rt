@@ -18,7 +18,7 @@ use std::alloc::Global;
 use std::convert::AsStr;
 use std::error::Error;
 use std::fmt;
-use std::io::{Read, Write};
+use std::io::{self, Cursor, Read, Write};
 use std::thread::Threads;
 
 // Success, or help was asked for.
@@ -34,6 +34,9 @@ const TRANSFER_FAILED: u8 = 4;
 
 /// The exit status where the arguments could not be taken.
 pub const ARGUMENTS_NOT_TAKEN: u8 = OUT_OF_MEMORY;
+
+// The most bytes of a text that go to standard error together.
+const TEXT_MAX: usize = 1024;
 
 // Why the program ends with another status than 0.
 #[derive(Debug, Drop)]
@@ -125,7 +128,7 @@ pub fn elltree<R: Threads + Sync, S: AsStr, I: Read, O: Write, E: Write>(
     match outcome(rt, alloc, words, input, out, err) {
         Ok(()) => SUCCEEDED,
         Err(failure) => {
-            let _ = write!(err, "{failure}");
+            let _ = tell(&failure, err);
             failure.status()
         }
     }
@@ -164,13 +167,25 @@ fn outcome<R: Threads + Sync, S: AsStr, I: Read, O: Write, E: Write>(
         Ok(Request::Run { settings, report }) => {
             let told = run_bytes(rt, alloc, input, out, settings).map_err(Failure::Run)?;
             if report {
-                let _ = writeln!(err, "late {}", told.late);
+                let _ = tell(&format_args!("late {}\n", told.late), err);
             }
         }
         Ok(Request::Replay) => replay_bytes(alloc, input, out).map_err(Failure::Replay)?,
         Err(error) => show_help(error, out)?,
     }
     out.flush().map_err(|_| Failure::Write)
+}
+
+// Writes a text that is to go out in one write, as a fault's line is: so it does where it has at most `TEXT_MAX` bytes, and the
+// writer takes them all at once.
+fn tell<D: fmt::Display, E: Write>(text: &D, err: &mut E) -> io::Result<()> {
+    let mut whole = Cursor::new([0; TEXT_MAX]);
+    let written = write!(whole, "{text}");
+    let count = whole.position() as usize;
+    match (written, whole.get_ref().get(..count)) {
+        (Ok(()), Some(bytes)) => err.write_all(bytes),
+        _ => write!(err, "{text}"),
+    }
 }
 
 // Writes the help that the words asked for; any other error is a failure.

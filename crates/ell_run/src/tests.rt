@@ -5,9 +5,6 @@ use ell_parts::Parts;
 use ell_word::NoGate;
 use std::test::Fail;
 
-mod meeting;
-mod threads;
-
 const EIGHT_KEYS: &[u8] =
     b"insert 1\ninsert 2\ninsert 3\ninsert 4\ninsert 5\ninsert 6\ninsert 7\ninsert 8\ndelete 2\ndelete 4\ndelete 6\ndelete 8\n";
 

@@ -1,5 +1,5 @@
 //! Whole runs, from bytes to bytes.
-use super::streams::{Broken, Narrow};
+use super::streams::{Broken, Counting, Narrow};
 use crate::program::elltree;
 use std::alloc::{AllocError, Global};
 use std::test::Fail;
@@ -84,6 +84,59 @@ fn a_full_writer_ends_the_run(rt: HostRuntime) {
         err.as_slice(),
         b"elltree: write failed after 5 bytes\n".as_slice()
     );
+}
+
+#[test]
+fn a_flush_that_fails_ends_the_run(rt: HostRuntime) {
+    let mut out = Narrow::new(rt.alloc(), usize::MAX, false);
+    let mut err = Vec::new(rt.alloc());
+    let mut input = FOUR_LINES;
+    let status = elltree(&rt, rt.alloc(), &["run"], &mut input, &mut out, &mut err);
+    assert_eq!(rt; status, 4);
+    assert_eq!(rt;
+        out.held.as_slice(),
+        b"yes\nyes\nyes\nno\nkeys 0\n".as_slice()
+    );
+    assert_eq!(rt; err.as_slice(), b"elltree: write failed\n".as_slice());
+}
+
+#[test]
+fn a_line_on_standard_error_is_one_write(rt: HostRuntime) {
+    let cases: [(&str, &[u8], &str); 6] = [
+        ("run", b"walk 5\n", "elltree: line 1: not an operation\n"),
+        ("run", b"insert 007\n", "elltree: line 1: not a key\n"),
+        ("run", FOUR_LINES, "elltree: write failed after 5 bytes\n"),
+        ("replay", b"workers 2\n", "elltree: replay ends too early\n"),
+        (
+            "replay",
+            b"workers 2\ncards 0\n",
+            "elltree: line 2: not a number in range\n",
+        ),
+        (
+            "replay",
+            b"workers 2\ncards 4\nown 2 5\n",
+            "elltree: no such worker\n",
+        ),
+    ];
+    for (word, text, fault) in cases {
+        let mut out = Narrow::new(rt.alloc(), 5, true);
+        let mut err = Counting::new(rt.alloc());
+        elltree(&rt, rt.alloc(), &[word], &mut &*text, &mut out, &mut err);
+        assert_eq!(rt; err.held.as_slice(), fault.as_bytes(), "at {text:?}");
+        assert_eq!(rt; err.writes, 1, "at {text:?}");
+    }
+}
+
+#[test]
+fn a_report_is_one_write(rt: HostRuntime) {
+    let mut out = Vec::new(rt.alloc());
+    let mut err = Counting::new(rt.alloc());
+    let mut input = FOUR_LINES;
+    let words = ["run", "--report"];
+    let status = elltree(&rt, rt.alloc(), &words, &mut input, &mut out, &mut err);
+    assert_eq!(rt; status, 0);
+    assert_eq!(rt; err.held.as_slice(), b"late 0\n".as_slice());
+    assert_eq!(rt; err.writes, 1);
 }
 
 fn repeated(alloc: Global, line: &[u8], count: usize) -> Result<Vec<u8>, AllocError> {

@@ -1,4 +1,4 @@
-//! Readers and writers that fail.
+//! Readers and writers that fail, and a writer that counts its calls.
 use std::alloc::Global;
 use std::io::{Error, ErrorKind, Read, Result, Write};
 
@@ -37,6 +37,34 @@ impl Write for Narrow {
         } else {
             Err(Error::from(ErrorKind::StorageFull))
         }
+    }
+}
+
+// A writer that takes all it is given, and counts the writes.
+#[derive(Drop)]
+pub(super) struct Counting {
+    pub(super) held: Vec<u8>,
+    pub(super) writes: u64,
+}
+
+impl Counting {
+    pub(super) fn new(alloc: Global) -> Counting {
+        Counting {
+            held: Vec::new(alloc),
+            writes: 0,
+        }
+    }
+}
+
+impl Write for Counting {
+    fn write(&mut self, buf: &[u8]) -> Result<usize> {
+        self.writes = self.writes.saturating_add(1);
+        self.held.extend_from_slice(buf)?;
+        Ok(buf.len())
+    }
+
+    fn flush(&mut self) -> Result<()> {
+        Ok(())
     }
 }
 

@@ -1,5 +1,4 @@
 //! The texts of replays, written by hand.
-use super::writing::{Limited, WhenFull};
 use crate::{ReplayFault, ScriptFault, replay_bytes, write_trace};
 use ell_core::{CoreFault, Shown, Stepped};
 use std::test::Fail;
@@ -85,19 +84,6 @@ fn faults_before_a_trace(rt: HostRuntime) -> Result<(), Fail> {
         assert_eq!(rt; result, Err(fault));
         assert!(rt; out.is_empty());
         assert_eq!(rt; fault.to_string(rt.alloc())?.as_str(), said);
-    }
-    Ok(())
-}
-
-#[test]
-fn a_trace_cut_short(rt: HostRuntime) -> Result<(), Fail> {
-    for room in 0..TWO_INSERTS_TRACE.len() {
-        let mut out = Limited::new(rt.alloc(), room, usize::MAX, WhenFull::TakesNothing);
-        let mut reader = TWO_INSERTS;
-        let result = replay_bytes(rt.alloc(), &mut reader, &mut out);
-        let written = room as u64;
-        assert_eq!(rt; result, Err(ScriptFault::Write { written }));
-        assert_eq!(rt; out.taken.as_slice(), &TWO_INSERTS_TRACE[..room]);
     }
     Ok(())
 }

@@ -11,15 +11,15 @@ const YES_YES_YES_NO: [bool; 4] = [true, true, true, false];
 
 // What a full writer answers.
 #[derive(Clone, Copy)]
-pub(super) enum WhenFull {
+enum WhenFull {
     Interrupted,
     TakesNothing,
 }
 
 // A writer that takes so many bytes in all, and so many at a call.
 #[derive(Drop)]
-pub(super) struct Limited {
-    pub(super) taken: Vec<u8>,
+struct Limited {
+    taken: Vec<u8>,
     room: usize,
     per_call: usize,
     when_full: WhenFull,
@@ -27,7 +27,7 @@ pub(super) struct Limited {
 }
 
 impl Limited {
-    pub(super) fn new(alloc: Global, room: usize, per_call: usize, when_full: WhenFull) -> Self {
+    fn new(alloc: Global, room: usize, per_call: usize, when_full: WhenFull) -> Self {
         Limited {
             taken: Vec::new(alloc),
             room,

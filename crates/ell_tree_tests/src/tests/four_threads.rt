@@ -3,9 +3,9 @@ ghost use Rattle.std.specs.Prelude.{◌≡◌, IfOk};
 ghost use Rattle.ell_tree.specs.Ledgers.{IsIdle};
 
 use super::asking::{ask, close};
-use super::dice::Dice;
 use super::keys::{KEYS, PlainSet, apply_plainly, keys_below, keys_of};
 use ell_ops::Op;
+use ell_test_gates::Dice;
 use ell_tree::{Held, Pass, Tree};
 use ell_word::NoGate;
 use std::alloc::Global;

@@ -2,9 +2,8 @@
 ghost use Rattle.std.specs.Prelude.{◌≤◌};
 
 use super::asking::{Row, close, play};
-use super::holding::Holding;
-use super::meeting::two_threads_meet;
 use ell_ops::Op::{Delete, Insert};
+use ell_test_gates::{Holding, two_threads_meet};
 use ell_tree::{Held, Tree};
 use ell_word::{Kind, NoGate};
 use std::process::Abort;
@@ -50,7 +49,7 @@ fn cross<R: Threads + Abort + AllocGlobal + Sync>(rt: &R, crossing: Crossing) ->
         move || play(rt, shared, seven, tries, told, &[right]),
     );
     assert!(rt; gate.has_held());
-    assert_eq!(rt; gate.has_answered(), right.1.is_ok());
+    assert_eq!(rt; gate.answered() == 1, right.1.is_ok());
     let Ok(both) = tree.join(five, seven) else {
         return Err("no memory")?;
     };

@@ -1,0 +1,36 @@
+//! Texts with their answers, which a person worked out, and the two calls that turn the one into the other.
+use ell_run::{Parting, Report, RunFault, Settings, run_bytes};
+use std::alloc::Global;
+use std::io::{Read, Write};
+use std::thread::Threads;
+
+/// One key comes and goes: 32 bytes.
+pub(super) const ONE_KEY: &[u8] = b"insert 5\nfind 5\ndelete 5\nfind 5\n";
+
+/// The answer to that, of 22 bytes.
+pub(super) const ONE_KEY_ANSWER: &[u8] = b"yes\nyes\nyes\nno\nkeys 0\n";
+
+/// Two inserts meet at the root: worker 0 flags it, and worker 1 does not.
+pub(super) const TWO_INSERTS: &[u8] = b"workers 2\ncards 4\nown 0 5\nown 1 7\n\
+    0 begin insert 5\n0 upd\n0 down\n1 begin insert 7\n1 upd\n1 down\n\
+    0 claim\n1 claim\n0 iflag\n1 iflag\n1 ichild 2\n";
+
+/// The trace of that, of 79 bytes.
+pub(super) const TWO_INSERTS_TRACE: &[u8] =
+    b"moved\nmoved\nmoved\nmoved\nmoved\nmoved\nmoved\nmoved\nwon\nlost\nrefused NotNow\nkeys 0\n";
+
+/// Runs a bulk text as the command does where it is told nothing else.
+pub(super) fn run<R: Threads + Sync, I: Read, O: Write>(
+    rt: &R,
+    alloc: Global,
+    reader: &mut I,
+    writer: &mut O,
+) -> Result<Report, RunFault> {
+    let settings = Settings {
+        workers: 4,
+        parting: Parting::Stripe,
+        cards: None,
+        tries: 1000,
+    };
+    run_bytes(rt, alloc, reader, writer, settings)
+}
