@@ -1,5 +1,6 @@
 //! Each call that may want memory, on an allocator that refuses it one growth after the other.
 mod cards;
+mod halves;
 mod lists;
 mod passes;
 mod refusing;
