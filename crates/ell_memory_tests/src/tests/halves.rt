@@ -54,6 +54,7 @@ fn told_without_memory<R: Threads + Abort + AllocGlobal + Sync>(
         growths: number,
     };
     let gate = Counting::new(rt.alloc(), 2, waiting)?;
+    assert!(rt; OPS.iter().all(|op| pass.owns(op.key())));
     heap.refuse(Refusal::At(number));
     let worked = work(rt, &heap, &tree, pass, &parts, 8, &gate);
     Ok(match worked {
