@@ -1,6 +1,5 @@
 //! Tables as a person worked them out.
 mod lifetimes;
-mod meeting;
 mod parting;
 mod playing;
 mod random_schedules;

@@ -37,6 +37,20 @@ pub enum Field {
 const WORDS_PER_CARD: u64 = 10;
 
 impl Field {
+    /// The fields, in the order of their places.
+    pub const ALL: [Field; 10] = [
+        Field::Gp,
+        Field::P,
+        Field::L,
+        Field::Was,
+        Field::Key,
+        Field::Left,
+        Field::Right,
+        Field::Update,
+        Field::LeftLeafKey,
+        Field::RightLeafKey,
+    ];
+
     // The place of the field among the words of its card.
     fn place(self) -> u64
         ensures { result ≡ place self }

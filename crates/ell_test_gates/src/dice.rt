@@ -1,5 +1,6 @@
 //! Pseudo-random operations.
-ghost use Rattle.std.specs.Prelude.{◌≤◌, ◌<◌};
+ghost use Rattle.std.specs.Prelude.{◌≡◌, ◌≤◌, ◌<◌};
+ghost use Rattle.ell_ops.specs.Meaning.{key_of};
 
 use ell_ops::Op;
 
@@ -27,7 +28,9 @@ impl Dice {
     }
 
     /// A find, an insert or a delete of a key.
-    pub fn operation(&mut self, key: u64) -> Op {
+    pub fn operation(&mut self, key: u64) -> Op
+        ensures { key_of result ≡ key }
+    {
         match self.below(3) {
             0 => Op::Find(key),
             1 => Op::Insert(key),

@@ -13,7 +13,7 @@ use Rattle.ell_core.specs.history.Later.{SaysTheSame}
 use Rattle.ell_core.specs.statements.StepLaws.{GoesInTree}
 use Rattle.ell_core.proofs.following.Reliance.{may_rely}
 use Rattle.ell_core.proofs.following.Sound.{sound}
-use Rattle.ell_core.proofs.following.WaitingCards.{flagged_settled, hand_claimed}
+use Rattle.ell_core.proofs.following.waiting.Cards.{flagged_settled, hand_claimed}
 use Rattle.ell_cards.proofs.own_words.OwnTree.{update_same, reached_same, reached_born, finds_same, joins_same, keys_same, lawful_same}
 use Rattle.ell_cards.proofs.own_words.OwnCards.{allowed_settled, allowed_claimed, phase_same, place_same, fact_same, effective_same}
 

@@ -11,7 +11,7 @@ use Rattle.ell_core.specs.statements.StepLaws.{SameKeys}
 use Rattle.ell_core.proofs.words.Listed.{words_are_listed, listed_next}
 use Rattle.ell_core.proofs.following.Reliance.{may_rely}
 use Rattle.ell_core.proofs.following.Sound.{sound}
-use Rattle.ell_core.proofs.following.WaitingCards.{flagged_settled}
+use Rattle.ell_core.proofs.following.waiting.Cards.{flagged_settled}
 use Rattle.ell_core.proofs.stages.Waiting.{born-settled}
 use Rattle.ell_cards.specs.declared.view.View.{View}
 use Rattle.ell_cards.specs.Models.{KnowsCard}

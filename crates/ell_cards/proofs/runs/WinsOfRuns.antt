@@ -7,7 +7,7 @@ use Rattle.ell_core.specs.state.Machine.{Machine}
 use Rattle.ell_core.specs.acts.Runs.{Run}
 use Rattle.ell_core.specs.history.Later.{wins_of}
 use Rattle.ell_core.specs.statements.RunLaws.{InOrder}
-use Rattle.ell_core.proofs.following.ClaimedFacts.{not_claimed}
+use Rattle.ell_core.proofs.following.facts.Claimed.{not_claimed}
 use Rattle.ell_core.proofs.runs.Wins.{stage_wins}
 use Rattle.ell_core.proofs.words.Listed.{listed_next}
 use Rattle.ell_core.proofs.stages.Waiting.{unclaimed-wins}

@@ -29,7 +29,7 @@ use Rattle.ell_cards.specs.Rule.{TableState, seat_worker, seated, EntryHolds, Vi
 use Rattle.ell_cards.specs.Calls.{word_of, atomic_of, left_by, act_of, said_of, Becomes, Tells}
 use Rattle.ell_cards.specs.Laws.{found_by, view_after, state_after, IsEvent}
 use Rattle.ell_core.proofs.stages.Waiting.{waits-kind, waits-wins, kind-waits}
-use Rattle.ell_core.proofs.following.WaitingCards.{hand_waits}
+use Rattle.ell_core.proofs.following.waiting.Cards.{hand_waits}
 use Rattle.ell_cards.proofs.words.Fields.{listed_else, listed_next}
 use Rattle.ell_cards.proofs.seats.Seats.{IsKept, Leads, Moves, leads, kept_event, entries_on, machine, mine, becomes, mine_sound, set_there}
 

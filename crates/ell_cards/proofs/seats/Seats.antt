@@ -24,7 +24,7 @@ use Rattle.ell_core.proofs.following.Reliance.{may_rely}
 use Rattle.ell_cards.specs.declared.view.Told.{Told}
 use Rattle.ell_cards.specs.declared.view.View.{View}
 use Rattle.ell_cards.specs.Rule.{TableState, seat_worker, seated, EntryHolds, ViewHolds, Kept}
-use Rattle.ell_core.proofs.following.WaitingCards.{hand_waits}
+use Rattle.ell_core.proofs.following.waiting.Cards.{hand_waits}
 use Rattle.ell_cards.proofs.seats.Entries.{entry_lasts}
 
 -- a place of a list is below its length

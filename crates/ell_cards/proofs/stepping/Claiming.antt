@@ -16,8 +16,8 @@ use Rattle.ell_core.specs.state.Cards.{insert_filling, delete_filling, filled, c
 use Rattle.ell_core.specs.acts.Events.{Row, Happens}
 use Rattle.ell_core.specs.history.Stages.{Stages, is_claimed, waits}
 use Rattle.ell_core.proofs.stages.Waiting.{kind-waits, unclaimed-wins, unclaimed-settled, waits-claimed}
-use Rattle.ell_core.proofs.following.WaitingCards.{claimed_cards_say}
-use Rattle.ell_core.proofs.following.ClaimedFacts.{not_claimed}
+use Rattle.ell_core.proofs.following.waiting.Cards.{claimed_cards_say}
+use Rattle.ell_core.proofs.following.facts.Claimed.{not_claimed}
 use Rattle.ell_core.proofs.words.Listed.{same_but_next}
 use Rattle.ell_cards.specs.declared.call.Call.TheVariants as call
 use Rattle.ell_cards.specs.declared.view.Told.{Told}

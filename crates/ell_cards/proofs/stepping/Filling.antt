@@ -8,7 +8,7 @@ use Rattle.ell_core.specs.history.Stages.{waits}
 use Rattle.ell_core.specs.statements.Waiting.{IsUnflagged}
 use Rattle.ell_core.proofs.words.Listed.{address_inside, apart}
 use Rattle.ell_core.proofs.stages.Waiting.{waits-claimed}
-use Rattle.ell_core.proofs.following.WaitingCards.{hand_waits, one_hand}
+use Rattle.ell_core.proofs.following.waiting.Cards.{hand_waits, one_hand}
 use Rattle.ell_cards.specs.declared.call.Call.TheVariants as call
 use Rattle.ell_cards.specs.declared.view.View.{View}
 use Rattle.ell_cards.specs.Models.{stored_at}

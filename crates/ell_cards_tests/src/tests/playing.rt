@@ -25,19 +25,6 @@ pub const NO: Shown = Shown::Step(Stepped::Answered(false));
 
 pub const NOT_NOW: Shown = Shown::Refused(CoreFault::NotNow);
 
-const FIELDS: [Field; 10] = [
-    Field::Gp,
-    Field::P,
-    Field::L,
-    Field::Was,
-    Field::Key,
-    Field::Left,
-    Field::Right,
-    Field::Update,
-    Field::LeftLeafKey,
-    Field::RightLeafKey,
-];
-
 /// A part of a schedule: a worker does these acts, and each is to show the same.
 pub type Turn = (u32, &'static [Act], Shown);
 
@@ -110,7 +97,7 @@ pub fn same_words(rt: &impl Abort, closed: &Closed<Global>, world: &World)
     requires { closed.now.cards ≡ world.now.cards }
 {
     for card in 0..=closed.cards() {
-        for field in FIELDS {
+        for field in Field::ALL {
             assert_eq!(rt;
                 closed.word(card, field),
                 world.word(card, field),

@@ -15,6 +15,7 @@ use ell_core::Act::{
 };
 use ell_core::{Act, Event, Fact, World};
 use ell_ops::Op;
+use ell_test_gates::Dice;
 use std::alloc::Global;
 use std::process::Abort;
 use std::test::Fail;
@@ -37,35 +38,24 @@ const OWNED: [(u32, u64); 8] = [
     (3, 7),
 ];
 
-// A linear congruential generator, of whose 64 bits the upper ones are drawn; and how many acts were done.
+// Draws acts, and counts those that were done.
 #[derive(Drop)]
-struct Dice {
-    state: u64,
+struct Drawing {
+    dice: Dice,
     done: u64,
 }
 
-impl Dice {
-    fn below(&mut self, bound: u64) -> u64
-        requires { 1 ≤ bound }
-        ensures { result < bound }
-    {
-        self.state = self
-            .state
-            .wrapping_mul(6_364_136_223_846_793_005)
-            .wrapping_add(1_442_695_040_888_963_407);
-        (self.state >> 33) % bound
-    }
-
+impl Drawing {
     // An act that is lawful often, if the pass has come that far: helps above all while its own flag stands.
     fn act(&mut self, memory: &Memory, worker: u32) -> Act {
         if memory.flagged {
-            return match self.below(10) {
+            return match self.dice.below(10) {
                 0..=6 => self.help(memory),
                 7 | 8 => Answer,
                 _ => self.end(),
             };
         }
-        match self.below(100) {
+        match self.dice.below(100) {
             0..=4 => self.help(memory),
             5..=29 => Upd,
             30..=54 => Down,
@@ -80,8 +70,8 @@ impl Dice {
 
     // An operation on a key of a worker.
     fn operation(&mut self, worker: u32) -> Op {
-        let key = (worker % 4) as u64 * 2 + self.below(2);
-        match self.below(5) {
+        let key = (worker % 4) as u64 * 2 + self.dice.below(2);
+        match self.dice.below(5) {
             0 => Op::Find(key),
             1 | 2 => Op::Insert(key),
             _ => Op::Delete(key),
@@ -90,7 +80,7 @@ impl Dice {
 
     // An exchange for a card of which something is remembered.
     fn help(&mut self, memory: &Memory) -> Act {
-        let index = self.below(FACTS as u64) as usize;
+        let index = self.dice.below(FACTS as u64) as usize;
         match memory.known[index] {
             Some(Fact::IFlagged(card)) => IChild(card),
             Some(Fact::IChanged(card)) => IUnflag(card),
@@ -104,7 +94,11 @@ impl Dice {
 
     // One of the acts that end a search.
     fn end(&mut self) -> Act {
-        if self.below(2) == 0 { Leave } else { Again }
+        if self.dice.below(2) == 0 {
+            Leave
+        } else {
+            Again
+        }
     }
 }
 
@@ -115,7 +109,7 @@ fn both_step(
     pass: &mut Pass<Global>,
     memory: &mut Memory,
     world: &mut World,
-    dice: &mut Dice,
+    drawing: &mut Drawing,
     event: Event,
 )
     requires { IsReady table.now pass.old memory.old }
@@ -125,7 +119,7 @@ fn both_step(
     let Some(said) = step(table, pass, memory, event.act) else {
         return;
     };
-    dice.done = dice.done.wrapping_add(1);
+    drawing.done = drawing.done.wrapping_add(1);
     assert_eq!(rt; world.step(event), Ok(said), "{event:?}");
 }
 
@@ -137,7 +131,7 @@ fn turn(
     pass: Pass<Global>,
     memory: &mut Memory,
     world: &mut World,
-    dice: &mut Dice,
+    drawing: &mut Drawing,
     worker: u32,
 ) -> Result<Pass<Global>, Fail>
     requires { IsReady table.now pass memory.old }
@@ -145,19 +139,19 @@ fn turn(
     ensures world { world.new.cards ≡ world.old.cards }
 {
     let mut pass = pass;
-    if memory.op.is_none() && dice.below(100) == 0 {
+    if memory.op.is_none() && drawing.dice.below(100) == 0 {
         pass = parted_and_joined(rt, table, pass, (worker % 4) as u64 * 2)?;
         *memory = nothing();
     }
-    for _ in 0..dice.below(4) {
-        let act = dice.act(memory, worker);
+    for _ in 0..drawing.dice.below(4) {
+        let act = drawing.act(memory, worker);
         both_step(
             rt,
             table,
             &mut pass,
             memory,
             world,
-            dice,
+            drawing,
             Event { worker, act },
         );
     }
@@ -187,7 +181,7 @@ fn finish(
     pass: &mut Pass<Global>,
     memory: &mut Memory,
     world: &mut World,
-    dice: &mut Dice,
+    drawing: &mut Drawing,
     worker: u32,
 )
     requires { IsReady table.now pass.old memory.old }
@@ -196,12 +190,20 @@ fn finish(
     ensures world { world.new.cards ≡ world.old.cards }
 {
     for _ in 0..10_000 {
-        let act = match dice.below(3) {
+        let act = match drawing.dice.below(3) {
             0 => Answer,
             1 => Leave,
-            _ => dice.help(memory),
+            _ => drawing.help(memory),
         };
-        both_step(rt, table, pass, memory, world, dice, Event { worker, act });
+        both_step(
+            rt,
+            table,
+            pass,
+            memory,
+            world,
+            drawing,
+            Event { worker, act },
+        );
     }
     assert!(rt; memory.op.is_none());
 }
@@ -224,24 +226,24 @@ fn random_acts(
 {
     let (mut first, mut second, mut third, mut fourth) = passes;
     let (mut one, mut two, mut three, mut four) = (nothing(), nothing(), nothing(), nothing());
-    let mut dice = Dice {
-        state: 2010,
+    let mut drawing = Drawing {
+        dice: Dice::new(2010),
         done: 0,
     };
     for _ in 0..ROUNDS {
-        if dice.done >= ACTS {
+        if drawing.done >= ACTS {
             break;
         }
-        first = turn(rt, table, first, &mut one, world, &mut dice, 0)?;
-        second = turn(rt, table, second, &mut two, world, &mut dice, 1)?;
-        third = turn(rt, table, third, &mut three, world, &mut dice, 2)?;
-        fourth = turn(rt, table, fourth, &mut four, world, &mut dice, 3)?;
+        first = turn(rt, table, first, &mut one, world, &mut drawing, 0)?;
+        second = turn(rt, table, second, &mut two, world, &mut drawing, 1)?;
+        third = turn(rt, table, third, &mut three, world, &mut drawing, 2)?;
+        fourth = turn(rt, table, fourth, &mut four, world, &mut drawing, 3)?;
     }
-    assert!(rt; dice.done >= ACTS);
-    finish(rt, table, &mut first, &mut one, world, &mut dice, 0);
-    finish(rt, table, &mut second, &mut two, world, &mut dice, 1);
-    finish(rt, table, &mut third, &mut three, world, &mut dice, 2);
-    finish(rt, table, &mut fourth, &mut four, world, &mut dice, 3);
+    assert!(rt; drawing.done >= ACTS);
+    finish(rt, table, &mut first, &mut one, world, &mut drawing, 0);
+    finish(rt, table, &mut second, &mut two, world, &mut drawing, 1);
+    finish(rt, table, &mut third, &mut three, world, &mut drawing, 2);
+    finish(rt, table, &mut fourth, &mut four, world, &mut drawing, 3);
     let low = joined(table, first, second)?;
     let high = joined(table, third, fourth)?;
     joined(table, low, high)

@@ -3,13 +3,13 @@ ghost use Rattle.std.specs.Prelude.{◌≡◌, ◌≤◌};
 ghost use Rattle.ell_word.specs.Node.{greatest_card};
 ghost use Rattle.ell_cards_tests.specs.Fitting.{IsIdle};
 
-use super::meeting::two_threads_meet;
 use super::parting::parted;
 use crate::memory::nothing;
 use crate::step;
 use ell_cards::{CardTable, Pass};
 use ell_core::Act::{Begin, Claim, Down, Leave, Upd};
 use ell_ops::Op;
+use ell_test_gates::two_threads_meet;
 use std::alloc::{AllocError, Global};
 use std::test::Fail;
 use std::thread::join;

@@ -200,16 +200,32 @@ fn a_report_goes_to_standard_error(rt: HostRuntime) {
     assert_eq!(rt; err.as_slice(), b"late 0\n".as_slice());
 }
 
+// With one card one insert alone is made on the tree. The other is late, and so is what is behind it in its worker's part: so,
+// however the workers' turns fall, the report tells how many workers there were, how the operations were parted among them, and
+// how many cards there were.
 #[test]
 fn a_report_tells_what_was_late(rt: HostRuntime) {
-    let words = ["run", "--workers", "1", "--cards", "1", "--report"];
-    let mut out = Vec::new(rt.alloc());
-    let mut err = Vec::new(rt.alloc());
-    let mut input = b"insert 5\ninsert 6\nfind 5\n".as_slice();
-    let status = elltree(&rt, rt.alloc(), &words, &mut input, &mut out, &mut err);
-    assert_eq!(rt; status, 0);
-    assert_eq!(rt; out.as_slice(), b"yes\nyes\nyes\nkeys 2\n5\n6\n".as_slice());
-    assert_eq!(rt; err.as_slice(), b"late 2\n".as_slice());
+    let text = b"insert 5\ninsert 6\nfind 7\nfind 8\n".as_slice();
+    let cases = [
+        ("--workers=1", "--parting=stripe", "--cards=1", "late 3\n"),
+        ("--workers=2", "--parting=stripe", "--cards=1", "late 2\n"),
+        ("--workers=4", "--parting=stripe", "--cards=1", "late 1\n"),
+        ("--workers=1", "--parting=range", "--cards=1", "late 3\n"),
+        ("--workers=2", "--parting=range", "--cards=1", "late 1\n"),
+        ("--workers=1", "--parting=stripe", "--cards=2", "late 0\n"),
+    ];
+    for (workers, parting, cards, report) in cases {
+        let words = ["run", workers, parting, cards, "--report"];
+        let mut out = Vec::new(rt.alloc());
+        let mut err = Vec::new(rt.alloc());
+        let status = elltree(&rt, rt.alloc(), &words, &mut &*text, &mut out, &mut err);
+        assert_eq!(rt; status, 0, "at {words:?}");
+        assert_eq!(rt;
+            out.as_slice(),
+            b"yes\nyes\nno\nno\nkeys 2\n5\n6\n".as_slice()
+        );
+        assert_eq!(rt; err.as_slice(), report.as_bytes(), "at {words:?}");
+    }
 }
 
 #[test]

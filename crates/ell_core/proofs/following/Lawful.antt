@@ -17,7 +17,7 @@ use Rattle.ell_core.proofs.following.EventLaws.{steps_keys}
 use Rattle.ell_core.proofs.following.RowLedgers.{LedgerChanges}
 use Rattle.ell_core.proofs.following.Ledgers.{steps_know, steps_ledgers}
 use Rattle.ell_core.proofs.keeping.AllEvents.{steps_follow}
-use Rattle.ell_core.proofs.following.FactsLast.{steps_last}
+use Rattle.ell_core.proofs.following.facts.Last.{steps_last}
 use Rattle.ell_core.proofs.keeping.Seats.{split_keeps, join_keeps}
 
 -- the same keys are owned where an owned key gets an entry

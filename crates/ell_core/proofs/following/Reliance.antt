@@ -22,7 +22,7 @@ use Rattle.ell_core.specs.history.Invariant.{WordsAreSound, SeenIsSound, StandIs
 use Rattle.ell_core.specs.statements.StepLaws.{NamesItsCard, MayRead, IsInserting, IsDeepening, GoesInTree, HasSeen, StandsBelow, is_of_insert, is_of_marked, StepsMayRely, OwnerFindsClean}
 use Rattle.ell_core.proofs.following.Owners.{all_clean, leaf_key_tells}
 use Rattle.ell_core.proofs.stages.LaterKeys.{root_born}
-use Rattle.ell_core.proofs.following.WaitingCards.{busy, hand_claimed}
+use Rattle.ell_core.proofs.following.waiting.Cards.{busy, hand_claimed}
 use Rattle.ell_core.proofs.following.Sound.{word_by_state}
 use Rattle.ell_core.proofs.outcomes.Decide.{cases_option, some_not_none}
 use Rattle.ell_core.proofs.stages.Order.{born-claimed, insert-claimed, delete-claimed, delete_won-delete, insert_won-insert, changed-insert, insert_over-insert, marked-delete, unmarkable-delete, cut-delete, cut-marked, over-delete, over-marked, backed-delete}

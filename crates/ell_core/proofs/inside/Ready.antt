@@ -11,7 +11,7 @@ use Rattle.ell_core.specs.history.Invariant.{Blank, Invariant}
 use Rattle.ell_core.specs.inside.Fits.{IsNode, IsInner, SceneFits}
 use Rattle.ell_core.specs.statements.StepLaws.{MayRead, Reliance}
 use Rattle.ell_core.proofs.words.Sides.{sibling_cases}
-use Rattle.ell_core.proofs.following.ClaimedFacts.{not_claimed}
+use Rattle.ell_core.proofs.following.facts.Claimed.{not_claimed}
 use Rattle.ell_core.proofs.following.Reliance.{may_rely}
 
 module _ (m : Machine) (stage : Stages) (i : ℕ) (invariant : Invariant m stage) where

@@ -8,6 +8,7 @@ use ell_core::Act::{
 };
 use ell_core::{Act, Event, Shown, Stepped, World, replay};
 use ell_ops::{KEY_MAX, Op, apply};
+use ell_test_gates::Dice;
 use ell_word::Kind;
 use std::collections::{BTreeMap, BTreeSet};
 use std::process::Abort;
@@ -43,25 +44,6 @@ fn opened(rt: &(impl Abort + AllocGlobal)) -> Result<World, Fail> {
     }
     assert!(rt; owned.iter().all(|entry| entry.1 <= KEY_MAX));
     Ok(World::new(rt.alloc(), WORKERS as u32, &owned, CARDS)?)
-}
-
-// A linear congruential generator, of whose 64 bits the upper ones are drawn.
-#[derive(Drop)]
-struct Dice {
-    state: u64,
-}
-
-impl Dice {
-    fn below(&mut self, bound: u64) -> u64
-        requires { 1 ≤ bound }
-        ensures { result < bound }
-    {
-        self.state = self
-            .state
-            .wrapping_mul(6_364_136_223_846_793_005)
-            .wrapping_add(1_442_695_040_888_963_407);
-        (self.state >> 33) % bound
-    }
 }
 
 // What a schedule comes to by its answers: the set, the operations in hand, and how many answered yes.
@@ -124,7 +106,7 @@ struct Drawing {
 impl Drawing {
     fn new(rt: &(impl Abort + AllocGlobal)) -> Result<Drawing, Fail> {
         Ok(Drawing {
-            dice: Dice { state: 2010 },
+            dice: Dice::new(2010),
             world: opened(rt)?,
             plain: Plain::new(rt),
             claimed: BTreeMap::new(rt.alloc()),

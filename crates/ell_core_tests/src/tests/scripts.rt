@@ -28,19 +28,6 @@ pub const NOT_NOW: Shown = Shown::Refused(CoreFault::NotNow);
 
 pub const NO_CARDS: Shown = Shown::Refused(CoreFault::NoCards);
 
-const FIELDS: [Field; 10] = [
-    Field::Gp,
-    Field::P,
-    Field::L,
-    Field::Was,
-    Field::Key,
-    Field::Left,
-    Field::Right,
-    Field::Update,
-    Field::LeftLeafKey,
-    Field::RightLeafKey,
-];
-
 /// A worker does these acts, and each is to show the same.
 pub fn steps(rt: &impl Abort, world: &mut World, worker: u32, acts: &[Act], want: Shown)
     ensures { world.new.cards ≡ world.old.cards }
@@ -82,7 +69,7 @@ pub fn has(rt: &impl Abort, world: &World, card: u64, field: Field, want: u64)
 pub fn is_filled(rt: &impl Abort, world: &World, card: u64, wants: [u64; 10])
     requires { card ≤ world.now.cards }
 {
-    for (field, want) in FIELDS.iter().zip(wants.iter()) {
+    for (field, want) in Field::ALL.iter().zip(wants.iter()) {
         has(rt, world, card, *field, *want);
     }
 }

@@ -12,19 +12,6 @@ use std::test::Fail;
 
 const OWNED: [(u32, u64); 3] = [(0, 5), (0, 6), (1, 7)];
 
-const FIELDS: [Field; 10] = [
-    Field::Gp,
-    Field::P,
-    Field::L,
-    Field::Was,
-    Field::Key,
-    Field::Left,
-    Field::Right,
-    Field::Update,
-    Field::LeftLeafKey,
-    Field::RightLeafKey,
-];
-
 // More growths than any event asks for.
 const MOST: u64 = 100;
 
@@ -68,7 +55,7 @@ fn look(
     let next = world.next();
     let mut words = Vec::new(rt.alloc());
     for card in 0..=CARDS {
-        for field in FIELDS {
+        for field in Field::ALL {
             words.push(world.word(card, field))?;
         }
     }

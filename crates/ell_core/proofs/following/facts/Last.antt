@@ -8,8 +8,8 @@ use Rattle.ell_core.specs.history.Stages.{Stages}
 use Rattle.ell_core.specs.history.Invariant.{Invariant}
 use Rattle.ell_core.specs.history.Later.{Follows}
 use Rattle.ell_core.specs.statements.StepLaws.{FactsLast}
-use Rattle.ell_core.proofs.following.MarksKept.{marks_step}
-use Rattle.ell_core.proofs.following.HoldsLater.{holds_later}
+use Rattle.ell_core.proofs.following.facts.MarksKept.{marks_step}
+use Rattle.ell_core.proofs.following.facts.HoldsLater.{holds_later}
 
 -- every fact that holds before an act holds after it
 facts_last : (m : Machine) (stage : Stages) (a : Act) (i : ℕ) (said : Stepped) (becomes : Scene) → Invariant m stage

@@ -18,8 +18,8 @@ use Rattle.ell_core.specs.history.Later.{Follows, wins_of, win_for, win_by, wins
 use Rattle.ell_core.specs.statements.Waiting.{WinsFlag, EventsLeaveWaiting}
 use Rattle.ell_core.proofs.stages.Kinds.{HasKind, kind_later}
 use Rattle.ell_core.proofs.stages.Waiting.{waits-claimed, waits-unborn, waits-kind, waits-wins, kind-waits, first_win, unclaimed-wins, none_before}
-use Rattle.ell_core.proofs.following.ClaimedFacts.{not_claimed}
-use Rattle.ell_core.proofs.following.WaitingCards.{not_first, claimed_waits}
+use Rattle.ell_core.proofs.following.facts.Claimed.{not_claimed}
+use Rattle.ell_core.proofs.following.waiting.Cards.{not_first, claimed_waits}
 
 -- an exchange of an update word leaves the claim word
 update_next : (w : Words) (x expected new : ℕ) → (exchanged_update w x expected new).next ≡ w.next

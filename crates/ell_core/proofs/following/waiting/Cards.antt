@@ -14,7 +14,7 @@ use Rattle.ell_core.proofs.outcomes.Decide.{cases_option, some_not_none}
 use Rattle.ell_core.proofs.stages.Order.{insert-claimed, delete-claimed, insert_won-insert, delete_won-delete}
 use Rattle.ell_core.proofs.stages.Waiting.{insert-waits, delete-waits, insert_won-settled, delete_won-settled, born-settled, unclaimed-settled, waits-claimed, waits-wins, kind-waits}
 use Rattle.ell_core.proofs.words.Stored.{claimed_stored}
-use Rattle.ell_core.proofs.following.ClaimedFacts.{not_claimed}
+use Rattle.ell_core.proofs.following.facts.Claimed.{not_claimed}
 
 -- a card in hand that is not flagged waits
 by_operation : (w : Words) (stage : Stages) (v : Worker) (op : Op) (c : ℕ) → Unflagged w stage v op c → waits (stage c) ≡ true

@@ -12,7 +12,7 @@ use Rattle.ell_core.specs.history.Invariant.{insert_key, insert_side, delete_sid
 use Rattle.ell_core.specs.history.Later.{WordsLater, StagesLater}
 use Rattle.ell_core.proofs.runs.Chains.{MarksLater}
 use Rattle.ell_core.proofs.words.Sides.{card_key-insert, card_key-delete, insert_key-side}
-use Rattle.ell_core.proofs.following.ClaimedFacts.{is_delete-by_child, not_delete-by_child, fact_claimed}
+use Rattle.ell_core.proofs.following.facts.Claimed.{is_delete-by_child, not_delete-by_child, fact_claimed}
 use Rattle.ell_core.proofs.stages.LaterKeys.{root_born, side_later, insert_key_later, top_child_later, insert_info}
 use Rattle.ell_core.proofs.stages.Order.{marked_cases}
 
