@@ -4,7 +4,7 @@ use ell_ops::Op;
 use ell_word::Update;
 
 /// A step call of a pass, with its arguments. Each is one atomic step.
-#[derive(Clone, Copy, Debug, PartialEq, Eq, Hash)]
+#[derive(Clone, Copy)]
 pub enum Call {
     /// Takes an operation in hand.
     Begin(Op),

@@ -4,7 +4,7 @@ use std::alloc::Allocator;
 use std::collections::LinkedList;
 
 /// What a pass was told, and what never changes.
-#[derive(Clone, Copy, Debug, PartialEq, Eq, Hash)]
+#[derive(Clone, Copy)]
 pub enum Told {
     /// The pass has met this node, which came into the tree.
     Met(u64),

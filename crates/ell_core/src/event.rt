@@ -5,14 +5,14 @@ use ell_ops::{NoMemory, Op};
 use std::alloc::{AllocError, AllocFailed};
 
 /// One event: a worker, by its number, and what it does.
-#[derive(Clone, Copy, Debug, PartialEq, Eq, Hash)]
+#[derive(Clone, Copy, Debug, PartialEq, Eq)]
 pub struct Event {
     pub worker: u32,
     pub act: Act,
 }
 
 /// What a worker does. Six acts name the card that they help.
-#[derive(Clone, Copy, Debug, PartialEq, Eq, Hash)]
+#[derive(Clone, Copy, Debug, PartialEq, Eq)]
 pub enum Act {
     /// Takes an operation in hand, and stands at the root.
     Begin(Op),
@@ -47,7 +47,7 @@ pub enum Act {
 }
 
 /// What an event answers.
-#[derive(Clone, Copy, Debug, PartialEq, Eq, Hash)]
+#[derive(Clone, Copy, Debug, PartialEq, Eq)]
 pub enum Stepped {
     Moved,
     /// The exchange found what it expected.
@@ -59,7 +59,7 @@ pub enum Stepped {
 }
 
 /// Why an event, or an opening, is refused. The refusals of an event are tested in this order.
-#[derive(Clone, Copy, Debug, PartialEq, Eq, Hash)]
+#[derive(Clone, Copy, Debug, PartialEq, Eq)]
 pub enum CoreFault {
     /// The worker's number is not below the number of workers.
     NoSuchWorker,
@@ -106,7 +106,7 @@ impl<T: Drop> From<AllocFailed<T>> for CoreFault {
 }
 
 /// What a replay shows of an event.
-#[derive(Clone, Copy, Debug, PartialEq, Eq, Hash)]
+#[derive(Clone, Copy, Debug, PartialEq, Eq)]
 pub enum Shown {
     Step(Stepped),
     Refused(CoreFault),

@@ -5,7 +5,7 @@ ghost use Rattle.ell_core.specs.state.Facts.{told_by};
 use ell_word::{State, unpack};
 
 /// A fact of a card, which the fact names. It stays true once it is true.
-#[derive(Clone, Copy, Debug, PartialEq, Eq, PartialOrd, Ord, Hash)]
+#[derive(Clone, Copy, PartialEq, Eq, PartialOrd, Ord)]
 pub enum Fact {
     /// The insert's flag was set.
     IFlagged(u64),

@@ -9,7 +9,7 @@ use ell_word::{State, Update, pack};
 
 /// A word of a card: the first four are the record of the operation that took it (Info, figure 7 of the paper), the
 /// others its internal node and its two leaves.
-#[derive(Clone, Copy, Debug, PartialEq, Eq, Hash)]
+#[derive(Clone, Copy, Debug, PartialEq, Eq)]
 pub enum Field {
     /// The grandparent of the leaf, for a delete.
     Gp,

@@ -4,14 +4,14 @@ use ell_ops::Op;
 use std::collections::LinkedList;
 
 /// An internal node with the update word that was read there.
-#[derive(Clone, Copy, Debug, PartialEq, Eq, Hash)]
+#[derive(Clone, Copy)]
 pub struct Seen {
     pub node: u64,
     pub word: u64,
 }
 
 /// Where a worker's search stands.
-#[derive(Clone, Copy, Debug, PartialEq, Eq, Hash)]
+#[derive(Clone, Copy)]
 pub struct Search {
     /// The node where it stands, or nowhere.
     pub node: Option<u64>,

@@ -20,14 +20,14 @@ use ell_word::{State, StepGate, Update};
 use std::alloc::Allocator;
 
 /// The flag of a delete, and the node where it stands.
-#[derive(Clone, Copy, Debug, PartialEq, Eq, Hash)]
+#[derive(Clone, Copy)]
 pub(crate) struct DeleteFlag {
     pub card: u64,
     pub grandparent: u64,
 }
 
 /// How a delete whose flag was won ends.
-#[derive(Clone, Copy, Debug, PartialEq, Eq, Hash)]
+#[derive(Clone, Copy)]
 pub(crate) enum Ending {
     /// Its parent was cut out, and its flag taken away.
     Done,

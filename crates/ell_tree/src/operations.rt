@@ -19,7 +19,7 @@ use std::alloc::Allocator;
 use thiserror::Error;
 
 /// Why an insert or a delete has no answer. The set is as it was before, and nothing of the call is under way.
-#[derive(Clone, Copy, Debug, PartialEq, Eq, Hash, Error)]
+#[derive(Clone, Copy, Debug, PartialEq, Eq, Error)]
 pub enum Held {
     /// All tries ended without an answer: something was in the way of each.
     #[error("something was in the way of each try")]
@@ -30,7 +30,7 @@ pub enum Held {
 }
 
 /// An operation that may change the set.
-#[derive(Clone, Copy, Debug, PartialEq, Eq, Hash)]
+#[derive(Clone, Copy)]
 pub(crate) enum Change {
     Insert(u64),
     Delete(u64),

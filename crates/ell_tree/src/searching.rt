@@ -11,14 +11,14 @@ use ell_word::{Kind, StepGate, Update, is_internal};
 use std::alloc::Allocator;
 
 /// A node that a search passed, with the update that it read there.
-#[derive(Clone, Copy, Debug, PartialEq, Eq, Hash)]
+#[derive(Clone, Copy)]
 pub(crate) struct Passed {
     pub node: u64,
     pub update: Update,
 }
 
 /// Where a search ended: a leaf with its key, its parent, and its grandparent if there is one.
-#[derive(Clone, Copy, Debug, PartialEq, Eq, Hash)]
+#[derive(Clone, Copy)]
 pub(crate) struct Place {
     pub leaf: u64,
     pub key: u64,

@@ -21,7 +21,7 @@ use ell_word::{Kind, State, StepGate, Update};
 use std::alloc::Allocator;
 
 /// A node with its key.
-#[derive(Clone, Copy, Debug, PartialEq, Eq, Hash)]
+#[derive(Clone, Copy)]
 pub(crate) struct KeyedNode {
     pub node: u64,
     pub key: u64,

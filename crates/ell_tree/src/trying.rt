@@ -17,7 +17,7 @@ use ell_word::{Kind, StepGate};
 use std::alloc::Allocator;
 
 /// How a try ended.
-#[derive(Clone, Copy, Debug, PartialEq, Eq, Hash)]
+#[derive(Clone, Copy)]
 pub(crate) enum Tried {
     Answered(bool),
     /// No card is left.
@@ -27,7 +27,7 @@ pub(crate) enum Tried {
 }
 
 /// What came of asking for a card.
-#[derive(Clone, Copy, Debug, PartialEq, Eq, Hash)]
+#[derive(Clone, Copy)]
 pub(crate) enum Claimed {
     Card(u64),
     /// All cards are given out.
