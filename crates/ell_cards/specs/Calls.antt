@@ -23,7 +23,7 @@ use Rattle.ell_cards.specs.declared.call.Call.TheVariants as call
 use Rattle.ell_cards.specs.declared.view.Told.TheVariants.{Met, Info}
 use Rattle.ell_cards.specs.declared.view.View.{View}
 use Rattle.ell_cards.specs.Models.{IsTold, Does, StandsAt, InTable, KnowsDelete}
-use Rattle.ell_cards.specs.Changes.{learning, with_found, after_begin, after_leave, after_answer, after_upd, after_down, after_next, after_key_of, after_info, after_frozen_child, after_claim, after_fill, after_flag, after_mark}
+use Rattle.ell_cards.specs.Changes.{learning, with_found, after_begin, after_again, after_leave, after_answer, after_upd, after_down, after_next, after_key_of, after_info, after_frozen_child, after_claim, after_fill, after_flag, after_mark}
 use Rattle.ell_cards.specs.Guards.{MayBegin, MayStop, MayAnswer, MayRead, MayGoDown, MayAsk, MaySee, MayClaim, MayFill, MayIFlag, MayDFlag, MayIChild, MayIUnflag, MayMark, MayDChild, MayDUnflag, MayBacktrack}
 
 -- the address of the update word of a node
@@ -95,7 +95,7 @@ is_won _ found = false
 -- what a pass knows after a call that found this word
 abbrev pub after : Call → ℕ → View → View
 after (call.Begin op) n v = after_begin (Some op) v
-after call.Again n v = after_begin v.worker.operation v
+after call.Again n v = after_again v
 after call.Leave n v = after_leave v
 after (call.Answer said) n v = after_answer said v
 after (call.Upd x) n v = after_upd x (unpacked n) v

@@ -18,6 +18,8 @@ use Rattle.ell_core.specs.state.Cards.{insert_filling, delete_filling}
 use Rattle.ell_core.specs.acts.Searching.{with_read, at_root}
 use Rattle.ell_cards.specs.declared.view.Told.{Told}
 use Rattle.ell_cards.specs.declared.view.Told.TheVariants.{Met, Key, Info, Frozen}
+use Rattle.ell_cards.specs.declared.view.Hindrance.{Hindrance}
+use Rattle.ell_cards.specs.declared.view.Hindrance.TheVariants.{Claim, Found}
 use Rattle.ell_cards.specs.declared.view.View.{View}
 
 -- the facts with the one that an update tells: a flag or a mark that of its card, a clean update none
@@ -34,10 +36,31 @@ places_by x state.DFlag c told = Info c Gp x ∷ told
 places_by x state.Mark c told = Info c P x ∷ told
 places_by x state.Clean c told = told
 
--- a hindrance more, unless the update is clean
-abbrev pub hindered_by : State → ℕ → ℕ
-hindered_by state.Clean n = n
-hindered_by _ n = n + 1
+-- an update, unless it is clean
+abbrev pub unless_clean : State → ℕ → List Hindrance
+unless_clean state.Clean c = []
+unless_clean s c = Found (record { state = s; card = c }) ∷ []
+
+-- the update that a search read at a node, unless it is clean
+abbrev pub read_in_way : Option Seen → List Hindrance
+read_in_way None = []
+read_in_way (Some seen) = unless_clean (unpacked seen.word).state (unpacked seen.word).card
+
+-- the first of these, or else of those
+abbrev pub first_in_way : List Hindrance → List Hindrance → List Hindrance
+first_in_way [] those = those
+first_in_way (h ∷ hs) those = h ∷ hs
+
+-- what a search that stands at a node has read in the way of an operation: of an insert at the parent, of a delete at the
+-- grandparent, or else at the parent
+abbrev pub in_the_way : Option Op → Option ℕ → Option Seen → Option Seen → List Hindrance
+in_the_way (Some (Insert k)) (Some x) parent above = read_in_way parent
+in_the_way (Some (Delete k)) (Some x) parent above = first_in_way (read_in_way above) (read_in_way parent)
+in_the_way _ _ parent above = []
+
+-- what was in the way, once a try is given up
+abbrev pub given_up : View → List Hindrance
+given_up v = in_the_way v.worker.operation v.worker.search.node v.worker.search.parent v.worker.search.grandparent ++ v.hindrances
 
 -- the pass has found an update at a node
 abbrev pub finding : ℕ → Update → View → View
@@ -81,7 +104,7 @@ found_child expected (Err found) = found
 abbrev pub idle_worker : List (ℕ × Bool) → List Fact → WorkerView
 idle_worker ledger facts = record { ledger = ledger; operation = None; search = no_search; card = None; flagged = false; facts = facts }
 
--- begin and again: this operation is in hand, and the search stands at the root, which the pass has met
+-- begin: this operation is in hand, and the search stands at the root, which the pass has met
 abbrev pub after_begin : Option Op → View → View
 after_begin op v = record v {
   worker = record (v.worker) { operation = op; search = at_root; card = None; flagged = false };
@@ -92,13 +115,18 @@ after_begin op v = record v {
   filled = [];
 }
 
--- leave: nothing is in hand any more
+-- again: the operation in hand begins once more, and what its search read in the way was a hindrance
+abbrev pub after_again : View → View
+after_again v = record (after_begin v.worker.operation v) { hindrances = given_up v }
+
+-- leave: nothing is in hand any more, and what the search read in the way was a hindrance
 abbrev pub after_leave : View → View
 after_leave v = record v {
   worker = idle_worker v.worker.ledger v.worker.facts;
   here = None;
   filling = [];
   filled = [];
+  hindrances = given_up v;
 }
 
 -- the ledger where a key is present now, or absent
@@ -126,7 +154,6 @@ after_answer said v = record v {
 abbrev pub after_upd : ℕ → Update → View → View
 after_upd x u v = record (finding x u v) {
   worker = record (v.worker) { search = with_read v.worker.search (packed u); facts = facts_by u.state u.card v.worker.facts };
-  hindrances = hindered_by u.state v.hindrances;
 }
 
 -- a node with the word that was read there, if one was
@@ -211,7 +238,7 @@ after_claim true c v = record v {
   filling = filling_of c v;
   filled = [];
 }
-after_claim false c v = record v { hindrances = v.hindrances + 1 }
+after_claim false c v = record v { hindrances = Claim c ∷ v.hindrances }
 
 -- fill: a word of the card in hand was stored
 abbrev pub after_fill : Field → ℕ → View → View
@@ -240,7 +267,7 @@ after_flag false new x u v = record v {
   };
   told = places_by x u.state u.card v.told;
   here = None;
-  hindrances = v.hindrances + 1;
+  hindrances = Found u ∷ v.hindrances;
 }
 
 -- whether an update is the mark of a card
@@ -258,7 +285,7 @@ abbrev pub unmarking : ℕ → ℕ → Update → View → View
 unmarking c x u v = record v {
   worker = record (v.worker) { facts = facts_by u.state u.card (fact.Unmarkable c ∷ v.worker.facts) };
   told = places_by x u.state u.card v.told;
-  hindrances = if is_held v.worker.card c then v.hindrances + 1 else v.hindrances;
+  hindrances = if is_held v.worker.card c then Found u ∷ v.hindrances else v.hindrances;
 }
 
 -- mark: the mark stands, set by this pass or found there; or another update was found
@@ -287,7 +314,7 @@ idle_view ledger = record {
   filled = [];
   found = None;
   answers = 0;
-  hindrances = 0;
+  hindrances = [];
 }
 
 -- the first pass of a table: it owns all keys, each absent
@@ -329,7 +356,7 @@ left_view keys v = part_view (part_on keys v.worker.ledger) v
 
 -- split, the right part: it gets the other keys
 abbrev pub right_view : List ℕ → View → View
-right_view keys v = record (part_view (part_off keys v.worker.ledger) v) { answers = 0; hindrances = 0 }
+right_view keys v = record (part_view (part_off keys v.worker.ledger) v) { answers = 0; hindrances = [] }
 
 -- an entry put into an ascending ledger at its place, or in place of that of its key
 abbrev pub put_entry : ℕ × Bool → List (ℕ × Bool) → List (ℕ × Bool)
@@ -352,5 +379,5 @@ joined_view v w = record {
   filled = [];
   found = None;
   answers = v.answers + w.answers;
-  hindrances = v.hindrances + w.hindrances;
+  hindrances = v.hindrances ++ w.hindrances;
 }

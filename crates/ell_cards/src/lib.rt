@@ -26,4 +26,4 @@ pub use laws::{
 };
 pub use pass::Pass;
 pub use table::CardTable;
-pub use view::{Plan, Told, View};
+pub use view::{Hindrance, Plan, Told, View};

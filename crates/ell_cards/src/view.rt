@@ -1,5 +1,6 @@
 //! What a pass knows, as contracts see it.
 use ell_core::{Field, WorkerView};
+use ell_word::Update;
 use std::alloc::Allocator;
 use std::collections::LinkedList;
 
@@ -14,6 +15,15 @@ pub enum Told {
     Info(u64, Field, u64),
     /// The parent that this card marked has on this side (true is right) this child.
     Frozen(u64, bool, u64),
+}
+
+/// What was in the way of an operation that a pass had in hand.
+#[derive(Clone, Copy)]
+pub enum Hindrance {
+    /// Another pass took this card first.
+    Claim(u64),
+    /// This update stood where the operation was to act: its search had read it there, or a lost flag or mark found it.
+    Found(Update),
 }
 
 /// What a pass knows. No value of this type is made.
@@ -35,8 +45,8 @@ pub struct View {
     pub found: Option<u64>,
     /// How many operations it has answered.
     pub answers: u64,
-    /// How often something was in its way.
-    pub hindrances: u64,
+    /// What was in its way, the last first.
+    pub hindrances: LinkedList<Hindrance>,
 }
 
 /// What a table is made for. A table keeps the numbers; the keys go to its first pass.

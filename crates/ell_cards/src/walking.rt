@@ -4,7 +4,7 @@ ghost use Rattle.ell_core.specs.state.Machine.{ledger_of};
 ghost use Rattle.ell_core.specs.statements.StepLaws.{AnswersAsSet};
 ghost use Rattle.ell_cards.specs.declared.view.Told.TheVariants.{Met};
 ghost use Rattle.ell_cards.specs.Models.{Steps, IsTold, InTable};
-ghost use Rattle.ell_cards.specs.Changes.{after_begin, after_leave, after_answer, after_upd, after_down, after_next, after_key_of};
+ghost use Rattle.ell_cards.specs.Changes.{after_begin, after_again, after_leave, after_answer, after_upd, after_down, after_next, after_key_of};
 ghost use Rattle.ell_cards.specs.Guards.{MayBegin, MayStop, MayAnswer, MayRead, MayGoDown};
 ghost use Rattle.ell_cards.specs.Calls.{TellsLeaf};
 
@@ -27,17 +27,18 @@ impl<A: Allocator + Copy> CardTable<A> {
         self.load(pass, Call::Begin(op), 0);
     }
 
-    /// Starts the search anew. Condition: the card in hand, if it is flagged, is known backed.
+    /// Gives a try up and starts the search anew: what its search has read in the way of the operation was a hindrance. Condition: the
+    /// card in hand, if it is flagged, is known backed.
     #[inline(always)]
     pub fn again(&self, pass: &mut Pass<A>)
         requires own { pass.old.table ≡ self.now.id }
         requires may { MayStop pass.old.view }
-        ensures step { Steps pass.old pass.new (after_begin pass.old.view.worker.operation pass.old.view) }
+        ensures step { Steps pass.old pass.new (after_again pass.old.view) }
     {
         self.load(pass, Call::Again, 0);
     }
 
-    /// Lays the operation down without an answer. Condition: as of `again`.
+    /// Gives a try up and lays the operation down without an answer. Hindrances and condition: as of `again`.
     #[inline(always)]
     pub fn leave(&self, pass: &mut Pass<A>)
         requires own { pass.old.table ≡ self.now.id }

@@ -20,7 +20,7 @@ use Rattle.ell_cards.specs.declared.view.Told.{Told}
 use Rattle.ell_cards.specs.declared.view.Told.TheVariants.{Met}
 use Rattle.ell_cards.specs.declared.view.View.{View}
 use Rattle.ell_cards.specs.Models.{Has}
-use Rattle.ell_cards.specs.Changes.{after_begin, after_leave, after_answer, answered_ledger}
+use Rattle.ell_cards.specs.Changes.{after_begin, after_again, after_leave, after_answer, answered_ledger}
 use Rattle.ell_cards.specs.Guards.{MayBegin, MayStop, MayAnswer, AnswersAtLeaf, AnswersByCard, IsOver}
 use Rattle.ell_cards.specs.Rule.{TableState, seated, seat_worker, EntryHolds, Kept}
 use Rattle.ell_cards.specs.Laws.{IsEvent}
@@ -61,7 +61,7 @@ module _ (keys : List ℕ) (cards : ℕ) (s : TableState) (r : Kept keys cards s
   -- again
   pub keeps_again : MayStop v → IsEvent keys cards s r id v call.Again
   keeps_again may =
-      let after = after_begin v.worker.operation v in
+      let after = after_again v in
       let happens : Happens cards act.Again (mine keys cards s r id v here) Moved (becomes keys cards s r id v here r.words after) = record {
         owned = λ h. h;
         row = record { may = record { op = may.op; busy = may.busy; backed = may.backed }; says = refl; gives = refl };
