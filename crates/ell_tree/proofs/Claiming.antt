@@ -1,4 +1,4 @@
-use Rattle.std.proofs.Common.{◌≡◌, ℕ, ◌+◌, ◌≤◌, true, false, None, List, [], ◌∷◌, refl, sym, ◌∙◌, ap, subst, arith}
+use Rattle.std.proofs.Common.{◌≡◌, ℕ, ◌+◌, ◌≤◌, true, false, None, List, [], ◌∷◌, length, refl, sym, ◌∙◌, ap, subst, arith}
 use Rattle.ell_ops.specs.declared.op.Op.{Op}
 use Rattle.ell_word.specs.declared.update.State.TheVariants as state
 use Rattle.ell_core.specs.declared.field.Field.{Field}
@@ -6,8 +6,9 @@ use Rattle.ell_core.specs.declared.field.Field.TheVariants as field
 use Rattle.ell_core.specs.declared.view.Search.{Search}
 use Rattle.ell_cards.specs.declared.view.Told.{Told}
 use Rattle.ell_cards.specs.declared.view.Told.TheVariants.{Info}
+use Rattle.ell_cards.specs.declared.view.Hindrance.TheVariants.{Claim}
 use Rattle.ell_cards.specs.declared.view.View.{View}
-use Rattle.ell_cards.specs.Models.{PassModel, Steps, Has, latest, earlier, Does}
+use Rattle.ell_cards.specs.Models.{PassModel, Steps, one_more as one_step_more, Has, latest, earlier, Does}
 use Rattle.ell_cards.specs.Changes.{after_next, after_claim, filling_of, told_filling, told_fixed}
 use Rattle.ell_cards.specs.Guards.{MayClaim, Wants}
 use Rattle.ell_cards.proofs.words.Updates.{clean_word}
@@ -15,9 +16,10 @@ use Rattle.ell_cards.proofs.views.Entries.{filling_more}
 use Rattle.ell_cards.proofs.views.Steps.{view_after}
 use Rattle.ell_cards.proofs.views.Searches.{may_claim}
 use Rattle.ell_tree.specs.declared.searching.Place.{Place}
+use Rattle.ell_tree.specs.Hindrances.{Meets}
 use Rattle.ell_tree.specs.Keeping.{Keeps, Goes}
 use Rattle.ell_tree.specs.Searches.{seen, IsAt}
-use Rattle.ell_tree.specs.Tries.{HasCard}
+use Rattle.ell_tree.specs.Tries.{HasCard, HasNone}
 use Rattle.ell_tree.proofs.Keeping.{goes_step, goes_trans, next_keeps}
 
 -- what fills a card tells the same beside whatever was told before
@@ -47,13 +49,12 @@ won_keeps c v = record {
   ledger = refl;
   operation = refl;
   answers = refl;
-  hindrances = omega arith;
   knows = λ f h. h;
   told = filling_more c (filling_of c v) v.told;
 }
 
 lost_keeps : (c : ℕ) (v : View) → Keeps v (after_claim false c v)
-lost_keeps c v = record { ledger = refl; operation = refl; answers = refl; hindrances = omega arith; knows = λ f h. h; told = λ e h. h }
+lost_keeps c v = record { ledger = refl; operation = refl; answers = refl; knows = λ f h. h; told = λ e h. h }
 
 -- where a search stands at a leaf, and the claim word was read, a claim may be made
 pub may_claim_at : (old new : PassModel) (c : ℕ) (op : Op) (place : Place) → Steps old new (after_next c old.view) → Does old.view op
@@ -90,9 +91,18 @@ module _ (a b d : PassModel) (c : ℕ) (read : Steps a b (after_next c a.view)) 
       goes_trans a b d 1 1 2 (goes_step a b (after_next c a.view) read (next_keeps c a.view))
       (goes_step b d (after_claim false c b.view) s (lost_keeps c b.view)) (omega arith)
 
+  -- and nothing was in the way
+  pub won_calm : Steps b d (after_claim true c b.view) → d.view.hindrances ≡ a.view.hindrances
+  won_calm s =
+      ap (λ (w : View). w.hindrances)
+      (view_after b d (after_claim true c b.view) s ∙ ap (after_claim true c) (view_after a b (after_next c a.view) read))
+
   pub lost_claims : Steps b d (after_claim false c b.view) → a.view.worker.card ≡ None
-      → (d.view.worker.card ≡ None) × (a.view.hindrances + 1 ≤ d.view.hindrances)
+      → HasNone a d × Meets a.view d.view × (length a.view.hindrances + 1 ≤ length d.view.hindrances)
   lost_claims s none =
-      subst (λ (w : View). (w.worker.card ≡ None) × (a.view.hindrances + 1 ≤ w.hindrances))
-      (sym (view_after b d (after_claim false c b.view) s ∙ ap (after_claim false c) (view_after a b (after_next c a.view) read)))
-      (none, omega arith)
+      subst (λ (p : PassModel). HasNone a p × Meets a.view p.view × (length a.view.hindrances + 1 ≤ length p.view.hindrances))
+      (sym (s ∙ ap (λ (p : PassModel). record { table = p.table; view = after_claim false c p.view; steps = one_step_more p.steps; label = p.label }) read)) (
+        record { no_card = none; search = refl },
+        record { met = Claim c ∷ []; list = refl; over = (tt, tt); knows = λ f h. h },
+        omega arith,
+      )

@@ -17,7 +17,7 @@ use Rattle.ell_tree.specs.declared.searching.Passed.{Passed}
 use Rattle.ell_tree.specs.declared.searching.Place.{Place}
 use Rattle.ell_tree.specs.Keeping.{Keeps, Goes, IsInnerMet, IsSeenAt}
 use Rattle.ell_tree.specs.Searches.{seen, seen_any}
-use Rattle.ell_tree.specs.Tries.{HasCard, Fills, Flags}
+use Rattle.ell_tree.specs.Tries.{HasCard, Fills, Flags, IsFlagged, IsUnflagged}
 use Rattle.ell_tree.proofs.Keeping.{place_told}
 
 -- a card that is filled is in hand, not flagged, as before
@@ -66,7 +66,6 @@ module _ (flag : ℕ → Fact) (c x : ℕ) (from : Update) where
     ledger = refl;
     operation = refl;
     answers = refl;
-    hindrances = omega arith;
     knows = λ g h. knows_more (flag c) g v.worker.facts h;
     told = λ e h. h;
   }
@@ -74,7 +73,6 @@ module _ (flag : ℕ → Fact) (c x : ℕ) (from : Update) where
     ledger = refl;
     operation = refl;
     answers = refl;
-    hindrances = omega arith;
     knows = facts_by_more u.state u.card v.worker.facts;
     told = places_more x u.state u.card v.told;
   }
@@ -95,14 +93,20 @@ module _ (flag : ℕ → Fact) (c x : ℕ) (from : Update) where
     flag_ends cards holds node named = by r flagged_view named
       where
         by : (q : Result (Unit {0}) Update) → d.view ≡ flagging q (with_stores b.view.filled a.view) → IfErr q (λ u. u.card ≤ cards) → Flags cards flag c x a d q
-        by (Ok won) e m = subst (λ (v : View). Knows v (flag c) × (v.worker.card ≡ Some c) × (v.worker.flagged ≡ true)) (sym e)
-            (knows_new (flag c) a.view.worker.facts, holds, refl)
-        by (Err u) e m = subst (λ (v : View). IsSeenAt cards v x u × (v.worker.card ≡ None) × (a.view.hindrances + 1 ≤ v.hindrances)) (sym e) (
-          record {
+        by (Ok won) e m = subst (IsFlagged flag c a.view) (sym e) (record {
+          knows = knows_new (flag c) a.view.worker.facts;
+          card = holds;
+          flagged = refl;
+          nowhere = refl;
+          hindrances = refl;
+        })
+        by (Err u) e m = subst (IsUnflagged cards x u a.view) (sym e) (record {
+          seen = record {
             node = record { met = places_more x u.state u.card a.view.told (Met x) node.met; inner = node.inner; there = node.there };
             named = m;
             place = place_told x u.state u.card a.view (flagging (Err u) (with_stores b.view.filled a.view)) refl refl;
-          },
-          refl,
-          omega arith,
-        )
+          };
+          no_card = refl;
+          nowhere = refl;
+          hindrances = refl;
+        })

@@ -11,30 +11,16 @@ use Rattle.ell_cards.specs.declared.view.Told.{Told}
 use Rattle.ell_cards.specs.declared.view.Told.TheVariants.{Met, Info}
 use Rattle.ell_cards.specs.declared.view.View.{View}
 use Rattle.ell_cards.specs.Models.{PassModel, Steps, Has, latest, earlier, IsTold, Knows}
-use Rattle.ell_cards.specs.Changes.{facts_by, places_by, hindered_by, learning, with_found, after_upd, after_down, after_key_of, after_info, after_frozen_child, after_next}
+use Rattle.ell_cards.specs.Changes.{facts_by, places_by, learning, with_found, after_upd, after_down, after_key_of, after_info, after_frozen_child, after_next}
 use Rattle.ell_cards.proofs.views.Facts.{knows_new, knows_more, facts_by_more}
 use Rattle.ell_cards.proofs.views.Entries.{places_more, info_more}
-use Rattle.ell_tree.specs.Keeping.{Keeps, Goes, Walks, IsInnerMet, TellsPlace, IsSeenAt}
-
--- an update other than clean is a hindrance
-pub hindered_more : (s : State) (n : ℕ) → n ≤ hindered_by s n
-hindered_more state.IFlag n = omega arith
-hindered_more state.DFlag n = omega arith
-hindered_more state.Mark n = omega arith
-hindered_more state.Clean n = omega arith
-
-pub hindered_once_more : (s : State) (n : ℕ) → s ≢ state.Clean → n + 1 ≤ hindered_by s n
-hindered_once_more state.IFlag n h = omega arith
-hindered_once_more state.DFlag n h = omega arith
-hindered_once_more state.Mark n h = omega arith
-hindered_once_more state.Clean n h = absurd (h refl)
+use Rattle.ell_tree.specs.Keeping.{Keeps, Goes, Seeks, Works, Walks, IsInnerMet, TellsPlace, IsSeenAt}
 
 pub keeps_trans : (u v w : View) → Keeps u v → Keeps v w → Keeps u w
 keeps_trans u v w a b = record {
   ledger = b.ledger ∙ a.ledger;
   operation = b.operation ∙ a.operation;
   answers = b.answers ∙ a.answers;
-  hindrances = omega (arith, a.hindrances, b.hindrances);
   knows = λ f h. b.knows f (a.knows f h);
   told = λ e h. b.told e (a.told e h);
 }
@@ -47,12 +33,66 @@ goes_trans a b c m n k h h' le = record {
   steps = omega (arith, h.steps, h'.steps, le);
 }
 
-pub walks_trans : (a b c : PassModel) (m n k : ℕ) → Walks a b m → Walks b c n → m + n ≤ k → Walks a c k
-walks_trans a b c m n k h h' le = record {
+pub seeks_trans : (a b c : PassModel) (m n k : ℕ) → Seeks a b m → Seeks b c n → m + n ≤ k → Seeks a c k
+seeks_trans a b c m n k h h' le = record {
   goes = goes_trans a b c m n k h.goes h'.goes le;
   card = h'.card ∙ h.card;
   flagged = h'.flagged ∙ h.flagged;
+  hindrances = h'.hindrances ∙ h.hindrances;
 }
+
+pub works_trans : (a b c : PassModel) (m n k : ℕ) → Works a b m → Works b c n → m + n ≤ k → Works a c k
+works_trans a b c m n k h h' le = record {
+  goes = goes_trans a b c m n k h.goes h'.goes le;
+  card = h'.card ∙ h.card;
+  flagged = h'.flagged ∙ h.flagged;
+  search = h'.search ∙ h.search;
+}
+
+-- with no more than so many steps
+pub works_within : (a b : PassModel) (m n : ℕ) → Works a b m → m ≤ n → Works a b n
+works_within a b m n h le = record {
+  goes = record { table = h.goes.table; label = h.goes.label; view = h.goes.view; steps = omega (arith, h.goes.steps, le) };
+  card = h.card;
+  flagged = h.flagged;
+  search = h.search;
+}
+
+pub works_of : (a b : PassModel) (n : ℕ) → Walks a b n → Works a b n
+works_of a b n h = record { goes = h.goes; card = h.card; flagged = h.flagged; search = h.search }
+
+-- where it was quiet at first, and then made other steps
+pub works_more : (a b c : PassModel) (m n k : ℕ) → Works a b m → Walks b c n → m + n ≤ k → Works a c k
+works_more a b c m n k h h' le = works_trans a b c m n k h (works_of b c n h') le
+
+pub walks_within : (a b : PassModel) (m n : ℕ) → Walks a b m → m ≤ n → Walks a b n
+walks_within a b m n h le = record {
+  goes = record { table = h.goes.table; label = h.goes.label; view = h.goes.view; steps = omega (arith, h.goes.steps, le) };
+  card = h.card;
+  flagged = h.flagged;
+  search = h.search;
+  hindrances = h.hindrances;
+}
+
+pub walks_none : (a : PassModel) (n : ℕ) → Walks a a n
+walks_none a n = record {
+  goes = record {
+    table = refl;
+    label = refl;
+    view = record { ledger = refl; operation = refl; answers = refl; knows = λ f h. h; told = λ e h. h };
+    steps = omega arith;
+  };
+  card = refl;
+  flagged = refl;
+  search = refl;
+  hindrances = refl;
+}
+
+pub works_told : (a b : PassModel) (n : ℕ) (e : Told) → Works a b n → IsTold a.view e → IsTold b.view e
+works_told a b n e w h = w.goes.view.told e h
+
+pub works_knows : (a b : PassModel) (n : ℕ) (f : Fact) → Works a b n → Knows a.view f → Knows b.view f
+works_knows a b n f w h = w.goes.view.knows f h
 
 -- what was told and known stays so
 pub walks_told : (a b : PassModel) (n : ℕ) (e : Told) → Walks a b n → IsTold a.view e → IsTold b.view e
@@ -97,43 +137,58 @@ place_told x state.Clean c v w f t = tt
 pub goes_step : (old new : PassModel) (v : View) → Steps old new v → Keeps old.view v → Goes old new 1
 goes_step old new v s k = subst (λ (m : PassModel). Goes old m 1) (sym s) (record { table = refl; label = refl; view = k; steps = omega arith })
 
+pub seeks_step : (old new : PassModel) (v : View) → Steps old new v → Keeps old.view v → v.worker.card ≡ old.view.worker.card
+    → v.worker.flagged ≡ old.view.worker.flagged → v.hindrances ≡ old.view.hindrances → Seeks old new 1
+seeks_step old new v s k card flagged hindrances =
+    subst (λ (m : PassModel). Seeks old m 1) (sym s)
+    (record { goes = record { table = refl; label = refl; view = k; steps = omega arith }; card = card; flagged = flagged; hindrances = hindrances })
+
+pub works_step : (old new : PassModel) (v : View) → Steps old new v → Keeps old.view v → v.worker.card ≡ old.view.worker.card
+    → v.worker.flagged ≡ old.view.worker.flagged → v.worker.search ≡ old.view.worker.search → Works old new 1
+works_step old new v s k card flagged search =
+    subst (λ (m : PassModel). Works old m 1) (sym s)
+    (record { goes = record { table = refl; label = refl; view = k; steps = omega arith }; card = card; flagged = flagged; search = search })
+
 pub walks_step : (old new : PassModel) (v : View) → Steps old new v → Keeps old.view v → v.worker.card ≡ old.view.worker.card
-    → v.worker.flagged ≡ old.view.worker.flagged → Walks old new 1
-walks_step old new v s k card flagged =
-    subst (λ (m : PassModel). Walks old m 1) (sym s)
-    (record { goes = record { table = refl; label = refl; view = k; steps = omega arith }; card = card; flagged = flagged })
+    → v.worker.flagged ≡ old.view.worker.flagged → v.worker.search ≡ old.view.worker.search → v.hindrances ≡ old.view.hindrances → Walks old new 1
+walks_step old new v s k card flagged search hindrances =
+    subst (λ (m : PassModel). Walks old m 1) (sym s) (record {
+      goes = record { table = refl; label = refl; view = k; steps = omega arith };
+      card = card;
+      flagged = flagged;
+      search = search;
+      hindrances = hindrances;
+    })
 
 pub upd_keeps : (x : ℕ) (u : Update) (v : View) → Keeps v (after_upd x u v)
 upd_keeps x u v = record {
   ledger = refl;
   operation = refl;
   answers = refl;
-  hindrances = hindered_more u.state v.hindrances;
   knows = facts_by_more u.state u.card v.worker.facts;
   told = places_more x u.state u.card v.told;
 }
 
 pub key_of_keeps : (x key : ℕ) (v : View) → Keeps v (after_key_of x key v)
-key_of_keeps x key v = record { ledger = refl; operation = refl; answers = refl; hindrances = omega arith; knows = λ f h. h; told = λ e h. earlier e _ _ h }
+key_of_keeps x key v = record { ledger = refl; operation = refl; answers = refl; knows = λ f h. h; told = λ e h. earlier e _ _ h }
 
 pub down_keeps : (x child : ℕ) (v : View) → Keeps v (after_down x child v)
-down_keeps x child v = record { ledger = refl; operation = refl; answers = refl; hindrances = omega arith; knows = λ f h. h; told = λ e h. earlier e _ _ h }
+down_keeps x child v = record { ledger = refl; operation = refl; answers = refl; knows = λ f h. h; told = λ e h. earlier e _ _ h }
 
 pub info_keeps : (c : ℕ) (f : Field) (x : ℕ) (v : View) → Keeps v (after_info c f x v)
-info_keeps c f x v = record { ledger = refl; operation = refl; answers = refl; hindrances = omega arith; knows = λ g h. h; told = info_more c f x v.told }
+info_keeps c f x v = record { ledger = refl; operation = refl; answers = refl; knows = λ g h. h; told = info_more c f x v.told }
 
 pub frozen_keeps : (c : ℕ) (right : Bool) (x : ℕ) (v : View) → Keeps v (after_frozen_child c right x v)
-frozen_keeps c right x v = record { ledger = refl; operation = refl; answers = refl; hindrances = omega arith; knows = λ f h. h; told = λ e h. earlier e _ _ (earlier e _ _ h) }
+frozen_keeps c right x v = record { ledger = refl; operation = refl; answers = refl; knows = λ f h. h; told = λ e h. earlier e _ _ (earlier e _ _ h) }
 
 pub learning_keeps : (n : ℕ) (f : Fact) (v : View) → Keeps v (with_found n (learning f v))
 learning_keeps n f v = record {
   ledger = refl;
   operation = refl;
   answers = refl;
-  hindrances = omega arith;
   knows = λ g h. knows_more f g v.worker.facts h;
   told = λ e h. h;
 }
 
 pub next_keeps : (n : ℕ) (v : View) → Keeps v (after_next n v)
-next_keeps n v = record { ledger = refl; operation = refl; answers = refl; hindrances = omega arith; knows = λ f h. h; told = λ e h. h }
+next_keeps n v = record { ledger = refl; operation = refl; answers = refl; knows = λ f h. h; told = λ e h. h }

@@ -1,5 +1,9 @@
 -- what steps keep
 pub mod Keeping
+-- what was in the way, and that it is over
+pub mod Meeting
+-- what was in the way of a try, by how it ended
+pub mod Halting
 -- steps that read a word
 pub mod Looking
 -- a search, node by node

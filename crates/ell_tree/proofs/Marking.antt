@@ -1,4 +1,4 @@
-use Rattle.std.proofs.Common.{◌≡◌, ℕ, ◌+◌, ◌≤◌, ◌==◌, if◌then◌else◌, Bool, true, false, Option, Some, None, Result, Ok, Err, ◌∷◌, IfSome, IfErr, refl, sym, subst, arith, is_ok, eq-eqb}
+use Rattle.std.proofs.Common.{◌≡◌, ℕ, ◌+◌, ◌≤◌, ◌==◌, if◌then◌else◌, Bool, true, false, Option, Some, None, Result, Ok, Err, ◌∷◌, IfSome, IfErr, refl, sym, ap, subst, arith, is_ok}
 use Rattle.ell_word.specs.declared.update.Update.{Update}
 use Rattle.ell_word.specs.Word.{unpacked}
 use Rattle.ell_core.specs.declared.fact.Fact.TheVariants as fact
@@ -9,30 +9,19 @@ use Rattle.ell_cards.specs.Changes.{learning, with_found, found_word, found_upda
 use Rattle.ell_cards.proofs.views.Facts.{knows_new, knows_more, facts_by_more}
 use Rattle.ell_cards.proofs.views.Entries.{places_more}
 use Rattle.ell_cards.proofs.views.Steps.{view_after}
-use Rattle.ell_tree.specs.Keeping.{Keeps, Walks, IsInnerMet}
-use Rattle.ell_tree.specs.Helps.{IsLost, found_instead}
-use Rattle.ell_tree.proofs.Keeping.{walks_step, learning_keeps, place_told}
+use Rattle.ell_tree.specs.Keeping.{Keeps, Works, IsInnerMet}
+use Rattle.ell_tree.specs.Helps.{IsLost, found_instead, met_by_mark}
+use Rattle.ell_tree.proofs.Keeping.{works_step, learning_keeps, place_told}
 
 -- the view after a mark that was answered so
 abbrev marking : ℕ → ℕ → ℕ → Result (Unit {0}) Update → View → View
 marking c p was r v = with_found (found_word was r) (after_mark (is_ok r) c p (found_update (unpacked was) r) v)
-
-one_more_if : (b : Bool) (n : ℕ) → n ≤ (if b then n + 1 else n)
-one_more_if true n = omega arith
-one_more_if false n = omega arith
-
-own_card : (o : Option ℕ) (c n : ℕ) → o ≡ Some c → n + 1 ≤ (if is_held o c then n + 1 else n)
-own_card None c n e = cc
-own_card (Some d) c n e =
-    let held : (d == c) ≡ true = eq-eqb d c (cc) in
-    subst (λ (b : Bool). n + 1 ≤ (if b then n + 1 else n)) (sym held) (omega arith)
 
 unmarking_keeps : (n c p : ℕ) (u : Update) (v : View) → Keeps v (with_found n (unmarking c p u v))
 unmarking_keeps n c p u v = record {
   ledger = refl;
   operation = refl;
   answers = refl;
-  hindrances = one_more_if (is_held v.worker.card c) v.hindrances;
   knows = λ g h. facts_by_more u.state u.card (fact.Unmarkable c ∷ v.worker.facts) g (knows_more (fact.Unmarkable c) g v.worker.facts h);
   told = places_more p u.state u.card v.told;
 }
@@ -42,37 +31,45 @@ module _ (n c p : ℕ) (u : Update) (old new : PassModel) where
   abbrev either : Bool → View
   either b = with_found n (if b then learning (fact.Marked c) old.view else unmarking c p u old.view)
 
-  either_walks : (b : Bool) → Steps old new (either b) → Walks old new 1
-  either_walks true s = walks_step old new (either true) s (learning_keeps n (fact.Marked c) old.view) refl refl
-  either_walks false s = walks_step old new (either false) s (unmarking_keeps n c p u old.view) refl refl
+  either_works : (b : Bool) → Steps old new (either b) → Works old new 1
+  either_works true s = works_step old new (either true) s (learning_keeps n (fact.Marked c) old.view) refl refl refl
+  either_works false s = works_step old new (either false) s (unmarking_keeps n c p u old.view) refl refl refl
+
+  either_met : (b : Bool) → Steps old new (either b) → new.view.hindrances ≡ met_by_mark c (if b then None else Some u) old.view
+  either_met true s = ap (λ (w : View). w.hindrances) (view_after old new (either true) s)
+  either_met false s = ap (λ (w : View). w.hindrances) (view_after old new (either false) s)
 
   either_marked : (b : Bool) → Steps old new (either b) → (if b then None else Some u) ≡ None → Knows new.view (fact.Marked c)
   either_marked true s e = subst (λ (w : View). Knows w (fact.Marked c)) (sym (view_after old new (either true) s)) (knows_new (fact.Marked c) old.view.worker.facts)
   either_marked false s e = cc
 
   either_lost : (cards : ℕ) (b : Bool) → Steps old new (either b) → IsInnerMet cards old.view p → u.card ≤ cards
-      → IfSome (if b then None else Some u) (λ x. IsLost cards c p x old.view new.view)
+      → IfSome (if b then None else Some u) (λ x. IsLost cards c p x new.view)
   either_lost cards true s node named = tt
-  either_lost cards false s node named = subst (λ (w : View). IsLost cards c p u old.view w) (sym (view_after old new (either false) s)) (record {
+  either_lost cards false s node named = subst (λ (w : View). IsLost cards c p u w) (sym (view_after old new (either false) s)) (record {
     knows = facts_by_more u.state u.card (fact.Unmarkable c ∷ old.view.worker.facts) (fact.Unmarkable c) (knows_new (fact.Unmarkable c) old.view.worker.facts);
     seen = record {
       node = record { met = places_more p u.state u.card old.view.told (Met p) node.met; inner = node.inner; there = node.there };
       named = named;
       place = place_told p u.state u.card (learning (fact.Unmarkable c) old.view) (either false) refl refl;
     };
-    hindered = λ e. own_card old.view.worker.card c old.view.hindrances e;
   })
 
 module _ (c p was : ℕ) (old new : PassModel) where
-  pub mark_walks : (r : Result (Unit {0}) Update) → Steps old new (marking c p was r old.view) → Walks old new 1
-  mark_walks (Ok won) s = walks_step old new (marking c p was (Ok won) old.view) s (learning_keeps was (fact.Marked c) old.view) refl refl
-  mark_walks (Err u) s = either_walks (found_word was (Err u)) c p u old new (is_mark_of c u.state u.card) s
+  pub mark_works : (r : Result (Unit {0}) Update) → Steps old new (marking c p was r old.view) → Works old new 1
+  mark_works (Ok won) s = works_step old new (marking c p was (Ok won) old.view) s (learning_keeps was (fact.Marked c) old.view) refl refl refl
+  mark_works (Err u) s = either_works (found_word was (Err u)) c p u old new (is_mark_of c u.state u.card) s
+
+  pub mark_met : (r : Result (Unit {0}) Update) → Steps old new (marking c p was r old.view)
+      → new.view.hindrances ≡ met_by_mark c (found_instead c r) old.view
+  mark_met (Ok won) s = ap (λ (w : View). w.hindrances) (view_after old new (marking c p was (Ok won) old.view) s)
+  mark_met (Err u) s = either_met (found_word was (Err u)) c p u old new (is_mark_of c u.state u.card) s
 
   pub mark_marked : (r : Result (Unit {0}) Update) → Steps old new (marking c p was r old.view) → found_instead c r ≡ None → Knows new.view (fact.Marked c)
   mark_marked (Ok won) s e = subst (λ (w : View). Knows w (fact.Marked c)) (sym (view_after old new (marking c p was (Ok won) old.view) s)) (knows_new (fact.Marked c) old.view.worker.facts)
   mark_marked (Err u) s e = either_marked (found_word was (Err u)) c p u old new (is_mark_of c u.state u.card) s e
 
   pub mark_lost : (cards : ℕ) (r : Result (Unit {0}) Update) → Steps old new (marking c p was r old.view) → IsInnerMet cards old.view p
-      → IfErr r (λ u. u.card ≤ cards) → IfSome (found_instead c r) (λ u. IsLost cards c p u old.view new.view)
+      → IfErr r (λ u. u.card ≤ cards) → IfSome (found_instead c r) (λ u. IsLost cards c p u new.view)
   mark_lost cards (Ok won) s node named = tt
   mark_lost cards (Err u) s node named = either_lost (found_word was (Err u)) c p u old new cards (is_mark_of c u.state u.card) s node named

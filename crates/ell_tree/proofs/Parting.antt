@@ -1,4 +1,4 @@
-use Rattle.std.proofs.Common.{◌≡◌, ◌≢◌, ℕ, ◌==◌, ◌||◌, max, if◌then◌else◌, Bool, true, false, cond, Option, Some, None, Result, Ok, Err, IfOk, List, [], ◌∷◌, refl, sym, ◌∙◌, ap, subst, inl, inr}
+use Rattle.std.proofs.Common.{◌≡◌, ◌≢◌, ℕ, ◌==◌, ◌||◌, max, if◌then◌else◌, Bool, true, false, cond, Option, Some, None, Result, Ok, Err, IfOk, List, [], ◌∷◌, refl, sym, ◌∙◌, ap, subst, inl, inr, length-append}
 use Rattle.ell_core.specs.state.Machine.{ledger_of}
 use Rattle.ell_cards.specs.Models.{PassModel, TableModel, Steps, one_more}
 use Rattle.ell_cards.specs.Changes.{all_absent, first_view, is_among, part_on, part_off, left_view, right_view, united, joined_view}
@@ -87,7 +87,7 @@ union left right both e = subst (IsUnion left right) (sym e) (record {
   own = refl;
   ledger = both_ledger left.view.worker.ledger right.view.worker.ledger;
   answers = refl;
-  hindrances = refl;
+  hindrances = length-append left.view.hindrances right.view.hindrances;
   steps = refl;
   label = refl;
   idle = refl;

@@ -4,6 +4,7 @@ use Rattle.ell_ops.specs.Meaning.{reply_of, after}
 use Rattle.ell_cards.specs.Models.{PassModel}
 use Rattle.ell_tree.specs.declared.operations.Held.{Held}
 use Rattle.ell_tree.specs.declared.operations.Held.TheVariants.{Busy, Spent}
+use Rattle.ell_tree.specs.Hindrances.{Meets}
 use Rattle.ell_tree.specs.Ledgers.{present_in, Owns, answers, hindrances, IsIdle}
 
 -- an operation was answered: as a set answers it that has the pass's keys present, which becomes the set after it
@@ -31,10 +32,10 @@ abbrev pub HeldFor : ℕ → ℕ → PassModel → PassModel → Held → Type 0
 HeldFor cards tries old new Busy = hindrances old + tries ≤ hindrances new
 HeldFor cards tries old new Spent = new.view.next ≡ Some (cards + 1)
 
--- how an insert or a delete ends
+-- how an insert or a delete ends; whatever was in its way is over
 abbrev pub Ends : ℕ → ℕ → Op → PassModel → PassModel → Result Bool Held → Type 0
-Ends cards tries op old new (Ok said) = Answers op said old new
-Ends cards tries op old new (Err why) = LaidDown op old new × HeldFor cards tries old new why
+Ends cards tries op old new (Ok said) = Answers op said old new × Meets old.view new.view
+Ends cards tries op old new (Err why) = LaidDown op old new × HeldFor cards tries old new why × Meets old.view new.view
 
 -- the most steps of a find in a tree of so many cards
 abbrev pub find_steps : ℕ → ℕ

@@ -1,20 +1,21 @@
-use Rattle.std.specs.Prelude.{◌≡◌, ℕ, ◌⊎◌, ◌+◌, ◌-◌, ◌*◌, ◌<◌, ◌≤◌, if◌then◌else◌, Option, Some, None, Result, Ok, Err}
+use Rattle.std.specs.Prelude.{◌≡◌, ℕ, ◌+◌, ◌-◌, ◌*◌, ◌<◌, ◌≤◌, if◌then◌else◌, Option, Some, None, Result, Ok, Err, List, ◌∷◌, length}
 use Rattle.ell_word.specs.declared.update.Update.{Update}
-use Rattle.ell_word.specs.declared.update.State.{State}
-use Rattle.ell_word.specs.declared.update.State.TheVariants as state
 use Rattle.ell_word.specs.Node.{card}
 use Rattle.ell_core.specs.declared.fact.Fact.TheVariants as fact
 use Rattle.ell_core.specs.declared.field.Field.TheVariants as field
 use Rattle.ell_cards.specs.declared.view.Told.TheVariants.{Info, Key, Met}
+use Rattle.ell_cards.specs.declared.view.Hindrance.{Hindrance}
+use Rattle.ell_cards.specs.declared.view.Hindrance.TheVariants.{Found}
 use Rattle.ell_cards.specs.declared.view.View.{View}
 use Rattle.ell_cards.specs.Models.{PassModel, IsTold, Knows}
-use Rattle.ell_cards.specs.Changes.{is_mark_of}
+use Rattle.ell_cards.specs.Changes.{is_mark_of, is_held}
 use Rattle.ell_cards.specs.Guards.{IsSibling}
 use Rattle.ell_tree.specs.declared.steps.KeyedNode.{KeyedNode}
 use Rattle.ell_tree.specs.declared.helping.DeleteFlag.{DeleteFlag}
 use Rattle.ell_tree.specs.declared.helping.Ending.{Ending}
 use Rattle.ell_tree.specs.declared.helping.Ending.TheVariants.{Done, Backed, Behind}
-use Rattle.ell_tree.specs.Keeping.{Walks, IsInnerMet, IsSeenAt}
+use Rattle.ell_tree.specs.Hindrances.{Meets, MeetsUpTo}
+use Rattle.ell_tree.specs.Keeping.{Works, IsInnerMet, IsSeenAt}
 
 -- the flag of an insert is known, and where its card goes
 pub record IsInsert (v : View) (c p l k : ℕ) : Type 0 where
@@ -54,39 +55,37 @@ abbrev pub found_instead : ℕ → Result (Unit {0}) Update → Option Update
 found_instead c (Ok won) = None
 found_instead c (Err found) = if is_mark_of c found.state found.card then None else Some found
 
--- the mark of a card was lost to another update at its parent, a hindrance where the card is in hand
-pub record IsLost (cards c p : ℕ) (found : Update) (v w : View) : Type 0 where
+-- what was in the way once a mark of a card was made: the update that was found instead, if the card is the one in hand
+abbrev pub met_by_mark : ℕ → Option Update → View → List Hindrance
+met_by_mark c None v = v.hindrances
+met_by_mark c (Some found) v = if is_held v.worker.card c then Found found ∷ v.hindrances else v.hindrances
+
+-- the mark of a card was lost to another update at its parent
+pub record IsLost (cards c p : ℕ) (found : Update) (w : View) : Type 0 where
   pub knows : Knows w (fact.Unmarkable c)
   pub seen : IsSeenAt cards w p found
-  pub hindered : v.worker.card ≡ Some c → v.hindrances + 1 ≤ w.hindrances
 
--- the flag of a delete that lost its mark was taken away
+-- the flag of a delete that lost its mark was taken away, a hindrance where its card is in hand
 pub record IsBacked (c : ℕ) (v w : View) : Type 0 where
   pub knows : Knows w (fact.Backed c)
-  pub hindered : v.worker.card ≡ Some c → v.hindrances + 1 ≤ w.hindrances
-
--- a delete whose flag was won is known to have ended: its parent was cut out, or its flag taken back
-abbrev pub IsDeleteEnded : View → ℕ → Type 0
-IsDeleteEnded v c = Knows v (fact.DOver c) ⊎ Knows v (fact.Backed c)
-
--- what a flag or a mark of a card says is under way is known to have ended
-abbrev pub IsEnded : View → State → ℕ → Type 0
-IsEnded v state.IFlag c = Knows v (fact.IOver c)
-IsEnded v state.DFlag c = IsDeleteEnded v c
-IsEnded v state.Mark c = Knows v (fact.DOver c)
-IsEnded v state.Clean c = Unit {0}
+  pub hindered : v.worker.card ≡ Some c → length v.hindrances + 1 ≤ length w.hindrances
 
 -- how a delete ends whose flag was won, and in how many steps
 abbrev pub DeleteEnds : ℕ → ℕ → ℕ → PassModel → PassModel → Ending → Type 0
-DeleteEnds cards c p old new Done = Walks old new 8 × Knows new.view (fact.DOver c)
-DeleteEnds cards c p old new Backed = Walks old new 10 × IsBacked c old.view new.view
-DeleteEnds cards c p old new (Behind flag) = Walks old new 2 × IsBacked c old.view new.view × IsFlag cards new.view flag × (flag.grandparent ≡ p)
+DeleteEnds cards c p old new Done = Works old new 8 × Meets old.view new.view × Knows new.view (fact.DOver c)
+DeleteEnds cards c p old new Backed = Works old new 10 × Meets old.view new.view × IsBacked c old.view new.view
+DeleteEnds cards c p old new (Behind flag) =
+    Works old new 2 × MeetsUpTo flag.card old.view new.view × IsBacked c old.view new.view × IsFlag cards new.view flag × (flag.grandparent ≡ p)
 
 -- one delete is helped to its end, which leads to another's flag that is deeper, or there is no more to do
 abbrev pub HelpEnds : ℕ → DeleteFlag → PassModel → PassModel → Ending → Type 0
-HelpEnds cards flag old new Done = Walks old new 12 × (card flag.grandparent + 1 ≤ cards) × Knows new.view (fact.DOver flag.card)
-HelpEnds cards flag old new Backed = Walks old new 12 × (card flag.grandparent + 1 ≤ cards) × Knows new.view (fact.Backed flag.card)
-HelpEnds cards flag old new (Behind next) = Walks old new 4 × IsFlag cards new.view next × (flag.grandparent < next.grandparent) × Knows new.view (fact.Backed flag.card)
+HelpEnds cards flag old new Done =
+    Works old new 12 × Meets old.view new.view × (card flag.grandparent + 1 ≤ cards) × Knows new.view (fact.DOver flag.card)
+HelpEnds cards flag old new Backed =
+    Works old new 12 × Meets old.view new.view × (card flag.grandparent + 1 ≤ cards) × Knows new.view (fact.Backed flag.card)
+HelpEnds cards flag old new (Behind next) =
+    Works old new 4 × MeetsUpTo next.card old.view new.view × IsFlag cards new.view next × (flag.grandparent < next.grandparent)
+    × Knows new.view (fact.Backed flag.card)
 
 -- the most steps of a chain of helps that begins with a delete's flag at this node
 abbrev pub chain_steps : ℕ → ℕ → ℕ

@@ -11,12 +11,11 @@ use Rattle.ell_cards.specs.declared.view.Told.TheVariants.{Met, Info}
 use Rattle.ell_cards.specs.declared.view.View.{View}
 use Rattle.ell_cards.specs.Models.{PassModel, InTable, IsTold, Knows}
 
--- ledger, operation and answers stay, hindrances only rise, and nothing is forgotten
+-- ledger, operation and answers stay, and nothing is forgotten
 pub record Keeps (v w : View) : Type 0 where
   pub ledger : w.worker.ledger ≡ v.worker.ledger
   pub operation : w.worker.operation ≡ v.worker.operation
   pub answers : w.answers ≡ v.answers
-  pub hindrances : v.hindrances ≤ w.hindrances
   pub knows : (f : Fact) → Knows v f → Knows w f
   pub told : (e : Told) → IsTold v e → IsTold w e
 
@@ -27,11 +26,27 @@ pub record Goes (old new : PassModel) (n : ℕ) : Type 0 where
   pub view : Keeps old.view new.view
   pub steps : new.steps ≤ old.steps + n
 
--- and has the same card in hand
+-- and has the same card in hand, and met nothing in its way
+pub record Seeks (old new : PassModel) (n : ℕ) : Type 0 where
+  pub goes : Goes old new n
+  pub card : new.view.worker.card ≡ old.view.worker.card
+  pub flagged : new.view.worker.flagged ≡ old.view.worker.flagged
+  pub hindrances : new.view.hindrances ≡ old.view.hindrances
+
+-- or has the same card in hand, and its search stands where it stood
+pub record Works (old new : PassModel) (n : ℕ) : Type 0 where
+  pub goes : Goes old new n
+  pub card : new.view.worker.card ≡ old.view.worker.card
+  pub flagged : new.view.worker.flagged ≡ old.view.worker.flagged
+  pub search : new.view.worker.search ≡ old.view.worker.search
+
+-- and met nothing in its way either
 pub record Walks (old new : PassModel) (n : ℕ) : Type 0 where
   pub goes : Goes old new n
   pub card : new.view.worker.card ≡ old.view.worker.card
   pub flagged : new.view.worker.flagged ≡ old.view.worker.flagged
+  pub search : new.view.worker.search ≡ old.view.worker.search
+  pub hindrances : new.view.hindrances ≡ old.view.hindrances
 
 -- an internal node of the table that the pass has met
 pub record IsInnerMet (cards : ℕ) (v : View) (x : ℕ) : Type 0 where

@@ -1,4 +1,4 @@
-use Rattle.std.specs.Prelude.{◌≡◌, ◌≢◌, ℕ, None}
+use Rattle.std.specs.Prelude.{◌≡◌, ◌≢◌, ℕ, None, length}
 use Rattle.ell_ops.specs.KeySet.{KeySet}
 use Rattle.ell_core.specs.state.Machine.{Ledger, ledger_of}
 use Rattle.ell_core.specs.statements.StepLaws.{set_in}
@@ -27,7 +27,7 @@ answers p = p.view.answers
 
 -- how often something was in its way
 abbrev pub hindrances : PassModel → ℕ
-hindrances p = p.view.hindrances
+hindrances p = length p.view.hindrances
 
 -- it has nothing in hand
 abbrev pub IsIdle : PassModel → Type 0

@@ -6,6 +6,8 @@ pub mod Ends
 pub mod Parts
 -- how a tree ends
 pub mod Closing
+-- what was in the way, and when it is over
+pub mod Hindrances
 -- what steps keep
 pub mod Keeping
 -- where a search ends

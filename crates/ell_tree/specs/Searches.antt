@@ -1,7 +1,6 @@
-use Rattle.std.specs.Prelude.{◌≡◌, ◌≢◌, ℕ, ◌+◌, ◌≤◌, ◌↔◌, IfSome, true, Option, Some, None}
+use Rattle.std.specs.Prelude.{◌≡◌, ◌≢◌, ℕ, ◌↔◌, IfSome, true, Option, Some, None}
 use Rattle.ell_ops.specs.declared.op.Op.{Op}
 use Rattle.ell_ops.specs.Meaning.{key_of}
-use Rattle.ell_word.specs.declared.update.State.TheVariants as state
 use Rattle.ell_word.specs.Word.{packed}
 use Rattle.ell_core.specs.declared.view.Seen.{Seen}
 use Rattle.ell_core.specs.declared.view.Search.{Search}
@@ -33,18 +32,17 @@ seen_any (Some x) = Some (seen x)
 abbrev pub below : ℕ → Passed → Option Seen → Search
 below child x above = record { node = Some child; read = None; parent = Some (seen x); grandparent = above }
 
--- what a search read at a node that it passed is known; an update other than clean was a hindrance
-pub record Passes (cards : ℕ) (v w : View) (x : Passed) : Type 0 where
-  pub known : IsSeenAt cards w x.node x.update
-  pub hindered : x.update.state ≢ state.Clean → v.hindrances + 1 ≤ w.hindrances
+-- what a search read at a node that it passed is known
+abbrev pub Passes : ℕ → View → Passed → Type 0
+Passes cards w x = IsSeenAt cards w x.node x.update
 
--- a search that began with one view stands at a node, below a parent and perhaps a grandparent
-pub record Stands (cards : ℕ) (v w : View) (node : ℕ) (parent : Passed) (grandparent : Option Passed) : Type 0 where
+-- a search stands at a node, below a parent and perhaps a grandparent
+pub record Stands (cards : ℕ) (w : View) (node : ℕ) (parent : Passed) (grandparent : Option Passed) : Type 0 where
   pub search : w.worker.search ≡ below node parent (seen_any grandparent)
   pub met : IsTold w (Met node)
   pub there : InTable cards node
-  pub passed : Passes cards v w parent
-  pub passed_above : IfSome grandparent (λ x. Passes cards v w x)
+  pub passed : Passes cards w parent
+  pub passed_above : IfSome grandparent (λ x. Passes cards w x)
 
 -- a search stands at the leaf of a place, and was told its key
 pub record IsAt (w : View) (place : Place) : Type 0 where
@@ -54,9 +52,9 @@ pub record IsAt (w : View) (place : Place) : Type 0 where
 
 -- a search ended at a place, whose key is the operation's exactly where the ledger has that present; and then there is a
 -- grandparent
-pub record EndsAt (cards : ℕ) (v w : View) (op : Op) (place : Place) : Type 0 where
+pub record EndsAt (cards : ℕ) (w : View) (op : Op) (place : Place) : Type 0 where
   pub at : IsAt w place
-  pub passed : Passes cards v w place.parent
-  pub passed_above : IfSome place.grandparent (λ x. Passes cards v w x)
+  pub passed : Passes cards w place.parent
+  pub passed_above : IfSome place.grandparent (λ x. Passes cards w x)
   pub present : (place.key ≡ key_of op) ↔ (ledger_of w.worker.ledger (key_of op) ≡ Some true)
   pub deep : place.key ≡ key_of op → place.grandparent ≢ None

@@ -1,4 +1,4 @@
-use Rattle.std.specs.Prelude.{◌≡◌, ℕ, ◌+◌, ◌≤◌, true, Some, None, List, [], Result, Ok, Err}
+use Rattle.std.specs.Prelude.{◌≡◌, ℕ, ◌+◌, ◌≤◌, ◌++◌, true, Some, None, List, [], ◌∷◌, Result, Ok, Err, length}
 use Rattle.ell_ops.specs.declared.op.Op.{Op}
 use Rattle.ell_ops.specs.declared.op.Op.TheVariants.{Insert, Delete}
 use Rattle.ell_ops.specs.Meaning.{reply_of}
@@ -7,6 +7,8 @@ use Rattle.ell_core.specs.declared.fact.Fact.{Fact}
 use Rattle.ell_core.specs.declared.fact.Fact.TheVariants as fact
 use Rattle.ell_core.specs.declared.field.Field.{Field}
 use Rattle.ell_cards.specs.declared.view.Told.{Told}
+use Rattle.ell_cards.specs.declared.view.Hindrance.{Hindrance}
+use Rattle.ell_cards.specs.declared.view.Hindrance.TheVariants.{Found}
 use Rattle.ell_cards.specs.declared.view.View.{View}
 use Rattle.ell_cards.specs.Models.{PassModel, Has, IsTold, Knows, Does, StandsAt}
 use Rattle.ell_cards.specs.Changes.{told_filling, filling_of, with_stores}
@@ -20,16 +22,18 @@ use Rattle.ell_tree.specs.declared.trying.Tried.{Tried}
 use Rattle.ell_tree.specs.declared.trying.Tried.TheVariants as tried
 use Rattle.ell_tree.specs.Ledgers.{present_in, IsIdle}
 use Rattle.ell_tree.specs.Ends.{Answers}
+use Rattle.ell_tree.specs.Hindrances.{AreOver, Meets, StillKnows, way_of}
 use Rattle.ell_tree.specs.Keeping.{IsSeenAt}
 use Rattle.ell_tree.specs.Searches.{AtRoot, seen, seen_any}
 
--- an operation starts, or starts anew, at the root
-pub record Begins (op : Op) (old new : PassModel) : Type 0 where
+-- an operation starts, or starts anew, at the root; what came to be in its way before
+pub record Begins (op : Op) (met : List Hindrance) (old new : PassModel) : Type 0 where
   pub table : new.table ≡ old.table
   pub label : new.label ≡ old.label
   pub ledger : new.view.worker.ledger ≡ old.view.worker.ledger
   pub answers : new.view.answers ≡ old.view.answers
-  pub hindrances : new.view.hindrances ≡ old.view.hindrances
+  pub hindrances : new.view.hindrances ≡ met ++ old.view.hindrances
+  pub knows : StillKnows old.view new.view
   pub root : AtRoot op new.view
   pub steps : new.steps ≤ old.steps + 1
 
@@ -39,32 +43,36 @@ pub record Stops (op : Op) (v : View) : Type 0 where
   pub backed : (c : ℕ) → v.worker.card ≡ Some c → v.worker.flagged ≡ true → Knows v (fact.Backed c)
 
 -- an operation is laid down: nothing is in hand any more
-pub record Lays (old new : PassModel) : Type 0 where
+pub record Lays (op : Op) (old new : PassModel) : Type 0 where
   pub table : new.table ≡ old.table
   pub label : new.label ≡ old.label
   pub ledger : new.view.worker.ledger ≡ old.view.worker.ledger
   pub answers : new.view.answers ≡ old.view.answers
-  pub hindrances : new.view.hindrances ≡ old.view.hindrances
+  pub hindrances : new.view.hindrances ≡ way_of op old.view ++ old.view.hindrances
+  pub knows : StillKnows old.view new.view
   pub next : new.view.next ≡ old.view.next
   pub idle : IsIdle new
   pub no_card : new.view.worker.card ≡ None
   pub steps : new.steps ≤ old.steps + 1
 
--- a try ended without an answer, though the operation would change the set; nothing of it is under way
+-- a try ended without an answer, though the operation would change the set; nothing of it is under way, and whatever was in its
+-- way is over, what its search has read too
 pub record Halts (op : Op) (old new : PassModel) : Type 0 where
   pub table : new.table ≡ old.table
   pub label : new.label ≡ old.label
   pub ledger : new.view.worker.ledger ≡ old.view.worker.ledger
   pub answers : new.view.answers ≡ old.view.answers
-  pub hindrances : old.view.hindrances ≤ new.view.hindrances
+  pub meets : Meets old.view new.view
+  pub way : AreOver new.view (way_of op new.view)
   pub would : reply_of op (present_in old) ≡ true
   pub stops : Stops op new.view
 
 -- how a try ends
 abbrev pub TryEnds : ℕ → Op → PassModel → PassModel → Tried → Type 0
-TryEnds cards op old new (tried.Answered said) = Answers op said old new
+TryEnds cards op old new (tried.Answered said) = Answers op said old new × Meets old.view new.view
 TryEnds cards op old new tried.Spent = Halts op old new × (new.view.next ≡ Some (cards + 1))
-TryEnds cards op old new tried.Hindered = Halts op old new × (old.view.hindrances + 1 ≤ new.view.hindrances)
+TryEnds cards op old new tried.Hindered =
+    Halts op old new × (length old.view.hindrances + 1 ≤ length (way_of op new.view) + length new.view.hindrances)
 
 -- a card was taken for an operation whose search ended at a place: it is to say this, nothing of it was stored, and its words
 -- that never change are told
@@ -78,11 +86,18 @@ pub record HasCard (op : Op) (place : Place) (filling : List (Field × ℕ)) (v 
   pub empty : v.filled ≡ []
   pub told : (e : Told) → Has (told_filling c filling []) e → IsTold v e
 
+-- no card was taken, and the search stands where it stood
+pub record HasNone (old new : PassModel) : Type 0 where
+  pub no_card : new.view.worker.card ≡ None
+  pub search : new.view.worker.search ≡ old.view.worker.search
+
 -- what comes of asking for a card
 abbrev pub Claims : ℕ → Op → Place → PassModel → PassModel → Claimed → Type 0
-Claims cards op place old new (claimed.Card c) = HasCard op place (filling_of c old.view) new.view c × (c ≤ cards)
-Claims cards op place old new claimed.NoneLeft = (new.view.worker.card ≡ None) × (new.view.next ≡ Some (cards + 1))
-Claims cards op place old new claimed.Lost = (new.view.worker.card ≡ None) × (old.view.hindrances + 1 ≤ new.view.hindrances)
+Claims cards op place old new (claimed.Card c) =
+    HasCard op place (filling_of c old.view) new.view c × (c ≤ cards) × (new.view.hindrances ≡ old.view.hindrances)
+Claims cards op place old new claimed.NoneLeft =
+    HasNone old new × (new.view.next ≡ Some (cards + 1)) × (new.view.hindrances ≡ old.view.hindrances)
+Claims cards op place old new claimed.Lost = HasNone old new × Meets old.view new.view × (length old.view.hindrances + 1 ≤ length new.view.hindrances)
 
 -- the card in hand was filled in so many steps, and nothing else was done
 pub record Fills (old new : PassModel) (n : ℕ) : Type 0 where
@@ -92,11 +107,25 @@ pub record Fills (old new : PassModel) (n : ℕ) : Type 0 where
   pub view : new.view ≡ with_stores new.view.filled old.view
   pub filled : IsFilled new.view
 
--- a flag was set or not: then the card in hand is flagged, and its flag known; or it was laid aside, a hindrance, and what was
--- found at the node is known
+-- a flag was set: the card in hand is flagged, and its flag known
+pub record IsFlagged (flag : ℕ → Fact) (c : ℕ) (v w : View) : Type 0 where
+  pub knows : Knows w (flag c)
+  pub card : w.worker.card ≡ Some c
+  pub flagged : w.worker.flagged ≡ true
+  pub nowhere : w.worker.search.node ≡ None
+  pub hindrances : w.hindrances ≡ v.hindrances
+
+-- a flag was lost: the card was laid aside, and what was found at the node was in the way
+pub record IsUnflagged (cards x : ℕ) (found : Update) (v w : View) : Type 0 where
+  pub seen : IsSeenAt cards w x found
+  pub no_card : w.worker.card ≡ None
+  pub nowhere : w.worker.search.node ≡ None
+  pub hindrances : w.hindrances ≡ Found found ∷ v.hindrances
+
+-- a flag was set or lost
 abbrev pub Flags : ℕ → (ℕ → Fact) → ℕ → ℕ → PassModel → PassModel → Result (Unit {0}) Update → Type 0
-Flags cards flag c x old new (Ok won) = Knows new.view (flag c) × (new.view.worker.card ≡ Some c) × (new.view.worker.flagged ≡ true)
-Flags cards flag c x old new (Err found) = IsSeenAt cards new.view x found × (new.view.worker.card ≡ None) × (old.view.hindrances + 1 ≤ new.view.hindrances)
+Flags cards flag c x old new (Ok won) = IsFlagged flag c old.view new.view
+Flags cards flag c x old new (Err found) = IsUnflagged cards x found old.view new.view
 
 -- the operation that a change is
 abbrev pub op_of : Change → Op

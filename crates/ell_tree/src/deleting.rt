@@ -11,7 +11,8 @@ ghost use Rattle.ell_cards.specs.declared.view.Told.TheVariants.{Info};
 ghost use Rattle.ell_cards.specs.Models.{IsTold, Knows};
 ghost use Rattle.ell_tree.specs.Ends.{try_steps};
 ghost use Rattle.ell_tree.specs.Helps.{IsBacked, IsParent, help_steps};
-ghost use Rattle.ell_tree.specs.Keeping.{Goes, IsInnerMet, Walks};
+ghost use Rattle.ell_tree.specs.Hindrances.{Meets};
+ghost use Rattle.ell_tree.specs.Keeping.{Goes, IsInnerMet, Works};
 ghost use Rattle.ell_tree.specs.Searches.{AtRoot};
 ghost use Rattle.ell_tree.specs.Tries.{Fills, Flags, HasCard, TryEnds};
 
@@ -135,7 +136,8 @@ fn finish_own<A: Allocator + Copy, G: StepGate>(
     requires node { IsInnerMet table.now.cards pass.old.view grandparent }
     requires parent { IsParent table.now.cards pass.old.view card parent.node }
     requires read { IsTold pass.old.view (Info card field.Was (packed parent.update)) }
-    ensures walks { Walks pass.old pass.new (help_steps table.now.cards + 2) }
+    ensures works { Works pass.old pass.new (help_steps table.now.cards + 2) }
+    ensures meets { Meets pass.old.view pass.new.view }
     ensures done { OnTrue result (Knows pass.new.view (DOver card)) }
     ensures backed { OnFalse result (IsBacked card pass.old.view pass.new.view) }
 {

@@ -7,8 +7,9 @@ ghost use Rattle.ell_core.specs.declared.fact.Fact.TheVariants as fact;
 ghost use Rattle.ell_core.specs.declared.field.Field.TheVariants as field;
 ghost use Rattle.ell_cards.specs.declared.view.Told.TheVariants as told;
 ghost use Rattle.ell_cards.specs.Models.{IsTold, Knows};
-ghost use Rattle.ell_tree.specs.Helps.{DeleteEnds, HasSibling, HelpEnds, IsDeleteEnded, IsEnded, IsFlag, IsInsert, IsMarked, IsParent, chain_steps, help_steps};
-ghost use Rattle.ell_tree.specs.Keeping.{IsSeenAt, Walks};
+ghost use Rattle.ell_tree.specs.Helps.{DeleteEnds, HasSibling, HelpEnds, IsFlag, IsInsert, IsMarked, IsParent, chain_steps, help_steps};
+ghost use Rattle.ell_tree.specs.Hindrances.{IsDeleteEnded, IsEnded, Meets};
+ghost use Rattle.ell_tree.specs.Keeping.{IsSeenAt, Walks, Works};
 
 use crate::steps::{
     KeyedNode, change_child, clear_delete, clear_insert, cut_parent, go_back, look_child,
@@ -47,7 +48,8 @@ pub(crate) fn help<A: Allocator + Copy, G: StepGate>(
 )
     requires own { pass.old.table ≡ table.now.id }
     requires seen { IsSeenAt table.now.cards pass.old.view node update }
-    ensures walks { Walks pass.old pass.new (help_steps table.now.cards) }
+    ensures works { Works pass.old pass.new (help_steps table.now.cards) }
+    ensures meets { Meets pass.old.view pass.new.view }
     ensures ended { IsEnded pass.new.view update.state update.card }
 {
     let card = update.card;
@@ -177,7 +179,8 @@ pub(crate) fn help_delete<A: Allocator + Copy, G: StepGate>(
 )
     requires own { pass.old.table ≡ table.now.id }
     requires flag { IsFlag table.now.cards pass.old.view flag }
-    ensures walks { Walks pass.old pass.new (chain_steps table.now.cards flag.grandparent) }
+    ensures works { Works pass.old pass.new (chain_steps table.now.cards flag.grandparent) }
+    ensures meets { Meets pass.old.view pass.new.view }
     ensures ended { IsDeleteEnded pass.new.view flag.card }
 {
     let mut flag = flag;

@@ -3,6 +3,7 @@ ghost use Rattle.std.specs.Prelude.{◌≡◌, ◌≤◌, ◌+◌, true};
 ghost use Rattle.ell_ops.specs.declared.op.Op.TheVariants.{Find, Insert, Delete};
 ghost use Rattle.ell_ops.specs.Meaning.{key_of};
 ghost use Rattle.ell_tree.specs.Ends.{Answers, Ends, change_steps, find_steps, try_steps};
+ghost use Rattle.ell_tree.specs.Hindrances.{way_of};
 ghost use Rattle.ell_tree.specs.Ledgers.{IsIdle, Owns};
 ghost use Rattle.ell_tree.specs.Searches.{AtRoot};
 ghost use Rattle.ell_tree.specs.Tries.{Begins, Stops, TryEnds, op_of};
@@ -135,7 +136,7 @@ fn restart<A: Allocator + Copy, G: StepGate>(
     requires own { pass.old.table ≡ table.now.id }
     requires stops { Stops op pass.old.view }
     requires root { first ≡ true → AtRoot op pass.old.view }
-    ensures begins { Begins op pass.old pass.new }
+    ensures begins { Begins op (way_of op pass.old.view) pass.old pass.new }
     ensures first { first ≡ true → pass.new.steps ≡ pass.old.steps }
 {
     if !first {

@@ -2,7 +2,7 @@
 ghost use Rattle.std.specs.Prelude.{◌≡◌, ◌<◌, ◌+◌, ◌*◌, None};
 ghost use Rattle.ell_cards.specs.Models.{Does, InTable, IsTold, StandsAt};
 ghost use Rattle.ell_cards.specs.declared.view.Told.TheVariants.{Met};
-ghost use Rattle.ell_tree.specs.Keeping.{IsInnerMet, Walks};
+ghost use Rattle.ell_tree.specs.Keeping.{IsInnerMet, Seeks};
 ghost use Rattle.ell_tree.specs.Searches.{AtRoot, EndsAt, Passes, below};
 
 use ell_cards::{CardTable, Pass};
@@ -35,8 +35,8 @@ pub(crate) fn search<A: Allocator + Copy, G: StepGate>(
 ) -> Place
     requires own { pass.old.table ≡ table.now.id }
     requires root { AtRoot op pass.old.view }
-    ensures walks { Walks pass.old pass.new (3 * table.now.cards + 4) }
-    ensures ends { EndsAt table.now.cards pass.old.view pass.new.view op result }
+    ensures seeks { Seeks pass.old pass.new (3 * table.now.cards + 4) }
+    ensures ends { EndsAt table.now.cards pass.new.view op result }
 {
     let (mut parent, mut node) = descend(table, pass, op, 0, gate);
     let mut grandparent = None;
@@ -81,13 +81,13 @@ fn descend<A: Allocator + Copy, G: StepGate>(
     requires stands { StandsAt pass.old.view node }
     requires unread { pass.old.view.worker.search.read ≡ None }
     requires node { IsInnerMet table.now.cards pass.old.view node }
-    ensures walks { Walks pass.old pass.new 3 }
+    ensures seeks { Seeks pass.old pass.new 3 }
     ensures here { result.0.node ≡ node }
     ensures deeper { node < result.1 }
     ensures there { InTable table.now.cards result.1 }
     ensures search { pass.new.view.worker.search ≡ below result.1 result.0 pass.old.view.worker.search.parent }
     ensures met { IsTold pass.new.view (Met result.1) }
-    ensures passed { Passes table.now.cards pass.old.view pass.new.view result.0 }
+    ensures passed { Passes table.now.cards pass.new.view result.0 }
 {
     let label = pass.label();
     gate.before(label, Kind::Look);

@@ -1,5 +1,5 @@
 //! The atomic steps beside the search and the card, each told to the gate just before it is made.
-ghost use Rattle.std.specs.Prelude.{◌≡◌, ◌≢◌, ◌≤◌, ◌+◌, IfSome, None};
+ghost use Rattle.std.specs.Prelude.{◌≡◌, ◌≢◌, ◌≤◌, ◌+◌, IfSome, None, []};
 ghost use Rattle.ell_ops.specs.Meaning.{key_of};
 ghost use Rattle.ell_core.specs.declared.fact.Fact.TheVariants as fact;
 ghost use Rattle.ell_core.specs.declared.field.Field.TheVariants as field;
@@ -10,8 +10,9 @@ ghost use Rattle.ell_cards.specs.Changes.{is_mark_of};
 ghost use Rattle.ell_cards.specs.Guards.{MayAnswer, MayAsk, MaySee, NamesNode};
 ghost use Rattle.ell_cards.specs.Calls.{TellsDepth, TellsNode};
 ghost use Rattle.ell_tree.specs.Ends.{Answers};
-ghost use Rattle.ell_tree.specs.Helps.{HasSibling, IsLost, IsMarked, IsParent, found_instead};
-ghost use Rattle.ell_tree.specs.Keeping.{Walks};
+ghost use Rattle.ell_tree.specs.Helps.{HasSibling, IsLost, IsMarked, IsParent, found_instead, met_by_mark};
+ghost use Rattle.ell_tree.specs.Hindrances.{way_of};
+ghost use Rattle.ell_tree.specs.Keeping.{Walks, Works};
 ghost use Rattle.ell_tree.specs.Tries.{Begins, Lays, Stops};
 
 use ell_cards::{CardTable, Pass};
@@ -37,7 +38,7 @@ pub(crate) fn begin<A: Allocator + Copy, G: StepGate>(
     requires own { pass.old.table ≡ table.now.id }
     requires free { IsFree pass.old.view }
     requires owned { ledger_of pass.old.view.worker.ledger (key_of op) ≢ None }
-    ensures { Begins op pass.old pass.new }
+    ensures { Begins op [] pass.old pass.new }
 {
     gate.before(pass.label(), Kind::Note);
     table.begin(pass, op);
@@ -53,7 +54,7 @@ pub(crate) fn again<A: Allocator + Copy, G: StepGate>(
 )
     requires own { pass.old.table ≡ table.now.id }
     requires stops { Stops op pass.old.view }
-    ensures { Begins op pass.old pass.new }
+    ensures { Begins op (way_of op pass.old.view) pass.old pass.new }
 {
     gate.before(pass.label(), Kind::Note);
     let _ = op;
@@ -61,6 +62,7 @@ pub(crate) fn again<A: Allocator + Copy, G: StepGate>(
 }
 
 /// Lays the operation down without an answer.
+#[tactic(auto, using(crate::proofs::Beginning::lays))]
 pub(crate) fn leave<A: Allocator + Copy, G: StepGate>(
     table: &CardTable<A>,
     pass: &mut Pass<A>,
@@ -69,7 +71,7 @@ pub(crate) fn leave<A: Allocator + Copy, G: StepGate>(
 )
     requires own { pass.old.table ≡ table.now.id }
     requires stops { Stops op pass.old.view }
-    ensures { Lays pass.old pass.new }
+    ensures { Lays op pass.old pass.new }
 {
     gate.before(pass.label(), Kind::Note);
     let _ = op;
@@ -88,6 +90,8 @@ pub(crate) fn answer<A: Allocator + Copy, G: StepGate>(
     requires busy { Does pass.old.view op }
     requires may { MayAnswer pass.old.view said }
     ensures answers { Answers op said pass.old pass.new }
+    ensures hindrances { pass.new.view.hindrances ≡ pass.old.view.hindrances }
+    ensures facts { pass.new.view.worker.facts ≡ pass.old.view.worker.facts }
     ensures steps { pass.new.steps ≤ pass.old.steps + 1 }
 {
     gate.before(pass.label(), Kind::Note);
@@ -207,9 +211,10 @@ pub(crate) fn set_mark<A: Allocator + Copy, G: StepGate>(
     requires flagged { Knows pass.old.view (fact.DFlagged card) }
     requires parent { IsParent table.now.cards pass.old.view card parent }
     requires read { IsTold pass.old.view (told.Info card field.Was was) }
-    ensures walks { Walks pass.old pass.new 1 }
+    ensures works { Works pass.old pass.new 1 }
+    ensures hindrances { pass.new.view.hindrances ≡ met_by_mark card result pass.old.view }
     ensures marked { result ≡ None → Knows pass.new.view (fact.Marked card) }
-    ensures lost { IfSome result (λ found. IsLost table.now.cards card parent found pass.old.view pass.new.view) }
+    ensures lost { IfSome result (λ found. IsLost table.now.cards card parent found pass.new.view) }
 {
     gate.before(pass.label(), Kind::Mark);
     let marked = table.mark(pass, card, parent, was);

@@ -1,6 +1,13 @@
-use Rattle.std.proofs.Common.{◌≡◌, ◌∙◌, rules}
+use Rattle.std.proofs.Common.{◌≡◌, ◌≢◌, ◌+◌, ◌≤◌, length, ap, ◌∙◌, rules, arith}
+use Rattle.ell_ops.specs.declared.op.Op.TheVariants.{Delete}
 use Rattle.ell_word.specs.declared.update.State.TheVariants.{Clean}
+use Rattle.ell_core.specs.declared.view.Search.{Search}
+use Rattle.ell_tree.specs.Hindrances.{way_of}
+use Rattle.ell_tree.specs.Searches.{seen, seen_any, below}
 use Rattle.ell_tree.proofs.Keeping.{inner_kept}
+use Rattle.ell_tree.proofs.Meeting.{meets_trans, meets_more, above_way, parent_way, nowhere_way, way_over, way_free, no_way}
+use Rattle.ell_tree.proofs.Halting.{goes_meets, seek_meets, said_meets, flag_lost}
+use Rattle.ell_tree.proofs.deleting.try_delete.Given.{Over}
 use Rattle.ell_tree.proofs.Filling.{delete_wants, told_grandparent, told_parent, told_was}
 use Rattle.ell_tree.proofs.deleting.try_delete.Goals as goal
 
@@ -13,18 +20,196 @@ pub finish_own-requires-clause-grandparent : goal.finish_own-requires-clause-gra
 finish_own-requires-clause-grandparent g c =
     let s = c.search-place in
     told_grandparent s.new.pass.view c.take_card.new.pass.view c.flag_delete.new.pass.view c.in-Card.card c.args.key s.result c.flag_delete.ensures.goes.view
-    c.in-Some.above c.in-Some.is (s.ensures.walks.goes.view.operation ∙ c.requires.root.busy) s.ensures.ends.at c.in-Card.ensures.claims.0
+    c.in-Some.above c.in-Some.is (s.ensures.seeks.goes.view.operation ∙ c.requires.root.busy) s.ensures.ends.at c.in-Card.ensures.claims.0
 
 pub finish_own-requires-clause-parent : goal.finish_own-requires-clause-parent
 finish_own-requires-clause-parent g c =
     let s = c.search-place in
     told_parent s.new.pass.view c.take_card.new.pass.view c.flag_delete.new.pass.view c.in-Card.card c.args.key s.result c.flag_delete.ensures.goes.view
-    c.in-Some.above c.in-Some.is (s.ensures.walks.goes.view.operation ∙ c.requires.root.busy) s.ensures.ends.at c.in-Card.ensures.claims.0
+    c.in-Some.above c.in-Some.is (s.ensures.seeks.goes.view.operation ∙ c.requires.root.busy) s.ensures.ends.at c.in-Card.ensures.claims.0
     c.args.table.now.cards
-    (inner_kept c.args.table.now.cards s.new.pass.view c.take_card.new.pass.view s.result.parent.node c.take_card.ensures.goes.view s.ensures.ends.passed.known.node)
+    (inner_kept c.args.table.now.cards s.new.pass.view c.take_card.new.pass.view s.result.parent.node c.take_card.ensures.goes.view s.ensures.ends.passed.node)
 
 pub finish_own-requires-clause-read : goal.finish_own-requires-clause-read
 finish_own-requires-clause-read g c =
     let s = c.search-place in
     told_was s.new.pass.view c.take_card.new.pass.view c.flag_delete.new.pass.view c.in-Card.card c.args.key s.result c.flag_delete.ensures.goes.view
-    c.in-Some.above c.in-Some.is (s.ensures.walks.goes.view.operation ∙ c.requires.root.busy) s.ensures.ends.at c.in-Card.ensures.claims.0
+    c.in-Some.above c.in-Some.is (s.ensures.seeks.goes.view.operation ∙ c.requires.root.busy) s.ensures.ends.at c.in-Card.ensures.claims.0
+
+-- the key was not there
+pub returns-then-place-key-clause-ends : goal.returns-then-place-key-clause-ends
+returns-then-place-key-clause-ends g c =
+    let a = c.args.pass.now in
+    let s = c.search-place in
+    let said = c.answer in (
+      search rules,
+      meets_trans a.view s.new.pass.view said.new.pass.view (seek_meets a s.new.pass _ s.ensures.seeks)
+          (said_meets s.new.pass.view said.new.pass.view said.ensures.hindrances said.ensures.facts),
+    )
+
+-- a flag or a mark stood at the grandparent
+pub returns-then-ne-clause-ends : goal.returns-then-ne-clause-ends
+returns-then-ne-clause-ends g c =
+    let a = c.args.pass.now in
+    let s = c.search-place in
+    let place = s.result in
+    let above = c.in-Some.above in
+    let new = c.help.new.pass in
+    let stands : above.update.state ≢ Clean = search rules in
+    let meets = meets_trans a.view s.new.pass.view new.view (seek_meets a s.new.pass _ s.ensures.seeks) c.help.ensures.meets in
+    let way = way_over new.view above.update.state above.update.card (way_of (Delete c.args.key) new.view)
+    (above_way c.args.key place.leaf place.parent above new.view
+    (c.help.ensures.works.search ∙ (s.ensures.ends.at.search ∙ ap (λ o. below place.leaf place.parent (seen_any o)) c.in-Some.is)) stands)
+    stands c.help.ensures.ended in
+    let more = meets_more a.view new.view meets in (
+      record {
+        table = search rules;
+        label = search rules;
+        ledger = search rules;
+        answers = search rules;
+        meets = meets;
+        way = way.0;
+        would = search rules;
+        stops = search rules;
+      },
+      omega (arith, way.1, more),
+    )
+
+-- or at the parent
+pub returns-then-ne-2-clause-ends : goal.returns-then-ne-2-clause-ends
+returns-then-ne-2-clause-ends g c =
+    let a = c.args.pass.now in
+    let s = c.search-place in
+    let place = s.result in
+    let above = c.in-Some.above in
+    let update = place.parent.update in
+    let help = c.help-then-ne-2 in
+    let new = help.new.pass in
+    let calm : above.update.state ≡ Clean = search rules in
+    let stands : update.state ≢ Clean = search rules in
+    let meets = meets_trans a.view s.new.pass.view new.view (seek_meets a s.new.pass _ s.ensures.seeks) help.ensures.meets in
+    let way = way_over new.view update.state update.card (way_of (Delete c.args.key) new.view)
+    (parent_way c.args.key place.leaf place.parent above new.view
+    (help.ensures.works.search ∙ (s.ensures.ends.at.search ∙ ap (λ o. below place.leaf place.parent (seen_any o)) c.in-Some.is)) calm)
+    stands help.ensures.ended in
+    let more = meets_more a.view new.view meets in (
+      record {
+        table = search rules;
+        label = search rules;
+        ledger = search rules;
+        answers = search rules;
+        meets = meets;
+        way = way.0;
+        would = search rules;
+        stops = search rules;
+      },
+      omega (arith, way.1, more),
+    )
+
+-- no card was left
+pub returns-in-NoneLeft-clause-ends : goal.returns-in-NoneLeft-clause-ends
+returns-in-NoneLeft-clause-ends g c =
+    let a = c.args.pass.now in
+    let s = c.search-place in
+    let place = s.result in
+    let above = c.in-Some.above in
+    let update = place.parent.update in
+    let new = c.take_card.new.pass in
+    let claims = c.in-NoneLeft.ensures.claims in
+    let calm : above.update.state ≡ Clean = search rules in
+    let free : update.state ≡ Clean = search rules in
+    let meets = meets_trans a.view s.new.pass.view new.view (seek_meets a s.new.pass _ s.ensures.seeks)
+    (goes_meets s.new.pass new 2 c.in-NoneLeft.ensures.goes claims.2) in
+    let way = way_free new.view update.state update.card (way_of (Delete c.args.key) new.view)
+    (parent_way c.args.key place.leaf place.parent above new.view
+    (claims.0.search ∙ (s.ensures.ends.at.search ∙ ap (λ o. below place.leaf place.parent (seen_any o)) c.in-Some.is)) calm) free in (
+      record {
+        table = search rules;
+        label = search rules;
+        ledger = search rules;
+        answers = search rules;
+        meets = meets;
+        way = way;
+        would = search rules;
+        stops = search rules;
+      },
+      claims.1,
+    )
+
+-- another pass took the card
+pub returns-in-Lost-clause-ends : goal.returns-in-Lost-clause-ends
+returns-in-Lost-clause-ends g c =
+    let a = c.args.pass.now in
+    let s = c.search-place in
+    let place = s.result in
+    let above = c.in-Some.above in
+    let update = place.parent.update in
+    let new = c.take_card.new.pass in
+    let claims = c.in-Lost.ensures.claims in
+    let calm : above.update.state ≡ Clean = search rules in
+    let free : update.state ≡ Clean = search rules in
+    let meets = meets_trans a.view s.new.pass.view new.view (seek_meets a s.new.pass _ s.ensures.seeks) claims.1 in
+    let way = way_free new.view update.state update.card (way_of (Delete c.args.key) new.view)
+    (parent_way c.args.key place.leaf place.parent above new.view
+    (claims.0.search ∙ (s.ensures.ends.at.search ∙ ap (λ o. below place.leaf place.parent (seen_any o)) c.in-Some.is)) calm) free in
+    let quiet = ap length s.ensures.seeks.hindrances in (
+      record {
+        table = search rules;
+        label = search rules;
+        ledger = search rules;
+        answers = search rules;
+        meets = meets;
+        way = way;
+        would = search rules;
+        stops = search rules;
+      },
+      omega (arith, quiet, claims.2),
+    )
+
+-- the flag was lost
+pub returns-in-Err-clause-ends : goal.returns-in-Err-clause-ends
+returns-in-Err-clause-ends g c =
+    let a = c.args.pass.now in
+    let s = c.search-place in
+    let t = c.take_card.new.pass in
+    let f = c.flag_delete.new.pass in
+    let help = c.help-in-Err in
+    let new = help.new.pass in
+    let flags = c.in-Err.ensures.flags in
+    let taken = meets_trans a.view s.new.pass.view t.view (seek_meets a s.new.pass _ s.ensures.seeks)
+    (goes_meets s.new.pass t 2 c.take_card.ensures.goes c.in-Card.ensures.claims.2) in
+    let lost = flag_lost c.args.table.now.cards c.in-Some.above.node c.in-Err.found t.view f.view new.view flags c.flag_delete.ensures.goes.view.knows
+    help.ensures.meets help.ensures.ended in
+    let meets = meets_trans a.view t.view new.view taken lost.0 in
+    let way = no_way new.view (way_of (Delete c.args.key) new.view)
+    (nowhere_way (Delete c.args.key) new.view (ap (λ (r : Search). r.node) help.ensures.works.search ∙ flags.nowhere)) in
+    let more = meets_more a.view t.view taken in (
+      record {
+        table = search rules;
+        label = search rules;
+        ledger = search rules;
+        answers = search rules;
+        meets = meets;
+        way = way;
+        would = search rules;
+        stops = search rules;
+      },
+      omega (arith, lost.1, more),
+    )
+
+-- the key was taken away
+pub returns-clause-ends : goal.returns-clause-ends
+returns-clause-ends g c =
+    let a = c.args.pass.now in
+    let s = c.search-place in
+    let t = c.take_card.new.pass in
+    let f = c.flag_delete.new.pass in
+    let m = c.finish_own.new.pass in
+    let said = c.answer-2 in
+    let taken = meets_trans a.view s.new.pass.view t.view (seek_meets a s.new.pass _ s.ensures.seeks)
+    (goes_meets s.new.pass t 2 c.take_card.ensures.goes c.in-Card.ensures.claims.2) in
+    let flagged = meets_trans a.view t.view f.view taken (goes_meets t f 5 c.flag_delete.ensures.goes c.in_default-flag_delete.ensures.flags.hindrances) in
+    let finished = meets_trans a.view f.view m.view flagged c.finish_own.ensures.meets in (
+      search rules,
+      meets_trans a.view m.view said.new.pass.view finished (said_meets m.view said.new.pass.view said.ensures.hindrances said.ensures.facts),
+    )

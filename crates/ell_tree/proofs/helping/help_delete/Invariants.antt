@@ -1,7 +1,8 @@
 use Rattle.std.proofs.Common.{◌⊎◌, ◌≡◌, ◌+◌, ◌*◌, ◌-◌, ◌≤◌}
 use Rattle.ell_word.specs.Node.{card}
-use Rattle.ell_tree.specs.Keeping.{Walks}
-use Rattle.ell_tree.specs.Helps.{IsDeleteEnded, IsFlag}
+use Rattle.ell_tree.specs.Keeping.{Works}
+use Rattle.ell_tree.specs.Helps.{IsFlag}
+use Rattle.ell_tree.specs.Hindrances.{IsDeleteEnded, MeetsUpTo}
 use Rattle.ell_tree.proofs.helping.help_delete.Given as goal
 
 -- the steps so far are four for each internal node that the chain went down; the first delete has ended once another is at hand
@@ -11,7 +12,8 @@ invariant-loop-next g l = record {
   flag : IsFlag l.table.cards l.pass.view l.flag;
   down : card l.fn.flag.grandparent ≤ card l.flag.grandparent;
   ended : (l.flag ≡ l.fn.flag) ⊎ IsDeleteEnded l.pass.view l.fn.flag.card;
-  walks : Walks l.fn.pass l.pass (4 * (card l.flag.grandparent - card l.fn.flag.grandparent));
+  meets : MeetsUpTo l.flag.card l.fn.pass.view l.pass.view;
+  works : Works l.fn.pass l.pass (4 * (card l.flag.grandparent - card l.fn.flag.grandparent));
 }
 
 abbrev pub decreases-loop-next : goal.decreases-loop-next

@@ -1,6 +1,12 @@
-use Rattle.std.proofs.Common.{◌∙◌}
+use Rattle.std.proofs.Common.{◌≡◌, ◌≢◌, ◌+◌, ◌≤◌, Option, length, ap, ◌∙◌, rules, arith}
+use Rattle.ell_ops.specs.declared.op.Op.TheVariants.{Insert}
+use Rattle.ell_word.specs.declared.update.State.TheVariants.{Clean}
+use Rattle.ell_core.specs.declared.view.Search.{Search}
 use Rattle.ell_cards.specs.declared.view.Told.TheVariants.{Met}
+use Rattle.ell_tree.specs.Hindrances.{way_of}
 use Rattle.ell_tree.proofs.Filling.{is_insert}
+use Rattle.ell_tree.proofs.Meeting.{meets_trans, meets_more, insert_way, nowhere_way, way_over, way_free, no_way}
+use Rattle.ell_tree.proofs.Halting.{goes_meets, seek_meets, walk_meets, said_meets, flag_lost}
 use Rattle.ell_tree.proofs.inserting.try_insert.Goals as goal
 
 pub finish_insert-requires-clause-insert : goal.finish_insert-requires-clause-insert
@@ -10,5 +16,145 @@ finish_insert-requires-clause-insert g c =
     let ends = s.ensures.ends in
     rw c.max-card_key.ensures
     (is_insert s.new.pass.view c.take_card.new.pass.view c.flag_insert.new.pass.view c.in-Card.card c.args.key place c.flag_insert.ensures.goes.view
-    (s.ensures.walks.goes.view.operation ∙ c.requires.root.busy) ends.at c.in-Card.ensures.claims.0 c.in-Ok.ensures.flags.0
-    (c.take_card.ensures.goes.view.told (Met place.parent.node) ends.passed.known.node.met))
+    (s.ensures.seeks.goes.view.operation ∙ c.requires.root.busy) ends.at c.in-Card.ensures.claims.0 c.in-Ok.ensures.flags.knows
+    (c.take_card.ensures.goes.view.told (Met place.parent.node) ends.passed.node.met))
+
+-- the key was there
+pub returns-then-place-key-clause-ends : goal.returns-then-place-key-clause-ends
+returns-then-place-key-clause-ends g c =
+    let a = c.args.pass.now in
+    let s = c.search-place in
+    let said = c.answer in (
+      search rules,
+      meets_trans a.view s.new.pass.view said.new.pass.view (seek_meets a s.new.pass _ s.ensures.seeks)
+          (said_meets s.new.pass.view said.new.pass.view said.ensures.hindrances said.ensures.facts),
+    )
+
+-- a flag or a mark stood at the parent
+pub returns-then-ne-clause-ends : goal.returns-then-ne-clause-ends
+returns-then-ne-clause-ends g c =
+    let a = c.args.pass.now in
+    let s = c.search-place in
+    let place = s.result in
+    let update = place.parent.update in
+    let new = c.help.new.pass in
+    let stands : update.state ≢ Clean = search rules in
+    let meets = meets_trans a.view s.new.pass.view new.view (seek_meets a s.new.pass _ s.ensures.seeks) c.help.ensures.meets in
+    let way = way_over new.view update.state update.card (way_of (Insert c.args.key) new.view)
+    (insert_way c.args.key place.leaf place.parent place.grandparent new.view (c.help.ensures.works.search ∙ s.ensures.ends.at.search)) stands
+    c.help.ensures.ended in
+    let more = meets_more a.view new.view meets in (
+      record {
+        table = search rules;
+        label = search rules;
+        ledger = search rules;
+        answers = search rules;
+        meets = meets;
+        way = way.0;
+        would = search rules;
+        stops = search rules;
+      },
+      omega (arith, way.1, more),
+    )
+
+-- no card was left
+pub returns-in-NoneLeft-clause-ends : goal.returns-in-NoneLeft-clause-ends
+returns-in-NoneLeft-clause-ends g c =
+    let a = c.args.pass.now in
+    let s = c.search-place in
+    let place = s.result in
+    let update = place.parent.update in
+    let new = c.take_card.new.pass in
+    let claims = c.in-NoneLeft.ensures.claims in
+    let calm : update.state ≡ Clean = search rules in
+    let meets = meets_trans a.view s.new.pass.view new.view (seek_meets a s.new.pass _ s.ensures.seeks)
+    (goes_meets s.new.pass new 2 c.in-NoneLeft.ensures.goes claims.2) in
+    let way = way_free new.view update.state update.card (way_of (Insert c.args.key) new.view)
+    (insert_way c.args.key place.leaf place.parent place.grandparent new.view (claims.0.search ∙ s.ensures.ends.at.search)) calm in (
+      record {
+        table = search rules;
+        label = search rules;
+        ledger = search rules;
+        answers = search rules;
+        meets = meets;
+        way = way;
+        would = search rules;
+        stops = search rules;
+      },
+      claims.1,
+    )
+
+-- another pass took the card
+pub returns-in-Lost-clause-ends : goal.returns-in-Lost-clause-ends
+returns-in-Lost-clause-ends g c =
+    let a = c.args.pass.now in
+    let s = c.search-place in
+    let place = s.result in
+    let update = place.parent.update in
+    let new = c.take_card.new.pass in
+    let claims = c.in-Lost.ensures.claims in
+    let calm : update.state ≡ Clean = search rules in
+    let meets = meets_trans a.view s.new.pass.view new.view (seek_meets a s.new.pass _ s.ensures.seeks) claims.1 in
+    let way = way_free new.view update.state update.card (way_of (Insert c.args.key) new.view)
+    (insert_way c.args.key place.leaf place.parent place.grandparent new.view (claims.0.search ∙ s.ensures.ends.at.search)) calm in
+    let quiet = ap length s.ensures.seeks.hindrances in (
+      record {
+        table = search rules;
+        label = search rules;
+        ledger = search rules;
+        answers = search rules;
+        meets = meets;
+        way = way;
+        would = search rules;
+        stops = search rules;
+      },
+      omega (arith, quiet, claims.2),
+    )
+
+-- the key was added
+pub returns-in-Ok-clause-ends : goal.returns-in-Ok-clause-ends
+returns-in-Ok-clause-ends g c =
+    let a = c.args.pass.now in
+    let s = c.search-place in
+    let t = c.take_card.new.pass in
+    let f = c.flag_insert.new.pass in
+    let m = c.finish_insert.new.pass in
+    let said = c.answer-in-Ok in
+    let taken = meets_trans a.view s.new.pass.view t.view (seek_meets a s.new.pass _ s.ensures.seeks)
+    (goes_meets s.new.pass t 2 c.take_card.ensures.goes c.in-Card.ensures.claims.2) in
+    let flagged = meets_trans a.view t.view f.view taken (goes_meets t f 9 c.flag_insert.ensures.goes c.in-Ok.ensures.flags.hindrances) in
+    let finished = meets_trans a.view f.view m.view flagged (walk_meets f m 3 c.finish_insert.ensures.walks) in (
+      search rules,
+      meets_trans a.view m.view said.new.pass.view finished (said_meets m.view said.new.pass.view said.ensures.hindrances said.ensures.facts),
+    )
+
+-- the flag was lost
+pub returns-in-Err-clause-ends : goal.returns-in-Err-clause-ends
+returns-in-Err-clause-ends g c =
+    let a = c.args.pass.now in
+    let s = c.search-place in
+    let t = c.take_card.new.pass in
+    let f = c.flag_insert.new.pass in
+    let help = c.help-in-Err in
+    let new = help.new.pass in
+    let flags = c.in-Err.ensures.flags in
+    let taken = meets_trans a.view s.new.pass.view t.view (seek_meets a s.new.pass _ s.ensures.seeks)
+    (goes_meets s.new.pass t 2 c.take_card.ensures.goes c.in-Card.ensures.claims.2) in
+    let lost = flag_lost c.args.table.now.cards s.result.parent.node c.in-Err.found t.view f.view new.view flags c.flag_insert.ensures.goes.view.knows
+    help.ensures.meets help.ensures.ended in
+    let meets = meets_trans a.view t.view new.view taken lost.0 in
+    let way = no_way new.view (way_of (Insert c.args.key) new.view)
+    (nowhere_way (Insert c.args.key) new.view (ap (λ (r : Search). r.node) help.ensures.works.search ∙ flags.nowhere)) in
+    let more = meets_more a.view t.view taken in (
+      record {
+        table = search rules;
+        label = search rules;
+        ledger = search rules;
+        answers = search rules;
+        meets = meets;
+        way = way;
+        would = search rules;
+        stops = search rules;
+      },
+      omega (arith, lost.1, more),
+    )

@@ -1,6 +1,7 @@
-use Rattle.std.proofs.Common.{◌≡◌, ◌+◌, ◌*◌, ◌≤◌, true}
+use Rattle.std.proofs.Common.{◌≡◌, ◌+◌, ◌*◌, ◌≤◌, true, length}
 use Rattle.ell_ops.specs.Meaning.{reply_of}
 use Rattle.ell_tree.specs.Ends.{try_steps}
+use Rattle.ell_tree.specs.Hindrances.{AreOver, Meets, way_of}
 use Rattle.ell_tree.specs.Ledgers.{present_in}
 use Rattle.ell_tree.specs.Searches.{AtRoot}
 use Rattle.ell_tree.specs.Tries.{Stops, op_of}
@@ -17,7 +18,9 @@ invariant-loop-round g l = record {
   stops : Stops l.op l.pass.view;
   root : l.round ≡ 0 → AtRoot l.op l.pass.view;
   would : 1 ≤ l.round → reply_of l.op (present_in l.fn.pass) ≡ true;
-  hindrances : l.fn.pass.view.hindrances + l.round ≤ l.pass.view.hindrances;
+  meets : Meets l.fn.pass.view l.pass.view;
+  way : AreOver l.pass.view (way_of l.op l.pass.view);
+  hindrances : length l.fn.pass.view.hindrances + l.round ≤ length (way_of l.op l.pass.view) + length l.pass.view.hindrances;
   first : l.round ≡ 0 → l.pass.steps ≤ l.fn.pass.steps + 1;
   later : 1 ≤ l.round → l.pass.steps ≤ l.fn.pass.steps + l.round * try_steps l.table.cards;
 }

@@ -1,14 +1,14 @@
 use Rattle.std.proofs.Common.{refl}
 use Rattle.ell_cards.specs.declared.view.Told.TheVariants.{Met}
-use Rattle.ell_tree.proofs.Keeping.{walks_step, upd_keeps}
+use Rattle.ell_tree.proofs.Keeping.{seeks_step, upd_keeps}
 use Rattle.ell_cards.proofs.views.Searches.{may_go_down}
-use Rattle.ell_tree.proofs.Descending.{descend_walks, descend_search, descend_met, descend_passed}
+use Rattle.ell_tree.proofs.Descending.{descend_seeks, descend_search, descend_met, descend_passed}
 use Rattle.ell_tree.proofs.searching.descend.Goals as goal
 
 pub key_of-node_key-requires-clause-met : goal.key_of-node_key-requires-clause-met
 key_of-node_key-requires-clause-met g c =
-    let walks = walks_step c.args.pass.now c.upd-update.new.pass _ c.upd-update.ensures.step (upd_keeps c.args.node c.upd-update.result c.args.pass.now.view) refl refl in
-    walks.goes.view.told (Met c.args.node) c.requires.node.met
+    let seeks = seeks_step c.args.pass.now c.upd-update.new.pass _ c.upd-update.ensures.step (upd_keeps c.args.node c.upd-update.result c.args.pass.now.view) refl refl refl in
+    seeks.goes.view.told (Met c.args.node) c.requires.node.met
 
 pub down-child-requires-clause-may : goal.down-child-requires-clause-may
 down-child-requires-clause-may g c =
@@ -25,7 +25,7 @@ returns g c =
     let asked = c.key_of-node_key.ensures.step in
     let gone = c.down-child.ensures.step in
     record {
-      walks = descend_walks a b d e c.args.node c.upd-update.result c.key_of-node_key.result c.down-child.result read asked gone;
+      seeks = descend_seeks a b d e c.args.node c.upd-update.result c.key_of-node_key.result c.down-child.result read asked gone;
       here = refl;
       deeper = c.down-child.ensures.greater;
       there = c.down-child.ensures.there;

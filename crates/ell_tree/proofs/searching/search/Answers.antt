@@ -1,7 +1,7 @@
 use Rattle.std.proofs.Common.{◌+◌, ◌*◌, refl, ◌∙◌, arith, rules}
 use Rattle.ell_word.specs.Node.{IsInternal}
 use Rattle.ell_core.specs.acts.Searching.{IsLeaf}
-use Rattle.ell_tree.proofs.Keeping.{walks_step, walks_trans, key_of_keeps}
+use Rattle.ell_tree.proofs.Keeping.{seeks_step, seeks_trans, key_of_keeps}
 use Rattle.ell_tree.proofs.Descending.{stands_next, search_ends}
 use Rattle.ell_tree.proofs.searching.search.Goals as goal
 
@@ -13,11 +13,11 @@ loop-grandparent-preserved g c =
     let inner : IsInternal l.node = search rules in
     rw (c.anew.ensures, c.anew-parent.ensures) (record {
       same = (refl, refl);
-      stands = stands_next c.args.table.now.cards c.args.pass.now.view l.pass.view d.new.pass.view l.node d.result.1 l.parent d.result.0 l.grandparent
-          i.walks.goes.view d.ensures.walks.goes.view i.stands d.ensures.search d.ensures.met d.ensures.there d.ensures.passed;
+      stands = stands_next c.args.table.now.cards l.pass.view d.new.pass.view l.node d.result.1 l.parent d.result.0 l.grandparent
+          d.ensures.seeks.goes.view i.stands d.ensures.search d.ensures.met d.ensures.there d.ensures.passed;
       down = omega (arith, d.ensures.here, d.ensures.deeper);
-      walks = walks_trans c.args.pass.now l.pass d.new.pass (l.parent.node + 3) 3 (d.result.0.node + 3) i.walks d.ensures.walks
-          (omega (arith, i.down, i.stands.passed.known.node.inner, inner, d.ensures.here));
+      seeks = seeks_trans c.args.pass.now l.pass d.new.pass (l.parent.node + 3) 3 (d.result.0.node + 3) i.seeks d.ensures.seeks
+          (omega (arith, i.down, i.stands.passed.node.inner, inner, d.ensures.here));
     })
 
 pub returns : goal.returns
@@ -27,10 +27,10 @@ returns g c =
     let k = c.key_of-key in
     let outer : IsLeaf l.node = search rules in
     record {
-      walks = walks_trans c.args.pass.now l.pass k.new.pass (l.parent.node + 3) 1 (3 * c.args.table.now.cards + 4) i.walks
-          (walks_step l.pass k.new.pass _ k.ensures.step (key_of_keeps l.node k.result l.pass.view) refl refl)
-          (omega (arith, i.stands.passed.known.node.inner, i.stands.passed.known.node.there));
-      ends = search_ends c.args.table.now.cards c.args.pass.now.view l.pass k.new.pass c.args.op
+      seeks = seeks_trans c.args.pass.now l.pass k.new.pass (l.parent.node + 3) 1 (3 * c.args.table.now.cards + 4) i.seeks
+          (seeks_step l.pass k.new.pass _ k.ensures.step (key_of_keeps l.node k.result l.pass.view) refl refl refl)
+          (omega (arith, i.stands.passed.node.inner, i.stands.passed.node.there));
+      ends = search_ends c.args.table.now.cards l.pass k.new.pass c.args.op
           (record { leaf = l.node; key = k.result; parent = l.parent; grandparent = l.grandparent }) k.ensures.step
-          (i.walks.goes.view.operation ∙ c.requires.root.busy) outer i.stands k.ensures.leaf;
+          (i.seeks.goes.view.operation ∙ c.requires.root.busy) outer i.stands k.ensures.leaf;
     }

@@ -1,5 +1,5 @@
 use Rattle.std.proofs.Common.{◌≡◌, ◌+◌, ◌*◌, ◌<◌, ◌-◌}
-use Rattle.ell_tree.specs.Keeping.{Walks}
+use Rattle.ell_tree.specs.Keeping.{Seeks}
 use Rattle.ell_tree.specs.Searches.{Stands}
 use Rattle.ell_tree.proofs.searching.search.Given as goal
 
@@ -7,9 +7,9 @@ use Rattle.ell_tree.proofs.searching.search.Given as goal
 abbrev pub invariant-loop-grandparent : goal.invariant-loop-grandparent
 invariant-loop-grandparent g l = record {
   same : (l.op ≡ l.fn.op) × (l.table ≡ l.fn.table);
-  stands : Stands l.table.cards l.fn.pass.view l.pass.view l.node l.parent l.grandparent;
+  stands : Stands l.table.cards l.pass.view l.node l.parent l.grandparent;
   down : l.parent.node < l.node;
-  walks : Walks l.fn.pass l.pass (l.parent.node + 3);
+  seeks : Seeks l.fn.pass l.pass (l.parent.node + 3);
 }
 
 abbrev pub decreases-loop-grandparent : goal.decreases-loop-grandparent

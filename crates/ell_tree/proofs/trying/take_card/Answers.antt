@@ -1,7 +1,7 @@
 use Rattle.std.proofs.Common.{Bool, subst, arith}
 use Rattle.ell_cards.specs.Models.{Steps}
 use Rattle.ell_cards.specs.Changes.{after_claim}
-use Rattle.ell_tree.proofs.Claiming.{may_claim_at, won_goes, has_card, lost_goes, lost_claims}
+use Rattle.ell_tree.proofs.Claiming.{may_claim_at, won_goes, won_calm, has_card, lost_goes, lost_claims}
 use Rattle.ell_tree.proofs.trying.take_card.Goals as goal
 
 pub claim-requires-clause-may : goal.claim-requires-clause-may
@@ -17,7 +17,11 @@ returns-then-claim g c =
     let won = subst (λ (w : Bool). Steps b c.claim.new.pass (after_claim w card b.view)) c.if-claim.true c.claim.ensures.step in
     record {
       goes = won_goes a b c.claim.new.pass card c.next-card.ensures.step won;
-      claims = (has_card a b c.claim.new.pass card c.next-card.ensures.step c.args.op c.args.place won c.requires.busy c.requires.at, omega (arith, c.cards.ensures.cards));
+      claims = (
+        has_card a b c.claim.new.pass card c.next-card.ensures.step c.args.op c.args.place won c.requires.busy c.requires.at,
+        omega (arith, c.cards.ensures.cards),
+        won_calm a b c.claim.new.pass card c.next-card.ensures.step won,
+      );
       limit = omega (arith, c.cards.ensures.cards, c.cards.ensures.limit);
     }
 
