@@ -17,6 +17,13 @@ use Rattle.ell_tree.specs.Keeping.{Keeps, Seeks, IsInnerMet}
 use Rattle.ell_tree.specs.Searches.{seen_any, below, Passes, Stands, EndsAt}
 use Rattle.ell_tree.proofs.Keeping.{seeks_step, seeks_trans, upd_keeps, key_of_keeps, down_keeps, keeps_trans, seen_kept, place_told}
 
+-- an update is read in a step, and so is a key
+pub upd_seeks : (old new : PassModel) (x : ℕ) (u : Update) → Steps old new (after_upd x u old.view) → Seeks old new 1
+upd_seeks old new x u s = seeks_step old new (after_upd x u old.view) s (upd_keeps x u old.view) refl refl refl
+
+pub key_seeks : (old new : PassModel) (x key : ℕ) → Steps old new (after_key_of x key old.view) → Seeks old new 1
+key_seeks old new x key s = seeks_step old new (after_key_of x key old.view) s (key_of_keeps x key old.view) refl refl refl
+
 -- a node goes by in three steps: its update, its key, its child
 module _ (a b d e : PassModel) (x : ℕ) (u : Update) (key child : ℕ)
     (read : Steps a b (after_upd x u a.view)) (asked : Steps b d (after_key_of x key b.view)) (gone : Steps d e (after_down x child d.view)) where
@@ -32,8 +39,7 @@ module _ (a b d e : PassModel) (x : ℕ) (u : Update) (key child : ℕ)
   pub descend_seeks : Seeks a e 3
   descend_seeks =
       seeks_trans a d e 2 1 3
-      (seeks_trans a b d 1 1 2 (seeks_step a b (after_upd x u a.view) read (upd_keeps x u a.view) refl refl refl)
-      (seeks_step b d (after_key_of x key b.view) asked (key_of_keeps x key b.view) refl refl refl) (omega arith))
+      (seeks_trans a b d 1 1 2 (upd_seeks a b x u read) (key_seeks b d x key asked) (omega arith))
       (seeks_step d e (after_down x child d.view) gone (down_keeps x child d.view) refl refl refl) (omega arith)
 
   pub descend_search : e.view.worker.search ≡ below child (record { node = x; update = u }) a.view.worker.search.parent

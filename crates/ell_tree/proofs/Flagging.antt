@@ -1,4 +1,4 @@
-use Rattle.std.proofs.Common.{◌≡◌, ℕ, ◌+◌, ◌≤◌, true, Some, None, Result, Ok, Err, IfErr, List, refl, sym, ◌∙◌, ap, subst, is_ok, arith}
+use Rattle.std.proofs.Common.{◌≡◌, ℕ, ◌+◌, ◌≤◌, Some, Result, Ok, Err, IfErr, List, refl, sym, ◌∙◌, ap, subst, is_ok, arith}
 use Rattle.ell_ops.specs.declared.op.Op.TheVariants.{Insert, Delete}
 use Rattle.ell_word.specs.declared.update.Update.{Update}
 use Rattle.ell_word.specs.Word.{packed}
@@ -7,7 +7,7 @@ use Rattle.ell_core.specs.declared.field.Field.{Field}
 use Rattle.ell_core.specs.state.Cards.{insert_filling, delete_filling}
 use Rattle.ell_cards.specs.declared.view.Told.TheVariants.{Met}
 use Rattle.ell_cards.specs.declared.view.View.{View}
-use Rattle.ell_cards.specs.Models.{PassModel, Steps, Knows}
+use Rattle.ell_cards.specs.Models.{PassModel, Steps}
 use Rattle.ell_cards.specs.Changes.{after_flag, with_found, found_word, found_update, with_stores}
 use Rattle.ell_cards.specs.Guards.{MayFill, MayIFlag, MayDFlag}
 use Rattle.ell_cards.proofs.views.Facts.{knows_new, knows_more, facts_by_more}
@@ -15,7 +15,7 @@ use Rattle.ell_cards.proofs.views.Entries.{places_more}
 use Rattle.ell_cards.proofs.views.Steps.{view_after}
 use Rattle.ell_tree.specs.declared.searching.Passed.{Passed}
 use Rattle.ell_tree.specs.declared.searching.Place.{Place}
-use Rattle.ell_tree.specs.Keeping.{Keeps, Goes, IsInnerMet, IsSeenAt}
+use Rattle.ell_tree.specs.Keeping.{Keeps, Goes, IsInnerMet}
 use Rattle.ell_tree.specs.Searches.{seen, seen_any}
 use Rattle.ell_tree.specs.Tries.{HasCard, Fills, Flags, IsFlagged, IsUnflagged}
 use Rattle.ell_tree.proofs.Keeping.{place_told}

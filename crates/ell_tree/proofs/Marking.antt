@@ -1,11 +1,11 @@
-use Rattle.std.proofs.Common.{◌≡◌, ℕ, ◌+◌, ◌≤◌, ◌==◌, if◌then◌else◌, Bool, true, false, Option, Some, None, Result, Ok, Err, ◌∷◌, IfSome, IfErr, refl, sym, ap, subst, arith, is_ok}
+use Rattle.std.proofs.Common.{◌≡◌, ℕ, ◌≤◌, if◌then◌else◌, Bool, true, false, Some, None, Result, Ok, Err, ◌∷◌, IfSome, IfErr, refl, sym, ap, subst, is_ok}
 use Rattle.ell_word.specs.declared.update.Update.{Update}
 use Rattle.ell_word.specs.Word.{unpacked}
 use Rattle.ell_core.specs.declared.fact.Fact.TheVariants as fact
 use Rattle.ell_cards.specs.declared.view.Told.TheVariants.{Met}
 use Rattle.ell_cards.specs.declared.view.View.{View}
 use Rattle.ell_cards.specs.Models.{PassModel, Steps, Knows}
-use Rattle.ell_cards.specs.Changes.{learning, with_found, found_word, found_update, is_mark_of, is_held, unmarking, after_mark}
+use Rattle.ell_cards.specs.Changes.{learning, with_found, found_word, found_update, is_mark_of, unmarking, after_mark}
 use Rattle.ell_cards.proofs.views.Facts.{knows_new, knows_more, facts_by_more}
 use Rattle.ell_cards.proofs.views.Entries.{places_more}
 use Rattle.ell_cards.proofs.views.Steps.{view_after}

@@ -1,4 +1,4 @@
-use Rattle.std.proofs.Common.{◌≡◌, ◌≢◌, ℕ, ◌+◌, ◌*◌, ◌/◌, ◌%◌, ◌≤◌, ◌++◌, Option, Some, None, List, [], ◌∷◌, Bool, true, false, if◌then◌else◌, ◌==◌, eq-eqb, length, refl, sym, ◌∙◌, ap, subst, inl, inr, arith, append_assoc, length-append}
+use Rattle.std.proofs.Common.{◌≡◌, ◌≢◌, ℕ, ◌+◌, ◌*◌, ◌%◌, ◌≤◌, ◌++◌, Option, Some, None, List, [], ◌∷◌, Bool, true, false, if◌then◌else◌, ◌==◌, eq-eqb, length, refl, sym, ◌∙◌, ap, subst, inl, inr, arith, append_assoc, length-append}
 use Rattle.ell_ops.specs.declared.op.Op.{Op}
 use Rattle.ell_ops.specs.declared.op.Op.TheVariants.{Find, Insert, Delete}
 use Rattle.ell_word.specs.declared.update.State.{State}
@@ -15,7 +15,7 @@ use Rattle.ell_cards.specs.Models.{Knows}
 use Rattle.ell_cards.specs.Changes.{in_the_way, first_in_way, read_in_way, unless_clean, is_held}
 use Rattle.ell_cards.proofs.words.Updates.{card_again}
 use Rattle.ell_tree.specs.declared.searching.Passed.{Passed}
-use Rattle.ell_tree.specs.Hindrances.{IsDeleteEnded, IsEnded, IsOver, AreOver, StillKnows, Meets, MeetsUpTo, way_of}
+use Rattle.ell_tree.specs.Hindrances.{IsDeleteEnded, IsEnded, AreOver, StillKnows, Meets, MeetsUpTo, way_of}
 use Rattle.ell_tree.specs.Helps.{IsBacked, met_by_mark}
 use Rattle.ell_tree.specs.Searches.{seen, seen_any, below}
 

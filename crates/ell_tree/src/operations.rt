@@ -3,7 +3,7 @@ ghost use Rattle.std.specs.Prelude.{◌≡◌, ◌≤◌, ◌+◌, true};
 ghost use Rattle.ell_ops.specs.declared.op.Op.TheVariants.{Find, Insert, Delete};
 ghost use Rattle.ell_ops.specs.Meaning.{key_of};
 ghost use Rattle.ell_tree.specs.Ends.{Answers, Ends, change_steps, find_steps, try_steps};
-ghost use Rattle.ell_tree.specs.Hindrances.{way_of};
+ghost use Rattle.ell_tree.specs.Hindrances.{Meets, way_of};
 ghost use Rattle.ell_tree.specs.Ledgers.{IsIdle, Owns};
 ghost use Rattle.ell_tree.specs.Searches.{AtRoot};
 ghost use Rattle.ell_tree.specs.Tries.{Begins, Stops, TryEnds, op_of};
@@ -48,6 +48,8 @@ pub(crate) fn find<A: Allocator + Copy, G: StepGate>(
     requires idle { IsIdle pass.old }
     requires owned { Owns pass.old key }
     ensures answers { Answers (Find key) result pass.old pass.new }
+    ensures calm { pass.new.view.hindrances ≡ pass.old.view.hindrances }
+    ensures meets { Meets pass.old.view pass.new.view }
     ensures steps { pass.new.steps ≤ pass.old.steps + find_steps table.now.cards }
 {
     let label = pass.label();

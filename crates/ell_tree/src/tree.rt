@@ -7,6 +7,7 @@ ghost use Rattle.ell_ops.specs.Meaning.{greatest_key};
 ghost use Rattle.ell_cards.specs.Models.{IsCardCount, Refuses};
 ghost use Rattle.ell_tree.specs.Closing.{ClosesTo};
 ghost use Rattle.ell_tree.specs.Ends.{Answers, Ends, change_steps, find_steps};
+ghost use Rattle.ell_tree.specs.Hindrances.{Meets};
 ghost use Rattle.ell_tree.specs.Ledgers.{IsIdle, Owns, TreeModel};
 ghost use Rattle.ell_tree.specs.Parts.{IsFirst, IsLeftPart, IsRightPart, IsUnion};
 
@@ -82,12 +83,14 @@ impl<A: Allocator + Copy> Tree<A> {
         self.table.join(left, right)
     }
 
-    /// Whether a key of the pass is present. It helps nobody, and takes at most `3 * cards + 6` steps.
+    /// Whether a key of the pass is present. It helps nobody, nothing is in its way, and it takes at most `3 * cards + 6` steps.
     pub fn find<G: StepGate>(&self, pass: &mut Pass<A>, key: u64, gate: &G) -> bool
         requires own { pass.old.table ≡ self.now.id }
         requires idle { IsIdle pass.old }
         requires owned { Owns pass.old key }
         ensures answers { Answers (Find key) result pass.old pass.new }
+        ensures calm { pass.new.view.hindrances ≡ pass.old.view.hindrances }
+        ensures meets { Meets pass.old.view pass.new.view }
         ensures steps { pass.new.steps ≤ pass.old.steps + find_steps self.now.cards }
         ensures rounded { pass.new.steps ≤ pass.old.steps + 64 * (self.now.cards + 2) }
     {
@@ -97,6 +100,8 @@ impl<A: Allocator + Copy> Tree<A> {
     /// Adds a key of the pass: whether it was absent. It is tried so often at most, at least once, in at most
     /// `tries * (7 * cards + 24) + 1` steps. `Busy` comes where something was in the way of every try, and `Spent` where a try
     /// that would add the key finds all cards given out. After either the set is as it was, and nothing of the call is under way.
+    /// However it ends, whatever was in the way of a try is over by then: a card that another pass took first, or a change of a
+    /// neighbour, which was helped to its end where nobody else had ended it.
     pub fn insert<G: StepGate>(
         &self,
         pass: &mut Pass<A>,

@@ -1,13 +1,12 @@
-use Rattle.std.proofs.Common.{◌≡◌, ◌≢◌, ◌+◌, ◌≤◌, length, ap, ◌∙◌, rules, arith}
+use Rattle.std.proofs.Common.{◌≡◌, ◌≢◌, length, ap, ◌∙◌, rules, arith}
 use Rattle.ell_ops.specs.declared.op.Op.TheVariants.{Delete}
 use Rattle.ell_word.specs.declared.update.State.TheVariants.{Clean}
 use Rattle.ell_core.specs.declared.view.Search.{Search}
 use Rattle.ell_tree.specs.Hindrances.{way_of}
-use Rattle.ell_tree.specs.Searches.{seen, seen_any, below}
+use Rattle.ell_tree.specs.Searches.{seen_any, below}
 use Rattle.ell_tree.proofs.Keeping.{inner_kept}
 use Rattle.ell_tree.proofs.Meeting.{meets_trans, meets_more, above_way, parent_way, nowhere_way, way_over, way_free, no_way}
 use Rattle.ell_tree.proofs.Halting.{goes_meets, seek_meets, said_meets, flag_lost}
-use Rattle.ell_tree.proofs.deleting.try_delete.Given.{Over}
 use Rattle.ell_tree.proofs.Filling.{delete_wants, told_grandparent, told_parent, told_was}
 use Rattle.ell_tree.proofs.deleting.try_delete.Goals as goal
 

@@ -1,5 +1,4 @@
-use Rattle.std.proofs.Common.{◌≡◌, ◌∙◌, ap, sym, subst, refl, rules, arith}
-use Rattle.ell_cards.specs.declared.view.View.{View}
+use Rattle.std.proofs.Common.{◌∙◌, ap, sym, subst, refl, rules, arith}
 use Rattle.ell_tree.specs.Ledgers.{PassModel}
 use Rattle.ell_tree.specs.Helps.{met_by_mark}
 use Rattle.ell_tree.specs.Hindrances.{IsEnded}

@@ -1,4 +1,4 @@
-use Rattle.std.proofs.Common.{rules, ◌≡◌, ◌⊎◌, ℕ, ◌+◌, ◌*◌, ◌-◌, ◌≤◌, inl, inr, refl, sym, ap, subst, arith}
+use Rattle.std.proofs.Common.{rules, ◌≡◌, ◌⊎◌, ℕ, ◌+◌, ◌*◌, ◌-◌, ◌≤◌, inl, inr, refl, subst, arith}
 use Rattle.ell_word.specs.Node.{card}
 use Rattle.ell_tree.specs.declared.helping.DeleteFlag.{DeleteFlag}
 use Rattle.ell_tree.specs.declared.helping.Ending.{Ending}

@@ -1,13 +1,12 @@
 use Rattle.std.proofs.Common.{refl}
 use Rattle.ell_cards.specs.declared.view.Told.TheVariants.{Met}
-use Rattle.ell_tree.proofs.Keeping.{seeks_step, upd_keeps}
 use Rattle.ell_cards.proofs.views.Searches.{may_go_down}
-use Rattle.ell_tree.proofs.Descending.{descend_seeks, descend_search, descend_met, descend_passed}
+use Rattle.ell_tree.proofs.Descending.{upd_seeks, descend_seeks, descend_search, descend_met, descend_passed}
 use Rattle.ell_tree.proofs.searching.descend.Goals as goal
 
 pub key_of-node_key-requires-clause-met : goal.key_of-node_key-requires-clause-met
 key_of-node_key-requires-clause-met g c =
-    let seeks = seeks_step c.args.pass.now c.upd-update.new.pass _ c.upd-update.ensures.step (upd_keeps c.args.node c.upd-update.result c.args.pass.now.view) refl refl refl in
+    let seeks = upd_seeks c.args.pass.now c.upd-update.new.pass c.args.node c.upd-update.result c.upd-update.ensures.step in
     seeks.goes.view.told (Met c.args.node) c.requires.node.met
 
 pub down-child-requires-clause-may : goal.down-child-requires-clause-may

@@ -1,8 +1,8 @@
 use Rattle.std.proofs.Common.{◌+◌, ◌*◌, refl, ◌∙◌, arith, rules}
 use Rattle.ell_word.specs.Node.{IsInternal}
 use Rattle.ell_core.specs.acts.Searching.{IsLeaf}
-use Rattle.ell_tree.proofs.Keeping.{seeks_step, seeks_trans, key_of_keeps}
-use Rattle.ell_tree.proofs.Descending.{stands_next, search_ends}
+use Rattle.ell_tree.proofs.Keeping.{seeks_trans}
+use Rattle.ell_tree.proofs.Descending.{key_seeks, stands_next, search_ends}
 use Rattle.ell_tree.proofs.searching.search.Goals as goal
 
 pub loop-grandparent-preserved : goal.loop-grandparent-preserved
@@ -28,7 +28,7 @@ returns g c =
     let outer : IsLeaf l.node = search rules in
     record {
       seeks = seeks_trans c.args.pass.now l.pass k.new.pass (l.parent.node + 3) 1 (3 * c.args.table.now.cards + 4) i.seeks
-          (seeks_step l.pass k.new.pass _ k.ensures.step (key_of_keeps l.node k.result l.pass.view) refl refl refl)
+          (key_seeks l.pass k.new.pass l.node k.result k.ensures.step)
           (omega (arith, i.stands.passed.node.inner, i.stands.passed.node.there));
       ends = search_ends c.args.table.now.cards l.pass k.new.pass c.args.op
           (record { leaf = l.node; key = k.result; parent = l.parent; grandparent = l.grandparent }) k.ensures.step
