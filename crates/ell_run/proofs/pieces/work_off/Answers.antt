@@ -6,7 +6,7 @@ pub loop-position-preserved : goal.loop-position-preserved
 loop-position-preserved g c =
     rw c.in_ok-push.ensures.items
     (front_more c.args.part.now c.loop-position.position-index (0, Find 0) c.args.pass.now c.loop-position.pass c.do_op.new.pass c.loop-position.piece.items c.in-Ok.reply
-    c.loop-position-test.true c.loop-position.invariant c.in-Ok.ensures)
+    c.loop-position-test.true c.loop-position.invariant c.in-Ok.ensures.0)
 
 pub returns : goal.returns
 returns g c =
