@@ -25,7 +25,9 @@ struct Asked {
 }
 
 fn main(rt: HostRuntime) -> Result<ExitCode> {
-    let words: Vec<String> = env::args(&rt)?.skip(1).collect(rt.alloc())?;
+    let mut words = env::args(&rt)?;
+    let _ = words.next();
+    let words: Vec<String> = words.collect(rt.alloc())?;
     let Some(asked) = asked_in(words.as_slice()) else {
         eprintln!(rt;
             "ell_stress: give the number of rounds, a seed, and the number of operations where it is not 200,000"

@@ -35,7 +35,7 @@ ready_answered t keys op said p q h a = record {
 -- and by one that is laid down
 pub ready_ended : (t : TreeModel) (keys : List ℕ) (cards tries : ℕ) (op : Op) (outcome : Result Bool Held) (p q : PassModel)
     → IsReady t p keys → Ends cards tries op p q outcome → IsReady t q keys
-ready_ended t keys cards tries op (Ok said) p q h e = ready_answered t keys op said p q h e
+ready_ended t keys cards tries op (Ok said) p q h e = ready_answered t keys op said p q h e.0
 ready_ended t keys cards tries op (Err why) p q h e = record {
   own = e.0.table ∙ h.own;
   idle = e.0.idle;
