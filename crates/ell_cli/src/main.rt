@@ -1,12 +1,7 @@
-//! The command `elltree`: it runs a text of finds, inserts and deletes on a set of keys, or replays a
-//! schedule of events on the machine of the tree.
+//! The program `elltree`: its command over the process's arguments and its standard streams.
 #![tactic(auto)]
 
-mod program;
-mod request;
-#[cfg(test)]
-mod tests;
-
+use ell_command::{ARGUMENTS_NOT_TAKEN, elltree};
 use std::process::ExitCode;
 use std::rt::Env;
 use std::{env, io};
@@ -15,9 +10,9 @@ use std::{env, io};
 fn main(rt: HostRuntime) -> ExitCode {
     let Ok(words) = words_of(&rt) else {
         let _ = eprintln!(rt; "elltree: arguments not read");
-        return ExitCode::from(program::ARGUMENTS_NOT_TAKEN);
+        return ExitCode::from(ARGUMENTS_NOT_TAKEN);
     };
-    let status = program::elltree(
+    let status = elltree(
         &rt,
         rt.alloc(),
         words.as_slice(),

@@ -1,0 +1,65 @@
+use Rattle.std.specs.Prelude.{◌≡◌, ◌⊎◌, ℕ, ⊤}
+use Rattle.ell_run.specs.Answered.{IsBeforeWriting}
+use Rattle.ell_command.specs.declared.program.Failure.{Failure}
+use Rattle.ell_command.specs.declared.program.Failure.TheVariants as failure
+use Rattle.ell_run.specs.declared.bytes.RunFault.{RunFault}
+use Rattle.ell_run.specs.declared.bytes.RunFault.TheVariants as run_fault
+use Rattle.ell_text.specs.replays.Replayed.{IsBeforeWriting as IsBeforeTrace}
+use Rattle.ell_text.specs.declared.bytes.ScriptFault.{ScriptFault}
+use Rattle.ell_text.specs.declared.bytes.ScriptFault.TheVariants as script_fault
+
+-- the program succeeded, or showed its help
+abbrev pub Succeeded : ℕ → Type 0
+Succeeded status = status ≡ 0
+
+-- the text, the input's length or the arguments are refused
+abbrev pub IsRefusal : ℕ → Type 0
+IsRefusal status = status ≡ 2
+
+-- memory ran out
+abbrev pub IsWantOfMemory : ℕ → Type 0
+IsWantOfMemory status = status ≡ 3
+
+-- reading or writing failed
+abbrev pub IsTransferFailure : ℕ → Type 0
+IsTransferFailure status = status ≡ 4
+
+-- one of the four exit statuses
+abbrev pub IsStatus : ℕ → Type 0
+IsStatus status = Succeeded status ⊎ (IsRefusal status ⊎ (IsWantOfMemory status ⊎ IsTransferFailure status))
+
+-- a status after which nothing was written
+abbrev pub IsSilent : ℕ → Type 0
+IsSilent status = IsRefusal status ⊎ IsWantOfMemory status
+
+-- the exit status that tells why a run ended early
+abbrev pub status_of_fault : RunFault → ℕ
+status_of_fault run_fault.Read = 4
+status_of_fault run_fault.TooLong = 2
+status_of_fault (run_fault.Text text) = 2
+status_of_fault run_fault.NoMemory = 3
+status_of_fault (run_fault.Write written) = 4
+
+-- the exit status that tells why a replay ended early
+abbrev pub status_of_script_fault : ScriptFault → ℕ
+status_of_script_fault script_fault.Read = 4
+status_of_script_fault script_fault.TooLong = 2
+status_of_script_fault (script_fault.Text text) = 2
+status_of_script_fault (script_fault.Start start) = 2
+status_of_script_fault script_fault.NoMemory = 3
+status_of_script_fault (script_fault.Write written) = 4
+
+-- the exit status that tells of a failure
+abbrev pub status_of : Failure → ℕ
+status_of (failure.Refused error) = 2
+status_of failure.NoMemory = 3
+status_of (failure.Run fault) = status_of_fault fault
+status_of (failure.Replay fault) = status_of_script_fault fault
+status_of failure.Write = 4
+
+-- the failure came before anything was written
+abbrev pub IsBeforeOutput : Failure → Type 0
+IsBeforeOutput (failure.Run fault) = IsBeforeWriting fault
+IsBeforeOutput (failure.Replay fault) = IsBeforeTrace fault
+IsBeforeOutput failure.Write = ⊥
+IsBeforeOutput _ = ⊤
