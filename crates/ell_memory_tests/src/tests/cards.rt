@@ -1,103 +1,118 @@
 //! Tables of cards, the passes that they part and join, and the step calls.
 ghost use Rattle.std.specs.Prelude.{◌≡◌, ◌≤◌};
 ghost use Rattle.ell_word.specs.Node.{greatest_card};
+ghost use Rattle.ell_cards.specs.Models.{IsFree};
 ghost use Rattle.ell_cards_tests.specs.Fitting.{IsIdle, IsReady};
+ghost use Rattle.ell_tree.specs.Ledgers.{Owns};
 
-use super::passes::told;
+use super::passes::{KEYS, owns_both, tells};
 use super::refusing::{Heap, Refusal};
-use super::schedule::{CARDS, Part, TURNS, Turn};
+use super::schedule::{CARDS, TURNS, Turn};
 use super::sweeping::{Ended, sweep};
-use ell_cards::{CardFault, CardTable, Pass};
+use ell_cards::{CardFault, CardTable, Closed, Pass};
 use ell_cards_tests::{Memory, nothing, step};
 use ell_core::Field;
 use ell_ops::NoMemory;
 use std::alloc::Allocator;
 use std::process::Abort;
-use std::test::Fail;
-
-const KEYS: [u64; 2] = [5, 7];
 
 // Reserves a table.
-fn reserve(rt: &(impl Abort + AllocGlobal), refusal: Refusal) -> Result<Ended, Fail> {
-    let heap = Heap::new(rt.alloc());
+fn reserve(heap: &Heap, refusal: Refusal) -> Ended {
     heap.refuse(refusal);
-    let made = CardTable::reserve(&heap, &KEYS, CARDS);
-    let ended = heap.ended(made.is_err());
+    let made = CardTable::reserve(heap, &KEYS, CARDS);
+    heap.stop();
     match made {
-        Ok((_table, pass)) => assert_eq!(rt; pass.keys(), KEYS.as_slice()),
-        Err(fault) => assert_eq!(rt; fault, CardFault::NoMemory),
+        Ok((_table, pass)) => Ended::answered(pass.keys() == KEYS.as_slice()),
+        Err(fault) => Ended::no_memory(fault == CardFault::NoMemory),
     }
-    Ok(ended)
+}
+
+// Parts a pass: whether one part has 5, and the other 7.
+fn is_parted<A: Allocator + Copy>(table: &CardTable<A>, pass: Pass<A>) -> bool
+    requires own { pass.table ≡ table.now.id }
+    requires free { IsFree pass.view }
+    requires owned { Owns pass 5 }
+{
+    match table.split(pass, &[5]) {
+        Ok((left, right)) => left.keys() == [5].as_slice() && right.keys() == [7].as_slice(),
+        Err(_) => false,
+    }
 }
 
 // Parts a pass. Where it comes back, it is as it was, and is parted then.
-fn split(rt: &(impl Abort + AllocGlobal), refusal: Refusal) -> Result<Ended, Fail> {
-    let heap = Heap::new(rt.alloc());
-    let (table, mut pass) = CardTable::reserve(&heap, &KEYS, CARDS)?;
+fn split(rt: &impl Abort, heap: &Heap, refusal: Refusal) -> Ended {
+    let (table, mut pass) = CardTable::reserve(heap, &KEYS, CARDS).expect(rt, "no memory");
     pass.relabel(3);
-    assert_eq!(rt; table.next(&mut pass), 1);
-    let before = told(rt.alloc(), &pass)?;
+    assert!(rt; table.next(&mut pass) == 1);
     heap.refuse(refusal);
-    let parted = table.split(pass, &[5]);
-    let ended = heap.ended(parted.is_err());
-    let (left, right) = match parted {
-        Ok(parts) => parts,
+    let parts = table.split(pass, &[5]);
+    heap.stop();
+    match parts {
+        Ok((left, right)) => Ended::answered(
+            left.keys() == [5].as_slice() && right.keys() == [7].as_slice(),
+        ),
         Err((pass, NoMemory)) => {
-            assert_eq!(rt; told(rt.alloc(), &pass)?, before);
-            let Ok(parts) = table.split(pass, &[5]) else {
-                return Err("no memory")?;
-            };
-            parts
+            Ended::no_memory(tells(&pass, &KEYS, 3, 1) && is_parted(&table, pass))
         }
+    }
+}
+
+// A table and the two passes of it: the right one has a label of its own, and made a step.
+fn parted<'a>(
+    rt: &impl Abort,
+    heap: &'a Heap,
+) -> (CardTable<&'a Heap>, Pass<&'a Heap>, Pass<&'a Heap>)
+    ensures left { (result.1.table ≡ result.0.id) × IsFree result.1.view }
+    ensures right { (result.2.table ≡ result.0.id) × IsFree result.2.view }
+{
+    let (table, pass) = CardTable::reserve(heap, &KEYS, CARDS).expect(rt, "no memory");
+    let Ok((left, mut right)) = table.split(pass, &[5]) else {
+        panic!(rt; "no memory");
     };
-    assert_eq!(rt; left.keys(), [5].as_slice());
-    assert_eq!(rt; right.keys(), [7].as_slice());
-    Ok(ended)
+    right.relabel(4);
+    assert!(rt; table.next(&mut right) == 1);
+    (table, left, right)
+}
+
+// Joins two passes: whether the one that they become has both keys.
+fn is_joined<A: Allocator + Copy>(table: &CardTable<A>, left: Pass<A>, right: Pass<A>) -> bool
+    requires left { (left.table ≡ table.now.id) × IsFree left.view }
+    requires right { (right.table ≡ table.now.id) × IsFree right.view }
+{
+    match table.join(left, right) {
+        Ok(both) => both.keys() == KEYS.as_slice(),
+        Err(_) => false,
+    }
 }
 
 // Joins two passes. Where they come back, they are as they were, and are joined then.
-fn join(rt: &(impl Abort + AllocGlobal), refusal: Refusal) -> Result<Ended, Fail> {
-    let heap = Heap::new(rt.alloc());
-    let (table, pass) = CardTable::reserve(&heap, &KEYS, CARDS)?;
-    let Ok((left, mut right)) = table.split(pass, &[5]) else {
-        return Err("no memory")?;
-    };
-    right.relabel(4);
-    assert_eq!(rt; table.next(&mut right), 1);
-    let before = (told(rt.alloc(), &left)?, told(rt.alloc(), &right)?);
+fn join(rt: &impl Abort, heap: &Heap, refusal: Refusal) -> Ended {
+    let (table, left, right) = parted(rt, heap);
     heap.refuse(refusal);
-    let joined = table.join(left, right);
-    let ended = heap.ended(joined.is_err());
-    let both = match joined {
-        Ok(both) => both,
+    let both = table.join(left, right);
+    heap.stop();
+    match both {
+        Ok(both) => Ended::answered(both.keys() == KEYS.as_slice()),
         Err((left, right, NoMemory)) => {
-            assert_eq!(rt;
-                (told(rt.alloc(), &left)?, told(rt.alloc(), &right)?),
-                before
-            );
-            let Ok(both) = table.join(left, right) else {
-                return Err("no memory")?;
-            };
-            both
+            let are_same = tells(&left, &[5], 0, 1) && tells(&right, &[7], 4, 2);
+            Ended::no_memory(are_same && is_joined(&table, left, right))
         }
-    };
-    assert_eq!(rt; both.keys(), KEYS.as_slice());
-    Ok(ended)
+    }
 }
 
 #[test]
-fn a_table_is_reserved_or_there_is_no_memory(rt: HostRuntime) -> Result<(), Fail> {
-    sweep(&rt, |refusal| reserve(&rt, refusal))
+fn a_table_is_reserved_or_there_is_no_memory(rt: HostRuntime) {
+    sweep(&rt, reserve);
 }
 
 #[test]
-fn a_pass_is_parted_or_comes_back(rt: HostRuntime) -> Result<(), Fail> {
-    sweep(&rt, |refusal| split(&rt, refusal))
+fn a_pass_is_parted_or_comes_back(rt: HostRuntime) {
+    sweep(&rt, |heap, refusal| split(&rt, heap, refusal));
 }
 
 #[test]
-fn passes_are_joined_or_come_back(rt: HostRuntime) -> Result<(), Fail> {
-    sweep(&rt, |refusal| join(&rt, refusal))
+fn passes_are_joined_or_come_back(rt: HostRuntime) {
+    sweep(&rt, |heap, refusal| join(&rt, heap, refusal));
 }
 
 #[test]
@@ -105,62 +120,59 @@ fn cards_are_tested_before_memory(rt: HostRuntime) {
     let heap = Heap::new(rt.alloc());
     heap.refuse(Refusal::From(1));
     for cards in [0, 1_000_001] {
-        let made = CardTable::reserve(&heap, &KEYS, cards);
-        assert_eq!(rt; made.err(), Some(CardFault::BadCards), "{cards} cards");
+        let fault = CardTable::reserve(&heap, &KEYS, cards).err();
+        assert!(rt; fault == Some(CardFault::BadCards), "{cards} cards");
     }
-    assert_eq!(rt; heap.growths(), 0);
+    assert!(rt; heap.growths() == 0);
 }
 
 #[test]
-fn a_pass_tells_of_itself_without_memory(rt: HostRuntime) -> Result<(), Fail> {
+fn a_pass_tells_of_itself_without_memory(rt: HostRuntime) {
     let heap = Heap::new(rt.alloc());
-    let (table, mut pass) = CardTable::reserve(&heap, &KEYS, CARDS)?;
+    let (table, mut pass) = CardTable::reserve(&heap, &KEYS, CARDS).expect(&rt, "no memory");
     heap.refuse(Refusal::From(1));
-    assert_eq!(rt; table.cards(), CARDS);
-    assert_eq!(rt; pass.label(), 0);
+    assert!(rt; table.cards() == CARDS && tells(&pass, &KEYS, 0, 0));
     pass.relabel(3);
-    assert_eq!(rt; pass.label(), 3);
-    assert_eq!(rt; pass.steps(), 0);
-    assert_eq!(rt; table.next(&mut pass), 1);
-    assert_eq!(rt; pass.steps(), 1);
-    assert!(rt; pass.owns(5) && !pass.owns(6) && pass.owns(7));
-    assert_eq!(rt; pass.keys(), KEYS.as_slice());
-    assert_eq!(rt; heap.growths(), 0);
-    Ok(())
+    assert!(rt; table.next(&mut pass) == 1);
+    assert!(rt; tells(&pass, &KEYS, 3, 1));
+    assert!(rt; heap.growths() == 0);
+}
+
+// Whether a closed table tells its cards, and the words of the first card and of the last one where none was claimed.
+fn is_untouched<A: Allocator + Copy>(closed: &Closed<A>) -> bool {
+    let cards = closed.cards();
+    cards == CARDS
+        && closed.word(0, Field::LeftLeafKey) == 18_446_744_073_709_551_614
+        && closed.word(cards, Field::Key) == 0
 }
 
 #[test]
-fn a_table_is_closed_without_memory(rt: HostRuntime) -> Result<(), Fail> {
+fn a_table_is_closed_without_memory(rt: HostRuntime) {
     let heap = Heap::new(rt.alloc());
-    let (table, pass) = CardTable::reserve(&heap, &KEYS, CARDS)?;
-    assert!(rt; KEYS.iter().all(|key| pass.owns(*key)));
+    let (table, pass) = CardTable::reserve(&heap, &KEYS, CARDS).expect(&rt, "no memory");
+    assert!(rt; owns_both(&pass));
     heap.refuse(Refusal::From(1));
-    let closed = table.close(pass);
-    assert_eq!(rt; closed.cards(), CARDS);
-    assert_eq!(rt;
-        closed.word(0, Field::LeftLeafKey),
-        18_446_744_073_709_551_614
-    );
-    assert_eq!(rt; closed.word(CARDS, Field::Key), 0);
-    assert_eq!(rt; heap.growths(), 0);
-    Ok(())
+    assert!(rt; is_untouched(&table.close(pass)));
+    assert!(rt; heap.growths() == 0);
 }
 
-// Does the acts of a turn.
-fn play_turn<A: Allocator + Copy>(
-    rt: &impl Abort,
+// Does the acts of a turn: whether each answers what it is to.
+fn are_done<A: Allocator + Copy>(
     table: &CardTable<A>,
     pass: &mut Pass<A>,
     memory: &mut Memory,
     turn: &Turn,
-)
+) -> bool
     requires { IsReady table.now pass.old memory.old }
     ensures { IsReady table.now pass.new memory.new }
 {
     let (_, acts, want) = *turn;
     for act in acts {
-        assert_eq!(rt; step(table, pass, memory, *act), Some(want), "{act:?}");
+        if step(table, pass, memory, *act) != Some(want) {
+            return false;
+        }
     }
+    true
 }
 
 // Plays the turns by two passes with nothing in hand.
@@ -173,22 +185,23 @@ fn play<A: Allocator + Copy>(rt: &impl Abort, table: &CardTable<A>, parts: (Pass
     let (mut left, mut right) = parts;
     let (mut one, mut other) = (nothing(), nothing());
     for turn in &TURNS {
-        match turn.0 {
-            Part::Left => play_turn(rt, table, &mut left, &mut one, turn),
-            Part::Right => play_turn(rt, table, &mut right, &mut other, turn),
-        }
+        let are_done = if turn.0 == 0 {
+            are_done(table, &mut left, &mut one, turn)
+        } else {
+            are_done(table, &mut right, &mut other, turn)
+        };
+        assert!(rt; are_done);
     }
 }
 
 #[test]
-fn a_step_wants_no_memory(rt: HostRuntime) -> Result<(), Fail> {
+fn a_step_wants_no_memory(rt: HostRuntime) {
     let heap = Heap::new(rt.alloc());
-    let (table, pass) = CardTable::reserve(&heap, &[5, 6, 7], CARDS)?;
+    let (table, pass) = CardTable::reserve(&heap, &[5, 6, 7], CARDS).expect(&rt, "no memory");
     let Ok(parts) = table.split(pass, &[5, 6]) else {
-        return Err("no memory")?;
+        panic!(rt; "no memory");
     };
     heap.refuse(Refusal::From(1));
     play(&rt, &table, parts);
-    assert_eq!(rt; heap.growths(), 0);
-    Ok(())
+    assert!(rt; heap.growths() == 0);
 }

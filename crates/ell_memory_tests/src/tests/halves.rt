@@ -6,7 +6,6 @@ use ell_run::{Tree, work};
 use ell_test_gates::{Counting, Told, two_threads_meet};
 use ell_word::{Kind, StepGate};
 use std::process::Abort;
-use std::test::Fail;
 use std::thread::Threads;
 
 // Three operations for each of two workers.
@@ -41,46 +40,50 @@ impl<'a> StepGate for Waiting<'a> {
     fn after(&self, _worker: u32, _answered: bool) {}
 }
 
-// What the gate was told of the two workers where the growth of this number was refused, and so `work` had no memory.
-fn told_without_memory<R: Threads + Abort + AllocGlobal + Sync>(
+// Has two workers do three operations each, by eight tries of each, on a tree of their own: whether there was memory for it.
+fn are_worked<R: Threads + Abort + Sync>(
     rt: &R,
+    heap: &Heap,
     number: u64,
-) -> Result<Option<[Told; 2]>, Fail> {
+    gate: &Counting<Waiting>,
+) -> bool {
+    let parts = Parts::by_owner(heap, &OPS, &OWNERS, 2).expect(rt, "no memory");
+    let (tree, pass) = Tree::reserve(heap, &[5, 7], 16).expect(rt, "no memory");
+    heap.refuse(Refusal::At(number));
+    let worked = work(rt, heap, &tree, pass, &parts, 8, gate);
+    heap.stop();
+    worked.is_ok()
+}
+
+// Whether a worker began none or all of its operations, and ended each that it began.
+fn is_whole(told: Told) -> bool {
+    told.answered == told.begun && (told.begun == 0 || told.begun == 3)
+}
+
+// Refuses the growth of this number: whether only one of the workers had no memory.
+fn halves<R: Threads + Abort + AllocGlobal + Sync>(rt: &R, number: u64) -> bool {
     let heap = Heap::new(rt.alloc());
-    let parts = Parts::by_owner(&heap, &OPS, &OWNERS, 2)?;
-    let (tree, pass) = Tree::reserve(&heap, &[5, 7], 16)?;
     let waiting = Waiting {
         heap: &heap,
         growths: number,
     };
-    let gate = Counting::new(rt.alloc(), 2, waiting)?;
-    assert!(rt; OPS.iter().all(|op| pass.owns(op.key())));
-    heap.refuse(Refusal::At(number));
-    let worked = work(rt, &heap, &tree, pass, &parts, 8, &gate);
-    Ok(match worked {
-        Ok(_) => None,
-        Err(_) => Some([gate.told(0), gate.told(1)]),
-    })
+    let gate = Counting::new(rt.alloc(), 2, waiting).expect(rt, "no memory");
+    if are_worked(rt, &heap, number, &gate) {
+        return false;
+    }
+    let (one, other) = (gate.told(0), gate.told(1));
+    assert!(rt; is_whole(one) && is_whole(other), "growth {number}");
+    one.begun != other.begun
 }
 
 #[test]
-fn a_worker_without_memory_stops_nobody(rt: HostRuntime) -> Result<(), Fail> {
+fn a_worker_without_memory_stops_nobody(rt: HostRuntime) {
     if !two_threads_meet(&rt) {
-        return Ok(());
+        return;
     }
-    let mut halves = 0_u64;
+    let mut half_came = false;
     for number in 1..20 {
-        let Some(told) = told_without_memory(&rt, number)? else {
-            continue;
-        };
-        for it in told.iter() {
-            assert_eq!(rt; it.answered, it.begun, "growth {number}: {told:?}");
-            assert!(rt; it.begun == 0 || it.begun == 3, "growth {number}: {told:?}");
-        }
-        if told[0].begun != told[1].begun {
-            halves = halves.saturating_add(1);
-        }
+        half_came |= halves(&rt, number);
     }
-    assert!(rt; halves > 0, "no half alone was refused");
-    Ok(())
+    assert!(rt; half_came, "no half alone was refused");
 }

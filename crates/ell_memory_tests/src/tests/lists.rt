@@ -1,171 +1,135 @@
 //! Lists of operations, their parts and their replies.
-ghost use Rattle.std.specs.Prelude.{◌<◌};
-
 use super::refusing::{Heap, Refusal};
 use super::sweeping::{Ended, sweep};
 use ell_ops::{NoMemory, Op, apply_all, apply_from};
 use ell_parts::{GatherFault, PartFault, Parts, gather};
 use std::alloc::Allocator;
-use std::process::Abort;
-use std::test::Fail;
 
 const OPS: [Op; 4] = [Op::Insert(7), Op::Insert(5), Op::Find(7), Op::Delete(7)];
+
+// Each operation answers that it is so, and these keys are left.
+fn are_answered<A: Allocator>(
+    answered: &Result<(Vec<bool, A>, Vec<u64, A>), NoMemory>,
+    keys: &[u64],
+) -> Ended {
+    match answered {
+        Ok((replies, left)) => Ended::answered(
+            replies.as_slice() == [true; 4].as_slice() && left.as_slice() == keys,
+        ),
+        Err(NoMemory) => Ended::NoMemory,
+    }
+}
+
+// Answers operations, from the empty set.
+fn answer_all(heap: &Heap, refusal: Refusal) -> Ended {
+    heap.refuse(refusal);
+    let answered = apply_all(heap, &OPS);
+    heap.stop();
+    are_answered(&answered, &[5])
+}
+
+// Answers operations, from the set that has 9.
+fn answer_from(heap: &Heap, refusal: Refusal) -> Ended {
+    heap.refuse(refusal);
+    let answered = apply_from(heap, &[9], &OPS);
+    heap.stop();
+    are_answered(&answered, &[5, 9])
+}
 
 // The keys of these are 5, 6 and 9.
 const PARTED: [Op; 4] = [Op::Insert(5), Op::Find(6), Op::Delete(5), Op::Insert(9)];
 
-// A way to part a list among two workers.
-#[derive(Clone, Copy, Debug, PartialEq, Eq)]
-enum Parting {
-    // 5 has worker 0, 6 and 9 have worker 1.
-    ByOwner,
-    Striped,
-    Ranged,
-}
-
-// Answers operations, from the set that has these keys.
-fn answer_from(
-    rt: &(impl Abort + AllocGlobal),
-    refusal: Refusal,
-    has_nine: bool,
-) -> Result<Ended, Fail> {
-    let heap = Heap::new(rt.alloc());
-    heap.refuse(refusal);
-    let (answered, want) = if has_nine {
-        (apply_from(&heap, &[9], &OPS), [5, 9].as_slice())
-    } else {
-        (apply_all(&heap, &OPS), [5].as_slice())
-    };
-    let is_refused = match answered {
-        Ok((replies, keys)) => {
-            assert_eq!(rt; replies.as_slice(), [true; 4].as_slice());
-            assert_eq!(rt; keys.as_slice(), want);
-            false
-        }
-        Err(NoMemory) => true,
-    };
-    Ok(heap.ended(is_refused))
-}
-
 // A worker's part: where its operations stand in the list, and their keys.
-#[derive(Clone, Copy, Debug, PartialEq, Eq)]
-struct Part {
-    places: &'static [usize],
-    keys: &'static [u64],
-}
+type Part = (&'static [usize], &'static [u64]);
 
-impl Parting {
-    // The parts of both workers, as a person worked them out.
-    fn parts(self) -> [Part; 2] {
-        let (first, second): (Part, Part) = match self {
-            Parting::ByOwner => (
-                Part {
-                    places: &[0, 2],
-                    keys: &[5],
-                },
-                Part {
-                    places: &[1, 3],
-                    keys: &[6, 9],
-                },
-            ),
-            Parting::Striped => (
-                Part {
-                    places: &[1],
-                    keys: &[6],
-                },
-                Part {
-                    places: &[0, 2, 3],
-                    keys: &[5, 9],
-                },
-            ),
-            Parting::Ranged => (
-                Part {
-                    places: &[0, 1, 2],
-                    keys: &[5, 6],
-                },
-                Part {
-                    places: &[3],
-                    keys: &[9],
-                },
-            ),
-        };
-        [first, second]
+// The parts of both workers, as a person worked them out. By owner 5 has worker 0, 6 and 9 have worker 1.
+const BY_OWNER: [Part; 2] = [(&[0, 2], &[5]), (&[1, 3], &[6, 9])];
+
+const STRIPED: [Part; 2] = [(&[1], &[6]), (&[0, 2, 3], &[5, 9])];
+
+const RANGED: [Part; 2] = [(&[0, 1, 2], &[5, 6]), (&[3], &[9])];
+
+// Whether a worker has this part.
+fn has_part<A: Allocator>(parts: &Parts<A>, worker: u32, want: Part) -> bool {
+    if parts.workers() <= worker {
+        return false;
     }
+    let places = parts.part(worker).iter().map(|item| item.0);
+    places.eq(want.0.iter().copied()) && parts.keys(worker) == want.1
 }
 
-// Compares the part of a worker.
-fn same_part<A: Allocator>(rt: &impl Abort, parts: &Parts<A>, worker: u32, want: Part)
-    requires { worker < parts.now.workers }
-{
-    let part = parts.part(worker);
-    assert!(rt;
-        part.iter()
-            .map(|item| item.0)
-            .eq(want.places.iter().copied())
-    );
-    assert_eq!(rt; parts.keys(worker), want.keys);
-}
-
-// Parts operations, and looks at the parts, for which no memory is wanted.
-fn part_by(
-    rt: &(impl Abort + AllocGlobal),
-    refusal: Refusal,
-    parting: Parting,
-) -> Result<Ended, Fail> {
-    let heap = Heap::new(rt.alloc());
-    heap.refuse(refusal);
-    let parted = match parting {
-        Parting::ByOwner => Parts::by_owner(&heap, &PARTED, &[0, 1, 0, 1], 2),
-        Parting::Striped => Parts::striped(&heap, &PARTED, 2),
-        Parting::Ranged => Parts::ranged(&heap, &PARTED, 2),
+// Whether the list was parted so, at which no memory is wanted for a look.
+fn are_parts(heap: &Heap, parted: &Result<Parts<&Heap>, PartFault>, want: [Part; 2]) -> Ended {
+    let growths = heap.growths();
+    let ended = match parted {
+        Ok(parts) => Ended::answered(
+            parts.len() == 4
+                && parts.workers() == 2
+                && has_part(parts, 0, want[0])
+                && has_part(parts, 1, want[1])
+                && heap.growths() == growths,
+        ),
+        Err(fault) => Ended::no_memory(*fault == PartFault::NoMemory),
     };
-    let ended = heap.ended(parted.is_err());
-    match parted {
-        Ok(parts) => {
-            heap.refuse(Refusal::From(1));
-            assert_eq!(rt; parts.len(), 4);
-            assert_eq!(rt; parts.workers(), 2);
-            let [first, second] = parting.parts();
-            same_part(rt, &parts, 0, first);
-            same_part(rt, &parts, 1, second);
-            assert_eq!(rt; heap.growths(), 0);
-        }
-        Err(fault) => assert_eq!(rt; fault, PartFault::NoMemory),
-    }
-    Ok(ended)
+    heap.stop();
+    ended
+}
+
+fn part_by_owner(heap: &Heap, refusal: Refusal) -> Ended {
+    heap.refuse(refusal);
+    are_parts(
+        heap,
+        &Parts::by_owner(heap, &PARTED, &[0, 1, 0, 1], 2),
+        BY_OWNER,
+    )
+}
+
+fn part_striped(heap: &Heap, refusal: Refusal) -> Ended {
+    heap.refuse(refusal);
+    are_parts(heap, &Parts::striped(heap, &PARTED, 2), STRIPED)
+}
+
+fn part_ranged(heap: &Heap, refusal: Refusal) -> Ended {
+    heap.refuse(refusal);
+    are_parts(heap, &Parts::ranged(heap, &PARTED, 2), RANGED)
 }
 
 // Gathers two pieces.
-fn gather_two(rt: &(impl Abort + AllocGlobal), refusal: Refusal) -> Result<Ended, Fail> {
-    let heap = Heap::new(rt.alloc());
-    let first = [(0, true), (2, false)].to_vec(&heap)?;
-    let second = [(1, true)].to_vec(&heap)?;
+fn gather_two<A: Allocator>(
+    heap: &Heap,
+    refusal: Refusal,
+    pieces: &[Vec<(usize, bool), A>],
+) -> Ended {
     heap.refuse(refusal);
-    let gathered = gather(&heap, 3, &[first, second]);
-    let ended = heap.ended(gathered.is_err());
+    let gathered = gather(heap, 3, pieces);
+    heap.stop();
     match gathered {
-        Ok(replies) => assert_eq!(rt; replies.as_slice(), [true, true, false].as_slice()),
-        Err(fault) => assert_eq!(rt; fault, GatherFault::NoMemory),
+        Ok(replies) => Ended::answered(replies.as_slice() == [true, true, false].as_slice()),
+        Err(fault) => Ended::no_memory(fault == GatherFault::NoMemory),
     }
-    Ok(ended)
 }
 
 #[test]
-fn operations_are_answered_or_there_is_no_memory(rt: HostRuntime) -> Result<(), Fail> {
-    sweep(&rt, |refusal| answer_from(&rt, refusal, false))?;
-    sweep(&rt, |refusal| answer_from(&rt, refusal, true))
+fn operations_are_answered_or_there_is_no_memory(rt: HostRuntime) {
+    sweep(&rt, answer_all);
+    sweep(&rt, answer_from);
 }
 
 #[test]
-fn operations_are_parted_or_there_is_no_memory(rt: HostRuntime) -> Result<(), Fail> {
-    sweep(&rt, |refusal| part_by(&rt, refusal, Parting::ByOwner))?;
-    sweep(&rt, |refusal| part_by(&rt, refusal, Parting::Striped))?;
-    sweep(&rt, |refusal| part_by(&rt, refusal, Parting::Ranged))
+fn operations_are_parted_or_there_is_no_memory(rt: HostRuntime) {
+    sweep(&rt, part_by_owner);
+    sweep(&rt, part_striped);
+    sweep(&rt, part_ranged);
 }
 
 #[test]
-fn replies_are_gathered_or_there_is_no_memory(rt: HostRuntime) -> Result<(), Fail> {
-    sweep(&rt, |refusal| gather_two(&rt, refusal))
+fn replies_are_gathered_or_there_is_no_memory(rt: HostRuntime) {
+    let first = [(0, true), (2, false)]
+        .to_vec(rt.alloc())
+        .expect(&rt, "no memory");
+    let second = [(1, true)].to_vec(rt.alloc()).expect(&rt, "no memory");
+    let pieces = [first, second];
+    sweep(&rt, |heap, refusal| gather_two(heap, refusal, &pieces));
 }
 
 #[test]
@@ -179,51 +143,44 @@ fn counts_and_owners_are_tested_before_memory(rt: HostRuntime) {
         (&[0, 1, 1], 2, PartFault::NoMemory),
     ] {
         let fault = Parts::by_owner(&heap, &PARTED[..3], owners, workers).err();
-        assert_eq!(rt; fault, Some(want));
+        assert!(rt; fault == Some(want));
     }
     for workers in [0, 65] {
         let striped = Parts::striped(&heap, &PARTED, workers).err();
-        assert_eq!(rt; striped, Some(PartFault::BadWorkers));
         let ranged = Parts::ranged(&heap, &PARTED, workers).err();
-        assert_eq!(rt; ranged, Some(PartFault::BadWorkers));
+        assert!(rt; striped == Some(PartFault::BadWorkers) && ranged == striped);
     }
-    assert_eq!(rt; heap.growths(), 1);
+    assert!(rt; heap.growths() == 1);
 }
 
 #[test]
-fn memory_is_tested_before_replies(rt: HostRuntime) -> Result<(), Fail> {
-    for (items, fault) in [
+fn memory_is_tested_before_replies(rt: HostRuntime) {
+    let rows = [
         (
             [(0, true), (0, true)].as_slice(),
             GatherFault::Doubled { at: 0 },
         ),
-        ([(2, true)].as_slice(), GatherFault::Stranger { at: 2 }),
-        ([(1, true)].as_slice(), GatherFault::Missing { at: 0 }),
-    ] {
+        (&[(2, true)], GatherFault::Stranger { at: 2 }),
+        (&[(1, true)], GatherFault::Missing { at: 0 }),
+    ];
+    for (items, fault) in rows {
         let heap = Heap::new(rt.alloc());
-        let pieces = [items.to_vec(&heap)?];
-        for (refusal, want) in [
-            (Refusal::From(1), GatherFault::NoMemory),
-            (Refusal::From(2), GatherFault::NoMemory),
-            (Refusal::None, fault),
-        ] {
-            heap.refuse(refusal);
-            assert_eq!(rt; gather(&heap, 2, &pieces).err(), Some(want), "{refusal:?}");
-        }
+        let pieces = [items.to_vec(rt.alloc()).expect(&rt, "no memory")];
+        heap.refuse(Refusal::From(1));
+        assert!(rt; gather(&heap, 2, &pieces).err() == Some(GatherFault::NoMemory));
+        heap.refuse(Refusal::From(2));
+        assert!(rt; gather(&heap, 2, &pieces).err() == Some(GatherFault::NoMemory));
+        heap.refuse(Refusal::None);
+        assert!(rt; gather(&heap, 2, &pieces).err() == Some(fault));
     }
-    Ok(())
 }
 
 #[test]
-fn a_key_wants_no_memory(rt: HostRuntime) -> Result<(), Fail> {
+fn a_key_wants_no_memory(rt: HostRuntime) {
     let heap = Heap::new(rt.alloc());
-    let ops = PARTED.to_vec(&heap)?;
+    let ops = PARTED.to_vec(&heap).expect(&rt, "no memory");
     heap.refuse(Refusal::From(1));
-    assert!(rt;
-        ops.iter()
-            .map(|op| op.key())
-            .eq([5, 6, 5, 9].iter().copied())
-    );
-    assert_eq!(rt; heap.growths(), 0);
-    Ok(())
+    let keys = ops.iter().map(|op| op.key());
+    assert!(rt; keys.eq([5, 6, 5, 9].iter().copied()));
+    assert!(rt; heap.growths() == 0);
 }

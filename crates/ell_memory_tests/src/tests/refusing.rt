@@ -1,10 +1,10 @@
 //! An allocator that counts growths, and refuses those that it is told to.
-use super::sweeping::Ended;
 use std::alloc::{AllocError, Allocator, Global};
-use std::sync::atomic::{AtomicU64, Ordering};
+use std::process::Abort;
+use std::sync::atomic::{AtomicBool, AtomicU64, Ordering};
 
 /// Which growths are refused. They are counted from 1.
-#[derive(Clone, Copy, Debug, PartialEq, Eq)]
+#[derive(Clone, Copy)]
 pub(crate) enum Refusal {
     /// None.
     None,
@@ -14,41 +14,57 @@ pub(crate) enum Refusal {
     From(u64),
 }
 
+impl Refusal {
+    // The first growth that is refused, and the last one.
+    fn bounds(self) -> (u64, u64) {
+        match self {
+            Refusal::None => (u64::MAX, 0),
+            Refusal::At(number) => (number, number),
+            Refusal::From(number) => (number, u64::MAX),
+        }
+    }
+}
+
 /// How many growths there were, and which are refused.
 #[derive(Drop)]
 pub(crate) struct Growths {
     count: AtomicU64,
     first: AtomicU64,
     last: AtomicU64,
+    is_counting: AtomicBool,
 }
 
 impl Growths {
     fn new() -> Growths {
         Growths {
             count: AtomicU64::new(0),
-            first: AtomicU64::new(u64::MAX),
+            first: AtomicU64::new(0),
             last: AtomicU64::new(0),
+            is_counting: AtomicBool::new(false),
         }
     }
 
-    // Counts anew from the next growth on, and refuses as it is told.
-    fn restart(&self, refusal: Refusal) {
-        let (first, last) = match refusal {
-            Refusal::None => (u64::MAX, 0),
-            Refusal::At(number) => (number, number),
-            Refusal::From(number) => (number, u64::MAX),
-        };
+    // Counts anew from the next growth on, and refuses those from the first to the last.
+    fn start(&self, first: u64, last: u64) {
         self.first.store(first, Ordering::SeqCst);
         self.last.store(last, Ordering::SeqCst);
         self.count.store(0, Ordering::SeqCst);
+        self.is_counting.store(true, Ordering::SeqCst);
+    }
+
+    fn stop(&self) {
+        self.is_counting.store(false, Ordering::SeqCst);
     }
 
     fn count(&self) -> u64 {
         self.count.load(Ordering::SeqCst)
     }
 
-    // Counts a growth: whether it is refused.
+    // Counts a growth, if growths are counted now: whether it is refused.
     fn refuse_next(&self) -> bool {
+        if !self.is_counting.load(Ordering::SeqCst) {
+            return false;
+        }
         let number = self.count.fetch_add(1, Ordering::SeqCst).wrapping_add(1);
         self.first.load(Ordering::SeqCst) <= number && number <= self.last.load(Ordering::SeqCst)
     }
@@ -75,22 +91,18 @@ impl<B: Allocator> Refusing<B> {
 
     /// Refuses these growths of those that follow, which are counted from 1.
     pub(crate) fn refuse(&self, refusal: Refusal) {
-        self.growths.restart(refusal);
+        let (first, last) = refusal.bounds();
+        self.growths.start(first, last);
     }
 
-    /// How many growths there were since the last `refuse`, the refused ones too.
+    /// Neither refuses nor counts the growths that follow.
+    pub(crate) fn stop(&self) {
+        self.growths.stop();
+    }
+
+    /// How many growths there were from the last `refuse` on, to the `stop` after it if there was one, the refused ones too.
     pub(crate) fn growths(&self) -> u64 {
         self.growths.count()
-    }
-
-    /// How a call ended for which growths were refused, by whether it answered that it had no memory. From now on none is.
-    pub(crate) fn ended(&self, is_refused: bool) -> Ended {
-        let growths = self.growths();
-        self.refuse(Refusal::None);
-        Ended {
-            growths,
-            is_refused,
-        }
     }
 }
 
@@ -109,17 +121,23 @@ unsafe impl<B: Allocator> Allocator for Refusing<B> {
     }
 }
 
+// Asks for four growths: they are had as it is wanted, and are counted.
+fn ask_four(rt: &impl Abort, heap: &Heap, had: [bool; 4]) {
+    for is_had in had {
+        assert!(rt; Box::new(heap, 0_u8).is_ok() == is_had);
+    }
+    assert!(rt; heap.growths() == 4);
+}
+
 #[test]
 fn growths_are_counted_and_refused(rt: HostRuntime) {
     let heap = Heap::new(rt.alloc());
-    for (refusal, want) in [
-        (Refusal::None, [true; 4]),
-        (Refusal::At(2), [true, false, true, true]),
-        (Refusal::From(3), [true, true, false, false]),
-    ] {
-        heap.refuse(refusal);
-        let had = [1, 2, 3, 4].map(|number| Box::new(&heap, number).is_ok());
-        assert_eq!(rt; had, want, "{refusal:?}");
-        assert_eq!(rt; heap.growths(), 4, "{refusal:?}");
-    }
+    heap.refuse(Refusal::None);
+    ask_four(&rt, &heap, [true; 4]);
+    heap.refuse(Refusal::At(2));
+    ask_four(&rt, &heap, [true, false, true, true]);
+    heap.refuse(Refusal::From(3));
+    ask_four(&rt, &heap, [true, true, false, false]);
+    heap.stop();
+    ask_four(&rt, &heap, [true; 4]);
 }

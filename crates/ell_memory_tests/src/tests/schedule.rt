@@ -6,13 +6,6 @@ use ell_core::Act::{
 use ell_core::{Act, Stepped};
 use ell_ops::Op;
 
-/// One of the two workers: the left one owns 5 and 6, the right one 7.
-#[derive(Clone, Copy, Debug, PartialEq, Eq)]
-pub(crate) enum Part {
-    Left,
-    Right,
-}
-
 const MOVED: Stepped = Stepped::Moved;
 
 const WON: Stepped = Stepped::Won;
@@ -22,48 +15,44 @@ const LOST: Stepped = Stepped::Lost;
 const YES: Stepped = Stepped::Answered(true);
 
 /// A worker does these acts, each of which is to answer the same.
-pub(crate) type Turn = (Part, &'static [Act], Stepped);
+pub(crate) type Turn = (u32, &'static [Act], Stepped);
 
 /// The cards that the schedule takes.
 pub(crate) const CARDS: u64 = 5;
 
-/// Each act at least once, and a mark that is lost.
+/// Each act at least once, and a mark that is lost. Worker 0 owns 5 and 6, worker 1 owns 7.
 pub(crate) const TURNS: [Turn; 21] = [
-    (Part::Left, &[Begin(Op::Insert(5)), Upd, Down, Claim], MOVED),
-    (Part::Left, &[IFlag, IChild(1), IUnflag(1)], WON),
-    (Part::Left, &[Answer], YES),
+    (0, &[Begin(Op::Insert(5)), Upd, Down, Claim], MOVED),
+    (0, &[IFlag, IChild(1), IUnflag(1)], WON),
+    (0, &[Answer], YES),
     (
-        Part::Right,
+        1,
         &[Begin(Op::Insert(7)), Upd, Down, Upd, Down, Claim],
         MOVED,
     ),
-    (Part::Right, &[IFlag, IChild(2), IUnflag(2)], WON),
-    (Part::Right, &[Answer], YES),
+    (1, &[IFlag, IChild(2), IUnflag(2)], WON),
+    (1, &[Answer], YES),
     (
-        Part::Right,
+        1,
         &[Begin(Op::Delete(7)), Upd, Down, Upd, Down, Upd, Down],
         MOVED,
     ),
-    (Part::Right, &[Claim], MOVED),
-    (Part::Right, &[DFlag], WON),
+    (1, &[Claim], MOVED),
+    (1, &[DFlag], WON),
     (
-        Part::Left,
+        0,
         &[Begin(Op::Insert(6)), Upd, Down, Upd, Down, Upd, Down],
         MOVED,
     ),
-    (Part::Left, &[Claim], MOVED),
-    (Part::Left, &[IFlag], WON),
-    (Part::Right, &[Mark(3)], LOST),
-    (Part::Right, &[IChild(4), IUnflag(4), Backtrack(3)], WON),
-    (
-        Part::Right,
-        &[Again, Upd, Down, Upd, Down, Upd, Down, Claim],
-        MOVED,
-    ),
-    (Part::Right, &[DFlag, Mark(5), DChild(5), DUnflag(5)], WON),
-    (Part::Right, &[Answer], YES),
-    (Part::Left, &[IChild(4), IUnflag(4)], LOST),
-    (Part::Left, &[Answer], YES),
-    (Part::Left, &[Begin(Op::Find(5)), Upd, Down, Leave], MOVED),
-    (Part::Left, &[Begin(Op::Find(6)), Upd], MOVED),
+    (0, &[Claim], MOVED),
+    (0, &[IFlag], WON),
+    (1, &[Mark(3)], LOST),
+    (1, &[IChild(4), IUnflag(4), Backtrack(3)], WON),
+    (1, &[Again, Upd, Down, Upd, Down, Upd, Down, Claim], MOVED),
+    (1, &[DFlag, Mark(5), DChild(5), DUnflag(5)], WON),
+    (1, &[Answer], YES),
+    (0, &[IChild(4), IUnflag(4)], LOST),
+    (0, &[Answer], YES),
+    (0, &[Begin(Op::Find(5)), Upd, Down, Leave], MOVED),
+    (0, &[Begin(Op::Find(6)), Upd], MOVED),
 ];

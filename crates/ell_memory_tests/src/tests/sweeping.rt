@@ -1,59 +1,98 @@
 //! Calls whose growths are refused one after the other.
-use super::refusing::Refusal;
+use super::refusing::{Heap, Refusal};
+use std::alloc::Global;
 use std::process::Abort;
-use std::test::Fail;
 
 // More growths than any call of these tests asks for.
 const MOST: u64 = 1_000;
 
 /// How a call ended while growths were refused.
-#[derive(Clone, Copy, Debug, PartialEq, Eq)]
-pub(crate) struct Ended {
-    /// How many growths it asked for.
-    pub(crate) growths: u64,
-    /// Whether it answered that it had no memory.
-    pub(crate) is_refused: bool,
+#[derive(Clone, Copy, PartialEq, Eq)]
+pub(crate) enum Ended {
+    /// It answered what it is to answer.
+    Answered,
+    /// It answered that it had no memory, and left what it is to leave.
+    NoMemory,
+    /// What it answered, or what it left, is wrong.
+    Wrong,
+}
+
+impl Ended {
+    /// The end of a call that answered, by whether that was what it is to answer.
+    pub(crate) fn answered(is_right: bool) -> Ended {
+        if is_right {
+            Ended::Answered
+        } else {
+            Ended::Wrong
+        }
+    }
+
+    /// The end of a call that had no memory, by whether it said so and left what it is to leave.
+    pub(crate) fn no_memory(is_right: bool) -> Ended {
+        if is_right {
+            Ended::NoMemory
+        } else {
+            Ended::Wrong
+        }
+    }
 }
 
 /// Tries a call with growth 1 and all after it refused, with growth 2 and all after it, and so on until none is. It is to
 /// answer that it has no memory exactly where a growth was refused, and that comes at least once. Then the same with growth 1
 /// alone, with 2 alone, and so on: where what is refused can be had in another way, it may answer. What it answers, and what it
-/// leaves where it does not, is for `attempt` to compare.
-pub(crate) fn sweep<F: Fn(Refusal) -> Result<Ended, Fail>>(
-    rt: &impl Abort,
-    attempt: F,
-) -> Result<(), Fail>
+/// leaves where it does not, is for `attempt` to compare: it has the heap refuse growths just before the call, and stop after it.
+pub(crate) fn sweep<R: Abort + AllocGlobal, F: Fn(&Heap, Refusal) -> Ended>(rt: &R, attempt: F)
     requires { F.IsAlwaysCallable attempt }
 {
+    sweep_on(rt, &attempt);
+    sweep_alone(rt, &attempt);
+}
+
+// How an attempt ends on a heap of its own, and how many growths its call asked for.
+fn try_once<F: Fn(&Heap, Refusal) -> Ended>(
+    alloc: Global,
+    attempt: &F,
+    refusal: Refusal,
+) -> (Ended, u64)
+    requires { F.IsAlwaysCallable attempt.now }
+{
+    let heap = Heap::new(alloc);
+    let ended = attempt(&heap, refusal);
+    (ended, heap.growths())
+}
+
+// The first half of a sweep: a growth and all after it are refused.
+fn sweep_on<R: Abort + AllocGlobal, F: Fn(&Heap, Refusal) -> Ended>(rt: &R, attempt: &F)
+    requires { F.IsAlwaysCallable attempt.now }
+{
     for number in 1..MOST {
-        let ended = attempt(Refusal::From(number))?;
-        let is_refused = number <= ended.growths;
-        assert_eq!(rt;
-            ended.is_refused,
-            is_refused,
+        let (ended, growths) = try_once(rt.alloc(), attempt, Refusal::From(number));
+        if growths < number {
+            assert!(rt;
+                ended == Ended::Answered && number > 1,
+                "growth {number} and all after it"
+            );
+            return;
+        }
+        assert!(rt;
+            ended == Ended::NoMemory,
             "growth {number} and all after it"
         );
-        if !is_refused {
-            assert!(rt; number > 1, "no growth at all");
-            return sweep_alone(rt, attempt);
-        }
     }
-    Err("more growths than a sweep has")?
+    panic!(rt; "more growths than a sweep has");
 }
 
 // The second half of a sweep: one growth alone is refused.
-fn sweep_alone<F: Fn(Refusal) -> Result<Ended, Fail>>(
-    rt: &impl Abort,
-    attempt: F,
-) -> Result<(), Fail>
-    requires { F.IsAlwaysCallable attempt }
+fn sweep_alone<R: Abort + AllocGlobal, F: Fn(&Heap, Refusal) -> Ended>(rt: &R, attempt: &F)
+    requires { F.IsAlwaysCallable attempt.now }
 {
     for number in 1..MOST {
-        let ended = attempt(Refusal::At(number))?;
-        if number > ended.growths {
-            assert!(rt; !ended.is_refused, "no growth was refused");
-            return Ok(());
+        let (ended, growths) = try_once(rt.alloc(), attempt, Refusal::At(number));
+        if growths < number {
+            assert!(rt; ended == Ended::Answered, "no growth");
+            return;
         }
+        assert!(rt; ended != Ended::Wrong, "growth {number} alone");
     }
-    Err("more growths than a sweep has")?
+    panic!(rt; "more growths than a sweep has");
 }

@@ -4,12 +4,10 @@ use super::sweeping::{Ended, sweep};
 use ell_core::{Act, Event, Shown, Stepped};
 use ell_ops::Op;
 use ell_text::{
-    InputFault, ReplayFault, ScriptFault, TextFault, read_all, read_bulk, read_replay,
+    InputFault, ReplayFault, Script, ScriptFault, TextFault, read_all, read_bulk, read_replay,
     replay_bytes, write_answer, write_trace,
 };
-use std::alloc::{AllocError, Global};
-use std::process::Abort;
-use std::test::Fail;
+use std::alloc::{AllocError, Allocator, Global};
 
 const LINE: &[u8] = b"insert 5\n";
 
@@ -26,32 +24,26 @@ fn lines(alloc: Global, count: usize) -> Result<Vec<u8>, AllocError> {
 }
 
 // Reads all of a reader.
-fn read_input(rt: &(impl Abort + AllocGlobal), refusal: Refusal) -> Result<Ended, Fail> {
-    let text = lines(rt.alloc(), LINES)?;
-    let heap = Heap::new(rt.alloc());
+fn read_input(heap: &Heap, refusal: Refusal, text: &[u8]) -> Ended {
+    let mut reader = text;
     heap.refuse(refusal);
-    let mut reader = text.as_slice();
-    let read = read_all(&heap, &mut reader);
-    let ended = heap.ended(read.is_err());
+    let read = read_all(heap, &mut reader);
+    heap.stop();
     match read {
-        Ok(bytes) => assert!(rt; bytes.as_slice() == text.as_slice()),
-        Err(fault) => assert_eq!(rt; fault, InputFault::NoMemory),
+        Ok(bytes) => Ended::answered(bytes.as_slice() == text),
+        Err(fault) => Ended::no_memory(fault == InputFault::NoMemory),
     }
-    Ok(ended)
 }
 
-// Reads the operations of a text.
-fn read_operations(rt: &(impl Abort + AllocGlobal), refusal: Refusal) -> Result<Ended, Fail> {
-    let text = lines(rt.alloc(), 100)?;
-    let heap = Heap::new(rt.alloc());
+// Reads the operations of a text of a hundred lines.
+fn read_operations(heap: &Heap, refusal: Refusal, text: &[u8]) -> Ended {
     heap.refuse(refusal);
-    let read = read_bulk(&heap, &text);
-    let ended = heap.ended(read.is_err());
+    let read = read_bulk(heap, text);
+    heap.stop();
     match read {
-        Ok(ops) => assert_eq!(rt; ops.as_slice(), [Op::Insert(5); 100].as_slice()),
-        Err(fault) => assert_eq!(rt; fault, TextFault::NoMemory),
+        Ok(ops) => Ended::answered(ops.as_slice() == [Op::Insert(5); 100].as_slice()),
+        Err(fault) => Ended::no_memory(fault == TextFault::NoMemory),
     }
-    Ok(ended)
 }
 
 const SCRIPT: &[u8] =
@@ -60,63 +52,64 @@ const SCRIPT: &[u8] =
 
 const TRACE: &[u8] = b"moved\nmoved\nmoved\nmoved\nwon\nwon\nwon\nyes\nkeys 1\n5\n";
 
+// Whether a script has the keys, the number of events and the last event of the text.
+fn is_read<A: Allocator>(script: &Script<A>) -> bool {
+    let last = Event {
+        worker: 0,
+        act: Act::Answer,
+    };
+    script.owned.as_slice() == [(0, 5), (1, 7)].as_slice()
+        && script.events.len() == 8
+        && script.events.last() == Some(&last)
+}
+
 // Reads a script.
-fn read_script(rt: &(impl Abort + AllocGlobal), refusal: Refusal) -> Result<Ended, Fail> {
-    let heap = Heap::new(rt.alloc());
+fn read_script(heap: &Heap, refusal: Refusal) -> Ended {
     heap.refuse(refusal);
-    let read = read_replay(&heap, SCRIPT);
-    let ended = heap.ended(read.is_err());
+    let read = read_replay(heap, SCRIPT);
+    heap.stop();
     match read {
-        Ok(script) => {
-            assert_eq!(rt; script.owned.as_slice(), [(0, 5), (1, 7)].as_slice());
-            assert_eq!(rt; script.events.len(), 8);
-            let last = Event {
-                worker: 0,
-                act: Act::Answer,
-            };
-            assert_eq!(rt; script.events.last().copied(), Some(last));
-        }
-        Err(fault) => assert_eq!(rt; fault, ReplayFault::NoMemory),
+        Ok(script) => Ended::answered(is_read(&script)),
+        Err(fault) => Ended::no_memory(fault == ReplayFault::NoMemory),
     }
-    Ok(ended)
 }
 
 // Replays a script. Where there is no memory for it, nothing is written.
-fn replay_script(rt: &(impl Abort + AllocGlobal), refusal: Refusal) -> Result<Ended, Fail> {
-    let heap = Heap::new(rt.alloc());
+fn replay_script(heap: &Heap, refusal: Refusal, alloc: Global) -> Ended {
     let mut reader = SCRIPT;
-    let mut writer = Vec::new(rt.alloc());
+    let mut writer = Vec::new(alloc);
     heap.refuse(refusal);
-    let replayed = replay_bytes(&heap, &mut reader, &mut writer);
-    let ended = heap.ended(replayed.is_err());
+    let replayed = replay_bytes(heap, &mut reader, &mut writer);
+    heap.stop();
     match replayed {
-        Ok(()) => assert_eq!(rt; writer.as_slice(), TRACE),
-        Err(fault) => {
-            assert_eq!(rt; fault, ScriptFault::NoMemory);
-            assert!(rt; writer.is_empty());
-        }
+        Ok(()) => Ended::answered(writer.as_slice() == TRACE),
+        Err(fault) => Ended::no_memory(fault == ScriptFault::NoMemory && writer.is_empty()),
     }
-    Ok(ended)
 }
 
 #[test]
-fn scripts_are_read_or_there_is_no_memory(rt: HostRuntime) -> Result<(), Fail> {
-    sweep(&rt, |refusal| read_script(&rt, refusal))
+fn scripts_are_read_or_there_is_no_memory(rt: HostRuntime) {
+    sweep(&rt, read_script);
 }
 
 #[test]
-fn scripts_are_replayed_or_there_is_no_memory(rt: HostRuntime) -> Result<(), Fail> {
-    sweep(&rt, |refusal| replay_script(&rt, refusal))
+fn scripts_are_replayed_or_there_is_no_memory(rt: HostRuntime) {
+    sweep(
+        &rt,
+        |heap, refusal| replay_script(heap, refusal, rt.alloc()),
+    );
 }
 
 #[test]
-fn inputs_are_read_or_there_is_no_memory(rt: HostRuntime) -> Result<(), Fail> {
-    sweep(&rt, |refusal| read_input(&rt, refusal))
+fn inputs_are_read_or_there_is_no_memory(rt: HostRuntime) {
+    let text = lines(rt.alloc(), LINES).expect(&rt, "no memory");
+    sweep(&rt, |heap, refusal| read_input(heap, refusal, &text));
 }
 
 #[test]
-fn operations_are_read_or_there_is_no_memory(rt: HostRuntime) -> Result<(), Fail> {
-    sweep(&rt, |refusal| read_operations(&rt, refusal))
+fn operations_are_read_or_there_is_no_memory(rt: HostRuntime) {
+    let text = lines(rt.alloc(), 100).expect(&rt, "no memory");
+    sweep(&rt, |heap, refusal| read_operations(heap, refusal, &text));
 }
 
 #[test]
@@ -129,28 +122,24 @@ fn memory_is_wanted_at_an_operation(rt: HostRuntime) {
     let heap = Heap::new(rt.alloc());
     for (text, want, growths) in texts {
         heap.refuse(Refusal::From(1));
-        assert_eq!(rt; read_bulk(&heap, text).err(), Some(want), "{text:?}");
-        assert!(rt; growths <= heap.growths(), "{text:?}");
+        assert!(rt; read_bulk(&heap, text).err() == Some(want));
+        assert!(rt; growths <= heap.growths());
     }
 }
 
 #[test]
-fn a_text_is_written_without_memory(rt: HostRuntime) -> Result<(), Fail> {
+fn a_text_is_written_without_memory(rt: HostRuntime) {
     let heap = Heap::new(rt.alloc());
-    let replies = [true, false].to_vec(&heap)?;
     let shown = [
         Shown::Step(Stepped::Moved),
         Shown::Step(Stepped::Answered(true)),
-    ]
-    .to_vec(&heap)?;
-    let keys = [5, 7].to_vec(&heap)?;
-    let mut answer = Vec::with_capacity(&heap, 100)?;
-    let mut trace = Vec::with_capacity(&heap, 100)?;
+    ];
+    let mut answer = Vec::with_capacity(&heap, 100).expect(&rt, "no memory");
+    let mut trace = Vec::with_capacity(&heap, 100).expect(&rt, "no memory");
     heap.refuse(Refusal::From(1));
-    write_answer(&mut answer, &replies, &keys)?;
-    write_trace(&mut trace, &shown, &keys)?;
-    assert_eq!(rt; heap.growths(), 0);
-    assert_eq!(rt; answer.as_slice(), b"yes\nno\nkeys 2\n5\n7\n".as_slice());
-    assert_eq!(rt; trace.as_slice(), b"moved\nyes\nkeys 2\n5\n7\n".as_slice());
-    Ok(())
+    assert!(rt; write_answer(&mut answer, &[true, false], &[5, 7]).is_ok());
+    assert!(rt; write_trace(&mut trace, &shown, &[5, 7]).is_ok());
+    assert!(rt; heap.growths() == 0);
+    assert!(rt; answer.as_slice() == b"yes\nno\nkeys 2\n5\n7\n".as_slice());
+    assert!(rt; trace.as_slice() == b"moved\nyes\nkeys 2\n5\n7\n".as_slice());
 }

@@ -1,146 +1,203 @@
 //! Trees, and the passes that they part and join.
-ghost use Rattle.std.specs.Prelude.{◌≡◌, IfOk};
-ghost use Rattle.ell_tree.specs.Ledgers.{IsIdle};
+ghost use Rattle.std.specs.Prelude.{◌≡◌};
+ghost use Rattle.std.specs.List.{All};
+ghost use Rattle.ell_ops.specs.Meaning.{key_of};
+ghost use Rattle.ell_tree.specs.Ledgers.{IsIdle, Owns};
 
-use super::passes::told;
+use super::passes::{KEYS, owns_both, tells};
 use super::refusing::{Heap, Refusal};
 use super::sweeping::{Ended, sweep};
-use ell_ops::NoMemory;
+use ell_ops::{NoMemory, Op};
 use ell_tree::{CardFault, Held, Pass, Tree};
 use ell_word::NoGate;
+use std::alloc::Allocator;
 use std::process::Abort;
-use std::test::Fail;
-
-const KEYS: [u64; 2] = [5, 7];
 
 const CARDS: u64 = 4;
 
-// A tree in which 5 came and went, and 7 is.
-fn planted<'a>(rt: &impl Abort, heap: &'a Heap) -> Result<(Tree<&'a Heap>, Pass<&'a Heap>), Fail>
-    ensures own { IfOk result (λ made. made.1.table ≡ made.0.id) }
-    ensures idle { IfOk result (λ made. IsIdle made.1) }
-    ensures keys { IfOk result (λ made. made.0.keys ≡ KEYS) }
+// An operation that may take one card, and what it is to answer.
+type Row = (Op, Result<bool, Held>);
+
+// Does an operation on a key of the pass.
+fn answer_of<A: Allocator + Copy>(tree: &Tree<A>, pass: &mut Pass<A>, op: Op) -> Result<bool, Held>
+    requires own { pass.old.table ≡ tree.now.id }
+    requires idle { IsIdle pass.old }
+    requires owned { Owns pass.old (key_of op) }
+    ensures own { pass.new.table ≡ tree.now.id }
+    ensures idle { IsIdle pass.new }
 {
-    let (tree, mut pass) = Tree::reserve(heap, &KEYS, CARDS)?;
+    match op {
+        Op::Find(key) => Ok(tree.find(pass, key, &NoGate)),
+        Op::Insert(key) => tree.insert(pass, key, 1, &NoGate),
+        Op::Delete(key) => tree.delete(pass, key, 1, &NoGate),
+    }
+}
+
+// Does operations one after the other: whether each answers what it is to.
+fn are_answered<A: Allocator + Copy>(tree: &Tree<A>, pass: &mut Pass<A>, rows: &[Row]) -> bool
+    requires own { pass.old.table ≡ tree.now.id }
+    requires idle { IsIdle pass.old }
+    ensures own { pass.new.table ≡ tree.now.id }
+    ensures idle { IsIdle pass.new }
+{
+    for (op, want) in rows {
+        if !pass.owns(op.key()) || answer_of(tree, pass, *op) != *want {
+            return false;
+        }
+    }
+    true
+}
+
+// A tree in which 5 came and went, and 7 is.
+fn planted<'a>(rt: &impl Abort, heap: &'a Heap) -> (Tree<&'a Heap>, Pass<&'a Heap>)
+    ensures own { result.1.table ≡ result.0.id }
+    ensures idle { IsIdle result.1 }
+    ensures keys { result.0.keys ≡ KEYS }
+    ensures owned { All (λ k. Owns result.1 k) KEYS }
+{
+    let rows = [
+        (Op::Insert(5), Ok(true)),
+        (Op::Insert(7), Ok(true)),
+        (Op::Delete(5), Ok(true)),
+    ];
+    let (tree, mut pass) = Tree::reserve(heap, &KEYS, CARDS).expect(rt, "no memory");
     pass.relabel(3);
-    assert!(rt; pass.owns(5));
-    assert_eq!(rt; tree.insert(&mut pass, 5, 1, &NoGate), Ok(true));
-    assert!(rt; pass.owns(7));
-    assert_eq!(rt; tree.insert(&mut pass, 7, 1, &NoGate), Ok(true));
-    assert!(rt; pass.owns(5));
-    assert_eq!(rt; tree.delete(&mut pass, 5, 1, &NoGate), Ok(true));
-    Ok((tree, pass))
+    assert!(rt; are_answered(&tree, &mut pass, &rows));
+    assert!(rt; owns_both(&pass));
+    (tree, pass)
 }
 
 // Reserves a tree.
-fn reserve(rt: &(impl Abort + AllocGlobal), refusal: Refusal) -> Result<Ended, Fail> {
-    let heap = Heap::new(rt.alloc());
+fn reserve(heap: &Heap, refusal: Refusal) -> Ended {
     heap.refuse(refusal);
-    let made = Tree::reserve(&heap, &KEYS, CARDS);
-    let ended = heap.ended(made.is_err());
+    let made = Tree::reserve(heap, &KEYS, CARDS);
+    heap.stop();
     match made {
-        Ok((_tree, pass)) => assert_eq!(rt; pass.keys(), KEYS.as_slice()),
-        Err(fault) => assert_eq!(rt; fault, CardFault::NoMemory),
+        Ok((_tree, pass)) => Ended::answered(pass.keys() == KEYS.as_slice()),
+        Err(fault) => Ended::no_memory(fault == CardFault::NoMemory),
     }
-    Ok(ended)
+}
+
+// Parts a pass: whether one part has 5, and the other 7.
+fn is_parted<A: Allocator + Copy>(tree: &Tree<A>, pass: Pass<A>) -> bool
+    requires own { pass.table ≡ tree.now.id }
+    requires idle { IsIdle pass }
+    requires owned { Owns pass 5 }
+{
+    match tree.split(pass, &[5]) {
+        Ok((left, right)) => left.keys() == [5].as_slice() && right.keys() == [7].as_slice(),
+        Err(_) => false,
+    }
 }
 
 // Parts a pass. Where it comes back, it is as it was, and is parted then.
-fn split(rt: &(impl Abort + AllocGlobal), refusal: Refusal) -> Result<Ended, Fail> {
-    let heap = Heap::new(rt.alloc());
-    let (tree, pass) = planted(rt, &heap)?;
-    assert!(rt; pass.owns(5));
-    let before = told(rt.alloc(), &pass)?;
+fn split(rt: &impl Abort, heap: &Heap, refusal: Refusal) -> Ended {
+    let (tree, pass) = planted(rt, heap);
+    let steps = pass.steps();
     heap.refuse(refusal);
-    let parted = tree.split(pass, &[5]);
-    let ended = heap.ended(parted.is_err());
-    let (left, right) = match parted {
-        Ok(parts) => parts,
+    let parts = tree.split(pass, &[5]);
+    heap.stop();
+    match parts {
+        Ok((left, right)) => Ended::answered(
+            left.keys() == [5].as_slice() && right.keys() == [7].as_slice(),
+        ),
         Err((pass, NoMemory)) => {
-            assert_eq!(rt; told(rt.alloc(), &pass)?, before);
-            let Ok(parts) = tree.split(pass, &[5]) else {
-                return Err("no memory")?;
-            };
-            parts
+            Ended::no_memory(tells(&pass, &KEYS, 3, steps) && is_parted(&tree, pass))
         }
+    }
+}
+
+// A tree and the two passes of it: the right one has a label of its own.
+fn parted<'a>(rt: &impl Abort, heap: &'a Heap) -> (Tree<&'a Heap>, Pass<&'a Heap>, Pass<&'a Heap>)
+    ensures left { (result.1.table ≡ result.0.id) × IsIdle result.1 }
+    ensures right { (result.2.table ≡ result.0.id) × IsIdle result.2 }
+{
+    let (tree, pass) = planted(rt, heap);
+    let Ok((left, mut right)) = tree.split(pass, &[5]) else {
+        panic!(rt; "no memory");
     };
-    assert_eq!(rt; left.keys(), [5].as_slice());
-    assert_eq!(rt; right.keys(), [7].as_slice());
-    Ok(ended)
+    right.relabel(4);
+    (tree, left, right)
+}
+
+// Whether a pass has both keys, and the left part's label.
+fn is_whole<A: Allocator + Copy>(both: &Pass<A>) -> bool {
+    both.keys() == KEYS.as_slice() && both.label() == 3
+}
+
+// Joins two passes: whether the one that they become is whole.
+fn is_joined<A: Allocator + Copy>(tree: &Tree<A>, left: Pass<A>, right: Pass<A>) -> bool
+    requires left { (left.table ≡ tree.now.id) × IsIdle left }
+    requires right { (right.table ≡ tree.now.id) × IsIdle right }
+{
+    match tree.join(left, right) {
+        Ok(both) => is_whole(&both),
+        Err(_) => false,
+    }
 }
 
 // Joins two passes. Where they come back, they are as they were, and are joined then.
-fn join(rt: &(impl Abort + AllocGlobal), refusal: Refusal) -> Result<Ended, Fail> {
-    let heap = Heap::new(rt.alloc());
-    let (tree, pass) = planted(rt, &heap)?;
-    assert!(rt; pass.owns(5));
-    let Ok((left, mut right)) = tree.split(pass, &[5]) else {
-        return Err("no memory")?;
-    };
-    right.relabel(4);
-    let before = (told(rt.alloc(), &left)?, told(rt.alloc(), &right)?);
+fn join(rt: &impl Abort, heap: &Heap, refusal: Refusal) -> Ended {
+    let (tree, left, right) = parted(rt, heap);
+    let (steps, others) = (left.steps(), right.steps());
     heap.refuse(refusal);
-    let joined = tree.join(left, right);
-    let ended = heap.ended(joined.is_err());
-    let both = match joined {
-        Ok(both) => both,
+    let both = tree.join(left, right);
+    heap.stop();
+    match both {
+        Ok(both) => Ended::answered(is_whole(&both)),
         Err((left, right, NoMemory)) => {
-            assert_eq!(rt;
-                (told(rt.alloc(), &left)?, told(rt.alloc(), &right)?),
-                before
-            );
-            let Ok(both) = tree.join(left, right) else {
-                return Err("no memory")?;
-            };
-            both
+            let are_same = tells(&left, &[5], 3, steps) && tells(&right, &[7], 4, others);
+            Ended::no_memory(are_same && is_joined(&tree, left, right))
         }
-    };
-    assert_eq!(rt; both.keys(), KEYS.as_slice());
-    assert_eq!(rt; both.label(), 3);
-    Ok(ended)
+    }
+}
+
+// Ends a tree: whether 7 was in it, and no other key.
+fn is_closed<A: Allocator + Copy>(tree: Tree<A>, pass: Pass<A>) -> bool
+    requires own { pass.table ≡ tree.id }
+    requires idle { IsIdle pass }
+    requires keys { tree.keys ≡ KEYS }
+    requires owned { All (λ k. Owns pass k) KEYS }
+{
+    match tree.close(pass) {
+        Ok(keys) => keys.as_slice() == [7].as_slice(),
+        Err(_) => false,
+    }
 }
 
 // Ends a tree. Where it comes back with its pass, both are as they were, and it is ended then.
-fn close(rt: &(impl Abort + AllocGlobal), refusal: Refusal) -> Result<Ended, Fail> {
-    let heap = Heap::new(rt.alloc());
-    let (tree, pass) = planted(rt, &heap)?;
-    assert!(rt; KEYS.iter().all(|key| pass.owns(*key)));
-    let before = told(rt.alloc(), &pass)?;
+fn close(rt: &impl Abort, heap: &Heap, refusal: Refusal) -> Ended {
+    let (tree, pass) = planted(rt, heap);
+    let steps = pass.steps();
     heap.refuse(refusal);
-    let closed = tree.close(pass);
-    let ended = heap.ended(closed.is_err());
-    let keys = match closed {
-        Ok(keys) => keys,
+    let keys = tree.close(pass);
+    heap.stop();
+    match keys {
+        Ok(keys) => Ended::answered(keys.as_slice() == [7].as_slice()),
         Err((tree, pass, NoMemory)) => {
-            assert_eq!(rt; told(rt.alloc(), &pass)?, before);
-            let Ok(keys) = tree.close(pass) else {
-                return Err("no memory")?;
-            };
-            keys
+            Ended::no_memory(tells(&pass, &KEYS, 3, steps) && is_closed(tree, pass))
         }
-    };
-    assert_eq!(rt; keys.as_slice(), [7].as_slice());
-    Ok(ended)
+    }
 }
 
 #[test]
-fn a_tree_is_reserved_or_there_is_no_memory(rt: HostRuntime) -> Result<(), Fail> {
-    sweep(&rt, |refusal| reserve(&rt, refusal))
+fn a_tree_is_reserved_or_there_is_no_memory(rt: HostRuntime) {
+    sweep(&rt, reserve);
 }
 
 #[test]
-fn a_pass_is_parted_or_comes_back(rt: HostRuntime) -> Result<(), Fail> {
-    sweep(&rt, |refusal| split(&rt, refusal))
+fn a_pass_is_parted_or_comes_back(rt: HostRuntime) {
+    sweep(&rt, |heap, refusal| split(&rt, heap, refusal));
 }
 
 #[test]
-fn passes_are_joined_or_come_back(rt: HostRuntime) -> Result<(), Fail> {
-    sweep(&rt, |refusal| join(&rt, refusal))
+fn passes_are_joined_or_come_back(rt: HostRuntime) {
+    sweep(&rt, |heap, refusal| join(&rt, heap, refusal));
 }
 
 #[test]
-fn a_tree_is_closed_or_comes_back(rt: HostRuntime) -> Result<(), Fail> {
-    sweep(&rt, |refusal| close(&rt, refusal))
+fn a_tree_is_closed_or_comes_back(rt: HostRuntime) {
+    sweep(&rt, |heap, refusal| close(&rt, heap, refusal));
 }
 
 #[test]
@@ -148,27 +205,24 @@ fn cards_are_tested_before_memory(rt: HostRuntime) {
     let heap = Heap::new(rt.alloc());
     heap.refuse(Refusal::From(1));
     for cards in [0, 1_000_001] {
-        let made = Tree::reserve(&heap, &KEYS, cards);
-        assert_eq!(rt; made.err(), Some(CardFault::BadCards), "{cards} cards");
+        let fault = Tree::reserve(&heap, &KEYS, cards).err();
+        assert!(rt; fault == Some(CardFault::BadCards), "{cards} cards");
     }
-    assert_eq!(rt; heap.growths(), 0);
+    assert!(rt; heap.growths() == 0);
 }
 
 #[test]
-fn an_operation_wants_no_memory(rt: HostRuntime) -> Result<(), Fail> {
+fn an_operation_wants_no_memory(rt: HostRuntime) {
+    let rows = [
+        (Op::Find(5), Ok(false)),
+        (Op::Find(7), Ok(true)),
+        (Op::Insert(5), Ok(true)),
+        (Op::Insert(7), Ok(false)),
+        (Op::Delete(5), Err(Held::Spent)),
+    ];
     let heap = Heap::new(rt.alloc());
-    let (tree, mut pass) = planted(&rt, &heap)?;
+    let (tree, mut pass) = planted(&rt, &heap);
     heap.refuse(Refusal::From(1));
-    assert!(rt; pass.owns(5));
-    assert!(rt; !tree.find(&mut pass, 5, &NoGate));
-    assert!(rt; pass.owns(7));
-    assert!(rt; tree.find(&mut pass, 7, &NoGate));
-    assert!(rt; pass.owns(5));
-    assert_eq!(rt; tree.insert(&mut pass, 5, 1, &NoGate), Ok(true));
-    assert!(rt; pass.owns(7));
-    assert_eq!(rt; tree.insert(&mut pass, 7, 1, &NoGate), Ok(false));
-    assert!(rt; pass.owns(5));
-    assert_eq!(rt; tree.delete(&mut pass, 5, 1, &NoGate), Err(Held::Spent));
-    assert_eq!(rt; heap.growths(), 0);
-    Ok(())
+    assert!(rt; are_answered(&tree, &mut pass, &rows));
+    assert!(rt; heap.growths() == 0);
 }

@@ -2,67 +2,76 @@
 ghost use Rattle.std.specs.Prelude.{◌≡◌, ◌≤◌, length};
 
 use super::refusing::{Heap, Refusal};
-use super::schedule::{CARDS, Part, TURNS};
+use super::schedule::{CARDS, TURNS};
 use super::sweeping::{Ended, sweep};
-use ell_core::{CoreFault, Event, Field, Shown, Stepped, World, replay};
+use ell_core::{Act, CoreFault, Event, Field, Shown, Stepped, World, replay};
 use ell_ops::NoMemory;
 use std::alloc::{AllocError, Global};
 use std::process::Abort;
-use std::test::Fail;
 
 const OWNED: [(u32, u64); 3] = [(0, 5), (0, 6), (1, 7)];
 
 // More growths than any event asks for.
 const MOST: u64 = 100;
 
-// An event, and what it is to answer.
-#[derive(Clone, Copy, Debug, PartialEq, Eq)]
-struct Row {
-    event: Event,
-    want: Stepped,
-}
-
-// The schedule's events, one by one.
-fn rows(alloc: Global) -> Result<Vec<Row>, AllocError> {
-    let mut rows = Vec::new(alloc);
-    for (part, acts, want) in TURNS {
-        let worker = if part == Part::Left { 0 } else { 1 };
-        for act in acts {
-            let event = Event { worker, act: *act };
-            rows.push(Row { event, want })?;
-        }
-    }
-    Ok(rows)
-}
-
-// What a world tells of itself.
-#[derive(Debug, PartialEq, Eq, Drop)]
-struct WorldTold {
-    next: u64,
-    words: Vec<u64>,
-    keys: Vec<u64>,
-}
-
-// Asks a world all that it tells. For its words no memory is wanted.
-fn look(
-    rt: &(impl Abort + AllocGlobal),
-    heap: &Heap,
-    world: &World<&Heap>,
-) -> Result<WorldTold, Fail>
+// The claim word of a world, and each word of each card. No memory is wanted for them.
+fn words(alloc: Global, heap: &Heap, world: &World<&Heap>) -> Result<Vec<u64>, NoMemory>
     requires { world.now.cards ≡ CARDS }
 {
     heap.refuse(Refusal::From(1));
-    let next = world.next();
-    let mut words = Vec::new(rt.alloc());
+    let mut words = [world.next()].to_vec(alloc)?;
     for card in 0..=CARDS {
         for field in Field::ALL {
             words.push(world.word(card, field))?;
         }
     }
-    assert_eq!(rt; heap.growths(), 0);
-    heap.refuse(Refusal::None);
-    let keys = world.keys()?.to_vec(rt.alloc())?;
-    Ok(WorldTold { next, words, keys })
+    heap.stop();
+    if heap.growths() == 0 {
+        Ok(words)
+    } else {
+        Err(NoMemory)
+    }
+}
+
+// All that a world tells of itself: its words and its keys.
+fn told(alloc: Global, heap: &Heap, world: &World<&Heap>) -> Result<Vec<u64>, NoMemory>
+    requires { world.now.cards ≡ CARDS }
+{
+    let mut told = words(alloc, heap, world)?;
+    told.extend_from_slice(&world.keys()?)?;
+    Ok(told)
+}
+
+// Whether a world tells the same of itself as before.
+fn is_same(alloc: Global, heap: &Heap, world: &World<&Heap>, before: &[u64]) -> bool
+    requires { world.now.cards ≡ CARDS }
+{
+    match told(alloc, heap, world) {
+        Ok(after) => after.as_slice() == before,
+        Err(NoMemory) => false,
+    }
+}
+
+// Whether a world has 5 and 6.
+fn has_keys(world: &World<&Heap>) -> bool {
+    match world.keys() {
+        Ok(keys) => keys.as_slice() == [5, 6].as_slice(),
+        Err(NoMemory) => false,
+    }
+}
+
+// Does an event with this growth and all after it refused.
+fn step_on(heap: &Heap, world: &mut World<&Heap>, event: Event, want: Stepped, number: u64) -> Ended
+    ensures { world.new.cards ≡ world.old.cards }
+{
+    heap.refuse(Refusal::From(number));
+    let stepped = world.step(event);
+    heap.stop();
+    if heap.growths() < number {
+        Ended::answered(stepped == Ok(want))
+    } else {
+        Ended::no_memory(stepped == Err(CoreFault::NoMemory))
+    }
 }
 
 // Does an event with growth 1 and all after it refused, then with growth 2 and all after it, and so on until it is done. Until
@@ -71,140 +80,182 @@ fn step_swept(
     rt: &(impl Abort + AllocGlobal),
     heap: &Heap,
     world: &mut World<&Heap>,
-    row: Row,
-) -> Result<u64, Fail>
+    event: Event,
+    want: Stepped,
+) -> u64
     requires { world.old.cards ≡ CARDS }
     ensures { world.new.cards ≡ CARDS }
 {
-    let before = look(rt, heap, world)?;
+    let before = told(rt.alloc(), heap, world).expect(rt, "no memory");
     for number in 1..MOST {
-        heap.refuse(Refusal::From(number));
-        let stepped = world.step(row.event);
-        let ended = heap.ended(stepped == Err(CoreFault::NoMemory));
-        assert_eq!(rt; ended.is_refused, number <= ended.growths, "{row:?}");
-        if !ended.is_refused {
-            assert_eq!(rt; stepped, Ok(row.want), "{row:?}");
-            return Ok(number - 1);
+        let ended = step_on(heap, world, event, want, number);
+        if ended == Ended::Answered {
+            return number - 1;
         }
-        assert_eq!(rt; look(rt, heap, world)?, before, "{row:?}");
+        assert!(rt; ended == Ended::NoMemory && is_same(rt.alloc(), heap, world, &before));
     }
-    Err("more growths than a sweep has")?
+    panic!(rt; "more growths than a sweep has");
 }
 
 #[test]
-fn an_event_is_done_or_changes_nothing(rt: HostRuntime) -> Result<(), Fail> {
+fn an_event_is_done_or_changes_nothing(rt: HostRuntime) {
     let heap = Heap::new(rt.alloc());
-    let mut world = World::new(&heap, 2, &OWNED, CARDS)?;
-    let mut refused = 0u64;
-    for row in rows(rt.alloc())? {
-        refused = refused.saturating_add(step_swept(&rt, &heap, &mut world, row)?);
+    let mut world = World::new(&heap, 2, &OWNED, CARDS).expect(&rt, "no memory");
+    let mut refused = 0_u64;
+    for (worker, acts, want) in &TURNS {
+        for act in *acts {
+            let event = Event {
+                worker: *worker,
+                act: *act,
+            };
+            let times = step_swept(&rt, &heap, &mut world, event, *want);
+            refused = refused.saturating_add(times);
+        }
     }
     assert!(rt; refused > 0);
-    assert_eq!(rt;
-        look(&rt, &heap, &world)?.keys.as_slice(),
-        [5, 6].as_slice()
-    );
-    Ok(())
+    assert!(rt; has_keys(&world));
 }
 
 // Opens a world.
-fn open(rt: &(impl Abort + AllocGlobal), refusal: Refusal) -> Result<Ended, Fail> {
-    let heap = Heap::new(rt.alloc());
+fn open(heap: &Heap, refusal: Refusal) -> Ended {
     heap.refuse(refusal);
-    let made = World::new(&heap, 2, &OWNED, CARDS);
-    let ended = heap.ended(made.is_err());
+    let made = World::new(heap, 2, &OWNED, CARDS);
+    heap.stop();
     match made {
-        Ok(world) => assert_eq!(rt; world.next(), 1),
-        Err(fault) => assert_eq!(rt; fault, CoreFault::NoMemory),
+        Ok(world) => Ended::answered(world.next() == 1),
+        Err(fault) => Ended::no_memory(fault == CoreFault::NoMemory),
     }
-    Ok(ended)
+}
+
+// Does the acts of a worker: whether each answers what it is to.
+fn are_done(world: &mut World<&Heap>, worker: u32, acts: &[Act], want: Stepped) -> bool {
+    for act in acts {
+        if world.step(Event { worker, act: *act }) != Ok(want) {
+            return false;
+        }
+    }
+    true
+}
+
+// A world in which all events were done.
+fn played(heap: &Heap) -> Option<World<&Heap>> {
+    let mut world = World::new(heap, 2, &OWNED, CARDS).ok()?;
+    for (worker, acts, want) in &TURNS {
+        if !are_done(&mut world, *worker, acts, *want) {
+            return None;
+        }
+    }
+    Some(world)
 }
 
 // Lists the keys of a world. Where there is no memory for it, the world lists them then.
-fn list(rt: &(impl Abort + AllocGlobal), refusal: Refusal) -> Result<Ended, Fail> {
-    let heap = Heap::new(rt.alloc());
-    let mut world = World::new(&heap, 2, &OWNED, CARDS)?;
-    for row in rows(rt.alloc())? {
-        assert_eq!(rt; world.step(row.event), Ok(row.want), "{row:?}");
-    }
-    heap.refuse(refusal);
-    let listed = world.keys();
-    let ended = heap.ended(listed.is_err());
-    let keys = match listed {
-        Ok(keys) => keys,
-        Err(NoMemory) => world.keys()?,
+fn list(heap: &Heap, refusal: Refusal) -> Ended {
+    let Some(world) = played(heap) else {
+        return Ended::Wrong;
     };
-    assert_eq!(rt; keys.as_slice(), [5, 6].as_slice());
-    Ok(ended)
+    heap.refuse(refusal);
+    let keys = world.keys();
+    heap.stop();
+    match keys {
+        Ok(keys) => Ended::answered(keys.as_slice() == [5, 6].as_slice()),
+        Err(NoMemory) => Ended::no_memory(has_keys(&world)),
+    }
 }
 
 #[test]
-fn a_world_is_opened_or_there_is_no_memory(rt: HostRuntime) -> Result<(), Fail> {
-    sweep(&rt, |refusal| open(&rt, refusal))
+fn a_world_is_opened_or_there_is_no_memory(rt: HostRuntime) {
+    sweep(&rt, open);
 }
 
 #[test]
-fn keys_are_listed_or_there_is_no_memory(rt: HostRuntime) -> Result<(), Fail> {
-    sweep(&rt, |refusal| list(&rt, refusal))
+fn keys_are_listed_or_there_is_no_memory(rt: HostRuntime) {
+    sweep(&rt, list);
+}
+
+// The events one by one.
+fn all_events(alloc: Global) -> Result<Vec<Event>, AllocError> {
+    let mut events = Vec::new(alloc);
+    for (worker, acts, _) in &TURNS {
+        for act in *acts {
+            events.push(Event {
+                worker: *worker,
+                act: *act,
+            })?;
+        }
+    }
+    Ok(events)
+}
+
+// What a replay is to show of each event.
+fn all_shown(alloc: Global) -> Result<Vec<Shown>, AllocError> {
+    let mut shown = Vec::new(alloc);
+    for (_, acts, want) in &TURNS {
+        for _ in *acts {
+            shown.push(Shown::Step(*want))?;
+        }
+    }
+    Ok(shown)
 }
 
 // Replays all events. Where there is no memory for it, the world stands after some of them.
-fn replay_all(rt: &(impl Abort + AllocGlobal), refusal: Refusal) -> Result<Ended, Fail> {
-    let rows = rows(rt.alloc())?;
-    let heap = Heap::new(rt.alloc());
-    let mut world = World::new(&heap, 2, &OWNED, CARDS)?;
-    let events: Vec<Event> = rows.iter().map(|row| row.event).collect(rt.alloc())?;
+fn replay_all(
+    alloc: Global,
+    heap: &Heap,
+    refusal: Refusal,
+    events: &[Event],
+    wants: &[Shown],
+) -> Ended {
+    let Ok(mut world) = World::new(heap, 2, &OWNED, CARDS) else {
+        return Ended::Wrong;
+    };
     heap.refuse(refusal);
-    let shown = replay(&heap, &mut world, &events);
-    let ended = heap.ended(shown.is_err());
+    let shown = replay(heap, &mut world, events);
+    heap.stop();
     match shown {
-        Ok(shown) => assert!(rt; are_wanted(&shown, &rows)),
-        Err(NoMemory) => assert!(rt; stands_after_some(rt, refusal, &rows)?, "{refusal:?}"),
+        Ok(shown) => Ended::answered(shown.as_slice() == wants),
+        Err(NoMemory) => Ended::no_memory(stands_after_some(alloc, refusal, events, wants)),
     }
-    Ok(ended)
-}
-
-// Whether what a replay shows is what the rows want.
-fn are_wanted(shown: &[Shown], rows: &[Row]) -> bool {
-    let wants = rows.iter().map(|row| Shown::Step(row.want));
-    shown.iter().copied().eq(wants)
 }
 
 // Whether there is a number of events, not all of them, after which a world stands that had no memory for more.
-fn stands_after_some(
-    rt: &(impl Abort + AllocGlobal),
-    refusal: Refusal,
-    rows: &[Row],
-) -> Result<bool, Fail> {
-    for done in 0..rows.len() {
-        if stands_after(rt, refusal, rows, done)? {
-            return Ok(true);
+fn stands_after_some(alloc: Global, refusal: Refusal, events: &[Event], wants: &[Shown]) -> bool {
+    for done in 0..events.len().min(wants.len()) {
+        if stands_after(&Heap::new(alloc), refusal, events, wants, done) {
+            return true;
         }
     }
-    Ok(false)
+    false
 }
 
 // Whether a world that had no memory for all events goes on with those from one on, as they are to.
 fn stands_after(
-    rt: &(impl Abort + AllocGlobal),
+    heap: &Heap,
     refusal: Refusal,
-    rows: &[Row],
+    events: &[Event],
+    wants: &[Shown],
     done: usize,
-) -> Result<bool, Fail>
-    requires { done ≤ length rows.now }
+) -> bool
+    requires events { done ≤ length events.now }
+    requires wants { done ≤ length wants.now }
 {
-    let heap = Heap::new(rt.alloc());
-    let mut world = World::new(&heap, 2, &OWNED, CARDS)?;
-    let events: Vec<Event> = rows.iter().map(|row| row.event).collect(rt.alloc())?;
+    let Ok(mut world) = World::new(heap, 2, &OWNED, CARDS) else {
+        return false;
+    };
     heap.refuse(refusal);
-    let first = replay(&heap, &mut world, &events);
-    assert_eq!(rt; first.err(), Some(NoMemory));
-    heap.refuse(Refusal::None);
-    let shown = replay(&heap, &mut world, &events[done..])?;
-    Ok(are_wanted(&shown, &rows[done..]))
+    let is_refused = replay(heap, &mut world, events).is_err();
+    heap.stop();
+    match replay(heap, &mut world, &events[done..]) {
+        Ok(shown) => is_refused && shown.as_slice() == &wants[done..],
+        Err(NoMemory) => false,
+    }
 }
 
 #[test]
-fn events_are_replayed_or_there_is_no_memory(rt: HostRuntime) -> Result<(), Fail> {
-    sweep(&rt, |refusal| replay_all(&rt, refusal))
+fn events_are_replayed_or_there_is_no_memory(rt: HostRuntime) {
+    let events = all_events(rt.alloc()).expect(&rt, "no memory");
+    let shown = all_shown(rt.alloc()).expect(&rt, "no memory");
+    sweep(
+        &rt,
+        |heap, refusal| replay_all(rt.alloc(), heap, refusal, &events, &shown),
+    );
 }

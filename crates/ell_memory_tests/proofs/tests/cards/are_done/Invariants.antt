@@ -1,6 +1,6 @@
 use Rattle.std.proofs.Common.{◌≡◌}
 use Rattle.ell_cards_tests.specs.Fitting.{IsReady}
-use Rattle.ell_memory_tests.proofs.tests.cards.play_turn.Given as goal
+use Rattle.ell_memory_tests.proofs.tests.cards.are_done.Given as goal
 
 abbrev pub invariant-loop-act : goal.invariant-loop-act
 invariant-loop-act g l = record {
