@@ -16,6 +16,3 @@ pub use limits::{WORKERS_MAX, limits_are_as_defined};
 pub use no_memory::NoMemory;
 pub use one_thread::{apply, apply_all, apply_from};
 pub use op::{KEY_MAX, Op};
-
-#[cfg(test)]
-mod tests;

@@ -11,6 +11,3 @@ mod parts;
 pub use fault::PartFault;
 pub use gathering::{GatherFault, gather};
 pub use parts::Parts;
-
-#[cfg(test)]
-mod tests;

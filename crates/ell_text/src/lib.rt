@@ -19,8 +19,6 @@ mod number;
 mod output;
 mod replay;
 mod replay_line;
-#[cfg(test)]
-mod tests;
 mod trace;
 
 pub use answer::write_answer;

@@ -1,6 +1,6 @@
 //! Text on its way to a writer: it is gathered in a buffer of a fixed size, and the bytes that
 //! the writer took are counted.
-ghost use Rattle.std.specs.Prelude.{◌≡◌, ◌+◌, ◌≤◌, ◌<◌, [], ◌++◌, length, take, IfOk, IfErr, OnOk};
+ghost use Rattle.std.specs.Prelude.{◌≡◌, ◌+◌, ◌^◌, ◌≤◌, ◌<◌, ◌↔◌, [], ◌++◌, length, take, IsTrue, IfOk, IfErr, OnOk};
 ghost use Rattle.std.specs.Fmt.{decimal};
 ghost use Rattle.std.specs.Io.KnownBytes.{Appends};
 ghost use Rattle.ell_text.specs.declared.output.TheConstants.{CAPACITY};
@@ -9,8 +9,8 @@ ghost use Rattle.ell_text.specs.Sending.{Sends, Stops};
 use std::io::Write;
 use thiserror::Error;
 
-/// How many bytes wait at most, before they go to the writer together.
-pub(crate) const CAPACITY: usize = 8 * 1024;
+// How many bytes wait at most, before they go to the writer together.
+const CAPACITY: usize = 8 * 1024;
 
 /// The writer failed before the whole text was out.
 ///
@@ -23,18 +23,24 @@ pub struct WriteFault {
     pub written: u64,
 }
 
-/// Gives all of the bytes to the writer. Adds one to the count `written` for each byte that the
-/// writer takes, and returns the sum.
-///
-/// `Err` at the first failure of the writer. It also comes, before any of the bytes goes out, where
-/// the count could pass `u64::MAX`.
-pub(crate) fn send<W: Write>(out: &mut W, bytes: &[u8], written: u64) -> Result<u64, WriteFault>
+// Whether the bytes can be added to a count.
+fn can_count(bytes: &[u8], written: u64) -> bool
+    ensures { IsTrue result ↔ (written + length bytes.now < 2 ^ 64) }
+{
+    bytes.len() as u64 <= u64::MAX - written
+}
+
+// Gives all of the bytes to the writer. Adds one to the count `written` for each byte that the
+// writer takes, and returns the sum. `Err` at the first failure of the writer.
+fn send<W: Write>(out: &mut W, bytes: &[u8], written: u64) -> Result<u64, WriteFault>
     ensures ok { IfOk result (λ count.
         Sends (W.contents out.old) (W.contents out.new) bytes.now [] written count) }
     ensures fault { IfErr result (λ fault.
         Stops (W.contents out.old) (W.contents out.new) bytes.now written fault.written) }
+    // None of the bytes goes out where the count could pass `u64::MAX`.
+    ensures uncountable { 2 ^ 64 ≤ written + length bytes.now → result ≡ Err (record { written = written }) }
 {
-    if bytes.len() as u64 > u64::MAX - written {
+    if !can_count(bytes, written) {
         return Err(WriteFault { written });
     }
     let mut count = written;

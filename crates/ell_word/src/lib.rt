@@ -15,6 +15,3 @@ pub use node::{
     left_leaf_of, right_leaf_of,
 };
 pub use update::{State, Update, pack, packs, unpack};
-
-#[cfg(test)]
-mod tests;

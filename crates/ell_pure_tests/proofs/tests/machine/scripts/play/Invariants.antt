@@ -1,0 +1,6 @@
+use Rattle.std.proofs.Common.{◌≡◌}
+use Rattle.ell_pure_tests.proofs.tests.machine.scripts.play.Given as goal
+
+-- as many cards as at the start
+abbrev pub invariant-loop-at : goal.invariant-loop-at
+invariant-loop-at g l = l.world.cards ≡ l.fn.world.cards

@@ -1,0 +1,10 @@
+//! What no clause says, and what clauses come to, by examples that a person worked out.
+mod machine;
+mod operations;
+mod parts;
+mod reading;
+mod replaying;
+mod shared;
+mod tracing;
+mod words;
+mod writing;

@@ -1,0 +1,162 @@
+//! What a script is made of: events and what each is to show, and looks at words and keys.
+ghost use Rattle.std.specs.Prelude.{◌≡◌, ◌≤◌, IfOk};
+ghost use Rattle.ell_ops.specs.Meaning.{most_workers};
+ghost use Rattle.ell_word.specs.Node.{greatest_card};
+
+use Line::{Does, Filled, Has, Lists, Next, Searches};
+use ell_core::Act::{Answer, Begin, Claim, Down, IChild, IFlag, IUnflag, Upd};
+use ell_core::{Act, CoreFault, Event, Field, Shown, Stepped, World};
+use ell_ops::{KEY_MAX, Op};
+use std::process::Abort;
+
+pub const MOVED: Shown = Shown::Step(Stepped::Moved);
+
+pub const WON: Shown = Shown::Step(Stepped::Won);
+
+pub const LOST: Shown = Shown::Step(Stepped::Lost);
+
+pub const YES: Shown = Shown::Step(Stepped::Answered(true));
+
+pub const NO: Shown = Shown::Step(Stepped::Answered(false));
+
+pub const NO_SUCH_WORKER: Shown = Shown::Refused(CoreFault::NoSuchWorker);
+
+pub const NOT_OWNED: Shown = Shown::Refused(CoreFault::NotOwned);
+
+pub const NOT_NOW: Shown = Shown::Refused(CoreFault::NotNow);
+
+pub const NO_CARDS: Shown = Shown::Refused(CoreFault::NoCards);
+
+/// A line of a script: what a worker does, or what is seen.
+#[derive(Clone, Copy)]
+pub enum Line {
+    /// The worker does these acts, and each is to show the same.
+    Does(u32, &'static [Act], Shown),
+    /// The worker begins, or starts its search anew, and then goes down so many times: each event moves it.
+    Searches(u32, Act, u32),
+    /// The field of the card has this word.
+    Has(u64, Field, u64),
+    /// The fields of the card have these words: Gp, P, L, Was, Key, Left, Right, Update, LeftLeafKey, RightLeafKey.
+    Filled(u64, [u64; 10]),
+    /// The tree has these keys.
+    Lists(&'static [u64]),
+    /// This card is the next.
+    Next(u64),
+}
+
+/// Worker 0 inserts 5 by card 1, alone and first of all.
+pub const FIVE_INSERTED: &[Line] = &[
+    Searches(0, Begin(Op::Insert(5)), 1),
+    Does(0, &[Claim], MOVED),
+    Does(0, &[IFlag, IChild(1), IUnflag(1)], WON),
+    Does(0, &[Answer], YES),
+];
+
+/// A world of so many workers and cards, whose workers own these keys.
+pub fn opened(
+    rt: &(impl Abort + AllocGlobal),
+    workers: u32,
+    owned: &[(u32, u64)],
+    cards: u64,
+) -> Result<World, CoreFault>
+    requires some_worker { 1 ≤ workers }
+    requires most_workers { workers ≤ most_workers }
+    requires some_card { 1 ≤ cards }
+    requires most_cards { cards ≤ greatest_card }
+    ensures { IfOk result (λ world. world.cards ≡ cards) }
+{
+    assert!(rt; owned.iter().all(|entry| entry.1 <= KEY_MAX));
+    World::new(rt.alloc(), workers, owned, cards)
+}
+
+/// Such a world, in which scripts have been played, one after the other.
+pub fn played(
+    rt: &(impl Abort + AllocGlobal),
+    workers: u32,
+    owned: &[(u32, u64)],
+    cards: u64,
+    scripts: &[&[Line]],
+) -> World
+    requires some_worker { 1 ≤ workers }
+    requires most_workers { workers ≤ most_workers }
+    requires some_card { 1 ≤ cards }
+    requires most_cards { cards ≤ greatest_card }
+    ensures { result.cards ≡ cards }
+{
+    let mut world = opened(rt, workers, owned, cards).expect(rt, "an opening");
+    for script in scripts {
+        play(rt, &mut world, cards, script);
+    }
+    world
+}
+
+// Plays a script, all of which has to hold.
+fn play(rt: &impl Abort, world: &mut World, cards: u64, script: &[Line])
+    requires { world.old.cards ≡ cards }
+    ensures { world.new.cards ≡ cards }
+{
+    for (at, line) in script.iter().enumerate() {
+        assert!(rt; holds(world, cards, *line), "line {at}");
+    }
+}
+
+// Plays a line: whether it holds.
+fn holds(world: &mut World, cards: u64, line: Line) -> bool
+    requires { world.old.cards ≡ cards }
+    ensures { world.new.cards ≡ cards }
+{
+    match line {
+        Does(worker, acts, want) => does(world, worker, acts, want),
+        Searches(worker, first, levels) => searches(world, worker, first, levels),
+        Has(card, field, want) => card <= cards && world.word(card, field) == want,
+        Filled(card, wants) => card <= cards && is_filled(world, card, &wants),
+        Lists(want) => world.keys().is_ok_and(|keys| keys.as_slice() == want),
+        Next(card) => world.next() == card,
+    }
+}
+
+fn does(world: &mut World, worker: u32, acts: &[Act], want: Shown) -> bool
+    ensures { world.new.cards ≡ world.old.cards }
+{
+    for act in acts {
+        if show(world, Event { worker, act: *act }) != want {
+            return false;
+        }
+    }
+    true
+}
+
+fn searches(world: &mut World, worker: u32, first: Act, levels: u32) -> bool
+    ensures { world.new.cards ≡ world.old.cards }
+{
+    if !does(world, worker, &[first], MOVED) {
+        return false;
+    }
+    for _ in 0..levels {
+        if !does(world, worker, &[Upd, Down], MOVED) {
+            return false;
+        }
+    }
+    true
+}
+
+fn is_filled(world: &World, card: u64, wants: &[u64; 10]) -> bool
+    requires { card ≤ world.now.cards }
+{
+    for at in 0..10 {
+        if world.word(card, Field::ALL[at]) != wants[at] {
+            return false;
+        }
+    }
+    true
+}
+
+/// Tries one event: what is shown of it.
+pub fn show(world: &mut World, event: Event) -> Shown
+    ensures { world.new.cards ≡ world.old.cards }
+{
+    match world.step(event) {
+        Ok(said) => Shown::Step(said),
+        Err(fault) => Shown::Refused(fault),
+    }
+}

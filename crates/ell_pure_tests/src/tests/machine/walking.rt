@@ -1,0 +1,52 @@
+//! The keys of a world's tree by the walk that any words can be walked by, which are read here by card and field.
+ghost use Rattle.std.specs.Prelude.{◌≡◌, ◌≤◌, IfOk};
+ghost use Rattle.ell_word.specs.Node.{card, greatest_card};
+ghost use Rattle.ell_core.specs.inside.World.{machine_of};
+ghost use Rattle.ell_core.specs.tree.Tree.{ListsKeys};
+
+use super::scripts::{FIVE_INSERTED, played};
+use ell_core::{TreeWords, World, child_field, key_field, keys_of_tree, room_holds_keys};
+use ell_ops::NoMemory;
+use ell_word::card_of;
+use std::alloc::Global;
+
+// A world, of which only single words are read.
+#[derive(Clone, Copy)]
+struct ByWords<'a> {
+    world: &'a World,
+}
+
+impl TreeWords for ByWords<'_> {
+    ghost words = { λ tree. (machine_of tree.world.now).words };
+
+    ghost can_read = { λ tree node. card node ≤ tree.world.now.cards };
+
+    fn key(&self, node: u64) -> u64 {
+        self.world.word(card_of(node), key_field(node))
+    }
+
+    fn child(&self, node: u64, right: bool) -> u64 {
+        self.world.word(card_of(node), child_field(right))
+    }
+}
+
+// The keys of the tree of a world with so many cards.
+fn keys_by_words(alloc: Global, world: &World, cards: u64) -> Result<Vec<u64>, NoMemory>
+    requires cards { world.now.cards ≡ cards }
+    requires limit { cards ≤ greatest_card }
+    ensures { IfOk result (λ keys. ListsKeys (machine_of world.now).words keys.items) }
+{
+    world.laws_hold();
+    room_holds_keys();
+    let places = cards as usize + 2;
+    let waiting = Vec::with_capacity(alloc, places)?;
+    let keys = Vec::with_capacity(alloc, places)?;
+    Ok(keys_of_tree(&ByWords { world }, waiting, keys))
+}
+
+#[test]
+fn words_give_the_keys(rt: HostRuntime) {
+    let world = played(&rt, 2, &[(0, 5)], 4, &[FIVE_INSERTED]);
+    let keys = keys_by_words(rt.alloc(), &world, 4);
+    assert!(rt; keys.is_ok_and(|keys| keys.as_slice() == [5].as_slice()));
+}

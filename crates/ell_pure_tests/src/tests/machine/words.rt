@@ -1,0 +1,85 @@
+//! Places, words and fillings of cards, and answers at leaves, that a person worked out.
+use ell_core::Fact::{DFlagged, IFlagged, Marked};
+use ell_core::{
+    Field, child_field, delete_filling, insert_filling, key_field, leaf_answer, table_size,
+    told_by, update_word,
+};
+use ell_ops::Op;
+use ell_word::{INF1, State};
+
+#[test]
+fn a_card_has_ten_words_after_the_claim_word(rt: HostRuntime) {
+    let places = [
+        (Field::Gp.address(0), 1),
+        (Field::RightLeafKey.address(0), 10),
+        (Field::Key.address(2), 25),
+        (table_size(2), 31),
+    ];
+    for row in 0..4 {
+        assert!(rt; places[row].0 == places[row].1, "row {row}");
+    }
+    let fields = [
+        (key_field(6), Field::Key),
+        (key_field(7), Field::LeftLeafKey),
+        (key_field(8), Field::RightLeafKey),
+        (child_field(false), Field::Left),
+        (child_field(true), Field::Right),
+    ];
+    for row in 0..5 {
+        assert!(rt; fields[row].0 == fields[row].1, "row {row}");
+    }
+}
+
+#[test]
+fn flags_and_marks_tell_a_fact(rt: HostRuntime) {
+    assert!(rt; update_word(State::Mark, 3) == 14);
+    let rows = [
+        (12, Some(IFlagged(3))),
+        (13, Some(DFlagged(3))),
+        (14, Some(Marked(3))),
+        (15, None),
+    ];
+    for row in 0..4 {
+        let (word, fact) = rows[row];
+        assert!(rt; told_by(word) == fact, "row {row}");
+    }
+}
+
+#[test]
+fn a_card_is_filled_for_its_operation(rt: HostRuntime) {
+    // Key 5 at the left leaf of the opening tree: node 3 over leaves 4 and 5.
+    let insert = [
+        (Field::P, 0),
+        (Field::L, 1),
+        (Field::Key, INF1),
+        (Field::Left, 4),
+        (Field::Right, 5),
+        (Field::Update, 3),
+        (Field::LeftLeafKey, 5),
+        (Field::RightLeafKey, INF1),
+    ];
+    assert!(rt; insert_filling(1, 5, 0, 1, INF1) == insert);
+    let delete = [
+        (Field::Gp, 0),
+        (Field::P, 3),
+        (Field::L, 4),
+        (Field::Was, 15),
+    ];
+    assert!(rt; delete_filling(0, 3, 4, 15) == delete);
+}
+
+#[test]
+fn a_leaf_answers_where_nothing_is_to_do(rt: HostRuntime) {
+    let rows = [
+        (Op::Find(5), true, Some(true)),
+        (Op::Find(5), false, Some(false)),
+        (Op::Insert(5), true, Some(false)),
+        (Op::Insert(5), false, None),
+        (Op::Delete(5), true, None),
+        (Op::Delete(5), false, Some(false)),
+    ];
+    for row in 0..6 {
+        let (op, has, want) = rows[row];
+        assert!(rt; leaf_answer(op, has) == want, "row {row}");
+    }
+}

@@ -1,0 +1,84 @@
+//! Worked lists of operations, with the replies and keys that a person gave them.
+use super::shared::have_texts;
+use ell_ops::{KEY_MAX, NoMemory, Op, apply_all, apply_from, united_keys};
+use std::alloc::AllocError;
+
+// Whether a list of operations came to these replies and keys.
+fn is_done(done: Result<(Vec<bool>, Vec<u64>), NoMemory>, replies: &[bool], keys: &[u64]) -> bool {
+    match done {
+        Ok((said, left)) => said.as_slice() == replies && left.as_slice() == keys,
+        Err(NoMemory) => false,
+    }
+}
+
+// Whether a list has these keys.
+fn are_keys(found: Result<Vec<u64>, AllocError>, keys: &[u64]) -> bool {
+    match found {
+        Ok(found) => found.as_slice() == keys,
+        Err(AllocError) => false,
+    }
+}
+
+#[test]
+fn keys_fit_up_to_the_greatest(rt: HostRuntime) {
+    assert!(rt; KEY_MAX == u64::MAX - 2);
+    let rows = [
+        (Op::Find(0), 0, true),
+        (Op::Insert(u64::MAX - 2), u64::MAX - 2, true),
+        (Op::Delete(u64::MAX - 1), u64::MAX - 1, false),
+        (Op::Find(u64::MAX), u64::MAX, false),
+    ];
+    for row in 0..4 {
+        let (op, key, fits) = rows[row];
+        assert!(rt; op.key() == key && op.fits() == fits, "row {row}");
+    }
+}
+
+#[test]
+fn one_thread_answers(rt: HostRuntime) {
+    let ops = [
+        Op::Insert(5),
+        Op::Find(5),
+        Op::Insert(5),
+        Op::Delete(5),
+        Op::Find(5),
+        Op::Delete(5),
+    ];
+    let replies = [true, true, false, true, false, false];
+    assert!(rt; is_done(apply_all(rt.alloc(), &ops), &replies, &[]));
+    assert!(rt; is_done(apply_all(rt.alloc(), &[]), &[], &[]));
+
+    let ops = [Op::Delete(3), Op::Insert(4), Op::Find(9)];
+    assert!(rt; is_done(apply_from(rt.alloc(), &[3, 9], &ops), &[true; 3], &[4, 9]));
+}
+
+#[test]
+fn eight_keys_of_which_four_are_deleted(rt: HostRuntime) {
+    let ops = [
+        Op::Insert(1),
+        Op::Insert(2),
+        Op::Insert(3),
+        Op::Insert(4),
+        Op::Insert(5),
+        Op::Insert(6),
+        Op::Insert(7),
+        Op::Insert(8),
+        Op::Delete(2),
+        Op::Delete(4),
+        Op::Delete(6),
+        Op::Delete(8),
+    ];
+    assert!(rt; is_done(apply_all(rt.alloc(), &ops), &[true; 12], &[1, 3, 5, 7]));
+}
+
+#[test]
+fn keys_of_two_lists(rt: HostRuntime) {
+    let both = united_keys(rt.alloc(), &[1, 3, 5], &[2, 3, 9]);
+    assert!(rt; are_keys(both, &[1, 2, 3, 5, 9]));
+    assert!(rt; are_keys(united_keys(rt.alloc(), &[], &[7]), &[7]));
+}
+
+#[test]
+fn want_of_memory_has_a_text(rt: HostRuntime) {
+    have_texts(&rt, &[(NoMemory, "out of memory")]);
+}

@@ -1,0 +1,181 @@
+//! Small partings and gatherings, with the parts and replies that a person gave them.
+use super::shared::have_texts;
+use ell_ops::Op;
+use ell_parts::{GatherFault, PartFault, Parts, gather};
+use std::alloc::{AllocError, Global};
+
+const FIVES: [Op; 3] = [Op::Insert(5), Op::Find(6), Op::Delete(5)];
+
+// A worker's part, and its keys.
+type Want = (&'static [(usize, Op)], &'static [u64]);
+
+// Whether a parting has these parts of the workers, and no more.
+fn is_parted(parted: Result<Parts<Global>, PartFault>, wants: &[Want]) -> bool {
+    match parted {
+        Ok(parts) => are_parts(&parts, wants),
+        Err(_) => false,
+    }
+}
+
+fn are_parts(parts: &Parts<Global>, wants: &[Want]) -> bool {
+    if parts.workers() as usize != wants.len() {
+        return false;
+    }
+    for worker in 0..parts.workers() {
+        let (part, keys) = wants[worker as usize];
+        if parts.part(worker) != part || parts.keys(worker) != keys {
+            return false;
+        }
+    }
+    true
+}
+
+#[test]
+fn owners_part_a_list(rt: HostRuntime) {
+    let parted = Parts::by_owner(rt.alloc(), &FIVES, &[0, 1, 0], 2);
+    let first: Want = (&[(0, Op::Insert(5)), (2, Op::Delete(5))], &[5]);
+    let second: Want = (&[(1, Op::Find(6))], &[6]);
+    assert!(rt; is_parted(parted, &[first, second]));
+}
+
+#[test]
+fn parts_have_a_length(rt: HostRuntime) {
+    let length = |parts: Parts<Global>| (parts.len(), parts.is_empty());
+    let fives = Parts::by_owner(rt.alloc(), &FIVES, &[0, 1, 0], 2).map(length);
+    assert!(rt; fives == Ok((3, false)));
+    assert!(rt; Parts::ranged(rt.alloc(), &[], 3).map(length) == Ok((0, true)));
+}
+
+#[test]
+fn owners_that_part_no_list(rt: HostRuntime) {
+    let (first, second) = (0, 2);
+    let rows: [(&[u32], u32, PartFault); 4] = [
+        (&[0, 1, 1], 2, PartFault::KeySplit { first, second }),
+        (&[0, 1], 2, PartFault::OwnerCount),
+        (&[0, 2, 0], 2, PartFault::StrangerOwner { at: 1 }),
+        (&[0, 2], 0, PartFault::BadWorkers),
+    ];
+    for row in 0..4 {
+        let (owners, workers, fault) = rows[row];
+        let refused = Parts::by_owner(rt.alloc(), &FIVES, owners, workers).err();
+        assert!(rt; refused == Some(fault), "row {row}");
+    }
+}
+
+#[test]
+fn stripes_go_by_the_remainder(rt: HostRuntime) {
+    let ops = [Op::Find(3), Op::Find(4), Op::Find(3)];
+    let first: Want = (&[(1, Op::Find(4))], &[4]);
+    let second: Want = (&[(0, Op::Find(3)), (2, Op::Find(3))], &[3]);
+    assert!(rt; is_parted(Parts::striped(rt.alloc(), &ops, 2), &[first, second]));
+    for workers in [0, 65] {
+        let fault = Parts::striped(rt.alloc(), &ops, workers).err();
+        assert!(rt; fault == Some(PartFault::BadWorkers), "{workers} workers");
+    }
+}
+
+#[test]
+fn ranges_go_by_the_order_of_the_keys(rt: HostRuntime) {
+    let ops = [
+        Op::Find(10),
+        Op::Find(20),
+        Op::Find(30),
+        Op::Find(40),
+        Op::Find(50),
+    ];
+    let first: Want = (
+        &[(0, Op::Find(10)), (1, Op::Find(20)), (2, Op::Find(30))],
+        &[10, 20, 30],
+    );
+    let second: Want = (&[(3, Op::Find(40)), (4, Op::Find(50))], &[40, 50]);
+    assert!(rt; is_parted(Parts::ranged(rt.alloc(), &ops, 2), &[first, second]));
+    let none: Want = (&[], &[]);
+    assert!(rt; is_parted(Parts::ranged(rt.alloc(), &[], 3), &[none, none, none]));
+}
+
+// A position, and its reply.
+type Item = (usize, bool);
+
+fn list_of(alloc: Global, pieces: &[&[Item]]) -> Result<Vec<Vec<Item>>, AllocError> {
+    let mut list = Vec::new(alloc);
+    for items in pieces {
+        list.push(items.to_vec(alloc)?)?;
+    }
+    Ok(list)
+}
+
+// Whether pieces come to these replies, or to this fault.
+fn is_gathered(
+    alloc: Global,
+    n: usize,
+    pieces: &[&[Item]],
+    want: Result<&[bool], GatherFault>,
+) -> bool {
+    let Ok(list) = list_of(alloc, pieces) else {
+        return false;
+    };
+    match (gather(alloc, n, &list), want) {
+        (Ok(replies), Ok(want)) => replies.as_slice() == want,
+        (Err(fault), Err(want)) => fault == want,
+        _ => false,
+    }
+}
+
+#[test]
+fn replies_come_together(rt: HostRuntime) {
+    let pieces: [&[Item]; 2] = [&[(0, true), (2, false)], &[(1, true)]];
+    assert!(rt; is_gathered(rt.alloc(), 3, &pieces, Ok(&[true, true, false])));
+}
+
+#[test]
+fn replies_that_do_not_fit(rt: HostRuntime) {
+    let rows: [(&[Item], GatherFault); 3] = [
+        (&[(0, true), (0, true)], GatherFault::Doubled { at: 0 }),
+        (&[(2, true)], GatherFault::Stranger { at: 2 }),
+        (&[(1, true)], GatherFault::Missing { at: 0 }),
+    ];
+    for row in 0..3 {
+        let (piece, fault) = rows[row];
+        assert!(rt;
+            is_gathered(rt.alloc(), 2, &[piece], Err(fault)),
+            "row {row}"
+        );
+    }
+}
+
+#[test]
+fn faults_of_partings_have_texts(rt: HostRuntime) {
+    let (first, second) = (0, 2);
+    have_texts(
+        &rt,
+        &[
+            (PartFault::BadWorkers, "workers are not 1 to 64"),
+            (PartFault::OwnerCount, "not one owner for each operation"),
+            (
+                PartFault::StrangerOwner { at: 1 },
+                "position 1: no such worker",
+            ),
+            (
+                PartFault::KeySplit { first, second },
+                "positions 0 and 2: one key with two workers",
+            ),
+            (PartFault::NoMemory, "out of memory"),
+        ],
+    );
+}
+
+#[test]
+fn faults_of_gatherings_have_texts(rt: HostRuntime) {
+    have_texts(
+        &rt,
+        &[
+            (
+                GatherFault::Stranger { at: 3 },
+                "position 3: no such position",
+            ),
+            (GatherFault::Doubled { at: 3 }, "position 3: two replies"),
+            (GatherFault::Missing { at: 3 }, "position 3: no reply"),
+            (GatherFault::NoMemory, "out of memory"),
+        ],
+    );
+}

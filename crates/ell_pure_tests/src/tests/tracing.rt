@@ -1,0 +1,98 @@
+//! The texts of replays, written by hand.
+use super::shared::have_texts;
+use ell_core::{CoreFault, Shown, Stepped};
+use ell_text::{ReplayFault, ScriptFault, replay_bytes, write_trace};
+use std::alloc::Global;
+
+#[test]
+fn a_line_of_each_kind(rt: HostRuntime) {
+    let shown = [
+        Shown::Step(Stepped::Moved),
+        Shown::Step(Stepped::Won),
+        Shown::Step(Stepped::Lost),
+        Shown::Step(Stepped::Answered(true)),
+        Shown::Step(Stepped::Answered(false)),
+        Shown::Refused(CoreFault::NoSuchWorker),
+        Shown::Refused(CoreFault::NotOwned),
+        Shown::Refused(CoreFault::NotNow),
+        Shown::Refused(CoreFault::NoCards),
+        Shown::Refused(CoreFault::OwnedTwice),
+        Shown::Refused(CoreFault::NoMemory),
+    ];
+    let mut out = Vec::new(rt.alloc());
+    let written = write_trace(&mut out, &shown, &[5, 18_446_744_073_709_551_613]);
+    let text: &[u8] =
+        b"moved\nwon\nlost\nyes\nno\nrefused NoSuchWorker\nrefused NotOwned\nrefused NotNow\n\
+        refused NoCards\nrefused OwnedTwice\nrefused NoMemory\nkeys 2\n5\n18446744073709551613\n";
+    assert!(rt; written.is_ok() && out.as_slice() == text);
+}
+
+// Two inserts meet at the root: worker 0 flags it, and worker 1 does not.
+const TWO_INSERTS: &[u8] = b"workers 2\ncards 4\nown 0 5\nown 1 7\n\
+    0 begin insert 5\n0 upd\n0 down\n1 begin insert 7\n1 upd\n1 down\n\
+    0 claim\n1 claim\n0 iflag\n1 iflag\n1 ichild 2\n";
+
+const TWO_INSERTS_TRACE: &[u8] = b"moved\nmoved\nmoved\nmoved\nmoved\nmoved\nmoved\nmoved\n\
+    won\nlost\nrefused NotNow\nkeys 0\n";
+
+// Worker 0 inserts 5 alone.
+const ONE_INSERT: &[u8] = b"workers 1\ncards 1\nown 0 5\n\
+    0 begin insert 5\n0 upd\n0 down\n0 claim\n0 iflag\n0 ichild 1\n0 iunflag 1\n0 answer\n";
+
+// What a replay of a text answers, if it wrote this trace.
+fn answer_with(alloc: Global, text: &[u8], trace: &[u8]) -> Option<Result<(), ScriptFault>> {
+    let mut out = Vec::new(alloc);
+    let mut reader = text;
+    let answer = replay_bytes(alloc, &mut reader, &mut out);
+    if out.as_slice() == trace {
+        Some(answer)
+    } else {
+        None
+    }
+}
+
+#[test]
+fn traces(rt: HostRuntime) {
+    let texts: [(&[u8], &[u8]); 3] = [
+        (TWO_INSERTS, TWO_INSERTS_TRACE),
+        (
+            ONE_INSERT,
+            b"moved\nmoved\nmoved\nmoved\nwon\nwon\nwon\nyes\nkeys 1\n5\n",
+        ),
+        (b"workers 1\ncards 1\n", b"keys 0\n"),
+    ];
+    for row in 0..3 {
+        let (text, trace) = texts[row];
+        assert!(rt;
+            answer_with(rt.alloc(), text, trace) == Some(Ok(())),
+            "row {row}"
+        );
+    }
+}
+
+#[test]
+fn faults_before_a_trace(rt: HostRuntime) {
+    let owned_twice = ScriptFault::Start(CoreFault::OwnedTwice);
+    let no_such_worker = ScriptFault::Start(CoreFault::NoSuchWorker);
+    let bad_number = ScriptFault::Text(ReplayFault::BadNumber { line: 2 });
+    let faults: [(&[u8], ScriptFault); 3] = [
+        (b"workers 2\ncards 4\nown 0 5\nown 1 5\n", owned_twice),
+        (b"workers 2\ncards 4\nown 2 5\n", no_such_worker),
+        (b"workers 2\ncards 0\n", bad_number),
+    ];
+    for row in 0..3 {
+        let (text, fault) = faults[row];
+        assert!(rt;
+            answer_with(rt.alloc(), text, b"") == Some(Err(fault)),
+            "row {row}"
+        );
+    }
+    have_texts(
+        &rt,
+        &[
+            (owned_twice, "key owned twice"),
+            (no_such_worker, "no such worker"),
+            (bad_number, "line 2: not a number in range"),
+        ],
+    );
+}

@@ -1,0 +1,110 @@
+//! What no clause says: the bytes of the text, how often the writer is called, and what is a failure
+//! of the writer.
+use super::shared::{have_texts, repeated};
+use ell_text::{WriteFault, write_answer};
+use std::alloc::Global;
+use std::io;
+use std::io::{ErrorKind, Write};
+
+const YES_YES_YES_NO: [bool; 4] = [true, true, true, false];
+
+// What a full writer answers.
+#[derive(Clone, Copy)]
+enum WhenFull {
+    Interrupted,
+    TakesNothing,
+}
+
+// A writer that takes so many bytes in all, and so many at a call.
+#[derive(Drop)]
+struct Limited {
+    taken: Vec<u8>,
+    room: usize,
+    per_call: usize,
+    when_full: WhenFull,
+    calls: u64,
+}
+
+impl Limited {
+    fn new(alloc: Global, room: usize, per_call: usize, when_full: WhenFull) -> Self {
+        Limited {
+            taken: Vec::new(alloc),
+            room,
+            per_call,
+            when_full,
+            calls: 0,
+        }
+    }
+}
+
+impl Write for Limited {
+    fn write(&mut self, buf: &[u8]) -> io::Result<usize> {
+        self.calls = self.calls.saturating_add(1);
+        let count = buf.len().min(self.per_call).min(self.room);
+        if let (0, WhenFull::Interrupted) = (count, self.when_full) {
+            return Err(io::Error::from(ErrorKind::Interrupted));
+        }
+        self.taken.extend_from_slice(&buf[..count])?;
+        self.room -= count;
+        Ok(count)
+    }
+
+    fn flush(&mut self) -> io::Result<()> {
+        Ok(())
+    }
+}
+
+// Whether this is the answer.
+fn is_written(alloc: Global, replies: &[bool], keys: &[u64], text: &[u8]) -> bool {
+    let mut out = Vec::new(alloc);
+    write_answer(&mut out, replies, keys).is_ok() && out.as_slice() == text
+}
+
+#[test]
+fn writes_a_line_for_each_reply_and_key(rt: HostRuntime) {
+    let text = b"yes\nyes\nyes\nno\nkeys 0\n";
+    assert!(rt; is_written(rt.alloc(), &YES_YES_YES_NO, &[], text));
+    let text = b"yes\nkeys 1\n18446744073709551613\n";
+    assert!(rt; is_written(rt.alloc(), &[true], &[18_446_744_073_709_551_613], text));
+}
+
+#[test]
+fn stops_at_an_interrupted_write(rt: HostRuntime) {
+    let mut out = Limited::new(rt.alloc(), 5, usize::MAX, WhenFull::Interrupted);
+    let result = write_answer(&mut out, &YES_YES_YES_NO, &[]);
+    assert!(rt; result == Err(WriteFault { written: 5 }));
+    assert!(rt; out.taken.as_slice() == b"yes\ny".as_slice() && out.calls == 2);
+}
+
+#[test]
+fn stops_at_a_write_that_takes_nothing(rt: HostRuntime) {
+    let mut out = Limited::new(rt.alloc(), 0, usize::MAX, WhenFull::TakesNothing);
+    let result = write_answer(&mut out, &YES_YES_YES_NO, &[]);
+    assert!(rt; result == Err(WriteFault { written: 0 }) && out.calls == 1);
+}
+
+#[test]
+fn goes_on_after_a_partial_write(rt: HostRuntime) {
+    let mut out = Limited::new(rt.alloc(), usize::MAX, 1, WhenFull::Interrupted);
+    let result = write_answer(&mut out, &YES_YES_YES_NO, &[]);
+    assert!(rt; result == Ok(()) && out.taken.len() == 22 && out.calls == 22);
+}
+
+#[test]
+fn calls_the_writer_once_for_each_full_buffer(rt: HostRuntime) {
+    let text = repeated(rt.alloc(), b"no\n", 20_000, b"keys 3\n7\n1234567890\n0\n");
+    let mut out = Limited::new(rt.alloc(), usize::MAX, usize::MAX, WhenFull::Interrupted);
+    let result = write_answer(&mut out, &[false; 20_000], &[7, 1_234_567_890, 0]);
+    assert!(rt; result == Ok(()) && text.is_ok_and(|text| out.taken == text));
+    // A buffer has 8,192 bytes.
+    assert!(rt; out.taken.len() == 60_022 && out.calls == 60_022u64.div_ceil(8_192));
+}
+
+#[test]
+fn shows_how_much_was_written(rt: HostRuntime) {
+    let written = 5;
+    have_texts(
+        &rt,
+        &[(WriteFault { written }, "write failed after 5 bytes")],
+    );
+}
