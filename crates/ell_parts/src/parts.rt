@@ -54,7 +54,7 @@ impl<A: Allocator> Parts<A> {
     pub fn is_empty(&self) -> bool
         ensures { IsTrue result ↔ (length self.now.ops ≡ 0) }
     {
-        self.ops.is_empty()
+        self.len() == 0
     }
 
     /// The operations of a worker, with their positions in the list, ascending.

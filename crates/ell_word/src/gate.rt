@@ -1,7 +1,7 @@
 //! What a worker tells of its steps.
 
 /// The kinds of step that a worker makes. All but `Begin` are one atomic step each.
-#[derive(Clone, Copy, Debug, PartialEq, Eq, Hash)]
+#[derive(Clone, Copy, Debug, PartialEq, Eq)]
 pub enum Kind {
     /// The start of a find, insert or delete: no step yet.
     Begin,

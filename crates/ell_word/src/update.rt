@@ -5,7 +5,7 @@ ghost use Rattle.ell_word.specs.Word.{packed, unpacked};
 ghost use Rattle.ell_word.specs.declared.update.Update.{Update};
 
 /// The state of an internal node (figure 7 of the paper).
-#[derive(Clone, Copy, Debug, PartialEq, Eq, Hash)]
+#[derive(Clone, Copy, Debug, PartialEq, Eq)]
 pub enum State {
     /// An insert is about to change a child.
     IFlag,
@@ -18,7 +18,7 @@ pub enum State {
 }
 
 /// What an update word says.
-#[derive(Clone, Copy, Debug, PartialEq, Eq, Hash)]
+#[derive(Clone, Copy, Debug, PartialEq, Eq)]
 pub struct Update {
     pub state: State,
     /// The card of the operation that set the state last; 0 where none did.
