@@ -1,0 +1,5 @@
+use Rattle.ell_test_steps.proofs.Readiness.{ready_aside, ready_marked}
+use Rattle.ell_test_steps.proofs.exchanging.mark.Goals as goal
+
+pub returns : goal.returns
+returns g c = search (ready_aside, ready_marked)

@@ -1,0 +1,6 @@
+use Rattle.ell_test_steps.proofs.Asides.{aside_trans, lost_aside, next_aside}
+use Rattle.ell_test_steps.proofs.Cards.{may_claim_at}
+use Rattle.ell_test_steps.proofs.filling.take_card.Goals as goal
+
+pub claim-requires-clause-may : goal.claim-requires-clause-may
+claim-requires-clause-may g c = search may_claim_at

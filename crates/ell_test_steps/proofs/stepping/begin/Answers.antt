@@ -1,0 +1,5 @@
+use Rattle.ell_test_steps.proofs.Readiness.{ready_begun}
+use Rattle.ell_test_steps.proofs.stepping.begin.Goals as goal
+
+pub returns : goal.returns
+returns g c = search ready_begun

@@ -1,0 +1,82 @@
+//! Steps beside the search that read.
+ghost use Rattle.std.specs.Prelude.{◌≡◌};
+ghost use Rattle.ell_cards.specs.declared.view.Told.TheVariants.{Met, Key, Info, Frozen};
+ghost use Rattle.ell_cards.specs.Models.{IsTold};
+ghost use Rattle.ell_cards.specs.Guards.{IsSibling, MayAsk, MaySee, NamesNode};
+ghost use Rattle.ell_test_steps.specs.Fitting.{StepsAside};
+
+use ell_cards::{CardTable, Pass};
+use ell_core::Field;
+use std::alloc::Allocator;
+
+/// Reads the key of a node that the pass has met.
+#[tactic(auto, using(ell_cards::proofs::views::Steps::key_told))]
+pub(crate) fn look_key<A: Allocator + Copy>(
+    table: &CardTable<A>,
+    pass: &mut Pass<A>,
+    node: u64,
+) -> u64
+    requires own { pass.old.table ≡ table.now.id }
+    requires met { IsTold pass.old.view (Met node) }
+    ensures aside { StepsAside pass.old pass.new }
+    ensures told { IsTold pass.new.view (Key node result) }
+{
+    table.key_of(pass, node)
+}
+
+/// Reads a word of a card that the pass knows flagged or marked.
+#[tactic(auto, using(ell_cards::proofs::views::Steps::info_told, ell_cards::proofs::views::Steps::info_met))]
+pub(crate) fn look_info<A: Allocator + Copy>(
+    table: &CardTable<A>,
+    pass: &mut Pass<A>,
+    card: u64,
+    field: Field,
+) -> u64
+    requires own { pass.old.table ≡ table.now.id }
+    requires may { MayAsk pass.old.view card field }
+    ensures aside { StepsAside pass.old pass.new }
+    ensures told { IsTold pass.new.view (Info card field result) }
+    ensures met { NamesNode field → IsTold pass.new.view (Met result) }
+{
+    table.info(pass, card, field)
+}
+
+/// Reads a child of the parent that a card has marked.
+#[tactic(auto, using(ell_cards::proofs::views::Steps::frozen_told))]
+pub(crate) fn look_child<A: Allocator + Copy>(
+    table: &CardTable<A>,
+    pass: &mut Pass<A>,
+    card: u64,
+    parent: u64,
+    right: bool,
+) -> u64
+    requires own { pass.old.table ≡ table.now.id }
+    requires may { MaySee pass.old.view card parent }
+    ensures aside { StepsAside pass.old pass.new }
+    ensures told { IsTold pass.new.view (Frozen card right result) }
+    ensures met { IsTold pass.new.view (Met result) }
+{
+    table.frozen_child(pass, card, parent, right)
+}
+
+/// Reads the sibling of a leaf at the parent that a card has marked.
+#[tactic(auto, using(crate::proofs::Asides::asides))]
+pub(crate) fn look_sibling<A: Allocator + Copy>(
+    table: &CardTable<A>,
+    pass: &mut Pass<A>,
+    card: u64,
+    parent: u64,
+    leaf: u64,
+) -> u64
+    requires own { pass.old.table ≡ table.now.id }
+    requires may { MaySee pass.old.view card parent }
+    ensures aside { StepsAside pass.old pass.new }
+    ensures sibling { IsSibling pass.new.view card leaf result }
+    ensures met { IsTold pass.new.view (Met result) }
+{
+    let right = look_child(table, pass, card, parent, true);
+    if right != leaf {
+        return right;
+    }
+    look_child(table, pass, card, parent, false)
+}

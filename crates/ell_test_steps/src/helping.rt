@@ -1,0 +1,102 @@
+//! Steps beside the search that exchange, each by the words of a card that the pass reads first.
+#![tactic(auto, using(crate::proofs::Asides::asides))]
+
+ghost use Rattle.std.specs.Prelude.{◌≡◌};
+ghost use Rattle.ell_core.specs.declared.fact.Fact.TheVariants as fact;
+ghost use Rattle.ell_cards.specs.Models.{Knows, KnowsCard};
+ghost use Rattle.ell_test_steps.specs.Fitting.{StepsAside};
+
+use crate::asking::{look_info, look_key, look_sibling};
+use ell_cards::{CardTable, Pass};
+use ell_core::Field;
+use std::alloc::Allocator;
+
+/// Makes the child exchange of an insert's card: whether it won.
+pub(crate) fn change_child<A: Allocator + Copy>(
+    table: &CardTable<A>,
+    pass: &mut Pass<A>,
+    card: u64,
+) -> bool
+    requires own { pass.old.table ≡ table.now.id }
+    requires knows { Knows pass.old.view (fact.IFlagged card) }
+    ensures aside { StepsAside pass.old pass.new }
+    ensures learns { Knows pass.new.view (fact.IChanged card) }
+{
+    let parent = look_info(table, pass, card, Field::P);
+    let leaf = look_info(table, pass, card, Field::L);
+    let card_key = look_info(table, pass, card, Field::Key);
+    let parent_key = look_key(table, pass, parent);
+    let right = parent_key <= card_key;
+    table.ichild(pass, card, parent, leaf, right).is_ok()
+}
+
+/// Takes an insert's flag away: whether it won.
+pub(crate) fn clear_insert<A: Allocator + Copy>(
+    table: &CardTable<A>,
+    pass: &mut Pass<A>,
+    card: u64,
+) -> bool
+    requires own { pass.old.table ≡ table.now.id }
+    requires knows { Knows pass.old.view (fact.IChanged card) }
+    requires card { KnowsCard pass.old.view card }
+    ensures aside { StepsAside pass.old pass.new }
+    ensures learns { Knows pass.new.view (fact.IOver card) }
+{
+    let parent = look_info(table, pass, card, Field::P);
+    table.iunflag(pass, card, parent).is_ok()
+}
+
+/// Makes the child exchange of a delete's card: whether it won.
+pub(crate) fn cut_parent<A: Allocator + Copy>(
+    table: &CardTable<A>,
+    pass: &mut Pass<A>,
+    card: u64,
+) -> bool
+    requires own { pass.old.table ≡ table.now.id }
+    requires knows { Knows pass.old.view (fact.Marked card) }
+    ensures aside { StepsAside pass.old pass.new }
+    ensures learns { Knows pass.new.view (fact.Cut card) }
+{
+    let grandparent = look_info(table, pass, card, Field::Gp);
+    let parent = look_info(table, pass, card, Field::P);
+    let leaf = look_info(table, pass, card, Field::L);
+    let sibling = look_sibling(table, pass, card, parent, leaf);
+    let above = look_key(table, pass, grandparent);
+    let below = look_key(table, pass, sibling);
+    let right = above <= below;
+    table
+        .dchild(pass, card, grandparent, parent, sibling, right)
+        .is_ok()
+}
+
+/// Takes a delete's flag away after its child exchange: whether it won.
+pub(crate) fn clear_delete<A: Allocator + Copy>(
+    table: &CardTable<A>,
+    pass: &mut Pass<A>,
+    card: u64,
+) -> bool
+    requires own { pass.old.table ≡ table.now.id }
+    requires knows { Knows pass.old.view (fact.Cut card) }
+    requires card { KnowsCard pass.old.view card }
+    ensures aside { StepsAside pass.old pass.new }
+    ensures learns { Knows pass.new.view (fact.DOver card) }
+{
+    let grandparent = look_info(table, pass, card, Field::Gp);
+    table.dunflag(pass, card, grandparent).is_ok()
+}
+
+/// Takes a delete's flag away after its lost mark: whether it won.
+pub(crate) fn go_back<A: Allocator + Copy>(
+    table: &CardTable<A>,
+    pass: &mut Pass<A>,
+    card: u64,
+) -> bool
+    requires own { pass.old.table ≡ table.now.id }
+    requires knows { Knows pass.old.view (fact.Unmarkable card) }
+    requires card { KnowsCard pass.old.view card }
+    ensures aside { StepsAside pass.old pass.new }
+    ensures learns { Knows pass.new.view (fact.Backed card) }
+{
+    let grandparent = look_info(table, pass, card, Field::Gp);
+    table.backtrack(pass, card, grandparent).is_ok()
+}

@@ -1,0 +1,13 @@
+//! A pass of a table of cards that is stepped act by act, as a worker of a world is: for tests.
+#![tactic(auto)]
+
+mod asking;
+mod claiming;
+mod exchanging;
+mod filling;
+mod helping;
+mod memory;
+mod stepping;
+
+pub use memory::{FACTS, Memory, Passed, nothing};
+pub use stepping::step;

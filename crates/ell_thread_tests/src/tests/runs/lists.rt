@@ -1,0 +1,73 @@
+//! Runs of small lists, with the replies and keys that a person gave them.
+use super::running::{came_to, run_owned, run_striped};
+use ell_ops::Op::{self, Delete, Find, Insert};
+use ell_run::{Parting, Settings, parts_for};
+use ell_word::NoGate;
+
+const EIGHT_INSERTS: [Op; 8] = [
+    Insert(1),
+    Insert(2),
+    Insert(3),
+    Insert(4),
+    Insert(5),
+    Insert(6),
+    Insert(7),
+    Insert(8),
+];
+
+#[test]
+fn eight_keys_as_settings_part_them(rt: HostRuntime) {
+    let ranged = Settings {
+        workers: 4,
+        parting: Parting::Range,
+        cards: None,
+        tries: 1000,
+    };
+    let parts = parts_for(rt.alloc(), &EIGHT_INSERTS, ranged).expect(&rt, "memory");
+    assert!(rt; parts.workers() == 4);
+    assert!(rt; parts.keys(0) == [1, 2].as_slice() && parts.keys(3) == [7, 8].as_slice());
+    let striped = Settings {
+        parting: Parting::Stripe,
+        ..ranged
+    };
+    let parts = parts_for(rt.alloc(), &EIGHT_INSERTS, striped).expect(&rt, "memory");
+    assert!(rt; parts.workers() == 4);
+    assert!(rt; parts.keys(1) == [1, 5].as_slice() && parts.keys(2) == [2, 6].as_slice());
+    assert!(rt; parts.keys(3) == [3, 7].as_slice() && parts.keys(0) == [4, 8].as_slice());
+}
+
+#[test]
+fn a_list_by_its_owners(rt: HostRuntime) {
+    let ops = [Insert(5), Insert(7), Delete(5), Find(7)];
+    let outcome = run_owned(&rt, &ops, &[1, 0, 1, 0], 2, 8, 8, &NoGate);
+    assert!(rt; came_to(&outcome, &[true; 4], &[7], 0));
+}
+
+#[test]
+fn what_is_left_is_done_afterwards(rt: HostRuntime) {
+    let ops = [Insert(5), Insert(6), Find(5)];
+    let outcome = run_striped(&rt, &ops, 1, 1, 8, &NoGate);
+    assert!(rt; came_to(&outcome, &[true; 3], &[5, 6], 2));
+}
+
+#[test]
+fn few_cards_and_one_try_change_no_answer(rt: HostRuntime) {
+    let ops = [
+        Insert(5),
+        Insert(6),
+        Delete(5),
+        Find(5),
+        Delete(6),
+        Insert(6),
+    ];
+    let replies = [true, true, true, false, true, true];
+    for (workers, cards, tries) in [(1, 1, 1), (2, 1, 1), (64, 1, 1), (64, 88, 1), (64, 88, 8)] {
+        let outcome = run_striped(&rt, &ops, workers, cards, tries, &NoGate);
+        let late = outcome.late;
+        assert!(rt;
+            came_to(&outcome, &replies, &[6], late),
+            "{workers}, {cards}, {tries}"
+        );
+        assert!(rt; late <= 6 && (cards == 1 || tries == 1 || late == 0));
+    }
+}

@@ -1,0 +1,86 @@
+//! Two workers, of which one stalls at each of its steps in turn, and the other goes by.
+use super::running::{came_to, run_owned};
+use ell_ops::Op::{Delete, Insert};
+use ell_test_gates::{Counting, Holding, two_threads_meet};
+use ell_word::Kind;
+use std::process::Abort;
+use std::thread::Threads;
+
+// How many children a worker came to change.
+fn child_changes(gate: &Counting<Holding>, worker: u32) -> u64 {
+    gate.count(worker, Kind::IChild)
+        .wrapping_add(gate.count(worker, Kind::DChild))
+}
+
+// Where worker 0 is held until the operation of worker 1 has ended. How often worker 1 changes a child for it, which it does where
+// the parent of its own leaf is flagged or marked. And how often worker 0 takes the flag of its delete back: worker 1 has changed
+// the parent that it is to mark.
+const STALLS: [(Kind, u64, u64); 12] = [
+    (Kind::Begin, 0, 0),
+    (Kind::Note, 0, 0),
+    (Kind::Look, 0, 0),
+    (Kind::Claim, 0, 0),
+    (Kind::Fill, 0, 0),
+    (Kind::IFlag, 0, 0),
+    (Kind::IChild, 1, 0),
+    (Kind::IUnflag, 0, 0),
+    (Kind::DFlag, 0, 1),
+    (Kind::Mark, 0, 1),
+    (Kind::DChild, 1, 0),
+    (Kind::DUnflag, 1, 0),
+];
+
+#[test]
+fn a_stalled_neighbour_holds_up_nobody(rt: HostRuntime) {
+    if !two_threads_meet(&rt) {
+        return;
+    }
+    let ops = [Insert(5), Delete(5), Insert(7)];
+    for (row, (at, helped, backtracks)) in STALLS.iter().enumerate() {
+        let gate = Counting::new(rt.alloc(), 2, Holding::at(*at)).expect(&rt, "memory");
+        let outcome = run_owned(&rt, &ops, &[0, 0, 1], 2, 16, 8, &gate);
+        assert!(rt;
+            gate.behind().has_held() && gate.behind().answered() == 1,
+            "row {row}"
+        );
+        assert!(rt; came_to(&outcome, &[true; 3], &[7], 0), "row {row}");
+        assert!(rt;
+            child_changes(&gate, 1) == helped.wrapping_add(1),
+            "row {row}"
+        );
+        assert!(rt; gate.count(0, Kind::Backtrack) == *backtracks, "row {row}");
+        assert!(rt; gate.count(1, Kind::Backtrack) == 0, "row {row}");
+    }
+}
+
+// Worker 0 stalls at the child exchange of its insert, and worker 1, which has an insert too, is held: what the gate was told.
+fn two_inserts_of_which_one_is_late<R: Threads + Abort + AllocGlobal + Sync>(
+    rt: &R,
+    cards: u64,
+    tries: u32,
+) -> Counting<Holding> {
+    let gate = Counting::new(rt.alloc(), 2, Holding::at(Kind::IChild)).expect(rt, "memory");
+    let ops = [Insert(5), Insert(7)];
+    let outcome = run_owned(rt, &ops, &[0, 1], 2, cards, tries, &gate);
+    assert!(rt; gate.behind().has_held() && gate.behind().answered() == 0);
+    assert!(rt; came_to(&outcome, &[true; 2], &[5, 7], 1));
+    gate
+}
+
+#[test]
+fn who_helps_may_find_no_card_left(rt: HostRuntime) {
+    if !two_threads_meet(&rt) {
+        return;
+    }
+    let gate = two_inserts_of_which_one_is_late(&rt, 1, 8);
+    assert!(rt; gate.count(1, Kind::IChild) == 1 && gate.count(1, Kind::IUnflag) == 1);
+    assert!(rt; gate.count(1, Kind::Claim) == 0);
+}
+
+#[test]
+fn who_helps_may_use_its_one_try_up(rt: HostRuntime) {
+    if !two_threads_meet(&rt) {
+        return;
+    }
+    two_inserts_of_which_one_is_late(&rt, 8, 1);
+}

@@ -1,0 +1,55 @@
+//! Runs of small texts, with the answers that a person gave them.
+use ell_run::{Parting, Settings, run_bytes};
+
+// A text, by how many workers and which parting and cards it is run, and its answer.
+type Row = (&'static [u8], u32, Parting, Option<u64>, &'static [u8]);
+
+const EIGHT_KEYS: &[u8] =
+    b"insert 1\ninsert 2\ninsert 3\ninsert 4\ninsert 5\ninsert 6\ninsert 7\ninsert 8\ndelete 2\ndelete 4\ndelete 6\ndelete 8\n";
+
+const FOUR_LEFT: &[u8] =
+    b"yes\nyes\nyes\nyes\nyes\nyes\nyes\nyes\nyes\nyes\nyes\nyes\nkeys 4\n1\n3\n5\n7\n";
+
+const SEVENS: &[u8] = b"insert 7\ninsert 7\ndelete 7\ndelete 7\n";
+
+const ONE_OF_64: &[u8] = b"insert 1\ninsert 65\nfind 1\n";
+
+const ROWS: [Row; 8] = [
+    (b"", 4, Parting::Stripe, None, b"keys 0\n"),
+    (EIGHT_KEYS, 4, Parting::Stripe, None, FOUR_LEFT),
+    (EIGHT_KEYS, 1, Parting::Stripe, None, FOUR_LEFT),
+    (EIGHT_KEYS, 4, Parting::Range, None, FOUR_LEFT),
+    (EIGHT_KEYS, 64, Parting::Stripe, None, FOUR_LEFT),
+    (EIGHT_KEYS, 64, Parting::Range, None, FOUR_LEFT),
+    (
+        SEVENS,
+        1,
+        Parting::Stripe,
+        Some(2),
+        b"yes\nno\nyes\nno\nkeys 0\n",
+    ),
+    (
+        ONE_OF_64,
+        64,
+        Parting::Stripe,
+        None,
+        b"yes\nyes\nyes\nkeys 2\n1\n65\n",
+    ),
+];
+
+#[test]
+fn texts_have_one_answer(rt: HostRuntime) {
+    for (row, (text, workers, parting, cards, answer)) in ROWS.iter().enumerate() {
+        assert!(rt; 1 <= *workers && *workers <= 64 && (*cards == None || *cards == Some(2)));
+        let settings = Settings {
+            workers: *workers,
+            parting: *parting,
+            cards: *cards,
+            tries: 1000,
+        };
+        let (mut reader, mut out) = (*text, Vec::new(rt.alloc()));
+        let report = run_bytes(&rt, rt.alloc(), &mut reader, &mut out, settings);
+        let late = report.map_or(1, |report| report.late);
+        assert!(rt; out.as_slice() == *answer && late == 0, "row {row}");
+    }
+}

@@ -1,0 +1,94 @@
+//! Texts at the edges of what is read, each with its answer or its fault.
+use super::calls::{run_ends, run_writes};
+use ell_run::RunFault;
+use ell_text::TextFault;
+
+// A text, and what is wrong with it.
+type Misspelling = (&'static [u8], TextFault);
+
+// A text, and its answer.
+type Spelling = (&'static [u8], &'static [u8]);
+
+const BAD_OPERATION: TextFault = TextFault::BadOperation { line: 1 };
+
+const BAD_KEY: TextFault = TextFault::BadKey { line: 1 };
+
+const KEY_TOO_LARGE: TextFault = TextFault::KeyTooLarge { line: 1 };
+
+const MISSPELLINGS: [Misspelling; 30] = [
+    // Where the line ends.
+    (b"find 5\r", BAD_KEY),
+    (b"find 5\r\r\n", BAD_KEY),
+    (b"\r", BAD_OPERATION),
+    // Only spaces and tabs are blank.
+    (b"\x0B\n", BAD_OPERATION),
+    (b"\xFF\n", BAD_OPERATION),
+    (b" \x0B\n", BAD_OPERATION),
+    (b" find 5\n", BAD_OPERATION),
+    (b"find\t5\n", BAD_OPERATION),
+    // Zeros, signs and blanks.
+    (b"insert 007\n", BAD_KEY),
+    (b"insert 00\n", BAD_KEY),
+    (b"insert -7\n", BAD_KEY),
+    (b"insert +7\n", BAD_KEY),
+    (b"insert -0\n", BAD_KEY),
+    (b"insert  7\n", BAD_KEY),
+    (b"insert 7 \n", BAD_KEY),
+    (b"insert 7\t\n", BAD_KEY),
+    (b"insert 7 8\n", BAD_KEY),
+    // No key.
+    (b"insert\n", BAD_KEY),
+    (b"insert \n", BAD_KEY),
+    // Other ways to write numbers.
+    (b"insert x\n", BAD_KEY),
+    (b"insert 7x\n", BAD_KEY),
+    (b"insert 1_000\n", BAD_KEY),
+    (b"insert 1,000\n", BAD_KEY),
+    (b"insert 0x7\n", BAD_KEY),
+    (b"insert 7.0\n", BAD_KEY),
+    (b"insert 1e3\n", BAD_KEY),
+    // The key after the greatest, and the numbers that its type ends at.
+    (b"insert 18446744073709551614\n", KEY_TOO_LARGE),
+    (b"insert 18446744073709551615\n", KEY_TOO_LARGE),
+    (b"insert 18446744073709551616\n", KEY_TOO_LARGE),
+    (b"insert 018446744073709551614\n", BAD_KEY),
+];
+
+#[test]
+fn misspelt_lines_are_refused(rt: HostRuntime) {
+    for (row, (text, fault)) in MISSPELLINGS.iter().enumerate() {
+        let mut reader = *text;
+        assert!(rt;
+            run_ends(&rt, rt.alloc(), &mut reader, RunFault::Text(*fault)),
+            "row {row}"
+        );
+    }
+}
+
+const SPELLINGS: [Spelling; 8] = [
+    (b"\r\n", b"keys 0\n"),
+    (b" \t\r\n", b"keys 0\n"),
+    (b"#\xFF\n", b"keys 0\n"),
+    (b"find 5\r\n", b"no\nkeys 0\n"),
+    (b"find 5", b"no\nkeys 0\n"),
+    (b"insert 0\n", b"yes\nkeys 1\n0\n"),
+    (
+        b"insert 18446744073709551613\n",
+        b"yes\nkeys 1\n18446744073709551613\n",
+    ),
+    (
+        b"insert 18446744073709551613\ndelete 18446744073709551613\n",
+        b"yes\nyes\nkeys 0\n",
+    ),
+];
+
+#[test]
+fn odd_lines_are_read(rt: HostRuntime) {
+    for (row, (text, answer)) in SPELLINGS.iter().enumerate() {
+        let mut reader = *text;
+        assert!(rt;
+            run_writes(&rt, rt.alloc(), &mut reader, answer),
+            "row {row}"
+        );
+    }
+}

@@ -1,0 +1,258 @@
+//! 100,000 pseudo-random acts of four passes of a table, and of four workers of a world beside it.
+ghost use Rattle.std.specs.Prelude.{◌≡◌};
+ghost use Rattle.ell_cards.specs.Models.{IsFree};
+ghost use Rattle.ell_test_steps.specs.Fitting.{IsIdle, IsReady};
+
+use super::parting::{closed, joined, parted};
+use super::playing::same_words;
+use ell_cards::{CardTable, Pass};
+use ell_core::Act::{
+    Again, Answer, Backtrack, Begin, Claim, DChild, DFlag, DUnflag, Down, IChild, IFlag, IUnflag,
+    Leave, Mark, Upd,
+};
+use ell_core::{Act, Event, Fact, World};
+use ell_ops::Op;
+use ell_test_gates::Dice;
+use ell_test_steps::{FACTS, Memory, nothing, step};
+use std::alloc::Global;
+use std::process::Abort;
+
+const ACTS: u64 = 100_000;
+
+// How many rounds there are at most. In a round each pass draws up to three acts; one that is not known to be lawful is not done.
+const ROUNDS: u64 = 200_000;
+
+const CARDS: u64 = 20_000;
+
+const OWNED: [(u32, u64); 8] = [
+    (0, 0),
+    (0, 1),
+    (1, 2),
+    (1, 3),
+    (2, 4),
+    (2, 5),
+    (3, 6),
+    (3, 7),
+];
+
+// Draws acts, and counts those that were done.
+#[derive(Drop)]
+struct Drawing {
+    dice: Dice,
+    done: u64,
+}
+
+impl Drawing {
+    // An act that is lawful often, if the pass has come that far: helps above all while its own flag stands.
+    fn act(&mut self, memory: &Memory, worker: u32) -> Act {
+        if memory.flagged {
+            return match self.dice.below(10) {
+                0..=6 => self.help(memory),
+                7 | 8 => Answer,
+                _ => self.end(),
+            };
+        }
+        match self.dice.below(100) {
+            0..=4 => self.help(memory),
+            5..=29 => Upd,
+            30..=54 => Down,
+            55..=64 => Claim,
+            65..=72 => IFlag,
+            73..=80 => DFlag,
+            81..=88 => Answer,
+            89..=98 => Begin(self.operation(worker)),
+            _ => self.end(),
+        }
+    }
+
+    // An operation on a key of a worker.
+    fn operation(&mut self, worker: u32) -> Op {
+        let key = (worker % 4) as u64 * 2 + self.dice.below(2);
+        match self.dice.below(5) {
+            0 => Op::Find(key),
+            1 | 2 => Op::Insert(key),
+            _ => Op::Delete(key),
+        }
+    }
+
+    // An exchange for a card of which something is remembered.
+    fn help(&mut self, memory: &Memory) -> Act {
+        let index = self.dice.below(FACTS as u64) as usize;
+        match memory.known[index] {
+            Some(Fact::IFlagged(card)) => IChild(card),
+            Some(Fact::IChanged(card)) => IUnflag(card),
+            Some(Fact::DFlagged(card)) => Mark(card),
+            Some(Fact::Marked(card)) => DChild(card),
+            Some(Fact::Cut(card)) => DUnflag(card),
+            Some(Fact::Unmarkable(card)) => Backtrack(card),
+            _ => Answer,
+        }
+    }
+
+    // One of the acts that end a search.
+    fn end(&mut self) -> Act {
+        if self.dice.below(2) == 0 {
+            Leave
+        } else {
+            Again
+        }
+    }
+}
+
+// An act of a pass, and of the worker of the world, if it is known to be lawful.
+fn both_step(
+    rt: &impl Abort,
+    table: &CardTable<Global>,
+    pass: &mut Pass<Global>,
+    memory: &mut Memory,
+    world: &mut World,
+    drawing: &mut Drawing,
+    event: Event,
+)
+    requires { IsReady table.now pass.old memory.old }
+    ensures ready { IsReady table.now pass.new memory.new }
+    ensures world { world.new.cards ≡ world.old.cards }
+{
+    let Some(said) = step(table, pass, memory, event.act) else {
+        return;
+    };
+    drawing.done = drawing.done.wrapping_add(1);
+    assert!(rt; world.step(event) == Ok(said), "act {}", drawing.done);
+}
+
+// A few acts more of a pass. A pass with nothing in hand is at times parted and joined again.
+#[tactic(auto, using(ell_test_steps::proofs::Readiness::ready_idle))]
+fn turn(
+    rt: &impl Abort,
+    table: &CardTable<Global>,
+    pass: Pass<Global>,
+    memory: &mut Memory,
+    world: &mut World,
+    drawing: &mut Drawing,
+    worker: u32,
+) -> Pass<Global>
+    requires { IsReady table.now pass memory.old }
+    ensures ready { IsReady table.now result memory.new }
+    ensures world { world.new.cards ≡ world.old.cards }
+{
+    let mut pass = pass;
+    if memory.op.is_none() && drawing.dice.below(100) == 0 {
+        pass = parted_and_joined(rt, table, pass, (worker % 4) as u64 * 2);
+        *memory = nothing();
+    }
+    for _ in 0..drawing.dice.below(4) {
+        let act = drawing.act(memory, worker);
+        both_step(
+            rt,
+            table,
+            &mut pass,
+            memory,
+            world,
+            drawing,
+            Event { worker, act },
+        );
+    }
+    pass
+}
+
+fn parted_and_joined(
+    rt: &impl Abort,
+    table: &CardTable<Global>,
+    pass: Pass<Global>,
+    key: u64,
+) -> Pass<Global>
+    requires own { pass.table ≡ table.now.id }
+    requires free { IsFree pass.view }
+    ensures own { result.table ≡ table.now.id }
+    ensures idle { IsIdle result.view }
+{
+    let (left, right) = parted(rt, table, pass, &[key]);
+    joined(rt, table, left, right)
+}
+
+// Ends what a pass has in hand.
+fn finish(
+    rt: &impl Abort,
+    table: &CardTable<Global>,
+    pass: &mut Pass<Global>,
+    memory: &mut Memory,
+    world: &mut World,
+    drawing: &mut Drawing,
+    worker: u32,
+)
+    requires { IsReady table.now pass.old memory.old }
+    ensures free { IsFree pass.new.view }
+    ensures ready { IsReady table.now pass.new memory.new }
+    ensures world { world.new.cards ≡ world.old.cards }
+{
+    for _ in 0..10_000 {
+        let act = match drawing.dice.below(3) {
+            0 => Answer,
+            1 => Leave,
+            _ => drawing.help(memory),
+        };
+        both_step(
+            rt,
+            table,
+            pass,
+            memory,
+            world,
+            drawing,
+            Event { worker, act },
+        );
+    }
+    assert!(rt; memory.op.is_none());
+}
+
+// Draws acts of four passes until so many are done, and ends what they have in hand: the pass that they are joined to.
+#[tactic(auto, using(ell_test_steps::proofs::Readiness::ready_idle))]
+fn random_acts(
+    rt: &impl Abort,
+    table: &CardTable<Global>,
+    passes: (Pass<Global>, Pass<Global>, Pass<Global>, Pass<Global>),
+    world: &mut World,
+) -> Pass<Global>
+    requires first { (passes.0.table ≡ table.now.id) × IsIdle passes.0.view }
+    requires second { (passes.1.table ≡ table.now.id) × IsIdle passes.1.view }
+    requires third { (passes.2.table ≡ table.now.id) × IsIdle passes.2.view }
+    requires fourth { (passes.3.table ≡ table.now.id) × IsIdle passes.3.view }
+    ensures joined { (result.table ≡ table.now.id) × IsFree result.view }
+    ensures world { world.new.cards ≡ world.old.cards }
+{
+    let (mut first, mut second, mut third, mut fourth) = passes;
+    let (mut one, mut two, mut three, mut four) = (nothing(), nothing(), nothing(), nothing());
+    let mut drawing = Drawing {
+        dice: Dice::new(2010),
+        done: 0,
+    };
+    for _ in 0..ROUNDS {
+        if drawing.done >= ACTS {
+            break;
+        }
+        first = turn(rt, table, first, &mut one, world, &mut drawing, 0);
+        second = turn(rt, table, second, &mut two, world, &mut drawing, 1);
+        third = turn(rt, table, third, &mut three, world, &mut drawing, 2);
+        fourth = turn(rt, table, fourth, &mut four, world, &mut drawing, 3);
+    }
+    assert!(rt; drawing.done >= ACTS);
+    finish(rt, table, &mut first, &mut one, world, &mut drawing, 0);
+    finish(rt, table, &mut second, &mut two, world, &mut drawing, 1);
+    finish(rt, table, &mut third, &mut three, world, &mut drawing, 2);
+    finish(rt, table, &mut fourth, &mut four, world, &mut drawing, 3);
+    let low = joined(rt, table, first, second);
+    let high = joined(rt, table, third, fourth);
+    joined(rt, table, low, high)
+}
+
+#[test]
+fn random_acts_answer_as_the_world(rt: HostRuntime) {
+    let keys = [0, 1, 2, 3, 4, 5, 6, 7];
+    let (table, pass) = CardTable::reserve(rt.alloc(), &keys, CARDS).expect(&rt, "table");
+    let (low, high) = parted(&rt, &table, pass, &[0, 1, 2, 3]);
+    let (a, b) = parted(&rt, &table, low, &[0, 1]);
+    let (c, d) = parted(&rt, &table, high, &[4, 5]);
+    let mut world = World::new(rt.alloc(), 4, &OWNED, CARDS).expect(&rt, "world");
+    let all = random_acts(&rt, &table, (a, b, c, d), &mut world);
+    assert!(rt; world.next() >= 2_000);
+    same_words(&rt, &closed(&rt, table, all, &keys), &world);
+}

@@ -1,0 +1,8 @@
+//! Trees on one thread, on two that a gate holds, and on four.
+pub(super) mod asking;
+mod four_threads;
+mod plain_set;
+mod random_operations;
+mod rows;
+mod steps_told;
+mod threads;

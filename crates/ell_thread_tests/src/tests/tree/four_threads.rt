@@ -1,0 +1,141 @@
+//! Four threads on one tree, whose keys lie between one another's, each beside a plain set of its own.
+ghost use Rattle.std.specs.Prelude.{◌≡◌};
+ghost use Rattle.ell_tree.specs.Ledgers.{IsIdle};
+
+use super::asking::{ask, close};
+use super::plain_set::{KEYS, PlainSet, apply_plainly, are_keys_of};
+use crate::tests::keys::keys_below;
+use ell_ops::Op;
+use ell_test_gates::Dice;
+use ell_tree::{Held, Pass, Tree};
+use ell_word::NoGate;
+use std::alloc::Global;
+use std::process::Abort;
+use std::thread::{Threads, join};
+
+// How many operations each thread does.
+const OPERATIONS: u32 = 50_000;
+
+const CARDS: u64 = 1_000_000;
+
+const TRIES: u32 = 1_000;
+
+// How often an operation is asked anew whose tries all found something in their way.
+const ROUNDS: u32 = 1_000;
+
+// What a thread leaves: its pass, and what its keys are to be.
+#[derive(Drop)]
+struct Done {
+    pass: Pass<Global>,
+    plain: PlainSet,
+}
+
+// Does an operation, again where all its tries found something in their way.
+fn ask_often(
+    rt: &impl Abort,
+    tree: &Tree<Global>,
+    pass: &mut Pass<Global>,
+    op: Op,
+) -> Result<bool, Held>
+    requires own { pass.old.table ≡ tree.now.id }
+    requires idle { IsIdle pass.old }
+    ensures own { pass.new.table ≡ tree.now.id }
+    ensures idle { IsIdle pass.new }
+{
+    for _ in 0..ROUNDS {
+        let ended = ask(rt, tree, pass, op, TRIES, &NoGate);
+        if ended != Err(Held::Busy) {
+            return ended;
+        }
+    }
+    Err(Held::Busy)
+}
+
+// One thread's operations, each of which is to answer as a plain set does: that set is what it leaves.
+fn work(rt: &impl Abort, tree: &Tree<Global>, pass: Pass<Global>, thread: u64) -> Done
+    requires own { pass.table ≡ tree.now.id }
+    requires idle { IsIdle pass }
+    ensures own { result.pass.table ≡ tree.now.id }
+    ensures idle { IsIdle result.pass }
+{
+    let mut pass = pass;
+    let (mut dice, mut plain) = (Dice::new(thread), [false; 256]);
+    for number in 0..OPERATIONS {
+        let key = dice.below(KEYS / 4) * 4 + thread % 4;
+        let op = dice.operation(key);
+        let want = apply_plainly(&mut plain, op);
+        let said = ask_often(rt, tree, &mut pass, op);
+        assert!(rt; said == Ok(want), "operation {number} of thread {thread}");
+    }
+    Done { pass, plain }
+}
+
+// Parts a pass in two: the left part has the keys below `KEYS` at these places of each four.
+fn parted(
+    rt: &(impl Abort + AllocGlobal),
+    tree: &Tree<Global>,
+    pass: Pass<Global>,
+    places: &[u64],
+) -> (Pass<Global>, Pass<Global>)
+    requires own { pass.table ≡ tree.now.id }
+    requires idle { IsIdle pass }
+    ensures left { (result.0.table ≡ tree.now.id) × IsIdle result.0 }
+    ensures right { (result.1.table ≡ tree.now.id) × IsIdle result.1 }
+{
+    let keys = keys_below(rt, KEYS, places);
+    assert!(rt; keys.iter().all(|key| pass.owns(*key)));
+    tree.split(pass, &keys).ok().expect(rt, "memory")
+}
+
+// Two threads work, each with a pass of its own.
+fn work_by_two<R: Threads + Abort + Sync>(
+    rt: &R,
+    tree: &Tree<Global>,
+    passes: (Pass<Global>, Pass<Global>),
+    threads: (u64, u64),
+) -> (Done, Done)
+    requires first { (passes.0.table ≡ tree.now.id) × IsIdle passes.0 }
+    requires second { (passes.1.table ≡ tree.now.id) × IsIdle passes.1 }
+    ensures first { (result.0.pass.table ≡ tree.now.id) × IsIdle result.0.pass }
+    ensures second { (result.1.pass.table ≡ tree.now.id) × IsIdle result.1.pass }
+{
+    let (one, other) = passes;
+    join(
+        rt,
+        move || work(rt, tree, one, threads.0),
+        move || work(rt, tree, other, threads.1),
+    )
+}
+
+// What two threads leave, in one: the pass of both, and the union of their plain sets.
+fn together(rt: &impl Abort, tree: &Tree<Global>, one: Done, other: Done) -> Done
+    requires first { (one.pass.table ≡ tree.now.id) × IsIdle one.pass }
+    requires second { (other.pass.table ≡ tree.now.id) × IsIdle other.pass }
+    ensures { (result.pass.table ≡ tree.now.id) × IsIdle result.pass }
+{
+    let pass = tree.join(one.pass, other.pass).ok().expect(rt, "memory");
+    let mut plain = one.plain;
+    for (present, also) in plain.iter_mut().zip(&other.plain) {
+        *present = *present || *also;
+    }
+    Done { pass, plain }
+}
+
+#[test]
+fn four_threads_answer_as_plain_sets(rt: HostRuntime) {
+    let keys = keys_below(&rt, KEYS, &[0, 1, 2, 3]);
+    let (tree, pass) = Tree::reserve(rt.alloc(), &keys, CARDS).expect(&rt, "tree");
+    let (low, high) = parted(&rt, &tree, pass, &[0, 1]);
+    let low = parted(&rt, &tree, low, &[0]);
+    let high = parted(&rt, &tree, high, &[2]);
+    let (host, shared) = (&rt, &tree);
+    let ((zero, one), (two, three)) = join(
+        &rt,
+        move || work_by_two(host, shared, low, (0, 1)),
+        move || work_by_two(host, shared, high, (2, 3)),
+    );
+    let low = together(&rt, &tree, zero, one);
+    let high = together(&rt, &tree, two, three);
+    let all = together(&rt, &tree, low, high);
+    assert!(rt; are_keys_of(&close(&rt, tree, all.pass, &keys), &all.plain));
+}
