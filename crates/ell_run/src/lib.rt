@@ -19,6 +19,3 @@ pub use pieces::Piece;
 pub use runs::{Limits, Outcome, run};
 pub use settings::{Parting, Report, Settings, TRIES_MAX, parts_for};
 pub use workers::work;
-
-#[cfg(test)]
-mod tests;

@@ -2,7 +2,7 @@
 ghost use Rattle.std.specs.Prelude.{◌≡◌, ◌≤◌};
 ghost use Rattle.ell_word.specs.Node.{greatest_card};
 ghost use Rattle.ell_cards.specs.Models.{IsFree};
-ghost use Rattle.ell_cards_tests.specs.Fitting.{IsIdle, IsReady};
+ghost use Rattle.ell_test_steps.specs.Fitting.{IsIdle, IsReady};
 ghost use Rattle.ell_tree.specs.Ledgers.{Owns};
 
 use super::passes::{KEYS, owns_both, tells};
@@ -10,7 +10,7 @@ use super::refusing::{Heap, Refusal};
 use super::schedule::{CARDS, TURNS, Turn};
 use super::sweeping::{Ended, sweep};
 use ell_cards::{CardFault, CardTable, Closed, Pass};
-use ell_cards_tests::{Memory, nothing, step};
+use ell_test_steps::{Memory, nothing, step};
 use ell_core::Field;
 use ell_ops::NoMemory;
 use std::alloc::Allocator;
@@ -176,7 +176,7 @@ fn are_done<A: Allocator + Copy>(
 }
 
 // Plays the turns by two passes with nothing in hand.
-#[tactic(auto, using(ell_cards_tests::proofs::Readiness::ready_idle))]
+#[tactic(auto, using(ell_test_steps::proofs::Readiness::ready_idle))]
 fn play<A: Allocator + Copy>(rt: &impl Abort, table: &CardTable<A>, parts: (Pass<A>, Pass<A>))
     requires limit { table.now.cards ≤ greatest_card }
     requires left { (parts.0.table ≡ table.now.id) × IsIdle parts.0.view }

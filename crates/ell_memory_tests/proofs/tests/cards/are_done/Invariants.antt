@@ -1,5 +1,5 @@
 use Rattle.std.proofs.Common.{◌≡◌}
-use Rattle.ell_cards_tests.specs.Fitting.{IsReady}
+use Rattle.ell_test_steps.specs.Fitting.{IsReady}
 use Rattle.ell_memory_tests.proofs.tests.cards.are_done.Given as goal
 
 abbrev pub invariant-loop-act : goal.invariant-loop-act

@@ -1,7 +1,0 @@
-//! What runs and replays answer where a reader or a writer fails, and to texts at the edges of what is read.
-mod limits;
-mod reading;
-mod samples;
-mod spellings;
-mod streams;
-mod writing;
