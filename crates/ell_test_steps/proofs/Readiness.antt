@@ -17,7 +17,7 @@ use Rattle.ell_core.specs.acts.Searching.{IsLeaf, leaf_answer}
 use Rattle.ell_cards.specs.declared.view.Told.TheVariants.{Met}
 use Rattle.ell_cards.specs.declared.view.View.{View}
 use Rattle.ell_cards.specs.Models.{PassModel, TableModel, Steps, IsTold, Knows}
-use Rattle.ell_cards.specs.Changes.{after_begin, after_upd, after_key_of, after_next, after_claim, after_flag, after_mark, is_mark_of, learning, unmarking, with_found, found_word, found_update, with_stores}
+use Rattle.ell_cards.specs.Changes.{after_begin, after_again, after_upd, after_key_of, after_next, after_claim, after_flag, after_mark, is_mark_of, learning, unmarking, with_found, found_word, found_update, with_stores}
 use Rattle.ell_cards.specs.Guards.{IsOver, MayStop, MayGoDown, MayAnswer, MayDFlag, IsFilled}
 use Rattle.ell_test_steps.specs.declared.memory.Memory.{Memory}
 use Rattle.ell_test_steps.specs.declared.memory.TheConstants.{FACTS}
@@ -57,11 +57,20 @@ pub update_known : (a b : PassModel) (x : ℕ) (u : Update) (o : Option Fact) �
 update_known a b x u o s e =
     subst (KnowsAny b.view) (sym e) (facts_by_new u.state u.card a.view.worker.facts b.view (ap (λ (v : View). v.worker.facts) (view_after a b (after_upd x u a.view) s)))
 
-pub ready_again : (t : TableModel) (a b : PassModel) (m n : Memory) (op : Op) → IsReady t a m → m.op ≡ Some op → Steps a b (after_begin a.view.worker.operation a.view)
+pub ready_again : (t : TableModel) (a b : PassModel) (m n : Memory) (op : Op) → IsReady t a m → m.op ≡ Some op → Steps a b (after_again a.view)
     → n ≡ root_memory (Some op) m → IsReady t b n
 ready_again t a b m n op h busy s e =
-    ready_step t a b m n (root_memory (Some op) m) (after_begin a.view.worker.operation a.view) h s e
-    (subst (λ (o : Option Op). Fits (after_begin o a.view) (root_memory (Some op) m)) (sym (h.fits.operation ∙ busy)) (fits_root a.view m (Some op) h.fits.knows))
+    let begun : Fits (after_begin a.view.worker.operation a.view) (root_memory (Some op) m) =
+    subst (λ (o : Option Op). Fits (after_begin o a.view) (root_memory (Some op) m)) (sym (h.fits.operation ∙ busy)) (fits_root a.view m (Some op) h.fits.knows) in
+    ready_step t a b m n (root_memory (Some op) m) (after_again a.view) h s e (record {
+      operation = begun.operation;
+      search = begun.search;
+      card = begun.card;
+      flagged = begun.flagged;
+      knows = begun.knows;
+      met = begun.met;
+      filled = λ c none g. cc none;
+    })
 
 -- where the card in hand, if it is flagged, is remembered backed, the operation may stop
 pub may_stop_by : (v : View) (m : Memory) (op : Op) → Fits v m → m.op ≡ Some op → MayStopBy m → MayStop v
@@ -142,7 +151,7 @@ ready_claimed t a b d m c stores h own own' taken stored filled =
     let same = stored ∙ ap (with_stores stores) taken in
     record {
       own = own' ∙ (own ∙ h.own);
-          fits = subst (λ (w : View). Fits w (record m { card = Some c; flagged = false })) (sym same)
+      fits = subst (λ (w : View). Fits w (record m { card = Some c; flagged = false })) (sym same)
           (fits_claimed a.view m c stores h.fits (subst IsFilled same filled));
     }
 

@@ -10,9 +10,9 @@ use super::refusing::{Heap, Refusal};
 use super::schedule::{CARDS, TURNS, Turn};
 use super::sweeping::{Ended, sweep};
 use ell_cards::{CardFault, CardTable, Closed, Pass};
-use ell_test_steps::{Memory, nothing, step};
 use ell_core::Field;
 use ell_ops::NoMemory;
+use ell_test_steps::{Memory, nothing, step};
 use std::alloc::Allocator;
 use std::process::Abort;
 
