@@ -1,4 +1,4 @@
-use Rattle.std.specs.Prelude.{ℕ, ◌+◌, ◌==◌, ◌++◌, if◌then◌else◌, Bool, true, false, Option, Some, None, List, [], ◌∷◌, unwrap_or, nat_lt, Result, Ok, Err}
+use Rattle.std.specs.Prelude.{ℕ, ◌+◌, ◌==◌, ◌++◌, if◌then◌else◌, Bool, true, false, Option, Some, None, List, [], ◌∷◌, unwrap_or, nat_lt, max, Result, Ok, Err}
 use Rattle.std.specs.List.{list_any}
 use Rattle.ell_ops.specs.declared.op.Op.{Op}
 use Rattle.ell_ops.specs.declared.op.Op.TheVariants.{Insert, Delete}
@@ -368,13 +368,19 @@ abbrev pub united : List (ℕ × Bool) → List (ℕ × Bool) → List (ℕ × B
 united [] ds = ds
 united (e ∷ es) ds = put_entry e (united es ds)
 
--- join: one pass with the keys, the facts and the counts of two, and what both were told
+-- the later of two readings of the claim word, which only grows
+abbrev pub later : Option ℕ → Option ℕ → Option ℕ
+later None m = m
+later (Some n) None = Some n
+later (Some n) (Some m) = Some (max n m)
+
+-- join: one pass with the keys, the facts and the counts of two, what both were told, and the later reading of the claim word
 abbrev pub joined_view : View → View → View
 joined_view v w = record {
   worker = idle_worker (united v.worker.ledger w.worker.ledger) (v.worker.facts ++ w.worker.facts);
   told = v.told ++ w.told;
   here = None;
-  next = None;
+  next = later v.next w.next;
   filling = [];
   filled = [];
   found = None;

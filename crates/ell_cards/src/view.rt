@@ -35,7 +35,8 @@ pub struct View {
     pub told: LinkedList<Told>,
     /// The key of the node where it stands, once it was told.
     pub here: Option<u64>,
-    /// The claim word, once it was read in this try.
+    /// The claim word, once it was read in this try. The reading stays when the operation is laid down; of two passes that are joined,
+    /// the later one does.
     pub next: Option<u64>,
     /// What the card in hand is to say, by its claim.
     pub filling: LinkedList<(Field, u64)>,

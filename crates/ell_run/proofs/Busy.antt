@@ -59,6 +59,13 @@ idle_more parting worker items same none =
     ∙ ap (λ l. busy_below parting worker ++ l) (cond-false (is_busy parting worker) (worker ∷ []) [] idle)
     ∙ append-nil (busy_below parting worker)
 
+-- a list of the busy ones among the first, with the next worker where it is busy
+pub busy_pushed : (parting : Parting) (worker : ℕ) (items : List (ℕ × Op)) (before pushed after : List ℕ) →
+    before ≡ busy_below parting worker → pushed ≡ before ++ worker ∷ [] → after ≡ pushed →
+    items ≡ part parting worker → false ≡ eqb (length items) 0 → after ≡ busy_below parting (worker + 1)
+busy_pushed parting worker items before pushed after all push end same some =
+    end ∙ push ∙ ap (λ workers. workers ++ worker ∷ []) all ∙ sym (busy_more parting worker items same some)
+
 -- the busy workers are among all
 pub busy_known : (parting : Parting) → All (λ worker. worker < parting.workers) (busy parting)
 busy_known parting =

@@ -1,4 +1,4 @@
-use Rattle.std.proofs.Common.{◌≡◌, ℕ, ◌+◌, ◌<◌, ◌≤◌, Bool, true, false, All, Option, None, Some, List, ◌⊎◌, inl, inr, ⊎_elim, eqb, length, get_or, map, arith, refl, ap, sym, subst, ◌∙◌}
+use Rattle.std.proofs.Common.{◌≡◌, ℕ, ◌+◌, ◌<◌, ◌≤◌, ◌↔◌, Bool, true, false, All, Option, None, Some, List, ◌⊎◌, inl, inr, ⊎_elim, eqb, length, get_or, map, arith, refl, ap, sym, subst, ◌∙◌}
 use Rattle.std.specs.List.{Contains, list_any}
 use Rattle.std.proofs.lemmas.Bool.{cases_Bool, eq-eqb, eqb-true, cond-true, cond-false}
 use Rattle.std.proofs.lemmas.List.{get_or_default, get_or-map, length-map}
@@ -68,6 +68,17 @@ owns_first tree pass ops keys first same listed j d below none =
     let present = first.ledger key ∙ cond-true (list_any (λ other. eqb key other) tree.keys) (Some false) None among in
     cc
 
+-- and a pass with the same keys owns all keys of the tree
+pub owns_all : (tree : TreeModel) (first last : PassModel) → IsFirst tree first → ((key : ℕ) → Owns last key ↔ Owns first key) →
+    All (λ key. Owns last key) tree.keys
+owns_all tree first last fresh same j d below =
+    let key = get_or tree.keys j d in
+    let among : list_any (λ other. eqb key other) tree.keys ≡ true =
+    list_any_at (λ other. eqb key other) tree.keys j d below (eq-eqb key key refl) in
+    let present : ledger first key ≡ Some false =
+    fresh.ledger key ∙ cond-true (list_any (λ other. eqb key other) tree.keys) (Some false) None among in
+    (same key).1 (λ none. let no : ⊥ = cc in no)
+
 -- and has none of them present
 pub none_first : (tree : TreeModel) (pass : PassModel) → IsFirst tree pass → present_in pass ≡ empty
 none_first tree pass first = λ i key. pointwise key i where
@@ -110,9 +121,9 @@ closed_set tree pass keys closes = λ i key. pointwise key i where
       (option_cases (ledger pass key))
 
 -- what workers leave on a fresh tree that is closed behind them
-pub left_behind : (tree : TreeModel) (parting : Parting) (first last : PassModel) (pieces : List (List (ℕ × Bool))) (keys : List ℕ) →
-    IsFirst tree first → IsWorked parting (all_workers parting) first last pieces → ClosesTo tree last keys → AreLeft parting pieces keys
-left_behind tree parting first last pieces keys fresh did closes =
+pub left_behind : (tree : TreeModel) (tries : ℕ) (parting : Parting) (first last : PassModel) (pieces : List (List (ℕ × Bool))) (keys : List ℕ) →
+    IsFirst tree first → IsWorked tree.cards tries parting (all_workers parting) first last pieces → ClosesTo tree last keys → AreLeft parting pieces keys
+left_behind tree tries parting first last pieces keys fresh did closes =
     let none = none_first tree first fresh in
     record {
       told = subst (λ s. ArePieces s parting (all_workers parting) pieces) none did.told;

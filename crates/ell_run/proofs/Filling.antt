@@ -12,7 +12,8 @@ use Rattle.ell_parts.specs.Parting.{Parting, part}
 use Rattle.ell_tree.specs.Ledgers.{PassModel, present_in}
 use Rattle.ell_run.specs.ByParts.{ops_in}
 use Rattle.ell_run.specs.Pieces.{ArePieces, IsPiece, all_workers, busy, front, ops_done}
-use Rattle.ell_run.specs.Work.{IsWorked}
+use Rattle.ell_run.specs.Work.{AreHeld, IsWorked}
+use Rattle.ell_run.proofs.Held.{all_held-insert}
 use Rattle.ell_run.proofs.Busy.{counted, is_busy, no_items, some_items, none_left}
 
 -- the busy workers from one on
@@ -97,9 +98,9 @@ sum-insert ps n =
       sum_by-take-drop (λ (p : List (ℕ × Bool)). length p) ps n,
     )
 
-worked-insert : (parting : Parting) (xs ys : List ℕ) (worker : ℕ) (before after : PassModel) (ps : List (List (ℕ × Bool))) → part parting worker ≡ [] →
-    IsWorked parting (xs ++ ys) before after ps → IsWorked parting (xs ++ worker ∷ ys) before after (insert ps (length xs) [])
-worked-insert parting xs ys worker before after ps none h =
+worked-insert : (cards tries : ℕ) (parting : Parting) (xs ys : List ℕ) (worker : ℕ) (before after : PassModel) (ps : List (List (ℕ × Bool))) → part parting worker ≡ [] →
+    IsWorked cards tries parting (xs ++ ys) before after ps → IsWorked cards tries parting (xs ++ worker ∷ ys) before after (insert ps (length xs) [])
+worked-insert cards tries parting xs ys worker before after ps none h =
     let answered = h.answers in
     record {
       table = h.table;
@@ -108,20 +109,24 @@ worked-insert parting xs ys worker before after ps none h =
       set = h.set ∙ ap (final (present_in before)) (sym (done-insert parting xs ys worker ps (present_in before) h.told));
       owned = h.owned;
       answers = omega (arith, sum-insert ps (length xs));
+      held =
+          subst (λ n. AreHeld cards tries n before after)
+          (sym (all_held-insert (present_in before) parting xs ys worker ps none h.told)) h.held;
     }
 
 -- one worker more with nothing to do: its empty piece comes to its place
-pub worked_idle : (parting : Parting) (worker : ℕ) (items : List (ℕ × Op)) (before after : PassModel) (ps : List (List (ℕ × Bool))) → worker < parting.workers →
+pub worked_idle : (cards tries : ℕ) (parting : Parting) (worker : ℕ) (items : List (ℕ × Op)) (before after : PassModel) (ps : List (List (ℕ × Bool))) → worker < parting.workers →
     items ≡ part parting worker → true ≡ eqb (length items) 0 →
-    IsWorked parting (mixed parting worker) before after ps → IsWorked parting (mixed parting (worker + 1)) before after (insert ps worker [])
-worked_idle parting worker items before after ps below same none h =
+    IsWorked cards tries parting (mixed parting worker) before after ps →
+    IsWorked cards tries parting (mixed parting (worker + 1)) before after (insert ps worker [])
+worked_idle cards tries parting worker items before after ps below same none h =
     let idle : is_busy parting worker ≡ false = ap (λ l. nat_lt 0 (length l)) (sym same) ∙ none_left (length items) none in
-    let old : IsWorked parting (range_with_len 0 worker ++ busy_from parting (worker + 1)) before after ps =
-    subst (λ workers. IsWorked parting workers before after ps) (mixed_idle parting worker below idle) h in
-    let new : IsWorked parting (range_with_len 0 worker ++ worker ∷ busy_from parting (worker + 1)) before after (insert ps (length (range_with_len 0 worker)) []) =
-    worked-insert parting (range_with_len 0 worker) (busy_from parting (worker + 1)) worker before after ps (no_items (part parting worker) idle) old in
-    subst (λ workers. IsWorked parting workers before after (insert ps worker [])) (sym (mixed_filled parting worker))
-    (subst (λ n. IsWorked parting (range_with_len 0 worker ++ worker ∷ busy_from parting (worker + 1)) before after (insert ps n [])) (length-range_with_len 0 worker) new)
+    let old : IsWorked cards tries parting (range_with_len 0 worker ++ busy_from parting (worker + 1)) before after ps =
+    subst (λ workers. IsWorked cards tries parting workers before after ps) (mixed_idle parting worker below idle) h in
+    let new : IsWorked cards tries parting (range_with_len 0 worker ++ worker ∷ busy_from parting (worker + 1)) before after (insert ps (length (range_with_len 0 worker)) []) =
+    worked-insert cards tries parting (range_with_len 0 worker) (busy_from parting (worker + 1)) worker before after ps (no_items (part parting worker) idle) old in
+    subst (λ workers. IsWorked cards tries parting workers before after (insert ps worker [])) (sym (mixed_filled parting worker))
+    (subst (λ n. IsWorked cards tries parting (range_with_len 0 worker ++ worker ∷ busy_from parting (worker + 1)) before after (insert ps n [])) (length-range_with_len 0 worker) new)
 
 pub length-mixed_idle : (parting : Parting) (worker : ℕ) (items : List (ℕ × Op)) → worker < parting.workers → items ≡ part parting worker →
     true ≡ eqb (length items) 0 → length (mixed parting (worker + 1)) ≡ length (mixed parting worker) + 1

@@ -1,16 +1,22 @@
 use Rattle.std.proofs.Common.{◌≡◌, ◌↔◌, ℕ, ◌+◌, ◌<◌, ◌≤◌, Bool, List, [], ◌∷◌, ◌++◌, length, get_or, take, arith, refl, ap, sym, subst, ◌∙◌}
+use Rattle.std.specs.Prelude.{nat_lt}
+use Rattle.std.proofs.Math.Nat.{add-zero}
+use Rattle.std.proofs.lemmas.Bool.{cond-true, cond-false, le-ltb, lt-ltb}
 use Rattle.std.proofs.lemmas.List.{append-nil, length_push, map-append, take_more}
 use Rattle.std.proofs.lemmas.Option.{slice_get_within, get_or_from_slice_get}
 use Rattle.ell_ops.specs.declared.op.Op.{Op}
 use Rattle.ell_ops.specs.KeySet.{KeySet}
 use Rattle.ell_ops.specs.Meaning.{reply_of, final}
 use Rattle.ell_ops.specs.Meaning.{after as after_op}
-use Rattle.ell_tree.specs.Ends.{Answers, LaidDown}
-use Rattle.ell_tree.specs.Ledgers.{PassModel, Owns, IsIdle, answers, present_in}
+use Rattle.ell_tree.specs.declared.operations.Held.{Held}
+use Rattle.ell_tree.specs.Ends.{Answers, HeldFor, LaidDown}
+use Rattle.ell_tree.specs.Hindrances.{Meets}
+use Rattle.ell_tree.specs.Ledgers.{PassModel, Owns, IsIdle, answers, hindrances, present_in}
 use Rattle.ell_parts.specs.Parting.{Parting, part}
 use Rattle.ell_run.specs.ByParts.{ops_in}
-use Rattle.ell_run.specs.Pieces.{front, piece_from}
-use Rattle.ell_run.specs.Work.{IsWorked, IsWorkedOff}
+use Rattle.ell_run.specs.Pieces.{front, one_held, piece_from}
+use Rattle.ell_run.specs.Work.{AreHeld, IsWorked, IsWorkedOff}
+use Rattle.ell_run.proofs.Held.{hindrances_grow, none_held, once_held}
 use Rattle.ell_run.proofs.OnKey.{final-append}
 
 -- so many operations of a part were done with a pass
@@ -23,6 +29,7 @@ pub record IsFrontDone (items : List (ℕ × Op)) (i : ℕ) (before after : Pass
   pub set : present_in after ≡ final (present_in before) (ops_in (take i items))
   pub owned : (key : ℕ) → Owns after key ↔ Owns before key
   pub answered : answers after ≡ answers before + i
+  pub grows : hindrances before ≤ hindrances after
 
 -- one operation more has its reply on the set behind those before it
 pub piece_from-push : (s : KeySet) (items : List (ℕ × Op)) (item : ℕ × Op) →
@@ -32,9 +39,9 @@ piece_from-push s (x ∷ items) item = ap (λ l. (x.0, reply_of x.1 s) ∷ l) (p
 
 -- one operation further
 pub front_more : (items : List (ℕ × Op)) (i : ℕ) (d : ℕ × Op) (before mid after : PassModel) (piece : List (ℕ × Bool)) (reply : Bool) → i < length items →
-    IsFrontDone items i before mid piece → Answers (get_or items i d).1 reply mid after →
+    IsFrontDone items i before mid piece → Answers (get_or items i d).1 reply mid after → Meets mid.view after.view →
     IsFrontDone items (i + 1) before after (piece ++ ((get_or items i d).0, reply) ∷ [])
-front_more items i d before mid after piece reply below h a =
+front_more items i d before mid after piece reply below h a meets =
     let item = get_or items i d in
     let s = present_in before in
     let more : take (i + 1) items ≡ take i items ++ item ∷ [] = take_more items i d below in
@@ -55,12 +62,13 @@ front_more items i d before mid after piece reply below h a =
           ∙ ap (final s) (sym (ap ops_in more ∙ map-append (λ (x : ℕ × Op). x.1) (take i items) (item ∷ [])));
       owned = λ key. let old = h.owned key in let new = a.owned key in (λ o. old.0 (new.0 o), λ o. new.1 (old.1 o));
       answered = omega arith;
+      grows = let old = h.grows in let new = hindrances_grow mid after meets in omega arith;
     }
 
 -- all operations are done
-pub front_all : (items : List (ℕ × Op)) (i : ℕ) (before after : PassModel) (piece : List (ℕ × Bool)) → length items ≤ i →
-    IsFrontDone items i before after piece → IsWorkedOff items before after piece
-front_all items i before after piece all h =
+pub front_all : (cards tries : ℕ) (items : List (ℕ × Op)) (i : ℕ) (before after : PassModel) (piece : List (ℕ × Bool)) → length items ≤ i →
+    IsFrontDone items i before after piece → IsWorkedOff cards tries items before after piece
+front_all cards tries items i before after piece all h =
     let few = h.few in
     let count = h.count in
     let answered = h.answered in
@@ -76,12 +84,17 @@ front_all items i before after piece all h =
       set = h.set ∙ ap (λ l. final (present_in before) (ops_in l)) same;
       owned = h.owned;
       answers = omega arith;
+      held =
+          let whole : length items ≤ length piece = omega arith in
+          none_held cards tries (one_held items piece) before after
+          (cond-false (nat_lt (length piece) (length items)) 1 0 (le-ltb (length piece) (length items) whole)) h.grows;
     }
 
 -- the next operation is held
-pub front_held : (items : List (ℕ × Op)) (i : ℕ) (d : ℕ × Op) (before mid after : PassModel) (piece : List (ℕ × Bool)) → i < length items →
-    IsFrontDone items i before mid piece → LaidDown (get_or items i d).1 mid after → IsWorkedOff items before after piece
-front_held items i d before mid after piece below h l =
+pub front_held : (cards tries : ℕ) (items : List (ℕ × Op)) (i : ℕ) (d : ℕ × Op) (before mid after : PassModel) (piece : List (ℕ × Bool)) (why : Held) →
+    i < length items → IsFrontDone items i before mid piece → LaidDown (get_or items i d).1 mid after → HeldFor cards tries mid after why →
+    IsWorkedOff cards tries items before after piece
+front_held cards tries items i d before mid after piece why below h l held_for =
     let few = h.few in
     let count = h.count in
     let answered = h.answered in
@@ -103,22 +116,29 @@ front_held items i d before mid after piece below h l =
       set = kept ∙ h.set ∙ ap (λ l. final (present_in before) (ops_in l)) same;
       owned = λ key. let old = h.owned key in rw l.ledger old;
       answers = omega arith;
+      held =
+          let short : length piece < length items = omega arith in
+          once_held cards tries (one_held items piece) before mid after why
+          (cond-true (nat_lt (length piece) (length items)) 1 0 (lt-ltb (length piece) (length items) short)) h.grows held_for;
     }
 
 -- one worker has worked its part off, by a pass that got another label
-pub one_worked : (parting : Parting) (workers : List ℕ) (d label : ℕ) (before told after : PassModel) (items : List (ℕ × Op)) (piece : List (ℕ × Bool))
+pub one_worked : (cards tries : ℕ) (parting : Parting) (workers : List ℕ) (d label : ℕ) (before told after : PassModel) (items : List (ℕ × Op)) (piece : List (ℕ × Bool))
     (pieces : List (List (ℕ × Bool))) → 0 < length workers → length workers < 2 → told ≡ record before { label = label } →
-    items ≡ part parting (get_or workers 0 d) → IsWorkedOff items told after piece → pieces ≡ piece ∷ [] → IsWorked parting workers before after pieces
-one_worked parting [] d label before told after items piece pieces some few same own h is = absurd (omega arith)
-one_worked parting (w ∷ v ∷ ws) d label before told after items piece pieces some few same own h is = absurd (omega arith)
-one_worked parting (w ∷ []) d label before told after items piece pieces some few same own h is =
-    let off : IsWorkedOff (part parting w) (record before { label = label }) after piece =
-    subst (λ all. IsWorkedOff all (record before { label = label }) after piece) own (subst (λ p. IsWorkedOff items p after piece) same h) in
-    subst (IsWorked parting (w ∷ []) before after) (sym is) (record {
+    items ≡ part parting (get_or workers 0 d) → IsWorkedOff cards tries items told after piece → pieces ≡ piece ∷ [] →
+    IsWorked cards tries parting workers before after pieces
+one_worked cards tries parting [] d label before told after items piece pieces some few same own h is = absurd (omega arith)
+one_worked cards tries parting (w ∷ v ∷ ws) d label before told after items piece pieces some few same own h is = absurd (omega arith)
+one_worked cards tries parting (w ∷ []) d label before told after items piece pieces some few same own h is =
+    let off : IsWorkedOff cards tries (part parting w) (record before { label = label }) after piece =
+    subst (λ all. IsWorkedOff cards tries all (record before { label = label }) after piece) own
+    (subst (λ p. IsWorkedOff cards tries items p after piece) same h) in
+    subst (IsWorked cards tries parting (w ∷ []) before after) (sym is) (record {
       table = off.table;
       idle = off.idle;
       told = (off.told, tt);
       set = off.set ∙ ap (final (present_in before)) (sym (append-nil (ops_in (front (part parting w) piece))));
       owned = off.owned;
       answers = let counted = off.answers in omega arith;
+      held = subst (λ n. AreHeld cards tries n before after) (sym (add-zero (one_held (part parting w) piece))) off.held;
     })

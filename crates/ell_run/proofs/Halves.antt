@@ -16,9 +16,10 @@ use Rattle.ell_ops.specs.Meaning.{key_of, final}
 use Rattle.ell_parts.specs.Parting.{Parting, IsLawful, part, keys_in}
 use Rattle.ell_tree.specs.Ledgers.{PassModel, TreeModel, Owns, ledger, present_in}
 use Rattle.ell_tree.specs.Parts.{IsUnion, or_else}
-use Rattle.ell_run.specs.Pieces.{ops_done}
-use Rattle.ell_run.specs.Work.{AreHalves, AreReady, IsWorked, OwnsAll, keys_for}
+use Rattle.ell_run.specs.Pieces.{all_held, ops_done}
+use Rattle.ell_run.specs.Work.{AreHalves, AreHeld, AreReady, IsWorked, OwnsAll, keys_for}
 use Rattle.ell_run.proofs.ByParts.{part_item}
+use Rattle.ell_run.proofs.Held.{all_held-append, held_both}
 use Rattle.ell_run.proofs.OnKey.{on_key, on_key-append, final_alike}
 use Rattle.ell_run.proofs.Rows.{IsOffKey, all_at, done-append, done_off_key, pieces-append, pieces_alike}
 
@@ -191,8 +192,9 @@ module _ (tree : TreeModel) (parting : Parting) (low high : List ℕ) (pass left
         (owns_alike right pass (key_of (get_or (part parting (get_or high j d)) k e).1) (own_right j d below k e within)).1 (owned k e within);
   }
 
-  module _ (first second both : PassModel) (ps qs : List (List (ℕ × Bool)))
-      (did : IsWorked parting low left first ps) (other : IsWorked parting high right second qs) (union : IsUnion first second both) where
+  module _ (cards tries : ℕ) (first second both : PassModel) (ps qs : List (List (ℕ × Bool)))
+      (did : IsWorked cards tries parting low left first ps) (other : IsWorked cards tries parting high right second qs)
+      (union : IsUnion first second both) where
     -- the ledger of both at a key is that of its half
     ledger_at_left : (key : ℕ) → IsLeft parting high pass left right key → ledger both key ≡ ledger first key
     ledger_at_left key l =
@@ -235,7 +237,7 @@ module _ (tree : TreeModel) (parting : Parting) (low high : List ℕ) (pass left
         (key_cases tree parting low high pass left right ready h key)
 
     -- two rows of workers, each with its half, have worked as one with the whole
-    pub worked_both : IsWorked parting (low ++ high) pass both (ps ++ qs)
+    pub worked_both : IsWorked cards tries parting (low ++ high) pass both (ps ++ qs)
     worked_both =
         let first_told = pieces_alike (present_in left) (present_in pass) parting low ps
         (λ j d below k e within. present_alike left pass (key_of (get_or (part parting (get_or low j d)) k e).1) (own_left j d below k e within)) did.told in
@@ -253,6 +255,11 @@ module _ (tree : TreeModel) (parting : Parting) (low high : List ℕ) (pass left
           set = (λ i key. set_at key i) ∙ ap (final (present_in pass)) (sym (done-append (present_in pass) parting low high ps qs first_told));
           owned = owned_at;
           answers = omega (arith, sum_by-append (λ (piece : List (ℕ × Bool)). length piece) ps qs);
+          held =
+              subst (λ n. AreHeld cards tries n pass both)
+              (sym (all_held-append (present_in pass) parting low high ps qs first_told))
+              (held_both cards tries (all_held parting low ps) (all_held parting high qs) pass left right first second both
+              h.on_left.hindrances h.on_right.hindrances union.hindrances union.next did.held other.held);
         }
 
 -- the keys that a half is to get are the pass's

@@ -358,7 +358,7 @@ late_here seen parting ops pieces shown late parted same is =
     is ∙ ap (λ p. late_ops ops (flat_map seen p)) same ∙ ap (λ o. late_ops o (flat_map seen pieces)) (sym parted)
 
 -- the same of pieces that are seen as lists
-flat_map-seen : {X Y : Type 0} (seen : X → List Y) (xs : List X) → flat_map seen xs ≡ flat_map (λ l. l) (map seen xs)
+pub flat_map-seen : {X Y : Type 0} (seen : X → List Y) (xs : List X) → flat_map seen xs ≡ flat_map (λ l. l) (map seen xs)
 flat_map-seen seen [] = refl
 flat_map-seen seen (x ∷ xs) = ap (λ l. seen x ++ l) (flat_map-seen seen xs)
 

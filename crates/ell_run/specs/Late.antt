@@ -1,5 +1,5 @@
 use Rattle.std.specs.Prelude.{◌≡◌, ℕ, ◌<◌, Bool, not, List, Some, length, filter, slice_get, ◌==◌}
-use Rattle.std.specs.List.{enumerate_from, list_any}
+use Rattle.std.specs.List.{enumerate_from, flat_map, list_any}
 use Rattle.ell_ops.specs.declared.op.Op.{Op}
 use Rattle.ell_ops.specs.KeySet.{Lists, empty}
 use Rattle.ell_ops.specs.Meaning.{final}
@@ -22,3 +22,9 @@ pub record AreMarks (items : List (ℕ × Bool)) (marks : List Bool) : Type 0 wh
 pub record AreLeft (parting : Parting) (pieces : List (List (ℕ × Bool))) (keys : List ℕ) : Type 0 where
   pub told : ArePieces empty parting (all_workers parting) pieces
   pub listed : Lists (final empty (ops_done parting (all_workers parting) pieces)) keys
+
+-- so many operations are late: those that no piece answers, where all workers have worked from the empty set
+pub record IsLate (parting : Parting) (late : ℕ) : Type 0 where
+  pub pieces : List (List (ℕ × Bool))
+  pub told : ArePieces empty parting (all_workers parting) pieces
+  pub count : late ≡ length (late_ops parting.ops (flat_map (λ piece. piece) pieces))

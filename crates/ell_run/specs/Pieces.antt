@@ -1,4 +1,4 @@
-use Rattle.std.specs.Prelude.{◌≡◌, ℕ, ◌≤◌, nat_lt, Bool, true, List, [], ◌∷◌, ◌++◌, Some, length, map, filter, take, slice_get, slice_index_or}
+use Rattle.std.specs.Prelude.{◌≡◌, ℕ, ◌+◌, ◌≤◌, nat_lt, if◌then◌else◌, Bool, true, List, [], ◌∷◌, ◌++◌, Some, length, map, filter, take, slice_get, slice_index_or}
 use Rattle.std.specs.List.{range_with_len, zip}
 use Rattle.ell_ops.specs.declared.op.Op.{Op}
 use Rattle.ell_ops.specs.KeySet.{KeySet}
@@ -43,6 +43,16 @@ ops_done parting [] pieces = []
 ops_done parting (worker ∷ workers) [] = []
 ops_done parting (worker ∷ workers) (piece ∷ pieces) =
     ops_in (front (part parting worker) piece) ++ ops_done parting workers pieces
+
+-- how many operations stand just behind a piece in its part: one where it leaves something of it
+abbrev pub one_held : List (ℕ × Op) → List (ℕ × Bool) → ℕ
+one_held items piece = if nat_lt (length piece) (length items) then 1 else 0
+
+-- how many workers' pieces leave something of their parts
+abbrev pub all_held : Parting → List ℕ → List (List (ℕ × Bool)) → ℕ
+all_held parting [] pieces = 0
+all_held parting (worker ∷ workers) [] = 0
+all_held parting (worker ∷ workers) (piece ∷ pieces) = one_held (part parting worker) piece + all_held parting workers pieces
 
 -- all workers, ascending
 abbrev pub all_workers : Parting → List ℕ

@@ -1,14 +1,14 @@
-use Rattle.std.specs.Prelude.{◌≡◌, ℕ, ◌+◌, ◌<◌, ◌↔◌, Bool, List, length, All}
+use Rattle.std.specs.Prelude.{◌≡◌, ◌⊎◌, ℕ, ◌+◌, ◌*◌, ◌<◌, ◌≤◌, ◌↔◌, Bool, Some, List, length, All}
 use Rattle.std.specs.List.{list_any, sum_by}
 use Rattle.std.specs.List.Sorted.{IsStrictlyIncreasing}
 use Rattle.ell_ops.specs.declared.op.Op.{Op}
 use Rattle.ell_ops.specs.KeySet.{KeySet, Lists}
 use Rattle.ell_ops.specs.Meaning.{key_of, final}
 use Rattle.ell_parts.specs.Parting.{Parting, IsLawful, part, keys_in}
-use Rattle.ell_tree.specs.Ledgers.{PassModel, TreeModel, Owns, IsIdle, answers, present_in}
+use Rattle.ell_tree.specs.Ledgers.{PassModel, TreeModel, Owns, IsIdle, answers, hindrances, present_in}
 use Rattle.ell_tree.specs.Parts.{IsLeftPart, IsRightPart}
 use Rattle.ell_run.specs.ByParts.{ops_in}
-use Rattle.ell_run.specs.Pieces.{ArePieces, IsPiece, front, ops_done}
+use Rattle.ell_run.specs.Pieces.{ArePieces, IsPiece, all_held, front, one_held, ops_done}
 
 -- the pass owns the keys of numbered operations
 abbrev pub OwnsAll : PassModel → List (ℕ × Op) → Type 0
@@ -34,21 +34,34 @@ pub record AreHalves (parting : Parting) (low : List ℕ) (pass left right : Pas
   pub on_left : IsLeftPart keys pass left
   pub on_right : IsRightPart keys pass right
 
--- a front of numbered operations was done with a pass, and this piece answers it
-pub record IsWorkedOff (items : List (ℕ × Op)) (before after : PassModel) (piece : List (ℕ × Bool)) : Type 0 where
+-- the pass has read in the claim word that all cards are given out
+pub record HasNoCards (cards : ℕ) (pass : PassModel) : Type 0 where
+  pub next : ℕ
+  pub read : pass.view.next ≡ Some next
+  pub past : cards < next
+
+-- why so many operations were held: something was in the way of each of them at each of its tries, or all cards are given out, as the
+-- pass that comes back has read
+abbrev pub AreHeld : ℕ → ℕ → ℕ → PassModel → PassModel → Type 0
+AreHeld cards tries count before after = HasNoCards cards after ⊎ (hindrances before + tries * count ≤ hindrances after)
+
+-- a front of numbered operations was done with a pass, and this piece answers it; the operation behind it, if there is one, was held
+pub record IsWorkedOff (cards tries : ℕ) (items : List (ℕ × Op)) (before after : PassModel) (piece : List (ℕ × Bool)) : Type 0 where
   pub table : after.table ≡ before.table
   pub idle : IsIdle after
   pub told : IsPiece (present_in before) items piece
   pub set : present_in after ≡ final (present_in before) (ops_in (front items piece))
   pub owned : (key : ℕ) → Owns after key ↔ Owns before key
   pub answers : answers after ≡ answers before + length piece
+  pub held : AreHeld cards tries (one_held items piece) before after
 
 -- workers have worked with a pass, and left these pieces: the pass has the set that what they did leaves, one worker's operations
--- after the other's
-pub record IsWorked (parting : Parting) (workers : List ℕ) (before after : PassModel) (pieces : List (List (ℕ × Bool))) : Type 0 where
+-- after the other's; each operation behind a piece was held
+pub record IsWorked (cards tries : ℕ) (parting : Parting) (workers : List ℕ) (before after : PassModel) (pieces : List (List (ℕ × Bool))) : Type 0 where
   pub table : after.table ≡ before.table
   pub idle : IsIdle after
   pub told : ArePieces (present_in before) parting workers pieces
   pub set : present_in after ≡ final (present_in before) (ops_done parting workers pieces)
   pub owned : (key : ℕ) → Owns after key ↔ Owns before key
   pub answers : answers after ≡ answers before + sum_by length pieces
+  pub held : AreHeld cards tries (all_held parting workers pieces) before after

@@ -28,7 +28,7 @@ pub(crate) fn work_off<A: Allocator + Copy, G: StepGate>(
     requires idle { IsIdle pass.old }
     requires owned { OwnsAll pass.old part.now }
     requires tries { 1 ≤ tries }
-    ensures { IfOk result (λ piece. IsWorkedOff part.now pass.old pass.new piece.items) }
+    ensures { IfOk result (λ piece. IsWorkedOff tree.now.cards tries part.now pass.old pass.new piece.items) }
 {
     let mut piece = Vec::with_capacity(alloc, part.len())?;
     for (position, op) in part {
@@ -68,9 +68,9 @@ pub(crate) fn with_empty_pieces<A: Allocator + Copy>(
     mut pieces: Vec<Piece<A>, A>,
 ) -> Result<Vec<Piece<A>, A>, NoMemory>
     requires { length pieces.items ≡ length (busy parts.now) }
-    ensures { (before after : PassModel) →
-        IsWorked parts.now (busy parts.now) before after (map (λ piece. piece.items) pieces.items) →
-        IfOk result (λ all. IsWorked parts.now (all_workers parts.now) before after (map (λ piece. piece.items) all.items)) }
+    ensures { (cards tries : ℕ) (before after : PassModel) →
+        IsWorked cards tries parts.now (busy parts.now) before after (map (λ piece. piece.items) pieces.items) →
+        IfOk result (λ all. IsWorked cards tries parts.now (all_workers parts.now) before after (map (λ piece. piece.items) all.items)) }
 {
     for worker in 0..parts.workers() {
         if parts.part(worker).is_empty() {

@@ -1,9 +1,10 @@
 //! A run: a list of operations, parted among workers.
 ghost use Rattle.std.specs.Prelude.{◌≡◌, ◌≤◌, All, IfOk, IfErr, length, map};
+ghost use Rattle.std.specs.List.{flat_map};
 ghost use Rattle.ell_ops.specs.KeySet.{Lists, empty};
 ghost use Rattle.ell_ops.specs.Meaning.{Fits, replies, final};
 ghost use Rattle.ell_parts.specs.Parting.{keys_of};
-ghost use Rattle.ell_run.specs.Late.{AreLeft};
+ghost use Rattle.ell_run.specs.Late.{AreLeft, IsLate, late_ops};
 ghost use Rattle.ell_run.specs.Limits.{AreLimits};
 
 use crate::late::{do_late, late_ops};
@@ -52,7 +53,8 @@ pub fn run<R: Threads + Sync, A: Allocator + Copy + Send + Sync, G: StepGate + S
     requires limits { AreLimits limits }
     ensures replies { IfOk result (λ outcome. outcome.replies.items ≡ replies empty ops.now) }
     ensures keys { IfOk result (λ outcome. Lists (final empty ops.now) outcome.keys.items) }
-    ensures late { IfOk result (λ outcome. outcome.late ≤ length ops.now) }
+    ensures few { IfOk result (λ outcome. outcome.late ≤ length ops.now) }
+    ensures late { IfOk result (λ outcome. IsLate parts.now outcome.late) }
 {
     let (pieces, keys) = run_workers(rt, alloc, parts, limits, gate)?;
     finish(alloc, ops, parts, pieces, keys)
@@ -112,7 +114,10 @@ fn finish<A: Allocator + Copy>(
     requires left { AreLeft parts.now (map (λ piece. piece.items) pieces.items) keys.items }
     ensures replies { IfOk result (λ outcome. outcome.replies.items ≡ replies empty ops.now) }
     ensures keys { IfOk result (λ outcome. Lists (final empty ops.now) outcome.keys.items) }
-    ensures late { IfOk result (λ outcome. outcome.late ≤ length ops.now) }
+    ensures few { IfOk result (λ outcome. outcome.late ≤ length ops.now) }
+    ensures late { IfOk result (λ outcome. IsLate parts.now outcome.late) }
+    ensures count { IfOk result (λ outcome.
+        outcome.late ≡ length (late_ops parts.now.ops (flat_map (λ piece. piece.items) pieces.items))) }
 {
     let late = late_ops(alloc, ops, parts, &pieces)?;
     let (piece, keys) = do_late(alloc, keys, &late)?;

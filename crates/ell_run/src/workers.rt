@@ -17,8 +17,9 @@ use std::alloc::Allocator;
 use std::thread::{Threads, join};
 
 /// Has each worker work its part off with a pass of the tree, in a thread of its own where one can be made. A worker leaves the
-/// rest of its part from the first operation on that is held. Answers the pass, with all its keys, and a piece for each worker, in
-/// their order: its replies, with their positions. After `NoMemory` the pass is gone.
+/// rest of its part from the first operation on that is held: something was in its way at each of its tries, or all cards are given
+/// out. Answers the pass, with all its keys, and a piece for each worker, in their order: its replies, with their positions. After
+/// `NoMemory` the pass is gone.
 pub fn work<R: Threads + Sync, A: Allocator + Copy + Send + Sync, G: StepGate + Sync>(
     rt: &R,
     alloc: A,
@@ -33,7 +34,7 @@ pub fn work<R: Threads + Sync, A: Allocator + Copy + Send + Sync, G: StepGate + 
     requires owned { All (λ op. Owns pass (key_of op)) parts.now.ops }
     requires tries { 1 ≤ tries }
     ensures { IfOk result (λ done.
-        IsWorked parts.now (all_workers parts.now) pass done.0 (map (λ piece. piece.items) done.1.items)) }
+        IsWorked tree.now.cards tries parts.now (all_workers parts.now) pass done.0 (map (λ piece. piece.items) done.1.items)) }
 {
     let workers = busy_workers(alloc, parts)?;
     let (pass, pieces) = do_workers(rt, alloc, tree, pass, parts, &workers, tries, gate)?;
@@ -71,7 +72,7 @@ fn do_workers<R: Threads + Sync, A: Allocator + Copy + Send + Sync, G: StepGate 
 ) -> Result<(Pass<A>, Vec<Piece<A>, A>), NoMemory>
     requires ready { AreReady tree.now parts.now workers.now pass }
     requires tries { 1 ≤ tries }
-    ensures { IfOk result (λ done. IsWorked parts.now workers.now pass done.0 (map (λ piece. piece.items) done.1.items)) }
+    ensures { IfOk result (λ done. IsWorked tree.now.cards tries parts.now workers.now pass done.0 (map (λ piece. piece.items) done.1.items)) }
 {
     if workers.len() < 2 {
         return do_one(alloc, tree, pass, parts, workers, tries, gate);
@@ -80,11 +81,11 @@ fn do_workers<R: Threads + Sync, A: Allocator + Copy + Send + Sync, G: StepGate 
     let (left, right) = halves(alloc, tree, pass, parts, low, high)?;
     let front = move || -> Result<(Pass<A>, Vec<Piece<A>, A>), NoMemory>
         requires { IsSync R.row × IsSync G.row × IsSend A.row × IsSync A.row × Frees A.Allocator A.dealloc_token × AreReady tree.now parts.now low.now left × (1 ≤ tries) }
-        ensures { IfOk result (λ done. IsWorked parts.entry.now low.entry.now left done.0 (map (λ piece. piece.items) done.1.items)) }
+        ensures { IfOk result (λ done. IsWorked tree.entry.now.cards tries parts.entry.now low.entry.now left done.0 (map (λ piece. piece.items) done.1.items)) }
     { do_workers(rt, alloc, tree, left, parts, low, tries, gate) };
     let back = move || -> Result<(Pass<A>, Vec<Piece<A>, A>), NoMemory>
         requires { IsSync R.row × IsSync G.row × IsSend A.row × IsSync A.row × Frees A.Allocator A.dealloc_token × AreReady tree.now parts.now high.now right × (1 ≤ tries) }
-        ensures { IfOk result (λ done. IsWorked parts.entry.now high.entry.now right done.0 (map (λ piece. piece.items) done.1.items)) }
+        ensures { IfOk result (λ done. IsWorked tree.entry.now.cards tries parts.entry.now high.entry.now right done.0 (map (λ piece. piece.items) done.1.items)) }
     { do_workers(rt, alloc, tree, right, parts, high, tries, gate) };
     let (first, second) = join(rt, front, back);
     both(tree, first?, second?)
@@ -103,7 +104,7 @@ fn do_one<A: Allocator + Copy, G: StepGate>(
     requires one { length workers.now ≤ 1 }
     requires ready { AreReady tree.now parts.now workers.now pass }
     requires tries { 1 ≤ tries }
-    ensures { IfOk result (λ done. IsWorked parts.now workers.now pass done.0 (map (λ piece. piece.items) done.1.items)) }
+    ensures { IfOk result (λ done. IsWorked tree.now.cards tries parts.now workers.now pass done.0 (map (λ piece. piece.items) done.1.items)) }
 {
     let mut pieces = Vec::new(alloc);
     let [worker] = workers else {
@@ -168,11 +169,11 @@ fn both<A: Allocator + Copy>(
     requires right { second.0.table ≡ tree.now.id }
     requires left_idle { IsIdle first.0 }
     requires right_idle { IsIdle second.0 }
-    ensures { (parting : Parting) (low high : List ℕ) (pass left right : PassModel) →
+    ensures { (cards tries : ℕ) (parting : Parting) (low high : List ℕ) (pass left right : PassModel) →
         AreReady tree.now parting (low ++ high) pass → AreHalves parting low pass left right →
-        IsWorked parting low left first.0 (map (λ piece. piece.items) first.1.items) →
-        IsWorked parting high right second.0 (map (λ piece. piece.items) second.1.items) →
-        IfOk result (λ done. IsWorked parting (low ++ high) pass done.0 (map (λ piece. piece.items) done.1.items)) }
+        IsWorked cards tries parting low left first.0 (map (λ piece. piece.items) first.1.items) →
+        IsWorked cards tries parting high right second.0 (map (λ piece. piece.items) second.1.items) →
+        IfOk result (λ done. IsWorked cards tries parting (low ++ high) pass done.0 (map (λ piece. piece.items) done.1.items)) }
 {
     let (left, mut pieces) = first;
     let (right, mut behind) = second;

@@ -88,6 +88,7 @@ union left right both e = subst (IsUnion left right) (sym e) (record {
   ledger = both_ledger left.view.worker.ledger right.view.worker.ledger;
   answers = refl;
   hindrances = length-append left.view.hindrances right.view.hindrances;
+  next = refl;
   steps = refl;
   label = refl;
   idle = refl;

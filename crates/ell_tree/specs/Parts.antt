@@ -1,6 +1,7 @@
 use Rattle.std.specs.Prelude.{◌≡◌, ℕ, ◌+◌, if◌then◌else◌, false, Option, Some, None, Bool, List, max}
 use Rattle.ell_cards.specs.Models.{PassModel, one_more}
 use Rattle.ell_cards.specs.Changes.{is_among}
+pub use Rattle.ell_cards.specs.Changes.{later}
 use Rattle.ell_tree.specs.Ledgers.{TreeModel, ledger, answers, hindrances, IsIdle}
 
 -- the first pass of a tree: it owns all keys, each absent
@@ -38,12 +39,13 @@ abbrev pub or_else : Option Bool → Option Bool → Option Bool
 or_else (Some present) other = Some present
 or_else None other = other
 
--- two passes in one: it has the keys of both, and adds the counts
+-- two passes in one: it has the keys of both, adds the counts, and has the later reading of the claim word
 pub record IsUnion (left right both : PassModel) : Type 0 where
   pub own : both.table ≡ left.table
   pub ledger : (k : ℕ) → ledger both k ≡ or_else (ledger left k) (ledger right k)
   pub answers : answers both ≡ answers left + answers right
   pub hindrances : hindrances both ≡ hindrances left + hindrances right
+  pub next : both.view.next ≡ later left.view.next right.view.next
   pub steps : both.steps ≡ one_more (max left.steps right.steps)
   pub label : both.label ≡ left.label
   pub idle : IsIdle both

@@ -1,4 +1,4 @@
-use Rattle.std.proofs.Common.{◌≡◌, length, arith, ap, sym, subst, ◌∙◌}
+use Rattle.std.proofs.Common.{◌≡◌, length, map, arith, ap, sym, subst, ◌∙◌}
 use Rattle.std.specs.List.{flat_map}
 use Rattle.ell_ops.specs.KeySet.{Lists, empty, set_of}
 use Rattle.ell_ops.specs.Meaning.{final, replies}
@@ -6,7 +6,7 @@ use Rattle.ell_parts.specs.Gathering.{IsFault, IsGathered}
 use Rattle.ell_run.specs.ByParts.{ops_in}
 use Rattle.ell_run.specs.Late.{late_ops}
 use Rattle.ell_run.specs.Pieces.{piece_from}
-use Rattle.ell_run.proofs.Leftovers.{all_answer, few_late, last_set, late_here}
+use Rattle.ell_run.proofs.Leftovers.{all_answer, few_late, flat_map-seen, last_set, late_here}
 use Rattle.ell_run.proofs.Replies.{AreAnswers, only_memory, gathered}
 use Rattle.ell_run.proofs.runs.finish.Goals as goal
 
@@ -49,8 +49,27 @@ returns-clause-keys g c =
     ∙ ap (final empty) c.requires.parted)
     c.in_ok-piece.ensures.keys
 
-pub returns-clause-late : goal.returns-clause-late
-returns-clause-late g c =
+pub returns-clause-few : goal.returns-clause-few
+returns-clause-few g c =
     let same = ap length c.in_ok-late.ensures in
     let value = c.len-2.ensures in
     omega (arith, few_late c.args.ops.now (flat_map (λ piece. piece.items) c.deref.result.now))
+
+pub returns-clause-late : goal.returns-clause-late
+returns-clause-late g c = record {
+  pieces = map (λ piece. piece.items) c.args.pieces.items;
+  told = c.requires.left.told;
+  count =
+      let late = late_here (λ piece. piece.items) c.args.parts.now c.args.ops.now c.args.pieces.items c.deref.result.now c.in_ok-late.late.items
+      c.requires.parted c.deref.ensures.value c.in_ok-late.ensures in
+      let same = ap length (late ∙ ap (late_ops c.args.parts.now.ops) (flat_map-seen (λ piece. piece.items) c.args.pieces.items)) in
+      let value = c.len-2.ensures in
+      omega arith;
+}
+
+pub returns-clause-count : goal.returns-clause-count
+returns-clause-count g c =
+    let same = ap length (late_here (λ piece. piece.items) c.args.parts.now c.args.ops.now c.args.pieces.items c.deref.result.now c.in_ok-late.late.items
+    c.requires.parted c.deref.ensures.value c.in_ok-late.ensures) in
+    let value = c.len-2.ensures in
+    omega arith

@@ -5,8 +5,8 @@ use Rattle.ell_run.proofs.Halves.{worked_both}
 use Rattle.ell_run.proofs.workers.both.Goals as goal
 
 pub returns-in-Ok : goal.returns-in-Ok
-returns-in-Ok g c = λ parting low high pass left right ready halves first second.
-    subst (IsWorked parting (low ++ high) pass c.in-Ok.pass)
+returns-in-Ok g c = λ cards tries parting low high pass left right ready halves first second.
+    subst (IsWorked cards tries parting (low ++ high) pass c.in-Ok.pass)
     (sym (ap (map (λ piece. piece.items)) c.in_ok-append.ensures.items ∙ map-append (λ piece. piece.items) c.args.first.1.items c.args.second.1.items))
-    (worked_both c.args.tree.now parting low high pass left right ready halves c.args.first.0 c.args.second.0 c.in-Ok.pass
+    (worked_both c.args.tree.now parting low high pass left right ready halves cards tries c.args.first.0 c.args.second.0 c.in-Ok.pass
     (map (λ piece. piece.items) c.args.first.1.items) (map (λ piece. piece.items) c.args.second.1.items) first second c.in-Ok.ensures.joined)

@@ -1,5 +1,5 @@
-use Rattle.std.proofs.Common.{◌++◌, ◌∷◌, [], ap, sym, ◌∙◌}
-use Rattle.ell_run.proofs.Busy.{busy_more, idle_more}
+use Rattle.std.proofs.Common.{ap, sym, ◌∙◌}
+use Rattle.ell_run.proofs.Busy.{busy_pushed, idle_more}
 use Rattle.ell_run.proofs.workers.busy_workers.Goals.{then-not-is_empty+in_ok-push, else-not-is_empty}
 use Rattle.ell_run.proofs.workers.busy_workers.Goals as goal
 
@@ -9,9 +9,8 @@ loop-worker-preserved g c =
     let worker = c.loop-worker.worker in
     elim c.if-not-is_empty.branch [
       | then-not-is_empty+in_ok-push w ↦
-          ap (λ workers. workers.items) w.workers-is ∙ w.in_ok-push.ensures.items
-          ∙ ap (λ workers. workers ++ worker ∷ []) c.loop-worker.invariant
-          ∙ sym (busy_more parting worker c.part.result.now c.part.ensures w.if-not-is_empty.ensures)
+          busy_pushed parting worker c.part.result.now c.loop-worker.workers.items _ _ c.loop-worker.invariant w.in_ok-push.ensures.items
+          (ap (λ workers. workers.items) w.workers-is) c.part.ensures w.if-not-is_empty.ensures
       | else-not-is_empty w ↦
           ap (λ workers. workers.items) w.workers-is ∙ c.loop-worker.invariant
           ∙ sym (idle_more parting worker c.part.result.now c.part.ensures w.if-not-is_empty.ensures)

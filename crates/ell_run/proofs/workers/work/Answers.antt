@@ -20,6 +20,6 @@ with_empty_pieces-requires g c =
 
 pub returns : goal.returns
 returns g c =
-    c.in_ok-with_empty_pieces.ensures c.args.pass c.in_ok-pass.pass
-    (subst (λ workers. IsWorked c.args.parts.now workers c.args.pass c.in_ok-pass.pass (map (λ piece. piece.items) c.in_ok-pass.pieces.items))
+    c.in_ok-with_empty_pieces.ensures c.args.tree.now.cards c.args.tries c.args.pass c.in_ok-pass.pass
+    (subst (λ workers. IsWorked c.args.tree.now.cards c.args.tries c.args.parts.now workers c.args.pass c.in_ok-pass.pass (map (λ piece. piece.items) c.in_ok-pass.pieces.items))
     (c.deref.ensures.value ∙ c.in_ok-workers.ensures.busy) c.in_ok-pass.ensures)

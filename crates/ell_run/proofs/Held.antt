@@ -1,0 +1,76 @@
+use Rattle.std.proofs.Common.{◌≡◌, ℕ, ◌+◌, ◌*◌, ◌<◌, ◌≤◌, Bool, Option, None, Some, List, [], ◌∷◌, ◌++◌, inl, inr, ⊎_elim, length, max, arith, refl, ap, sym, subst, ◌∙◌}
+use Rattle.std.specs.Prelude.{nat_lt}
+use Rattle.std.specs.List.{insert}
+use Rattle.std.proofs.Math.Nat.{mul-add, mul-one, mul-zero, zero-add}
+use Rattle.std.proofs.lemmas.List.{length-append}
+use Rattle.ell_ops.specs.declared.op.Op.{Op}
+use Rattle.ell_ops.specs.KeySet.{KeySet}
+use Rattle.ell_parts.specs.Parting.{Parting, part}
+use Rattle.ell_tree.specs.Parts.{later}
+use Rattle.ell_tree.specs.declared.operations.Held.{Held}
+use Rattle.ell_tree.specs.declared.operations.Held.TheVariants.{Busy, Spent}
+use Rattle.ell_tree.specs.Ends.{HeldFor}
+use Rattle.ell_tree.specs.Hindrances.{Meets}
+use Rattle.ell_tree.specs.Ledgers.{PassModel, hindrances}
+use Rattle.ell_run.specs.Pieces.{ArePieces, all_held, one_held}
+use Rattle.ell_run.specs.Work.{AreHeld, HasNoCards}
+
+-- what was in a pass's way stays told
+pub hindrances_grow : (before after : PassModel) → Meets before.view after.view → hindrances before ≤ hindrances after
+hindrances_grow before after m =
+    let longer = ap length m.list in
+    omega (arith, length-append m.met before.view.hindrances)
+
+-- none was held
+pub none_held : (cards tries count : ℕ) (before after : PassModel) → count ≡ 0 → hindrances before ≤ hindrances after →
+    AreHeld cards tries count before after
+none_held cards tries count before after none grows =
+    inr (subst (λ n. hindrances before + tries * n ≤ hindrances after) (sym none) (omega (arith, mul-zero tries)))
+
+-- one was held, after others
+pub once_held : (cards tries count : ℕ) (before mid after : PassModel) (why : Held) → count ≡ 1 → hindrances before ≤ hindrances mid →
+    HeldFor cards tries mid after why → AreHeld cards tries count before after
+once_held cards tries count before mid after Busy one grows h =
+    inr (subst (λ n. hindrances before + tries * n ≤ hindrances after) (sym one) (omega (arith, mul-one tries)))
+once_held cards tries count before mid after Spent one grows h = inl (record { next = cards + 1; read = h; past = omega arith })
+
+later_left : (cards n : ℕ) (other : Option ℕ) (both : PassModel) → cards < n → both.view.next ≡ later (Some n) other → HasNoCards cards both
+later_left cards n None both past e = record { next = n; read = e; past = past }
+later_left cards n (Some m) both past e = record { next = max n m; read = e; past = omega arith }
+
+later_right : (cards n : ℕ) (other : Option ℕ) (both : PassModel) → cards < n → both.view.next ≡ later other (Some n) → HasNoCards cards both
+later_right cards n None both past e = record { next = n; read = e; past = past }
+later_right cards n (Some m) both past e = record { next = max m n; read = e; past = omega arith }
+
+-- what held the operations of two passes is told by the one that both come together in
+pub held_both : (cards tries a b : ℕ) (pass left right first second both : PassModel) → hindrances left ≡ hindrances pass → hindrances right ≡ 0 →
+    hindrances both ≡ hindrances first + hindrances second → both.view.next ≡ later first.view.next second.view.next →
+    AreHeld cards tries a left first → AreHeld cards tries b right second → AreHeld cards tries (a + b) pass both
+held_both cards tries a b pass left right first second both kept anew sum next on_left on_right =
+    ⊎_elim
+    (λ spent. inl (later_left cards spent.next second.view.next both spent.past (next ∙ ap (λ n. later n second.view.next) spent.read)))
+    (λ few. ⊎_elim
+    (λ spent. inl (later_right cards spent.next first.view.next both spent.past (next ∙ ap (later first.view.next) spent.read)))
+    (λ more. inr (omega (arith, mul-add tries a b)))
+    on_right)
+    on_left
+
+-- how many are held of two rows of workers
+pub all_held-append : (s : KeySet) (parting : Parting) (low high : List ℕ) (ps qs : List (List (ℕ × Bool))) → ArePieces s parting low ps →
+    all_held parting (low ++ high) (ps ++ qs) ≡ all_held parting low ps + all_held parting high qs
+all_held-append s parting [] high [] qs h = sym (zero-add (all_held parting high qs))
+all_held-append s parting [] high (p ∷ ps) qs h = absurd h
+all_held-append s parting (worker ∷ low) high [] qs h = absurd h
+all_held-append s parting (worker ∷ low) high (p ∷ ps) qs h =
+    let rest = all_held-append s parting low high ps qs h.1 in
+    omega arith
+
+-- an empty piece of an empty part more
+pub all_held-insert : (s : KeySet) (parting : Parting) (xs ys : List ℕ) (worker : ℕ) (ps : List (List (ℕ × Bool))) → part parting worker ≡ [] →
+    ArePieces s parting (xs ++ ys) ps →
+    all_held parting (xs ++ worker ∷ ys) (insert ps (length xs) []) ≡ all_held parting (xs ++ ys) ps
+all_held-insert s parting [] ys worker ps none h =
+    ap (λ items. one_held items [] + all_held parting ys ps) none ∙ zero-add (all_held parting ys ps)
+all_held-insert s parting (x ∷ xs) ys worker [] none h = absurd h
+all_held-insert s parting (x ∷ xs) ys worker (p ∷ ps) none h =
+    ap (λ n. one_held (part parting x) p + n) (all_held-insert s parting xs ys worker ps none h.1)
