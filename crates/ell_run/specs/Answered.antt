@@ -6,6 +6,10 @@ use Rattle.ell_ops.specs.Meaning.{replies, final}
 use Rattle.ell_text.specs.Limits.{most_bytes}
 use Rattle.ell_text.specs.Bulk.{bulk}
 use Rattle.ell_text.specs.Answer.{answer}
+use Rattle.ell_parts.specs.Parting.{Parting}
+use Rattle.ell_run.specs.Late.{IsLate}
+use Rattle.ell_run.specs.Settings.{IsPartedAs}
+use Rattle.ell_run.specs.declared.settings.Settings.{Settings}
 use Rattle.ell_run.specs.declared.bytes.RunFault.{RunFault}
 use Rattle.ell_run.specs.declared.bytes.RunFault.TheVariants.{Read, TooLong, Text, NoMemory, Write}
 
@@ -21,9 +25,16 @@ pub record IsAnswer (bytes text : List ℕ) : Type 0 where
 abbrev pub IsAnswered : Option (List ℕ) → Option (List ℕ) → Option (List ℕ) → Type 0
 IsAnswered input before after = IfSome input (λ bytes. (text : List ℕ) × IsAnswer bytes text × Appends before after text)
 
--- a number of operations of the bytes that were read
-abbrev pub IsCounted : Option (List ℕ) → ℕ → Type 0
-IsCounted input count = IfSome input (λ bytes. (ops : List Op) × (bulk bytes ≡ Ok ops) × (count ≤ length ops))
+-- so many operations of a list are late, parted as the settings ask
+pub record IsLateOf (settings : Settings) (ops : List Op) (count : ℕ) : Type 0 where
+  pub parting : Parting
+  pub parted : IsPartedAs settings ops parting
+  pub few : count ≤ length ops
+  pub late : IsLate parting count
+
+-- so many operations of the bytes that were read are late
+abbrev pub IsReported : Settings → Option (List ℕ) → ℕ → Type 0
+IsReported settings input count = IfSome input (λ bytes. (ops : List Op) × (bulk bytes ≡ Ok ops) × IsLateOf settings ops count)
 
 -- the run ended before it wrote anything
 abbrev pub IsBeforeWriting : RunFault → Type 0
