@@ -35,6 +35,11 @@ pub taken_fails : {T : Type 0} (words : List Text) (r : Result T Error) → Fail
 taken_fails words (Ok x) fails is = tt
 taken_fails words (Err e) fails is = elim (subst (λ ks. HasKind ks e) is fails) [ inl memory ↦ memory | inr none ↦ absurd none ]
 
+-- want of memory is among the faults of any words
+pub memory_fails : {T : Type 0} (words : List Text) (r : Result T Error) → IsErrAnd r (λ e. kind_of e ≡ OutOfMemory) → FailsBy (faults_of words) r
+memory_fails words (Ok x) memory = absurd memory
+memory_fails words (Err e) memory = inl memory
+
 -- the one word `run` is taken
 pub run_taken : (words : List Text) → AsksToRun words → AreTaken words
 run_taken words is = ap faults_of is ∙ run_is_taken

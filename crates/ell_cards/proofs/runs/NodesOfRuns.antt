@@ -1,5 +1,5 @@
-use Rattle.std.proofs.Common.{◌≡◌, ◌≢◌, ℕ, ◌⊎◌, Bool, true, false, List, refl, sym, ap, ◌∙◌, inl, inr, arith}
-use Rattle.std.proofs.lemmas.Bool.{cases_eq}
+use Rattle.std.proofs.Common.{◌≡◌, ◌≢◌, ℕ, ◌<◌, ◌⊎◌, Bool, true, false, List, refl, sym, ap, ◌∙◌, inl, inr, arith}
+use Rattle.std.proofs.lemmas.Bool.{cases_Bool}
 use Rattle.ell_word.specs.Node.{IsInternal, card, internal}
 use Rattle.ell_word.specs.Word.{unpacked}
 use Rattle.ell_word.specs.declared.update.State.TheVariants as state
@@ -7,10 +7,11 @@ use Rattle.ell_word.specs.declared.gate.Kind.{Kind}
 use Rattle.ell_core.specs.state.Machine.{Machine}
 use Rattle.ell_core.specs.state.Cards.{marked, clean}
 use Rattle.ell_core.specs.tree.Tree.{Reached}
-use Rattle.ell_core.specs.history.Stages.{Stage, Stages, is_born, is_insert, is_delete, Born}
+use Rattle.ell_core.specs.history.Stages.{Stage, Stages, is_start, is_born, is_insert, is_delete, Born}
 use Rattle.ell_core.specs.history.Invariant.{Invariant}
 use Rattle.ell_core.proofs.following.Sound.{word_by_state}
 use Rattle.ell_core.proofs.stages.Order.{born-claimed}
+use Rattle.ell_core.proofs.stages.Waiting.{start-born}
 use Rattle.ell_core.proofs.tree.Reached.{Spans-reached}
 use Rattle.ell_cards.specs.Rule.{TableState, Kept}
 use Rattle.ell_cards.specs.Laws.{machine_of}
@@ -24,7 +25,7 @@ use Rattle.ell_cards.proofs.runs.GoingOn.{Went, run_goes}
 no_mark : (w : ℕ) (d : ℕ) → w ≡ clean 0 → w ≢ marked d
 no_mark w d is e = omega arith
 
--- a card that came into the tree is an insert's, but card 0
+-- a card that came into the tree is an insert's, but the opening tree's
 born_insert : (s : Stage) → is_born s ≡ true → (is_insert s ≡ true) ⊎ (is_delete s ≡ true) → is_insert s ≡ true
 born_insert s a b = grind arith
 
@@ -45,17 +46,29 @@ module _ (m : Machine) (one two : Stages) (holds : Invariant m one) (also : Inva
           ap (λ d. is_born (two d)) (sym at)
           ∙ reached_born m.words m.words two also.words (λ d calm f. refl) (internal c) (Spans-reached m.words inside.spans)
 
+  -- an insert's card or a delete's by those goes somewhere, so it is none of the opening tree's by these
+  no_start : (c : ℕ) → (is_insert (two c) ≡ true) ⊎ (is_delete (two c) ≡ true) → is_start (one c) ≡ false
+  no_start c kind = elim (cases_Bool (is_start (one c))) [
+    | inl start ↦ absurd (let leaf = (holds.kinds.start c start).leaf in let above = goes kind in omega arith)
+    | inr none ↦ none
+  ]
+    where
+      goes : (is_insert (two c) ≡ true) ⊎ (is_delete (two c) ≡ true) → m.words.p c < m.words.l c
+      goes (inl i) = ((also.words.cards c).insert i).above
+      goes (inr d) = ((also.words.cards c).delete d).above
+
   -- which nodes came into the tree is told by the machine: stages that the invariant holds with agree on it
   born_by_machine : (x : ℕ) → Born one x → Born two x
   born_by_machine x born = by (card x) born
     where
       by : (c : ℕ) → is_born (one c) ≡ true → is_born (two c) ≡ true
-      by c is = elim (cases_eq c 0) [
-        | inl e ↦ ap (λ d. is_born (two d)) e ∙ ap is_born also.words.opening
+      by c is = elim (cases_Bool (is_start (two c))) [
+        | inl start ↦ start-born (two c) start
         | inr n ↦ (
             let below = (holds.words.cards c).claimed.0 (born-claimed (one c) is) in
-            let inserts = born_insert (one c) is (holds.kinds.kinds c below n) in
-            elim (also.kinds.kinds c below n) [
+            let kind = also.kinds.kinds c below n in
+            let inserts = born_insert (one c) is (holds.kinds.kinds c below (no_start c kind)) in
+            elim kind [
               | inl i ↦ node_born c is i
               | inr d ↦ absurd (((holds.words.cards c).insert inserts).left_child ((also.words.cards c).delete d).no_left_child)
             ])

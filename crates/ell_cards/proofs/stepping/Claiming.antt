@@ -15,7 +15,7 @@ use Rattle.ell_core.specs.state.Machine.{worker_of}
 use Rattle.ell_core.specs.state.Cards.{insert_filling, delete_filling, filled, claimed, stored}
 use Rattle.ell_core.specs.acts.Events.{Row, Happens}
 use Rattle.ell_core.specs.history.Stages.{Stages, is_claimed, waits}
-use Rattle.ell_core.proofs.stages.Waiting.{kind-waits, unclaimed-wins, unclaimed-settled, waits-claimed}
+use Rattle.ell_core.proofs.stages.Waiting.{kind-waits, unclaimed-no_start, unclaimed-wins, unclaimed-settled, waits-claimed}
 use Rattle.ell_core.proofs.following.waiting.Cards.{claimed_cards_say}
 use Rattle.ell_core.proofs.following.facts.Claimed.{not_claimed}
 use Rattle.ell_core.proofs.words.Listed.{same_but_next}
@@ -94,7 +94,7 @@ module _ (keys : List ℕ) (cards : ℕ) (s : TableState) (r : Kept keys cards s
       let some_word : 0 < length s.words = (let e = r.size in omega arith) in
       let first = r.invariant.kinds.some in
       let wait_now : waits (l.0 next) ≡ true = kind-waits (l.0 next)
-      (l.1.invariant.kinds.kinds next (omega arith) (λ e. omega arith))
+      (l.1.invariant.kinds.kinds next (omega arith) (l.1.later.start next ∙ unclaimed-no_start (r.stages next) fresh))
       (l.1.wins next ∙ ap (λ (ks : List Kind). ks ++ []) (unclaimed-wins (r.stages next) fresh)) in
       let listed_same : (c : ℕ) (f : Field) → listed list c f ≡ listed s.words c f =
       λ c f. get_or-set_other s.words 0 (address c f) (next + 1) 0 (λ e. omega arith) in

@@ -1,5 +1,5 @@
 use Rattle.std.proofs.Common.{◌≡◌, ◌≢◌, ℕ, ◌<◌, ◌≤◌, Bool, true, false, Some, inl, inr, refl, sym, ap, ◌∙◌, subst, arith}
-use Rattle.std.proofs.lemmas.Bool.{cases_eq, false≢true}
+use Rattle.std.proofs.lemmas.Bool.{cases_Bool, false≢true}
 use Rattle.ell_ops.specs.declared.op.Op.{Op}
 use Rattle.ell_ops.specs.declared.op.Op.TheVariants.{Find, Insert, Delete}
 use Rattle.ell_ops.specs.Meaning.{key_of}
@@ -17,7 +17,7 @@ use Rattle.ell_core.specs.state.Machine.{Worker, Machine, Scene, scene}
 use Rattle.ell_core.specs.state.Cards.{is_right}
 use Rattle.ell_core.specs.acts.Searching.{Down}
 use Rattle.ell_core.specs.soundness.Sound.{flags_at}
-use Rattle.ell_core.specs.history.Stages.{Stage, Stages, Born, is_claimed, is_insert, is_delete, is_marked, allows}
+use Rattle.ell_core.specs.history.Stages.{Stage, Stages, Born, is_claimed, is_start, is_insert, is_delete, is_marked, allows}
 use Rattle.ell_core.specs.history.Invariant.{WordsAreSound, SeenIsSound, StandIsSound, KindsAreSound, Unflagged, WorkerIsSound, Invariant}
 use Rattle.ell_core.specs.statements.StepLaws.{NamesItsCard, MayRead, IsInserting, IsDeepening, GoesInTree, HasSeen, StandsBelow, is_of_insert, is_of_marked, StepsMayRely, OwnerFindsClean}
 use Rattle.ell_core.proofs.following.Owners.{all_clean, leaf_key_tells}
@@ -158,8 +158,8 @@ goes_nowhere w stage c sound gp p l =
 
 -- where a claimed card goes
 goes_in_tree : (w : Words) (stage : Stages) → WordsAreSound w stage → KindsAreSound w stage → (c : ℕ) → c < w.next → GoesInTree w stage c
-goes_in_tree w stage sound kinds c below = elim (cases_eq c 0) [
-  | inl e ↦ goes_nowhere w stage c sound (ap w.gp e ∙ kinds.gp) (ap w.p e ∙ kinds.parent) (ap w.l e ∙ kinds.leaf)
+goes_in_tree w stage sound kinds c below = elim (cases_Bool (is_start (stage c))) [
+  | inl e ↦ (let at = kinds.start c e in goes_nowhere w stage c sound at.gp at.parent at.leaf)
   | inr n ↦ elim (kinds.kinds c below n) [
     | inl insert ↦ (let at = inserting w stage sound c insert in record {
       grandparent = subst (MayRead w stage) (sym ((sound.cards c).insert insert).gp) (may_read w stage sound 0 refl (root_born w stage sound));

@@ -1,4 +1,4 @@
-use Rattle.std.proofs.Common.{◌≡◌, ℕ, zero, suc, ◌<◌, ◌≤◌, Bool, true, false, List, refl, sym, subst, arith}
+use Rattle.std.proofs.Common.{◌≡◌, ℕ, zero, suc, ◌<◌, ◌≤◌, ◌⊎◌, Bool, true, false, List, refl, sym, subst, arith}
 use Rattle.std.proofs.lemmas.Bool.{false≢true}
 use Rattle.std.proofs.lemmas.Option.{none-some}
 use Rattle.std.specs.List.{All}
@@ -7,8 +7,8 @@ use Rattle.ell_word.specs.Node.{IsInternal, card}
 use Rattle.ell_core.specs.state.Cards.{iflag, dflag, marked, clean}
 use Rattle.ell_core.specs.state.Machine.{idle}
 use Rattle.ell_core.specs.state.Opening.{opening, opening_words, opening_field, opening_ledger, Faultless}
-use Rattle.ell_core.specs.history.Stages.{Stages, Unclaimed, Opening, is_born, insert_open, delete_open, Born, insert_won, delete_won}
-use Rattle.ell_core.specs.history.Invariant.{Blank, CardIsSound, ChildrenAreSound, UpdateIsSound, TreeIsSound, WordsAreSound, WorkerIsSound, WorkersAreSound, Invariant}
+use Rattle.ell_core.specs.history.Stages.{Stages, Unclaimed, Opening, is_start, is_insert, is_delete, is_born, insert_open, delete_open, Born, insert_won, delete_won}
+use Rattle.ell_core.specs.history.Invariant.{GoesNowhere, Blank, CardIsSound, ChildrenAreSound, UpdateIsSound, TreeIsSound, WordsAreSound, WorkerIsSound, WorkersAreSound, Invariant}
 use Rattle.ell_core.proofs.words.Writes.{made_word}
 use Rattle.ell_core.proofs.opening.Ranges.{opening_ordered, opening_root, opening_last, opening_empty}
 use Rattle.ell_core.proofs.opening.Owners.{opening_absent, opening_one_owner, opening_stranger, opening_real}
@@ -143,6 +143,16 @@ opening_workers count owned cards faultless real = record {
   strangers = opening_stranger count owned faultless;
 }
 
+-- card 0 goes nowhere
+start_nowhere : (c : ℕ) → is_start (opening_stages c) ≡ true → GoesNowhere opening_words c
+start_nowhere zero h = record { below = omega arith; gp = refl; parent = refl; leaf = refl; was = refl }
+start_nowhere (suc c) h = absurd (false≢true h)
+
+-- and there is no other claimed card
+only_first : (c : ℕ) → c < 1 → is_start (opening_stages c) ≡ false → (is_insert (opening_stages c) ≡ true) ⊎ (is_delete (opening_stages c) ≡ true)
+only_first zero below h = absurd (false≢true (sym h))
+only_first (suc c) below h = absurd (omega arith)
+
 -- the opening state has the invariant, where no entry is faulty and each names a real key
 pub opening_invariant : (count : ℕ) (owned : List (ℕ × ℕ)) (cards : ℕ) → Faultless count owned → All (λ entry. entry.1 ≤ greatest_key) owned
     → Invariant (opening count owned cards) opening_stages
@@ -151,5 +161,5 @@ opening_invariant count owned cards faultless real = record {
   words = opening_sound;
   workers = opening_workers count owned cards faultless real;
   limit = omega arith;
-  kinds = record { gp = refl; parent = refl; leaf = refl; was = refl; some = omega arith; kinds = λ c below apart. absurd (omega arith) };
+  kinds = record { start = start_nowhere; some = omega arith; kinds = only_first };
 }

@@ -26,6 +26,7 @@ words_later a b c h g = record {
 -- stages that are later than later ones are later
 pub stages_later : (a b c : Stages) → StagesLater a b → StagesLater b c → StagesLater a c
 stages_later a b c h g = record {
+  start = λ d. g.start d ∙ h.start d;
   insert = λ d e. g.insert d (h.insert d e);
   delete = λ d e. g.delete d (h.delete d e);
   born = λ x e. g.born x (h.born x e);

@@ -1,20 +1,21 @@
-use Rattle.std.proofs.Common.{◌≡◌, ℕ, true, [], ◌∷◌, ◌++◌, Some, inl, inr, refl, subst, arith}
+use Rattle.std.proofs.Common.{◌≡◌, ℕ, true, [], ◌∷◌, ◌++◌, Some, inl, inr, refl, sym, ap, ◌∙◌, subst, arith}
 use Rattle.std.proofs.lemmas.Bool.{cases_eq, false≢true}
 use Rattle.std.proofs.lemmas.Bool.Decides.{nat_tests}
 use Rattle.ell_word.specs.Node.{card}
 use Rattle.ell_word.specs.declared.gate.Kind.{Kind}
 use Rattle.ell_core.specs.declared.fact.Fact.{Fact}
 use Rattle.ell_core.specs.state.Words.{put}
-use Rattle.ell_core.specs.history.Stages.{Stage, Stages, IClaimed, IFlagged, IChanged, IOver, DClaimed, DFlagged, DUnmarkable, DMarked, DCut, DOver, DBacked, is_claimed, is_insert, is_delete, is_born, made_of, allows}
+use Rattle.ell_core.specs.history.Stages.{Stage, Stages, IClaimed, IFlagged, IChanged, IOver, DClaimed, DFlagged, DUnmarkable, DMarked, DCut, DOver, DBacked, is_claimed, is_start, is_insert, is_delete, is_born, made_of, allows}
 use Rattle.ell_core.specs.history.Later.{StagesLater, wins_of, win_for}
 use Rattle.ell_core.proofs.words.Writes.{put_cases}
 
 -- stages that did not change are later
 pub stages_same : (stage : Stages) → StagesLater stage stage
-stages_same stage = record { insert = λ c h. h; delete = λ c h. h; born = λ x h. h; told = λ fact c h. h }
+stages_same stage = record { start = λ c. refl; insert = λ c h. h; delete = λ c h. h; born = λ x h. h; told = λ fact c h. h }
 
 -- a stage follows another: same kind, born if that was, and allows what that allowed
 pub record StageLater (old new : Stage) : Type 0 where
+  pub start : is_start new ≡ is_start old
   pub insert : is_insert old ≡ true → is_insert new ≡ true
   pub delete : is_delete old ≡ true → is_delete new ≡ true
   pub born : is_born old ≡ true → is_born new ≡ true
@@ -23,6 +24,7 @@ pub record StageLater (old new : Stage) : Type 0 where
 -- the stages are later with a later stage of one card
 pub stages_put : (stage : Stages) (c : ℕ) (new : Stage) → StageLater (stage c) new → StagesLater stage (put stage c new)
 stages_put stage c new h = record {
+  start = λ d. put_cases (λ s. is_start s ≡ is_start (stage d)) stage c new d (λ e. h.start ∙ ap (λ n. is_start (stage n)) (sym e)) (λ n. refl);
   insert = λ d g. put_cases (λ s. is_insert s ≡ true) stage c new d (λ e. h.insert (subst (λ n. is_insert (stage n) ≡ true) e g)) (λ n. g);
   delete = λ d g. put_cases (λ s. is_delete s ≡ true) stage c new d (λ e. h.delete (subst (λ n. is_delete (stage n) ≡ true) e g)) (λ n. g);
   born = λ x g. put_cases (λ s. is_born s ≡ true) stage c new (card x) (λ e. h.born (subst (λ n. is_born (stage n) ≡ true) e g)) (λ n. g);
@@ -62,7 +64,7 @@ same_kind s = record { claimed = refl; insert = refl; delete = refl; born = refl
 
 -- an insert is flagged after it was claimed
 pub iflag_later : StageLater IClaimed IFlagged
-iflag_later = record { insert = λ h. refl; delete = λ h. absurd (false≢true h); born = λ h. absurd (false≢true h); told = told } where
+iflag_later = record { start = refl; insert = λ h. refl; delete = λ h. absurd (false≢true h); born = λ h. absurd (false≢true h); told = told } where
   told : (f : Fact) → allows f IClaimed ≡ true → allows f IFlagged ≡ true
   told f h = grind arith
 
@@ -71,13 +73,13 @@ iflag_kind = record { claimed = refl; insert = refl; delete = refl; born = refl;
 
 -- its child exchange is made after that
 pub ichild_later : StageLater IFlagged IChanged
-ichild_later = record { insert = λ h. refl; delete = λ h. absurd (false≢true h); born = λ h. refl; told = told } where
+ichild_later = record { start = refl; insert = λ h. refl; delete = λ h. absurd (false≢true h); born = λ h. refl; told = told } where
   told : (f : Fact) → allows f IFlagged ≡ true → allows f IChanged ≡ true
   told f h = grind arith
 
 -- and it is over after that
 pub iunflag_later : StageLater IChanged IOver
-iunflag_later = record { insert = λ h. refl; delete = λ h. absurd (false≢true h); born = λ h. refl; told = told } where
+iunflag_later = record { start = refl; insert = λ h. refl; delete = λ h. absurd (false≢true h); born = λ h. refl; told = told } where
   told : (f : Fact) → allows f IChanged ≡ true → allows f IOver ≡ true
   told f h = grind arith
 
@@ -86,7 +88,7 @@ iunflag_kind = record { claimed = refl; insert = refl; delete = refl; born = ref
 
 -- a delete is flagged after it was claimed
 pub dflag_later : StageLater DClaimed DFlagged
-dflag_later = record { insert = λ h. absurd (false≢true h); delete = λ h. refl; born = λ h. absurd (false≢true h); told = told } where
+dflag_later = record { start = refl; insert = λ h. absurd (false≢true h); delete = λ h. refl; born = λ h. absurd (false≢true h); told = told } where
   told : (f : Fact) → allows f DClaimed ≡ true → allows f DFlagged ≡ true
   told f h = grind arith
 
@@ -95,7 +97,7 @@ dflag_kind = record { claimed = refl; insert = refl; delete = refl; born = refl;
 
 -- it is marked after that
 pub mark_later : StageLater DFlagged DMarked
-mark_later = record { insert = λ h. absurd (false≢true h); delete = λ h. refl; born = λ h. absurd (false≢true h); told = told } where
+mark_later = record { start = refl; insert = λ h. absurd (false≢true h); delete = λ h. refl; born = λ h. absurd (false≢true h); told = told } where
   told : (f : Fact) → allows f DFlagged ≡ true → allows f DMarked ≡ true
   told f h = grind arith
 
@@ -104,7 +106,7 @@ mark_kind = record { claimed = refl; insert = refl; delete = refl; born = refl; 
 
 -- or can't be marked any more
 pub unmarkable_later : StageLater DFlagged DUnmarkable
-unmarkable_later = record { insert = λ h. absurd (false≢true h); delete = λ h. refl; born = λ h. absurd (false≢true h); told = told } where
+unmarkable_later = record { start = refl; insert = λ h. absurd (false≢true h); delete = λ h. refl; born = λ h. absurd (false≢true h); told = told } where
   told : (f : Fact) → allows f DFlagged ≡ true → allows f DUnmarkable ≡ true
   told f h = grind arith
 
@@ -113,13 +115,13 @@ unmarkable_kind = record { claimed = refl; insert = refl; delete = refl; born = 
 
 -- it cuts after it was marked
 pub dchild_later : StageLater DMarked DCut
-dchild_later = record { insert = λ h. absurd (false≢true h); delete = λ h. refl; born = λ h. absurd (false≢true h); told = told } where
+dchild_later = record { start = refl; insert = λ h. absurd (false≢true h); delete = λ h. refl; born = λ h. absurd (false≢true h); told = told } where
   told : (f : Fact) → allows f DMarked ≡ true → allows f DCut ≡ true
   told f h = grind arith
 
 -- and is over after that
 pub dunflag_later : StageLater DCut DOver
-dunflag_later = record { insert = λ h. absurd (false≢true h); delete = λ h. refl; born = λ h. absurd (false≢true h); told = told } where
+dunflag_later = record { start = refl; insert = λ h. absurd (false≢true h); delete = λ h. refl; born = λ h. absurd (false≢true h); told = told } where
   told : (f : Fact) → allows f DCut ≡ true → allows f DOver ≡ true
   told f h = grind arith
 
@@ -128,7 +130,7 @@ dunflag_kind = record { claimed = refl; insert = refl; delete = refl; born = ref
 
 -- and its flag is taken back after it could not be marked any more
 pub backtrack_later : StageLater DUnmarkable DBacked
-backtrack_later = record { insert = λ h. absurd (false≢true h); delete = λ h. refl; born = λ h. absurd (false≢true h); told = told } where
+backtrack_later = record { start = refl; insert = λ h. absurd (false≢true h); delete = λ h. refl; born = λ h. absurd (false≢true h); told = told } where
   told : (f : Fact) → allows f DUnmarkable ≡ true → allows f DBacked ≡ true
   told f h = grind arith
 

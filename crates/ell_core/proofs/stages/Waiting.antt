@@ -1,7 +1,7 @@
 use Rattle.std.proofs.Common.{◌≡◌, ◌⊎◌, true, false, List, [], ◌∷◌, ◌++◌, arith, refl}
 use Rattle.ell_word.specs.declared.gate.Kind.{Kind}
 use Rattle.ell_word.specs.declared.gate.Kind.TheVariants as kind
-use Rattle.ell_core.specs.history.Stages.{Stage, is_insert, is_delete, is_born, is_claimed, insert_won, delete_won, waits}
+use Rattle.ell_core.specs.history.Stages.{Stage, is_start, is_insert, is_delete, is_born, is_claimed, insert_won, delete_won, waits}
 use Rattle.ell_core.specs.history.Later.{wins_of}
 
 -- an insert's card that has not won its flag waits
@@ -31,6 +31,18 @@ unclaimed-settled s a = grind arith
 -- a card that waits was claimed
 pub waits-claimed : (s : Stage) → waits s ≡ true → is_claimed s ≡ true
 waits-claimed s a = grind arith
+
+-- it is none of the opening tree's
+pub waits-no_start : (s : Stage) → waits s ≡ true → is_start s ≡ false
+waits-no_start s a = grind arith
+
+-- one of those came into the tree
+pub start-born : (s : Stage) → is_start s ≡ true → is_born s ≡ true
+start-born s a = grind arith
+
+-- a card that was not claimed is none of them
+pub unclaimed-no_start : (s : Stage) → is_claimed s ≡ false → is_start s ≡ false
+unclaimed-no_start s a = grind arith
 
 -- its nodes did not come into the tree
 pub waits-unborn : (s : Stage) → waits s ≡ true → is_born s ≡ false

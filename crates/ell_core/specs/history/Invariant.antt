@@ -16,7 +16,7 @@ use Rattle.ell_core.specs.state.Moves.{IsIdle}
 use Rattle.ell_core.specs.tree.Tree.{infinity1, infinity2}
 use Rattle.ell_core.specs.soundness.Sound.{Owns, IsOwned, IsInHand, StrangersAreNobody}
 use Rattle.ell_core.specs.tree.Ranges.{IsSpanned, IsCutOut, Meets, IsOrdered, OnCourse}
-use Rattle.ell_core.specs.history.Stages.{Stages, Opening, is_claimed, is_insert, is_delete, is_born, insert_won, insert_open, insert_waits, is_changed, insert_over, delete_won, delete_open, delete_waits, is_markable, is_unmarkable, is_marked, is_cut, delete_past, allows, Born, staged}
+use Rattle.ell_core.specs.history.Stages.{Stages, Opening, is_claimed, is_start, is_insert, is_delete, is_born, insert_won, insert_open, insert_waits, is_changed, insert_over, delete_won, delete_open, delete_waits, is_markable, is_unmarkable, is_marked, is_cut, delete_past, allows, Born, staged}
 
 -- all keys are below this number
 abbrev pub top : ℕ
@@ -268,14 +268,19 @@ pub record WorkersAreSound (m : Machine) (stage : Stages) : Type 0 where
   pub delete_in_hand : (c : ℕ) → delete_open (stage c) ≡ true → IsInHand m c
   pub strangers : StrangersAreNobody m
 
--- card 0 goes nowhere, and every other claimed card is an insert's or a delete's
+-- a card below the claim word that goes nowhere
+pub record GoesNowhere (w : Words) (c : ℕ) : Type 0 where
+  pub below : c < w.next
+  pub gp : w.gp c ≡ 0
+  pub parent : w.p c ≡ 0
+  pub leaf : w.l c ≡ 0
+  pub was : w.was c ≡ 0
+
+-- the cards of the opening tree go nowhere, and every other claimed card is an insert's or a delete's
 pub record KindsAreSound (w : Words) (stage : Stages) : Type 0 where
-  pub gp : w.gp 0 ≡ 0
-  pub parent : w.p 0 ≡ 0
-  pub leaf : w.l 0 ≡ 0
-  pub was : w.was 0 ≡ 0
+  pub start : (c : ℕ) → is_start (stage c) ≡ true → GoesNowhere w c
   pub some : 0 < w.next
-  pub kinds : (c : ℕ) → c < w.next → c ≢ 0 → (is_insert (stage c) ≡ true) ⊎ (is_delete (stage c) ≡ true)
+  pub kinds : (c : ℕ) → c < w.next → is_start (stage c) ≡ false → (is_insert (stage c) ≡ true) ⊎ (is_delete (stage c) ≡ true)
 
 -- a state of a run
 pub record Invariant (m : Machine) (stage : Stages) : Type 0 where

@@ -12,7 +12,7 @@ use Rattle.ell_core.specs.state.Words.{Words, word}
 use Rattle.ell_core.specs.state.Machine.{Machine, Scene, scene, with_scene}
 use Rattle.ell_core.specs.state.Cards.{marked}
 use Rattle.ell_core.specs.acts.Events.{Happens}
-use Rattle.ell_core.specs.history.Stages.{Stage, Stages, IFlagged, IChanged, IOver, DFlagged, DUnmarkable, DMarked, DCut, DOver, DBacked, is_insert, is_delete, is_born, allows, Born}
+use Rattle.ell_core.specs.history.Stages.{Stage, Stages, IFlagged, IChanged, IOver, DFlagged, DUnmarkable, DMarked, DCut, DOver, DBacked, is_start, is_insert, is_delete, is_born, allows, Born}
 use Rattle.ell_core.specs.history.Invariant.{Invariant}
 
 -- the words of a card that say where it goes are as they were
@@ -41,9 +41,10 @@ pub record WordsLater (old new : Words) : Type 0 where
   pub key : (x : ℕ) → card x < old.next → new.key x ≡ old.key x
   pub frozen : (x c : ℕ) → old.update x ≡ marked c → SameNode old new x
 
--- the stages of a later state: no card changed its kind, no node that came into the tree went back, and what might be known of
+-- the stages of a later state: the cards of the opening tree are the same, no card changed its kind, no node that came into the tree went back, and what might be known of
 -- a card still may
 pub record StagesLater (old new : Stages) : Type 0 where
+  pub start : (c : ℕ) → is_start (new c) ≡ is_start (old c)
   pub insert : (c : ℕ) → is_insert (old c) ≡ true → is_insert (new c) ≡ true
   pub delete : (c : ℕ) → is_delete (old c) ≡ true → is_delete (new c) ≡ true
   pub born : (x : ℕ) → Born old x → Born new x

@@ -7,7 +7,7 @@ use Rattle.ell_core.specs.declared.fact.Fact.TheVariants as fact
 use Rattle.ell_core.specs.state.Machine.{Ledger, Worker}
 use Rattle.ell_core.specs.soundness.Holds.{with_settled}
 
--- a card's stage: not claimed; the opening tree's; claimed for an insert, and then as far as its flag, child exchange and
+-- a card's stage: not claimed; one of the opening tree's; claimed for an insert, and then as far as its flag, child exchange and
 -- unflag were won; the same for a delete, whose flag is followed by mark, child exchange and unflag, or, once the mark can't be
 -- set any more, by the unflag that takes it back
 pub data Stage : Type 0 where
@@ -29,10 +29,15 @@ pub data Stage : Type 0 where
 abbrev pub Stages : Type 0
 Stages = ℕ → Stage
 
--- the card was claimed, or is the opening tree's
+-- the card was claimed, or is one of the opening tree's
 abbrev pub is_claimed : Stage → Bool
 is_claimed Unclaimed = false
 is_claimed _ = true
+
+-- one of the cards of the opening tree
+abbrev pub is_start : Stage → Bool
+is_start Opening = true
+is_start _ = false
 
 -- an insert's card
 abbrev pub is_insert : Stage → Bool

@@ -9,7 +9,7 @@ use Rattle.ell_core.specs.state.Words.{word}
 use Rattle.ell_core.specs.state.Machine.{Machine}
 use Rattle.ell_core.specs.state.Cards.{claimed, stored}
 use Rattle.ell_core.specs.acts.Events.{Steps}
-use Rattle.ell_core.specs.history.Stages.{Stages, Born, waits}
+use Rattle.ell_core.specs.history.Stages.{Stages, is_start, Born, waits}
 use Rattle.ell_core.specs.history.Invariant.{Invariant}
 use Rattle.ell_core.specs.history.Later.{SaysTheSame, Follows, wins_of, wins_by}
 
@@ -18,10 +18,10 @@ pub record IsUnflagged (m : Machine) (i c : ℕ) : Type 0 where
   pub holds : (m.worker i).card ≡ Some c
   pub unflagged : (m.worker i).flagged ≡ false
 
--- which cards wait: each that was claimed, but card 0, and has won nothing; so none whose nodes came into the tree. A card in
+-- which cards wait: each that was claimed, but those of the opening tree, and has won nothing; so none whose nodes came into the tree. A card in
 -- hand waits if it is not flagged, and then it is in no other hand; a flagged one does not wait
 pub record CardsWait (m : Machine) (stage : Stages) : Type 0 where
-  pub which : (c : ℕ) → (waits (stage c) ≡ true) ↔ ((c < m.words.next) × (c ≢ 0) × (wins_of (stage c) ≡ []))
+  pub which : (c : ℕ) → (waits (stage c) ≡ true) ↔ ((c < m.words.next) × (is_start (stage c) ≡ false) × (wins_of (stage c) ≡ []))
   pub born : (x : ℕ) → Born stage x → waits (stage (card x)) ≡ false
   pub hand : (i c : ℕ) → IsUnflagged m i c → waits (stage c) ≡ true
   pub alone : (i j c : ℕ) → IsUnflagged m i c → (m.worker j).card ≡ Some c → i ≡ j

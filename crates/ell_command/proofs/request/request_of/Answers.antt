@@ -1,26 +1,62 @@
 use Rattle.std.proofs.Common.{◌≡◌, ◌∙◌, map, Some, sym, rules, subst, Result, Ok, Err, IfErr, IfOk, IsErrAnd}
 use Rattle.std.specs.Prelude.{MatchResult}
+use Rattle.clap.specs.Words.{kind_of}
+use Rattle.clap.specs.declared.error.kind.ErrorKind.TheVariants.{OutOfMemory}
 use Rattle.clap.specs.declared.parser.matches.ArgMatches.{ArgMatches}
 use Rattle.ell_command.specs.CommandLine.{IsRequestOf, subcommand_for, subcommand_in}
 use Rattle.ell_command.proofs.Subcommands.{one_is_taken}
-use Rattle.ell_command.proofs.Parses.{fails_by_words, fails_up, help_fails, nothing_fails, refused_fails, replay_taken, run_taken, taken_fails, name_is, name_met, options_are, options_met}
+use Rattle.ell_command.proofs.Parses.{fails_by_words, fails_up, help_fails, memory_fails, nothing_fails, refused_fails, replay_taken, run_taken, taken_fails, name_is, name_met, options_are, options_met}
 use Rattle.ell_command.proofs.PlainRuns.{plain_replay, plain_run}
 use Rattle.ell_command.proofs.request.request_of.Goals as goal
 
 -- an error has no request
-passed_up : {T E : Type 0} (P : T → Type 0) (r : Result T E) (e : E) → IsErrAnd r (λ y. y ≡ e) → IfOk r P
-passed_up P (Ok x) e is = absurd is
-passed_up P (Err y) e is = tt
+no_request : {T E : Type 0} (P : T → Type 0) (Q : E → Type 0) (r : Result T E) → IsErrAnd r Q → IfOk r P
+no_request P Q (Ok x) is = absurd is
+no_request P Q (Err y) is = tt
 
-error_met : {T E : Type 0} (P : T → Type 0) (Q : E → Type 0) (r : Result T E) (e : E) → IsErrAnd r (λ y. y ≡ e) → IfErr r Q → MatchResult r P Q
-error_met P Q (Ok x) e is fails = absurd is
-error_met P Q (Err y) e is fails = fails
+error_met : {T E : Type 0} (P : T → Type 0) (Q K : E → Type 0) (r : Result T E) → IsErrAnd r Q → IfErr r K → MatchResult r P K
+error_met P Q K (Ok x) is fails = absurd is
+error_met P Q K (Err y) is fails = fails
 
-pub returns-in_err-texts-clause-named : goal.returns-in_err-texts-clause-named
-returns-in_err-texts-clause-named g c = one_is_taken (map g.S.AsStr.text c.args.words.now)
+pub returns-in_err-texts : goal.returns-in_err-texts
+returns-in_err-texts g c =
+    let words = map g.S.AsStr.text c.args.words.now in
+    let result = c.from_residual.result in
+    let memory : IsErrAnd result (λ e. kind_of e ≡ OutOfMemory) = search rules in
+    let kinds = memory_fails words result memory in
+    record {
+      kinds = kinds;
+      request = no_request _ _ result memory;
+      defaults = λ asks. no_request _ _ result memory;
+      command = no_request _ _ result memory;
+      named = one_is_taken words;
+      taken = taken_fails words result kinds;
+      run = λ asks. taken_fails words result kinds (run_taken words asks);
+      replay = λ asks. error_met _ _ _ result memory (taken_fails words result kinds (replay_taken words asks));
+      help = help_fails words result kinds;
+      refused = refused_fails words result kinds;
+      nothing = nothing_fails words result kinds;
+    }
 
-pub returns-in_err-elltree_command-clause-named : goal.returns-in_err-elltree_command-clause-named
-returns-in_err-elltree_command-clause-named g c = one_is_taken (map g.S.AsStr.text c.args.words.now)
+pub returns-in_err-elltree_command : goal.returns-in_err-elltree_command
+returns-in_err-elltree_command g c =
+    let words = map g.S.AsStr.text c.args.words.now in
+    let result = c.from_residual-in_err-elltree_command.result in
+    let memory : IsErrAnd result (λ e. kind_of e ≡ OutOfMemory) = search rules in
+    let kinds = memory_fails words result memory in
+    record {
+      kinds = kinds;
+      request = no_request _ _ result memory;
+      defaults = λ asks. no_request _ _ result memory;
+      command = no_request _ _ result memory;
+      named = one_is_taken words;
+      taken = taken_fails words result kinds;
+      run = λ asks. taken_fails words result kinds (run_taken words asks);
+      replay = λ asks. error_met _ _ _ result memory (taken_fails words result kinds (replay_taken words asks));
+      help = help_fails words result kinds;
+      refused = refused_fails words result kinds;
+      nothing = nothing_fails words result kinds;
+    }
 
 pub returns-in_err-matches : goal.returns-in_err-matches
 returns-in_err-matches g c =
@@ -31,13 +67,13 @@ returns-in_err-matches g c =
     (fails_by_words {T = Unit {0}} _ words (Err error) c.in_ok-elltree_command.ensures c.in_err-matches.ensures.kinds) in
     record {
       kinds = kinds;
-      request = passed_up _ _ error passed;
-      defaults = λ asks. passed_up _ _ error passed;
-      command = passed_up _ _ error passed;
+      request = no_request _ _ c.from_residual-in_err-matches.result passed;
+      defaults = λ asks. no_request _ _ c.from_residual-in_err-matches.result passed;
+      command = no_request _ _ c.from_residual-in_err-matches.result passed;
       named = one_is_taken words;
       taken = taken_fails words _ kinds;
       run = λ asks. taken_fails words _ kinds (run_taken words asks);
-      replay = λ asks. error_met _ _ _ error passed (taken_fails words _ kinds (replay_taken words asks));
+      replay = λ asks. error_met _ _ _ c.from_residual-in_err-matches.result passed (taken_fails words _ kinds (replay_taken words asks));
       help = help_fails words _ kinds;
       refused = refused_fails words _ kinds;
       nothing = nothing_fails words _ kinds;

@@ -1,13 +1,13 @@
 use Rattle.std.proofs.Common.{◌≡◌, ◌≢◌, ℕ, ◌<◌, ◌≤◌, ◌⊎◌, inl, inr, true, false, refl, sym, ap, ◌∙◌, arith}
-use Rattle.std.proofs.lemmas.Bool.{false≢true, cases_eq, eqb-true}
-use Rattle.ell_word.specs.Node.{internal}
+use Rattle.std.proofs.lemmas.Bool.{false≢true, cases_Bool, eqb-true}
+use Rattle.ell_word.specs.Node.{internal, card}
 use Rattle.ell_core.specs.declared.fact.Fact.{Fact}
 use Rattle.ell_core.specs.declared.fact.Fact.TheVariants as fact
 use Rattle.ell_core.specs.state.Words.{Words}
 use Rattle.ell_core.specs.state.Facts.{card_of_fact}
 use Rattle.ell_core.specs.state.Cards.{iflag, dflag, is_right, is_delete_card, card_key, card_child}
 use Rattle.ell_core.specs.soundness.Holds.{IFlagHolds, IChangeHolds, DFlagHolds, MarkHolds, UnmarkableHolds, CutHolds, Holds}
-use Rattle.ell_core.specs.history.Stages.{Stages, is_insert, is_delete, is_cut, delete_waits}
+use Rattle.ell_core.specs.history.Stages.{Stages, is_start, is_born, is_insert, is_delete, is_cut, delete_waits}
 use Rattle.ell_core.specs.history.Invariant.{insert_key, insert_side, delete_side, WordsAreSound, KindsAreSound}
 use Rattle.ell_core.specs.history.Later.{WordsLater, StagesLater}
 use Rattle.ell_core.proofs.runs.Chains.{MarksLater}
@@ -15,6 +15,7 @@ use Rattle.ell_core.proofs.words.Sides.{card_key-insert, card_key-delete, insert
 use Rattle.ell_core.proofs.following.facts.Claimed.{is_delete-by_child, not_delete-by_child, fact_claimed}
 use Rattle.ell_core.proofs.stages.LaterKeys.{root_born, side_later, insert_key_later, top_child_later, insert_info}
 use Rattle.ell_core.proofs.stages.Order.{marked_cases}
+use Rattle.ell_core.proofs.stages.Waiting.{start-born}
 
 -- a card that counts as an insert's has a left child
 left_child : (w : Words) (c : ℕ) → is_delete_card w c ≡ false → w.child (internal c) false ≢ 0
@@ -22,8 +23,8 @@ left_child w c h e = false≢true (sym h ∙ is_delete-by_child w c e)
 
 -- of what kind a claimed card is that counts as an insert's
 counts_as_insert : (w : Words) (stage : Stages) (c : ℕ) → WordsAreSound w stage → KindsAreSound w stage → c < w.next → is_delete_card w c ≡ false
-    → (c ≡ 0) ⊎ (is_insert (stage c) ≡ true)
-counts_as_insert w stage c sound kinds below h = elim (cases_eq c 0) [
+    → (is_start (stage c) ≡ true) ⊎ (is_insert (stage c) ≡ true)
+counts_as_insert w stage c sound kinds below h = elim (cases_Bool (is_start (stage c))) [
   | inl e ↦ inl e
   | inr n ↦ elim (kinds.kinds c below n) [
     | inl insert ↦ inr insert
@@ -34,10 +35,11 @@ counts_as_insert w stage c sound kinds below h = elim (cases_eq c 0) [
 -- a claimed card that counts as a delete's is one
 counts_as_delete : (w : Words) (stage : Stages) (c : ℕ) → WordsAreSound w stage → KindsAreSound w stage → c < w.next → is_delete_card w c ≡ true
     → is_delete (stage c) ≡ true
-counts_as_delete w stage c sound kinds below h = elim (cases_eq c 0) [
-  | inl e ↦ absurd (let up = (sound.children 0 refl (root_born w stage sound)).rising false in
+counts_as_delete w stage c sound kinds below h = elim (cases_Bool (is_start (stage c))) [
+  | inl e ↦ absurd (let at : card (internal c) ≡ c = omega arith in
+      let born = ap (λ n. is_born (stage n)) at ∙ start-born (stage c) e in
+      let up = (sound.children (internal c) (omega arith) born).rising false in
       let none = eqb-true (w.child (internal c) false) 0 h in
-      let same : w.child (internal c) false ≡ w.child 0 false = ap (λ n. w.child (internal n) false) e in
       omega arith)
   | inr n ↦ elim (kinds.kinds c below n) [
     | inl insert ↦ absurd (((sound.cards c).insert insert).left_child (eqb-true (w.child (internal c) false) 0 h))
@@ -82,11 +84,11 @@ module _ (old new : Words) (stage stages : Stages) (before : WordsAreSound old s
     ]),
   )
 
-  -- the root's children are past node 0
-  root_change : (c : ℕ) → c ≡ 0 → c < old.next → card_child new c (new.p c) ≢ new.l c
-  root_change c zero below e =
-      let parent : new.p c ≡ 0 = (words.info c below).p ∙ (ap old.p zero ∙ kinds.parent) in
-      let leaf : new.l c ≡ 0 = (words.info c below).l ∙ (ap old.l zero ∙ kinds.leaf) in
+  -- the root's children are past node 0, to which a card of the opening tree says that it goes
+  start_change : (c : ℕ) → is_start (stage c) ≡ true → c < old.next → card_child new c (new.p c) ≢ new.l c
+  start_change c is below e =
+      let parent : new.p c ≡ 0 = (words.info c below).p ∙ (kinds.start c is).parent in
+      let leaf : new.l c ≡ 0 = (words.info c below).l ∙ (kinds.start c is).leaf in
       let side = is_right new (new.p c) (card_key new c) in
       let up = (after.children 0 refl (root_born new stages after)).rising side in
       let same : new.child (new.p c) side ≡ new.child 0 side = ap (λ n. new.child n side) parent in
@@ -121,7 +123,7 @@ module _ (old new : Words) (stage stages : Stages) (before : WordsAreSound old s
   ichange_later c below h = (
     iflag_later c below h.0,
     elim (counts_as_insert old stage c before kinds below h.0.0) [
-      | inl zero ↦ root_change c zero below
+      | inl start ↦ start_change c start below
       | inr insert ↦ insert_change c below insert h
     ],
   )

@@ -6,13 +6,13 @@ use Rattle.ell_ops.specs.declared.op.Op.TheVariants.{Find, Insert, Delete}
 use Rattle.ell_core.specs.state.Words.{Words}
 use Rattle.ell_core.specs.state.Machine.{Worker, Machine}
 use Rattle.ell_core.specs.soundness.Sound.{Owns}
-use Rattle.ell_core.specs.history.Stages.{Stage, Stages, is_claimed, is_insert, is_delete, waits}
+use Rattle.ell_core.specs.history.Stages.{Stage, Stages, is_claimed, is_start, is_insert, is_delete, waits}
 use Rattle.ell_core.specs.history.Invariant.{Unflagged, Flagged, WorkerIsSound, Invariant}
 use Rattle.ell_core.specs.history.Later.{wins_of}
 use Rattle.ell_core.specs.statements.Waiting.{IsUnflagged, StagesTellWaiting, ClaimedCardsSay}
 use Rattle.ell_core.proofs.outcomes.Decide.{cases_option, some_not_none}
 use Rattle.ell_core.proofs.stages.Order.{insert-claimed, delete-claimed, insert_won-insert, delete_won-delete}
-use Rattle.ell_core.proofs.stages.Waiting.{insert-waits, delete-waits, insert_won-settled, delete_won-settled, born-settled, unclaimed-settled, waits-claimed, waits-wins, kind-waits}
+use Rattle.ell_core.proofs.stages.Waiting.{insert-waits, delete-waits, insert_won-settled, delete_won-settled, born-settled, unclaimed-settled, waits-claimed, waits-no_start, waits-wins, kind-waits}
 use Rattle.ell_core.proofs.words.Stored.{claimed_stored}
 use Rattle.ell_core.proofs.following.facts.Claimed.{not_claimed}
 
@@ -98,12 +98,8 @@ module _ (m : Machine) (stage : Stages) (invariant : Invariant m stage) where
           (left.unflagged op.0 c op.1 h.holds h.unflagged) (right.unflagged other.0 c other.1 holds unflagged) left right op.1 other.1 in
           invariant.workers.one_owner i j own.0 own.1 own.2
 
-  -- card 0 has the opening tree
-  pub not_first : (c : ℕ) → waits (stage c) ≡ true → c ≢ 0
-  not_first c h e = false≢true (ap waits (sym (ap stage e ∙ invariant.words.opening)) ∙ h)
-
-  -- a claimed card but card 0 that has won nothing waits
-  pub claimed_waits : (c : ℕ) → c < m.words.next → c ≢ 0 → wins_of (stage c) ≡ [] → waits (stage c) ≡ true
+  -- a claimed card that is none of the opening tree's and has won nothing waits
+  pub claimed_waits : (c : ℕ) → c < m.words.next → is_start (stage c) ≡ false → wins_of (stage c) ≡ [] → waits (stage c) ≡ true
   claimed_waits c below n none = kind-waits (stage c) (invariant.kinds.kinds c below n) none
 
   -- a card that was not claimed does not wait
@@ -114,7 +110,7 @@ module _ (m : Machine) (stage : Stages) (invariant : Invariant m stage) where
 pub stages_tell_waiting : StagesTellWaiting
 stages_tell_waiting m stage invariant = record {
   which = λ c. (
-    λ h. ((invariant.words.cards c).claimed.0 (waits-claimed (stage c) h), not_first m stage invariant c h, waits-wins (stage c) h),
+    λ h. ((invariant.words.cards c).claimed.0 (waits-claimed (stage c) h), waits-no_start (stage c) h, waits-wins (stage c) h),
     λ h. claimed_waits m stage invariant c h.0 h.1 h.2,
   );
   born = λ x h. born-settled (stage (card x)) h;

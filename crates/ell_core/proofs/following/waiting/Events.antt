@@ -17,9 +17,9 @@ use Rattle.ell_core.specs.history.Invariant.{Invariant}
 use Rattle.ell_core.specs.history.Later.{Follows, wins_of, win_for, win_by, wins_by}
 use Rattle.ell_core.specs.statements.Waiting.{WinsFlag, EventsLeaveWaiting}
 use Rattle.ell_core.proofs.stages.Kinds.{HasKind, kind_later}
-use Rattle.ell_core.proofs.stages.Waiting.{waits-claimed, waits-unborn, waits-kind, waits-wins, kind-waits, first_win, unclaimed-wins, none_before}
+use Rattle.ell_core.proofs.stages.Waiting.{waits-claimed, waits-no_start, unclaimed-no_start, waits-unborn, waits-kind, waits-wins, kind-waits, first_win, unclaimed-wins, none_before}
 use Rattle.ell_core.proofs.following.facts.Claimed.{not_claimed}
-use Rattle.ell_core.proofs.following.waiting.Cards.{not_first, claimed_waits}
+use Rattle.ell_core.proofs.following.waiting.Cards.{claimed_waits}
 
 -- an exchange of an update word leaves the claim word
 update_next : (w : Words) (x expected new : ℕ) → (exchanged_update w x expected new).next ≡ w.next
@@ -131,7 +131,7 @@ module _ (m : Machine) (stage : Stages) (e : Event) (said : Stepped) (m' : Machi
 
   -- a card that was claimed before does not begin to wait
   claimed_stays : (c : ℕ) → c < m.words.next → waits (follows.stages c) ≡ true → waits (stage c) ≡ true
-  claimed_stays c below wait = claimed_waits m stage invariant c below (not_first m' follows.stages follows.invariant c wait)
+  claimed_stays c below wait = claimed_waits m stage invariant c below (sym (follows.later.start c) ∙ waits-no_start (follows.stages c) wait)
       (none_before (wins_of (stage c)) (wins_by e.act (m.worker e.worker).card said c)
       (sym (follows.wins c) ∙ waits-wins (follows.stages c) wait))
 
@@ -155,7 +155,8 @@ module _ (m : Machine) (stage : Stages) (e : Event) (said : Stepped) (m' : Machi
       let more = claim_next (scene m e.worker) said h.becomes row in
       let same = ap (λ (n : Machine). n.words.next) h.gives in
       let some = invariant.kinds.some in
-      claimed_waits m' follows.stages follows.invariant m.words.next (omega arith) (omega arith)
+      claimed_waits m' follows.stages follows.invariant m.words.next (omega arith)
+      (follows.later.start m.words.next ∙ unclaimed-no_start (stage m.words.next) (not_claimed m.words stage invariant.words m.words.next (omega arith)))
       (follows.wins m.words.next ∙ none)
     where
       none : wins_of (stage m.words.next) ++ wins_by e.act (m.worker e.worker).card said m.words.next ≡ []

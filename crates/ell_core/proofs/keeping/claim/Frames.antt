@@ -5,7 +5,7 @@ use Rattle.ell_core.specs.declared.fact.Fact.{Fact}
 use Rattle.ell_core.specs.declared.field.Field.TheVariants.{Left, Right, Update}
 use Rattle.ell_core.specs.state.Words.{Words, put}
 use Rattle.ell_core.specs.state.Cards.{iflag, marked}
-use Rattle.ell_core.specs.history.Stages.{Stage, Stages, Unclaimed, IClaimed, DClaimed, is_claimed, is_born, allows, Born}
+use Rattle.ell_core.specs.history.Stages.{Stage, Stages, Unclaimed, IClaimed, DClaimed, is_claimed, is_start, is_born, allows, Born}
 use Rattle.ell_core.specs.history.Invariant.{top, IsIn, IsOut, LeadsTo, IsOnCourse, Blank, IsInnerBorn, WordsAreSound}
 use Rattle.ell_core.specs.history.Later.{SameNode, WordsLater, StagesLater, wins_of}
 use Rattle.ell_core.proofs.words.Writes.{put_other, put_cases}
@@ -138,6 +138,7 @@ module _ (w after : Words) (stage : Stages) (new : Stage) (h : Claiming w after 
   -- the stages are later ones
   pub claim_stages : StagesLater stage (put stage w.next new)
   claim_stages = stages_put stage w.next new (subst (λ s. StageLater s new) (sym unclaimed) (record {
+    start = just_claimed (λ s. is_start s ≡ false) new h.fresh refl refl;
     insert = λ said. absurd (false≢true said);
     delete = λ said. absurd (false≢true said);
     born = λ said. absurd (false≢true said);
