@@ -1,8 +1,13 @@
 //! Runs of lists and texts, what workers leave of their parts, and what a gate is told of them.
+mod before_flags;
+mod chains;
+mod crowds;
+mod deletes_held;
 mod few_keys;
 mod lists;
 mod pieces;
 mod running;
+mod scenes;
 mod stalling;
 mod stopping;
 mod texts;
