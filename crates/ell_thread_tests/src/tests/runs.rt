@@ -1,6 +1,7 @@
 //! Runs of lists and texts, what workers leave of their parts, and what a gate is told of them.
 mod few_keys;
 mod lists;
+mod many_keys;
 mod pieces;
 mod running;
 mod stalling;
@@ -8,3 +9,4 @@ mod stopping;
 mod texts;
 mod told;
 mod told_of_passes;
+mod tries;
