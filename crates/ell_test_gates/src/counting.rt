@@ -10,15 +10,19 @@ pub struct Told {
     pub begun: u64,
     /// How many atomic steps it came to, of whatever kind.
     pub steps: u64,
+    /// How many of these steps it had come to when its last operation ended.
+    pub ended_behind: u64,
     /// How many of its operations ended with an answer, and without one.
     pub answered: u64,
     pub held: u64,
 }
 
-// Counts what is told of one worker: how often of each kind, in the order of the kinds, and how operations ended.
+// Counts what is told of one worker: how often of each kind, in the order of the kinds, behind how many steps its last operation
+// ended, and how operations ended.
 #[derive(Drop)]
 struct Counts {
     kinds: Vec<AtomicU64>,
+    ended_behind: AtomicU64,
     answered: AtomicU64,
     held: AtomicU64,
 }
@@ -87,6 +91,7 @@ impl Counts {
     }
 
     fn end(&self, answered: bool) {
+        self.ended_behind.store(self.steps(), Ordering::SeqCst);
         one_more(if answered { &self.answered } else { &self.held });
     }
 
@@ -94,12 +99,17 @@ impl Counts {
         self.kinds.get(kind as usize).map_or(0, read)
     }
 
-    fn told(&self) -> Told {
-        let begun = self.of(Kind::Begin);
+    // How many steps were told, beside the begins of operations.
+    fn steps(&self) -> u64 {
         let all = self.kinds.iter().map(read).fold(0, u64::wrapping_add);
+        all.wrapping_sub(self.of(Kind::Begin))
+    }
+
+    fn told(&self) -> Told {
         Told {
-            begun,
-            steps: all.wrapping_sub(begun),
+            begun: self.of(Kind::Begin),
+            steps: self.steps(),
+            ended_behind: read(&self.ended_behind),
             answered: read(&self.answered),
             held: read(&self.held),
         }
@@ -114,6 +124,7 @@ fn none_told(alloc: Global) -> Result<Counts, AllocError> {
     }
     Ok(Counts {
         kinds,
+        ended_behind: AtomicU64::new(0),
         answered: AtomicU64::new(0),
         held: AtomicU64::new(0),
     })

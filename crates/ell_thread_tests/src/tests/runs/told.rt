@@ -66,6 +66,7 @@ fn told_steps(gate: &Counting<NoGate>, worker: u32, count: u64, kinds: &[(Kind, 
     let want = Told {
         begun: count,
         steps,
+        ended_behind: steps,
         answered: count,
         held: 0,
     };
@@ -85,7 +86,7 @@ fn each_kind_of_step_is_told(rt: HostRuntime) {
 }
 
 // Runs operations, of each of which the gate is to be told as it went: an end for each begin, with an answer for each operation that
-// is not late, and at most one end of a worker without an answer. How many ends had none.
+// is not late, at most one end of a worker without an answer, and its last end behind all its steps. How many ends had none.
 fn held_in_run<R: Threads + Abort + AllocGlobal + Sync>(
     rt: &R,
     ops: &[Op],
@@ -98,7 +99,10 @@ fn held_in_run<R: Threads + Abort + AllocGlobal + Sync>(
     let (mut answered, mut held) = (0u64, 0u64);
     for worker in 0..workers {
         let told = gate.told(worker);
-        assert!(rt; told.held <= 1, "of worker {worker}");
+        assert!(rt;
+            told.held <= 1 && told.ended_behind == told.steps,
+            "of worker {worker}"
+        );
         assert!(rt;
             told.begun == told.answered.wrapping_add(told.held),
             "of worker {worker}"

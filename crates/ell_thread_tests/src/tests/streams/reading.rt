@@ -1,7 +1,7 @@
 //! Readers that fail, and readers that give one byte at a time.
 use super::calls::{replay_ends, run_ends, run_writes};
 use super::samples::{ONE_KEY, ONE_KEY_ANSWER, TWO_INSERTS, TWO_INSERTS_TRACE};
-use super::sources::{ByteByByte, Faltering, KINDS};
+use super::sources::{ALL_KINDS, ByteByByte, Faltering, KINDS};
 use ell_run::RunFault;
 use ell_text::{ScriptFault, replay_bytes};
 
@@ -27,6 +27,35 @@ fn a_read_that_fails_once_ends_a_replay(rt: HostRuntime) {
             assert!(rt;
                 replay_ends(rt.alloc(), &mut reader, ScriptFault::Read),
                 "after {count}"
+            );
+        }
+    }
+}
+
+// Each kind of error comes at the first read, and at one behind some bytes: no other read follows.
+#[test]
+fn no_read_of_a_run_follows_an_error(rt: HostRuntime) {
+    for kind in ALL_KINDS {
+        for count in [0, 9] {
+            assert!(rt; count <= ONE_KEY.len());
+            let mut reader = Faltering::after(ONE_KEY, count, kind);
+            assert!(rt;
+                run_ends(&rt, rt.alloc(), &mut reader, RunFault::Read) && reader.was_left(),
+                "{kind} after {count}"
+            );
+        }
+    }
+}
+
+#[test]
+fn no_read_of_a_replay_follows_an_error(rt: HostRuntime) {
+    for kind in ALL_KINDS {
+        for count in [0, 9] {
+            assert!(rt; count <= TWO_INSERTS.len());
+            let mut reader = Faltering::after(TWO_INSERTS, count, kind);
+            assert!(rt;
+                replay_ends(rt.alloc(), &mut reader, ScriptFault::Read) && reader.was_left(),
+                "{kind} after {count}"
             );
         }
     }

@@ -11,12 +11,60 @@ pub(super) const KINDS: [ErrorKind; 3] = [
     ErrorKind::UnexpectedEof,
 ];
 
+/// Every kind of error there is.
+pub(super) const ALL_KINDS: [ErrorKind; 42] = [
+    ErrorKind::NotFound,
+    ErrorKind::PermissionDenied,
+    ErrorKind::ConnectionRefused,
+    ErrorKind::ConnectionReset,
+    ErrorKind::HostUnreachable,
+    ErrorKind::NetworkUnreachable,
+    ErrorKind::ConnectionAborted,
+    ErrorKind::NotConnected,
+    ErrorKind::AddrInUse,
+    ErrorKind::AddrNotAvailable,
+    ErrorKind::NetworkDown,
+    ErrorKind::BrokenPipe,
+    ErrorKind::AlreadyExists,
+    ErrorKind::WouldBlock,
+    ErrorKind::NotADirectory,
+    ErrorKind::IsADirectory,
+    ErrorKind::DirectoryNotEmpty,
+    ErrorKind::ReadOnlyFilesystem,
+    ErrorKind::FilesystemLoop,
+    ErrorKind::StaleNetworkFileHandle,
+    ErrorKind::InvalidInput,
+    ErrorKind::InvalidData,
+    ErrorKind::TimedOut,
+    ErrorKind::WriteZero,
+    ErrorKind::StorageFull,
+    ErrorKind::NotSeekable,
+    ErrorKind::QuotaExceeded,
+    ErrorKind::FileTooLarge,
+    ErrorKind::ResourceBusy,
+    ErrorKind::ExecutableFileBusy,
+    ErrorKind::Deadlock,
+    ErrorKind::CrossesDevices,
+    ErrorKind::TooManyLinks,
+    ErrorKind::InvalidFilename,
+    ErrorKind::ArgumentListTooLong,
+    ErrorKind::Interrupted,
+    ErrorKind::Unsupported,
+    ErrorKind::UnexpectedEof,
+    ErrorKind::OutOfMemory,
+    ErrorKind::InProgress,
+    ErrorKind::Other,
+    ErrorKind::Uncategorized,
+];
+
 /// A reader that fails once: it gives some bytes, then an error, and after that the other bytes.
 #[derive(Drop)]
 pub(super) struct Faltering<'a> {
     front: &'a [u8],
     fault: Option<ErrorKind>,
     rest: &'a [u8],
+    // It was called after it had failed.
+    called_again: bool,
 }
 
 impl<'a> Faltering<'a> {
@@ -29,7 +77,13 @@ impl<'a> Faltering<'a> {
             front,
             fault: Some(kind),
             rest,
+            called_again: false,
         }
+    }
+
+    /// Whether it has failed, and was not called after that.
+    pub(super) fn was_left(&self) -> bool {
+        self.fault.is_none() && !self.called_again
     }
 }
 
@@ -40,7 +94,10 @@ impl Read for Faltering<'_> {
         }
         match self.fault.take() {
             Some(kind) => Err(Error::from(kind)),
-            None => self.rest.read(buf),
+            None => {
+                self.called_again = true;
+                self.rest.read(buf)
+            }
         }
     }
 }
@@ -81,6 +138,9 @@ pub(super) struct Narrow {
     pub(super) taken: Vec<u8>,
     room: usize,
     failure: Failure,
+    has_failed: bool,
+    // It was called after it had failed.
+    called_again: bool,
 }
 
 impl Narrow {
@@ -90,15 +150,24 @@ impl Narrow {
             taken: Vec::new(alloc),
             room,
             failure,
+            has_failed: false,
+            called_again: false,
         }
+    }
+
+    /// Whether it has failed, and was not called after that.
+    pub(super) fn was_left(&self) -> bool {
+        self.has_failed && !self.called_again
     }
 }
 
 impl Write for Narrow {
     fn write(&mut self, buf: &[u8]) -> Result<usize> {
+        self.called_again = self.called_again || self.has_failed;
         let count = buf.len().min(self.room);
         if count == 0 {
             self.room = usize::MAX;
+            self.has_failed = true;
             return match self.failure {
                 Failure::Error(kind) => Err(Error::from(kind)),
                 Failure::TakesNothing => Ok(0),
@@ -110,6 +179,7 @@ impl Write for Narrow {
     }
 
     fn flush(&mut self) -> Result<()> {
+        self.called_again = self.called_again || self.has_failed;
         Ok(())
     }
 }

@@ -11,11 +11,12 @@ const CARDS: u64 = 100;
 
 const KEYS: u64 = 16;
 
-// What is to be told after one operation more, by the steps of the pass.
+// What is to be told after one operation more, by the steps of the pass: the operation ended behind the last of them.
 fn told_more(told: Told, steps: u64, is_answered: bool) -> Told {
     Told {
         begun: told.begun.wrapping_add(1),
         steps,
+        ended_behind: steps,
         answered: told.answered.wrapping_add(is_answered as u64),
         held: told.held.wrapping_add(!is_answered as u64),
     }

@@ -1,0 +1,34 @@
+//! How often a run tries an insert that another one is in the way of.
+use super::running::{came_to, run_owned};
+use ell_ops::Op::{Find, Insert};
+use ell_test_gates::{Counting, Holding, Told, two_threads_meet};
+use ell_word::Kind;
+
+// How many tries there are; how many operations of worker 1 are answered, and held; and how many operations are late.
+type Row = (u32, u64, u64, usize);
+
+// The first try of worker 1 meets the flag of worker 0, and takes it away; the second finds nothing in its way.
+const ROWS: [Row; 3] = [(1, 0, 1, 3), (2, 3, 0, 0), (3, 3, 0, 0)];
+
+// Whether a worker's last operation ended behind the last of its steps, after so many ends with an answer, and without.
+fn ended_so(told: Told, answered: u64, held: u64) -> bool {
+    told.answered == answered && told.held == held && told.ended_behind == told.steps
+}
+
+#[test]
+fn a_run_tries_as_often_as_its_limits_say(rt: HostRuntime) {
+    if !two_threads_meet(&rt) {
+        return;
+    }
+    let ops = [Insert(5), Insert(7), Find(7), Insert(9)];
+    for (row, (tries, answered, held, late)) in ROWS.iter().enumerate() {
+        let gate = Counting::new(rt.alloc(), 2, Holding::at(Kind::IChild)).expect(&rt, "memory");
+        let outcome = run_owned(&rt, &ops, &[0, 1, 1, 1], 2, 100, *tries, &gate);
+        assert!(rt; gate.behind().has_held(), "row {row}");
+        assert!(rt;
+            came_to(&outcome, &[true; 4], &[5, 7, 9], *late),
+            "row {row}"
+        );
+        assert!(rt; ended_so(gate.told(1), *answered, *held), "row {row}");
+    }
+}
