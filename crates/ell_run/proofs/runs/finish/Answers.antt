@@ -1,4 +1,4 @@
-use Rattle.std.proofs.Common.{◌≡◌, length, map, arith, ap, sym, subst, ◌∙◌}
+use Rattle.std.proofs.Common.{length, map, arith, ap, sym, subst, ◌∙◌}
 use Rattle.std.specs.List.{flat_map}
 use Rattle.ell_ops.specs.KeySet.{Lists, empty, set_of}
 use Rattle.ell_ops.specs.Meaning.{final, replies}

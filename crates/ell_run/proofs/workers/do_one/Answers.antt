@@ -1,4 +1,4 @@
-use Rattle.std.proofs.Common.{List, [], ◌∷◌, ◌++◌, map, arith, ap, ◌∙◌}
+use Rattle.std.proofs.Common.{[], ◌∷◌, ◌++◌, map, arith, ap, ◌∙◌}
 use Rattle.ell_run.proofs.Fronts.{one_worked}
 use Rattle.ell_run.proofs.workers.do_one.Goals as goal
 
