@@ -1,3 +1,5 @@
+-- The branches of a balanced tree: the way down to each card, and how long it is.
+pub mod Branches
 -- A list of two keys can open.
 pub mod CanOpen
 -- The faults of an opening: a set of the keys so far finds the first entry that repeats one.

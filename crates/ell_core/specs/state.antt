@@ -8,6 +8,8 @@ pub mod Facts
 pub mod Machine
 -- What a card says, what fills it, and on which side of a node an exchange or a card's key is.
 pub mod Cards
+-- The balanced tree over keys that are there at the start: which card has which of its nodes.
+pub mod Branches
 -- The opening state, and the lists of owned keys that it takes.
 pub mod Opening
 -- Seat moves: workers with nothing in hand are split and joined. No word and no other worker changes.

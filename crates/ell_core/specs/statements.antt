@@ -4,6 +4,8 @@ pub mod Laws
 pub mod StepLaws
 -- Laws of every schedule, from the opening state on: any list of events, by any workers in any order, refused ones too.
 pub mod RunLaws
+-- The balanced tree over keys that are there at the start: its branches are halves, and it is no deeper than need be.
+pub mod Balanced
 -- Which cards wait for their flag, and what an event does to them.
 pub mod Waiting
 -- What was told of a card stays so in later words.

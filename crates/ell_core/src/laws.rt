@@ -1,4 +1,5 @@
 //! The laws of the machine. Each is the contract of a function that does nothing, so that it is proved.
+mod balanced;
 mod definitions;
 mod premises;
 mod refuted;
@@ -6,6 +7,7 @@ mod schedules;
 mod steps;
 mod unsound;
 
+pub use balanced::{balanced_trees_are_shallow, branches_are_halves};
 pub use definitions::{
     each_word_has_its_address, one_outcome, room_holds_keys, same_words, told_words_stay,
     writes_are_seen,

@@ -3,6 +3,7 @@
 //! The tree is that of Ellen, Fatourou, Ruppert and van Breugel, "Non-blocking Binary Search Trees" (PODC 2010).
 #![tactic(auto)]
 
+mod branch;
 mod event;
 mod exchanges;
 mod fact;
@@ -18,21 +19,22 @@ mod view;
 mod worker;
 mod world;
 
+pub use branch::{Branch, branch_of};
 pub use event::{Act, CoreFault, Event, Shown, Stepped};
 pub use fact::{Fact, told_by};
 pub use field::{Field, child_field, key_field, table_size, update_word};
 pub use fillings::{delete_filling, insert_filling};
 pub use keys::{TreeWords, keys_of_tree};
 pub use laws::{
-    answers_are_the_sets, cards_wait, claimed_cards_are_fixed, each_word_has_its_address,
-    events_are_lawful, events_pass_on, events_promise_no_more, every_parting_is_a_split,
-    every_state_is_sound, every_union_is_a_join, facts_last, invariant_is_sound,
-    keys_change_at_wins, marked_nodes_are_frozen, moves_are_lawful, no_fact_is_made_up,
-    no_flag_is_left_standing, no_ledger_is_wrong, no_name_is_wrong, no_search_is_astray,
-    no_stranger_is_somebody, no_tree_is_unlawful, one_outcome, one_worker_can_open,
-    one_worker_owns_all, openings_are_passed, owner_finds_clean, room_holds_keys,
-    runs_can_be_followed, runs_promise_no_more, same_words, steps_may_rely, told_words_stay,
-    two_keys_can_open, wins_are_in_order, words_rise, writes_are_seen,
+    answers_are_the_sets, balanced_trees_are_shallow, branches_are_halves, cards_wait,
+    claimed_cards_are_fixed, each_word_has_its_address, events_are_lawful, events_pass_on,
+    events_promise_no_more, every_parting_is_a_split, every_state_is_sound, every_union_is_a_join,
+    facts_last, invariant_is_sound, keys_change_at_wins, marked_nodes_are_frozen, moves_are_lawful,
+    no_fact_is_made_up, no_flag_is_left_standing, no_ledger_is_wrong, no_name_is_wrong,
+    no_search_is_astray, no_stranger_is_somebody, no_tree_is_unlawful, one_outcome,
+    one_worker_can_open, one_worker_owns_all, openings_are_passed, owner_finds_clean,
+    room_holds_keys, runs_can_be_followed, runs_promise_no_more, same_words, steps_may_rely,
+    told_words_stay, two_keys_can_open, wins_are_in_order, words_rise, writes_are_seen,
 };
 pub use replays::replay;
 pub use searching::leaf_answer;

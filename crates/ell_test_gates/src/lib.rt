@@ -14,4 +14,6 @@ pub use dice::Dice;
 pub use gathering::Gathering;
 pub use holding::Holding;
 pub use holding_row::HoldingRow;
-pub use meeting::{four_threads_meet, two_threads_meet};
+pub use meeting::{
+    four_threads_meet, sixteen_threads_meet, sixty_four_threads_meet, two_threads_meet,
+};

@@ -20,13 +20,59 @@ pub fn two_threads_meet<R: Threads>(rt: &R) -> bool {
 
 /// Whether four threads met, each half of each half of a `join`.
 pub fn four_threads_meet<R: Threads + Sync>(rt: &R) -> bool {
+    meet_by_four(rt, &AtomicU64::new(0), 4)
+}
+
+/// Whether sixteen threads met, halved so four times.
+pub fn sixteen_threads_meet<R: Threads + Sync>(rt: &R) -> bool {
+    meet_by_sixteen(rt, &AtomicU64::new(0), 16)
+}
+
+/// Whether sixty-four threads met, halved so six times.
+pub fn sixty_four_threads_meet<R: Threads + Sync>(rt: &R) -> bool {
     let come = AtomicU64::new(0);
-    let (two, others) = join(
+    let (some, others) = join(
         rt,
-        || meet_by_two(rt, &come, 4),
-        || meet_by_two(rt, &come, 4),
+        || meet_by_thirty_two(rt, &come, 64),
+        || meet_by_thirty_two(rt, &come, 64),
     );
-    two && others
+    some && others
+}
+
+fn meet_by_thirty_two<R: Threads + Sync>(rt: &R, come: &AtomicU64, all: u64) -> bool {
+    let (some, others) = join(
+        rt,
+        || meet_by_sixteen(rt, come, all),
+        || meet_by_sixteen(rt, come, all),
+    );
+    some && others
+}
+
+fn meet_by_sixteen<R: Threads + Sync>(rt: &R, come: &AtomicU64, all: u64) -> bool {
+    let (some, others) = join(
+        rt,
+        || meet_by_eight(rt, come, all),
+        || meet_by_eight(rt, come, all),
+    );
+    some && others
+}
+
+fn meet_by_eight<R: Threads + Sync>(rt: &R, come: &AtomicU64, all: u64) -> bool {
+    let (some, others) = join(
+        rt,
+        || meet_by_four(rt, come, all),
+        || meet_by_four(rt, come, all),
+    );
+    some && others
+}
+
+fn meet_by_four<R: Threads + Sync>(rt: &R, come: &AtomicU64, all: u64) -> bool {
+    let (some, others) = join(
+        rt,
+        || meet_by_two(rt, come, all),
+        || meet_by_two(rt, come, all),
+    );
+    some && others
 }
 
 // Whether two threads that come here saw so many come in time.

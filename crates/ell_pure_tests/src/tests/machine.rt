@@ -1,4 +1,5 @@
-//! Schedules of a few events, with the answers, words and keys that a person gave them, and a long one beside a plain set.
+//! Balanced trees; schedules of a few events, with the answers, words and keys that a person gave them, and a long one beside a plain set.
+mod branches;
 mod deleting;
 mod given_worlds;
 mod inserting;

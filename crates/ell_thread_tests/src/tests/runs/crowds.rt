@@ -2,7 +2,7 @@
 use super::running::{came_to, run_striped};
 use ell_ops::Op::{self, Delete, Find, Insert};
 use ell_ops::apply_all;
-use ell_test_gates::{Counting, Gathering, two_threads_meet};
+use ell_test_gates::{Counting, Gathering, sixteen_threads_meet, sixty_four_threads_meet};
 use ell_word::Kind;
 use std::process::Abort;
 use std::thread::Threads;
@@ -14,7 +14,8 @@ const TRIES: u32 = 1_000;
 // The steps at which all workers are held, which each comes to for its own operation or for another's. How often it comes to
 // them for its own at least. And whether all are there for one flag, which one of them has set or will set, and at which all
 // others lose their step: the tree has but one inner node then.
-const MEETINGS: [(Kind, u64, bool); 7] = [
+const MEETINGS: [(Kind, u64, bool); 8] = [
+    (Kind::Begin, 4, false),
     (Kind::IFlag, 2, true),
     (Kind::IChild, 2, true),
     (Kind::IUnflag, 2, false),
@@ -61,12 +62,8 @@ fn stop_at<R: Threads + Abort + AllocGlobal + Sync>(
     gate
 }
 
-// Has workers stop at each of these steps in turn, if so many threads run at once that all of them meet before their first
-// steps.
+// Has workers stop at each of these steps in turn.
 fn stop_everywhere<R: Threads + Abort + AllocGlobal + Sync>(rt: &R, workers: u32) {
-    if !stop_at(rt, workers, Kind::Begin).behind().has_gathered() {
-        return;
-    }
     let all = workers as u64;
     for (kind, own, is_for_one) in MEETINGS {
         let gate = stop_at(rt, workers, kind);
@@ -85,14 +82,14 @@ fn stop_everywhere<R: Threads + Abort + AllocGlobal + Sync>(rt: &R, workers: u32
 
 #[test]
 fn sixteen_workers_in_the_middle_of_operations_answer_as_one_thread(rt: HostRuntime) {
-    if two_threads_meet(&rt) {
+    if sixteen_threads_meet(&rt) {
         stop_everywhere(&rt, 16);
     }
 }
 
 #[test]
 fn sixty_four_workers_in_the_middle_of_operations_answer_as_one_thread(rt: HostRuntime) {
-    if two_threads_meet(&rt) {
+    if sixty_four_threads_meet(&rt) {
         stop_everywhere(&rt, 64);
     }
 }
