@@ -7,7 +7,7 @@ mod workers;
 use bare_tree::BareTree;
 use std::io;
 use std::{env, process};
-use text::{read_operations, write_answer, Operation};
+use text::{read_bulk, write_answer, Operation};
 use workers::{settings, work};
 
 fn main() -> io::Result<()> {
@@ -15,9 +15,9 @@ fn main() -> io::Result<()> {
         eprintln!("bare: give the number of workers, 1 to 64, and stripe or range");
         process::exit(2);
     };
-    let operations = read_operations()?;
-    let tree = BareTree::reserve(4 * operations.len() as u64 + 64);
-    let replies = work(&operations, &settings, |operation| {
+    let bulk = read_bulk()?;
+    let tree = BareTree::reserve(&bulk.start, 4 * bulk.operations.len() as u64 + 64);
+    let replies = work(&bulk.operations, &settings, |operation| {
         let reply = match operation {
             Operation::Insert(key) => tree.insert(key),
             Operation::Delete(key) => tree.delete(key),

@@ -98,18 +98,45 @@ impl Index<(u64, Field)> for BareTree {
 }
 
 impl BareTree {
-    /// The opening tree, and so many cards of which all words are 0.
-    pub fn reserve(cards: u64) -> BareTree {
+    /// The opening tree of some ascending keys, and so many cards more, of which all words are 0.
+    pub fn reserve(start: &[u64], cards: u64) -> BareTree {
+        let cards = start.len() as u64 + cards;
         let words = (0..11 + 10 * cards).map(|_| AtomicU64::new(0)).collect();
         let tree = BareTree { words, cards };
-        tree.claimed().store(1, SeqCst);
+        tree.claimed().store(start.len() as u64 + 1, SeqCst);
         tree.fill(0, Field::Key, INF2);
-        tree.fill(0, Field::Left, 1);
+        tree.fill(0, Field::Left, if start.is_empty() { 1 } else { 3 });
         tree.fill(0, Field::Right, 2);
         tree.fill(0, Field::Update, update_word(State::Clean, 0));
         tree.fill(0, Field::LeftLeafKey, INF1);
         tree.fill(0, Field::RightLeafKey, INF2);
+        if !start.is_empty() {
+            tree.fill_branch(1, &[start, &[INF1]].concat());
+        }
         tree
+    }
+
+    /// Makes a card the node over some leaves, two at least, in a tree as balanced as can be. The nodes below it have the next cards,
+    /// those on the left first.
+    fn fill_branch(&self, card: u64, leaves: &[u64]) {
+        let (left, right) = leaves.split_at(leaves.len() / 2);
+        self.fill(card, Field::Key, right[0]);
+        self.fill(card, Field::Update, update_word(State::Clean, 0));
+        if let [key] = left {
+            self.fill(card, Field::LeftLeafKey, *key);
+            self.fill(card, Field::Left, 3 * card + 1);
+        } else {
+            self.fill(card, Field::Left, 3 * (card + 1));
+            self.fill_branch(card + 1, left);
+        }
+        if let [key] = right {
+            self.fill(card, Field::RightLeafKey, *key);
+            self.fill(card, Field::Right, 3 * card + 2);
+        } else {
+            let below = card + left.len() as u64;
+            self.fill(card, Field::Right, 3 * below);
+            self.fill_branch(below, right);
+        }
     }
 
     /// Has the system hand out the memory of all words now, which it would do later, at the first change of each part of it.

@@ -7,7 +7,7 @@ use std::collections::BTreeSet;
 use std::io;
 use std::sync::Mutex;
 use std::{env, process};
-use text::{read_operations, write_answer, Operation};
+use text::{read_bulk, write_answer, Operation};
 use workers::{settings, work};
 
 fn main() -> io::Result<()> {
@@ -15,9 +15,9 @@ fn main() -> io::Result<()> {
         eprintln!("mutex: give the number of workers, 1 to 64, and stripe or range");
         process::exit(2);
     };
-    let operations = read_operations()?;
-    let set = Mutex::new(BTreeSet::new());
-    let replies = work(&operations, &settings, |operation| {
+    let bulk = read_bulk()?;
+    let set = Mutex::new(BTreeSet::from_iter(bulk.start));
+    let replies = work(&bulk.operations, &settings, |operation| {
         let mut keys = set.lock().unwrap();
         match operation {
             Operation::Insert(key) => keys.insert(key),

@@ -4,7 +4,7 @@ mod text;
 
 use std::collections::BTreeSet;
 use std::io;
-use text::{read_operations, write_answer, Operation};
+use text::{read_bulk, write_answer, Operation};
 
 fn apply(operation: Operation, keys: &mut BTreeSet<u64>) -> bool {
     match operation {
@@ -15,9 +15,10 @@ fn apply(operation: Operation, keys: &mut BTreeSet<u64>) -> bool {
 }
 
 fn main() -> io::Result<()> {
-    let operations = read_operations()?;
-    let mut keys = BTreeSet::new();
-    let replies: Vec<bool> = operations
+    let bulk = read_bulk()?;
+    let mut keys = BTreeSet::from_iter(bulk.start);
+    let replies: Vec<bool> = bulk
+        .operations
         .into_iter()
         .map(|operation| apply(operation, &mut keys))
         .collect();

@@ -1,4 +1,4 @@
-//! The texts of `elltree run`: a file of operations is read, and the answer written, as elltree does both.
+//! The texts of `elltree run`: a file of start keys and operations is read, and the answer written, as elltree does both.
 
 use std::io::{self, Read, Write};
 
@@ -37,6 +37,30 @@ fn parse_operation(line: &[u8]) -> Option<Operation> {
     }
 }
 
+/// A bulk text: the keys that are there before the first operation, ascending, and the operations.
+#[derive(Default)]
+pub struct Bulk {
+    pub start: Vec<u64>,
+    pub operations: Vec<Operation>,
+}
+
+impl Bulk {
+    /// Appends what a line says, or tells why it says nothing.
+    fn append(&mut self, line: &[u8]) -> Result<(), &'static str> {
+        match line.strip_prefix(b"start ") {
+            Some(key) if self.operations.is_empty() => {
+                let key = parse_key(key).ok_or("not a key")?;
+                if self.start.last().is_some_and(|&before| key <= before) {
+                    return Err("start keys not ascending");
+                }
+                self.start.push(key);
+            }
+            _ => self.operations.push(parse_operation(line).ok_or("not an operation")?),
+        }
+        Ok(())
+    }
+}
+
 fn is_skipped(line: &[u8]) -> bool {
     line.starts_with(b"#") || line.iter().all(|byte| matches!(byte, b' ' | b'\t'))
 }
@@ -45,19 +69,18 @@ fn error(text: String) -> io::Error {
     io::Error::new(io::ErrorKind::InvalidData, text)
 }
 
-/// The operations of standard input.
-pub fn read_operations() -> io::Result<Vec<Operation>> {
+/// The start keys and the operations of standard input.
+pub fn read_bulk() -> io::Result<Bulk> {
     let mut input = Vec::new();
     io::stdin().lock().read_to_end(&mut input)?;
-    input
-        .split(|&byte| byte == b'\n')
-        .map(|line| line.strip_suffix(b"\r").unwrap_or(line))
-        .enumerate()
-        .filter(|(_, line)| !is_skipped(line))
-        .map(|(index, line)| {
-            parse_operation(line).ok_or_else(|| error(format!("line {}: not an operation", index + 1)))
-        })
-        .collect()
+    let mut bulk = Bulk::default();
+    for (index, line) in input.split(|&byte| byte == b'\n').enumerate() {
+        let line = line.strip_suffix(b"\r").unwrap_or(line);
+        if !is_skipped(line) {
+            bulk.append(line).map_err(|why| error(format!("line {}: {why}", index + 1)))?;
+        }
+    }
+    Ok(bulk)
 }
 
 /// Writes the answer to standard output: a line for each reply, the number of keys, and the keys.

@@ -178,7 +178,7 @@ fn measure<S: Set>(reserve: impl FnOnce() -> S, threads: u64, [keys, finds, mixe
 
 /// A tree of which all memory is there before it is used, as that of the card table is.
 fn reserve_bare(cards: u64) -> BareTree {
-    let tree = BareTree::reserve(cards);
+    let tree = BareTree::reserve(&[], cards);
     tree.take_memory();
     tree
 }

@@ -1,5 +1,7 @@
 -- the rule holds of an opening table
 pub mod Openings
+-- lists of the words at the start
+pub mod StartLists
 -- passes with nothing in hand
 pub mod Idle
 -- the parts of a pass's keys

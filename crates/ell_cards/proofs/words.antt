@@ -2,7 +2,7 @@
 pub mod Updates
 -- words of a list and of the machine, at a field of a card
 pub mod Fields
--- keys: which are among a list, which are a ledger's, and what a binary search finds
+-- keys: which are among a list, and which are a ledger's
 pub mod Keys
 -- lists of numbers that rise
 pub mod Ascending

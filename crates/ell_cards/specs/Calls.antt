@@ -1,4 +1,4 @@
-use Rattle.std.specs.Prelude.{◌≡◌, ◌≢◌, ℕ, ◌+◌, ◌<◌, ◌≤◌, ◌==◌, ◌%◌, ◌↔◌, if◌then◌else◌, Bool, true, false, Option, Some, None}
+use Rattle.std.specs.Prelude.{◌≡◌, ◌≢◌, ℕ, ◌+◌, ◌<◌, ◌≤◌, ◌==◌, ◌%◌, ◌↔◌, if◌then◌else◌, Bool, false, Option, Some, None}
 use Rattle.ell_ops.specs.declared.op.Op.{Op}
 use Rattle.ell_ops.specs.Meaning.{key_of}
 use Rattle.ell_word.specs.Node.{IsInternal, card, internal}
@@ -25,6 +25,7 @@ use Rattle.ell_cards.specs.declared.view.View.{View}
 use Rattle.ell_cards.specs.Models.{IsTold, Does, StandsAt, InTable, KnowsDelete}
 use Rattle.ell_cards.specs.Changes.{learning, with_found, after_begin, after_again, after_leave, after_answer, after_upd, after_down, after_next, after_key_of, after_info, after_frozen_child, after_claim, after_fill, after_flag, after_mark}
 use Rattle.ell_cards.specs.Guards.{MayBegin, MayStop, MayAnswer, MayRead, MayGoDown, MayAsk, MaySee, MayClaim, MayFill, MayIFlag, MayDFlag, MayIChild, MayIUnflag, MayMark, MayDChild, MayDUnflag, MayBacktrack}
+use Rattle.ell_core.specs.declared.view.Entry.TheVariants.{Present}
 
 -- the address of the update word of a node
 abbrev pub update_at : ℕ → ℕ
@@ -177,7 +178,7 @@ Becomes i None said m m' = m' ≡ m
 -- grandparent
 pub record TellsLeaf (v : View) (x key : ℕ) : Type 0 where
   pub present : (op : Op) → Does v op → StandsAt v x → IsLeaf x
-      → (key ≡ key_of op) ↔ (ledger_of v.worker.ledger (key_of op) ≡ Some true)
+      → (key ≡ key_of op) ↔ (ledger_of v.worker.ledger (key_of op) ≡ Some Present)
   pub deep : (op : Op) → Does v op → StandsAt v x → IsLeaf x → key ≡ key_of op → v.worker.search.grandparent ≢ None
 
 -- where a card goes is ever deeper: a delete's parent below its grandparent, and a leaf below the parent

@@ -1,5 +1,5 @@
 use Rattle.std.specs.Prelude.{ℕ, ◌+◌, ◌==◌, ◌++◌, if◌then◌else◌, Bool, true, false, Option, Some, None, List, [], ◌∷◌, unwrap_or, nat_lt, max, Result, Ok, Err}
-use Rattle.std.specs.List.{list_any}
+use Rattle.ell_ops.specs.KeySet.{set_of}
 use Rattle.ell_ops.specs.declared.op.Op.{Op}
 use Rattle.ell_ops.specs.declared.op.Op.TheVariants.{Insert, Delete}
 use Rattle.ell_word.specs.declared.update.Update.{Update}
@@ -16,11 +16,16 @@ use Rattle.ell_core.specs.declared.view.WorkerView.{WorkerView}
 use Rattle.ell_core.specs.state.Machine.{no_search}
 use Rattle.ell_core.specs.state.Cards.{insert_filling, delete_filling}
 use Rattle.ell_core.specs.acts.Searching.{with_read, at_root}
+use Rattle.ell_core.specs.statements.Premises.{keys_at_start}
 use Rattle.ell_cards.specs.declared.view.Told.{Told}
 use Rattle.ell_cards.specs.declared.view.Told.TheVariants.{Met, Key, Info, Frozen}
 use Rattle.ell_cards.specs.declared.view.Hindrance.{Hindrance}
 use Rattle.ell_cards.specs.declared.view.Hindrance.TheVariants.{Claim, Found}
 use Rattle.ell_cards.specs.declared.view.View.{View}
+use Rattle.ell_core.specs.declared.view.Entry.{Entry}
+use Rattle.ell_core.specs.declared.view.Entry.TheVariants.{Present, Absent}
+use Rattle.ell_ops.specs.declared.reply.Reply.{Reply}
+use Rattle.ell_ops.specs.declared.reply.Reply.TheVariants.{Yes}
 
 -- the facts with the one that an update tells: a flag or a mark that of its card, a clean update none
 abbrev pub facts_by : State → ℕ → List Fact → List Fact
@@ -54,7 +59,7 @@ first_in_way (h ∷ hs) those = h ∷ hs
 -- what a search that stands at a node has read in the way of an operation: of an insert at the parent, of a delete at the
 -- grandparent, or else at the parent
 abbrev pub in_the_way : Option Op → Option ℕ → Option Seen → Option Seen → List Hindrance
-in_the_way (Some (Insert k)) (Some x) parent above = read_in_way parent
+in_the_way (Some (Insert k value)) (Some x) parent above = read_in_way parent
 in_the_way (Some (Delete k)) (Some x) parent above = first_in_way (read_in_way above) (read_in_way parent)
 in_the_way _ _ parent above = []
 
@@ -101,7 +106,7 @@ found_child expected (Ok won) = expected
 found_child expected (Err found) = found
 
 -- a worker with nothing in hand
-abbrev pub idle_worker : List (ℕ × Bool) → List Fact → WorkerView
+abbrev pub idle_worker : List (ℕ × Entry) → List Fact → WorkerView
 idle_worker ledger facts = record { ledger = ledger; operation = None; search = no_search; card = None; flagged = false; facts = facts }
 
 -- begin: this operation is in hand, and the search stands at the root, which the pass has met
@@ -129,19 +134,19 @@ after_leave v = record v {
   hindrances = given_up v;
 }
 
--- the ledger where a key is present now, or absent
-abbrev pub with_key : ℕ → Bool → List (ℕ × Bool) → List (ℕ × Bool)
-with_key k present [] = []
-with_key k present (e ∷ es) = (e.0, if k == e.0 then present else e.1) ∷ with_key k present es
+-- the ledger where a key's entry is this one now
+abbrev pub with_key : ℕ → Entry → List (ℕ × Entry) → List (ℕ × Entry)
+with_key k entry [] = []
+with_key k entry (e ∷ es) = (e.0, if k == e.0 then entry else e.1) ∷ with_key k entry es
 
 -- the ledger after an operation was answered so
-abbrev pub answered_ledger : Option Op → Bool → List (ℕ × Bool) → List (ℕ × Bool)
-answered_ledger (Some (Insert k)) true ledger = with_key k true ledger
-answered_ledger (Some (Delete k)) true ledger = with_key k false ledger
+abbrev pub answered_ledger : Option Op → Reply → List (ℕ × Entry) → List (ℕ × Entry)
+answered_ledger (Some (Insert k value)) Yes ledger = with_key k Present ledger
+answered_ledger (Some (Delete k)) Yes ledger = with_key k Absent ledger
 answered_ledger _ _ ledger = ledger
 
 -- answer: nothing is in hand any more, and the ledger goes by the answer
-abbrev pub after_answer : Bool → View → View
+abbrev pub after_answer : Reply → View → View
 after_answer said v = record v {
   worker = idle_worker (answered_ledger v.worker.operation said v.worker.ledger) v.worker.facts;
   here = None;
@@ -209,7 +214,7 @@ after_frozen_child c right x v = record v { told = Frozen c right x ∷ Met x �
 
 -- what fills a card, by the operation, the search and the key of the leaf
 abbrev pub filling_for : ℕ → Option Op → Option ℕ → Option Seen → Option Seen → ℕ → List (Field × ℕ)
-filling_for c (Some (Insert k)) (Some leaf) (Some parent) above key = insert_filling c k parent.node leaf key
+filling_for c (Some (Insert k value)) (Some leaf) (Some parent) above key = insert_filling c k parent.node leaf key
 filling_for c (Some (Delete k)) (Some leaf) (Some parent) (Some above) key = delete_filling above.node parent.node leaf parent.word
 filling_for c _ _ _ _ key = []
 
@@ -293,18 +298,13 @@ abbrev pub after_mark : Bool → ℕ → ℕ → Update → View → View
 after_mark true c x u v = learning (fact.Marked c) v
 after_mark false c x u v = if is_mark_of c u.state u.card then learning (fact.Marked c) v else unmarking c x u v
 
--- each of these keys, absent
-abbrev pub all_absent : List ℕ → List (ℕ × Bool)
-all_absent [] = []
-all_absent (k ∷ ks) = (k, false) ∷ all_absent ks
-
 -- the keys of a ledger, in its order
-abbrev pub keys_of : List (ℕ × Bool) → List ℕ
+abbrev pub keys_of : List (ℕ × Entry) → List ℕ
 keys_of [] = []
 keys_of (e ∷ es) = e.0 ∷ keys_of es
 
 -- a pass with nothing in hand, which has met the root alone
-abbrev pub idle_view : List (ℕ × Bool) → View
+abbrev pub idle_view : List (ℕ × Entry) → View
 idle_view ledger = record {
   worker = idle_worker ledger [];
   told = Met 0 ∷ [];
@@ -317,30 +317,26 @@ idle_view ledger = record {
   hindrances = [];
 }
 
--- the first pass of a table: it owns all keys, each absent
-abbrev pub first_view : List ℕ → View
-first_view keys = idle_view (all_absent keys)
+-- the first pass of a table: it owns all keys, of which the start keys are present and the others absent
+abbrev pub first_view : List ℕ → List ℕ → View
+first_view keys start = idle_view (keys_at_start keys start)
 
 -- what is left of a pass that was joined to another
 abbrev pub spent_view : View
 spent_view = idle_view []
 
--- whether a key is among these
-abbrev pub is_among : List ℕ → ℕ → Bool
-is_among keys k = list_any (λ x. k == x) keys
-
 -- the part of a ledger on these keys
-abbrev pub part_on : List ℕ → List (ℕ × Bool) → List (ℕ × Bool)
+abbrev pub part_on : List ℕ → List (ℕ × Entry) → List (ℕ × Entry)
 part_on keys [] = []
-part_on keys (e ∷ es) = if is_among keys e.0 then e ∷ part_on keys es else part_on keys es
+part_on keys (e ∷ es) = if set_of keys e.0 then e ∷ part_on keys es else part_on keys es
 
 -- the part of a ledger off these keys
-abbrev pub part_off : List ℕ → List (ℕ × Bool) → List (ℕ × Bool)
+abbrev pub part_off : List ℕ → List (ℕ × Entry) → List (ℕ × Entry)
 part_off keys [] = []
-part_off keys (e ∷ es) = if is_among keys e.0 then part_off keys es else e ∷ part_off keys es
+part_off keys (e ∷ es) = if set_of keys e.0 then part_off keys es else e ∷ part_off keys es
 
 -- a part of a pass: these entries of its ledger, nothing in hand, and the facts, what was told and the counts of the pass
-abbrev pub part_view : List (ℕ × Bool) → View → View
+abbrev pub part_view : List (ℕ × Entry) → View → View
 part_view ledger v = record v {
   worker = idle_worker ledger v.worker.facts;
   here = None;
@@ -359,12 +355,12 @@ abbrev pub right_view : List ℕ → View → View
 right_view keys v = record (part_view (part_off keys v.worker.ledger) v) { answers = 0; hindrances = [] }
 
 -- an entry put into an ascending ledger at its place, or in place of that of its key
-abbrev pub put_entry : ℕ × Bool → List (ℕ × Bool) → List (ℕ × Bool)
+abbrev pub put_entry : ℕ × Entry → List (ℕ × Entry) → List (ℕ × Entry)
 put_entry e [] = e ∷ []
 put_entry e (d ∷ ds) = if nat_lt e.0 d.0 then e ∷ d ∷ ds else if e.0 == d.0 then e ∷ ds else d ∷ put_entry e ds
 
 -- two ascending ledgers in one
-abbrev pub united : List (ℕ × Bool) → List (ℕ × Bool) → List (ℕ × Bool)
+abbrev pub united : List (ℕ × Entry) → List (ℕ × Entry) → List (ℕ × Entry)
 united [] ds = ds
 united (e ∷ es) ds = put_entry e (united es ds)
 

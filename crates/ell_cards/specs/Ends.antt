@@ -1,4 +1,4 @@
-use Rattle.std.specs.Prelude.{◌≡◌, ◌↔◌, ℕ, ◌≤◌, Bool, true, List, length, Some, Contains}
+use Rattle.std.specs.Prelude.{◌≡◌, ◌↔◌, ℕ, ◌≤◌, Bool, List, length, Some, Contains}
 use mathlib.Core.Option.{some}
 use lib.ListN.{get_elem?}
 use Rattle.ell_word.specs.Node.{card, IsInternal}
@@ -11,11 +11,13 @@ use Rattle.ell_core.specs.soundness.Sound.{IsSound}
 use Rattle.ell_cards.specs.declared.view.View.{View}
 use Rattle.ell_cards.specs.Rule.{TableState, Kept}
 use Rattle.ell_cards.specs.Laws.{machine_of}
+use Rattle.ell_core.specs.declared.view.Entry.{Entry}
+use Rattle.ell_core.specs.declared.view.Entry.TheVariants.{Present}
 
 -- the words of a table that has ended, and how many cards it has beside card 0
 pub record ClosedModel : Type 0 where
   pub words : List ℕ
-  pub cards : ℕ
+  pub last_card : ℕ
 
 -- a node has in these words what it has in those: its key, and, if it is internal, its children and its update word
 pub record SameNode (these those : Words) (x : ℕ) : Type 0 where
@@ -25,23 +27,23 @@ pub record SameNode (these those : Words) (x : ℕ) : Type 0 where
 
 -- the tree of the words of a closed table, which a pass closed that owned all keys with this ledger: it is lawful, its nodes are
 -- of the table, its update words are clean, and its keys are those of the ledger that are present
-pub record ShowsSet (keys : List ℕ) (ledger : List (ℕ × Bool)) (t : ClosedModel) : Type 0 where
-  pub size : length t.words ≡ table_size t.cards
+pub record ShowsSet (keys : List ℕ) (ledger : List (ℕ × Entry)) (t : ClosedModel) : Type 0 where
+  pub size : length t.words ≡ table_size t.last_card
   pub tree : IsLawful (words_of t.words)
-  pub nodes : (x : ℕ) → Reached (words_of t.words) x → card x ≤ t.cards
+  pub nodes : (x : ℕ) → Reached (words_of t.words) x → card x ≤ t.last_card
   pub clean : (x : ℕ) → Reached (words_of t.words) x → IsInternal x → IsClean ((words_of t.words).update x)
   pub owned : (key : ℕ) → IsTreeKey (words_of t.words) key → Contains keys key
-  pub present : (key : ℕ) → Contains keys key → IsTreeKey (words_of t.words) key ↔ (ledger_of ledger key ≡ Some true)
+  pub present : (key : ℕ) → Contains keys key → IsTreeKey (words_of t.words) key ↔ (ledger_of ledger key ≡ Some Present)
 
 -- how a table ends, by a pass that knows this: its words are those of a last state of the rule, in which a seat has this view; its
 -- machine is sound, and each node of its tree has in the list what it has in the machine, with an update word that is clean
 pub record Ends (keys : List ℕ) (v : View) (t : ClosedModel) : Type 0 where
   pub state : TableState
   pub seat : ℕ
-  pub kept : Kept keys t.cards state
+  pub kept : Kept keys t.last_card state
   pub seen : get_elem? state.views seat ≡ some v
   pub same : state.words ≡ t.words
-  pub sound : IsSound (machine_of keys t.cards state kept)
+  pub sound : IsSound (machine_of keys t.last_card state kept)
   pub nodes : (x : ℕ) → Reached kept.words x → SameNode (words_of t.words) kept.words x
   pub clean : (x : ℕ) → Reached kept.words x → IsInternal x → IsClean (kept.words.update x)
   pub shows : ShowsSet keys v.worker.ledger t

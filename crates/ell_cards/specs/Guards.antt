@@ -15,6 +15,8 @@ use Rattle.ell_core.specs.acts.Searching.{IsLeaf, IsClean, leaf_answer}
 use Rattle.ell_cards.specs.declared.view.Told.TheVariants.{Key, Info, Frozen}
 use Rattle.ell_cards.specs.declared.view.View.{View}
 use Rattle.ell_cards.specs.Models.{IsTold, Knows, KnowsCard, Does, StandsAt, IsFree, stored_at}
+use Rattle.ell_ops.specs.declared.reply.Reply.{Reply}
+use Rattle.ell_ops.specs.declared.reply.Reply.TheVariants.{Yes}
 
 -- begin: nothing is in hand, and the key is owned
 pub record MayBegin (v : View) (op : Op) : Type 0 where
@@ -28,7 +30,7 @@ pub record MayStop (v : View) : Type 0 where
   pub backed : (c : ℕ) → v.worker.card ≡ Some c → v.worker.flagged ≡ true → Knows v (Backed c)
 
 -- an answer at the leaf where the pass stands, whose key it was told
-pub record AnswersAtLeaf (v : View) (op : Op) (said : Bool) : Type 0 where
+pub record AnswersAtLeaf (v : View) (op : Op) (said : Reply) : Type 0 where
   pub leaf : ℕ
   pub key : ℕ
   pub stands : StandsAt v leaf
@@ -39,19 +41,19 @@ pub record AnswersAtLeaf (v : View) (op : Op) (said : Bool) : Type 0 where
 -- the card of an operation is known to be over
 abbrev pub IsOver : View → Op → ℕ → Type 0
 IsOver v (Find k) c = ⊥
-IsOver v (Insert k) c = Knows v (IOver c)
+IsOver v (Insert k value) c = Knows v (IOver c)
 IsOver v (Delete k) c = Knows v (DOver c)
 
 -- an answer by the card in hand, which is over: yes
-pub record AnswersByCard (v : View) (op : Op) (said : Bool) : Type 0 where
+pub record AnswersByCard (v : View) (op : Op) (said : Reply) : Type 0 where
   pub card : ℕ
   pub holds : v.worker.card ≡ Some card
   pub flagged : v.worker.flagged ≡ true
   pub over : IsOver v op card
-  pub yes : said ≡ true
+  pub yes : said ≡ Yes
 
 -- answer: an operation is in hand, and has this answer
-pub record MayAnswer (v : View) (said : Bool) : Type 0 where
+pub record MayAnswer (v : View) (said : Reply) : Type 0 where
   pub op : Op
   pub busy : Does v op
   pub answers : AnswersAtLeaf v op said ⊎ AnswersByCard v op said
@@ -103,7 +105,7 @@ pub record MaySee (v : View) (c p : ℕ) : Type 0 where
 -- what a claim is for at a leaf of this key: an insert of another key, or a delete of this one whose grandparent was read clean
 abbrev pub Wants : View → Op → ℕ → Type 0
 Wants v (Find k) key = ⊥
-Wants v (Insert k) key = key ≢ k
+Wants v (Insert k value) key = key ≢ k
 Wants v (Delete k) key = (key ≡ k) × ((above : Seen) × (v.worker.search.grandparent ≡ Some above) × IsClean above.word)
 
 -- claim: the card was read by next in this try; the pass stands at a leaf, whose key it was told, without a card, behind a
@@ -135,8 +137,9 @@ IsFilled v = (f : Field) → stored_at v.filled f ≡ stored v.filling f 0
 -- iflag: an insert's card is in hand, filled and not flagged, and this is the parent with the update that was read there
 pub record MayIFlag (v : View) (c p : ℕ) (from : Update) : Type 0 where
   pub key : ℕ
+  pub value : ℕ
   pub leaf : ℕ
-  pub busy : Does v (Insert key)
+  pub busy : Does v (Insert key value)
   pub may : MayFill v c
   pub stands : StandsAt v leaf
   pub behind : v.worker.search.parent ≡ Some (record { node = p; word = packed from })

@@ -1,18 +1,12 @@
-use Rattle.std.specs.Prelude.{◌≡◌, ◌≢◌, ℕ, ◌≤◌, List, [], ◌∷◌, ◌++◌, slice_index, slice_set}
-use Rattle.std.specs.List.{All}
-use Rattle.std.specs.List.Sorted.{IsStrictlyIncreasing}
+use Rattle.std.specs.Prelude.{◌≡◌, ◌≢◌, ℕ, List, [], ◌∷◌, ◌++◌, slice_index, slice_set}
 use mathlib.Core.Option.{some}
 use lib.ListN.{get_elem?}
-use Rattle.atomic_table.specs.Table.{opening}
-use Rattle.ell_ops.specs.Meaning.{greatest_key}
-use Rattle.ell_core.specs.state.Opening.{opening_list}
 use Rattle.ell_core.specs.state.Machine.{Machine}
 use Rattle.ell_core.specs.state.Moves.{Split, Join}
-use Rattle.ell_core.specs.statements.RunLaws.{IsOpening}
 use Rattle.ell_cards.specs.declared.call.Call.{Call}
 use Rattle.ell_cards.specs.declared.view.View.{View}
 use Rattle.ell_cards.specs.Models.{IsFree}
-use Rattle.ell_cards.specs.Changes.{first_view, left_view, right_view, joined_view, spent_view}
+use Rattle.ell_cards.specs.Changes.{left_view, right_view, joined_view, spent_view}
 use Rattle.ell_cards.specs.Calls.{word_of, atomic_of, left_by, after, act_of, said_of, Becomes, May, Tells}
 use Rattle.ell_cards.specs.Rule.{TableState, seated, Kept}
 
@@ -84,16 +78,3 @@ abbrev pub JoinsAreMoves : Type 0
 JoinsAreMoves = (keys : List ℕ) (cards : ℕ) (s : TableState) (r : Kept keys cards s) (id other : ℕ) (v w : View)
     → get_elem? s.views id ≡ some v → get_elem? s.views other ≡ some w → id ≢ other → IsFree v → IsFree w
     → IsJoin keys cards s r id other v w
-
--- the state of a table that was just made: the words of the opening tree, and one pass that owns these keys
-abbrev pub state_opened : List ℕ → ℕ → TableState
-state_opened keys cards = opening (opening_list cards) [] (first_view keys)
-
--- that state is of the rule, by a machine that is an opening
-pub record IsKeptOpening (keys : List ℕ) (cards : ℕ) : Type 0 where
-  pub kept : Kept keys cards (state_opened keys cards)
-  pub opening : IsOpening (machine_of keys cards (state_opened keys cards) kept)
-
--- so it is with every ascending list of real keys
-abbrev pub OpeningIsKept : Type 0
-OpeningIsKept = (keys : List ℕ) (cards : ℕ) → IsStrictlyIncreasing keys → All (λ k. k ≤ greatest_key) keys → IsKeptOpening keys cards

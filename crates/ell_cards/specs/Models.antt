@@ -1,7 +1,7 @@
 use Rattle.std.specs.Prelude.{◌≡◌, ℕ, ◌⊎◌, ◌+◌, ◌≤◌, ◌*◌, ◌==◌, if◌then◌else◌, true, Some, None, List, [], ◌∷◌, min}
 use Rattle.atomic_table.specs.Seated.{TableId}
 use Rattle.ell_ops.specs.declared.op.Op.{Op}
-use Rattle.ell_word.specs.Node.{greatest_card}
+use Rattle.ell_word.specs.Node.{most_cards}
 use Rattle.ell_core.specs.declared.fact.Fact.{Fact}
 use Rattle.ell_core.specs.declared.fact.Fact.TheVariants.{IFlagged, DFlagged, Marked}
 use Rattle.ell_core.specs.declared.field.Field.{Field}
@@ -12,11 +12,11 @@ use Rattle.ell_cards.specs.declared.fault.CardFault.TheVariants.{BadCards, NoMem
 use Rattle.ell_cards.specs.declared.view.Told.{Told}
 use Rattle.ell_cards.specs.declared.view.View.{View}
 
--- which table it is, the keys that its passes own, and how many cards it has beside card 0
+-- which table it is, the keys that its passes own, and the number of its last card
 pub record TableModel : Type 0 where
   pub id : TableId
   pub keys : List ℕ
-  pub cards : ℕ
+  pub last_card : ℕ
 
 -- the table that a pass belongs to, what it knows, the atomic steps made through it, and its label
 pub record PassModel : Type 0 where
@@ -75,9 +75,9 @@ abbrev pub stored_at : List (Field × ℕ) → Field → ℕ
 stored_at [] f = 0
 stored_at (e ∷ es) f = if place e.0 == place f then e.1 else stored_at es f
 
--- so many cards a table may have beside card 0
+-- so many cards may be asked for
 abbrev pub IsCardCount : ℕ → Type 0
-IsCardCount cards = (1 ≤ cards) × (cards ≤ greatest_card)
+IsCardCount cards = (1 ≤ cards) × (cards ≤ most_cards)
 
 -- when a table of so many cards is refused: for its cards exactly where there may not be so many
 abbrev pub Refuses : ℕ → CardFault → Type 0

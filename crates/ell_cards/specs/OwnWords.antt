@@ -21,6 +21,7 @@ use Rattle.ell_cards.specs.Models.{KnowsCard, Does, IsFree}
 use Rattle.ell_cards.specs.Calls.{atomic_of, is_won, May}
 use Rattle.ell_cards.specs.Rule.{TableState, seated, Kept}
 use Rattle.ell_cards.specs.Laws.{machine_of, found_by, view_after, state_after}
+use Rattle.ell_core.specs.declared.view.Entry.TheVariants.{Present}
 
 -- the table's own words, by their names
 abbrev pub own_words : TableState → Words
@@ -90,7 +91,7 @@ TableAnswersAreTheSets = (keys : List ℕ) (cards : ℕ) (s : TableState) → Ke
 abbrev pub LedgersTellTheTree : Type 0
 LedgersTellTheTree = (keys : List ℕ) (cards : ℕ) (s : TableState) → Kept keys cards s → (id : ℕ) (v : View)
     → get_elem? s.views id ≡ some v → IsFree v → (key : ℕ) → ledger_of v.worker.ledger key ≢ None
-    → IsTreeKey (own_words s) key ↔ (ledger_of v.worker.ledger key ≡ Some true)
+    → IsTreeKey (own_words s) key ↔ (ledger_of v.worker.ledger key ≡ Some Present)
 
 -- and each key of that tree is some pass's
 pub record IsOwnedKey (s : TableState) (key : ℕ) : Type 0 where
@@ -112,7 +113,7 @@ pub record IsAtWork (s : TableState) (c : ℕ) (op : Op) : Type 0 where
 
 -- whose a won child exchange is: a won ichild is of an insert of its card's key that is in hand, a won dchild of a delete
 abbrev pub ChangeIsOf : Call → Bool → TableState → Type 0
-ChangeIsOf (call.IChild c p l right) true s = IsAtWork s c (Insert (card_key (own_words s) c))
+ChangeIsOf (call.IChild c p l right) true s = (value : ℕ) × IsAtWork s c (Insert (card_key (own_words s) c) value)
 ChangeIsOf (call.DChild c gp p y right) true s = IsAtWork s c (Delete (card_key (own_words s) c))
 ChangeIsOf _ _ s = Unit {0}
 

@@ -31,7 +31,7 @@ seated w views cards = record {
   words = w;
   worker = λ i. seat_worker (get_elem? views i);
   count = length views;
-  cards = cards;
+  last_card = cards;
 }
 
 -- a field that never changes once its card is claimed

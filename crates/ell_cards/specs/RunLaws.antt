@@ -6,7 +6,7 @@ use Rattle.ell_word.specs.declared.gate.Kind.{Kind}
 use Rattle.ell_word.specs.declared.gate.Kind.TheVariants as kind
 use Rattle.ell_core.specs.state.Words.{Words}
 use Rattle.ell_core.specs.tree.Tree.{Reached}
-use Rattle.ell_core.specs.history.Later.{SameNode, win_for}
+use Rattle.ell_core.specs.history.Later.{SameNode, win_for, wins_of}
 use Rattle.ell_core.specs.statements.RunLaws.{InOrder}
 use Rattle.ell_cards.specs.declared.call.Call.{Call}
 use Rattle.ell_cards.specs.declared.call.Call.TheVariants as call
@@ -38,17 +38,20 @@ abbrev pub run_wins : (cards : ℕ) (s : TableState) (turns : List Turn) (s' : T
 run_wins cards s [] s' run d = []
 run_wins cards s (t ∷ ts) s' run d = turn_wins s t d ++ run_wins cards run.0 ts s' run.2 d
 
+-- what was won for a card up to a state of the rule, by its stage there
+abbrev pub won_before : (keys : List ℕ) (cards : ℕ) (s : TableState) → Kept keys cards s → ℕ → List Kind
+won_before keys cards s r c = wins_of (r.stages c)
+
 -- what was won for each card before, none for card 0 and for one that is yet to be claimed, goes on in order in every run
-pub record WinsGoOn (cards : ℕ) (s : TableState) : Type 0 where
-  pub before : ℕ → List Kind
-  pub first : (c : ℕ) → c ≡ 0 → before c ≡ []
-  pub fresh : (c : ℕ) → (own_words s).next ≤ c → before c ≡ []
+pub record WinsGoOn (keys : List ℕ) (cards : ℕ) (s : TableState) (r : Kept keys cards s) : Type 0 where
+  pub first : (c : ℕ) → c ≡ 0 → won_before keys cards s r c ≡ []
+  pub fresh : (c : ℕ) → (own_words s).next ≤ c → won_before keys cards s r c ≡ []
   pub order : (turns : List Turn) (s' : TableState) (run : TableRun cards s turns s') (c : ℕ)
-      → InOrder (before c ++ run_wins cards s turns s' run c)
+      → InOrder (won_before keys cards s r c ++ run_wins cards s turns s' run c)
 
 -- so it does from every state of the rule
 abbrev pub TableWinsAreInOrder : Type 0
-TableWinsAreInOrder = (keys : List ℕ) (cards : ℕ) (s : TableState) → Kept keys cards s → WinsGoOn cards s
+TableWinsAreInOrder = (keys : List ℕ) (cards : ℕ) (s : TableState) (r : Kept keys cards s) → WinsGoOn keys cards s r
 
 -- a node goes on: it has its key; an internal one has no lesser children and no lesser update word, and once that is a mark,
 -- neither it nor the children change

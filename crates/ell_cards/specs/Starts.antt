@@ -1,38 +1,64 @@
-use Rattle.std.specs.Prelude.{◌≡◌, ℕ, ◌≤◌, List, Contains}
+use Rattle.std.specs.Prelude.{◌≡◌, ◌↔◌, ℕ, ◌≤◌, true, List, [], length, Contains}
 use Rattle.std.specs.List.{All}
 use Rattle.std.specs.List.Sorted.{IsStrictlyIncreasing}
+use Rattle.atomic_table.specs.Table.{opening}
 use Rattle.ell_ops.specs.declared.op.Op.{Op}
+use Rattle.ell_ops.specs.KeySet.{set_of}
 use Rattle.ell_ops.specs.Meaning.{greatest_key, key_of}
+use Rattle.ell_core.specs.state.Layout.{table_size}
+use Rattle.ell_core.specs.state.Words.{words_of}
+use Rattle.ell_core.specs.state.Opening.{start_words, last_card}
+use Rattle.ell_core.specs.tree.Tree.{IsTreeKey}
 use Rattle.ell_core.specs.soundness.Sound.{IsSound}
 use Rattle.ell_core.specs.statements.RunLaws.{IsOpening, InOrder}
 use Rattle.ell_cards.specs.declared.call.Call.TheVariants as call
+use Rattle.ell_cards.specs.Changes.{first_view}
 use Rattle.ell_cards.specs.Rule.{TableState, Kept}
-use Rattle.ell_cards.specs.Laws.{machine_of, state_opened}
-use Rattle.ell_cards.specs.OwnWords.{own_machine}
+use Rattle.ell_cards.specs.Laws.{machine_of}
+use Rattle.ell_cards.specs.OwnWords.{own_words, own_machine}
 use Rattle.ell_cards.specs.Runs.{Turn, Makes, TableTurns, TableRun}
-use Rattle.ell_cards.specs.RunLaws.{run_wins}
+use Rattle.ell_cards.specs.RunLaws.{won_before, run_wins}
 
--- a table as it starts: its words are those of the opening tree, and its one pass owns these keys, real ones, ascending, each absent
-pub record Starts (keys : List ℕ) (cards : ℕ) (s : TableState) : Type 0 where
+-- what a table starts with: keys that are real ones, ascending, and start keys among them, ascending too
+pub record MayStart (keys start : List ℕ) : Type 0 where
   pub ascending : IsStrictlyIncreasing keys
   pub real : All (λ k. k ≤ greatest_key) keys
-  pub is : s ≡ state_opened keys cards
+  pub start_ascending : IsStrictlyIncreasing start
+  pub given : All (λ k. set_of keys k ≡ true) start
 
--- each ascending list of real keys and each number of cards have such a table
-pub record StartsSome (keys : List ℕ) (cards : ℕ) : Type 0 where
+-- the words of a table are at its start those of the opening tree over the start keys, where so many cards follow that tree's
+pub record StartWords (start : List ℕ) (cards : ℕ) (words : List ℕ) : Type 0 where
+  pub size : length words ≡ table_size (last_card start cards)
+  pub are : words_of words ≡ start_words start
+
+-- a table as it starts: its words are those of the opening tree over the start keys, and its one pass owns all keys, of which the
+-- start keys are present
+pub record Starts (keys start : List ℕ) (cards : ℕ) (s : TableState) : Type 0 where
+  pub may : MayStart keys start
+  pub words : StartWords start cards s.words
+  pub is : s ≡ opening s.words [] (first_view keys start)
+
+-- all such keys and each number of cards have such a table
+pub record StartsSome (keys start : List ℕ) (cards : ℕ) : Type 0 where
   pub table : TableState
-  pub starts : Starts keys cards table
+  pub starts : Starts keys start cards table
 
 abbrev pub TablesStart : Type 0
-TablesStart = (keys : List ℕ) (cards : ℕ) → IsStrictlyIncreasing keys → All (λ k. k ≤ greatest_key) keys → StartsSome keys cards
+TablesStart = (keys start : List ℕ) (cards : ℕ) → MayStart keys start → StartsSome keys start cards
 
--- it is of the rule, by a machine that is an opening
-pub record StartIsKept (keys : List ℕ) (cards : ℕ) (s : TableState) : Type 0 where
-  pub kept : Kept keys cards s
-  pub opening : IsOpening (machine_of keys cards s kept)
+-- it is of the rule, by a machine that is an opening, and nothing was won yet
+pub record StartIsKept (keys start : List ℕ) (cards : ℕ) (s : TableState) : Type 0 where
+  pub kept : Kept keys (last_card start cards) s
+  pub opening : IsOpening (machine_of keys (last_card start cards) s kept)
+  pub unwon : (c : ℕ) → won_before keys (last_card start cards) s kept c ≡ []
 
 abbrev pub StartsAreKept : Type 0
-StartsAreKept = (keys : List ℕ) (cards : ℕ) (s : TableState) → Starts keys cards s → StartIsKept keys cards s
+StartsAreKept = (keys start : List ℕ) (cards : ℕ) (s : TableState) → Starts keys start cards s → StartIsKept keys start cards s
+
+-- the keys of its tree are the start keys
+abbrev pub StartsHaveTheirKeys : Type 0
+StartsHaveTheirKeys = (keys start : List ℕ) (cards : ℕ) (s : TableState) → Starts keys start cards s → (k : ℕ)
+    → IsTreeKey (own_words s) k ↔ (set_of start k ≡ true)
 
 -- its pass may begin every operation on a key of its own
 pub record MayBeginThere (cards : ℕ) (s : TableState) (op : Op) : Type 0 where
@@ -40,8 +66,8 @@ pub record MayBeginThere (cards : ℕ) (s : TableState) (op : Op) : Type 0 where
   pub turn : TableTurns cards s (Makes 0 (call.Begin op)) after
 
 abbrev pub FirstPassMayBegin : Type 0
-FirstPassMayBegin = (keys : List ℕ) (cards : ℕ) (s : TableState) → Starts keys cards s → (op : Op) → Contains keys (key_of op)
-    → MayBeginThere cards s op
+FirstPassMayBegin = (keys start : List ℕ) (cards : ℕ) (s : TableState) → Starts keys start cards s → (op : Op) → Contains keys (key_of op)
+    → MayBeginThere (last_card start cards) s op
 
 -- where a run from a start leads: a state of the rule, sound by the table's own words, and each card has won in order
 pub record RunFromStart (keys : List ℕ) (cards : ℕ) (s : TableState) (turns : List Turn) (s' : TableState) (run : TableRun cards s turns s') : Type 0 where
@@ -50,5 +76,5 @@ pub record RunFromStart (keys : List ℕ) (cards : ℕ) (s : TableState) (turns 
   pub wins : (c : ℕ) → InOrder (run_wins cards s turns s' run c)
 
 abbrev pub RunsFromStarts : Type 0
-RunsFromStarts = (keys : List ℕ) (cards : ℕ) (s : TableState) → Starts keys cards s → (turns : List Turn) (s' : TableState)
-    (run : TableRun cards s turns s') → RunFromStart keys cards s turns s' run
+RunsFromStarts = (keys start : List ℕ) (cards : ℕ) (s : TableState) → Starts keys start cards s → (turns : List Turn) (s' : TableState)
+    (run : TableRun (last_card start cards) s turns s') → RunFromStart keys (last_card start cards) s turns s' run

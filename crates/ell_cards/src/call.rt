@@ -1,6 +1,6 @@
 //! The step calls as data, so that a law can speak of all of them.
 use ell_core::Field;
-use ell_ops::Op;
+use ell_ops::{Op, Reply};
 use ell_word::Update;
 
 /// A step call of a pass, with its arguments. Each is one atomic step.
@@ -13,7 +13,7 @@ pub enum Call {
     /// Lays the operation down.
     Leave,
     /// Answers the operation.
-    Answer(bool),
+    Answer(Reply),
     /// Reads the update word of a node.
     Upd(u64),
     /// Goes down from a node, to the right child or to the left one.

@@ -19,15 +19,15 @@ use std::marker::Model;
 /// The words of a table that has ended.
 pub struct Closed<A: Allocator + Copy> {
     closed: atomic_table::Closed<(), A>,
-    cards: u64,
+    last_card: u64,
 }
 
 impl<A: Allocator + Copy> Model for Closed<A> {
     ghost Value = { ClosedModel };
 
-    ghost view = { λ c. record { words = slots_items c.closed.words; cards = c.cards } };
+    ghost view = { λ c. record { words = slots_items c.closed.words; last_card = c.last_card } };
 
-    ghost invariant = { λ c. IsFull c.closed.words × (slots_len c.closed.words ≡ length (slots_items c.closed.words)) × (slots_len c.closed.slots ≡ 0) × (length (slots_items c.closed.words) ≡ table_size c.cards) × (c.cards ≤ greatest_card) };
+    ghost invariant = { λ c. IsFull c.closed.words × (slots_len c.closed.words ≡ length (slots_items c.closed.words)) × (slots_len c.closed.slots ≡ 0) × (length (slots_items c.closed.words) ≡ table_size c.last_card) × (c.last_card ≤ greatest_card) };
 }
 
 impl<A: Allocator + Copy> CardTable<A> {
@@ -37,12 +37,12 @@ impl<A: Allocator + Copy> CardTable<A> {
         requires free { IsFree pass.view }
         requires all { All (λ k. ledger_of pass.view.worker.ledger k ≢ None) self.keys }
         ensures ends { Ends self.keys pass.view result }
-        ensures cards { result.cards ≡ self.cards }
+        ensures cards { result.last_card ≡ self.last_card }
     {
         let CardTable {
             table,
             alloc: _,
-            cards,
+            last_card,
         } = self;
         let Pass {
             keys: _,
@@ -52,23 +52,23 @@ impl<A: Allocator + Copy> CardTable<A> {
         } = pass;
         Closed {
             closed: table.close_with(seat),
-            cards,
+            last_card,
         }
     }
 }
 
 impl<A: Allocator + Copy> Closed<A> {
-    /// How many cards the table has beside card 0, at most `CARD_MAX`.
-    pub fn cards(&self) -> u64
-        ensures cards { result ≡ self.now.cards }
+    /// The number of the last card, at most `CARD_MAX`.
+    pub fn last_card(&self) -> u64
+        ensures cards { result ≡ self.now.last_card }
         ensures limit { result ≤ greatest_card }
     {
-        self.cards
+        self.last_card
     }
 
     /// A word of a card.
     pub fn word(&self, card: u64, field: Field) -> u64
-        requires { card ≤ self.now.cards }
+        requires { card ≤ self.now.last_card }
         ensures { result ≡ listed self.now.words card field }
     {
         self.closed.word(field.address(card))
@@ -78,7 +78,7 @@ impl<A: Allocator + Copy> Closed<A> {
 impl<A: Allocator + Copy> TreeWords for Closed<A> {
     ghost words = { λ c. words_of c.words };
 
-    ghost can_read = { λ c node. card node ≤ c.cards };
+    ghost can_read = { λ c node. card node ≤ c.last_card };
 
     fn key(&self, node: u64) -> u64 {
         self.word(card_of(node), key_field(node))
@@ -91,7 +91,10 @@ impl<A: Allocator + Copy> TreeWords for Closed<A> {
 
 impl<A: Allocator + Copy> Drop for Closed<A> {
     fn drop(self) {
-        let Closed { closed, cards: _ } = self;
+        let Closed {
+            closed,
+            last_card: _,
+        } = self;
         closed.free();
     }
 }

@@ -1,15 +1,15 @@
 //! Why a table is not made.
 ghost use Rattle.std.specs.Prelude.{◌≡◌};
 
-use ell_word::CARD_MAX;
+use ell_word::CARDS_MAX;
 use std::alloc::AllocError;
 use thiserror::Error;
 
 /// Why a table is not made. The refusals are tested in this order.
 #[derive(Clone, Copy, Debug, PartialEq, Eq, Error)]
 pub enum CardFault {
-    /// The cards are not 1 to `CARD_MAX`.
-    #[error("cards are not 1 to {max}", max = CARD_MAX)]
+    /// The cards are not 1 to `CARDS_MAX`.
+    #[error("cards are not 1 to {max}", max = CARDS_MAX)]
     BadCards,
     /// There was no memory.
     #[error("out of memory")]

@@ -26,7 +26,7 @@ impl<A: Allocator + Copy> CardTable<A> {
         requires own { pass.old.table ≡ self.now.id }
         requires may { MayAsk pass.old.view card field }
         ensures step { Steps pass.old pass.new (after_info card field result pass.old.view) }
-        ensures node { TellsNode self.now.cards field result }
+        ensures node { TellsNode self.now.last_card field result }
         ensures depth { TellsDepth pass.old.view card field result }
     {
         self.names(pass);
@@ -40,7 +40,7 @@ impl<A: Allocator + Copy> CardTable<A> {
         requires may { MaySee pass.old.view card parent }
         ensures step { Steps pass.old pass.new (after_frozen_child card right result pass.old.view) }
         ensures greater { parent < result }
-        ensures there { InTable self.now.cards result }
+        ensures there { InTable self.now.last_card result }
     {
         self.names(pass);
         let call = Call::FrozenChild(card, parent, right);
@@ -93,7 +93,7 @@ impl<A: Allocator + Copy> CardTable<A> {
         requires may { MayMark pass.old.view card parent was }
         ensures step { Steps pass.old pass.new (with_found (found_word was result) (after_mark (is_ok result) card parent (found_update (unpacked was) result) pass.old.view)) }
         ensures lost { IfErr result (λ found. packed found ≢ was) }
-        ensures card { IfErr result (λ found. found.card ≤ self.now.cards) }
+        ensures card { IfErr result (λ found. found.card ≤ self.now.last_card) }
     {
         self.names(pass);
         let call = Call::Mark(card, parent, was);

@@ -7,7 +7,7 @@ ghost use Rattle.ell_cards.specs.Laws.{StepsAreEvents, SplitsAreMoves, JoinsAreM
 ghost use Rattle.ell_cards.specs.OwnWords.{OwnWordsAreSound, RuleIsSound, RuleHasOwnWords, TableKeysChangeAtWins, TableAnswersAreTheSets, LedgersTellTheTree, TreeKeysAreOwned, TableChangesAreOperations};
 ghost use Rattle.ell_cards.specs.Runs.{StepsStayInside, RunsAreLawful, RunsAreSchedules};
 ghost use Rattle.ell_cards.specs.RunLaws.{TableWinsAreInOrder, TableNodesGoOn};
-ghost use Rattle.ell_cards.specs.Starts.{TablesStart, StartsAreKept, FirstPassMayBegin, RunsFromStarts};
+ghost use Rattle.ell_cards.specs.Starts.{TablesStart, StartsAreKept, StartsHaveTheirKeys, FirstPassMayBegin, RunsFromStarts};
 
 /// Each step call of a pass that may make it is one atomic step on one word of the table. After it the rule holds again, of a
 /// machine to which the call's event leads from the one before, with the answer that the word found gives; or of the same one.
@@ -69,11 +69,13 @@ pub fn table_nodes_go_on()
     ensures { TableNodesGoOn }
 {}
 
-/// The laws are about something. Any ascending list of real keys and any number of cards have a table as it starts, which is of
-/// the rule, by a machine that is an opening; its one pass may begin any operation on a key of its own.
+/// The laws are about something. Any ascending list of real keys, any ascending list of start keys among them and any number of
+/// cards have a table as it starts, which is of the rule, by a machine that is an opening, with nothing won yet; the keys of its tree
+/// are the start keys, and its one pass may begin any operation on a key of its own.
 pub fn tables_start()
     ensures tables { TablesStart }
     ensures kept { StartsAreKept }
+    ensures keys { StartsHaveTheirKeys }
     ensures begin { FirstPassMayBegin }
 {}
 

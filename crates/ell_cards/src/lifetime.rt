@@ -1,15 +1,17 @@
 //! How a table begins, and how its passes part and come together.
-ghost use Rattle.std.specs.Prelude.{◌≡◌, ◌≢◌, ◌≤◌, filter, not, max, true, None, IfOk, IfErr, OnOk};
+ghost use Rattle.std.specs.Prelude.{◌≡◌, ◌≢◌, ◌≤◌, ◌<◌, [], filter, not, max, true, length, None, IfOk, IfErr, OnOk};
 ghost use Rattle.std.specs.List.{All};
 ghost use Rattle.std.specs.List.Sorted.{IsStrictlyIncreasing};
 ghost use Rattle.ell_ops.specs.Meaning.{greatest_key};
-ghost use Rattle.ell_word.specs.Node.{greatest_card};
-ghost use Rattle.ell_core.specs.state.Opening.{opening_list};
+ghost use Rattle.ell_ops.specs.KeySet.{set_of};
+ghost use Rattle.ell_word.specs.Node.{greatest_card, most_start};
+ghost use Rattle.ell_core.specs.state.Opening.{last_card};
 ghost use Rattle.ell_core.specs.state.Machine.{ledger_of};
 ghost use Rattle.ell_cards.specs.Models.{Steps, IsFree, IsCardCount, Refuses, one_more};
-ghost use Rattle.ell_cards.specs.Changes.{is_among, first_view, left_view, right_view, joined_view};
+ghost use Rattle.ell_cards.specs.Changes.{first_view, left_view, right_view, joined_view};
 ghost use Rattle.ell_cards.specs.Inside.{IsOpened};
 ghost use Rattle.ell_cards.specs.Stepping.{MaySplit, MayHave};
+ghost use Rattle.ell_cards.specs.Starts.{MayStart};
 
 use crate::fault::CardFault;
 use crate::pass::Pass;
@@ -17,31 +19,63 @@ use crate::rule::{CardRule, Joined, PartedBy, Parting};
 use crate::table::CardTable;
 use crate::view::{Plan, View};
 use atomic_table::{Seat, Table};
-use ell_core::{Field, table_size, update_word};
+use ell_core::{table_size, write_opening};
 use ell_ops::{NoMemory, united_keys};
-use ell_word::{CARD_MAX, INF1, INF2, State, left_leaf_of, right_leaf_of};
+use ell_word::CARDS_MAX;
 use std::alloc::{AllocError, Allocator};
 use std::marker::Brand;
 
 impl<A: Allocator + Copy> CardTable<A> {
-    /// A table with the opening tree and so many cards beside card 0, 1 to `CARD_MAX`, and one pass that owns all these keys,
-    /// each absent. Conditions: the keys are strictly ascending, and at most `KEY_MAX`.
+    /// A table of an empty tree with so many cards to be claimed, 1 to `CARDS_MAX`, and one pass that owns all these keys, each
+    /// absent. `BadCards` comes exactly where the cards asked for are not 1 to `CARDS_MAX`, and `NoMemory` where memory is refused.
+    /// Conditions: the keys are strictly ascending, and at most `KEY_MAX`.
     pub fn reserve(alloc: A, keys: &[u64], cards: u64) -> Result<(CardTable<A>, Pass<A>), CardFault>
         requires ascending { IsStrictlyIncreasing keys.now }
         requires real { All (λ k. k ≤ greatest_key) keys.now }
         ensures cards { OnOk result (IsCardCount cards) }
-        ensures table { IfOk result (λ made. (made.0.keys ≡ keys.now) × (made.0.cards ≡ cards)) }
-        ensures pass { IfOk result (λ made. made.1 ≡ record { table = made.0.id; view = first_view keys.now; steps = 0; label = 0 }) }
+        ensures table { IfOk result (λ made. (made.0.keys ≡ keys.now) × (made.0.last_card ≡ cards)) }
+        ensures pass { IfOk result (λ made. made.1 ≡ record { table = made.0.id; view = first_view keys.now []; steps = 0; label = 0 }) }
         ensures refused { IfErr result (Refuses cards) }
     {
-        if cards < 1 || cards > CARD_MAX {
+        CardTable::reserve_from(alloc, &[], keys, cards)
+    }
+
+    /// A table of a tree that has these start keys, balanced, with so many cards to be claimed, and one pass that owns all these
+    /// keys: the start keys are present, the others absent. The tree of the start keys has a card for each of them, so the number
+    /// of the last card is the number of cards asked for plus that of the start keys. Errors are as of `reserve`. Conditions: those
+    /// of `reserve`; the start keys are strictly ascending, among the keys, and at most `START_MAX`.
+    pub fn reserve_from(
+        alloc: A,
+        start: &[u64],
+        keys: &[u64],
+        cards: u64,
+    ) -> Result<(CardTable<A>, Pass<A>), CardFault>
+        requires ascending { IsStrictlyIncreasing keys.now }
+        requires real { All (λ k. k ≤ greatest_key) keys.now }
+        requires start_ascending { IsStrictlyIncreasing start.now }
+        requires given { All (λ k. set_of keys.now k ≡ true) start.now }
+        requires few { length start.now ≤ most_start }
+        ensures cards { OnOk result (IsCardCount cards) }
+        ensures table { IfOk result (λ made. (made.0.keys ≡ keys.now) × (made.0.last_card ≡ last_card start.now cards)) }
+        ensures pass { IfOk result (λ made. made.1 ≡ record { table = made.0.id; view = first_view keys.now start.now; steps = 0; label = 0 }) }
+        ensures refused { IfErr result (Refuses cards) }
+    {
+        if cards < 1 || cards > CARDS_MAX {
             return Err(CardFault::BadCards);
         }
-        let mut copy = Vec::with_capacity(alloc, keys.len())?;
-        copy.extend_from_slice(keys)?;
-        let plan = Plan { keys: copy, cards };
+        let copy = copied(alloc, keys)?;
+        let present = copied(alloc, start)?;
+        let plan = Plan {
+            keys: copy,
+            start: present,
+            last_card: cards + start.len() as u64,
+        };
         let (table, seat) = opened(alloc, &plan)?;
-        let Plan { keys, cards: _ } = plan;
+        let Plan {
+            keys,
+            start: _,
+            last_card,
+        } = plan;
         let pass = Pass {
             keys,
             label: 0,
@@ -51,17 +85,17 @@ impl<A: Allocator + Copy> CardTable<A> {
         let table = CardTable {
             table,
             alloc,
-            cards,
+            last_card,
         };
         Ok((table, pass))
     }
 
-    /// How many cards there are beside card 0, at most `CARD_MAX`.
-    pub fn cards(&self) -> u64
-        ensures cards { result ≡ self.now.cards }
+    /// The number of the last card, at most `CARD_MAX`: how many cards there are beside card 0, those of the start keys included.
+    pub fn last_card(&self) -> u64
+        ensures cards { result ≡ self.now.last_card }
         ensures limit { result ≤ greatest_card }
     {
-        self.cards
+        self.last_card
     }
 
     /// Parts a pass with nothing in hand: the left part gets these keys of its own, ascending, and the right part the rest.
@@ -93,9 +127,9 @@ impl<A: Allocator + Copy> CardTable<A> {
         right: Vec<u64, A>,
     ) -> (Pass<A>, Pass<A>)
         requires own { pass.table ≡ self.now.id }
-        requires rule { MaySplit self.now.keys self.now.cards pass.view J.left J.right }
-        requires left { MayHave self.now.cards pass.view left.items J.left }
-        requires right { MayHave self.now.cards pass.view right.items J.right }
+        requires rule { MaySplit self.now.keys self.now.last_card pass.view J.left J.right }
+        requires left { MayHave self.now.last_card pass.view left.items J.left }
+        requires right { MayHave self.now.last_card pass.view right.items J.right }
         ensures left { Steps pass result.0 J.left }
         ensures right { Steps pass result.1 J.right }
     {
@@ -162,34 +196,29 @@ impl<A: Allocator + Copy> CardTable<A> {
     }
 }
 
-// The words of the opening tree, and of cards whose words are 0.
-fn opening_words<A: Allocator + Copy>(alloc: A, cards: u64) -> Result<Vec<u64, A>, AllocError>
-    requires { cards ≤ greatest_card }
-    ensures { IfOk result (λ words. words.items ≡ opening_list cards) }
-{
-    let mut words = vec![in alloc; 0; table_size(cards)]?;
-    words[0] = 1;
-    words[Field::Key.address(0)] = INF2;
-    words[Field::Left.address(0)] = left_leaf_of(0);
-    words[Field::Right.address(0)] = right_leaf_of(0);
-    words[Field::Update.address(0)] = update_word(State::Clean, 0);
-    words[Field::LeftLeafKey.address(0)] = INF1;
-    words[Field::RightLeafKey.address(0)] = INF2;
-    Ok(words)
-}
-
 // The opening table. It copies the words, and their first list goes at once.
 fn opened<A: Allocator + Copy>(
     alloc: A,
     plan: &Plan<A>,
 ) -> Result<(Table<(), View, Plan<A>, CardRule, A>, Seat<(), View>), AllocError>
-    requires cards { plan.now.cards ≤ greatest_card }
-    requires ascending { IsStrictlyIncreasing plan.now.keys.items }
-    requires real { All (λ k. k ≤ greatest_key) plan.now.keys.items }
-    ensures { IfOk result (λ made. IsOpened plan.now.cards made.0.shared.table_id made.1.table_id made.1.me (first_view plan.now.keys.items) × (made.0.shared.key ≡ plan.now)) }
+    requires cards { plan.now.last_card ≤ greatest_card }
+    requires room { length plan.now.start.items ≤ plan.now.last_card }
+    requires few { length plan.now.start.items < greatest_card }
+    requires may { MayStart plan.now.keys.items plan.now.start.items }
+    ensures { IfOk result (λ made. IsOpened plan.now.last_card made.0.shared.table_id made.1.table_id made.1.me (first_view plan.now.keys.items plan.now.start.items) × (made.0.shared.key ≡ plan.now)) }
 {
-    let words = opening_words(alloc, plan.cards)?;
+    let mut words = vec![in alloc; 0; table_size(plan.last_card)]?;
+    write_opening(words.as_mut_slice(), plan.start.as_slice(), plan.last_card);
     Table::of_words(alloc, words.as_slice(), plan)
+}
+
+// A copy of some keys.
+fn copied<A: Allocator + Copy>(alloc: A, keys: &[u64]) -> Result<Vec<u64, A>, AllocError>
+    ensures { IfOk result (λ copy. copy.items ≡ keys.now) }
+{
+    let mut copy = Vec::with_capacity(alloc, keys.len())?;
+    copy.extend_from_slice(keys)?;
+    Ok(copy)
 }
 
 // A copy of some of the keys, and the rest of the keys.
@@ -200,12 +229,11 @@ fn parted<A: Allocator + Copy>(
 ) -> Result<(Vec<u64, A>, Vec<u64, A>), AllocError>
     requires ascending { IsStrictlyIncreasing keys.now }
     requires some_ascending { IsStrictlyIncreasing some.now }
-    requires among { All (λ k. is_among keys.now k ≡ true) some.now }
+    requires among { All (λ k. set_of keys.now k ≡ true) some.now }
     ensures some { IfOk result (λ parts. parts.0.items ≡ some.now) }
-    ensures rest { IfOk result (λ parts. parts.1.items ≡ filter (λ k. not (is_among some.now k)) keys.now) }
+    ensures rest { IfOk result (λ parts. parts.1.items ≡ filter (λ k. not (set_of some.now k)) keys.now) }
 {
-    let mut copy = Vec::with_capacity(alloc, some.len())?;
-    copy.extend_from_slice(some)?;
+    let copy = copied(alloc, some)?;
     let mut rest = Vec::with_capacity(alloc, keys.len() - some.len())?;
     let mut left = some;
     for key in keys {

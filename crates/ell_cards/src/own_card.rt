@@ -21,7 +21,7 @@ impl<A: Allocator + Copy> CardTable<A> {
     pub fn claim(&self, pass: &mut Pass<A>, card: u64) -> bool
         requires own { pass.old.table ≡ self.now.id }
         requires may { MayClaim pass.old.view card }
-        requires room { card ≤ self.now.cards }
+        requires room { card ≤ self.now.last_card }
         ensures step { Steps pass.old pass.new (after_claim result card pass.old.view) }
     {
         self.names(pass);
@@ -53,7 +53,7 @@ impl<A: Allocator + Copy> CardTable<A> {
         requires may { MayIFlag pass.old.view card parent from }
         ensures step { Steps pass.old pass.new (with_found (found_word (packed from) result) (after_flag (is_ok result) (IFlagged card) parent (found_update from result) pass.old.view)) }
         ensures lost { IfErr result (λ found. found ≢ from) }
-        ensures card { IfErr result (λ found. found.card ≤ self.now.cards) }
+        ensures card { IfErr result (λ found. found.card ≤ self.now.last_card) }
     {
         self.names(pass);
         let expected = pack(from);
@@ -77,7 +77,7 @@ impl<A: Allocator + Copy> CardTable<A> {
         requires may { MayDFlag pass.old.view card grandparent from }
         ensures step { Steps pass.old pass.new (with_found (found_word (packed from) result) (after_flag (is_ok result) (DFlagged card) grandparent (found_update from result) pass.old.view)) }
         ensures lost { IfErr result (λ found. found ≢ from) }
-        ensures card { IfErr result (λ found. found.card ≤ self.now.cards) }
+        ensures card { IfErr result (λ found. found.card ≤ self.now.last_card) }
     {
         self.names(pass);
         let expected = pack(from);

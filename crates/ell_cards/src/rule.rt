@@ -11,9 +11,9 @@ impl<A: Allocator + Copy> TableRule<(), View, Plan<A>> for CardRule {
     ghost use Rattle.ell_cards.specs.Rule.{Kept};
     ghost use Rattle.ell_cards.specs.Changes.{first_view};
 
-    ghost holds = { λ plan. Kept plan.keys.items plan.cards };
+    ghost holds = { λ plan. Kept plan.keys.items plan.last_card };
 
-    ghost first = { λ plan. first_view plan.keys.items };
+    ghost first = { λ plan. first_view plan.keys.items plan.start.items };
 }
 
 /// What a step tells of the word that it found and of what the pass knows after it. The caller of the step picks it.

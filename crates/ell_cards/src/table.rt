@@ -25,15 +25,15 @@ use std::marker::{Brand, Model};
 pub struct CardTable<A: Allocator + Copy> {
     pub(crate) table: Table<(), View, Plan<A>, CardRule, A>,
     pub(crate) alloc: A,
-    pub(crate) cards: u64,
+    pub(crate) last_card: u64,
 }
 
 impl<A: Allocator + Copy> Model for CardTable<A> {
     ghost Value = { TableModel };
 
-    ghost view = { λ t. record { id = t.table.shared.table_id; keys = t.table.shared.key.keys.items; cards = t.table.shared.key.cards } };
+    ghost view = { λ t. record { id = t.table.shared.table_id; keys = t.table.shared.key.keys.items; last_card = t.table.shared.key.last_card } };
 
-    ghost invariant = { λ t. (t.table.shared.table_id.words ≡ table_size t.table.shared.key.cards) × (t.table.shared.table_id.slots ≡ 0) × (t.table.shared.key.cards ≤ greatest_card) × (t.cards ≡ t.table.shared.key.cards) };
+    ghost invariant = { λ t. (t.table.shared.table_id.words ≡ table_size t.table.shared.key.last_card) × (t.table.shared.table_id.slots ≡ 0) × (t.table.shared.key.last_card ≤ greatest_card) × (t.last_card ≡ t.table.shared.key.last_card) };
 }
 
 impl<A: Allocator + Copy> CardTable<A> {
@@ -41,8 +41,8 @@ impl<A: Allocator + Copy> CardTable<A> {
     #[inline(always)]
     pub(crate) fn names(&self, pass: &Pass<A>)
         requires own { pass.now.table ≡ self.now.id }
-        ensures named { IsNamed self.now.cards pass.now.view }
-        ensures room { self.now.cards ≤ greatest_card }
+        ensures named { IsNamed self.now.last_card pass.now.view }
+        ensures room { self.now.last_card ≤ greatest_card }
     {
         let _ = &self.table;
         let _ = &pass.seat;
@@ -52,9 +52,9 @@ impl<A: Allocator + Copy> CardTable<A> {
     #[inline(always)]
     fn load_as<J: Telling>(&self, pass: &mut Pass<A>, call: Call, word: usize) -> u64
         requires own { pass.old.table ≡ self.now.id }
-        requires word { IsNamed self.now.cards pass.old.view → word < table_size self.now.cards }
-        requires rule { MayLoad self.now.keys self.now.cards pass.old.view word J.then }
-        requires keeps { KeepsPass self.now.cards pass.old.view J.then }
+        requires word { IsNamed self.now.last_card pass.old.view → word < table_size self.now.last_card }
+        requires rule { MayLoad self.now.keys self.now.last_card pass.old.view word J.then }
+        requires keeps { KeepsPass self.now.last_card pass.old.view J.then }
         ensures told { J.then result pass.new.view }
         ensures step { StepsBy pass.old pass.new }
     {
@@ -68,11 +68,11 @@ impl<A: Allocator + Copy> CardTable<A> {
     #[inline(always)]
     pub(crate) fn load(&self, pass: &mut Pass<A>, call: Call, word: usize) -> u64
         requires own { pass.old.table ≡ self.now.id }
-        requires may { May self.now.cards call pass.old.view }
+        requires may { May self.now.last_card call pass.old.view }
         requires word { word ≡ word_of call }
         requires atomic { atomic_of call ≡ Load }
         ensures step { Steps pass.old pass.new (after call result pass.old.view) }
-        ensures tells { Tells self.now.cards call pass.old.view result }
+        ensures tells { Tells self.now.last_card call pass.old.view result }
     {
         self.load_as::<Brand>(pass, call, word)
     }
@@ -81,9 +81,9 @@ impl<A: Allocator + Copy> CardTable<A> {
     #[inline(always)]
     fn store_as<J: Telling>(&self, pass: &mut Pass<A>, call: Call, word: usize, value: u64)
         requires own { pass.old.table ≡ self.now.id }
-        requires word { IsNamed self.now.cards pass.old.view → word < table_size self.now.cards }
-        requires rule { MayStore self.now.keys self.now.cards pass.old.view word value J.then }
-        requires keeps { KeepsPass self.now.cards pass.old.view J.then }
+        requires word { IsNamed self.now.last_card pass.old.view → word < table_size self.now.last_card }
+        requires rule { MayStore self.now.keys self.now.last_card pass.old.view word value J.then }
+        requires keeps { KeepsPass self.now.last_card pass.old.view J.then }
         ensures told { J.then value pass.new.view }
         ensures step { StepsBy pass.old pass.new }
     {
@@ -116,9 +116,9 @@ impl<A: Allocator + Copy> CardTable<A> {
         value: u64,
     ) -> u64
         requires own { pass.old.table ≡ self.now.id }
-        requires word { IsNamed self.now.cards pass.old.view → word < table_size self.now.cards }
-        requires rule { MayExchange self.now.keys self.now.cards pass.old.view word expected value J.then }
-        requires keeps { KeepsPass self.now.cards pass.old.view J.then }
+        requires word { IsNamed self.now.last_card pass.old.view → word < table_size self.now.last_card }
+        requires rule { MayExchange self.now.keys self.now.last_card pass.old.view word expected value J.then }
+        requires keeps { KeepsPass self.now.last_card pass.old.view J.then }
         ensures told { J.then result pass.new.view }
         ensures step { StepsBy pass.old pass.new }
     {
@@ -142,11 +142,11 @@ impl<A: Allocator + Copy> CardTable<A> {
         value: u64,
     ) -> u64
         requires own { pass.old.table ≡ self.now.id }
-        requires may { May self.now.cards call pass.old.view }
+        requires may { May self.now.last_card call pass.old.view }
         requires word { word ≡ word_of call }
         requires atomic { atomic_of call ≡ Exchange expected value }
         ensures step { Steps pass.old pass.new (after call result pass.old.view) }
-        ensures tells { Tells self.now.cards call pass.old.view result }
+        ensures tells { Tells self.now.last_card call pass.old.view result }
     {
         self.exchange_as::<Brand>(pass, call, word, expected, value)
     }

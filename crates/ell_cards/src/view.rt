@@ -50,11 +50,14 @@ pub struct View {
     pub hindrances: LinkedList<Hindrance>,
 }
 
-/// What a table is made for. A table keeps the numbers; the keys go to its first pass.
+/// What a table is made for. A table keeps the number of its last card; the keys go to its first pass, and the start keys into
+/// its words.
 #[derive(Drop)]
 pub struct Plan<A: Allocator + Copy> {
     /// The keys that passes own, strictly ascending.
     pub keys: Vec<u64, A>,
-    /// How many cards there are beside card 0.
-    pub cards: u64,
+    /// The start keys, those of them that are present before the first operation, strictly ascending.
+    pub start: Vec<u64, A>,
+    /// The number of the last card: how many there are beside card 0.
+    pub last_card: u64,
 }

@@ -12,7 +12,7 @@ use crate::call::Call;
 use crate::pass::Pass;
 use crate::places::{child_at, key_at, update_at};
 use crate::table::CardTable;
-use ell_ops::Op;
+use ell_ops::{Op, Reply};
 use ell_word::{Update, unpack};
 use std::alloc::Allocator;
 
@@ -50,7 +50,7 @@ impl<A: Allocator + Copy> CardTable<A> {
 
     /// Answers the operation in hand. What is said is the set's answer on the pass's ledger, which becomes the set after it.
     #[inline(always)]
-    pub fn answer(&self, pass: &mut Pass<A>, said: bool)
+    pub fn answer(&self, pass: &mut Pass<A>, said: Reply)
         requires own { pass.old.table ≡ self.now.id }
         requires may { MayAnswer pass.old.view said }
         ensures step { Steps pass.old pass.new (after_answer said pass.old.view) }
@@ -65,7 +65,7 @@ impl<A: Allocator + Copy> CardTable<A> {
         requires own { pass.old.table ≡ self.now.id }
         requires may { MayRead pass.old.view node }
         ensures step { Steps pass.old pass.new (after_upd node result pass.old.view) }
-        ensures card { result.card ≤ self.now.cards }
+        ensures card { result.card ≤ self.now.last_card }
     {
         self.names(pass);
         unpack(self.load(pass, Call::Upd(node), update_at(node)))
@@ -78,19 +78,19 @@ impl<A: Allocator + Copy> CardTable<A> {
         requires may { MayGoDown pass.old.view node right }
         ensures step { Steps pass.old pass.new (after_down node result pass.old.view) }
         ensures greater { node < result }
-        ensures there { InTable self.now.cards result }
+        ensures there { InTable self.now.last_card result }
     {
         self.names(pass);
         self.load(pass, Call::Down(node, right), child_at(node, right))
     }
 
-    /// Reads the claim word: the number of the next card, one more than the number of cards where all are claimed.
+    /// Reads the claim word: the number of the next card, one more than the number of the last card where all are claimed.
     #[inline(always)]
     pub fn next(&self, pass: &mut Pass<A>) -> u64
         requires own { pass.old.table ≡ self.now.id }
         ensures step { Steps pass.old pass.new (after_next result pass.old.view) }
         ensures some { 1 ≤ result }
-        ensures room { result ≤ self.now.cards + 1 }
+        ensures room { result ≤ self.now.last_card + 1 }
     {
         self.load(pass, Call::Next, 0)
     }

@@ -11,7 +11,7 @@ use Rattle.clap.specs.declared.builder.value_parser.ValueParser.{ValueParser}
 use Rattle.clap.specs.declared.builder.value_parser.ValueParser.TheVariants as value_parser
 use Rattle.clap.specs.declared.error.kind.ErrorKind.{ErrorKind}
 use Rattle.clap.specs.declared.error.kind.ErrorKind.TheVariants as kind
-use Rattle.ell_text.specs.Limits.{most_cards}
+use Rattle.ell_word.specs.Node.{most_cards}
 use Rattle.ell_run.specs.Settings.{AreSettings, most_tries, most_workers}
 use Rattle.ell_run.specs.declared.settings.Settings.{Settings}
 use Rattle.ell_run.specs.declared.settings.Parting.{Parting}

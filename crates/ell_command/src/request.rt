@@ -38,14 +38,18 @@ static PARTINGS: [&str; 2] = ["stripe", "range"];
 
 const ABOUT: &str = "Finds, inserts and deletes on a set of keys, in bulk";
 
-const RUN_ABOUT: &str = "Run a text of finds, inserts and deletes on an empty set";
+const RUN_ABOUT: &str = "Run a text of finds, inserts and deletes on a set";
 
-const RUN_LONG_ABOUT: &str = "Run a text of finds, inserts and deletes on an empty set
+const RUN_LONG_ABOUT: &str = "Run a text of finds, inserts and deletes on a set
 
 Reads the text from standard input, one operation a line: `find K`, `insert K`
 or `delete K`, where the key K is a decimal number from 0 to
 18446744073709551613. Empty lines and lines that begin with `#` are skipped. A
 text has at most 200,000 operations and 16,777,216 bytes.
+
+The set begins empty. For one that is there already, lines `start K` before all
+operations give its keys, ascending. They count as operations, and have no
+answer.
 
 Writes `yes` or `no` for each operation to standard output, in order, then
 `keys N` and the N keys of the final set, ascending, one a line.";

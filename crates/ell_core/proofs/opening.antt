@@ -4,15 +4,25 @@ pub mod Branches
 pub mod CanOpen
 -- The faults of an opening: a set of the keys so far finds the first entry that repeats one.
 pub mod Faults
+-- The words at the start as they are written, card by card.
+pub mod Growing
 -- The opening state has the invariant.
 pub mod Invariant
--- The words of a new table: a list of zeros whose word 0 is 1 and whose card 0 is the root over its two leaves.
+-- What fields that are written leave.
 pub mod NewWords
+-- Keys of a list, and a search for one.
+pub mod KeyLists
 -- A world with the words and workers of an opening is that opening, and has the invariant.
 pub mod NewWorld
 -- One worker that owns all keys, as an opening from an ascending list of them.
 pub mod OneOwner
 -- The workers of an opening: their ledgers after each entry, and who owns which keys by the entries.
 pub mod Owners
--- The tree of the opening words: three nodes, in order.
+-- The tree of the opening words where there are no start keys: three nodes, in order.
 pub mod Ranges
+-- Which keys an opening has.
+pub mod StartKeys
+-- The tree over the start keys, over plain functions: in order, with these keys.
+pub mod StartTree
+-- The words at the start are those of the branches.
+pub mod StartWords

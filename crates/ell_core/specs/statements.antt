@@ -6,6 +6,8 @@ pub mod StepLaws
 pub mod RunLaws
 -- The balanced tree over keys that are there at the start: its branches are halves, and it is no deeper than need be.
 pub mod Balanced
+-- What an opening with start keys has.
+pub mod Start
 -- Which cards wait for their flag, and what an event does to them.
 pub mod Waiting
 -- What was told of a card stays so in later words.

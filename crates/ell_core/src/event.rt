@@ -1,7 +1,7 @@
 //! The events of the machine, and what comes of them.
 ghost use Rattle.std.specs.Prelude.{◌≡◌};
 
-use ell_ops::{NoMemory, Op};
+use ell_ops::{NoMemory, Op, Reply};
 use std::alloc::{AllocError, AllocFailed};
 
 /// One event: a worker, by its number, and what it does.
@@ -55,7 +55,7 @@ pub enum Stepped {
     /// The exchange found another word.
     Lost,
     /// The operation's answer.
-    Answered(bool),
+    Answered(Reply),
 }
 
 /// Why an event, or an opening, is refused. The refusals of an event are tested in this order.

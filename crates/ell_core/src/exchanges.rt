@@ -35,7 +35,7 @@ pub(crate) fn iflag<A: Allocator + Copy>(
     requires { IsReady memory.old worker.old }
     ensures { TakesTurn act.IFlag memory.old worker.old memory.new worker.new result }
 {
-    let (Some(Op::Insert(_)), Some(card), false, Some(parent)) = (
+    let (Some(Op::Insert(_, _)), Some(card), false, Some(parent)) = (
         worker.operation,
         worker.card,
         worker.flagged,
@@ -76,7 +76,7 @@ fn flag<A: Allocator + Copy>(
     fact: Fact,
 ) -> Result<Stepped, CoreFault>
     requires sized { IsSized memory.old }
-    requires node { IsInner memory.old.cards seen.node }
+    requires node { IsInner memory.old.last_card seen.node }
     requires unflagged { worker.old.flagged ≡ false }
     ensures says { IfOk result (λ said. said ≡ won_or_lost ((words_in memory.old).update seen.node == seen.word)) }
     ensures flags { OnOk result (scene_in memory.new worker.new ≡ flags (scene_in memory.old worker.old) seen new fact) }
@@ -189,8 +189,8 @@ pub(crate) fn dchild<A: Allocator + Copy>(
 // The sibling of a delete's leaf.
 fn sibling_of<A: Allocator + Copy>(memory: &Memory<A>, card: u64) -> u64
     requires sized { IsSized memory.now }
-    requires fits { WordsFit memory.now.cards (words_in memory.now) }
-    requires card { card ≤ memory.now.cards }
+    requires fits { WordsFit memory.now.last_card (words_in memory.now) }
+    requires card { card ≤ memory.now.last_card }
     ensures { result ≡ sibling (words_in memory.now) card }
 {
     let parent = memory.read(card, Field::P);
@@ -238,8 +238,8 @@ pub(crate) fn backtrack<A: Allocator + Copy>(
 // Exchanges the update word of a delete's grandparent, from the flag to clean.
 fn take_dflag_away<A: Allocator + Copy>(memory: &mut Memory<A>, card: u64) -> Stepped
     requires sized { IsSized memory.old }
-    requires fits { WordsFit memory.old.cards (words_in memory.old) }
-    requires card { card ≤ memory.old.cards }
+    requires fits { WordsFit memory.old.last_card (words_in memory.old) }
+    requires card { card ≤ memory.old.last_card }
     ensures says { result ≡ won_or_lost ((words_in memory.old).update ((words_in memory.old).gp card) == dflag card) }
     ensures words { words_in memory.new ≡ exchanged_update (words_in memory.old) ((words_in memory.old).gp card) (dflag card) (clean card) }
     ensures same { SameSize memory.old memory.new }

@@ -14,7 +14,8 @@ pub use definitions::{
 };
 pub use premises::{
     events_pass_on, every_parting_is_a_split, every_union_is_a_join, one_worker_can_open,
-    one_worker_owns_all, openings_are_passed, runs_can_be_followed, two_keys_can_open,
+    one_worker_owns_all, openings_are_passed, openings_have_their_start_keys, runs_can_be_followed,
+    two_keys_can_open,
 };
 pub use refuted::{events_promise_no_more, runs_promise_no_more};
 pub use schedules::{

@@ -14,6 +14,7 @@ mod laws;
 mod memory;
 mod replays;
 mod searching;
+mod start;
 mod turn;
 mod view;
 mod worker;
@@ -32,11 +33,13 @@ pub use laws::{
     facts_last, invariant_is_sound, keys_change_at_wins, marked_nodes_are_frozen, moves_are_lawful,
     no_fact_is_made_up, no_flag_is_left_standing, no_ledger_is_wrong, no_name_is_wrong,
     no_search_is_astray, no_stranger_is_somebody, no_tree_is_unlawful, one_outcome,
-    one_worker_can_open, one_worker_owns_all, openings_are_passed, owner_finds_clean,
-    room_holds_keys, runs_can_be_followed, runs_promise_no_more, same_words, steps_may_rely,
-    told_words_stay, two_keys_can_open, wins_are_in_order, words_rise, writes_are_seen,
+    one_worker_can_open, one_worker_owns_all, openings_are_passed, openings_have_their_start_keys,
+    owner_finds_clean, room_holds_keys, runs_can_be_followed, runs_promise_no_more, same_words,
+    steps_may_rely, told_words_stay, two_keys_can_open, wins_are_in_order, words_rise,
+    writes_are_seen,
 };
 pub use replays::replay;
 pub use searching::leaf_answer;
-pub use view::{Search, Seen, WorkerView};
+pub use start::write_opening;
+pub use view::{Entry, Search, Seen, WorkerView};
 pub use world::World;

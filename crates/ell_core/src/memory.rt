@@ -1,50 +1,43 @@
 //! The words of all cards, in one list.
-ghost use Rattle.std.specs.Prelude.{◌≡◌, ◌≢◌, ◌≤◌, IfOk, IfErr, OnOk};
+ghost use Rattle.std.specs.Prelude.{◌≡◌, ◌≢◌, ◌<◌, ◌≤◌, length, IfOk, IfErr, OnOk};
 ghost use Rattle.ell_word.specs.Node.{greatest_card};
 ghost use Rattle.ell_core.specs.state.Words.{word, written};
 ghost use Rattle.ell_core.specs.state.Cards.{is_right, filled, claimed};
 ghost use Rattle.ell_core.specs.acts.Exchanges.{exchanged_update, exchanged_child, found_child};
-ghost use Rattle.ell_core.specs.state.Opening.{opening_words};
+ghost use Rattle.ell_core.specs.state.Opening.{start_words};
 ghost use Rattle.ell_core.specs.inside.Fits.{IsNode, IsInner};
 ghost use Rattle.ell_core.specs.inside.Inside.{words_in, IsSized, SameSize};
 
-use crate::field::{Field, child_field, key_field, table_size, update_word};
+use crate::field::{Field, child_field, key_field, table_size};
 use crate::keys::TreeWords;
+use crate::start::write_opening;
 use ell_ops::NoMemory;
-use ell_word::{INF1, INF2, State, card_of, internal_of, is_internal, left_leaf_of, right_leaf_of};
+use ell_word::card_of;
 use std::alloc::Allocator;
 
-/// The claim word and the words of card 0 and of `cards` more.
+/// The claim word and the words of the cards from card 0 to the last one.
 #[derive(Drop)]
 pub(crate) struct Memory<A: Allocator + Copy> {
     pub words: Vec<u64, A>,
-    pub cards: u64,
+    pub last_card: u64,
 }
 
 impl<A: Allocator + Copy> Memory<A> {
-    /// The opening tree, and cards whose words are 0.
-    pub fn opening(alloc: A, cards: u64) -> Result<Memory<A>, NoMemory>
-        requires { cards ≤ greatest_card }
+    /// The opening tree over these start keys, and cards whose words are 0, up to the last one.
+    pub fn opening(alloc: A, start: &[u64], last: u64) -> Result<Memory<A>, NoMemory>
+        requires room { length start.now ≤ last }
+        requires most { last ≤ greatest_card }
+        requires few { length start.now < greatest_card }
         ensures sized { IfOk result (λ memory. IsSized memory) }
-        ensures cards { IfOk result (λ memory. memory.cards ≡ cards) }
-        ensures words { IfOk result (λ memory. words_in memory ≡ opening_words) }
+        ensures last_card { IfOk result (λ memory. memory.last_card ≡ last) }
+        ensures words { IfOk result (λ memory. words_in memory ≡ start_words start.now) }
     {
-        let words = vec![in alloc; 0; table_size(cards)]?;
-        let mut memory = Memory { words, cards };
-        memory.words[0] = 1;
-        // The fields of card 0 that are not 0: the root over its two leaves.
-        memory.fill(
-            0,
-            &[
-                (Field::Key, INF2),
-                (Field::Left, left_leaf_of(0)),
-                (Field::Right, right_leaf_of(0)),
-                (Field::Update, update_word(State::Clean, 0)),
-                (Field::LeftLeafKey, INF1),
-                (Field::RightLeafKey, INF2),
-            ],
-        );
-        Ok(memory)
+        let mut words = vec![in alloc; 0; table_size(last)]?;
+        write_opening(words.as_mut_slice(), start, last);
+        Ok(Memory {
+            words,
+            last_card: last,
+        })
     }
 
     /// The claim word.
@@ -58,7 +51,7 @@ impl<A: Allocator + Copy> Memory<A> {
     /// The word of a field of a card.
     pub fn read(&self, card: u64, field: Field) -> u64
         requires sized { IsSized self.now }
-        requires card { card ≤ self.now.cards }
+        requires card { card ≤ self.now.last_card }
         ensures { result ≡ word (words_in self.now) card field }
     {
         self.words[field.address(card)]
@@ -67,7 +60,7 @@ impl<A: Allocator + Copy> Memory<A> {
     /// The key of a node.
     pub fn key(&self, node: u64) -> u64
         requires sized { IsSized self.now }
-        requires node { IsNode self.now.cards node }
+        requires node { IsNode self.now.last_card node }
         ensures { result ≡ (words_in self.now).key node }
     {
         self.read(card_of(node), key_field(node))
@@ -76,7 +69,7 @@ impl<A: Allocator + Copy> Memory<A> {
     /// The update word of an internal node.
     pub fn update(&self, node: u64) -> u64
         requires sized { IsSized self.now }
-        requires node { IsInner self.now.cards node }
+        requires node { IsInner self.now.last_card node }
         ensures { result ≡ (words_in self.now).update node }
     {
         self.read(card_of(node), Field::Update)
@@ -85,7 +78,7 @@ impl<A: Allocator + Copy> Memory<A> {
     /// The child of an internal node on a side.
     pub fn child(&self, node: u64, right: bool) -> u64
         requires sized { IsSized self.now }
-        requires node { IsInner self.now.cards node }
+        requires node { IsInner self.now.last_card node }
         ensures { result ≡ (words_in self.now).child node right }
     {
         self.read(card_of(node), child_field(right))
@@ -94,7 +87,7 @@ impl<A: Allocator + Copy> Memory<A> {
     /// Whether a key is on the right side of a node.
     pub fn is_right(&self, node: u64, key: u64) -> bool
         requires sized { IsSized self.now }
-        requires node { IsNode self.now.cards node }
+        requires node { IsNode self.now.last_card node }
         ensures { result ≡ is_right (words_in self.now) node key }
     {
         self.key(node) <= key
@@ -104,7 +97,7 @@ impl<A: Allocator + Copy> Memory<A> {
     /// and no word has changed.
     pub fn exchange_update(&mut self, node: u64, expected: u64, new: u64) -> Result<(), u64>
         requires sized { IsSized self.old }
-        requires node { IsInner self.old.cards node }
+        requires node { IsInner self.old.last_card node }
         ensures won { OnOk result ((words_in self.old).update node ≡ expected) }
         ensures lost { IfErr result (λ found. (found ≡ (words_in self.old).update node) × (found ≢ expected)) }
         ensures words { words_in self.new ≡ exchanged_update (words_in self.old) node expected new }
@@ -123,8 +116,8 @@ impl<A: Allocator + Copy> Memory<A> {
     /// that was found is the error, and no word has changed.
     pub fn exchange_child(&mut self, node: u64, expected: u64, new: u64) -> Result<(), u64>
         requires sized { IsSized self.old }
-        requires node { IsInner self.old.cards node }
-        requires new { IsNode self.old.cards new }
+        requires node { IsInner self.old.last_card node }
+        requires new { IsNode self.old.last_card new }
         ensures won { OnOk result (found_child (words_in self.old) node new ≡ expected) }
         ensures lost { IfErr result (λ found. (found ≡ found_child (words_in self.old) node new) × (found ≢ expected)) }
         ensures words { words_in self.new ≡ exchanged_child (words_in self.old) node expected new }
@@ -143,7 +136,7 @@ impl<A: Allocator + Copy> Memory<A> {
     /// Claims the next card and writes these fields of it.
     pub fn claim(&mut self, filling: &[(Field, u64)])
         requires sized { IsSized self.old }
-        requires room { (words_in self.old).next ≤ self.old.cards }
+        requires room { (words_in self.old).next ≤ self.old.last_card }
         ensures words { words_in self.new ≡ claimed (words_in self.old) filling.now }
         ensures same { SameSize self.old self.new }
     {
@@ -155,7 +148,7 @@ impl<A: Allocator + Copy> Memory<A> {
     // Writes these fields of a card, in order.
     fn fill(&mut self, card: u64, filling: &[(Field, u64)])
         requires sized { IsSized self.old }
-        requires card { card ≤ self.old.cards }
+        requires card { card ≤ self.old.last_card }
         ensures words { words_in self.new ≡ filled (words_in self.old) card filling.now }
         ensures same { SameSize self.old self.new }
     {
@@ -167,7 +160,7 @@ impl<A: Allocator + Copy> Memory<A> {
     // Writes one word.
     fn write(&mut self, card: u64, field: Field, value: u64)
         requires sized { IsSized self.old }
-        requires card { card ≤ self.old.cards }
+        requires card { card ≤ self.old.last_card }
         ensures words { words_in self.new ≡ written (words_in self.old) card field value }
         ensures same { SameSize self.old self.new }
     {
@@ -178,7 +171,7 @@ impl<A: Allocator + Copy> Memory<A> {
 impl<A: Allocator + Copy> TreeWords for Memory<A> {
     ghost words = { words_in };
 
-    ghost can_read = { λ memory node. IsSized memory × IsNode memory.cards node };
+    ghost can_read = { λ memory node. IsSized memory × IsNode memory.last_card node };
 
     fn key(&self, node: u64) -> u64 {
         Memory::key(self, node)

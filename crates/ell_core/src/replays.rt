@@ -20,7 +20,7 @@ pub fn replay<A: Allocator + Copy>(
     ensures run { IfOk result (λ shown. Run (machine_of world.old) events.now shown.items (machine_of world.new)) }
     ensures order { IfOk result (λ shown. IsOpening (machine_of world.old) → WinsInOrder (machine_of world.old) events.now shown.items (machine_of world.new)) }
     ensures passes { OnErr result (Passes (machine_of world.old) events.now (machine_of world.new)) }
-    ensures cards { world.new.cards ≡ world.old.cards }
+    ensures cards { world.new.last_card ≡ world.old.last_card }
 {
     let mut shown = Vec::new(alloc);
     for event in events {
@@ -35,7 +35,7 @@ pub fn replay<A: Allocator + Copy>(
 fn show<A: Allocator + Copy>(world: &mut World<A>, event: Event) -> Result<Shown, NoMemory>
     ensures shows { IfOk result (λ shown. Shows (machine_of world.old) event shown (machine_of world.new)) }
     ensures unchanged { OnErr result (world.new ≡ world.old) }
-    ensures cards { world.new.cards ≡ world.old.cards }
+    ensures cards { world.new.last_card ≡ world.old.last_card }
 {
     match world.step(event) {
         Ok(said) => Ok(Shown::Step(said)),

@@ -10,9 +10,9 @@ use crate::event::{CoreFault, Stepped};
 use crate::fact::{Fact, told_by};
 use crate::fillings::{delete_filling, insert_filling};
 use crate::memory::Memory;
-use crate::view::{Search, Seen};
+use crate::view::{Entry, Search, Seen};
 use crate::worker::{NO_SEARCH, Worker};
-use ell_ops::Op;
+use ell_ops::{Op, Reply};
 use ell_word::{State, is_internal, unpack};
 use std::alloc::Allocator;
 
@@ -147,7 +147,7 @@ pub(crate) fn claim<A: Allocator + Copy>(
         return Err(CoreFault::NotNow);
     };
     match worker.operation {
-        Some(Op::Insert(key)) => claim_for_insert(memory, worker, key, at),
+        Some(Op::Insert(key, _)) => claim_for_insert(memory, worker, key, at),
         Some(Op::Delete(key)) => claim_for_delete(memory, worker, key, at),
         _ => Err(CoreFault::NotNow),
     }
@@ -160,7 +160,7 @@ fn claim_for_insert<A: Allocator + Copy>(
     at: CleanLeaf,
 ) -> Result<Stepped, CoreFault>
     requires ready { IsReady memory.old worker.old }
-    requires inserts { (worker_in worker.old).operation ≡ Some (Insert key) }
+    requires inserts { (value : ℕ) × ((worker_in worker.old).operation ≡ Some (Insert key value)) }
     requires at { AtCleanLeaf (worker_in worker.old) at.leaf at.parent }
     ensures { TakesTurn act.Claim memory.old worker.old memory.new worker.new result }
 {
@@ -169,7 +169,7 @@ fn claim_for_insert<A: Allocator + Copy>(
         return Err(CoreFault::NotNow);
     }
     let card = memory.next();
-    if card > memory.cards {
+    if card > memory.last_card {
         return Err(CoreFault::NoCards);
     }
     memory.claim(&insert_filling(card, key, at.parent.node, at.leaf, leaf_key));
@@ -196,7 +196,7 @@ fn claim_for_delete<A: Allocator + Copy>(
         return Err(CoreFault::NotNow);
     }
     let card = memory.next();
-    if card > memory.cards {
+    if card > memory.last_card {
         return Err(CoreFault::NoCards);
     }
     memory.claim(&delete_filling(grandparent.node, at.parent.node, at.leaf, at.parent.word));
@@ -247,33 +247,33 @@ pub(crate) fn leave<A: Allocator + Copy>(
 }
 
 /// The answer of an operation at a leaf, which has the operation's key or not: none where there is something to do.
-pub fn leaf_answer(op: Op, has: bool) -> Option<bool>
+pub fn leaf_answer(op: Op, has: bool) -> Option<Reply>
     ensures { result ≡ leaf_answer op has }
 {
     match (op, has) {
-        (Op::Find(_), has) => Some(has),
-        (Op::Insert(_), true) | (Op::Delete(_), false) => Some(false),
+        (Op::Find(_), has) => Some(Reply::yes_if(has)),
+        (Op::Insert(_, _), true) | (Op::Delete(_), false) => Some(Reply::No),
         _ => None,
     }
 }
 
 // The answer by a flagged card.
-fn card_answer<A: Allocator + Copy>(worker: &Worker<A>, op: Op, card: u64) -> Option<bool>
+fn card_answer<A: Allocator + Copy>(worker: &Worker<A>, op: Op, card: u64) -> Option<Reply>
     ensures { result ≡ card_answer op card (worker_in worker.now).knows }
 {
     let over = match op {
         Op::Find(_) => false,
-        Op::Insert(_) => worker.knows(Fact::IOver(card)),
+        Op::Insert(_, _) => worker.knows(Fact::IOver(card)),
         Op::Delete(_) => worker.knows(Fact::DOver(card)),
     };
-    if over { Some(true) } else { None }
+    if over { Some(Reply::Yes) } else { None }
 }
 
 // The operation's answer: at a leaf if it has one there, else by its card.
-fn answer_of<A: Allocator + Copy>(memory: &Memory<A>, worker: &Worker<A>, op: Op) -> Option<bool>
+fn answer_of<A: Allocator + Copy>(memory: &Memory<A>, worker: &Worker<A>, op: Op) -> Option<Reply>
     requires { IsReady memory.now worker.now }
     ensures some { IfSome result (λ reply. Answers (scene_in memory.now worker.now) op reply) }
-    ensures none { IfNone result ((reply : Bool) → ¬ Answers (scene_in memory.now worker.now) op reply) }
+    ensures none { IfNone result ((reply : Reply) → ¬ Answers (scene_in memory.now worker.now) op reply) }
 {
     if let Some(node) = worker.search.node
         && !is_internal(node)
@@ -287,7 +287,7 @@ fn answer_of<A: Allocator + Copy>(memory: &Memory<A>, worker: &Worker<A>, op: Op
     }
 }
 
-/// Answers the operation, and has nothing in hand any more. An insert or delete that answers true makes its key present or
+/// Answers the operation, and has nothing in hand any more. An insert or delete that answers yes makes its key present or
 /// absent.
 pub(crate) fn answer<A: Allocator + Copy>(
     memory: &Memory<A>,
@@ -302,9 +302,9 @@ pub(crate) fn answer<A: Allocator + Copy>(
     let Some(reply) = answer_of(memory, worker, op) else {
         return Err(CoreFault::NotNow);
     };
-    match op {
-        Op::Insert(key) if reply => worker.settle(key, true),
-        Op::Delete(key) if reply => worker.settle(key, false),
+    match (op, reply) {
+        (Op::Insert(key, _), Reply::Yes) => worker.settle(key, Entry::Present),
+        (Op::Delete(key), Reply::Yes) => worker.settle(key, Entry::Absent),
         _ => {}
     }
     put_down(worker);

@@ -1,4 +1,7 @@
 //! A worker as contracts see it.
+ghost use Rattle.std.specs.Prelude.{◌≡◌};
+ghost use Rattle.ell_core.specs.state.Machine.{present_if};
+
 use crate::fact::Fact;
 use ell_ops::Op;
 use std::collections::LinkedList;
@@ -23,11 +26,29 @@ pub struct Search {
     pub grandparent: Option<Seen>,
 }
 
+/// What a ledger says of a key that it has.
+#[derive(Clone, Copy)]
+pub enum Entry {
+    /// The key is not in the set.
+    Absent,
+    /// The key is in the set.
+    Present,
+}
+
+impl Entry {
+    /// Present exactly where this holds.
+    pub fn present_if(holds: bool) -> Entry
+        ensures { result ≡ present_if holds }
+    {
+        if holds { Entry::Present } else { Entry::Absent }
+    }
+}
+
 /// What a worker has and knows, as contracts see it. No value of this type is made.
 #[derive(Drop)]
 pub struct WorkerView {
-    /// The keys that it owns, strictly ascending, and whether each is present.
-    pub ledger: LinkedList<(u64, bool)>,
+    /// The keys that it owns, strictly ascending, and what is said of each.
+    pub ledger: LinkedList<(u64, Entry)>,
     /// The operation in hand.
     pub operation: Option<Op>,
     pub search: Search,

@@ -7,7 +7,7 @@ ghost use Rattle.ell_core.specs.acts.Exchanges.{knowing};
 ghost use Rattle.ell_core.specs.inside.Inside.{view_of, worker_in, LacksAny, LacksEither};
 
 use crate::fact::Fact;
-use crate::view::Search;
+use crate::view::{Entry, Search};
 use ell_ops::{NoMemory, Op};
 use std::alloc::Allocator;
 use std::collections::{BTreeMap, BTreeSet};
@@ -15,7 +15,7 @@ use std::collections::{BTreeMap, BTreeSet};
 /// What a worker owns, has in hand and knows.
 #[derive(Drop)]
 pub(crate) struct Worker<A: Allocator + Copy> {
-    pub ledger: BTreeMap<u64, bool, A>,
+    pub ledger: BTreeMap<u64, Entry, A>,
     pub operation: Option<Op>,
     pub search: Search,
     pub card: Option<u64>,
@@ -46,11 +46,11 @@ impl<A: Allocator + Copy> Worker<A> {
         }
     }
 
-    /// Gives the worker a key, absent.
-    pub fn own(&mut self, key: u64) -> Result<(), NoMemory>
-        ensures { OnOk result (worker_in self.new ≡ record (worker_in self.old) { ledger = put (worker_in self.old).ledger key (Some false) }) }
+    /// Gives the worker a key, present or absent.
+    pub fn own(&mut self, key: u64, entry: Entry) -> Result<(), NoMemory>
+        ensures { OnOk result (worker_in self.new ≡ record (worker_in self.old) { ledger = put (worker_in self.old).ledger key (Some entry) }) }
     {
-        self.ledger.insert(key, false)?;
+        self.ledger.insert(key, entry)?;
         Ok(())
     }
 
@@ -62,12 +62,12 @@ impl<A: Allocator + Copy> Worker<A> {
     }
 
     /// Writes whether a key that the worker owns is present.
-    pub fn settle(&mut self, key: u64, present: bool)
+    pub fn settle(&mut self, key: u64, entry: Entry)
         requires { (worker_in self.old).ledger key ≢ None }
-        ensures { worker_in self.new ≡ record (worker_in self.old) { ledger = put (worker_in self.old).ledger key (Some present) } }
+        ensures { worker_in self.new ≡ record (worker_in self.old) { ledger = put (worker_in self.old).ledger key (Some entry) } }
     {
-        if let Some(entry) = self.ledger.get_mut(&key) {
-            *entry = present;
+        if let Some(old) = self.ledger.get_mut(&key) {
+            *old = entry;
         }
     }
 

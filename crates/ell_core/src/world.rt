@@ -1,14 +1,15 @@
 //! A world: the machine with plain lists for its functions, run one event at a time.
-ghost use Rattle.std.specs.Prelude.{◌≡◌, ◌≤◌, ℕ, false, vec_len, IfOk, IfErr, OnOk, OnErr};
+ghost use Rattle.std.specs.Prelude.{◌≡◌, ◌≤◌, ℕ, true, false, [], length, vec_len, IfOk, IfErr, OnOk, OnErr};
 ghost use Rattle.std.specs.List.{All};
 ghost use Rattle.ell_ops.specs.Meaning.{greatest_key, most_workers};
-ghost use Rattle.ell_word.specs.Node.{greatest_card};
+ghost use Rattle.ell_word.specs.Node.{most_cards, most_start};
+ghost use Rattle.std.specs.List.Sorted.{IsStrictlyIncreasing};
 ghost use Rattle.ell_core.specs.state.Words.{word};
 ghost use Rattle.ell_core.specs.acts.Events.{Steps};
 ghost use Rattle.ell_core.specs.tree.Tree.{ListsKeys};
 ghost use Rattle.ell_core.specs.state.Machine.{idle};
 ghost use Rattle.ell_core.specs.inside.Inside.{worker_at};
-ghost use Rattle.ell_core.specs.state.Opening.{opening, opening_ledger, Faultless, OpeningRefused};
+ghost use Rattle.ell_core.specs.state.Opening.{opening, opening_ledger, last_card, is_given, Faultless, OpeningRefused};
 ghost use Rattle.ell_core.specs.inside.World.{machine_of, StepRefused};
 ghost use Rattle.ell_core.specs.soundness.Sound.{IsSound};
 ghost use Rattle.ell_core.specs.history.Invariant.{HasInvariant};
@@ -18,6 +19,7 @@ use crate::field::Field;
 use crate::keys::keys_of_tree;
 use crate::memory::Memory;
 use crate::turn::turn;
+use crate::view::Entry;
 use crate::worker::Worker;
 use ell_ops::NoMemory;
 use std::alloc::{Allocator, Global};
@@ -46,7 +48,7 @@ impl<A: Allocator + Copy> Model for World<A> {
 
 impl<A: Allocator + Copy> World<A> {
     /// The opening tree, with workers from 0 on and the keys that the entries give them, each a worker and a key, all absent.
-    /// Conditions: 1 to `WORKERS_MAX` workers, 1 to `CARD_MAX` cards, keys at most `KEY_MAX`. The fault of the first faulty entry is
+    /// Conditions: 1 to `WORKERS_MAX` workers, 1 to `CARDS_MAX` cards, keys at most `KEY_MAX`. The fault of the first faulty entry is
     /// answered: `NoSuchWorker`, or else `OwnedTwice`. `NoMemory` may stand in place of either.
     pub fn new(
         alloc: A,
@@ -57,15 +59,44 @@ impl<A: Allocator + Copy> World<A> {
         requires some_worker { 1 ≤ workers }
         requires most_workers { workers ≤ most_workers }
         requires some_card { 1 ≤ cards }
-        requires most_cards { cards ≤ greatest_card }
+        requires most_cards { cards ≤ most_cards }
         requires keys { All (λ entry. entry.1 ≤ greatest_key) owned.now }
-        ensures opening { IfOk result (λ world. machine_of world ≡ opening workers owned.now cards) }
-        ensures cards { IfOk result (λ world. world.cards ≡ cards) }
+        ensures opening { IfOk result (λ world.
+            machine_of world ≡ opening (record { count = workers; owned = owned.now; start = []; cards = cards })) }
+        ensures cards { IfOk result (λ world. world.last_card ≡ cards) }
         ensures faultless { OnOk result (Faultless workers owned.now) }
         ensures refused { IfErr result (OpeningRefused workers owned.now) }
     {
-        let memory = Memory::opening(alloc, cards)?;
-        let workers = owning_workers(alloc, workers, owned)?;
+        World::from_start(alloc, workers, owned, &[], cards)
+    }
+
+    /// The opening tree over start keys, balanced, with workers and the keys that the entries give them: the start keys are present,
+    /// the others absent. The start keys' tree has a card for each of them, so the cards to be claimed are those after them, and the
+    /// last card is as many more as there are start keys. Conditions: those of `new`; the start keys are strictly ascending, among the
+    /// keys of the entries, and at most `START_MAX`. Faults are as of `new`.
+    pub fn from_start(
+        alloc: A,
+        workers: u32,
+        owned: &[(u32, u64)],
+        start: &[u64],
+        cards: u64,
+    ) -> Result<World<A>, CoreFault>
+        requires some_worker { 1 ≤ workers }
+        requires most_workers { workers ≤ most_workers }
+        requires some_card { 1 ≤ cards }
+        requires most_cards { cards ≤ most_cards }
+        requires keys { All (λ entry. entry.1 ≤ greatest_key) owned.now }
+        requires ascending { IsStrictlyIncreasing start.now }
+        requires given { All (λ k. is_given owned.now k ≡ true) start.now }
+        requires most_start { length start.now ≤ most_start }
+        ensures opening { IfOk result (λ world.
+            machine_of world ≡ opening (record { count = workers; owned = owned.now; start = start.now; cards = cards })) }
+        ensures cards { IfOk result (λ world. world.last_card ≡ last_card start.now cards) }
+        ensures faultless { OnOk result (Faultless workers owned.now) }
+        ensures refused { IfErr result (OpeningRefused workers owned.now) }
+    {
+        let memory = Memory::opening(alloc, start, cards + start.len() as u64)?;
+        let workers = owning_workers(alloc, workers, owned, start)?;
         Ok(World {
             alloc,
             memory,
@@ -79,7 +110,7 @@ impl<A: Allocator + Copy> World<A> {
         ensures done { IfOk result (λ said. Steps (machine_of self.old) event said (machine_of self.new)) }
         ensures refused { IfErr result (StepRefused (machine_of self.old) event) }
         ensures unchanged { OnErr result (self.new ≡ self.old) }
-        ensures cards { self.new.cards ≡ self.old.cards }
+        ensures cards { self.new.last_card ≡ self.old.last_card }
     {
         let Some(worker) = self.workers.get_mut(event.worker as usize) else {
             return Err(CoreFault::NoSuchWorker);
@@ -100,15 +131,15 @@ impl<A: Allocator + Copy> World<A> {
     pub fn keys(&self) -> Result<Vec<u64, A>, NoMemory>
         ensures { IfOk result (λ keys. ListsKeys (machine_of self.now).words keys.items) }
     {
-        let places = self.memory.cards as usize + 2;
+        let places = self.memory.last_card as usize + 2;
         let waiting = Vec::with_capacity(self.alloc, places)?;
         let keys = Vec::with_capacity(self.alloc, places)?;
         Ok(keys_of_tree(&self.memory, waiting, keys))
     }
 
-    /// The word of a field of a card. Condition: the card is at most the number of cards.
+    /// The word of a field of a card. Condition: the card is at most the last card.
     pub fn word(&self, card: u64, field: Field) -> u64
-        requires { card ≤ self.now.cards }
+        requires { card ≤ self.now.last_card }
         ensures { result ≡ word (machine_of self.now).words card field }
     {
         self.memory.read(card, field)
@@ -122,14 +153,16 @@ impl<A: Allocator + Copy> World<A> {
     }
 }
 
-// The workers with their keys, or the fault of the first faulty entry.
+// The workers with their keys, the start keys among them present, or the fault of the first faulty entry.
 fn owning_workers<A: Allocator + Copy>(
     alloc: A,
     count: u32,
     owned: &[(u32, u64)],
+    start: &[u64],
 ) -> Result<Vec<Worker<A>, A>, CoreFault>
+    requires { IsStrictlyIncreasing start.now }
     ensures count { IfOk result (λ workers. vec_len workers ≡ count) }
-    ensures ledgers { IfOk result (λ workers. (i : ℕ) → worker_at workers.items i ≡ idle (opening_ledger owned.now i) (λ _. false)) }
+    ensures ledgers { IfOk result (λ workers. (i : ℕ) → worker_at workers.items i ≡ idle (opening_ledger owned.now start.now i) (λ _. false)) }
     ensures faultless { OnOk result (Faultless count owned.now) }
     ensures refused { IfErr result (OpeningRefused count owned.now) }
 {
@@ -145,7 +178,7 @@ fn owning_workers<A: Allocator + Copy>(
         if !taken.insert(*key)? {
             return Err(CoreFault::OwnedTwice);
         }
-        owner.own(*key)?;
+        owner.own(*key, Entry::present_if(start.binary_search(key).is_ok()))?;
     }
     Ok(workers)
 }

@@ -3,8 +3,8 @@ use Rattle.std.specs.Prelude.{slice_get, IsTrue}
 use Rattle.std.proofs.lemmas.Bool.{cases_eq, eq-eqb, ne_eqb, cond-true, cond-false}
 use Rattle.ell_ops.specs.declared.op.Op.{Op}
 use Rattle.ell_ops.specs.declared.op.Op.TheVariants.{Find, Insert, Delete}
-use Rattle.ell_ops.specs.KeySet.{KeySet}
-use Rattle.ell_ops.specs.Meaning.{key_of, reply_of, after, replies, final}
+use Rattle.ell_ops.specs.declared.reply.Reply.TheVariants.{Yes}
+use Rattle.ell_ops.specs.Meaning.{Contents, key_of, yes_if, reply_of, after, replies, final}
 use Rattle.ell_ops.specs.LastWriter.{NoDelete, IsPresent, Answers, FoldHasPresentKeys, RepliesGoByPresence}
 
 -- no delete behind the first operation, in the list and in its rest
@@ -24,12 +24,12 @@ without_first : (op : Op) (ops : List Op) (key high : ℕ) → NoDelete (op ∷ 
 without_first op ops key high free j from to = free (suc j) (omega arith) (omega arith)
 
 -- a key that the first operation leaves in the set, and no delete takes after it
-kept_forth : (set : KeySet) (op : Op) (ops : List Op) (key i : ℕ) → IsTrue (after op set key) → NoDelete ops key 0 i → IsPresent set (op ∷ ops) key (suc i)
+kept_forth : (set : Contents) (op : Op) (ops : List Op) (key i : ℕ) → IsTrue (after op set key) → NoDelete ops key 0 i → IsPresent set (op ∷ ops) key (suc i)
 kept_forth set (Find k) ops key i had free = inr (record { had = had; stays = with_first (Find k) ops key i (λ e. cc) free })
-kept_forth set (Insert k) ops key i had free =
+kept_forth set (Insert k v) ops key i had free =
     ⊎_elim
-    (λ e. inl (record { at = 0; before = omega arith; insert = ap (λ q. Some (Insert q)) (sym e); stays = with_first (Insert k) ops key i (λ e. cc) free }))
-    (λ ne. inr (record { had = sym (cond-false (eqb key k) true (set key) (ne_eqb key k ne)) ∙ had; stays = with_first (Insert k) ops key i (λ e. cc) free }))
+    (λ e. inl (record { at = 0; value = v; before = omega arith; insert = ap (λ q. Some (Insert q v)) (sym e); stays = with_first (Insert k v) ops key i (λ e. cc) free }))
+    (λ ne. inr (record { had = sym (cond-false (eqb key k) true (set key) (ne_eqb key k ne)) ∙ had; stays = with_first (Insert k v) ops key i (λ e. cc) free }))
     (cases_eq key k)
 kept_forth set (Delete k) ops key i had free =
     ⊎_elim
@@ -40,9 +40,9 @@ kept_forth set (Delete k) ops key i had free =
     }))
     (cases_eq key k)
 
-kept_back : (set : KeySet) (op : Op) (ops : List Op) (key i : ℕ) → IsTrue (set key) → NoDelete (op ∷ ops) key 0 (suc i) → IsTrue (after op set key)
+kept_back : (set : Contents) (op : Op) (ops : List Op) (key i : ℕ) → IsTrue (set key) → NoDelete (op ∷ ops) key 0 (suc i) → IsTrue (after op set key)
 kept_back set (Find k) ops key i had free = had
-kept_back set (Insert k) ops key i had free =
+kept_back set (Insert k v) ops key i had free =
     ⊎_elim
     (λ e. cond-true (eqb key k) true (set key) (eq-eqb key k e))
     (λ ne. cond-false (eqb key k) true (set key) (ne_eqb key k ne) ∙ had)
@@ -54,34 +54,34 @@ kept_back set (Delete k) ops key i had free =
     (cases_eq key k)
 
 -- an insert that stands first leaves its key in the set
-first_insert : (set : KeySet) (op : Op) (key : ℕ) → Some op ≡ Some (Insert key) → IsTrue (after op set key)
-first_insert set op key e =
-    let same : op ≡ Insert key = cc in
+first_insert : (set : Contents) (op : Op) (key value : ℕ) → Some op ≡ Some (Insert key value) → IsTrue (after op set key)
+first_insert set op key value e =
+    let same : op ≡ Insert key value = cc in
     ap (λ o. after o set key) same ∙ cond-true (eqb key key) true (set key) (eq-eqb key key refl)
 
-inserted_back : (set : KeySet) (op : Op) (ops : List Op) (key i at : ℕ) → at < suc i → slice_get (op ∷ ops) at ≡ Some (Insert key) → NoDelete (op ∷ ops) key at (suc i)
+inserted_back : (set : Contents) (op : Op) (ops : List Op) (key i at value : ℕ) → at < suc i → slice_get (op ∷ ops) at ≡ Some (Insert key value) → NoDelete (op ∷ ops) key at (suc i)
     → IsPresent (after op set) ops key i
-inserted_back set op ops key i zero before insert stays = inr (record { had = first_insert set op key insert; stays = without_first op ops key i stays })
-inserted_back set op ops key i (suc at) before insert stays =
-    inl (record { at = at; before = omega arith; insert = insert; stays = moved_down op ops key at i stays })
+inserted_back set op ops key i zero value before insert stays = inr (record { had = first_insert set op key value insert; stays = without_first op ops key i stays })
+inserted_back set op ops key i (suc at) value before insert stays =
+    inl (record { at = at; value = value; before = omega arith; insert = insert; stays = moved_down op ops key at i stays })
 
 -- what is present in the rest, from the set behind the first operation, is present in the list
-forth : (set : KeySet) (op : Op) (ops : List Op) (key i : ℕ) → IsPresent (after op set) ops key i → IsPresent set (op ∷ ops) key (suc i)
-forth set op ops key i (inl h) = inl (record { at = suc h.at; before = let b = h.before in omega arith; insert = h.insert; stays = moved_up op ops key h.at i h.stays })
+forth : (set : Contents) (op : Op) (ops : List Op) (key i : ℕ) → IsPresent (after op set) ops key i → IsPresent set (op ∷ ops) key (suc i)
+forth set op ops key i (inl h) = inl (record { at = suc h.at; value = h.value; before = let b = h.before in omega arith; insert = h.insert; stays = moved_up op ops key h.at i h.stays })
 forth set op ops key i (inr h) = kept_forth set op ops key i h.had h.stays
 
-back : (set : KeySet) (op : Op) (ops : List Op) (key i : ℕ) → IsPresent set (op ∷ ops) key (suc i) → IsPresent (after op set) ops key i
-back set op ops key i (inl h) = inserted_back set op ops key i h.at h.before h.insert h.stays
+back : (set : Contents) (op : Op) (ops : List Op) (key i : ℕ) → IsPresent set (op ∷ ops) key (suc i) → IsPresent (after op set) ops key i
+back set op ops key i (inl h) = inserted_back set op ops key i h.at h.value h.before h.insert h.stays
 back set op ops key i (inr h) = inr (record { had = kept_back set op ops key i h.had h.stays; stays = without_first op ops key i h.stays })
 
 -- before the first operation, and in the empty list
-none_yet : (set : KeySet) (ops : List Op) (key : ℕ) → (IsTrue (set key) → IsPresent set ops key 0) × (IsPresent set ops key 0 → IsTrue (set key))
+none_yet : (set : Contents) (ops : List Op) (key : ℕ) → (IsTrue (set key) → IsPresent set ops key 0) × (IsPresent set ops key 0 → IsTrue (set key))
 none_yet set ops key = (
   λ had. inr (record { had = had; stays = λ j from to. absurd (omega arith) }),
   elim [ inl h ↦ (let b = h.before in absurd (omega arith)) | inr h ↦ h.had ],
 )
 
-nothing_stands : (set : KeySet) (key i : ℕ) → (IsTrue (set key) → IsPresent set [] key i) × (IsPresent set [] key i → IsTrue (set key))
+nothing_stands : (set : Contents) (key i : ℕ) → (IsTrue (set key) → IsPresent set [] key i) × (IsPresent set [] key i → IsTrue (set key))
 nothing_stands set key i = (
   λ had. inr (record { had = had; stays = λ j from to e. cc }),
   elim [ inl h ↦ (let e = h.insert in cc) | inr h ↦ h.had ],
@@ -96,7 +96,7 @@ present_keys set (op ∷ ops) key (suc i) =
     (λ h. forth set op ops key i (rest.0 h), λ h. rest.1 (back set op ops key i h))
 
 -- the reply at a position is that on the set before it
-pub reply_at : (set : KeySet) (ops : List Op) (i : ℕ) (op : Op) → slice_get ops i ≡ Some op → slice_get (replies set ops) i ≡ Some (reply_of op (final set (take i ops)))
+pub reply_at : (set : Contents) (ops : List Op) (i : ℕ) (op : Op) → slice_get ops i ≡ Some op → slice_get (replies set ops) i ≡ Some (reply_of op (final set (take i ops)))
 reply_at set [] i op e = cc
 reply_at set (first ∷ ops) zero op e = let same : first ≡ op = cc in ap (λ o. Some (reply_of o set)) same
 reply_at set (first ∷ ops) (suc i) op e = reply_at (after first set) ops i op e
@@ -105,10 +105,14 @@ not_true : (b : Bool) (P : Type 0) → (IsTrue b ↔ P) → IsTrue (not b) ↔ (
 not_true true P same = (λ h p. cc, λ no. absurd (no (same.0 refl)))
 not_true false P same = (λ h p. let t = same.1 p in cc, λ no. refl)
 
-answers : (op : Op) (set : KeySet) (P : Type 0) → (IsTrue (set (key_of op)) ↔ P) → Answers op (reply_of op set) P
-answers (Find key) set P same = same
-answers (Insert key) set P same = not_true (set key) P same
-answers (Delete key) set P same = same
+yes : (b : Bool) (P : Type 0) → (IsTrue b ↔ P) → (yes_if b ≡ Yes) ↔ P
+yes true P same = (λ h. same.0 refl, λ p. refl)
+yes false P same = (λ h. absurd cc, λ p. let t = same.1 p in absurd cc)
+
+answers : (op : Op) (set : Contents) (P : Type 0) → (IsTrue (set (key_of op)) ↔ P) → Answers op (reply_of op set) P
+answers (Find key) set P same = yes (set key) P same
+answers (Insert key value) set P same = yes (not (set key)) (¬ P) (not_true (set key) P same)
+answers (Delete key) set P same = yes (set key) P same
 
 pub replies_by_presence : RepliesGoByPresence
 replies_by_presence set ops i op e =

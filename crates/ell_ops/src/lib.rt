@@ -9,6 +9,7 @@ mod limits;
 mod no_memory;
 mod one_thread;
 mod op;
+mod reply;
 
 pub use keys::{distinct_keys, united_keys};
 pub use laws::{last_writer, one_listing};
@@ -16,3 +17,4 @@ pub use limits::{WORKERS_MAX, limits_are_as_defined};
 pub use no_memory::NoMemory;
 pub use one_thread::{apply, apply_all, apply_from};
 pub use op::{KEY_MAX, Op};
+pub use reply::Reply;

@@ -9,8 +9,8 @@ pub const KEY_MAX: u64 = 18_446_744_073_709_551_613;
 pub enum Op {
     /// Is the key in the set?
     Find(u64),
-    /// Adds the key; was it absent?
-    Insert(u64),
+    /// Adds the key; was it absent? Behind the key stands a value, which is not kept yet.
+    Insert(u64, u64),
     /// Removes the key; was it present?
     Delete(u64),
 }
@@ -23,7 +23,7 @@ impl Op {
         ensures { result ≡ key_of self.now }
     {
         match *self {
-            Op::Find(key) | Op::Insert(key) | Op::Delete(key) => key,
+            Op::Find(key) | Op::Insert(key, _) | Op::Delete(key) => key,
         }
     }
 

@@ -6,31 +6,32 @@ use Rattle.std.proofs.lemmas.Grind.{flat_map-append}
 use Rattle.std.proofs.lemmas.List.{append-nil, drop_all, drop_more, take_all}
 use Rattle.std.proofs.lemmas.List.Elements.{Contains-append_left, Contains-append_right}
 use Rattle.std.proofs.lemmas.Option.{slice_get-get_or, slice_get_within, slice_get_read, get_or_from_slice_get}
+use Rattle.ell_ops.specs.declared.reply.Reply.{Reply}
 use Rattle.ell_parts.specs.declared.gathering.GatherFault.TheVariants.{Stranger, Doubled, Missing}
 use Rattle.ell_parts.specs.Gathering.{IsFor, NoneFor, AreSound, IsGathered, IsFault, IsPlaced}
 use Rattle.ell_ops.proofs.Places.{slice_get-push_cases, slice_get-append, slice_get-seam, slice_get-set_same, slice_get-set_other}
 
 -- an item stays where it is when more come behind it
-for_kept : (items rest : List (ℕ × Bool)) (j at : ℕ) → IsFor items j at → IsFor (items ++ rest) j at
+for_kept : (items rest : List (ℕ × Reply)) (j at : ℕ) → IsFor items j at → IsFor (items ++ rest) j at
 for_kept items rest j at h = (h.0, slice_get-append items rest j (slice_get_within items j (at, h.0) h.1) ∙ h.1)
 
-for_back : (items rest : List (ℕ × Bool)) (j at : ℕ) → j < length items → IsFor (items ++ rest) j at → IsFor items j at
+for_back : (items rest : List (ℕ × Reply)) (j at : ℕ) → j < length items → IsFor (items ++ rest) j at → IsFor items j at
 for_back items rest j at below h = (h.0, sym (slice_get-append items rest j below) ∙ h.1)
 
-none_kept : (items rest : List (ℕ × Bool)) (j at : ℕ) → j ≤ length items → NoneFor items j at → NoneFor (items ++ rest) j at
+none_kept : (items rest : List (ℕ × Reply)) (j at : ℕ) → j ≤ length items → NoneFor items j at → NoneFor (items ++ rest) j at
 none_kept items rest j at within none k below h = none k below (for_back items rest k at (omega arith) h)
 
-sound_kept : (n : ℕ) (items rest : List (ℕ × Bool)) → AreSound n items (length items) → AreSound n (items ++ rest) (length items)
+sound_kept : (n : ℕ) (items rest : List (ℕ × Reply)) → AreSound n items (length items) → AreSound n (items ++ rest) (length items)
 sound_kept n items rest sound k at below h =
     let old = sound k at below (for_back items rest k at below h) in
     (old.0, none_kept items rest k at (omega arith) old.1)
 
 -- what contains an item has a place for it
-for_contained : (items : List (ℕ × Bool)) (at : ℕ) (reply : Bool) → Contains items (at, reply) → (k : ℕ) × (k < length items) × IsFor items k at
+for_contained : (items : List (ℕ × Reply)) (at : ℕ) (reply : Reply) → Contains items (at, reply) → (k : ℕ) × (k < length items) × IsFor items k at
 for_contained items at reply h = (h.0, h.1, (reply, slice_get_read items (length items) h.0 (at, reply) refl h.1 (sym h.2)))
 
 -- no item is placed before the first
-pub IsPlaced-none : (answered replies : List Bool) → ((position : ℕ) → position < length answered → get_or answered position false ≡ false) → IsPlaced [] answered replies
+pub IsPlaced-none : (answered : List Bool) (replies : List Reply) → ((position : ℕ) → position < length answered → get_or answered position false ≡ false) → IsPlaced [] answered replies
 IsPlaced-none answered replies untold = record {
   sound = λ k position below. absurd (omega arith);
   told = λ position e. absurd (let fresh = untold position (slice_get_within answered position true e) in let answer = get_or_from_slice_get answered position true false e in cc);
@@ -38,7 +39,7 @@ IsPlaced-none answered replies untold = record {
 }
 
 -- one more item, for a position that no item before it is for
-pub IsPlaced-push : (items : List (ℕ × Bool)) (answered replies : List Bool) (at : ℕ) (reply : Bool) → IsPlaced items answered replies →
+pub IsPlaced-push : (items : List (ℕ × Reply)) (answered : List Bool) (replies : List Reply) (at : ℕ) (reply : Reply) → IsPlaced items answered replies →
     length answered ≡ length replies → at < length answered → slice_get answered at ≡ Some false →
     IsPlaced (items ++ (at, reply) ∷ []) (set answered at true) (set replies at reply)
 IsPlaced-push items answered replies at reply placed same below fresh = record {
@@ -70,7 +71,7 @@ IsPlaced-push items answered replies at reply placed same below fresh = record {
 }
 
 -- the item behind those that are placed is for no position, or for one that is answered
-pub is_stranger : (n : ℕ) (items rest : List (ℕ × Bool)) (answered replies : List Bool) (item : ℕ × Bool) → IsPlaced items answered replies →
+pub is_stranger : (n : ℕ) (items rest : List (ℕ × Reply)) (answered : List Bool) (replies : List Reply) (item : ℕ × Reply) → IsPlaced items answered replies →
     length answered ≡ n → n ≤ item.0 → IsFault n (items ++ item ∷ rest) (Stranger item.0)
 is_stranger n items rest answered replies item placed count past = (
   length items,
@@ -80,7 +81,7 @@ is_stranger n items rest answered replies item placed count past = (
   past,
 )
 
-pub is_doubled : (n : ℕ) (items rest : List (ℕ × Bool)) (answered replies : List Bool) (item : ℕ × Bool) → IsPlaced items answered replies →
+pub is_doubled : (n : ℕ) (items rest : List (ℕ × Reply)) (answered : List Bool) (replies : List Reply) (item : ℕ × Reply) → IsPlaced items answered replies →
     length answered ≡ n → item.0 < n → get_or answered item.0 false ≡ true → IsFault n (items ++ item ∷ rest) (Doubled item.0)
 is_doubled n items rest answered replies item placed count below answer =
     let within : item.0 < length answered = omega arith in
@@ -96,13 +97,13 @@ is_doubled n items rest answered replies item placed count below answer =
     )
 
 -- the list of the items, cut at one of them
-pub items-cut : (before piece after : List (ℕ × Bool)) (i : ℕ) (d : ℕ × Bool) → i < length piece →
+pub items-cut : (before piece after : List (ℕ × Reply)) (i : ℕ) (d : ℕ × Reply) → i < length piece →
     (before ++ piece) ++ after ≡ (before ++ take i piece) ++ (get_or piece i d ∷ (drop (i + 1) piece ++ after))
 items-cut before piece after i d below =
     ap (λ p. (before ++ p) ++ after) (sym (take-append-drop i piece) ∙ ap (λ p. take i piece ++ p) (drop_more piece i d below)) ∙ simp append_assoc
 
 -- and the list of the pieces' items, cut round one piece
-pub pieces-cut : {V : Type 0} (items : V → List (ℕ × Bool)) (pieces : List V) (i : ℕ) (d : V) → i < length pieces →
+pub pieces-cut : {V : Type 0} (items : V → List (ℕ × Reply)) (pieces : List V) (i : ℕ) (d : V) → i < length pieces →
     flat_map items pieces ≡ (flat_map items (take i pieces) ++ items (get_or pieces i d)) ++ flat_map items (drop (i + 1) pieces)
 pieces-cut items pieces i d below =
     ap (flat_map items) (sym (take-append-drop i pieces) ∙ ap (λ p. take i pieces ++ p) (drop_more pieces i d below))
@@ -115,7 +116,7 @@ take-written n new old count was =
     ap (λ rest. take n (new ++ rest)) (drop_all (length new) old (omega arith)) ∙ ap (take n) (append-nil new) ∙ take_all n new (omega arith)
 
 -- a position that is not answered
-pub is_missing : (n : ℕ) (items : List (ℕ × Bool)) (answered replies : List Bool) (at : ℕ) → IsPlaced items answered replies → length answered ≡ n → at < n →
+pub is_missing : (n : ℕ) (items : List (ℕ × Reply)) (answered : List Bool) (replies : List Reply) (at : ℕ) → IsPlaced items answered replies → length answered ≡ n → at < n →
     get_or answered at true ≡ false → ((k : ℕ) → k < at → get_or answered k false ≡ true) → IsFault n items (Missing at)
 is_missing n items answered replies at placed count below fresh all =
     let within : at < length answered = omega arith in (
@@ -128,7 +129,7 @@ is_missing n items answered replies at placed count below fresh all =
     )
 
 -- all positions answered
-pub is_gathered : (n : ℕ) (items : List (ℕ × Bool)) (answered replies : List Bool) → IsPlaced items answered replies → length answered ≡ n → length replies ≡ n →
+pub is_gathered : (n : ℕ) (items : List (ℕ × Reply)) (answered : List Bool) (replies : List Reply) → IsPlaced items answered replies → length answered ≡ n → length replies ≡ n →
     ((k : ℕ) → k < n → get_or answered k false ≡ true) → IsGathered n items replies
 is_gathered n items answered replies placed count same all = record {
   count = same;

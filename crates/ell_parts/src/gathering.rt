@@ -1,8 +1,10 @@
 //! Replies with the positions that they are for, put back into the order of the positions.
-ghost use Rattle.std.specs.Prelude.{◌≡◌, ℕ, Bool, List, ◌++◌, length, IfOk, IfErr, OnOk};
+ghost use Rattle.std.specs.Prelude.{◌≡◌, ℕ, List, ◌++◌, length, IfOk, IfErr, OnOk};
 ghost use Rattle.std.specs.List.{flat_map};
+ghost use Rattle.ell_ops.specs.declared.reply.Reply.{Reply};
 ghost use Rattle.ell_parts.specs.Gathering.{IsGathered, IsFault, IsPlaced};
 
+use ell_ops::Reply;
 use std::alloc::{AllocError, Allocator};
 use thiserror::Error;
 
@@ -39,13 +41,13 @@ impl From<AllocError> for GatherFault {
 pub fn gather<A: Allocator + Copy, P: Allocator>(
     alloc: A,
     n: usize,
-    pieces: &[Vec<(usize, bool), P>],
-) -> Result<Vec<bool, A>, GatherFault>
+    pieces: &[Vec<(usize, Reply), P>],
+) -> Result<Vec<Reply, A>, GatherFault>
     ensures ok { IfOk result (λ replies. IsGathered n (flat_map (λ piece. piece.items) pieces.now) replies.items) }
     ensures fault { IfErr result (IsFault n (flat_map (λ piece. piece.items) pieces.now)) }
 {
     let mut answered = vec![in alloc; false; n]?;
-    let mut replies = vec![in alloc; false; n]?;
+    let mut replies = vec![in alloc; Reply::No; n]?;
     for piece in pieces {
         place(&mut answered, &mut replies, piece)?;
     }
@@ -58,13 +60,13 @@ pub fn gather<A: Allocator + Copy, P: Allocator>(
 // Puts the reply of each item of a piece at its position. Items `before` were placed already, and `after` may follow.
 fn place(
     answered: &mut [bool],
-    replies: &mut [bool],
-    piece: &[(usize, bool)],
+    replies: &mut [Reply],
+    piece: &[(usize, Reply)],
 ) -> Result<(), GatherFault>
     requires { length answered.old ≡ length replies.old }
-    ensures ok { (before : List (ℕ × Bool)) → IsPlaced before answered.old replies.old →
+    ensures ok { (before : List (ℕ × Reply)) → IsPlaced before answered.old replies.old →
         OnOk result (IsPlaced (before ++ piece.now) answered.new replies.new) }
-    ensures err { (before after : List (ℕ × Bool)) → IsPlaced before answered.old replies.old →
+    ensures err { (before after : List (ℕ × Reply)) → IsPlaced before answered.old replies.old →
         IfErr result (IsFault (length answered.old) (before ++ piece.now ++ after)) }
 {
     for (position, reply) in piece {

@@ -7,6 +7,7 @@ use Rattle.std.proofs.lemmas.List.Elements.{All-filter, filter-append}
 use Rattle.std.proofs.lemmas.List.FromFn.{get_or-range_with_len, length-range_with_len}
 use Rattle.ell_run.specs.Pieces.{all_workers, busy}
 use Rattle.std.specs.List.{range_with_len}
+use Rattle.std.specs.List.Sorted.{IsStrictlyIncreasing}
 use Rattle.ell_ops.specs.declared.op.Op.{Op}
 use Rattle.ell_parts.specs.Parting.{Parting, part}
 
@@ -66,11 +67,21 @@ pub busy_pushed : (parting : Parting) (worker : ℕ) (items : List (ℕ × Op)) 
 busy_pushed parting worker items before pushed after all push end same some =
     end ∙ push ∙ ap (λ workers. workers ++ worker ∷ []) all ∙ sym (busy_more parting worker items same some)
 
--- the busy workers are among all
-pub busy_known : (parting : Parting) → All (λ worker. worker < parting.workers) (busy parting)
-busy_known parting =
-    All-filter (is_busy parting) (λ worker. worker < parting.workers) (all_workers parting)
-    (λ k d below.
+-- each worker has a number below theirs
+pub all_known : (parting : Parting) → All (λ worker. worker < parting.workers) (all_workers parting)
+all_known parting k d below =
     let within : k < parting.workers = omega (arith, length-range_with_len 0 parting.workers) in
     let here = get_or-range_with_len 0 parting.workers k d within in
-    omega arith)
+    omega arith
+
+-- and so have the busy ones among them
+pub busy_known : (parting : Parting) → All (λ worker. worker < parting.workers) (busy parting)
+busy_known parting = All-filter (is_busy parting) (λ worker. worker < parting.workers) (all_workers parting) (all_known parting)
+
+-- all workers stand in their order
+pub all_ascend : (parting : Parting) → IsStrictlyIncreasing (all_workers parting)
+all_ascend parting k below =
+    let within : k + 1 < parting.workers = omega (arith, length-range_with_len 0 parting.workers) in
+    let here = get_or-range_with_len 0 parting.workers k 0 (omega arith) in
+    let next = get_or-range_with_len 0 parting.workers (k + 1) 0 within in
+    omega arith

@@ -5,8 +5,7 @@ use Rattle.std.proofs.Math.Seq.{take-add}
 use Rattle.std.proofs.lemmas.List.{map-append, take-append-drop, take-map, take-take}
 use Rattle.std.proofs.lemmas.Bool.{cases_Bool, cases_eq, eqb-true, eq-eqb, ne_eqb, cond-true, cond-false}
 use Rattle.ell_ops.specs.declared.Op.{Op}
-use Rattle.ell_ops.specs.KeySet.{KeySet}
-use Rattle.ell_ops.specs.Meaning.{key_of, after, replies, final}
+use Rattle.ell_ops.specs.Meaning.{Contents, key_of, after, replies, final}
 use Rattle.ell_parts.specs.Parting.{Parting, IsLawful, part}
 use Rattle.ell_run.specs.ByParts.{ops_in, Owns, done, IsRest, AreDone, ReplyAlike, PartsServe}
 use Rattle.ell_ops.proofs.Places.{slice_get-drop, slice_get_from_take, slice_get_within_take}
@@ -185,7 +184,7 @@ some_owner parting lawful key =
     (find_key parting.ops key)
 
 -- what stands before an operation, in its part and in the list, leaves its key alike
-before_alike : (set : KeySet) (parting : Parting) (worker d : ℕ) (op : Op) → Owns parting worker (key_of op) →
+before_alike : (set : Contents) (parting : Parting) (worker d : ℕ) (op : Op) → Owns parting worker (key_of op) →
     final set (ops_in (part_from (λ i. slice_index parting.owners i) 0 (take d parting.ops) worker)) (key_of op) ≡ final set (take d parting.ops) (key_of op)
 before_alike set parting worker d op owns =
     final_alike (ops_in (part_from (λ i. slice_index parting.owners i) 0 (take d parting.ops) worker)) (take d parting.ops) set set (key_of op) refl
@@ -193,7 +192,7 @@ before_alike set parting worker d op owns =
     (λ k other e on. subst (λ n. slice_index parting.owners n ≡ worker) (omega arith) (owns k other (slice_get_from_take d parting.ops k other e) on)))
 
 -- the same for the whole list
-pub whole_alike : (set : KeySet) (parting : Parting) (worker key : ℕ) → Owns parting worker key →
+pub whole_alike : (set : Contents) (parting : Parting) (worker key : ℕ) → Owns parting worker key →
     final set (ops_in (part parting worker)) key ≡ final set parting.ops key
 whole_alike set parting worker key owns =
     final_alike (ops_in (part parting worker)) parting.ops set set key refl
@@ -201,13 +200,13 @@ whole_alike set parting worker key owns =
     (λ k other e on. subst (λ n. slice_index parting.owners n ≡ worker) (omega arith) (owns k other e on)))
 
 -- replies to one operation are alike where the sets before it agree on its key
-same_reply : (s t : KeySet) (xs ys : List Op) (j d : ℕ) (op : Op) → slice_get xs j ≡ Some op → slice_get ys d ≡ Some op →
+same_reply : (s t : Contents) (xs ys : List Op) (j d : ℕ) (op : Op) → slice_get xs j ≡ Some op → slice_get ys d ≡ Some op →
     final s (take j xs) (key_of op) ≡ final t (take d ys) (key_of op) → slice_get (replies s xs) j ≡ slice_get (replies t ys) d
 same_reply s t xs ys j d op x y same =
     reply_at s xs j op x ∙ ap Some (reply_alike op (final s (take j xs)) (final t (take d ys)) same) ∙ sym (reply_at t ys d op y)
 
 -- a reply in a part is that in the list
-pub part_reply : (set : KeySet) (parting : Parting) → IsLawful parting → (worker n : ℕ) → ReplyAlike set (take n (part parting worker)) set parting.ops
+pub part_reply : (set : Contents) (parting : Parting) → IsLawful parting → (worker n : ℕ) → ReplyAlike set (take n (part parting worker)) set parting.ops
 part_reply set parting lawful worker n j i op e =
     let front : take j (take n (part parting worker)) ≡ take j (part parting worker) =
     take-take j n (part parting worker) (omega (arith, slice_get_within_take n (part parting worker) j (i, op) e)) in
@@ -255,10 +254,10 @@ rest_owned parting counts rest remains worker key owns j i op e on =
     subst (λ k. slice_index parting.owners k ≡ worker) here (owns h.behind op h.there on)
 
 -- a front of the done part and what follows it, one after the other
-done_then : (set : KeySet) (xs ys : List (ℕ × Op)) → final (final set (ops_in xs)) (ops_in ys) ≡ final set (ops_in (xs ++ ys))
+done_then : (set : Contents) (xs ys : List (ℕ × Op)) → final (final set (ops_in xs)) (ops_in ys) ≡ final set (ops_in (xs ++ ys))
 done_then set xs ys = sym (final-append (ops_in xs) (ops_in ys) set) ∙ ap (final set) (sym (map-append (λ (item : ℕ × Op). item.1) xs ys))
 
-rest_reply : (set : KeySet) (parting : Parting) (counts : ℕ → ℕ) (after : KeySet) (rest : List (ℕ × Op)) →
+rest_reply : (set : Contents) (parting : Parting) (counts : ℕ → ℕ) (after : Contents) (rest : List (ℕ × Op)) →
     IsLawful parting → AreDone set parting counts after → IsRest parting counts rest → ReplyAlike after rest set parting.ops
 rest_reply set parting counts after rest lawful did remains j i op e =
     let worker = slice_index parting.owners i in
@@ -279,7 +278,7 @@ rest_reply set parting counts after rest lawful did remains j i op e =
     ∙ before_alike set parting worker h.behind op owns)
     ∙ ap (slice_get (replies set parting.ops)) here
 
-rest_final : (set : KeySet) (parting : Parting) (counts : ℕ → ℕ) (after : KeySet) (rest : List (ℕ × Op)) →
+rest_final : (set : Contents) (parting : Parting) (counts : ℕ → ℕ) (after : Contents) (rest : List (ℕ × Op)) →
     IsLawful parting → AreDone set parting counts after → IsRest parting counts rest → (key : ℕ) → final after (ops_in rest) key ≡ final set parting.ops key
 rest_final set parting counts after rest lawful did remains key =
     let owner = some_owner parting lawful key in

@@ -1,4 +1,4 @@
-use Rattle.std.proofs.Common.{◌≡◌, ℕ, zero, suc, ◌+◌, ◌-◌, ◌<◌, ◌≤◌, Bool, true, false, eqb, List, [], ◌∷◌, ◌++◌, length, filter, take, drop, map, arith, refl, ap, sym, subst, ◌∙◌}
+use Rattle.std.proofs.Common.{◌≡◌, ℕ, zero, suc, ◌+◌, ◌-◌, ◌<◌, ◌≤◌, true, false, eqb, List, [], ◌∷◌, ◌++◌, length, filter, take, drop, map, arith, refl, ap, sym, subst, ◌∙◌}
 use Rattle.std.specs.Prelude.{nat_lt, slice_get}
 use Rattle.std.specs.List.{insert, range_with_len, sum_by}
 use Rattle.std.proofs.lemmas.Bool.{cond-true, cond-false}
@@ -6,8 +6,7 @@ use Rattle.std.proofs.lemmas.List.{append-nil, append_assoc, length-append}
 use Rattle.std.proofs.lemmas.List.FromFn.{length-range_with_len}
 use Rattle.std.proofs.lemmas.List.Sums.{sum_by-append, sum_by-cons, sum_by-take-drop}
 use Rattle.ell_ops.specs.declared.op.Op.{Op}
-use Rattle.ell_ops.specs.KeySet.{KeySet}
-use Rattle.ell_ops.specs.Meaning.{final}
+use Rattle.ell_ops.specs.Meaning.{Contents, final}
 use Rattle.ell_parts.specs.Parting.{Parting, part}
 use Rattle.ell_tree.specs.Ledgers.{PassModel, present_in}
 use Rattle.ell_run.specs.ByParts.{ops_in}
@@ -15,6 +14,7 @@ use Rattle.ell_run.specs.Pieces.{ArePieces, IsPiece, all_workers, busy, front, o
 use Rattle.ell_run.specs.Work.{AreHeld, IsWorked}
 use Rattle.ell_run.proofs.Held.{all_held-insert}
 use Rattle.ell_run.proofs.Busy.{counted, is_busy, no_items, some_items, none_left}
+use Rattle.ell_ops.specs.declared.reply.Reply.{Reply}
 
 -- the busy workers from one on
 abbrev busy_from : Parting → ℕ → List ℕ
@@ -67,7 +67,7 @@ mixed_filled parting worker =
     ∙ append_assoc (range_with_len 0 worker) (worker ∷ []) (busy_from parting (worker + 1))
 
 -- the empty piece of an empty part
-empty_piece : (s : KeySet) (items : List (ℕ × Op)) → items ≡ [] → IsPiece s items []
+empty_piece : (s : Contents) (items : List (ℕ × Op)) → items ≡ [] → IsPiece s items []
 empty_piece s items none = record {
   few = omega arith;
   done = refl;
@@ -75,30 +75,30 @@ empty_piece s items none = record {
 }
 
 -- among the pieces of workers
-pieces-insert : (s : KeySet) (parting : Parting) (xs ys : List ℕ) (worker : ℕ) (ps : List (List (ℕ × Bool))) → part parting worker ≡ [] →
+pieces-insert : (s : Contents) (parting : Parting) (xs ys : List ℕ) (worker : ℕ) (ps : List (List (ℕ × Reply))) → part parting worker ≡ [] →
     ArePieces s parting (xs ++ ys) ps → ArePieces s parting (xs ++ worker ∷ ys) (insert ps (length xs) [])
 pieces-insert s parting [] ys worker ps none h = (empty_piece s (part parting worker) none, h)
 pieces-insert s parting (x ∷ xs) ys worker [] none h = absurd h
 pieces-insert s parting (x ∷ xs) ys worker (p ∷ ps) none h = (h.0, pieces-insert s parting xs ys worker ps none h.1)
 
-done-insert : (parting : Parting) (xs ys : List ℕ) (worker : ℕ) (ps : List (List (ℕ × Bool))) (s : KeySet) → ArePieces s parting (xs ++ ys) ps →
+done-insert : (parting : Parting) (xs ys : List ℕ) (worker : ℕ) (ps : List (List (ℕ × Reply))) (s : Contents) → ArePieces s parting (xs ++ ys) ps →
     ops_done parting (xs ++ worker ∷ ys) (insert ps (length xs) []) ≡ ops_done parting (xs ++ ys) ps
 done-insert parting [] ys worker ps s h = refl
 done-insert parting (x ∷ xs) ys worker [] s h = absurd h
 done-insert parting (x ∷ xs) ys worker (p ∷ ps) s h = ap (λ l. ops_in (front (part parting x) p) ++ l) (done-insert parting xs ys worker ps s h.1)
 
-sum-insert : (ps : List (List (ℕ × Bool))) (n : ℕ) → sum_by length (insert ps n []) ≡ sum_by length ps
+sum-insert : (ps : List (List (ℕ × Reply))) (n : ℕ) → sum_by length (insert ps n []) ≡ sum_by length ps
 sum-insert ps n =
     let front = take n ps in
     let back = drop n ps in
     omega (
       arith,
-      sum_by-append (λ (p : List (ℕ × Bool)). length p) front ([] ∷ back),
-      sum_by-cons (λ (p : List (ℕ × Bool)). length p) [] back,
-      sum_by-take-drop (λ (p : List (ℕ × Bool)). length p) ps n,
+      sum_by-append (λ (p : List (ℕ × Reply)). length p) front ([] ∷ back),
+      sum_by-cons (λ (p : List (ℕ × Reply)). length p) [] back,
+      sum_by-take-drop (λ (p : List (ℕ × Reply)). length p) ps n,
     )
 
-worked-insert : (cards tries : ℕ) (parting : Parting) (xs ys : List ℕ) (worker : ℕ) (before after : PassModel) (ps : List (List (ℕ × Bool))) → part parting worker ≡ [] →
+worked-insert : (cards tries : ℕ) (parting : Parting) (xs ys : List ℕ) (worker : ℕ) (before after : PassModel) (ps : List (List (ℕ × Reply))) → part parting worker ≡ [] →
     IsWorked cards tries parting (xs ++ ys) before after ps → IsWorked cards tries parting (xs ++ worker ∷ ys) before after (insert ps (length xs) [])
 worked-insert cards tries parting xs ys worker before after ps none h =
     let answered = h.answers in
@@ -115,7 +115,7 @@ worked-insert cards tries parting xs ys worker before after ps none h =
     }
 
 -- one worker more with nothing to do: its empty piece comes to its place
-pub worked_idle : (cards tries : ℕ) (parting : Parting) (worker : ℕ) (items : List (ℕ × Op)) (before after : PassModel) (ps : List (List (ℕ × Bool))) → worker < parting.workers →
+pub worked_idle : (cards tries : ℕ) (parting : Parting) (worker : ℕ) (items : List (ℕ × Op)) (before after : PassModel) (ps : List (List (ℕ × Reply))) → worker < parting.workers →
     items ≡ part parting worker → true ≡ eqb (length items) 0 →
     IsWorked cards tries parting (mixed parting worker) before after ps →
     IsWorked cards tries parting (mixed parting (worker + 1)) before after (insert ps worker [])

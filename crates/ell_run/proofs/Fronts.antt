@@ -1,12 +1,11 @@
-use Rattle.std.proofs.Common.{◌≡◌, ◌↔◌, ℕ, ◌+◌, ◌<◌, ◌≤◌, Bool, List, [], ◌∷◌, ◌++◌, length, get_or, take, arith, refl, ap, sym, subst, ◌∙◌}
+use Rattle.std.proofs.Common.{◌≡◌, ◌↔◌, ℕ, ◌+◌, ◌<◌, ◌≤◌, List, [], ◌∷◌, ◌++◌, length, get_or, take, arith, refl, ap, sym, subst, ◌∙◌}
 use Rattle.std.specs.Prelude.{nat_lt}
 use Rattle.std.proofs.Math.Nat.{add-zero}
 use Rattle.std.proofs.lemmas.Bool.{cond-true, cond-false, le-ltb, lt-ltb}
 use Rattle.std.proofs.lemmas.List.{append-nil, length_push, map-append, take_more}
 use Rattle.std.proofs.lemmas.Option.{slice_get_within, get_or_from_slice_get}
 use Rattle.ell_ops.specs.declared.op.Op.{Op}
-use Rattle.ell_ops.specs.KeySet.{KeySet}
-use Rattle.ell_ops.specs.Meaning.{reply_of, final}
+use Rattle.ell_ops.specs.Meaning.{Contents, reply_of, final}
 use Rattle.ell_ops.specs.Meaning.{after as after_op}
 use Rattle.ell_tree.specs.declared.operations.Held.{Held}
 use Rattle.ell_tree.specs.Ends.{Answers, HeldFor, LaidDown}
@@ -18,9 +17,10 @@ use Rattle.ell_run.specs.Pieces.{front, one_held, piece_from}
 use Rattle.ell_run.specs.Work.{AreHeld, IsWorked, IsWorkedOff}
 use Rattle.ell_run.proofs.Held.{hindrances_grow, none_held, once_held}
 use Rattle.ell_run.proofs.OnKey.{final-append}
+use Rattle.ell_ops.specs.declared.reply.Reply.{Reply}
 
 -- so many operations of a part were done with a pass
-pub record IsFrontDone (items : List (ℕ × Op)) (i : ℕ) (before after : PassModel) (piece : List (ℕ × Bool)) : Type 0 where
+pub record IsFrontDone (items : List (ℕ × Op)) (i : ℕ) (before after : PassModel) (piece : List (ℕ × Reply)) : Type 0 where
   pub table : after.table ≡ before.table
   pub idle : IsIdle after
   pub few : i ≤ length items
@@ -32,13 +32,13 @@ pub record IsFrontDone (items : List (ℕ × Op)) (i : ℕ) (before after : Pass
   pub grows : hindrances before ≤ hindrances after
 
 -- one operation more has its reply on the set behind those before it
-pub piece_from-push : (s : KeySet) (items : List (ℕ × Op)) (item : ℕ × Op) →
+pub piece_from-push : (s : Contents) (items : List (ℕ × Op)) (item : ℕ × Op) →
     piece_from s (items ++ item ∷ []) ≡ piece_from s items ++ (item.0, reply_of item.1 (final s (ops_in items))) ∷ []
 piece_from-push s [] item = refl
 piece_from-push s (x ∷ items) item = ap (λ l. (x.0, reply_of x.1 s) ∷ l) (piece_from-push (after_op x.1 s) items item)
 
 -- one operation further
-pub front_more : (items : List (ℕ × Op)) (i : ℕ) (d : ℕ × Op) (before mid after : PassModel) (piece : List (ℕ × Bool)) (reply : Bool) → i < length items →
+pub front_more : (items : List (ℕ × Op)) (i : ℕ) (d : ℕ × Op) (before mid after : PassModel) (piece : List (ℕ × Reply)) (reply : Reply) → i < length items →
     IsFrontDone items i before mid piece → Answers (get_or items i d).1 reply mid after → Meets mid.view after.view →
     IsFrontDone items (i + 1) before after (piece ++ ((get_or items i d).0, reply) ∷ [])
 front_more items i d before mid after piece reply below h a meets =
@@ -66,7 +66,7 @@ front_more items i d before mid after piece reply below h a meets =
     }
 
 -- all operations are done
-pub front_all : (cards tries : ℕ) (items : List (ℕ × Op)) (i : ℕ) (before after : PassModel) (piece : List (ℕ × Bool)) → length items ≤ i →
+pub front_all : (cards tries : ℕ) (items : List (ℕ × Op)) (i : ℕ) (before after : PassModel) (piece : List (ℕ × Reply)) → length items ≤ i →
     IsFrontDone items i before after piece → IsWorkedOff cards tries items before after piece
 front_all cards tries items i before after piece all h =
     let few = h.few in
@@ -91,7 +91,7 @@ front_all cards tries items i before after piece all h =
     }
 
 -- the next operation is held
-pub front_held : (cards tries : ℕ) (items : List (ℕ × Op)) (i : ℕ) (d : ℕ × Op) (before mid after : PassModel) (piece : List (ℕ × Bool)) (why : Held) →
+pub front_held : (cards tries : ℕ) (items : List (ℕ × Op)) (i : ℕ) (d : ℕ × Op) (before mid after : PassModel) (piece : List (ℕ × Reply)) (why : Held) →
     i < length items → IsFrontDone items i before mid piece → LaidDown (get_or items i d).1 mid after → HeldFor cards tries mid after why →
     IsWorkedOff cards tries items before after piece
 front_held cards tries items i d before mid after piece why below h l held_for =
@@ -123,8 +123,8 @@ front_held cards tries items i d before mid after piece why below h l held_for =
     }
 
 -- one worker has worked its part off, by a pass that got another label
-pub one_worked : (cards tries : ℕ) (parting : Parting) (workers : List ℕ) (d label : ℕ) (before told after : PassModel) (items : List (ℕ × Op)) (piece : List (ℕ × Bool))
-    (pieces : List (List (ℕ × Bool))) → 0 < length workers → length workers < 2 → told ≡ record before { label = label } →
+pub one_worked : (cards tries : ℕ) (parting : Parting) (workers : List ℕ) (d label : ℕ) (before told after : PassModel) (items : List (ℕ × Op)) (piece : List (ℕ × Reply))
+    (pieces : List (List (ℕ × Reply))) → 0 < length workers → length workers < 2 → told ≡ record before { label = label } →
     items ≡ part parting (get_or workers 0 d) → IsWorkedOff cards tries items told after piece → pieces ≡ piece ∷ [] →
     IsWorked cards tries parting workers before after pieces
 one_worked cards tries parting [] d label before told after items piece pieces some few same own h is = absurd (omega arith)

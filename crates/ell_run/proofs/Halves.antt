@@ -14,7 +14,7 @@ use Rattle.ell_ops.specs.declared.op.Op.TheVariants.{Find}
 use Rattle.ell_ops.specs.KeySet.{Lists}
 use Rattle.ell_ops.specs.Meaning.{key_of, final}
 use Rattle.ell_parts.specs.Parting.{Parting, IsLawful, part, keys_in}
-use Rattle.ell_tree.specs.Ledgers.{PassModel, TreeModel, Owns, ledger, present_in}
+use Rattle.ell_tree.specs.Ledgers.{PassModel, TreeModel, Owns, ledger, present_in, Entry}
 use Rattle.ell_tree.specs.Parts.{IsUnion, or_else}
 use Rattle.ell_run.specs.Pieces.{all_held, ops_done}
 use Rattle.ell_run.specs.Work.{AreHalves, AreHeld, AreReady, IsWorked, OwnsAll, keys_for}
@@ -22,6 +22,7 @@ use Rattle.ell_run.proofs.ByParts.{part_item}
 use Rattle.ell_run.proofs.Held.{all_held-append, held_both}
 use Rattle.ell_run.proofs.OnKey.{on_key, on_key-append, final_alike}
 use Rattle.ell_run.proofs.Rows.{IsOffKey, all_at, done-append, done_off_key, pieces-append, pieces_alike}
+use Rattle.ell_ops.specs.declared.reply.Reply.{Reply}
 
 -- where no element passes, each fails
 all_fail : {X : Type 0} (p : X → Bool) (xs : List X) → list_any p xs ≡ false → All (λ x. p x ≡ false) xs
@@ -130,11 +131,11 @@ present_alike p q key same = rw same refl
 owns_alike : (p q : PassModel) (key : ℕ) → ledger p key ≡ ledger q key → Owns p key ↔ Owns q key
 owns_alike p q key same = (λ h e. h (same ∙ e), λ h e. h (sym same ∙ e))
 
-none_or : (o : Option Bool) → ((o ≢ None) → ⊥) → o ≡ None
+none_or : (o : Option Entry) → ((o ≢ None) → ⊥) → o ≡ None
 none_or None never = refl
 none_or (Some b) never = absurd (never (λ e. cc))
 
-or_else_none : (o : Option Bool) → or_else o None ≡ o
+or_else_none : (o : Option Entry) → or_else o None ≡ o
 or_else_none None = refl
 or_else_none (Some b) = refl
 
@@ -192,7 +193,7 @@ module _ (tree : TreeModel) (parting : Parting) (low high : List ℕ) (pass left
         (owns_alike right pass (key_of (get_or (part parting (get_or high j d)) k e).1) (own_right j d below k e within)).1 (owned k e within);
   }
 
-  module _ (cards tries : ℕ) (first second both : PassModel) (ps qs : List (List (ℕ × Bool)))
+  module _ (cards tries : ℕ) (first second both : PassModel) (ps qs : List (List (ℕ × Reply)))
       (did : IsWorked cards tries parting low left first ps) (other : IsWorked cards tries parting high right second qs)
       (union : IsUnion first second both) where
     -- the ledger of both at a key is that of its half
@@ -254,7 +255,7 @@ module _ (tree : TreeModel) (parting : Parting) (low high : List ℕ) (pass left
           told = pieces-append (present_in pass) parting low high ps qs first_told second_told;
           set = (λ i key. set_at key i) ∙ ap (final (present_in pass)) (sym (done-append (present_in pass) parting low high ps qs first_told));
           owned = owned_at;
-          answers = omega (arith, sum_by-append (λ (piece : List (ℕ × Bool)). length piece) ps qs);
+          answers = omega (arith, sum_by-append (λ (piece : List (ℕ × Reply)). length piece) ps qs);
           held =
               subst (λ n. AreHeld cards tries n pass both)
               (sym (all_held-append (present_in pass) parting low high ps qs first_told))

@@ -69,31 +69,59 @@ alike true b f g = sym (f refl)
 alike false true f g = g refl
 alike false false f g = refl
 
--- the keys of the busy workers are those of the list
-pub busy_keys : (parting : Parting) → IsLawful parting → keys_for parting (busy parting) ≡ keys_of parting.ops
-busy_keys parting lawful = λ i key. alike (keys_for parting (busy parting) key) (keys_of parting.ops key) (listed key) (parted key) i
-  where
-    listed : (key : ℕ) → keys_for parting (busy parting) key ≡ true → keys_of parting.ops key ≡ true
-    listed key some =
-        let has = has_key parting (busy parting) key some in
-        let here = part_item parting has.worker has.place has.item.0 has.item.1 has.there in
-        any_there (eqb key) (map key_of parting.ops) has.item.0 (key_of has.item.1) (map_there key_of parting.ops has.item.0 has.item.1 here.1)
-        (eq-eqb key (key_of has.item.1) (sym has.on))
+-- a worker with an operation on the key
+record HasWorker (parting : Parting) (key : ℕ) : Type 0 where
+  worker : ℕ
+  known : worker < parting.workers
+  some : 0 < length (part parting worker)
+  among : keys_in (part parting worker) key ≡ true
 
+-- each key of the list has one
+has_worker : (parting : Parting) → IsLawful parting → (key : ℕ) → keys_of parting.ops key ≡ true → HasWorker parting key
+has_worker parting lawful key some =
+    let it = key_item parting.ops key some in
+    let worker = owner_in parting it.0 in
+    let there = part_has (owner_in parting) 0 parting.ops worker it.0 it.1 it.2 (ap (owner_in parting) (omega arith)) in
+    let within = slice_get_within (part parting worker) there.0 (0 + it.0, it.1) there.1 in
+    record {
+      worker = worker;
+      known = lawful.known it.0 (omega (arith, lawful.each, slice_get_within parting.ops it.0 it.1 it.2));
+      some = omega (arith, within);
+      among =
+          any_there (eqb key) (map (λ (item : ℕ × Op). key_of item.1) (part parting worker)) there.0 (key_of it.1)
+          (map_there (λ (item : ℕ × Op). key_of item.1) (part parting worker) there.0 (0 + it.0, it.1) there.1) (eq-eqb key (key_of it.1) it.3);
+    }
+
+-- and each key of workers is on the list
+listed_key : (parting : Parting) (workers : List ℕ) (key : ℕ) → keys_for parting workers key ≡ true → keys_of parting.ops key ≡ true
+listed_key parting workers key some =
+    let has = has_key parting workers key some in
+    let here = part_item parting has.worker has.place has.item.0 has.item.1 has.there in
+    any_there (eqb key) (map key_of parting.ops) has.item.0 (key_of has.item.1) (map_there key_of parting.ops has.item.0 has.item.1 here.1)
+    (eq-eqb key (key_of has.item.1) (sym has.on))
+
+-- a worker stands at its own place among all
+stands_there : (parting : Parting) (worker : ℕ) → worker < parting.workers → slice_get (all_workers parting) worker ≡ Some worker
+stands_there parting worker known =
+    let number : get_or (all_workers parting) worker 0 ≡ worker = (let here = get_or-range_with_len 0 parting.workers worker 0 known in omega arith) in
+    slice_get-get_or (all_workers parting) worker 0 (omega (arith, known, length-range_with_len 0 parting.workers)) ∙ ap Some number
+
+-- the keys of all workers are those of the list
+pub all_keys : (parting : Parting) → IsLawful parting → keys_for parting (all_workers parting) ≡ keys_of parting.ops
+all_keys parting lawful = λ i key. alike (keys_for parting (all_workers parting) key) (keys_of parting.ops key) (listed_key parting (all_workers parting) key) (parted key) i
+  where
+    parted : (key : ℕ) → keys_of parting.ops key ≡ true → keys_for parting (all_workers parting) key ≡ true
+    parted key some =
+        let has = has_worker parting lawful key some in
+        any_there (λ w. keys_in (part parting w) key) (all_workers parting) has.worker has.worker (stands_there parting has.worker has.known) has.among
+
+-- and so are those of the busy ones
+pub busy_keys : (parting : Parting) → IsLawful parting → keys_for parting (busy parting) ≡ keys_of parting.ops
+busy_keys parting lawful = λ i key. alike (keys_for parting (busy parting) key) (keys_of parting.ops key) (listed_key parting (busy parting) key) (parted key) i
+  where
     parted : (key : ℕ) → keys_of parting.ops key ≡ true → keys_for parting (busy parting) key ≡ true
     parted key some =
-        let it = key_item parting.ops key some in
-        let worker = owner_in parting it.0 in
-        let there = part_has (owner_in parting) 0 parting.ops worker it.0 it.1 it.2 (ap (owner_in parting) (omega arith)) in
-        let known : worker < parting.workers = lawful.known it.0 (omega (arith, lawful.each, slice_get_within parting.ops it.0 it.1 it.2)) in
-        let within = slice_get_within (part parting worker) there.0 (0 + it.0, it.1) there.1 in
-        let stands = filter_at (is_busy parting) (all_workers parting) worker worker (stands_there parting worker known)
-        (lt-ltb 0 (length (part parting worker)) (omega (arith, within))) in
-        any_there (λ w. keys_in (part parting w) key) (busy parting) (length (filter (is_busy parting) (take worker (all_workers parting)))) worker stands.0
-        (any_there (eqb key) (map (λ (item : ℕ × Op). key_of item.1) (part parting worker)) there.0 (key_of it.1)
-        (map_there (λ (item : ℕ × Op). key_of item.1) (part parting worker) there.0 (0 + it.0, it.1) there.1) (eq-eqb key (key_of it.1) it.3))
-      where
-        stands_there : (parting : Parting) (worker : ℕ) → worker < parting.workers → slice_get (all_workers parting) worker ≡ Some worker
-        stands_there parting worker known =
-            let number : get_or (all_workers parting) worker 0 ≡ worker = (let here = get_or-range_with_len 0 parting.workers worker 0 known in omega arith) in
-            slice_get-get_or (all_workers parting) worker 0 (omega (arith, known, length-range_with_len 0 parting.workers)) ∙ ap Some number
+        let has = has_worker parting lawful key some in
+        let stands = filter_at (is_busy parting) (all_workers parting) has.worker has.worker (stands_there parting has.worker has.known)
+        (lt-ltb 0 (length (part parting has.worker)) has.some) in
+        any_there (λ w. keys_in (part parting w) key) (busy parting) (length (filter (is_busy parting) (take has.worker (all_workers parting)))) has.worker stands.0 has.among

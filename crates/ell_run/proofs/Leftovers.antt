@@ -11,8 +11,8 @@ use Rattle.std.proofs.lemmas.List.Filters.{length-filter_both}
 use Rattle.std.proofs.lemmas.Map.Keys.{any_passes_from_place}
 use Rattle.std.proofs.lemmas.Option.{slice_get-get_or, slice_get_within}
 use Rattle.ell_ops.specs.declared.op.Op.{Op}
-use Rattle.ell_ops.specs.KeySet.{KeySet, Lists, empty, set_of}
-use Rattle.ell_ops.specs.Meaning.{final, replies, reply_of}
+use Rattle.ell_ops.specs.KeySet.{Lists, set_of}
+use Rattle.ell_ops.specs.Meaning.{Contents, final, replies, reply_of}
 use Rattle.ell_ops.proofs.Places.{slice_get_below, slice_get-append, slice_get-append_behind, slice_get-append_cases, slice_get-drop, slice_get_from_take, slice_get_within_take}
 use Rattle.ell_ops.proofs.Presence.{reply_at}
 use Rattle.ell_parts.specs.Gathering.{AreSound, IsFor}
@@ -25,6 +25,7 @@ use Rattle.ell_run.proofs.Gathering.{any_tells, done_has, part_ascends, part_has
 use Rattle.ell_run.proofs.OnKey.{final_alike, on_key, on_key-append}
 use Rattle.ell_run.proofs.Replies.{AreAnswers}
 use Rattle.ell_run.proofs.Rows.{IsOffKey, done_off_key, front_off_key, length-pieces}
+use Rattle.ell_ops.specs.declared.reply.Reply.{Reply}
 
 -- functions that agree at each number give one list
 flat_map-agree : {X : Type 0} (f g : ℕ → List X) → ((k : ℕ) → f k ≡ g k) → (ks : List ℕ) → flat_map f ks ≡ flat_map g ks
@@ -46,7 +47,7 @@ flat_by_places (x ∷ xs) =
     ∙ sym (flat_map-further (λ k. get_or (x ∷ xs) k []) 0 (length xs)))
 
 -- the piece at a place is that of its worker
-piece_at : (s : KeySet) (parting : Parting) (a n : ℕ) (pieces : List (List (ℕ × Bool))) → ArePieces s parting (range_with_len a n) pieces →
+piece_at : (s : Contents) (parting : Parting) (a n : ℕ) (pieces : List (List (ℕ × Reply))) → ArePieces s parting (range_with_len a n) pieces →
     (j : ℕ) → j < n → IsPiece s (part parting (a + j)) (get_or pieces j [])
 piece_at s parting a zero pieces h j below = absurd (omega arith)
 piece_at s parting a (suc n) [] h j below = absurd h
@@ -106,15 +107,15 @@ not_false : (b : Bool) → b ≡ false → not b ≡ true
 not_false b e = ap not e
 
 -- which of two workers the positions go to that are answered: late operations are the part of the other
-abbrev owner_by : List (ℕ × Bool) → ℕ → ℕ
+abbrev owner_by : List (ℕ × Reply) → ℕ → ℕ
 owner_by items position = cond (is_answered items position) 1 0
 
-late_as_part : (ops : List Op) (items : List (ℕ × Bool)) → late_ops ops items ≡ part_from (owner_by items) 0 ops 0
+late_as_part : (ops : List Op) (items : List (ℕ × Reply)) → late_ops ops items ≡ part_from (owner_by items) 0 ops 0
 late_as_part ops items =
     filter_agree (λ item. not (is_answered items item.0)) (λ item. eqb (owner_by items item.0) 0) (λ item. not_is (is_answered items item.0)) (enumerate_from 0 ops)
 
 -- a late operation stands at its position, which no item is for
-late_item : (ops : List Op) (items : List (ℕ × Bool)) (k position : ℕ) (op : Op) → slice_get (late_ops ops items) k ≡ Some (position, op) →
+late_item : (ops : List Op) (items : List (ℕ × Reply)) (k position : ℕ) (op : Op) → slice_get (late_ops ops items) k ≡ Some (position, op) →
     (slice_get ops position ≡ Some op) × (is_answered items position ≡ false)
 late_item ops items k position op e =
     let h = stands_at (owner_by items) 0 ops 0 k position op (ap (λ l. slice_get l k) (sym (late_as_part ops items)) ∙ e) in
@@ -122,7 +123,7 @@ late_item ops items k position op e =
     (subst (λ n. slice_get ops n ≡ Some op) same h.there, not_one (is_answered items position) h.owned)
 
 -- late operations are no more than all
-pub few_late : (ops : List Op) (items : List (ℕ × Bool)) → length (late_ops ops items) ≤ length ops
+pub few_late : (ops : List Op) (items : List (ℕ × Reply)) → length (late_ops ops items) ≤ length ops
 few_late ops items =
     omega (
       arith,
@@ -131,59 +132,59 @@ few_late ops items =
     )
 
 -- an item answers its position
-answers_it : (items : List (ℕ × Bool)) (k position : ℕ) → IsFor items k position → is_answered items position ≡ true
+answers_it : (items : List (ℕ × Reply)) (k position : ℕ) → IsFor items k position → is_answered items position ≡ true
 answers_it items k position is_for =
-    any_passes_from_place (λ (item : ℕ × Bool). eqb item.0 position) items k (position, is_for.0) is_for.1 (eq-eqb position position refl)
+    any_passes_from_place (λ (item : ℕ × Reply). eqb item.0 position) items k (position, is_for.0) is_for.1 (eq-eqb position position refl)
 
-answered_by : (items : List (ℕ × Bool)) (position : ℕ) → is_answered items position ≡ true → (k : ℕ) × IsFor items k position
+answered_by : (items : List (ℕ × Reply)) (position : ℕ) → is_answered items position ≡ true → (k : ℕ) × IsFor items k position
 answered_by items position some =
-    let at = Any-from_list_any (λ (item : ℕ × Bool). eqb item.0 position) items some in
+    let at = Any-from_list_any (λ (item : ℕ × Reply). eqb item.0 position) items some in
     let x = at.1 in (
       at.0,
       (x.1, slice_get-get_or items at.0 x at.2 ∙ ap Some at.3 ∙ ap (λ n. Some (n, x.1)) (eqb-true x.0 position at.4)),
     )
 
-module _ (parting : Parting) (pieces : List (List (ℕ × Bool))) (told : ArePieces empty parting (all_workers parting) pieces) where
+module _ (start : Contents) (parting : Parting) (pieces : List (List (ℕ × Reply))) (told : ArePieces start parting (all_workers parting) pieces) where
   pub count_is : length pieces ≡ parting.workers
-  count_is = length-pieces empty parting (all_workers parting) pieces told ∙ length-range_with_len 0 parting.workers
+  count_is = length-pieces start parting (all_workers parting) pieces told ∙ length-range_with_len 0 parting.workers
 
-  piece_is : (worker : ℕ) → get_or pieces worker [] ≡ piece_from empty (done parting (count_of pieces) worker)
+  piece_is : (worker : ℕ) → get_or pieces worker [] ≡ piece_from start (done parting (count_of pieces) worker)
   piece_is worker =
       ⊎_elim
       (λ below.
       let same : 0 + worker ≡ worker = omega arith in
-      let p : IsPiece empty (part parting worker) (get_or pieces worker []) =
-      subst (λ w. IsPiece empty (part parting w) (get_or pieces worker [])) same (piece_at empty parting 0 parting.workers pieces told worker below) in
+      let p : IsPiece start (part parting worker) (get_or pieces worker []) =
+      subst (λ w. IsPiece start (part parting w) (get_or pieces worker [])) same (piece_at start parting 0 parting.workers pieces told worker below) in
       p.done)
       (λ past.
       let none : get_or pieces worker [] ≡ [] = get_or_past pieces worker [] (let count = count_is in omega arith) in
-      none ∙ ap (λ (p : List (ℕ × Bool)). piece_from empty (take (length p) (part parting worker))) (sym none))
+      none ∙ ap (λ (p : List (ℕ × Reply)). piece_from start (take (length p) (part parting worker))) (sym none))
       (cases_lt worker parting.workers)
 
   -- the pieces are those of the fronts that they count
-  pub flat_is : flat_map (λ l. l) pieces ≡ pieces_of parting (count_of pieces) parting.workers
+  pub flat_is : flat_map (λ l. l) pieces ≡ pieces_of start parting (count_of pieces) parting.workers
   flat_is =
       flat_by_places pieces ∙ ap (λ n. flat_map (λ k. get_or pieces k []) (range_with_len 0 n)) count_is
-      ∙ flat_map-agree (λ k. get_or pieces k []) (λ k. piece_from empty (done parting (count_of pieces) k)) piece_is (all_workers parting)
+      ∙ flat_map-agree (λ k. get_or pieces k []) (λ k. piece_from start (done parting (count_of pieces) k)) piece_is (all_workers parting)
 
   -- each item is for a position of the list
-  pub within_list : (j position : ℕ) → j < length pieces → (k : ℕ) (reply : Bool) → slice_get (get_or pieces j []) k ≡ Some (position, reply) → position < length parting.ops
+  pub within_list : (j position : ℕ) → j < length pieces → (k : ℕ) (reply : Reply) → slice_get (get_or pieces j []) k ≡ Some (position, reply) → position < length parting.ops
   within_list j position below k reply e =
-      let t = tagged (done parting (count_of pieces) j) (replies empty (ops_in (done parting (count_of pieces) j))) k position reply (ap (λ l. slice_get l k) (sym (piece_is j)) ∙ e) in
+      let t = tagged (done parting (count_of pieces) j) (replies start (ops_in (done parting (count_of pieces) j))) k position reply (ap (λ l. slice_get l k) (sym (piece_is j)) ∙ e) in
       let p = part_item parting j k position t.0 (slice_get_from_take (count_of pieces j) (part parting j) k (position, t.0) t.1) in
       slice_get_within parting.ops position t.0 p.1
 
-module _ (parting : Parting) (lawful : IsLawful parting) (pieces : List (List (ℕ × Bool))) (told : ArePieces empty parting (all_workers parting) pieces) where
+module _ (start : Contents) (parting : Parting) (lawful : IsLawful parting) (pieces : List (List (ℕ × Reply))) (told : ArePieces start parting (all_workers parting) pieces) where
   abbrev counts : ℕ → ℕ
   counts = count_of pieces
 
-  abbrev early : List (ℕ × Bool)
-  early = pieces_of parting counts parting.workers
+  abbrev early : List (ℕ × Reply)
+  early = pieces_of start parting counts parting.workers
 
   -- an operation that was done is answered, and one that is left is not
   done_answered : (worker k position : ℕ) (op : Op) → slice_get (take (counts worker) (part parting worker)) k ≡ Some (position, op) → is_answered early position ≡ true
   done_answered worker k position op e =
-      let has = done_has parting lawful counts worker k position op
+      let has = done_has start parting lawful counts worker k position op
       (slice_get_from_take (counts worker) (part parting worker) k (position, op) e)
       (slice_get_within_take (counts worker) (part parting worker) k (position, op) e) in
       answers_it early has.0 position has.1
@@ -193,7 +194,7 @@ module _ (parting : Parting) (lawful : IsLawful parting) (pieces : List (List (�
       ⊎_elim
       (λ some.
       let by = answered_by early position some in
-      let t = any_tells parting lawful counts parting.workers by.0 position by.1.0 by.1.1 in
+      let t = any_tells start parting lawful counts parting.workers by.0 position by.1.0 by.1.1 in
       let here : slice_get (part parting worker) (counts worker + k) ≡ Some (position, op) = sym (slice_get-drop (counts worker) (part parting worker) k) ∙ e in
       let own = (part_item parting worker (counts worker + k) position op here).0 in
       let same : t.worker ≡ worker = sym t.tells.owned ∙ own in
@@ -216,7 +217,7 @@ module _ (parting : Parting) (lawful : IsLawful parting) (pieces : List (List (�
       let there : slice_get (part parting worker) found.0 ≡ Some (item.0, item.1) = found.1 ∙ ap (λ n. Some (n, item.1)) same in
       let place = slice_get_within (part parting worker) found.0 (item.0, item.1) there in
       let long = all worker (lawful.known item.0 (omega arith)) in
-      let has = done_has parting lawful counts worker found.0 item.0 item.1 there (omega arith) in
+      let has = done_has start parting lawful counts worker found.0 item.0 item.1 there (omega arith) in
       let some = answers_it early has.0 item.0 has.1 in
       let none = here.1 in
       cc)
@@ -247,7 +248,7 @@ module _ (parting : Parting) (lawful : IsLawful parting) (pieces : List (List (�
       let here = get_or-range_with_len a n j d within in
       others_off worker key (get_or (range_with_len a n) j d) owns (λ e. let no : ⊥ = omega arith in no)
 
-  one_worker : (worker key a n : ℕ) (ps : List (List (ℕ × Bool))) → ArePieces empty parting (range_with_len a n) ps → Owns parting worker key → a ≤ worker → worker < a + n →
+  one_worker : (worker key a n : ℕ) (ps : List (List (ℕ × Reply))) → ArePieces start parting (range_with_len a n) ps → Owns parting worker key → a ≤ worker → worker < a + n →
       on_key key (ops_done parting (range_with_len a n) ps) ≡ on_key key (ops_in (take (length (get_or ps (worker - a) [])) (part parting worker)))
   one_worker worker key a zero ps h owns from to = absurd (omega arith)
   one_worker worker key a (suc n) [] h owns from to = absurd h
@@ -270,33 +271,33 @@ module _ (parting : Parting) (lawful : IsLawful parting) (pieces : List (List (�
       (cases_eq worker a)
 
   -- each key is as its worker left it
-  pub are_done : (after : KeySet) → after ≡ final empty (ops_done parting (all_workers parting) pieces) → AreDone empty parting counts after
+  pub are_done : (after : Contents) → after ≡ final start (ops_done parting (all_workers parting) pieces) → AreDone start parting counts after
   are_done after same worker key owns =
       ap (λ s. s key) same
-      ∙ final_alike (ops_done parting (all_workers parting) pieces) (ops_in (done parting counts worker)) empty empty key refl
+      ∙ final_alike (ops_done parting (all_workers parting) pieces) (ops_in (done parting counts worker)) start start key refl
       (⊎_elim
       (λ below. one_worker worker key 0 parting.workers pieces told owns (omega arith) (omega arith)
       ∙ (let here : worker - 0 ≡ worker = omega arith in ap (λ j. on_key key (ops_in (take (length (get_or pieces j [])) (part parting worker)))) here))
       (λ past.
-      let none : get_or pieces worker [] ≡ [] = get_or_past pieces worker [] (let count = count_is parting pieces told in omega arith) in
+      let none : get_or pieces worker [] ≡ [] = get_or_past pieces worker [] (let count = count_is start parting pieces told in omega arith) in
       done_off_key parting key (all_workers parting) pieces
       (λ j d below.
       let within : j < parting.workers = omega (arith, length-range_with_len 0 parting.workers) in
       let here = get_or-range_with_len 0 parting.workers j d within in
       others_off worker key (get_or (all_workers parting) j d) owns (λ e. let no : ⊥ = omega arith in no))
-      ∙ ap (λ (p : List (ℕ × Bool)). on_key key (ops_in (take (length p) (part parting worker)))) (sym none))
+      ∙ ap (λ (p : List (ℕ × Reply)). on_key key (ops_in (take (length p) (part parting worker)))) (sym none))
       (cases_lt worker parting.workers))
 
-  module _ (keys : List ℕ) (listed : Lists (final empty (ops_done parting (all_workers parting) pieces)) keys) where
+  module _ (keys : List ℕ) (listed : Lists (final start (ops_done parting (all_workers parting) pieces)) keys) where
     abbrev rest : List (ℕ × Op)
     rest = late_ops parting.ops early
 
-    abbrev last : List (ℕ × Bool)
+    abbrev last : List (ℕ × Reply)
     last = piece_from (set_of keys) rest
 
     -- replies and keys come out as those of one thread
-    pub one_thread : IsAsOneThread empty parting counts (set_of keys) rest
-    one_thread = parts_serve empty parting counts (set_of keys) rest lawful (are_done (set_of keys) listed.each) is_rest
+    pub one_thread : IsAsOneThread start parting counts (set_of keys) rest
+    one_thread = parts_serve start parting counts (set_of keys) rest lawful (are_done (set_of keys) listed.each) is_rest
 
     late_sound : AreSound (length parting.ops) last (length last)
     late_sound k position below is_for =
@@ -329,9 +330,9 @@ module _ (parting : Parting) (lawful : IsLawful parting) (pieces : List (List (�
         )
 
     -- all items together answer each position once, as one thread does
-    pub are_answers : AreAnswers parting.ops (early ++ last)
+    pub are_answers : AreAnswers start parting.ops (early ++ last)
     are_answers = record {
-      sound = together_sound (length parting.ops) early last (pieces_sound parting lawful counts parting.workers) late_sound
+      sound = together_sound (length parting.ops) early last (pieces_sound start parting lawful counts parting.workers) late_sound
           (λ i j position first second.
           let t = tagged rest (replies (set_of keys) (ops_in rest)) j position second.0 second.1 in
           let none = (late_item parting.ops early j position t.0 t.1).1 in
@@ -344,7 +345,7 @@ module _ (parting : Parting) (lawful : IsLawful parting) (pieces : List (List (�
           (length early + by.0, (by.1.0, slice_get-append_behind early last by.0 ∙ by.1.1)))
           (cases_Bool (is_answered early position));
       told = λ k position reply e. ⊎_elim
-          (λ first. (any_tells parting lawful counts parting.workers k position reply first.1).tells.told)
+          (λ first. (any_tells start parting lawful counts parting.workers k position reply first.1).tells.told)
           (λ second.
           let t = tagged rest (replies (set_of keys) (ops_in rest)) second.0 position reply second.2 in
           sym (one_thread.late second.0 position t.0 t.1) ∙ t.2)
@@ -352,7 +353,7 @@ module _ (parting : Parting) (lawful : IsLawful parting) (pieces : List (List (�
     }
 
 -- what is late of one list of pieces is late of another name for it
-pub late_here : {V : Type 0} (seen : V → List (ℕ × Bool)) (parting : Parting) (ops : List Op) (pieces shown : List V) (late : List (ℕ × Op)) →
+pub late_here : {V : Type 0} (seen : V → List (ℕ × Reply)) (parting : Parting) (ops : List Op) (pieces shown : List V) (late : List (ℕ × Op)) →
     parting.ops ≡ ops → shown ≡ pieces → late ≡ late_ops ops (flat_map seen shown) → late ≡ late_ops parting.ops (flat_map seen pieces)
 late_here seen parting ops pieces shown late parted same is =
     is ∙ ap (λ p. late_ops ops (flat_map seen p)) same ∙ ap (λ o. late_ops o (flat_map seen pieces)) (sym parted)
@@ -362,38 +363,38 @@ pub flat_map-seen : {X Y : Type 0} (seen : X → List Y) (xs : List X) → flat_
 flat_map-seen seen [] = refl
 flat_map-seen seen (x ∷ xs) = ap (λ l. seen x ++ l) (flat_map-seen seen xs)
 
-module _ {V : Type 0} (seen : V → List (ℕ × Bool)) (parting : Parting) (pieces : List V) (told : ArePieces empty parting (all_workers parting) (map seen pieces)) where
+module _ {V : Type 0} (seen : V → List (ℕ × Reply)) (start : Contents) (parting : Parting) (pieces : List V) (told : ArePieces start parting (all_workers parting) (map seen pieces)) where
   pub one_each : length pieces ≡ parting.workers
-  one_each = sym (length-map pieces seen) ∙ count_is parting (map seen pieces) told
+  one_each = sym (length-map pieces seen) ∙ count_is start parting (map seen pieces) told
 
   -- in one list they are those of the fronts that they count
-  pub all_pieces : flat_map seen pieces ≡ pieces_of parting (count_of (map seen pieces)) parting.workers
-  all_pieces = flat_map-seen seen pieces ∙ flat_is parting (map seen pieces) told
+  pub all_pieces : flat_map seen pieces ≡ pieces_of start parting (count_of (map seen pieces)) parting.workers
+  all_pieces = flat_map-seen seen pieces ∙ flat_is start parting (map seen pieces) told
 
   pub all_within : All (λ piece. All (λ item. item.0 < length parting.ops) (seen piece)) pieces
   all_within j d below k e within =
       let item = get_or (seen (get_or pieces j d)) k e in
       let piece : get_or (map seen pieces) j [] ≡ seen (get_or pieces j d) = get_or-map seen pieces j d [] below in
-      within_list parting (map seen pieces) told j item.0 (omega (arith, length-map pieces seen)) k item.1
+      within_list start parting (map seen pieces) told j item.0 (omega (arith, length-map pieces seen)) k item.1
       (ap (λ l. slice_get l k) piece ∙ slice_get-get_or (seen (get_or pieces j d)) k e within)
 
   pub nothing_late : IsLawful parting →
       ((worker : ℕ) → worker < parting.workers → length (part parting worker) ≤ count_of (map seen pieces) worker) → [] ≡ late_ops parting.ops (flat_map seen pieces)
-  nothing_late lawful all = sym (ap (late_ops parting.ops) all_pieces ∙ none_late parting lawful (map seen pieces) told all)
+  nothing_late lawful all = sym (ap (late_ops parting.ops) all_pieces ∙ none_late start parting lawful (map seen pieces) told all)
 
-  module _ (lawful : IsLawful parting) (keys : List ℕ) (listed : Lists (final empty (ops_done parting (all_workers parting) (map seen pieces))) keys)
+  module _ (lawful : IsLawful parting) (keys : List ℕ) (listed : Lists (final start (ops_done parting (all_workers parting) (map seen pieces))) keys)
       (late : List (ℕ × Op)) (late_is : late ≡ late_ops parting.ops (flat_map seen pieces)) where
-    rest_is : late ≡ late_ops parting.ops (pieces_of parting (count_of (map seen pieces)) parting.workers)
+    rest_is : late ≡ late_ops parting.ops (pieces_of start parting (count_of (map seen pieces)) parting.workers)
     rest_is = late_is ∙ ap (late_ops parting.ops) all_pieces
 
     -- the pieces and the replies to what was late answer each position once, as one thread does
-    pub all_answer : (piece : V) → seen piece ≡ piece_from (set_of keys) late → AreAnswers parting.ops (flat_map seen (pieces ++ piece ∷ []))
+    pub all_answer : (piece : V) → seen piece ≡ piece_from (set_of keys) late → AreAnswers start parting.ops (flat_map seen (pieces ++ piece ∷ []))
     all_answer piece piece_is =
-        subst (AreAnswers parting.ops)
+        subst (AreAnswers start parting.ops)
         (sym (flat_map-append seen pieces (piece ∷ [])
         ∙ ap₂ ◌++◌ all_pieces (append-nil (seen piece) ∙ piece_is ∙ ap (piece_from (set_of keys)) rest_is)))
-        (are_answers parting lawful (map seen pieces) told keys listed)
+        (are_answers start parting lawful (map seen pieces) told keys listed)
 
     -- and what was late leaves the set of one thread
-    pub last_set : final (set_of keys) (ops_in late) ≡ final empty parting.ops
-    last_set = ap (λ l. final (set_of keys) (ops_in l)) rest_is ∙ (one_thread parting lawful (map seen pieces) told keys listed).final
+    pub last_set : final (set_of keys) (ops_in late) ≡ final start parting.ops
+    last_set = ap (λ l. final (set_of keys) (ops_in l)) rest_is ∙ (one_thread start parting lawful (map seen pieces) told keys listed).final

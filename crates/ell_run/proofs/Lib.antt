@@ -1,11 +1,11 @@
+-- A pass of which workers use only the keys of their operations.
+pub mod Apart
 -- Which workers have something to do.
 pub mod Busy
 -- Each key's operations stand in one part, in the order of the list: so the parts alone say what becomes of the key.
 pub mod ByParts
--- A fresh tree, and what a closed one leaves.
+-- What a closed tree leaves.
 pub mod Closed
--- What a write that was cut short tells of the run before it.
-pub mod CutShort
 -- Empty pieces between those of busy workers.
 pub mod Filling
 -- How a worker does a front of its part, operation by operation.
@@ -24,7 +24,11 @@ pub mod Leftovers
 pub mod Marks
 -- What a list does to one key comes from its operations on that key alone.
 pub mod OnKey
+-- A tree as it opens: the keys that its first pass owns, which of them are present, and who can set to work with it.
+pub mod Opened
 -- Gathering items that have one reply of one thread for each position does not fail but for memory, and gives these.
 pub mod Replies
 -- What a row of workers leaves, worker by worker.
 pub mod Rows
+-- What a run of a text tells of it, where its answer went out and where the write was cut short.
+pub mod Told

@@ -4,26 +4,25 @@ use Rattle.std.proofs.lemmas.Bool.{cases_Bool, ne_eqb, eqb-false, cond-true, con
 use Rattle.std.proofs.lemmas.List.Elements.{All-head, All-tail, All-weaker, filter-append}
 use Rattle.ell_ops.specs.declared.Op.{Op}
 use Rattle.ell_ops.specs.declared.Op.TheVariants.{Find, Insert, Delete}
-use Rattle.ell_ops.specs.KeySet.{KeySet}
-use Rattle.ell_ops.specs.Meaning.{key_of, reply_of, after, replies, final}
+use Rattle.ell_ops.specs.Meaning.{Contents, key_of, reply_of, after, replies, final, yes_if}
 
 -- the operations on a key
 abbrev pub on_key : ℕ → List Op → List Op
 on_key key ops = filter (λ op. key_of op == key) ops
 
 -- sets that agree at a key agree there after an operation
-pub after_alike : (op : Op) (s t : KeySet) (key : ℕ) → s key ≡ t key → after op s key ≡ after op t key
+pub after_alike : (op : Op) (s t : Contents) (key : ℕ) → s key ≡ t key → after op s key ≡ after op t key
 after_alike (Find k) s t key same = same
-after_alike (Insert k) s t key same = ap (cond (eqb key k) true) same
+after_alike (Insert k value) s t key same = ap (cond (eqb key k) true) same
 after_alike (Delete k) s t key same = ap (cond (eqb key k) false) same
 
 -- an operation on another key leaves the key as it is
-after_other : (op : Op) (s : KeySet) (key : ℕ) → eqb (key_of op) key ≡ false → after op s key ≡ s key
+after_other : (op : Op) (s : Contents) (key : ℕ) → eqb (key_of op) key ≡ false → after op s key ≡ s key
 after_other (Find k) s key other = refl
-after_other (Insert k) s key other = cond-false (eqb key k) true (s key) (ne_eqb key k (λ e. eqb-false k key other (sym e)))
+after_other (Insert k value) s key other = cond-false (eqb key k) true (s key) (ne_eqb key k (λ e. eqb-false k key other (sym e)))
 after_other (Delete k) s key other = cond-false (eqb key k) false (s key) (ne_eqb key k (λ e. eqb-false k key other (sym e)))
 
-pub final_on_key : (ops : List Op) (s t : KeySet) (key : ℕ) → s key ≡ t key → final s ops key ≡ final t (on_key key ops) key
+pub final_on_key : (ops : List Op) (s t : Contents) (key : ℕ) → s key ≡ t key → final s ops key ≡ final t (on_key key ops) key
 final_on_key [] s t key same = same
 final_on_key (op ∷ ops) s t key same =
     ⊎_elim
@@ -34,27 +33,27 @@ final_on_key (op ∷ ops) s t key same =
     (cases_Bool (eqb (key_of op) key))
 
 -- so lists with the same operations on a key do the same to it
-pub final_alike : (xs ys : List Op) (s t : KeySet) (key : ℕ) → s key ≡ t key → on_key key xs ≡ on_key key ys → final s xs key ≡ final t ys key
+pub final_alike : (xs ys : List Op) (s t : Contents) (key : ℕ) → s key ≡ t key → on_key key xs ≡ on_key key ys → final s xs key ≡ final t ys key
 final_alike xs ys s t key same alike =
     final_on_key xs s t key same ∙ ap (λ zs. final t zs key) alike ∙ sym (final_on_key ys t t key refl)
 
 -- a list in two parts
-pub final-append : (xs ys : List Op) (s : KeySet) → final s (xs ++ ys) ≡ final (final s xs) ys
+pub final-append : (xs ys : List Op) (s : Contents) → final s (xs ++ ys) ≡ final (final s xs) ys
 final-append [] ys s = refl
 final-append (x ∷ xs) ys s = final-append xs ys (after x s)
 
 -- the reply to an operation goes by its key alone
-pub reply_alike : (op : Op) (s t : KeySet) → s (key_of op) ≡ t (key_of op) → reply_of op s ≡ reply_of op t
-reply_alike (Find k) s t same = same
-reply_alike (Insert k) s t same = ap not same
-reply_alike (Delete k) s t same = same
+pub reply_alike : (op : Op) (s t : Contents) → s (key_of op) ≡ t (key_of op) → reply_of op s ≡ reply_of op t
+reply_alike (Find k) s t same = ap yes_if same
+reply_alike (Insert k value) s t same = ap (λ b. yes_if (not b)) same
+reply_alike (Delete k) s t same = ap yes_if same
 
 -- so sets that agree at a key agree there after a list
-pub final_agree : (ops : List Op) (s t : KeySet) (key : ℕ) → s key ≡ t key → final s ops key ≡ final t ops key
+pub final_agree : (ops : List Op) (s t : Contents) (key : ℕ) → s key ≡ t key → final s ops key ≡ final t ops key
 final_agree ops s t key same = final_alike ops ops s t key same refl
 
 -- the replies to a list go by its keys alone
-pub replies_alike : (ops : List Op) (s t : KeySet) → All (λ op. s (key_of op) ≡ t (key_of op)) ops → replies s ops ≡ replies t ops
+pub replies_alike : (ops : List Op) (s t : Contents) → All (λ op. s (key_of op) ≡ t (key_of op)) ops → replies s ops ≡ replies t ops
 replies_alike [] s t same = refl
 replies_alike (op ∷ ops) s t same =
     ap₂ ◌∷◌ (reply_alike op s t (All-head (λ o. s (key_of o) ≡ t (key_of o)) op ops same))

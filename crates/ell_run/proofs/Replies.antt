@@ -1,33 +1,33 @@
-use Rattle.std.proofs.Common.{◌≡◌, ℕ, suc, ◌<◌, Bool, List, [], ◌∷◌, Some, length, arith, refl, ap, sym, ◌∙◌}
+use Rattle.std.proofs.Common.{◌≡◌, ℕ, suc, ◌<◌, List, [], ◌∷◌, Some, length, arith, refl, ap, sym, ◌∙◌}
 use Rattle.std.specs.Prelude.{slice_get}
 use Rattle.std.proofs.lemmas.Option.{slice_get-get_or, slice_get_within}
 use Rattle.ell_ops.specs.declared.op.Op.{Op}
-use Rattle.ell_ops.specs.KeySet.{KeySet, empty}
-use Rattle.ell_ops.specs.Meaning.{after, replies}
+use Rattle.ell_ops.specs.Meaning.{Contents, after, replies}
 use Rattle.ell_parts.specs.declared.gathering.GatherFault.{GatherFault}
 use Rattle.ell_parts.specs.declared.gathering.GatherFault.TheVariants.{Stranger, Doubled, Missing, NoMemory}
 use Rattle.ell_parts.specs.Gathering.{AreSound, IsFault, IsFor, IsGathered}
+use Rattle.ell_ops.specs.declared.reply.Reply.{Reply}
 
--- items have just one reply for each position of a list, that of one thread
-pub record AreAnswers (ops : List Op) (items : List (ℕ × Bool)) : Type 0 where
+-- items have just one reply for each position of a list, that of one thread from a set
+pub record AreAnswers (start : Contents) (ops : List Op) (items : List (ℕ × Reply)) : Type 0 where
   pub sound : AreSound (length ops) items (length items)
   pub cover : (position : ℕ) → position < length ops → (j : ℕ) × IsFor items j position
-  pub told : (k position : ℕ) (reply : Bool) → slice_get items k ≡ Some (position, reply) → slice_get (replies empty ops) position ≡ Some reply
+  pub told : (k position : ℕ) (reply : Reply) → slice_get items k ≡ Some (position, reply) → slice_get (replies start ops) position ≡ Some reply
 
 -- so only memory can be wanting
-pub only_memory : (ops : List Op) (items : List (ℕ × Bool)) → AreAnswers ops items → (fault : GatherFault) → IsFault (length ops) items fault → fault ≡ NoMemory
-only_memory ops items a (Stranger at) f =
+pub only_memory : (start : Contents) (ops : List Op) (items : List (ℕ × Reply)) → AreAnswers start ops items → (fault : GatherFault) → IsFault (length ops) items fault → fault ≡ NoMemory
+only_memory start ops items a (Stranger at) f =
     let sound = a.sound f.0 at (slice_get_within items f.0 (at, f.1.0) f.1.1) f.1 in
     let below = sound.0 in
     let past = f.3 in
     absurd (omega arith)
-only_memory ops items a (Doubled at) f =
+only_memory start ops items a (Doubled at) f =
     let sound = a.sound f.0 at (slice_get_within items f.0 (at, f.2.0) f.2.1) f.2 in
     absurd (sound.1 f.1 f.5 f.6)
-only_memory ops items a (Missing at) f =
+only_memory start ops items a (Missing at) f =
     let has = a.cover at f.1 in
     absurd (f.2 has.0 (slice_get_within items has.0 (at, has.1.0) has.1.1) has.1)
-only_memory ops items a NoMemory f = refl
+only_memory start ops items a NoMemory f = refl
 
 -- lists of one length that agree wherever the first has an element are equal
 lists_alike : {X : Type 0} (xs ys : List X) → length xs ≡ length ys → ((i : ℕ) (x : X) → slice_get xs i ≡ Some x → slice_get ys i ≡ Some x) → xs ≡ ys
@@ -38,14 +38,14 @@ lists_alike (x ∷ xs) (y ∷ ys) same agree =
     let first : y ≡ x = (let e = agree 0 x refl in cc) in
     ap (λ z. z ∷ xs) (sym first) ∙ ap (λ l. y ∷ l) (lists_alike xs ys (omega arith) (λ i z e. agree (suc i) z e))
 
-length-replies : (set : KeySet) (ops : List Op) → length (replies set ops) ≡ length ops
+length-replies : (set : Contents) (ops : List Op) → length (replies set ops) ≡ length ops
 length-replies set [] = refl
 length-replies set (op ∷ ops) = let rest = length-replies (after op set) ops in omega arith
 
 -- gathered replies are those of one thread
-pub gathered : (ops : List Op) (items : List (ℕ × Bool)) → AreAnswers ops items → (said : List Bool) → IsGathered (length ops) items said → said ≡ replies empty ops
-gathered ops items a said g =
-    lists_alike said (replies empty ops) (g.count ∙ sym (length-replies empty ops))
+pub gathered : (start : Contents) (ops : List Op) (items : List (ℕ × Reply)) → AreAnswers start ops items → (said : List Reply) → IsGathered (length ops) items said → said ≡ replies start ops
+gathered start ops items a said g =
+    lists_alike said (replies start ops) (g.count ∙ sym (length-replies start ops))
     (λ i reply e.
     let item = g.each i reply e in
     a.told item.0 i reply (slice_get-get_or items item.0 (i, reply) item.1 ∙ ap Some item.2))

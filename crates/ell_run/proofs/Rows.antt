@@ -1,26 +1,26 @@
-use Rattle.std.proofs.Common.{◌≡◌, ◌≢◌, ℕ, suc, Bool, All, List, [], ◌∷◌, ◌++◌, Some, length, take, refl, ap, ap₂, sym, subst, ◌∙◌}
+use Rattle.std.proofs.Common.{◌≡◌, ◌≢◌, ℕ, suc, All, List, [], ◌∷◌, ◌++◌, Some, length, take, refl, ap, ap₂, sym, subst, ◌∙◌}
 use Rattle.std.specs.Prelude.{slice_get}
 use Rattle.std.proofs.lemmas.List.{append_assoc}
 use Rattle.std.proofs.lemmas.List.Elements.{All-head, All-tail, All-take, All-map}
 use Rattle.std.proofs.lemmas.Option.{slice_get_within, get_or_from_slice_get}
 use Rattle.ell_ops.specs.declared.op.Op.{Op}
-use Rattle.ell_ops.specs.KeySet.{KeySet}
-use Rattle.ell_ops.specs.Meaning.{key_of, final}
+use Rattle.ell_ops.specs.Meaning.{Contents, key_of, final}
 use Rattle.ell_parts.specs.Parting.{Parting, part}
 use Rattle.ell_run.specs.ByParts.{ops_in}
 use Rattle.ell_run.specs.Pieces.{ArePieces, IsPiece, front, numbered, ops_done}
 use Rattle.ell_run.proofs.OnKey.{on_key, on_key-append, none_on_key, final_agree, replies_alike, reply_alike}
+use Rattle.ell_ops.specs.declared.reply.Reply.{Reply}
 
 -- what holds of all elements holds of one
 pub all_at : {X : Type 0} (P : X → Type 0) (xs : List X) (i : ℕ) (x : X) → All P xs → slice_get xs i ≡ Some x → P x
 all_at P xs i x all e = subst P (get_or_from_slice_get xs i x x e) (all i x (slice_get_within xs i x e))
 
 -- sets agree on the keys of numbered operations
-abbrev pub AgreeOn : KeySet → KeySet → List (ℕ × Op) → Type 0
+abbrev pub AgreeOn : Contents → Contents → List (ℕ × Op) → Type 0
 AgreeOn s t items = All (λ item. s (key_of item.1) ≡ t (key_of item.1)) items
 
 -- a piece done from one set is done from the other
-pub piece_alike : (s t : KeySet) (items : List (ℕ × Op)) (piece : List (ℕ × Bool)) → AgreeOn s t items → IsPiece s items piece → IsPiece t items piece
+pub piece_alike : (s t : Contents) (items : List (ℕ × Op)) (piece : List (ℕ × Reply)) → AgreeOn s t items → IsPiece s items piece → IsPiece t items piece
 piece_alike s t items piece same h =
     let done = take (length piece) items in
     record {
@@ -37,7 +37,7 @@ piece_alike s t items piece same h =
     }
 
 -- and so are pieces of workers
-pub pieces_alike : (s t : KeySet) (parting : Parting) (workers : List ℕ) (pieces : List (List (ℕ × Bool))) →
+pub pieces_alike : (s t : Contents) (parting : Parting) (workers : List ℕ) (pieces : List (List (ℕ × Reply))) →
     All (λ worker. AgreeOn s t (part parting worker)) workers → ArePieces s parting workers pieces → ArePieces t parting workers pieces
 pieces_alike s t parting [] [] same h = tt
 pieces_alike s t parting [] (piece ∷ pieces) same h = h
@@ -48,7 +48,7 @@ pieces_alike s t parting (worker ∷ workers) (piece ∷ pieces) same h = (
 )
 
 -- one piece a worker
-pub length-pieces : (s : KeySet) (parting : Parting) (workers : List ℕ) (pieces : List (List (ℕ × Bool))) → ArePieces s parting workers pieces →
+pub length-pieces : (s : Contents) (parting : Parting) (workers : List ℕ) (pieces : List (List (ℕ × Reply))) → ArePieces s parting workers pieces →
     length pieces ≡ length workers
 length-pieces s parting [] [] h = refl
 length-pieces s parting [] (piece ∷ pieces) h = absurd h
@@ -56,14 +56,14 @@ length-pieces s parting (worker ∷ workers) [] h = absurd h
 length-pieces s parting (worker ∷ workers) (piece ∷ pieces) h = ap suc (length-pieces s parting workers pieces h.1)
 
 -- the pieces of two rows of workers
-pub pieces-append : (s : KeySet) (parting : Parting) (low high : List ℕ) (ps qs : List (List (ℕ × Bool))) →
+pub pieces-append : (s : Contents) (parting : Parting) (low high : List ℕ) (ps qs : List (List (ℕ × Reply))) →
     ArePieces s parting low ps → ArePieces s parting high qs → ArePieces s parting (low ++ high) (ps ++ qs)
 pieces-append s parting [] high [] qs first second = second
 pieces-append s parting [] high (p ∷ ps) qs first second = absurd first
 pieces-append s parting (worker ∷ low) high [] qs first second = absurd first
 pieces-append s parting (worker ∷ low) high (p ∷ ps) qs first second = (first.0, pieces-append s parting low high ps qs first.1 second)
 
-pub done-append : (s : KeySet) (parting : Parting) (low high : List ℕ) (ps qs : List (List (ℕ × Bool))) → ArePieces s parting low ps →
+pub done-append : (s : Contents) (parting : Parting) (low high : List ℕ) (ps qs : List (List (ℕ × Reply))) → ArePieces s parting low ps →
     ops_done parting (low ++ high) (ps ++ qs) ≡ ops_done parting low ps ++ ops_done parting high qs
 done-append s parting [] high [] qs h = refl
 done-append s parting [] high (p ∷ ps) qs h = absurd h
@@ -82,7 +82,7 @@ front_off_key items key n off =
     (All-map (λ op. key_of op ≢ key) (λ (item : ℕ × Op). item.1) (take n items) (All-take (λ item. key_of item.1 ≢ key) n items off))
 
 -- then what the workers do has nothing on it
-pub done_off_key : (parting : Parting) (key : ℕ) (workers : List ℕ) (pieces : List (List (ℕ × Bool))) → All (IsOffKey parting key) workers →
+pub done_off_key : (parting : Parting) (key : ℕ) (workers : List ℕ) (pieces : List (List (ℕ × Reply))) → All (IsOffKey parting key) workers →
     on_key key (ops_done parting workers pieces) ≡ []
 done_off_key parting key [] pieces off = refl
 done_off_key parting key (worker ∷ workers) [] off = refl

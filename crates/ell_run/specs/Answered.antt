@@ -1,10 +1,9 @@
 use Rattle.std.specs.Prelude.{◌≡◌, ℕ, ◌<◌, ◌≤◌, List, length, take, Option, IfSome, Ok, Err, ⊤}
 use Rattle.std.specs.Io.KnownBytes.{Appends, Keeps}
-use Rattle.ell_ops.specs.declared.op.Op.{Op}
-use Rattle.ell_ops.specs.KeySet.{Lists, empty}
+use Rattle.ell_ops.specs.KeySet.{Lists, set_of}
 use Rattle.ell_ops.specs.Meaning.{replies, final}
 use Rattle.ell_text.specs.Limits.{most_bytes}
-use Rattle.ell_text.specs.Bulk.{bulk}
+use Rattle.ell_text.specs.Bulk.{BulkValue, bulk}
 use Rattle.ell_text.specs.Answer.{answer}
 use Rattle.ell_parts.specs.Parting.{Parting}
 use Rattle.ell_run.specs.Late.{IsLate}
@@ -13,28 +12,28 @@ use Rattle.ell_run.specs.declared.settings.Settings.{Settings}
 use Rattle.ell_run.specs.declared.bytes.RunFault.{RunFault}
 use Rattle.ell_run.specs.declared.bytes.RunFault.TheVariants.{Read, TooLong, Text, NoMemory, Write}
 
--- the text is the answer of one thread that applies the operations of the bulk text to the empty set
+-- the text is the answer of one thread that applies the operations of the bulk text to the set of its start keys
 pub record IsAnswer (bytes text : List ℕ) : Type 0 where
-  pub ops : List Op
+  pub given : BulkValue
   pub keys : List ℕ
-  pub read : bulk bytes ≡ Ok ops
-  pub listed : Lists (final empty ops) keys
-  pub written : text ≡ answer (replies empty ops) keys
+  pub read : bulk bytes ≡ Ok given
+  pub listed : Lists (final (set_of given.start) given.ops) keys
+  pub written : text ≡ answer (replies (set_of given.start) given.ops) keys
 
 -- the answer to the bytes that were read went out, and nothing else
 abbrev pub IsAnswered : Option (List ℕ) → Option (List ℕ) → Option (List ℕ) → Type 0
 IsAnswered input before after = IfSome input (λ bytes. (text : List ℕ) × IsAnswer bytes text × Appends before after text)
 
--- so many operations of a list are late, parted as the settings ask
-pub record IsLateOf (settings : Settings) (ops : List Op) (count : ℕ) : Type 0 where
+-- so many operations of a bulk text are late, parted as the settings ask
+pub record IsLateOf (settings : Settings) (given : BulkValue) (count : ℕ) : Type 0 where
   pub parting : Parting
-  pub parted : IsPartedAs settings ops parting
-  pub few : count ≤ length ops
-  pub late : IsLate parting count
+  pub parted : IsPartedAs settings given.ops parting
+  pub few : count ≤ length given.ops
+  pub late : IsLate (set_of given.start) parting count
 
 -- so many operations of the bytes that were read are late
 abbrev pub IsReported : Settings → Option (List ℕ) → ℕ → Type 0
-IsReported settings input count = IfSome input (λ bytes. (ops : List Op) × (bulk bytes ≡ Ok ops) × IsLateOf settings ops count)
+IsReported settings input count = IfSome input (λ bytes. (given : BulkValue) × (bulk bytes ≡ Ok given) × IsLateOf settings given count)
 
 -- the run ended before it wrote anything
 abbrev pub IsBeforeWriting : RunFault → Type 0

@@ -1,7 +1,6 @@
 use Rattle.std.specs.Prelude.{◌≡◌, ℕ, List, Some, map, filter, take, drop, slice_get, slice_index, ◌==◌}
 use Rattle.ell_ops.specs.declared.Op.{Op}
-use Rattle.ell_ops.specs.KeySet.{KeySet}
-use Rattle.ell_ops.specs.Meaning.{key_of, replies, final}
+use Rattle.ell_ops.specs.Meaning.{Contents, key_of, replies, final}
 use Rattle.ell_parts.specs.Parting.{Parting, IsLawful, part}
 
 -- the operations of numbered ones
@@ -22,23 +21,23 @@ IsRest parting counts rest = (worker : ℕ) →
     filter (λ item. slice_index parting.owners item.0 == worker) rest ≡ drop (counts worker) (part parting worker)
 
 -- each worker has done a front of its part, from the set: each key is as its worker left it
-abbrev pub AreDone : KeySet → Parting → (ℕ → ℕ) → KeySet → Type 0
+abbrev pub AreDone : Contents → Parting → (ℕ → ℕ) → Contents → Type 0
 AreDone set parting counts after = (worker key : ℕ) → Owns parting worker key →
     after key ≡ final set (ops_in (done parting counts worker)) key
 
 -- the replies of a list of numbered operations, from a set, are those of their positions in the whole list
-abbrev pub ReplyAlike : KeySet → List (ℕ × Op) → KeySet → List Op → Type 0
+abbrev pub ReplyAlike : Contents → List (ℕ × Op) → Contents → List Op → Type 0
 ReplyAlike start items set ops = (j i : ℕ) (op : Op) → slice_get items j ≡ Some (i, op) →
     slice_get (replies start (ops_in items)) j ≡ slice_get (replies set ops) i
 
 -- what comes out of it
-pub record IsAsOneThread (set : KeySet) (parting : Parting) (counts : ℕ → ℕ) (after : KeySet) (rest : List (ℕ × Op)) : Type 0 where
+pub record IsAsOneThread (set : Contents) (parting : Parting) (counts : ℕ → ℕ) (after : Contents) (rest : List (ℕ × Op)) : Type 0 where
   pub early : (worker : ℕ) → ReplyAlike set (done parting counts worker) set parting.ops
   pub late : ReplyAlike after rest set parting.ops
   pub final : final after (ops_in rest) ≡ final set parting.ops
 
 -- parts done up to any point, in any interleaving, and then the rest, are the whole list done by one thread
 abbrev pub PartsServe : Type 0
-PartsServe = (set : KeySet) (parting : Parting) (counts : ℕ → ℕ) (after : KeySet) (rest : List (ℕ × Op)) →
+PartsServe = (set : Contents) (parting : Parting) (counts : ℕ → ℕ) (after : Contents) (rest : List (ℕ × Op)) →
     IsLawful parting → AreDone set parting counts after → IsRest parting counts rest →
     IsAsOneThread set parting counts after rest

@@ -1,4 +1,4 @@
-use Rattle.ell_text.specs.Limits.{most_cards}
+use Rattle.ell_word.specs.Node.{most_cards}
 use Rattle.ell_run.specs.Settings.{IsAllowed, most_tries}
 use Rattle.ell_run.specs.declared.runs.Limits.{Limits}
 

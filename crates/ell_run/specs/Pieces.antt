@@ -1,32 +1,33 @@
-use Rattle.std.specs.Prelude.{◌≡◌, ℕ, ◌+◌, ◌≤◌, nat_lt, if◌then◌else◌, Bool, true, List, [], ◌∷◌, ◌++◌, Some, length, map, filter, take, slice_get, slice_index_or}
+use Rattle.std.specs.Prelude.{◌≡◌, ℕ, ◌+◌, ◌≤◌, nat_lt, if◌then◌else◌, List, [], ◌∷◌, ◌++◌, Some, length, map, filter, take, slice_get, slice_index_or}
 use Rattle.std.specs.List.{range_with_len, zip}
 use Rattle.ell_ops.specs.declared.op.Op.{Op}
-use Rattle.ell_ops.specs.KeySet.{KeySet}
-use Rattle.ell_ops.specs.Meaning.{reply_of, replies, final}
+use Rattle.ell_ops.specs.Meaning.{Contents, reply_of, replies, final}
 use Rattle.ell_parts.specs.Parting.{Parting, part}
 use Rattle.ell_run.specs.ByParts.{ops_in}
+use Rattle.ell_ops.specs.declared.reply.Reply.{Reply}
+use Rattle.ell_ops.specs.declared.reply.Reply.TheVariants.{Yes}
 
 -- replies, with the positions of the operations that they are for
-abbrev pub numbered : List (ℕ × Op) → List Bool → List (ℕ × Bool)
+abbrev pub numbered : List (ℕ × Op) → List Reply → List (ℕ × Reply)
 numbered items said = map (λ answered. (answered.0.0, answered.1)) (zip items said)
 
 -- the replies to numbered operations from a set, with their positions
-abbrev pub piece_from : KeySet → List (ℕ × Op) → List (ℕ × Bool)
+abbrev pub piece_from : Contents → List (ℕ × Op) → List (ℕ × Reply)
 piece_from set items = numbered items (replies set (ops_in items))
 
 -- the front of a part that a piece answers
-abbrev pub front : List (ℕ × Op) → List (ℕ × Bool) → List (ℕ × Op)
+abbrev pub front : List (ℕ × Op) → List (ℕ × Reply) → List (ℕ × Op)
 front items piece = take (length piece) items
 
 -- a piece has the replies of a front of a part, done from a set; the operation behind it, if there is one, would change the set
-pub record IsPiece (set : KeySet) (items : List (ℕ × Op)) (piece : List (ℕ × Bool)) : Type 0 where
+pub record IsPiece (set : Contents) (items : List (ℕ × Op)) (piece : List (ℕ × Reply)) : Type 0 where
   pub few : length piece ≤ length items
   pub done : piece ≡ piece_from set (front items piece)
   pub held : (position : ℕ) (op : Op) → slice_get items (length piece) ≡ Some (position, op) →
-      reply_of op (final set (ops_in (front items piece))) ≡ true
+      reply_of op (final set (ops_in (front items piece))) ≡ Yes
 
 -- one piece for each worker, in their order, each done from a set
-abbrev pub ArePieces : KeySet → Parting → List ℕ → List (List (ℕ × Bool)) → Type 0
+abbrev pub ArePieces : Contents → Parting → List ℕ → List (List (ℕ × Reply)) → Type 0
 ArePieces set parting [] [] = Unit {0}
 ArePieces set parting [] (piece ∷ pieces) = ⊥
 ArePieces set parting (worker ∷ workers) [] = ⊥
@@ -34,22 +35,22 @@ ArePieces set parting (worker ∷ workers) (piece ∷ pieces) =
     IsPiece set (part parting worker) piece × ArePieces set parting workers pieces
 
 -- how many operations of its part a worker's piece answers
-abbrev pub count_of : List (List (ℕ × Bool)) → ℕ → ℕ
+abbrev pub count_of : List (List (ℕ × Reply)) → ℕ → ℕ
 count_of pieces worker = length (slice_index_or pieces worker [])
 
 -- the operations that the pieces of workers answer, worker by worker
-abbrev pub ops_done : Parting → List ℕ → List (List (ℕ × Bool)) → List Op
+abbrev pub ops_done : Parting → List ℕ → List (List (ℕ × Reply)) → List Op
 ops_done parting [] pieces = []
 ops_done parting (worker ∷ workers) [] = []
 ops_done parting (worker ∷ workers) (piece ∷ pieces) =
     ops_in (front (part parting worker) piece) ++ ops_done parting workers pieces
 
 -- how many operations stand just behind a piece in its part: one where it leaves something of it
-abbrev pub one_held : List (ℕ × Op) → List (ℕ × Bool) → ℕ
+abbrev pub one_held : List (ℕ × Op) → List (ℕ × Reply) → ℕ
 one_held items piece = if nat_lt (length piece) (length items) then 1 else 0
 
 -- how many workers' pieces leave something of their parts
-abbrev pub all_held : Parting → List ℕ → List (List (ℕ × Bool)) → ℕ
+abbrev pub all_held : Parting → List ℕ → List (List (ℕ × Reply)) → ℕ
 all_held parting [] pieces = 0
 all_held parting (worker ∷ workers) [] = 0
 all_held parting (worker ∷ workers) (piece ∷ pieces) = one_held (part parting worker) piece + all_held parting workers pieces

@@ -3,7 +3,7 @@ use Rattle.ell_ops.specs.declared.op.Op.{Op}
 pub use Rattle.ell_ops.specs.Meaning.{most_workers}
 use Rattle.ell_parts.specs.Parting.{IsWorkerCount, striped, IsRanged}
 use Rattle.ell_parts.specs.Parting as parts
-use Rattle.ell_text.specs.Limits.{most_cards}
+use Rattle.ell_word.specs.Node.{most_cards}
 use Rattle.ell_run.specs.declared.settings.Parting.{Parting}
 use Rattle.ell_run.specs.declared.settings.Parting.TheVariants.{Stripe, Range}
 use Rattle.ell_run.specs.declared.settings.Settings.{Settings}

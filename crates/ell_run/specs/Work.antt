@@ -1,21 +1,22 @@
-use Rattle.std.specs.Prelude.{◌≡◌, ◌⊎◌, ℕ, ◌+◌, ◌*◌, ◌<◌, ◌≤◌, ◌↔◌, Bool, Some, List, length, All}
+use Rattle.std.specs.Prelude.{◌≡◌, ◌⊎◌, ℕ, ◌+◌, ◌*◌, ◌<◌, ◌≤◌, ◌↔◌, Some, List, length, All}
 use Rattle.std.specs.List.{list_any, sum_by}
 use Rattle.std.specs.List.Sorted.{IsStrictlyIncreasing}
 use Rattle.ell_ops.specs.declared.op.Op.{Op}
-use Rattle.ell_ops.specs.KeySet.{KeySet, Lists}
-use Rattle.ell_ops.specs.Meaning.{key_of, final}
+use Rattle.ell_ops.specs.KeySet.{Lists}
+use Rattle.ell_ops.specs.Meaning.{Contents, key_of, final}
 use Rattle.ell_parts.specs.Parting.{Parting, IsLawful, part, keys_in}
 use Rattle.ell_tree.specs.Ledgers.{PassModel, TreeModel, Owns, IsIdle, answers, hindrances, present_in}
 use Rattle.ell_tree.specs.Parts.{IsLeftPart, IsRightPart}
 use Rattle.ell_run.specs.ByParts.{ops_in}
 use Rattle.ell_run.specs.Pieces.{ArePieces, IsPiece, all_held, front, one_held, ops_done}
+use Rattle.ell_ops.specs.declared.reply.Reply.{Reply}
 
 -- the pass owns the keys of numbered operations
 abbrev pub OwnsAll : PassModel → List (ℕ × Op) → Type 0
 OwnsAll pass items = All (λ item. Owns pass (key_of item.1)) items
 
 -- the keys of the parts of workers
-abbrev pub keys_for : Parting → List ℕ → KeySet
+abbrev pub keys_for : Parting → List ℕ → Contents
 keys_for parting workers = λ key. list_any (λ worker. keys_in (part parting worker) key) workers
 
 -- workers can set to work on their parts with a pass
@@ -46,7 +47,7 @@ abbrev pub AreHeld : ℕ → ℕ → ℕ → PassModel → PassModel → Type 0
 AreHeld cards tries count before after = HasNoCards cards after ⊎ (hindrances before + tries * count ≤ hindrances after)
 
 -- a front of numbered operations was done with a pass, and this piece answers it; the operation behind it, if there is one, was held
-pub record IsWorkedOff (cards tries : ℕ) (items : List (ℕ × Op)) (before after : PassModel) (piece : List (ℕ × Bool)) : Type 0 where
+pub record IsWorkedOff (cards tries : ℕ) (items : List (ℕ × Op)) (before after : PassModel) (piece : List (ℕ × Reply)) : Type 0 where
   pub table : after.table ≡ before.table
   pub idle : IsIdle after
   pub told : IsPiece (present_in before) items piece
@@ -57,7 +58,7 @@ pub record IsWorkedOff (cards tries : ℕ) (items : List (ℕ × Op)) (before af
 
 -- workers have worked with a pass, and left these pieces: the pass has the set that what they did leaves, one worker's operations
 -- after the other's; each operation behind a piece was held
-pub record IsWorked (cards tries : ℕ) (parting : Parting) (workers : List ℕ) (before after : PassModel) (pieces : List (List (ℕ × Bool))) : Type 0 where
+pub record IsWorked (cards tries : ℕ) (parting : Parting) (workers : List ℕ) (before after : PassModel) (pieces : List (List (ℕ × Reply))) : Type 0 where
   pub table : after.table ≡ before.table
   pub idle : IsIdle after
   pub told : ArePieces (present_in before) parting workers pieces

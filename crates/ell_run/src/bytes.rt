@@ -76,8 +76,8 @@ impl From<WriteFault> for RunFault {
     }
 }
 
-/// Runs a bulk text: reads all of it, runs its operations from the empty set as the settings say, and writes the answer.
-/// Nothing is written before the run has ended.
+/// Runs a bulk text: reads all of it, runs its operations from the set of its start keys as the settings say, and writes the
+/// answer. Nothing is written before the run has ended.
 pub fn run_bytes<R: Threads + Sync, A: Allocator + Copy + Send + Sync, I: Read, O: Write>(
     rt: &R,
     alloc: A,
@@ -92,9 +92,10 @@ pub fn run_bytes<R: Threads + Sync, A: Allocator + Copy + Send + Sync, I: Read, 
         Tells fault (I.remaining reader.old) (O.contents writer.old) (O.contents writer.new)) }
 {
     let bytes = read_all(alloc, reader)?;
-    let ops = read_bulk(alloc, &bytes)?;
-    let parts = parts_for(alloc, &ops, settings)?;
-    let outcome = run(rt, alloc, &ops, &parts, limits_for(&ops, settings), &NoGate)?;
+    let bulk = read_bulk(alloc, &bytes)?;
+    let parts = parts_for(alloc, &bulk.ops, settings)?;
+    let limits = limits_for(&bulk.ops, settings);
+    let outcome = run(rt, alloc, &bulk.start, &bulk.ops, &parts, limits, &NoGate)?;
     write_answer(writer, &outcome.replies, &outcome.keys)?;
     Ok(Report { late: outcome.late })
 }

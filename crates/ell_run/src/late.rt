@@ -2,15 +2,16 @@
 ghost use Rattle.std.specs.Prelude.{◌≡◌, ◌≤◌, ◌<◌, ◌++◌, ℕ, Bool, List, All, IfOk, IsTrue, length, map};
 ghost use Rattle.std.specs.List.{flat_map};
 ghost use Rattle.std.specs.List.Sorted.{IsStrictlyIncreasing};
-ghost use Rattle.ell_ops.specs.KeySet.{Lists, empty, set_of};
-ghost use Rattle.ell_ops.specs.Meaning.{final};
+ghost use Rattle.ell_ops.specs.declared.reply.Reply.{Reply};
+ghost use Rattle.ell_ops.specs.KeySet.{Lists, set_of};
+ghost use Rattle.ell_ops.specs.Meaning.{Contents, final};
 ghost use Rattle.ell_parts.specs.Parting.{IsLawful, part};
 ghost use Rattle.ell_run.specs.ByParts.{ops_in};
 ghost use Rattle.ell_run.specs.Late.{AreMarks, late_ops};
 ghost use Rattle.ell_run.specs.Pieces.{ArePieces, all_workers, count_of, piece_from};
 
 use crate::pieces::{Piece, with_positions};
-use ell_ops::{NoMemory, Op, apply_from};
+use ell_ops::{NoMemory, Op, Reply, apply_from};
 use ell_parts::Parts;
 use std::alloc::Allocator;
 
@@ -22,7 +23,7 @@ pub(crate) fn late_ops<A: Allocator + Copy>(
     pieces: &[Piece<A>],
 ) -> Result<Vec<(usize, Op), A>, NoMemory>
     requires parted { parts.now.ops ≡ ops.now }
-    requires pieces { ArePieces empty parts.now (all_workers parts.now) (map (λ piece. piece.items) pieces.now) }
+    requires pieces { (start : Contents) × ArePieces start parts.now (all_workers parts.now) (map (λ piece. piece.items) pieces.now) }
     ensures { IfOk result (λ late. late.items ≡ late_ops ops.now (flat_map (λ piece. piece.items) pieces.now)) }
 {
     let mut late = Vec::new(alloc);
@@ -71,9 +72,9 @@ fn answered<A: Allocator + Copy>(
 }
 
 // Marks the positions of the items of a piece.
-fn mark(answered: &mut [bool], piece: &[(usize, bool)])
+fn mark(answered: &mut [bool], piece: &[(usize, Reply)])
     requires { All (λ item. item.0 < length answered.old) piece.now }
-    ensures { (items : List (ℕ × Bool)) → AreMarks items answered.old → AreMarks (items ++ piece.now) answered.new }
+    ensures { (items : List (ℕ × Reply)) → AreMarks items answered.old → AreMarks (items ++ piece.now) answered.new }
 {
     for (position, _) in piece {
         answered[*position] = true;

@@ -12,8 +12,8 @@ mod workers;
 
 pub use bytes::{RunFault, run_bytes};
 pub use ell_ops::{KEY_MAX, WORKERS_MAX};
-pub use ell_text::CARDS_MAX;
 pub use ell_tree::{Pass, Tree};
+pub use ell_word::{CARDS_MAX, START_MAX};
 pub use laws::{by_parts, limits_are_as_defined};
 pub use pieces::Piece;
 pub use runs::{Limits, Outcome, run};

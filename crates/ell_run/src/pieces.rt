@@ -6,14 +6,14 @@ ghost use Rattle.ell_tree.specs.Ledgers.{IsIdle, Owns, PassModel};
 ghost use Rattle.ell_run.specs.Pieces.{all_workers, busy, numbered};
 ghost use Rattle.ell_run.specs.Work.{IsWorked, IsWorkedOff, OwnsAll};
 
-use ell_ops::{NoMemory, Op};
+use ell_ops::{NoMemory, Op, Reply};
 use ell_parts::Parts;
 use ell_tree::{Held, Pass, Tree};
 use ell_word::StepGate;
 use std::alloc::{Allocator, Global};
 
 /// The replies of a worker, with their positions in the whole list.
-pub type Piece<A = Global> = Vec<(usize, bool), A>;
+pub type Piece<A = Global> = Vec<(usize, Reply), A>;
 
 // Works a part off, operation by operation, and leaves the rest of it from the first operation on that is held.
 pub(crate) fn work_off<A: Allocator + Copy, G: StepGate>(
@@ -28,7 +28,7 @@ pub(crate) fn work_off<A: Allocator + Copy, G: StepGate>(
     requires idle { IsIdle pass.old }
     requires owned { OwnsAll pass.old part.now }
     requires tries { 1 ≤ tries }
-    ensures { IfOk result (λ piece. IsWorkedOff tree.now.cards tries part.now pass.old pass.new piece.items) }
+    ensures { IfOk result (λ piece. IsWorkedOff tree.now.last_card tries part.now pass.old pass.new piece.items) }
 {
     let mut piece = Vec::with_capacity(alloc, part.len())?;
     for (position, op) in part {
@@ -47,17 +47,17 @@ fn do_op<A: Allocator + Copy, G: StepGate>(
     op: Op,
     tries: u32,
     gate: &G,
-) -> Result<bool, Held>
+) -> Result<Reply, Held>
     requires own { pass.old.table ≡ tree.now.id }
     requires idle { IsIdle pass.old }
     requires owned { Owns pass.old (key_of op) }
     requires tries { 1 ≤ tries }
-    ensures { Ends tree.now.cards tries op pass.old pass.new result }
+    ensures { Ends tree.now.last_card tries op pass.old pass.new result }
 {
     match op {
-        Op::Find(key) => Ok(tree.find(pass, key, gate)),
-        Op::Insert(key) => tree.insert(pass, key, tries, gate),
-        Op::Delete(key) => tree.delete(pass, key, tries, gate),
+        Op::Find(key) => Ok(Reply::yes_if(tree.find(pass, key, gate))),
+        Op::Insert(key, value) => Ok(Reply::yes_if(tree.insert(pass, key, value, tries, gate)?)),
+        Op::Delete(key) => Ok(Reply::yes_if(tree.delete(pass, key, tries, gate)?)),
     }
 }
 
@@ -84,7 +84,7 @@ pub(crate) fn with_empty_pieces<A: Allocator + Copy>(
 pub(crate) fn with_positions<A: Allocator + Copy>(
     alloc: A,
     part: &[(usize, Op)],
-    replies: &[bool],
+    replies: &[Reply],
 ) -> Result<Piece<A>, NoMemory>
     ensures { IfOk result (λ piece. piece.items ≡ numbered part.now replies.now) }
 {

@@ -1,16 +1,18 @@
 //! A run: a list of operations, parted among workers.
 ghost use Rattle.std.specs.Prelude.{◌≡◌, ◌≤◌, All, IfOk, IfErr, length, map};
 ghost use Rattle.std.specs.List.{flat_map};
-ghost use Rattle.ell_ops.specs.KeySet.{Lists, empty};
-ghost use Rattle.ell_ops.specs.Meaning.{Fits, replies, final};
-ghost use Rattle.ell_parts.specs.Parting.{keys_of};
-ghost use Rattle.ell_run.specs.Late.{AreLeft, IsLate, late_ops};
+ghost use Rattle.std.specs.List.Sorted.{IsStrictlyIncreasing};
+ghost use Rattle.ell_ops.specs.KeySet.{Lists, set_of};
+ghost use Rattle.ell_ops.specs.Meaning.{Contents, Fits, final, greatest_key, replies};
+ghost use Rattle.ell_parts.specs.Parting.{IsLawful, keys_of};
+ghost use Rattle.ell_word.specs.Node.{most_start};
+ghost use Rattle.ell_run.specs.Late.{AreLeft, IsLate, IsOutcome, late_ops};
 ghost use Rattle.ell_run.specs.Limits.{AreLimits};
 
 use crate::late::{do_late, late_ops};
 use crate::pieces::Piece;
-use crate::workers::{busy_workers, keys_for, work};
-use ell_ops::{NoMemory, Op};
+use crate::workers::{busy_workers, keys_for, work_apart};
+use ell_ops::{NoMemory, Op, Reply, united_keys};
 use ell_parts::{GatherFault, Parts, gather};
 use ell_tree::{CardFault, Tree};
 use ell_word::StepGate;
@@ -20,7 +22,7 @@ use std::thread::Threads;
 /// How much a run may use.
 #[derive(Clone, Copy, Debug, PartialEq, Eq)]
 pub struct Limits {
-    /// The cards that the tree has to give out, 1 to `CARDS_MAX`.
+    /// The cards that the tree has to give out, 1 to `CARDS_MAX`. Start keys take none of them.
     pub cards: u64,
     /// The tries that an insert or a delete has, 1 to `TRIES_MAX`.
     pub tries: u32,
@@ -30,54 +32,64 @@ pub struct Limits {
 #[derive(Debug, Drop)]
 pub struct Outcome<A: Allocator = Global> {
     /// The reply of each operation, in the order of the list.
-    pub replies: Vec<bool, A>,
+    pub replies: Vec<Reply, A>,
     /// The keys of the set at the end, ascending.
     pub keys: Vec<u64, A>,
     /// How many operations were done after the workers had ended.
     pub late: usize,
 }
 
-/// Runs a list of operations from the empty set: each worker of the parting works its own part off on one tree that all share, in
-/// a thread of its own where one can be made, and what they leave is done by one thread after they have ended. Replies and keys
-/// are those of one thread over the whole list. The gate sees each call of the tree, under the number of its worker.
+/// Runs a list of operations from the set of `start`: each worker of the parting works its own part off on one tree that all share,
+/// in a thread of its own where one can be made, and what they leave is done by one thread after they have ended. Replies and keys
+/// are those of one thread over the whole list. The gate sees each call of the tree, under the number of its worker. Conditions:
+/// the keys of `start` are strictly ascending, at most `KEY_MAX`, and at most `START_MAX` many.
 pub fn run<R: Threads + Sync, A: Allocator + Copy + Send + Sync, G: StepGate + Sync>(
     rt: &R,
     alloc: A,
+    start: &[u64],
     ops: &[Op],
     parts: &Parts<A>,
     limits: Limits,
     gate: &G,
 ) -> Result<Outcome<A>, NoMemory>
+    requires ascending { IsStrictlyIncreasing start.now }
+    requires real { All (λ key. key ≤ greatest_key) start.now }
+    requires few { length start.now ≤ most_start }
     requires fits { All Fits ops.now }
     requires parted { parts.now.ops ≡ ops.now }
     requires limits { AreLimits limits }
-    ensures replies { IfOk result (λ outcome. outcome.replies.items ≡ replies empty ops.now) }
-    ensures keys { IfOk result (λ outcome. Lists (final empty ops.now) outcome.keys.items) }
+    ensures replies { IfOk result (λ outcome. outcome.replies.items ≡ replies (set_of start.now) ops.now) }
+    ensures keys { IfOk result (λ outcome. Lists (final (set_of start.now) ops.now) outcome.keys.items) }
     ensures few { IfOk result (λ outcome. outcome.late ≤ length ops.now) }
-    ensures late { IfOk result (λ outcome. IsLate parts.now outcome.late) }
+    ensures late { IfOk result (λ outcome. IsLate (set_of start.now) parts.now outcome.late) }
 {
-    let (pieces, keys) = run_workers(rt, alloc, parts, limits, gate)?;
+    let (pieces, keys) = run_workers(rt, alloc, start, parts, limits, gate)?;
     finish(alloc, ops, parts, pieces, keys)
 }
 
-// Has the workers do their parts on one tree, and ends the tree.
+// Has the workers do their parts on one tree, which begins with the set of `start`, and ends the tree.
 fn run_workers<R: Threads + Sync, A: Allocator + Copy + Send + Sync, G: StepGate + Sync>(
     rt: &R,
     alloc: A,
+    start: &[u64],
     parts: &Parts<A>,
     limits: Limits,
     gate: &G,
 ) -> Result<(Vec<Piece<A>, A>, Vec<u64, A>), NoMemory>
+    requires ascending { IsStrictlyIncreasing start.now }
+    requires real { All (λ key. key ≤ greatest_key) start.now }
+    requires few { length start.now ≤ most_start }
     requires fits { All Fits parts.now.ops }
     requires limits { AreLimits limits }
-    ensures { IfOk result (λ left. AreLeft parts.now (map (λ piece. piece.items) left.0.items) left.1.items) }
+    ensures { IfOk result (λ left. AreLeft (set_of start.now) parts.now (map (λ piece. piece.items) left.0.items) left.1.items) }
 {
-    let keys = all_keys(alloc, parts)?;
-    let (tree, pass) = match Tree::reserve(alloc, &keys, limits.cards) {
+    let used = all_keys(alloc, parts)?;
+    let keys = united_keys(alloc, start, &used)?;
+    let (tree, pass) = match Tree::reserve_from(alloc, start, &keys, limits.cards) {
         Ok(made) => made,
         Err(fault) => return Err(no_cards(fault)),
     };
-    let (pass, pieces) = work(rt, alloc, &tree, pass, parts, limits.tries, gate)?;
+    let (pass, pieces) = work_apart(rt, alloc, &tree, pass, &used, parts, limits.tries, gate)?;
     match tree.close(pass) {
         Ok(keys) => Ok((pieces, keys)),
         Err(_) => Err(NoMemory),
@@ -86,7 +98,8 @@ fn run_workers<R: Threads + Sync, A: Allocator + Copy + Send + Sync, G: StepGate
 
 // The distinct keys of all parts, ascending.
 fn all_keys<A: Allocator + Copy>(alloc: A, parts: &Parts<A>) -> Result<Vec<u64, A>, NoMemory>
-    ensures { IfOk result (λ keys. Lists (keys_of parts.now.ops) keys.items) }
+    ensures lawful { IsLawful parts.now }
+    ensures keys { IfOk result (λ keys. Lists (keys_of parts.now.ops) keys.items) }
 {
     let workers = busy_workers(alloc, parts)?;
     keys_for(alloc, parts, &workers)
@@ -111,11 +124,10 @@ fn finish<A: Allocator + Copy>(
     keys: Vec<u64, A>,
 ) -> Result<Outcome<A>, NoMemory>
     requires parted { parts.now.ops ≡ ops.now }
-    requires left { AreLeft parts.now (map (λ piece. piece.items) pieces.items) keys.items }
-    ensures replies { IfOk result (λ outcome. outcome.replies.items ≡ replies empty ops.now) }
-    ensures keys { IfOk result (λ outcome. Lists (final empty ops.now) outcome.keys.items) }
+    requires left { (start : Contents) × AreLeft start parts.now (map (λ piece. piece.items) pieces.items) keys.items }
+    ensures outcome { (start : Contents) → AreLeft start parts.now (map (λ piece. piece.items) pieces.items) keys.items →
+        IfOk result (λ outcome. IsOutcome start ops.now parts.now outcome.replies.items outcome.keys.items outcome.late) }
     ensures few { IfOk result (λ outcome. outcome.late ≤ length ops.now) }
-    ensures late { IfOk result (λ outcome. IsLate parts.now outcome.late) }
     ensures count { IfOk result (λ outcome.
         outcome.late ≡ length (late_ops parts.now.ops (flat_map (λ piece. piece.items) pieces.items))) }
 {

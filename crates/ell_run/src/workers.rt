@@ -3,7 +3,7 @@ ghost use Rattle.std.specs.Prelude.{◌≡◌, ◌<◌, ◌≤◌, ◌++◌, ℕ
 ghost use denote.Param.Send.{Frees, IsSend, IsSync};
 ghost use Rattle.ell_ops.specs.KeySet.{Lists};
 ghost use Rattle.ell_ops.specs.Meaning.{key_of};
-ghost use Rattle.ell_parts.specs.Parting.{IsLawful, Parting};
+ghost use Rattle.ell_parts.specs.Parting.{IsLawful, Parting, keys_of};
 ghost use Rattle.ell_tree.specs.Ledgers.{IsIdle, Owns, PassModel};
 ghost use Rattle.ell_run.specs.Pieces.{all_workers, busy};
 ghost use Rattle.ell_run.specs.Work.{AreHalves, AreReady, IsWorked, keys_for};
@@ -34,11 +34,42 @@ pub fn work<R: Threads + Sync, A: Allocator + Copy + Send + Sync, G: StepGate + 
     requires owned { All (λ op. Owns pass (key_of op)) parts.now.ops }
     requires tries { 1 ≤ tries }
     ensures { IfOk result (λ done.
-        IsWorked tree.now.cards tries parts.now (all_workers parts.now) pass done.0 (map (λ piece. piece.items) done.1.items)) }
+        IsWorked tree.now.last_card tries parts.now (all_workers parts.now) pass done.0 (map (λ piece. piece.items) done.1.items)) }
 {
     let workers = busy_workers(alloc, parts)?;
     let (pass, pieces) = do_workers(rt, alloc, tree, pass, parts, &workers, tries, gate)?;
     Ok((pass, with_empty_pieces(alloc, parts, pieces)?))
+}
+
+// The same with a pass that has other keys beside those of the operations: the others stay in a pass that no worker uses.
+pub(crate) fn work_apart<R: Threads + Sync, A: Allocator + Copy + Send + Sync, G: StepGate + Sync>(
+    rt: &R,
+    alloc: A,
+    tree: &Tree<A>,
+    pass: Pass<A>,
+    keys: &[u64],
+    parts: &Parts<A>,
+    tries: u32,
+    gate: &G,
+) -> Result<(Pass<A>, Vec<Piece<A>, A>), NoMemory>
+    requires own { pass.table ≡ tree.now.id }
+    requires idle { IsIdle pass }
+    requires lawful { IsLawful parts.now }
+    requires keys { Lists (keys_of parts.now.ops) keys.now }
+    requires owned { All (λ key. Owns pass key) keys.now }
+    requires tries { 1 ≤ tries }
+    ensures { IfOk result (λ done.
+        IsWorked tree.now.last_card tries parts.now (all_workers parts.now) pass done.0 (map (λ piece. piece.items) done.1.items)) }
+{
+    let (ours, others) = match tree.split(pass, keys) {
+        Ok(parted) => parted,
+        Err(_) => return Err(NoMemory),
+    };
+    let (ours, pieces) = work(rt, alloc, tree, ours, parts, tries, gate)?;
+    match tree.join(ours, others) {
+        Ok(pass) => Ok((pass, pieces)),
+        Err(_) => Err(NoMemory),
+    }
 }
 
 // The workers whose parts are not empty, ascending.
@@ -72,7 +103,7 @@ fn do_workers<R: Threads + Sync, A: Allocator + Copy + Send + Sync, G: StepGate 
 ) -> Result<(Pass<A>, Vec<Piece<A>, A>), NoMemory>
     requires ready { AreReady tree.now parts.now workers.now pass }
     requires tries { 1 ≤ tries }
-    ensures { IfOk result (λ done. IsWorked tree.now.cards tries parts.now workers.now pass done.0 (map (λ piece. piece.items) done.1.items)) }
+    ensures { IfOk result (λ done. IsWorked tree.now.last_card tries parts.now workers.now pass done.0 (map (λ piece. piece.items) done.1.items)) }
 {
     if workers.len() < 2 {
         return do_one(alloc, tree, pass, parts, workers, tries, gate);
@@ -81,11 +112,11 @@ fn do_workers<R: Threads + Sync, A: Allocator + Copy + Send + Sync, G: StepGate 
     let (left, right) = halves(alloc, tree, pass, parts, low, high)?;
     let front = move || -> Result<(Pass<A>, Vec<Piece<A>, A>), NoMemory>
         requires { IsSync R.row × IsSync G.row × IsSend A.row × IsSync A.row × Frees A.Allocator A.dealloc_token × AreReady tree.now parts.now low.now left × (1 ≤ tries) }
-        ensures { IfOk result (λ done. IsWorked tree.entry.now.cards tries parts.entry.now low.entry.now left done.0 (map (λ piece. piece.items) done.1.items)) }
+        ensures { IfOk result (λ done. IsWorked tree.entry.now.last_card tries parts.entry.now low.entry.now left done.0 (map (λ piece. piece.items) done.1.items)) }
     { do_workers(rt, alloc, tree, left, parts, low, tries, gate) };
     let back = move || -> Result<(Pass<A>, Vec<Piece<A>, A>), NoMemory>
         requires { IsSync R.row × IsSync G.row × IsSend A.row × IsSync A.row × Frees A.Allocator A.dealloc_token × AreReady tree.now parts.now high.now right × (1 ≤ tries) }
-        ensures { IfOk result (λ done. IsWorked tree.entry.now.cards tries parts.entry.now high.entry.now right done.0 (map (λ piece. piece.items) done.1.items)) }
+        ensures { IfOk result (λ done. IsWorked tree.entry.now.last_card tries parts.entry.now high.entry.now right done.0 (map (λ piece. piece.items) done.1.items)) }
     { do_workers(rt, alloc, tree, right, parts, high, tries, gate) };
     let (first, second) = join(rt, front, back);
     both(tree, first?, second?)
@@ -104,7 +135,7 @@ fn do_one<A: Allocator + Copy, G: StepGate>(
     requires one { length workers.now ≤ 1 }
     requires ready { AreReady tree.now parts.now workers.now pass }
     requires tries { 1 ≤ tries }
-    ensures { IfOk result (λ done. IsWorked tree.now.cards tries parts.now workers.now pass done.0 (map (λ piece. piece.items) done.1.items)) }
+    ensures { IfOk result (λ done. IsWorked tree.now.last_card tries parts.now workers.now pass done.0 (map (λ piece. piece.items) done.1.items)) }
 {
     let mut pieces = Vec::new(alloc);
     let [worker] = workers else {

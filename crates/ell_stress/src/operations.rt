@@ -29,7 +29,7 @@ fn operation_of(number: u64, keys: u32) -> Op
     let key = (number >> 32) % keys as u64;
     match (number >> 40) % 3 {
         0 => Op::Find(key),
-        1 => Op::Insert(key),
+        1 => Op::Insert(key, 0),
         _ => Op::Delete(key),
     }
 }

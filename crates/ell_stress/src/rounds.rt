@@ -4,7 +4,7 @@ ghost use Rattle.ell_ops.specs.Meaning.{Fits};
 
 use crate::counts::{Counts, add};
 use crate::operations::operations;
-use ell_ops::{NoMemory, Op, WORKERS_MAX, apply_all};
+use ell_ops::{NoMemory, Op, Reply, WORKERS_MAX, apply_all};
 use ell_run::{Limits, Parting, Settings, parts_for, run};
 use ell_word::{NoGate, StepGate};
 use std::alloc::Global;
@@ -32,7 +32,7 @@ pub fn round<R: Threads + Sync>(
     add(&counts.late, late);
     add(&counts.late_at_gate, late_at_gate);
     let answered = ops.iter().zip(&wanted.0);
-    let changes = answered.filter(|it| *it.1 && !matches!(it.0, Op::Find(_)));
+    let changes = answered.filter(|it| *it.1 == Reply::Yes && !matches!(it.0, Op::Find(_)));
     add(&counts.changes, changes.count() as u64);
     Ok(true)
 }
@@ -42,7 +42,7 @@ fn late_in<R: Threads + Sync, G: StepGate + Sync>(
     rt: &R,
     alloc: Global,
     ops: &[Op],
-    wanted: &(Vec<bool>, Vec<u64>),
+    wanted: &(Vec<Reply>, Vec<u64>),
     gate: &G,
 ) -> Result<Option<u64>, NoMemory>
     requires { All Fits ops.now }
@@ -57,7 +57,7 @@ fn late_in<R: Threads + Sync, G: StepGate + Sync>(
     let parts = parts_for(alloc, ops, settings)?;
     let cards = 4 * ops.len().min(200_000) as u64 + 64;
     let limits = Limits { cards, tries };
-    let outcome = run(rt, alloc, ops, &parts, limits, gate)?;
+    let outcome = run(rt, alloc, &[], ops, &parts, limits, gate)?;
     let is_wanted = outcome.replies == wanted.0 && outcome.keys == wanted.1;
     Ok(is_wanted.then_some(outcome.late as u64))
 }

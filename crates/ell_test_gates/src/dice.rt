@@ -33,7 +33,7 @@ impl Dice {
     {
         match self.below(3) {
             0 => Op::Find(key),
-            1 => Op::Insert(key),
+            1 => Op::Insert(key, 0),
             _ => Op::Delete(key),
         }
     }

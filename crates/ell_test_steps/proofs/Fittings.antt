@@ -21,7 +21,6 @@ use Rattle.ell_cards.specs.Guards.{IsFilled}
 use Rattle.ell_cards.proofs.views.Facts.{knows_new, knows_more, facts_by_more}
 use Rattle.ell_cards.proofs.views.Entries.{places_more, filling_more}
 use Rattle.ell_test_steps.specs.declared.memory.Memory.{Memory}
-use Rattle.ell_test_steps.specs.declared.memory.Passed.{Passed}
 use Rattle.ell_test_steps.specs.Remembering.{KnowsAny, KnowsAll}
 use Rattle.ell_test_steps.specs.Fitting.{Fits, StepsAside, packed_any, root_memory, ended_search}
 

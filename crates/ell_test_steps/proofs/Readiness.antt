@@ -1,6 +1,6 @@
 use Rattle.std.proofs.Common.{◌≡◌, ℕ, ◌≤◌, ◌==◌, Bool, true, false, nat_le, if◌then◌else◌, List, ◌∷◌, Option, Some, None, Result, Ok, Err, is_ok, IfSome, MatchBool, refl, sym, ◌∙◌, ap, subst, inl, inr}
 use Rattle.ell_ops.specs.declared.op.Op.{Op}
-use Rattle.ell_ops.specs.declared.op.Op.TheVariants.{Delete}
+use Rattle.ell_ops.specs.declared.op.Op.TheVariants.{Insert, Delete}
 use Rattle.ell_ops.specs.Meaning.{key_of}
 use Rattle.ell_word.specs.Node.{greatest_card, IsInternal}
 use Rattle.ell_word.specs.Word.{packed}
@@ -14,11 +14,10 @@ use Rattle.ell_core.specs.declared.view.WorkerView.{WorkerView}
 use Rattle.std.proofs.lemmas.List.Elements.{All-replicate}
 use Rattle.ell_core.specs.state.Facts.{told_by_state}
 use Rattle.ell_core.specs.acts.Searching.{IsLeaf, leaf_answer}
-use Rattle.ell_cards.specs.declared.view.Told.TheVariants.{Met}
 use Rattle.ell_cards.specs.declared.view.View.{View}
-use Rattle.ell_cards.specs.Models.{PassModel, TableModel, Steps, IsTold, Knows}
+use Rattle.ell_cards.specs.Models.{PassModel, TableModel, Steps, Knows}
 use Rattle.ell_cards.specs.Changes.{after_begin, after_again, after_upd, after_key_of, after_next, after_claim, after_flag, after_mark, is_mark_of, learning, unmarking, with_found, found_word, found_update, with_stores}
-use Rattle.ell_cards.specs.Guards.{IsOver, MayStop, MayGoDown, MayAnswer, MayDFlag, IsFilled}
+use Rattle.ell_cards.specs.Guards.{IsOver, MayStop, MayGoDown, MayAnswer, MayIFlag, MayDFlag, IsFilled}
 use Rattle.ell_test_steps.specs.declared.memory.Memory.{Memory}
 use Rattle.ell_test_steps.specs.declared.memory.TheConstants.{FACTS}
 use Rattle.ell_test_steps.specs.declared.memory.Passed.{Passed}
@@ -30,6 +29,8 @@ use Rattle.ell_cards.proofs.views.Steps.{view_after}
 use Rattle.ell_cards.proofs.views.Searches.{told_here}
 use Rattle.ell_test_steps.proofs.Asides.{mark_aside}
 use Rattle.ell_test_steps.proofs.Fittings.{fits_aside, fits_known, fits_root, fits_claimed, fits_flag_won, fits_flag_lost, facts_by_new}
+use Rattle.ell_ops.specs.declared.reply.Reply.{Reply}
+use Rattle.ell_ops.specs.declared.reply.Reply.TheVariants.{Yes}
 
 pub ready_aside : (t : TableModel) (a b : PassModel) (m : Memory) → IsReady t a m → StepsAside a b → IsReady t b m
 ready_aside t a b m h s = record { own = s.table ∙ h.own; fits = fits_aside a b m h.fits s }
@@ -97,7 +98,7 @@ may_go_down_by a b m op x u key k h s busy at read inner same =
     })
 
 -- the answer at a leaf, if there is one
-pub leaf_may : (a b : PassModel) (m : Memory) (op : Op) (x key k : ℕ) (o : Option Bool) → Fits a.view m → Steps a b (after_key_of x key a.view)
+pub leaf_may : (a b : PassModel) (m : Memory) (op : Op) (x key k : ℕ) (o : Option Reply) → Fits a.view m → Steps a b (after_key_of x key a.view)
     → m.op ≡ Some op → m.node ≡ Some x → IsLeaf x → k ≡ key_of op → o ≡ leaf_answer op (key == k) → IfSome o (λ said. MayAnswer b.view said)
 leaf_may a b m op x key k None h s busy at outer same e = tt
 leaf_may a b m op x key k (Some said) h s busy at outer same e =
@@ -114,6 +115,19 @@ leaf_may a b m op x key k (Some said) h s busy at outer same e =
         says = sym (e ∙ ap (λ (j : ℕ). leaf_answer op (key == j)) same);
       });
     })
+
+pub may_iflag_by : (v : View) (m : Memory) (k value l c : ℕ) (parent : Passed) → Fits v m → m.op ≡ Some (Insert k value) → m.node ≡ Some l
+    → m.parent ≡ Some parent → m.card ≡ Some c → m.flagged ≡ false → MayIFlag v c parent.node parent.update
+may_iflag_by v m k value l c parent h busy at behind holds unflagged = record {
+  key = k;
+  value = value;
+  leaf = l;
+  busy = h.operation ∙ busy;
+  may = record { holds = h.card ∙ holds; unflagged = h.flagged ∙ unflagged };
+  stands = ap (λ (z : Search). z.node) h.search ∙ at;
+  behind = ap (λ (z : Search). z.parent) h.search ∙ ap seen_any behind;
+  filled = h.filled c holds unflagged;
+}
 
 pub may_dflag_by : (v : View) (m : Memory) (k l c : ℕ) (parent above : Passed) → Fits v m → m.op ≡ Some (Delete k) → m.node ≡ Some l → m.parent ≡ Some parent
     → m.grandparent ≡ Some above → m.card ≡ Some c → m.flagged ≡ false → MayDFlag v c above.node above.update
@@ -200,7 +214,7 @@ ready_marked t a b m n c x w u (Err found) h s more =
 
 -- the answer by the card in hand, which is remembered over
 pub card_may : (v : View) (m : Memory) (op is : Op) (c : ℕ) → op ≡ is → m.card ≡ Some c → m.flagged ≡ true → (KnowsAll v m.known → IsOver v is c) → Fits v m → m.op ≡ Some op
-    → MayAnswer v true
+    → MayAnswer v Yes
 card_may v m op is c same holds flagged over h busy = record {
   op = is;
   busy = h.operation ∙ (busy ∙ ap Some same);

@@ -41,7 +41,7 @@ pub(crate) fn claim<A: Allocator + Copy>(
     };
     match op {
         Op::Find(_) => None,
-        Op::Insert(key) => claim_for_insert(table, pass, memory, key, place),
+        Op::Insert(key, value) => claim_for_insert(table, pass, memory, key, value, place),
         Op::Delete(key) => claim_for_delete(table, pass, memory, key, place),
     }
 }
@@ -51,16 +51,17 @@ fn claim_for_insert<A: Allocator + Copy>(
     pass: &mut Pass<A>,
     memory: &mut Memory,
     key: u64,
+    value: u64,
     place: Place,
 ) -> Option<Stepped>
     requires ready { IsReady table.now pass.old memory.old }
-    requires at { ClaimsAt pass.old.view (Insert key) place }
+    requires at { ClaimsAt pass.old.view (Insert key value) place }
     ensures { IsReady table.now pass.new memory.new }
 {
     if place.key == key {
         return None;
     }
-    let card = take_card(table, pass, Op::Insert(key), place)?;
+    let card = take_card(table, pass, Op::Insert(key, value), place)?;
     fill_insert(table, pass, card, key, place);
     memory.card = Some(card);
     memory.flagged = false;
@@ -131,7 +132,8 @@ pub(crate) fn iflag<A: Allocator + Copy>(
     requires { IsReady table.now pass.old memory.old }
     ensures { IsReady table.now pass.new memory.new }
 {
-    let Some(Op::Insert(_)) = memory.op else {
+    let op = memory.op?;
+    let Op::Insert(_, _) = op else {
         return None;
     };
     let _ = memory.node?;

@@ -44,9 +44,9 @@ pub(crate) fn take_card<A: Allocator + Copy>(
     ensures taken { IfSome result (λ card. pass.new.view ≡ after_claim true card (after_next card pass.old.view)) }
     ensures left { result ≡ None → StepsAside pass.old pass.new }
 {
-    let cards = table.cards();
+    let last = table.last_card();
     let card = table.next(pass);
-    if card > cards || !table.claim(pass, card) {
+    if card > last || !table.claim(pass, card) {
         return None;
     }
     Some(card)

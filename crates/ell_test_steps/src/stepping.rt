@@ -10,7 +10,7 @@ use crate::exchanging::{backtrack, dchild, dunflag, ichild, iunflag, mark};
 use crate::memory::{Memory, Passed, fact_of, nothing, remember, remembers};
 use ell_cards::{CardTable, Pass};
 use ell_core::{Act, Fact, Stepped, leaf_answer};
-use ell_ops::Op;
+use ell_ops::{Op, Reply};
 use ell_word::is_internal;
 use std::alloc::Allocator;
 
@@ -191,7 +191,7 @@ fn leaf_said<A: Allocator + Copy>(
     pass: &mut Pass<A>,
     memory: &Memory,
     op: Op,
-) -> Option<bool>
+) -> Option<Reply>
     requires ready { IsReady table.now pass.old memory.now }
     requires busy { memory.now.op ≡ Some op }
     ensures ready { IsReady table.now pass.new memory.now }
@@ -206,7 +206,7 @@ fn leaf_said<A: Allocator + Copy>(
 }
 
 // The answer by the card in hand, if it is known over.
-fn card_said(memory: &Memory, op: Op) -> Option<bool>
+fn card_said(memory: &Memory, op: Op) -> Option<Reply>
     ensures { IfSome result (λ said. (v : View) → Fits v memory.now → memory.now.op ≡ Some op → MayAnswer v said) }
 {
     let card = memory.card?;
@@ -214,8 +214,8 @@ fn card_said(memory: &Memory, op: Op) -> Option<bool>
         return None;
     }
     match op {
-        Op::Insert(_) if remembers(memory, Fact::IOver(card)) => Some(true),
-        Op::Delete(_) if remembers(memory, Fact::DOver(card)) => Some(true),
+        Op::Insert(_, _) if remembers(memory, Fact::IOver(card)) => Some(Reply::Yes),
+        Op::Delete(_) if remembers(memory, Fact::DOver(card)) => Some(Reply::Yes),
         _ => None,
     }
 }

@@ -1,4 +1,6 @@
--- The first fault of a text, and its operations, a line at a time.
+-- What a bulk has with one line more.
+pub mod Bulks
+-- The first fault of a text, and what its lines say, a line at a time.
 pub mod Operations
 -- The draft of the lines that are not skipped, a line at a time.
 pub mod Drafts

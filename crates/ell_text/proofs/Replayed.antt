@@ -11,19 +11,19 @@ use Rattle.ell_core.specs.state.Opening.{opening, OpeningRefused}
 use Rattle.ell_core.specs.acts.Runs.{Run}
 use Rattle.ell_core.specs.tree.Tree.{ListsKeys}
 use Rattle.ell_text.specs.declared.output.WriteFault.{WriteFault}
-use Rattle.ell_text.specs.replays.Replayed.{IsReplay, IsReplayed, IsStartRefused, IsTrace, Tells}
+use Rattle.ell_text.specs.replays.Replayed.{setup_of, IsReplay, IsReplayed, IsStartRefused, IsTrace, Tells}
 use Rattle.ell_text.specs.replays.Script.{ScriptValue, script}
 use Rattle.ell_text.specs.replays.ScriptFault.{of_start, of_write}
 use Rattle.ell_text.specs.replays.Trace.{trace}
 
 -- a run from the script's opening state is a replay of the script
 pub is_replay : (value : ScriptValue) (before after : Machine) (owned : List (ℕ × ℕ)) (events : List Event) (shown : List Shown) (keys : List ℕ)
-    → before ≡ opening value.workers owned value.cards → owned ≡ value.owned → Run before events shown after → events ≡ value.events
+    → before ≡ opening (record (setup_of value) { owned = owned }) → owned ≡ value.owned → Run before events shown after → events ≡ value.events
     → ListsKeys after.words keys → IsReplay value shown keys
 is_replay value before after owned events shown keys opened same_owned run same_events listed =
-    let from = opened ∙ ap (λ owned. opening value.workers owned value.cards) same_owned in
+    let from = opened ∙ ap (λ owned. opening (record (setup_of value) { owned = owned })) same_owned in
     let run = subst (λ m. Run m events shown after) from run in
-    record { after = after; run = subst (λ events. Run (opening value.workers value.owned value.cards) events shown after) same_events run; listed = listed }
+    record { after = after; run = subst (λ events. Run (opening (setup_of value)) events shown after) same_events run; listed = listed }
 
 -- the trace of a replay of the script that was read is a trace of the reader's bytes
 traced : (input : Option (List ℕ)) (read : List ℕ) (value : ScriptValue) (shown : List Shown) (keys : List ℕ) → IfSome input (λ bytes. read ≡ bytes)

@@ -10,7 +10,7 @@ use Rattle.ell_text.specs.declared.replay_line.Place.TheVariants as at
 use Rattle.ell_text.specs.declared.replay_line.ReplayLineFault.{ReplayLineFault}
 use Rattle.ell_text.specs.declared.replay_line.Said.{Said}
 use Rattle.ell_text.specs.declared.replay_line.Said.TheVariants as says
-use Rattle.ell_text.specs.Limits.{most_cards}
+use Rattle.ell_word.specs.Node.{most_cards}
 use Rattle.ell_text.specs.Lines.{is_skipped}
 use Rattle.ell_text.specs.replays.ReplayLine.{◌>>=◌, act_on, card_act_of, card_in, count_of, entry_of, entry_or_event, event_of, or_bad_line, pieces, replay_key_in, replay_line_at, said_at, said_event, worker_in}
 use Rattle.ell_text.specs.replays.Script.{entry_said, event_said, is_kept}

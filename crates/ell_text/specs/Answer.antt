@@ -1,11 +1,13 @@
-use Rattle.std.specs.Prelude.{ℕ, Bool, true, false, List, ◌++◌, length, codes}
+use Rattle.std.specs.Prelude.{ℕ, List, ◌++◌, length, codes}
 use Rattle.std.specs.List.{flat_map}
 use Rattle.std.specs.Fmt.{decimal}
+use Rattle.ell_ops.specs.declared.reply.Reply.{Reply}
+use Rattle.ell_ops.specs.declared.reply.Reply.TheVariants.{Yes, No}
 
 -- the line of a reply
-abbrev pub reply_line : Bool → List ℕ
-reply_line true = codes "yes\n"
-reply_line false = codes "no\n"
+abbrev pub reply_line : Reply → List ℕ
+reply_line No = codes "no\n"
+reply_line Yes = codes "yes\n"
 
 -- the line of a number: its decimal digits
 abbrev pub number_line : ℕ → List ℕ
@@ -20,5 +22,5 @@ abbrev pub listing : {X : Type 0} → (X → List ℕ) → List X → List ℕ �
 listing line items keys = flat_map line items ++ keys_lines keys
 
 -- a line for each reply, and the lines of the keys
-abbrev pub answer : List Bool → List ℕ → List ℕ
+abbrev pub answer : List Reply → List ℕ → List ℕ
 answer replies keys = listing reply_line replies keys

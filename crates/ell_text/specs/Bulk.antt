@@ -1,23 +1,66 @@
-use Rattle.std.specs.Prelude.{ℕ, zero, suc, ◌+◌, ◌<◌, ◌≡◌, IsSome, nat_lt, List, [], length, take, slice_index_or, Option, None, Some, Result, Ok, Err, if◌then◌else◌}
+use Rattle.std.specs.Prelude.{ℕ, zero, suc, ◌+◌, ◌-◌, ◌<◌, ◌≤◌, ◌≡◌, Bool, true, IsSome, nat_lt, List, [], ◌∷◌, ◌++◌, length, take, slice_get, slice_index_or, All, Option, None, Some, Result, Ok, Err, if◌then◌else◌}
 use Rattle.std.specs.List.{filter_map}
+use Rattle.std.specs.List.Sorted.{IsStrictlyIncreasing}
 use Rattle.std.specs.Option.{option_or}
+use Rattle.ell_ops.specs.Meaning.{Fits, greatest_key}
 use Rattle.ell_ops.specs.declared.op.Op.{Op}
+use Rattle.ell_text.specs.declared.line.Line.{Line}
+use Rattle.ell_text.specs.declared.line.Line.TheVariants as says
 use Rattle.ell_text.specs.declared.line.LineFault.{LineFault}
 use Rattle.ell_text.specs.declared.line.LineFault.TheVariants as own
+use Rattle.ell_text.specs.declared.line.Section.{Section}
+use Rattle.ell_text.specs.declared.line.Section.TheVariants.{Opening, Operations}
+use Rattle.ell_text.specs.declared.bulk.Bulk.{Bulk}
 use Rattle.ell_text.specs.declared.bulk.TextFault.{TextFault}
-use Rattle.ell_text.specs.declared.bulk.TextFault.TheVariants.{BadOperation, BadKey, KeyTooLarge, TooManyOperations}
+use Rattle.ell_text.specs.declared.bulk.TextFault.TheVariants.{BadOperation, BadKey, KeyTooLarge, StartOrder, TooManyOperations}
 use Rattle.ell_text.specs.Limits.{most_operations}
 use Rattle.ell_text.specs.Line.{line_of}
 use Rattle.ell_text.specs.Lines.{lines}
 
--- the operation that a line says, if it says one
-abbrev pub operation_in : Result (Option Op) LineFault → Option Op
-operation_in (Ok operation) = operation
-operation_in (Err fault) = None
+-- What lines say: the keys that are there before the first operation, and the operations.
+pub record BulkValue : Type 0 where
+  pub start : List ℕ
+  pub ops : List Op
 
--- the operations of the lines that say one, in order
-abbrev pub operations : List (List ℕ) → List Op
-operations text = filter_map (λ line. operation_in (line_of line)) text
+-- what a bulk is, its lists without their places in memory
+abbrev pub bulk_value : {A : Type 0} → Bulk A → BulkValue
+bulk_value b = record { start = b.start.items; ops = b.ops.items }
+
+-- what a line says, if it says something and has no fault
+abbrev pub spoken_in : Result (Option Line) LineFault → Option Line
+spoken_in (Ok spoken) = spoken
+spoken_in (Err fault) = None
+
+-- the start key that a line says, if it says one
+abbrev pub start_in : Result (Option Line) LineFault → Option ℕ
+start_in (Ok (Some (says.Start key))) = Some key
+start_in other = None
+
+-- the operation that a line says, if it says one
+abbrev pub operation_in : Result (Option Line) LineFault → Option Op
+operation_in (Ok (Some (says.Operation operation))) = Some operation
+operation_in other = None
+
+-- what some lines say: their start keys and their operations, each in order, read as if a start line might stand anywhere: one behind an operation is at fault, whatever it says
+abbrev pub said : List (List ℕ) → BulkValue
+said text = record {
+  start = filter_map (λ line. start_in (line_of Opening line)) text;
+  ops = filter_map (λ line. operation_in (line_of Opening line)) text;
+}
+
+-- the section behind these operations: the opening ends with the first of them
+abbrev pub section_behind : List Op → Section
+section_behind [] = Opening
+section_behind (operation ∷ operations) = Operations
+
+-- whether a key is greater than the start key before it, if there is one
+abbrev pub rises : Option ℕ → ℕ → Bool
+rises None key = true
+rises (Some before) key = nat_lt before key
+
+-- the last of some start keys
+abbrev pub last_start : List ℕ → Option ℕ
+last_start start = slice_get start (length start - 1)
 
 -- a line's own fault, with the line's number
 abbrev pub located : ℕ → LineFault → TextFault
@@ -25,33 +68,72 @@ located number own.BadOperation = BadOperation number
 located number own.BadKey = BadKey number
 located number own.KeyTooLarge = KeyTooLarge number
 
--- the fault of the line of this number, before which so many operations stand
-abbrev pub fault_of : ℕ → ℕ → Result (Option Op) LineFault → Option TextFault
+-- the fault of one line too many: start keys and operations count together
+abbrev pub fault_of_more : ℕ → BulkValue → Option TextFault
+fault_of_more number before = if nat_lt (length before.start + length before.ops) most_operations then None else Some (TooManyOperations number)
+
+-- the fault of what the line of this number says, behind what the lines before it say
+abbrev pub fault_of_said : ℕ → BulkValue → Line → Option TextFault
+fault_of_said number before (says.Start key) = if rises (last_start before.start) key then fault_of_more number before else Some (StartOrder number)
+fault_of_said number before (says.Operation operation) = fault_of_more number before
+
+-- the fault of the line of this number, which is read as this
+abbrev pub fault_of : ℕ → BulkValue → Result (Option Line) LineFault → Option TextFault
 fault_of number before (Err fault) = Some (located number fault)
 fault_of number before (Ok None) = None
-fault_of number before (Ok (Some operation)) = if nat_lt before most_operations then None else Some (TooManyOperations number)
+fault_of number before (Ok (Some line)) = fault_of_said number before line
+
+-- a line read in the section where it stands, behind what the lines before it say
+abbrev pub line_behind : BulkValue → List ℕ → Result (Option Line) LineFault
+line_behind before line = line_of (section_behind before.ops) line
+
+-- the line at index i, read behind the lines before it
+abbrev pub line_at : List (List ℕ) → ℕ → Result (Option Line) LineFault
+line_at text i = line_behind (said (take i text)) (slice_index_or text i [])
 
 -- the fault of the line at index i, if it has one
 abbrev pub fault_at : List (List ℕ) → ℕ → Option TextFault
-fault_at text i = fault_of (i + 1) (length (operations (take i text))) (line_of (slice_index_or text i []))
+fault_at text i = fault_of (i + 1) (said (take i text)) (line_at text i)
 
 -- the first answer of f at a number below n
 abbrev pub first : {X : Type 0} → (ℕ → Option X) → ℕ → Option X
 first f zero = None
 first f (suc n) = option_or (first f n) (f n)
 
--- some line says an operation, and neither it nor a line before it has a fault
-pub record HasSoundOperation (text : List (List ℕ)) : Type 0 where
+-- some line says a start key or an operation, and neither it nor a line before it has a fault
+pub record HasSoundLine (text : List (List ℕ)) : Type 0 where
   pub at : ℕ
   pub within : at < length text
-  pub operation : IsSome (operation_in (line_of (slice_index_or text at [])))
+  pub spoken : IsSome (spoken_in (line_at text at))
   pub sound : first (fault_at text) (at + 1) ≡ None
 
--- the fault, or else the operations
-abbrev pub unless_fault : Option TextFault → List Op → Result (List Op) TextFault
-unless_fault None ops = Ok ops
-unless_fault (Some fault) ops = Err fault
+-- the fault, or else what the lines say
+abbrev pub unless_fault : Option TextFault → BulkValue → Result BulkValue TextFault
+unless_fault None found = Ok found
+unless_fault (Some fault) found = Err fault
 
--- the operations of a text, or its first fault
-abbrev pub bulk : List ℕ → Result (List Op) TextFault
-bulk bytes = unless_fault (first (fault_at (lines bytes)) (length (lines bytes))) (operations (lines bytes))
+-- the start keys and the operations of a text, or its first fault
+abbrev pub bulk : List ℕ → Result BulkValue TextFault
+bulk bytes = unless_fault (first (fault_at (lines bytes)) (length (lines bytes))) (said (lines bytes))
+
+-- nothing is said before the first line
+abbrev pub nothing_said : BulkValue
+nothing_said = record { start = []; ops = [] }
+
+-- what is said with one line more
+abbrev pub with_line : BulkValue → Line → BulkValue
+with_line before (says.Start key) = record before { start = before.start ++ key ∷ [] }
+with_line before (says.Operation operation) = record before { ops = before.ops ++ operation ∷ [] }
+
+-- what is said with one line more, which may say nothing
+abbrev pub with_read : BulkValue → Result (Option Line) LineFault → BulkValue
+with_read before (Ok (Some line)) = with_line before line
+with_read before (Ok None) = before
+with_read before (Err fault) = before
+
+-- a run may begin with this: there is not too much of it, the start keys ascend, and all keys may stand in a set
+pub record BulkFits (b : BulkValue) : Type 0 where
+  pub within : length b.start + length b.ops ≤ most_operations
+  pub start_keys : All (λ key. key ≤ greatest_key) b.start
+  pub ascending : IsStrictlyIncreasing b.start
+  pub keys : All Fits b.ops

@@ -1,12 +1,12 @@
 -- The text that answers a file of operations.
 pub mod Answer
--- The operations of a bulk text, or its first fault.
+-- The start keys and the operations of a bulk text, or its first fault.
 pub mod Bulk
 -- What reading does to a reader.
 pub mod Input
 -- The most that a text may have, or ask for.
 pub mod Limits
--- The operation of one line of a bulk text.
+-- What one line of a bulk text says.
 pub mod Line
 -- The lines of a text, and the parts of one line.
 pub mod Lines

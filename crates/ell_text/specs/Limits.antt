@@ -4,14 +4,10 @@ use Rattle.std.specs.Prelude.{ℕ}
 abbrev pub most_bytes : ℕ
 most_bytes = 16777216
 
--- the operations of a bulk text
+-- the start lines and operations of a bulk text, together
 abbrev pub most_operations : ℕ
 most_operations = 200000
 
 -- the own lines and events of a replay, together
 abbrev pub most_lines : ℕ
 most_lines = 200000
-
--- the cards that a run or a replay may ask for
-abbrev pub most_cards : ℕ
-most_cards = 1000000

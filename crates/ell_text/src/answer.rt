@@ -5,6 +5,7 @@ ghost use Rattle.ell_text.specs.Answer.{reply_line, answer};
 
 use crate::listing::{Listed, write_listing};
 use crate::output::{Output, WriteFault};
+use ell_ops::Reply;
 use std::io::Write;
 
 /// Writes the answer: a line `yes` or `no` for each reply, in order, then a line `keys N` with the
@@ -15,7 +16,11 @@ use std::io::Write;
 ///
 /// `Err` at the first failure of the writer. It also comes where the count of the bytes could pass
 /// `u64::MAX`, before a byte goes out that is not counted.
-pub fn write_answer<W: Write>(out: &mut W, replies: &[bool], keys: &[u64]) -> Result<(), WriteFault>
+pub fn write_answer<W: Write>(
+    out: &mut W,
+    replies: &[Reply],
+    keys: &[u64],
+) -> Result<(), WriteFault>
     // The whole text is out, behind what was there.
     ensures ok { OnOk result
         (Appends (W.contents out.old) (W.contents out.new) (answer replies.now keys.now)) }
@@ -29,7 +34,7 @@ pub fn write_answer<W: Write>(out: &mut W, replies: &[bool], keys: &[u64]) -> Re
     write_listing(out, replies, keys)
 }
 
-impl Listed for bool {
+impl Listed for Reply {
     ghost line = { reply_line };
 
     fn put_line<W: Write>(&self, output: &mut Output, out: &mut W) -> Result<(), WriteFault> {
@@ -38,8 +43,11 @@ impl Listed for bool {
 }
 
 /// The line of a reply.
-pub(crate) fn line_of(reply: bool) -> &'static [u8]
+pub(crate) fn line_of(reply: Reply) -> &'static [u8]
     ensures { result.now ≡ reply_line reply }
 {
-    if reply { b"yes\n" } else { b"no\n" }
+    match reply {
+        Reply::No => b"no\n",
+        Reply::Yes => b"yes\n",
+    }
 }

@@ -1,24 +1,33 @@
-//! The operations of a bulk text.
-ghost use Rattle.std.specs.Prelude.{◌≡◌, ◌≢◌, ◌≤◌, ◌++◌, All, None, Some, IfErr, IfOk, IsSome, OnOk, vec_len};
-ghost use Rattle.std.specs.Option.{option_to_list};
-ghost use Rattle.ell_ops.specs.Meaning.{Fits};
-ghost use Rattle.ell_text.specs.Bulk.{HasSoundOperation, bulk, fault_of, located, operation_in};
+//! The start keys and the operations of a bulk text.
+ghost use Rattle.std.specs.Prelude.{◌≡◌, ◌≢◌, ◌+◌, ◌≤◌, All, IfErr, IfOk, IsSome, None, OnOk, Some, vec_len};
+ghost use Rattle.std.specs.List.Sorted.{IsStrictlyIncreasing};
+ghost use Rattle.ell_ops.specs.Meaning.{Fits, greatest_key};
+ghost use Rattle.ell_text.specs.Bulk.{BulkFits, HasSoundLine, bulk, bulk_value, fault_of, fault_of_said, line_behind, located, nothing_said, section_behind, spoken_in, with_line, with_read};
 ghost use Rattle.ell_text.specs.Limits.{most_operations};
-ghost use Rattle.ell_text.specs.Line.{line_of};
+ghost use Rattle.ell_text.specs.Line.{LineFits};
 ghost use Rattle.ell_text.specs.Lines.{lines};
 
 use crate::limits::OPERATIONS_MAX;
-use crate::line::{LineFault, read_line};
+use crate::line::{Line, LineFault, Section, read_line};
 use crate::lines::lines;
-use ell_ops::Op;
-use std::alloc::Allocator;
+use ell_ops::{NoMemory, Op};
+use std::alloc::{Allocator, Global};
 use thiserror::Error;
+
+/// What a bulk text says.
+#[derive(Debug, Drop)]
+pub struct Bulk<A: Allocator = Global> {
+    /// The keys that are there before the first operation, strictly ascending.
+    pub start: Vec<u64, A>,
+    /// The operations, in their order.
+    pub ops: Vec<Op, A>,
+}
 
 /// Why a text was not read. Lines are counted from 1, the skipped ones too. Of several faults in one
 /// line the first of this list counts.
 #[derive(Debug, Clone, Copy, PartialEq, Eq, Error)]
 pub enum TextFault {
-    /// The line's name is not `find`, `insert` or `delete`.
+    /// The line's name is not `find`, `insert` or `delete`, nor, before the first operation, `start`.
     #[error("line {line}: not an operation")]
     BadOperation { line: usize },
     /// The line's key is not a number in decimal digits with no needless 0 in front.
@@ -27,7 +36,10 @@ pub enum TextFault {
     /// The line's key is above `KEY_MAX`.
     #[error("line {line}: key too large")]
     KeyTooLarge { line: usize },
-    /// The line's operation comes after `OPERATIONS_MAX` others.
+    /// The line's start key is not greater than the start key before it.
+    #[error("line {line}: start keys not ascending")]
+    StartOrder { line: usize },
+    /// The line comes after `OPERATIONS_MAX` start lines and operations.
     #[error("line {line}: more than {max} operations", max = OPERATIONS_MAX)]
     TooManyOperations { line: usize },
     /// A growth was refused.
@@ -35,50 +47,96 @@ pub enum TextFault {
     NoMemory,
 }
 
-/// Reads the operations of a bulk text, in their order. A fault is that of the first line that has one.
-/// `NoMemory` comes only at a line that says an operation, where no line so far has a fault.
-pub fn read_bulk<A: Allocator>(alloc: A, bytes: &[u8]) -> Result<Vec<Op, A>, TextFault>
-    ensures ok { IfOk result (λ ops. bulk bytes.now ≡ Ok ops.items) }
+/// Reads the start keys and the operations of a bulk text. A fault is that of the first line that has one.
+/// `NoMemory` comes only at a line that says a start key or an operation, where no line so far has a fault.
+pub fn read_bulk<A: Allocator + Copy>(alloc: A, bytes: &[u8]) -> Result<Bulk<A>, TextFault>
+    ensures ok { IfOk result (λ found. bulk bytes.now ≡ Ok (bulk_value found)) }
     ensures fault { IfErr result (λ fault. fault ≢ TextFault.NoMemory → bulk bytes.now ≡ Err fault) }
-    ensures no_memory { IfErr result (λ fault. fault ≡ TextFault.NoMemory → HasSoundOperation (lines bytes.now)) }
-    ensures within { IfOk result (λ ops. vec_len ops ≤ most_operations) }
-    ensures keys { IfOk result (λ ops. All Fits ops.items) }
+    ensures no_memory { IfErr result (λ fault. fault ≡ TextFault.NoMemory → HasSoundLine (lines bytes.now)) }
+    ensures within { IfOk result (λ found. vec_len found.start + vec_len found.ops ≤ most_operations) }
+    ensures start_keys { IfOk result (λ found. All (λ key. key ≤ greatest_key) found.start.items) }
+    ensures ascending { IfOk result (λ found. IsStrictlyIncreasing found.start.items) }
+    ensures keys { IfOk result (λ found. All Fits found.ops.items) }
 {
-    let mut ops = Vec::new(alloc);
+    let mut bulk = Bulk::new(alloc);
     for (index, line) in lines(bytes).enumerate() {
-        append_line(&mut ops, line, index + 1)?;
+        bulk.append_line(line, index + 1)?;
     }
-    Ok(ops)
+    Ok(bulk)
 }
 
-// Appends the operation of the line of this number, if the line says one.
-fn append_line<A: Allocator>(
-    ops: &mut Vec<Op, A>,
-    line: &[u8],
-    number: usize,
-) -> Result<(), TextFault>
-    requires within { vec_len ops.old ≤ most_operations }
-    requires keys { All Fits ops.old.items }
-    ensures ok { OnOk result (ops.new.items ≡ ops.old.items ++ option_to_list (operation_in (line_of line.now))) }
-    ensures sound { OnOk result (fault_of number (vec_len ops.old) (line_of line.now) ≡ None) }
-    ensures fault { IfErr result (λ fault. fault ≢ TextFault.NoMemory
-        → fault_of number (vec_len ops.old) (line_of line.now) ≡ Some fault) }
-    ensures no_memory { IfErr result (λ fault. fault ≡ TextFault.NoMemory
-        → IsSome (operation_in (line_of line.now))) }
-    ensures no_memory_sound { IfErr result (λ fault. fault ≡ TextFault.NoMemory
-        → fault_of number (vec_len ops.old) (line_of line.now) ≡ None) }
-    ensures within { vec_len ops.new ≤ most_operations }
-    ensures keys { All Fits ops.new.items }
-{
-    let op = match read_line(line) {
-        Ok(Some(op)) => op,
-        Ok(None) => return Ok(()),
-        Err(fault) => return Err(located(fault, number)),
-    };
-    if ops.len() >= OPERATIONS_MAX {
-        return Err(TextFault::TooManyOperations { line: number });
+impl<A: Allocator + Copy> Bulk<A> {
+    fn new(alloc: A) -> Bulk<A>
+        ensures value { bulk_value result ≡ nothing_said }
+        ensures fits { BulkFits (bulk_value result) }
+    {
+        Bulk {
+            start: Vec::new(alloc),
+            ops: Vec::new(alloc),
+        }
     }
-    ops.push(op).map_err(|_| TextFault::NoMemory)
+
+    // The section of the next line.
+    fn section(&self) -> Section
+        ensures { result ≡ section_behind self.now.ops.items }
+    {
+        if self.ops.is_empty() {
+            Section::Opening
+        } else {
+            Section::Operations
+        }
+    }
+
+    // Appends what the line of this number says, if it says something.
+    fn append_line(&mut self, line: &[u8], number: usize) -> Result<(), TextFault>
+        requires fits { BulkFits (bulk_value self.old) }
+        ensures ok { OnOk result (bulk_value self.new
+            ≡ with_read (bulk_value self.old) (line_behind (bulk_value self.old) line.now)) }
+        ensures sound { OnOk result (fault_of number (bulk_value self.old) (line_behind (bulk_value self.old) line.now) ≡ None) }
+        ensures fault { IfErr result (λ fault. fault ≢ TextFault.NoMemory
+            → fault_of number (bulk_value self.old) (line_behind (bulk_value self.old) line.now) ≡ Some fault) }
+        ensures no_memory { IfErr result (λ fault. fault ≡ TextFault.NoMemory
+            → IsSome (spoken_in (line_behind (bulk_value self.old) line.now))) }
+        ensures no_memory_sound { IfErr result (λ fault. fault ≡ TextFault.NoMemory
+            → fault_of number (bulk_value self.old) (line_behind (bulk_value self.old) line.now) ≡ None) }
+        ensures fits { OnOk result (BulkFits (bulk_value self.new)) }
+    {
+        let said = match read_line(self.section(), line) {
+            Ok(Some(said)) => said,
+            Ok(None) => return Ok(()),
+            Err(fault) => return Err(located(fault, number)),
+        };
+        if let Some(fault) = self.fault_of(said, number) {
+            return Err(fault);
+        }
+        self.append(said).map_err(|_| TextFault::NoMemory)
+    }
+
+    // The fault of what the line of this number says, if it has one.
+    fn fault_of(&self, said: Line, number: usize) -> Option<TextFault>
+        ensures value { result ≡ fault_of_said number (bulk_value self.now) said }
+        ensures fault { result ≢ Some TextFault.NoMemory }
+    {
+        if let (Line::Start(key), Some(before)) = (said, self.start.last())
+            && key <= *before
+        {
+            return Some(TextFault::StartOrder { line: number });
+        }
+        if self.start.len() + self.ops.len() >= OPERATIONS_MAX {
+            return Some(TextFault::TooManyOperations { line: number });
+        }
+        None
+    }
+
+    // Appends what a line says.
+    fn append(&mut self, said: Line) -> Result<(), NoMemory>
+        ensures { OnOk result (bulk_value self.new ≡ with_line (bulk_value self.old) said) }
+    {
+        match said {
+            Line::Start(key) => self.start.push(key).map_err(|_| NoMemory),
+            Line::Operation(op) => self.ops.push(op).map_err(|_| NoMemory),
+        }
+    }
 }
 
 // The fault of a line, with the line's number.

@@ -1,10 +1,11 @@
-//! Texts in and out: the bytes of a reader, the operations of a bulk text and the text that answers them, the script of
-//! a replay text and the trace of its replay.
+//! Texts in and out: the bytes of a reader, the start keys and the operations of a bulk text and the text that answers
+//! them, the script of a replay text and the trace of its replay.
 //!
 //! A line of a bulk text is the name of an operation, `find`, `insert` or `delete`, one space, and a key in decimal
-//! digits. A replay text has the line `workers N`, the line `cards N`, lines `own W K`, and a line for each event, as
-//! `0 begin find 5` and `0 mark 3`. Empty lines, lines of spaces and tabs, and lines whose first byte is `#` are
-//! skipped. `docs/FORMATS.md` has these texts in full.
+//! digits. Before all operations lines `start K` may stand, which say the keys that are there before. A replay text has
+//! the line `workers N`, the line `cards N`, lines `own W K`, and a line for each event, as `0 begin find 5` and
+//! `0 mark 3`. Empty lines, lines of spaces and tabs, and lines whose first byte is `#` are skipped. `docs/FORMATS.md`
+//! has these texts in full.
 #![tactic(auto)]
 
 mod answer;
@@ -22,10 +23,10 @@ mod replay_line;
 mod trace;
 
 pub use answer::write_answer;
-pub use bulk::{TextFault, read_bulk};
+pub use bulk::{Bulk, TextFault, read_bulk};
 pub use bytes::{ScriptFault, replay_bytes};
 pub use input::{InputFault, read_all};
-pub use limits::{CARDS_MAX, INPUT_MAX, LINES_MAX, OPERATIONS_MAX};
+pub use limits::{INPUT_MAX, LINES_MAX, OPERATIONS_MAX};
 pub use output::WriteFault;
 pub use replay::{ReplayFault, Script, read_replay};
 pub use trace::write_trace;

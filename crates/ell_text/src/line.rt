@@ -1,16 +1,16 @@
-//! The operation of one line of a bulk text.
+//! What one line of a bulk text says.
 ghost use Rattle.std.specs.Prelude.{◌≡◌, ◌≤◌, IfOk, IfSome};
-ghost use Rattle.ell_ops.specs.Meaning.{Fits, key_of};
-ghost use Rattle.ell_text.specs.Line.{line_of};
+ghost use Rattle.ell_ops.specs.Meaning.{greatest_key, key_of};
+ghost use Rattle.ell_text.specs.Line.{LineFits, line_of};
 
 use crate::lines::{is_skipped, split_at_space};
 use crate::number::{NumberFault, read_key};
 use ell_ops::Op;
 
-/// Why a line is no operation.
+/// Why a line of a bulk text is at fault by itself. The first of this list that holds counts.
 #[derive(Debug, Clone, Copy, PartialEq, Eq)]
 pub(crate) enum LineFault {
-    /// Before the first space stands no name of an operation.
+    /// Before the first space stands no name of a line that may stand there.
     BadOperation,
     /// After the first space stands no number.
     BadKey,
@@ -41,29 +41,79 @@ impl OpKind {
         }
     }
 
-    /// The operation of this kind on a key.
+    /// The operation of this kind on a key, with value 0.
     pub(crate) fn on(self, key: u64) -> Op
         ensures value { result ≡ operation_on self key }
         ensures key { key_of result ≡ key }
     {
         match self {
             OpKind::Find => Op::Find(key),
-            OpKind::Insert => Op::Insert(key),
+            OpKind::Insert => Op::Insert(key, 0),
             OpKind::Delete => Op::Delete(key),
         }
     }
 }
 
-/// Reads the operation of a line, or `None` where the line is skipped.
-pub(crate) fn read_line(line: &[u8]) -> Result<Option<Op>, LineFault>
-    ensures value { result ≡ line_of line.now }
-    ensures within { IfOk result (λ found. IfSome found Fits) }
+/// A section of a bulk text, by the lines that may stand in it.
+#[derive(Debug, Clone, Copy, PartialEq, Eq)]
+pub(crate) enum Section {
+    /// Start lines, and the first operation.
+    Opening,
+    /// Operations alone.
+    Operations,
+}
+
+/// What a line of a bulk text says.
+#[derive(Debug, Clone, Copy, PartialEq, Eq)]
+pub(crate) enum Line {
+    /// A key that is there before the first operation.
+    Start(u64),
+    /// An operation.
+    Operation(Op),
+}
+
+// What a line says, without its key.
+#[derive(Debug, Clone, Copy, PartialEq, Eq)]
+enum LineKind {
+    Start,
+    Operation(OpKind),
+}
+
+impl LineKind {
+    ghost use Rattle.ell_text.specs.Line.{line_kind_of, line_on};
+
+    // The kind that a name names in a section.
+    fn named(section: Section, name: &[u8]) -> Option<LineKind>
+        ensures { result ≡ line_kind_of section name.now }
+    {
+        match (section, name) {
+            (Section::Opening, b"start") => Some(LineKind::Start),
+            _ => OpKind::named(name).map(LineKind::Operation),
+        }
+    }
+
+    // What a line of this kind says of a key.
+    fn on(self, key: u64) -> Line
+        ensures value { result ≡ line_on self key }
+        ensures within { key ≤ greatest_key → LineFits result }
+    {
+        match self {
+            LineKind::Start => Line::Start(key),
+            LineKind::Operation(kind) => Line::Operation(kind.on(key)),
+        }
+    }
+}
+
+/// Reads what a line of a section says, or `None` where the line is skipped.
+pub(crate) fn read_line(section: Section, line: &[u8]) -> Result<Option<Line>, LineFault>
+    ensures value { result ≡ line_of section line.now }
+    ensures within { IfOk result (λ found. IfSome found LineFits) }
 {
     if is_skipped(line) {
         return Ok(None);
     }
     let (name, key) = split_at_space(line);
-    let Some(kind) = OpKind::named(name) else {
+    let Some(kind) = LineKind::named(section, name) else {
         return Err(LineFault::BadOperation);
     };
     match read_key(key) {

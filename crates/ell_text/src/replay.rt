@@ -2,7 +2,8 @@
 ghost use Rattle.std.specs.Prelude.{◌≡◌, ◌≢◌, ◌<◌, ◌≤◌, All, None, Some, IfErr, IfOk, IsTrue, OnErr, OnOk};
 ghost use Rattle.ell_ops.specs.Meaning.{greatest_key, most_workers};
 ghost use Rattle.ell_text.specs.replays.Draft.{DraftFits, count_in_draft, draft_value, finished, next_fault, next_line, no_draft, place_in_draft, with_line, with_said};
-ghost use Rattle.ell_text.specs.Limits.{most_cards, most_lines};
+ghost use Rattle.ell_text.specs.Limits.{most_lines};
+ghost use Rattle.ell_word.specs.Node.{most_cards};
 ghost use Rattle.ell_text.specs.Lines.{lines};
 ghost use Rattle.ell_text.specs.replays.ReplayLine.{SaidFits};
 ghost use Rattle.ell_text.specs.replays.Script.{HasSoundEntry, is_kept, replay_located, script, script_value};

@@ -4,12 +4,12 @@ ghost use Rattle.ell_ops.specs.Meaning.{greatest_key, most_workers};
 ghost use Rattle.ell_text.specs.replays.Pieces.{IsCut, piece_list};
 ghost use Rattle.ell_text.specs.replays.ReplayLine.{SaidFits, act_of, begin_event, card_event, card_in, count_in, count_of, entry_of, entry_or_event, event_of, pieces, plain_event, replay_key_in, replay_line_at, said_at, worker_in};
 
-use crate::limits::CARDS_MAX;
 use crate::line::OpKind;
 use crate::lines::{cut_at_space, is_skipped};
 use crate::number::{NumberFault, read_key, read_number};
 use ell_core::{Act, Event};
 use ell_ops::WORKERS_MAX;
+use ell_word::CARDS_MAX;
 
 /// Why a line of a replay text says nothing at its place. The first of this list that holds counts.
 #[derive(Debug, Clone, Copy, PartialEq, Eq)]

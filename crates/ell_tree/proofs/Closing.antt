@@ -42,7 +42,7 @@ module _ (t : TreeModel) (p : PassModel) (closed : ClosedModel) (ends : Ends t.k
   planned : (k : ℕ) → ledger p k ≢ None → Contains t.keys k
   planned k owns = ends.kept.owned ends.seat k p.view ends.seen owns
 
-  pub closes : (keys : List ℕ) → closed.cards ≡ t.cards → ListsKeys (words_of closed.words) keys → ClosesTo t p keys
+  pub closes : (keys : List ℕ) → closed.last_card ≡ t.last_card → ListsKeys (words_of closed.words) keys → ClosesTo t p keys
   closes keys cards lists = record {
     ascending = lists.ascending;
     present = λ k. (

@@ -42,10 +42,10 @@ module _ (v t f : View) (c : ℕ) (op : Op) (place : Place) (busy : Does v op) (
   told_by_card filling is e has = keeps.told e (h.told e (subst (λ (fs : List (Field × ℕ)). Has (told_filling c fs []) e) (sym is) has))
 
 module _ (v t f : View) (c k : ℕ) (place : Place) (keeps : Keeps t f) where
-  pub is_insert : Does v (Insert k) → IsAt v place → HasCard (Insert k) place (filling_of c v) t c → Knows f (fact.IFlagged c) → IsTold t (Met place.parent.node)
+  pub is_insert : (value : ℕ) → Does v (Insert k value) → IsAt v place → HasCard (Insert k value) place (filling_of c v) t c → Knows f (fact.IFlagged c) → IsTold t (Met place.parent.node)
       → IsInsert f c place.parent.node place.leaf (max k place.key)
-  is_insert busy at h knows met =
-      let tells = told_by_card v t f c (Insert k) place busy at h keeps (insert_filling c k place.parent.node place.leaf place.key) (filling_there c (Insert k) v place busy at) in
+  is_insert value busy at h knows met =
+      let tells = told_by_card v t f c (Insert k value) place busy at h keeps (insert_filling c k place.parent.node place.leaf place.key) (filling_there c (Insert k value) v place busy at) in
       record {
         knows = knows;
         met = keeps.told (Met place.parent.node) met;

@@ -28,10 +28,11 @@ may_fill_still a b n c fills may = record {
 }
 
 -- an insert's card that is filled may flag the parent
-pub may_iflag : (a b : PassModel) (n c k : ℕ) (place : Place) → HasCard (Insert k) place (insert_filling c k place.parent.node place.leaf place.key) a.view c
+pub may_iflag : (a b : PassModel) (n c k value : ℕ) (place : Place) → HasCard (Insert k value) place (insert_filling c k place.parent.node place.leaf place.key) a.view c
     → Fills a b n → MayIFlag b.view c place.parent.node place.parent.update
-may_iflag a b n c k place h fills = record {
+may_iflag a b n c k value place h fills = record {
   key = k;
+  value = value;
   leaf = place.leaf;
   busy = ap (λ (u : View). u.worker.operation) fills.view ∙ h.busy;
   may = may_fill_still a b n c fills h.may;

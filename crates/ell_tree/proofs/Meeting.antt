@@ -80,12 +80,12 @@ meets_more v w m = let n = ap length m.list in omega (arith, n, length-append m.
 -- what is in the way of a search that stands at the root, or nowhere
 pub root_way : (op : Op) (v : View) → v.worker.search ≡ at_root → way_of op v ≡ []
 root_way (Find k) v e = subst (λ (s : Search). in_the_way (Some (Find k)) s.node s.parent s.grandparent ≡ []) (sym e) refl
-root_way (Insert k) v e = subst (λ (s : Search). in_the_way (Some (Insert k)) s.node s.parent s.grandparent ≡ []) (sym e) refl
+root_way (Insert k value) v e = subst (λ (s : Search). in_the_way (Some (Insert k value)) s.node s.parent s.grandparent ≡ []) (sym e) refl
 root_way (Delete k) v e = subst (λ (s : Search). in_the_way (Some (Delete k)) s.node s.parent s.grandparent ≡ []) (sym e) refl
 
 pub nowhere_way : (op : Op) (v : View) → v.worker.search.node ≡ None → way_of op v ≡ []
 nowhere_way (Find k) v e = subst (λ (n : Option ℕ). in_the_way (Some (Find k)) n v.worker.search.parent v.worker.search.grandparent ≡ []) (sym e) refl
-nowhere_way (Insert k) v e = subst (λ (n : Option ℕ). in_the_way (Some (Insert k)) n v.worker.search.parent v.worker.search.grandparent ≡ []) (sym e) refl
+nowhere_way (Insert k value) v e = subst (λ (n : Option ℕ). in_the_way (Some (Insert k value)) n v.worker.search.parent v.worker.search.grandparent ≡ []) (sym e) refl
 nowhere_way (Delete k) v e = subst (λ (n : Option ℕ). in_the_way (Some (Delete k)) n v.worker.search.parent v.worker.search.grandparent ≡ []) (sym e) refl
 
 -- the state of an update is that of its word
@@ -118,10 +118,10 @@ clean_way : (s : State) (c : ℕ) → s ≡ state.Clean → unless_clean s c ≡
 clean_way s c e = ap (λ t. unless_clean t c) e
 
 -- what an insert's search read in its way, where it stands below a parent
-pub insert_way : (k leaf : ℕ) (x : Passed) (above : Option Passed) (v : View) → v.worker.search ≡ below leaf x (seen_any above)
-    → way_of (Insert k) v ≡ unless_clean x.update.state x.update.card
-insert_way k leaf x above v e =
-    subst (λ (s : Search). in_the_way (Some (Insert k)) s.node s.parent s.grandparent ≡ unless_clean x.update.state x.update.card) (sym e) (passed_way x)
+pub insert_way : (k value leaf : ℕ) (x : Passed) (above : Option Passed) (v : View) → v.worker.search ≡ below leaf x (seen_any above)
+    → way_of (Insert k value) v ≡ unless_clean x.update.state x.update.card
+insert_way k value leaf x above v e =
+    subst (λ (s : Search). in_the_way (Some (Insert k value)) s.node s.parent s.grandparent ≡ unless_clean x.update.state x.update.card) (sym e) (passed_way x)
 
 -- what a delete's search read in its way, where it stands below a grandparent and a parent
 delete_way : (k leaf : ℕ) (x above : Passed) (v : View) → v.worker.search ≡ below leaf x (Some (seen above))

@@ -1,30 +1,28 @@
-use Rattle.std.proofs.Common.{◌≡◌, ◌≢◌, ℕ, ◌==◌, ◌||◌, max, if◌then◌else◌, Bool, true, false, cond, Option, Some, None, Result, Ok, Err, IfOk, List, [], ◌∷◌, refl, sym, ◌∙◌, ap, subst, inl, inr, length-append}
+use Rattle.std.proofs.Common.{◌≡◌, ◌≢◌, ℕ, max, if◌then◌else◌, Bool, true, false, Option, Some, None, Result, Ok, Err, IfOk, List, refl, sym, ◌∙◌, ap, subst, inl, inr, length-append}
+use Rattle.std.specs.List.{All}
+use Rattle.ell_ops.specs.KeySet.{set_of}
 use Rattle.ell_core.specs.state.Machine.{ledger_of}
 use Rattle.ell_cards.specs.Models.{PassModel, TableModel, Steps, one_more}
-use Rattle.ell_cards.specs.Changes.{all_absent, first_view, is_among, part_on, part_off, left_view, right_view, united, joined_view}
+use Rattle.ell_cards.specs.Changes.{first_view, part_on, part_off, left_view, right_view, united, joined_view}
+use Rattle.ell_cards.proofs.words.Keys.{ledger_at_start, present_at_start}
 use Rattle.ell_cards.proofs.lifetimes.Parts.{parts_on, parts_off}
 use Rattle.ell_cards.proofs.lifetimes.Unions.{ledger_united}
 use Rattle.ell_tree.specs.Parts.{IsFirst, IsLeftPart, IsRightPart, IsUnion, or_else}
+use Rattle.ell_core.specs.declared.view.Entry.{Entry}
+use Rattle.ell_core.specs.state.Opening.{start_entry}
 
 -- what holds of a result by what held of it
 pub if_ok : {T E : Type 0} (P Q : T → Type 0) (r : Result T E) → ((x : T) → P x → Q x) → IfOk r P → IfOk r Q
 if_ok P Q (Ok x) more h = more x h
 if_ok P Q (Err e) more h = tt
 
--- a first pass has all keys absent
-absent : (keys : List ℕ) (k : ℕ) → ledger_of (all_absent keys) k ≡ (if is_among keys k then Some false else None)
-absent [] k = refl
-absent (x ∷ xs) k = by (k == x) (absent xs k)
-  where
-    by : (b : Bool) → ledger_of (all_absent xs) k ≡ (if is_among xs k then Some false else None)
-        → cond b (Some false) (ledger_of (all_absent xs) k) ≡ (if b || is_among xs k then Some false else None)
-    by true e = refl
-    by false e = e
-
-pub first_pass : (t : TableModel) (keys : List ℕ) (p : PassModel) → t.keys ≡ keys → p ≡ record { table = t.id; view = first_view keys; steps = 0; label = 0 } → IsFirst t p
-first_pass t keys p same e = subst (IsFirst t) (sym e) (record {
+-- a first pass has all keys, the start keys present
+pub first_pass : (t : TableModel) (keys start : List ℕ) (p : PassModel) → All (λ k. set_of keys k ≡ true) start → t.keys ≡ keys
+    → p ≡ record { table = t.id; view = first_view keys start; steps = 0; label = 0 } → IsFirst start t p
+first_pass t keys start p given same e = subst (IsFirst start t) (sym e) (record {
   own = refl;
-  ledger = λ k. absent keys k ∙ ap (λ (ks : List ℕ). if is_among ks k then Some false else None) (sym same);
+  ledger = λ k. ledger_at_start keys start k ∙ ap (λ (ks : List ℕ). if set_of ks k then Some (start_entry start k) else None) (sym same);
+  present = λ t k. present_at_start keys start given k t;
   answers = refl;
   hindrances = refl;
   steps = refl;
@@ -33,17 +31,17 @@ first_pass t keys p same e = subst (IsFirst t) (sym e) (record {
 })
 
 -- the parts of a ledger
-left_ledger : (keys : List ℕ) (l : List (ℕ × Bool)) (k : ℕ) → ledger_of (part_on keys l) k ≡ (if is_among keys k then ledger_of l k else None)
-left_ledger keys l k = by (is_among keys k) refl
+left_ledger : (keys : List ℕ) (l : List (ℕ × Entry)) (k : ℕ) → ledger_of (part_on keys l) k ≡ (if set_of keys k then ledger_of l k else None)
+left_ledger keys l k = by (set_of keys k) refl
   where
-    by : (b : Bool) → is_among keys k ≡ b → ledger_of (part_on keys l) k ≡ (if b then ledger_of l k else None)
+    by : (b : Bool) → set_of keys k ≡ b → ledger_of (part_on keys l) k ≡ (if b then ledger_of l k else None)
     by true e = (parts_on keys l k e).0
     by false e = (parts_off keys l k e).0
 
-right_ledger : (keys : List ℕ) (l : List (ℕ × Bool)) (k : ℕ) → ledger_of (part_off keys l) k ≡ (if is_among keys k then None else ledger_of l k)
-right_ledger keys l k = by (is_among keys k) refl
+right_ledger : (keys : List ℕ) (l : List (ℕ × Entry)) (k : ℕ) → ledger_of (part_off keys l) k ≡ (if set_of keys k then None else ledger_of l k)
+right_ledger keys l k = by (set_of keys k) refl
   where
-    by : (b : Bool) → is_among keys k ≡ b → ledger_of (part_off keys l) k ≡ (if b then None else ledger_of l k)
+    by : (b : Bool) → set_of keys k ≡ b → ledger_of (part_off keys l) k ≡ (if b then None else ledger_of l k)
     by true e = (parts_on keys l k e).1
     by false e = (parts_off keys l k e).1
 
@@ -70,11 +68,11 @@ right_part keys p part s = subst (IsRightPart keys p) (sym s) (record {
 })
 
 -- two ledgers in one
-first_or_else : (a b : Option Bool) → a ≢ None → or_else a b ≡ a
+first_or_else : (a b : Option Entry) → a ≢ None → or_else a b ≡ a
 first_or_else (Some x) b some = refl
 first_or_else None b some = absurd (some refl)
 
-both_ledger : (l m : List (ℕ × Bool)) (k : ℕ) → ledger_of (united l m) k ≡ or_else (ledger_of l k) (ledger_of m k)
+both_ledger : (l m : List (ℕ × Entry)) (k : ℕ) → ledger_of (united l m) k ≡ or_else (ledger_of l k) (ledger_of m k)
 both_ledger l m k = elim (ledger_united l m k) [
   | inl h ↦ h.0 ∙ sym (first_or_else (ledger_of l k) (ledger_of m k) h.1)
   | inr h ↦ h.1 ∙ sym (ap (λ a. or_else a (ledger_of m k)) h.0)

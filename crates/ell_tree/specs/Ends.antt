@@ -1,6 +1,8 @@
-use Rattle.std.specs.Prelude.{◌≡◌, ℕ, ◌+◌, ◌*◌, ◌≤◌, ◌↔◌, Bool, true, None, Some, Result, Ok, Err}
+use Rattle.std.specs.Prelude.{◌≡◌, ℕ, ◌+◌, ◌*◌, ◌≤◌, ◌↔◌, Bool, None, Some, Result, Ok, Err}
 use Rattle.ell_ops.specs.declared.op.Op.{Op}
-use Rattle.ell_ops.specs.Meaning.{reply_of, after}
+use Rattle.ell_ops.specs.declared.reply.Reply.{Reply}
+use Rattle.ell_ops.specs.declared.reply.Reply.TheVariants.{Yes}
+use Rattle.ell_ops.specs.Meaning.{yes_if, reply_of, after}
 use Rattle.ell_cards.specs.Models.{PassModel}
 use Rattle.ell_tree.specs.declared.operations.Held.{Held}
 use Rattle.ell_tree.specs.declared.operations.Held.TheVariants.{Busy, Spent}
@@ -8,7 +10,7 @@ use Rattle.ell_tree.specs.Hindrances.{Meets}
 use Rattle.ell_tree.specs.Ledgers.{present_in, Owns, answers, hindrances, IsIdle}
 
 -- an operation was answered: as a set answers it that has the pass's keys present, which becomes the set after it
-pub record Answers (op : Op) (said : Bool) (old new : PassModel) : Type 0 where
+pub record Answers (op : Op) (said : Reply) (old new : PassModel) : Type 0 where
   pub table : new.table ≡ old.table
   pub label : new.label ≡ old.label
   pub says : said ≡ reply_of op (present_in old)
@@ -23,7 +25,7 @@ pub record LaidDown (op : Op) (old new : PassModel) : Type 0 where
   pub label : new.label ≡ old.label
   pub ledger : new.view.worker.ledger ≡ old.view.worker.ledger
   pub answered : answers new ≡ answers old
-  pub would : reply_of op (present_in old) ≡ true
+  pub would : reply_of op (present_in old) ≡ Yes
   pub idle : IsIdle new
   pub no_card : new.view.worker.card ≡ None
 
@@ -32,8 +34,13 @@ abbrev pub HeldFor : ℕ → ℕ → PassModel → PassModel → Held → Type 0
 HeldFor cards tries old new Busy = hindrances old + tries ≤ hindrances new
 HeldFor cards tries old new Spent = new.view.next ≡ Some (cards + 1)
 
+-- what an insert or a delete says, as a reply
+abbrev pub replied : Result Bool Held → Result Reply Held
+replied (Ok said) = Ok (yes_if said)
+replied (Err why) = Err why
+
 -- how an insert or a delete ends; whatever was in its way is over
-abbrev pub Ends : ℕ → ℕ → Op → PassModel → PassModel → Result Bool Held → Type 0
+abbrev pub Ends : ℕ → ℕ → Op → PassModel → PassModel → Result Reply Held → Type 0
 Ends cards tries op old new (Ok said) = Answers op said old new × Meets old.view new.view
 Ends cards tries op old new (Err why) = LaidDown op old new × HeldFor cards tries old new why × Meets old.view new.view
 

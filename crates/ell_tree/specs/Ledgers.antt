@@ -1,9 +1,11 @@
 use Rattle.std.specs.Prelude.{◌≡◌, ◌≢◌, ℕ, None, length}
-use Rattle.ell_ops.specs.KeySet.{KeySet}
+pub use Rattle.ell_core.specs.declared.view.Entry.{Entry}
+pub use Rattle.ell_core.specs.declared.view.Entry.TheVariants.{Present, Absent}
 use Rattle.ell_core.specs.state.Machine.{Ledger, ledger_of}
 use Rattle.ell_core.specs.statements.StepLaws.{set_in}
 pub use Rattle.ell_cards.specs.Models.{PassModel}
 use Rattle.ell_cards.specs.Models.{TableModel}
+use Rattle.ell_ops.specs.Meaning.{Contents}
 
 -- how a contract sees a tree: which table it stands on, the keys that its passes own, and how many cards it has
 abbrev pub TreeModel : Type 0
@@ -14,7 +16,7 @@ abbrev pub ledger : PassModel → Ledger
 ledger p = ledger_of p.view.worker.ledger
 
 -- the keys of its own that are present
-abbrev pub present_in : PassModel → KeySet
+abbrev pub present_in : PassModel → Contents
 present_in p = set_in (ledger p)
 
 -- a pass owns a key

@@ -1,13 +1,17 @@
-use Rattle.std.specs.Prelude.{◌≡◌, ℕ, ◌+◌, if◌then◌else◌, false, Option, Some, None, Bool, List, max}
+use Rattle.std.specs.Prelude.{◌≡◌, ℕ, ◌+◌, if◌then◌else◌, Option, Some, None, List, max}
+use Rattle.ell_ops.specs.KeySet.{set_of}
 use Rattle.ell_cards.specs.Models.{PassModel, one_more}
-use Rattle.ell_cards.specs.Changes.{is_among}
 pub use Rattle.ell_cards.specs.Changes.{later}
-use Rattle.ell_tree.specs.Ledgers.{TreeModel, ledger, answers, hindrances, IsIdle}
+use Rattle.ell_tree.specs.Ledgers.{TreeModel, ledger, present_in, answers, hindrances, IsIdle}
+pub use Rattle.ell_core.specs.state.Opening.{start_entry}
+use Rattle.ell_core.specs.declared.view.Entry.{Entry}
 
--- the first pass of a tree: it owns all keys, each absent
-pub record IsFirst (t : TreeModel) (p : PassModel) : Type 0 where
+-- the first pass of a tree with these start keys: it owns all keys of the tree, of which the start keys are present and the others
+-- absent
+pub record IsFirst (start : List ℕ) (t : TreeModel) (p : PassModel) : Type 0 where
   pub own : p.table ≡ t.id
-  pub ledger : (k : ℕ) → ledger p k ≡ (if is_among t.keys k then Some false else None)
+  pub ledger : (k : ℕ) → ledger p k ≡ (if set_of t.keys k then Some (start_entry start k) else None)
+  pub present : present_in p ≡ set_of start
   pub answers : answers p ≡ 0
   pub hindrances : hindrances p ≡ 0
   pub steps : p.steps ≡ 0
@@ -17,7 +21,7 @@ pub record IsFirst (t : TreeModel) (p : PassModel) : Type 0 where
 -- the left part of a pass: it has these keys as the pass had them, and keeps the counts
 pub record IsLeftPart (keys : List ℕ) (p part : PassModel) : Type 0 where
   pub own : part.table ≡ p.table
-  pub ledger : (k : ℕ) → ledger part k ≡ (if is_among keys k then ledger p k else None)
+  pub ledger : (k : ℕ) → ledger part k ≡ (if set_of keys k then ledger p k else None)
   pub answers : answers part ≡ answers p
   pub hindrances : hindrances part ≡ hindrances p
   pub steps : part.steps ≡ one_more p.steps
@@ -27,7 +31,7 @@ pub record IsLeftPart (keys : List ℕ) (p part : PassModel) : Type 0 where
 -- the right part: it has the other keys, and counts anew
 pub record IsRightPart (keys : List ℕ) (p part : PassModel) : Type 0 where
   pub own : part.table ≡ p.table
-  pub ledger : (k : ℕ) → ledger part k ≡ (if is_among keys k then None else ledger p k)
+  pub ledger : (k : ℕ) → ledger part k ≡ (if set_of keys k then None else ledger p k)
   pub answers : answers part ≡ 0
   pub hindrances : hindrances part ≡ 0
   pub steps : part.steps ≡ one_more p.steps
@@ -35,7 +39,7 @@ pub record IsRightPart (keys : List ℕ) (p part : PassModel) : Type 0 where
   pub idle : IsIdle part
 
 -- an entry of one ledger, or else of another
-abbrev pub or_else : Option Bool → Option Bool → Option Bool
+abbrev pub or_else : Option Entry → Option Entry → Option Entry
 or_else (Some present) other = Some present
 or_else None other = other
 

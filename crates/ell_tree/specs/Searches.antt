@@ -1,4 +1,4 @@
-use Rattle.std.specs.Prelude.{◌≡◌, ◌≢◌, ℕ, ◌↔◌, IfSome, true, Option, Some, None}
+use Rattle.std.specs.Prelude.{◌≡◌, ◌≢◌, ℕ, ◌↔◌, IfSome, Option, Some, None}
 use Rattle.ell_ops.specs.declared.op.Op.{Op}
 use Rattle.ell_ops.specs.Meaning.{key_of}
 use Rattle.ell_word.specs.Word.{packed}
@@ -12,6 +12,7 @@ use Rattle.ell_cards.specs.Models.{IsTold, Does, InTable}
 use Rattle.ell_tree.specs.declared.searching.Passed.{Passed}
 use Rattle.ell_tree.specs.declared.searching.Place.{Place}
 use Rattle.ell_tree.specs.Keeping.{IsSeenAt}
+use Rattle.ell_core.specs.declared.view.Entry.TheVariants.{Present}
 
 -- an operation is in hand, and its search stands at the root
 pub record AtRoot (op : Op) (v : View) : Type 0 where
@@ -56,5 +57,5 @@ pub record EndsAt (cards : ℕ) (w : View) (op : Op) (place : Place) : Type 0 wh
   pub at : IsAt w place
   pub passed : Passes cards w place.parent
   pub passed_above : IfSome place.grandparent (λ x. Passes cards w x)
-  pub present : (place.key ≡ key_of op) ↔ (ledger_of w.worker.ledger (key_of op) ≡ Some true)
+  pub present : (place.key ≡ key_of op) ↔ (ledger_of w.worker.ledger (key_of op) ≡ Some Present)
   pub deep : place.key ≡ key_of op → place.grandparent ≢ None

@@ -25,6 +25,7 @@ use Rattle.ell_tree.specs.Ends.{Answers}
 use Rattle.ell_tree.specs.Hindrances.{AreOver, Meets, StillKnows, way_of}
 use Rattle.ell_tree.specs.Keeping.{IsSeenAt}
 use Rattle.ell_tree.specs.Searches.{AtRoot, seen, seen_any}
+use Rattle.ell_ops.specs.declared.reply.Reply.TheVariants.{Yes}
 
 -- an operation starts, or starts anew, at the root; what came to be in its way before
 pub record Begins (op : Op) (met : List Hindrance) (old new : PassModel) : Type 0 where
@@ -64,7 +65,7 @@ pub record Halts (op : Op) (old new : PassModel) : Type 0 where
   pub answers : new.view.answers ≡ old.view.answers
   pub meets : Meets old.view new.view
   pub way : AreOver new.view (way_of op new.view)
-  pub would : reply_of op (present_in old) ≡ true
+  pub would : reply_of op (present_in old) ≡ Yes
   pub stops : Stops op new.view
 
 -- how a try ends
@@ -129,5 +130,5 @@ Flags cards flag c x old new (Err found) = IsUnflagged cards x found old.view ne
 
 -- the operation that a change is
 abbrev pub op_of : Change → Op
-op_of (change.Insert key) = Insert key
+op_of (change.Insert key value) = Insert key value
 op_of (change.Delete key) = Delete key

@@ -22,7 +22,7 @@ use crate::steps::answer;
 use crate::trying::{Claimed, Tried, fill, take_card};
 use ell_cards::{CardTable, Pass};
 use ell_core::Field;
-use ell_ops::Op;
+use ell_ops::{Op, Reply};
 use ell_word::{Kind, State, StepGate, Update, pack};
 use std::alloc::Allocator;
 
@@ -35,14 +35,14 @@ pub(crate) fn try_delete<A: Allocator + Copy, G: StepGate>(
 ) -> Tried
     requires own { pass.old.table ≡ table.now.id }
     requires root { AtRoot (Delete key) pass.old.view }
-    ensures steps { pass.new.steps + 1 ≤ pass.old.steps + try_steps table.now.cards }
-    ensures ends { TryEnds table.now.cards (Delete key) pass.old pass.new result }
+    ensures steps { pass.new.steps + 1 ≤ pass.old.steps + try_steps table.now.last_card }
+    ensures ends { TryEnds table.now.last_card (Delete key) pass.old pass.new result }
 {
     let op = Op::Delete(key);
     let place = search(table, pass, op, gate);
     if place.key != key {
-        answer(table, pass, op, false, gate);
-        return Tried::Answered(false);
+        answer(table, pass, op, Reply::No, gate);
+        return Tried::Answered(Reply::No);
     }
     // A leaf of a key of the set has a grandparent.
     let Some(above) = place.grandparent else {
@@ -69,8 +69,8 @@ pub(crate) fn try_delete<A: Allocator + Copy, G: StepGate>(
     if !finish_own(table, pass, card, above.node, place.parent, gate) {
         return Tried::Hindered;
     }
-    answer(table, pass, op, true, gate);
-    Tried::Answered(true)
+    answer(table, pass, op, Reply::Yes, gate);
+    Tried::Answered(Reply::Yes)
 }
 
 // Fills the card of a delete, and flags the grandparent with it.
@@ -87,9 +87,9 @@ fn flag_delete<A: Allocator + Copy, G: StepGate>(
     requires above { place.grandparent ≡ Some above }
     requires limit { place.parent.update.card ≤ greatest_card }
     requires card { HasCard (Delete key) place (delete_filling above.node place.parent.node place.leaf (packed place.parent.update)) pass.old.view card }
-    requires node { IsInnerMet table.now.cards pass.old.view above.node }
+    requires node { IsInnerMet table.now.last_card pass.old.view above.node }
     ensures goes { Goes pass.old pass.new 5 }
-    ensures flags { Flags table.now.cards DFlagged card above.node pass.old pass.new result }
+    ensures flags { Flags table.now.last_card DFlagged card above.node pass.old pass.new result }
 {
     fill_delete(table, pass, card, key, above.node, place, gate);
     gate.before(pass.label(), Kind::DFlag);
@@ -133,10 +133,10 @@ fn finish_own<A: Allocator + Copy, G: StepGate>(
     requires limit { parent.update.card ≤ greatest_card }
     requires knows { Knows pass.old.view (DFlagged card) }
     requires grandparent { IsTold pass.old.view (Info card field.Gp grandparent) }
-    requires node { IsInnerMet table.now.cards pass.old.view grandparent }
-    requires parent { IsParent table.now.cards pass.old.view card parent.node }
+    requires node { IsInnerMet table.now.last_card pass.old.view grandparent }
+    requires parent { IsParent table.now.last_card pass.old.view card parent.node }
     requires read { IsTold pass.old.view (Info card field.Was (packed parent.update)) }
-    ensures works { Works pass.old pass.new (help_steps table.now.cards + 2) }
+    ensures works { Works pass.old pass.new (help_steps table.now.last_card + 2) }
     ensures meets { Meets pass.old.view pass.new.view }
     ensures done { OnTrue result (Knows pass.new.view (DOver card)) }
     ensures backed { OnFalse result (IsBacked card pass.old.view pass.new.view) }

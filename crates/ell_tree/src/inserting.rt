@@ -15,7 +15,7 @@ use crate::steps::answer;
 use crate::trying::{Claimed, Tried, fill, take_card};
 use ell_cards::{CardTable, Pass};
 use ell_core::{Field, update_word};
-use ell_ops::Op;
+use ell_ops::{Op, Reply};
 use ell_word::{Kind, State, StepGate, Update, left_leaf_of, right_leaf_of};
 use std::alloc::Allocator;
 
@@ -24,18 +24,19 @@ pub(crate) fn try_insert<A: Allocator + Copy, G: StepGate>(
     table: &CardTable<A>,
     pass: &mut Pass<A>,
     key: u64,
+    value: u64,
     gate: &G,
 ) -> Tried
     requires own { pass.old.table ≡ table.now.id }
-    requires root { AtRoot (Insert key) pass.old.view }
-    ensures steps { pass.new.steps + 1 ≤ pass.old.steps + try_steps table.now.cards }
-    ensures ends { TryEnds table.now.cards (Insert key) pass.old pass.new result }
+    requires root { AtRoot (Insert key value) pass.old.view }
+    ensures steps { pass.new.steps + 1 ≤ pass.old.steps + try_steps table.now.last_card }
+    ensures ends { TryEnds table.now.last_card (Insert key value) pass.old pass.new result }
 {
-    let op = Op::Insert(key);
+    let op = Op::Insert(key, value);
     let place = search(table, pass, op, gate);
     if place.key == key {
-        answer(table, pass, op, false, gate);
-        return Tried::Answered(false);
+        answer(table, pass, op, Reply::No, gate);
+        return Tried::Answered(Reply::No);
     }
     let Passed {
         node: parent,
@@ -50,12 +51,12 @@ pub(crate) fn try_insert<A: Allocator + Copy, G: StepGate>(
         Claimed::NoneLeft => return Tried::Spent,
         Claimed::Lost => return Tried::Hindered,
     };
-    match flag_insert(table, pass, card, key, place, gate) {
+    match flag_insert(table, pass, card, key, value, place, gate) {
         Ok(()) => {
             let card_key = key.max(place.key);
             finish_insert(table, pass, card, parent, place.leaf, card_key, gate);
-            answer(table, pass, op, true, gate);
-            Tried::Answered(true)
+            answer(table, pass, op, Reply::Yes, gate);
+            Tried::Answered(Reply::Yes)
         }
         Err(found) => {
             help(table, pass, parent, found, gate);
@@ -70,17 +71,18 @@ fn flag_insert<A: Allocator + Copy, G: StepGate>(
     pass: &mut Pass<A>,
     card: u64,
     key: u64,
+    value: u64,
     place: Place,
     gate: &G,
 ) -> Result<(), Update>
     requires own { pass.old.table ≡ table.now.id }
     requires limit { card ≤ greatest_card }
-    requires card { HasCard (Insert key) place (insert_filling card key place.parent.node place.leaf place.key) pass.old.view card }
-    requires node { IsInnerMet table.now.cards pass.old.view place.parent.node }
+    requires card { HasCard (Insert key value) place (insert_filling card key place.parent.node place.leaf place.key) pass.old.view card }
+    requires node { IsInnerMet table.now.last_card pass.old.view place.parent.node }
     ensures goes { Goes pass.old pass.new 9 }
-    ensures flags { Flags table.now.cards IFlagged card place.parent.node pass.old pass.new result }
+    ensures flags { Flags table.now.last_card IFlagged card place.parent.node pass.old pass.new result }
 {
-    fill_insert(table, pass, card, key, place, gate);
+    fill_insert(table, pass, card, key, value, place, gate);
     gate.before(pass.label(), Kind::IFlag);
     table.iflag(pass, card, place.parent.node, place.parent.update)
 }
@@ -91,12 +93,13 @@ fn fill_insert<A: Allocator + Copy, G: StepGate>(
     pass: &mut Pass<A>,
     card: u64,
     key: u64,
+    value: u64,
     place: Place,
     gate: &G,
 )
     requires own { pass.old.table ≡ table.now.id }
     requires limit { card ≤ greatest_card }
-    requires card { HasCard (Insert key) place (insert_filling card key place.parent.node place.leaf place.key) pass.old.view card }
+    requires card { HasCard (Insert key value) place (insert_filling card key place.parent.node place.leaf place.key) pass.old.view card }
     ensures { Fills pass.old pass.new 8 }
 {
     let (lesser, greater) = (key.min(place.key), key.max(place.key));

@@ -1,8 +1,8 @@
 //! The operations: find, insert and delete.
 ghost use Rattle.std.specs.Prelude.{◌≡◌, ◌≤◌, ◌+◌, true};
 ghost use Rattle.ell_ops.specs.declared.op.Op.TheVariants.{Find, Insert, Delete};
-ghost use Rattle.ell_ops.specs.Meaning.{key_of};
-ghost use Rattle.ell_tree.specs.Ends.{Answers, Ends, change_steps, find_steps, try_steps};
+ghost use Rattle.ell_ops.specs.Meaning.{key_of, yes_if};
+ghost use Rattle.ell_tree.specs.Ends.{Answers, Ends, change_steps, find_steps, replied, try_steps};
 ghost use Rattle.ell_tree.specs.Hindrances.{Meets, way_of};
 ghost use Rattle.ell_tree.specs.Ledgers.{IsIdle, Owns};
 ghost use Rattle.ell_tree.specs.Searches.{AtRoot};
@@ -14,7 +14,7 @@ use crate::searching::search;
 use crate::steps::{again, answer, begin, leave};
 use crate::trying::Tried;
 use ell_cards::{CardTable, Pass};
-use ell_ops::Op;
+use ell_ops::{Op, Reply};
 use ell_word::{Kind, StepGate};
 use std::alloc::Allocator;
 use thiserror::Error;
@@ -30,10 +30,10 @@ pub enum Held {
     Spent,
 }
 
-/// An operation that may change the set.
+/// An operation that may change the set: a key and its value are inserted, or a key is deleted.
 #[derive(Clone, Copy)]
 pub(crate) enum Change {
-    Insert(u64),
+    Insert(u64, u64),
     Delete(u64),
 }
 
@@ -47,10 +47,10 @@ pub(crate) fn find<A: Allocator + Copy, G: StepGate>(
     requires own { pass.old.table ≡ table.now.id }
     requires idle { IsIdle pass.old }
     requires owned { Owns pass.old key }
-    ensures answers { Answers (Find key) result pass.old pass.new }
+    ensures answers { Answers (Find key) (yes_if result) pass.old pass.new }
     ensures calm { pass.new.view.hindrances ≡ pass.old.view.hindrances }
     ensures meets { Meets pass.old.view pass.new.view }
-    ensures steps { pass.new.steps ≤ pass.old.steps + find_steps table.now.cards }
+    ensures steps { pass.new.steps ≤ pass.old.steps + find_steps table.now.last_card }
 {
     let label = pass.label();
     let op = Op::Find(key);
@@ -58,7 +58,7 @@ pub(crate) fn find<A: Allocator + Copy, G: StepGate>(
     begin(table, pass, op, gate);
     let place = search(table, pass, op, gate);
     let found = place.key == key;
-    answer(table, pass, op, found, gate);
+    answer(table, pass, op, Reply::yes_if(found), gate);
     gate.after(label, true);
     found
 }
@@ -70,13 +70,13 @@ pub(crate) fn make_change<A: Allocator + Copy, G: StepGate>(
     change: Change,
     tries: u32,
     gate: &G,
-) -> Result<bool, Held>
+) -> Result<Reply, Held>
     requires own { pass.old.table ≡ table.now.id }
     requires idle { IsIdle pass.old }
     requires owned { Owns pass.old (key_of (op_of change)) }
     requires tries { 1 ≤ tries }
-    ensures ends { Ends table.now.cards tries (op_of change) pass.old pass.new result }
-    ensures steps { pass.new.steps ≤ pass.old.steps + change_steps table.now.cards tries }
+    ensures ends { Ends table.now.last_card tries (op_of change) pass.old pass.new result }
+    ensures steps { pass.new.steps ≤ pass.old.steps + change_steps table.now.last_card tries }
 {
     let label = pass.label();
     gate.before(label, Kind::Begin);
@@ -92,13 +92,13 @@ fn try_often<A: Allocator + Copy, G: StepGate>(
     change: Change,
     tries: u32,
     gate: &G,
-) -> Result<bool, Held>
+) -> Result<Reply, Held>
     requires own { pass.old.table ≡ table.now.id }
     requires idle { IsIdle pass.old }
     requires owned { Owns pass.old (key_of (op_of change)) }
     requires tries { 1 ≤ tries }
-    ensures ends { Ends table.now.cards tries (op_of change) pass.old pass.new result }
-    ensures steps { pass.new.steps ≤ pass.old.steps + change_steps table.now.cards tries }
+    ensures ends { Ends table.now.last_card tries (op_of change) pass.old pass.new result }
+    ensures steps { pass.new.steps ≤ pass.old.steps + change_steps table.now.last_card tries }
 {
     let op = op_of(change);
     begin(table, pass, op, gate);
@@ -117,12 +117,22 @@ fn try_often<A: Allocator + Copy, G: StepGate>(
     Err(Held::Busy)
 }
 
+/// What a change answers, told by whether it is yes.
+pub(crate) fn is_yes(ended: Result<Reply, Held>) -> Result<bool, Held>
+    ensures { replied result ≡ ended }
+{
+    match ended {
+        Ok(reply) => Ok(reply == Reply::Yes),
+        Err(held) => Err(held),
+    }
+}
+
 // The operation that a change is.
 fn op_of(change: Change) -> Op
     ensures { result ≡ op_of change }
 {
     match change {
-        Change::Insert(key) => Op::Insert(key),
+        Change::Insert(key, value) => Op::Insert(key, value),
         Change::Delete(key) => Op::Delete(key),
     }
 }
@@ -155,11 +165,11 @@ fn try_once<A: Allocator + Copy, G: StepGate>(
 ) -> Tried
     requires own { pass.old.table ≡ table.now.id }
     requires root { AtRoot (op_of change) pass.old.view }
-    ensures steps { pass.new.steps + 1 ≤ pass.old.steps + try_steps table.now.cards }
-    ensures ends { TryEnds table.now.cards (op_of change) pass.old pass.new result }
+    ensures steps { pass.new.steps + 1 ≤ pass.old.steps + try_steps table.now.last_card }
+    ensures ends { TryEnds table.now.last_card (op_of change) pass.old pass.new result }
 {
     match change {
-        Change::Insert(key) => try_insert(table, pass, key, gate),
+        Change::Insert(key, value) => try_insert(table, pass, key, value, gate),
         Change::Delete(key) => try_delete(table, pass, key, gate),
     }
 }

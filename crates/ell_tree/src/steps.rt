@@ -17,7 +17,7 @@ ghost use Rattle.ell_tree.specs.Tries.{Begins, Lays, Stops};
 
 use ell_cards::{CardTable, Pass};
 use ell_core::Field;
-use ell_ops::Op;
+use ell_ops::{Op, Reply};
 use ell_word::{Kind, State, StepGate, Update};
 use std::alloc::Allocator;
 
@@ -83,7 +83,7 @@ pub(crate) fn answer<A: Allocator + Copy, G: StepGate>(
     table: &CardTable<A>,
     pass: &mut Pass<A>,
     op: Op,
-    said: bool,
+    said: Reply,
     gate: &G,
 )
     requires own { pass.old.table ≡ table.now.id }
@@ -130,7 +130,7 @@ pub(crate) fn look_info<A: Allocator + Copy, G: StepGate>(
     ensures walks { Walks pass.old pass.new 1 }
     ensures told { IsTold pass.new.view (told.Info card field result) }
     ensures met { NamesNode field → IsTold pass.new.view (told.Met result) }
-    ensures node { TellsNode table.now.cards field result }
+    ensures node { TellsNode table.now.last_card field result }
     ensures depth { TellsDepth pass.old.view card field result }
 {
     gate.before(pass.label(), Kind::Look);
@@ -209,12 +209,12 @@ pub(crate) fn set_mark<A: Allocator + Copy, G: StepGate>(
 ) -> Option<Update>
     requires own { pass.old.table ≡ table.now.id }
     requires flagged { Knows pass.old.view (fact.DFlagged card) }
-    requires parent { IsParent table.now.cards pass.old.view card parent }
+    requires parent { IsParent table.now.last_card pass.old.view card parent }
     requires read { IsTold pass.old.view (told.Info card field.Was was) }
     ensures works { Works pass.old pass.new 1 }
     ensures hindrances { pass.new.view.hindrances ≡ met_by_mark card result pass.old.view }
     ensures marked { result ≡ None → Knows pass.new.view (fact.Marked card) }
-    ensures lost { IfSome result (λ found. IsLost table.now.cards card parent found pass.new.view) }
+    ensures lost { IfSome result (λ found. IsLost table.now.last_card card parent found pass.new.view) }
 {
     gate.before(pass.label(), Kind::Mark);
     let marked = table.mark(pass, card, parent, was);

@@ -1,17 +1,20 @@
 //! The tree.
-ghost use Rattle.std.specs.Prelude.{◌≡◌, ◌≤◌, ◌+◌, ◌*◌, [], IfOk, IfErr, OnOk, vec_capacity};
+ghost use Rattle.std.specs.Prelude.{◌≡◌, ◌≤◌, ◌+◌, ◌*◌, [], true, length, IfOk, IfErr, OnOk, vec_capacity};
 ghost use Rattle.std.specs.List.{All};
 ghost use Rattle.std.specs.List.Sorted.{IsStrictlyIncreasing};
 ghost use Rattle.ell_ops.specs.declared.op.Op.TheVariants.{Find, Insert, Delete};
-ghost use Rattle.ell_ops.specs.Meaning.{greatest_key};
+ghost use Rattle.ell_ops.specs.KeySet.{set_of};
+ghost use Rattle.ell_ops.specs.Meaning.{greatest_key, yes_if};
+ghost use Rattle.ell_word.specs.Node.{most_start};
+ghost use Rattle.ell_core.specs.state.Opening.{last_card};
 ghost use Rattle.ell_cards.specs.Models.{IsCardCount, Refuses};
 ghost use Rattle.ell_tree.specs.Closing.{ClosesTo};
-ghost use Rattle.ell_tree.specs.Ends.{Answers, Ends, change_steps, find_steps};
+ghost use Rattle.ell_tree.specs.Ends.{Answers, Ends, change_steps, find_steps, replied};
 ghost use Rattle.ell_tree.specs.Hindrances.{Meets};
 ghost use Rattle.ell_tree.specs.Ledgers.{IsIdle, Owns, TreeModel};
 ghost use Rattle.ell_tree.specs.Parts.{IsFirst, IsLeftPart, IsRightPart, IsUnion};
 
-use crate::operations::{Change, Held, find, make_change};
+use crate::operations::{Change, Held, find, is_yes, make_change};
 use ell_cards::{CardFault, CardTable, Pass};
 use ell_core::keys_of_tree;
 use ell_ops::NoMemory;
@@ -34,18 +37,42 @@ impl<A: Allocator + Copy> Model for Tree<A> {
 }
 
 impl<A: Allocator + Copy> Tree<A> {
-    /// An empty tree of so many cards, and one pass that owns all these keys. Each try of an insert or a delete that finds its way
-    /// free takes a card, and no card is given back. `BadCards` comes exactly where the cards are not 1 to 1,000,000, and
-    /// `NoMemory` where memory is refused. Conditions: the keys are strictly ascending, and at most `KEY_MAX`.
+    /// An empty tree of so many cards, and one pass that owns all these keys, each absent. Each try of an insert or a delete that
+    /// finds its way free takes a card, and no card is given back. `BadCards` comes exactly where the cards are not 1 to 1,000,000,
+    /// and `NoMemory` where memory is refused. Conditions: the keys are strictly ascending, and at most `KEY_MAX`.
     pub fn reserve(alloc: A, keys: &[u64], cards: u64) -> Result<(Tree<A>, Pass<A>), CardFault>
         requires ascending { IsStrictlyIncreasing keys.now }
         requires real { All (λ k. k ≤ greatest_key) keys.now }
         ensures cards { OnOk result (IsCardCount cards) }
-        ensures tree { IfOk result (λ made. (made.0.keys ≡ keys.now) × (made.0.cards ≡ cards)) }
-        ensures pass { IfOk result (λ made. IsFirst made.0 made.1) }
+        ensures tree { IfOk result (λ made. (made.0.keys ≡ keys.now) × (made.0.last_card ≡ cards)) }
+        ensures pass { IfOk result (λ made. IsFirst [] made.0 made.1) }
         ensures refused { IfErr result (Refuses cards) }
     {
-        let (table, pass) = CardTable::reserve(alloc, keys, cards)?;
+        Tree::reserve_from(alloc, &[], keys, cards)
+    }
+
+    /// A tree that has these start keys from the first on, balanced, and one pass that owns all these keys: the start keys are
+    /// present, the others absent. It saves inserting them: no operation is made for them, and none of the cards asked for is taken.
+    /// Their tree has a card for each of them, so the number of the last card, by which the steps of calls are bounded, is the
+    /// number of cards asked for plus that of the start keys. Errors are as of `reserve`. Conditions: those of `reserve`; the start
+    /// keys are strictly ascending, among the keys, and at most `START_MAX`, 200,000.
+    pub fn reserve_from(
+        alloc: A,
+        start: &[u64],
+        keys: &[u64],
+        cards: u64,
+    ) -> Result<(Tree<A>, Pass<A>), CardFault>
+        requires ascending { IsStrictlyIncreasing keys.now }
+        requires real { All (λ k. k ≤ greatest_key) keys.now }
+        requires start_ascending { IsStrictlyIncreasing start.now }
+        requires given { All (λ k. set_of keys.now k ≡ true) start.now }
+        requires few { length start.now ≤ most_start }
+        ensures cards { OnOk result (IsCardCount cards) }
+        ensures tree { IfOk result (λ made. (made.0.keys ≡ keys.now) × (made.0.last_card ≡ last_card start.now cards)) }
+        ensures pass { IfOk result (λ made. IsFirst start.now made.0 made.1) }
+        ensures refused { IfErr result (Refuses cards) }
+    {
+        let (table, pass) = CardTable::reserve_from(alloc, start, keys, cards)?;
         Ok((Tree { table, alloc }, pass))
     }
 
@@ -83,29 +110,31 @@ impl<A: Allocator + Copy> Tree<A> {
         self.table.join(left, right)
     }
 
-    /// Whether a key of the pass is present. It helps nobody, nothing is in its way, and it takes at most `3 * cards + 6` steps.
+    /// Whether a key of the pass is present. It helps nobody, nothing is in its way, and it takes at most `3 * cards + 6` steps, where
+    /// `cards` is the number of the last card.
     pub fn find<G: StepGate>(&self, pass: &mut Pass<A>, key: u64, gate: &G) -> bool
         requires own { pass.old.table ≡ self.now.id }
         requires idle { IsIdle pass.old }
         requires owned { Owns pass.old key }
-        ensures answers { Answers (Find key) result pass.old pass.new }
+        ensures answers { Answers (Find key) (yes_if result) pass.old pass.new }
         ensures calm { pass.new.view.hindrances ≡ pass.old.view.hindrances }
         ensures meets { Meets pass.old.view pass.new.view }
-        ensures steps { pass.new.steps ≤ pass.old.steps + find_steps self.now.cards }
-        ensures rounded { pass.new.steps ≤ pass.old.steps + 64 * (self.now.cards + 2) }
+        ensures steps { pass.new.steps ≤ pass.old.steps + find_steps self.now.last_card }
+        ensures rounded { pass.new.steps ≤ pass.old.steps + 64 * (self.now.last_card + 2) }
     {
         find(&self.table, pass, key, gate)
     }
 
-    /// Adds a key of the pass: whether it was absent. It is tried so often at most, at least once, in at most
-    /// `tries * (7 * cards + 24) + 1` steps. `Busy` comes where something was in the way of every try, and `Spent` where a try
-    /// that would add the key finds all cards given out. After either the set is as it was, and nothing of the call is under way.
-    /// However it ends, whatever was in the way of a try is over by then: a card that another pass took first, or a change of a
-    /// neighbour, which was helped to its end where nobody else had ended it.
+    /// Adds a key of the pass: whether it was absent. Its value is not kept yet. It is tried so often at most, at least once, in at
+    /// most `tries * (7 * cards + 24) + 1` steps, where `cards` is the number of the last card. `Busy` comes where something was in
+    /// the way of every try, and `Spent` where a try that would add the key finds all cards given out. After either the set is as it
+    /// was, and nothing of the call is under way. However it ends, whatever was in the way of a try is over by then: a card that
+    /// another pass took first, or a change of a neighbour, which was helped to its end where nobody else had ended it.
     pub fn insert<G: StepGate>(
         &self,
         pass: &mut Pass<A>,
         key: u64,
+        value: u64,
         tries: u32,
         gate: &G,
     ) -> Result<bool, Held>
@@ -113,11 +142,11 @@ impl<A: Allocator + Copy> Tree<A> {
         requires idle { IsIdle pass.old }
         requires owned { Owns pass.old key }
         requires tries { 1 ≤ tries }
-        ensures ends { Ends self.now.cards tries (Insert key) pass.old pass.new result }
-        ensures steps { pass.new.steps ≤ pass.old.steps + change_steps self.now.cards tries }
-        ensures rounded { pass.new.steps ≤ pass.old.steps + 64 * (tries + 1) * (self.now.cards + 2) }
+        ensures ends { Ends self.now.last_card tries (Insert key value) pass.old pass.new (replied result) }
+        ensures steps { pass.new.steps ≤ pass.old.steps + change_steps self.now.last_card tries }
+        ensures rounded { pass.new.steps ≤ pass.old.steps + 64 * (tries + 1) * (self.now.last_card + 2) }
     {
-        make_change(&self.table, pass, Change::Insert(key), tries, gate)
+        is_yes(make_change(&self.table, pass, Change::Insert(key, value), tries, gate))
     }
 
     /// Takes a key of the pass away: whether it was present. Tries, steps and errors are as of `insert`.
@@ -132,11 +161,11 @@ impl<A: Allocator + Copy> Tree<A> {
         requires idle { IsIdle pass.old }
         requires owned { Owns pass.old key }
         requires tries { 1 ≤ tries }
-        ensures ends { Ends self.now.cards tries (Delete key) pass.old pass.new result }
-        ensures steps { pass.new.steps ≤ pass.old.steps + change_steps self.now.cards tries }
-        ensures rounded { pass.new.steps ≤ pass.old.steps + 64 * (tries + 1) * (self.now.cards + 2) }
+        ensures ends { Ends self.now.last_card tries (Delete key) pass.old pass.new (replied result) }
+        ensures steps { pass.new.steps ≤ pass.old.steps + change_steps self.now.last_card tries }
+        ensures rounded { pass.new.steps ≤ pass.old.steps + 64 * (tries + 1) * (self.now.last_card + 2) }
     {
-        make_change(&self.table, pass, Change::Delete(key), tries, gate)
+        is_yes(make_change(&self.table, pass, Change::Delete(key), tries, gate))
     }
 
     /// Ends the tree, by a pass that owns all its keys: those that are present, strictly ascending. Where memory is refused, tree
@@ -148,7 +177,7 @@ impl<A: Allocator + Copy> Tree<A> {
         ensures keys { IfOk result (λ keys. ClosesTo self pass keys.items) }
         ensures refused { IfErr result (λ refused. (refused.0 ≡ self) × (refused.1 ≡ pass)) }
     {
-        let places = self.table.cards() as usize + 2;
+        let places = self.table.last_card() as usize + 2;
         let Ok((waiting, keys)) = lists(self.alloc, places, pass.keys().len()) else {
             return Err((self, pass, NoMemory));
         };

@@ -12,14 +12,14 @@ ghost use Rattle.ell_tree.specs.Tries.{Claims};
 use crate::searching::Place;
 use ell_cards::{CardTable, Pass};
 use ell_core::Field;
-use ell_ops::Op;
+use ell_ops::{Op, Reply};
 use ell_word::{Kind, StepGate};
 use std::alloc::Allocator;
 
 /// How a try ended.
 #[derive(Clone, Copy)]
 pub(crate) enum Tried {
-    Answered(bool),
+    Answered(Reply),
     /// No card is left.
     Spent,
     /// Something was in its way.
@@ -51,13 +51,13 @@ pub(crate) fn take_card<A: Allocator + Copy, G: StepGate>(
     requires calm { place.parent.update.state ≡ Clean }
     requires wants { Wants pass.old.view op place.key }
     ensures goes { Goes pass.old pass.new 2 }
-    ensures claims { Claims table.now.cards op place pass.old pass.new result }
-    ensures limit { table.now.cards ≤ greatest_card }
+    ensures claims { Claims table.now.last_card op place pass.old pass.new result }
+    ensures limit { table.now.last_card ≤ greatest_card }
 {
     let label = pass.label();
     gate.before(label, Kind::Look);
     let card = table.next(pass);
-    if card > table.cards() {
+    if card > table.last_card() {
         return Claimed::NoneLeft;
     }
     gate.before(label, Kind::Claim);

@@ -1,4 +1,4 @@
-use Rattle.std.proofs.Common.{◌≡◌, ◌∙◌, ℕ, Bool, List, [], ◌∷◌, ◌++◌, Result, Ok, Err, get_or}
+use Rattle.std.proofs.Common.{◌≡◌, ◌∙◌, ℕ, List, [], ◌∷◌, ◌++◌, Result, Ok, Err, get_or}
 use Rattle.std.specs.List.{All}
 use Rattle.std.proofs.lemmas.List.Elements.{All-push}
 use Rattle.ell_ops.specs.declared.op.Op.{Op}
@@ -7,6 +7,7 @@ use Rattle.ell_cards.specs.Models.{PassModel}
 use Rattle.ell_cards.proofs.words.Keys.{among_owned, at_place}
 use Rattle.ell_tree.specs.declared.operations.Held.{Held}
 use Rattle.ell_tree.specs.Ledgers.{TreeModel, IsIdle, Owns}
+use Rattle.ell_ops.specs.declared.reply.Reply.{Reply}
 use Rattle.ell_tree.specs.Ends.{Answers, Ends}
 use Rattle.ell_tree_bench.specs.declared.workers.Worker.{Worker}
 use Rattle.ell_tree_bench.specs.Ready.{IsReady, IsStaffed}
@@ -25,7 +26,7 @@ ready_first t p keys own idle same = rw same (record {
 })
 
 -- it stays so by an operation that is answered
-pub ready_answered : (t : TreeModel) (keys : List ℕ) (op : Op) (said : Bool) (p q : PassModel) → IsReady t p keys → Answers op said p q → IsReady t q keys
+pub ready_answered : (t : TreeModel) (keys : List ℕ) (op : Op) (said : Reply) (p q : PassModel) → IsReady t p keys → Answers op said p q → IsReady t q keys
 ready_answered t keys op said p q h a = record {
   own = a.table ∙ h.own;
   idle = a.idle;
@@ -33,7 +34,7 @@ ready_answered t keys op said p q h a = record {
 }
 
 -- and by one that is laid down
-pub ready_ended : (t : TreeModel) (keys : List ℕ) (cards tries : ℕ) (op : Op) (outcome : Result Bool Held) (p q : PassModel)
+pub ready_ended : (t : TreeModel) (keys : List ℕ) (cards tries : ℕ) (op : Op) (outcome : Result Reply Held) (p q : PassModel)
     → IsReady t p keys → Ends cards tries op p q outcome → IsReady t q keys
 ready_ended t keys cards tries op (Ok said) p q h e = ready_answered t keys op said p q h e.0
 ready_ended t keys cards tries op (Err why) p q h e = record {

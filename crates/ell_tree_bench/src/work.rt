@@ -62,7 +62,7 @@ fn insert_all(tree: &Tree<Global>, pass: &mut Pass<Global>, keys: &[u64]) -> Tal
     let mut place = 0;
     for _ in 0..keys.len() {
         place = next_place(place, keys.len());
-        tally.count(tree.insert(pass, keys[place], TRIES, &NoGate));
+        tally.count(tree.insert(pass, keys[place], 0, TRIES, &NoGate));
     }
     tally
 }
@@ -111,7 +111,7 @@ fn do_one(
 {
     let key = keys[(number >> 32) as usize % keys.len()];
     match number >> 62 {
-        0 => tree.insert(pass, key, TRIES, &NoGate),
+        0 => tree.insert(pass, key, 0, TRIES, &NoGate),
         1 => tree.delete(pass, key, TRIES, &NoGate),
         _ => Ok(tree.find(pass, key, &NoGate)),
     }

@@ -2,7 +2,15 @@ use Rattle.std.specs.Prelude.{◌≡◌, ℕ, ◌+◌, ◌-◌, ◌*◌, ◌/◌
 
 -- the greatest number of a card
 abbrev pub greatest_card : ℕ
-greatest_card = 1000000
+greatest_card = 1200000
+
+-- the most cards that a table gives out
+abbrev pub most_cards : ℕ
+most_cards = 1000000
+
+-- the most start keys
+abbrev pub most_start : ℕ
+most_start = 200000
 
 -- the lesser of the two keys above all keys of the set
 abbrev pub infinity1 : ℕ

@@ -1,9 +1,15 @@
 //! Node numbers: each card has an internal node and two leaves.
 ghost use Rattle.std.specs.Prelude.{◌≡◌, ◌≤◌, ◌↔◌, IsTrue};
-ghost use Rattle.ell_word.specs.Node.{greatest_card, infinity1, infinity2, internal, left_leaf, right_leaf, IsInternal, card};
+ghost use Rattle.ell_word.specs.Node.{greatest_card, most_cards, most_start, infinity1, infinity2, internal, left_leaf, right_leaf, IsInternal, card};
 
 /// The greatest number of a card.
-pub const CARD_MAX: u64 = 1_000_000;
+pub const CARD_MAX: u64 = 1_200_000;
+
+/// The most cards that a table gives out.
+pub const CARDS_MAX: u64 = 1_000_000;
+
+/// The most start keys.
+pub const START_MAX: usize = 200_000;
 
 /// The lesser of the two keys above all keys of the set: the greatest leaf of the root's left subtree has it.
 pub const INF1: u64 = 18_446_744_073_709_551_614;
@@ -11,9 +17,12 @@ pub const INF1: u64 = 18_446_744_073_709_551_614;
 /// The greater of the two: the root and its right leaf have it.
 pub const INF2: u64 = 18_446_744_073_709_551_615;
 
-/// The constants are the numbers that the definitions have: `CARD_MAX` is 1,000,000, `INF1` is 2^64 - 2, and `INF2` is 2^64 - 1.
+/// The constants are the numbers that the definitions have: `CARD_MAX` is 1,200,000, `CARDS_MAX` is 1,000,000, `START_MAX` is
+/// 200,000, `INF1` is 2^64 - 2, and `INF2` is 2^64 - 1.
 pub fn constants_are_as_defined()
     ensures card { CARD_MAX ≡ greatest_card }
+    ensures cards { CARDS_MAX ≡ most_cards }
+    ensures start { START_MAX ≡ most_start }
     ensures lesser { INF1 ≡ infinity1 }
     ensures greater { INF2 ≡ infinity2 }
 {}

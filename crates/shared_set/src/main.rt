@@ -38,7 +38,7 @@ fn sift(set: &Tree<Global>, pass: Pass<Global>) -> Result<Pass<Global>>
         if !pass.owns(number) {
             continue;
         }
-        set.insert(&mut pass, number, TRIES, &NoGate)?;
+        set.insert(&mut pass, number, 0, TRIES, &NoGate)?;
         if !is_prime(number) {
             set.delete(&mut pass, number, TRIES, &NoGate)?;
         }

@@ -61,7 +61,7 @@ module _ (keys : List ℕ) (cards : ℕ) (s : TableState) (r : Kept keys cards s
   reached_back x h = (reached_same r.words (own_words s) r.stages r.invariant.words (same_card keys cards s r) x).1 h
 
   -- the tree of the list
-  shows : ShowsSet keys v.worker.ledger (record { words = s.words; cards = cards })
+  shows : ShowsSet keys v.worker.ledger (record { words = s.words; last_card = cards })
   shows =
       let is = own_words_are_sound keys cards s r in record {
         size = r.size;
@@ -74,7 +74,7 @@ module _ (keys : List ℕ) (cards : ℕ) (s : TableState) (r : Kept keys cards s
       }
 
   -- how the table ends
-  pub ends : Ends keys v (record { words = s.words; cards = cards })
+  pub ends : Ends keys v (record { words = s.words; last_card = cards })
   ends = record {
     state = s;
     seat = id;

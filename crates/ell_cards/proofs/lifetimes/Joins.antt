@@ -27,6 +27,7 @@ use Rattle.ell_ops.specs.KeySet.{Lists, set_of, union}
 use Rattle.ell_ops.proofs.Merges.{keys_united, lists_united}
 use Rattle.ell_ops.proofs.Sets.{one_list}
 use Rattle.ell_cards.proofs.lifetimes.Unions.{keys_of_united, ledger_united}
+use Rattle.ell_core.specs.declared.view.Entry.{Entry}
 
 -- what one of two lists of facts has, both together have
 known_either : (a b : List Fact) (f : Fact) → known_of (a ++ b) f ≡ true → (known_of a f ≡ true) ⊎ (known_of b f ≡ true)
@@ -66,12 +67,12 @@ module _ (views : List View) (id other : ℕ) (v w : View) (here : get_elem? vie
       (at_set views id j both u t.1))
       (at_set (set views id both) other j spent_view u at)
 
-none_of : (o : Option Bool) → (o ≢ None → ⊥) → o ≡ None
+none_of : (o : Option Entry) → (o ≢ None → ⊥) → o ≡ None
 none_of None h = refl
 none_of (Some t) h = absurd (h (some_not_none refl))
 
 -- two ledgers of which no key is in both are the parts of the one that they make
-united_parts : (l m : List (ℕ × Bool)) → ((k : ℕ) → ledger_of l k ≢ None → ledger_of m k ≢ None → ⊥)
+united_parts : (l m : List (ℕ × Entry)) → ((k : ℕ) → ledger_of l k ≢ None → ledger_of m k ≢ None → ⊥)
     → Parts (ledger_of (united l m)) (ledger_of l) (ledger_of m)
 united_parts l m apart k = elim (ledger_united l m k) [
   | inl a ↦ inl (sym a.0, none_of (ledger_of m k) (apart k a.1))
@@ -110,7 +111,7 @@ joins_are_moves keys cards s r id other v w here there apart free other_free =
         words = r.words;
         worker = λ j. workers_joined s.views id other v w here there turned both j t;
         count = seats_joined s.views id other v w here there turned both t;
-        cards = cards;
+        last_card = cards;
       };
     } in record {
       kept = record {

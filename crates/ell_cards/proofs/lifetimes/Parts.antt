@@ -3,29 +3,31 @@ use Rattle.std.specs.List.{All}
 use Rattle.std.specs.List.Sorted.{IsStrictlyIncreasing}
 use Rattle.ell_core.specs.state.Machine.{Ledger, ledger_of}
 use Rattle.ell_core.specs.state.Moves.{Parts}
-use Rattle.ell_cards.specs.Changes.{is_among, keys_of, part_on, part_off}
-use Rattle.ell_cards.proofs.words.Keys.{place_of}
+use Rattle.ell_ops.specs.KeySet.{set_of}
+use Rattle.ell_cards.specs.Changes.{keys_of, part_on, part_off}
+use Rattle.ell_core.proofs.opening.KeyLists.{place_of}
 use Rattle.ell_ops.proofs.Rising.{Over, Rises, rises, over_less}
 use Rattle.ell_cards.proofs.words.Ascending.{over_among, not_among, among_rest}
+use Rattle.ell_core.specs.declared.view.Entry.{Entry}
 
 -- the keys of the part of a ledger on some keys
-pub keys_on : (keys : List ℕ) (l : List (ℕ × Bool)) → keys_of (part_on keys l) ≡ filter (is_among keys) (keys_of l)
+pub keys_on : (keys : List ℕ) (l : List (ℕ × Entry)) → keys_of (part_on keys l) ≡ filter (set_of keys) (keys_of l)
 keys_on keys [] = refl
-keys_on keys (e ∷ es) = by (is_among keys e.0) (keys_on keys es)
+keys_on keys (e ∷ es) = by (set_of keys e.0) (keys_on keys es)
   where
-    by : (t : Bool) → keys_of (part_on keys es) ≡ filter (is_among keys) (keys_of es)
-        → keys_of (if t then e ∷ part_on keys es else part_on keys es) ≡ cond t (e.0 ∷ filter (is_among keys) (keys_of es)) (filter (is_among keys) (keys_of es))
+    by : (t : Bool) → keys_of (part_on keys es) ≡ filter (set_of keys) (keys_of es)
+        → keys_of (if t then e ∷ part_on keys es else part_on keys es) ≡ cond t (e.0 ∷ filter (set_of keys) (keys_of es)) (filter (set_of keys) (keys_of es))
     by true rest = ap (λ ks. e.0 ∷ ks) rest
     by false rest = rest
 
 -- those of the part off them
-pub keys_off : (keys : List ℕ) (l : List (ℕ × Bool)) → keys_of (part_off keys l) ≡ filter (λ k. not (is_among keys k)) (keys_of l)
+pub keys_off : (keys : List ℕ) (l : List (ℕ × Entry)) → keys_of (part_off keys l) ≡ filter (λ k. not (set_of keys k)) (keys_of l)
 keys_off keys [] = refl
-keys_off keys (e ∷ es) = by (is_among keys e.0) (keys_off keys es)
+keys_off keys (e ∷ es) = by (set_of keys e.0) (keys_off keys es)
   where
-    by : (t : Bool) → keys_of (part_off keys es) ≡ filter (λ k. not (is_among keys k)) (keys_of es)
+    by : (t : Bool) → keys_of (part_off keys es) ≡ filter (λ k. not (set_of keys k)) (keys_of es)
         → keys_of (if t then part_off keys es else e ∷ part_off keys es)
-        ≡ cond (not t) (e.0 ∷ filter (λ k. not (is_among keys k)) (keys_of es)) (filter (λ k. not (is_among keys k)) (keys_of es))
+        ≡ cond (not t) (e.0 ∷ filter (λ k. not (set_of keys k)) (keys_of es)) (filter (λ k. not (set_of keys k)) (keys_of es))
     by true rest = rest
     by false rest = ap (λ ks. e.0 ∷ ks) rest
 
@@ -50,21 +52,21 @@ filter_over k p q (x ∷ xs) h same =
 
 -- how ascending keys part, of which some are taken: those that stay, those that are taken, and their numbers
 pub record IsParted (keys some : List ℕ) : Type 0 where
-  pub stay : without keys some ≡ filter (λ k. not (is_among some k)) keys
-  pub taken : filter (is_among some) keys ≡ some
+  pub stay : without keys some ≡ filter (λ k. not (set_of some k)) keys
+  pub taken : filter (set_of some) keys ≡ some
   pub count : length some + length (without keys some) ≡ length keys
 
 -- where the first is taken
 taken_first : (k : ℕ) (ks : List ℕ) (x : ℕ) (xs : List ℕ) → Over k ks → x ≡ k → IsParted ks xs → IsParted (k ∷ ks) (x ∷ xs)
 taken_first k ks x xs over same rest =
-    let here : is_among (x ∷ xs) k ≡ true = or_left (is_among xs k) (eq-eqb k x (sym same)) in
-    let later : (y : ℕ) → k < y → is_among (x ∷ xs) y ≡ is_among xs y = λ y less. among_rest x xs y (omega arith) in record {
+    let here : set_of (x ∷ xs) k ≡ true = or_left (set_of xs k) (eq-eqb k x (sym same)) in
+    let later : (y : ℕ) → k < y → set_of (x ∷ xs) y ≡ set_of xs y = λ y less. among_rest x xs y (omega arith) in record {
       stay = ap (λ t. if t then without ks xs else k ∷ without ks (x ∷ xs)) (eq-eqb x k same)
           ∙ (rest.stay
-          ∙ (filter_over k (λ y. not (is_among xs y)) (λ y. not (is_among (x ∷ xs) y)) ks over (λ y less. ap not (sym (later y less)))
-          ∙ ap (λ t. cond (not t) (k ∷ filter (λ y. not (is_among (x ∷ xs) y)) ks) (filter (λ y. not (is_among (x ∷ xs) y)) ks)) (sym here)));
-      taken = ap (λ t. cond t (k ∷ filter (is_among (x ∷ xs)) ks) (filter (is_among (x ∷ xs)) ks)) here
-          ∙ (ap (λ l. k ∷ l) (filter_over k (is_among (x ∷ xs)) (is_among xs) ks over later ∙ rest.taken) ∙ ap (λ y. y ∷ xs) (sym same));
+          ∙ (filter_over k (λ y. not (set_of xs y)) (λ y. not (set_of (x ∷ xs) y)) ks over (λ y less. ap not (sym (later y less)))
+          ∙ ap (λ t. cond (not t) (k ∷ filter (λ y. not (set_of (x ∷ xs) y)) ks) (filter (λ y. not (set_of (x ∷ xs) y)) ks)) (sym here)));
+      taken = ap (λ t. cond t (k ∷ filter (set_of (x ∷ xs)) ks) (filter (set_of (x ∷ xs)) ks)) here
+          ∙ (ap (λ l. k ∷ l) (filter_over k (set_of (x ∷ xs)) (set_of xs) ks over later ∙ rest.taken) ∙ ap (λ y. y ∷ xs) (sym same));
       count = let n = rest.count in
           let e : without (k ∷ ks) (x ∷ xs) ≡ without ks xs = ap (λ t. if t then without ks xs else k ∷ without ks (x ∷ xs)) (eq-eqb x k same) in
           ap (λ (l : List ℕ). suc (length xs) + length l) e ∙ omega arith;
@@ -73,18 +75,18 @@ taken_first k ks x xs over same rest =
 -- where the first stays
 kept_first : (k : ℕ) (ks : List ℕ) (x : ℕ) (xs : List ℕ) → k < x → Over k xs → IsParted ks (x ∷ xs) → IsParted (k ∷ ks) (x ∷ xs)
 kept_first k ks x xs less over rest =
-    let here : is_among (x ∷ xs) k ≡ false = not_among k (x ∷ xs) (less, over) in
+    let here : set_of (x ∷ xs) k ≡ false = not_among k (x ∷ xs) (less, over) in
     let step : without (k ∷ ks) (x ∷ xs) ≡ k ∷ without ks (x ∷ xs) =
     ap (λ t. if t then without ks xs else k ∷ without ks (x ∷ xs)) (ne_eqb x k (λ e. omega arith)) in record {
       stay = step ∙ (ap (λ l. k ∷ l) rest.stay
-          ∙ ap (λ t. cond (not t) (k ∷ filter (λ y. not (is_among (x ∷ xs) y)) ks) (filter (λ y. not (is_among (x ∷ xs) y)) ks)) (sym here));
-      taken = ap (λ t. cond t (k ∷ filter (is_among (x ∷ xs)) ks) (filter (is_among (x ∷ xs)) ks)) here ∙ rest.taken;
+          ∙ ap (λ t. cond (not t) (k ∷ filter (λ y. not (set_of (x ∷ xs) y)) ks) (filter (λ y. not (set_of (x ∷ xs) y)) ks)) (sym here));
+      taken = ap (λ t. cond t (k ∷ filter (set_of (x ∷ xs)) ks) (filter (set_of (x ∷ xs)) ks)) here ∙ rest.taken;
       count = let n = rest.count in ap (λ (l : List ℕ). suc (length xs) + length l) step ∙ omega arith;
     }
 
-pub parts : (keys some : List ℕ) → Rises keys → Rises some → ((x : ℕ) → is_among some x ≡ true → is_among keys x ≡ true) → IsParted keys some
+pub parts : (keys some : List ℕ) → Rises keys → Rises some → ((x : ℕ) → set_of some x ≡ true → set_of keys x ≡ true) → IsParted keys some
 parts [] [] rises rise in_keys = record { stay = refl; taken = refl; count = refl }
-parts [] (x ∷ xs) rises rise in_keys = absurd (true≢false (sym (in_keys x (ap (λ t. t || is_among xs x) (eq-eqb x x refl)))))
+parts [] (x ∷ xs) rises rise in_keys = absurd (true≢false (sym (in_keys x (ap (λ t. t || set_of xs x) (eq-eqb x x refl)))))
 parts (k ∷ ks) [] rises rise in_keys =
     let rest = parts ks [] rises.1 tt (λ x among. absurd (true≢false (sym among))) in record {
       stay = ap (λ l. k ∷ l) rest.stay;
@@ -95,7 +97,7 @@ parts (k ∷ ks) (x ∷ xs) rises rise in_keys =
     by (x == k) refl
     (λ same. parts ks xs rises.1 rise.1 (λ y among.
     let more = over_among x xs y rise.0 among in
-    sym (among_rest k ks y (omega arith)) ∙ in_keys y (or_right (y == x) (is_among xs y) among)))
+    sym (among_rest k ks y (omega arith)) ∙ in_keys y (or_right (y == x) (set_of xs y) among)))
     (λ less. parts ks (x ∷ xs) rises.1 rise (λ y among.
     let more = over_among k (x ∷ xs) y (less, over_less k x xs less rise.0) among in
     sym (among_rest k ks y (omega arith)) ∙ in_keys y among))
@@ -103,25 +105,25 @@ parts (k ∷ ks) (x ∷ xs) rises rise in_keys =
     by : (t : Bool) → (x == k) ≡ t → (x ≡ k → IsParted ks xs) → (k < x → IsParted ks (x ∷ xs)) → IsParted (k ∷ ks) (x ∷ xs)
     by true e same less = taken_first k ks x xs rises.0 (eqb-true x k e) (same (eqb-true x k e))
     by false e same less =
-        let among = sym (among_rest k ks x (λ q. true≢false (sym (eq-eqb x k q) ∙ e))) ∙ in_keys x (or_left (is_among xs x) (eq-eqb x x refl)) in
+        let among = sym (among_rest k ks x (λ q. true≢false (sym (eq-eqb x k q) ∙ e))) ∙ in_keys x (or_left (set_of xs x) (eq-eqb x x refl)) in
         let more = over_among k ks x rises.0 among in
         kept_first k ks x xs more (over_less k x xs more rise.0) (less more)
 
 -- the same of ascending lists
-pub ascending_parts : (keys some : List ℕ) → IsStrictlyIncreasing keys → IsStrictlyIncreasing some → All (λ k. is_among keys k ≡ true) some → IsParted keys some
+pub ascending_parts : (keys some : List ℕ) → IsStrictlyIncreasing keys → IsStrictlyIncreasing some → All (λ k. set_of keys k ≡ true) some → IsParted keys some
 ascending_parts keys some rising rise all = parts keys some (rises keys rising) (rises some rise)
-    (λ k among. let place = place_of some k 0 among in subst (λ x. is_among keys x ≡ true) place.2 (all place.0 0 place.1))
+    (λ k among. let place = place_of some k 0 among in subst (λ x. set_of keys x ≡ true) place.2 (all place.0 0 place.1))
 
 -- the part of a ledger on some keys has what the ledger has on them, and the part off them nothing
-pub parts_on : (keys : List ℕ) (l : List (ℕ × Bool)) (k : ℕ) → is_among keys k ≡ true
+pub parts_on : (keys : List ℕ) (l : List (ℕ × Entry)) (k : ℕ) → set_of keys k ≡ true
     → (ledger_of (part_on keys l) k ≡ ledger_of l k) × (ledger_of (part_off keys l) k ≡ None)
 parts_on keys [] k on = (refl, refl)
-parts_on keys (e ∷ es) k on = by (is_among keys e.0) refl (parts_on keys es k on)
+parts_on keys (e ∷ es) k on = by (set_of keys e.0) refl (parts_on keys es k on)
   where
-    other : is_among keys e.0 ≡ false → (k == e.0) ≡ false
-    other is = ne_eqb k e.0 (λ q. true≢false (sym on ∙ (ap (is_among keys) q ∙ is)))
+    other : set_of keys e.0 ≡ false → (k == e.0) ≡ false
+    other is = ne_eqb k e.0 (λ q. true≢false (sym on ∙ (ap (set_of keys) q ∙ is)))
 
-    by : (b : Bool) → is_among keys e.0 ≡ b → (ledger_of (part_on keys es) k ≡ ledger_of es k) × (ledger_of (part_off keys es) k ≡ None)
+    by : (b : Bool) → set_of keys e.0 ≡ b → (ledger_of (part_on keys es) k ≡ ledger_of es k) × (ledger_of (part_off keys es) k ≡ None)
         → (ledger_of (if b then e ∷ part_on keys es else part_on keys es) k ≡ ledger_of (e ∷ es) k)
         × (ledger_of (if b then part_off keys es else e ∷ part_off keys es) k ≡ None)
     by true is rest = (ap (λ o. cond (k == e.0) (Some e.1) o) rest.0, rest.1)
@@ -131,15 +133,15 @@ parts_on keys (e ∷ es) k on = by (is_among keys e.0) refl (parts_on keys es k 
     )
 
 -- and the other way round
-pub parts_off : (keys : List ℕ) (l : List (ℕ × Bool)) (k : ℕ) → is_among keys k ≡ false
+pub parts_off : (keys : List ℕ) (l : List (ℕ × Entry)) (k : ℕ) → set_of keys k ≡ false
     → (ledger_of (part_on keys l) k ≡ None) × (ledger_of (part_off keys l) k ≡ ledger_of l k)
 parts_off keys [] k off = (refl, refl)
-parts_off keys (e ∷ es) k off = by (is_among keys e.0) refl (parts_off keys es k off)
+parts_off keys (e ∷ es) k off = by (set_of keys e.0) refl (parts_off keys es k off)
   where
-    other : is_among keys e.0 ≡ true → (k == e.0) ≡ false
-    other is = ne_eqb k e.0 (λ q. true≢false (sym is ∙ (ap (is_among keys) (sym q) ∙ off)))
+    other : set_of keys e.0 ≡ true → (k == e.0) ≡ false
+    other is = ne_eqb k e.0 (λ q. true≢false (sym is ∙ (ap (set_of keys) (sym q) ∙ off)))
 
-    by : (b : Bool) → is_among keys e.0 ≡ b → (ledger_of (part_on keys es) k ≡ None) × (ledger_of (part_off keys es) k ≡ ledger_of es k)
+    by : (b : Bool) → set_of keys e.0 ≡ b → (ledger_of (part_on keys es) k ≡ None) × (ledger_of (part_off keys es) k ≡ ledger_of es k)
         → (ledger_of (if b then e ∷ part_on keys es else part_on keys es) k ≡ None)
         × (ledger_of (if b then part_off keys es else e ∷ part_off keys es) k ≡ ledger_of (e ∷ es) k)
     by false is rest = (rest.0, ap (λ o. cond (k == e.0) (Some e.1) o) rest.1)
@@ -149,10 +151,10 @@ parts_off keys (e ∷ es) k off = by (is_among keys e.0) refl (parts_off keys es
     )
 
 -- the two parts of a ledger are parts
-pub ledger_parts : (keys : List ℕ) (l : List (ℕ × Bool)) → Parts (ledger_of l) (ledger_of (part_on keys l)) (ledger_of (part_off keys l))
-ledger_parts keys l k = by (is_among keys k) refl
+pub ledger_parts : (keys : List ℕ) (l : List (ℕ × Entry)) → Parts (ledger_of l) (ledger_of (part_on keys l)) (ledger_of (part_off keys l))
+ledger_parts keys l k = by (set_of keys k) refl
   where
-    by : (b : Bool) → is_among keys k ≡ b → ((ledger_of (part_on keys l) k ≡ ledger_of l k) × (ledger_of (part_off keys l) k ≡ None))
+    by : (b : Bool) → set_of keys k ≡ b → ((ledger_of (part_on keys l) k ≡ ledger_of l k) × (ledger_of (part_off keys l) k ≡ None))
         ⊎ ((ledger_of (part_on keys l) k ≡ None) × (ledger_of (part_off keys l) k ≡ ledger_of l k))
     by true e = inl (parts_on keys l k e)
     by false e = inr (parts_off keys l k e)

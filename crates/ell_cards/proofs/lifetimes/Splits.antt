@@ -1,4 +1,4 @@
-use Rattle.std.proofs.Common.{◌≡◌, ◌≢◌, ℕ, zero, suc, ◌+◌, List, [], ◌∷◌, ◌++◌, length, set, get_or, filter, not, Bool, true, None, refl, sym, ap, ◌∙◌, subst, inl, inr, ⊎_elim, arith, length-set}
+use Rattle.std.proofs.Common.{◌≡◌, ◌≢◌, ℕ, zero, suc, ◌+◌, List, [], ◌∷◌, ◌++◌, length, set, get_or, filter, not, true, None, refl, sym, ap, ◌∙◌, subst, inl, inr, ⊎_elim, arith, length-set}
 use Rattle.std.specs.Prelude.{Contains}
 use Rattle.std.specs.List.{All}
 use Rattle.std.specs.List.Sorted.{IsStrictlyIncreasing}
@@ -16,7 +16,8 @@ use Rattle.ell_core.proofs.following.Lawful.{splits_lawful}
 use Rattle.ell_core.proofs.words.Writes.{put_same, put_other}
 use Rattle.ell_cards.specs.declared.view.View.{View}
 use Rattle.ell_cards.specs.Models.{IsFree}
-use Rattle.ell_cards.specs.Changes.{is_among, keys_of, left_view, right_view}
+use Rattle.ell_ops.specs.KeySet.{set_of}
+use Rattle.ell_cards.specs.Changes.{keys_of, left_view, right_view}
 use Rattle.ell_cards.specs.Rule.{seat_worker, seated, ViewHolds}
 use Rattle.ell_cards.specs.Stepping.{MaySplit, MayHave}
 use Rattle.ell_cards.specs.Laws.{SplitsAreMoves}
@@ -24,6 +25,7 @@ use Rattle.ell_cards.proofs.seats.Seats.{inside, seated_put, mine_is, mine_sound
 use Rattle.ell_cards.proofs.lifetimes.Idle.{rest_holds, rest_named}
 use Rattle.ell_cards.proofs.words.Keys.{owned_among}
 use Rattle.ell_cards.proofs.lifetimes.Parts.{keys_on, keys_off, ascending_parts, ledger_parts, part_owns}
+use Rattle.ell_core.specs.declared.view.Entry.{Entry}
 
 -- a place before the last one
 before_last : {A : Type 0} (l : List A) (a : A) (n : ℕ) → n ≢ length l → get_elem? (l ++ a ∷ []) n ≡ get_elem? l n
@@ -83,7 +85,7 @@ splits_are_moves keys cards s r id v chosen here free =
         words = r.words;
         worker = λ j. workers_split s.views id v here left right j t;
         count = seats_split s.views id v here left right t;
-        cards = cards;
+        last_card = cards;
       };
     } in record {
       kept = record {
@@ -110,25 +112,25 @@ pub splits : (keys : List ℕ) (cards : ℕ) (v : View) (chosen : List ℕ) → 
 splits keys cards v chosen free id s r here = (splits_are_moves keys cards s r id v chosen here free).kept
 
 -- keys that a ledger owns are among its keys
-pub owned_all : (l : List (ℕ × Bool)) (keys chosen : List ℕ) → keys ≡ keys_of l → All (λ k. ledger_of l k ≢ None) chosen → All (λ k. is_among keys k ≡ true) chosen
+pub owned_all : (l : List (ℕ × Entry)) (keys chosen : List ℕ) → keys ≡ keys_of l → All (λ k. ledger_of l k ≢ None) chosen → All (λ k. set_of keys k ≡ true) chosen
 owned_all l keys chosen are all i d low =
-    subst (λ (ks : List ℕ). is_among ks (get_or chosen i d) ≡ true) (sym are) (owned_among l (get_or chosen i d) (all i d low))
+    subst (λ (ks : List ℕ). set_of ks (get_or chosen i d) ≡ true) (sym are) (owned_among l (get_or chosen i d) (all i d low))
 
 module _ (cards : ℕ) (v : View) (keys chosen : List ℕ) (are : keys ≡ keys_of v.worker.ledger) (rising : IsStrictlyIncreasing keys)
     (rise : IsStrictlyIncreasing chosen) (all : All (λ k. ledger_of v.worker.ledger k ≢ None) chosen) where
   -- the left part has the keys that were chosen
   pub left_has : MayHave cards v chosen (left_view chosen v)
   left_has = record {
-    owned = sym (keys_on chosen v.worker.ledger ∙ (ap (filter (is_among chosen)) (sym are)
+    owned = sym (keys_on chosen v.worker.ledger ∙ (ap (filter (set_of chosen)) (sym are)
         ∙ (ascending_parts keys chosen rising rise (owned_all v.worker.ledger keys chosen are all)).taken));
     ascending = rise;
     named = λ named. rest_named cards (left_view chosen v) named.entries named.facts refl refl;
   }
 
   -- the right part has the rest
-  pub right_has : (rest : List ℕ) → rest ≡ filter (λ k. not (is_among chosen k)) keys → MayHave cards v rest (right_view chosen v)
+  pub right_has : (rest : List ℕ) → rest ≡ filter (λ k. not (set_of chosen k)) keys → MayHave cards v rest (right_view chosen v)
   right_has rest is = record {
-    owned = is ∙ (ap (filter (λ k. not (is_among chosen k))) are ∙ sym (keys_off chosen v.worker.ledger));
-    ascending = subst IsStrictlyIncreasing (sym is) (IsStrictlyIncreasing-filter (λ k. not (is_among chosen k)) keys rising);
+    owned = is ∙ (ap (filter (λ k. not (set_of chosen k))) are ∙ sym (keys_off chosen v.worker.ledger));
+    ascending = subst IsStrictlyIncreasing (sym is) (IsStrictlyIncreasing-filter (λ k. not (set_of chosen k)) keys rising);
     named = λ named. rest_named cards (right_view chosen v) named.entries named.facts refl refl;
   }

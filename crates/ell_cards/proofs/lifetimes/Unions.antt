@@ -3,9 +3,10 @@ use Rattle.ell_core.specs.state.Machine.{ledger_of}
 use Rattle.ell_core.proofs.outcomes.Decide.{some_not_none}
 use Rattle.ell_ops.proofs.Merges.{put_key, keys_united, beside, below, same, above, if_below, if_same, if_above}
 use Rattle.ell_cards.specs.Changes.{keys_of, put_entry, united}
+use Rattle.ell_core.specs.declared.view.Entry.{Entry}
 
 -- the keys of a ledger with one entry more
-keys_put : (e : ℕ × Bool) (ds : List (ℕ × Bool)) → keys_of (put_entry e ds) ≡ put_key e.0 (keys_of ds)
+keys_put : (e : ℕ × Entry) (ds : List (ℕ × Entry)) → keys_of (put_entry e ds) ≡ put_key e.0 (keys_of ds)
 keys_put e [] = refl
 keys_put e (d ∷ ds) = by (ltb e.0 d.0) (e.0 == d.0) (keys_put e ds)
   where
@@ -17,19 +18,19 @@ keys_put e (d ∷ ds) = by (ltb e.0 d.0) (e.0 == d.0) (keys_put e ds)
     by false false rest = ap (λ ks. d.0 ∷ ks) rest
 
 -- of two ledgers in one
-pub keys_of_united : (l m : List (ℕ × Bool)) → keys_of (united l m) ≡ keys_united (keys_of l) (keys_of m)
+pub keys_of_united : (l m : List (ℕ × Entry)) → keys_of (united l m) ≡ keys_united (keys_of l) (keys_of m)
 keys_of_united [] m = refl
 keys_of_united (e ∷ es) m = keys_put e (united es m) ∙ ap (put_key e.0) (keys_of_united es m)
 
 -- what a ledger with one entry more has on a key
-ledger_put : (e : ℕ × Bool) (ds : List (ℕ × Bool)) (k : ℕ) → ledger_of (put_entry e ds) k ≡ cond (k == e.0) (Some e.1) (ledger_of ds k)
+ledger_put : (e : ℕ × Entry) (ds : List (ℕ × Entry)) (k : ℕ) → ledger_of (put_entry e ds) k ≡ cond (k == e.0) (Some e.1) (ledger_of ds k)
 ledger_put e [] k = refl
 ledger_put e (d ∷ ds) k =
     elim (beside e.0 d.0) [
-      | below less ↦ ap (λ (l : List (ℕ × Bool)). ledger_of l k) (if_below e.0 d.0 (e ∷ d ∷ ds) (e ∷ ds) (d ∷ put_entry e ds) less)
-      | same is ↦ ap (λ (l : List (ℕ × Bool)). ledger_of l k) (if_same e.0 d.0 (e ∷ d ∷ ds) (e ∷ ds) (d ∷ put_entry e ds) is)
+      | below less ↦ ap (λ (l : List (ℕ × Entry)). ledger_of l k) (if_below e.0 d.0 (e ∷ d ∷ ds) (e ∷ ds) (d ∷ put_entry e ds) less)
+      | same is ↦ ap (λ (l : List (ℕ × Entry)). ledger_of l k) (if_same e.0 d.0 (e ∷ d ∷ ds) (e ∷ ds) (d ∷ put_entry e ds) is)
           ∙ covers (k == e.0) (k == d.0) (ap (λ x. k == x) is)
-      | above more ↦ ap (λ (l : List (ℕ × Bool)). ledger_of l k) (if_above e.0 d.0 (e ∷ d ∷ ds) (e ∷ ds) (d ∷ put_entry e ds) more)
+      | above more ↦ ap (λ (l : List (ℕ × Entry)). ledger_of l k) (if_above e.0 d.0 (e ∷ d ∷ ds) (e ∷ ds) (d ∷ put_entry e ds) more)
           ∙ (ap (λ o. cond (k == d.0) (Some d.1) o) (ledger_put e ds k) ∙ turns (k == e.0) (k == d.0) (λ a b. let x = eqb-true k e.0 a in let y = eqb-true k d.0 b in omega arith))
     ]
   where
@@ -45,7 +46,7 @@ ledger_put e (d ∷ ds) k =
     turns false u n = refl
 
 -- two ledgers in one have what the first has, or, where that has nothing, what the second has
-pub ledger_united : (l m : List (ℕ × Bool)) (k : ℕ)
+pub ledger_united : (l m : List (ℕ × Entry)) (k : ℕ)
     → ((ledger_of (united l m) k ≡ ledger_of l k) × (ledger_of l k ≢ None)) ⊎ ((ledger_of l k ≡ None) × (ledger_of (united l m) k ≡ ledger_of m k))
 ledger_united [] m k = inr (refl, refl)
 ledger_united (e ∷ es) m k = by (k == e.0) (ledger_put e (united es m) k) (ledger_united es m k)

@@ -51,31 +51,33 @@ busy_with w stage v c sound has = elim (cases_option v.operation) [
 
 module _ (keys : List ℕ) (cards : ℕ) (s : TableState) (r : Kept keys cards s) where
   -- the operation of a flagged card, by its kind
-  inserts : (v : Worker) (op : Op) (c : ℕ) → is_insert (r.stages c) ≡ true → Flagged r.words r.stages v op c → op ≡ Insert (card_key r.words c)
+  inserts : (v : Worker) (op : Op) (c : ℕ) → is_insert (r.stages c) ≡ true → Flagged r.words r.stages v op c
+      → (value : ℕ) × (op ≡ Insert (card_key r.words c) value)
   inserts v (Find k) c is h = absurd h
-  inserts v (Insert k) c is h = ap Insert (sym h.1 ∙ sym (card_key-insert r.words c (insert_kind r.words r.stages r.invariant.words c is)))
+  inserts v (Insert k value) c is h =
+      (value, ap (λ key. Insert key value) (sym h.1 ∙ sym (card_key-insert r.words c (insert_kind r.words r.stages r.invariant.words c is))))
   inserts v (Delete k) c is h = absurd (one_kind (r.stages c) is (delete_won-delete (r.stages c) h.0))
 
   deletes : (v : Worker) (op : Op) (c : ℕ) → is_delete (r.stages c) ≡ true → Flagged r.words r.stages v op c → op ≡ Delete (card_key r.words c)
   deletes v (Find k) c is h = absurd h
-  deletes v (Insert k) c is h = absurd (one_kind (r.stages c) (insert_won-insert (r.stages c) h.0) is)
+  deletes v (Insert k value) c is h = absurd (one_kind (r.stages c) (insert_won-insert (r.stages c) h.0) is)
   deletes v (Delete k) c is h = ap Delete (sym h.1 ∙ sym (card_key-delete r.words c (delete_kind r.words r.stages r.invariant.words c is)))
 
   -- whoever has the card in hand, flagged, is at work with it
-  at_work : (c : ℕ) (op : Op) → ((v : Worker) (o : Op) → Flagged r.words r.stages v o c → o ≡ op) → IsInHand (machine_of keys cards s r) c → IsAtWork s c op
-  at_work c op which hand = by hand.worker (get_elem? s.views hand.worker) refl hand.holds hand.flagged
+  at_work : (c : ℕ) (Q : Op → Type 0) → ((v : Worker) (o : Op) → Flagged r.words r.stages v o c → Q o) → IsInHand (machine_of keys cards s r) c
+      → (op : Op) × Q op × IsAtWork s c op
+  at_work c Q which hand = by hand.worker (get_elem? s.views hand.worker) refl hand.holds hand.flagged
     where
-      by : (i : ℕ) (o : Option View) → get_elem? s.views i ≡ o → (seat_worker o).card ≡ Some c → (seat_worker o).flagged ≡ true → IsAtWork s c op
+      by : (i : ℕ) (o : Option View) → get_elem? s.views i ≡ o → (seat_worker o).card ≡ Some c → (seat_worker o).flagged ≡ true
+          → (op : Op) × Q op × IsAtWork s c op
       by i none e has flagged = absurd (some_not_none has refl)
       by i (some v) e has flagged =
           let sound = mine_sound keys cards s r i v e in
-          let busy = busy_with r.words r.stages (worker_of v.worker) c sound has in record {
-            seat = i;
-            view = v;
-            there = e;
-            does = busy.1 ∙ ap Some (which (worker_of v.worker) busy.0 (sound.flagged busy.0 c busy.1 has flagged).0);
-            held = record { holds = has; flagged = flagged };
-          }
+          let busy = busy_with r.words r.stages (worker_of v.worker) c sound has in (
+            busy.0,
+            which (worker_of v.worker) busy.0 (sound.flagged busy.0 c busy.1 has flagged).0,
+            record { seat = i; view = v; there = e; does = busy.1; held = record { holds = has; flagged = flagged } },
+          )
 
   -- a card that wins has this win after those before
   won_by : (id : ℕ) (a : Act) (c : ℕ) (k : Kind) (s' : TableState) (r' : Kept keys cards s')
@@ -101,9 +103,10 @@ table_changes_are_operations keys cards s r id v (call.IChild c p l right) here 
     by r' true h =
         let won = won_by keys cards s r id (act.IChild c) c kind.IChild (state_after s id v (call.IChild c p l right)) r' h (one_win c kind.IChild) in
         let opened = before_ichild (r.stages c) won.0 won.1 in
-        subst (λ k. IsAtWork s c (Insert k)) (sym (own_card_key keys cards s r id c v here (inl may.knows)))
-        (at_work keys cards s r c (Insert (card_key r.words c))
-        (λ u o f. inserts keys cards s r u o c (insert_open-insert (r.stages c) opened) f) (r.invariant.workers.insert_in_hand c opened))
+        let work = at_work keys cards s r c (λ o. (value : ℕ) × (o ≡ Insert (card_key r.words c) value))
+        (λ u o f. inserts keys cards s r u o c (insert_open-insert (r.stages c) opened) f) (r.invariant.workers.insert_in_hand c opened) in
+        let own = own_card_key keys cards s r id c v here (inl may.knows) in
+        (work.1.0, subst (IsAtWork s c) (work.1.1 ∙ ap (λ key. Insert key work.1.0) (sym own)) work.2)
     by r' false h = tt
 table_changes_are_operations keys cards s r id v (call.DChild c gp p y right) here may =
     let step = steps_are_events keys cards s r id v (call.DChild c gp p y right) here may in by step.kept (found_by s (call.DChild c gp p y right) == p) step.event
@@ -114,8 +117,9 @@ table_changes_are_operations keys cards s r id v (call.DChild c gp p y right) he
     by r' true h =
         let won = won_by keys cards s r id (act.DChild c) c kind.DChild (state_after s id v (call.DChild c gp p y right)) r' h (one_win c kind.DChild) in
         let opened = before_dchild (r.stages c) won.0 won.1 in
-        subst (λ k. IsAtWork s c (Delete k)) (sym (own_card_key keys cards s r id c v here (inr (inr may.knows))))
-        (at_work keys cards s r c (Delete (card_key r.words c))
-        (λ u o f. deletes keys cards s r u o c (delete_open-delete (r.stages c) opened) f) (r.invariant.workers.delete_in_hand c opened))
+        let work = at_work keys cards s r c (λ o. o ≡ Delete (card_key r.words c))
+        (λ u o f. deletes keys cards s r u o c (delete_open-delete (r.stages c) opened) f) (r.invariant.workers.delete_in_hand c opened) in
+        let own = own_card_key keys cards s r id c v here (inr (inr may.knows)) in
+        subst (IsAtWork s c) (work.1 ∙ ap Delete (sym own)) work.2
     by r' false h = tt
 table_changes_are_operations keys cards s r id v _ here may = tt

@@ -1,68 +1,101 @@
-use Rattle.std.proofs.Common.{◌≡◌, ℕ, ◌++◌, List, [], refl, sym, ap, ◌∙◌, subst, inl, inr, arith}
-use Rattle.std.proofs.lemmas.Bool.{cases_eq}
+use Rattle.std.proofs.Common.{◌≡◌, ◌≢◌, ◌↔◌, ℕ, ◌++◌, if◌then◌else◌, true, Some, None, List, [], refl, sym, ap, ◌∙◌, subst}
 use Rattle.std.specs.Prelude.{Contains}
+use Rattle.std.specs.List.{All}
+use Rattle.std.proofs.lemmas.List.Elements.{All-contains}
 use Rattle.ell_ops.specs.Meaning.{key_of}
-use Rattle.ell_core.specs.state.Words.{Words}
+use Rattle.ell_ops.specs.KeySet.{set_of}
+use Rattle.ell_core.specs.state.Words.{words_of}
+use Rattle.ell_core.specs.state.Machine.{ledger_of, present_if}
+use Rattle.ell_core.specs.state.Opening.{last_card, start_entry}
+use Rattle.ell_core.specs.tree.Tree.{IsTreeKey}
+use Rattle.ell_core.specs.statements.StepLaws.{is_present}
+use Rattle.ell_core.proofs.outcomes.Decide.{some_not_none}
 use Rattle.ell_core.specs.statements.RunLaws.{InOrder}
-use Rattle.ell_core.proofs.opening.NewWords.{opening_lists_open}
+use Rattle.ell_core.specs.statements.Premises.{keys_at_start}
+use Rattle.atomic_table.specs.Table.{opening}
 use Rattle.ell_cards.specs.declared.call.Call.TheVariants as call
-use Rattle.ell_cards.specs.Changes.{keys_of, all_absent, first_view}
+use Rattle.ell_cards.specs.Changes.{keys_of, first_view}
 use Rattle.ell_cards.specs.Rule.{TableState}
-use Rattle.ell_cards.specs.Laws.{state_after, state_opened}
-use Rattle.ell_cards.specs.OwnWords.{own_words}
+use Rattle.ell_cards.specs.Laws.{state_after}
 use Rattle.ell_cards.specs.RunLaws.{run_wins}
-use Rattle.ell_cards.specs.Starts.{Starts, TablesStart, StartIsKept, StartsAreKept, MayBeginThere, FirstPassMayBegin, RunsFromStarts}
-use Rattle.ell_cards.proofs.words.Keys.{among_owned, contains_among}
-use Rattle.ell_cards.proofs.lifetimes.Openings.{opening_is_kept, keys_absent}
+use Rattle.ell_cards.specs.Starts.{MayStart, StartWords, TablesStart, StartIsKept, StartsAreKept, StartsHaveTheirKeys, MayBeginThere, FirstPassMayBegin, RunsFromStarts}
+use Rattle.ell_cards.proofs.words.Keys.{among_owned, among_contains, contains_among, ledger_at_start, present_at_start}
+use Rattle.ell_cards.proofs.lifetimes.Openings.{opening_is_kept, keys_start, each_first}
+use Rattle.ell_cards.proofs.lifetimes.StartLists.{start_list, start_list_starts}
 use Rattle.ell_cards.proofs.own_words.OwnWords.{own_words_are_sound}
+use Rattle.ell_cards.proofs.own_words.OwnLedgers.{ledgers_tell_the_tree, tree_keys_are_owned}
 use Rattle.ell_cards.proofs.runs.TurnsOfRuns.{runs_are_lawful}
 use Rattle.ell_cards.proofs.runs.WinsOfRuns.{table_wins_are_in_order}
+use Rattle.ell_core.specs.declared.view.Entry.TheVariants.{Present}
 
 -- a new table is one
 pub tables_start : TablesStart
-tables_start keys cards ascending real = record { table = state_opened keys cards; starts = record { ascending = ascending; real = real; is = refl } }
+tables_start keys start cards may = record {
+  table = opening (start_list start cards) [] (first_view keys start);
+  starts = record { may = may; words = start_list_starts start cards; is = refl };
+}
 
 -- an opening table is of the rule
 pub starts_are_kept : StartsAreKept
-starts_are_kept keys cards s starts =
-    let first = opening_is_kept keys cards starts.ascending starts.real in
-    subst (StartIsKept keys cards) (sym starts.is) (record { kept = first.kept; opening = first.opening })
+starts_are_kept keys start cards s starts =
+    subst (StartIsKept keys start cards) (sym starts.is) (opening_is_kept keys start cards s.words starts.may starts.words)
+
+-- a present key is a start key
+present_only : (keys start : List ℕ) → All (λ k. set_of keys k ≡ true) start → (k : ℕ) → ledger_of (keys_at_start keys start) k ≡ Some Present
+    → set_of start k ≡ true
+present_only keys start given k is = sym (present_at_start keys start given k) ∙ ap is_present is
+
+-- a start key is present
+start_present : (keys start : List ℕ) → All (λ k. set_of keys k ≡ true) start → (k : ℕ) → set_of start k ≡ true
+    → ledger_of (keys_at_start keys start) k ≡ Some Present
+start_present keys start given k is =
+    let owned = All-contains (λ x. set_of keys x ≡ true) start k given (among_contains start k is) in
+    ledger_at_start keys start k ∙ (ap (λ t. if t then Some (start_entry start k) else None) owned ∙ ap (λ b. Some (present_if b)) is)
+
+-- each key of the tree is the first pass's, which has it in its ledger as the tree has it
+first_tree : (keys start : List ℕ) (cards : ℕ) (words : List ℕ) → MayStart keys start → StartWords start cards words → (k : ℕ)
+    → IsTreeKey (words_of words) k ↔ (set_of start k ≡ true)
+first_tree keys start cards words may at k =
+    let last = last_card start cards in
+    let s : TableState = opening words [] (first_view keys start) in
+    let r = (opening_is_kept keys start cards words may at).kept in
+    let tells = ledgers_tell_the_tree keys last s r 0 (first_view keys start) refl refl k in (
+      λ there.
+          let owned = tree_keys_are_owned keys last s r k there in
+          each_first (first_view keys start) (λ v. ledger_of v.worker.ledger k ≢ None → set_of start k ≡ true)
+          (λ owns. present_only keys start may.given k ((tells owns).0 there)) owned.seat owned.view owned.there owned.owns,
+      λ is. let present = start_present keys start may.given k is in (tells (some_not_none present)).1 present,
+    )
+
+pub starts_have_their_keys : StartsHaveTheirKeys
+starts_have_their_keys keys start cards s starts = first_tree keys start cards s.words starts.may starts.words
 
 -- nothing is in hand, and the key is owned
 pub first_pass_may_begin : FirstPassMayBegin
-first_pass_may_begin keys cards s starts op has =
-    subst (λ x. MayBeginThere cards x op) (sym starts.is) (record {
-      after = state_after (state_opened keys cards) 0 (first_view keys) (call.Begin op);
+first_pass_may_begin keys start cards s starts op has =
+    subst (λ x. MayBeginThere (last_card start cards) x op) (sym starts.is) (record {
+      after = state_after (opening s.words [] (first_view keys start)) 0 (first_view keys start) (call.Begin op);
       turn = record {
-        view = first_view keys;
+        view = first_view keys start;
         there = refl;
         may = record {
           free = refl;
-          owned = among_owned (all_absent keys) (key_of op)
-              (contains_among (keys_of (all_absent keys)) (key_of op) (subst (λ ks. Contains ks (key_of op)) (sym (keys_absent keys)) has));
+          owned = among_owned (keys_at_start keys start) (key_of op)
+              (contains_among (keys_of (keys_at_start keys start)) (key_of op) (subst (λ ks. Contains ks (key_of op)) (sym (keys_start keys start)) has));
         };
         gives = refl;
       };
     })
 
--- the claim word at the start
-first_next : (keys : List ℕ) (cards : ℕ) (s : TableState) → Starts keys cards s → (own_words s).next ≡ 1
-first_next keys cards s starts = ap (λ (x : TableState). (own_words x).next) starts.is ∙ ap (λ (w : Words). w.next) (opening_lists_open cards).words
-
 -- nothing was won before
 pub runs_from_starts : RunsFromStarts
-runs_from_starts keys cards s starts turns s' run =
-    let r = (starts_are_kept keys cards s starts).kept in
-    let k = (runs_are_lawful keys cards s r turns s' run).kept in
-    let wins = table_wins_are_in_order keys cards s r in
-    let next = first_next keys cards s starts in
+runs_from_starts keys start cards s starts turns s' run =
+    let last = last_card start cards in
+    let first = starts_are_kept keys start cards s starts in
+    let k = (runs_are_lawful keys last s first.kept turns s' run).kept in
+    let wins = table_wins_are_in_order keys last s first.kept in
     record {
       kept = k;
-      sound = own_words_are_sound keys cards s' k;
-      wins = λ c.
-          let none : wins.before c ≡ [] = elim (cases_eq c 0) [
-            | inl e ↦ wins.first c e
-            | inr n ↦ wins.fresh c (omega arith)
-          ] in
-          subst (λ ks. InOrder (ks ++ run_wins cards s turns s' run c)) none (wins.order turns s' run c);
+      sound = own_words_are_sound keys last s' k;
+      wins = λ c. subst (λ ks. InOrder (ks ++ run_wins last s turns s' run c)) (first.unwon c) (wins.order turns s' run c);
     }

@@ -35,7 +35,6 @@ runs_are_schedules keys cards s r (Joins seat other ∷ ts) s' r' run calls lawf
 -- the wins up to any stage are in order
 pub table_wins_are_in_order : TableWinsAreInOrder
 table_wins_are_in_order keys cards s r = record {
-  before = λ c. wins_of (r.stages c);
   first = λ c e. ap (λ d. wins_of (r.stages d)) e ∙ ap wins_of r.invariant.words.opening;
   fresh = λ c past. unclaimed-wins (r.stages c)
       (not_claimed r.words r.stages r.invariant.words c (subst (λ n. n ≤ c) (listed_next s.words ∙ r.next) past));

@@ -127,7 +127,7 @@ module _ (keys : List ℕ) (cards : ℕ) (s : TableState) (r : Kept keys cards s
     words = r.words;
     worker = λ j. at j t;
     count = sym (length-set s.views id after) t;
-    cards = cards;
+    last_card = cards;
   }
     where
       at : (j : ℕ) → seat_worker (get_elem? s.views j) ≡ seat_worker (get_elem? (set s.views id after) j)

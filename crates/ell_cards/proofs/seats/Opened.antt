@@ -40,41 +40,41 @@ has_keys cards words was keys v w fits size may = record {
 }
 
 -- a table as its code keeps it and as callers see it, and a pass of it so
-module _ (t u : TableModel) (p q : PassModel) (same_table : t ≡ u) (same_pass : p ≡ q) (own : q.table ≡ u.id) (size : t.id.words ≡ table_size t.cards) where
+module _ (t u : TableModel) (p q : PassModel) (same_table : t ≡ u) (same_pass : p ≡ q) (own : q.table ≡ u.id) (size : t.id.words ≡ table_size t.last_card) where
   pub of_table : p.table ≡ t.id
   of_table = ap (λ (m : PassModel). m.table) same_pass ∙ (own ∙ sym (ap (λ (m : TableModel). m.id) same_table))
 
-  pub own_size : p.table.words ≡ table_size t.cards
+  pub own_size : p.table.words ≡ table_size t.last_card
   own_size = ap (λ i. i.words) of_table ∙ size
 
   -- what a step owes, by what its caller says of the table and the pass
   pub owed : (seat : ℕ) (held : List (ℕ × Unit {0})) (keys : List ℕ) (word : ℕ) (f : ℕ → ℕ) (told : ℕ → View → Type 0) → t.id.slots ≡ 0 → held ≡ []
-      → PassFits keys p.table.words p.view → (IsNamed u.cards q.view → word < table_size u.cards)
-      → ((id : ℕ) → Allows (Kept u.keys u.cards) 0 id (q.view, []) word f (λ n x. told n x.0 × (x.1 ≡ [])))
-      → (p.table ≡ t.id) × (word < t.id.words) × Allows (Kept t.keys t.cards) t.id.slots seat (p.view, held) word f (λ n x. told n x.0 × (x.1 ≡ held))
+      → PassFits keys p.table.words p.view → (IsNamed u.last_card q.view → word < table_size u.last_card)
+      → ((id : ℕ) → Allows (Kept u.keys u.last_card) 0 id (q.view, []) word f (λ n x. told n x.0 × (x.1 ≡ [])))
+      → (p.table ≡ t.id) × (word < t.id.words) × Allows (Kept t.keys t.last_card) t.id.slots seat (p.view, held) word f (λ n x. told n x.0 × (x.1 ≡ held))
   owed seat held keys word f told none empty fits there rule =
-      let below = subst (λ (m : TableModel). IsNamed m.cards p.view → word < table_size m.cards) (sym same_table)
-      (subst (λ (m : PassModel). IsNamed u.cards m.view → word < table_size u.cards) (sym same_pass) there) (fits.named t.cards own_size) in (
+      let below = subst (λ (m : TableModel). IsNamed m.last_card p.view → word < table_size m.last_card) (sym same_table)
+      (subst (λ (m : PassModel). IsNamed u.last_card m.view → word < table_size u.last_card) (sym same_pass) there) (fits.named t.last_card own_size) in (
         of_table,
         subst (λ n. word < n) (sym size) below,
-        allowed t.keys t.cards t.id.slots seat (p.view, held) word f told none empty
-            (subst (λ (m : TableModel). (id : ℕ) → Allows (Kept m.keys m.cards) 0 id (p.view, []) word f (λ n x. told n x.0 × (x.1 ≡ []))) (sym same_table)
-            (subst (λ (m : PassModel). (id : ℕ) → Allows (Kept u.keys u.cards) 0 id (m.view, []) word f (λ n x. told n x.0 × (x.1 ≡ []))) (sym same_pass) rule)),
+        allowed t.keys t.last_card t.id.slots seat (p.view, held) word f told none empty
+            (subst (λ (m : TableModel). (id : ℕ) → Allows (Kept m.keys m.last_card) 0 id (p.view, []) word f (λ n x. told n x.0 × (x.1 ≡ []))) (sym same_table)
+            (subst (λ (m : PassModel). (id : ℕ) → Allows (Kept u.keys u.last_card) 0 id (m.view, []) word f (λ n x. told n x.0 × (x.1 ≡ []))) (sym same_pass) rule)),
       )
 
   -- the pass after a step that told this
   pub stepped : (keys : List ℕ) (words n : ℕ) (w : View) (told : ℕ → View → Type 0) → PassFits keys p.table.words p.view → words ≡ p.table.words
-      → KeepsPass u.cards q.view told → told n w → PassFits keys words w
+      → KeepsPass u.last_card q.view told → told n w → PassFits keys words w
   stepped keys words n w told fits same keeps says =
-      still_fits t.cards words keys p.view w (subst (λ i. PassFits keys i p.view) (sym same) fits) (same ∙ own_size)
-      (subst (λ (m : TableModel). KeepsPass m.cards p.view told) (sym same_table)
-      (subst (λ (m : PassModel). KeepsPass u.cards m.view told) (sym same_pass) keeps) n w says)
+      still_fits t.last_card words keys p.view w (subst (λ i. PassFits keys i p.view) (sym same) fits) (same ∙ own_size)
+      (subst (λ (m : TableModel). KeepsPass m.last_card p.view told) (sym same_table)
+      (subst (λ (m : PassModel). KeepsPass u.last_card m.view told) (sym same_pass) keeps) n w says)
 
   -- a part of the pass, with keys that go with what it is to know
   pub part_fits : (was keys : List ℕ) (words : ℕ) (w : View) (held : List (ℕ × Unit {0})) (me : Me (Unit {0}) View) → PassFits was p.table.words p.view
-      → words ≡ p.table.words → MayHave u.cards q.view keys w → me ≡ (w, held) → PassFits keys words me.0
+      → words ≡ p.table.words → MayHave u.last_card q.view keys w → me ≡ (w, held) → PassFits keys words me.0
   part_fits was keys words w held me fits same may is =
       subst (λ (x : Me (Unit {0}) View). PassFits keys words x.0) (sym is)
-      (has_keys t.cards words was keys p.view w (subst (λ i. PassFits was i p.view) (sym same) fits) (same ∙ own_size)
-      (subst (λ (m : TableModel). MayHave m.cards p.view keys w) (sym same_table)
-      (subst (λ (m : PassModel). MayHave u.cards m.view keys w) (sym same_pass) may)))
+      (has_keys t.last_card words was keys p.view w (subst (λ i. PassFits was i p.view) (sym same) fits) (same ∙ own_size)
+      (subst (λ (m : TableModel). MayHave m.last_card p.view keys w) (sym same_table)
+      (subst (λ (m : PassModel). MayHave u.last_card m.view keys w) (sym same_pass) may)))

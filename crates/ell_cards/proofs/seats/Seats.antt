@@ -58,7 +58,7 @@ module _ (views : List View) (id : ℕ) (v : View) (here : get_elem? views id �
     words = new;
     worker = λ i. seated_put i t;
     count = sym (length-set views id after) t;
-    cards = cards;
+    last_card = cards;
   }
 
 -- a state of the rule, and the machine that it is of, by these words

@@ -25,15 +25,19 @@ use Rattle.ell_cards.proofs.seats.Seats.{set_there}
 use Rattle.ell_cards.proofs.stepping.AllCalls.{steps_are_events}
 use Rattle.ell_cards.proofs.seats.LedgersStay.{claim_ledger, flag_ledger, mark_ledger}
 use Rattle.ell_cards.proofs.seats.Named.{kept_named}
+use Rattle.ell_core.specs.declared.view.Entry.{Entry}
+use Rattle.ell_core.specs.declared.view.Entry.TheVariants.{Present, Absent}
+use Rattle.ell_ops.specs.declared.reply.Reply.{Reply}
+use Rattle.ell_ops.specs.declared.reply.Reply.TheVariants.{Yes}
 
 -- settling a key leaves the keys
-settled_keys : (k : ℕ) (b : Bool) (l : List (ℕ × Bool)) → keys_of (with_key k b l) ≡ keys_of l
+settled_keys : (k : ℕ) (b : Entry) (l : List (ℕ × Entry)) → keys_of (with_key k b l) ≡ keys_of l
 settled_keys k b [] = refl
 settled_keys k b (e ∷ es) = ap (λ ks. e.0 ∷ ks) (settled_keys k b es)
 
-answered_keys : (o : Option Op) (said : Bool) (l : List (ℕ × Bool)) → keys_of (answered_ledger o said l) ≡ keys_of l
-answered_keys (Some (Insert k)) true l = settled_keys k true l
-answered_keys (Some (Delete k)) true l = settled_keys k false l
+answered_keys : (o : Option Op) (said : Reply) (l : List (ℕ × Entry)) → keys_of (answered_ledger o said l) ≡ keys_of l
+answered_keys (Some (Insert k value)) Yes l = settled_keys k Present l
+answered_keys (Some (Delete k)) Yes l = settled_keys k Absent l
 answered_keys _ _ l = refl
 
 -- no step call changes which keys a pass owns

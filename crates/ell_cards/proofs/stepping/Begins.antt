@@ -1,4 +1,4 @@
-use Rattle.std.proofs.Common.{◌≡◌, ◌≢◌, ◌⊎◌, ◌∷◌, set, if◌then◌else◌, ℕ, ◌==◌, Bool, true, false, List, Some, None, refl, sym, ap, ◌∙◌, subst, inl, inr}
+use Rattle.std.proofs.Common.{◌≡◌, ◌≢◌, ◌⊎◌, ◌∷◌, set, if◌then◌else◌, ℕ, ◌==◌, List, Some, None, refl, sym, ap, ◌∙◌, subst, inl, inr}
 use mathlib.Core.Option.{some}
 use lib.ListN.{get_elem?}
 use Rattle.ell_ops.specs.declared.op.Op.{Op}
@@ -29,6 +29,10 @@ use Rattle.ell_cards.proofs.seats.Seats.{leads, machine, mine, becomes, mine_is,
 use Rattle.ell_cards.proofs.seats.Frames.{Onward, looks, is_event}
 use Rattle.ell_cards.proofs.stepping.Looks.{here_key}
 use Rattle.ell_cards.proofs.stepping.Settling.{settled_put}
+use Rattle.ell_core.specs.declared.view.Entry.{Entry}
+use Rattle.ell_core.specs.declared.view.Entry.TheVariants.{Present, Absent}
+use Rattle.ell_ops.specs.declared.reply.Reply.{Reply}
+use Rattle.ell_ops.specs.declared.reply.Reply.TheVariants.{Yes, No}
 
 -- a view with no key told where it stands and no card in hand
 bare : (v after : View) → after.here ≡ None → after.worker.card ≡ None
@@ -88,23 +92,23 @@ module _ (keys : List ℕ) (cards : ℕ) (s : TableState) (r : Kept keys cards s
       refl refl tt
 
 -- the ledger after an answer, as a list and as the machine has it
-answered : (op : Op) (said : Bool) (l : List (ℕ × Bool)) → ledger_of l (key_of op) ≢ None → (key : ℕ)
+answered : (op : Op) (said : Reply) (l : List (ℕ × Entry)) → ledger_of l (key_of op) ≢ None → (key : ℕ)
     → ledger_of (answered_ledger (Some op) said l) key ≡ ledger_after op said (ledger_of l) key
 answered (Find k) said l owns key = refl
-answered (Insert k) true l owns key = settled_put k true l owns key
-answered (Insert k) false l owns key = refl
-answered (Delete k) true l owns key = settled_put k false l owns key
-answered (Delete k) false l owns key = refl
+answered (Insert k value) Yes l owns key = settled_put k Present l owns key
+answered (Insert k value) No l owns key = refl
+answered (Delete k) Yes l owns key = settled_put k Absent l owns key
+answered (Delete k) No l owns key = refl
 
 -- the answer by a card that is over
-over_answers : (v : View) (op : Op) (c : ℕ) (said : Bool) → IsOver v op c → said ≡ true → card_answer op c (known_of v.worker.facts) ≡ Some said
+over_answers : (v : View) (op : Op) (c : ℕ) (said : Reply) → IsOver v op c → said ≡ Yes → card_answer op c (known_of v.worker.facts) ≡ Some said
 over_answers v (Find k) c said over e = absurd over
-over_answers v (Insert k) c said over e = ap (λ b. if b then Some true else None) over ∙ ap Some (sym e)
-over_answers v (Delete k) c said over e = ap (λ b. if b then Some true else None) over ∙ ap Some (sym e)
+over_answers v (Insert k value) c said over e = ap (λ b. if b then Some Yes else None) over ∙ ap Some (sym e)
+over_answers v (Delete k) c said over e = ap (λ b. if b then Some Yes else None) over ∙ ap Some (sym e)
 
 module _ (keys : List ℕ) (cards : ℕ) (s : TableState) (r : Kept keys cards s) (id : ℕ) (v : View) (here : get_elem? s.views id ≡ some v) where
   -- the machine's answer
-  answers_now : (op : Op) (said : Bool) → v.worker.operation ≡ Some op → AnswersAtLeaf v op said ⊎ AnswersByCard v op said
+  answers_now : (op : Op) (said : Reply) → v.worker.operation ≡ Some op → AnswersAtLeaf v op said ⊎ AnswersByCard v op said
       → Answers (mine keys cards s r id v here) op said
   answers_now op said busy (inl a) = inl (record {
     leaf = a.leaf;
@@ -118,7 +122,7 @@ module _ (keys : List ℕ) (cards : ℕ) (s : TableState) (r : Kept keys cards s
   )
 
   -- answer
-  pub keeps_answer : (said : Bool) → MayAnswer v said → IsEvent keys cards s r id v (call.Answer said)
+  pub keeps_answer : (said : Reply) → MayAnswer v said → IsEvent keys cards s r id v (call.Answer said)
   keeps_answer said may =
       let after = after_answer said v in
       let same = mine_is keys cards s r id v here in

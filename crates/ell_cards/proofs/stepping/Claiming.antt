@@ -134,7 +134,7 @@ module _ (keys : List ℕ) (cards : ℕ) (s : TableState) (r : Kept keys cards s
       by : (op : Op) → v.worker.operation ≡ Some op → Wants v op may.key
           → IsReached keys cards s r id v here (set s.words 0 (next + 1)) (claimed r.words (filling_of next v)) (after_claim true next v) act.Claim Moved
       by (Find k) busy wants = absurd wants
-      by (Insert k) busy wants =
+      by (Insert k value) busy wants =
           let es = insert_filling next k may.parent.node may.leaf may.key in
           let is : es ≡ filling_of next v =
           λ t. filling_for next (sym busy t) (sym may.stands t) (sym may.behind t) v.worker.search.grandparent (unwrap_or (sym may.told t) 0) in
@@ -142,6 +142,7 @@ module _ (keys : List ℕ) (cards : ℕ) (s : TableState) (r : Kept keys cards s
           subst (λ fields. IsReached keys cards s r id v here (set s.words 0 (next + 1)) (claimed r.words fields) (taking next fields v) act.Claim Moved) is
           (takes es (omega arith) (inl (record {
             key = k;
+            value = value;
             leaf = may.leaf;
             parent = may.parent;
             inserts = busy;

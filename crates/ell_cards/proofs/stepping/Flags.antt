@@ -115,6 +115,7 @@ module _ (keys : List ℕ) (cards : ℕ) (s : TableState) (r : Kept keys cards s
         owned = λ h. h;
         row = record {
           key = may.key;
+          value = may.value;
           card = c;
           parent = seen;
           inserts = may.busy;

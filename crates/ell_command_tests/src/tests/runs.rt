@@ -9,7 +9,7 @@ const FOUR_LINES: &str = "insert 5\nfind 5\ndelete 5\nfind 5\n";
 
 const FOUR_ANSWERS: &str = "yes\nyes\nyes\nno\nkeys 0\n";
 
-static ANSWERS: [Row<'static>; 6] = [
+static ANSWERS: [Row<'static>; 8] = [
     (RUN, "", (0, "keys 0\n", "")),
     (RUN, FOUR_LINES, (0, FOUR_ANSWERS, "")),
     (
@@ -32,9 +32,15 @@ static ANSWERS: [Row<'static>; 6] = [
         "insert 1\ninsert 65\nfind 1\n",
         (0, "yes\nyes\nyes\nkeys 2\n1\n65\n", ""),
     ),
+    (
+        RUN,
+        "start 2\nstart 4\nstart 6\nfind 4\ndelete 4\ninsert 5\nfind 4\n",
+        (0, "yes\nyes\nyes\nno\nkeys 3\n2\n5\n6\n", ""),
+    ),
+    (RUN, "start 3\n", (0, "keys 1\n3\n", "")),
 ];
 
-static FAULTS: [Row<'static>; 4] = [
+static FAULTS: [Row<'static>; 6] = [
     (
         RUN,
         "insert 18446744073709551614\n",
@@ -54,6 +60,16 @@ static FAULTS: [Row<'static>; 4] = [
         RUN,
         "walk 5\n",
         (2, "", "elltree: line 1: not an operation\n"),
+    ),
+    (
+        RUN,
+        "start 4\nstart 4\n",
+        (2, "", "elltree: line 2: start keys not ascending\n"),
+    ),
+    (
+        RUN,
+        "find 1\nstart 2\n",
+        (2, "", "elltree: line 2: not an operation\n"),
     ),
 ];
 

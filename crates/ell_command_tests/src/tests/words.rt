@@ -130,6 +130,7 @@ static HELP_ON_COMMANDS: [Help<'static>; 3] = [
             "Workers that share the run, 1 to 64",
             "Cards of a run, 1 to 1000000 [default: 4 per operation and 64]",
             "Tries of an operation, 1 to 1000000",
+            "lines `start K` before all\noperations give its keys, ascending.",
             "insert 5",
             "keys 0",
             "Exit status:",

@@ -25,6 +25,7 @@ use Rattle.ell_core.proofs.stages.Holding.{insert_kind, delete_kind}
 use Rattle.ell_core.proofs.stages.Order.{marked-delete}
 use Rattle.ell_core.proofs.words.Sides.{card_key-insert, card_key-delete}
 use Rattle.ell_core.proofs.stages.LaterKeys.{root_born}
+use Rattle.ell_ops.specs.declared.reply.Reply.{Reply}
 
 -- the keys stay where an act keeps the links
 same_keys : (m : Machine) (stage : Stages) (a : Act) (i : ℕ) (said : Stepped) (becomes : Scene) → KeepsLinks a → Invariant m stage
@@ -79,7 +80,7 @@ ichild_keys m stage i c becomes invariant row after =
     ((invariant.words.cards c).insert inserts).real gains.absent gains.keys)
 
 -- a won child exchange of a delete takes the card's key away
-dchild_keys : (m : Machine) (stage : Stages) (i c : ℕ) (becomes : Scene) → Invariant m stage → Happens m.cards (act.DChild c) (scene m i) Won becomes
+dchild_keys : (m : Machine) (stage : Stages) (i c : ℕ) (becomes : Scene) → Invariant m stage → Happens m.last_card (act.DChild c) (scene m i) Won becomes
     → Follows m stage (act.DChild c) i Won (with_scene m i becomes) → TakesKey m.words becomes.words (card_key m.words c)
 dchild_keys m stage i c becomes invariant happens after =
     let deletes : is_delete (stage c) ≡ true = marked-delete (stage c) ((invariant.workers.each i).facts (Marked c) happens.row.may) in
@@ -93,13 +94,13 @@ no_move : (won : Bool) → Moved ≡ won_or_lost won → ⊥
 no_move true e = cc
 no_move false e = cc
 
-no_reply : (reply won : Bool) → Answered reply ≡ won_or_lost won → ⊥
+no_reply : (reply : Reply) (won : Bool) → Answered reply ≡ won_or_lost won → ⊥
 no_reply reply true e = cc
 no_reply reply false e = cc
 
 -- each act changes the keys as it should
 act_keys : (a : Act) (m : Machine) (stage : Stages) (i : ℕ) (said : Stepped) (becomes : Scene) → Invariant m stage
-    → Happens m.cards a (scene m i) said becomes → Follows m stage a i said (with_scene m i becomes) → KeysChange a said m.words becomes.words
+    → Happens m.last_card a (scene m i) said becomes → Follows m stage a i said (with_scene m i becomes) → KeysChange a said m.words becomes.words
 act_keys (act.Begin op) m stage i said becomes invariant h after = same_keys m stage (act.Begin op) i said becomes tt invariant h.row after
 act_keys act.Upd m stage i said becomes invariant h after = same_keys m stage act.Upd i said becomes tt invariant h.row after
 act_keys act.Down m stage i said becomes invariant h after = same_keys m stage act.Down i said becomes tt invariant h.row after

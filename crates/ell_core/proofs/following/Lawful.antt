@@ -1,4 +1,4 @@
-use Rattle.std.proofs.Common.{◌≡◌, ◌≢◌, ℕ, ◌↔◌, Bool, true, false, Some, None, inl, inr, sym, ap, ◌∙◌, subst}
+use Rattle.std.proofs.Common.{◌≡◌, ◌≢◌, ℕ, ◌↔◌, Some, None, inl, inr, sym, ap, ◌∙◌, subst}
 use Rattle.std.proofs.lemmas.Bool.{cases_eq}
 use Rattle.ell_ops.specs.declared.op.Op.{Op}
 use Rattle.ell_ops.specs.declared.op.Op.TheVariants.{Find, Insert, Delete}
@@ -19,9 +19,13 @@ use Rattle.ell_core.proofs.following.Ledgers.{steps_know, steps_ledgers}
 use Rattle.ell_core.proofs.keeping.AllEvents.{steps_follow}
 use Rattle.ell_core.proofs.following.facts.Last.{steps_last}
 use Rattle.ell_core.proofs.keeping.Seats.{split_keeps, join_keeps}
+use Rattle.ell_core.specs.declared.view.Entry.{Entry}
+use Rattle.ell_core.specs.declared.view.Entry.TheVariants.{Present, Absent}
+use Rattle.ell_ops.specs.declared.reply.Reply.{Reply}
+use Rattle.ell_ops.specs.declared.reply.Reply.TheVariants.{Yes, No}
 
 -- the same keys are owned where an owned key gets an entry
-put_owned : (ledger : Ledger) (k : ℕ) (present : Bool) → ledger k ≢ None → (key : ℕ)
+put_owned : (ledger : Ledger) (k : ℕ) (present : Entry) → ledger k ≢ None → (key : ℕ)
     → (put ledger k (Some present) key ≡ None) ↔ (ledger key ≡ None)
 put_owned ledger k present owns key = elim (cases_eq key k) [
   | inl e ↦ (
@@ -35,13 +39,13 @@ put_owned ledger k present owns key = elim (cases_eq key k) [
 ]
 
 -- the same keys are owned after an answer
-owned_after : (op : Op) (reply : Bool) (ledger : Ledger) → ledger (key_of op) ≢ None → (key : ℕ)
+owned_after : (op : Op) (reply : Reply) (ledger : Ledger) → ledger (key_of op) ≢ None → (key : ℕ)
     → (ledger_after op reply ledger key ≡ None) ↔ (ledger key ≡ None)
 owned_after (Find k) reply ledger owns key = (λ h. h, λ h. h)
-owned_after (Insert k) true ledger owns key = put_owned ledger k true owns key
-owned_after (Insert k) false ledger owns key = (λ h. h, λ h. h)
-owned_after (Delete k) true ledger owns key = put_owned ledger k false owns key
-owned_after (Delete k) false ledger owns key = (λ h. h, λ h. h)
+owned_after (Insert k value) Yes ledger owns key = put_owned ledger k Present owns key
+owned_after (Insert k value) No ledger owns key = (λ h. h, λ h. h)
+owned_after (Delete k) Yes ledger owns key = put_owned ledger k Absent owns key
+owned_after (Delete k) No ledger owns key = (λ h. h, λ h. h)
 
 -- an answer is the set's
 answer_ledgers : (m : Machine) (stage : Stages) (i : ℕ) (said : Stepped) (becomes : Scene) → Invariant m stage

@@ -1,9 +1,10 @@
-use Rattle.std.proofs.Common.{refl, arith, subst, inl, inr, ap}
+use Rattle.std.proofs.Common.{◌+◌, length, refl, arith, subst, inl, inr, ap}
 use Rattle.std.proofs.lemmas.Bool.{cases_eq}
 use Rattle.ell_core.specs.state.Opening.{opening}
 use Rattle.ell_core.specs.soundness.Sound.{Owns}
 use Rattle.ell_core.specs.statements.Premises.{OneWorkerOwnsAll, IdleWorkerOwnsAll}
-use Rattle.ell_core.proofs.opening.Invariant.{opening_stages, opening_invariant}
+use Rattle.ell_core.proofs.opening.Invariant.{start_stages}
+use Rattle.ell_core.proofs.opening.CanOpen.{opening_has}
 
 -- a worker but the one is not there, and owns nothing
 pub only_owns_all : IdleWorkerOwnsAll
@@ -18,5 +19,4 @@ only_owns_all m stage sound one free = record {
 -- so it is at an opening
 pub one_owns_all : OneWorkerOwnsAll
 unfolding opening
-one_owns_all owned cards can =
-    only_owns_all (opening 1 owned cards) opening_stages (opening_invariant 1 owned cards can.faultless can.real) refl refl
+one_owns_all setup can one = only_owns_all (opening setup) (start_stages (length setup.start + 1)) (opening_has setup can) one refl

@@ -16,12 +16,13 @@ use Rattle.ell_core.specs.history.Stages.{Stages}
 use Rattle.ell_core.specs.history.Invariant.{Invariant}
 use Rattle.ell_core.proofs.following.Sound.{flag_sound}
 use Rattle.ell_core.proofs.tree.Bounds.{leaf_key}
+use Rattle.ell_core.specs.declared.view.Entry.TheVariants.{Present}
 
 -- the invariant holds of the state
 module _ (m : Machine) (stage : Stages) (sound : Invariant m stage) where
   -- a worker that stands at a leaf sees by its key whether its ledger has the operation's key present
   pub leaf_key_tells : (i : ℕ) (op : Op) (x : ℕ) → (m.worker i).operation ≡ Some op → (m.worker i).search.node ≡ Some x
-      → IsLeaf x → (m.words.key x ≡ key_of op) ↔ ((m.worker i).ledger (key_of op) ≡ Some true)
+      → IsLeaf x → (m.words.key x ≡ key_of op) ↔ ((m.worker i).ledger (key_of op) ≡ Some Present)
   leaf_key_tells i op x busy stands outer =
       let leads = ((sound.workers.each i).stands op x busy stands).leads in
       (λ has. leads.0 (at_leaf outer has), λ present. leaf_key m.words.key m.words.child (key_of op) x outer (leads.1 present))

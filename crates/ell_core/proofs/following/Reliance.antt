@@ -124,7 +124,7 @@ in_table m stage invariant x born = ((invariant.words.cards (card x)).claimed).0
 
 -- a down leads from a node to a greater one of the table
 goes_down : (m : Machine) (stage : Stages) (i : ℕ) (said : Stepped) (after : Scene) (x y : ℕ) → Invariant m stage → Down (scene m i) said after
-    → (m.worker i).search.node ≡ Some x → after.worker.search.node ≡ Some y → (x < y) × (card y ≤ m.cards)
+    → (m.worker i).search.node ≡ Some x → after.worker.search.node ≡ Some y → (x < y) × (card y ≤ m.last_card)
 goes_down m stage i said after x y invariant row at to =
     let w = m.words in
     let right = is_right w row.seen.node (key_of row.op) in
@@ -177,7 +177,7 @@ goes_in_tree w stage sound kinds c below = elim (cases_Bool (is_start (stage c))
 -- a worker with a card in hand that is not flagged stands at the card's leaf
 below_parent : (w : Words) (stage : Stages) (v : Worker) (op : Op) (c : ℕ) → Unflagged w stage v op c → StandsBelow v
 below_parent w stage v (Find k) c h = absurd h
-below_parent w stage v (Insert k) c h = record { node = w.l c; stands = h.stands; parent = h.parent; behind = h.behind }
+below_parent w stage v (Insert k value) c h = record { node = w.l c; stands = h.stands; parent = h.parent; behind = h.behind }
 below_parent w stage v (Delete k) c h = record { node = w.l c; stands = h.stands; parent = h.parent; behind = h.behind }
 
 stands_below : (w : Words) (stage : Stages) (v : Worker) (c : ℕ) → WorkerIsSound w stage v → v.card ≡ Some c → v.flagged ≡ false

@@ -24,7 +24,7 @@ use Rattle.ell_core.proofs.keeping.AllEvents.{steps_lawful}
 
 -- the value of a world with these words and workers
 abbrev pub world_at : {A : Type 0} → Memory A → List (Worker A) → WorldValue
-world_at memory workers = record { words = memory.words.items; workers = map view_of workers; cards = memory.cards }
+world_at memory workers = record { words = memory.words.items; workers = map view_of workers; last_card = memory.last_card }
 
 -- setting an item to itself changes nothing
 set_same : {A : Type 0} (xs : List A) (i : ℕ) (v : A) → slice_get xs i ≡ Some v → set xs i v ≡ xs
@@ -69,14 +69,14 @@ scene_there memory workers i v h = ap (λ (w : machine.Worker). record { words =
 
 -- the machine after the words and one worker have changed
 pub machine_after : {A : Type 0} (memory memory' : Memory A) (workers : List (Worker A)) (i : ℕ) (v' : Worker A) → i < length workers
-    → memory'.cards ≡ memory.cards
+    → memory'.last_card ≡ memory.last_card
     → machine_of (world_at memory' (set workers i v')) ≡ with_scene (machine_of (world_at memory workers)) i (scene_in memory' v')
 unfolding machine_of
 machine_after memory memory' workers i v' here cards = λ t. record {
   words = words_in memory';
   worker = λ j. workers_set workers i v' here j t;
   count = (ap length (map-set view_of workers i v') ∙ length-set (map view_of workers) i (view_of v')) t;
-  cards = cards t;
+  last_card = cards t;
 }
 
 -- there are as many workers as the list has
@@ -89,7 +89,7 @@ pub words_are : {A : Type 0} (memory : Memory A) (workers : List (Worker A)) →
 unfolding machine_of
 words_are memory workers = refl
 
-pub cards_are : {A : Type 0} (memory : Memory A) (workers : List (Worker A)) → (machine_of (world_at memory workers)).cards ≡ memory.cards
+pub cards_are : {A : Type 0} (memory : Memory A) (workers : List (Worker A)) → (machine_of (world_at memory workers)).last_card ≡ memory.last_card
 unfolding machine_of
 cards_are memory workers = refl
 
@@ -110,15 +110,15 @@ module _ {A : Type 0} (memory memory' : Memory A) (workers : List (Worker A)) (e
     becomes = scene_in memory' v';
     happens = subst (λ cards. Happens cards e.act (scene (machine_of (world_at memory workers)) e.worker) said (scene_in memory' v'))
         (sym (cards_are memory workers))
-        (subst (λ s. Happens memory.cards e.act s said (scene_in memory' v')) (scene_there memory workers e.worker v there) h);
+        (subst (λ s. Happens memory.last_card e.act s said (scene_in memory' v')) (scene_there memory workers e.worker v there) h);
     gives = machine_after memory memory' workers e.worker v' here same.cards;
   }
 
   refused_there : (fault : CoreFault) → RefusedAt e.act memory v fault
-      → TurnRefused (machine_of (world_at memory workers)).cards e.act (scene (machine_of (world_at memory workers)) e.worker) fault
+      → TurnRefused (machine_of (world_at memory workers)).last_card e.act (scene (machine_of (world_at memory workers)) e.worker) fault
   refused_there fault h =
       subst (λ cards. TurnRefused cards e.act (scene (machine_of (world_at memory workers)) e.worker) fault) (sym (cards_are memory workers))
-      (subst (λ s. TurnRefused memory.cards e.act s fault) (scene_there memory workers e.worker v there) h)
+      (subst (λ s. TurnRefused memory.last_card e.act s fault) (scene_there memory workers e.worker v there) h)
 
   -- a turn that was refused is a step that is refused
   pub step_refused : (fault : CoreFault) → RefusedAt e.act memory v fault → StepRefused (machine_of (world_at memory workers)) e fault
@@ -133,7 +133,7 @@ module _ {A : Type 0} (memory memory' : Memory A) (workers : List (Worker A)) (e
   pub value_same : view_of v' ≡ view_of v → memory' ≡ memory → world_at memory' (set workers e.worker v') ≡ world_at memory workers
   value_same view words = λ t. record {
     words = (words t).words.items;
-    cards = (words t).cards;
+    last_card = (words t).last_card;
     workers = (map-set view_of workers e.worker v' ∙ (ap (set (map view_of workers) e.worker) view
         ∙ set_same (map view_of workers) e.worker (view_of v) (map_get view_of workers e.worker v there))) t;
   }
@@ -143,7 +143,7 @@ module _ {A : Type 0} (memory memory' : Memory A) (workers : List (Worker A)) (e
   ready fits = record {
     sized = record { size = fits.size; limit = fits.limit };
     fits = subst (λ cards. SceneFits cards (scene_in memory v)) (cards_are memory workers)
-        (subst (SceneFits (machine_of (world_at memory workers)).cards) (sym (scene_there memory workers e.worker v there))
+        (subst (SceneFits (machine_of (world_at memory workers)).last_card) (sym (scene_there memory workers e.worker v there))
         (scene_fits (machine_of (world_at memory workers)) fits.lawful.stages e.worker fits.lawful.invariant));
   }
 

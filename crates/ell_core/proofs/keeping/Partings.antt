@@ -5,9 +5,10 @@ use Rattle.ell_core.specs.state.Words.{put}
 use Rattle.ell_core.specs.statements.Premises.{entry_or, EveryTestParts, EveryPartingIsASplit, known_to_either, EveryUnionIsAJoin, united, IdleWorkersJoin}
 use Rattle.ell_core.proofs.words.Writes.{put_same}
 use Rattle.ell_core.proofs.keeping.Seats.{put_first}
+use Rattle.ell_core.specs.declared.view.Entry.{Entry}
 
 -- an entry goes to one of two parts
-part_entry : (entry : Option Bool) (goes : Bool)
+part_entry : (entry : Option Entry) (goes : Bool)
     → (((if goes then entry else None) ≡ entry) × ((if goes then None else entry) ≡ None))
     ⊎ (((if goes then entry else None) ≡ None) × ((if goes then None else entry) ≡ entry))
 part_entry entry true = inl (refl, refl)
@@ -18,11 +19,11 @@ pub test_parts : EveryTestParts
 test_parts whole test key = part_entry (whole key) (test key)
 
 -- an entry of two ledgers in one is that of one of them
-unite_entry : (left right : Option Bool) → (left ≢ None → ¬ (right ≢ None))
+unite_entry : (left right : Option Entry) → (left ≢ None → ¬ (right ≢ None))
     → ((left ≡ entry_or left right) × (right ≡ None)) ⊎ ((left ≡ None) × (right ≡ entry_or left right))
 unite_entry None right apart = inr (refl, refl)
-unite_entry (Some present) None apart = inl (refl, refl)
-unite_entry (Some present) (Some other) apart = absurd (apart (λ e. cc) (λ e. cc))
+unite_entry (Some entry) None apart = inl (refl, refl)
+unite_entry (Some entry) (Some other) apart = absurd (apart (λ e. cc) (λ e. cc))
 
 -- the parts of an idle worker take its place and one at the end
 pub parting_splits : EveryPartingIsASplit

@@ -9,6 +9,7 @@ use Rattle.ell_core.specs.state.Moves.{IsIdle}
 use Rattle.ell_core.specs.soundness.Sound.{Owns, IsOwned, IsInHand}
 use Rattle.ell_core.specs.history.Stages.{Stages, allows, staged}
 use Rattle.ell_core.specs.history.Invariant.{LeadsTo, WorkerIsSound, Invariant}
+use Rattle.ell_core.specs.declared.view.Entry.TheVariants.{Present}
 
 -- a worker knows only what the stages of the cards allow
 abbrev pub KnowsOnlyAllowed : Stages → Worker → Type 0
@@ -81,7 +82,7 @@ module _ (m : Machine) (stage : Stages) (worker : ℕ → Worker) (count : ℕ) 
       sym x.here ∙ (ap (λ n. h.lands n k) one ∙ y.here)
 
   -- the keys of the tree among a new worker's are those present
-  reseated_present : (n k : ℕ) → Owns (worker n) k → LeadsTo m.words k 0 ↔ (staged stage (worker n) k ≡ Some true)
+  reseated_present : (n k : ℕ) → Owns (worker n) k → LeadsTo m.words k 0 ↔ (staged stage (worker n) k ≡ Some Present)
   reseated_present n k owns =
       let c = h.comes n k owns in
       let old = before.workers.present c.old k c.owned in

@@ -1,4 +1,4 @@
-use Rattle.std.proofs.Common.{◌≡◌, ◌≢◌, ℕ, ◌+◌, ◌≤◌, ◌==◌, if◌then◌else◌, ◌⊎◌, inl, inr, Bool, Option, Some, None, refl, sym, ap, ◌∙◌, subst, arith}
+use Rattle.std.proofs.Common.{◌≡◌, ◌≢◌, ℕ, ◌+◌, ◌≤◌, ◌==◌, if◌then◌else◌, ◌⊎◌, inl, inr, Option, Some, None, refl, sym, ap, ◌∙◌, subst, arith}
 use Rattle.std.proofs.lemmas.Bool.{false≢true, cases_eq}
 use Rattle.std.proofs.lemmas.Bool.Decides.{nat_tests}
 use Rattle.ell_core.specs.state.Words.{put}
@@ -9,6 +9,7 @@ use Rattle.ell_core.specs.history.Stages.{Stages}
 use Rattle.ell_core.specs.history.Invariant.{Invariant}
 use Rattle.ell_core.proofs.words.Writes.{put_same, put_other}
 use Rattle.ell_core.proofs.keeping.Reseats.{KnowsOnlyAllowed, Comes, Reseats, idle_staged, reseated_keeps}
+use Rattle.ell_core.specs.declared.view.Entry.{Entry}
 
 -- what holds of two new values at their places, and of the old ones elsewhere, holds everywhere
 put_twice : {A : Type 0} (P : ℕ → A → Type 0) (f : ℕ → A) (a b : ℕ) (x y : A) → P b y → P a x
@@ -44,13 +45,13 @@ moved_other : (from to old : ℕ) → old ≢ from → moved from to old ≡ old
 moved_other from to old h = grind (arith, nat_tests)
 
 -- the seat of a key of the split worker: that of the left part if it has the key
-abbrev seat_of : ℕ → ℕ → Option Bool → ℕ
+abbrev seat_of : ℕ → ℕ → Option Entry → ℕ
 seat_of i end None = end
-seat_of i end (Some present) = i
+seat_of i end (Some entry) = i
 
-seat_some : (i end : ℕ) (found : Option Bool) → found ≢ None → seat_of i end found ≡ i
+seat_some : (i end : ℕ) (found : Option Entry) → found ≢ None → seat_of i end found ≡ i
 seat_some i end None h = absurd (h refl)
-seat_some i end (Some present) h = refl
+seat_some i end (Some entry) h = refl
 
 module _ (m after : Machine) (stage : Stages) (i : ℕ) (s : Split m i after) (before : Invariant m stage) where
   -- where an old seat's key is after the split

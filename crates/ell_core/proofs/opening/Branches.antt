@@ -1,9 +1,9 @@
-use Rattle.std.proofs.Common.{◌≡◌, ◌≢◌, ℕ, zero, suc, ◌+◌, ◌-◌, ◌/◌, ◌^◌, ◌<◌, ◌≤◌, ◌==◌, ◌⊎◌, inl, inr, Bool, true, false, if◌then◌else◌, nat_lt, refl, sym, ap, ◌∙◌, subst, arith}
+use Rattle.std.proofs.Common.{◌≡◌, ◌≢◌, ℕ, zero, suc, ◌+◌, ◌^◌, ◌<◌, ◌≤◌, ◌⊎◌, inl, inr, if◌then◌else◌, refl, sym, ap, ◌∙◌, subst, arith}
 use Rattle.std.proofs.Math.Nat.{two-pow-succ}
 use Rattle.std.proofs.lemmas.Bool.{cases_lt, cases_eq, eq-eqb, ne_eqb, lt-ltb, le-ltb}
 use Rattle.ell_core.specs.declared.branch.Branch.{Branch}
 use Rattle.ell_core.specs.statements.Balanced.{IsBranch, BranchesAreHalves, TreeIsShallow}
-use Rattle.ell_core.specs.state.Branches.{halved, left_branch, right_branch, branch_to, descend, root_branch, branch_of}
+use Rattle.ell_core.specs.state.Branches.{left_branch, right_branch, branch_to, descend, root_branch, branch_of}
 
 -- card c is the card of a branch or one of those below it, and the branch has leaves on both sides
 pub record Holds (c : ℕ) (b : Branch) : Type 0 where
@@ -235,6 +235,37 @@ module _ (leaves : ℕ) (some : 0 < leaves) where
 
   pub cards_within : (c : ℕ) → c < leaves → c + ((branch_of leaves c).left + (branch_of leaves c).right) ≤ leaves + 1
   cards_within c below = let is = branch_card c below in let ends = (branch_ends c below).cards in omega arith
+
+  -- the card above another one
+  pub record Above (c : ℕ) : Type 0 where
+    pub card : ℕ
+    pub less : card < c
+    pub side : ((c ≡ card + 1) × (1 < (branch_of leaves card).left)) ⊎ ((c ≡ card + (branch_of leaves card).left) × (1 < (branch_of leaves card).right))
+
+  -- there is one on the way down from any branch
+  above_from : (n c : ℕ) (b : Branch) → Holds c b → b.card < c → c < leaves → c ≤ b.card + n → b ≡ branch_of leaves b.card → Above c
+  above_from zero c b h less below enough is = absurd (omega arith)
+  above_from (suc n) c b h less below enough is =
+      let d = b.card in
+      let same_left : (branch_of leaves d).left ≡ b.left = ap (λ (n : Branch). n.left) (sym is) in
+      let same_right : (branch_of leaves d).right ≡ b.right = ap (λ (n : Branch). n.right) (sym is) in
+      elim (cases_lt c (d + b.left)) [
+        | inl on_left ↦ elim (cases_eq c (d + 1)) [
+          | inl e ↦ record { card = d; less = less; side = inl (e, omega arith) }
+          | inr apart ↦ above_from n c (left_branch b) (holds_left c b h less on_left) (omega arith) below (omega arith)
+              (ap left_branch is ∙ sym (branch_left d (omega arith) (omega arith)))
+        ]
+        | inr past ↦ let w = h.within in elim (cases_eq c (d + b.left)) [
+          | inl e ↦ record { card = d; less = less; side = inr (e ∙ ap (λ n. d + n) (sym same_left), omega arith) }
+          | inr apart ↦ let some = h.some_left in above_from n c (right_branch b) (holds_right c b h past) (omega arith) below (omega arith)
+              (ap right_branch is ∙ (sym (branch_right d (omega arith) (omega arith)) ∙ ap (λ n. branch_of leaves (d + n)) same_left))
+        ]
+      ]
+
+  -- every card but the root's has one above
+  pub above : (c : ℕ) → c < leaves → 0 < c → Above c
+  unfolding descend
+  above c below past = above_from c c (root_branch leaves) (root_holds c below) past below (omega arith) refl
 
   -- what the law says of it
   is_branch : (c : ℕ) → c < leaves → IsBranch leaves c (branch_of leaves c)

@@ -1,8 +1,13 @@
-use Rattle.std.proofs.Common.{◌≡◌, ◌≢◌, ℕ, zero, suc, ◌<◌, ◌≤◌, List, [], ◌∷◌, slice_get, sym, ap, ◌∙◌, arith}
+use Rattle.std.proofs.Common.{◌≡◌, ◌≢◌, ℕ, zero, suc, ◌<◌, ◌≤◌, List, [], ◌∷◌, slice_get, get_or, ◌+◌, ◌==◌, true, length, sym, ap, ◌∙◌, subst, arith}
+use Rattle.std.proofs.lemmas.Bool.{eqb-true}
+use Rattle.std.proofs.lemmas.List.Folds.{Any-from_list_any}
 use Rattle.std.proofs.lemmas.Option.{none-some, same_Some}
 use Rattle.std.specs.List.{All}
 use Rattle.ell_ops.specs.Meaning.{greatest_key}
-use Rattle.ell_core.specs.state.Opening.{IsStranger, IsRepeat}
+use Rattle.ell_core.specs.state.Opening.{Setup, IsStranger, IsRepeat, opening, is_given}
+use Rattle.ell_core.specs.history.Invariant.{Invariant}
+use Rattle.ell_core.specs.statements.RunLaws.{CanOpen}
+use Rattle.ell_core.proofs.opening.Invariant.{start_stages, opening_invariant}
 use Rattle.ell_core.specs.statements.Premises.{TwoKeysCanOpen}
 
 module _ (count i j first second : ℕ) where
@@ -36,7 +41,22 @@ module _ (count i j first second : ℕ) where
 
 -- so they can open
 pub two_keys_open : TwoKeysCanOpen
-two_keys_open count i j first second i_there j_there apart first_real second_real = record {
+two_keys_open count i j first second cards i_there j_there apart first_real second_real = record {
   faultless = λ at. (no_stranger count i j first second at i_there j_there, no_repeat count i j first second at apart);
   real = both_real count i j first second first_real second_real;
+  ascending = λ k below. absurd (omega arith);
+  given = λ k d below. absurd (omega arith);
 }
+
+-- the start keys are real ones, since they are among the owned keys
+pub start_real : (owned : List (ℕ × ℕ)) (start : List ℕ) → All (λ entry. entry.1 ≤ greatest_key) owned → All (λ k. is_given owned k ≡ true) start
+    → All (λ k. k ≤ greatest_key) start
+start_real owned start real given i d below =
+    let any = Any-from_list_any (λ (entry : ℕ × ℕ). entry.1 == get_or start i d) owned (given i d below) in
+    let same : any.1.1 ≡ get_or start i d = eqb-true any.1.1 (get_or start i d) any.4 in
+    let bound : any.1.1 ≤ greatest_key = subst (λ (entry : ℕ × ℕ). entry.1 ≤ greatest_key) any.3 (real any.0 any.1 any.2) in
+    omega arith
+
+-- what can open opens with the invariant
+pub opening_has : (setup : Setup) → CanOpen setup → Invariant (opening setup) (start_stages (length setup.start + 1))
+opening_has setup can = opening_invariant setup can.ascending (start_real setup.owned setup.start can.real can.given) can.faultless can.real can.given

@@ -1,165 +1,261 @@
-use Rattle.std.proofs.Common.{◌≡◌, ℕ, zero, suc, ◌<◌, ◌≤◌, ◌⊎◌, Bool, true, false, List, refl, sym, subst, arith}
-use Rattle.std.proofs.lemmas.Bool.{false≢true}
-use Rattle.std.proofs.lemmas.Option.{none-some}
-use Rattle.std.specs.List.{All}
+use Rattle.std.proofs.Common.{◌≡◌, ◌≢◌, ℕ, ◌+◌, ◌<◌, ◌≤◌, ◌==◌, ◌⊎◌, inl, inr, if◌then◌else◌, Bool, true, false, nat_lt, Some, None, List, length, get_or, refl, sym, ap, ◌∙◌, subst, arith}
+use Rattle.std.proofs.lemmas.Bool.{false≢true, cases_lt, and_from, eqb-true, eq-eqb, lt-ltb, le-ltb}
+use Rattle.std.proofs.lemmas.Option.{none-some, same_Some}
+use Rattle.std.proofs.lemmas.Grind.{get_or_default_zero}
+use Rattle.std.proofs.lemmas.List.Folds.{Any-from_list_any, list_any_at}
+use Rattle.std.specs.List.{All, list_any}
+use Rattle.std.specs.List.Sorted.{IsStrictlyIncreasing}
+use Rattle.ell_ops.specs.KeySet.{set_of}
 use Rattle.ell_ops.specs.Meaning.{greatest_key}
-use Rattle.ell_word.specs.Node.{IsInternal, card}
+use Rattle.ell_word.specs.Node.{IsInternal, card, internal}
+use Rattle.ell_core.specs.state.Words.{Words}
 use Rattle.ell_core.specs.state.Cards.{iflag, dflag, marked, clean}
-use Rattle.ell_core.specs.state.Machine.{idle}
-use Rattle.ell_core.specs.state.Opening.{opening, opening_words, opening_field, opening_ledger, Faultless}
-use Rattle.ell_core.specs.history.Stages.{Stages, Unclaimed, Opening, is_start, is_insert, is_delete, is_born, insert_open, delete_open, Born, insert_won, delete_won}
-use Rattle.ell_core.specs.history.Invariant.{GoesNowhere, Blank, CardIsSound, ChildrenAreSound, UpdateIsSound, TreeIsSound, WordsAreSound, WorkerIsSound, WorkersAreSound, Invariant}
-use Rattle.ell_core.proofs.words.Writes.{made_word}
-use Rattle.ell_core.proofs.opening.Ranges.{opening_ordered, opening_root, opening_last, opening_empty}
-use Rattle.ell_core.proofs.opening.Owners.{opening_absent, opening_one_owner, opening_stranger, opening_real}
+use Rattle.ell_core.specs.state.Machine.{idle, present_if}
+use Rattle.ell_core.specs.history.Stages.{Stage, Stages, Unclaimed, Opening, is_claimed, is_start, is_insert, is_delete, is_born, insert_open, delete_open, insert_won, delete_won}
+use Rattle.ell_core.specs.history.Invariant.{GoesNowhere, Invariant, top, LeadsTo, IsIn, CardIsSound, ChildrenAreSound, UpdateIsSound, TreeIsSound, WordsAreSound, WorkerIsSound, WorkersAreSound}
+use Rattle.ell_core.specs.tree.Ranges.{IsOrdered}
 use Rattle.ell_core.proofs.keeping.going_on.Stages.{no_insert, no_delete}
+use Rattle.ell_core.proofs.opening.Owners.{ledger_there, opening_one_owner, opening_stranger, opening_real}
+use Rattle.ell_core.proofs.outcomes.Decide.{some_not_none}
+use Rattle.ell_core.specs.state.Opening.{Setup, gives, Faultless, start_leaf, start_words, opening_ledger, opening, is_given, start_entry}
+use Rattle.ell_core.proofs.opening.StartTree.{tree_ordered, card_reached, child_more, child_on, left_less, right_least, finds_leaf, finds_leaves_only}
+use Rattle.ell_core.proofs.opening.StartWords.{leaf_key, leaf_last, leaf_root, leaves_rise, leaves_end, has_branches, clean_update, goes_none, later_blank}
+use Rattle.ell_core.specs.declared.view.Entry.TheVariants.{Present}
+use Rattle.ell_core.proofs.opening.KeyLists.{holds_present}
 
--- the stages at the start: card 0 has the opening tree, and no other card is claimed
-abbrev pub opening_stages : Stages
-opening_stages zero = Opening
-opening_stages (suc c) = Unclaimed
+-- the stages at the start: the cards below this number have the opening tree, and no other card is claimed
+abbrev pub start_stages : ℕ → Stages
+start_stages end c = if nat_lt c end then Opening else Unclaimed
 
--- no insert's flag stands
-no_insert_open : (c : ℕ) → insert_open (opening_stages c) ≡ true → ⊥
-no_insert_open zero h = false≢true h
-no_insert_open (suc c) h = false≢true h
+pub stage_there : (end c : ℕ) → c < end → start_stages end c ≡ Opening
+stage_there end c below = ap (λ t. if t then Opening else Unclaimed) (lt-ltb c end below)
 
--- no delete's flag stands
-no_delete_open : (c : ℕ) → delete_open (opening_stages c) ≡ true → ⊥
-no_delete_open zero h = false≢true h
-no_delete_open (suc c) h = false≢true h
+pub stage_past : (end c : ℕ) → end ≤ c → start_stages end c ≡ Unclaimed
+stage_past end c past = ap (λ t. if t then Opening else Unclaimed) (le-ltb c end past)
 
--- the card of a node that came into the tree is card 0
-born_first : (c : ℕ) → is_born (opening_stages c) ≡ true → c ≡ 0
-born_first zero h = refl
-born_first (suc c) h = absurd (false≢true h)
+-- a stage at the start is one of the two
+start_cases : (end c : ℕ) → ((c < end) × (start_stages end c ≡ Opening)) ⊎ ((end ≤ c) × (start_stages end c ≡ Unclaimed))
+start_cases end c = elim (cases_lt c end) [
+  | inl below ↦ inl (below, stage_there end c below)
+  | inr past ↦ inr (past, stage_past end c past)
+]
 
--- an internal node that came into the tree is the root
-born_root : (x : ℕ) → IsInternal x → Born opening_stages x → x ≡ 0
-born_root x inner born = let first = born_first (card x) born in omega arith
+-- what is so of both stages is so of every card's
+pub each_stage : (P : Stage → Type 0) (end c : ℕ) → P Opening → P Unclaimed → P (start_stages end c)
+each_stage P end c there past = elim (start_cases end c) [
+  | inl h ↦ subst P (sym h.1) there
+  | inr h ↦ subst P (sym h.1) past
+]
 
--- a card that was not claimed is blank
-opening_blank : (c : ℕ) → Blank opening_words (suc c)
-opening_blank c = record { words = made_word 1 opening_field (suc c) }
+-- a card whose nodes came into the tree is one of the opening tree's
+born_below : (end c : ℕ) → is_born (start_stages end c) ≡ true → c < end
+born_below end c born = elim (start_cases end c) [
+  | inl h ↦ h.0
+  | inr h ↦ absurd (false≢true (sym (ap is_born h.1) ∙ born))
+]
 
--- each card is sound
-opening_card : (c : ℕ) → CardIsSound opening_words opening_stages c
-opening_card zero = record {
-  claimed = (λ h. omega arith, λ h. refl);
-  insert = λ h. absurd (false≢true h);
-  delete = λ h. absurd (false≢true h);
-  unborn = λ h. absurd (false≢true h);
-  blank = λ h. absurd (false≢true (sym h));
-}
-opening_card (suc c) = record {
-  claimed = (λ h. absurd (false≢true h), λ h. absurd (omega arith));
-  insert = λ h. absurd (false≢true h);
-  delete = λ h. absurd (false≢true h);
-  unborn = λ h. absurd (false≢true h);
-  blank = λ h. opening_blank c;
-}
+below_born : (end c : ℕ) → c < end → is_born (start_stages end c) ≡ true
+below_born end c below = ap is_born (stage_there end c below)
 
--- no card has come as far as an insert's flag
-insert_unwon : (c : ℕ) → insert_won (opening_stages c) ≡ false
-insert_unwon zero = refl
-insert_unwon (suc c) = refl
+-- no card is an insert's, or a delete's
+no_insert_yet : (end c : ℕ) → is_insert (start_stages end c) ≡ false
+no_insert_yet end c = each_stage (λ s. is_insert s ≡ false) end c refl refl
 
--- nor as far as a delete's
-delete_unwon : (c : ℕ) → delete_won (opening_stages c) ≡ false
-delete_unwon zero = refl
-delete_unwon (suc c) = refl
+no_delete_yet : (end c : ℕ) → is_delete (start_stages end c) ≡ false
+no_delete_yet end c = each_stage (λ s. is_delete s ≡ false) end c refl refl
 
--- the root's children are sound
-root_children : ChildrenAreSound opening_words opening_stages 0
-root_children = record { born = born; rising = rising; left_less = omega arith; right_more = omega arith }
-  where
-    born : (right : Bool) → Born opening_stages (opening_words.child 0 right)
-    born true = refl
-    born false = refl
+-- a card is claimed exactly if it is one of the opening tree's
+claimed_below : (end c : ℕ) → is_claimed (start_stages end c) ≡ true → c < end
+claimed_below end c is = elim (start_cases end c) [
+  | inl h ↦ h.0
+  | inr h ↦ absurd (false≢true (sym (ap is_claimed h.1) ∙ is))
+]
 
-    rising : (right : Bool) → 0 < opening_words.child 0 right
-    rising true = omega arith
-    rising false = omega arith
+unclaimed_past : (end c : ℕ) → is_claimed (start_stages end c) ≡ false → end ≤ c
+unclaimed_past end c is = elim (start_cases end c) [
+  | inl h ↦ absurd (false≢true (sym is ∙ ap is_claimed h.1))
+  | inr h ↦ h.0
+]
 
--- the root's update word is clean, and names card 0
-root_update : UpdateIsSound opening_words opening_stages 0
-root_update = record {
-  named = omega arith;
-  iflagged = λ c (h : clean 0 ≡ iflag c). absurd (omega arith);
-  dflagged = λ c (h : clean 0 ≡ dflag c). absurd (omega arith);
-  marked = λ c (h : clean 0 ≡ marked c). absurd (omega arith);
-}
+-- a key that an entry names is some worker's
+pub record IsGiven (owned : List (ℕ × ℕ)) (start : List ℕ) (key : ℕ) : Type 0 where
+  pub worker : ℕ
+  pub owns : opening_ledger owned start worker key ≢ None
 
--- the opening tree is sound
-opening_tree : TreeIsSound opening_words opening_stages
-opening_tree = record {
-  ordered = opening_ordered;
-  root_key = refl;
-  root_right = refl;
-  right_key = refl;
-  last = opening_last;
-  there = λ x inner born calm. opening_root x (born_root x inner born);
-}
+given_owned : (owned : List (ℕ × ℕ)) (start : List ℕ) (key : ℕ) → is_given owned key ≡ true → IsGiven owned start key
+given_owned owned start key is =
+    let any = Any-from_list_any (λ (entry : ℕ × ℕ). entry.1 == key) owned is in
+    let test : gives any.1.0 key any.1 ≡ true = and_from (any.1.0 == any.1.0) (any.1.1 == key) (eq-eqb any.1.0 any.1.0 refl) any.4 in
+    let at : gives any.1.0 key (get_or owned any.0 any.1) ≡ true = ap (gives any.1.0 key) any.3 ∙ test in
+    let some : list_any (gives any.1.0 key) owned ≡ true = list_any_at (gives any.1.0 key) owned any.0 any.1 any.2 at in
+    record { worker = any.1.0; owns = λ none. some_not_none (ap (λ t. if t then Some (start_entry start key) else None) some) none }
 
--- the opening words are sound
-opening_sound : WordsAreSound opening_words opening_stages
-opening_sound = record {
-  opening = refl;
-  cards = opening_card;
-  inserts = λ c. no_insert opening_words opening_stages c (insert_unwon c);
-  deletes = λ c. no_delete opening_words opening_stages c (delete_unwon c);
-  children = λ x inner born. subst (ChildrenAreSound opening_words opening_stages) (sym (born_root x inner born)) root_children;
-  updates = λ x inner born. subst (UpdateIsSound opening_words opening_stages) (sym (born_root x inner born)) root_update;
-  tree = opening_tree;
-}
+module _ (start : List ℕ) (ascending : IsStrictlyIncreasing start) (real : All (λ k. k ≤ greatest_key) start) where
+  -- how many cards the opening tree has
+  abbrev end : ℕ
+  end = length start + 1
 
--- a worker with nothing in hand, that knows nothing and owns real keys, is sound
-opening_worker : (owned : List (ℕ × ℕ)) (i : ℕ) → All (λ entry. entry.1 ≤ greatest_key) owned
-    → WorkerIsSound opening_words opening_stages (idle (opening_ledger owned i) (λ _. false))
-opening_worker owned i real = record {
-  facts = λ fact h. absurd (false≢true h);
-  real = λ k owns. opening_real owned i k real owns;
-  free = λ h. refl;
-  owned = λ op h. absurd (none-some op h);
-  stands = λ op x h g. absurd (none-some op h);
-  unflagged = λ op c h g f. absurd (none-some op h);
-  flagged = λ op c h g f. absurd (none-some op h);
-}
+  abbrev w : Words
+  w = start_words start
 
--- the workers are sound
-opening_workers : (count : ℕ) (owned : List (ℕ × ℕ)) (cards : ℕ) → Faultless count owned → All (λ entry. entry.1 ≤ greatest_key) owned
-    → WorkersAreSound (opening count owned cards) opening_stages
-unfolding opening
-opening_workers count owned cards faultless real = record {
-  each = λ i. opening_worker owned i real;
-  one_owner = opening_one_owner count owned faultless;
-  present = λ i k owns. (
-    λ found. absurd (opening_empty k (opening_real owned i k real owns) found),
-    λ has. absurd (opening_absent owned i k has),
-  );
-  owned = λ k below found. absurd (opening_empty k below found);
-  insert_in_hand = λ c h. absurd (no_insert_open c h);
-  delete_in_hand = λ c h. absurd (no_delete_open c h);
-  strangers = opening_stranger count owned faultless;
-}
+  some : 0 < length start + 1
+  some = omega arith
 
--- card 0 goes nowhere
-start_nowhere : (c : ℕ) → is_start (opening_stages c) ≡ true → GoesNowhere opening_words c
-start_nowhere zero h = record { below = omega arith; gp = refl; parent = refl; leaf = refl; was = refl }
-start_nowhere (suc c) h = absurd (false≢true h)
+  -- the tree of the start keys
+  ordered : IsOrdered w.key w.child top
+  ordered = tree_ordered (length start + 1) some (start_leaf start) w.key w.child top (leaves_rise start ascending real) (leaves_end start ascending real)
+      (has_branches start)
 
--- and there is no other claimed card
-only_first : (c : ℕ) → c < 1 → is_start (opening_stages c) ≡ false → (is_insert (opening_stages c) ≡ true) ⊎ (is_delete (opening_stages c) ≡ true)
-only_first zero below h = absurd (false≢true (sym h))
-only_first (suc c) below h = absurd (omega arith)
+  reached : (c : ℕ) → c < length start + 1 → IsIn w (internal c)
+  reached = card_reached (length start + 1) some (start_leaf start) w.key w.child top (leaves_rise start ascending real) (leaves_end start ascending real)
+      (has_branches start)
 
--- the opening state has the invariant, where no entry is faulty and each names a real key
-pub opening_invariant : (count : ℕ) (owned : List (ℕ × ℕ)) (cards : ℕ) → Faultless count owned → All (λ entry. entry.1 ≤ greatest_key) owned
-    → Invariant (opening count owned cards) opening_stages
-unfolding opening
-opening_invariant count owned cards faultless real = record {
-  words = opening_sound;
-  workers = opening_workers count owned cards faultless real;
-  limit = omega arith;
-  kinds = record { start = start_nowhere; some = omega arith; kinds = only_first };
-}
+  on_card : (c : ℕ) (right : Bool) → c < length start + 1 → card (w.child (internal c) right) < length start + 1
+  on_card = child_on (length start + 1) some (start_leaf start) w.key w.child top (leaves_rise start ascending real) (leaves_end start ascending real)
+      (has_branches start)
+
+  -- a key that is found is a start key, or one of the two above all keys; and each of those is found
+  pub found_start : (k : ℕ) → k ≤ greatest_key → LeadsTo w k 0 → set_of start k ≡ true
+  found_start k low found =
+      let leaf = finds_leaves_only (length start + 1) some (start_leaf start) w.key w.child top (leaves_rise start ascending real) (leaves_end start ascending real)
+      (has_branches start) k found in
+      let within = leaf.inside in
+      let is = leaf.is in
+      elim (cases_lt leaf.at (length start)) [
+        | inl below ↦ list_any_at (λ n. k == n) start leaf.at 0 below (eq-eqb k (get_or start leaf.at 0) (sym is ∙ leaf_key start leaf.at below))
+        | inr past ↦ absurd (elim (cases_lt (length start) leaf.at) [
+          | inl more ↦ (let e : leaf.at ≡ length start + 1 = omega arith in let h = ap (start_leaf start) e ∙ leaf_root start in omega arith)
+          | inr less ↦ (let e : leaf.at ≡ length start = omega arith in let h = ap (start_leaf start) e ∙ leaf_last start in omega arith)
+        ])
+      ]
+
+  finds : (i : ℕ) → i ≤ length start + 1 → LeadsTo w (start_leaf start i) 0
+  finds = finds_leaf (length start + 1) some (start_leaf start) w.key w.child top (leaves_rise start ascending real) (leaves_end start ascending real)
+      (has_branches start)
+
+  pub start_found : (k : ℕ) → set_of start k ≡ true → LeadsTo w k 0
+  start_found k is =
+      let any = Any-from_list_any (λ n. k == n) start is in
+      let same : any.1 ≡ k = sym (eqb-true k any.1 any.4) in
+      let at : start_leaf start any.0 ≡ any.1 = leaf_key start any.0 any.2 ∙ (sym (get_or_default_zero start any.0 any.1 any.2) ∙ any.3) in
+      subst (λ n. LeadsTo w n 0) (at ∙ same) (finds any.0 (let below = any.2 in omega arith))
+
+  -- each card is sound
+  card_sound : (c : ℕ) → CardIsSound w (start_stages (length start + 1)) c
+  card_sound c = record {
+    claimed = (claimed_below (length start + 1) c, λ below. ap is_claimed (stage_there (length start + 1) c below));
+    insert = λ h. absurd (false≢true (sym (no_insert_yet (length start + 1) c) ∙ h));
+    delete = λ h. absurd (false≢true (sym (no_delete_yet (length start + 1) c) ∙ h));
+    unborn = λ h. absurd (false≢true (sym (no_insert_yet (length start + 1) c) ∙ h));
+    blank = λ h. later_blank start c (let past = unclaimed_past (length start + 1) c h in omega arith);
+  }
+
+  -- the internal nodes that came into the tree
+  node_of : (x : ℕ) → IsInternal x → x ≡ internal (card x)
+  node_of x inner = omega arith
+
+  children_sound : (c : ℕ) → c < length start + 1 → ChildrenAreSound w (start_stages (length start + 1)) (internal c)
+  children_sound c below = record {
+    born = λ right. below_born (length start + 1) (card (w.child (internal c) right)) (on_card c right below);
+    rising = λ right. child_more (length start + 1) some (start_leaf start) w.key w.child top (leaves_rise start ascending real) (leaves_end start ascending real)
+        (has_branches start) right c below;
+    left_less = left_less (length start + 1) some (start_leaf start) w.key w.child top (leaves_rise start ascending real) (leaves_end start ascending real)
+        (has_branches start) c below;
+    right_more = right_least (length start + 1) some (start_leaf start) w.key w.child top (leaves_rise start ascending real) (leaves_end start ascending real)
+        (has_branches start) c below;
+  }
+
+  update_sound : (c : ℕ) → c < length start + 1 → UpdateIsSound w (start_stages (length start + 1)) (internal c)
+  update_sound c below = let calm : w.update (internal c) ≡ clean 0 = clean_update start c below in record {
+    named = omega arith;
+    iflagged = λ d h. let h : w.update (internal c) ≡ iflag d = h in absurd (omega arith);
+    dflagged = λ d h. let h : w.update (internal c) ≡ dflag d = h in absurd (omega arith);
+    marked = λ d h. let h : w.update (internal c) ≡ marked d = h in absurd (omega arith);
+  }
+
+  tree_sound : TreeIsSound w (start_stages (length start + 1))
+  tree_sound = record {
+    ordered = ordered;
+    root_key = refl;
+    root_right = refl;
+    right_key = refl;
+    last = subst (λ n. LeadsTo w n 0) (leaf_last start) (finds (length start) (omega arith));
+    there = λ x inner born calm. subst (IsIn w) (sym (node_of x inner)) (reached (card x) (born_below (length start + 1) (card x) born));
+  }
+
+  -- the words at the start are sound
+  pub start_sound : WordsAreSound w (start_stages (length start + 1))
+  start_sound = record {
+    opening = stage_there (length start + 1) 0 some;
+    cards = card_sound;
+    inserts = λ c. no_insert w (start_stages (length start + 1)) c (each_stage (λ s. insert_won s ≡ false) (length start + 1) c refl refl);
+    deletes = λ c. no_delete w (start_stages (length start + 1)) c (each_stage (λ s. delete_won s ≡ false) (length start + 1) c refl refl);
+    children = λ x inner born. subst (ChildrenAreSound w (start_stages (length start + 1))) (sym (node_of x inner))
+        (children_sound (card x) (born_below (length start + 1) (card x) born));
+    updates = λ x inner born. subst (UpdateIsSound w (start_stages (length start + 1))) (sym (node_of x inner))
+        (update_sound (card x) (born_below (length start + 1) (card x) born));
+    tree = tree_sound;
+  }
+
+-- where the start keys ascend, no entry is faulty, each names a real key, and some entry names each start key
+module _ (setup : Setup) (ascending : IsStrictlyIncreasing setup.start) (real : All (λ k. k ≤ greatest_key) setup.start)
+    (faultless : Faultless setup.count setup.owned) (owned_real : All (λ entry. entry.1 ≤ greatest_key) setup.owned)
+    (given : All (λ k. is_given setup.owned k ≡ true) setup.start) where
+  worker_sound : (i : ℕ) → WorkerIsSound (start_words setup.start) (start_stages (length setup.start + 1)) (idle (opening_ledger setup.owned setup.start i) (λ _. false))
+  worker_sound i = record {
+    facts = λ fact h. absurd (false≢true h);
+    real = λ k owns. opening_real setup.owned setup.start i k owned_real owns;
+    free = λ h. refl;
+    owned = λ op h. absurd (none-some op h);
+    stands = λ op x h g. absurd (none-some op h);
+    unflagged = λ op c h g f. absurd (none-some op h);
+    flagged = λ op c h g f. absurd (none-some op h);
+  }
+
+  -- a start key has an owner
+  pub start_owned : (k : ℕ) → set_of setup.start k ≡ true → IsGiven setup.owned setup.start k
+  start_owned k is =
+      let any = Any-from_list_any (λ n. k == n) setup.start is in
+      let same : any.1 ≡ k = sym (eqb-true k any.1 any.4) in
+      given_owned setup.owned setup.start k (subst (λ n. is_given setup.owned n ≡ true) (any.3 ∙ same) (given any.0 any.1 any.2))
+
+  workers_sound : WorkersAreSound (opening setup) (start_stages (length setup.start + 1))
+  unfolding opening
+  workers_sound = record {
+    each = worker_sound;
+    one_owner = λ i j k a b. opening_one_owner setup.count setup.owned setup.start faultless i j k a b;
+    present = λ i k owns. (
+      λ found. ledger_there setup.owned setup.start i k owns
+          ∙ ap (λ b. Some (present_if b)) (found_start setup.start ascending real k (opening_real setup.owned setup.start i k owned_real owns) found),
+      λ has. start_found setup.start ascending real k (holds_present (set_of setup.start k) (same_Some (start_entry setup.start k) Present (sym (ledger_there setup.owned setup.start i k owns) ∙ has))),
+    );
+    owned = λ k below found. let at = start_owned k (found_start setup.start ascending real k below found) in record { worker = at.worker; owns = at.owns };
+    insert_in_hand = λ c h. absurd (false≢true (sym (each_stage (λ s. insert_open s ≡ false) (length setup.start + 1) c refl refl) ∙ h));
+    delete_in_hand = λ c h. absurd (false≢true (sym (each_stage (λ s. delete_open s ≡ false) (length setup.start + 1) c refl refl) ∙ h));
+    strangers = opening_stranger setup.count setup.owned setup.start faultless;
+  }
+
+  -- the cards of the opening tree go nowhere
+  start_nowhere : (c : ℕ) → is_start (start_stages (length setup.start + 1) c) ≡ true → GoesNowhere (start_words setup.start) c
+  start_nowhere c is =
+      let below : c < length setup.start + 1 = elim (start_cases (length setup.start + 1) c) [
+        | inl h ↦ h.0
+        | inr h ↦ absurd (false≢true (sym (ap is_start h.1) ∙ is))
+      ] in
+      let none = goes_none setup.start c below in
+      record { below = below; gp = none.0; parent = none.1; leaf = none.2; was = none.3 }
+
+  -- and there are no other claimed cards
+  start_only : (c : ℕ) → c < length setup.start + 1 → is_start (start_stages (length setup.start + 1) c) ≡ false
+      → (is_insert (start_stages (length setup.start + 1) c) ≡ true) ⊎ (is_delete (start_stages (length setup.start + 1) c) ≡ true)
+  start_only c below is = absurd (false≢true (sym is ∙ ap is_start (stage_there (length setup.start + 1) c below)))
+
+  -- the opening state has the invariant
+  pub opening_invariant : Invariant (opening setup) (start_stages (length setup.start + 1))
+  unfolding opening
+  opening_invariant = record {
+    words = start_sound setup.start ascending real;
+    workers = workers_sound;
+    limit = omega arith;
+    kinds = record { start = start_nowhere; some = omega arith; kinds = start_only };
+  }

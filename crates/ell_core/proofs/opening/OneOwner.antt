@@ -1,50 +1,55 @@
-use Rattle.std.proofs.Common.{◌≡◌, ℕ, zero, suc, ◌<◌, ◌≤◌, ◌==◌, ◌&&◌, ◌||◌, if◌then◌else◌, cond, Bool, true, false, List, [], ◌∷◌, map, get_or, slice_get, option_map, Option, Some, None, refl, sym, ap, ◌∙◌, subst, arith}
+use Rattle.std.proofs.Common.{◌≡◌, ℕ, zero, suc, ◌+◌, ◌<◌, ◌≤◌, ◌==◌, ◌&&◌, ◌||◌, if◌then◌else◌, cond, Bool, true, false, List, [], ◌∷◌, map, length, get_or, slice_get, option_map, Option, Some, None, refl, sym, ap, ◌∙◌, subst, arith}
 use Rattle.std.proofs.lemmas.Bool.{false≢true, eqb-true, eq-eqb, ne_eqb}
 use Rattle.std.proofs.lemmas.Option.{same_Some, slice_get_within, slice_get-get_or, slice_get-map}
 use Rattle.std.proofs.lemmas.List.Elements.{All-map}
 use Rattle.std.proofs.lemmas.List.Kept.{AllPairs-from_increasing}
 use Rattle.std.specs.List.{All, list_any}
 use Rattle.std.specs.List.Sorted.{IsStrictlyIncreasing}
+use Rattle.ell_ops.specs.KeySet.{set_of}
 use Rattle.ell_ops.specs.Meaning.{greatest_key}
 use Rattle.ell_core.specs.state.Machine.{idle, ledger_of}
-use Rattle.ell_core.specs.state.Opening.{opening, opening_words, opening_ledger, gives, IsStranger, IsRepeat}
-use Rattle.ell_core.specs.history.Invariant.{HasInvariant}
+use Rattle.ell_core.specs.state.Opening.{Setup, opening, start_words, last_card, is_given, opening_ledger, gives, IsStranger, IsRepeat, start_entry}
+use Rattle.ell_core.specs.history.Invariant.{Invariant}
 use Rattle.ell_core.specs.statements.RunLaws.{CanOpen}
-use Rattle.ell_core.specs.statements.Premises.{first_alone, opening_of_one, OneWorkerOpens}
+use Rattle.ell_core.specs.statements.Premises.{first_alone, keys_at_start, opening_of_one, OneWorkerOpens}
+use Rattle.ell_ops.proofs.Sets.{eqb-swap}
 use Rattle.ell_core.proofs.outcomes.Decide.{some_not_none}
-use Rattle.ell_core.proofs.opening.Invariant.{opening_stages, opening_invariant}
+use Rattle.ell_core.proofs.opening.Invariant.{start_stages}
+use Rattle.ell_core.proofs.opening.CanOpen.{opening_has}
 
 -- the entry that gives a key to worker 0
-abbrev entry_of : ℕ → ℕ × ℕ
+abbrev pub entry_of : ℕ → ℕ × ℕ
 entry_of k = (0, k)
 
 -- the entries that give keys to worker 0
-abbrev entries : List ℕ → List (ℕ × ℕ)
+abbrev pub entries : List ℕ → List (ℕ × ℕ)
 entries keys = map entry_of keys
 
--- the keys, all absent
-abbrev absent : List ℕ → List (ℕ × Bool)
-absent keys = map (λ k. (k, false)) keys
-
--- the ledger of worker 0 has all keys, absent
-first_ledger : (keys : List ℕ) (k : ℕ) → opening_ledger (entries keys) 0 k ≡ ledger_of (absent keys) k
-first_ledger [] k = refl
-first_ledger (x ∷ keys) k = by (x == k) refl (first_ledger keys k)
+-- the ledger of worker 0 has all keys
+first_ledger : (start keys : List ℕ) (k : ℕ) → opening_ledger (entries keys) start 0 k ≡ ledger_of (keys_at_start keys start) k
+first_ledger start [] k = refl
+first_ledger start (x ∷ keys) k = by (x == k) refl (first_ledger start keys k)
   where
-    by : (b : Bool) → (x == k) ≡ b → opening_ledger (entries keys) 0 k ≡ ledger_of (absent keys) k
-        → opening_ledger (entries (x ∷ keys)) 0 k ≡ ledger_of (absent (x ∷ keys)) k
-    by true e rest = ap (λ t. if t || list_any (gives 0 k) (entries keys) then Some false else None) e
-        ∙ sym (ap (λ t. cond t (Some false) (ledger_of (absent keys) k)) (eq-eqb k x (sym (eqb-true x k e))))
-    by false e rest = ap (λ t. if t || list_any (gives 0 k) (entries keys) then Some false else None) e
-        ∙ (rest ∙ sym (ap (λ t. cond t (Some false) (ledger_of (absent keys) k)) (ne_eqb k x (λ q. false≢true (sym e ∙ eq-eqb x k (sym q))))))
+    by : (b : Bool) → (x == k) ≡ b → opening_ledger (entries keys) start 0 k ≡ ledger_of (keys_at_start keys start) k
+        → opening_ledger (entries (x ∷ keys)) start 0 k ≡ ledger_of (keys_at_start (x ∷ keys) start) k
+    by true e rest = ap (λ t. if t || list_any (gives 0 k) (entries keys) then Some (start_entry start k) else None) e
+        ∙ (ap (λ n. Some (start_entry start n)) (sym (eqb-true x k e))
+        ∙ sym (ap (λ t. cond t (Some (start_entry start x)) (ledger_of (keys_at_start keys start) k)) (eq-eqb k x (sym (eqb-true x k e)))))
+    by false e rest = ap (λ t. if t || list_any (gives 0 k) (entries keys) then Some (start_entry start k) else None) e
+        ∙ (rest ∙ sym (ap (λ t. cond t (Some (start_entry start x)) (ledger_of (keys_at_start keys start) k)) (ne_eqb k x (λ q. false≢true (sym e ∙ eq-eqb x k (sym q))))))
 
 -- no other worker is given a key
 none_given : (keys : List ℕ) (i k : ℕ) → list_any (gives (suc i) k) (entries keys) ≡ false
 none_given [] i k = refl
 none_given (x ∷ keys) i k = ap (λ t. (t && (x == k)) || list_any (gives (suc i) k) (entries keys)) (ne_eqb 0 (suc i) (λ e. omega arith)) ∙ none_given keys i k
 
-other_ledger : (keys : List ℕ) (i k : ℕ) → opening_ledger (entries keys) (suc i) k ≡ None
-other_ledger keys i k = ap (λ t. if t then Some false else None) (none_given keys i k)
+other_ledger : (start keys : List ℕ) (i k : ℕ) → opening_ledger (entries keys) start (suc i) k ≡ None
+other_ledger start keys i k = ap (λ t. if t then Some (start_entry start k) else None) (none_given keys i k)
+
+-- each of the keys is given
+pub given_entry : (keys : List ℕ) (k : ℕ) → is_given (entries keys) k ≡ set_of keys k
+given_entry [] k = refl
+given_entry (x ∷ keys) k = ap (λ t. t || is_given (entries keys) k) (eqb-swap x k) ∙ ap (λ t. (k == x) || t) (given_entry keys k)
 
 -- an entry and its key, at one place
 record IsPlaced (keys : List ℕ) (at : ℕ) (entry : ℕ × ℕ) : Type 0 where
@@ -85,32 +90,45 @@ no_repeat keys rising at s =
     let same : q.key ≡ p.key = sym (ap (λ (x : ℕ × ℕ). x.1) q.is) ∙ (s.same ∙ ap (λ (x : ℕ × ℕ). x.1) p.is) in
     omega arith
 
-module _ (keys : List ℕ) (cards : ℕ) (rising : IsStrictlyIncreasing keys) (real : All (λ k. k ≤ greatest_key) keys) where
+module _ (keys start : List ℕ) (cards : ℕ) (rising : IsStrictlyIncreasing keys) (real : All (λ k. k ≤ greatest_key) keys)
+    (ascending : IsStrictlyIncreasing start) (among : All (λ k. set_of keys k ≡ true) start) where
   -- the entries can open
-  can_open : CanOpen 1 (entries keys)
+  abbrev setup : Setup
+  setup = record { count = 1; owned = entries keys; start = start; cards = cards }
+
+  can_open : CanOpen setup
   can_open = record {
     faultless = λ at. (no_stranger keys at, no_repeat keys rising at);
     real = All-map (λ entry. entry.1 ≤ greatest_key) entry_of keys real;
+    ascending = ascending;
+    given = λ i d below. given_entry keys (get_or start i d) ∙ among i d below;
   }
 
   -- the workers are the first one alone
-  workers_are : (i : ℕ) → first_alone (idle (ledger_of (absent keys)) (λ _. false)) i ≡ idle (opening_ledger (entries keys) i) (λ _. false)
-  workers_are zero = λ t. idle (λ k. sym (first_ledger keys k) t) (λ _. false)
-  workers_are (suc i) = λ t. idle (λ k. sym (other_ledger keys i k) t) (λ _. false)
+  workers_are : (i : ℕ) → first_alone (idle (ledger_of (keys_at_start keys start)) (λ _. false)) i ≡ idle (opening_ledger (entries keys) start i) (λ _. false)
+  workers_are zero = λ t. idle (λ k. sym (first_ledger start keys k) t) (λ _. false)
+  workers_are (suc i) = λ t. idle (λ k. sym (other_ledger start keys i k) t) (λ _. false)
 
   -- so the state is the opening
-  state_is : opening_of_one keys cards ≡ opening 1 (entries keys) cards
+  state_is : opening_of_one keys start cards ≡ opening setup
   unfolding opening
-  state_is = λ t. record { words = opening_words; worker = λ i. workers_are i t; count = 1; cards = cards }
+  state_is = λ t. record { words = start_words start; worker = λ i. workers_are i t; count = 1; last_card = last_card start cards }
+
+-- it has the invariant with the stages at the start
+pub one_worker_has : (keys start : List ℕ) (cards : ℕ) → IsStrictlyIncreasing keys → All (λ k. k ≤ greatest_key) keys
+    → IsStrictlyIncreasing start → All (λ k. set_of keys k ≡ true) start
+    → Invariant (opening_of_one keys start cards) (start_stages (length start + 1))
+one_worker_has keys start cards rising real ascending among =
+    subst (λ m. Invariant m (start_stages (length start + 1))) (sym (state_is keys start cards rising real ascending among))
+    (opening_has (setup keys start cards rising real ascending among) (can_open keys start cards rising real ascending among))
 
 -- one worker that owns all keys can open
 pub one_worker_opens : OneWorkerOpens
-one_worker_opens keys cards rising real =
-    let can = can_open keys cards rising real in
-    let is = state_is keys cards rising real in record {
-      opens = record { count = 1; owned = entries keys; cards = cards; can = can; opens = is };
-      lawful = subst HasInvariant (sym is) (record {
-        stages = opening_stages;
-        invariant = opening_invariant 1 (entries keys) cards can.faultless can.real;
-      });
-    }
+one_worker_opens keys start cards rising real ascending among = record {
+  opens = record {
+    setup = setup keys start cards rising real ascending among;
+    can = can_open keys start cards rising real ascending among;
+    opens = state_is keys start cards rising real ascending among;
+  };
+  lawful = record { stages = start_stages (length start + 1); invariant = one_worker_has keys start cards rising real ascending among };
+}

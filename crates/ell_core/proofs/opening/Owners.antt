@@ -4,7 +4,7 @@ use Rattle.std.proofs.lemmas.List.Folds.{Any-from_list_any, list_any-append}
 use Rattle.std.proofs.lemmas.Option.{same_Some, slice_get-get_or}
 use Rattle.std.specs.List.{All, list_any}
 use Rattle.ell_ops.specs.Meaning.{greatest_key}
-use Rattle.ell_core.specs.state.Opening.{gives, opening_ledger, Faultless}
+use Rattle.ell_core.specs.state.Opening.{gives, opening_ledger, Faultless, start_entry}
 use Rattle.std.proofs.lemmas.List.{take_more}
 use Rattle.ell_core.specs.declared.worker.Worker.{Worker}
 use Rattle.ell_core.specs.state.Words.{put}
@@ -12,6 +12,7 @@ use Rattle.ell_core.specs.state.Machine as machine
 use Rattle.ell_core.specs.state.Machine.{Ledger, idle, nobody}
 use Rattle.ell_core.specs.inside.Inside.{worker_in, worker_at}
 use Rattle.ell_ops.proofs.Sets.{eqb-swap}
+use Rattle.ell_core.specs.declared.view.Entry.{Entry}
 
 -- an entry that gives a worker a key
 record Given (owned : List (ℕ × ℕ)) (i key : ℕ) : Type 0 where
@@ -23,37 +24,40 @@ record Given (owned : List (ℕ × ℕ)) (i key : ℕ) : Type 0 where
   worker : entry.0 ≡ i
   names : entry.1 ≡ key
 
--- what the opening ledger has at a key, by the test of the entries
-abbrev held : Bool → Option Bool
-held true = Some false
-held false = None
+-- what the opening ledger has at a key, by the tests of the entries and of the start keys
+abbrev held : Bool → Entry → Option Entry
+held true entry = Some entry
+held false entry = None
 
--- where something is held, the test is passed
-held_some : (test : Bool) → held test ≢ None → test ≡ true
-held_some true h = refl
-held_some false h = absurd (h refl)
-
--- what is held is absent
-held_absent : (test : Bool) → held test ≡ Some true → ⊥
-held_absent true h = cc
-held_absent false h = cc
+-- where something is held, the first test is passed
+held_some : (test : Bool) (entry : Entry) → held test entry ≢ None → test ≡ true
+held_some true entry h = refl
+held_some false entry h = absurd (h refl)
 
 -- it is what the ledger has
-ledger_held : (owned : List (ℕ × ℕ)) (i key : ℕ) → opening_ledger owned i key ≡ held (list_any (gives i key) owned)
-ledger_held owned i key = by (list_any (gives i key) owned)
+ledger_held : (owned : List (ℕ × ℕ)) (start : List ℕ) (i key : ℕ)
+    → opening_ledger owned start i key ≡ held (list_any (gives i key) owned) (start_entry start key)
+ledger_held owned start i key = by (list_any (gives i key) owned)
   where
-    by : (test : Bool) → (if test then Some false else None) ≡ held test
+    by : (test : Bool) → (if test then Some (start_entry start key) else None) ≡ held test (start_entry start key)
     by true = refl
     by false = refl
 
--- no key is present at the opening
-pub opening_absent : (owned : List (ℕ × ℕ)) (i key : ℕ) → opening_ledger owned i key ≡ Some true → ⊥
-opening_absent owned i key h = held_absent (list_any (gives i key) owned) (sym (ledger_held owned i key) ∙ h)
+-- an owned key passes the test of the entries
+given_test : (owned : List (ℕ × ℕ)) (start : List ℕ) (i key : ℕ) → opening_ledger owned start i key ≢ None → list_any (gives i key) owned ≡ true
+given_test owned start i key owns =
+    held_some (list_any (gives i key) owned) (start_entry start key) (λ e. owns (ledger_held owned start i key ∙ e))
+
+-- an owned key is present exactly where it is a start key
+pub ledger_there : (owned : List (ℕ × ℕ)) (start : List ℕ) (i key : ℕ) → opening_ledger owned start i key ≢ None
+    → opening_ledger owned start i key ≡ Some (start_entry start key)
+ledger_there owned start i key owns =
+    ap (λ t. if t then Some (start_entry start key) else None) (given_test owned start i key owns)
 
 -- an owned key was given by an entry
-given : (owned : List (ℕ × ℕ)) (i key : ℕ) → opening_ledger owned i key ≢ None → Given owned i key
-given owned i key owns =
-    let passed = held_some (list_any (gives i key) owned) (λ e. owns (ledger_held owned i key ∙ e)) in
+given : (owned : List (ℕ × ℕ)) (start : List ℕ) (i key : ℕ) → opening_ledger owned start i key ≢ None → Given owned i key
+given owned start i key owns =
+    let passed = given_test owned start i key owns in
     let any = Any-from_list_any (gives i key) owned passed in
     let tests = and_parts (any.1.0 == i) (any.1.1 == key) any.4 in
     record {
@@ -66,17 +70,17 @@ given owned i key owns =
       names = eqb-true any.1.1 key tests.1;
     }
 
-module _ (count : ℕ) (owned : List (ℕ × ℕ)) (faultless : Faultless count owned) where
+module _ (count : ℕ) (owned : List (ℕ × ℕ)) (start : List ℕ) (faultless : Faultless count owned) where
   -- two entries for one key do not stand at different places
   one_place : (a b : ℕ) (x y : ℕ × ℕ) → slice_get owned a ≡ Some x → slice_get owned b ≡ Some y → x.1 ≡ y.1 → a < b → ⊥
   one_place a b x y at_a at_b same less =
       (faultless b).1 (record { entry = y; stands = at_b; earlier = a; other = x; before = less; stood = at_a; same = same })
 
   -- a key is given to one worker only
-  pub opening_one_owner : (i j key : ℕ) → opening_ledger owned i key ≢ None → opening_ledger owned j key ≢ None → i ≡ j
+  pub opening_one_owner : (i j key : ℕ) → opening_ledger owned start i key ≢ None → opening_ledger owned start j key ≢ None → i ≡ j
   opening_one_owner i j key left right =
-      let a = given owned i key left in
-      let b = given owned j key right in
+      let a = given owned start i key left in
+      let b = given owned start j key right in
       let same : a.entry.1 ≡ b.entry.1 = a.names ∙ sym b.names in
       elim (cases_eq a.place b.place) [
         | inl e ↦ (let one = same_Some a.entry b.entry (sym a.stands ∙ (ap (slice_get owned) e ∙ b.stands)) in
@@ -88,24 +92,24 @@ module _ (count : ℕ) (owned : List (ℕ × ℕ)) (faultless : Faultless count 
       ]
 
   -- a worker that is not there is given no key
-  given_nothing : (i key : ℕ) → count ≤ i → opening_ledger owned i key ≡ None
-  given_nothing i key past = elim (opening_ledger owned i key) as (λ found. opening_ledger owned i key ≡ found → found ≡ None) [
+  given_nothing : (i key : ℕ) → count ≤ i → opening_ledger owned start i key ≡ None
+  given_nothing i key past = elim (opening_ledger owned start i key) as (λ found. opening_ledger owned start i key ≡ found → found ≡ None) [
     | None ↦ λ e. refl
-    | Some present ↦ λ e. absurd (strange (given owned i key (λ n. cc)))
+    | Some entry ↦ λ e. absurd (strange (given owned start i key (λ n. cc)))
   ] refl
     where
       strange : Given owned i key → ⊥
       strange a = (faultless a.place).0 (record { entry = a.entry; stands = a.stands; strange = (let w = a.worker in omega arith) })
 
   -- so it is nobody
-  pub opening_stranger : (i : ℕ) → count ≤ i → idle (opening_ledger owned i) (λ _. false) ≡ nobody
+  pub opening_stranger : (i : ℕ) → count ≤ i → idle (opening_ledger owned start i) (λ _. false) ≡ nobody
   opening_stranger i past = ap (λ (ledger : Ledger). idle ledger (λ _. false)) (λ t key. given_nothing i key past t)
 
 -- an owned key is a real key if the entries name real keys
-pub opening_real : (owned : List (ℕ × ℕ)) (i key : ℕ) → All (λ entry. entry.1 ≤ greatest_key) owned → opening_ledger owned i key ≢ None
+pub opening_real : (owned : List (ℕ × ℕ)) (start : List ℕ) (i key : ℕ) → All (λ entry. entry.1 ≤ greatest_key) owned → opening_ledger owned start i key ≢ None
     → key ≤ greatest_key
-opening_real owned i key real owns =
-    let a = given owned i key owns in
+opening_real owned start i key real owns =
+    let a = given owned start i key owns in
     let bound : a.entry.1 ≤ greatest_key = subst (λ (x : ℕ × ℕ). x.1 ≤ greatest_key) a.read (real a.place a.entry a.within) in
     let e = a.names in
     omega arith
@@ -139,15 +143,15 @@ worker_at-set_other (v ∷ vs) (suc i) new zero apart = refl
 worker_at-set_other (v ∷ vs) (suc i) new (suc j) apart = worker_at-set_other vs i new j (λ e. apart (ap suc e))
 
 -- what a ledger has at a key after an entry for its worker, by the tests of the entry
-given_at : (any there this that : Bool) → there ≡ true → this ≡ that →
-    cond (any || ((there && this) || false)) (Some false) None ≡ cond that (Some false) (cond any (Some false) None)
-given_at any false this that h e = absurd (false≢true h)
-given_at true true this true h e = refl
-given_at true true this false h e = refl
-given_at false true true true h e = refl
-given_at false true false false h e = refl
-given_at false true true false h e = absurd (false≢true (sym e))
-given_at false true false true h e = absurd (false≢true e)
+given_at : (any there this that : Bool) (here entry : Option Entry) → there ≡ true → this ≡ that → (that ≡ true → here ≡ entry) →
+    cond (any || ((there && this) || false)) here None ≡ cond that entry (cond any here None)
+given_at any false this that here entry h e s = absurd (false≢true h)
+given_at true true this true here entry h e s = s refl
+given_at true true this false here entry h e s = refl
+given_at false true true true here entry h e s = s refl
+given_at false true false false here entry h e s = refl
+given_at false true true false here entry h e s = absurd (false≢true (sym e))
+given_at false true false true here entry h e s = absurd (false≢true e)
 
 -- an entry for another worker changes no test
 elsewhere_at : (any there this : Bool) → there ≡ false → (any || ((there && this) || false)) ≡ any
@@ -155,55 +159,57 @@ elsewhere_at any true this h = absurd (false≢true (sym h))
 elsewhere_at true false this h = refl
 elsewhere_at false false this h = refl
 
--- one more entry gives its worker its key, absent
-pub opening_ledger-push_same : (entries : List (ℕ × ℕ)) (entry : ℕ × ℕ) →
-    opening_ledger (entries ++ entry ∷ []) entry.0 ≡ put (opening_ledger entries entry.0) entry.1 (Some false)
-opening_ledger-push_same entries entry = λ t key. at key t where
-  at : (key : ℕ) → opening_ledger (entries ++ entry ∷ []) entry.0 key ≡ put (opening_ledger entries entry.0) entry.1 (Some false) key
+-- one more entry gives its worker its key, present if it is a start key
+pub opening_ledger-push_same : (start : List ℕ) (entries : List (ℕ × ℕ)) (entry : ℕ × ℕ) →
+    opening_ledger (entries ++ entry ∷ []) start entry.0 ≡ put (opening_ledger entries start entry.0) entry.1 (Some (start_entry start entry.1))
+opening_ledger-push_same start entries entry = λ t key. at key t where
+  at : (key : ℕ) → opening_ledger (entries ++ entry ∷ []) start entry.0 key ≡ put (opening_ledger entries start entry.0) entry.1 (Some (start_entry start entry.1)) key
   at key =
-      ap (λ b. cond b (Some false) None) (list_any-append (gives entry.0 key) entries (entry ∷ []))
-      ∙ given_at (list_any (gives entry.0 key) entries) (entry.0 == entry.0) (entry.1 == key) (key == entry.1) (eq-eqb entry.0 entry.0 refl) (eqb-swap entry.1 key)
+      ap (λ b. cond b (Some (start_entry start key)) None) (list_any-append (gives entry.0 key) entries (entry ∷ []))
+      ∙ given_at (list_any (gives entry.0 key) entries) (entry.0 == entry.0) (entry.1 == key) (key == entry.1) (Some (start_entry start key))
+      (Some (start_entry start entry.1)) (eq-eqb entry.0 entry.0 refl) (eqb-swap entry.1 key)
+      (λ e. ap (λ n. Some (start_entry start n)) (eqb-true key entry.1 e))
 
 -- and no other worker any
-pub opening_ledger-push_other : (entries : List (ℕ × ℕ)) (entry : ℕ × ℕ) (i : ℕ) → (entry.0 ≡ i → ⊥) →
-    opening_ledger (entries ++ entry ∷ []) i ≡ opening_ledger entries i
-opening_ledger-push_other entries entry i apart = λ t key. at key t where
-  at : (key : ℕ) → opening_ledger (entries ++ entry ∷ []) i key ≡ opening_ledger entries i key
+pub opening_ledger-push_other : (start : List ℕ) (entries : List (ℕ × ℕ)) (entry : ℕ × ℕ) (i : ℕ) → (entry.0 ≡ i → ⊥) →
+    opening_ledger (entries ++ entry ∷ []) start i ≡ opening_ledger entries start i
+opening_ledger-push_other start entries entry i apart = λ t key. at key t where
+  at : (key : ℕ) → opening_ledger (entries ++ entry ∷ []) start i key ≡ opening_ledger entries start i key
   at key =
-      ap (λ b. cond b (Some false) None)
+      ap (λ b. cond b (Some (start_entry start key)) None)
       (list_any-append (gives i key) entries (entry ∷ []) ∙ elsewhere_at (list_any (gives i key) entries) (entry.0 == i) (entry.1 == key) (ne_eqb entry.0 i apart))
 
 -- the workers have the ledgers that these entries give them, and nothing else
-abbrev pub HaveLedgers : {A : Type 0} → List (Worker A) → List (ℕ × ℕ) → Type 0
-HaveLedgers workers entries = (i : ℕ) → worker_at workers i ≡ idle (opening_ledger entries i) (λ _. false)
+abbrev pub HaveLedgers : {A : Type 0} → List (Worker A) → List ℕ → List (ℕ × ℕ) → Type 0
+HaveLedgers workers start entries = (i : ℕ) → worker_at workers i ≡ idle (opening_ledger entries start i) (λ _. false)
 
--- a worker with one key more, absent
-abbrev pub owning : machine.Worker → ℕ → machine.Worker
-owning v key = record v { ledger = put v.ledger key (Some false) }
+-- a worker with one key more
+abbrev pub owning : machine.Worker → ℕ → Entry → machine.Worker
+owning v key entry = record v { ledger = put v.ledger key (Some entry) }
 
 -- the worker of one more entry gets its key
-pub HaveLedgers-push : {A : Type 0} (workers : List (Worker A)) (entries : List (ℕ × ℕ)) (entry : ℕ × ℕ) (old new : Worker A) → HaveLedgers workers entries →
-    entry.0 < length workers → old ≡ get_or workers entry.0 old → worker_in new ≡ owning (worker_in old) entry.1 →
-    HaveLedgers (set workers entry.0 new) (entries ++ entry ∷ [])
-HaveLedgers-push workers entries entry old new have below stood owns i =
+pub HaveLedgers-push : {A : Type 0} (workers : List (Worker A)) (start : List ℕ) (entries : List (ℕ × ℕ)) (entry : ℕ × ℕ) (old new : Worker A) → HaveLedgers workers start entries →
+    entry.0 < length workers → old ≡ get_or workers entry.0 old → worker_in new ≡ owning (worker_in old) entry.1 (start_entry start entry.1) →
+    HaveLedgers (set workers entry.0 new) start (entries ++ entry ∷ [])
+HaveLedgers-push workers start entries entry old new have below stood owns i =
     ⊎_elim
-    (λ same. subst (λ j. worker_at (set workers entry.0 new) j ≡ idle (opening_ledger (entries ++ entry ∷ []) j) (λ _. false)) same here)
+    (λ same. subst (λ j. worker_at (set workers entry.0 new) j ≡ idle (opening_ledger (entries ++ entry ∷ []) start j) (λ _. false)) same here)
     (λ apart. worker_at-set_other workers entry.0 new i apart ∙ have i
-    ∙ ap (λ (ledger : Ledger). idle ledger (λ _. false)) (sym (opening_ledger-push_other entries entry i apart)))
+    ∙ ap (λ (ledger : Ledger). idle ledger (λ _. false)) (sym (opening_ledger-push_other start entries entry i apart)))
     (cases_eq entry.0 i) where
-      was : worker_in old ≡ idle (opening_ledger entries entry.0) (λ _. false)
+      was : worker_in old ≡ idle (opening_ledger entries start entry.0) (λ _. false)
       was = ap worker_in stood ∙ sym (worker_at-get_or workers entry.0 old below) ∙ have entry.0
 
-      here : worker_at (set workers entry.0 new) entry.0 ≡ idle (opening_ledger (entries ++ entry ∷ []) entry.0) (λ _. false)
+      here : worker_at (set workers entry.0 new) entry.0 ≡ idle (opening_ledger (entries ++ entry ∷ []) start entry.0) (λ _. false)
       here =
-          worker_at-set_same workers entry.0 new below ∙ owns ∙ ap (λ (v : machine.Worker). owning v entry.1) was
-          ∙ ap (λ (ledger : Ledger). idle ledger (λ _. false)) (sym (opening_ledger-push_same entries entry))
+          worker_at-set_same workers entry.0 new below ∙ owns ∙ ap (λ (v : machine.Worker). owning v entry.1 (start_entry start entry.1)) was
+          ∙ ap (λ (ledger : Ledger). idle ledger (λ _. false)) (sym (opening_ledger-push_same start entries entry))
 
 -- the same for the next entry of a list
-pub HaveLedgers-more : {A : Type 0} (workers : List (Worker A)) (owned : List (ℕ × ℕ)) (n : ℕ) (old new : Worker A) → n < length owned → HaveLedgers workers (take n owned) →
+pub HaveLedgers-more : {A : Type 0} (workers : List (Worker A)) (start : List ℕ) (owned : List (ℕ × ℕ)) (n : ℕ) (old new : Worker A) → n < length owned → HaveLedgers workers start (take n owned) →
     (get_or owned n (0, 0)).0 < length workers → old ≡ get_or workers (get_or owned n (0, 0)).0 old →
-    worker_in new ≡ owning (worker_in old) (get_or owned n (0, 0)).1 →
-    HaveLedgers (set workers (get_or owned n (0, 0)).0 new) (take (n + 1) owned)
-HaveLedgers-more workers owned n old new within have below stood owns =
-    subst (λ entries. HaveLedgers (set workers (get_or owned n (0, 0)).0 new) entries) (sym (take_more owned n (0, 0) within))
-    (HaveLedgers-push workers (take n owned) (get_or owned n (0, 0)) old new have below stood owns)
+    worker_in new ≡ owning (worker_in old) (get_or owned n (0, 0)).1 (start_entry start (get_or owned n (0, 0)).1) →
+    HaveLedgers (set workers (get_or owned n (0, 0)).0 new) start (take (n + 1) owned)
+HaveLedgers-more workers start owned n old new within have below stood owns =
+    subst (λ entries. HaveLedgers (set workers (get_or owned n (0, 0)).0 new) start entries) (sym (take_more owned n (0, 0) within))
+    (HaveLedgers-push workers start (take n owned) (get_or owned n (0, 0)) old new have below stood owns)

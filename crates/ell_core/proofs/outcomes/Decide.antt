@@ -56,18 +56,18 @@ pub cases_option : {A : Type 0} (o : Option A) → ((x : A) × (o ≡ Some x)) �
 cases_option None = inr refl
 cases_option (Some x) = inl (x, refl)
 
--- an option is an insert in hand, or is none of any key
-pub cases_insert : (o : Option Op) → ((key : ℕ) × (o ≡ Some (Insert key))) ⊎ ((key : ℕ) → ¬ (o ≡ Some (Insert key)))
-cases_insert None = inr (λ key e. (cc))
-cases_insert (Some (Find k)) = inr (λ key e. (cc))
-cases_insert (Some (Insert k)) = inl (k, refl)
-cases_insert (Some (Delete k)) = inr (λ key e. (cc))
+-- an option is an insert in hand, or is none of any key and value
+pub cases_insert : (o : Option Op) → ((key : ℕ) × (value : ℕ) × (o ≡ Some (Insert key value))) ⊎ ((key value : ℕ) → ¬ (o ≡ Some (Insert key value)))
+cases_insert None = inr (λ key value e. (cc))
+cases_insert (Some (Find k)) = inr (λ key value e. (cc))
+cases_insert (Some (Insert k value)) = inl (k, value, refl)
+cases_insert (Some (Delete k)) = inr (λ key value e. (cc))
 
 -- an option is a delete in hand, or is none of any key
 pub cases_delete : (o : Option Op) → ((key : ℕ) × (o ≡ Some (Delete key))) ⊎ ((key : ℕ) → ¬ (o ≡ Some (Delete key)))
 cases_delete None = inr (λ key e. (cc))
 cases_delete (Some (Find k)) = inr (λ key e. (cc))
-cases_delete (Some (Insert k)) = inr (λ key e. (cc))
+cases_delete (Some (Insert k value)) = inr (λ key e. (cc))
 cases_delete (Some (Delete k)) = inl (k, refl)
 
 -- an update state is clean or is not

@@ -120,7 +120,7 @@ only_not_now m e there owned none (shown.Refused NoMemory) later h = absurd h.0.
 
 -- no card is left: all that the event shows is that
 only_no_cards : (m : Machine) (e : Event) → e.worker < m.count → ¬ LacksKey e.act (m.worker e.worker) → Guard e.act (scene m e.worker)
-    → LacksCard e.act m.words.next m.cards → (other : Shown) (later : Machine) → Shows m e other later → Is (shown.Refused NoCards) m other later
+    → LacksCard e.act m.words.next m.last_card → (other : Shown) (later : Machine) → Shows m e other later → Is (shown.Refused NoCards) m other later
 only_no_cards m e there owned guard lacks (shown.Step said) later h = absurd (h.happens.room lacks)
 only_no_cards m e there owned guard lacks (shown.Refused NoSuchWorker) later h = absurd (omega (arith, h.0))
 only_no_cards m e there owned guard lacks (shown.Refused NotOwned) later h = absurd (owned h.0.1)
@@ -131,7 +131,7 @@ only_no_cards m e there owned guard lacks (shown.Refused NoMemory) later h = abs
 
 -- the act is answered: all that the event shows and leaves is that
 only_answered : (m : Machine) (e : Event) → e.worker < m.count → ¬ LacksKey e.act (m.worker e.worker) → (one : HasOne (Row e.act (scene m e.worker)))
-    → ¬ LacksCard e.act m.words.next m.cards → (other : Shown) (later : Machine) → Shows m e other later
+    → ¬ LacksCard e.act m.words.next m.last_card → (other : Shown) (later : Machine) → Shows m e other later
     → Is (shown.Step one.said) (with_scene m e.worker one.after) other later
 only_answered m e there owned one room (shown.Step said) later h =
     let x = one.only said h.becomes h.happens.row in (ap shown.Step x.0, h.gives ∙ ap (with_scene m e.worker) x.1)
@@ -146,7 +146,7 @@ only_answered m e there owned one room (shown.Refused NoMemory) later h = absurd
 one_guarded : (m : Machine) (e : Event) → e.worker < m.count → ¬ LacksKey e.act (m.worker e.worker) → HasOne (Row e.act (scene m e.worker)) → OneOutcome m e
 one_guarded m e there owned one =
     let guard : Guard e.act (scene m e.worker) = record { said = one.said; after = one.after; row = one.row } in
-    elim (decides_card e.act m.words.next m.cards) [
+    elim (decides_card e.act m.words.next m.last_card) [
       | inl lacks ↦ one_from m e (shown.Refused NoCards) m ((there, (owned, guard, lacks)), refl) (only_no_cards m e there owned guard lacks)
       | inr room ↦ one_from m e (shown.Step one.said) (with_scene m e.worker one.after)
           (record { there = there; becomes = one.after; happens = record { owned = owned; row = one.row; room = room }; gives = refl })

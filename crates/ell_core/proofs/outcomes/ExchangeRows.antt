@@ -25,8 +25,8 @@ abbrev dflagged : Scene → ℕ → Seen → Scene
 dflagged s card grandparent = flags s grandparent (dflag card) (DFlagged card)
 
 -- iflag by an insert in hand has one outcome or none
-settles_iflag_of : (s : Scene) (key : ℕ) → s.worker.operation ≡ Some (Insert key) → Settled (IFlag s)
-settles_iflag_of s key inserts = elim (cases_option s.worker.card) [
+settles_iflag_of : (s : Scene) (key value : ℕ) → s.worker.operation ≡ Some (Insert key value) → Settled (IFlag s)
+settles_iflag_of s key value inserts = elim (cases_option s.worker.card) [
   | inr e ↦ inr (λ said after r. some_not_none r.holds e)
   | inl c ↦ elim (cases_Bool s.worker.flagged) [
     | inl f ↦ inr (λ said after r. false≢true (sym r.unflagged ∙ f))
@@ -35,7 +35,7 @@ settles_iflag_of s key inserts = elim (cases_option s.worker.card) [
       | inl p ↦ inl (record {
         said = flag_says s p.0;
         after = iflagged s c.0 p.0;
-        row = record { key = key; card = c.0; parent = p.0; inserts = inserts; holds = c.1; unflagged = unflagged; behind = p.1; says = refl; gives = refl };
+        row = record { key = key; value = value; card = c.0; parent = p.0; inserts = inserts; holds = c.1; unflagged = unflagged; behind = p.1; says = refl; gives = refl };
         only = λ other later r. (let same = same_value r.behind p.1 in (r.says ∙ ap (flag_says s) same, r.gives ∙ ap2 (iflagged s) (same_value r.holds c.1) same));
       })
     ]
@@ -45,8 +45,8 @@ settles_iflag_of s key inserts = elim (cases_option s.worker.card) [
 -- iflag has one outcome or none
 pub settles_iflag : (s : Scene) → Settled (IFlag s)
 settles_iflag s = elim (cases_insert s.worker.operation) [
-  | inr n ↦ inr (λ said after r. n r.key r.inserts)
-  | inl o ↦ settles_iflag_of s o.0 o.1
+  | inr n ↦ inr (λ said after r. n r.key r.value r.inserts)
+  | inl o ↦ settles_iflag_of s o.0 o.1 o.2
 ]
 
 -- dflag by a delete in hand has one outcome or none

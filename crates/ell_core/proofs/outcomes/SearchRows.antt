@@ -1,4 +1,4 @@
-use Rattle.std.proofs.Common.{◌≡◌, ℕ, ◌%◌, ◌==◌, Bool, true, Option, Some, None, refl, sym, ap, ◌∙◌, subst, inl, inr, ◌⊎◌}
+use Rattle.std.proofs.Common.{◌≡◌, ℕ, ◌%◌, ◌==◌, true, Option, Some, None, refl, sym, ap, ◌∙◌, subst, inl, inr, ◌⊎◌}
 use Rattle.std.proofs.lemmas.Bool.{cases_eq, cases_Bool, false≢true}
 use Rattle.ell_ops.specs.declared.op.Op.{Op}
 use Rattle.ell_ops.specs.declared.op.Op.TheVariants.{Insert, Delete}
@@ -11,6 +11,7 @@ use Rattle.ell_core.specs.state.Facts.{learned_any, told_by}
 use Rattle.ell_core.specs.state.Machine.{Worker, Scene}
 use Rattle.ell_core.specs.acts.Searching.{IsLeaf, IsClean, Begin, Upd, Down, AtCleanLeaf, ClaimInsert, ClaimDelete, MayStop, Again, Leave, leaf_answer, card_answer, AnswersAtLeaf, AnswersByCard, Answers, Answer, begun, ended, with_read, gone_down, claims, ledger_after}
 use Rattle.ell_core.proofs.outcomes.Decide.{Decided, Settled, ap2, settles_either, cases_option, cases_insert, cases_delete, decides_clean, decides_internal, same_value, some_not_none, same_seen}
+use Rattle.ell_ops.specs.declared.reply.Reply.{Reply}
 
 -- begin has one outcome or none
 pub settles_begin : (op : Op) (s : Scene) → Settled (Begin op s)
@@ -126,7 +127,7 @@ clean_leaf v = elim (cases_option v.search.node) [
 ]
 
 -- two inserts in hand are of one key
-same_insert : {o : Option Op} {x y : ℕ} → o ≡ Some (Insert x) → o ≡ Some (Insert y) → x ≡ y
+same_insert : {o : Option Op} {x y u v : ℕ} → o ≡ Some (Insert x u) → o ≡ Some (Insert y v) → x ≡ y
 same_insert e f = cc
 
 -- two deletes in hand are of one key
@@ -140,18 +141,18 @@ insert_claimed s key leaf parent = claims s (insert_filling s.words.next key par
 -- a claim for an insert has one outcome or none
 settles_claim_insert : (s : Scene) → Settled (ClaimInsert s)
 settles_claim_insert s = elim (cases_insert s.worker.operation) [
-  | inr n ↦ inr (λ said after r. n r.key r.inserts)
+  | inr n ↦ inr (λ said after r. n r.key r.value r.inserts)
   | inl o ↦ elim (clean_leaf s.worker) [
     | inr n ↦ inr (λ said after r. n r.leaf r.parent r.at)
     | inl a ↦ elim (cases_eq (s.words.key a.leaf) o.0) [
-      | inl e ↦ inr (λ said after r. r.absent (ap s.words.key (a.only r.leaf r.parent r.at).0 ∙ (e ∙ same_insert o.1 r.inserts)))
+      | inl e ↦ inr (λ said after r. r.absent (ap s.words.key (a.only r.leaf r.parent r.at).0 ∙ (e ∙ same_insert o.2 r.inserts)))
       | inr absent ↦ inl (record {
         said = Moved;
         after = insert_claimed s o.0 a.leaf a.parent;
-        row = record { key = o.0; leaf = a.leaf; parent = a.parent; inserts = o.1; at = a.at; absent = absent; says = refl; gives = refl };
+        row = record { key = o.0; value = o.1; leaf = a.leaf; parent = a.parent; inserts = o.2; at = a.at; absent = absent; says = refl; gives = refl };
         only = λ other later r. (let only = a.only r.leaf r.parent r.at in (
           r.says,
-          r.gives ∙ (ap (λ x. insert_claimed s x r.leaf r.parent) (same_insert r.inserts o.1) ∙ ap2 (insert_claimed s o.0) only.0 only.1),
+          r.gives ∙ (ap (λ x. insert_claimed s x r.leaf r.parent) (same_insert r.inserts o.2) ∙ ap2 (insert_claimed s o.0) only.0 only.1),
         ));
       })
     ]
@@ -195,7 +196,7 @@ settles_claim_delete s = elim (cases_delete s.worker.operation) [
 ]
 
 -- an operation in hand is not both an insert and a delete
-insert_not_delete : {o : Option Op} {x y : ℕ} → o ≡ Some (Insert x) → ¬ (o ≡ Some (Delete y))
+insert_not_delete : {o : Option Op} {x y u : ℕ} → o ≡ Some (Insert x u) → ¬ (o ≡ Some (Delete y))
 insert_not_delete e f = cc
 
 -- claim has one outcome or none
@@ -251,14 +252,14 @@ settles_leave s = elim (decides_stop s.worker) [
 ]
 
 -- a set of answers has exactly one
-record OneReply (P : Bool → Type 0) : Type 0 where
-  reply : Bool
+record OneReply (P : Reply → Type 0) : Type 0 where
+  reply : Reply
   has : P reply
-  only : (other : Bool) → P other → other ≡ reply
+  only : (other : Reply) → P other → other ≡ reply
 
 -- exactly one answer or none
-abbrev Replies : (Bool → Type 0) → Type 0
-Replies P = OneReply P ⊎ ((reply : Bool) → ¬ P reply)
+abbrev Replies : (Reply → Type 0) → Type 0
+Replies P = OneReply P ⊎ ((reply : Reply) → ¬ P reply)
 
 -- at a leaf where the search stands there is one answer or none
 leaf_reply_at : (s : Scene) (op : Op) (leaf : ℕ) → s.worker.search.node ≡ Some leaf → IsLeaf leaf → Replies (AnswersAtLeaf s op)
@@ -317,7 +318,7 @@ reply_of_both s op (inr n) (inl d) = inl (record {
 reply_of_both s op (inr n) (inr m) = inr (λ reply x. elim x [ inl y ↦ n reply y | inr z ↦ m reply z.0 ])
 
 -- the scene after an answer
-abbrev answered : Scene → Op → Bool → Scene
+abbrev answered : Scene → Op → Reply → Scene
 answered s op reply = record s { worker = record (ended s.worker) { ledger = ledger_after op reply s.worker.ledger } }
 
 -- an operation in hand is answered in one way or not

@@ -1,4 +1,4 @@
-use Rattle.std.proofs.Common.{◌≡◌, ℕ, ◌<◌, ◌++◌, List, sym, ap, ◌∙◌, subst}
+use Rattle.std.proofs.Common.{◌≡◌, ◌+◌, ◌<◌, ◌++◌, List, length, sym, ap, ◌∙◌, subst}
 use Rattle.ell_word.specs.Node.{internal}
 use Rattle.ell_word.specs.Word.{unpacked}
 use Rattle.ell_word.specs.declared.update.State.TheVariants as state
@@ -6,30 +6,29 @@ use Rattle.ell_core.specs.declared.event.Event.{Event}
 use Rattle.ell_core.specs.declared.event.Shown.{Shown}
 use Rattle.ell_core.specs.declared.event.Shown.TheVariants as shown
 use Rattle.ell_core.specs.state.Machine.{Machine}
-use Rattle.ell_core.specs.state.Opening.{opening}
+use Rattle.ell_core.specs.state.Opening.{Setup, opening}
 use Rattle.ell_core.specs.acts.Runs.{Shows, Run}
 use Rattle.ell_core.specs.history.Stages.{Stages}
 use Rattle.ell_core.specs.history.Invariant.{Invariant}
 use Rattle.ell_core.specs.history.Later.{wins_of}
 use Rattle.ell_core.specs.statements.StepLaws.{SameKeys}
 use Rattle.ell_core.specs.statements.RunLaws.{CanOpen, EveryStateHasInvariant, EveryStateIsSound, ShownChange, KeysChangeAtWins, ShownLedgers, AnswersAreTheSets, wins_in, InOrder, WinsInOrder, WinsAreInOrder, Follow, MarkedNodesAreFrozen, WordsRise, KnowledgeIsNeverLost, ClaimedCardsAreFixed, StagesRise}
-use Rattle.ell_core.proofs.opening.Invariant.{opening_stages, opening_invariant}
+use Rattle.ell_core.proofs.opening.Invariant.{start_stages}
+use Rattle.ell_core.proofs.opening.CanOpen.{opening_has}
 use Rattle.ell_core.proofs.following.Sound.{sound, word_by_state}
 use Rattle.ell_core.proofs.runs.Wins.{stage_wins, opening_wins}
 use Rattle.ell_core.proofs.following.Lawful.{events_lawful}
 use Rattle.ell_core.proofs.runs.Runs.{Ran, ran}
 
 -- a run from an opening keeps all
-ran_from : (count : ℕ) (owned : List (ℕ × ℕ)) (cards : ℕ) (events : List Event) (answers : List Shown) (m : Machine) → CanOpen count owned
-    → (run : Run (opening count owned cards) events answers m)
-    → Ran (opening count owned cards) opening_stages m (wins_in (opening count owned cards) events answers m run)
-ran_from count owned cards events answers m can run =
-    ran (opening count owned cards) opening_stages events answers m (opening_invariant count owned cards can.faultless can.real) run
+ran_from : (setup : Setup) (events : List Event) (answers : List Shown) (m : Machine) → CanOpen setup → (run : Run (opening setup) events answers m)
+    → Ran (opening setup) (start_stages (length setup.start + 1)) m (wins_in (opening setup) events answers m run)
+ran_from setup events answers m can run = ran (opening setup) (start_stages (length setup.start + 1)) events answers m (opening_has setup can) run
 
 -- the invariant holds of every state of a run
 pub passed_has : EveryStateHasInvariant
 passed_has m passed =
-    let all = ran_from passed.count passed.owned passed.cards passed.schedule passed.answers m passed.can passed.run in
+    let all = ran_from passed.setup passed.schedule passed.answers m passed.can passed.run in
     record { stages = all.stages; invariant = all.invariant }
 
 -- so each is sound
@@ -61,18 +60,17 @@ pub answers_set : AnswersAreTheSets
 answers_set m e x m' passed shows = let has = passed_has m passed in shown_ledgers m has.stages e x m' has.invariant shows
 
 -- the wins of each card in a run from an opening are those up to its stage
-wins_from : (count : ℕ) (owned : List (ℕ × ℕ)) (cards : ℕ) (events : List Event) (answers : List Shown) (m' : Machine) → CanOpen count owned
-    → WinsInOrder (opening count owned cards) events answers m'
-wins_from count owned cards events answers m' can run c =
-    let all = ran_from count owned cards events answers m' can run in
-    let won : wins_of (all.stages c) ≡ wins_in (opening count owned cards) events answers m' run c =
-    all.wins c ∙ ap (λ xs. xs ++ wins_in (opening count owned cards) events answers m' run c) (opening_wins c) in
+wins_from : (setup : Setup) (events : List Event) (answers : List Shown) (m' : Machine) → CanOpen setup → WinsInOrder (opening setup) events answers m'
+wins_from setup events answers m' can run c =
+    let all = ran_from setup events answers m' can run in
+    let won : wins_of (all.stages c) ≡ wins_in (opening setup) events answers m' run c =
+    all.wins c ∙ ap (λ xs. xs ++ wins_in (opening setup) events answers m' run c) (opening_wins (length setup.start + 1) c) in
     subst InOrder won (stage_wins (all.stages c))
 
 -- so it is from every state that is an opening
 pub wins_ordered : WinsAreInOrder
 wins_ordered m events answers m' is =
-    subst (λ n. WinsInOrder n events answers m') (sym is.opens) (wins_from is.count is.owned is.cards events answers m' is.can)
+    subst (λ n. WinsInOrder n events answers m') (sym is.opens) (wins_from is.setup events answers m' is.can)
 
 -- what a run keeps between two of its states
 ran_between : (m m' : Machine) → (follow : Follow m m')

@@ -4,19 +4,16 @@ use Rattle.ell_core.proofs.runs.Runs.{run_more}
 
 -- a run of no events leads to the opening
 pub openings_passed : OpeningsArePassed
-openings_passed count owned cards can =
-    record { count = count; owned = owned; cards = cards; can = can; schedule = []; answers = []; run = refl }
+openings_passed setup can = record { setup = setup; can = can; schedule = []; answers = []; run = refl }
 
 -- an opening is one
 pub openings_open : OpeningsAreOpenings
-openings_open count owned cards can = record { count = count; owned = owned; cards = cards; can = can; opens = refl }
+openings_open setup can = record { setup = setup; can = can; opens = refl }
 
 -- a run goes on by an event
 pub passed_on : EventsPassOn
 passed_on m e x m' passed shows = record {
-  count = passed.count;
-  owned = passed.owned;
-  cards = passed.cards;
+  setup = passed.setup;
   can = passed.can;
   schedule = passed.schedule ++ e ∷ [];
   answers = passed.answers ++ x ∷ [];

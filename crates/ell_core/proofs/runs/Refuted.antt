@@ -18,7 +18,9 @@ use Rattle.ell_core.specs.statements.Refuted.{WordsAlwaysRise, NextCardIsFixed, 
 use Rattle.ell_core.proofs.following.Sound.{sound}
 use Rattle.ell_core.proofs.runs.Lawful.{passed_has, keys_change}
 use Rattle.ell_core.proofs.runs.Passed.{openings_open, follows_itself}
-use Rattle.ell_core.proofs.runs.SmallRun.{opened, begun_state, down_state, claimed_state, flagged_state, changed_state, over_state, answered_state, by, begins, reads, read_state, owned, can_open, goes_down, claims_card, flags_root, changes_child, answers, opened_passed, down_passed, claimed_passed, flagged_passed, over_passed, follows}
+use Rattle.ell_core.proofs.runs.SmallRun.{opened, begun_state, down_state, claimed_state, flagged_state, changed_state, over_state, answered_state, by, begins, reads, read_state, setup, can_open, goes_down, claims_card, flags_root, changes_child, answers, opened_passed, down_passed, claimed_passed, flagged_passed, over_passed, follows}
+use Rattle.ell_core.specs.declared.view.Entry.TheVariants.{Absent}
+use Rattle.ell_ops.specs.declared.reply.Reply.TheVariants.{Yes, No}
 
 -- the opening follows itself
 pub no_rise : ¬ WordsAlwaysRise
@@ -46,7 +48,7 @@ some_learnt known =
 -- worker 1 does not own key 5
 pub ledgers_differ : ¬ OneLedgerForAll
 ledgers_differ same =
-    let h : None ≡ Some false = ap (λ ledger. ledger 5) (same opened (by (act.Begin (Insert 5))) Moved begun_state opened_passed begins 1) in cc
+    let h : None ≡ Some Absent = ap (λ ledger. ledger 5) (same opened (by (act.Begin (Insert 5 50))) Moved begun_state opened_passed begins 1) in cc
 
 -- key 5 came into the tree, which is that of card 1
 pub next_key_wrong : ¬ InsertsAddTheNextKey
@@ -59,7 +61,7 @@ next_key_wrong adds =
 -- the set after an insert has its key
 pub after_wrong : ¬ AnswersAreOfTheSetAfter
 after_wrong after =
-    let h : true ≡ false = after over_state (by act.Answer) (Insert 5) true answered_state over_passed refl answers in cc
+    let h : Yes ≡ No = after over_state (by act.Answer) (Insert 5 50) Yes answered_state over_passed refl answers in cc
 
 -- no other worker owns a key
 none_else : (j k : ℕ) → j ≢ 0 → (flagged_state.worker j).ledger k ≡ None
@@ -88,14 +90,14 @@ no_teaching teach =
     let h : true ≡ false = (facts 2 (IFlagged 1) refl).0 in cc
 
 -- the events up to the flag
-to_flag : Run opened (by (act.Begin (Insert 5)) ∷ by act.Upd ∷ by act.Down ∷ by act.Claim ∷ by act.IFlag ∷ [])
+to_flag : Run opened (by (act.Begin (Insert 5 50)) ∷ by act.Upd ∷ by act.Down ∷ by act.Claim ∷ by act.IFlag ∷ [])
     (shown.Step Moved ∷ shown.Step Moved ∷ shown.Step Moved ∷ shown.Step Moved ∷ shown.Step Won ∷ []) flagged_state
 to_flag =
     (begun_state, begins, (read_state, reads, (down_state, goes_down, (claimed_state, claims_card, (flagged_state, flags_root, refl)))))
 
 opens : IsOpening opened
 unfolding opening
-opens = openings_open 2 owned 4 can_open
+opens = openings_open setup can_open
 
 -- the first win of card 1 is its flag
 pub child_not_first : ¬ ChildExchangesComeFirst
@@ -105,5 +107,5 @@ child_not_first first =
     (⊎_elim (λ begins. let h : kind.IFlag ∷ begins.rest ≡ kind.DFlag ∷ kind.Mark ∷ kind.DChild ∷ kind.DUnflag ∷ [] = begins.together in cc)
     (λ begins. let h : kind.IFlag ∷ begins.rest ≡ kind.DFlag ∷ kind.Backtrack ∷ [] = begins.together in cc))
     (first opened
-    (by (act.Begin (Insert 5)) ∷ by act.Upd ∷ by act.Down ∷ by act.Claim ∷ by act.IFlag ∷ [])
+    (by (act.Begin (Insert 5 50)) ∷ by act.Upd ∷ by act.Down ∷ by act.Claim ∷ by act.IFlag ∷ [])
     (shown.Step Moved ∷ shown.Step Moved ∷ shown.Step Moved ∷ shown.Step Moved ∷ shown.Step Won ∷ []) flagged_state opens to_flag 1)

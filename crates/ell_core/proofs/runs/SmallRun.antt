@@ -12,7 +12,7 @@ use Rattle.ell_core.specs.state.Words.{with_child, with_update}
 use Rattle.ell_core.specs.state.Facts.{learned}
 use Rattle.ell_core.specs.state.Machine.{Machine, Scene, idle, scene, with_scene}
 use Rattle.ell_core.specs.state.Cards.{iflag, clean, insert_filling}
-use Rattle.ell_core.specs.state.Opening.{opening, opening_words, opening_ledger}
+use Rattle.ell_core.specs.state.Opening.{Setup, opening, opening_words, opening_ledger}
 use Rattle.ell_core.specs.tree.Tree.{infinity1}
 use Rattle.ell_core.specs.acts.Searching.{IsLeaf, begun, ended, claims, ledger_after}
 use Rattle.ell_core.specs.acts.Exchanges.{knowing}
@@ -20,18 +20,23 @@ use Rattle.ell_core.specs.acts.Events.{Row, LacksKey, LacksCard, Steps}
 use Rattle.ell_core.specs.statements.RunLaws.{CanOpen, IsPassed, Follow}
 use Rattle.ell_core.proofs.opening.CanOpen.{two_keys_open}
 use Rattle.ell_core.proofs.runs.Passed.{openings_passed, passed_on, follows_itself, followed_on}
+use Rattle.ell_core.specs.declared.view.Entry.TheVariants.{Absent}
+use Rattle.ell_ops.specs.declared.reply.Reply.TheVariants.{Yes}
 
 -- worker 0 owns keys 5 and 7, worker 1 none
 abbrev pub owned : List (ℕ × ℕ)
 owned = (0, 5) ∷ (0, 7) ∷ []
 
--- the opening of two workers
+-- the opening of two workers, with no start keys
+abbrev pub setup : Setup
+setup = record { count = 2; owned = owned; start = []; cards = 4 }
+
 abbrev pub opened : Machine
-opened = record { words = opening_words; count = 2; cards = 4; worker = λ i. idle (opening_ledger owned i) (λ _. false) }
+opened = record { words = opening_words; count = 2; last_card = 4; worker = λ i. idle (opening_ledger owned [] i) (λ _. false) }
 
 -- worker 0 takes an insert of 5 in hand
 abbrev pub begun_scene : Scene
-begun_scene = record (scene opened 0) { worker = begun (Some (Insert 5)) (opened.worker 0) }
+begun_scene = record (scene opened 0) { worker = begun (Some (Insert 5 50)) (opened.worker 0) }
 
 -- it reads the root's update word
 abbrev pub read_scene : Scene
@@ -78,10 +83,10 @@ over_scene = record {
   worker = knowing changed_scene.worker (learned changed_scene.worker.knows (IOver 1));
 }
 
--- it answers true
+-- it answers yes
 abbrev pub answered_scene : Scene
 answered_scene = record over_scene {
-  worker = record (ended over_scene.worker) { ledger = ledger_after (Insert 5) true over_scene.worker.ledger };
+  worker = record (ended over_scene.worker) { ledger = ledger_after (Insert 5 50) Yes over_scene.worker.ledger };
 }
 
 -- the state with this scene of worker 0
@@ -118,15 +123,15 @@ by a = record { worker = 0; act = a }
 
 -- worker 0 makes a step
 step : (m : Machine) (a : Act) (said : Stepped) (after : Scene) → 0 < m.count → ¬ LacksKey a (m.worker 0)
-    → Row a (scene m 0) said after → ¬ LacksCard a m.words.next m.cards → Steps m (by a) said (at m after)
+    → Row a (scene m 0) said after → ¬ LacksCard a m.words.next m.last_card → Steps m (by a) said (at m after)
 step m a said after there has row room =
     record { there = there; becomes = after; happens = record { owned = has; row = row; room = room }; gives = refl }
 
 two : 0 < 2
 two = omega arith
 
-pub begins : Steps opened (by (act.Begin (Insert 5))) Moved begun_state
-begins = step opened (act.Begin (Insert 5)) Moved begun_scene two (λ e. let f : Some false ≡ None = e in cc)
+pub begins : Steps opened (by (act.Begin (Insert 5 50))) Moved begun_state
+begins = step opened (act.Begin (Insert 5 50)) Moved begun_scene two (λ e. let f : Some Absent ≡ None = e in cc)
     (record { free = refl; says = refl; gives = refl }) (λ h. h)
 
 pub reads : Steps begun_state (by act.Upd) Moved read_state
@@ -135,7 +140,7 @@ reads = step begun_state act.Upd Moved read_scene two (λ h. h)
 
 pub goes_down : Steps read_state (by act.Down) Moved down_state
 goes_down = step read_state act.Down Moved down_scene two (λ h. h)
-    (record { op = Insert 5; seen = seen_root; busy = refl; stands = refl; internal = refl; read = refl; says = refl; gives = refl }) (λ h. h)
+    (record { op = Insert 5 50; seen = seen_root; busy = refl; stands = refl; internal = refl; read = refl; says = refl; gives = refl }) (λ h. h)
 
 one_leaf : IsLeaf 1
 one_leaf e = omega arith
@@ -144,6 +149,7 @@ pub claims_card : Steps down_state (by act.Claim) Moved claimed_state
 claims_card = step down_state act.Claim Moved claimed_scene two (λ h. h)
     (inl (record {
       key = 5;
+      value = 50;
       leaf = 1;
       parent = seen_root;
       inserts = refl;
@@ -156,7 +162,7 @@ claims_card = step down_state act.Claim Moved claimed_scene two (λ h. h)
 
 pub flags_root : Steps claimed_state (by act.IFlag) Won flagged_state
 flags_root = step claimed_state act.IFlag Won flagged_scene two (λ h. h)
-    (record { key = 5; card = 1; parent = seen_root; inserts = refl; holds = refl; unflagged = refl; behind = refl; says = refl; gives = refl })
+    (record { key = 5; value = 50; card = 1; parent = seen_root; inserts = refl; holds = refl; unflagged = refl; behind = refl; says = refl; gives = refl })
     (λ h. h)
 
 pub changes_child : Steps flagged_state (by (act.IChild 1)) Won changed_state
@@ -165,11 +171,11 @@ changes_child = step flagged_state (act.IChild 1) Won changed_scene two (λ h. h
 pub takes_flag : Steps changed_state (by (act.IUnflag 1)) Won over_state
 takes_flag = step changed_state (act.IUnflag 1) Won over_scene two (λ h. h) (record { may = refl; says = refl; gives = refl }) (λ h. h)
 
-pub answers : Steps over_state (by act.Answer) (Answered true) answered_state
-answers = step over_state act.Answer (Answered true) answered_scene two (λ h. h)
+pub answers : Steps over_state (by act.Answer) (Answered Yes) answered_state
+answers = step over_state act.Answer (Answered Yes) answered_scene two (λ h. h)
     (record {
-      op = Insert 5;
-      reply = true;
+      op = Insert 5 50;
+      reply = Yes;
       busy = refl;
       answers = inr (record { card = 1; holds = refl; flagged = refl; answers = refl }, λ reply leaf. let h : None ≡ Some leaf.leaf = leaf.stands in cc);
       says = refl;
@@ -178,19 +184,19 @@ answers = step over_state act.Answer (Answered true) answered_scene two (λ h. h
     (λ h. h)
 
 -- the entries can open
-pub can_open : CanOpen 2 owned
-can_open = two_keys_open 2 0 0 5 7 two two (λ e. omega arith) (omega arith) (omega arith)
+pub can_open : CanOpen setup
+can_open = two_keys_open 2 0 0 5 7 4 two two (λ e. omega arith) (omega arith) (omega arith)
 
 -- the states of the run are passed
 pub opened_passed : IsPassed opened
 unfolding opening
-opened_passed = openings_passed 2 owned 4 can_open
+opened_passed = openings_passed setup can_open
 
 pub down_passed : IsPassed down_state
 down_passed =
     passed_on read_state (by act.Down) (shown.Step Moved) down_state
     (passed_on begun_state (by act.Upd) (shown.Step Moved) read_state
-    (passed_on opened (by (act.Begin (Insert 5))) (shown.Step Moved) begun_state opened_passed begins) reads)
+    (passed_on opened (by (act.Begin (Insert 5 50))) (shown.Step Moved) begun_state opened_passed begins) reads)
     goes_down
 
 pub claimed_passed : IsPassed claimed_state

@@ -1,9 +1,9 @@
-use Rattle.std.proofs.Common.{ℕ, zero, suc, ◌≡◌, inl, inr, [], ◌∷◌, refl}
+use Rattle.std.proofs.Common.{ℕ, ◌≡◌, inl, inr, [], ◌∷◌, refl}
 use Rattle.ell_word.specs.declared.gate.Kind.TheVariants as kind
 use Rattle.ell_core.specs.history.Stages.{Stage, Unclaimed, Opening, IClaimed, IFlagged, IChanged, IOver, DClaimed, DFlagged, DUnmarkable, DMarked, DCut, DOver, DBacked}
 use Rattle.ell_core.specs.history.Later.{wins_of}
 use Rattle.ell_core.specs.statements.RunLaws.{insert_order, cut_order, InOrder}
-use Rattle.ell_core.proofs.opening.Invariant.{opening_stages}
+use Rattle.ell_core.proofs.opening.Invariant.{start_stages, each_stage}
 
 -- the wins of a card up to each stage are in order
 pub stage_wins : (s : Stage) → InOrder (wins_of s)
@@ -22,6 +22,5 @@ stage_wins DOver = inr (inl (record { rest = []; together = refl }))
 stage_wins DBacked = inr (inr (record { rest = []; together = refl }))
 
 -- nothing was won at the opening
-pub opening_wins : (c : ℕ) → wins_of (opening_stages c) ≡ []
-opening_wins zero = refl
-opening_wins (suc c) = refl
+pub opening_wins : (end c : ℕ) → wins_of (start_stages end c) ≡ []
+opening_wins end c = each_stage (λ s. wins_of s ≡ []) end c refl refl

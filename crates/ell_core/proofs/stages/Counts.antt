@@ -5,9 +5,10 @@ use Rattle.ell_core.specs.state.Machine.{Ledger, Worker}
 use Rattle.ell_core.specs.soundness.Holds.{with_settled}
 use Rattle.ell_core.specs.history.Stages.{Stages, made_of, staged, staged_of}
 use Rattle.ell_core.proofs.words.Writes.{put_other}
+use Rattle.ell_core.specs.declared.view.Entry.{Entry}
 
 -- what an operation has made of its key leaves the other keys
-settled_other : (ledger : Ledger) (key : ℕ) (made : Option Bool) (k : ℕ) → k ≢ key
+settled_other : (ledger : Ledger) (key : ℕ) (made : Option Entry) (k : ℕ) → k ≢ key
     → with_settled ledger key made k ≡ ledger k
 settled_other ledger key None k n = refl
 settled_other ledger key (Some present) k n = put_other ledger key (Some present) k n

@@ -203,7 +203,7 @@ module _ (w : Words) (stage : Stages) (sound : WordsAreSound w stage) where
   -- the same of the card that a worker has in hand, flagged
   flagged_settled : (v : Worker) (op : Op) (c : ℕ) → Flagged w stage v op c → settled (phase w c) ≡ made_of (stage c)
   flagged_settled v (Find k) c h = absurd h
-  flagged_settled v (Insert k) c h = insert_settled c h.0
+  flagged_settled v (Insert k value) c h = insert_settled c h.0
   flagged_settled v (Delete k) c h = delete_settled c h.0
 
   -- so the effective ledger is that of the stages, whatever is in hand

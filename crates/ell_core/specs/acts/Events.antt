@@ -76,10 +76,10 @@ TurnRefused cards a s fault = Refused cards a s fault
 pub record Steps (m : Machine) (e : Event) (said : Stepped) (after : Machine) : Type 0 where
   pub there : e.worker < m.count
   pub becomes : Scene
-  pub happens : Happens m.cards e.act (scene m e.worker) said becomes
+  pub happens : Happens m.last_card e.act (scene m e.worker) said becomes
   pub gives : after ≡ with_scene m e.worker becomes
 
 -- an event of the machine is refused, for the first of the reasons that holds
 abbrev pub Refuses : Machine → Event → CoreFault → Type 0
 Refuses m e NoSuchWorker = m.count ≤ e.worker
-Refuses m e fault = (e.worker < m.count) × Refused m.cards e.act (scene m e.worker) fault
+Refuses m e fault = (e.worker < m.count) × Refused m.last_card e.act (scene m e.worker) fault

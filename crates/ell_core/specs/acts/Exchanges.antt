@@ -61,9 +61,10 @@ flags s seen new fact = record {
 -- iflag: an insert has a card in hand that is not flagged; it exchanges the parent's update word to the card's flag
 pub record IFlag (s : Scene) (said : Stepped) (after : Scene) : Type 0 where
   pub key : ℕ
+  pub value : ℕ
   pub card : ℕ
   pub parent : Seen
-  pub inserts : s.worker.operation ≡ Some (Insert key)
+  pub inserts : s.worker.operation ≡ Some (Insert key value)
   pub holds : s.worker.card ≡ Some card
   pub unflagged : s.worker.flagged ≡ false
   pub behind : s.worker.search.parent ≡ Some parent

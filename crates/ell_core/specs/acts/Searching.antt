@@ -1,7 +1,7 @@
 use Rattle.std.specs.Prelude.{◌≡◌, ◌≢◌, ℕ, ◌==◌, if◌then◌else◌, ◌⊎◌, Bool, true, false, Option, Some, None, List}
 use Rattle.ell_ops.specs.declared.op.Op.{Op}
 use Rattle.ell_ops.specs.declared.op.Op.TheVariants.{Find, Insert, Delete}
-use Rattle.ell_ops.specs.Meaning.{key_of}
+use Rattle.ell_ops.specs.Meaning.{key_of, yes_if}
 use Rattle.ell_word.specs.Node.{IsInternal}
 use Rattle.ell_word.specs.Word.{unpacked}
 use Rattle.ell_word.specs.declared.update.State.TheVariants as state
@@ -15,6 +15,9 @@ use Rattle.ell_core.specs.state.Words.{put}
 use Rattle.ell_core.specs.state.Facts.{Knowledge, learned_any, told_by}
 use Rattle.ell_core.specs.state.Machine.{Ledger, Worker, Scene, no_search}
 use Rattle.ell_core.specs.state.Cards.{child_for, insert_filling, delete_filling, claimed}
+use Rattle.ell_core.specs.declared.view.Entry.TheVariants.{Present, Absent}
+use Rattle.ell_ops.specs.declared.reply.Reply.{Reply}
+use Rattle.ell_ops.specs.declared.reply.Reply.TheVariants.{Yes, No}
 
 -- a leaf is a node that is not internal
 abbrev pub IsLeaf : ℕ → Type 0
@@ -97,9 +100,10 @@ claims s filling = record {
 -- claim for an insert: at such a leaf of another key
 pub record ClaimInsert (s : Scene) (said : Stepped) (after : Scene) : Type 0 where
   pub key : ℕ
+  pub value : ℕ
   pub leaf : ℕ
   pub parent : Seen
-  pub inserts : s.worker.operation ≡ Some (Insert key)
+  pub inserts : s.worker.operation ≡ Some (Insert key value)
   pub at : AtCleanLeaf s.worker leaf parent
   pub absent : s.words.key leaf ≢ key
   pub says : said ≡ Moved
@@ -137,45 +141,45 @@ pub record Leave (s : Scene) (said : Stepped) (after : Scene) : Type 0 where
   pub says : said ≡ Moved
   pub gives : after ≡ record s { worker = ended s.worker }
 
--- the answer at a leaf, which has the operation's key or not: find whether, insert and delete false where nothing is to do
-abbrev pub leaf_answer : Op → Bool → Option Bool
-leaf_answer (Find key) has = Some has
-leaf_answer (Insert key) true = Some false
-leaf_answer (Delete key) false = Some false
+-- the answer at a leaf, which has the operation's key or not: find whether, insert and delete no where nothing is to do
+abbrev pub leaf_answer : Op → Bool → Option Reply
+leaf_answer (Find key) has = Some (yes_if has)
+leaf_answer (Insert key value) true = Some No
+leaf_answer (Delete key) false = Some No
 leaf_answer _ _ = None
 
-pub record AnswersAtLeaf (s : Scene) (op : Op) (reply : Bool) : Type 0 where
+pub record AnswersAtLeaf (s : Scene) (op : Op) (reply : Reply) : Type 0 where
   pub leaf : ℕ
   pub stands : s.worker.search.node ≡ Some leaf
   pub outer : IsLeaf leaf
   pub answers : leaf_answer op (s.words.key leaf == key_of op) ≡ Some reply
 
--- the answer by a flagged card: true, once the card is known to be over
-abbrev pub card_answer : Op → ℕ → Knowledge → Option Bool
+-- the answer by a flagged card: yes, once the card is known to be over
+abbrev pub card_answer : Op → ℕ → Knowledge → Option Reply
 card_answer (Find key) c known = None
-card_answer (Insert key) c known = if known (IOver c) then Some true else None
-card_answer (Delete key) c known = if known (DOver c) then Some true else None
+card_answer (Insert key value) c known = if known (IOver c) then Some Yes else None
+card_answer (Delete key) c known = if known (DOver c) then Some Yes else None
 
-pub record AnswersByCard (s : Scene) (op : Op) (reply : Bool) : Type 0 where
+pub record AnswersByCard (s : Scene) (op : Op) (reply : Reply) : Type 0 where
   pub card : ℕ
   pub holds : s.worker.card ≡ Some card
   pub flagged : s.worker.flagged ≡ true
   pub answers : card_answer op card s.worker.knows ≡ Some reply
 
 -- an operation's answer: at a leaf if it has one there, else by its card
-abbrev pub Answers : Scene → Op → Bool → Type 0
-Answers s op reply = AnswersAtLeaf s op reply ⊎ (AnswersByCard s op reply × ((r : Bool) → ¬ AnswersAtLeaf s op r))
+abbrev pub Answers : Scene → Op → Reply → Type 0
+Answers s op reply = AnswersAtLeaf s op reply ⊎ (AnswersByCard s op reply × ((r : Reply) → ¬ AnswersAtLeaf s op r))
 
--- the ledger after an answer: an insert or delete that answers true makes its key present or absent
-abbrev pub ledger_after : Op → Bool → Ledger → Ledger
-ledger_after (Insert key) true ledger = put ledger key (Some true)
-ledger_after (Delete key) true ledger = put ledger key (Some false)
+-- the ledger after an answer: an insert or delete that answers yes makes its key present or absent
+abbrev pub ledger_after : Op → Reply → Ledger → Ledger
+ledger_after (Insert key value) Yes ledger = put ledger key (Some Present)
+ledger_after (Delete key) Yes ledger = put ledger key (Some Absent)
 ledger_after _ _ ledger = ledger
 
 -- answer: an operation is in hand and has an answer; it is said, the ledger goes by it, and nothing is in hand any more
 pub record Answer (s : Scene) (said : Stepped) (after : Scene) : Type 0 where
   pub op : Op
-  pub reply : Bool
+  pub reply : Reply
   pub busy : s.worker.operation ≡ Some op
   pub answers : Answers s op reply
   pub says : said ≡ Answered reply

@@ -17,6 +17,7 @@ use Rattle.ell_core.specs.tree.Tree.{infinity1, infinity2}
 use Rattle.ell_core.specs.soundness.Sound.{Owns, IsOwned, IsInHand, StrangersAreNobody}
 use Rattle.ell_core.specs.tree.Ranges.{IsSpanned, IsCutOut, Meets, IsOrdered, OnCourse}
 use Rattle.ell_core.specs.history.Stages.{Stages, Opening, is_claimed, is_start, is_insert, is_delete, is_born, insert_won, insert_open, insert_waits, is_changed, insert_over, delete_won, delete_open, delete_waits, is_markable, is_unmarkable, is_marked, is_cut, delete_past, allows, Born, staged}
+use Rattle.ell_core.specs.declared.view.Entry.TheVariants.{Present, Absent}
 
 -- all keys are below this number
 abbrev pub top : ℕ
@@ -199,7 +200,7 @@ pub record SeenIsSound (w : Words) (stage : Stages) (k : ℕ) (seen : Seen) (x :
 pub record StandIsSound (w : Words) (stage : Stages) (v : Worker) (k x : ℕ) : Type 0 where
   pub born : Born stage x
   pub read : (word : ℕ) → v.search.read ≡ Some word → word ≤ w.update x
-  pub leads : LeadsTo w k x ↔ (v.ledger k ≡ Some true)
+  pub leads : LeadsTo w k x ↔ (v.ledger k ≡ Some Present)
   pub course : IsOnCourse w k x
   pub parent : (seen : Seen) → v.search.parent ≡ Some seen → SeenIsSound w stage k seen x × IsOnCourse w k seen.node
   pub grandparent : (seen above : Seen) → v.search.parent ≡ Some seen → v.search.grandparent ≡ Some above
@@ -237,14 +238,14 @@ pub record DeleteInHand (w : Words) (stage : Stages) (v : Worker) (k c : ℕ) : 
 -- a card in hand that is not flagged is of the operation's kind
 abbrev pub Unflagged : Words → Stages → Worker → Op → ℕ → Type 0
 Unflagged w stage v (Find k) c = ⊥
-Unflagged w stage v (Insert k) c = InsertInHand w stage v k c
+Unflagged w stage v (Insert k value) c = InsertInHand w stage v k c
 Unflagged w stage v (Delete k) c = DeleteInHand w stage v k c
 
 -- a card in hand that is flagged is of the operation's kind and key, which was absent for an insert, present for a delete
 abbrev pub Flagged : Words → Stages → Worker → Op → ℕ → Type 0
 Flagged w stage v (Find k) c = ⊥
-Flagged w stage v (Insert k) c = (insert_won (stage c) ≡ true) × (insert_key w c ≡ k) × (v.ledger k ≡ Some false)
-Flagged w stage v (Delete k) c = (delete_won (stage c) ≡ true) × (delete_key w c ≡ k) × (v.ledger k ≡ Some true)
+Flagged w stage v (Insert k value) c = (insert_won (stage c) ≡ true) × (insert_key w c ≡ k) × (v.ledger k ≡ Some Absent)
+Flagged w stage v (Delete k) c = (delete_won (stage c) ≡ true) × (delete_key w c ≡ k) × (v.ledger k ≡ Some Present)
 
 -- a worker
 pub record WorkerIsSound (w : Words) (stage : Stages) (v : Worker) : Type 0 where
@@ -262,7 +263,7 @@ pub record WorkerIsSound (w : Words) (stage : Stages) (v : Worker) : Type 0 wher
 pub record WorkersAreSound (m : Machine) (stage : Stages) : Type 0 where
   pub each : (i : ℕ) → WorkerIsSound m.words stage (m.worker i)
   pub one_owner : (i j k : ℕ) → Owns (m.worker i) k → Owns (m.worker j) k → i ≡ j
-  pub present : (i k : ℕ) → Owns (m.worker i) k → LeadsTo m.words k 0 ↔ (staged stage (m.worker i) k ≡ Some true)
+  pub present : (i k : ℕ) → Owns (m.worker i) k → LeadsTo m.words k 0 ↔ (staged stage (m.worker i) k ≡ Some Present)
   pub owned : (k : ℕ) → k ≤ greatest_key → LeadsTo m.words k 0 → IsOwned m k
   pub insert_in_hand : (c : ℕ) → insert_open (stage c) ≡ true → IsInHand m c
   pub delete_in_hand : (c : ℕ) → delete_open (stage c) ≡ true → IsInHand m c
@@ -286,7 +287,7 @@ pub record KindsAreSound (w : Words) (stage : Stages) : Type 0 where
 pub record Invariant (m : Machine) (stage : Stages) : Type 0 where
   pub words : WordsAreSound m.words stage
   pub workers : WorkersAreSound m stage
-  pub limit : m.words.next ≤ m.cards + 1
+  pub limit : m.words.next ≤ m.last_card + 1
   pub kinds : KindsAreSound m.words stage
 
 -- the invariant holds of a state, with some stages

@@ -98,4 +98,4 @@ pub record Follows (m : Machine) (stage : Stages) (a : Act) (i : ℕ) (said : St
 -- an act keeps the invariant, whoever does it and whatever it answers
 abbrev pub Keeps : Act → Type 0
 Keeps a = (m : Machine) (stage : Stages) (i : ℕ) (said : Stepped) (becomes : Scene) → i < m.count → Invariant m stage
-    → Happens m.cards a (scene m i) said becomes → Follows m stage a i said (with_scene m i becomes)
+    → Happens m.last_card a (scene m i) said becomes → Follows m stage a i said (with_scene m i becomes)

@@ -6,6 +6,8 @@ use Rattle.ell_core.specs.declared.fact.Fact.{Fact}
 use Rattle.ell_core.specs.declared.fact.Fact.TheVariants as fact
 use Rattle.ell_core.specs.state.Machine.{Ledger, Worker}
 use Rattle.ell_core.specs.soundness.Holds.{with_settled}
+use Rattle.ell_core.specs.declared.view.Entry.{Entry}
+use Rattle.ell_core.specs.declared.view.Entry.TheVariants.{Present, Absent}
 
 -- a card's stage: not claimed; one of the opening tree's; claimed for an insert, and then as far as its flag, child exchange and
 -- unflag were won; the same for a delete, whose flag is followed by mark, child exchange and unflag, or, once the mark can't be
@@ -182,11 +184,11 @@ abbrev pub Born : Stages → ℕ → Type 0
 Born stage x = is_born (stage (card x)) ≡ true
 
 -- what a card's stage has made of its key, if anything: present or absent
-abbrev pub made_of : Stage → Option Bool
-made_of IChanged = Some true
-made_of IOver = Some true
-made_of DCut = Some false
-made_of DOver = Some false
+abbrev pub made_of : Stage → Option Entry
+made_of IChanged = Some Present
+made_of IOver = Some Present
+made_of DCut = Some Absent
+made_of DOver = Some Absent
 made_of _ = None
 
 -- the effective ledger, by the stages

@@ -21,13 +21,13 @@ words_in memory = words_of memory.words.items
 
 -- the list has as many words as its cards need
 pub record IsSized {A : Type 0} (memory : Memory A) : Type 0 where
-  pub size : length memory.words.items ≡ table_size memory.cards
-  pub limit : memory.cards ≤ greatest_card
+  pub size : length memory.words.items ≡ table_size memory.last_card
+  pub limit : memory.last_card ≤ greatest_card
 
 -- as many words and cards as before
 pub record SameSize {A : Type 0} (old new : Memory A) : Type 0 where
   pub size : length new.words.items ≡ length old.words.items
-  pub cards : new.cards ≡ old.cards
+  pub cards : new.last_card ≡ old.last_card
 
 -- a worker as contracts see it
 abbrev pub view_of : {A : Type 0} → Worker A → WorkerView
@@ -55,7 +55,7 @@ scene_in memory worker = record { words = words_in memory; worker = worker_in wo
 -- an event can look at these words and this worker
 pub record IsReady {A : Type 0} (memory : Memory A) (worker : Worker A) : Type 0 where
   pub sized : IsSized memory
-  pub fits : SceneFits memory.cards (scene_in memory worker)
+  pub fits : SceneFits memory.last_card (scene_in memory worker)
 
 -- a fact that the knowledge lacks
 abbrev pub LacksAny : Knowledge → Option Fact → Type 0
@@ -69,11 +69,11 @@ LacksEither known fact other = (known fact ≡ false) ⊎ LacksAny known other
 -- an act is answered, of the words and worker before and after
 abbrev pub Answered : {A : Type 0} → Act → Memory A → Worker A → Memory A → Worker A → Stepped → Type 0
 Answered a memory worker memory' worker' said =
-    Happens memory.cards a (scene_in memory worker) said (scene_in memory' worker')
+    Happens memory.last_card a (scene_in memory worker) said (scene_in memory' worker')
 
 -- an act is refused, of the words and worker before
 abbrev pub RefusedAt : {A : Type 0} → Act → Memory A → Worker A → CoreFault → Type 0
-RefusedAt a memory worker fault = TurnRefused memory.cards a (scene_in memory worker) fault
+RefusedAt a memory worker fault = TurnRefused memory.last_card a (scene_in memory worker) fault
 
 -- a worker takes the turn of an act, of the words and worker before and after: the act is answered, or it is refused and the
 -- worker and the words are as they were

@@ -6,6 +6,8 @@ use Rattle.ell_core.specs.declared.fact.Fact.TheVariants as fact
 use Rattle.ell_core.specs.state.Words.{Words, put}
 use Rattle.ell_core.specs.state.Machine.{Ledger, Worker}
 use Rattle.ell_core.specs.state.Cards.{iflag, dflag, marked, is_delete_card, card_child}
+use Rattle.ell_core.specs.declared.view.Entry.{Entry}
+use Rattle.ell_core.specs.declared.view.Entry.TheVariants.{Present, Absent}
 
 -- the insert's flag was set: the parent's update word is the flag, or past it
 abbrev pub IFlagHolds : Words → ℕ → Type 0
@@ -75,17 +77,17 @@ abbrev pub phase : Words → ℕ → Phase
 phase w c = if is_delete_card w c then delete_phase w c else insert_phase w c
 
 -- what a card's phase has made of its key, if anything: present or absent
-abbrev pub settled : Phase → Option Bool
-settled IChanged = Some true
-settled IOver = Some true
-settled DCut = Some false
-settled DOver = Some false
+abbrev pub settled : Phase → Option Entry
+settled IChanged = Some Present
+settled IOver = Some Present
+settled DCut = Some Absent
+settled DOver = Some Absent
 settled _ = None
 
 -- a ledger where a key has come to be present or absent, if anything
-abbrev pub with_settled : Ledger → ℕ → Option Bool → Ledger
+abbrev pub with_settled : Ledger → ℕ → Option Entry → Ledger
 with_settled ledger key None = ledger
-with_settled ledger key (Some present) = put ledger key (Some present)
+with_settled ledger key (Some entry) = put ledger key (Some entry)
 
 abbrev pub effective_of : Words → Ledger → Option Op → Option ℕ → Bool → Ledger
 effective_of w ledger (Some op) (Some c) true = with_settled ledger (key_of op) (settled (phase w c))

@@ -10,6 +10,7 @@ use Rattle.ell_core.specs.state.Words.{Words}
 use Rattle.ell_core.specs.state.Machine.{Worker, Machine, nobody}
 use Rattle.ell_core.specs.tree.Tree.{OnWalk, Finds, Reached, IsTreeKey, IsLawful}
 use Rattle.ell_core.specs.soundness.Holds.{Holds, effective}
+use Rattle.ell_core.specs.declared.view.Entry.TheVariants.{Present}
 
 -- a worker owns a key
 abbrev pub Owns : Worker → ℕ → Type 0
@@ -25,12 +26,12 @@ pub record IsOwned (m : Machine) (key : ℕ) : Type 0 where
 pub record LedgersAreSound (m : Machine) : Type 0 where
   pub one_owner : (i j key : ℕ) → Owns (m.worker i) key → Owns (m.worker j) key → i ≡ j
   pub owned : (key : ℕ) → IsTreeKey m.words key → IsOwned m key
-  pub present : (i key : ℕ) → Owns (m.worker i) key → IsTreeKey m.words key ↔ (effective m.words (m.worker i) key ≡ Some true)
+  pub present : (i key : ℕ) → Owns (m.worker i) key → IsTreeKey m.words key ↔ (effective m.words (m.worker i) key ≡ Some Present)
 
 -- where a worker stands, the walk for its key finds the key exactly when its ledger has it present, and what is reached of
 -- that walk lies on the walk from the root
 pub record WalkIsSound (w : Words) (v : Worker) (key x : ℕ) : Type 0 where
-  pub finds : Finds w key x ↔ (v.ledger key ≡ Some true)
+  pub finds : Finds w key x ↔ (v.ledger key ≡ Some Present)
   pub joins : (y : ℕ) → OnWalk w key x y → Reached w y → OnWalk w key 0 y
 
 abbrev pub WalksAreSound : Machine → Type 0

@@ -1,4 +1,4 @@
-use Rattle.std.specs.Prelude.{true, false, List, [], ◌∷◌}
+use Rattle.std.specs.Prelude.{List, [], ◌∷◌}
 use Rattle.ell_core.specs.declared.fact.Fact.{Fact}
 use Rattle.ell_core.specs.state.Words.{with_update, put}
 use Rattle.ell_core.specs.state.Facts.{learned}
@@ -8,6 +8,7 @@ use Rattle.ell_core.specs.state.Opening.{opening_words}
 use Rattle.ell_core.specs.soundness.Sound.{FactsAreSound, IsSound}
 use Rattle.ell_core.specs.soundness.SmallTrees.{five_filled, five_linked, five, five_updated, five_cut}
 use Rattle.ell_core.specs.soundness.Unsound.{owner, holding, with_one}
+use Rattle.ell_core.specs.declared.view.Entry.TheVariants.{Present, Absent}
 
 -- a state is unsound by what is known
 abbrev pub BreaksFacts : Machine → Type 0
@@ -28,52 +29,52 @@ NoneHolds m (fact ∷ facts) = BreaksFacts (knowing m fact) × NoneHolds m facts
 
 -- card 1 was claimed and not filled as an insert's: with no left child it is a delete's
 abbrev pub not_an_insert : Machine
-not_an_insert = with_one (record (with_update opening_words 0 (clean 1)) { next = 2 }) (owner 5 false)
+not_an_insert = with_one (record (with_update opening_words 0 (clean 1)) { next = 2 }) (owner 5 Absent)
 
 -- an insert's child exchange was made without its flag
 abbrev pub linked_unflagged : Machine
-linked_unflagged = with_one five_linked (owner 5 true)
+linked_unflagged = with_one five_linked (owner 5 Present)
 
 -- an insert's flag was taken away, and the child is the leaf still
 abbrev pub never_linked : Machine
-never_linked = with_one (with_update five_filled 0 (clean 1)) (owner 5 false)
+never_linked = with_one (with_update five_filled 0 (clean 1)) (owner 5 Absent)
 
 -- an insert's child exchange was made, and its flag stands still
 abbrev pub insert_flag_stands : Machine
-insert_flag_stands = with_one (with_update five 0 (iflag 1)) (holding 1 (owner 5 true))
+insert_flag_stands = with_one (with_update five 0 (iflag 1)) (holding 1 (owner 5 Present))
 
 -- card 1 is an insert's, and is over
 abbrev pub not_a_delete : Machine
-not_a_delete = with_one five (owner 5 true)
+not_a_delete = with_one five (owner 5 Present)
 
 -- card 1 is an insert's, and a mark of it stands
 abbrev pub mark_of_an_insert : Machine
-mark_of_an_insert = with_one (with_update five 0 (marked 1)) (holding 1 (owner 5 true))
+mark_of_an_insert = with_one (with_update five 0 (marked 1)) (holding 1 (owner 5 Present))
 
 -- a delete marked and cut, and its flag was never set
 abbrev pub cut_unflagged : Machine
-cut_unflagged = with_one (five_cut (clean 1) (marked 2)) (owner 5 false)
+cut_unflagged = with_one (five_cut (clean 1) (marked 2)) (owner 5 Absent)
 
 -- a delete can't mark any more, and its flag was never set
 abbrev pub passed_unflagged : Machine
-passed_unflagged = with_one (five_updated (clean 1) (clean 1)) (owner 5 true)
+passed_unflagged = with_one (five_updated (clean 1) (clean 1)) (owner 5 Present)
 
 -- a delete's flag was taken away, and the parent's update word is the one that its search read
 abbrev pub never_marked : Machine
-never_marked = with_one (five_updated (clean 2) (clean 0)) (owner 5 true)
+never_marked = with_one (five_updated (clean 2) (clean 0)) (owner 5 Present)
 
 -- a delete cut without a mark
 abbrev pub cut_unmarked : Machine
-cut_unmarked = with_one (five_cut (clean 2) (clean 0)) (owner 5 false)
+cut_unmarked = with_one (five_cut (clean 2) (clean 0)) (owner 5 Absent)
 
 -- a delete marked, its flag was taken away, and the child is the parent still
 abbrev pub never_cut : Machine
-never_cut = with_one (five_updated (clean 2) (marked 2)) (holding 2 (owner 5 true))
+never_cut = with_one (five_updated (clean 2) (marked 2)) (holding 2 (owner 5 Present))
 
 -- a delete marked and cut, and its flag stands still
 abbrev pub cut_flag_stands : Machine
-cut_flag_stands = with_one (five_cut (dflag 2) (marked 2)) (holding 2 (owner 5 false))
+cut_flag_stands = with_one (five_cut (dflag 2) (marked 2)) (holding 2 (owner 5 Absent))
 
 -- a delete can't mark any more, and its flag stands still
 abbrev pub passed_flag_stands : Machine
-passed_flag_stands = with_one (five_updated (dflag 2) (clean 1)) (holding 2 (owner 5 true))
+passed_flag_stands = with_one (five_updated (dflag 2) (clean 1)) (holding 2 (owner 5 Present))

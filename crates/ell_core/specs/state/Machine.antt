@@ -1,14 +1,21 @@
-use Rattle.std.specs.Prelude.{ℕ, ◌==◌, Bool, false, Option, Some, None, List}
+use Rattle.std.specs.Prelude.{ℕ, ◌==◌, Bool, true, false, Option, Some, None, List}
 use Rattle.std.specs.Map.{lookup}
 use Rattle.ell_ops.specs.declared.op.Op.{Op}
 use Rattle.ell_core.specs.declared.view.Search.{Search}
 use Rattle.ell_core.specs.declared.view.WorkerView.{WorkerView}
 use Rattle.ell_core.specs.state.Words.{Words, put}
 use Rattle.ell_core.specs.state.Facts.{Knowledge, known_of}
+use Rattle.ell_core.specs.declared.view.Entry.{Entry}
+use Rattle.ell_core.specs.declared.view.Entry.TheVariants.{Present, Absent}
 
--- which keys a worker owns: none says not owned, some false absent, some true present
+-- which keys a worker owns: none says not owned, and else whether it is absent or present
 abbrev pub Ledger : Type 0
-Ledger = ℕ → Option Bool
+Ledger = ℕ → Option Entry
+
+-- present exactly where it holds
+abbrev pub present_if : Bool → Entry
+present_if true = Present
+present_if false = Absent
 
 -- a worker: its ledger, the operation in hand, its search, the card in hand and whether that won its flag, its knowledge
 pub record Worker : Type 0 where
@@ -19,12 +26,12 @@ pub record Worker : Type 0 where
   pub flagged : Bool
   pub knows : Knowledge
 
--- the words, the workers by their numbers and how many they are, and how many cards there are beside card 0
+-- the words, the workers by their numbers and how many they are, and the number of the last card
 pub record Machine : Type 0 where
   pub words : Words
   pub worker : ℕ → Worker
   pub count : ℕ
-  pub cards : ℕ
+  pub last_card : ℕ
 
 -- what one event sees and may change: the words, and its own worker
 pub record Scene : Type 0 where
@@ -51,7 +58,7 @@ abbrev pub nobody : Worker
 nobody = idle (λ _. None) (λ _. false)
 
 -- the ledger that a list of keys is
-abbrev pub ledger_of : List (ℕ × Bool) → Ledger
+abbrev pub ledger_of : List (ℕ × Entry) → Ledger
 ledger_of entries = λ key. lookup (λ k. key == k) entries
 
 -- the worker that a view is

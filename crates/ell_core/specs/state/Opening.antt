@@ -1,64 +1,113 @@
-use Rattle.std.specs.Prelude.{◌≡◌, ℕ, ◌<◌, ◌≤◌, ◌==◌, ◌&&◌, if◌then◌else◌, Bool, false, zero, suc, Some, None, List, [], ◌∷◌, slice_get, slice_set, replicate}
+use Rattle.std.specs.Prelude.{◌≡◌, ℕ, ◌+◌, ◌<◌, ◌≤◌, ◌==◌, ◌&&◌, if◌then◌else◌, Bool, false, zero, suc, nat_lt, Some, None, List, [], ◌∷◌, ◌++◌, length, slice_get, slice_index}
 use Rattle.std.specs.List.{list_any}
-use Rattle.ell_word.specs.Node.{left_leaf, right_leaf}
+use Rattle.ell_ops.specs.KeySet.{set_of}
+use Rattle.ell_word.specs.Node.{right_leaf}
 use Rattle.ell_core.specs.declared.event.CoreFault.{CoreFault}
 use Rattle.ell_core.specs.declared.event.CoreFault.TheVariants.{NoSuchWorker, OwnedTwice, NoMemory}
 use Rattle.ell_core.specs.declared.field.Field.{Field}
 use Rattle.ell_core.specs.declared.field.Field.TheVariants.{Gp, P, L, Was, Key, Left, Right, Update, LeftLeafKey, RightLeafKey}
-use Rattle.ell_core.specs.state.Layout.{table_size}
 use Rattle.ell_core.specs.state.Words.{Words, words_from}
-use Rattle.ell_core.specs.state.Machine.{Ledger, Machine, idle}
-use Rattle.ell_core.specs.state.Cards.{clean, filled_list}
+use Rattle.ell_core.specs.state.Machine.{Ledger, Machine, idle, present_if}
+use Rattle.ell_core.specs.state.Cards.{clean}
 use Rattle.ell_core.specs.tree.Tree.{infinity1, infinity2}
+use Rattle.ell_core.specs.declared.branch.Branch.{Branch}
+use Rattle.ell_core.specs.state.Branches.{root_branch, branch_of, left_child, right_child}
+use Rattle.ell_core.specs.declared.view.Entry.{Entry}
 
--- the fields of card 0 at the start: a root of the greatest key over two leaves
-abbrev pub root_field : Field → ℕ
-root_field Gp = 0
-root_field P = 0
-root_field L = 0
-root_field Was = 0
-root_field Key = infinity2
-root_field Left = left_leaf 0
-root_field Right = right_leaf 0
-root_field Update = clean 0
-root_field LeftLeafKey = infinity1
-root_field RightLeafKey = infinity2
+-- the keys of the leaves at the start, from left to right: the start keys, and the two above all keys
+abbrev pub start_leaf : List ℕ → ℕ → ℕ
+start_leaf start i = slice_index (start ++ infinity1 ∷ infinity2 ∷ []) i
 
--- those of them that are not 0
-abbrev pub root_filling : List (Field × ℕ)
-root_filling =
-    (Key, infinity2) ∷ (Left, left_leaf 0) ∷ (Right, right_leaf 0) ∷ (Update, clean 0) ∷ (LeftLeafKey, infinity1)
+-- the fields of card 0 at the start: a root of the greatest key; on its left the tree over the start keys and the lesser of the
+-- two keys above all keys, or, where there are no start keys, the leaf of that key; on its right the leaf of the greater
+abbrev pub root_field : ℕ → Field → ℕ
+root_field many Gp = 0
+root_field many P = 0
+root_field many L = 0
+root_field many Was = 0
+root_field many Key = infinity2
+root_field many Left = left_child (root_branch (many + 1))
+root_field many Right = right_leaf 0
+root_field many Update = clean 0
+root_field many LeftLeafKey = infinity1
+root_field many RightLeafKey = infinity2
+
+-- the fields of another card of the opening tree, by its branch and the keys of the leaves: it goes nowhere, and a leaf of it that
+-- is not used has key 0
+abbrev pub branch_field : (ℕ → ℕ) → Branch → Field → ℕ
+branch_field leaf b Gp = 0
+branch_field leaf b P = 0
+branch_field leaf b L = 0
+branch_field leaf b Was = 0
+branch_field leaf b Key = leaf (b.first + b.left)
+branch_field leaf b Left = left_child b
+branch_field leaf b Right = right_child b
+branch_field leaf b Update = clean 0
+branch_field leaf b LeftLeafKey = if b.left == 1 then leaf b.first else 0
+branch_field leaf b RightLeafKey = if b.right == 1 then leaf (b.first + b.left) else 0
+
+-- those of them that are written over zeros
+abbrev pub branch_filling : (ℕ → ℕ) → Branch → List (Field × ℕ)
+branch_filling leaf b =
+    (Key, leaf (b.first + b.left)) ∷ (Left, left_child b) ∷ (Right, right_child b) ∷ (Update, clean 0)
+    ∷ (LeftLeafKey, (if b.left == 1 then leaf b.first else 0)) ∷ (RightLeafKey, (if b.right == 1 then leaf (b.first + b.left) else 0)) ∷ []
+
+-- those of card 0 that are written over zeros, where there are so many start keys
+abbrev pub root_filling : ℕ → List (Field × ℕ)
+root_filling many =
+    (Key, infinity2) ∷ (Left, left_child (root_branch (many + 1))) ∷ (Right, right_leaf 0) ∷ (Update, clean 0) ∷ (LeftLeafKey, infinity1)
     ∷ (RightLeafKey, infinity2) ∷ []
 
--- the list of all words at the start: zeros, but the claim word is 1, and card 0 is filled
-abbrev pub opening_list : ℕ → List ℕ
-opening_list cards = filled_list (slice_set (replicate (table_size cards) 0) 0 1) 0 root_filling
+-- the fields of all cards at the start: those of the cards after the opening tree's are 0
+abbrev pub start_field : List ℕ → ℕ → Field → ℕ
+start_field start zero field = root_field (length start) field
+start_field start (suc c) field =
+    if nat_lt c (length start) then branch_field (start_leaf start) (branch_of (length start + 1) (suc c)) field else 0
 
--- the fields of all cards at the start: those of the others are 0
-abbrev pub opening_field : ℕ → Field → ℕ
-opening_field zero field = root_field field
-opening_field (suc c) field = 0
+-- the words at the start: the next card is the one after the opening tree's
+abbrev pub start_words : List ℕ → Words
+start_words start = words_from (length start + 1) (start_field start)
 
--- the words at the start: card 1 is the next one
+-- the words at the start where there are no start keys
 abbrev pub opening_words : Words
-opening_words = words_from 1 opening_field
+opening_words = start_words []
 
 -- whether an entry, a worker and a key, gives the key to the worker
 abbrev pub gives : ℕ → ℕ → ℕ × ℕ → Bool
 gives i key entry = (entry.0 == i) && (entry.1 == key)
 
--- the ledger of worker i at the start: its keys are those that the entries give it, all absent
-abbrev pub opening_ledger : List (ℕ × ℕ) → ℕ → Ledger
-opening_ledger owned i = λ key. if list_any (gives i key) owned then Some false else None
+-- what start keys make of a key
+abbrev pub start_entry : List ℕ → ℕ → Entry
+start_entry start key = present_if (set_of start key)
 
--- the opening state of so many workers, with these entries of a worker and a key, and so many cards
-unfoldable pub opening : ℕ → List (ℕ × ℕ) → ℕ → Machine
-opening count owned cards = record {
-  words = opening_words;
-  count = count;
-  cards = cards;
-  worker = λ i. idle (opening_ledger owned i) (λ _. false);
+-- the ledger of worker i at the start: its keys are those that the entries give it, and the start keys among them are present
+abbrev pub opening_ledger : List (ℕ × ℕ) → List ℕ → ℕ → Ledger
+opening_ledger owned start i = λ key. if list_any (gives i key) owned then Some (start_entry start key) else None
+
+-- what a state opens with: so many workers, the keys that they own, by entries of a worker and a key, the start keys, and so many
+-- cards beside those of the start keys' tree
+pub record Setup : Type 0 where
+  pub count : ℕ
+  pub owned : List (ℕ × ℕ)
+  pub start : List ℕ
+  pub cards : ℕ
+
+-- the last card, where so many cards follow those of the start keys' tree
+abbrev pub last_card : List ℕ → ℕ → ℕ
+last_card start cards = cards + length start
+
+-- the opening state
+unfoldable pub opening : Setup → Machine
+opening setup = record {
+  words = start_words setup.start;
+  count = setup.count;
+  last_card = last_card setup.start setup.cards;
+  worker = λ i. idle (opening_ledger setup.owned setup.start i) (λ _. false);
 }
+
+-- whether a key is given to some worker
+abbrev pub is_given : List (ℕ × ℕ) → ℕ → Bool
+is_given owned key = list_any (λ entry. entry.1 == key) owned
 
 -- the entry at a place names a worker that is not there
 pub record IsStranger (count : ℕ) (owned : List (ℕ × ℕ)) (at : ℕ) : Type 0 where

@@ -1,33 +1,33 @@
-use Rattle.std.specs.Prelude.{◌≡◌, ◌≢◌, ℕ, ◌<◌, ◌≤◌, ◌||◌, if◌then◌else◌, Bool, Option, Some, None, List, [], ◌∷◌, zero, suc, false, length, map}
+use Rattle.std.specs.Prelude.{◌≡◌, ◌≢◌, ℕ, ◌<◌, ◌≤◌, ◌||◌, if◌then◌else◌, Bool, Option, Some, None, List, [], ◌∷◌, true, zero, suc, false, map}
 use Rattle.std.specs.List.{All}
 use Rattle.std.specs.List.Sorted.{IsStrictlyIncreasing}
+use Rattle.ell_ops.specs.KeySet.{set_of}
 use Rattle.ell_ops.specs.Meaning.{greatest_key}
 use Rattle.ell_core.specs.declared.event.Event.{Event}
 use Rattle.ell_core.specs.declared.event.Shown.{Shown}
 use Rattle.ell_core.specs.state.Facts.{Knowledge}
-use Rattle.ell_core.specs.state.Layout.{table_size}
-use Rattle.ell_core.specs.state.Words.{words_of}
 use Rattle.ell_core.specs.state.Machine.{Ledger, Worker, Machine, idle, nobody, ledger_of}
 use Rattle.ell_core.specs.state.Moves.{IsIdle, Parts, Split, Join}
-use Rattle.ell_core.specs.state.Opening.{opening, opening_words, opening_list}
+use Rattle.ell_core.specs.state.Opening.{Setup, opening, start_words, last_card, start_entry}
 use Rattle.ell_core.specs.acts.Runs.{Shows}
 use Rattle.ell_core.specs.history.Stages.{Stages}
 use Rattle.ell_core.specs.history.Invariant.{Invariant, HasInvariant}
 use Rattle.ell_core.specs.statements.StepLaws.{OwnsAll}
 use Rattle.ell_core.specs.statements.RunLaws.{CanOpen, IsPassed, IsOpening, Follow}
+use Rattle.ell_core.specs.declared.view.Entry.{Entry}
 
--- any two real keys can open, of workers that are there, be they two or one
+-- any two real keys can open, of workers that are there, be they two or one, with no start keys
 abbrev pub TwoKeysCanOpen : Type 0
-TwoKeysCanOpen = (count i j first second : ℕ) → i < count → j < count → first ≢ second → first ≤ greatest_key → second ≤ greatest_key
-    → CanOpen count ((i, first) ∷ (j, second) ∷ [])
+TwoKeysCanOpen = (count i j first second cards : ℕ) → i < count → j < count → first ≢ second → first ≤ greatest_key → second ≤ greatest_key
+    → CanOpen (record { count = count; owned = (i, first) ∷ (j, second) ∷ []; start = []; cards = cards })
 
 -- every opening is a state of a run
 abbrev pub OpeningsArePassed : Type 0
-OpeningsArePassed = (count : ℕ) (owned : List (ℕ × ℕ)) (cards : ℕ) → CanOpen count owned → IsPassed (opening count owned cards)
+OpeningsArePassed = (setup : Setup) → CanOpen setup → IsPassed (opening setup)
 
 -- and is one that opens
 abbrev pub OpeningsAreOpenings : Type 0
-OpeningsAreOpenings = (count : ℕ) (owned : List (ℕ × ℕ)) (cards : ℕ) → CanOpen count owned → IsOpening (opening count owned cards)
+OpeningsAreOpenings = (setup : Setup) → CanOpen setup → IsOpening (opening setup)
 
 -- what is shown of an event leads from a state of a run to a state of a run
 abbrev pub EventsPassOn : Type 0
@@ -65,8 +65,8 @@ EveryPartingIsASplit = (m : Machine) (i : ℕ) (left right : Ledger) → i < m.c
     → Parts (m.worker i).ledger left right → SplitsInto m i left right
 
 -- an entry where there is one, and else another
-abbrev pub entry_or : Option Bool → Option Bool → Option Bool
-entry_or (Some present) other = Some present
+abbrev pub entry_or : Option Entry → Option Entry → Option Entry
+entry_or (Some entry) other = Some entry
 entry_or None other = other
 
 -- two ledgers in one
@@ -96,39 +96,36 @@ IdleWorkersJoin = (m : Machine) (stage : Stages) (i j : ℕ) → Invariant m sta
 
 -- the one worker of an opening owns every key that any worker owns
 abbrev pub OneWorkerOwnsAll : Type 0
-OneWorkerOwnsAll = (owned : List (ℕ × ℕ)) (cards : ℕ) → CanOpen 1 owned → OwnsAll (opening 1 owned cards) 0
+OneWorkerOwnsAll = (setup : Setup) → CanOpen setup → setup.count ≡ 1 → OwnsAll (opening setup) 0
 
 -- so does the one worker of a state that the invariant holds of, where it has nothing in hand
 abbrev pub IdleWorkerOwnsAll : Type 0
 IdleWorkerOwnsAll = (m : Machine) (stage : Stages) → Invariant m stage → m.count ≡ 1 → IsIdle (m.worker 0) → OwnsAll m 0
-
--- a list of all words at the start has the opening words, and is of the size of its table
-pub record OpensList (cards : ℕ) : Type 0 where
-  pub size : length (opening_list cards) ≡ table_size cards
-  pub words : words_of (opening_list cards) ≡ opening_words
-
-abbrev pub OpeningListsOpen : Type 0
-OpeningListsOpen = (cards : ℕ) → OpensList cards
 
 -- worker 0, and nobody else
 abbrev pub first_alone : Worker → ℕ → Worker
 first_alone v zero = v
 first_alone v (suc i) = nobody
 
--- the state at the start of one worker that owns these keys, all absent
-abbrev pub opening_of_one : List ℕ → ℕ → Machine
-opening_of_one keys cards = record {
-  words = opening_words;
-  worker = first_alone (idle (ledger_of (map (λ k. (k, false)) keys)) (λ _. false));
+-- these keys, of which the start keys are present and the others absent
+abbrev pub keys_at_start : List ℕ → List ℕ → List (ℕ × Entry)
+keys_at_start keys start = map (λ k. (k, start_entry start k)) keys
+
+-- the state at the start of one worker that owns these keys, of which the start keys are present, with so many cards to claim
+abbrev pub opening_of_one : List ℕ → List ℕ → ℕ → Machine
+opening_of_one keys start cards = record {
+  words = start_words start;
+  worker = first_alone (idle (ledger_of (keys_at_start keys start)) (λ _. false));
   count = 1;
-  cards = cards;
+  last_card = last_card start cards;
 }
 
 -- it is an opening, and has the invariant
-pub record OpensForOne (keys : List ℕ) (cards : ℕ) : Type 0 where
-  pub opens : IsOpening (opening_of_one keys cards)
-  pub lawful : HasInvariant (opening_of_one keys cards)
+pub record OpensForOne (keys start : List ℕ) (cards : ℕ) : Type 0 where
+  pub opens : IsOpening (opening_of_one keys start cards)
+  pub lawful : HasInvariant (opening_of_one keys start cards)
 
--- so it is with every ascending list of real keys
+-- so it is with every ascending list of real keys, and every ascending list of start keys among them
 abbrev pub OneWorkerOpens : Type 0
-OneWorkerOpens = (keys : List ℕ) (cards : ℕ) → IsStrictlyIncreasing keys → All (λ k. k ≤ greatest_key) keys → OpensForOne keys cards
+OneWorkerOpens = (keys start : List ℕ) (cards : ℕ) → IsStrictlyIncreasing keys → All (λ k. k ≤ greatest_key) keys
+    → IsStrictlyIncreasing start → All (λ k. set_of keys k ≡ true) start → OpensForOne keys start cards

@@ -1,4 +1,4 @@
-use Rattle.std.specs.Prelude.{◌≡◌, ◌≢◌, ℕ, ◌+◌, ◌<◌, ◌⊎◌, Bool, Some, List, [], ◌∷◌}
+use Rattle.std.specs.Prelude.{◌≡◌, ◌≢◌, ℕ, ◌+◌, ◌<◌, ◌⊎◌, Some, List, [], ◌∷◌}
 use Rattle.ell_ops.specs.declared.op.Op.{Op}
 use Rattle.ell_ops.specs.Meaning.{reply_of}
 use Rattle.ell_word.specs.Node.{IsInternal, internal}
@@ -25,6 +25,7 @@ use Rattle.ell_core.specs.history.Invariant.{Invariant}
 use Rattle.ell_core.specs.history.Later.{SameInfo, SameNode}
 use Rattle.ell_core.specs.statements.StepLaws.{AddsKey, KnowledgeLasts, set_in}
 use Rattle.ell_core.specs.statements.RunLaws.{IsPassed, IsOpening, Follow, Begins, wins_in, cut_order, back_order}
+use Rattle.ell_ops.specs.declared.reply.Reply.{Reply}
 
 -- update words rise at every event (in truth they may stay)
 abbrev pub WordsAlwaysRise : Type 0
@@ -65,7 +66,7 @@ InsertsAddTheNextKey = (m : Machine) (e : Event) (c : ℕ) (m' : Machine) → Is
 
 -- an answer is that of the set after the operation (in truth of the set before it)
 abbrev pub AnswersAreOfTheSetAfter : Type 0
-AnswersAreOfTheSetAfter = (m : Machine) (e : Event) (op : Op) (reply : Bool) (m' : Machine) → IsPassed m
+AnswersAreOfTheSetAfter = (m : Machine) (e : Event) (op : Op) (reply : Reply) (m' : Machine) → IsPassed m
     → (m.worker e.worker).operation ≡ Some op → Steps m e (Answered reply) m'
     → reply ≡ reply_of op (set_in (m'.worker e.worker).ledger)
 

@@ -1,4 +1,5 @@
-use Rattle.std.specs.Prelude.{◌≡◌, ℕ, ◌<◌, ◌≤◌, ◌⊎◌, Bool, List, [], ◌∷◌, ◌++◌}
+use Rattle.std.specs.Prelude.{◌≡◌, ℕ, ◌<◌, ◌≤◌, ◌⊎◌, Bool, true, List, [], ◌∷◌, ◌++◌}
+use Rattle.std.specs.List.Sorted.{IsStrictlyIncreasing}
 use Rattle.std.specs.List.{All}
 use Rattle.ell_ops.specs.Meaning.{greatest_key}
 use Rattle.ell_word.specs.Node.{internal, card}
@@ -12,7 +13,7 @@ use Rattle.ell_core.specs.declared.event.Shown.{Shown}
 use Rattle.ell_core.specs.declared.event.Shown.TheVariants as shown
 use Rattle.ell_core.specs.state.Words.{Words}
 use Rattle.ell_core.specs.state.Machine.{Machine}
-use Rattle.ell_core.specs.state.Opening.{opening, Faultless}
+use Rattle.ell_core.specs.state.Opening.{Setup, opening, is_given, Faultless}
 use Rattle.ell_core.specs.acts.Runs.{Shows, Run}
 use Rattle.ell_core.specs.soundness.Sound.{IsSound}
 use Rattle.ell_core.specs.history.Stages.{Stages}
@@ -20,20 +21,21 @@ use Rattle.ell_core.specs.history.Invariant.{Invariant, HasInvariant}
 use Rattle.ell_core.specs.history.Later.{WordsLater, StagesLater, SameNode, SameInfo, wins_by}
 use Rattle.ell_core.specs.statements.StepLaws.{KeysChange, SameKeys, LedgersChange, KnowledgeLasts, FactsLast}
 
--- the lists of owned keys that an opening takes: each entry's worker is there, no key stands twice, and each is a real one
-pub record CanOpen (count : ℕ) (owned : List (ℕ × ℕ)) : Type 0 where
-  pub faultless : Faultless count owned
-  pub real : All (λ entry. entry.1 ≤ greatest_key) owned
+-- what an opening takes: each entry's worker is there, no key is owned twice, and each is a real one; the start keys ascend, and each
+-- of them is owned
+pub record CanOpen (setup : Setup) : Type 0 where
+  pub faultless : Faultless setup.count setup.owned
+  pub real : All (λ entry. entry.1 ≤ greatest_key) setup.owned
+  pub ascending : IsStrictlyIncreasing setup.start
+  pub given : All (λ k. is_given setup.owned k ≡ true) setup.start
 
 -- a state of a run: some schedule leads to it from an opening state
 pub record IsPassed (m : Machine) : Type 0 where
-  pub count : ℕ
-  pub owned : List (ℕ × ℕ)
-  pub cards : ℕ
-  pub can : CanOpen count owned
+  pub setup : Setup
+  pub can : CanOpen setup
   pub schedule : List Event
   pub answers : List Shown
-  pub run : Run (opening count owned cards) schedule answers m
+  pub run : Run (opening setup) schedule answers m
 
 -- the invariant holds of every state of a run
 abbrev pub EveryStateHasInvariant : Type 0
@@ -98,11 +100,9 @@ InOrder wins = Begins insert_order wins ⊎ (Begins cut_order wins ⊎ Begins ba
 
 -- a state is an opening
 pub record IsOpening (m : Machine) : Type 0 where
-  pub count : ℕ
-  pub owned : List (ℕ × ℕ)
-  pub cards : ℕ
-  pub can : CanOpen count owned
-  pub opens : m ≡ opening count owned cards
+  pub setup : Setup
+  pub can : CanOpen setup
+  pub opens : m ≡ opening setup
 
 -- each card wins in one of these orders, in a run of these events with these answers
 abbrev pub WinsInOrder : Machine → List Event → List Shown → Machine → Type 0

@@ -1,7 +1,6 @@
 use Rattle.std.specs.Prelude.{◌≡◌, ◌≢◌, ℕ, ◌+◌, ◌<◌, ◌≤◌, ◌⊎◌, ◌↔◌, Bool, true, false, Option, Some, None}
 use Rattle.ell_ops.specs.declared.op.Op.{Op}
-use Rattle.ell_ops.specs.KeySet.{KeySet}
-use Rattle.ell_ops.specs.Meaning.{key_of, reply_of, after}
+use Rattle.ell_ops.specs.Meaning.{Contents, key_of, reply_of, after}
 use Rattle.ell_word.specs.Node.{IsInternal, card}
 use Rattle.ell_word.specs.Word.{unpacked}
 use Rattle.ell_word.specs.declared.update.State.TheVariants as state
@@ -26,6 +25,9 @@ use Rattle.ell_core.specs.soundness.Sound.{Owns, IsSound, flags_at}
 use Rattle.ell_core.specs.history.Stages.{Stages, Born}
 use Rattle.ell_core.specs.history.Invariant.{Invariant}
 use Rattle.ell_core.specs.history.Later.{Follows}
+use Rattle.ell_core.specs.declared.view.Entry.{Entry}
+use Rattle.ell_core.specs.declared.view.Entry.TheVariants.{Present}
+use Rattle.ell_ops.specs.declared.reply.Reply.{Reply}
 
 -- the tree has one key more, which it had not
 pub record AddsKey (old new : Words) (key : ℕ) : Type 0 where
@@ -49,16 +51,16 @@ KeysChange (act.DChild c) Won old new = TakesKey old new (card_key old c)
 KeysChange _ _ old new = SameKeys old new
 
 -- whether an entry of a ledger is a key that is present
-abbrev pub is_present : Option Bool → Bool
-is_present (Some present) = present
-is_present None = false
+abbrev pub is_present : Option Entry → Bool
+is_present (Some Present) = true
+is_present _ = false
 
 -- the set of the keys that a ledger has present
-abbrev pub set_in : Ledger → KeySet
+abbrev pub set_in : Ledger → Contents
 set_in ledger = λ key. is_present (ledger key)
 
 -- an answer is the set's answer to the operation in hand, and the ledger becomes the set after it, of the same keys
-pub record AnswersAsSet (old new : Ledger) (operation : Option Op) (reply : Bool) : Type 0 where
+pub record AnswersAsSet (old new : Ledger) (operation : Option Op) (reply : Reply) : Type 0 where
   pub op : Op
   pub busy : operation ≡ Some op
   pub says : reply ≡ reply_of op (set_in old)
@@ -178,7 +180,7 @@ pub record Reliance (m : Machine) (stage : Stages) (i : ℕ) : Type 0 where
   pub has_read : (x word : ℕ) → (m.worker i).search.node ≡ Some x → IsInternal x → (m.worker i).search.read ≡ Some word
       → (unpacked word).card < m.words.next
   pub down : (said : Stepped) (after : Scene) (x y : ℕ) → Down (scene m i) said after → (m.worker i).search.node ≡ Some x
-      → after.worker.search.node ≡ Some y → (x < y) × (card y ≤ m.cards)
+      → after.worker.search.node ≡ Some y → (x < y) × (card y ≤ m.last_card)
   pub parent : (x : ℕ) (seen : Seen) → (m.worker i).search.node ≡ Some x → (m.worker i).search.parent ≡ Some seen
       → HasSeen m.words stage seen x
   pub grandparent : (x : ℕ) (seen above : Seen) → (m.worker i).search.node ≡ Some x → (m.worker i).search.parent ≡ Some seen
@@ -192,7 +194,7 @@ pub record Reliance (m : Machine) (stage : Stages) (i : ℕ) : Type 0 where
   pub marked : (f : Fact) → (m.worker i).knows f ≡ true → is_of_marked f ≡ true
       → m.words.update (m.words.p (card_of_fact f)) ≡ marked (card_of_fact f)
   pub leaf_key : (op : Op) (x : ℕ) → (m.worker i).operation ≡ Some op → (m.worker i).search.node ≡ Some x → IsLeaf x
-      → (m.words.key x ≡ key_of op) ↔ ((m.worker i).ledger (key_of op) ≡ Some true)
+      → (m.words.key x ≡ key_of op) ↔ ((m.worker i).ledger (key_of op) ≡ Some Present)
   pub claimed : (x : ℕ) → Born stage x → card x < m.words.next
   pub known : (f : Fact) → (m.worker i).knows f ≡ true → card_of_fact f < m.words.next
   pub hand : (c : ℕ) → (m.worker i).card ≡ Some c → c < m.words.next
@@ -200,7 +202,7 @@ pub record Reliance (m : Machine) (stage : Stages) (i : ℕ) : Type 0 where
   pub owned : (op : Op) → (m.worker i).operation ≡ Some op → Owns (m.worker i) (key_of op)
   pub goes : (c : ℕ) → c < m.words.next → GoesInTree m.words stage c
   pub some : 0 < m.words.next
-  pub room : m.words.next ≤ m.cards + 1
+  pub room : m.words.next ≤ m.last_card + 1
 
 -- so it is for every worker in every state that the invariant holds of
 abbrev pub StepsMayRely : Type 0

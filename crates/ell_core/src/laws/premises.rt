@@ -1,23 +1,29 @@
 //! What the laws suppose is there: openings, states of a run, states that follow one another, splits and joins, and a worker
 //! that owns every key. Each is the contract of a function that does nothing.
-ghost use Rattle.ell_core.specs.statements.Premises.{TwoKeysCanOpen, OpeningListsOpen, OneWorkerOpens, OpeningsArePassed, OpeningsAreOpenings, EventsPassOn, StatesFollowThemselves, EventsAreFollowed, EveryTestParts, EveryPartingIsASplit, EveryUnionIsAJoin, IdleWorkersJoin, OneWorkerOwnsAll, IdleWorkerOwnsAll};
+ghost use Rattle.ell_core.specs.statements.Start.{OpeningsHaveTheirStartKeys};
+ghost use Rattle.ell_core.specs.statements.Premises.{TwoKeysCanOpen, OneWorkerOpens, OpeningsArePassed, OpeningsAreOpenings, EventsPassOn, StatesFollowThemselves, EventsAreFollowed, EveryTestParts, EveryPartingIsASplit, EveryUnionIsAJoin, IdleWorkersJoin, OneWorkerOwnsAll, IdleWorkerOwnsAll};
 
 /// A list of any two real keys can open, with workers that are there: one for each, or one for both.
 pub fn two_keys_can_open()
     ensures { TwoKeysCanOpen }
 {}
 
-/// One worker can open with any ascending list of real keys, all of them its own and absent, over a list of words that are zeros
-/// but for the claim word and the root of card 0.
+/// One worker can open with any ascending list of real keys, all of them its own, and any ascending list of start keys among them,
+/// which are present, where there are cards for their tree.
 pub fn one_worker_can_open()
-    ensures words { OpeningListsOpen }
-    ensures keys { OneWorkerOpens }
+    ensures { OneWorkerOpens }
 {}
 
 /// Every opening is a state of a run, and is an opening.
 pub fn openings_are_passed()
     ensures passed { OpeningsArePassed }
     ensures openings { OpeningsAreOpenings }
+{}
+
+/// The keys of an opening's tree are the start keys; each of them has an owner, and of the keys that a worker owns just they are
+/// present.
+pub fn openings_have_their_start_keys()
+    ensures { OpeningsHaveTheirStartKeys }
 {}
 
 /// What an event makes of a state of a run is a state of a run; so is the state where it is refused.

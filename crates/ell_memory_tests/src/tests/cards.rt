@@ -1,5 +1,5 @@
 //! Tables of cards, the passes that they part and join, and the step calls.
-ghost use Rattle.std.specs.Prelude.{◌≡◌, ◌≤◌};
+ghost use Rattle.std.specs.Prelude.{◌+◌, ◌≡◌, ◌≤◌};
 ghost use Rattle.ell_word.specs.Node.{greatest_card};
 ghost use Rattle.ell_cards.specs.Models.{IsFree};
 ghost use Rattle.ell_test_steps.specs.Fitting.{IsIdle, IsReady};
@@ -13,8 +13,10 @@ use ell_cards::{CardFault, CardTable, Closed, Pass};
 use ell_core::Field;
 use ell_ops::NoMemory;
 use ell_test_steps::{Memory, nothing, step};
-use std::alloc::Allocator;
+use std::alloc::{Allocator, Global};
 use std::process::Abort;
+
+const START: [u64; 1] = [7];
 
 // Reserves a table.
 fn reserve(heap: &Heap, refusal: Refusal) -> Ended {
@@ -23,6 +25,52 @@ fn reserve(heap: &Heap, refusal: Refusal) -> Ended {
     heap.stop();
     match made {
         Ok((_table, pass)) => Ended::answered(pass.keys() == KEYS.as_slice()),
+        Err(fault) => Ended::no_memory(fault == CardFault::NoMemory),
+    }
+}
+
+// A word of a table that has ended, if it has the card.
+fn word_of<A: Allocator + Copy>(closed: &Closed<A>, card: u64, field: Field) -> Option<u64> {
+    if card <= closed.last_card() {
+        Some(closed.word(card, field))
+    } else {
+        None
+    }
+}
+
+// Whether a card has the same words in two tables that have ended.
+fn is_same_card<A: Allocator + Copy, B: Allocator + Copy>(
+    one: &Closed<A>,
+    other: &Closed<B>,
+    card: u64,
+) -> bool {
+    Field::ALL.iter().all(|field| word_of(one, card, *field) == word_of(other, card, *field))
+}
+
+// Whether a table with a start key, closed at once, has the words of one that nothing was refused to.
+fn is_started<A: Allocator + Copy>(alloc: Global, table: CardTable<A>, pass: Pass<A>) -> bool
+    requires own { pass.table ≡ table.id }
+    requires free { IsFree pass.view }
+    requires keys { table.keys ≡ KEYS }
+{
+    let Ok((other, plain)) = CardTable::reserve_from(alloc, &START, &KEYS, CARDS) else {
+        return false;
+    };
+    if !tells(&pass, &KEYS, 0, 0) || !owns_both(&pass) || !owns_both(&plain) {
+        return false;
+    }
+    let (closed, want) = (table.close(pass), other.close(plain));
+    let last = closed.last_card();
+    last == CARDS + 1 && (0..=last).all(|card| is_same_card(&closed, &want, card))
+}
+
+// Reserves a table with a start key.
+fn reserve_from(alloc: Global, heap: &Heap, refusal: Refusal) -> Ended {
+    heap.refuse(refusal);
+    let made = CardTable::reserve_from(heap, &START, &KEYS, CARDS);
+    heap.stop();
+    match made {
+        Ok((table, pass)) => Ended::answered(is_started(alloc, table, pass)),
         Err(fault) => Ended::no_memory(fault == CardFault::NoMemory),
     }
 }
@@ -106,6 +154,11 @@ fn a_table_is_reserved_or_there_is_no_memory(rt: HostRuntime) {
 }
 
 #[test]
+fn a_table_is_reserved_with_start_keys_or_there_is_no_memory(rt: HostRuntime) {
+    sweep(&rt, |heap, refusal| reserve_from(rt.alloc(), heap, refusal));
+}
+
+#[test]
 fn a_pass_is_parted_or_comes_back(rt: HostRuntime) {
     sweep(&rt, |heap, refusal| split(&rt, heap, refusal));
 }
@@ -119,8 +172,12 @@ fn passes_are_joined_or_come_back(rt: HostRuntime) {
 fn cards_are_tested_before_memory(rt: HostRuntime) {
     let heap = Heap::new(rt.alloc());
     heap.refuse(Refusal::From(1));
-    for cards in [0, 1_000_001] {
+    for cards in [0, 1_000_001, 1_200_000] {
         let fault = CardTable::reserve(&heap, &KEYS, cards).err();
+        assert!(rt; fault == Some(CardFault::BadCards), "{cards} cards");
+        let fault = CardTable::reserve_from(&heap, &[], &KEYS, cards).err();
+        assert!(rt; fault == Some(CardFault::BadCards), "{cards} cards");
+        let fault = CardTable::reserve_from(&heap, &START, &KEYS, cards).err();
         assert!(rt; fault == Some(CardFault::BadCards), "{cards} cards");
     }
     assert!(rt; heap.growths() == 0);
@@ -131,19 +188,19 @@ fn a_pass_tells_of_itself_without_memory(rt: HostRuntime) {
     let heap = Heap::new(rt.alloc());
     let (table, mut pass) = CardTable::reserve(&heap, &KEYS, CARDS).expect(&rt, "no memory");
     heap.refuse(Refusal::From(1));
-    assert!(rt; table.cards() == CARDS && tells(&pass, &KEYS, 0, 0));
+    assert!(rt; table.last_card() == CARDS && tells(&pass, &KEYS, 0, 0));
     pass.relabel(3);
     assert!(rt; table.next(&mut pass) == 1);
     assert!(rt; tells(&pass, &KEYS, 3, 1));
     assert!(rt; heap.growths() == 0);
 }
 
-// Whether a closed table tells its cards, and the words of the first card and of the last one where none was claimed.
+// Whether a closed table tells its last card, and the words of the first card and of the last one where none was claimed.
 fn is_untouched<A: Allocator + Copy>(closed: &Closed<A>) -> bool {
-    let cards = closed.cards();
-    cards == CARDS
+    let last = closed.last_card();
+    last == CARDS
         && closed.word(0, Field::LeftLeafKey) == 18_446_744_073_709_551_614
-        && closed.word(cards, Field::Key) == 0
+        && closed.word(last, Field::Key) == 0
 }
 
 #[test]
@@ -178,7 +235,7 @@ fn are_done<A: Allocator + Copy>(
 // Plays the turns by two passes with nothing in hand.
 #[tactic(auto, using(ell_test_steps::proofs::Readiness::ready_idle))]
 fn play<A: Allocator + Copy>(rt: &impl Abort, table: &CardTable<A>, parts: (Pass<A>, Pass<A>))
-    requires limit { table.now.cards ≤ greatest_card }
+    requires limit { table.now.last_card ≤ greatest_card }
     requires left { (parts.0.table ≡ table.now.id) × IsIdle parts.0.view }
     requires right { (parts.1.table ≡ table.now.id) × IsIdle parts.1.view }
 {

@@ -10,8 +10,8 @@ use std::thread::Threads;
 
 // Three operations for each of two workers.
 const OPS: [Op; 6] = [
-    Op::Insert(5),
-    Op::Insert(7),
+    Op::Insert(5, 50),
+    Op::Insert(7, 70),
     Op::Find(5),
     Op::Find(7),
     Op::Delete(5),

@@ -1,20 +1,26 @@
 //! Lists of operations, their parts and their replies.
 use super::refusing::{Heap, Refusal};
 use super::sweeping::{Ended, sweep};
+use ell_ops::Reply::{self, No, Yes};
 use ell_ops::{NoMemory, Op, apply_all, apply_from};
 use ell_parts::{GatherFault, PartFault, Parts, gather};
 use std::alloc::Allocator;
 
-const OPS: [Op; 4] = [Op::Insert(7), Op::Insert(5), Op::Find(7), Op::Delete(7)];
+const OPS: [Op; 4] = [
+    Op::Insert(7, 70),
+    Op::Insert(5, 50),
+    Op::Find(7),
+    Op::Delete(7),
+];
 
 // Each operation answers that it is so, and these keys are left.
 fn are_answered<A: Allocator>(
-    answered: &Result<(Vec<bool, A>, Vec<u64, A>), NoMemory>,
+    answered: &Result<(Vec<Reply, A>, Vec<u64, A>), NoMemory>,
     keys: &[u64],
 ) -> Ended {
     match answered {
         Ok((replies, left)) => Ended::answered(
-            replies.as_slice() == [true; 4].as_slice() && left.as_slice() == keys,
+            replies.as_slice() == [Yes; 4].as_slice() && left.as_slice() == keys,
         ),
         Err(NoMemory) => Ended::NoMemory,
     }
@@ -37,7 +43,12 @@ fn answer_from(heap: &Heap, refusal: Refusal) -> Ended {
 }
 
 // The keys of these are 5, 6 and 9.
-const PARTED: [Op; 4] = [Op::Insert(5), Op::Find(6), Op::Delete(5), Op::Insert(9)];
+const PARTED: [Op; 4] = [
+    Op::Insert(5, 50),
+    Op::Find(6),
+    Op::Delete(5),
+    Op::Insert(9, 90),
+];
 
 // A worker's part: where its operations stand in the list, and their keys.
 type Part = (&'static [usize], &'static [u64]);
@@ -98,13 +109,13 @@ fn part_ranged(heap: &Heap, refusal: Refusal) -> Ended {
 fn gather_two<A: Allocator>(
     heap: &Heap,
     refusal: Refusal,
-    pieces: &[Vec<(usize, bool), A>],
+    pieces: &[Vec<(usize, Reply), A>],
 ) -> Ended {
     heap.refuse(refusal);
     let gathered = gather(heap, 3, pieces);
     heap.stop();
     match gathered {
-        Ok(replies) => Ended::answered(replies.as_slice() == [true, true, false].as_slice()),
+        Ok(replies) => Ended::answered(replies.as_slice() == [Yes, Yes, No].as_slice()),
         Err(fault) => Ended::no_memory(fault == GatherFault::NoMemory),
     }
 }
@@ -124,10 +135,10 @@ fn operations_are_parted_or_there_is_no_memory(rt: HostRuntime) {
 
 #[test]
 fn replies_are_gathered_or_there_is_no_memory(rt: HostRuntime) {
-    let first = [(0, true), (2, false)]
+    let first = [(0, Yes), (2, No)]
         .to_vec(rt.alloc())
         .expect(&rt, "no memory");
-    let second = [(1, true)].to_vec(rt.alloc()).expect(&rt, "no memory");
+    let second = [(1, Yes)].to_vec(rt.alloc()).expect(&rt, "no memory");
     let pieces = [first, second];
     sweep(&rt, |heap, refusal| gather_two(heap, refusal, &pieces));
 }
@@ -157,11 +168,11 @@ fn counts_and_owners_are_tested_before_memory(rt: HostRuntime) {
 fn memory_is_tested_before_replies(rt: HostRuntime) {
     let rows = [
         (
-            [(0, true), (0, true)].as_slice(),
+            [(0, Yes), (0, Yes)].as_slice(),
             GatherFault::Doubled { at: 0 },
         ),
-        (&[(2, true)], GatherFault::Stranger { at: 2 }),
-        (&[(1, true)], GatherFault::Missing { at: 0 }),
+        (&[(2, Yes)], GatherFault::Stranger { at: 2 }),
+        (&[(1, Yes)], GatherFault::Missing { at: 0 }),
     ];
     for (items, fault) in rows {
         let heap = Heap::new(rt.alloc());

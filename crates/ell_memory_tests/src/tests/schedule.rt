@@ -4,7 +4,7 @@ use ell_core::Act::{
     Leave, Mark, Upd,
 };
 use ell_core::{Act, Stepped};
-use ell_ops::Op;
+use ell_ops::{Op, Reply};
 
 const MOVED: Stepped = Stepped::Moved;
 
@@ -12,7 +12,7 @@ const WON: Stepped = Stepped::Won;
 
 const LOST: Stepped = Stepped::Lost;
 
-const YES: Stepped = Stepped::Answered(true);
+const YES: Stepped = Stepped::Answered(Reply::Yes);
 
 /// A worker does these acts, each of which is to answer the same.
 pub(crate) type Turn = (u32, &'static [Act], Stepped);
@@ -22,12 +22,12 @@ pub(crate) const CARDS: u64 = 5;
 
 /// Each act at least once, and a mark that is lost. Worker 0 owns 5 and 6, worker 1 owns 7.
 pub(crate) const TURNS: [Turn; 21] = [
-    (0, &[Begin(Op::Insert(5)), Upd, Down, Claim], MOVED),
+    (0, &[Begin(Op::Insert(5, 50)), Upd, Down, Claim], MOVED),
     (0, &[IFlag, IChild(1), IUnflag(1)], WON),
     (0, &[Answer], YES),
     (
         1,
-        &[Begin(Op::Insert(7)), Upd, Down, Upd, Down, Claim],
+        &[Begin(Op::Insert(7, 70)), Upd, Down, Upd, Down, Claim],
         MOVED,
     ),
     (1, &[IFlag, IChild(2), IUnflag(2)], WON),
@@ -41,7 +41,7 @@ pub(crate) const TURNS: [Turn; 21] = [
     (1, &[DFlag], WON),
     (
         0,
-        &[Begin(Op::Insert(6)), Upd, Down, Upd, Down, Upd, Down],
+        &[Begin(Op::Insert(6, 60)), Upd, Down, Upd, Down, Upd, Down],
         MOVED,
     ),
     (0, &[Claim], MOVED),

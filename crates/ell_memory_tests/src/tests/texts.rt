@@ -2,7 +2,7 @@
 use super::refusing::{Heap, Refusal};
 use super::sweeping::{Ended, sweep};
 use ell_core::{Act, Event, Shown, Stepped};
-use ell_ops::Op;
+use ell_ops::{Op, Reply};
 use ell_text::{
     InputFault, ReplayFault, Script, ScriptFault, TextFault, read_all, read_bulk, read_replay,
     replay_bytes, write_answer, write_trace,
@@ -14,9 +14,10 @@ const LINE: &[u8] = b"insert 5\n";
 // Several reads long.
 const LINES: usize = 20_000;
 
-// So many lines.
-fn lines(alloc: Global, count: usize) -> Result<Vec<u8>, AllocError> {
+// Some bytes, and so many lines.
+fn lines(alloc: Global, front: &[u8], count: usize) -> Result<Vec<u8>, AllocError> {
     let mut text = Vec::new(alloc);
+    text.extend_from_slice(front)?;
     for _ in 0..count {
         text.extend_from_slice(LINE)?;
     }
@@ -35,13 +36,16 @@ fn read_input(heap: &Heap, refusal: Refusal, text: &[u8]) -> Ended {
     }
 }
 
-// Reads the operations of a text of a hundred lines.
+// Reads a text of a start line and a hundred operations.
 fn read_operations(heap: &Heap, refusal: Refusal, text: &[u8]) -> Ended {
     heap.refuse(refusal);
     let read = read_bulk(heap, text);
     heap.stop();
     match read {
-        Ok(ops) => Ended::answered(ops.as_slice() == [Op::Insert(5); 100].as_slice()),
+        Ok(bulk) => Ended::answered(
+            bulk.start.as_slice() == [3].as_slice()
+                && bulk.ops.as_slice() == [Op::Insert(5, 0); 100].as_slice(),
+        ),
         Err(fault) => Ended::no_memory(fault == TextFault::NoMemory),
     }
 }
@@ -102,20 +106,22 @@ fn scripts_are_replayed_or_there_is_no_memory(rt: HostRuntime) {
 
 #[test]
 fn inputs_are_read_or_there_is_no_memory(rt: HostRuntime) {
-    let text = lines(rt.alloc(), LINES).expect(&rt, "no memory");
+    let text = lines(rt.alloc(), b"", LINES).expect(&rt, "no memory");
     sweep(&rt, |heap, refusal| read_input(heap, refusal, &text));
 }
 
 #[test]
 fn operations_are_read_or_there_is_no_memory(rt: HostRuntime) {
-    let text = lines(rt.alloc(), 100).expect(&rt, "no memory");
+    let text = lines(rt.alloc(), b"start 3\n", 100).expect(&rt, "no memory");
     sweep(&rt, |heap, refusal| read_operations(heap, refusal, &text));
 }
 
 #[test]
-fn memory_is_wanted_at_an_operation(rt: HostRuntime) {
-    let texts: [(&[u8], TextFault, u64); 3] = [
+fn memory_is_wanted_at_a_start_key_or_an_operation(rt: HostRuntime) {
+    let texts: [(&[u8], TextFault, u64); 5] = [
         (b"insert 007\ninsert 5\n", TextFault::BadKey { line: 1 }, 0),
+        (b"start 007\nstart 5\n", TextFault::BadKey { line: 1 }, 0),
+        (b"start 5\nstart 5\n", TextFault::NoMemory, 1),
         (b"# none\n\nfind 5 \n", TextFault::BadKey { line: 3 }, 0),
         (b"insert 5\ninsert 007\n", TextFault::NoMemory, 1),
     ];
@@ -132,12 +138,12 @@ fn a_text_is_written_without_memory(rt: HostRuntime) {
     let heap = Heap::new(rt.alloc());
     let shown = [
         Shown::Step(Stepped::Moved),
-        Shown::Step(Stepped::Answered(true)),
+        Shown::Step(Stepped::Answered(Reply::Yes)),
     ];
     let mut answer = Vec::with_capacity(&heap, 100).expect(&rt, "no memory");
     let mut trace = Vec::with_capacity(&heap, 100).expect(&rt, "no memory");
     heap.refuse(Refusal::From(1));
-    assert!(rt; write_answer(&mut answer, &[true, false], &[5, 7]).is_ok());
+    assert!(rt; write_answer(&mut answer, &[Reply::Yes, Reply::No], &[5, 7]).is_ok());
     assert!(rt; write_trace(&mut trace, &shown, &[5, 7]).is_ok());
     assert!(rt; heap.growths() == 0);
     assert!(rt; answer.as_slice() == b"yes\nno\nkeys 2\n5\n7\n".as_slice());

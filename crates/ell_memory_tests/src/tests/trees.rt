@@ -15,6 +15,8 @@ use std::process::Abort;
 
 const CARDS: u64 = 4;
 
+const START: [u64; 1] = [7];
+
 // An operation that may take one card, and what it is to answer.
 type Row = (Op, Result<bool, Held>);
 
@@ -28,7 +30,7 @@ fn answer_of<A: Allocator + Copy>(tree: &Tree<A>, pass: &mut Pass<A>, op: Op) ->
 {
     match op {
         Op::Find(key) => Ok(tree.find(pass, key, &NoGate)),
-        Op::Insert(key) => tree.insert(pass, key, 1, &NoGate),
+        Op::Insert(key, value) => tree.insert(pass, key, value, 1, &NoGate),
         Op::Delete(key) => tree.delete(pass, key, 1, &NoGate),
     }
 }
@@ -56,13 +58,27 @@ fn planted<'a>(rt: &impl Abort, heap: &'a Heap) -> (Tree<&'a Heap>, Pass<&'a Hea
     ensures owned { All (λ k. Owns result.1 k) KEYS }
 {
     let rows = [
-        (Op::Insert(5), Ok(true)),
-        (Op::Insert(7), Ok(true)),
+        (Op::Insert(5, 50), Ok(true)),
+        (Op::Insert(7, 70), Ok(true)),
         (Op::Delete(5), Ok(true)),
     ];
     let (tree, mut pass) = Tree::reserve(heap, &KEYS, CARDS).expect(rt, "no memory");
     pass.relabel(3);
     assert!(rt; are_answered(&tree, &mut pass, &rows));
+    assert!(rt; owns_both(&pass));
+    (tree, pass)
+}
+
+// A tree that opens with 7.
+fn started<'a>(rt: &impl Abort, heap: &'a Heap) -> (Tree<&'a Heap>, Pass<&'a Heap>)
+    ensures own { result.1.table ≡ result.0.id }
+    ensures idle { IsIdle result.1 }
+    ensures keys { result.0.keys ≡ KEYS }
+    ensures owned { All (λ k. Owns result.1 k) KEYS }
+{
+    let made = Tree::reserve_from(heap, &START, &KEYS, CARDS);
+    let (tree, mut pass) = made.expect(rt, "no memory");
+    pass.relabel(3);
     assert!(rt; owns_both(&pass));
     (tree, pass)
 }
@@ -74,6 +90,20 @@ fn reserve(heap: &Heap, refusal: Refusal) -> Ended {
     heap.stop();
     match made {
         Ok((_tree, pass)) => Ended::answered(pass.keys() == KEYS.as_slice()),
+        Err(fault) => Ended::no_memory(fault == CardFault::NoMemory),
+    }
+}
+
+// Reserves a tree that opens with 7, and ends it.
+fn reserve_from(heap: &Heap, refusal: Refusal) -> Ended {
+    heap.refuse(refusal);
+    let made = Tree::reserve_from(heap, &START, &KEYS, CARDS);
+    heap.stop();
+    match made {
+        Ok((tree, pass)) => {
+            let is_first = tells(&pass, &KEYS, 0, 0) && owns_both(&pass);
+            Ended::answered(is_first && is_closed(tree, pass))
+        }
         Err(fault) => Ended::no_memory(fault == CardFault::NoMemory),
     }
 }
@@ -165,9 +195,14 @@ fn is_closed<A: Allocator + Copy>(tree: Tree<A>, pass: Pass<A>) -> bool
     }
 }
 
-// Ends a tree. Where it comes back with its pass, both are as they were, and it is ended then.
-fn close(rt: &impl Abort, heap: &Heap, refusal: Refusal) -> Ended {
-    let (tree, pass) = planted(rt, heap);
+// Ends a tree in which 7 is. Where it comes back with its pass, both are as they were, and it is ended then.
+fn close<'a>(heap: &'a Heap, refusal: Refusal, made: (Tree<&'a Heap>, Pass<&'a Heap>)) -> Ended
+    requires own { made.1.table ≡ made.0.id }
+    requires idle { IsIdle made.1 }
+    requires keys { made.0.keys ≡ KEYS }
+    requires owned { All (λ k. Owns made.1 k) KEYS }
+{
+    let (tree, pass) = made;
     let steps = pass.steps();
     heap.refuse(refusal);
     let keys = tree.close(pass);
@@ -186,6 +221,11 @@ fn a_tree_is_reserved_or_there_is_no_memory(rt: HostRuntime) {
 }
 
 #[test]
+fn a_tree_is_reserved_with_start_keys_or_there_is_no_memory(rt: HostRuntime) {
+    sweep(&rt, reserve_from);
+}
+
+#[test]
 fn a_pass_is_parted_or_comes_back(rt: HostRuntime) {
     sweep(&rt, |heap, refusal| split(&rt, heap, refusal));
 }
@@ -197,15 +237,26 @@ fn passes_are_joined_or_come_back(rt: HostRuntime) {
 
 #[test]
 fn a_tree_is_closed_or_comes_back(rt: HostRuntime) {
-    sweep(&rt, |heap, refusal| close(&rt, heap, refusal));
+    sweep(
+        &rt,
+        |heap, refusal| close(heap, refusal, planted(&rt, heap)),
+    );
+    sweep(
+        &rt,
+        |heap, refusal| close(heap, refusal, started(&rt, heap)),
+    );
 }
 
 #[test]
 fn cards_are_tested_before_memory(rt: HostRuntime) {
     let heap = Heap::new(rt.alloc());
     heap.refuse(Refusal::From(1));
-    for cards in [0, 1_000_001] {
+    for cards in [0, 1_000_001, 1_200_000] {
         let fault = Tree::reserve(&heap, &KEYS, cards).err();
+        assert!(rt; fault == Some(CardFault::BadCards), "{cards} cards");
+        let fault = Tree::reserve_from(&heap, &[], &KEYS, cards).err();
+        assert!(rt; fault == Some(CardFault::BadCards), "{cards} cards");
+        let fault = Tree::reserve_from(&heap, &START, &KEYS, cards).err();
         assert!(rt; fault == Some(CardFault::BadCards), "{cards} cards");
     }
     assert!(rt; heap.growths() == 0);
@@ -216,12 +267,31 @@ fn an_operation_wants_no_memory(rt: HostRuntime) {
     let rows = [
         (Op::Find(5), Ok(false)),
         (Op::Find(7), Ok(true)),
-        (Op::Insert(5), Ok(true)),
-        (Op::Insert(7), Ok(false)),
+        (Op::Insert(5, 50), Ok(true)),
+        (Op::Insert(7, 70), Ok(false)),
         (Op::Delete(5), Err(Held::Spent)),
     ];
     let heap = Heap::new(rt.alloc());
     let (tree, mut pass) = planted(&rt, &heap);
+    heap.refuse(Refusal::From(1));
+    assert!(rt; are_answered(&tree, &mut pass, &rows));
+    assert!(rt; heap.growths() == 0);
+}
+
+#[test]
+fn an_operation_on_start_keys_wants_no_memory(rt: HostRuntime) {
+    let rows = [
+        (Op::Find(5), Ok(false)),
+        (Op::Find(7), Ok(true)),
+        (Op::Insert(7, 70), Ok(false)),
+        (Op::Delete(7), Ok(true)),
+        (Op::Insert(5, 50), Ok(true)),
+        (Op::Insert(7, 70), Ok(true)),
+        (Op::Delete(5), Ok(true)),
+        (Op::Delete(7), Err(Held::Spent)),
+    ];
+    let heap = Heap::new(rt.alloc());
+    let (tree, mut pass) = started(&rt, &heap);
     heap.refuse(Refusal::From(1));
     assert!(rt; are_answered(&tree, &mut pass, &rows));
     assert!(rt; heap.growths() == 0);

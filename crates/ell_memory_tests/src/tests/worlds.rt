@@ -1,5 +1,5 @@
 //! Worlds, and lists of events on them.
-ghost use Rattle.std.specs.Prelude.{◌≡◌, ◌≤◌, length};
+ghost use Rattle.std.specs.Prelude.{◌+◌, ◌≡◌, ◌≤◌, length};
 
 use super::refusing::{Heap, Refusal};
 use super::schedule::{CARDS, TURNS};
@@ -11,12 +11,14 @@ use std::process::Abort;
 
 const OWNED: [(u32, u64); 3] = [(0, 5), (0, 6), (1, 7)];
 
+const START: [u64; 2] = [5, 7];
+
 // More growths than any event asks for.
 const MOST: u64 = 100;
 
 // The claim word of a world, and each word of each card. No memory is wanted for them.
 fn words(alloc: Global, heap: &Heap, world: &World<&Heap>) -> Result<Vec<u64>, NoMemory>
-    requires { world.now.cards ≡ CARDS }
+    requires { world.now.last_card ≡ CARDS }
 {
     heap.refuse(Refusal::From(1));
     let mut words = [world.next()].to_vec(alloc)?;
@@ -35,7 +37,7 @@ fn words(alloc: Global, heap: &Heap, world: &World<&Heap>) -> Result<Vec<u64>, N
 
 // All that a world tells of itself: its words and its keys.
 fn told(alloc: Global, heap: &Heap, world: &World<&Heap>) -> Result<Vec<u64>, NoMemory>
-    requires { world.now.cards ≡ CARDS }
+    requires { world.now.last_card ≡ CARDS }
 {
     let mut told = words(alloc, heap, world)?;
     told.extend_from_slice(&world.keys()?)?;
@@ -44,7 +46,7 @@ fn told(alloc: Global, heap: &Heap, world: &World<&Heap>) -> Result<Vec<u64>, No
 
 // Whether a world tells the same of itself as before.
 fn is_same(alloc: Global, heap: &Heap, world: &World<&Heap>, before: &[u64]) -> bool
-    requires { world.now.cards ≡ CARDS }
+    requires { world.now.last_card ≡ CARDS }
 {
     match told(alloc, heap, world) {
         Ok(after) => after.as_slice() == before,
@@ -52,17 +54,17 @@ fn is_same(alloc: Global, heap: &Heap, world: &World<&Heap>, before: &[u64]) -> 
     }
 }
 
-// Whether a world has 5 and 6.
-fn has_keys(world: &World<&Heap>) -> bool {
+// Whether a world has these keys.
+fn has_keys(world: &World<&Heap>, wants: &[u64]) -> bool {
     match world.keys() {
-        Ok(keys) => keys.as_slice() == [5, 6].as_slice(),
+        Ok(keys) => keys.as_slice() == wants,
         Err(NoMemory) => false,
     }
 }
 
 // Does an event with this growth and all after it refused.
 fn step_on(heap: &Heap, world: &mut World<&Heap>, event: Event, want: Stepped, number: u64) -> Ended
-    ensures { world.new.cards ≡ world.old.cards }
+    ensures { world.new.last_card ≡ world.old.last_card }
 {
     heap.refuse(Refusal::From(number));
     let stepped = world.step(event);
@@ -83,8 +85,8 @@ fn step_swept(
     event: Event,
     want: Stepped,
 ) -> u64
-    requires { world.old.cards ≡ CARDS }
-    ensures { world.new.cards ≡ CARDS }
+    requires { world.old.last_card ≡ CARDS }
+    ensures { world.new.last_card ≡ CARDS }
 {
     let before = told(rt.alloc(), heap, world).expect(rt, "no memory");
     for number in 1..MOST {
@@ -113,7 +115,7 @@ fn an_event_is_done_or_changes_nothing(rt: HostRuntime) {
         }
     }
     assert!(rt; refused > 0);
-    assert!(rt; has_keys(&world));
+    assert!(rt; has_keys(&world, &[5, 6]));
 }
 
 // Opens a world.
@@ -123,6 +125,30 @@ fn open(heap: &Heap, refusal: Refusal) -> Ended {
     heap.stop();
     match made {
         Ok(world) => Ended::answered(world.next() == 1),
+        Err(fault) => Ended::no_memory(fault == CoreFault::NoMemory),
+    }
+}
+
+// Whether a world that opened with start keys has them, and the words of one that nothing was refused to.
+fn is_started(alloc: Global, world: &World<&Heap>) -> bool
+    requires { world.now.last_card ≡ CARDS + 2 }
+{
+    let Ok(plain) = World::from_start(alloc, 2, &OWNED, &START, CARDS) else {
+        return false;
+    };
+    let are_same = (0..=CARDS + 2).all(|card| {
+        Field::ALL.iter().all(|field| world.word(card, *field) == plain.word(card, *field))
+    });
+    are_same && world.next() == 3 && plain.next() == 3 && has_keys(world, &START)
+}
+
+// Opens a world with start keys.
+fn open_from_start(alloc: Global, heap: &Heap, refusal: Refusal) -> Ended {
+    heap.refuse(refusal);
+    let made = World::from_start(heap, 2, &OWNED, &START, CARDS);
+    heap.stop();
+    match made {
+        Ok(world) => Ended::answered(is_started(alloc, &world)),
         Err(fault) => Ended::no_memory(fault == CoreFault::NoMemory),
     }
 }
@@ -149,16 +175,27 @@ fn played(heap: &Heap) -> Option<World<&Heap>> {
 }
 
 // Lists the keys of a world. Where there is no memory for it, the world lists them then.
-fn list(heap: &Heap, refusal: Refusal) -> Ended {
-    let Some(world) = played(heap) else {
-        return Ended::Wrong;
-    };
+fn list_of(heap: &Heap, refusal: Refusal, world: &World<&Heap>, wants: &[u64]) -> Ended {
     heap.refuse(refusal);
     let keys = world.keys();
     heap.stop();
     match keys {
-        Ok(keys) => Ended::answered(keys.as_slice() == [5, 6].as_slice()),
-        Err(NoMemory) => Ended::no_memory(has_keys(&world)),
+        Ok(keys) => Ended::answered(keys.as_slice() == wants),
+        Err(NoMemory) => Ended::no_memory(has_keys(world, wants)),
+    }
+}
+
+fn list(heap: &Heap, refusal: Refusal) -> Ended {
+    match played(heap) {
+        Some(world) => list_of(heap, refusal, &world, &[5, 6]),
+        None => Ended::Wrong,
+    }
+}
+
+fn list_start_keys(heap: &Heap, refusal: Refusal) -> Ended {
+    match World::from_start(heap, 2, &OWNED, &START, CARDS) {
+        Ok(world) => list_of(heap, refusal, &world, &START),
+        Err(_) => Ended::Wrong,
     }
 }
 
@@ -168,8 +205,17 @@ fn a_world_is_opened_or_there_is_no_memory(rt: HostRuntime) {
 }
 
 #[test]
+fn a_world_is_opened_with_start_keys_or_there_is_no_memory(rt: HostRuntime) {
+    sweep(
+        &rt,
+        |heap, refusal| open_from_start(rt.alloc(), heap, refusal),
+    );
+}
+
+#[test]
 fn keys_are_listed_or_there_is_no_memory(rt: HostRuntime) {
     sweep(&rt, list);
+    sweep(&rt, list_start_keys);
 }
 
 // The events one by one.

@@ -1,4 +1,5 @@
-//! Balanced trees; schedules of a few events, with the answers, words and keys that a person gave them, and a long one beside a plain set.
+//! Balanced trees and openings with start keys; schedules of a few events, with the answers, words and keys that a person gave
+//! them, and a long one beside a plain set.
 mod branches;
 mod deleting;
 mod given_worlds;
@@ -8,5 +9,6 @@ mod random_schedules;
 mod refusing;
 mod replaying;
 mod scripts;
+mod starts;
 mod walking;
 mod words;

@@ -1,10 +1,15 @@
 //! Worked lists of operations, with the replies and keys that a person gave them.
 use super::shared::have_texts;
+use ell_ops::Reply::{self, No, Yes};
 use ell_ops::{KEY_MAX, NoMemory, Op, apply_all, apply_from, united_keys};
 use std::alloc::AllocError;
 
 // Whether a list of operations came to these replies and keys.
-fn is_done(done: Result<(Vec<bool>, Vec<u64>), NoMemory>, replies: &[bool], keys: &[u64]) -> bool {
+fn is_done(
+    done: Result<(Vec<Reply>, Vec<u64>), NoMemory>,
+    replies: &[Reply],
+    keys: &[u64],
+) -> bool {
     match done {
         Ok((said, left)) => said.as_slice() == replies && left.as_slice() == keys,
         Err(NoMemory) => false,
@@ -24,7 +29,7 @@ fn keys_fit_up_to_the_greatest(rt: HostRuntime) {
     assert!(rt; KEY_MAX == u64::MAX - 2);
     let rows = [
         (Op::Find(0), 0, true),
-        (Op::Insert(u64::MAX - 2), u64::MAX - 2, true),
+        (Op::Insert(u64::MAX - 2, u64::MAX), u64::MAX - 2, true),
         (Op::Delete(u64::MAX - 1), u64::MAX - 1, false),
         (Op::Find(u64::MAX), u64::MAX, false),
     ];
@@ -37,38 +42,38 @@ fn keys_fit_up_to_the_greatest(rt: HostRuntime) {
 #[test]
 fn one_thread_answers(rt: HostRuntime) {
     let ops = [
-        Op::Insert(5),
+        Op::Insert(5, 50),
         Op::Find(5),
-        Op::Insert(5),
+        Op::Insert(5, 50),
         Op::Delete(5),
         Op::Find(5),
         Op::Delete(5),
     ];
-    let replies = [true, true, false, true, false, false];
+    let replies = [Yes, Yes, No, Yes, No, No];
     assert!(rt; is_done(apply_all(rt.alloc(), &ops), &replies, &[]));
     assert!(rt; is_done(apply_all(rt.alloc(), &[]), &[], &[]));
 
-    let ops = [Op::Delete(3), Op::Insert(4), Op::Find(9)];
-    assert!(rt; is_done(apply_from(rt.alloc(), &[3, 9], &ops), &[true; 3], &[4, 9]));
+    let ops = [Op::Delete(3), Op::Insert(4, 40), Op::Find(9)];
+    assert!(rt; is_done(apply_from(rt.alloc(), &[3, 9], &ops), &[Yes; 3], &[4, 9]));
 }
 
 #[test]
 fn eight_keys_of_which_four_are_deleted(rt: HostRuntime) {
     let ops = [
-        Op::Insert(1),
-        Op::Insert(2),
-        Op::Insert(3),
-        Op::Insert(4),
-        Op::Insert(5),
-        Op::Insert(6),
-        Op::Insert(7),
-        Op::Insert(8),
+        Op::Insert(1, 10),
+        Op::Insert(2, 20),
+        Op::Insert(3, 30),
+        Op::Insert(4, 40),
+        Op::Insert(5, 50),
+        Op::Insert(6, 60),
+        Op::Insert(7, 70),
+        Op::Insert(8, 80),
         Op::Delete(2),
         Op::Delete(4),
         Op::Delete(6),
         Op::Delete(8),
     ];
-    assert!(rt; is_done(apply_all(rt.alloc(), &ops), &[true; 12], &[1, 3, 5, 7]));
+    assert!(rt; is_done(apply_all(rt.alloc(), &ops), &[Yes; 12], &[1, 3, 5, 7]));
 }
 
 #[test]

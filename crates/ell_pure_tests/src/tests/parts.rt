@@ -1,10 +1,11 @@
 //! Small partings and gatherings, with the parts and replies that a person gave them.
 use super::shared::have_texts;
 use ell_ops::Op;
+use ell_ops::Reply::{self, No, Yes};
 use ell_parts::{GatherFault, PartFault, Parts, gather};
 use std::alloc::{AllocError, Global};
 
-const FIVES: [Op; 3] = [Op::Insert(5), Op::Find(6), Op::Delete(5)];
+const FIVES: [Op; 3] = [Op::Insert(5, 50), Op::Find(6), Op::Delete(5)];
 
 // A worker's part, and its keys.
 type Want = (&'static [(usize, Op)], &'static [u64]);
@@ -33,7 +34,7 @@ fn are_parts(parts: &Parts<Global>, wants: &[Want]) -> bool {
 #[test]
 fn owners_part_a_list(rt: HostRuntime) {
     let parted = Parts::by_owner(rt.alloc(), &FIVES, &[0, 1, 0], 2);
-    let first: Want = (&[(0, Op::Insert(5)), (2, Op::Delete(5))], &[5]);
+    let first: Want = (&[(0, Op::Insert(5, 50)), (2, Op::Delete(5))], &[5]);
     let second: Want = (&[(1, Op::Find(6))], &[6]);
     assert!(rt; is_parted(parted, &[first, second]));
 }
@@ -94,7 +95,7 @@ fn ranges_go_by_the_order_of_the_keys(rt: HostRuntime) {
 }
 
 // A position, and its reply.
-type Item = (usize, bool);
+type Item = (usize, Reply);
 
 fn list_of(alloc: Global, pieces: &[&[Item]]) -> Result<Vec<Vec<Item>>, AllocError> {
     let mut list = Vec::new(alloc);
@@ -109,7 +110,7 @@ fn is_gathered(
     alloc: Global,
     n: usize,
     pieces: &[&[Item]],
-    want: Result<&[bool], GatherFault>,
+    want: Result<&[Reply], GatherFault>,
 ) -> bool {
     let Ok(list) = list_of(alloc, pieces) else {
         return false;
@@ -123,16 +124,16 @@ fn is_gathered(
 
 #[test]
 fn replies_come_together(rt: HostRuntime) {
-    let pieces: [&[Item]; 2] = [&[(0, true), (2, false)], &[(1, true)]];
-    assert!(rt; is_gathered(rt.alloc(), 3, &pieces, Ok(&[true, true, false])));
+    let pieces: [&[Item]; 2] = [&[(0, Yes), (2, No)], &[(1, Yes)]];
+    assert!(rt; is_gathered(rt.alloc(), 3, &pieces, Ok(&[Yes, Yes, No])));
 }
 
 #[test]
 fn replies_that_do_not_fit(rt: HostRuntime) {
     let rows: [(&[Item], GatherFault); 3] = [
-        (&[(0, true), (0, true)], GatherFault::Doubled { at: 0 }),
-        (&[(2, true)], GatherFault::Stranger { at: 2 }),
-        (&[(1, true)], GatherFault::Missing { at: 0 }),
+        (&[(0, Yes), (0, Yes)], GatherFault::Doubled { at: 0 }),
+        (&[(2, Yes)], GatherFault::Stranger { at: 2 }),
+        (&[(1, Yes)], GatherFault::Missing { at: 0 }),
     ];
     for row in 0..3 {
         let (piece, fault) = rows[row];

@@ -3,12 +3,13 @@ use super::shared::{have_texts, repeated};
 use ell_ops::Op;
 use ell_text::{INPUT_MAX, InputFault, TextFault, read_all, read_bulk};
 use std::alloc::{AllocError, Global};
-use std::io::{self, ErrorKind, Read};
+use std::io::{self, ErrorKind, Read, Write};
+use std::process::Abort;
 
-// Whether a text has these operations.
-fn is_read(alloc: Global, text: &[u8], want: &[Op]) -> bool {
+// Whether a text has these start keys and these operations.
+fn is_read(alloc: Global, text: &[u8], start: &[u64], ops: &[Op]) -> bool {
     match read_bulk(alloc, text) {
-        Ok(ops) => ops.as_slice() == want,
+        Ok(bulk) => bulk.start.as_slice() == start && bulk.ops.as_slice() == ops,
         Err(_) => false,
     }
 }
@@ -19,24 +20,55 @@ fn operations_are_read(rt: HostRuntime) {
         (b"", &[]),
         (
             b"insert 5\nfind 5\ndelete 5\nfind 5\n",
-            &[Op::Insert(5), Op::Find(5), Op::Delete(5), Op::Find(5)],
+            &[Op::Insert(5, 0), Op::Find(5), Op::Delete(5), Op::Find(5)],
         ),
         (
             b"insert 18446744073709551613\n",
-            &[Op::Insert(18_446_744_073_709_551_613)],
+            &[Op::Insert(18_446_744_073_709_551_613, 0)],
         ),
         (b"\r\n", &[]),
         (b" \t\r\n", &[]),
         (b"#\xFF\n", &[]),
         (
             b"# start\n\ninsert 9\r\nfind 9",
-            &[Op::Insert(9), Op::Find(9)],
+            &[Op::Insert(9, 0), Op::Find(9)],
         ),
         (b"find 0", &[Op::Find(0)]),
     ];
     for row in 0..8 {
         let (text, want) = readings[row];
-        assert!(rt; is_read(rt.alloc(), text, want), "row {row}");
+        assert!(rt; is_read(rt.alloc(), text, &[], want), "row {row}");
+    }
+}
+
+#[test]
+fn start_keys_are_read(rt: HostRuntime) {
+    let readings: [(&[u8], &[u64], &[Op]); 5] = [
+        (
+            b"start 2\nstart 4\nstart 6\nfind 4\ndelete 4\ninsert 5\nfind 4\n",
+            &[2, 4, 6],
+            &[Op::Find(4), Op::Delete(4), Op::Insert(5, 0), Op::Find(4)],
+        ),
+        (b"start 3\n", &[3], &[]),
+        (
+            b"start 0\nstart 18446744073709551613",
+            &[0, 18_446_744_073_709_551_613],
+            &[],
+        ),
+        (
+            b"# two keys\r\nstart 1\r\n\n \t\r\nstart 9\r\n#\nfind 9\r\n\n# start 10\nfind 1",
+            &[1, 9],
+            &[Op::Find(9), Op::Find(1)],
+        ),
+        (
+            b"start 9\nstart 10\ninsert 9\n",
+            &[9, 10],
+            &[Op::Insert(9, 0)],
+        ),
+    ];
+    for row in 0..5 {
+        let (text, start, ops) = readings[row];
+        assert!(rt; is_read(rt.alloc(), text, start, ops), "row {row}");
     }
 }
 
@@ -81,12 +113,73 @@ fn faults_are_found(rt: HostRuntime) {
     }
 }
 
+#[test]
+fn faults_of_start_lines_are_found(rt: HostRuntime) {
+    let bad_operation = TextFault::BadOperation { line: 2 };
+    let start_order = TextFault::StartOrder { line: 2 };
+    let faults: [(&[u8], TextFault); 19] = [
+        (b"start 4\nstart 4\n", start_order),
+        (b"start 4\nstart 3\n", start_order),
+        (b"start 18446744073709551613\nstart 0\n", start_order),
+        (b"start 10\r\nstart 9\r\n", start_order),
+        (
+            b"start 1\nstart 5\n# 5\n\nstart 5\n",
+            TextFault::StartOrder { line: 5 },
+        ),
+        (b"start 5\nstart 4\nstart 007\n", start_order),
+        (b"find 1\nstart 2\n", bad_operation),
+        (b"find 1\nstart 007\n", bad_operation),
+        (b"find 1\nstart 18446744073709551614\n", bad_operation),
+        (b"find 1\nstart\n", bad_operation),
+        (
+            b"start 3\ninsert 1\nstart 2\n",
+            TextFault::BadOperation { line: 3 },
+        ),
+        (b"start 007\n", TextFault::BadKey { line: 1 }),
+        (b"start 4\nstart 04\n", TextFault::BadKey { line: 2 }),
+        (b"start\n", TextFault::BadKey { line: 1 }),
+        (b"start 7\r", TextFault::BadKey { line: 1 }),
+        (
+            b"start 18446744073709551614\n",
+            TextFault::KeyTooLarge { line: 1 },
+        ),
+        (
+            b"start 18446744073709551613\nstart 18446744073709551614\n",
+            TextFault::KeyTooLarge { line: 2 },
+        ),
+        (b"start 1\nStart 2\n", bad_operation),
+        (b"start 1\nstarts 2\n", bad_operation),
+    ];
+    for row in 0..19 {
+        let (text, want) = faults[row];
+        assert!(rt;
+            read_bulk(rt.alloc(), text).err() == Some(want),
+            "row {row}"
+        );
+    }
+}
+
+// How many start keys and operations there are together, or the fault.
+fn count(alloc: Global, text: &[u8]) -> Result<usize, TextFault> {
+    let bulk = read_bulk(alloc, text)?;
+    Ok(bulk.start.len() + bulk.ops.len())
+}
+
 // How many operations there are, behind 200,000, or the fault.
 fn read_behind_the_limit(alloc: Global, ending: &[u8]) -> Result<usize, TextFault> {
     match repeated(alloc, b"find 0\n", 200_000, ending) {
-        Ok(text) => Ok(read_bulk(alloc, &text)?.len()),
+        Ok(text) => count(alloc, &text),
         Err(AllocError) => Err(TextFault::NoMemory),
     }
+}
+
+// Start lines of the keys below a number.
+fn start_lines(rt: &(impl Abort + AllocGlobal), end: u64) -> Vec<u8> {
+    let mut text = Vec::new(rt.alloc());
+    for key in 0..end {
+        writeln!(text, "start {key}").expect(rt, "memory");
+    }
+    text
 }
 
 #[test]
@@ -108,6 +201,29 @@ fn the_limit_of_operations(rt: HostRuntime) {
 }
 
 #[test]
+fn the_limit_of_start_keys_and_operations(rt: HostRuntime) {
+    let endings: [(&[u8], Result<usize, TextFault>); 3] = [
+        (b"find 0\n", Ok(200_000)),
+        (
+            b"find 0\nfind 0\n",
+            Err(TextFault::TooManyOperations { line: 200_001 }),
+        ),
+        (
+            b"start 199999\nstart 199999\n",
+            Err(TextFault::StartOrder { line: 200_001 }),
+        ),
+    ];
+    let mut text = start_lines(&rt, 199_999);
+    let front = text.len();
+    for row in 0..3 {
+        let (ending, want) = endings[row];
+        text.truncate(front);
+        text.extend_from_slice(ending).expect(&rt, "memory");
+        assert!(rt; count(rt.alloc(), &text) == want, "row {row}");
+    }
+}
+
+#[test]
 fn faults_of_texts_in_words(rt: HostRuntime) {
     have_texts(
         &rt,
@@ -118,6 +234,10 @@ fn faults_of_texts_in_words(rt: HostRuntime) {
             ),
             (TextFault::BadKey { line: 12 }, "line 12: not a key"),
             (TextFault::KeyTooLarge { line: 1 }, "line 1: key too large"),
+            (
+                TextFault::StartOrder { line: 2 },
+                "line 2: start keys not ascending",
+            ),
             (
                 TextFault::TooManyOperations { line: 200_001 },
                 "line 200001: more than 200000 operations",

@@ -33,7 +33,7 @@ fn each_form(rt: HostRuntime) {
         0 backtrack 1000000";
     let events = [
         event(0, Act::Begin(Op::Find(5))),
-        event(1, Act::Begin(Op::Insert(6))),
+        event(1, Act::Begin(Op::Insert(6, 0))),
         event(2, Act::Begin(Op::Delete(7))),
         event(63, Act::Upd),
         event(0, Act::Down),

@@ -1,6 +1,7 @@
 //! The texts of replays, written by hand.
 use super::shared::have_texts;
 use ell_core::{CoreFault, Shown, Stepped};
+use ell_ops::Reply;
 use ell_text::{ReplayFault, ScriptFault, replay_bytes, write_trace};
 use std::alloc::Global;
 
@@ -10,8 +11,8 @@ fn a_line_of_each_kind(rt: HostRuntime) {
         Shown::Step(Stepped::Moved),
         Shown::Step(Stepped::Won),
         Shown::Step(Stepped::Lost),
-        Shown::Step(Stepped::Answered(true)),
-        Shown::Step(Stepped::Answered(false)),
+        Shown::Step(Stepped::Answered(Reply::Yes)),
+        Shown::Step(Stepped::Answered(Reply::No)),
         Shown::Refused(CoreFault::NoSuchWorker),
         Shown::Refused(CoreFault::NotOwned),
         Shown::Refused(CoreFault::NotNow),

@@ -1,12 +1,13 @@
 //! What no clause says: the bytes of the text, how often the writer is called, and what is a failure
 //! of the writer.
 use super::shared::{have_texts, repeated};
+use ell_ops::Reply::{self, No, Yes};
 use ell_text::{WriteFault, write_answer};
 use std::alloc::Global;
 use std::io;
 use std::io::{ErrorKind, Write};
 
-const YES_YES_YES_NO: [bool; 4] = [true, true, true, false];
+const YES_YES_YES_NO: [Reply; 4] = [Yes, Yes, Yes, No];
 
 // What a full writer answers.
 #[derive(Clone, Copy)]
@@ -55,7 +56,7 @@ impl Write for Limited {
 }
 
 // Whether this is the answer.
-fn is_written(alloc: Global, replies: &[bool], keys: &[u64], text: &[u8]) -> bool {
+fn is_written(alloc: Global, replies: &[Reply], keys: &[u64], text: &[u8]) -> bool {
     let mut out = Vec::new(alloc);
     write_answer(&mut out, replies, keys).is_ok() && out.as_slice() == text
 }
@@ -65,7 +66,7 @@ fn writes_a_line_for_each_reply_and_key(rt: HostRuntime) {
     let text = b"yes\nyes\nyes\nno\nkeys 0\n";
     assert!(rt; is_written(rt.alloc(), &YES_YES_YES_NO, &[], text));
     let text = b"yes\nkeys 1\n18446744073709551613\n";
-    assert!(rt; is_written(rt.alloc(), &[true], &[18_446_744_073_709_551_613], text));
+    assert!(rt; is_written(rt.alloc(), &[Yes], &[18_446_744_073_709_551_613], text));
 }
 
 #[test]
@@ -94,7 +95,7 @@ fn goes_on_after_a_partial_write(rt: HostRuntime) {
 fn calls_the_writer_once_for_each_full_buffer(rt: HostRuntime) {
     let text = repeated(rt.alloc(), b"no\n", 20_000, b"keys 3\n7\n1234567890\n0\n");
     let mut out = Limited::new(rt.alloc(), usize::MAX, usize::MAX, WhenFull::Interrupted);
-    let result = write_answer(&mut out, &[false; 20_000], &[7, 1_234_567_890, 0]);
+    let result = write_answer(&mut out, &[No; 20_000], &[7, 1_234_567_890, 0]);
     assert!(rt; result == Ok(()) && text.is_ok_and(|text| out.taken == text));
     // A buffer has 8,192 bytes.
     assert!(rt; out.taken.len() == 60_022 && out.calls == 60_022u64.div_ceil(8_192));

@@ -8,7 +8,8 @@ use Rattle.ell_text.specs.declared.replay_line.Said.{Said}
 use Rattle.ell_text.specs.declared.replay_line.Said.TheVariants as says
 use Rattle.ell_text.specs.declared.replay.Draft.{Draft}
 use Rattle.ell_text.specs.declared.replay.ReplayFault.{ReplayFault}
-use Rattle.ell_text.specs.Limits.{most_cards, most_lines}
+use Rattle.ell_text.specs.Limits.{most_lines}
+use Rattle.ell_word.specs.Node.{most_cards}
 use Rattle.ell_text.specs.replays.ReplayLine.{replay_line_at}
 use Rattle.ell_text.specs.replays.Script.{ScriptValue, place_behind, replay_fault_of, script_from}
 

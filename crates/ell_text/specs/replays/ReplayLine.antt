@@ -17,7 +17,7 @@ use Rattle.ell_text.specs.declared.replay_line.ReplayLineFault.{ReplayLineFault}
 use Rattle.ell_text.specs.declared.replay_line.ReplayLineFault.TheVariants.{BadLine, BadNumber, KeyTooLarge}
 use Rattle.ell_text.specs.declared.replay_line.Said.{Said}
 use Rattle.ell_text.specs.declared.replay_line.Said.TheVariants as says
-use Rattle.ell_text.specs.Limits.{most_cards}
+use Rattle.ell_word.specs.Node.{most_cards}
 use Rattle.ell_text.specs.Line.{kind_of, operation_on}
 use Rattle.ell_text.specs.Lines.{is_skipped, is_space}
 use Rattle.ell_text.specs.Number.{key_in, number_in}

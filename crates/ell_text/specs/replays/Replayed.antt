@@ -1,10 +1,10 @@
-use Rattle.std.specs.Prelude.{◌≡◌, ◌≢◌, ℕ, ◌<◌, List, length, take, Option, IfSome, Ok, Err, ⊤}
+use Rattle.std.specs.Prelude.{◌≡◌, ◌≢◌, ℕ, ◌<◌, List, [], length, take, Option, IfSome, Ok, Err, ⊤}
 use Rattle.std.specs.Io.KnownBytes.{Appends, Keeps}
 use Rattle.ell_core.specs.declared.event.CoreFault.{CoreFault}
 use Rattle.ell_core.specs.declared.event.CoreFault.TheVariants as core
 use Rattle.ell_core.specs.declared.event.Shown.{Shown}
 use Rattle.ell_core.specs.state.Machine.{Machine}
-use Rattle.ell_core.specs.state.Opening.{opening, OpeningRefused}
+use Rattle.ell_core.specs.state.Opening.{Setup, opening, OpeningRefused}
 use Rattle.ell_core.specs.acts.Runs.{Run}
 use Rattle.ell_core.specs.tree.Tree.{ListsKeys}
 use Rattle.ell_text.specs.declared.bytes.ScriptFault.{ScriptFault}
@@ -13,10 +13,14 @@ use Rattle.ell_text.specs.Limits.{most_bytes}
 use Rattle.ell_text.specs.replays.Script.{ScriptValue, script}
 use Rattle.ell_text.specs.replays.Trace.{trace}
 
+-- what a script opens with: it has no start keys
+abbrev pub setup_of : ScriptValue → Setup
+setup_of value = record { count = value.workers; owned = value.owned; start = []; cards = value.cards }
+
 -- a run of the script's events from its opening state shows this list and ends in a state whose tree has these keys
 pub record IsReplay (value : ScriptValue) (shown : List Shown) (keys : List ℕ) : Type 0 where
   pub after : Machine
-  pub run : Run (opening value.workers value.owned value.cards) value.events shown after
+  pub run : Run (opening (setup_of value)) value.events shown after
   pub listed : ListsKeys after.words keys
 
 -- the text is the trace of a replay of the script that the bytes say

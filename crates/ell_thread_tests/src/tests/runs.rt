@@ -10,6 +10,7 @@ mod pieces;
 mod running;
 mod scenes;
 mod stalling;
+mod starts;
 mod stopping;
 mod texts;
 mod told;

@@ -5,3 +5,4 @@ mod parting;
 mod playing;
 mod random_schedules;
 mod schedules;
+mod starts;

@@ -4,5 +4,6 @@ mod four_threads;
 mod plain_set;
 mod random_operations;
 mod rows;
+mod starts;
 mod steps_told;
 mod threads;

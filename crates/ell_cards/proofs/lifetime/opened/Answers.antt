@@ -1,13 +1,20 @@
-use Rattle.std.proofs.Common.{◌∙◌, sym, subst, List, [], ℕ}
-use Rattle.atomic_table.specs.Table.{opening as opening_state}
-use Rattle.ell_cards.specs.Changes.{first_view}
-use Rattle.ell_cards.specs.Rule.{Kept}
-use Rattle.ell_cards.proofs.lifetimes.Openings.{opening_is_kept}
+use Rattle.std.proofs.Common.{◌≡◌, length, sym, ap, ◌∙◌}
+use Rattle.std.proofs.lemmas.List.{with_items_is}
+use Rattle.ell_core.specs.state.Layout.{table_size}
+use Rattle.ell_core.specs.state.Words.{words_of}
+use Rattle.ell_core.specs.state.Opening.{start_words}
+use Rattle.ell_cards.proofs.lifetimes.Openings.{kept_up_to}
 use Rattle.ell_cards.proofs.lifetime.opened.Goals as goal
 
 pub of_words-requires : goal.of_words-requires
 of_words-requires g c =
     let plan = c.args.plan.now in
-    subst (λ (words : List ℕ). Kept plan.keys.items plan.cards (opening_state words [] (first_view plan.keys.items)))
-    (sym (c.as_slice.ensures.value ∙ c.in_ok-words.ensures))
-    (opening_is_kept plan.keys.items plan.cards c.requires.ascending c.requires.real).kept
+    let written = c.write_opening.new.words in
+    let length_is : length written ≡ c.in_ok-words.words.len =
+    c.write_opening.auto.words ∙ ap length c.as_mut_slice.ensures.value ∙ sym c.in_ok-words.words.ok.0 in
+    let words_are : c.as_slice-2.result.now ≡ written = c.as_slice-2.ensures.value ∙ with_items_is c.in_ok-words.words written length_is in
+    let size : length c.as_slice-2.result.now ≡ table_size plan.last_card =
+    ap length words_are ∙ (length_is ∙ (c.in_ok-words.ensures.len ∙ c.table_size.ensures)) in
+    let are : words_of c.as_slice-2.result.now ≡ start_words plan.start.items =
+    ap words_of words_are ∙ (c.write_opening.ensures ∙ ap start_words c.as_slice.ensures.value) in
+    kept_up_to plan.keys.items plan.start.items plan.last_card c.as_slice-2.result.now c.requires.may c.requires.room size are

@@ -45,10 +45,10 @@ returns g c =
     let with_key : (key : ℕ) × (s.worker.operation ≡ Some (Delete key)) = search rules in
     record {
       done = search rules;
-      refused = refused_for_memory c.args.memory.now.cards act.DFlag s
+      refused = refused_for_memory c.args.memory.now.last_card act.DFlag s
           (LacksAny s.worker.knows (flag_tells found.grandparent s.words (DFlagged found.card)))
           c.flag.result c.flag.ensures.refused c.flag.ensures.lacks
-          (λ lacks. wants c.args.memory.now.cards with_key.0 found.card found.grandparent s
+          (λ lacks. wants c.args.memory.now.last_card with_key.0 found.card found.grandparent s
           with_key.1 found.is-1 found.is-2 found.is-3 lacks);
       unchanged = search rules;
       words = search rules;

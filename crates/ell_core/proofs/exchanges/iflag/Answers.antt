@@ -11,10 +11,10 @@ use Rattle.ell_core.specs.inside.Inside.{LacksAny, scene_in}
 use Rattle.ell_core.proofs.outcomes.Wants.{flag_is_learned, refused_for_memory}
 use Rattle.ell_core.proofs.exchanges.iflag.Goals as goal
 
-wants : (cards key card : ℕ) (seen : Seen) (s : Scene) → s.worker.operation ≡ Some (Insert key) → s.worker.card ≡ Some card
+wants : (cards key value card : ℕ) (seen : Seen) (s : Scene) → s.worker.operation ≡ Some (Insert key value) → s.worker.card ≡ Some card
     → s.worker.flagged ≡ false → s.worker.search.parent ≡ Some seen
     → LacksAny s.worker.knows (flag_tells seen s.words (IFlagged card)) → WantsMemory cards act.IFlag s
-wants cards key card seen s inserts holds unflagged behind lacks =
+wants cards key value card seen s inserts holds unflagged behind lacks =
     let new = flag_is_learned s seen (iflag card) (IFlagged card) lacks in record {
       said = _;
       after = _;
@@ -26,6 +26,7 @@ wants cards key card seen s inserts holds unflagged behind lacks =
         room = λ h. h;
         row = record {
           key = key;
+          value = value;
           card = card;
           parent = seen;
           inserts = inserts;
@@ -42,14 +43,14 @@ pub returns : goal.returns
 returns g c =
     let found = c.in-Some-Insert-Some-false-Some in
     let s = scene_in c.args.memory.now c.args.worker.now in
-    let with_key : (key : ℕ) × (s.worker.operation ≡ Some (Insert key)) = search rules in
+    let inserts : (key : ℕ) × (value : ℕ) × (s.worker.operation ≡ Some (Insert key value)) = search rules in
     record {
       done = search rules;
-      refused = refused_for_memory c.args.memory.now.cards act.IFlag s
+      refused = refused_for_memory c.args.memory.now.last_card act.IFlag s
           (LacksAny s.worker.knows (flag_tells found.parent s.words (IFlagged found.card)))
           c.flag.result c.flag.ensures.refused c.flag.ensures.lacks
-          (λ lacks. wants c.args.memory.now.cards with_key.0 found.card found.parent s
-          with_key.1 found.is-1 found.is-2 found.is-3 lacks);
+          (λ lacks. wants c.args.memory.now.last_card inserts.0 inserts.1 found.card found.parent s
+          inserts.2 found.is-1 found.is-2 found.is-3 lacks);
       unchanged = search rules;
       words = search rules;
       same = search rules;

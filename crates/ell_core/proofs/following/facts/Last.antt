@@ -13,7 +13,7 @@ use Rattle.ell_core.proofs.following.facts.HoldsLater.{holds_later}
 
 -- every fact that holds before an act holds after it
 facts_last : (m : Machine) (stage : Stages) (a : Act) (i : ℕ) (said : Stepped) (becomes : Scene) → Invariant m stage
-    → Happens m.cards a (scene m i) said becomes → Follows m stage a i said (with_scene m i becomes) → FactsLast m.words becomes.words
+    → Happens m.last_card a (scene m i) said becomes → Follows m stage a i said (with_scene m i becomes) → FactsLast m.words becomes.words
 facts_last m stage a i said becomes before happens f =
     holds_later m.words becomes.words stage f.stages before.words f.invariant.words f.words f.later
     (marks_step a (scene m i) said becomes happens.row) before.kinds

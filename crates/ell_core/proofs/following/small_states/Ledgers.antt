@@ -11,6 +11,7 @@ use Rattle.ell_core.specs.soundness.SmallTrees.{five}
 use Rattle.ell_core.specs.soundness.Unsound.{BreaksLedgers, key_owned_twice, key_without_owner, key_missing_in_ledger, key_kept_in_ledger, BreaksSearches, key_found_too_early, key_not_found, search_astray, BreaksStrangers, key_of_stranger, busy_stranger, knowing_stranger}
 use Rattle.ell_core.proofs.opening.Ranges.{opening_ordered, opening_empty}
 use Rattle.ell_core.proofs.tree.Reached.{tree_key_leads}
+use Rattle.ell_core.specs.declared.view.Entry.TheVariants.{Present, Absent}
 
 -- a state whose ledgers are unsound is unsound
 breaks_ledgers : (m : Machine) → ¬ LedgersAreSound m → BreaksLedgers m
@@ -33,7 +34,7 @@ four_leaf e = zero_is_not_one (sym e)
 -- two owners of one key
 pub twice_broken : BreaksLedgers key_owned_twice
 twice_broken = breaks_ledgers key_owned_twice (λ sound. zero_is_not_one
-    (sound.one_owner 0 1 5 (λ e. let f : Some false ≡ None = e in cc) (λ e. let f : Some false ≡ None = e in cc)))
+    (sound.one_owner 0 1 5 (λ e. let f : Some Absent ≡ None = e in cc) (λ e. let f : Some Absent ≡ None = e in cc)))
 
 -- key 5 is in the tree with that key
 five_there : IsTreeKey five 5
@@ -56,19 +57,19 @@ owned_broken = breaks_ledgers key_without_owner (λ sound. let it = sound.owned 
 -- a key of the tree that is absent in its owner's ledger
 pub present_broken : BreaksLedgers key_missing_in_ledger
 present_broken = breaks_ledgers key_missing_in_ledger (λ sound.
-    let there : Some false ≡ Some true = (sound.present 0 5 (λ e. let f : Some false ≡ None = e in cc)).0 five_there in cc)
+    let there : Some Absent ≡ Some Present = (sound.present 0 5 (λ e. let f : Some Absent ≡ None = e in cc)).0 five_there in cc)
 
 -- a key that is present in the ledger alone: the opening tree has no key
 pub kept_broken : BreaksLedgers key_kept_in_ledger
 kept_broken = breaks_ledgers key_kept_in_ledger (λ sound.
-    let there = (sound.present 0 5 (λ e. let f : Some true ≡ None = e in cc)).1 refl in
+    let there = (sound.present 0 5 (λ e. let f : Some Present ≡ None = e in cc)).1 refl in
     opening_empty 5 there.real (tree_key_leads opening_words opening_ordered 5 there))
 
 -- a leaf of key 5, which is absent
 pub found_broken : BreaksSearches key_found_too_early
 found_broken = breaks_searches key_found_too_early (λ sound.
     let found : Finds key_found_too_early.words 5 4 = record { leaf = 4; on = here refl; outer = four_leaf; has = refl } in
-    let there : Some false ≡ Some true = (sound 0 (Find 5) 4 refl refl).finds.0 found in cc)
+    let there : Some Absent ≡ Some Present = (sound 0 (Find 5) 4 refl refl).finds.0 found in cc)
 
 -- the walk from leaf 1 stays there
 at_one : (x : ℕ) → OnWalk five 5 1 x → x ≡ 1
@@ -105,7 +106,7 @@ past = omega arith
 
 -- worker 1 owns key 7
 pub owner_broken : BreaksStrangers key_of_stranger
-owner_broken = breaks_strangers key_of_stranger (λ strangers. let h : Some false ≡ None = ap (λ v. v.ledger 7) (strangers 1 past) in cc)
+owner_broken = breaks_strangers key_of_stranger (λ strangers. let h : Some Absent ≡ None = ap (λ v. v.ledger 7) (strangers 1 past) in cc)
 
 -- worker 1 has a find in hand
 pub busy_broken : BreaksStrangers busy_stranger

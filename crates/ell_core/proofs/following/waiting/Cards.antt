@@ -19,13 +19,13 @@ use Rattle.ell_core.proofs.following.facts.Claimed.{not_claimed}
 -- a card in hand that is not flagged waits
 by_operation : (w : Words) (stage : Stages) (v : Worker) (op : Op) (c : ℕ) → Unflagged w stage v op c → waits (stage c) ≡ true
 by_operation w stage v (Find k) c h = absurd h
-by_operation w stage v (Insert k) c h = insert-waits (stage c) h.claimed.0 h.claimed.1
+by_operation w stage v (Insert k value) c h = insert-waits (stage c) h.claimed.0 h.claimed.1
 by_operation w stage v (Delete k) c h = delete-waits (stage c) h.claimed.0 h.claimed.1
 
 -- one that is flagged does not
 by_flag : (w : Words) (stage : Stages) (v : Worker) (op : Op) (c : ℕ) → Flagged w stage v op c → waits (stage c) ≡ false
 by_flag w stage v (Find k) c h = absurd h
-by_flag w stage v (Insert k) c h = insert_won-settled (stage c) h.0
+by_flag w stage v (Insert k value) c h = insert_won-settled (stage c) h.0
 by_flag w stage v (Delete k) c h = delete_won-settled (stage c) h.0
 
 -- a worker with a card in hand has an operation in hand
@@ -50,7 +50,7 @@ flagged_settled w stage v c sound holds flagged =
 -- a card that won its flag was claimed
 won_claimed : (w : Words) (stage : Stages) (v : Worker) (op : Op) (c : ℕ) → Flagged w stage v op c → is_claimed (stage c) ≡ true
 won_claimed w stage v (Find k) c h = absurd h
-won_claimed w stage v (Insert k) c h = insert-claimed (stage c) (insert_won-insert (stage c) h.0)
+won_claimed w stage v (Insert k value) c h = insert-claimed (stage c) (insert_won-insert (stage c) h.0)
 won_claimed w stage v (Delete k) c h = delete-claimed (stage c) (delete_won-delete (stage c) h.0)
 
 -- so was every card in a worker's hand
@@ -70,12 +70,12 @@ own_one : (w : Words) (stage : Stages) (v u : Worker) (one two : Op) (c : ℕ) �
     → WorkerIsSound w stage v → WorkerIsSound w stage u → v.operation ≡ Some one → u.operation ≡ Some two → (k : ℕ) × Owns v k × Owns u k
 own_one w stage v u (Find k) two c h g left right a b = absurd h
 own_one w stage v u one (Find k) c h g left right a b = absurd g
-own_one w stage v u (Insert k) (Insert n) c h g left right a b =
-    (k, left.owned (Insert k) a, subst (Owns u) (sym g.own ∙ h.own) (right.owned (Insert n) b))
+own_one w stage v u (Insert k value) (Insert n other) c h g left right a b =
+    (k, left.owned (Insert k value) a, subst (Owns u) (sym g.own ∙ h.own) (right.owned (Insert n other) b))
 own_one w stage v u (Delete k) (Delete n) c h g left right a b =
     (k, left.owned (Delete k) a, subst (Owns u) (sym g.own ∙ h.own) (right.owned (Delete n) b))
-own_one w stage v u (Insert k) (Delete n) c h g left right a b = absurd (one_kind (stage c) h.claimed.0 g.claimed.0)
-own_one w stage v u (Delete k) (Insert n) c h g left right a b = absurd (one_kind (stage c) g.claimed.0 h.claimed.0)
+own_one w stage v u (Insert k value) (Delete n) c h g left right a b = absurd (one_kind (stage c) h.claimed.0 g.claimed.0)
+own_one w stage v u (Delete k) (Insert n value) c h g left right a b = absurd (one_kind (stage c) g.claimed.0 h.claimed.0)
 
 module _ (m : Machine) (stage : Stages) (invariant : Invariant m stage) where
   -- a card that is not flagged is in one hand

@@ -32,7 +32,7 @@ pub record ClaimsCard (m : Machine) (stage : Stages) (i : ℕ) (filling : List (
     (op : Op) : Type 0 where
   pub there : i < m.count
   pub sound : Invariant m stage
-  pub room : m.words.next ≤ m.cards
+  pub room : m.words.next ≤ m.last_card
   pub fresh : IsJustClaimed new
   pub busy : (m.worker i).operation ≡ Some op
   pub no_card : (m.worker i).card ≡ None
@@ -130,21 +130,21 @@ module _ (m : Machine) (stage : Stages) (i : ℕ) (filling : List (Field × ℕ)
 
 -- a claim for an insert keeps it
 claim_insert : (m : Machine) (stage : Stages) (i : ℕ) (said : Stepped) (becomes : Scene) → i < m.count → Invariant m stage
-    → m.words.next ≤ m.cards
+    → m.words.next ≤ m.last_card
     → ClaimInsert (scene m i) said becomes → Follows m stage act.Claim i said (with_scene m i becomes)
 claim_insert m stage i said becomes there sound room e =
     let own = sound.workers.each i in
-    let stand = own.stands (Insert e.key) e.leaf e.inserts e.at.stands in
+    let stand = own.stands (Insert e.key e.value) e.leaf e.inserts e.at.stands in
     let seen : InsertSeen m.words stage (m.worker i) e.key e.leaf e.parent = record {
       words = sound.words;
       stand = stand;
       outer = e.at.outer;
       seen = (stand.parent e.parent e.at.behind).0;
       absent = e.absent;
-      real = own.real e.key (own.owned (Insert e.key) e.inserts);
+      real = own.real e.key (own.owned (Insert e.key e.value) e.inserts);
     } in
     let filling = insert_filling m.words.next e.key e.parent.node e.leaf (m.words.key e.leaf) in
-    let claims_card : ClaimsCard m stage i filling IClaimed (Insert e.key) = record {
+    let claims_card : ClaimsCard m stage i filling IClaimed (Insert e.key e.value) = record {
       there = there;
       sound = sound;
       room = room;
@@ -157,11 +157,11 @@ claim_insert m stage i said becomes there sound room e =
     } in
     subst (λ s. Follows m stage act.Claim i said (with_scene m i s)) (sym e.gives)
     (subst (λ s. Follows m stage act.Claim i s (with_scene m i (claims (scene m i) filling))) (sym e.says)
-    (claim_follows m stage i filling IClaimed (Insert e.key) claims_card))
+    (claim_follows m stage i filling IClaimed (Insert e.key e.value) claims_card))
 
 -- a claim for a delete keeps it
 claim_delete : (m : Machine) (stage : Stages) (i : ℕ) (said : Stepped) (becomes : Scene) → i < m.count → Invariant m stage
-    → m.words.next ≤ m.cards
+    → m.words.next ≤ m.last_card
     → ClaimDelete (scene m i) said becomes → Follows m stage act.Claim i said (with_scene m i becomes)
 claim_delete m stage i said becomes there sound room e =
     let own = sound.workers.each i in
@@ -196,7 +196,7 @@ claim_delete m stage i said becomes there sound room e =
 pub keeps_claim : Keeps act.Claim
 keeps_claim m stage i said becomes there sound happens =
     let full = happens.room in
-    let room : m.words.next ≤ m.cards = omega arith in
+    let room : m.words.next ≤ m.last_card = omega arith in
     elim happens.row [
       | inl e ↦ claim_insert m stage i said becomes there sound room e
       | inr e ↦ claim_delete m stage i said becomes there sound room e

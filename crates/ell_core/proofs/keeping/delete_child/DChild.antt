@@ -137,7 +137,7 @@ cut-loses_key w c tree = record {
 
 -- a won child exchange takes the delete's key from the tree
 pub dchild-loses_key : (c : ℕ) (m : Machine) (stage : Stages) (i : ℕ) (becomes : Scene) → Invariant m stage
-    → Happens m.cards (act.DChild c) (scene m i) Won becomes → LosesKey m.words becomes.words (delete_key m.words c)
+    → Happens m.last_card (act.DChild c) (scene m i) Won becomes → LosesKey m.words becomes.words (delete_key m.words c)
 dchild-loses_key c m stage i becomes sound happens =
     elim (marked_cases (stage c) ((sound.workers.each i).facts (Marked c) happens.row.may)) [
       | inl now ↦
@@ -152,7 +152,7 @@ dchild-loses_key c m stage i becomes sound happens =
 
 -- a lost one changes no word
 pub dchild-lost_same : (c : ℕ) (m : Machine) (stage : Stages) (i : ℕ) (becomes : Scene) → Invariant m stage
-    → Happens m.cards (act.DChild c) (scene m i) Lost becomes → becomes.words ≡ m.words
+    → Happens m.last_card (act.DChild c) (scene m i) Lost becomes → becomes.words ≡ m.words
 dchild-lost_same c m stage i becomes sound happens =
     elim (marked_cases (stage c) ((sound.workers.each i).facts (Marked c) happens.row.may)) [
       | inl now ↦

@@ -36,7 +36,7 @@ same_goal w stage c = record {
 pub unflagged_claimed : (w : Words) (stage : Stages) (v : Worker) (op : Op) (c : ℕ) → Unflagged w stage v op c
     → is_claimed (stage c) ≡ true
 unflagged_claimed w stage v (Find k) c h = absurd h
-unflagged_claimed w stage v (Insert k) c h = insert-claimed (stage c) h.claimed.0
+unflagged_claimed w stage v (Insert k value) c h = insert-claimed (stage c) h.claimed.0
 unflagged_claimed w stage v (Delete k) c h = delete-claimed (stage c) h.claimed.0
 
 -- the card that a worker has in hand without its flag is another one
@@ -48,7 +48,7 @@ won_not_unflagged : (w : Words) (stage : Stages) (v : Worker) (op : Op) (c : ℕ
     → (insert_won (stage c) ≡ true) ⊎ (delete_won (stage c) ≡ true)
     → Unflagged w stage v op c → ⊥
 won_not_unflagged w stage v (Find k) c won h = h
-won_not_unflagged w stage v (Insert k) c won h = insert_not_won (stage c) h.claimed.0 h.claimed.1 won
+won_not_unflagged w stage v (Insert k value) c won h = insert_not_won (stage c) h.claimed.0 h.claimed.1 won
 won_not_unflagged w stage v (Delete k) c won h = delete_not_won (stage c) h.claimed.0 h.claimed.1 won
 
 -- no worker has a card in hand without its flag whose flag was won
@@ -62,7 +62,7 @@ module _ (old new : Words) (stage stages : Stages) (v u : Worker) where
   pub unflagged_same : (op : Op) (c : ℕ) → stages c ≡ stage c → SameGoal old new stage c → SamePlace v.search u.search
       → Unflagged old stage v op c → Unflagged new stages u op c
   unflagged_same (Find k) c at goal place h = h
-  unflagged_same (Insert k) c at goal place h = let same = goal.insert h.claimed.0 in record {
+  unflagged_same (Insert k value) c at goal place h = let same = goal.insert h.claimed.0 in record {
     parent = h.parent;
     claimed = (ap is_insert at ∙ h.claimed.0, ap insert_won at ∙ h.claimed.1);
     stands = place.node ∙ (h.stands ∙ ap Some (sym same.0.l));
@@ -91,7 +91,7 @@ module _ (old new : Words) (stage stages : Stages) (v u : Worker) where
   pub flagged_same : (op : Op) (c : ℕ) → StagesLater stage stages → SameGoal old new stage c → u.ledger ≡ v.ledger
       → Flagged old stage v op c → Flagged new stages u op c
   flagged_same (Find k) c later goal same h = h
-  flagged_same (Insert k) c later goal same h = (
+  flagged_same (Insert k value) c later goal same h = (
     later.told (fact.IFlagged c) c h.0,
     (goal.insert (insert_won-insert (stage c) h.0)).1 ∙ h.1,
     ap (λ f. f k) same ∙ h.2,

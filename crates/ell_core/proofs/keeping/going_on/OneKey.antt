@@ -1,4 +1,4 @@
-use Rattle.std.proofs.Common.{◌≡◌, ◌≢◌, ℕ, ◌≤◌, ◌⊎◌, ◌↔◌, Bool, true, Some, None, inl, inr, sym, ap, ◌∙◌, subst}
+use Rattle.std.proofs.Common.{◌≡◌, ◌≢◌, ℕ, ◌≤◌, ◌⊎◌, ◌↔◌, true, Some, None, inl, inr, sym, ap, ◌∙◌, subst}
 use Rattle.std.proofs.lemmas.Bool.{cases_eq}
 use Rattle.ell_ops.specs.declared.op.Op.{Op}
 use Rattle.ell_ops.specs.Meaning.{greatest_key, key_of}
@@ -14,17 +14,19 @@ use Rattle.ell_core.proofs.stages.Counts.{counts_same, counts_made}
 use Rattle.ell_core.proofs.keeping.going_on.Cards.{GoesOn}
 use Rattle.ell_core.proofs.keeping.going_on.Workers.{worker_on}
 use Rattle.ell_core.proofs.keeping.going_on.InHand.{won_elsewhere}
+use Rattle.ell_core.specs.declared.view.Entry.{Entry}
+use Rattle.ell_core.specs.declared.view.Entry.TheVariants.{Present}
 
 -- a child exchange takes card c, whose flag stands in some worker's hand, to a stage that has made its key present or absent: so
 -- the key leads to a leaf or does not, and every other key leads where it led
-pub record SettlesKey (m : Machine) (stage : Stages) (words : Words) (c : ℕ) (new : Stage) (key : ℕ) (present : Bool) : Type 0 where
+pub record SettlesKey (m : Machine) (stage : Stages) (words : Words) (c : ℕ) (new : Stage) (key : ℕ) (made : Entry) : Type 0 where
   pub goes : GoesOn m.words words stage (put stage c new)
   pub hand : IsInHand m c
   pub won : (insert_won (stage c) ≡ true) ⊎ (delete_won (stage c) ≡ true)
   pub own : (v : Worker) (op : Op) → Flagged m.words stage v op c → key_of op ≡ key
-  pub makes : made_of new ≡ Some present
+  pub makes : made_of new ≡ Some made
   pub leads : (k x : ℕ) → k ≢ key → LeadsTo words k x ↔ LeadsTo m.words k x
-  pub led : LeadsTo words key 0 ↔ (present ≡ true)
+  pub led : LeadsTo words key 0 ↔ (made ≡ Present)
   pub inserts : insert_open new ≡ true → insert_open (stage c) ≡ true
   pub deletes : delete_open new ≡ true → delete_open (stage c) ≡ true
 
@@ -37,8 +39,8 @@ record HoldsFor (v : Worker) (c key : ℕ) : Type 0 where
   flagged : v.flagged ≡ true
   nowhere : v.search.node ≡ None
 
-module _ (m : Machine) (stage : Stages) (words : Words) (c : ℕ) (new : Stage) (key : ℕ) (present : Bool)
-    (old : WorkersAreSound m stage) (h : SettlesKey m stage words c new key present) where
+module _ (m : Machine) (stage : Stages) (words : Words) (c : ℕ) (new : Stage) (key : ℕ) (made : Entry)
+    (old : WorkersAreSound m stage) (h : SettlesKey m stage words c new key made) where
   -- the stages after
   abbrev stages : Stages
   stages = put stage c new
@@ -83,13 +85,13 @@ module _ (m : Machine) (stage : Stages) (words : Words) (c : ℕ) (new : Stage) 
       was
 
   -- for its owner the key counts as what was made of it
-  counts_here : (i : ℕ) → Owns (m.worker i) key → staged stages (m.worker i) key ≡ Some present
+  counts_here : (i : ℕ) → Owns (m.worker i) key → staged stages (m.worker i) key ≡ Some made
   counts_here i owns =
       let g = owner_holds i owns in
       let ledger = (m.worker i).ledger in
       ap (λ f. f key) (counts_made stages (m.worker i) g.op c g.busy g.holds g.flagged)
       ∙ ((λ t. with_settled ledger (g.own t) ((ap made_of (put_same stage c new) ∙ h.makes) t) key)
-      ∙ put_same ledger key (Some present))
+      ∙ put_same ledger key (Some made))
 
   -- every other key counts as before
   counts_elsewhere : (i k : ℕ) → k ≢ key → staged stages (m.worker i) k ≡ staged stage (m.worker i) k
@@ -100,11 +102,11 @@ module _ (m : Machine) (stage : Stages) (words : Words) (c : ℕ) (new : Stage) 
   ])
 
   -- the keys present are those of the tree
-  present_after : (i k : ℕ) → Owns (m.worker i) k → LeadsTo words k 0 ↔ (staged stages (m.worker i) k ≡ Some true)
+  present_after : (i k : ℕ) → Owns (m.worker i) k → LeadsTo words k 0 ↔ (staged stages (m.worker i) k ≡ Some Present)
   present_after i k owns = elim (cases_eq k key) [
     | inl e ↦
         let counts = ap (staged stages (m.worker i)) e ∙ counts_here i (subst (Owns (m.worker i)) e owns) in (
-          λ l. counts ∙ ap (λ b. Some b) (h.led.0 (subst (λ n. LeadsTo words n 0) e l)),
+          λ l. counts ∙ ap (λ e. Some e) (h.led.0 (subst (λ n. LeadsTo words n 0) e l)),
           λ s. subst (λ n. LeadsTo words n 0) (sym e) (h.led.1 (same_value counts s)),
         )
     | inr n ↦

@@ -1,4 +1,4 @@
-use Rattle.std.proofs.Common.{◌≡◌, ℕ, true, inl, refl, sym, ap, ◌∙◌}
+use Rattle.std.proofs.Common.{◌≡◌, ℕ, inl, refl, sym, ap, ◌∙◌}
 use Rattle.std.proofs.lemmas.Bool.{false≢true}
 use Rattle.ell_ops.specs.declared.op.Op.{Op}
 use Rattle.ell_ops.specs.declared.op.Op.TheVariants.{Find, Insert, Delete}
@@ -10,6 +10,7 @@ use Rattle.ell_core.specs.history.Invariant.{insert_key, Flagged, WorkersAreSoun
 use Rattle.ell_core.proofs.keeping.going_on.OneKey.{settled_workers}
 use Rattle.ell_core.proofs.keeping.insert_child.Tree.{ichild_words, leads_still, led_before, key_gained}
 use Rattle.ell_core.proofs.keeping.insert_child.Cards.{ichild_stages, ichild_goes_on}
+use Rattle.ell_core.specs.declared.view.Entry.TheVariants.{Present}
 
 -- the machine after the child exchange of an insert, before its worker has learned that it was made
 abbrev pub ichild_machine : Machine → ℕ → Machine
@@ -19,14 +20,14 @@ ichild_machine m c = record m { words = ichild_words m.words c }
 waiting_own : (w : Words) (stage : Stages) (c : ℕ) → stage c ≡ IFlagged → (v : Worker) (op : Op) → Flagged w stage v op c
     → key_of op ≡ insert_key w c
 waiting_own w stage c flagged v (Find k) h = absurd h
-waiting_own w stage c flagged v (Insert k) h = sym h.1
+waiting_own w stage c flagged v (Insert k value) h = sym h.1
 waiting_own w stage c flagged v (Delete k) h = absurd (false≢true (ap delete_won (sym flagged) ∙ h.0))
 
 -- the workers are sound after the exchange, which settles the card's key as present
 pub workers_after : (m : Machine) (stage : Stages) → Invariant m stage → (c : ℕ) → stage c ≡ IFlagged
     → WorkersAreSound (ichild_machine m c) (ichild_stages stage c)
 workers_after m stage sound c flagged =
-    settled_workers m stage (ichild_words m.words c) c IChanged (insert_key m.words c) true sound.workers (record {
+    settled_workers m stage (ichild_words m.words c) c IChanged (insert_key m.words c) Present sound.workers (record {
       goes = ichild_goes_on m.words stage sound.words c flagged;
       hand = sound.workers.insert_in_hand c (ap insert_open flagged);
       won = inl (ap insert_won flagged);

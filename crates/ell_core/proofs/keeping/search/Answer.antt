@@ -17,31 +17,35 @@ use Rattle.ell_core.proofs.keeping.search.Begin.{MayDrop, drops_backed, takes_on
 use Rattle.ell_core.proofs.keeping.Learning.{KnowsAllowed}
 use Rattle.ell_core.proofs.keeping.OneWorker.{HasInHand, follows_worker}
 use Rattle.ell_core.proofs.words.Writes.{put_cases}
+use Rattle.ell_core.specs.declared.view.Entry.{Entry}
+use Rattle.ell_core.specs.declared.view.Entry.TheVariants.{Present, Absent}
+use Rattle.ell_ops.specs.declared.reply.Reply.{Reply}
+use Rattle.ell_ops.specs.declared.reply.Reply.TheVariants.{Yes}
 
 -- an answer at a leaf leaves the ledger
-pub leaf_answer-ledger : (op : Op) (has reply : Bool) (ledger : Ledger) → leaf_answer op has ≡ Some reply
+pub leaf_answer-ledger : (op : Op) (has : Bool) (reply : Reply) (ledger : Ledger) → leaf_answer op has ≡ Some reply
     → ledger_after op reply ledger ≡ ledger
 leaf_answer-ledger (Find k) has reply ledger e = refl
-leaf_answer-ledger (Insert k) true reply ledger e = ap (λ b. ledger_after (Insert k) b ledger) (sym (same_value refl e))
-leaf_answer-ledger (Insert k) false reply ledger e = absurd (some_not_none e refl)
+leaf_answer-ledger (Insert k value) true reply ledger e = ap (λ b. ledger_after (Insert k value) b ledger) (sym (same_value refl e))
+leaf_answer-ledger (Insert k value) false reply ledger e = absurd (some_not_none e refl)
 leaf_answer-ledger (Delete k) true reply ledger e = absurd (some_not_none e refl)
 leaf_answer-ledger (Delete k) false reply ledger e = ap (λ b. ledger_after (Delete k) b ledger) (sym (same_value refl e))
 
 -- an option that a test gives or not: the test was met, and this is what it gives
-pub gives_if : (test reply : Bool) → (if test then Some true else None) ≡ Some reply → (test ≡ true) × (reply ≡ true)
+pub gives_if : (test : Bool) (reply : Reply) → (if test then Some Yes else None) ≡ Some reply → (test ≡ true) × (reply ≡ Yes)
 gives_if true reply e = (refl, sym (same_value refl e))
 gives_if false reply e = absurd (some_not_none e refl)
 
 -- a card that may be answered by is over, and made its key what the answer makes it
-pub record IsOver (s : Stage) (made : Bool) : Type 0 where
+pub record IsOver (s : Stage) (made : Entry) : Type 0 where
   pub made_it : made_of s ≡ Some made
   pub no_insert : insert_open s ≡ false
   pub no_delete : delete_open s ≡ false
 
-insert_is_over : (s : Stage) → insert_over s ≡ true → IsOver s true
+insert_is_over : (s : Stage) → insert_over s ≡ true → IsOver s Present
 insert_is_over s h = record { made_it = grind arith; no_insert = grind arith; no_delete = grind arith }
 
-delete_is_over : (s : Stage) → delete_over s ≡ true → IsOver s false
+delete_is_over : (s : Stage) → delete_over s ≡ true → IsOver s Absent
 delete_is_over s h = record { made_it = grind arith; no_insert = grind arith; no_delete = grind arith }
 
 -- the effective ledger of a worker with a flagged card in hand
@@ -52,7 +56,7 @@ staged_in_hand stage v op c busy holds flagged =
     ∙ (ap (λ o. staged_of stage v.ledger (Some op) o v.flagged) holds
     ∙ ap (staged_of stage v.ledger (Some op) (Some c)) flagged)
 
-module _ (stage : Stages) (v : Worker) (op : Op) (c : ℕ) (made : Bool) (busy : v.operation ≡ Some op)
+module _ (stage : Stages) (v : Worker) (op : Op) (c : ℕ) (made : Entry) (busy : v.operation ≡ Some op)
     (holds : v.card ≡ Some c) (flagged : v.flagged ≡ true) (over : IsOver (stage c) made) (owns : Owns v (key_of op)) where
   -- the ledger after an answer by a card that is over
   abbrev ledger : Ledger
@@ -78,20 +82,20 @@ module _ (stage : Stages) (v : Worker) (op : Op) (c : ℕ) (made : Bool) (busy :
   }
 
 -- an answer by a card of an insert or delete: the card is over
-drops_by_card : (stage : Stages) (v : Worker) (op : Op) (c : ℕ) (reply : Bool) → KnowsAllowed stage v.knows
+drops_by_card : (stage : Stages) (v : Worker) (op : Op) (c : ℕ) (reply : Reply) → KnowsAllowed stage v.knows
     → v.operation ≡ Some op → v.card ≡ Some c → v.flagged ≡ true → Owns v (key_of op) → card_answer op c v.knows ≡ Some reply
     → MayDrop stage v (ledger_after op reply v.ledger)
 drops_by_card stage v (Find k) c reply facts busy holds flagged owns e = absurd (some_not_none e refl)
-drops_by_card stage v (Insert k) c reply facts busy holds flagged owns e =
+drops_by_card stage v (Insert k value) c reply facts busy holds flagged owns e =
     let g = gives_if (v.knows (fact.IOver c)) reply e in
-    subst (λ b. MayDrop stage v (ledger_after (Insert k) b v.ledger)) (sym g.1)
-    (drops_over stage v (Insert k) c true busy holds flagged (insert_is_over (stage c) (facts (fact.IOver c) g.0)) owns)
+    subst (λ b. MayDrop stage v (ledger_after (Insert k value) b v.ledger)) (sym g.1)
+    (drops_over stage v (Insert k value) c Present busy holds flagged (insert_is_over (stage c) (facts (fact.IOver c) g.0)) owns)
 drops_by_card stage v (Delete k) c reply facts busy holds flagged owns e =
     let g = gives_if (v.knows (fact.DOver c)) reply e in
     subst (λ b. MayDrop stage v (ledger_after (Delete k) b v.ledger)) (sym g.1)
-    (drops_over stage v (Delete k) c false busy holds flagged (delete_is_over (stage c) (facts (fact.DOver c) g.0)) owns)
+    (drops_over stage v (Delete k) c Absent busy holds flagged (delete_is_over (stage c) (facts (fact.DOver c) g.0)) owns)
 
-module _ (m : Machine) (stage : Stages) (i : ℕ) (sound : Invariant m stage) (op : Op) (reply : Bool)
+module _ (m : Machine) (stage : Stages) (i : ℕ) (sound : Invariant m stage) (op : Op) (reply : Reply)
     (busy : (m.worker i).operation ≡ Some op) where
   -- an answer at a leaf: no card in hand is flagged
   drops_at_leaf : AnswersAtLeaf (scene m i) op reply → MayDrop stage (m.worker i) (ledger_after op reply (m.worker i).ledger)

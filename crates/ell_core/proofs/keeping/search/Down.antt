@@ -42,7 +42,7 @@ leaf_below_root w stage k h real outer =
 pub unflagged_at_leaf : (w : Words) (stage : Stages) (v : Worker) (op : Op) (c x : ℕ) → WordsAreSound w stage
     → Unflagged w stage v op c → v.search.node ≡ Some x → IsLeaf x
 unflagged_at_leaf w stage v (Find k) c x sound h at = absurd h
-unflagged_at_leaf w stage v (Insert k) c x sound h at =
+unflagged_at_leaf w stage v (Insert k value) c x sound h at =
     subst IsLeaf (same_value h.stands at) ((sound.cards c).insert h.claimed.0).leaf.outer
 unflagged_at_leaf w stage v (Delete k) c x sound h at =
     subst IsLeaf (same_value h.stands at) ((sound.cards c).delete h.claimed.0).leaf.outer

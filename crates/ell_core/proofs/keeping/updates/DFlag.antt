@@ -25,6 +25,7 @@ use Rattle.ell_core.proofs.keeping.updates.Flag.{flags_won, flags_lost, HoldsCar
 use Rattle.ell_core.proofs.keeping.going_on.Stages.{no_insert}
 use Rattle.ell_core.proofs.stages.Advances.{dflag_later, dflag_kind, StageLater, SameKind}
 use Rattle.ell_core.proofs.words.CleanWords.{clean_remainder}
+use Rattle.ell_core.specs.declared.view.Entry.TheVariants.{Present}
 
 module _ (m : Machine) (stage : Stages) (i k c : ℕ) (grandparent : Seen) (there : i < m.count) (sound : Invariant m stage)
     (h : HoldsCard m i c (Delete k)) (above : (m.worker i).search.grandparent ≡ Some grandparent) where
@@ -54,7 +55,7 @@ module _ (m : Machine) (stage : Stages) (i k c : ℕ) (grandparent : Seen) (ther
   seen_above = stand.grandparent hand.parent grandparent hand.behind above
 
   -- the key was present, since the leaf where it stands has it
-  present : (m.worker i).ledger k ≡ Some true
+  present : (m.worker i).ledger k ≡ Some Present
   present = stand.leads.0 (at_leaf said.leaf.outer hand.own)
 
   module _ (won : m.words.update grandparent.node ≡ grandparent.word) where

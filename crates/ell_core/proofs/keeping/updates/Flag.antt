@@ -59,10 +59,10 @@ same_key : (w : Words) (stage : Stages) (v u : Worker) (op other : Op) (c : ℕ)
     → key_of other ≡ key_of op
 same_key w stage v u (Find k) _ c h g = absurd h
 same_key w stage v u _ (Find k) c h g = absurd g
-same_key w stage v u (Insert k) (Insert l) c h g = sym g.own ∙ h.own
+same_key w stage v u (Insert k value) (Insert l other) c h g = sym g.own ∙ h.own
 same_key w stage v u (Delete k) (Delete l) c h g = sym g.own ∙ h.own
-same_key w stage v u (Insert k) (Delete l) c h g = absurd (one_kind (stage c) h.claimed.0 g.claimed.0)
-same_key w stage v u (Delete k) (Insert l) c h g = absurd (one_kind (stage c) g.claimed.0 h.claimed.0)
+same_key w stage v u (Insert k value) (Delete l) c h g = absurd (one_kind (stage c) h.claimed.0 g.claimed.0)
+same_key w stage v u (Delete k) (Insert l value) c h g = absurd (one_kind (stage c) g.claimed.0 h.claimed.0)
 
 -- worker i has card c in hand for an operation, without its flag
 pub record HoldsCard (m : Machine) (i c : ℕ) (op : Op) : Type 0 where

@@ -1,4 +1,4 @@
-use Rattle.std.proofs.Common.{◌≡◌, ◌≢◌, ℕ, ◌%◌, ◌<◌, ◌==◌, Bool, true, false, [], ◌∷◌, ◌++◌, Option, Some, None, inl, inr, refl, sym, ap, ◌∙◌, subst, arith}
+use Rattle.std.proofs.Common.{◌≡◌, ◌≢◌, ℕ, ◌%◌, ◌<◌, ◌==◌, true, [], ◌∷◌, ◌++◌, Option, Some, None, inl, inr, refl, sym, ap, ◌∙◌, subst, arith}
 use Rattle.std.proofs.lemmas.Bool.{false≢true, cases_eq, eq-eqb, ne_eqb}
 use Rattle.std.proofs.lemmas.Bool.Decides.{nat_tests}
 use Rattle.ell_ops.specs.declared.op.Op.TheVariants.{Insert}
@@ -28,6 +28,8 @@ use Rattle.ell_core.proofs.words.Sides.{insert_key-side, key_of_three}
 use Rattle.ell_core.proofs.keeping.going_on.Stages.{no_delete}
 use Rattle.ell_core.proofs.stages.Advances.{iflag_later, iflag_kind, StageLater, SameKind}
 use Rattle.ell_core.proofs.words.CleanWords.{clean_remainder}
+use Rattle.ell_core.specs.declared.view.Entry.{Entry}
+use Rattle.ell_core.specs.declared.view.Entry.TheVariants.{Present, Absent}
 
 -- of two keys that rise, the one that is not the leaf's is another one
 other_of_two : (left right leaf : ℕ) → left < right → key_of_three left right leaf ≢ leaf
@@ -36,17 +38,17 @@ other_of_two left right leaf less = elim (cases_eq left leaf) [
   | inr n ↦ (λ e. let pick : key_of_three left right leaf ≡ left = grind (arith, nat_tests) in n (sym pick ∙ e))
 ]
 
--- an entry that is there and is not true is false
-absent_entry : (entry : Option Bool) → entry ≢ None → entry ≢ Some true → entry ≡ Some false
-absent_entry None there untrue = absurd (there refl)
-absent_entry (Some true) there untrue = absurd (untrue refl)
-absent_entry (Some false) there untrue = refl
+-- an entry that is there and is not present is absent
+absent_entry : (entry : Option Entry) → entry ≢ None → entry ≢ Some Present → entry ≡ Some Absent
+absent_entry None there unmade = absurd (there refl)
+absent_entry (Some Present) there unmade = absurd (unmade refl)
+absent_entry (Some Absent) there unmade = refl
 
-module _ (m : Machine) (stage : Stages) (i k c : ℕ) (parent : Seen) (there : i < m.count) (sound : Invariant m stage)
-    (h : HoldsCard m i c (Insert k)) (behind : (m.worker i).search.parent ≡ Some parent) where
+module _ (m : Machine) (stage : Stages) (i k value c : ℕ) (parent : Seen) (there : i < m.count) (sound : Invariant m stage)
+    (h : HoldsCard m i c (Insert k value)) (behind : (m.worker i).search.parent ≡ Some parent) where
   -- what the worker's search saw on its way to the leaf
   hand : InsertInHand m.words stage (m.worker i) k c
-  hand = hand_of m stage i c (Insert k) sound h
+  hand = hand_of m stage i c (Insert k value) sound h
 
   same_parent : hand.parent ≡ parent
   same_parent = let same : Some hand.parent ≡ Some parent = sym hand.behind ∙ behind in cc
@@ -61,7 +63,7 @@ module _ (m : Machine) (stage : Stages) (i k c : ℕ) (parent : Seen) (there : i
   node = ap (λ seen. seen.node) (sym same_parent) ∙ hand.node
 
   stand : StandIsSound m.words stage (m.worker i) k (m.words.l c)
-  stand = (sound.workers.each i).stands (Insert k) (m.words.l c) h.busy hand.stands
+  stand = (sound.workers.each i).stands (Insert k value) (m.words.l c) h.busy hand.stands
 
   seen : SeenIsSound m.words stage k parent (m.words.l c)
   seen = (stand.parent parent behind).0
@@ -71,8 +73,8 @@ module _ (m : Machine) (stage : Stages) (i k c : ℕ) (parent : Seen) (there : i
       (subst (IsOnCourse m.words k) node (stand.parent parent behind).1)
 
   -- the key was absent, since the leaf where it stands has another one
-  absent : (m.worker i).ledger k ≡ Some false
-  absent = absent_entry ((m.worker i).ledger k) ((sound.workers.each i).owned (Insert k) h.busy)
+  absent : (m.worker i).ledger k ≡ Some Absent
+  absent = absent_entry ((m.worker i).ledger k) ((sound.workers.each i).owned (Insert k value) h.busy)
       (λ e. other_of_two (m.words.key (left_leaf c)) (m.words.key (right_leaf c)) (m.words.key (m.words.l c)) said.ordered
       (hand.own ∙ sym (leaf_key m.words.key m.words.child k (m.words.l c) said.leaf.outer (stand.leads.1 e))))
 
@@ -134,7 +136,7 @@ module _ (m : Machine) (stage : Stages) (i k c : ℕ) (parent : Seen) (there : i
       words = with_update m.words parent.node (iflag c);
       worker = flagged_worker (m.worker i) true (fact.IFlagged c) (m.words.update parent.node);
     }))
-    wins = flag_wins m stage i c (Insert k) sound h (fact.IFlagged c) parent.node (iflag c)
+    wins = flag_wins m stage i c (Insert k value) sound h (fact.IFlagged c) parent.node (iflag c)
         (m.words.update parent.node) IFlagged exchange
         refl refl refl (ap insert_won (put_same stage c IFlagged), hand.own, absent) act.IFlag kind.IFlag there new_word
         (ap (λ s. wins_of s ++ kind.IFlag ∷ []) (sym at)) (λ d. refl)
@@ -148,11 +150,11 @@ module _ (m : Machine) (stage : Stages) (i k c : ℕ) (parent : Seen) (there : i
         (gives ∙ flags_won (scene m i) parent (iflag c) (fact.IFlagged c) won) (wins won)
     | inr lost ↦ follows_as m stage act.IFlag i said Lost becomes _ (says ∙ ap won_or_lost (ne_eqb _ _ lost))
         (gives ∙ flags_lost (scene m i) parent (iflag c) (fact.IFlagged c) lost)
-        (flag_loses m stage i c (Insert k) sound h (fact.IFlagged c) parent.node seen.node act.IFlag there (λ d. refl))
+        (flag_loses m stage i c (Insert k value) sound h (fact.IFlagged c) parent.node seen.node act.IFlag there (λ d. refl))
   ]
 
 -- iflag keeps the invariant
 pub keeps_iflag : Keeps act.IFlag
 keeps_iflag m stage i said becomes there sound happens = let row = happens.row in
-    follows m stage i row.key row.card row.parent there sound
+    follows m stage i row.key row.value row.card row.parent there sound
     (record { busy = row.inserts; holds = row.holds; unflagged = row.unflagged }) row.behind said becomes row.says row.gives

@@ -6,7 +6,7 @@ use Rattle.ell_core.proofs.searching.claim_for_delete.Goals as goal
 
 pub returns-then-card-memory : goal.returns-then-card-memory
 returns-then-card-memory g c =
-    let full : c.args.memory.now.cards < (words_in c.args.memory.now).next = omega arith in
+    let full : c.args.memory.now.last_card < (words_in c.args.memory.now).next = omega arith in
     let calm : IsClean c.in-Some.grandparent.word = search rules in record {
       done = search rules;
       refused = (

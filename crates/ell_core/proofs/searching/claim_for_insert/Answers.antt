@@ -5,7 +5,7 @@ use Rattle.ell_core.proofs.searching.claim_for_insert.Goals as goal
 
 pub returns-then-card-memory : goal.returns-then-card-memory
 returns-then-card-memory g c =
-    let full : c.args.memory.now.cards < (words_in c.args.memory.now).next = omega arith in record {
+    let full : c.args.memory.now.last_card < (words_in c.args.memory.now).next = omega arith in record {
       done = search rules;
       refused = (
         λ h. h,
@@ -14,9 +14,10 @@ returns-then-card-memory g c =
           after = _;
           row = inl (record {
             key = c.args.key;
+            value = c.requires.inserts.0;
             leaf = c.args.at.leaf;
             parent = c.args.at.parent;
-            inserts = c.requires.inserts;
+            inserts = c.requires.inserts.1;
             at = c.requires.at;
             absent = λ same. c.if-leaf_key-key.false (c.key-leaf_key.ensures ∙ same);
             says = refl;

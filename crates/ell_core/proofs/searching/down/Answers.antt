@@ -36,7 +36,7 @@ returns g c =
     let words = words_in c.args.memory.now in
     let node = c.in-Some-Some-Some.node in
     record {
-      done = goes c.args.memory.now.cards (scene_in c.args.memory.now c.args.worker.now) c.in-Some-Some-Some.op
+      done = goes c.args.memory.now.last_card (scene_in c.args.memory.now c.args.worker.now) c.in-Some-Some-Some.op
           (record { node = node; word = c.in-Some-Some-Some.word }) c.child-child.result
           c.in-Some-Some-Some.is-0 c.in-Some-Some-Some.is-1 (search rules) c.in-Some-Some-Some.is-2
           (c.child-child.ensures ∙ ap (words.child node) (c.is_right.ensures ∙ ap (is_right words node) c.key.ensures));

@@ -31,7 +31,7 @@ returns-in_err-learn_any g c =
     let p = err_from_is_err_and c.from_residual.result c.from_residual.ensures.1 in
     record {
       done = search rules;
-      refused = rw (p.1, p.2) (wants c.args.memory.now.cards c.in-Some.node (scene_in c.args.memory.now c.args.worker.now)
+      refused = rw (p.1, p.2) (wants c.args.memory.now.last_card c.in-Some.node (scene_in c.args.memory.now c.args.worker.now)
           (search rules) (search rules) (search rules)
           (subst (LacksAny (worker_in c.args.worker.now).knows) (c.told_by.ensures ∙ ap told_by c.update-update.ensures)
           c.in_err-learn_any.ensures.lacks));

@@ -1,12 +1,15 @@
-use Rattle.std.proofs.Common.{◌+◌, ◌<◌, length, get_or, nat_cmp, arith, refl, ap, sym, subst, ◌∙◌, length-set}
+use Rattle.std.proofs.Common.{◌≡◌, ◌+◌, ◌<◌, length, get_or, nat_cmp, arith, refl, ap, sym, subst, ◌∙◌, length-set}
 use Rattle.std.proofs.lemmas.Bool.{not-true, not-false}
 use Rattle.std.proofs.lemmas.List.{length_push, take_all}
 use Rattle.std.specs.BTreeMap.{is_at}
 use Rattle.std.specs.List.{list_any}
-use Rattle.ell_core.specs.inside.Inside.{worker_at}
+use Rattle.ell_core.specs.inside.Inside.{worker_in, worker_at}
 use Rattle.ell_core.proofs.opening.Faults.{HasKeys-more, FaultlessBefore-more, Faultless-all, stranger_first, repeat_first}
-use Rattle.ell_core.proofs.opening.Owners.{worker_at-push, HaveLedgers, HaveLedgers-more}
+use Rattle.ell_core.proofs.opening.Owners.{worker_at-push, owning, HaveLedgers, HaveLedgers-more}
+use Rattle.ell_core.proofs.opening.KeyLists.{search_tells}
 use Rattle.ell_core.proofs.world.owning_workers.Goals as goal
+use Rattle.ell_core.specs.state.Machine.{present_if}
+use Rattle.ell_core.specs.state.Opening.{start_entry}
 
 pub loop-init : goal.loop-init
 loop-init g c =
@@ -60,9 +63,12 @@ loop-worker-preserved g c =
     let there = c.in-Some.ensures.variant.0 refl in
     let ok = c.loop-worker.workers.ok in
     let below : entry.0 < length workers = omega arith in
+    let present : c.present_if.result ≡ start_entry c.args.start.now entry.1 =
+    c.present_if.ensures ∙ ap present_if (c.is_ok.ensures.value ∙ search_tells c.args.start.now entry.1 c.binary_search.result c.requires c.binary_search.ensures.position) in
     record {
       count = length-set workers entry.0 c.own.new.self ∙ h.count;
-      ledgers = HaveLedgers-more workers owned n c.in-Some.owner.now c.own.new.self within h.ledgers below c.in-Some.ensures.value c.in_ok-own.ensures;
+      ledgers = HaveLedgers-more workers c.args.start.now owned n c.in-Some.owner.now c.own.new.self within h.ledgers below c.in-Some.ensures.value
+          (c.in_ok-own.ensures ∙ ap (owning (worker_in c.in-Some.owner.now) entry.1) present);
       taken = HasKeys-more c.loop-worker.taken.keys c.insert.new.self.keys owned n within h.taken c.in_ok-insert.ensures.updates.0;
       faultless =
           FaultlessBefore-more c.args.count owned c.loop-worker.taken.keys n h.faultless h.taken within (omega arith)
@@ -74,7 +80,7 @@ returns-clause-count g c = c.loop-worker.workers.ok.0 ∙ c.loop-worker.invarian
 
 pub returns-clause-ledgers : goal.returns-clause-ledgers
 returns-clause-ledgers g c =
-    subst (HaveLedgers c.loop-worker.workers.items) (take_all c.loop-worker.worker-index c.args.owned.now c.loop-worker-test.false)
+    subst (HaveLedgers c.loop-worker.workers.items c.args.start.now) (take_all c.loop-worker.worker-index c.args.owned.now c.loop-worker-test.false)
     c.loop-worker.invariant.ledgers
 
 pub returns-clause-faultless : goal.returns-clause-faultless

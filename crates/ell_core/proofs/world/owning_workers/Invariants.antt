@@ -17,7 +17,7 @@ invariant-loop g l = record {
 abbrev pub invariant-loop-worker : goal.invariant-loop-worker
 invariant-loop-worker g l = record {
   count : length l.workers.items ≡ l.count;
-  ledgers : HaveLedgers l.workers.items (take l.worker-index l.owned);
+  ledgers : HaveLedgers l.workers.items l.start (take l.worker-index l.owned);
   taken : HasKeys l.taken.keys (take l.worker-index l.owned);
   faultless : FaultlessBefore l.count l.owned l.worker-index;
 }

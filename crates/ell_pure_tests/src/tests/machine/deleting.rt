@@ -10,7 +10,7 @@ use ell_ops::Op;
 
 // Worker 1 inserts 7 by card 2, and flags node 3 by card 3 to delete it.
 const FLAGGED_FOR_SEVEN: &[Line] = &[
-    Searches(1, Begin(Op::Insert(7)), 2),
+    Searches(1, Begin(Op::Insert(7, 70)), 2),
     Does(1, &[Claim], MOVED),
     Does(1, &[IFlag, IChild(2), IUnflag(2)], WON),
     Does(1, &[Answer], YES),
@@ -24,7 +24,7 @@ const FLAGGED_FOR_SEVEN: &[Line] = &[
 
 // Worker 0 flags node 6 by card 4 to insert 6.
 const FLAGGED_FOR_SIX: &[Line] = &[
-    Searches(0, Begin(Op::Insert(6)), 3),
+    Searches(0, Begin(Op::Insert(6, 60)), 3),
     Does(0, &[Claim], MOVED),
     Filled(4, [0, 6, 7, 0, 6, 13, 14, 3, 5, 6]),
     Has(2, Field::Update, 3),

@@ -7,12 +7,12 @@ use ell_ops::Op;
 use ell_word::INF1;
 
 const A_STALLED_INSERT: &[Line] = &[
-    Searches(0, Begin(Op::Insert(5)), 1),
+    Searches(0, Begin(Op::Insert(5, 50)), 1),
     Does(0, &[Claim], MOVED),
     Has(0, Field::Update, 3),
     Does(0, &[IFlag], WON),
     Has(0, Field::Update, 4),
-    Searches(1, Begin(Op::Insert(7)), 1),
+    Searches(1, Begin(Op::Insert(7, 70)), 1),
     Has(0, Field::Left, 1),
     Does(1, &[IChild(1)], WON),
     Has(0, Field::Left, 3),
@@ -41,7 +41,7 @@ fn a_helper_finishes_a_stalled_insert(rt: HostRuntime) {
 }
 
 const A_FILLED_CARD: &[Line] = &[
-    Searches(0, Begin(Op::Insert(5)), 1),
+    Searches(0, Begin(Op::Insert(5, 50)), 1),
     Does(0, &[Claim], MOVED),
     Next(2),
     Filled(1, [0, 0, 1, 0, INF1, 4, 5, 3, 5, INF1]),
@@ -55,8 +55,8 @@ fn an_insert_fills_a_node_and_two_leaves(rt: HostRuntime) {
 }
 
 const A_LOST_FLAG: &[Line] = &[
-    Searches(0, Begin(Op::Insert(5)), 1),
-    Searches(1, Begin(Op::Insert(7)), 1),
+    Searches(0, Begin(Op::Insert(5, 50)), 1),
+    Searches(1, Begin(Op::Insert(7, 70)), 1),
     Does(0, &[Claim], MOVED),
     Does(1, &[Claim], MOVED),
     Does(0, &[IFlag], WON),

@@ -7,7 +7,7 @@ use ell_core::Act::{
     Leave, Mark, Upd,
 };
 use ell_core::{Act, Event, Shown, Stepped, World, replay};
-use ell_ops::{NoMemory, Op, apply};
+use ell_ops::{NoMemory, Op, Reply, apply};
 use ell_test_gates::Dice;
 use ell_word::Kind;
 use std::collections::{BTreeMap, BTreeSet};
@@ -85,10 +85,10 @@ impl Plain {
         Ok(())
     }
 
-    fn count(&mut self, op: Op, said: bool) {
-        match op {
-            Op::Insert(_) if said => self.inserted = self.inserted.wrapping_add(1),
-            Op::Delete(_) if said => self.deleted = self.deleted.wrapping_add(1),
+    fn count(&mut self, op: Op, said: Reply) {
+        match (op, said) {
+            (Op::Insert(_, _), Reply::Yes) => self.inserted = self.inserted.wrapping_add(1),
+            (Op::Delete(_), Reply::Yes) => self.deleted = self.deleted.wrapping_add(1),
             _ => {}
         }
     }
@@ -181,7 +181,7 @@ impl Schedule {
         let key = self.dice.below(KEYS);
         let act = match self.dice.below(24) {
             0 => Begin(Op::Find(key)),
-            1 => Begin(Op::Insert(key)),
+            1 => Begin(Op::Insert(key, 0)),
             2 => Begin(Op::Delete(key)),
             3 => Upd,
             4 => Down,
@@ -222,7 +222,7 @@ impl Schedule {
             return Op::Find(key);
         }
         if self.plain.set.contains(&key) == (roll == 1) {
-            Op::Insert(key)
+            Op::Insert(key, 0)
         } else {
             Op::Delete(key)
         }

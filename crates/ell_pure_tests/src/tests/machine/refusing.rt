@@ -26,7 +26,7 @@ fn refusals_come_in_their_order(rt: HostRuntime) {
 }
 
 const NO_CARD_LEFT: &[Line] = &[
-    Searches(0, Begin(Op::Insert(6)), 2),
+    Searches(0, Begin(Op::Insert(6, 60)), 2),
     Does(0, &[Claim], NO_CARDS),
     Next(2),
     Does(0, &[Leave], MOVED),

@@ -1,12 +1,12 @@
 //! What a script is made of: events and what each is to show, and looks at words and keys.
 ghost use Rattle.std.specs.Prelude.{◌≡◌, ◌≤◌, IfOk};
 ghost use Rattle.ell_ops.specs.Meaning.{most_workers};
-ghost use Rattle.ell_word.specs.Node.{greatest_card};
+ghost use Rattle.ell_word.specs.Node.{most_cards};
 
 use Line::{Does, Filled, Has, Lists, Next, Searches};
 use ell_core::Act::{Answer, Begin, Claim, Down, IChild, IFlag, IUnflag, Upd};
 use ell_core::{Act, CoreFault, Event, Field, Shown, Stepped, World};
-use ell_ops::{KEY_MAX, Op};
+use ell_ops::{KEY_MAX, Op, Reply};
 use std::process::Abort;
 
 pub const MOVED: Shown = Shown::Step(Stepped::Moved);
@@ -15,9 +15,9 @@ pub const WON: Shown = Shown::Step(Stepped::Won);
 
 pub const LOST: Shown = Shown::Step(Stepped::Lost);
 
-pub const YES: Shown = Shown::Step(Stepped::Answered(true));
+pub const YES: Shown = Shown::Step(Stepped::Answered(Reply::Yes));
 
-pub const NO: Shown = Shown::Step(Stepped::Answered(false));
+pub const NO: Shown = Shown::Step(Stepped::Answered(Reply::No));
 
 pub const NO_SUCH_WORKER: Shown = Shown::Refused(CoreFault::NoSuchWorker);
 
@@ -46,7 +46,7 @@ pub enum Line {
 
 /// Worker 0 inserts 5 by card 1, alone and first of all.
 pub const FIVE_INSERTED: &[Line] = &[
-    Searches(0, Begin(Op::Insert(5)), 1),
+    Searches(0, Begin(Op::Insert(5, 50)), 1),
     Does(0, &[Claim], MOVED),
     Does(0, &[IFlag, IChild(1), IUnflag(1)], WON),
     Does(0, &[Answer], YES),
@@ -62,8 +62,8 @@ pub fn opened(
     requires some_worker { 1 ≤ workers }
     requires most_workers { workers ≤ most_workers }
     requires some_card { 1 ≤ cards }
-    requires most_cards { cards ≤ greatest_card }
-    ensures { IfOk result (λ world. world.cards ≡ cards) }
+    requires most_cards { cards ≤ most_cards }
+    ensures { IfOk result (λ world. world.last_card ≡ cards) }
 {
     assert!(rt; owned.iter().all(|entry| entry.1 <= KEY_MAX));
     World::new(rt.alloc(), workers, owned, cards)
@@ -80,8 +80,8 @@ pub fn played(
     requires some_worker { 1 ≤ workers }
     requires most_workers { workers ≤ most_workers }
     requires some_card { 1 ≤ cards }
-    requires most_cards { cards ≤ greatest_card }
-    ensures { result.cards ≡ cards }
+    requires most_cards { cards ≤ most_cards }
+    ensures { result.last_card ≡ cards }
 {
     let mut world = opened(rt, workers, owned, cards).expect(rt, "an opening");
     for script in scripts {
@@ -90,10 +90,10 @@ pub fn played(
     world
 }
 
-// Plays a script, all of which has to hold.
-fn play(rt: &impl Abort, world: &mut World, cards: u64, script: &[Line])
-    requires { world.old.cards ≡ cards }
-    ensures { world.new.cards ≡ cards }
+/// Plays a script, all of which has to hold.
+pub fn play(rt: &impl Abort, world: &mut World, cards: u64, script: &[Line])
+    requires { world.old.last_card ≡ cards }
+    ensures { world.new.last_card ≡ cards }
 {
     for (at, line) in script.iter().enumerate() {
         assert!(rt; holds(world, cards, *line), "line {at}");
@@ -102,8 +102,8 @@ fn play(rt: &impl Abort, world: &mut World, cards: u64, script: &[Line])
 
 // Plays a line: whether it holds.
 fn holds(world: &mut World, cards: u64, line: Line) -> bool
-    requires { world.old.cards ≡ cards }
-    ensures { world.new.cards ≡ cards }
+    requires { world.old.last_card ≡ cards }
+    ensures { world.new.last_card ≡ cards }
 {
     match line {
         Does(worker, acts, want) => does(world, worker, acts, want),
@@ -116,7 +116,7 @@ fn holds(world: &mut World, cards: u64, line: Line) -> bool
 }
 
 fn does(world: &mut World, worker: u32, acts: &[Act], want: Shown) -> bool
-    ensures { world.new.cards ≡ world.old.cards }
+    ensures { world.new.last_card ≡ world.old.last_card }
 {
     for act in acts {
         if show(world, Event { worker, act: *act }) != want {
@@ -127,7 +127,7 @@ fn does(world: &mut World, worker: u32, acts: &[Act], want: Shown) -> bool
 }
 
 fn searches(world: &mut World, worker: u32, first: Act, levels: u32) -> bool
-    ensures { world.new.cards ≡ world.old.cards }
+    ensures { world.new.last_card ≡ world.old.last_card }
 {
     if !does(world, worker, &[first], MOVED) {
         return false;
@@ -141,7 +141,7 @@ fn searches(world: &mut World, worker: u32, first: Act, levels: u32) -> bool
 }
 
 fn is_filled(world: &World, card: u64, wants: &[u64; 10]) -> bool
-    requires { card ≤ world.now.cards }
+    requires { card ≤ world.now.last_card }
 {
     for at in 0..10 {
         if world.word(card, Field::ALL[at]) != wants[at] {
@@ -153,7 +153,7 @@ fn is_filled(world: &World, card: u64, wants: &[u64; 10]) -> bool
 
 /// Tries one event: what is shown of it.
 pub fn show(world: &mut World, event: Event) -> Shown
-    ensures { world.new.cards ≡ world.old.cards }
+    ensures { world.new.last_card ≡ world.old.last_card }
 {
     match world.step(event) {
         Ok(said) => Shown::Step(said),

@@ -19,7 +19,7 @@ struct ByWords<'a> {
 impl TreeWords for ByWords<'_> {
     ghost words = { λ tree. (machine_of tree.world.now).words };
 
-    ghost can_read = { λ tree node. card node ≤ tree.world.now.cards };
+    ghost can_read = { λ tree node. card node ≤ tree.world.now.last_card };
 
     fn key(&self, node: u64) -> u64 {
         self.world.word(card_of(node), key_field(node))
@@ -32,7 +32,7 @@ impl TreeWords for ByWords<'_> {
 
 // The keys of the tree of a world with so many cards.
 fn keys_by_words(alloc: Global, world: &World, cards: u64) -> Result<Vec<u64>, NoMemory>
-    requires cards { world.now.cards ≡ cards }
+    requires cards { world.now.last_card ≡ cards }
     requires limit { cards ≤ greatest_card }
     ensures { IfOk result (λ keys. ListsKeys (machine_of world.now).words keys.items) }
 {

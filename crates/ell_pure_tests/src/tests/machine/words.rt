@@ -5,6 +5,7 @@ use ell_core::{
     told_by, update_word,
 };
 use ell_ops::Op;
+use ell_ops::Reply::{No, Yes};
 use ell_word::{INF1, State};
 
 #[test]
@@ -71,12 +72,12 @@ fn a_card_is_filled_for_its_operation(rt: HostRuntime) {
 #[test]
 fn a_leaf_answers_where_nothing_is_to_do(rt: HostRuntime) {
     let rows = [
-        (Op::Find(5), true, Some(true)),
-        (Op::Find(5), false, Some(false)),
-        (Op::Insert(5), true, Some(false)),
-        (Op::Insert(5), false, None),
+        (Op::Find(5), true, Some(Yes)),
+        (Op::Find(5), false, Some(No)),
+        (Op::Insert(5, 50), true, Some(No)),
+        (Op::Insert(5, 50), false, None),
         (Op::Delete(5), true, None),
-        (Op::Delete(5), false, Some(false)),
+        (Op::Delete(5), false, Some(No)),
     ];
     for row in 0..6 {
         let (op, has, want) = rows[row];

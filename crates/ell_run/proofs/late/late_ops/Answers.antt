@@ -27,18 +27,18 @@ loop-at-preserved g c =
     ]
 
 pub is_all_done-requires : goal.is_all_done-requires
-is_all_done-requires g c = one_each (λ piece. piece.items) c.args.parts.now c.args.pieces.now c.requires.pieces
+is_all_done-requires g c = one_each (λ piece. piece.items) c.requires.pieces.0 c.args.parts.now c.args.pieces.now c.requires.pieces.1
 
 pub returns-then-is_all_done : goal.returns-then-is_all_done
 returns-then-is_all_done g c =
     c.new-late.ensures.items
-    ∙ nothing_late (λ piece. piece.items) c.args.parts.now c.args.pieces.now c.requires.pieces c.is_all_done.ensures.lawful (c.is_all_done.ensures.done c.if-is_all_done.true)
+    ∙ nothing_late (λ piece. piece.items) c.requires.pieces.0 c.args.parts.now c.args.pieces.now c.requires.pieces.1 c.is_all_done.ensures.lawful (c.is_all_done.ensures.done c.if-is_all_done.true)
     ∙ ap (λ ops. late_ops ops (flat_map (λ piece. piece.items) c.args.pieces.now)) c.requires.parted
 
 pub answered-requires : goal.answered-requires
 answered-requires g c =
     subst (λ ops. All (λ piece. All (λ item. item.0 < length ops) piece.items) c.args.pieces.now) c.requires.parted
-    (all_within (λ piece. piece.items) c.args.parts.now c.args.pieces.now c.requires.pieces)
+    (all_within (λ piece. piece.items) c.requires.pieces.0 c.args.parts.now c.args.pieces.now c.requires.pieces.1)
 
 pub returns : goal.returns
 returns g c = c.loop-at.invariant ∙ late_whole c.args.ops.now (flat_map (λ piece. piece.items) c.args.pieces.now) c.loop-at.at c.loop-at-test.false

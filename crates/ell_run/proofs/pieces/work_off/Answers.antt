@@ -10,10 +10,10 @@ loop-position-preserved g c =
 
 pub returns : goal.returns
 returns g c =
-    front_all c.args.tree.now.cards c.args.tries c.args.part.now c.loop-position.position-index c.args.pass.now c.loop-position.pass c.loop-position.piece.items
+    front_all c.args.tree.now.last_card c.args.tries c.args.part.now c.loop-position.position-index c.args.pass.now c.loop-position.pass c.loop-position.piece.items
     c.loop-position-test.false c.loop-position.invariant
 
 pub returns-in_default : goal.returns-in_default
 returns-in_default g c =
-    front_held c.args.tree.now.cards c.args.tries c.args.part.now c.loop-position.position-index (0, Find 0) c.args.pass.now c.loop-position.pass c.do_op.new.pass c.loop-position.piece.items
+    front_held c.args.tree.now.last_card c.args.tries c.args.part.now c.loop-position.position-index (0, Find 0) c.args.pass.now c.loop-position.pass c.do_op.new.pass c.loop-position.piece.items
     c.in_default.field-0 c.loop-position-test.true c.loop-position.invariant c.in_default.ensures.0 c.in_default.ensures.1

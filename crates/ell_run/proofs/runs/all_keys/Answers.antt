@@ -9,8 +9,8 @@ pub keys_for-requires : goal.keys_for-requires
 keys_for-requires g c =
     subst (All (λ worker. worker < c.args.parts.now.workers)) (sym (c.deref.ensures.value ∙ c.in_ok-workers.ensures.busy)) (busy_known c.args.parts.now)
 
-pub returns : goal.returns
-returns g c =
+pub returns-clause-keys : goal.returns-clause-keys
+returns-clause-keys g c =
     let parting = c.args.parts.now in
     let workers = c.deref.ensures.value ∙ c.in_ok-workers.ensures.busy in
     subst (λ set. IfOk c.keys_for.result (λ keys. Lists set keys.items)) (ap (keys_for parting) workers ∙ busy_keys parting c.in_ok-workers.ensures.lawful) c.keys_for.ensures

@@ -1,21 +1,40 @@
-use Rattle.std.proofs.Common.{All, map, sym, subst, ◌≤◌, ◌∙◌}
+use Rattle.std.proofs.Common.{All, List, ℕ, map, true, sym, subst, ◌≤◌, ◌≡◌, ◌∙◌}
+use Rattle.ell_ops.specs.KeySet.{Lists, set_of}
 use Rattle.ell_ops.specs.Meaning.{greatest_key}
-use Rattle.ell_run.proofs.Closed.{keys_fit, left_behind, owns_all, owns_first}
+use Rattle.ell_parts.specs.Parting.{keys_of}
+use Rattle.ell_tree.specs.Ledgers.{Owns}
+use Rattle.ell_run.proofs.Closed.{left_behind}
+use Rattle.ell_run.proofs.Opened.{all_united, first_given, keys_fit, owns_all, owns_used}
 use Rattle.ell_run.proofs.runs.run_workers.Goals as goal
+use Rattle.ell_tree.specs.Parts.{start_entry}
 
-pub reserve-requires-clause-real : goal.reserve-requires-clause-real
-reserve-requires-clause-real g c =
-    subst (All (λ key. key ≤ greatest_key)) (sym c.deref.ensures.value)
-    (keys_fit c.args.parts.now.ops c.in_ok-keys.keys.items c.in_ok-keys.ensures c.requires.fits)
+pub reserve_from-requires-clause-real : goal.reserve_from-requires-clause-real
+reserve_from-requires-clause-real g c =
+    let fits : List ℕ → Type 0 = All (λ key. key ≤ greatest_key) in
+    subst fits (sym c.deref-2.ensures.value)
+    (all_united c.args.start.now c.deref.result.now c.in_ok-keys.keys.items c.in_ok-keys.ensures (λ key. key ≤ greatest_key) c.requires.real
+    (subst fits (sym c.deref.ensures.value) (keys_fit c.args.parts.now.ops c.in_ok-used.used.items c.in_ok-used.ensures.keys c.requires.fits)))
 
-pub work-requires-clause-owned : goal.work-requires-clause-owned
-work-requires-clause-owned g c = λ κs outlives.
-    owns_first c.in-Ok.made.0 c.in-Ok.made.1 c.args.parts.now.ops c.in_ok-keys.keys.items c.in-Ok.ensures.pass (c.in-Ok.ensures.tree.0 ∙ c.deref.ensures.value) c.in_ok-keys.ensures
+pub reserve_from-requires-clause-given : goal.reserve_from-requires-clause-given
+reserve_from-requires-clause-given g c =
+    subst (λ keys. All (λ key. set_of keys key ≡ true) c.args.start.now) (sym c.deref-2.ensures.value)
+    (first_given c.args.start.now c.deref.result.now c.in_ok-keys.keys.items c.in_ok-keys.ensures)
+
+pub work_apart-requires-clause-keys : goal.work_apart-requires-clause-keys
+work_apart-requires-clause-keys g c = λ κs outlives. subst (Lists (keys_of c.args.parts.now.ops)) (sym c.deref-3.ensures.value) c.in_ok-used.ensures.keys
+
+pub work_apart-requires-clause-owned : goal.work_apart-requires-clause-owned
+work_apart-requires-clause-owned g c = λ κs outlives.
+    subst (All (λ key. Owns c.in-Ok.made.1 key)) (c.deref.ensures.value ∙ sym c.deref-3.ensures.value)
+    (owns_used c.args.start.now c.deref.result.now c.in_ok-keys.keys.items c.in-Ok.made.0 c.in-Ok.made.1 c.in_ok-keys.ensures
+    (c.in-Ok.ensures.tree.0 ∙ c.deref-2.ensures.value) c.in-Ok.ensures.pass)
 
 pub close-requires-clause-all : goal.close-requires-clause-all
-close-requires-clause-all g c = owns_all c.in-Ok.made.0 c.in-Ok.made.1 c.in_ok-pass.pass c.in-Ok.ensures.pass c.in_ok-pass.ensures.owned
+close-requires-clause-all g c =
+    owns_all c.in-Ok.made.0.keys (start_entry c.args.start.now) c.in-Ok.made.1 c.in-Ok.ensures.pass.ledger c.in_ok-pass.pass c.in_ok-pass.ensures.owned
 
 pub returns-in-Ok-close : goal.returns-in-Ok-close
 returns-in-Ok-close g c =
-    left_behind c.in-Ok.made.0 c.args.limits.tries c.args.parts.now c.in-Ok.made.1 c.in_ok-pass.pass (map (λ piece. piece.items) c.in_ok-pass.pieces.items) c.in-Ok-close.keys.items
-    c.in-Ok.ensures.pass c.in_ok-pass.ensures c.in-Ok-close.ensures.keys
+    left_behind (set_of c.args.start.now) c.in-Ok.made.0 c.args.limits.tries c.args.parts.now c.in-Ok.made.1 c.in_ok-pass.pass
+    (map (λ piece. piece.items) c.in_ok-pass.pieces.items) c.in-Ok-close.keys.items
+    c.in-Ok.ensures.pass.present c.in_ok-pass.ensures c.in-Ok-close.ensures.keys

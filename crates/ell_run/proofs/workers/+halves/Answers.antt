@@ -14,12 +14,12 @@ returns g t c =
     let ready : AreReady c.args.tree.now parting (low ++ high) c.args.pass =
     subst (λ row. AreReady c.args.tree.now parting row c.args.pass) (sym rows) c.requires.ready in
     let halves : AreHalves parting low c.args.pass c.in_ok-left.left c.in_ok-left.right = search rules in
-    let first : IsWorked c.args.tree.now.cards c.args.tries parting low c.in_ok-left.left c.in_ok-first.field-0.0
+    let first : IsWorked c.args.tree.now.last_card c.args.tries parting low c.in_ok-left.left c.in_ok-first.field-0.0
     (map (λ piece. piece.items) c.in_ok-first.field-0.1.items) = search rules in
-    let second : IsWorked c.args.tree.now.cards c.args.tries parting high c.in_ok-left.right c.in_ok-second.field-0.0
+    let second : IsWorked c.args.tree.now.last_card c.args.tries parting high c.in_ok-left.right c.in_ok-second.field-0.0
     (map (λ piece. piece.items) c.in_ok-second.field-0.1.items) = search rules in
-    let done : IfOk c.both.result (λ done. IsWorked c.args.tree.now.cards c.args.tries parting (low ++ high) c.args.pass done.0
+    let done : IfOk c.both.result (λ done. IsWorked c.args.tree.now.last_card c.args.tries parting (low ++ high) c.args.pass done.0
     (map (λ piece. piece.items) done.1.items)) =
-    c.both.ensures c.args.tree.now.cards c.args.tries parting low high c.args.pass c.in_ok-left.left c.in_ok-left.right ready halves first second in
-    subst (λ row. IfOk c.both.result (λ done. IsWorked c.args.tree.now.cards c.args.tries parting row c.args.pass done.0
+    c.both.ensures c.args.tree.now.last_card c.args.tries parting low high c.args.pass c.in_ok-left.left c.in_ok-left.right ready halves first second in
+    subst (λ row. IfOk c.both.result (λ done. IsWorked c.args.tree.now.last_card c.args.tries parting row c.args.pass done.0
     (map (λ piece. piece.items) done.1.items))) rows done

@@ -2,7 +2,7 @@ use Rattle.std.proofs.Common.{map, length, ap, sym, subst, ◌∙◌}
 use Rattle.std.proofs.lemmas.List.{length-map}
 use Rattle.ell_tree.specs.Ledgers.{present_in}
 use Rattle.ell_run.specs.Work.{AreReady, IsWorked}
-use Rattle.ell_run.proofs.Closed.{busy_ready}
+use Rattle.ell_run.proofs.Opened.{busy_ready}
 use Rattle.ell_run.proofs.Rows.{length-pieces}
 use Rattle.ell_run.proofs.workers.work.Goals as goal
 
@@ -20,6 +20,6 @@ with_empty_pieces-requires g c =
 
 pub returns : goal.returns
 returns g c =
-    c.in_ok-with_empty_pieces.ensures c.args.tree.now.cards c.args.tries c.args.pass c.in_ok-pass.pass
-    (subst (λ workers. IsWorked c.args.tree.now.cards c.args.tries c.args.parts.now workers c.args.pass c.in_ok-pass.pass (map (λ piece. piece.items) c.in_ok-pass.pieces.items))
+    c.in_ok-with_empty_pieces.ensures c.args.tree.now.last_card c.args.tries c.args.pass c.in_ok-pass.pass
+    (subst (λ workers. IsWorked c.args.tree.now.last_card c.args.tries c.args.parts.now workers c.args.pass c.in_ok-pass.pass (map (λ piece. piece.items) c.in_ok-pass.pieces.items))
     (c.deref.ensures.value ∙ c.in_ok-workers.ensures.busy) c.in_ok-pass.ensures)

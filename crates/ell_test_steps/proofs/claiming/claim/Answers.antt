@@ -14,7 +14,7 @@ claim_for_insert-requires-clause-at g c =
     let outer : IsLeaf c.in_ok-leaf.leaf = search rules in
     let no_card : c.args.memory.now.card ≡ None = search rules in
     let calm : c.in_ok-parent.parent.update.state ≡ state.Clean = search rules in
-    claims_at c.args.pass.now c.key_of-key.new.pass c.args.memory.now (Insert c.in-Insert.key) c.in_ok-leaf.leaf c.key_of-key.result c.in_ok-parent.parent c.requires.fits
+    claims_at c.args.pass.now c.key_of-key.new.pass c.args.memory.now (Insert c.in-Insert.key c.in-Insert.value) c.in_ok-leaf.leaf c.key_of-key.result c.in_ok-parent.parent c.requires.fits
     c.key_of-key.ensures.step (c.in_ok-op.was ∙ ap Some c.in-Insert.is) c.in_ok-leaf.was c.in_ok-parent.was no_card outer calm c.if-parent-gt-CARD_MAX.false
 
 pub claim_for_delete-requires-clause-ready : goal.claim_for_delete-requires-clause-ready

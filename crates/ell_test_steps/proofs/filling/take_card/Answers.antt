@@ -1,4 +1,3 @@
-use Rattle.ell_test_steps.proofs.Asides.{aside_trans, lost_aside, next_aside}
 use Rattle.ell_test_steps.proofs.Cards.{may_claim_at}
 use Rattle.ell_test_steps.proofs.filling.take_card.Goals as goal
 

@@ -15,9 +15,9 @@ use std::thread::Threads;
 //        /  \
 //       5    10
 const BEFORE: [Row; 3] = [
-    (Insert(5), Ok(true)),
-    (Insert(20), Ok(true)),
-    (Insert(10), Ok(true)),
+    (Insert(5, 50), Ok(true)),
+    (Insert(20, 200), Ok(true)),
+    (Insert(10, 100), Ok(true)),
 ];
 
 // The kinds of step that a worker makes.
@@ -38,13 +38,23 @@ const KINDS: [Kind; 12] = [
 
 // What worker 0 does, which is held at its flag, and worker 1, which would meet that flag; and the keys at the end.
 static BEFORE_FLAGS: [(Kind, Op, Op, &[u64]); 7] = [
-    (Kind::DFlag, Delete(5), Insert(30), &[10, 20, 30]),
+    (Kind::DFlag, Delete(5), Insert(30, 300), &[10, 20, 30]),
     (Kind::DFlag, Delete(5), Delete(20), &[10]),
     (Kind::DFlag, Delete(5), Delete(10), &[20]),
-    (Kind::IFlag, Insert(4), Insert(7), &[4, 5, 7, 10, 20]),
-    (Kind::IFlag, Insert(4), Insert(12), &[4, 5, 10, 12, 20]),
-    (Kind::IFlag, Insert(4), Delete(10), &[4, 5, 20]),
-    (Kind::IFlag, Insert(12), Delete(10), &[5, 12, 20]),
+    (
+        Kind::IFlag,
+        Insert(4, 40),
+        Insert(7, 70),
+        &[4, 5, 7, 10, 20],
+    ),
+    (
+        Kind::IFlag,
+        Insert(4, 40),
+        Insert(12, 120),
+        &[4, 5, 10, 12, 20],
+    ),
+    (Kind::IFlag, Insert(4, 40), Delete(10), &[4, 5, 20]),
+    (Kind::IFlag, Insert(12, 120), Delete(10), &[5, 12, 20]),
 ];
 
 // Whether a gate was told of a worker what another gate was: as many steps of each kind.

@@ -20,12 +20,12 @@ use ell_word::Kind;
 //        /  \
 //       5    10
 const BEFORE: [Row; 6] = [
-    (Insert(50), Ok(true)),
-    (Insert(40), Ok(true)),
-    (Insert(30), Ok(true)),
-    (Insert(20), Ok(true)),
-    (Insert(10), Ok(true)),
-    (Insert(5), Ok(true)),
+    (Insert(50, 500), Ok(true)),
+    (Insert(40, 400), Ok(true)),
+    (Insert(30, 300), Ok(true)),
+    (Insert(20, 200), Ok(true)),
+    (Insert(10, 100), Ok(true)),
+    (Insert(5, 50), Ok(true)),
 ];
 
 const OWNERS: [u32; 5] = [0, 1, 2, 3, 4];
@@ -59,7 +59,7 @@ struct Chain {
 
 const THREE: Chain = Chain {
     at: &[Kind::Mark, Kind::Mark, Kind::Mark],
-    ops: &[Delete(40), Delete(30), Delete(20), Insert(60)],
+    ops: &[Delete(40), Delete(30), Delete(20), Insert(60, 600)],
     held: ONE_DELETE,
     passing: HELP_THREE_AND_INSERT,
     keys: &[5, 10, 50, 60],
@@ -67,7 +67,7 @@ const THREE: Chain = Chain {
 
 const TO_INSERT: Chain = Chain {
     at: &[Kind::Mark, Kind::Mark, Kind::IChild],
-    ops: &[Delete(40), Delete(30), Insert(35), Insert(60)],
+    ops: &[Delete(40), Delete(30), Insert(35, 350), Insert(60, 600)],
     held: ONE_INSERT,
     passing: HELP_TO_INSERT_AND_INSERT,
     keys: &[5, 10, 20, 35, 50, 60],
@@ -76,7 +76,7 @@ const TO_INSERT: Chain = Chain {
 static CHAINS: [Chain; 9] = [
     Chain {
         at: &[Kind::Mark, Kind::Mark],
-        ops: &[Delete(40), Delete(30), Insert(60)],
+        ops: &[Delete(40), Delete(30), Insert(60, 600)],
         passing: HELP_TWO_AND_INSERT,
         keys: &[5, 10, 20, 50, 60],
         ..THREE
@@ -105,7 +105,13 @@ static CHAINS: [Chain; 9] = [
     },
     Chain {
         at: &[Kind::Mark, Kind::Mark, Kind::Mark, Kind::Mark],
-        ops: &[Delete(40), Delete(30), Delete(20), Delete(10), Insert(60)],
+        ops: &[
+            Delete(40),
+            Delete(30),
+            Delete(20),
+            Delete(10),
+            Insert(60, 600),
+        ],
         passing: HELP_FOUR_AND_INSERT,
         keys: &[5, 50, 60],
         ..THREE

@@ -30,7 +30,7 @@ fn crowd_ops(rt: &(impl Abort + AllocGlobal), workers: u32) -> Vec<Op> {
     let mut ops = Vec::new(rt.alloc());
     for worker in 0..workers {
         let key = worker as u64;
-        for op in [Insert(key), Find(key), Delete(key), Insert(key)] {
+        for op in [Insert(key, 0), Find(key), Delete(key), Insert(key, 0)] {
             ops.push(op).expect(rt, "memory");
         }
     }

@@ -13,9 +13,9 @@ use ell_word::Kind;
 //        /  \
 //       5    10
 const BEFORE: [Row; 3] = [
-    (Insert(5), Ok(true)),
-    (Insert(20), Ok(true)),
-    (Insert(10), Ok(true)),
+    (Insert(5, 50), Ok(true)),
+    (Insert(20, 200), Ok(true)),
+    (Insert(10, 100), Ok(true)),
 ];
 
 // What workers come to: of deletes the flag, the mark, the child, the unflag and the flag taken back, of inserts the flag, the
@@ -47,7 +47,7 @@ type Held = (Kind, Op, Changes, Changes, &'static [u64]);
 static HELD: [Held; 14] = [
     (
         Kind::Mark,
-        Insert(30),
+        Insert(30, 300),
         ONE_DELETE,
         HELP_AND_INSERT,
         &[10, 20, 30],
@@ -56,17 +56,23 @@ static HELD: [Held; 14] = [
     (Kind::Mark, Delete(10), ONE_DELETE, HELP_AND_DELETE, &[20]),
     (Kind::Mark, Find(20), ONE_DELETE, NOTHING, &[10, 20]),
     // The parent is changed before it is marked.
-    (Kind::Mark, Insert(7), TWO_TRIES, ONE_INSERT, &[7, 10, 20]),
+    (
+        Kind::Mark,
+        Insert(7, 70),
+        TWO_TRIES,
+        ONE_INSERT,
+        &[7, 10, 20],
+    ),
     (
         Kind::DChild,
-        Insert(30),
+        Insert(30, 300),
         ONE_DELETE,
         HELP_AND_INSERT,
         &[10, 20, 30],
     ),
     (
         Kind::DChild,
-        Insert(7),
+        Insert(7, 70),
         ONE_DELETE,
         HELP_MARKED_AND_INSERT,
         &[7, 10, 20],
@@ -77,7 +83,7 @@ static HELD: [Held; 14] = [
     // A helper can't see that the mark and the child are done: it loses both, and wins the unflag.
     (
         Kind::DUnflag,
-        Insert(7),
+        Insert(7, 70),
         ONE_DELETE,
         HELP_AND_INSERT,
         &[7, 10, 20],

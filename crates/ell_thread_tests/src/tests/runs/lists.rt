@@ -1,18 +1,19 @@
 //! Runs of small lists, with the replies and keys that a person gave them.
 use super::running::{came_to, run_owned, run_striped};
 use ell_ops::Op::{self, Delete, Find, Insert};
+use ell_ops::Reply::{No, Yes};
 use ell_run::{Parting, Settings, parts_for};
 use ell_word::NoGate;
 
 const EIGHT_INSERTS: [Op; 8] = [
-    Insert(1),
-    Insert(2),
-    Insert(3),
-    Insert(4),
-    Insert(5),
-    Insert(6),
-    Insert(7),
-    Insert(8),
+    Insert(1, 10),
+    Insert(2, 20),
+    Insert(3, 30),
+    Insert(4, 40),
+    Insert(5, 50),
+    Insert(6, 60),
+    Insert(7, 70),
+    Insert(8, 80),
 ];
 
 #[test]
@@ -38,29 +39,29 @@ fn eight_keys_as_settings_part_them(rt: HostRuntime) {
 
 #[test]
 fn a_list_by_its_owners(rt: HostRuntime) {
-    let ops = [Insert(5), Insert(7), Delete(5), Find(7)];
+    let ops = [Insert(5, 50), Insert(7, 70), Delete(5), Find(7)];
     let outcome = run_owned(&rt, &ops, &[1, 0, 1, 0], 2, 8, 8, &NoGate);
-    assert!(rt; came_to(&outcome, &[true; 4], &[7], 0));
+    assert!(rt; came_to(&outcome, &[Yes; 4], &[7], 0));
 }
 
 #[test]
 fn what_is_left_is_done_afterwards(rt: HostRuntime) {
-    let ops = [Insert(5), Insert(6), Find(5)];
+    let ops = [Insert(5, 50), Insert(6, 60), Find(5)];
     let outcome = run_striped(&rt, &ops, 1, 1, 8, &NoGate);
-    assert!(rt; came_to(&outcome, &[true; 3], &[5, 6], 2));
+    assert!(rt; came_to(&outcome, &[Yes; 3], &[5, 6], 2));
 }
 
 #[test]
 fn few_cards_and_one_try_change_no_answer(rt: HostRuntime) {
     let ops = [
-        Insert(5),
-        Insert(6),
+        Insert(5, 50),
+        Insert(6, 60),
         Delete(5),
         Find(5),
         Delete(6),
-        Insert(6),
+        Insert(6, 60),
     ];
-    let replies = [true, true, true, false, true, true];
+    let replies = [Yes, Yes, Yes, No, Yes, Yes];
     for (workers, cards, tries) in [(1, 1, 1), (2, 1, 1), (64, 1, 1), (64, 88, 1), (64, 88, 8)] {
         let outcome = run_striped(&rt, &ops, workers, cards, tries, &NoGate);
         let late = outcome.late;

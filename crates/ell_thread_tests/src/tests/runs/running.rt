@@ -1,12 +1,13 @@
 //! Operations, limits, and runs of the ones under the others.
 ghost use Rattle.std.specs.Prelude.{◌≡◌};
+ghost use Rattle.std.specs.List.Sorted.{IsStrictlyIncreasing};
 ghost use Rattle.ell_run.specs.Limits.{AreLimits};
 
-use ell_ops::Op;
+use ell_ops::{KEY_MAX, Op, Reply};
 use ell_parts::Parts;
 use ell_run::{CARDS_MAX, Limits, Outcome, TRIES_MAX, run};
 use ell_test_gates::Dice;
-use ell_word::StepGate;
+use ell_word::{START_MAX, StepGate};
 use std::alloc::Global;
 use std::process::Abort;
 use std::thread::Threads;
@@ -42,9 +43,26 @@ pub fn run_by<R: Threads + Abort + AllocGlobal + Sync, G: StepGate + Sync>(
 ) -> Outcome
     requires { parts.now.ops ≡ ops.now }
 {
+    run_from(rt, &[], ops, parts, cards, tries, gate)
+}
+
+/// The same from start keys, which are strictly ascending.
+pub fn run_from<R: Threads + Abort + AllocGlobal + Sync, G: StepGate + Sync>(
+    rt: &R,
+    start: &[u64],
+    ops: &[Op],
+    parts: &Parts<Global>,
+    cards: u64,
+    tries: u32,
+    gate: &G,
+) -> Outcome
+    requires ascending { IsStrictlyIncreasing start.now }
+    requires parted { parts.now.ops ≡ ops.now }
+{
     let limits = limits_of(rt, cards, tries);
+    assert!(rt; start.len() <= START_MAX && start.iter().all(|key| *key <= KEY_MAX));
     assert!(rt; ops.iter().all(|op| op.fits()));
-    run(rt, rt.alloc(), ops, parts, limits, gate).expect(rt, "memory")
+    run(rt, rt.alloc(), start, ops, parts, limits, gate).expect(rt, "memory")
 }
 
 /// Runs operations by the owners of their keys.
@@ -75,6 +93,6 @@ pub fn run_striped<R: Threads + Abort + AllocGlobal + Sync, G: StepGate + Sync>(
 }
 
 /// Whether a run came to these replies and keys, and did so many operations late.
-pub fn came_to(outcome: &Outcome, replies: &[bool], keys: &[u64], late: usize) -> bool {
+pub fn came_to(outcome: &Outcome, replies: &[Reply], keys: &[u64], late: usize) -> bool {
     outcome.replies.as_slice() == replies && outcome.keys.as_slice() == keys && outcome.late == late
 }

@@ -2,7 +2,7 @@
 use super::pieces::work_by;
 use crate::tests::keys::keys_below;
 use crate::tests::tree::asking::{Row, close, play};
-use ell_ops::Op;
+use ell_ops::{Op, Reply};
 use ell_parts::Parts;
 use ell_run::{Piece, Tree};
 use ell_test_gates::Counting;
@@ -38,7 +38,7 @@ pub struct Scene<'a> {
 
 // How many operations of a worker were answered yes.
 fn yes_count(piece: &Piece) -> usize {
-    piece.iter().filter(|said| said.1).count()
+    piece.iter().filter(|said| said.1 == Reply::Yes).count()
 }
 
 /// Plays a scene, in which each operation of a worker is to answer yes: the keys at the end.

@@ -1,6 +1,7 @@
 //! Two workers, of which one stalls at each of its steps in turn, and the other goes by.
 use super::running::{came_to, run_owned};
 use ell_ops::Op::{Delete, Insert};
+use ell_ops::Reply;
 use ell_test_gates::{Counting, Holding, two_threads_meet};
 use ell_word::Kind;
 use std::process::Abort;
@@ -35,7 +36,7 @@ fn a_stalled_neighbour_holds_up_nobody(rt: HostRuntime) {
     if !two_threads_meet(&rt) {
         return;
     }
-    let ops = [Insert(5), Delete(5), Insert(7)];
+    let ops = [Insert(5, 50), Delete(5), Insert(7, 70)];
     for (row, (at, helped, backtracks)) in STALLS.iter().enumerate() {
         let gate = Counting::new(rt.alloc(), 2, Holding::at(*at)).expect(&rt, "memory");
         let outcome = run_owned(&rt, &ops, &[0, 0, 1], 2, 16, 8, &gate);
@@ -43,7 +44,7 @@ fn a_stalled_neighbour_holds_up_nobody(rt: HostRuntime) {
             gate.behind().has_held() && gate.behind().answered() == 1,
             "row {row}"
         );
-        assert!(rt; came_to(&outcome, &[true; 3], &[7], 0), "row {row}");
+        assert!(rt; came_to(&outcome, &[Reply::Yes; 3], &[7], 0), "row {row}");
         assert!(rt;
             child_changes(&gate, 1) == helped.wrapping_add(1),
             "row {row}"
@@ -60,10 +61,10 @@ fn two_inserts_of_which_one_is_late<R: Threads + Abort + AllocGlobal + Sync>(
     tries: u32,
 ) -> Counting<Holding> {
     let gate = Counting::new(rt.alloc(), 2, Holding::at(Kind::IChild)).expect(rt, "memory");
-    let ops = [Insert(5), Insert(7)];
+    let ops = [Insert(5, 50), Insert(7, 70)];
     let outcome = run_owned(rt, &ops, &[0, 1], 2, cards, tries, &gate);
     assert!(rt; gate.behind().has_held() && gate.behind().answered() == 0);
-    assert!(rt; came_to(&outcome, &[true; 2], &[5, 7], 1));
+    assert!(rt; came_to(&outcome, &[Reply::Yes; 2], &[5, 7], 1));
     gate
 }
 

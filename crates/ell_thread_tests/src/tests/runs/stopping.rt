@@ -1,6 +1,7 @@
 //! Workers that go by one that is held, with few cards or in a crowd: what is left is done, and nothing is lost.
 use super::running::run_owned;
 use ell_ops::Op::{self, Delete, Find, Insert};
+use ell_ops::Reply;
 use ell_test_gates::{Counting, Holding, four_threads_meet, two_threads_meet};
 use ell_word::Kind;
 use std::process::Abort;
@@ -29,7 +30,7 @@ fn run_stopped<R: Threads + Abort + AllocGlobal + Sync>(rt: &R, stop: Stop) -> u
     let outcome = run_owned(rt, ops, owners, workers, stop.cards, 1_000, &gate);
     assert!(rt; gate.behind().has_held() && gate.behind().answered() == stop.answered);
     assert!(rt; outcome.replies.len() == ops.len());
-    assert!(rt; !outcome.replies.contains(&false));
+    assert!(rt; !outcome.replies.contains(&Reply::No));
     assert!(rt; outcome.keys.as_slice() == stop.keys && outcome.late == stop.late);
     gate.count(0, Kind::Backtrack)
 }
@@ -39,7 +40,13 @@ fn run_stopped<R: Threads + Abort + AllocGlobal + Sync>(rt: &R, stop: Stop) -> u
 const LOST_MARK: Stop = Stop {
     at: Kind::Mark,
     ends: 2,
-    ops: &[Insert(5), Delete(5), Insert(7), Insert(9), Find(7)],
+    ops: &[
+        Insert(5, 50),
+        Delete(5),
+        Insert(7, 70),
+        Insert(9, 90),
+        Find(7),
+    ],
     owners: &[0, 0, 1, 1, 1],
     workers: 2,
     cards: 3,
@@ -60,14 +67,14 @@ const CROWD: Stop = Stop {
     at: Kind::Mark,
     ends: 5,
     ops: &[
-        Insert(5),
-        Insert(7),
-        Insert(9),
+        Insert(5, 50),
+        Insert(7, 70),
+        Insert(9, 90),
         Delete(5),
         Delete(9),
-        Insert(11),
+        Insert(11, 110),
         Find(7),
-        Insert(5),
+        Insert(5, 50),
     ],
     owners: &[0, 1, 2, 0, 2, 3, 1, 0],
     workers: 4,
@@ -90,7 +97,7 @@ fn three_workers_go_by_one_at_its_mark(rt: HostRuntime) {
 const ONE_LEFT: Stop = Stop {
     at: Kind::Fill,
     ends: 2,
-    ops: &[Insert(5), Insert(7), Find(5), Insert(9)],
+    ops: &[Insert(5, 50), Insert(7, 70), Find(5), Insert(9, 90)],
     owners: &[0, 1, 0, 1],
     workers: 2,
     cards: 2,
@@ -122,7 +129,7 @@ fn a_card_in_hand_may_be_the_last(rt: HostRuntime) {
 const GONE: Stop = Stop {
     at: Kind::Claim,
     ends: 1,
-    ops: &[Insert(5), Insert(7)],
+    ops: &[Insert(5, 50), Insert(7, 70)],
     owners: &[0, 1],
     workers: 2,
     cards: 1,

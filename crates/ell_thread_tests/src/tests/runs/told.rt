@@ -16,7 +16,7 @@ const LISTS: [List; 4] = [
     (&[Find(5)], &[(Kind::Note, 2), (Kind::Look, 4)]),
     // It reads the number of the next card, and the key of the parent; a card for an insert has eight words.
     (
-        &[Insert(5)],
+        &[Insert(5, 50)],
         &[
             (Kind::Note, 2),
             (Kind::Look, 6),
@@ -29,7 +29,7 @@ const LISTS: [List; 4] = [
     ),
     // The second insert finds its key below two inner nodes.
     (
-        &[Insert(5), Insert(5)],
+        &[Insert(5, 50), Insert(5, 50)],
         &[
             (Kind::Note, 4),
             (Kind::Look, 13),
@@ -43,7 +43,7 @@ const LISTS: [List; 4] = [
     // The delete reads the number of the next card, the leaf of its own, the sibling, and the keys of sibling and grandparent; a card
     // for a delete has four words.
     (
-        &[Insert(5), Delete(5)],
+        &[Insert(5, 50), Delete(5)],
         &[
             (Kind::Note, 4),
             (Kind::Look, 18),

@@ -18,7 +18,7 @@ const WORDS: [(Field, u64); 10] = [
 
 #[test]
 fn a_table_has_one_to_a_million_cards(rt: HostRuntime) {
-    for cards in [0, 1_000_001] {
+    for cards in [0, 1_000_001, 1_200_000] {
         let made = CardTable::reserve(rt.alloc(), &[5, 7], cards);
         assert!(rt; made.err() == Some(CardFault::BadCards), "{cards} cards");
     }
@@ -44,7 +44,7 @@ fn a_table_begins_parts_and_ends(rt: HostRuntime) {
     let both = joined(&rt, &table, left, right);
     assert!(rt; both.owns(5) && both.owns(7) && !both.owns(6));
     let closed = table.close(both);
-    assert!(rt; closed.cards() == 2);
+    assert!(rt; closed.last_card() == 2);
     for (row, (field, want)) in WORDS.iter().enumerate() {
         assert!(rt;
             closed.word(0, *field) == *want && closed.word(1, *field) == 0,

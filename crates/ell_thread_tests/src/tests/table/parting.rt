@@ -49,7 +49,7 @@ pub fn closed(
     requires own { pass.table ≡ table.id }
     requires free { IsFree pass.view }
     requires keys { table.keys ≡ keys.now }
-    ensures { result.cards ≡ table.cards }
+    ensures { result.last_card ≡ table.last_card }
 {
     assert!(rt; keys.iter().all(|key| pass.owns(*key)));
     table.close(pass)

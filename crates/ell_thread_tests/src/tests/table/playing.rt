@@ -6,6 +6,7 @@ ghost use Rattle.ell_test_steps.specs.Fitting.{IsIdle, IsReady};
 use super::parting::joined;
 use ell_cards::{CardTable, Closed, Pass};
 use ell_core::{Act, CoreFault, Event, Field, Shown, Stepped, World};
+use ell_ops::Reply;
 use ell_test_steps::{Memory, nothing, step};
 use std::alloc::Global;
 use std::process::Abort;
@@ -16,9 +17,9 @@ pub const WON: Shown = Shown::Step(Stepped::Won);
 
 pub const LOST: Shown = Shown::Step(Stepped::Lost);
 
-pub const YES: Shown = Shown::Step(Stepped::Answered(true));
+pub const YES: Shown = Shown::Step(Stepped::Answered(Reply::Yes));
 
-pub const NO: Shown = Shown::Step(Stepped::Answered(false));
+pub const NO: Shown = Shown::Step(Stepped::Answered(Reply::No));
 
 pub const NOT_NOW: Shown = Shown::Refused(CoreFault::NotNow);
 
@@ -27,7 +28,7 @@ pub type Turn = (u32, &'static [Act], Shown);
 
 // Does an act of a worker in the world: whether it shows what it is to.
 fn shows(world: &mut World, worker: u32, act: Act, want: Shown) -> bool
-    ensures { world.new.cards ≡ world.old.cards }
+    ensures { world.new.last_card ≡ world.old.last_card }
 {
     match world.step(Event { worker, act }) {
         Ok(said) => Shown::Step(said) == want,
@@ -63,7 +64,7 @@ fn play_turn(
 )
     requires { IsReady table.now pass.old memory.old }
     ensures ready { IsReady table.now pass.new memory.new }
-    ensures world { world.new.cards ≡ world.old.cards }
+    ensures world { world.new.last_card ≡ world.old.last_card }
 {
     let (worker, acts, want) = turn;
     for (number, act) in acts.iter().enumerate() {
@@ -90,7 +91,7 @@ pub fn play(
     requires left { (parts.0.table ≡ table.now.id) × IsIdle parts.0.view }
     requires right { (parts.1.table ≡ table.now.id) × IsIdle parts.1.view }
     ensures joined { (result.table ≡ table.now.id) × IsFree result.view }
-    ensures world { world.new.cards ≡ world.old.cards }
+    ensures world { world.new.last_card ≡ world.old.last_card }
 {
     let (mut first, mut second) = parts;
     let (mut one, mut other) = (nothing(), nothing());
@@ -107,9 +108,9 @@ pub fn play(
 
 /// Each word of each card is the world's.
 pub fn same_words(rt: &impl Abort, closed: &Closed<Global>, world: &World)
-    requires { closed.now.cards ≡ world.now.cards }
+    requires { closed.now.last_card ≡ world.now.last_card }
 {
-    for card in 0..=closed.cards() {
+    for card in 0..=closed.last_card() {
         for field in Field::ALL {
             assert!(rt;
                 closed.word(card, field) == world.word(card, field),

@@ -1,5 +1,9 @@
 //! 100,000 pseudo-random acts of four passes of a table, and of four workers of a world beside it.
-ghost use Rattle.std.specs.Prelude.{◌≡◌};
+ghost use Rattle.std.specs.Prelude.{◌≡◌, ◌≤◌, length, true};
+ghost use Rattle.std.specs.List.{All};
+ghost use Rattle.std.specs.List.Sorted.{IsStrictlyIncreasing};
+ghost use Rattle.ell_ops.specs.KeySet.{set_of};
+ghost use Rattle.ell_word.specs.Node.{most_start};
 ghost use Rattle.ell_cards.specs.Models.{IsFree};
 ghost use Rattle.ell_test_steps.specs.Fitting.{IsIdle, IsReady};
 
@@ -23,6 +27,8 @@ const ACTS: u64 = 100_000;
 const ROUNDS: u64 = 200_000;
 
 const CARDS: u64 = 20_000;
+
+const KEYS: [u64; 8] = [0, 1, 2, 3, 4, 5, 6, 7];
 
 const OWNED: [(u32, u64); 8] = [
     (0, 0),
@@ -70,7 +76,7 @@ impl Drawing {
         let key = (worker % 4) as u64 * 2 + self.dice.below(2);
         match self.dice.below(5) {
             0 => Op::Find(key),
-            1 | 2 => Op::Insert(key),
+            1 | 2 => Op::Insert(key, 0),
             _ => Op::Delete(key),
         }
     }
@@ -111,7 +117,7 @@ fn both_step(
 )
     requires { IsReady table.now pass.old memory.old }
     ensures ready { IsReady table.now pass.new memory.new }
-    ensures world { world.new.cards ≡ world.old.cards }
+    ensures world { world.new.last_card ≡ world.old.last_card }
 {
     let Some(said) = step(table, pass, memory, event.act) else {
         return;
@@ -133,7 +139,7 @@ fn turn(
 ) -> Pass<Global>
     requires { IsReady table.now pass memory.old }
     ensures ready { IsReady table.now result memory.new }
-    ensures world { world.new.cards ≡ world.old.cards }
+    ensures world { world.new.last_card ≡ world.old.last_card }
 {
     let mut pass = pass;
     if memory.op.is_none() && drawing.dice.below(100) == 0 {
@@ -183,7 +189,7 @@ fn finish(
     requires { IsReady table.now pass.old memory.old }
     ensures free { IsFree pass.new.view }
     ensures ready { IsReady table.now pass.new memory.new }
-    ensures world { world.new.cards ≡ world.old.cards }
+    ensures world { world.new.last_card ≡ world.old.last_card }
 {
     for _ in 0..10_000 {
         let act = match drawing.dice.below(3) {
@@ -217,7 +223,7 @@ fn random_acts(
     requires third { (passes.2.table ≡ table.now.id) × IsIdle passes.2.view }
     requires fourth { (passes.3.table ≡ table.now.id) × IsIdle passes.3.view }
     ensures joined { (result.table ≡ table.now.id) × IsFree result.view }
-    ensures world { world.new.cards ≡ world.old.cards }
+    ensures world { world.new.last_card ≡ world.old.last_card }
 {
     let (mut first, mut second, mut third, mut fourth) = passes;
     let (mut one, mut two, mut three, mut four) = (nothing(), nothing(), nothing(), nothing());
@@ -244,15 +250,30 @@ fn random_acts(
     joined(rt, table, low, high)
 }
 
+// Random acts on a table with start keys, each of which is to answer as in a world, whose words it has at the end.
+fn acts_as_the_world(rt: &(impl Abort + AllocGlobal), start: &[u64])
+    requires ascending { IsStrictlyIncreasing start.now }
+    requires given { All (λ k. set_of KEYS k ≡ true) start.now }
+    requires few { length start.now ≤ most_start }
+{
+    let made = CardTable::reserve_from(rt.alloc(), start, &KEYS, CARDS);
+    let (table, pass) = made.expect(rt, "table");
+    let (low, high) = parted(rt, &table, pass, &[0, 1, 2, 3]);
+    let (a, b) = parted(rt, &table, low, &[0, 1]);
+    let (c, d) = parted(rt, &table, high, &[4, 5]);
+    let world = World::from_start(rt.alloc(), 4, &OWNED, start, CARDS);
+    let mut world = world.expect(rt, "world");
+    let all = random_acts(rt, &table, (a, b, c, d), &mut world);
+    assert!(rt; world.next() >= 2_000);
+    same_words(rt, &closed(rt, table, all, &KEYS), &world);
+}
+
 #[test]
 fn random_acts_answer_as_the_world(rt: HostRuntime) {
-    let keys = [0, 1, 2, 3, 4, 5, 6, 7];
-    let (table, pass) = CardTable::reserve(rt.alloc(), &keys, CARDS).expect(&rt, "table");
-    let (low, high) = parted(&rt, &table, pass, &[0, 1, 2, 3]);
-    let (a, b) = parted(&rt, &table, low, &[0, 1]);
-    let (c, d) = parted(&rt, &table, high, &[4, 5]);
-    let mut world = World::new(rt.alloc(), 4, &OWNED, CARDS).expect(&rt, "world");
-    let all = random_acts(&rt, &table, (a, b, c, d), &mut world);
-    assert!(rt; world.next() >= 2_000);
-    same_words(&rt, &closed(&rt, table, all, &keys), &world);
+    acts_as_the_world(&rt, &[]);
+}
+
+#[test]
+fn random_acts_over_start_keys_answer_as_the_world(rt: HostRuntime) {
+    acts_as_the_world(&rt, &[0, 2, 3, 5, 6, 7]);
 }

@@ -22,9 +22,9 @@ fn played(rt: &(impl Abort + AllocGlobal), turns: &[Turn]) {
 }
 
 const STALLED_INSERT: [Turn; 14] = [
-    (0, &[Begin(Op::Insert(5)), Upd, Down, Claim], MOVED),
+    (0, &[Begin(Op::Insert(5, 50)), Upd, Down, Claim], MOVED),
     (0, &[IFlag], WON),
-    (1, &[Begin(Op::Insert(7)), Upd, Down], MOVED),
+    (1, &[Begin(Op::Insert(7, 70)), Upd, Down], MOVED),
     (1, &[IChild(1), IUnflag(1)], WON),
     (1, &[Again, Upd, Down, Upd, Down, Claim], MOVED),
     (1, &[IFlag, IChild(2), IUnflag(2)], WON),
@@ -44,8 +44,8 @@ fn a_helper_finishes_a_stalled_insert(rt: HostRuntime) {
 }
 
 const LOST_FLAG: [Turn; 13] = [
-    (0, &[Begin(Op::Insert(5)), Upd, Down], MOVED),
-    (1, &[Begin(Op::Insert(7)), Upd, Down], MOVED),
+    (0, &[Begin(Op::Insert(5, 50)), Upd, Down], MOVED),
+    (1, &[Begin(Op::Insert(7, 70)), Upd, Down], MOVED),
     (0, &[Claim], MOVED),
     (1, &[Claim], MOVED),
     (0, &[IFlag], WON),
@@ -65,12 +65,12 @@ fn the_loser_of_a_flag_may_not_exchange_the_child(rt: HostRuntime) {
 }
 
 const LOST_MARK: [Turn; 20] = [
-    (0, &[Begin(Op::Insert(5)), Upd, Down, Claim], MOVED),
+    (0, &[Begin(Op::Insert(5, 50)), Upd, Down, Claim], MOVED),
     (0, &[IFlag, IChild(1), IUnflag(1)], WON),
     (0, &[Answer], YES),
     (
         1,
-        &[Begin(Op::Insert(7)), Upd, Down, Upd, Down, Claim],
+        &[Begin(Op::Insert(7, 70)), Upd, Down, Upd, Down, Claim],
         MOVED,
     ),
     (1, &[IFlag, IChild(2), IUnflag(2)], WON),
@@ -84,7 +84,7 @@ const LOST_MARK: [Turn; 20] = [
     (1, &[DFlag], WON),
     (
         0,
-        &[Begin(Op::Insert(6)), Upd, Down, Upd, Down, Upd, Down],
+        &[Begin(Op::Insert(6, 60)), Upd, Down, Upd, Down, Upd, Down],
         MOVED,
     ),
     (0, &[Claim], MOVED),
@@ -105,7 +105,7 @@ fn a_lost_mark_backtracks(rt: HostRuntime) {
 }
 
 const HELPED_DELETE: [Turn; 13] = [
-    (0, &[Begin(Op::Insert(5)), Upd, Down, Claim], MOVED),
+    (0, &[Begin(Op::Insert(5, 50)), Upd, Down, Claim], MOVED),
     (0, &[IFlag, IChild(1), IUnflag(1)], WON),
     (0, &[Answer], YES),
     (
@@ -130,7 +130,7 @@ fn a_helper_finishes_a_delete(rt: HostRuntime) {
 }
 
 const NO_BACKTRACK: [Turn; 14] = [
-    (0, &[Begin(Op::Insert(5)), Upd, Down, Claim], MOVED),
+    (0, &[Begin(Op::Insert(5, 50)), Upd, Down, Claim], MOVED),
     (0, &[IFlag, IChild(1), IUnflag(1)], WON),
     (0, &[Answer], YES),
     (

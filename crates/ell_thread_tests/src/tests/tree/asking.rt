@@ -29,7 +29,7 @@ pub fn ask<G: StepGate>(
     assert!(rt; pass.owns(op.key()));
     match op {
         Op::Find(key) => Ok(tree.find(pass, key, gate)),
-        Op::Insert(key) => tree.insert(pass, key, tries, gate),
+        Op::Insert(key, value) => tree.insert(pass, key, value, tries, gate),
         Op::Delete(key) => tree.delete(pass, key, tries, gate),
     }
 }

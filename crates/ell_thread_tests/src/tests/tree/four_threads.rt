@@ -30,8 +30,8 @@ struct Done {
     plain: PlainSet,
 }
 
-// Does an operation, again where all its tries found something in their way.
-fn ask_often(
+/// Does an operation, again where all its tries found something in their way.
+pub fn ask_often(
     rt: &impl Abort,
     tree: &Tree<Global>,
     pass: &mut Pass<Global>,
@@ -70,11 +70,12 @@ fn work(rt: &impl Abort, tree: &Tree<Global>, pass: Pass<Global>, thread: u64) -
     Done { pass, plain }
 }
 
-// Parts a pass in two: the left part has the keys below `KEYS` at these places of each four.
-fn parted(
+/// Parts a pass in two: the left part has the keys below a number at these places of each four.
+pub fn parted(
     rt: &(impl Abort + AllocGlobal),
     tree: &Tree<Global>,
     pass: Pass<Global>,
+    end: u64,
     places: &[u64],
 ) -> (Pass<Global>, Pass<Global>)
     requires own { pass.table ≡ tree.now.id }
@@ -82,7 +83,7 @@ fn parted(
     ensures left { (result.0.table ≡ tree.now.id) × IsIdle result.0 }
     ensures right { (result.1.table ≡ tree.now.id) × IsIdle result.1 }
 {
-    let keys = keys_below(rt, KEYS, places);
+    let keys = keys_below(rt, end, places);
     assert!(rt; keys.iter().all(|key| pass.owns(*key)));
     tree.split(pass, &keys).ok().expect(rt, "memory")
 }
@@ -125,9 +126,9 @@ fn together(rt: &impl Abort, tree: &Tree<Global>, one: Done, other: Done) -> Don
 fn four_threads_answer_as_plain_sets(rt: HostRuntime) {
     let keys = keys_below(&rt, KEYS, &[0, 1, 2, 3]);
     let (tree, pass) = Tree::reserve(rt.alloc(), &keys, CARDS).expect(&rt, "tree");
-    let (low, high) = parted(&rt, &tree, pass, &[0, 1]);
-    let low = parted(&rt, &tree, low, &[0]);
-    let high = parted(&rt, &tree, high, &[2]);
+    let (low, high) = parted(&rt, &tree, pass, KEYS, &[0, 1]);
+    let low = parted(&rt, &tree, low, KEYS, &[0]);
+    let high = parted(&rt, &tree, high, KEYS, &[2]);
     let (host, shared) = (&rt, &tree);
     let ((zero, one), (two, three)) = join(
         &rt,

@@ -13,7 +13,7 @@ pub fn apply_plainly(set: &mut PlainSet, op: Op) -> bool {
     let was_present = *present;
     match op {
         Op::Find(_) => was_present,
-        Op::Insert(_) => {
+        Op::Insert(_, _) => {
             *present = true;
             !was_present
         }

@@ -65,7 +65,7 @@ fn random_operations_answer_as_a_plain_set(rt: HostRuntime) {
     let change = if plain[0] {
         Op::Delete(0)
     } else {
-        Op::Insert(0)
+        Op::Insert(0, 0)
     };
     // After as many changes as cards.
     let spent = ask(&rt, &tree, &mut pass, change, TRIES, &NoGate);

@@ -64,8 +64,8 @@ fn play_parted(
 fn played(rt: &(impl Abort + AllocGlobal), parted: &[(Part, Row)]) -> Vec<u64> {
     let (tree, mut pass) = Tree::reserve(rt.alloc(), &KEYS, CARDS).expect(rt, "tree");
     assert!(rt; pass.owns(5) && !pass.owns(6));
-    play_counted(rt, &tree, &mut pass, (Insert(5), Ok(true)));
-    play_counted(rt, &tree, &mut pass, (Insert(5), Ok(false)));
+    play_counted(rt, &tree, &mut pass, (Insert(5, 50), Ok(true)));
+    play_counted(rt, &tree, &mut pass, (Insert(5, 50), Ok(false)));
     play_counted(rt, &tree, &mut pass, (Find(7), Ok(false)));
     assert!(rt; pass.owns(5));
     let parts = tree.split(pass, &[5]).ok().expect(rt, "memory");
@@ -76,7 +76,7 @@ fn played(rt: &(impl Abort + AllocGlobal), parted: &[(Part, Row)]) -> Vec<u64> {
 
 #[test]
 fn a_tree_has_one_to_a_million_cards(rt: HostRuntime) {
-    for cards in [0, 1_000_001] {
+    for cards in [0, 1_000_001, 1_200_000] {
         let made = Tree::reserve(rt.alloc(), &KEYS, cards);
         assert!(rt; made.err() == Some(CardFault::BadCards), "{cards} cards");
     }
@@ -96,7 +96,7 @@ fn held_changes_have_texts(rt: HostRuntime) {
 #[test]
 fn a_delete_is_spent_once_all_cards_are_given_out(rt: HostRuntime) {
     let parted = [
-        (Part::Right, (Insert(7), Ok(true))),
+        (Part::Right, (Insert(7, 70), Ok(true))),
         (Part::Left, (Delete(5), Ok(true))),
         (Part::Right, (Delete(7), Err(Held::Spent))),
         (Part::Right, (Find(7), Ok(true))),
@@ -106,7 +106,7 @@ fn a_delete_is_spent_once_all_cards_are_given_out(rt: HostRuntime) {
 
 #[test]
 fn parts_insert_beside_one_another(rt: HostRuntime) {
-    let parted = [(Part::Right, (Insert(7), Ok(true)))];
+    let parted = [(Part::Right, (Insert(7, 70), Ok(true)))];
     assert!(rt; played(&rt, &parted).as_slice() == KEYS.as_slice());
 }
 

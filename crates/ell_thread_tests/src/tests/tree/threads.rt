@@ -52,15 +52,15 @@ const AT_ITS_INSERT: Crossing = Crossing {
     cards: 8,
     tries: 8,
     held_at: Kind::IChild,
-    left: &[(Insert(5), Ok(true))],
-    right: (Insert(7), Ok(true)),
+    left: &[(Insert(5, 50), Ok(true))],
+    right: (Insert(7, 70), Ok(true)),
     afterwards: &[],
     keys: &[5, 7],
 };
 
 const AT_ITS_DELETE: Crossing = Crossing {
     held_at: Kind::DChild,
-    left: &[(Insert(5), Ok(true)), (Delete(5), Ok(true))],
+    left: &[(Insert(5, 50), Ok(true)), (Delete(5), Ok(true))],
     keys: &[7],
     ..AT_ITS_INSERT
 };
@@ -84,14 +84,14 @@ fn a_try_that_helps_is_over(rt: HostRuntime) {
     if two_threads_meet(&rt) {
         let at_its_flag = Crossing {
             tries: 1,
-            right: (Insert(7), Err(Held::Busy)),
+            right: (Insert(7, 70), Err(Held::Busy)),
             keys: &[5],
             ..AT_ITS_INSERT
         };
         cross(&rt, at_its_flag);
         let at_its_mark = Crossing {
             tries: 1,
-            right: (Insert(7), Err(Held::Busy)),
+            right: (Insert(7, 70), Err(Held::Busy)),
             keys: &[],
             ..AT_ITS_DELETE
         };
@@ -104,7 +104,7 @@ fn a_helper_may_find_all_cards_given_out(rt: HostRuntime) {
     if two_threads_meet(&rt) {
         let with_one_card = Crossing {
             cards: 1,
-            right: (Insert(7), Err(Held::Spent)),
+            right: (Insert(7, 70), Err(Held::Spent)),
             keys: &[5],
             ..AT_ITS_INSERT
         };
@@ -119,15 +119,15 @@ fn a_delete_that_loses_its_mark_tries_again(rt: HostRuntime) {
             cards: 8,
             tries: 1,
             held_at: Kind::Mark,
-            left: &[(Insert(5), Ok(true)), (Delete(5), Err(Held::Busy))],
-            right: (Insert(7), Ok(true)),
+            left: &[(Insert(5, 50), Ok(true)), (Delete(5), Err(Held::Busy))],
+            right: (Insert(7, 70), Ok(true)),
             afterwards: &[(Delete(5), Ok(true)), (Delete(7), Ok(true))],
             keys: &[],
         };
         cross(&rt, with_one_try);
         let with_two = Crossing {
             tries: 2,
-            left: &[(Insert(5), Ok(true)), (Delete(5), Ok(true))],
+            left: &[(Insert(5, 50), Ok(true)), (Delete(5), Ok(true))],
             afterwards: &[(Delete(7), Ok(true))],
             ..with_one_try
         };

@@ -13,5 +13,5 @@ returns g c =
     record {
       goes = flag_goes DFlagged c.args.card above.node above.update c.args.pass.now f.new.pass c.dflag.new.pass 4 c.dflag.result f.ensures c.dflag.ensures.step;
       flags = flag_ends DFlagged c.args.card above.node above.update c.args.pass.now f.new.pass c.dflag.new.pass 4 c.dflag.result f.ensures c.dflag.ensures.step
-          c.args.table.now.cards c.requires.card.may.holds c.requires.node c.dflag.ensures.card;
+          c.args.table.now.last_card c.requires.card.may.holds c.requires.node c.dflag.ensures.card;
     }

@@ -26,8 +26,8 @@ finish_own-requires-clause-parent g c =
     let s = c.search-place in
     told_parent s.new.pass.view c.take_card.new.pass.view c.flag_delete.new.pass.view c.in-Card.card c.args.key s.result c.flag_delete.ensures.goes.view
     c.in-Some.above c.in-Some.is (s.ensures.seeks.goes.view.operation ∙ c.requires.root.busy) s.ensures.ends.at c.in-Card.ensures.claims.0
-    c.args.table.now.cards
-    (inner_kept c.args.table.now.cards s.new.pass.view c.take_card.new.pass.view s.result.parent.node c.take_card.ensures.goes.view s.ensures.ends.passed.node)
+    c.args.table.now.last_card
+    (inner_kept c.args.table.now.last_card s.new.pass.view c.take_card.new.pass.view s.result.parent.node c.take_card.ensures.goes.view s.ensures.ends.passed.node)
 
 pub finish_own-requires-clause-read : goal.finish_own-requires-clause-read
 finish_own-requires-clause-read g c =
@@ -177,7 +177,7 @@ returns-in-Err-clause-ends g c =
     let flags = c.in-Err.ensures.flags in
     let taken = meets_trans a.view s.new.pass.view t.view (seek_meets a s.new.pass _ s.ensures.seeks)
     (goes_meets s.new.pass t 2 c.take_card.ensures.goes c.in-Card.ensures.claims.2) in
-    let lost = flag_lost c.args.table.now.cards c.in-Some.above.node c.in-Err.found t.view f.view new.view flags c.flag_delete.ensures.goes.view.knows
+    let lost = flag_lost c.args.table.now.last_card c.in-Some.above.node c.in-Err.found t.view f.view new.view flags c.flag_delete.ensures.goes.view.knows
     help.ensures.meets help.ensures.ended in
     let meets = meets_trans a.view t.view new.view taken lost.0 in
     let way = no_way new.view (way_of (Delete c.args.key) new.view)

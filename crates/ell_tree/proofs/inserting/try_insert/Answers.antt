@@ -15,7 +15,7 @@ finish_insert-requires-clause-insert g c =
     let place = s.result in
     let ends = s.ensures.ends in
     rw c.max-card_key.ensures
-    (is_insert s.new.pass.view c.take_card.new.pass.view c.flag_insert.new.pass.view c.in-Card.card c.args.key place c.flag_insert.ensures.goes.view
+    (is_insert s.new.pass.view c.take_card.new.pass.view c.flag_insert.new.pass.view c.in-Card.card c.args.key place c.flag_insert.ensures.goes.view c.args.value
     (s.ensures.seeks.goes.view.operation ∙ c.requires.root.busy) ends.at c.in-Card.ensures.claims.0 c.in-Ok.ensures.flags.knows
     (c.take_card.ensures.goes.view.told (Met place.parent.node) ends.passed.node.met))
 
@@ -40,8 +40,8 @@ returns-then-ne-clause-ends g c =
     let new = c.help.new.pass in
     let stands : update.state ≢ Clean = search rules in
     let meets = meets_trans a.view s.new.pass.view new.view (seek_meets a s.new.pass _ s.ensures.seeks) c.help.ensures.meets in
-    let way = way_over new.view update.state update.card (way_of (Insert c.args.key) new.view)
-    (insert_way c.args.key place.leaf place.parent place.grandparent new.view (c.help.ensures.works.search ∙ s.ensures.ends.at.search)) stands
+    let way = way_over new.view update.state update.card (way_of (Insert c.args.key c.args.value) new.view)
+    (insert_way c.args.key c.args.value place.leaf place.parent place.grandparent new.view (c.help.ensures.works.search ∙ s.ensures.ends.at.search)) stands
     c.help.ensures.ended in
     let more = meets_more a.view new.view meets in (
       record {
@@ -69,8 +69,8 @@ returns-in-NoneLeft-clause-ends g c =
     let calm : update.state ≡ Clean = search rules in
     let meets = meets_trans a.view s.new.pass.view new.view (seek_meets a s.new.pass _ s.ensures.seeks)
     (goes_meets s.new.pass new 2 c.in-NoneLeft.ensures.goes claims.2) in
-    let way = way_free new.view update.state update.card (way_of (Insert c.args.key) new.view)
-    (insert_way c.args.key place.leaf place.parent place.grandparent new.view (claims.0.search ∙ s.ensures.ends.at.search)) calm in (
+    let way = way_free new.view update.state update.card (way_of (Insert c.args.key c.args.value) new.view)
+    (insert_way c.args.key c.args.value place.leaf place.parent place.grandparent new.view (claims.0.search ∙ s.ensures.ends.at.search)) calm in (
       record {
         table = search rules;
         label = search rules;
@@ -95,8 +95,8 @@ returns-in-Lost-clause-ends g c =
     let claims = c.in-Lost.ensures.claims in
     let calm : update.state ≡ Clean = search rules in
     let meets = meets_trans a.view s.new.pass.view new.view (seek_meets a s.new.pass _ s.ensures.seeks) claims.1 in
-    let way = way_free new.view update.state update.card (way_of (Insert c.args.key) new.view)
-    (insert_way c.args.key place.leaf place.parent place.grandparent new.view (claims.0.search ∙ s.ensures.ends.at.search)) calm in
+    let way = way_free new.view update.state update.card (way_of (Insert c.args.key c.args.value) new.view)
+    (insert_way c.args.key c.args.value place.leaf place.parent place.grandparent new.view (claims.0.search ∙ s.ensures.ends.at.search)) calm in
     let quiet = ap length s.ensures.seeks.hindrances in (
       record {
         table = search rules;
@@ -140,11 +140,11 @@ returns-in-Err-clause-ends g c =
     let flags = c.in-Err.ensures.flags in
     let taken = meets_trans a.view s.new.pass.view t.view (seek_meets a s.new.pass _ s.ensures.seeks)
     (goes_meets s.new.pass t 2 c.take_card.ensures.goes c.in-Card.ensures.claims.2) in
-    let lost = flag_lost c.args.table.now.cards s.result.parent.node c.in-Err.found t.view f.view new.view flags c.flag_insert.ensures.goes.view.knows
+    let lost = flag_lost c.args.table.now.last_card s.result.parent.node c.in-Err.found t.view f.view new.view flags c.flag_insert.ensures.goes.view.knows
     help.ensures.meets help.ensures.ended in
     let meets = meets_trans a.view t.view new.view taken lost.0 in
-    let way = no_way new.view (way_of (Insert c.args.key) new.view)
-    (nowhere_way (Insert c.args.key) new.view (ap (λ (r : Search). r.node) help.ensures.works.search ∙ flags.nowhere)) in
+    let way = no_way new.view (way_of (Insert c.args.key c.args.value) new.view)
+    (nowhere_way (Insert c.args.key c.args.value) new.view (ap (λ (r : Search). r.node) help.ensures.works.search ∙ flags.nowhere)) in
     let more = meets_more a.view t.view taken in (
       record {
         table = search rules;

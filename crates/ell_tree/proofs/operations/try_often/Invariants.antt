@@ -1,4 +1,4 @@
-use Rattle.std.proofs.Common.{◌≡◌, ◌+◌, ◌*◌, ◌≤◌, true, length}
+use Rattle.std.proofs.Common.{◌≡◌, ◌+◌, ◌*◌, ◌≤◌, length}
 use Rattle.ell_ops.specs.Meaning.{reply_of}
 use Rattle.ell_tree.specs.Ends.{try_steps}
 use Rattle.ell_tree.specs.Hindrances.{AreOver, Meets, way_of}
@@ -6,6 +6,7 @@ use Rattle.ell_tree.specs.Ledgers.{present_in}
 use Rattle.ell_tree.specs.Searches.{AtRoot}
 use Rattle.ell_tree.specs.Tries.{Stops, op_of}
 use Rattle.ell_tree.proofs.operations.try_often.Given as goal
+use Rattle.ell_ops.specs.declared.reply.Reply.TheVariants.{Yes}
 
 -- each try so far met something in its way
 abbrev pub invariant-loop-round : goal.invariant-loop-round
@@ -17,10 +18,10 @@ invariant-loop-round g l = record {
   answers : l.pass.view.answers ≡ l.fn.pass.view.answers;
   stops : Stops l.op l.pass.view;
   root : l.round ≡ 0 → AtRoot l.op l.pass.view;
-  would : 1 ≤ l.round → reply_of l.op (present_in l.fn.pass) ≡ true;
+  would : 1 ≤ l.round → reply_of l.op (present_in l.fn.pass) ≡ Yes;
   meets : Meets l.fn.pass.view l.pass.view;
   way : AreOver l.pass.view (way_of l.op l.pass.view);
   hindrances : length l.fn.pass.view.hindrances + l.round ≤ length (way_of l.op l.pass.view) + length l.pass.view.hindrances;
   first : l.round ≡ 0 → l.pass.steps ≤ l.fn.pass.steps + 1;
-  later : 1 ≤ l.round → l.pass.steps ≤ l.fn.pass.steps + l.round * try_steps l.table.cards;
+  later : 1 ≤ l.round → l.pass.steps ≤ l.fn.pass.steps + l.round * try_steps l.table.last_card;
 }

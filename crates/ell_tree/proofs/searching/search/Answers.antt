@@ -13,7 +13,7 @@ loop-grandparent-preserved g c =
     let inner : IsInternal l.node = search rules in
     rw (c.anew.ensures, c.anew-parent.ensures) (record {
       same = (refl, refl);
-      stands = stands_next c.args.table.now.cards l.pass.view d.new.pass.view l.node d.result.1 l.parent d.result.0 l.grandparent
+      stands = stands_next c.args.table.now.last_card l.pass.view d.new.pass.view l.node d.result.1 l.parent d.result.0 l.grandparent
           d.ensures.seeks.goes.view i.stands d.ensures.search d.ensures.met d.ensures.there d.ensures.passed;
       down = omega (arith, d.ensures.here, d.ensures.deeper);
       seeks = seeks_trans c.args.pass.now l.pass d.new.pass (l.parent.node + 3) 3 (d.result.0.node + 3) i.seeks d.ensures.seeks
@@ -27,10 +27,10 @@ returns g c =
     let k = c.key_of-key in
     let outer : IsLeaf l.node = search rules in
     record {
-      seeks = seeks_trans c.args.pass.now l.pass k.new.pass (l.parent.node + 3) 1 (3 * c.args.table.now.cards + 4) i.seeks
+      seeks = seeks_trans c.args.pass.now l.pass k.new.pass (l.parent.node + 3) 1 (3 * c.args.table.now.last_card + 4) i.seeks
           (key_seeks l.pass k.new.pass l.node k.result k.ensures.step)
           (omega (arith, i.stands.passed.node.inner, i.stands.passed.node.there));
-      ends = search_ends c.args.table.now.cards l.pass k.new.pass c.args.op
+      ends = search_ends c.args.table.now.last_card l.pass k.new.pass c.args.op
           (record { leaf = l.node; key = k.result; parent = l.parent; grandparent = l.grandparent }) k.ensures.step
           (i.seeks.goes.view.operation ∙ c.requires.root.busy) outer i.stands k.ensures.leaf;
     }

@@ -19,10 +19,10 @@ returns-then-claim g c =
       goes = won_goes a b c.claim.new.pass card c.next-card.ensures.step won;
       claims = (
         has_card a b c.claim.new.pass card c.next-card.ensures.step c.args.op c.args.place won c.requires.busy c.requires.at,
-        omega (arith, c.cards.ensures.cards),
+        omega (arith, c.last_card.ensures.cards),
         won_calm a b c.claim.new.pass card c.next-card.ensures.step won,
       );
-      limit = omega (arith, c.cards.ensures.cards, c.cards.ensures.limit);
+      limit = omega (arith, c.last_card.ensures.cards, c.last_card.ensures.limit);
     }
 
 pub returns-else-claim : goal.returns-else-claim
@@ -34,5 +34,5 @@ returns-else-claim g c =
     record {
       goes = lost_goes a b c.claim.new.pass card c.next-card.ensures.step lost;
       claims = lost_claims a b c.claim.new.pass card c.next-card.ensures.step lost c.requires.no_card;
-      limit = omega (arith, c.cards.ensures.cards, c.cards.ensures.limit);
+      limit = omega (arith, c.last_card.ensures.cards, c.last_card.ensures.limit);
     }

@@ -1,8 +1,10 @@
 use Rattle.std.proofs.Common.{◌≡◌, ℕ, IsTrue, true, List, sym, ap, ◌∙◌, subst}
 use Rattle.ell_cards.specs.Models.{PassModel}
 use Rattle.std.specs.List.Sorted.{IsStrictlyIncreasing}
-use Rattle.ell_cards.specs.Changes.{is_among, keys_of}
-use Rattle.ell_cards.proofs.words.Keys.{search_finds, among_owned, owned_among}
+use Rattle.ell_ops.specs.KeySet.{set_of}
+use Rattle.ell_cards.specs.Changes.{keys_of}
+use Rattle.ell_core.proofs.opening.KeyLists.{search_finds}
+use Rattle.ell_cards.proofs.words.Keys.{among_owned, owned_among}
 use Rattle.ell_cards.proofs.pass.Pass.owns.Goals as goal
 
 pub returns : goal.returns
@@ -12,7 +14,7 @@ returns g c =
     let same = c.deref.ensures.value ∙ fits.owned ∙ ap (λ (m : PassModel). keys_of m.view.worker.ledger) c.self.view_is in
     let found = search_finds c.deref.result.now c.args.key c.binary_search.result
     (subst IsStrictlyIncreasing (sym c.deref.ensures.value) fits.ascending) c.binary_search.ensures.position in (
-      (λ yes. among_owned ledger c.args.key (subst (λ (ks : List ℕ). is_among ks c.args.key ≡ true) same (found.0 (subst IsTrue c.is_ok.ensures.value yes)))),
+      (λ yes. among_owned ledger c.args.key (subst (λ (ks : List ℕ). set_of ks c.args.key ≡ true) same (found.0 (subst IsTrue c.is_ok.ensures.value yes)))),
       (λ owns. subst IsTrue (sym c.is_ok.ensures.value)
-          (found.1 (subst (λ (ks : List ℕ). is_among ks c.args.key ≡ true) (sym same) (owned_among ledger c.args.key owns)))),
+          (found.1 (subst (λ (ks : List ℕ). set_of ks c.args.key ≡ true) (sym same) (owned_among ledger c.args.key owns)))),
     )

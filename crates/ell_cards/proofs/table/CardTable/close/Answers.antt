@@ -10,7 +10,7 @@ use Rattle.ell_cards.proofs.table.CardTable.close.Goals as goal
 pub returns-clause-ends : goal.returns-clause-ends
 returns-clause-ends g c =
     let keys = c.self.inside.table.shared.key.keys.items in
-    let cards = c.self.inside.table.shared.key.cards in
+    let cards = c.self.inside.table.shared.key.last_card in
     let v = c.pass.inside.seat.me.0 in
     let words = slots_items c.close_with.result.words in
     let last = c.close_with.ensures.values.2 in
@@ -18,8 +18,8 @@ returns-clause-ends g c =
     (subst (λ (m : TableModel). All (λ k. ledger_of c.args.pass.view.worker.ledger k ≢ None) m.keys) (sym c.self.view_is) c.requires.all) in
     let free = subst (λ (p : PassModel). IsFree p.view) (sym c.pass.view_is) c.requires.free in
     let there = ends keys cards last.0 last.1.0 c.pass.inside.seat.id v last.1.1 free all in
-    let closed : ClosedModel = record { words = words; cards = c.self.inside.cards } in
+    let closed : ClosedModel = record { words = words; last_card = c.self.inside.last_card } in
     subst (λ (m : TableModel). Ends m.keys c.args.pass.view closed) c.self.view_is
     (subst (λ (p : PassModel). Ends keys p.view closed) c.pass.view_is
-    (subst (λ (n : ℕ). Ends keys v (record { words = words; cards = n })) (sym c.self.invariant.3)
-    (subst (λ (l : List ℕ). Ends keys v (record { words = l; cards = cards })) last.2 there)))
+    (subst (λ (n : ℕ). Ends keys v (record { words = words; last_card = n })) (sym c.self.invariant.3)
+    (subst (λ (l : List ℕ). Ends keys v (record { words = l; last_card = cards })) last.2 there)))

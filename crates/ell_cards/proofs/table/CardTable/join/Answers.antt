@@ -15,7 +15,7 @@ join_seat-requires g c =
       of_table _ _ _ _ c.self.view_is c.right.view_is c.requires.right size,
       c.right.invariant.1,
       omega arith,
-      joins t.key.keys.items t.key.cards c.left.inside.seat.me.0 c.right.inside.seat.me.0
+      joins t.key.keys.items t.key.last_card c.left.inside.seat.me.0 c.right.inside.seat.me.0
           (subst (λ (p : PassModel). IsFree p.view) (sym c.left.view_is) c.requires.left_free)
           (subst (λ (p : PassModel). IsFree p.view) (sym c.right.view_is) c.requires.right_free)
           c.left.inside.seat.id c.right.inside.seat.id,

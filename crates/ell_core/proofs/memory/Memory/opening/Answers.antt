@@ -1,11 +1,15 @@
--- Zeros, the claim word 1 and the fields of card 0 are the opening words.
-use Rattle.std.proofs.Common.{arith, ◌∙◌}
-use Rattle.ell_core.proofs.opening.NewWords.{opens}
+-- The table of zeros gets the words of the opening tree.
+use Rattle.std.proofs.Common.{◌≡◌, ℕ, length, replicate, sym, ap, ◌∙◌}
+use Rattle.std.proofs.lemmas.List.{with_items_is}
+use Rattle.ell_core.specs.state.Words.{words_of}
 use Rattle.ell_core.proofs.memory.Memory.opening.Goals as goal
+
+pub write_opening-requires-clause-zeros : goal.write_opening-requires-clause-zeros
+write_opening-requires-clause-zeros g c =
+    c.as_mut_slice.ensures.value ∙ (c.in_ok-words.ensures.items_if_clones_equal (λ y e. e) ∙ ap (λ n. replicate {A = ℕ} n 0) c.table_size.ensures)
 
 pub returns-clause-words : goal.returns-clause-words
 returns-clause-words g c =
-    c.fill.ensures.words
-    ∙ opens c.in_ok-words.words.items c.table_size.result c.left_leaf_of.result c.right_leaf_of.result c.update_word.result
-    (c.in_ok-words.ensures.items_if_clones_equal (λ y e. e)) (omega (arith, c.table_size.ensures)) c.left_leaf_of.ensures
-    c.right_leaf_of.ensures c.update_word.ensures
+    let same : length c.write_opening.new.words ≡ c.in_ok-words.words.len =
+    c.write_opening.auto.words ∙ ap length c.as_mut_slice.ensures.value ∙ sym c.in_ok-words.words.ok.0 in
+    ap words_of (with_items_is c.in_ok-words.words c.write_opening.new.words same) ∙ c.write_opening.ensures

@@ -3,5 +3,5 @@ use Rattle.ell_core.proofs.words.Listed.{word_is_read}
 use Rattle.ell_core.proofs.memory.Memory.read.Goals as goal
 
 pub returns : goal.returns
-returns g c = word_is_read c.args.self.now.words.items c.args.self.now.cards c.args.card c.args.field c.address.result c.index.result.now
+returns g c = word_is_read c.args.self.now.words.items c.args.self.now.last_card c.args.card c.args.field c.address.result c.index.result.now
     c.requires.sized.size c.requires.card c.address.ensures c.index.ensures

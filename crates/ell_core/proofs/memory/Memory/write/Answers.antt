@@ -8,4 +8,4 @@ pub returns-clause-words : goal.returns-clause-words
 returns-clause-words g c =
     ap (λ i. words_of (slice_set c.args.self.now.words.items i c.args.value)) c.address.ensures
     ∙ words_after_write c.args.self.now.words.items c.args.card c.args.field c.args.value
-    (address_inside c.args.self.now.words.items c.args.self.now.cards c.args.card c.args.field c.requires.sized.size c.requires.card)
+    (address_inside c.args.self.now.words.items c.args.self.now.last_card c.args.card c.args.field c.requires.sized.size c.requires.card)

@@ -1,4 +1,4 @@
-use Rattle.std.proofs.Common.{ap, Some, false}
+use Rattle.std.proofs.Common.{ap, Some}
 use Rattle.ell_core.specs.inside.Inside.{worker_in}
 use Rattle.ell_core.specs.state.Machine.{Ledger}
 use Rattle.ell_core.proofs.inside.Ledgers.{ledger_of-updates}
@@ -7,4 +7,4 @@ use Rattle.ell_core.proofs.worker.Worker.own.Goals as goal
 pub returns : goal.returns
 returns g c =
     ap (λ (ledger : Ledger). record (worker_in c.args.self.now) { ledger = ledger })
-    (ledger_of-updates c.args.self.now.ledger.entries c.insert.new.self.entries c.args.key (Some false) c.in_ok-insert.ensures.updates.0)
+    (ledger_of-updates c.args.self.now.ledger.entries c.insert.new.self.entries c.args.key (Some c.args.entry) c.in_ok-insert.ensures.updates.0)

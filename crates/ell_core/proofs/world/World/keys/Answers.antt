@@ -20,7 +20,7 @@ lawful world fits =
     (sound (machine_of (value_in world)) fits.lawful.stages fits.lawful.invariant).tree
 
 -- a reached node is one of the table
-node : {A : Type 0} (world : Inside A) → InsideFits world → (x : ℕ) → Reached (words_in world.memory) x → IsNode world.memory.cards x
+node : {A : Type 0} (world : Inside A) → InsideFits world → (x : ℕ) → Reached (words_in world.memory) x → IsNode world.memory.last_card x
 node world fits x reached =
     let value = value_in world in
     let names = (sound (machine_of value) fits.lawful.stages fits.lawful.invariant).names in
@@ -30,7 +30,7 @@ node world fits x reached =
     omega arith
 
 -- two places more than the number of cards are room
-room : {A : Type 0} (world : Inside A) (places : ℕ) → InsideFits world → world.memory.cards + 2 ≤ places → HasRoom (words_in world.memory) places
+room : {A : Type 0} (world : Inside A) (places : ℕ) → InsideFits world → world.memory.last_card + 2 ≤ places → HasRoom (words_in world.memory) places
 room world places fits enough x reached = let inside = node world fits x reached in omega arith
 
 pub keys_of_tree-requires-clause-lawful : goal.keys_of_tree-requires-clause-lawful

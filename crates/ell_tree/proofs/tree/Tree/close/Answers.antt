@@ -13,5 +13,5 @@ keys_of_tree-requires-clause-keys_room g c =
 pub returns-clause-keys : goal.returns-clause-keys
 returns-clause-keys g c =
     let ends = subst (λ (t : TreeModel). Ends t.keys c.args.pass.view c.close-closed.result) c.self.view_is c.close-closed.ensures.ends in
-    let cards = c.close-closed.ensures.cards ∙ ap (λ (t : TreeModel). t.cards) c.self.view_is in
+    let cards = c.close-closed.ensures.cards ∙ ap (λ (t : TreeModel). t.last_card) c.self.view_is in
     closes c.args.self c.args.pass c.close-closed.result ends c.requires.all c.keys_of_tree.result.items cards c.keys_of_tree.ensures

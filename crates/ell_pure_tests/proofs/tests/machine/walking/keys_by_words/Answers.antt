@@ -11,7 +11,7 @@ use Rattle.ell_pure_tests.proofs.tests.machine.walking.keys_by_words.Goals as go
 
 -- a reached node is one of the world's cards
 inside : (world : WorldValue) → IsSound (machine_of world) → HasInvariant (machine_of world) → (x : ℕ) → Reached (machine_of world).words x
-    → card x ≤ world.cards
+    → card x ≤ world.last_card
 unfolding machine_of
 inside world sound has x reached =
     let below = sound.names.nodes x reached in
@@ -19,7 +19,7 @@ inside world sound has x reached =
     omega arith
 
 -- two places more than cards are room
-room : (world : WorldValue) (places : ℕ) → IsSound (machine_of world) → HasInvariant (machine_of world) → world.cards + 2 ≤ places
+room : (world : WorldValue) (places : ℕ) → IsSound (machine_of world) → HasInvariant (machine_of world) → world.last_card + 2 ≤ places
     → HasRoom (machine_of world).words places
 room world places sound has enough x reached = let node = inside world sound has x reached in omega arith
 

@@ -7,5 +7,5 @@ invariant-loop-turn g l = record {
   first : IsReady l.fn.table l.first l.one;
   second : IsReady l.fn.table l.second l.other;
   same : l.table ≡ l.fn.table;
-  world : l.world.cards ≡ l.fn.world.cards;
+  world : l.world.last_card ≡ l.fn.world.last_card;
 }

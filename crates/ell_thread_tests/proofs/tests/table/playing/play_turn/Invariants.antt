@@ -6,5 +6,5 @@ abbrev pub invariant-loop-number : goal.invariant-loop-number
 invariant-loop-number g l = record {
   ready : IsReady l.fn.table l.pass l.memory;
   same : l.table ≡ l.fn.table;
-  world : l.world.cards ≡ l.fn.world.cards;
+  world : l.world.last_card ≡ l.fn.world.last_card;
 }

@@ -9,5 +9,5 @@ invariant-loop g l = record {
   third : IsReady l.fn.table l.third l.three;
   fourth : IsReady l.fn.table l.fourth l.four;
   same : l.table ≡ l.fn.table;
-  world : l.world.cards ≡ l.fn.world.cards;
+  world : l.world.last_card ≡ l.fn.world.last_card;
 }

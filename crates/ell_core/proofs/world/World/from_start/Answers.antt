@@ -3,7 +3,7 @@ use Rattle.std.proofs.lemmas.List.{length-map}
 use Rattle.ell_core.specs.inside.Inside.{view_of}
 use Rattle.ell_core.specs.inside.WorldInside.{value_in}
 use Rattle.ell_core.proofs.opening.NewWorld.{machine_of-opening, opening_lawful}
-use Rattle.ell_core.proofs.world.World.new.Goals as goal
+use Rattle.ell_core.proofs.world.World.from_start.Goals as goal
 
 pub invariant_of-result : goal.invariant_of-result
 invariant_of-result g c =
@@ -12,9 +12,14 @@ invariant_of-result g c =
       size = memory.sized.size;
       limit = memory.sized.limit;
       lawful = opening_lawful (value_in (record { alloc = c.args.alloc; memory = c.in_ok-memory.memory; workers = c.in_ok-workers.workers }))
-          c.args.workers c.args.owned.now c.args.cards memory.words
-          (length-map c.in_ok-workers.workers.items view_of ∙ sym c.in_ok-workers.workers.ok.0 ∙ c.in_ok-workers.ensures.count) memory.cards c.in_ok-workers.ensures.ledgers
-          c.in_ok-workers.ensures.faultless c.requires.keys;
+          (record { count = c.args.workers; owned = c.args.owned.now; start = c.args.start.now; cards = c.args.cards }) memory.words
+          (length-map c.in_ok-workers.workers.items view_of ∙ sym c.in_ok-workers.workers.ok.0 ∙ c.in_ok-workers.ensures.count) memory.last_card c.in_ok-workers.ensures.ledgers
+          (record {
+            faultless = c.in_ok-workers.ensures.faultless;
+            real = c.requires.keys;
+            ascending = c.requires.ascending;
+            given = c.requires.given;
+          });
     }
 
 pub returns-clause-opening : goal.returns-clause-opening
@@ -23,5 +28,5 @@ returns-clause-opening g c =
     let workers = c.in_ok-workers.workers in
     machine_of-opening
     (value_in (record { alloc = c.args.alloc; memory = c.in_ok-memory.memory; workers = workers }))
-    c.args.workers c.args.owned.now c.args.cards memory.words
-    (length-map workers.items view_of ∙ sym workers.ok.0 ∙ c.in_ok-workers.ensures.count) memory.cards c.in_ok-workers.ensures.ledgers
+    (record { count = c.args.workers; owned = c.args.owned.now; start = c.args.start.now; cards = c.args.cards }) memory.words
+    (length-map workers.items view_of ∙ sym workers.ok.0 ∙ c.in_ok-workers.ensures.count) memory.last_card c.in_ok-workers.ensures.ledgers

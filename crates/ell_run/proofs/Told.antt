@@ -1,0 +1,45 @@
+use Rattle.std.proofs.Common.{◌≡◌, ℕ, ◌<◌, ◌≤◌, List, Option, None, Some, Ok, length, take, ap, sym, ◌∙◌}
+use Rattle.std.specs.Prelude.{IfSome}
+use Rattle.std.specs.Io.KnownBytes.{Appends}
+use Rattle.ell_ops.specs.KeySet.{Lists, set_of}
+use Rattle.ell_ops.specs.Meaning.{replies, final}
+use Rattle.ell_parts.specs.Parting.{Parting}
+use Rattle.ell_text.specs.declared.output.WriteFault.{WriteFault}
+use Rattle.ell_text.specs.Bulk.{BulkValue, bulk}
+use Rattle.ell_text.specs.Answer.{answer}
+use Rattle.ell_run.specs.declared.settings.Settings.{Settings}
+use Rattle.ell_run.specs.Answered.{IsAnswer, IsAnswered, IsReported, Tells}
+use Rattle.ell_run.specs.Late.{IsLate}
+use Rattle.ell_run.specs.RunFault.{of_write}
+use Rattle.ell_run.specs.Settings.{IsPartedAs}
+use Rattle.ell_ops.specs.declared.reply.Reply.{Reply}
+
+module _ (read : List ℕ) (given : BulkValue) (meant : bulk read ≡ Ok given) where
+  -- replies and keys of one thread are the answer
+  is_answer : (bytes : List ℕ) (said : List Reply) (keys : List ℕ) → read ≡ bytes → said ≡ replies (set_of given.start) given.ops →
+      Lists (final (set_of given.start) given.ops) keys → IsAnswer bytes (answer said keys)
+  is_answer bytes said keys whole told listed =
+      record { given = given; keys = keys; read = ap bulk (sym whole) ∙ meant; listed = listed; written = ap (λ said. answer said keys) told }
+
+  -- the whole answer went out
+  pub answered : (input before after : Option (List ℕ)) (said : List Reply) (keys : List ℕ) → IfSome input (λ bytes. read ≡ bytes) →
+      said ≡ replies (set_of given.start) given.ops → Lists (final (set_of given.start) given.ops) keys → Appends before after (answer said keys) →
+      IsAnswered input before after
+  answered None before after said keys whole told listed out = tt
+  answered (Some bytes) before after said keys whole told listed out = (answer said keys, is_answer bytes said keys whole told listed, out)
+
+  -- its write was cut short
+  pub cut_short : (input before after : Option (List ℕ)) (said : List Reply) (keys : List ℕ) (fault : WriteFault) → IfSome input (λ bytes. read ≡ bytes) →
+      said ≡ replies (set_of given.start) given.ops → Lists (final (set_of given.start) given.ops) keys →
+      fault.written < length (answer said keys) → Appends before after (take fault.written (answer said keys)) →
+      Tells (of_write fault) input before after
+  cut_short None before after said keys fault whole told listed missing out = tt
+  cut_short (Some bytes) before after said keys fault whole told listed missing out =
+      (answer said keys, is_answer bytes said keys whole told listed, missing, out)
+
+  -- how many operations are late
+  pub reported : (settings : Settings) (input : Option (List ℕ)) (parting : Parting) (count : ℕ) → IfSome input (λ bytes. read ≡ bytes) →
+      IsPartedAs settings given.ops parting → count ≤ length given.ops → IsLate (set_of given.start) parting count → IsReported settings input count
+  reported settings None parting count whole parted few late = tt
+  reported settings (Some bytes) parting count whole parted few late =
+      (given, ap bulk (sym whole) ∙ meant, record { parting = parting; parted = parted; few = few; late = late })
