@@ -5,7 +5,7 @@ use std::alloc::{AllocError, Global};
 use std::sync::atomic::{AtomicBool, AtomicU64, Ordering};
 
 /// Holds each worker at its first step of a kind until every other one has come to its own, or has ended an operation without an
-/// answer. No hold lasts longer than 100,000,000 turns of a loop, and once one has lasted so long, nobody is held any more.
+/// answer. No hold lasts longer than 4,000,000,000 turns of a loop, and once one has lasted so long, nobody is held any more.
 #[derive(Drop)]
 pub struct Gathering {
     at: Kind,

@@ -4,7 +4,7 @@ use ell_word::{Kind, StepGate};
 use std::sync::atomic::{AtomicBool, AtomicU64, Ordering};
 
 /// Holds worker 0 at its first step of a kind until the other workers have ended so many operations, and holds each of those at
-/// each begin until worker 0 is there. No hold lasts longer than 100,000,000 turns of a loop.
+/// each begin until worker 0 is there. No hold lasts longer than 4,000,000,000 turns of a loop.
 #[derive(Drop)]
 pub struct Holding {
     at: Kind,

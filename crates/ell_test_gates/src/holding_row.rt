@@ -4,7 +4,7 @@ use ell_word::{Kind, StepGate};
 use std::sync::atomic::{AtomicBool, AtomicU64, Ordering};
 
 /// Holds workers 0, 1 and so on, each at its first step of a kind of its own, until an operation of the worker after them has ended;
-/// and each worker at its begin until the one before it has come to its step. No hold lasts longer than 100,000,000 turns of a loop.
+/// and each worker at its begin until the one before it has come to its step. No hold lasts longer than 4,000,000,000 turns of a loop.
 #[derive(Drop)]
 pub struct HoldingRow<'a> {
     at: &'a [Kind],

@@ -6,7 +6,7 @@ use std::sync::atomic::{AtomicU64, Ordering};
 use std::thread::{Threads, join};
 
 // How often a loop that waits looks, before it gives up.
-const TURNS: u32 = 100_000_000;
+const TURNS: u32 = 4_000_000_000;
 
 /// Looks at a count until it has come so far, and answers whether it was within a number of turns.
 pub(crate) fn is_reached_in_time(count: &AtomicU64, want: u64) -> bool {
