@@ -1,9 +1,10 @@
-//! The ten words of a card, and where they stand.
+//! The twelve words of a card, and where they stand.
 ghost use Rattle.std.specs.Prelude.{◌≡◌, ◌≤◌, ◌%◌, ℕ};
 ghost use Rattle.ell_word.specs.Node.{greatest_card, card, IsInternal};
 ghost use Rattle.ell_word.specs.Word.{packed};
 ghost use Rattle.ell_core.specs.state.Layout.{place, address, table_size};
-ghost use Rattle.ell_core.specs.state.Words.{Words, word, key_field, child_field};
+ghost use Rattle.ell_core.specs.state.Words.{Words, word, key_field, value_field, child_field};
+ghost use Rattle.ell_core.specs.acts.Searching.{IsLeaf};
 
 use ell_word::{State, Update, pack};
 
@@ -31,14 +32,18 @@ pub enum Field {
     LeftLeafKey,
     /// The key of the right leaf.
     RightLeafKey,
+    /// The value of the left leaf.
+    LeftValue,
+    /// The value of the right leaf.
+    RightValue,
 }
 
 /// How many words a card has.
-const WORDS_PER_CARD: u64 = 10;
+const WORDS_PER_CARD: u64 = 12;
 
 impl Field {
     /// The fields, in the order of their places.
-    pub const ALL: [Field; 10] = [
+    pub const ALL: [Field; 12] = [
         Field::Gp,
         Field::P,
         Field::L,
@@ -49,6 +54,8 @@ impl Field {
         Field::Update,
         Field::LeftLeafKey,
         Field::RightLeafKey,
+        Field::LeftValue,
+        Field::RightValue,
     ];
 
     // The place of the field among the words of its card.
@@ -66,6 +73,8 @@ impl Field {
             Field::Update => 7,
             Field::LeftLeafKey => 8,
             Field::RightLeafKey => 9,
+            Field::LeftValue => 10,
+            Field::RightValue => 11,
         }
     }
 
@@ -88,6 +97,18 @@ pub fn key_field(node: u64) -> Field
         0 => Field::Key,
         1 => Field::LeftLeafKey,
         _ => Field::RightLeafKey,
+    }
+}
+
+/// The field that has the value of a leaf, on the leaf's card.
+pub fn value_field(leaf: u64) -> Field
+    ensures field { result ≡ value_field (leaf % 3) }
+    ensures word { (w : Words) → IsLeaf leaf → word w (card leaf) result ≡ w.value leaf }
+{
+    if leaf % 3 == 1 {
+        Field::LeftValue
+    } else {
+        Field::RightValue
     }
 }
 

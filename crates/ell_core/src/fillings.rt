@@ -6,18 +6,25 @@ ghost use Rattle.ell_core.specs.state.Cards.{insert_filling, delete_filling};
 use crate::field::{Field, update_word};
 use ell_word::{State, left_leaf_of, right_leaf_of};
 
-/// The fields of an insert's card, for a key at a leaf: an internal node with the greater key, over two new leaves, the
-/// lesser key on the left. Condition: the card is at most `CARD_MAX`.
+/// The fields of an insert's card, for a key with its value at a leaf: an internal node with the greater key, over two new
+/// leaves, the lesser key on the left, each with its value. Condition: the card is at most `CARD_MAX`.
 pub fn insert_filling(
     card: u64,
     key: u64,
+    value: u64,
     parent: u64,
     leaf: u64,
     leaf_key: u64,
-) -> [(Field, u64); 8]
+    leaf_value: u64,
+) -> [(Field, u64); 10]
     requires { card ≤ greatest_card }
-    ensures { result ≡ insert_filling card key parent leaf leaf_key }
+    ensures { result ≡ insert_filling card key value parent leaf leaf_key leaf_value }
 {
+    let (left_value, right_value) = if key < leaf_key {
+        (value, leaf_value)
+    } else {
+        (leaf_value, value)
+    };
     [
         (Field::P, parent),
         (Field::L, leaf),
@@ -27,6 +34,8 @@ pub fn insert_filling(
         (Field::Update, update_word(State::Clean, 0)),
         (Field::LeftLeafKey, key.min(leaf_key)),
         (Field::RightLeafKey, key.max(leaf_key)),
+        (Field::LeftValue, left_value),
+        (Field::RightValue, right_value),
     ]
 }
 

@@ -23,7 +23,7 @@ mod world;
 pub use branch::{Branch, branch_of};
 pub use event::{Act, CoreFault, Event, Shown, Stepped};
 pub use fact::{Fact, told_by};
-pub use field::{Field, child_field, key_field, table_size, update_word};
+pub use field::{Field, child_field, key_field, table_size, update_word, value_field};
 pub use fillings::{delete_filling, insert_filling};
 pub use keys::{TreeWords, keys_of_tree};
 pub use laws::{

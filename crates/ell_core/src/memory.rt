@@ -3,12 +3,13 @@ ghost use Rattle.std.specs.Prelude.{◌≡◌, ◌≢◌, ◌<◌, ◌≤◌, le
 ghost use Rattle.ell_word.specs.Node.{greatest_card};
 ghost use Rattle.ell_core.specs.state.Words.{word, written};
 ghost use Rattle.ell_core.specs.state.Cards.{is_right, filled, claimed};
+ghost use Rattle.ell_core.specs.acts.Searching.{IsLeaf};
 ghost use Rattle.ell_core.specs.acts.Exchanges.{exchanged_update, exchanged_child, found_child};
 ghost use Rattle.ell_core.specs.state.Opening.{start_words};
 ghost use Rattle.ell_core.specs.inside.Fits.{IsNode, IsInner};
 ghost use Rattle.ell_core.specs.inside.Inside.{words_in, IsSized, SameSize};
 
-use crate::field::{Field, child_field, key_field, table_size};
+use crate::field::{Field, child_field, key_field, table_size, value_field};
 use crate::keys::TreeWords;
 use crate::start::write_opening;
 use ell_ops::NoMemory;
@@ -64,6 +65,16 @@ impl<A: Allocator + Copy> Memory<A> {
         ensures { result ≡ (words_in self.now).key node }
     {
         self.read(card_of(node), key_field(node))
+    }
+
+    /// The value of a leaf.
+    pub fn value(&self, leaf: u64) -> u64
+        requires sized { IsSized self.now }
+        requires node { IsNode self.now.last_card leaf }
+        requires outer { IsLeaf leaf }
+        ensures { result ≡ (words_in self.now).value leaf }
+    {
+        self.read(card_of(leaf), value_field(leaf))
     }
 
     /// The update word of an internal node.

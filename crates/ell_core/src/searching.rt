@@ -147,7 +147,7 @@ pub(crate) fn claim<A: Allocator + Copy>(
         return Err(CoreFault::NotNow);
     };
     match worker.operation {
-        Some(Op::Insert(key, _)) => claim_for_insert(memory, worker, key, at),
+        Some(Op::Insert(key, value)) => claim_for_insert(memory, worker, key, value, at),
         Some(Op::Delete(key)) => claim_for_delete(memory, worker, key, at),
         _ => Err(CoreFault::NotNow),
     }
@@ -157,10 +157,11 @@ fn claim_for_insert<A: Allocator + Copy>(
     memory: &mut Memory<A>,
     worker: &mut Worker<A>,
     key: u64,
+    value: u64,
     at: CleanLeaf,
 ) -> Result<Stepped, CoreFault>
     requires ready { IsReady memory.old worker.old }
-    requires inserts { (value : ℕ) × ((worker_in worker.old).operation ≡ Some (Insert key value)) }
+    requires inserts { (worker_in worker.old).operation ≡ Some (Insert key value) }
     requires at { AtCleanLeaf (worker_in worker.old) at.leaf at.parent }
     ensures { TakesTurn act.Claim memory.old worker.old memory.new worker.new result }
 {
@@ -172,7 +173,15 @@ fn claim_for_insert<A: Allocator + Copy>(
     if card > memory.last_card {
         return Err(CoreFault::NoCards);
     }
-    memory.claim(&insert_filling(card, key, at.parent.node, at.leaf, leaf_key));
+    memory.claim(&insert_filling(
+        card,
+        key,
+        value,
+        at.parent.node,
+        at.leaf,
+        leaf_key,
+        memory.value(at.leaf),
+    ));
     worker.card = Some(card);
     worker.flagged = false;
     Ok(Stepped::Moved)

@@ -53,7 +53,7 @@ claimed_keys m stage i said becomes filling invariant is after =
 claim_keys : (m : Machine) (stage : Stages) (i : ℕ) (said : Stepped) (becomes : Scene) → Invariant m stage
     → Row act.Claim (scene m i) said becomes → Follows m stage act.Claim i said (with_scene m i becomes) → SameKeys m.words becomes.words
 claim_keys m stage i said becomes invariant (inl row) after =
-    claimed_keys m stage i said becomes (insert_filling m.words.next row.key row.parent.node row.leaf (m.words.key row.leaf)) invariant row.gives after
+    claimed_keys m stage i said becomes (insert_filling m.words.next row.key row.value row.parent.node row.leaf (m.words.key row.leaf) (m.words.value row.leaf)) invariant row.gives after
 claim_keys m stage i said becomes invariant (inr row) after =
     claimed_keys m stage i said becomes (delete_filling row.grandparent.node row.parent.node row.leaf row.parent.word) invariant row.gives after
 

@@ -4,14 +4,14 @@ use Rattle.std.proofs.lemmas.List.{length-replicate}
 use Rattle.ell_word.specs.Node.{right_leaf}
 use Rattle.ell_core.specs.tree.Tree.{infinity1, infinity2}
 use Rattle.ell_core.specs.declared.field.Field.{Field}
-use Rattle.ell_core.specs.declared.field.Field.TheVariants.{Gp, P, L, Was, Key, Left, Right, Update, LeftLeafKey, RightLeafKey}
+use Rattle.ell_core.specs.declared.field.Field.TheVariants.{Gp, P, L, Was, Key, Left, Right, Update, LeftLeafKey, RightLeafKey, LeftValue, RightValue}
 use Rattle.ell_core.specs.state.Layout.{address}
 use Rattle.ell_core.specs.state.Words.{Words, word, words_of, words_from}
 use Rattle.ell_core.specs.state.Cards.{clean, filled, stored}
-use Rattle.ell_core.proofs.words.Writes.{equal_words, made_word, made_leaf_child, made_leaf_update}
-use Rattle.ell_core.proofs.words.Listed.{words_are_listed, listed_next, listed_leaf_child, listed_leaf_update}
+use Rattle.ell_core.proofs.words.Writes.{equal_words, made_word, made_inner_value, made_leaf_child, made_leaf_update}
+use Rattle.ell_core.proofs.words.Listed.{words_are_listed, listed_next, listed_inner_value, listed_leaf_child, listed_leaf_update}
 use Rattle.ell_core.proofs.words.Stored.{filled_stored, filled_elsewhere}
-use Rattle.ell_core.proofs.opening.NewWords.{filled_claim, filled_leaf_child, filled_leaf_update}
+use Rattle.ell_core.proofs.opening.NewWords.{filled_claim, filled_inner_value, filled_leaf_child, filled_leaf_update}
 use Rattle.ell_core.specs.declared.branch.Branch.{Branch}
 use Rattle.ell_core.specs.state.Branches.{root_branch, branch_of, left_child}
 use Rattle.ell_core.specs.state.Opening.{start_leaf, root_field, branch_field, start_field, start_words, root_filling, branch_filling}
@@ -44,6 +44,8 @@ root_stored many Right = refl
 root_stored many Update = refl
 root_stored many LeftLeafKey = refl
 root_stored many RightLeafKey = refl
+root_stored many LeftValue = refl
+root_stored many RightValue = refl
 
 branch_stored : (leaf : ℕ → ℕ) (b : Branch) (field : Field) → stored (branch_filling leaf b) field 0 ≡ branch_field leaf b field
 branch_stored leaf b Gp = refl
@@ -56,6 +58,8 @@ branch_stored leaf b Right = refl
 branch_stored leaf b Update = refl
 branch_stored leaf b LeftLeafKey = refl
 branch_stored leaf b RightLeafKey = refl
+branch_stored leaf b LeftValue = refl
+branch_stored leaf b RightValue = refl
 
 module _ (start : List ℕ) (size : ℕ) (some : 0 < size) where
   -- zeros after a write of the claim word
@@ -81,6 +85,8 @@ module _ (start : List ℕ) (size : ℕ) (some : 0 < size) where
   rooted_words = equal_words _ _ record {
     next = filled_claim (words_of begun) 0 (root_filling (length start)) ∙ (listed_next begun ∙ begun_next);
     word = λ c field. rooted c field ∙ sym (made_word (length start + 1) (grown start 1) c field);
+    value = λ x h. filled_inner_value (words_of begun) 0 (root_filling (length start)) x h
+        ∙ (listed_inner_value begun x h ∙ sym (made_inner_value (length start + 1) (grown start 1) x h));
     child = λ x right h. filled_leaf_child (words_of begun) 0 (root_filling (length start)) x right h
         ∙ (listed_leaf_child begun x right h ∙ sym (made_leaf_child (length start + 1) (grown start 1) x right h));
     update = λ x h. filled_leaf_update (words_of begun) 0 (root_filling (length start)) x h
@@ -129,6 +135,8 @@ grows start n old new some is writes =
     writes ∙ (ap (λ (w : Words). filled w n fields) is ∙ equal_words _ _ record {
       next = filled_claim (growing start n) n fields;
       word = λ c field. by c field ∙ sym (made_word (length start + 1) (grown start (n + 1)) c field);
+      value = λ x h. filled_inner_value (growing start n) n fields x h
+          ∙ (made_inner_value (length start + 1) (grown start n) x h ∙ sym (made_inner_value (length start + 1) (grown start (n + 1)) x h));
       child = λ x right h. filled_leaf_child (growing start n) n fields x right h
           ∙ (made_leaf_child (length start + 1) (grown start n) x right h ∙ sym (made_leaf_child (length start + 1) (grown start (n + 1)) x right h));
       update = λ x h. filled_leaf_update (growing start n) n fields x h

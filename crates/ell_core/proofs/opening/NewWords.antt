@@ -2,12 +2,17 @@ use Rattle.std.proofs.Common.{◌≡◌, ◌≢◌, ℕ, ◌%◌, Bool, List, []
 use Rattle.ell_core.specs.declared.field.Field.{Field}
 use Rattle.ell_core.specs.state.Words.{Words, written}
 use Rattle.ell_core.specs.state.Cards.{filled}
-use Rattle.ell_core.proofs.words.Writes.{written_next, written_leaf_child, written_leaf_update}
+use Rattle.ell_core.proofs.words.Writes.{written_next, written_inner_value, written_leaf_child, written_leaf_update}
 
 -- Fields that are written leave the claim word.
 pub filled_claim : (w : Words) (c : ℕ) (es : List (Field × ℕ)) → (filled w c es).next ≡ w.next
 filled_claim w c [] = refl
 filled_claim w c (e ∷ es) = filled_claim (written w c e.0 e.1) c es ∙ written_next w c e.0 e.1
+
+-- Fields that are written leave the values that internal nodes have.
+pub filled_inner_value : (w : Words) (c : ℕ) (es : List (Field × ℕ)) (x : ℕ) → x % 3 ≡ 0 → (filled w c es).value x ≡ w.value x
+filled_inner_value w c [] x h = refl
+filled_inner_value w c (e ∷ es) x h = filled_inner_value (written w c e.0 e.1) c es x h ∙ written_inner_value w c e.0 e.1 x h
 
 -- Fields that are written leave the children that the leaves have.
 pub filled_leaf_child : (w : Words) (c : ℕ) (es : List (Field × ℕ)) (x : ℕ) (right : Bool) → x % 3 ≢ 0 → (filled w c es).child x right ≡ w.child x right

@@ -126,17 +126,18 @@ clean_leaf v = elim (cases_option v.search.node) [
   ]
 ]
 
--- two inserts in hand are of one key
-same_insert : {o : Option Op} {x y u v : ℕ} → o ≡ Some (Insert x u) → o ≡ Some (Insert y v) → x ≡ y
-same_insert e f = cc
+-- two inserts in hand are of one key and one value
+same_insert : {o : Option Op} {x y u v : ℕ} → o ≡ Some (Insert x u) → o ≡ Some (Insert y v) → (x ≡ y) × (u ≡ v)
+same_insert e f = (cc, cc)
 
 -- two deletes in hand are of one key
 same_delete : {o : Option Op} {x y : ℕ} → o ≡ Some (Delete x) → o ≡ Some (Delete y) → x ≡ y
 same_delete e f = cc
 
 -- the scene after a claim for an insert
-abbrev insert_claimed : Scene → ℕ → ℕ → Seen → Scene
-insert_claimed s key leaf parent = claims s (insert_filling s.words.next key parent.node leaf (s.words.key leaf))
+abbrev insert_claimed : Scene → ℕ → ℕ → ℕ → Seen → Scene
+insert_claimed s key value leaf parent =
+    claims s (insert_filling s.words.next key value parent.node leaf (s.words.key leaf) (s.words.value leaf))
 
 -- a claim for an insert has one outcome or none
 settles_claim_insert : (s : Scene) → Settled (ClaimInsert s)
@@ -145,14 +146,15 @@ settles_claim_insert s = elim (cases_insert s.worker.operation) [
   | inl o ↦ elim (clean_leaf s.worker) [
     | inr n ↦ inr (λ said after r. n r.leaf r.parent r.at)
     | inl a ↦ elim (cases_eq (s.words.key a.leaf) o.0) [
-      | inl e ↦ inr (λ said after r. r.absent (ap s.words.key (a.only r.leaf r.parent r.at).0 ∙ (e ∙ same_insert o.2 r.inserts)))
+      | inl e ↦ inr (λ said after r. r.absent (ap s.words.key (a.only r.leaf r.parent r.at).0 ∙ (e ∙ (same_insert o.2 r.inserts).0)))
       | inr absent ↦ inl (record {
         said = Moved;
-        after = insert_claimed s o.0 a.leaf a.parent;
+        after = insert_claimed s o.0 o.1 a.leaf a.parent;
         row = record { key = o.0; value = o.1; leaf = a.leaf; parent = a.parent; inserts = o.2; at = a.at; absent = absent; says = refl; gives = refl };
         only = λ other later r. (let only = a.only r.leaf r.parent r.at in (
           r.says,
-          r.gives ∙ (ap (λ x. insert_claimed s x r.leaf r.parent) (same_insert r.inserts o.2) ∙ ap2 (insert_claimed s o.0) only.0 only.1),
+          r.gives ∙ ((let same = same_insert r.inserts o.2 in ap2 (λ x v. insert_claimed s x v r.leaf r.parent) same.0 same.1)
+              ∙ ap2 (insert_claimed s o.0 o.1) only.0 only.1),
         ));
       })
     ]

@@ -20,6 +20,7 @@ words_later a b c h g = record {
   update = λ x. (let l = h.update x in let r = g.update x in omega arith);
   info = λ d below. same_info a b c d (h.info d below) (g.info d (let x = h.next in omega arith));
   key = λ x below. g.key x (let l = h.next in omega arith) ∙ h.key x below;
+  value = λ x below. g.value x (let l = h.next in omega arith) ∙ h.value x below;
   frozen = λ x d mark. (let first = h.frozen x d mark in same_node a b c x first (g.frozen x d (first.update ∙ mark)));
 }
 

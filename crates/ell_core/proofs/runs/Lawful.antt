@@ -96,7 +96,7 @@ never_lost m m' follow = let all = ran_between m m' follow in (all.knowledge, al
 pub fixed : ClaimedCardsAreFixed
 fixed m m' follow c below =
     let words = (ran_between m m' follow).words in
-    (words.info c below, λ x on. words.key x (subst (λ d. d < m.words.next) (sym on) below))
+    (words.info c below, λ x on. (let on_it = subst (λ d. d < m.words.next) (sym on) below in (words.key x on_it, words.value x on_it)))
 
 -- the stages rise
 pub stages_rise : StagesRise

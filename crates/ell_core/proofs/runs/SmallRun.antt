@@ -56,7 +56,7 @@ down_scene = record read_scene {
 
 -- it claims card 1
 abbrev pub claimed_scene : Scene
-claimed_scene = claims down_scene (insert_filling 1 5 0 1 infinity1)
+claimed_scene = claims down_scene (insert_filling 1 5 50 0 1 infinity1 0)
 
 -- it flags the root
 abbrev pub flagged_scene : Scene

@@ -23,6 +23,10 @@ module _ (old new : Words) (stage : Stages) (sound : WordsAreSound old stage) (w
   pub key_later : (x y : ℕ) → y ≡ x → Born stage x → new.key y ≡ old.key x
   key_later x y e born = ap new.key e ∙ words.key x (born_below old stage sound x born)
 
+  -- so is its value
+  pub value_later : (x y : ℕ) → y ≡ x → Born stage x → new.value y ≡ old.value x
+  value_later x y e born = ap new.value e ∙ words.value x (born_below old stage sound x born)
+
   -- a key is on the side of such a node on which it was
   pub side_later : (x y k l : ℕ) → y ≡ x → l ≡ k → Born stage x → is_right new y l ≡ is_right old x k
   side_later x y k l e f born = λ t. nat_le (key_later x y e born t) (f t)
@@ -42,12 +46,19 @@ module _ (old new : Words) (stage : Stages) (sound : WordsAreSound old stage) (w
     pub insert_node_key : (x : ℕ) → card x ≡ c → new.key x ≡ old.key x
     insert_node_key x e = words.key x (let below = insert_below in omega arith)
 
+    -- and their values
+    pub insert_node_value : (x : ℕ) → card x ≡ c → new.value x ≡ old.value x
+    insert_node_value x e = words.value x (let below = insert_below in omega arith)
+
     -- so have parent and leaf
     pub insert_parent_key : new.key (new.p c) ≡ old.key (old.p c)
     insert_parent_key = key_later (old.p c) (new.p c) insert_info.p insert_said.parent.born
 
     pub insert_leaf_key : new.key (new.l c) ≡ old.key (old.l c)
     insert_leaf_key = key_later (old.l c) (new.l c) insert_info.l insert_said.leaf.born
+
+    pub insert_leaf_value : new.value (new.l c) ≡ old.value (old.l c)
+    insert_leaf_value = value_later (old.l c) (new.l c) insert_info.l insert_said.leaf.born
 
     -- so its own key is as it was, and its side of the parent
     pub insert_key_later : insert_key new c ≡ insert_key old c

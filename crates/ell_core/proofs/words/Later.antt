@@ -16,6 +16,7 @@ words_same w = record {
   update = λ x. omega arith;
   info = λ c h. record { gp = refl; p = refl; l = refl; was = refl };
   key = λ x h. refl;
+  value = λ x h. refl;
   frozen = λ x c h. record { update = refl; child = λ right. refl };
 }
 
@@ -34,6 +35,7 @@ words_update w x value rises calm = record {
   update = update_rises w x value rises;
   info = λ c h. record { gp = refl; p = refl; l = refl; was = refl };
   key = λ y h. refl;
+  value = λ y h. refl;
   frozen = λ y c h. record { update = put_other w.update x value y (λ e. calm c (ap w.update (sym e) ∙ h)); child = λ right. refl };
 }
 
@@ -77,6 +79,7 @@ words_child w x value side rises calm = record {
   update = λ y. omega arith;
   info = λ c h. record { gp = refl; p = refl; l = refl; was = refl };
   key = λ y h. refl;
+  value = λ y h. refl;
   frozen = λ y c h. record {
     update = refl;
     child = λ right. elim (child_elsewhere w x value side y right) [

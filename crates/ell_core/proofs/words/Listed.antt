@@ -2,12 +2,12 @@ use Rattle.std.proofs.Common.{◌≡◌, ◌≢◌, ℕ, zero, suc, ◌+◌, ◌
 use Rattle.std.proofs.lemmas.Bool.{cases_eq}
 use Rattle.std.proofs.lemmas.Grind.{get_or_default_zero}
 use Rattle.ell_core.specs.declared.field.Field.{Field}
-use Rattle.ell_core.specs.declared.field.Field.TheVariants.{Gp, P, L, Was, Key, Left, Right, Update, LeftLeafKey, RightLeafKey}
+use Rattle.ell_core.specs.declared.field.Field.TheVariants.{Gp, P, L, Was, Key, Left, Right, Update, LeftLeafKey, RightLeafKey, LeftValue, RightValue}
 use Rattle.ell_core.specs.state.Layout.{address, place, table_size, listed}
 use Rattle.ell_core.specs.state.Words.{Words, word, written, words_of}
 use Rattle.ell_core.specs.state.Cards.{filled, filled_list, claimed}
 use Rattle.ell_core.specs.statements.Laws.{SameAfterSameWrite, WordsAreListed, FilledListsAreFilled}
-use Rattle.ell_core.proofs.words.Writes.{equal_words, written_here, written_elsewhere, written_next, written_leaf_child, written_leaf_update, made_word, made_leaf_child, made_leaf_update}
+use Rattle.ell_core.proofs.words.Writes.{equal_words, written_here, written_elsewhere, written_next, written_inner_value, written_leaf_child, written_leaf_update, made_word, made_inner_value, made_leaf_child, made_leaf_update}
 
 -- The words that a list is have at each field the list's word.
 pub words_are_listed : WordsAreListed
@@ -19,6 +19,11 @@ pub listed_next : (words : List ℕ) → (words_of words).next ≡ slice_index w
 unfolding words_of
 listed_next words = refl
 
+-- An internal node has no value in the words that a list is.
+pub listed_inner_value : (words : List ℕ) (x : ℕ) → x % 3 ≡ 0 → (words_of words).value x ≡ 0
+unfolding words_of
+listed_inner_value words x h = made_inner_value (slice_index words 0) (listed words) x h
+
 -- A leaf has no child in the words that a list is.
 pub listed_leaf_child : (words : List ℕ) (x : ℕ) (right : Bool) → x % 3 ≢ 0 → (words_of words).child x right ≡ 0
 unfolding words_of
@@ -29,8 +34,8 @@ pub listed_leaf_update : (words : List ℕ) (x : ℕ) → x % 3 ≢ 0 → (words
 unfolding words_of
 listed_leaf_update words x h = made_leaf_update (slice_index words 0) (listed words) x h
 
--- The place of a field is below ten.
-pub place_small : (field : Field) → place field < 10
+-- The place of a field is below twelve.
+pub place_small : (field : Field) → place field < 12
 place_small Gp = omega arith
 place_small P = omega arith
 place_small L = omega arith
@@ -41,10 +46,12 @@ place_small Right = omega arith
 place_small Update = omega arith
 place_small LeftLeafKey = omega arith
 place_small RightLeafKey = omega arith
+place_small LeftValue = omega arith
+place_small RightValue = omega arith
 
 -- Each field of a table's card has an address in the table, after that of the claim word.
 pub address_in_table : (cards c : ℕ) (field : Field) → c ≤ cards → (0 < address c field) × (address c field < table_size cards)
-address_in_table cards c field h = let i : place field < 10 = place_small field in (omega arith, omega arith)
+address_in_table cards c field h = let i : place field < 12 = place_small field in (omega arith, omega arith)
 
 -- Each field of a table's card lies in a list that has as many words as the table needs.
 pub address_inside : (words : List ℕ) (cards c : ℕ) (field : Field) → length words ≡ table_size cards → c ≤ cards
@@ -74,7 +81,9 @@ field_at (suc (suc (suc (suc (suc zero))))) = Left
 field_at (suc (suc (suc (suc (suc (suc zero)))))) = Right
 field_at (suc (suc (suc (suc (suc (suc (suc zero))))))) = Update
 field_at (suc (suc (suc (suc (suc (suc (suc (suc zero)))))))) = LeftLeafKey
-field_at (suc (suc (suc (suc (suc (suc (suc (suc (suc n))))))))) = RightLeafKey
+field_at (suc (suc (suc (suc (suc (suc (suc (suc (suc zero))))))))) = RightLeafKey
+field_at (suc (suc (suc (suc (suc (suc (suc (suc (suc (suc zero)))))))))) = LeftValue
+field_at (suc (suc (suc (suc (suc (suc (suc (suc (suc (suc (suc n))))))))))) = RightValue
 
 -- The field at the place of a field is that field.
 field_of_place : (field : Field) → field_at (place field) ≡ field
@@ -89,10 +98,12 @@ field_of_place Right = refl
 field_of_place Update = refl
 field_of_place LeftLeafKey = refl
 field_of_place RightLeafKey = refl
+field_of_place LeftValue = refl
+field_of_place RightValue = refl
 
 -- The same address is that of the same card.
 pub same_card : (c : ℕ) (field : Field) (d : ℕ) (other : Field) → address c field ≡ address d other → c ≡ d
-same_card c field d other e = let i : place field < 10 = place_small field in let j : place other < 10 = place_small other in omega arith
+same_card c field d other e = let i : place field < 12 = place_small field in let j : place other < 12 = place_small other in omega arith
 
 -- Another card's words stand at other addresses.
 pub apart : (c : ℕ) (field : Field) (d : ℕ) (other : Field) → c ≢ d → address c field ≢ address d other
@@ -143,6 +154,8 @@ words_after_write words d other value fits = equal_words _ _ record {
       ∙ (get_or-set_other words (address d other) 0 value 0 (omega arith) ∙ (sym (listed_next words) ∙ sym (written_next (words_of words) d other value)));
   word = λ c field. words_are_listed (slice_set words (address d other) value) c field
       ∙ same_after_same_write words (words_of words) c field d other value fits (sym (words_are_listed words c field));
+  value = λ x h. listed_inner_value (slice_set words (address d other) value) x h
+      ∙ (sym (listed_inner_value words x h) ∙ sym (written_inner_value (words_of words) d other value x h));
   child = λ x right h. listed_leaf_child (slice_set words (address d other) value) x right h
       ∙ (sym (listed_leaf_child words x right h) ∙ sym (written_leaf_child (words_of words) d other value x right h));
   update = λ x h. listed_leaf_update (slice_set words (address d other) value) x h
@@ -173,6 +186,8 @@ same_but_next w value c Right = refl
 same_but_next w value c Update = refl
 same_but_next w value c LeftLeafKey = refl
 same_but_next w value c RightLeafKey = refl
+same_but_next w value c LeftValue = refl
+same_but_next w value c RightValue = refl
 
 -- A write of word 0 writes the claim word.
 pub words_after_claim : (words : List ℕ) (value : ℕ) → 0 < length words
@@ -181,6 +196,7 @@ words_after_claim words value fits = equal_words _ _ record {
   next = listed_next (slice_set words 0 value) ∙ get_or-set_same words 0 value 0 fits;
   word = λ c field. words_are_listed (slice_set words 0 value) c field
       ∙ (get_or-set_other words 0 (address c field) value 0 (omega arith) ∙ (sym (words_are_listed words c field) ∙ same_but_next (words_of words) value c field));
+  value = λ x h. listed_inner_value (slice_set words 0 value) x h ∙ sym (listed_inner_value words x h);
   child = λ x right h. listed_leaf_child (slice_set words 0 value) x right h ∙ sym (listed_leaf_child words x right h);
   update = λ x h. listed_leaf_update (slice_set words 0 value) x h ∙ sym (listed_leaf_update words x h);
 }

@@ -3,7 +3,7 @@ use Rattle.std.proofs.lemmas.Bool.{cases_eq}
 use Rattle.ell_core.specs.declared.field.Field.{Field}
 use Rattle.ell_core.specs.state.Layout.{address, place, listed}
 use Rattle.ell_core.specs.statements.Laws.{ListsAreWritten, WordsAreWritten, NodesAreOnCards}
-use Rattle.ell_core.proofs.words.Writes.{written_here, written_elsewhere, written_next, key_at_node, child_at_node, update_at_node}
+use Rattle.ell_core.proofs.words.Writes.{written_here, written_elsewhere, written_next, key_at_node, value_at_leaf, child_at_node, update_at_node}
 use Rattle.ell_core.proofs.words.Listed.{same_place-field}
 use Rattle.ell_core.proofs.words.Stored.{if_same, if_other}
 
@@ -54,6 +54,7 @@ words_are_written w c field value = record {
 pub nodes_are_on_cards : NodesAreOnCards
 nodes_are_on_cards w x = record {
   key = key_at_node w x;
+  value = λ outer. value_at_leaf w x outer;
   child = λ inner right. child_at_node w x right inner;
   update = λ inner. update_at_node w x inner;
 }

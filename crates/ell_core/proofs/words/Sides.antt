@@ -25,8 +25,8 @@ insert_key-right w c h = ap (λ b. if b then w.key (right_leaf c) else w.key (le
 -- an insert's key is on the side of the parent on which its node goes
 pub insert_key-side : (w : Words) (stage : Stages) (c : ℕ) → InsertCard w stage c → is_right w (w.p c) (insert_key w c) ≡ insert_side w c
 insert_key-side w stage c card = elim card.copy [
-  | inl left ↦ ap (is_right w (w.p c)) (insert_key-right w c left ∙ sym card.node_key)
-  | inr right ↦ card.side ∙ ap (is_right w (w.p c)) (sym right ∙ sym card.node_key)
+  | inl left ↦ ap (is_right w (w.p c)) (insert_key-right w c left.key ∙ sym card.node_key)
+  | inr right ↦ card.side ∙ ap (is_right w (w.p c)) (sym right.key ∙ sym card.node_key)
 ]
 
 -- one of two

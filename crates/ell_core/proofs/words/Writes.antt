@@ -1,13 +1,13 @@
-use Rattle.std.proofs.Common.{◌≡◌, ◌≢◌, ℕ, zero, suc, ◌+◌, ◌*◌, ◌%◌, ◌<◌, ◌==◌, if◌then◌else◌, Bool, true, false, List, [], ◌∷◌, ◌++◌, length, take, get_or, inl, inr, refl, sym, ap, ◌∙◌, arith, subst}
+use Rattle.std.proofs.Common.{◌≡◌, ◌≢◌, ℕ, zero, suc, ◌+◌, ◌*◌, ◌%◌, ◌<◌, ◌==◌, eq-eqb, ne_eqb, if◌then◌else◌, Bool, true, false, List, [], ◌∷◌, ◌++◌, length, take, get_or, inl, inr, refl, sym, ap, ◌∙◌, arith, subst}
 use Rattle.std.proofs.lemmas.Bool.{cases_eq}
 use Rattle.std.proofs.lemmas.Bool.Decides.{nat_tests}
 use Rattle.std.proofs.lemmas.List.{take_more}
 use Rattle.ell_word.specs.Node.{card, internal, left_leaf, right_leaf}
 use Rattle.ell_core.specs.declared.field.Field.{Field}
-use Rattle.ell_core.specs.declared.field.Field.TheVariants.{Gp, P, L, Was, Key, Left, Right, Update, LeftLeafKey, RightLeafKey}
+use Rattle.ell_core.specs.declared.field.Field.TheVariants.{Gp, P, L, Was, Key, Left, Right, Update, LeftLeafKey, RightLeafKey, LeftValue, RightValue}
 use Rattle.ell_core.specs.state.Layout.{address}
 use Rattle.ell_core.specs.state.Cards.{filled}
-use Rattle.ell_core.specs.state.Words.{Words, word, put, put_side, written, key_field, child_field, words_from}
+use Rattle.ell_core.specs.state.Words.{Words, word, put, put_side, written, key_field, value_field, child_field, words_from}
 
 -- A function with another value at a place has that value there.
 pub put_same : {A : Type 0} (f : ℕ → A) (i : ℕ) (v : A) → put f i v i ≡ v
@@ -55,6 +55,8 @@ written_here w c Right v = ap (λ k. k true) (put_same w.child (internal c) (put
 written_here w c Update v = put_same w.update (internal c) v
 written_here w c LeftLeafKey v = put_same w.key (left_leaf c) v
 written_here w c RightLeafKey v = put_same w.key (right_leaf c) v
+written_here w c LeftValue v = put_same w.value (left_leaf c) v
+written_here w c RightValue v = put_same w.value (right_leaf c) v
 
 -- A write leaves the words at the other addresses.
 pub written_elsewhere : (w : Words) (c : ℕ) (field : Field) (d : ℕ) (other : Field) (v : ℕ)
@@ -72,6 +74,10 @@ written_elsewhere w c LeftLeafKey d RightLeafKey v h = put_other w.key (right_le
 written_elsewhere w c RightLeafKey d Key v h = put_other w.key (internal d) v (right_leaf c) (omega arith)
 written_elsewhere w c RightLeafKey d LeftLeafKey v h = put_other w.key (left_leaf d) v (right_leaf c) (omega arith)
 written_elsewhere w c RightLeafKey d RightLeafKey v h = put_other w.key (right_leaf d) v (right_leaf c) (omega arith)
+written_elsewhere w c LeftValue d LeftValue v h = put_other w.value (left_leaf d) v (left_leaf c) (omega arith)
+written_elsewhere w c LeftValue d RightValue v h = put_other w.value (right_leaf d) v (left_leaf c) (omega arith)
+written_elsewhere w c RightValue d LeftValue v h = put_other w.value (left_leaf d) v (right_leaf c) (omega arith)
+written_elsewhere w c RightValue d RightValue v h = put_other w.value (right_leaf d) v (right_leaf c) (omega arith)
 written_elsewhere w c Left d Left v h = ap (λ k. k false) (put_other w.child (internal d) (put_side (w.child (internal d)) false v) (internal c) (omega arith))
 written_elsewhere w c Left d Right v h = child_left w (internal d) (internal c) v
 written_elsewhere w c Right d Left v h = child_right w (internal d) (internal c) v
@@ -84,6 +90,8 @@ written_elsewhere w c Was d _ v h = refl
 written_elsewhere w c Key d _ v h = refl
 written_elsewhere w c LeftLeafKey d _ v h = refl
 written_elsewhere w c RightLeafKey d _ v h = refl
+written_elsewhere w c LeftValue d _ v h = refl
+written_elsewhere w c RightValue d _ v h = refl
 written_elsewhere w c Left d _ v h = refl
 written_elsewhere w c Right d _ v h = refl
 written_elsewhere w c Update d _ v h = refl
@@ -100,6 +108,8 @@ written_next w c Right v = refl
 written_next w c Update v = refl
 written_next w c LeftLeafKey v = refl
 written_next w c RightLeafKey v = refl
+written_next w c LeftValue v = refl
+written_next w c RightValue v = refl
 
 -- One more field at the end is written last.
 filled_more : (w : Words) (c : ℕ) (es : List (Field × ℕ)) (e : Field × ℕ) → filled w c (es ++ e ∷ []) ≡ written (filled w c es) c e.0 e.1
@@ -120,6 +130,13 @@ written_leaf_child w c Left v x right h = ap (λ k. k right) (put_other w.child 
 written_leaf_child w c Right v x right h = ap (λ k. k right) (put_other w.child (internal c) (put_side (w.child (internal c)) true v) x (omega arith))
 written_leaf_child w c _ v x right h = refl
 
+-- A write leaves the values that internal nodes have.
+pub written_inner_value : (w : Words) (c : ℕ) (field : Field) (v x : ℕ) → x % 3 ≡ 0
+    → (written w c field v).value x ≡ w.value x
+written_inner_value w c LeftValue v x h = put_other w.value (left_leaf c) v x (omega arith)
+written_inner_value w c RightValue v x h = put_other w.value (right_leaf c) v x (omega arith)
+written_inner_value w c _ v x h = refl
+
 -- A write leaves the update words that the leaves have.
 pub written_leaf_update : (w : Words) (c : ℕ) (field : Field) (v x : ℕ) → x % 3 ≢ 0
     → (written w c field v).update x ≡ w.update x
@@ -137,6 +154,17 @@ key_by_remainder w x c (suc (suc (suc r))) h e = absurd (omega arith)
 pub key_at_node : (w : Words) (x : ℕ) → w.key x ≡ word w (card x) (key_field (x % 3))
 key_at_node w x = key_by_remainder w x (card x) (x % 3) (omega arith) (omega arith)
 
+-- The value of a leaf, by the remainder of its number.
+value_by_remainder : (w : Words) (x c r : ℕ) → r < 3 → r ≢ 0 → x ≡ 3 * c + r → w.value x ≡ word w c (value_field r)
+value_by_remainder w x c zero h n e = absurd (n refl)
+value_by_remainder w x c (suc zero) h n e = let i : x ≡ left_leaf c = omega arith in ap w.value i
+value_by_remainder w x c (suc (suc zero)) h n e = let i : x ≡ right_leaf c = omega arith in ap w.value i
+value_by_remainder w x c (suc (suc (suc r))) h n e = absurd (omega arith)
+
+-- The value of a leaf is a word of its card.
+pub value_at_leaf : (w : Words) (x : ℕ) → x % 3 ≢ 0 → w.value x ≡ word w (card x) (value_field (x % 3))
+value_at_leaf w x n = value_by_remainder w x (card x) (x % 3) (omega arith) n (omega arith)
+
 -- An internal node is the internal node of its card.
 pub internal_at_node : (x : ℕ) → x % 3 ≡ 0 → x ≡ internal (card x)
 internal_at_node x h = omega arith
@@ -150,10 +178,11 @@ child_at_node w x false h = ap (λ n. w.child n false) (internal_at_node x h)
 pub update_at_node : (w : Words) (x : ℕ) → x % 3 ≡ 0 → w.update x ≡ word w (card x) Update
 update_at_node w x h = ap w.update (internal_at_node x h)
 
--- What makes two machines' words equal: the claim word, each field of each card, and what the leaves have.
+-- What makes two machines' words equal: the claim word, each field of each card, and what stands in no field.
 pub record SameWords (a b : Words) : Type 0 where
   pub next : a.next ≡ b.next
   pub word : (c : ℕ) (field : Field) → word a c field ≡ word b c field
+  pub value : (x : ℕ) → x % 3 ≡ 0 → a.value x ≡ b.value x
   pub child : (x : ℕ) (right : Bool) → x % 3 ≢ 0 → a.child x right ≡ b.child x right
   pub update : (x : ℕ) → x % 3 ≢ 0 → a.update x ≡ b.update x
 
@@ -161,6 +190,13 @@ module _ (a b : Words) (h : SameWords a b) where
   -- Then the keys of a node are the same.
   same_key : (x : ℕ) → a.key x ≡ b.key x
   same_key x = key_at_node a x ∙ (h.word (card x) (key_field (x % 3)) ∙ sym (key_at_node b x))
+
+  -- Then the values of a leaf are the same.
+  same_value : (x : ℕ) → a.value x ≡ b.value x
+  same_value x = elim (cases_eq (x % 3) 0) [
+    | inl e ↦ h.value x e
+    | inr n ↦ value_at_leaf a x n ∙ (h.word (card x) (value_field (x % 3)) ∙ sym (value_at_leaf b x n))
+  ]
 
   -- Then the children of a node are the same.
   same_child : (x : ℕ) (right : Bool) → a.child x right ≡ b.child x right
@@ -185,6 +221,7 @@ module _ (a b : Words) (h : SameWords a b) where
     l = λ c. h.word c L t;
     was = λ c. h.word c Was t;
     key = λ x. same_key x t;
+    value = λ x. same_value x t;
     child = λ x right. same_child x right t;
     update = λ x. same_update x t;
   }
@@ -192,6 +229,12 @@ module _ (a b : Words) (h : SameWords a b) where
 -- The value of a function at a node's card and key field, by the card and the remainder.
 made_key : (at : ℕ → Field → ℕ) (x c r : ℕ) → card x ≡ c → x % 3 ≡ r → at (card x) (key_field (x % 3)) ≡ at c (key_field r)
 made_key at x c r e f = λ t. at (e t) (key_field (f t))
+
+-- The value of a function at a leaf's card and value field, by the card and the remainder.
+made_leaf : (at : ℕ → Field → ℕ) (x c r : ℕ) → card x ≡ c → x % 3 ≡ r → r ≢ 0
+    → (if x % 3 == 0 then 0 else at (card x) (value_field (x % 3))) ≡ at c (value_field r)
+made_leaf at x c r e f n = ap (λ t. if t then 0 else at (card x) (value_field (x % 3))) (ap (λ k. k == 0) f ∙ ne_eqb r 0 n)
+    ∙ λ t. at (e t) (value_field (f t))
 
 -- What only internal nodes have, at an internal node.
 at_internal : (x v : ℕ) → x % 3 ≡ 0 → (if x % 3 == 0 then v else 0) ≡ v
@@ -218,9 +261,15 @@ made_word next at c Was = refl
 made_word next at c Key = made_key at (internal c) c 0 (omega arith) (omega arith)
 made_word next at c LeftLeafKey = made_key at (left_leaf c) c 1 (omega arith) (omega arith)
 made_word next at c RightLeafKey = made_key at (right_leaf c) c 2 (omega arith) (omega arith)
+made_word next at c LeftValue = made_leaf at (left_leaf c) c 1 (omega arith) (omega arith) (omega arith)
+made_word next at c RightValue = made_leaf at (right_leaf c) c 2 (omega arith) (omega arith) (omega arith)
 made_word next at c Left = at_internal (internal c) _ (is_internal_of c) ∙ ap (λ d. at d Left) (card_of_internal c)
 made_word next at c Right = at_internal (internal c) _ (is_internal_of c) ∙ ap (λ d. at d Right) (card_of_internal c)
 made_word next at c Update = at_internal (internal c) _ (is_internal_of c) ∙ ap (λ d. at d Update) (card_of_internal c)
+
+-- The words that are made of a function give an internal node no value.
+pub made_inner_value : (next : ℕ) (at : ℕ → Field → ℕ) (x : ℕ) → x % 3 ≡ 0 → (words_from next at).value x ≡ 0
+made_inner_value next at x h = ap (λ t. if t then 0 else at (card x) (value_field (x % 3))) (eq-eqb (x % 3) 0 h)
 
 -- The words that are made of a function give a leaf no child.
 pub made_leaf_child : (next : ℕ) (at : ℕ → Field → ℕ) (x : ℕ) (right : Bool) → x % 3 ≢ 0 → (words_from next at).child x right ≡ 0

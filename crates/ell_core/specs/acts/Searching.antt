@@ -107,7 +107,7 @@ pub record ClaimInsert (s : Scene) (said : Stepped) (after : Scene) : Type 0 whe
   pub at : AtCleanLeaf s.worker leaf parent
   pub absent : s.words.key leaf ≢ key
   pub says : said ≡ Moved
-  pub gives : after ≡ claims s (insert_filling s.words.next key parent.node leaf (s.words.key leaf))
+  pub gives : after ≡ claims s (insert_filling s.words.next key value parent.node leaf (s.words.key leaf) (s.words.value leaf))
 
 -- claim for a delete: at such a leaf of its key, with a grandparent whose update word it read clean
 pub record ClaimDelete (s : Scene) (said : Stepped) (after : Scene) : Type 0 where

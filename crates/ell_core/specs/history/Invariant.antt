@@ -69,6 +69,11 @@ pub record IsLeafBorn (stage : Stages) (x : ℕ) : Type 0 where
   pub outer : IsLeaf x
   pub born : Born stage x
 
+-- a leaf of an insert's card is a copy of the old leaf: it has its key and its value
+pub record IsCopy (w : Words) (c leaf : ℕ) : Type 0 where
+  pub key : w.key leaf ≡ w.key (w.l c)
+  pub value : w.value leaf ≡ w.value (w.l c)
+
 -- an insert's card: where it goes, with no grandparent and no update word that was read; two leaves, a copy of the old one and one of its own key, which lie on one side of the
 -- parent; and the child that it is to replace was not replaced by a lesser node
 pub record InsertCard (w : Words) (stage : Stages) (c : ℕ) : Type 0 where
@@ -80,7 +85,7 @@ pub record InsertCard (w : Words) (stage : Stages) (c : ℕ) : Type 0 where
   pub before : w.l c < internal c
   pub ordered : w.key (left_leaf c) < w.key (right_leaf c)
   pub node_key : w.key (internal c) ≡ w.key (right_leaf c)
-  pub copy : (w.key (left_leaf c) ≡ w.key (w.l c)) ⊎ (w.key (right_leaf c) ≡ w.key (w.l c))
+  pub copy : IsCopy w c (left_leaf c) ⊎ IsCopy w c (right_leaf c)
   pub real : insert_key w c ≤ greatest_key
   pub side : is_right w (w.p c) (insert_key w c) ≡ is_right w (w.p c) (w.key (w.l c))
   pub left_child : w.child (internal c) false ≢ 0

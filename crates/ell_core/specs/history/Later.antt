@@ -32,13 +32,14 @@ pub record SameNode (old new : Words) (x : ℕ) : Type 0 where
   pub child : (right : Bool) → new.child x right ≡ old.child x right
 
 -- the words of a later state: the claim word, children and update words rose or stayed, a claimed card goes where it went and
--- its nodes have their keys, and a marked node is as it was
+-- its nodes have their keys and values, and a marked node is as it was
 pub record WordsLater (old new : Words) : Type 0 where
   pub next : old.next ≤ new.next
   pub child : (x : ℕ) (right : Bool) → old.child x right ≤ new.child x right
   pub update : (x : ℕ) → old.update x ≤ new.update x
   pub info : (c : ℕ) → c < old.next → SameInfo old new c
   pub key : (x : ℕ) → card x < old.next → new.key x ≡ old.key x
+  pub value : (x : ℕ) → card x < old.next → new.value x ≡ old.value x
   pub frozen : (x c : ℕ) → old.update x ≡ marked c → SameNode old new x
 
 -- the stages of a later state: the cards of the opening tree are the same, no card changed its kind, no node that came into the tree went back, and what might be known of

@@ -5,9 +5,9 @@ use Rattle.ell_core.specs.state.Cards.{clean, insert_filling, delete_filling, cl
 use Rattle.ell_core.specs.state.Opening.{opening_words}
 use Rattle.ell_core.specs.tree.Tree.{infinity1}
 
--- the tree as it was opened, with card 1 filled to insert key 5: its node is not linked yet
+-- the tree as it was opened, with card 1 filled to insert key 5 with value 50: its node is not linked yet
 abbrev pub five_filled : Words
-five_filled = claimed opening_words (insert_filling 1 5 0 (left_leaf 0) infinity1)
+five_filled = claimed opening_words (insert_filling 1 5 50 0 (left_leaf 0) infinity1 0)
 
 -- the same, with the node linked and no flag set
 abbrev pub five_linked : Words
@@ -19,7 +19,7 @@ five = with_update five_linked 0 (clean 1)
 
 -- the tree with keys 5 and 7: node 3's left child is node 6, with leaf 7 of key 5 and leaf 8 of key 7
 abbrev pub five_seven : Words
-five_seven = with_update (with_child (claimed five (insert_filling 2 7 (internal 1) (left_leaf 1) 5)) (internal 1) false (internal 2))
+five_seven = with_update (with_child (claimed five (insert_filling 2 7 70 (internal 1) (left_leaf 1) 5 50)) (internal 1) false (internal 2))
     (internal 1) (clean 2)
 
 -- the tree with key 5, with card 2 filled to delete it: grandparent 0, parent 3, leaf 4

@@ -1,9 +1,9 @@
-use Rattle.std.specs.Prelude.{ℕ, ◌+◌, ◌==◌, if◌then◌else◌, Bool, true, false, List, [], ◌∷◌, min, max, nat_le, slice_set}
+use Rattle.std.specs.Prelude.{ℕ, ◌+◌, ◌==◌, if◌then◌else◌, Bool, true, false, List, [], ◌∷◌, min, max, nat_le, nat_lt, slice_set}
 use Rattle.ell_word.specs.declared.update.State.TheVariants as state
 use Rattle.ell_word.specs.Node.{internal, left_leaf, right_leaf}
 use Rattle.ell_word.specs.Word.{packed}
 use Rattle.ell_core.specs.declared.field.Field.{Field}
-use Rattle.ell_core.specs.declared.field.Field.TheVariants.{Gp, P, L, Was, Key, Left, Right, Update, LeftLeafKey, RightLeafKey}
+use Rattle.ell_core.specs.declared.field.Field.TheVariants.{Gp, P, L, Was, Key, Left, Right, Update, LeftLeafKey, RightLeafKey, LeftValue, RightValue}
 use Rattle.ell_core.specs.state.Layout.{place, address}
 use Rattle.ell_core.specs.state.Words.{Words, written}
 
@@ -50,11 +50,13 @@ card_key w c =
 abbrev pub card_child : Words → ℕ → ℕ → ℕ
 card_child w c node = child_for w (card_key w c) node
 
--- the fields of an insert's card, for key k at a leaf: a node with the greater key, and two leaves, the lesser on the left
-abbrev pub insert_filling : ℕ → ℕ → ℕ → ℕ → ℕ → List (Field × ℕ)
-insert_filling c k parent leaf leaf_key =
+-- the fields of an insert's card, for key k with its value at a leaf: a node with the greater key, and two leaves, the lesser key on
+-- the left, each with its value
+abbrev pub insert_filling : ℕ → ℕ → ℕ → ℕ → ℕ → ℕ → ℕ → List (Field × ℕ)
+insert_filling c k value parent leaf leaf_key leaf_value =
     (P, parent) ∷ (L, leaf) ∷ (Key, max k leaf_key) ∷ (Left, left_leaf c) ∷ (Right, right_leaf c) ∷ (Update, clean 0)
-    ∷ (LeftLeafKey, min k leaf_key) ∷ (RightLeafKey, max k leaf_key) ∷ []
+    ∷ (LeftLeafKey, min k leaf_key) ∷ (RightLeafKey, max k leaf_key)
+    ∷ (LeftValue, (if nat_lt k leaf_key then value else leaf_value)) ∷ (RightValue, (if nat_lt k leaf_key then leaf_value else value)) ∷ []
 
 -- the fields of a delete's card: what its search saw
 abbrev pub delete_filling : ℕ → ℕ → ℕ → ℕ → List (Field × ℕ)

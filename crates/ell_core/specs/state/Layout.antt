@@ -1,9 +1,9 @@
 use Rattle.std.specs.Prelude.{ℕ, ◌+◌, ◌*◌, List, slice_index}
 use Rattle.ell_core.specs.declared.field.Field.{Field}
-use Rattle.ell_core.specs.declared.field.Field.TheVariants.{Gp, P, L, Was, Key, Left, Right, Update, LeftLeafKey, RightLeafKey}
+use Rattle.ell_core.specs.declared.field.Field.TheVariants.{Gp, P, L, Was, Key, Left, Right, Update, LeftLeafKey, RightLeafKey, LeftValue, RightValue}
 
 abbrev pub words_per_card : ℕ
-words_per_card = 10
+words_per_card = 12
 
 -- the place of a field among the words of its card
 abbrev pub place : Field → ℕ
@@ -17,6 +17,8 @@ place Right = 6
 place Update = 7
 place LeftLeafKey = 8
 place RightLeafKey = 9
+place LeftValue = 10
+place RightValue = 11
 
 -- the address of a field of a card
 abbrev pub address : ℕ → Field → ℕ

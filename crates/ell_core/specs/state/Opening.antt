@@ -5,7 +5,7 @@ use Rattle.ell_word.specs.Node.{right_leaf}
 use Rattle.ell_core.specs.declared.event.CoreFault.{CoreFault}
 use Rattle.ell_core.specs.declared.event.CoreFault.TheVariants.{NoSuchWorker, OwnedTwice, NoMemory}
 use Rattle.ell_core.specs.declared.field.Field.{Field}
-use Rattle.ell_core.specs.declared.field.Field.TheVariants.{Gp, P, L, Was, Key, Left, Right, Update, LeftLeafKey, RightLeafKey}
+use Rattle.ell_core.specs.declared.field.Field.TheVariants.{Gp, P, L, Was, Key, Left, Right, Update, LeftLeafKey, RightLeafKey, LeftValue, RightValue}
 use Rattle.ell_core.specs.state.Words.{Words, words_from}
 use Rattle.ell_core.specs.state.Machine.{Ledger, Machine, idle, present_if}
 use Rattle.ell_core.specs.state.Cards.{clean}
@@ -31,6 +31,8 @@ root_field many Right = right_leaf 0
 root_field many Update = clean 0
 root_field many LeftLeafKey = infinity1
 root_field many RightLeafKey = infinity2
+root_field many LeftValue = 0
+root_field many RightValue = 0
 
 -- the fields of another card of the opening tree, by its branch and the keys of the leaves: it goes nowhere, and a leaf of it that
 -- is not used has key 0
@@ -45,6 +47,8 @@ branch_field leaf b Right = right_child b
 branch_field leaf b Update = clean 0
 branch_field leaf b LeftLeafKey = if b.left == 1 then leaf b.first else 0
 branch_field leaf b RightLeafKey = if b.right == 1 then leaf (b.first + b.left) else 0
+branch_field leaf b LeftValue = 0
+branch_field leaf b RightValue = 0
 
 -- those of them that are written over zeros
 abbrev pub branch_filling : (ℕ → ℕ) → Branch → List (Field × ℕ)

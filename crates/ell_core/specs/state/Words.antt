@@ -2,10 +2,10 @@ use Rattle.std.specs.Prelude.{ℕ, ◌%◌, ◌==◌, if◌then◌else◌, Bool,
 use Rattle.ell_word.specs.Node.{card, internal, left_leaf, right_leaf}
 use Rattle.ell_core.specs.state.Layout.{listed}
 use Rattle.ell_core.specs.declared.field.Field.{Field}
-use Rattle.ell_core.specs.declared.field.Field.TheVariants.{Gp, P, L, Was, Key, Left, Right, Update, LeftLeafKey, RightLeafKey}
+use Rattle.ell_core.specs.declared.field.Field.TheVariants.{Gp, P, L, Was, Key, Left, Right, Update, LeftLeafKey, RightLeafKey, LeftValue, RightValue}
 
--- the claim word; of a card grandparent, parent, leaf and the word that was read; of a node its key, and of an internal
--- node its children (true is the right one) and its update word
+-- the claim word; of a card grandparent, parent, leaf and the word that was read; of a node its key, of a leaf its
+-- value, and of an internal node its children (true is the right one) and its update word
 pub record Words : Type 0 where
   pub next : ℕ
   pub gp : ℕ → ℕ
@@ -13,6 +13,7 @@ pub record Words : Type 0 where
   pub l : ℕ → ℕ
   pub was : ℕ → ℕ
   pub key : ℕ → ℕ
+  pub value : ℕ → ℕ
   pub child : ℕ → Bool → ℕ
   pub update : ℕ → ℕ
 
@@ -28,6 +29,8 @@ word w c Right = w.child (internal c) true
 word w c Update = w.update (internal c)
 word w c LeftLeafKey = w.key (left_leaf c)
 word w c RightLeafKey = w.key (right_leaf c)
+word w c LeftValue = w.value (left_leaf c)
+word w c RightValue = w.value (right_leaf c)
 
 -- a function with another value at x
 abbrev pub put : {A : Type 0} → (ℕ → A) → ℕ → A → ℕ → A
@@ -52,6 +55,10 @@ with_child w node right value = record w { child = put w.child node (put_side (w
 abbrev pub with_key : Words → ℕ → ℕ → Words
 with_key w node value = record w { key = put w.key node value }
 
+-- the words with another value of a leaf
+abbrev pub with_value : Words → ℕ → ℕ → Words
+with_value w leaf value = record w { value = put w.value leaf value }
+
 -- the words after a write to a field of a card
 abbrev pub written : Words → ℕ → Field → ℕ → Words
 written w c Gp value = record w { gp = put w.gp c value }
@@ -64,6 +71,8 @@ written w c Right value = with_child w (internal c) true value
 written w c Update value = with_update w (internal c) value
 written w c LeftLeafKey value = with_key w (left_leaf c) value
 written w c RightLeafKey value = with_key w (right_leaf c) value
+written w c LeftValue value = with_value w (left_leaf c) value
+written w c RightValue value = with_value w (right_leaf c) value
 
 -- the field that has the key of a node, by the remainder of its number
 abbrev pub key_field : ℕ → Field
@@ -71,12 +80,18 @@ key_field zero = Key
 key_field (suc zero) = LeftLeafKey
 key_field (suc (suc n)) = RightLeafKey
 
+-- the field that has the value of a leaf
+abbrev pub value_field : ℕ → Field
+value_field (suc zero) = LeftValue
+value_field _ = RightValue
+
 -- the field that has a child
 abbrev pub child_field : Bool → Field
 child_field true = Right
 child_field false = Left
 
--- the words that a claim word and the fields of the cards make: a leaf has no child and no update word
+-- the words that a claim word and the fields of the cards make: an internal node has no value, and a leaf no child and
+-- no update word
 abbrev pub words_from : ℕ → (ℕ → Field → ℕ) → Words
 words_from next at = record {
   next = next;
@@ -85,6 +100,7 @@ words_from next at = record {
   l = λ c. at c L;
   was = λ c. at c Was;
   key = λ x. at (card x) (key_field (x % 3));
+  value = λ x. if x % 3 == 0 then 0 else at (card x) (value_field (x % 3));
   child = λ x right. if x % 3 == 0 then at (card x) (child_field right) else 0;
   update = λ x. if x % 3 == 0 then at (card x) Update else 0;
 }

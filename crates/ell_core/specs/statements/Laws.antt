@@ -5,9 +5,10 @@ use Rattle.ell_core.specs.declared.event.Shown.{Shown}
 use Rattle.ell_core.specs.declared.field.Field.{Field}
 use Rattle.ell_core.specs.declared.field.Field.TheVariants.{Update}
 use Rattle.ell_core.specs.state.Layout.{address, table_size, listed}
-use Rattle.ell_core.specs.state.Words.{Words, word, written, words_of, key_field, child_field}
+use Rattle.ell_core.specs.state.Words.{Words, word, written, words_of, key_field, value_field, child_field}
 use Rattle.ell_core.specs.state.Machine.{Machine}
 use Rattle.ell_core.specs.state.Cards.{filled, filled_list, stored}
+use Rattle.ell_core.specs.acts.Searching.{IsLeaf}
 use Rattle.ell_core.specs.acts.Runs.{Shows}
 use Rattle.ell_core.specs.tree.Tree.{IsLawful}
 use Rattle.ell_core.specs.tree.Room.{HasRoom, HoldsKeys}
@@ -81,9 +82,10 @@ pub record WordIsWritten (w : Words) (c : ℕ) (field : Field) (value : ℕ) : T
 abbrev pub WordsAreWritten : Type 0
 WordsAreWritten = (w : Words) (c : ℕ) (field : Field) (value : ℕ) → WordIsWritten w c field value
 
--- the key of a node, and the children and the update word of an internal one, are words of its card
+-- the key of a node, the value of a leaf, and the children and the update word of an internal node are words of its card
 pub record NodeIsOnCard (w : Words) (x : ℕ) : Type 0 where
   pub key : w.key x ≡ word w (card x) (key_field (x % 3))
+  pub value : IsLeaf x → w.value x ≡ word w (card x) (value_field (x % 3))
   pub child : IsInternal x → (right : Bool) → w.child x right ≡ word w (card x) (child_field right)
   pub update : IsInternal x → w.update x ≡ word w (card x) Update
 

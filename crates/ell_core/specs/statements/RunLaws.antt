@@ -134,10 +134,10 @@ WordsRise = (m m' : Machine) → Follow m m' → (c : ℕ) →
 abbrev pub KnowledgeIsNeverLost : Type 0
 KnowledgeIsNeverLost = (m m' : Machine) → Follow m m' → KnowledgeLasts m m' × FactsLast m.words m'.words
 
--- where a claimed card goes and the keys of its nodes are fixed
+-- where a claimed card goes and the keys and values of its nodes are fixed
 abbrev pub ClaimedCardsAreFixed : Type 0
 ClaimedCardsAreFixed = (m m' : Machine) → Follow m m' → (c : ℕ) → c < m.words.next →
-    SameInfo m.words m'.words c × ((x : ℕ) → card x ≡ c → m'.words.key x ≡ m.words.key x)
+    SameInfo m.words m'.words c × ((x : ℕ) → card x ≡ c → (m'.words.key x ≡ m.words.key x) × (m'.words.value x ≡ m.words.value x))
 
 -- the stages of two states of a run, in their order: a node that came into the tree stays one that did, no card changes its kind,
 -- and what may be known of it still may

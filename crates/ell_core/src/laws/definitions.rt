@@ -24,7 +24,7 @@ pub fn each_word_has_its_address()
 {}
 
 /// A write to a list of words, or to the machine's, is read at its own address and leaves all other words and the claim word; and
-/// the key, the children and the update word of a node are words of its card.
+/// the key, the value, the children and the update word of a node are words of its card.
 pub fn writes_are_seen()
     ensures lists { ListsAreWritten }
     ensures words { WordsAreWritten }

@@ -143,7 +143,7 @@ claim_insert m stage i said becomes there sound room e =
       absent = e.absent;
       real = own.real e.key (own.owned (Insert e.key e.value) e.inserts);
     } in
-    let filling = insert_filling m.words.next e.key e.parent.node e.leaf (m.words.key e.leaf) in
+    let filling = insert_filling m.words.next e.key e.value e.parent.node e.leaf (m.words.key e.leaf) (m.words.value e.leaf) in
     let claims_card : ClaimsCard m stage i filling IClaimed (Insert e.key e.value) = record {
       there = there;
       sound = sound;
@@ -151,8 +151,8 @@ claim_insert m stage i said becomes there sound room e =
       fresh = inl refl;
       busy = e.inserts;
       no_card = e.at.no_card;
-      own = insert_claimed m.words stage (m.worker i) e.key e.leaf e.parent seen;
-      hand = insert_in_hand m.words stage (m.worker i) e.key e.leaf e.parent seen
+      own = insert_claimed m.words stage (m.worker i) e.key e.value e.leaf e.parent seen;
+      hand = insert_in_hand m.words stage (m.worker i) e.key e.value e.leaf e.parent seen
           (claims (scene m i) filling).worker e.at.stands e.at.behind e.at.calm;
     } in
     subst (λ s. Follows m stage act.Claim i said (with_scene m i s)) (sym e.gives)

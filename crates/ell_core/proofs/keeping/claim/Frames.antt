@@ -91,6 +91,10 @@ module _ (w after : Words) (stage : Stages) (new : Stage) (h : Claiming w after 
   pub key_kept : (x : ℕ) → Born stage x → after.key x ≡ w.key x
   key_kept x born = h.claims.others.key x (born_another x born)
 
+  -- and its value
+  pub value_kept : (x : ℕ) → Born stage x → after.value x ≡ w.value x
+  value_kept x born = h.claims.others.value x (born_another x born)
+
   -- so are its children
   pub child_kept : (x : ℕ) (right : Bool) → Born stage x → after.child x right ≡ w.child x right
   child_kept x right born = let n = born_another x born in h.claims.others.child x right (λ e. n (omega arith))
@@ -185,6 +189,7 @@ module _ (w after : Words) (stage : Stages) (new : Stage) (h : Claiming w after 
           was = h.claims.others.was c n;
         });
     key = λ x less. h.claims.others.key x (λ e. omega arith);
+    value = λ x less. h.claims.others.value x (λ e. omega arith);
     frozen = frozen_kept;
   }
 

@@ -1,5 +1,5 @@
-use Rattle.std.proofs.Common.{◌≡◌, ◌≢◌, ℕ, ◌≤◌, ◌⊎◌, nat_le, min, max, Some, inl, inr, refl, sym, ap, ◌∙◌, subst, arith}
-use Rattle.std.proofs.lemmas.Bool.{false≢true, cases_eq}
+use Rattle.std.proofs.Common.{◌≡◌, ◌≢◌, ℕ, ◌≤◌, ◌⊎◌, nat_le, nat_lt, if◌then◌else◌, min, max, Some, inl, inr, refl, sym, ap, ◌∙◌, subst, arith}
+use Rattle.std.proofs.lemmas.Bool.{false≢true, cases_eq, cases_lt, lt-ltb, le-ltb}
 use Rattle.std.proofs.lemmas.Bool.Decides.{nat_tests}
 use Rattle.ell_ops.specs.Meaning.{greatest_key}
 use Rattle.ell_core.specs.declared.field.Field.TheVariants.{Gp, Was}
@@ -13,7 +13,7 @@ use Rattle.ell_core.specs.history.Invariant.{insert_key, insert_side, IsInnerBor
 use Rattle.ell_core.proofs.words.Writes.{put_same}
 use Rattle.ell_core.proofs.words.Sides.{key_of_three}
 use Rattle.ell_core.proofs.keeping.claim.Filling.{claimed_claims, claimed_insert, IsFilledInsert}
-use Rattle.ell_core.proofs.keeping.claim.Frames.{earlier_word, earlier_node, Claiming, blank, born_kept, key_kept, child_kept}
+use Rattle.ell_core.proofs.keeping.claim.Frames.{earlier_word, earlier_node, Claiming, blank, born_kept, key_kept, value_kept, child_kept}
 
 -- of the lesser and the greater of two keys, the one that is not the leaf's is the other one
 own_of_two : (k leaf : ℕ) → leaf ≢ k → key_of_three (min k leaf) (max k leaf) leaf ≡ k
@@ -22,11 +22,13 @@ own_of_two k leaf apart = elim (cases_eq (min k leaf) leaf) [
   | inr n ↦ grind (arith, nat_tests)
 ]
 
--- the leaf's key is one of them
-copy_of_two : (k leaf : ℕ) → (min k leaf ≡ leaf) ⊎ (max k leaf ≡ leaf)
-copy_of_two k leaf = elim (cases_eq (min k leaf) leaf) [
-  | inl e ↦ inl e
-  | inr n ↦ inr (omega arith)
+-- one of them is the leaf's, and on its side is the leaf's value
+copy_of_two : (k value leaf leaf_value : ℕ) → leaf ≢ k
+    → ((min k leaf ≡ leaf) × ((if nat_lt k leaf then value else leaf_value) ≡ leaf_value))
+    ⊎ ((max k leaf ≡ leaf) × ((if nat_lt k leaf then leaf_value else value) ≡ leaf_value))
+copy_of_two k value leaf leaf_value apart = elim (cases_lt k leaf) [
+  | inl less ↦ inr (omega arith, ap (λ t. if t then leaf_value else value) (lt-ltb k leaf less))
+  | inr past ↦ inl (omega arith, ap (λ t. if t then value else leaf_value) (le-ltb k leaf past))
 ]
 
 -- where both are on one side of a node's key, so is the greater one
@@ -42,11 +44,11 @@ pub record InsertSeen (w : Words) (stage : Stages) (v : Worker) (k leaf : ℕ) (
   pub absent : w.key leaf ≢ k
   pub real : k ≤ greatest_key
 
-module _ (w : Words) (stage : Stages) (v : Worker) (k leaf : ℕ) (parent : Seen)
+module _ (w : Words) (stage : Stages) (v : Worker) (k value leaf : ℕ) (parent : Seen)
     (h : InsertSeen w stage v k leaf parent) where
   -- the words and the stages after the claim
   abbrev after : Words
-  after = claimed w (insert_filling w.next k parent.node leaf (w.key leaf))
+  after = claimed w (insert_filling w.next k value parent.node leaf (w.key leaf) (w.value leaf))
 
   abbrev stages : Stages
   stages = put stage w.next IClaimed
@@ -54,7 +56,7 @@ module _ (w : Words) (stage : Stages) (v : Worker) (k leaf : ℕ) (parent : Seen
   claiming : Claiming w after stage IClaimed
   claiming = record {
     words = h.words;
-    claims = claimed_claims w (insert_filling w.next k parent.node leaf (w.key leaf));
+    claims = claimed_claims w (insert_filling w.next k value parent.node leaf (w.key leaf) (w.value leaf));
     fresh = inl refl;
   }
 
@@ -62,11 +64,14 @@ module _ (w : Words) (stage : Stages) (v : Worker) (k leaf : ℕ) (parent : Seen
   at_stage : stages w.next ≡ IClaimed
   at_stage = put_same stage w.next IClaimed
 
-  filled : IsFilledInsert after w.next k parent.node leaf (w.key leaf)
-  filled = claimed_insert w k parent.node leaf (w.key leaf)
+  filled : IsFilledInsert after w.next k value parent.node leaf (w.key leaf) (w.value leaf)
+  filled = claimed_insert w k value parent.node leaf (w.key leaf) (w.value leaf)
 
   leaf_key : after.key (after.l w.next) ≡ w.key leaf
   leaf_key = ap after.key filled.l ∙ key_kept w after stage IClaimed claiming leaf h.stand.born
+
+  leaf_value : after.value (after.l w.next) ≡ w.value leaf
+  leaf_value = ap after.value filled.l ∙ value_kept w after stage IClaimed claiming leaf h.stand.born
 
   parent_key : after.key (after.p w.next) ≡ w.key parent.node
   parent_key = ap after.key filled.p ∙ key_kept w after stage IClaimed claiming parent.node h.seen.node.born
@@ -97,9 +102,9 @@ module _ (w : Words) (stage : Stages) (v : Worker) (k leaf : ℕ) (parent : Seen
     before = let a = earlier_node w stage h.words leaf h.stand.born in let l = filled.l in omega arith;
     ordered = let n = h.absent in let a = filled.left_key in let b = filled.right_key in omega arith;
     node_key = filled.key ∙ sym filled.right_key;
-    copy = elim (copy_of_two k (w.key leaf)) [
-      | inl e ↦ inl (filled.left_key ∙ (e ∙ sym leaf_key))
-      | inr e ↦ inr (filled.right_key ∙ (e ∙ sym leaf_key))
+    copy = elim (copy_of_two k value (w.key leaf) (w.value leaf) h.absent) [
+      | inl e ↦ inl (record { key = filled.left_key ∙ (e.0 ∙ sym leaf_key); value = filled.left_value ∙ (e.1 ∙ sym leaf_value) })
+      | inr e ↦ inr (record { key = filled.right_key ∙ (e.0 ∙ sym leaf_key); value = filled.right_value ∙ (e.1 ∙ sym leaf_value) })
     ];
     real = subst (λ n. n ≤ greatest_key) (sym own_key) h.real;
     side = (λ t. nat_le (parent_key t) (own_key t)) ∙ (sym h.seen.side ∙ (λ t. nat_le (sym parent_key t) (sym leaf_key t)));

@@ -9,7 +9,7 @@ use Rattle.ell_core.specs.history.Stages.{Stages, is_claimed, is_insert, is_dele
 use Rattle.ell_core.specs.history.Invariant.{IsOut, IsOnCourse, insert_side, IsInnerBorn, IsLeafBorn, InsertCard, DeleteCard, CardIsSound, WordsAreSound}
 use Rattle.ell_core.specs.history.Later.{SaysTheSame, WordsLater, StagesLater}
 use Rattle.ell_core.proofs.stages.Order.{unclaimed-unborn, delete-unborn}
-use Rattle.ell_core.proofs.stages.LaterKeys.{insert_info, insert_node_key, insert_parent_key, insert_leaf_key, insert_key_later, delete_info, delete_key_later, insert_child_later}
+use Rattle.ell_core.proofs.stages.LaterKeys.{insert_info, insert_node_key, insert_parent_key, insert_leaf_key, insert_node_value, insert_leaf_value, insert_key_later, delete_info, delete_key_later, insert_child_later}
 
 -- a node has an update word that it had, and the children that it had
 pub record IsCalm (old new : Words) (x word : ℕ) : Type 0 where
@@ -68,6 +68,9 @@ module _ (old new : Words) (stage stages : Stages) (h : GoesOn old new stage sta
         let right_key = insert_node_key old new stage h.sound h.words c inserts (right_leaf c) (omega arith) in
         let node_key = insert_node_key old new stage h.sound h.words c inserts (internal c) (omega arith) in
         let leaf_key = insert_leaf_key old new stage h.sound h.words c inserts in
+        let left_value = insert_node_value old new stage h.sound h.words c inserts (left_leaf c) (omega arith) in
+        let right_value = insert_node_value old new stage h.sound h.words c inserts (right_leaf c) (omega arith) in
+        let leaf_value = insert_leaf_value old new stage h.sound h.words c inserts in
         let parent_key = insert_parent_key old new stage h.sound h.words c inserts in
         let own_key = insert_key_later old new stage h.sound h.words c inserts in
         let said = insert_said in
@@ -81,8 +84,8 @@ module _ (old new : Words) (stage stages : Stages) (h : GoesOn old new stage sta
           ordered = let a = said.ordered in omega arith;
           node_key = node_key ∙ (said.node_key ∙ sym right_key);
           copy = elim said.copy [
-            | inl e ↦ inl (left_key ∙ (e ∙ sym leaf_key))
-            | inr e ↦ inr (right_key ∙ (e ∙ sym leaf_key))
+            | inl e ↦ inl (record { key = left_key ∙ (e.key ∙ sym leaf_key); value = left_value ∙ (e.value ∙ sym leaf_value) })
+            | inr e ↦ inr (record { key = right_key ∙ (e.key ∙ sym leaf_key); value = right_value ∙ (e.value ∙ sym leaf_value) })
           ];
           real = subst (λ k. k ≤ greatest_key) (sym own_key) said.real;
           side = (λ t. nat_le (parent_key t) (own_key t)) ∙ (said.side ∙ (λ t. nat_le (sym parent_key t) (sym leaf_key t)));

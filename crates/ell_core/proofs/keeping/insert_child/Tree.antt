@@ -69,7 +69,7 @@ module _ (w : Words) (stage : Stages) (sound : WordsAreSound w stage) (c : ℕ) 
       ⊎ ((w.key (left_leaf c) ≡ insert_key w c) × (w.key (right_leaf c) ≡ w.key (w.l c)))
   its_keys =
       leaf_keys (w.key (left_leaf c)) (w.key (right_leaf c)) (w.key (w.l c)) (insert_key w c)
-      its_card.ordered its_card.copy refl
+      its_card.ordered (elim its_card.copy [ inl left ↦ inl left.key | inr right ↦ inr right.key ]) refl
 
   -- its own key is not the old leaf's
   pub key_differs : w.key (w.l c) ≢ insert_key w c

@@ -1,6 +1,7 @@
-use Rattle.std.proofs.Common.{arith, rules, ◌<◌, ◌∙◌, refl, inl}
+use Rattle.std.proofs.Common.{◌≡◌, arith, rules, ◌<◌, ◌≤◌, ap, ◌∙◌, refl, inl, false, Some}
 use Rattle.ell_core.specs.declared.event.Stepped.TheVariants.{Moved}
-use Rattle.ell_core.specs.inside.Inside.{words_in}
+use Rattle.ell_core.specs.state.Cards.{claimed, insert_filling}
+use Rattle.ell_core.specs.inside.Inside.{words_in, worker_in}
 use Rattle.ell_core.proofs.searching.claim_for_insert.Goals as goal
 
 pub returns-then-card-memory : goal.returns-then-card-memory
@@ -14,10 +15,10 @@ returns-then-card-memory g c =
           after = _;
           row = inl (record {
             key = c.args.key;
-            value = c.requires.inserts.0;
+            value = c.args.value;
             leaf = c.args.at.leaf;
             parent = c.args.at.parent;
-            inserts = c.requires.inserts.1;
+            inserts = c.requires.inserts;
             at = c.requires.at;
             absent = λ same. c.if-leaf_key-key.false (c.key-leaf_key.ensures ∙ same);
             says = refl;
@@ -26,6 +27,36 @@ returns-then-card-memory g c =
         },
         full,
       );
+      unchanged = search rules;
+      words = search rules;
+      same = search rules;
+    }
+
+pub returns : goal.returns
+returns g c =
+    let filling = c.insert_filling.ensures
+        ∙ (λ t. insert_filling (c.next-card.ensures t) c.args.key c.args.value c.args.at.parent.node c.args.at.leaf (c.key-leaf_key.ensures t) (c.value.ensures t)) in
+    let words = c.claim.ensures.words ∙ ap (claimed (words_in c.args.memory.now)) filling in
+    let room : (words_in c.args.memory.now).next ≤ c.args.memory.now.last_card = omega arith in record {
+      done = record {
+        owned = λ h. h;
+        row = inl (record {
+          key = c.args.key;
+          value = c.args.value;
+          leaf = c.args.at.leaf;
+          parent = c.args.at.parent;
+          inserts = c.requires.inserts;
+          at = c.requires.at;
+          absent = λ same. c.if-leaf_key-key.false (c.key-leaf_key.ensures ∙ same);
+          says = refl;
+          gives = λ t. record {
+            words = words t;
+            worker = record (worker_in c.args.worker.now) { card = Some (c.next-card.ensures t); flagged = false };
+          };
+        });
+        room = λ full. (let past : c.args.memory.now.last_card < (words_in c.args.memory.now).next = full in omega arith);
+      };
+      refused = search rules;
       unchanged = search rules;
       words = search rules;
       same = search rules;
