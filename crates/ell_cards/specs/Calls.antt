@@ -11,7 +11,7 @@ use Rattle.ell_core.specs.declared.fact.Fact.TheVariants as fact
 use Rattle.ell_core.specs.declared.field.Field.{Field}
 use Rattle.ell_core.specs.declared.field.Field.TheVariants as field
 use Rattle.ell_core.specs.state.Layout.{address}
-use Rattle.ell_core.specs.state.Words.{key_field, child_field}
+use Rattle.ell_core.specs.state.Words.{key_field, value_field, child_field}
 use Rattle.ell_core.specs.state.Machine.{Machine, ledger_of}
 use Rattle.ell_core.specs.state.Cards.{iflag, dflag, marked, clean}
 use Rattle.ell_core.specs.acts.Searching.{IsLeaf}
@@ -23,7 +23,7 @@ use Rattle.ell_cards.specs.declared.call.Call.TheVariants as call
 use Rattle.ell_cards.specs.declared.view.Told.TheVariants.{Met, Info}
 use Rattle.ell_cards.specs.declared.view.View.{View}
 use Rattle.ell_cards.specs.Models.{IsTold, Does, StandsAt, InTable, KnowsDelete}
-use Rattle.ell_cards.specs.Changes.{learning, with_found, after_begin, after_again, after_leave, after_answer, after_upd, after_down, after_next, after_key_of, after_info, after_frozen_child, after_claim, after_fill, after_flag, after_mark}
+use Rattle.ell_cards.specs.Changes.{learning, with_found, after_begin, after_again, after_leave, after_answer, after_upd, after_down, after_next, after_key_of, after_value_of, after_info, after_frozen_child, after_claim, after_fill, after_flag, after_mark}
 use Rattle.ell_cards.specs.Guards.{MayBegin, MayStop, MayAnswer, MayRead, MayGoDown, MayAsk, MaySee, MayClaim, MayFill, MayIFlag, MayDFlag, MayIChild, MayIUnflag, MayMark, MayDChild, MayDUnflag, MayBacktrack}
 use Rattle.ell_core.specs.declared.view.Entry.TheVariants.{Present}
 
@@ -39,6 +39,10 @@ child_at x right = address (card x) (child_field right)
 abbrev pub key_at : ℕ → ℕ
 key_at x = address (card x) (key_field (x % 3))
 
+-- the address of the value of a leaf
+abbrev pub value_at : ℕ → ℕ
+value_at x = address (card x) (value_field (x % 3))
+
 -- the word that a call touches
 abbrev pub word_of : Call → ℕ
 word_of (call.Begin op) = 0
@@ -49,6 +53,7 @@ word_of (call.Upd x) = update_at x
 word_of (call.Down x right) = child_at x right
 word_of call.Next = 0
 word_of (call.KeyOf x) = key_at x
+word_of (call.ValueOf x) = value_at x
 word_of (call.Info c f) = address c f
 word_of (call.FrozenChild c p right) = child_at p right
 word_of (call.Claim c) = 0
@@ -103,6 +108,7 @@ after (call.Upd x) n v = after_upd x (unpacked n) v
 after (call.Down x right) n v = after_down x n v
 after call.Next n v = after_next n v
 after (call.KeyOf x) n v = after_key_of x n v
+after (call.ValueOf x) n v = after_value_of x n v
 after (call.Info c f) n v = after_info c f n v
 after (call.FrozenChild c p right) n v = after_frozen_child c right n v
 after (call.Claim c) n v = after_claim (n == c) c v
@@ -126,6 +132,7 @@ May cards (call.Upd x) v = MayRead v x
 May cards (call.Down x right) v = MayGoDown v x right
 May cards call.Next v = Unit {0}
 May cards (call.KeyOf x) v = IsTold v (Met x)
+May cards (call.ValueOf x) v = IsTold v (Met x) × IsLeaf x
 May cards (call.Info c f) v = MayAsk v c f
 May cards (call.FrozenChild c p right) v = MaySee v c p
 May cards (call.Claim c) v = MayClaim v c × (c ≤ cards)

@@ -18,7 +18,7 @@ use Rattle.ell_core.specs.state.Cards.{insert_filling, delete_filling}
 use Rattle.ell_core.specs.acts.Searching.{with_read, at_root}
 use Rattle.ell_core.specs.statements.Premises.{keys_at_start}
 use Rattle.ell_cards.specs.declared.view.Told.{Told}
-use Rattle.ell_cards.specs.declared.view.Told.TheVariants.{Met, Key, Info, Frozen}
+use Rattle.ell_cards.specs.declared.view.Told.TheVariants.{Met, Key, Value, Info, Frozen}
 use Rattle.ell_cards.specs.declared.view.Hindrance.{Hindrance}
 use Rattle.ell_cards.specs.declared.view.Hindrance.TheVariants.{Claim, Found}
 use Rattle.ell_cards.specs.declared.view.View.{View}
@@ -197,6 +197,10 @@ after_key_of x key v = record v {
   here = if is_at v.worker.search.node x then Some key else v.here;
 }
 
+-- value_of: the value of a leaf was told
+abbrev pub after_value_of : ℕ → ℕ → View → View
+after_value_of x value v = record v { told = Value x value ∷ v.told }
+
 -- what was told with a word of a card; a word that is a node is met
 abbrev pub told_info : ℕ → Field → ℕ → List Told → List Told
 told_info c Gp x told = Info c Gp x ∷ Met x ∷ told
@@ -212,16 +216,24 @@ after_info c f x v = record v { told = told_info c f x v.told }
 abbrev pub after_frozen_child : ℕ → Bool → ℕ → View → View
 after_frozen_child c right x v = record v { told = Frozen c right x ∷ Met x ∷ v.told }
 
--- what fills a card, by the operation, the search and the key of the leaf
-abbrev pub filling_for : ℕ → Option Op → Option ℕ → Option Seen → Option Seen → ℕ → List (Field × ℕ)
-filling_for c (Some (Insert k value)) (Some leaf) (Some parent) above key = insert_filling c k parent.node leaf key
-filling_for c (Some (Delete k)) (Some leaf) (Some parent) (Some above) key = delete_filling above.node parent.node leaf parent.word
-filling_for c _ _ _ _ key = []
+-- the value that was told of a leaf the last time, or 0
+abbrev pub told_value : List Told → ℕ → ℕ
+told_value [] x = 0
+told_value (Value y value ∷ told) x = if y == x then value else told_value told x
+told_value (_ ∷ told) x = told_value told x
+
+-- what fills a card, by the operation, the search, the key of the leaf and the values of leaves
+abbrev pub filling_for : ℕ → Option Op → Option ℕ → Option Seen → Option Seen → ℕ → (ℕ → ℕ) → List (Field × ℕ)
+filling_for c (Some (Insert k value)) (Some leaf) (Some parent) above key value_of =
+    insert_filling c k value parent.node leaf key (value_of leaf)
+filling_for c (Some (Delete k)) (Some leaf) (Some parent) (Some above) key value_of =
+    delete_filling above.node parent.node leaf parent.word
+filling_for c _ _ _ _ key value_of = []
 
 -- what fills card c, by what the pass knows
 abbrev pub filling_of : ℕ → View → List (Field × ℕ)
 filling_of c v =
-    filling_for c v.worker.operation v.worker.search.node v.worker.search.parent v.worker.search.grandparent (unwrap_or v.here 0)
+    filling_for c v.worker.operation v.worker.search.node v.worker.search.parent v.worker.search.grandparent (unwrap_or v.here 0) (told_value v.told)
 
 -- what was told with a word of a card that never changes: children and update word do
 abbrev pub told_fixed : ℕ → Field → ℕ → List Told → List Told

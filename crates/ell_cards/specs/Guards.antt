@@ -12,7 +12,7 @@ use Rattle.ell_core.specs.declared.view.Seen.{Seen}
 use Rattle.ell_core.specs.state.Machine.{ledger_of}
 use Rattle.ell_core.specs.state.Cards.{stored}
 use Rattle.ell_core.specs.acts.Searching.{IsLeaf, IsClean, leaf_answer}
-use Rattle.ell_cards.specs.declared.view.Told.TheVariants.{Key, Info, Frozen}
+use Rattle.ell_cards.specs.declared.view.Told.TheVariants.{Key, Value, Info, Frozen}
 use Rattle.ell_cards.specs.declared.view.View.{View}
 use Rattle.ell_cards.specs.Models.{IsTold, Knows, KnowsCard, Does, StandsAt, IsFree, stored_at}
 use Rattle.ell_ops.specs.declared.reply.Reply.{Reply}
@@ -102,11 +102,12 @@ pub record MaySee (v : View) (c p : ℕ) : Type 0 where
   pub knows : Knows v (Marked c)
   pub parent : IsTold v (Info c field.P p)
 
--- what a claim is for at a leaf of this key: an insert of another key, or a delete of this one whose grandparent was read clean
-abbrev pub Wants : View → Op → ℕ → Type 0
-Wants v (Find k) key = ⊥
-Wants v (Insert k value) key = key ≢ k
-Wants v (Delete k) key = (key ≡ k) × ((above : Seen) × (v.worker.search.grandparent ≡ Some above) × IsClean above.word)
+-- what a claim is for at a leaf of this key: an insert of another key, which was told the leaf's value, or a delete of this one
+-- whose grandparent was read clean
+abbrev pub Wants : View → Op → ℕ → ℕ → Type 0
+Wants v (Find k) leaf key = ⊥
+Wants v (Insert k value) leaf key = (key ≢ k) × ((leaf_value : ℕ) × IsTold v (Value leaf leaf_value))
+Wants v (Delete k) leaf key = (key ≡ k) × ((above : Seen) × (v.worker.search.grandparent ≡ Some above) × IsClean above.word)
 
 -- claim: the card was read by next in this try; the pass stands at a leaf, whose key it was told, without a card, behind a
 -- parent that was read clean
@@ -123,7 +124,7 @@ pub record MayClaim (v : View) (c : ℕ) : Type 0 where
   pub told : v.here ≡ Some key
   pub behind : v.worker.search.parent ≡ Some parent
   pub calm : IsClean parent.word
-  pub wants : Wants v op key
+  pub wants : Wants v op leaf key
 
 -- fill: the card is in hand, not flagged
 pub record MayFill (v : View) (c : ℕ) : Type 0 where

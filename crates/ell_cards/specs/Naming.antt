@@ -7,7 +7,7 @@ use Rattle.ell_core.specs.declared.field.Field.TheVariants.{Gp, P, L}
 use Rattle.ell_core.specs.declared.view.Seen.{Seen}
 use Rattle.ell_core.specs.state.Facts.{card_of_fact}
 use Rattle.ell_cards.specs.declared.view.Told.{Told}
-use Rattle.ell_cards.specs.declared.view.Told.TheVariants.{Met, Key, Info, Frozen}
+use Rattle.ell_cards.specs.declared.view.Told.TheVariants.{Met, Key, Value, Info, Frozen}
 use Rattle.ell_cards.specs.declared.view.View.{View}
 use Rattle.ell_cards.specs.Models.{IsTold, Knows}
 
@@ -22,6 +22,7 @@ InfoIsNamed cards _ x = Unit {0}
 abbrev pub EntryIsNamed : ℕ → Told → Type 0
 EntryIsNamed cards (Met x) = card x ≤ cards
 EntryIsNamed cards (Key x key) = card x ≤ cards
+EntryIsNamed cards (Value x value) = card x ≤ cards
 EntryIsNamed cards (Info c f x) = (c ≤ cards) × InfoIsNamed cards f x
 EntryIsNamed cards (Frozen c right x) = (c ≤ cards) × (card x ≤ cards)
 

@@ -12,7 +12,7 @@ use Rattle.ell_core.specs.soundness.Sound.{Owns}
 use Rattle.ell_core.specs.history.Stages.{Stages, Born, waits}
 use Rattle.ell_core.specs.history.Invariant.{Invariant}
 use Rattle.ell_cards.specs.declared.view.Told.{Told}
-use Rattle.ell_cards.specs.declared.view.Told.TheVariants.{Met, Key, Info, Frozen}
+use Rattle.ell_cards.specs.declared.view.Told.TheVariants.{Met, Key, Value, Info, Frozen}
 use Rattle.ell_cards.specs.declared.view.View.{View}
 use Rattle.ell_cards.specs.Models.{IsTold, stored_at}
 
@@ -41,11 +41,12 @@ is_fixed Right = false
 is_fixed Update = false
 is_fixed _ = true
 
--- what was told holds of the machine's words: a node that was met came into the tree; a key, or a fixed word of a claimed card,
--- is what was told; and so is a child of a parent that stays marked
+-- what was told holds of the machine's words: a node that was met came into the tree; a key, a value, or a fixed word of a claimed
+-- card, is what was told; and so is a child of a parent that stays marked
 abbrev pub EntryHolds : Words → Stages → Told → Type 0
 EntryHolds w stage (Met x) = Born stage x
 EntryHolds w stage (Key x key) = Born stage x × (w.key x ≡ key)
+EntryHolds w stage (Value x value) = Born stage x × (w.value x ≡ value)
 EntryHolds w stage (Info c f x) = (c < w.next) × (is_fixed f ≡ true) × (word w c f ≡ x)
 EntryHolds w stage (Frozen c right x) =
     (c < w.next) × (w.update (w.p c) ≡ marked c) × (w.child (w.p c) right ≡ x) × Born stage x

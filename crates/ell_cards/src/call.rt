@@ -22,6 +22,8 @@ pub enum Call {
     Next,
     /// Reads the key of a node.
     KeyOf(u64),
+    /// Reads the value of a leaf.
+    ValueOf(u64),
     /// Reads a word of a card.
     Info(u64, Field),
     /// Reads a child, the right one or the left one, of the parent of a card: card, parent, side.

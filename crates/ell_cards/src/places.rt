@@ -1,9 +1,10 @@
 //! Where the words of a node stand.
 ghost use Rattle.std.specs.Prelude.{◌≡◌, ◌≤◌};
 ghost use Rattle.ell_word.specs.Node.{greatest_card, card};
-ghost use Rattle.ell_cards.specs.Calls.{update_at, child_at, key_at};
+ghost use Rattle.ell_core.specs.acts.Searching.{IsLeaf};
+ghost use Rattle.ell_cards.specs.Calls.{update_at, child_at, key_at, value_at};
 
-use ell_core::{Field, child_field, key_field};
+use ell_core::{Field, child_field, key_field, value_field};
 use ell_word::card_of;
 
 /// The address of the update word of a node.
@@ -31,4 +32,14 @@ pub(crate) fn key_at(node: u64) -> usize
     ensures { result ≡ key_at node }
 {
     key_field(node).address(card_of(node))
+}
+
+/// The address of the value of a leaf.
+#[inline(always)]
+pub(crate) fn value_at(leaf: u64) -> usize
+    requires card { card leaf ≤ greatest_card }
+    requires outer { IsLeaf leaf }
+    ensures { result ≡ value_at leaf }
+{
+    value_field(leaf).address(card_of(leaf))
 }

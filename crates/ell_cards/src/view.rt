@@ -11,6 +11,8 @@ pub enum Told {
     Met(u64),
     /// This node has this key.
     Key(u64, u64),
+    /// This leaf has this value.
+    Value(u64, u64),
     /// This card has this word in this field.
     Info(u64, Field, u64),
     /// The parent that this card marked has on this side (true is right) this child.

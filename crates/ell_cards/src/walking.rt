@@ -1,16 +1,17 @@
 //! The step calls by which a pass begins, searches and ends its operation. Each is one atomic step.
 ghost use Rattle.std.specs.Prelude.{◌≡◌, ◌≤◌, ◌<◌, ◌+◌, Some};
 ghost use Rattle.ell_core.specs.state.Machine.{ledger_of};
+ghost use Rattle.ell_core.specs.acts.Searching.{IsLeaf};
 ghost use Rattle.ell_core.specs.statements.StepLaws.{AnswersAsSet};
 ghost use Rattle.ell_cards.specs.declared.view.Told.TheVariants.{Met};
 ghost use Rattle.ell_cards.specs.Models.{Steps, IsTold, InTable};
-ghost use Rattle.ell_cards.specs.Changes.{after_begin, after_again, after_leave, after_answer, after_upd, after_down, after_next, after_key_of};
+ghost use Rattle.ell_cards.specs.Changes.{after_begin, after_again, after_leave, after_answer, after_upd, after_down, after_next, after_key_of, after_value_of};
 ghost use Rattle.ell_cards.specs.Guards.{MayBegin, MayStop, MayAnswer, MayRead, MayGoDown};
 ghost use Rattle.ell_cards.specs.Calls.{TellsLeaf};
 
 use crate::call::Call;
 use crate::pass::Pass;
-use crate::places::{child_at, key_at, update_at};
+use crate::places::{child_at, key_at, update_at, value_at};
 use crate::table::CardTable;
 use ell_ops::{Op, Reply};
 use ell_word::{Update, unpack};
@@ -106,5 +107,17 @@ impl<A: Allocator + Copy> CardTable<A> {
     {
         self.names(pass);
         self.load(pass, Call::KeyOf(node), key_at(node))
+    }
+
+    /// Reads the value of a leaf that the pass has met.
+    #[inline(always)]
+    pub fn value_of(&self, pass: &mut Pass<A>, leaf: u64) -> u64
+        requires own { pass.old.table ≡ self.now.id }
+        requires met { IsTold pass.old.view (Met leaf) }
+        requires outer { IsLeaf leaf }
+        ensures step { Steps pass.old pass.new (after_value_of leaf result pass.old.view) }
+    {
+        self.names(pass);
+        self.load(pass, Call::ValueOf(leaf), value_at(leaf))
     }
 }

@@ -38,6 +38,8 @@ told_fixed_over c field.Right x es ds e more h = more e h
 told_fixed_over c field.Update x es ds e more h = more e h
 told_fixed_over c field.LeftLeafKey x es ds e more h = one_more es ds (Info c field.LeftLeafKey x) e more h
 told_fixed_over c field.RightLeafKey x es ds e more h = one_more es ds (Info c field.RightLeafKey x) e more h
+told_fixed_over c field.LeftValue x es ds e more h = one_more es ds (Info c field.LeftValue x) e more h
+told_fixed_over c field.RightValue x es ds e more h = one_more es ds (Info c field.RightValue x) e more h
 
 told_filling_over : (c : ℕ) (fs : List (Field × ℕ)) (es : List Told) (e : Told) → Has (told_filling c fs []) e → Has (told_filling c fs es) e
 told_filling_over c [] es e h = elim h [ ]
@@ -58,7 +60,7 @@ lost_keeps c v = record { ledger = refl; operation = refl; answers = refl; knows
 
 -- where a search stands at a leaf, and the claim word was read, a claim may be made
 pub may_claim_at : (old new : PassModel) (c : ℕ) (op : Op) (place : Place) → Steps old new (after_next c old.view) → Does old.view op
-    → old.view.worker.card ≡ None → IsAt old.view place → place.parent.update.state ≡ state.Clean → Wants old.view op place.key → MayClaim new.view c
+    → old.view.worker.card ≡ None → IsAt old.view place → place.parent.update.state ≡ state.Clean → Wants old.view op place.leaf place.key → MayClaim new.view c
 may_claim_at old new c op place s busy no_card at calm wants =
     may_claim old new op c place.leaf place.key (seen place.parent) s busy no_card (ap (λ (r : Search). r.node) at.search) at.outer at.told
     (ap (λ (r : Search). r.parent) at.search) (clean_word place.parent.update.state place.parent.update.card calm) wants

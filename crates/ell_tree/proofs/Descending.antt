@@ -1,4 +1,4 @@
-use Rattle.std.proofs.Common.{◌≡◌, ℕ, ◌≤◌, Option, Some, None, IfSome, refl, sym, ◌∙◌, ap, subst, arith}
+use Rattle.std.proofs.Common.{◌≡◌, ℕ, ◌≤◌, Option, Some, None, IfSome, if◌then◌else◌, eq-eqb, refl, sym, ◌∙◌, ap, subst, arith}
 use Rattle.ell_ops.specs.declared.op.Op.{Op}
 use Rattle.ell_word.specs.declared.update.Update.{Update}
 use Rattle.ell_core.specs.declared.view.Search.{Search}
@@ -6,7 +6,7 @@ use Rattle.ell_core.specs.acts.Searching.{IsLeaf}
 use Rattle.ell_cards.specs.declared.view.Told.TheVariants.{Met}
 use Rattle.ell_cards.specs.declared.view.View.{View}
 use Rattle.ell_cards.specs.Models.{PassModel, Steps, latest, Does, IsTold, StandsAt, InTable}
-use Rattle.ell_cards.specs.Changes.{after_upd, after_key_of, after_down}
+use Rattle.ell_cards.specs.Changes.{after_upd, after_key_of, after_value_of, after_down, told_value}
 use Rattle.ell_cards.specs.Calls.{TellsLeaf}
 use Rattle.ell_cards.proofs.views.Entries.{places_more}
 use Rattle.ell_cards.proofs.views.Steps.{view_after}
@@ -15,14 +15,17 @@ use Rattle.ell_tree.specs.declared.searching.Passed.{Passed}
 use Rattle.ell_tree.specs.declared.searching.Place.{Place}
 use Rattle.ell_tree.specs.Keeping.{Keeps, Seeks, IsInnerMet}
 use Rattle.ell_tree.specs.Searches.{seen_any, below, Passes, Stands, EndsAt}
-use Rattle.ell_tree.proofs.Keeping.{seeks_step, seeks_trans, upd_keeps, key_of_keeps, down_keeps, keeps_trans, seen_kept, place_told}
+use Rattle.ell_tree.proofs.Keeping.{seeks_step, seeks_trans, upd_keeps, key_of_keeps, value_of_keeps, down_keeps, keeps_trans, seen_kept, place_told}
 
--- an update is read in a step, and so is a key
+-- an update is read in a step, and so are a key and a value
 pub upd_seeks : (old new : PassModel) (x : ℕ) (u : Update) → Steps old new (after_upd x u old.view) → Seeks old new 1
 upd_seeks old new x u s = seeks_step old new (after_upd x u old.view) s (upd_keeps x u old.view) refl refl refl
 
 pub key_seeks : (old new : PassModel) (x key : ℕ) → Steps old new (after_key_of x key old.view) → Seeks old new 1
 key_seeks old new x key s = seeks_step old new (after_key_of x key old.view) s (key_of_keeps x key old.view) refl refl refl
+
+pub value_seeks : (old new : PassModel) (x value : ℕ) → Steps old new (after_value_of x value old.view) → Seeks old new 1
+value_seeks old new x value s = seeks_step old new (after_value_of x value old.view) s (value_of_keeps x value old.view) refl refl refl
 
 -- a node goes by in three steps: its update, its key, its child
 module _ (a b d e : PassModel) (x : ℕ) (u : Update) (key child : ℕ)
@@ -79,16 +82,25 @@ stands_next cards a b x child parent passed above k h search met there passes = 
   passed_above = passes_kept cards a b parent k h.passed;
 }
 
--- a search that stands at a leaf, whose key it asks, ends there
-pub search_ends : (cards : ℕ) (a b : PassModel) (op : Op) (place : Place) → Steps a b (after_key_of place.leaf place.key a.view) → Does a.view op
+-- a search that stands at a leaf, whose key and value it asks, ends there
+pub search_ends : (cards : ℕ) (a b d : PassModel) (op : Op) (place : Place) → Steps a b (after_key_of place.leaf place.key a.view)
+    → Steps b d (after_value_of place.leaf place.value b.view) → Does a.view op
     → IsLeaf place.leaf → Stands cards a.view place.leaf place.parent place.grandparent → TellsLeaf a.view place.leaf place.key
-    → EndsAt cards b.view op place
-search_ends cards a b op place s busy outer h tells =
+    → EndsAt cards d.view op place
+search_ends cards a b d op place s s' busy outer h tells =
     let stands : StandsAt a.view place.leaf = ap (λ (r : Search). r.node) h.search in
-    let w = after_key_of place.leaf place.key a.view in
-    let kept = key_of_keeps place.leaf place.key a.view in
-    subst (λ (y : View). EndsAt cards y op place) (sym (view_after a b w s)) (record {
-      at = record { search = h.search; outer = outer; told = told_here a.view.worker.search.node a.view.here place.leaf place.key stands };
+    let keyed = after_key_of place.leaf place.key a.view in
+    let w = after_value_of place.leaf place.value keyed in
+    let kept = keeps_trans a.view keyed w (key_of_keeps place.leaf place.key a.view) (value_of_keeps place.leaf place.value keyed) in
+    let is : d.view ≡ w = view_after b d (after_value_of place.leaf place.value b.view) s' ∙ ap (after_value_of place.leaf place.value) (view_after a b keyed s) in
+    subst (λ (y : View). EndsAt cards y op place) (sym is) (record {
+      at = record {
+        search = h.search;
+        outer = outer;
+        told = told_here a.view.worker.search.node a.view.here place.leaf place.key stands;
+        value_told = latest _ _;
+        value = ap (λ t. if t then place.value else told_value keyed.told place.leaf) (eq-eqb place.leaf place.leaf refl);
+      };
       passed = passes_kept cards a.view w place.parent kept h.passed;
       passed_above = passes_any_kept cards a.view w place.grandparent kept h.passed_above;
       present = tells.present op busy stands outer;

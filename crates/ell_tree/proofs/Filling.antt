@@ -12,7 +12,7 @@ use Rattle.ell_cards.specs.declared.view.Told.{Told}
 use Rattle.ell_cards.specs.declared.view.Told.TheVariants.{Met, Info}
 use Rattle.ell_cards.specs.declared.view.View.{View}
 use Rattle.ell_cards.specs.Models.{Has, latest, earlier, Does, IsTold, Knows}
-use Rattle.ell_cards.specs.Changes.{filling_for, filling_of, told_filling}
+use Rattle.ell_cards.specs.Changes.{told_value, filling_for, filling_of, told_filling}
 use Rattle.ell_cards.specs.Guards.{Wants}
 use Rattle.ell_cards.proofs.words.Updates.{clean_word}
 use Rattle.ell_cards.proofs.views.Searches.{filling_at}
@@ -26,13 +26,19 @@ use Rattle.ell_tree.proofs.Keeping.{inner_kept}
 
 -- what fills a card, by a search that stands at a place
 filling_there : (c : ℕ) (op : Op) (v : View) (place : Place) → Does v op → IsAt v place
-    → filling_of c v ≡ filling_for c (Some op) (Some place.leaf) (Some (seen place.parent)) (seen_any place.grandparent) place.key
+    → filling_of c v ≡ filling_for c (Some op) (Some place.leaf) (Some (seen place.parent)) (seen_any place.grandparent) place.key (told_value v.told)
 filling_there c op v place busy at = filling_at v op c place.leaf place.key (seen place.parent) (seen_any place.grandparent) busy
     (ap (λ (s : Search). s.node) at.search) at.told (ap (λ (s : Search). s.parent) at.search) (ap (λ (s : Search). s.grandparent) at.search)
 
+-- for an insert
+pub insert_fills : (c k value : ℕ) (v : View) (place : Place) → Does v (Insert k value) → IsAt v place
+    → filling_of c v ≡ insert_filling c k value place.parent.node place.leaf place.key place.value
+insert_fills c k value v place busy at =
+    filling_there c (Insert k value) v place busy at ∙ ap (insert_filling c k value place.parent.node place.leaf place.key) at.value
+
 -- a delete wants a card at a leaf of its key whose grandparent was read clean
 pub delete_wants : (v : View) (k : ℕ) (place : Place) (above : Passed) → IsAt v place → place.key ≡ k → place.grandparent ≡ Some above
-    → above.update.state ≡ state.Clean → Wants v (Delete k) place.key
+    → above.update.state ≡ state.Clean → Wants v (Delete k) place.leaf place.key
 delete_wants v k place above at same is calm =
     (same, (seen above, ap (λ (s : Search). s.grandparent) at.search ∙ ap seen_any is, clean_word above.update.state above.update.card calm))
 
@@ -45,7 +51,8 @@ module _ (v t f : View) (c k : ℕ) (place : Place) (keeps : Keeps t f) where
   pub is_insert : (value : ℕ) → Does v (Insert k value) → IsAt v place → HasCard (Insert k value) place (filling_of c v) t c → Knows f (fact.IFlagged c) → IsTold t (Met place.parent.node)
       → IsInsert f c place.parent.node place.leaf (max k place.key)
   is_insert value busy at h knows met =
-      let tells = told_by_card v t f c (Insert k value) place busy at h keeps (insert_filling c k place.parent.node place.leaf place.key) (filling_there c (Insert k value) v place busy at) in
+      let tells = told_by_card v t f c (Insert k value) place busy at h keeps
+      (insert_filling c k value place.parent.node place.leaf place.key place.value) (insert_fills c k value v place busy at) in
       record {
         knows = knows;
         met = keeps.told (Met place.parent.node) met;
@@ -58,7 +65,7 @@ module _ (v t f : View) (c k : ℕ) (place : Place) (keeps : Keeps t f) where
     delete_tells : (e : Told) → Has (told_filling c (delete_filling above.node place.parent.node place.leaf (packed place.parent.update)) []) e → IsTold f e
     delete_tells = told_by_card v t f c (Delete k) place busy at h keeps (delete_filling above.node place.parent.node place.leaf (packed place.parent.update))
         (filling_there c (Delete k) v place busy at
-        ∙ ap (λ (o : Option Passed). filling_for c (Some (Delete k)) (Some place.leaf) (Some (seen place.parent)) (seen_any o) place.key) is)
+        ∙ ap (λ (o : Option Passed). filling_for c (Some (Delete k)) (Some place.leaf) (Some (seen place.parent)) (seen_any o) place.key (told_value v.told)) is)
 
     pub told_grandparent : IsTold f (Info c field.Gp above.node)
     told_grandparent = delete_tells _ (latest _ _)

@@ -28,7 +28,7 @@ may_fill_still a b n c fills may = record {
 }
 
 -- an insert's card that is filled may flag the parent
-pub may_iflag : (a b : PassModel) (n c k value : ℕ) (place : Place) → HasCard (Insert k value) place (insert_filling c k place.parent.node place.leaf place.key) a.view c
+pub may_iflag : (a b : PassModel) (n c k value : ℕ) (place : Place) → HasCard (Insert k value) place (insert_filling c k value place.parent.node place.leaf place.key place.value) a.view c
     → Fills a b n → MayIFlag b.view c place.parent.node place.parent.update
 may_iflag a b n c k value place h fills = record {
   key = k;

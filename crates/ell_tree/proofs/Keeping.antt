@@ -11,7 +11,7 @@ use Rattle.ell_cards.specs.declared.view.Told.{Told}
 use Rattle.ell_cards.specs.declared.view.Told.TheVariants.{Met, Info}
 use Rattle.ell_cards.specs.declared.view.View.{View}
 use Rattle.ell_cards.specs.Models.{PassModel, Steps, Has, latest, earlier, IsTold, Knows}
-use Rattle.ell_cards.specs.Changes.{facts_by, places_by, learning, with_found, after_upd, after_down, after_key_of, after_info, after_frozen_child, after_next}
+use Rattle.ell_cards.specs.Changes.{facts_by, places_by, learning, with_found, after_upd, after_down, after_key_of, after_value_of, after_info, after_frozen_child, after_next}
 use Rattle.ell_cards.proofs.views.Facts.{knows_new, knows_more, facts_by_more}
 use Rattle.ell_cards.proofs.views.Entries.{places_more, info_more}
 use Rattle.ell_tree.specs.Keeping.{Keeps, Goes, Seeks, Works, Walks, IsInnerMet, TellsPlace, IsSeenAt}
@@ -171,6 +171,9 @@ upd_keeps x u v = record {
 
 pub key_of_keeps : (x key : ℕ) (v : View) → Keeps v (after_key_of x key v)
 key_of_keeps x key v = record { ledger = refl; operation = refl; answers = refl; knows = λ f h. h; told = λ e h. earlier e _ _ h }
+
+pub value_of_keeps : (x value : ℕ) (v : View) → Keeps v (after_value_of x value v)
+value_of_keeps x value v = record { ledger = refl; operation = refl; answers = refl; knows = λ f h. h; told = λ e h. earlier e _ _ h }
 
 pub down_keeps : (x child : ℕ) (v : View) → Keeps v (after_down x child v)
 down_keeps x child v = record { ledger = refl; operation = refl; answers = refl; knows = λ f h. h; told = λ e h. earlier e _ _ h }

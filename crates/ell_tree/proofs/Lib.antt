@@ -16,6 +16,8 @@ pub mod Beginning
 pub mod Claiming
 -- what a card says
 pub mod Filling
+-- what is stored of a card
+pub mod Storing
 -- the steps of some tries
 pub mod Counting
 -- a flag, won or lost

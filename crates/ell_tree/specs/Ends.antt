@@ -46,11 +46,11 @@ Ends cards tries op old new (Err why) = LaidDown op old new × HeldFor cards tri
 
 -- the most steps of a find in a tree of so many cards
 abbrev pub find_steps : ℕ → ℕ
-find_steps cards = 3 * cards + 6
+find_steps cards = 3 * cards + 7
 
 -- the most steps of one try of an insert or a delete, helping included
 abbrev pub try_steps : ℕ → ℕ
-try_steps cards = 7 * cards + 24
+try_steps cards = 7 * cards + 27
 
 -- the most steps of so many tries
 abbrev pub change_steps : ℕ → ℕ → ℕ

@@ -6,9 +6,10 @@ use Rattle.ell_core.specs.declared.view.Seen.{Seen}
 use Rattle.ell_core.specs.declared.view.Search.{Search}
 use Rattle.ell_core.specs.state.Machine.{ledger_of}
 use Rattle.ell_core.specs.acts.Searching.{IsLeaf, at_root}
-use Rattle.ell_cards.specs.declared.view.Told.TheVariants.{Met}
+use Rattle.ell_cards.specs.declared.view.Told.TheVariants.{Met, Value}
 use Rattle.ell_cards.specs.declared.view.View.{View}
 use Rattle.ell_cards.specs.Models.{IsTold, Does, InTable}
+use Rattle.ell_cards.specs.Changes.{told_value}
 use Rattle.ell_tree.specs.declared.searching.Passed.{Passed}
 use Rattle.ell_tree.specs.declared.searching.Place.{Place}
 use Rattle.ell_tree.specs.Keeping.{IsSeenAt}
@@ -45,11 +46,13 @@ pub record Stands (cards : ℕ) (w : View) (node : ℕ) (parent : Passed) (grand
   pub passed : Passes cards w parent
   pub passed_above : IfSome grandparent (λ x. Passes cards w x)
 
--- a search stands at the leaf of a place, and was told its key
+-- a search stands at the leaf of a place, and was told its key and its value
 pub record IsAt (w : View) (place : Place) : Type 0 where
   pub search : w.worker.search ≡ below place.leaf place.parent (seen_any place.grandparent)
   pub outer : IsLeaf place.leaf
   pub told : w.here ≡ Some place.key
+  pub value_told : IsTold w (Value place.leaf place.value)
+  pub value : told_value w.told place.leaf ≡ place.value
 
 -- a search ended at a place, whose key is the operation's exactly where the ledger has that present; and then there is a
 -- grandparent

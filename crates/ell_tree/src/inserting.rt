@@ -77,9 +77,9 @@ fn flag_insert<A: Allocator + Copy, G: StepGate>(
 ) -> Result<(), Update>
     requires own { pass.old.table ≡ table.now.id }
     requires limit { card ≤ greatest_card }
-    requires card { HasCard (Insert key value) place (insert_filling card key place.parent.node place.leaf place.key) pass.old.view card }
+    requires card { HasCard (Insert key value) place (insert_filling card key value place.parent.node place.leaf place.key place.value) pass.old.view card }
     requires node { IsInnerMet table.now.last_card pass.old.view place.parent.node }
-    ensures goes { Goes pass.old pass.new 9 }
+    ensures goes { Goes pass.old pass.new 11 }
     ensures flags { Flags table.now.last_card IFlagged card place.parent.node pass.old pass.new result }
 {
     fill_insert(table, pass, card, key, value, place, gate);
@@ -87,7 +87,8 @@ fn flag_insert<A: Allocator + Copy, G: StepGate>(
     table.iflag(pass, card, place.parent.node, place.parent.update)
 }
 
-// Fills the card of an insert: an internal node, and below it the leaf of the key and a copy of the old leaf, the lesser key left.
+// Fills the card of an insert: an internal node, and below it the leaf of the key and a copy of the old leaf, the lesser key left,
+// each with its value.
 fn fill_insert<A: Allocator + Copy, G: StepGate>(
     table: &CardTable<A>,
     pass: &mut Pass<A>,
@@ -99,10 +100,15 @@ fn fill_insert<A: Allocator + Copy, G: StepGate>(
 )
     requires own { pass.old.table ≡ table.now.id }
     requires limit { card ≤ greatest_card }
-    requires card { HasCard (Insert key value) place (insert_filling card key place.parent.node place.leaf place.key) pass.old.view card }
-    ensures { Fills pass.old pass.new 8 }
+    requires card { HasCard (Insert key value) place (insert_filling card key value place.parent.node place.leaf place.key place.value) pass.old.view card }
+    ensures { Fills pass.old pass.new 10 }
 {
     let (lesser, greater) = (key.min(place.key), key.max(place.key));
+    let (left_value, right_value) = if key < place.key {
+        (value, place.value)
+    } else {
+        (place.value, value)
+    };
     fill(table, pass, card, Field::P, place.parent.node, gate);
     fill(table, pass, card, Field::L, place.leaf, gate);
     fill(table, pass, card, Field::Key, greater, gate);
@@ -112,4 +118,6 @@ fn fill_insert<A: Allocator + Copy, G: StepGate>(
     fill(table, pass, card, Field::Update, clean, gate);
     fill(table, pass, card, Field::LeftLeafKey, lesser, gate);
     fill(table, pass, card, Field::RightLeafKey, greater, gate);
+    fill(table, pass, card, Field::LeftValue, left_value, gate);
+    fill(table, pass, card, Field::RightValue, right_value, gate);
 }

@@ -17,11 +17,12 @@ pub(crate) struct Passed {
     pub update: Update,
 }
 
-/// Where a search ended: a leaf with its key, its parent, and its grandparent if there is one.
+/// Where a search ended: a leaf with its key and its value, its parent, and its grandparent if there is one.
 #[derive(Clone, Copy)]
 pub(crate) struct Place {
     pub leaf: u64,
     pub key: u64,
+    pub value: u64,
     pub parent: Passed,
     pub grandparent: Option<Passed>,
 }
@@ -35,7 +36,7 @@ pub(crate) fn search<A: Allocator + Copy, G: StepGate>(
 ) -> Place
     requires own { pass.old.table ≡ table.now.id }
     requires root { AtRoot op pass.old.view }
-    ensures seeks { Seeks pass.old pass.new (3 * table.now.last_card + 4) }
+    ensures seeks { Seeks pass.old pass.new (3 * table.now.last_card + 5) }
     ensures ends { EndsAt table.now.last_card pass.new.view op result }
 {
     let (mut parent, mut node) = descend(table, pass, op, 0, gate);
@@ -46,11 +47,15 @@ pub(crate) fn search<A: Allocator + Copy, G: StepGate>(
         parent = anew(passed);
         node = child;
     }
-    gate.before(pass.label(), Kind::Look);
+    let label = pass.label();
+    gate.before(label, Kind::Look);
     let key = table.key_of(pass, node);
+    gate.before(label, Kind::Look);
+    let value = table.value_of(pass, node);
     Place {
         leaf: node,
         key,
+        value,
         parent,
         grandparent,
     }

@@ -110,7 +110,7 @@ impl<A: Allocator + Copy> Tree<A> {
         self.table.join(left, right)
     }
 
-    /// Whether a key of the pass is present. It helps nobody, nothing is in its way, and it takes at most `3 * cards + 6` steps, where
+    /// Whether a key of the pass is present. It helps nobody, nothing is in its way, and it takes at most `3 * cards + 7` steps, where
     /// `cards` is the number of the last card.
     pub fn find<G: StepGate>(&self, pass: &mut Pass<A>, key: u64, gate: &G) -> bool
         requires own { pass.old.table ≡ self.now.id }
@@ -126,7 +126,7 @@ impl<A: Allocator + Copy> Tree<A> {
     }
 
     /// Adds a key of the pass: whether it was absent. Its value is not kept yet. It is tried so often at most, at least once, in at
-    /// most `tries * (7 * cards + 24) + 1` steps, where `cards` is the number of the last card. `Busy` comes where something was in
+    /// most `tries * (7 * cards + 27) + 1` steps, where `cards` is the number of the last card. `Busy` comes where something was in
     /// the way of every try, and `Spent` where a try that would add the key finds all cards given out. After either the set is as it
     /// was, and nothing of the call is under way. However it ends, whatever was in the way of a try is over by then: a card that
     /// another pass took first, or a change of a neighbour, which was helped to its end where nobody else had ended it.

@@ -49,7 +49,7 @@ pub(crate) fn take_card<A: Allocator + Copy, G: StepGate>(
     requires no_card { pass.old.view.worker.card ≡ None }
     requires at { IsAt pass.old.view place }
     requires calm { place.parent.update.state ≡ Clean }
-    requires wants { Wants pass.old.view op place.key }
+    requires wants { Wants pass.old.view op place.leaf place.key }
     ensures goes { Goes pass.old pass.new 2 }
     ensures claims { Claims table.now.last_card op place pass.old pass.new result }
     ensures limit { table.now.last_card ≤ greatest_card }

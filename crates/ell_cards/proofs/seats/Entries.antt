@@ -1,4 +1,4 @@
-use Rattle.std.proofs.Common.{◌≡◌, ◌≢◌, refl, ℕ, ◌+◌, ◌*◌, ◌<◌, ◌++◌, ap, ◌⊎◌, true, List, [], ◌∷◌, sym, ◌∙◌, inl, inr, arith, true≢false}
+use Rattle.std.proofs.Common.{◌≡◌, ◌≢◌, refl, ℕ, ◌+◌, ◌*◌, ◌<◌, ◌++◌, ap, ◌⊎◌, ◌==◌, if◌then◌else◌, eq-eqb, eqb-true, Bool, true, false, List, [], ◌∷◌, sym, ◌∙◌, inl, inr, arith, true≢false}
 use Rattle.ell_word.specs.Node.{card}
 use Rattle.ell_word.specs.declared.update.State.{State}
 use Rattle.ell_word.specs.declared.update.State.TheVariants as state
@@ -11,9 +11,9 @@ use Rattle.ell_core.specs.soundness.Sound.{flags_at}
 use Rattle.ell_core.specs.history.Stages.{Stages}
 use Rattle.ell_core.specs.history.Later.{WordsLater, StagesLater}
 use Rattle.ell_cards.specs.declared.view.Told.{Told}
-use Rattle.ell_cards.specs.declared.view.Told.TheVariants.{Met, Key, Info, Frozen}
+use Rattle.ell_cards.specs.declared.view.Told.TheVariants.{Met, Key, Value, Info, Frozen}
 use Rattle.ell_cards.specs.Models.{Has, latest, earlier}
-use Rattle.ell_cards.specs.Changes.{facts_by, places_by}
+use Rattle.ell_cards.specs.Changes.{facts_by, places_by, told_value}
 use Rattle.ell_cards.specs.Rule.{is_fixed, EntryHolds}
 
 -- a fixed word of a claimed card stays
@@ -31,6 +31,8 @@ fixed_word old new c words low f fixed = by f fixed
     by field.Key e = in_card (3 * c) (omega arith)
     by field.LeftLeafKey e = in_card (3 * c + 1) (omega arith)
     by field.RightLeafKey e = in_card (3 * c + 2) (omega arith)
+    by field.LeftValue e = words.value (3 * c + 1) (omega arith)
+    by field.RightValue e = words.value (3 * c + 2) (omega arith)
     by field.Left e = absurd (true≢false (sym e))
     by field.Right e = absurd (true≢false (sym e))
     by field.Update e = absurd (true≢false (sym e))
@@ -41,6 +43,8 @@ pub entry_lasts : (old new : Words) (before after : Stages) (e : Told) → Words
 entry_lasts old new before after (Met x) words stages claimed h = stages.born x h
 entry_lasts old new before after (Key x key) words stages claimed h =
     (stages.born x h.0, words.key x (claimed x h.0) ∙ h.1)
+entry_lasts old new before after (Value x value) words stages claimed h =
+    (stages.born x h.0, words.value x (claimed x h.0) ∙ h.1)
 entry_lasts old new before after (Info c f x) words stages claimed h =
     let low = h.0 in
     let more = words.next in
@@ -51,6 +55,25 @@ entry_lasts old new before after (Frozen c right x) words stages claimed h =
     let p = (words.info c h.0).p in
     let same = words.frozen (old.p c) c h.1 in
     (omega arith, ap new.update p ∙ (same.update ∙ h.1), ap (λ y. new.child y right) p ∙ (same.child right ∙ h.2), stages.born x h.3)
+
+-- the value that was told of a leaf the last time is its value
+pub told_value_is : (w : Words) (stage : Stages) (told : List Told) (x value : ℕ) → ((e : Told) → Has told e → EntryHolds w stage e)
+    → Has told (Value x value) → told_value told x ≡ w.value x
+told_value_is w stage [] x value old none = elim none [ ]
+told_value_is w stage (_ ∷ es) x value old (latest _ _) =
+    ap (λ t. if t then value else told_value es x) (eq-eqb x x refl) ∙ sym (old (Value x value) (latest (Value x value) es)).1
+told_value_is w stage (d ∷ es) x value old (earlier _ _ _ h) = by d old (told_value_is w stage es x value (λ e g. old e (earlier e d es g)) h)
+  where
+    by : (d : Told) → ((e : Told) → Has (d ∷ es) e → EntryHolds w stage e) → told_value es x ≡ w.value x → told_value (d ∷ es) x ≡ w.value x
+    by (Value y n) holds rest = at (y == x) refl
+      where
+        at : (b : Bool) → (y == x) ≡ b → (if b then n else told_value es x) ≡ w.value x
+        at true same = sym (holds (Value y n) (latest (Value y n) es)).1 ∙ ap w.value (eqb-true y x same)
+        at false other = rest
+    by (Met y) holds rest = rest
+    by (Key y n) holds rest = rest
+    by (Info c f n) holds rest = rest
+    by (Frozen c right n) holds rest = rest
 
 -- what one of two lists tells, both together tell
 pub told_either : (a b : List Told) (e : Told) → Has (a ++ b) e → Has a e ⊎ Has b e

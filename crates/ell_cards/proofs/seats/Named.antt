@@ -12,7 +12,7 @@ use Rattle.ell_core.specs.state.Machine.{Worker}
 use Rattle.ell_core.specs.history.Stages.{Born}
 use Rattle.ell_core.specs.statements.StepLaws.{HasSeen}
 use Rattle.ell_cards.specs.declared.view.Told.{Told}
-use Rattle.ell_cards.specs.declared.view.Told.TheVariants.{Met, Key, Info, Frozen}
+use Rattle.ell_cards.specs.declared.view.Told.TheVariants.{Met, Key, Value, Info, Frozen}
 use Rattle.ell_cards.specs.declared.view.View.{View}
 use Rattle.ell_cards.specs.Naming.{InfoIsNamed, EntryIsNamed, SeenIsNamed, IsNamed}
 use Rattle.ell_cards.specs.Rule.{TableState, EntryHolds, Kept}
@@ -42,6 +42,7 @@ module _ (keys : List ℕ) (cards : ℕ) (s : TableState) (r : Kept keys cards s
   entry_fits : (e : Told) → EntryHolds r.words r.stages e → EntryIsNamed cards e
   entry_fits (Met x) h = born_fits x h
   entry_fits (Key x key) h = born_fits x h.0
+  entry_fits (Value x value) h = born_fits x h.0
   entry_fits (Info c f x) h = (claimed_fits c h.0, info_fits c f x h.0 h.2)
   entry_fits (Frozen c right x) h = (claimed_fits c h.0, born_fits x h.3)
 

@@ -8,7 +8,7 @@ use Rattle.ell_word.specs.Word.{packed, unpacked}
 use Rattle.ell_core.specs.declared.fact.Fact.TheVariants.{IFlagged, DFlagged, Marked}
 use Rattle.ell_core.specs.declared.field.Field.{Field}
 use Rattle.ell_core.specs.declared.field.Field.TheVariants as field
-use Rattle.ell_core.specs.state.Words.{key_field, child_field}
+use Rattle.ell_core.specs.state.Words.{key_field, value_field, child_field}
 use Rattle.ell_core.specs.state.Layout.{address, table_size}
 use Rattle.ell_core.proofs.words.Listed.{place_small}
 use Rattle.ell_cards.specs.declared.call.Call.{Call}
@@ -121,6 +121,7 @@ pub word_fits : (cards : ℕ) (c : Call) (v : View) → IsNamed cards v → May 
 word_fits cards (call.Upd x) v named may = address_fits cards (card x) field.Update (named.node x may.stands)
 word_fits cards (call.Down x right) v named may = address_fits cards (card x) (child_field right) (named.node x may.stands)
 word_fits cards (call.KeyOf x) v named may = address_fits cards (card x) (key_field (x % 3)) (named.entries (Met x) may)
+word_fits cards (call.ValueOf x) v named may = address_fits cards (card x) (value_field (x % 3)) (named.entries (Met x) may.0)
 word_fits cards (call.Info c f) v named may = address_fits cards c f (known_fits cards v c named may.knows)
 word_fits cards (call.FrozenChild c p right) v named may = address_fits cards (card p) (child_field right) (named.entries (Info c field.P p) may.parent).1
 word_fits cards (call.Fill c f value) v named may = address_fits cards c f (named.hand c may.holds)

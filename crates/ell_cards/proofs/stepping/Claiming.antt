@@ -24,14 +24,14 @@ use Rattle.ell_cards.specs.declared.view.Told.{Told}
 use Rattle.ell_cards.specs.declared.view.Told.TheVariants.{Key, Info}
 use Rattle.ell_cards.specs.declared.view.View.{View}
 use Rattle.ell_cards.specs.Models.{Has}
-use Rattle.ell_cards.specs.Changes.{told_fixed, told_filling, filling_for, filling_of, after_claim}
+use Rattle.ell_cards.specs.Changes.{told_value, told_fixed, told_filling, filling_for, filling_of, after_claim}
 use Rattle.ell_cards.specs.Guards.{MayClaim, Wants}
 use Rattle.ell_cards.specs.Rule.{TableState, EntryHolds, seated, Kept}
 use Rattle.ell_cards.specs.Laws.{IsEvent}
 use Rattle.ell_cards.specs.Calls.{Becomes}
 use Rattle.ell_cards.proofs.words.Fields.{filled_else}
 use Rattle.ell_cards.proofs.views.Entries.{filling_more}
-use Rattle.ell_cards.proofs.seats.Entries.{with_entry}
+use Rattle.ell_cards.proofs.seats.Entries.{with_entry, told_value_is}
 use Rattle.ell_cards.proofs.seats.Seats.{machine, leads, kept_event, mine, becomes, entries_on}
 use Rattle.ell_cards.proofs.seats.Frames.{IsReached, waits_on, kept_told, same_machine}
 use Rattle.ell_cards.proofs.stepping.Looks.{here_key}
@@ -131,13 +131,15 @@ module _ (keys : List ℕ) (cards : ℕ) (s : TableState) (r : Kept keys cards s
       key_is : r.words.key may.leaf ≡ may.key
       key_is = here_key keys cards s r id v here may.leaf may.key may.stands may.told
 
-      by : (op : Op) → v.worker.operation ≡ Some op → Wants v op may.key
+      by : (op : Op) → v.worker.operation ≡ Some op → Wants v op may.leaf may.key
           → IsReached keys cards s r id v here (set s.words 0 (next + 1)) (claimed r.words (filling_of next v)) (after_claim true next v) act.Claim Moved
       by (Find k) busy wants = absurd wants
       by (Insert k value) busy wants =
-          let es = insert_filling next k may.parent.node may.leaf may.key in
+          let leaf_value = told_value v.told may.leaf in
+          let value_is = told_value_is r.words r.stages v.told may.leaf wants.1.0 (r.views id v here).entries wants.1.1 in
+          let es = insert_filling next k value may.parent.node may.leaf may.key leaf_value in
           let is : es ≡ filling_of next v =
-          λ t. filling_for next (sym busy t) (sym may.stands t) (sym may.behind t) v.worker.search.grandparent (unwrap_or (sym may.told t) 0) in
+          λ t. filling_for next (sym busy t) (sym may.stands t) (sym may.behind t) v.worker.search.grandparent (unwrap_or (sym may.told t) 0) (told_value v.told) in
           let at = claimed_cards_say (machine keys cards s r id v here) r.stages es in
           subst (λ fields. IsReached keys cards s r id v here (set s.words 0 (next + 1)) (claimed r.words fields) (taking next fields v) act.Claim Moved) is
           (takes es (omega arith) (inl (record {
@@ -147,10 +149,10 @@ module _ (keys : List ℕ) (cards : ℕ) (s : TableState) (r : Kept keys cards s
             parent = may.parent;
             inserts = busy;
             at = record { stands = may.stands; outer = may.outer; behind = may.behind; calm = may.calm; no_card = may.no_card };
-            absent = λ e. wants (sym key_is ∙ e);
+            absent = λ e. wants.0 (sym key_is ∙ e);
             says = refl;
             gives = λ t. record {
-              words = claimed r.words (insert_filling next k may.parent.node may.leaf (sym key_is t));
+              words = claimed r.words (insert_filling next k value may.parent.node may.leaf (sym key_is t) (value_is t));
               worker = record (worker_of v.worker) { card = Some next; flagged = false };
             };
           })) (
@@ -163,7 +165,13 @@ module _ (keys : List ℕ) (cards : ℕ) (s : TableState) (r : Kept keys cards s
                   at field.Left r.invariant,
                   (
                     at field.Right r.invariant,
-                    (at field.Update r.invariant, (at field.LeftLeafKey r.invariant, (at field.RightLeafKey r.invariant, tt))),
+                    (
+                      at field.Update r.invariant,
+                      (
+                        at field.LeftLeafKey r.invariant,
+                        (at field.RightLeafKey r.invariant, (at field.LeftValue r.invariant, (at field.RightValue r.invariant, tt))),
+                      ),
+                    ),
                   ),
                 ),
               ),
@@ -173,7 +181,7 @@ module _ (keys : List ℕ) (cards : ℕ) (s : TableState) (r : Kept keys cards s
           let above = wants.1.0 in
           let es = delete_filling above.node may.parent.node may.leaf may.parent.word in
           let is : es ≡ filling_of next v =
-          λ t. filling_for next (sym busy t) (sym may.stands t) (sym may.behind t) (sym wants.1.1 t) (unwrap_or v.here 0) in
+          λ t. filling_for next (sym busy t) (sym may.stands t) (sym may.behind t) (sym wants.1.1 t) (unwrap_or v.here 0) (told_value v.told) in
           let at = claimed_cards_say (machine keys cards s r id v here) r.stages es in
           subst (λ fields. IsReached keys cards s r id v here (set s.words 0 (next + 1)) (claimed r.words fields) (taking next fields v) act.Claim Moved) is
           (takes es (omega arith) (inr (record {

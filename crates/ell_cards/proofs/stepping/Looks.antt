@@ -8,23 +8,24 @@ use Rattle.ell_core.specs.declared.event.Act.TheVariants as act
 use Rattle.ell_core.specs.declared.event.Stepped.TheVariants.{Moved}
 use Rattle.ell_core.specs.declared.field.Field.TheVariants as field
 use Rattle.ell_core.specs.declared.view.Seen.{Seen}
-use Rattle.ell_core.specs.state.Words.{key_field, child_field}
+use Rattle.ell_core.specs.state.Words.{key_field, value_field, child_field}
 use Rattle.ell_core.specs.state.Facts.{known_of, learned_any, told_by}
 use Rattle.ell_core.specs.state.Machine.{Worker, worker_of}
 use Rattle.ell_core.specs.state.Cards.{child_for, is_right}
+use Rattle.ell_core.specs.acts.Searching.{IsLeaf}
 use Rattle.ell_core.specs.acts.Events.{Happens}
 use Rattle.ell_core.specs.history.Stages.{Born}
 use Rattle.ell_core.specs.statements.StepLaws.{MayRead}
 use Rattle.ell_core.proofs.outcomes.Decide.{some_not_none}
-use Rattle.ell_core.proofs.words.Writes.{update_at_node, child_at_node, key_at_node}
+use Rattle.ell_core.proofs.words.Writes.{update_at_node, child_at_node, key_at_node, value_at_leaf}
 use Rattle.ell_cards.specs.declared.call.Call.TheVariants as call
 use Rattle.ell_cards.specs.declared.view.Told.{Told}
-use Rattle.ell_cards.specs.declared.view.Told.TheVariants.{Met, Key}
+use Rattle.ell_cards.specs.declared.view.Told.TheVariants.{Met, Key, Value}
 use Rattle.ell_cards.specs.declared.view.View.{View}
 use Rattle.ell_cards.specs.Models.{Has, latest, earlier, IsTold, StandsAt, InTable}
-use Rattle.ell_cards.specs.Changes.{places_by, after_upd, after_down, after_next, after_key_of, is_at, seen_at}
+use Rattle.ell_cards.specs.Changes.{places_by, after_upd, after_down, after_next, after_key_of, after_value_of, is_at, seen_at}
 use Rattle.ell_cards.specs.Guards.{MayRead as MayUpd, MayGoDown}
-use Rattle.ell_cards.specs.Calls.{TellsLeaf, update_at, child_at, key_at}
+use Rattle.ell_cards.specs.Calls.{TellsLeaf, update_at, child_at, key_at, value_at}
 use Rattle.ell_cards.specs.Rule.{TableState, EntryHolds, Kept}
 use Rattle.ell_cards.specs.Laws.{IsEvent}
 use Rattle.ell_cards.proofs.words.Updates.{packed_again}
@@ -38,6 +39,11 @@ module _ (keys : List ℕ) (cards : ℕ) (s : TableState) (r : Kept keys cards s
   -- a node that came into the tree has its key in the table
   pub key_listed : (x : ℕ) → Born r.stages x → r.words.key x ≡ get_or s.words (key_at x) 0
   key_listed x born = key_at_node r.words x ∙ sym (r.settled (card x) (key_field (x % 3)) (born-settled (r.stages (card x)) born))
+
+  -- a leaf its value
+  pub value_listed : (x : ℕ) → IsLeaf x → Born r.stages x → r.words.value x ≡ get_or s.words (value_at x) 0
+  value_listed x outer born =
+      value_at_leaf r.words x outer ∙ sym (r.settled (card x) (value_field (x % 3)) (born-settled (r.stages (card x)) born))
 
   -- an internal one its children and its update word
   pub child_listed : (x : ℕ) (right : Bool) → IsInternal x → Born r.stages x → r.words.child x right ≡ get_or s.words (child_at x right) 0
@@ -199,3 +205,17 @@ module _ (keys : List ℕ) (cards : ℕ) (s : TableState) (r : Kept keys cards s
             let real = sound.real (key_of op) (sound.owned op busy) in
             (sound.stands op x busy stands).deep outer (subst (λ z. z ≤ greatest_key) (sym (is ∙ e)) real);
       }
+
+  -- value_of
+  pub keeps_value_of : (x : ℕ) → IsTold v (Met x) → IsLeaf x → IsEvent keys cards s r id v (call.ValueOf x)
+  keeps_value_of x met outer =
+      let n = get_or s.words (value_at x) 0 in
+      let h = r.views id v here in
+      let born = h.entries (Met x) met in
+      is_no_event keys cards s r id v here (call.ValueOf x)
+      (kept_told keys cards s r id v here (after_value_of x n v) refl (record {
+        entries = with_entry (EntryHolds r.words r.stages) (Value x n) v.told (born, value_listed x outer born) h.entries;
+        here = λ y key at told. earlier (Key y key) (Value x n) v.told (h.here y key at told);
+        hand = h.hand;
+      }) (value_at x))
+      refl refl tt

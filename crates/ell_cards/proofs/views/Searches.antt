@@ -8,7 +8,7 @@ use Rattle.ell_core.specs.declared.view.Seen.{Seen}
 use Rattle.ell_core.specs.acts.Searching.{IsLeaf, IsClean}
 use Rattle.ell_cards.specs.declared.view.View.{View}
 use Rattle.ell_cards.specs.Models.{PassModel, Steps, Does, StandsAt}
-use Rattle.ell_cards.specs.Changes.{after_upd, after_key_of, after_next, is_at, filling_for, filling_of}
+use Rattle.ell_cards.specs.Changes.{after_upd, after_key_of, after_next, is_at, told_value, filling_for, filling_of}
 use Rattle.ell_cards.specs.Guards.{MayGoDown, MayClaim, Wants}
 use Rattle.ell_cards.proofs.views.Steps.{view_after}
 
@@ -38,7 +38,7 @@ may_go_down a b d op x u key k s s' same busy stands inner =
 
 -- the claim word was read where a search ended at a leaf, behind a parent that was read clean, and a claim may be made
 pub may_claim : (a b : PassModel) (op : Op) (c leaf key : ℕ) (parent : Seen) → Steps a b (after_next c a.view) → Does a.view op → a.view.worker.card ≡ None
-    → StandsAt a.view leaf → IsLeaf leaf → a.view.here ≡ Some key → a.view.worker.search.parent ≡ Some parent → IsClean parent.word → Wants a.view op key
+    → StandsAt a.view leaf → IsLeaf leaf → a.view.here ≡ Some key → a.view.worker.search.parent ≡ Some parent → IsClean parent.word → Wants a.view op leaf key
     → MayClaim b.view c
 may_claim a b op c leaf key parent s busy no_card stands outer told behind calm wants =
     subst (λ (w : View). MayClaim w c) (sym (view_after a b (after_next c a.view) s)) (record {
@@ -59,10 +59,10 @@ may_claim a b op c leaf key parent s busy no_card stands outer told behind calm 
 
 -- what fills a card, by a search that ended at a leaf of this key
 pub filling_at : (v : View) (op : Op) (c leaf key : ℕ) (parent : Seen) (above : Option Seen) → Does v op → StandsAt v leaf → v.here ≡ Some key
-    → v.worker.search.parent ≡ Some parent → v.worker.search.grandparent ≡ above → filling_of c v ≡ filling_for c (Some op) (Some leaf) (Some parent) above key
+    → v.worker.search.parent ≡ Some parent → v.worker.search.grandparent ≡ above → filling_of c v ≡ filling_for c (Some op) (Some leaf) (Some parent) above key (told_value v.told)
 filling_at v op c leaf key parent above busy stands told behind grandparent =
-    ap (λ (o : Option Op). filling_for c o v.worker.search.node v.worker.search.parent v.worker.search.grandparent (unwrap_or v.here 0)) busy
-    ∙ (ap (λ (o : Option ℕ). filling_for c (Some op) o v.worker.search.parent v.worker.search.grandparent (unwrap_or v.here 0)) stands
-    ∙ (ap (λ (o : Option Seen). filling_for c (Some op) (Some leaf) o v.worker.search.grandparent (unwrap_or v.here 0)) behind
-    ∙ (ap (λ (o : Option Seen). filling_for c (Some op) (Some leaf) (Some parent) o (unwrap_or v.here 0)) grandparent
-    ∙ ap (λ (o : Option ℕ). filling_for c (Some op) (Some leaf) (Some parent) above (unwrap_or o 0)) told)))
+    ap (λ (o : Option Op). filling_for c o v.worker.search.node v.worker.search.parent v.worker.search.grandparent (unwrap_or v.here 0) (told_value v.told)) busy
+    ∙ (ap (λ (o : Option ℕ). filling_for c (Some op) o v.worker.search.parent v.worker.search.grandparent (unwrap_or v.here 0) (told_value v.told)) stands
+    ∙ (ap (λ (o : Option Seen). filling_for c (Some op) (Some leaf) o v.worker.search.grandparent (unwrap_or v.here 0) (told_value v.told)) behind
+    ∙ (ap (λ (o : Option Seen). filling_for c (Some op) (Some leaf) (Some parent) o (unwrap_or v.here 0) (told_value v.told)) grandparent
+    ∙ ap (λ (o : Option ℕ). filling_for c (Some op) (Some leaf) (Some parent) above (unwrap_or o 0) (told_value v.told)) told)))

@@ -3,14 +3,14 @@ use Rattle.ell_tree.proofs.Flagging.{may_iflag, flag_goes, flag_ends}
 use Rattle.ell_tree.proofs.inserting.flag_insert.Goals as goal
 
 pub iflag-requires-clause-may : goal.iflag-requires-clause-may
-iflag-requires-clause-may g c = may_iflag c.args.pass.now c.fill_insert.new.pass 8 c.args.card c.args.key c.args.value c.args.place c.requires.card c.fill_insert.ensures
+iflag-requires-clause-may g c = may_iflag c.args.pass.now c.fill_insert.new.pass 10 c.args.card c.args.key c.args.value c.args.place c.requires.card c.fill_insert.ensures
 
 pub returns : goal.returns
 returns g c =
     let f = c.fill_insert in
     let parent = c.args.place.parent in
     record {
-      goes = flag_goes IFlagged c.args.card parent.node parent.update c.args.pass.now f.new.pass c.iflag.new.pass 8 c.iflag.result f.ensures c.iflag.ensures.step;
-      flags = flag_ends IFlagged c.args.card parent.node parent.update c.args.pass.now f.new.pass c.iflag.new.pass 8 c.iflag.result f.ensures c.iflag.ensures.step
+      goes = flag_goes IFlagged c.args.card parent.node parent.update c.args.pass.now f.new.pass c.iflag.new.pass 10 c.iflag.result f.ensures c.iflag.ensures.step;
+      flags = flag_ends IFlagged c.args.card parent.node parent.update c.args.pass.now f.new.pass c.iflag.new.pass 10 c.iflag.result f.ensures c.iflag.ensures.step
           c.args.table.now.last_card c.requires.card.may.holds c.requires.node c.iflag.ensures.card;
     }

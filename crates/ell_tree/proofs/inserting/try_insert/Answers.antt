@@ -1,13 +1,25 @@
-use Rattle.std.proofs.Common.{◌≡◌, ◌≢◌, length, ap, ◌∙◌, rules, arith}
+use Rattle.std.proofs.Common.{◌≡◌, ◌≢◌, ℕ, List, length, ap, ◌∙◌, subst, rules, arith}
 use Rattle.ell_ops.specs.declared.op.Op.TheVariants.{Insert}
 use Rattle.ell_word.specs.declared.update.State.TheVariants.{Clean}
 use Rattle.ell_core.specs.declared.view.Search.{Search}
 use Rattle.ell_cards.specs.declared.view.Told.TheVariants.{Met}
+use Rattle.ell_core.specs.declared.field.Field.{Field}
 use Rattle.ell_tree.specs.Hindrances.{way_of}
-use Rattle.ell_tree.proofs.Filling.{is_insert}
+use Rattle.ell_tree.specs.Tries.{HasCard}
+use Rattle.ell_tree.proofs.Filling.{insert_fills, is_insert}
 use Rattle.ell_tree.proofs.Meeting.{meets_trans, meets_more, insert_way, nowhere_way, way_over, way_free, no_way}
 use Rattle.ell_tree.proofs.Halting.{goes_meets, seek_meets, walk_meets, said_meets, flag_lost}
 use Rattle.ell_tree.proofs.inserting.try_insert.Goals as goal
+
+pub take_card-requires-clause-wants : goal.take_card-requires-clause-wants
+take_card-requires-clause-wants g c = (c.if-place-key.false, (c.search-place.result.value, c.search-place.ensures.ends.at.value_told))
+
+pub flag_insert-requires-clause-card : goal.flag_insert-requires-clause-card
+flag_insert-requires-clause-card g c =
+    let s = c.search-place in
+    subst (λ (es : List (Field × ℕ)). HasCard (Insert c.args.key c.args.value) s.result es c.take_card.new.pass.view c.in-Card.card)
+    (insert_fills c.in-Card.card c.args.key c.args.value s.new.pass.view s.result (s.ensures.seeks.goes.view.operation ∙ c.requires.root.busy) s.ensures.ends.at)
+    c.in-Card.ensures.claims.0
 
 pub finish_insert-requires-clause-insert : goal.finish_insert-requires-clause-insert
 finish_insert-requires-clause-insert g c =
@@ -122,7 +134,7 @@ returns-in-Ok-clause-ends g c =
     let said = c.answer-in-Ok in
     let taken = meets_trans a.view s.new.pass.view t.view (seek_meets a s.new.pass _ s.ensures.seeks)
     (goes_meets s.new.pass t 2 c.take_card.ensures.goes c.in-Card.ensures.claims.2) in
-    let flagged = meets_trans a.view t.view f.view taken (goes_meets t f 9 c.flag_insert.ensures.goes c.in-Ok.ensures.flags.hindrances) in
+    let flagged = meets_trans a.view t.view f.view taken (goes_meets t f 11 c.flag_insert.ensures.goes c.in-Ok.ensures.flags.hindrances) in
     let finished = meets_trans a.view f.view m.view flagged (walk_meets f m 3 c.finish_insert.ensures.walks) in (
       search rules,
       meets_trans a.view m.view said.new.pass.view finished (said_meets m.view said.new.pass.view said.ensures.hindrances said.ensures.facts),

@@ -1,8 +1,9 @@
 use Rattle.std.proofs.Common.{◌+◌, ◌*◌, refl, ◌∙◌, arith, rules}
 use Rattle.ell_word.specs.Node.{IsInternal}
 use Rattle.ell_core.specs.acts.Searching.{IsLeaf}
+use Rattle.ell_cards.specs.declared.view.Told.TheVariants.{Met}
 use Rattle.ell_tree.proofs.Keeping.{seeks_trans}
-use Rattle.ell_tree.proofs.Descending.{key_seeks, stands_next, search_ends}
+use Rattle.ell_tree.proofs.Descending.{key_seeks, value_seeks, stands_next, search_ends}
 use Rattle.ell_tree.proofs.searching.search.Goals as goal
 
 pub loop-grandparent-preserved : goal.loop-grandparent-preserved
@@ -20,17 +21,25 @@ loop-grandparent-preserved g c =
           (omega (arith, i.down, i.stands.passed.node.inner, inner, d.ensures.here));
     })
 
+pub value_of-value-requires-clause-met : goal.value_of-value-requires-clause-met
+value_of-value-requires-clause-met g c =
+    let l = c.loop-grandparent in
+    let k = c.key_of-key in
+    (key_seeks l.pass k.new.pass l.node k.result k.ensures.step).goes.view.told (Met l.node) l.invariant.stands.met
+
 pub returns : goal.returns
 returns g c =
     let l = c.loop-grandparent in
     let i = l.invariant in
     let k = c.key_of-key in
+    let v = c.value_of-value in
     let outer : IsLeaf l.node = search rules in
     record {
-      seeks = seeks_trans c.args.pass.now l.pass k.new.pass (l.parent.node + 3) 1 (3 * c.args.table.now.last_card + 4) i.seeks
-          (key_seeks l.pass k.new.pass l.node k.result k.ensures.step)
+      seeks = seeks_trans c.args.pass.now l.pass v.new.pass (l.parent.node + 3) 2 (3 * c.args.table.now.last_card + 5) i.seeks
+          (seeks_trans l.pass k.new.pass v.new.pass 1 1 2 (key_seeks l.pass k.new.pass l.node k.result k.ensures.step)
+          (value_seeks k.new.pass v.new.pass l.node v.result v.ensures.step) (omega arith))
           (omega (arith, i.stands.passed.node.inner, i.stands.passed.node.there));
-      ends = search_ends c.args.table.now.last_card l.pass k.new.pass c.args.op
-          (record { leaf = l.node; key = k.result; parent = l.parent; grandparent = l.grandparent }) k.ensures.step
+      ends = search_ends c.args.table.now.last_card l.pass k.new.pass v.new.pass c.args.op
+          (record { leaf = l.node; key = k.result; value = v.result; parent = l.parent; grandparent = l.grandparent }) k.ensures.step v.ensures.step
           (i.seeks.goes.view.operation ∙ c.requires.root.busy) outer i.stands k.ensures.leaf;
     }
