@@ -8,7 +8,7 @@ use Rattle.ell_cards.specs.declared.view.Told.{Told}
 use Rattle.ell_cards.specs.declared.view.Told.TheVariants.{Frozen}
 use Rattle.ell_cards.specs.declared.view.View.{View}
 use Rattle.ell_cards.specs.Models.{PassModel, Steps, earlier, IsTold, Knows, KnowsCard}
-use Rattle.ell_cards.specs.Changes.{learning, with_found, after_key_of, after_next, after_claim, after_info, after_frozen_child, after_mark, is_mark_of, unmarking}
+use Rattle.ell_cards.specs.Changes.{learning, with_found, after_key_of, after_value_of, after_next, after_claim, after_info, after_frozen_child, after_mark, is_mark_of, unmarking}
 use Rattle.ell_cards.specs.Guards.{IsSibling}
 use Rattle.ell_cards.proofs.views.Facts.{knows_new, knows_more, facts_by_more}
 use Rattle.ell_cards.proofs.views.Entries.{places_more, info_more}
@@ -43,6 +43,10 @@ aside_trans a b d h k = record {
 -- each of these steps is one
 pub key_aside : (old new : PassModel) (x key : ℕ) → Steps old new (after_key_of x key old.view) → StepsAside old new
 key_aside old new x key s =
+    subst (StepsAside old) (sym s) (record { table = refl; worker = refl; filling = refl; filled = refl; knows = λ f h. h; told = λ e h. earlier e _ _ h })
+
+pub value_aside : (old new : PassModel) (x value : ℕ) → Steps old new (after_value_of x value old.view) → StepsAside old new
+value_aside old new x value s =
     subst (StepsAside old) (sym s) (record { table = refl; worker = refl; filling = refl; filled = refl; knows = λ f h. h; told = λ e h. earlier e _ _ h })
 
 pub next_aside : (old new : PassModel) (n : ℕ) → Steps old new (after_next n old.view) → StepsAside old new

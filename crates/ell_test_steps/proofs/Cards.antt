@@ -1,25 +1,58 @@
-use Rattle.std.proofs.Common.{◌≡◌, ℕ, Some, None}
+use Rattle.std.proofs.Common.{◌≡◌, ℕ, Some, None, refl, sym, ◌∙◌, ap}
 use Rattle.ell_ops.specs.declared.op.Op.{Op}
+use Rattle.ell_ops.specs.declared.op.Op.TheVariants.{Insert}
 use Rattle.ell_word.specs.declared.update.State.TheVariants as state
+use Rattle.ell_core.specs.declared.field.Field.{Field}
+use Rattle.ell_core.specs.declared.field.Field.TheVariants as field
+use Rattle.ell_core.specs.state.Cards.{stored, insert_filling}
 use Rattle.ell_cards.specs.declared.view.View.{View}
-use Rattle.ell_cards.specs.Models.{PassModel, Steps, Does}
-use Rattle.ell_cards.specs.Changes.{after_next, filling_for, filling_of}
-use Rattle.ell_cards.specs.Guards.{MayClaim, Wants}
+use Rattle.ell_cards.specs.Models.{PassModel, Steps, Does, stored_at}
+use Rattle.ell_cards.specs.Changes.{after_next, told_value, filling_for, filling_of, with_stores}
+use Rattle.ell_cards.specs.Guards.{IsFilled, MayClaim, Wants}
 use Rattle.ell_cards.proofs.words.Updates.{clean_word}
 use Rattle.ell_cards.proofs.views.Searches.{may_claim, filling_at}
 use Rattle.ell_test_steps.specs.declared.filling.Place.{Place}
-use Rattle.ell_test_steps.specs.Claims.{EndsAt}
+use Rattle.ell_test_steps.specs.Claims.{EndsAt, IsFresh, insert_stores}
 use Rattle.ell_test_steps.specs.Fitting.{seen, seen_any}
 
 -- where the search ended at a place, and the claim word was read, a claim may be made
 pub may_claim_at : (old new : PassModel) (n : ℕ) (op : Op) (place : Place) → Steps old new (after_next n old.view) → EndsAt old.view place
-    → Does old.view op → old.view.worker.card ≡ None → place.parent.update.state ≡ state.Clean → Wants old.view op place.key → MayClaim new.view n
+    → Does old.view op → old.view.worker.card ≡ None → place.parent.update.state ≡ state.Clean → Wants old.view op place.leaf place.key → MayClaim new.view n
 may_claim_at old new n op place s e busy no_card calm wants =
     may_claim old new op n place.leaf place.key (seen place.parent) s busy no_card e.stands e.outer e.told e.behind
     (clean_word place.parent.update.state place.parent.update.card calm) wants
 
 -- what the card of an operation is to say whose search ended at a place
 pub filling_there : (v : View) (c : ℕ) (op : Op) (place : Place) → Does v op → EndsAt v place
-    → filling_of c v ≡ filling_for c (Some op) (Some place.leaf) (Some (seen place.parent)) (seen_any place.grandparent) place.key
+    → filling_of c v ≡ filling_for c (Some op) (Some place.leaf) (Some (seen place.parent)) (seen_any place.grandparent) place.key (told_value v.told)
 filling_there v c op place busy e =
     filling_at v op c place.leaf place.key (seen place.parent) (seen_any place.grandparent) busy e.stands e.told e.behind e.above
+
+-- and that of an insert
+pub insert_fills : (v : View) (c k value : ℕ) (place : Place) → Does v (Insert k value) → EndsAt v place
+    → filling_of c v ≡ insert_filling c k value place.parent.node place.leaf place.key place.value
+insert_fills v c k value place busy e =
+    filling_there v c (Insert k value) place busy e ∙ ap (insert_filling c k value place.parent.node place.leaf place.key) e.value
+
+-- what is stored of an insert's card is what it is to say
+stored_of_insert : (c k value : ℕ) (place : Place) (f : Field)
+    → stored_at (insert_stores c k value place) f ≡ stored (insert_filling c k value place.parent.node place.leaf place.key place.value) f 0
+stored_of_insert c k value place field.Gp = refl
+stored_of_insert c k value place field.P = refl
+stored_of_insert c k value place field.L = refl
+stored_of_insert c k value place field.Was = refl
+stored_of_insert c k value place field.Key = refl
+stored_of_insert c k value place field.Left = refl
+stored_of_insert c k value place field.Right = refl
+stored_of_insert c k value place field.Update = refl
+stored_of_insert c k value place field.LeftLeafKey = refl
+stored_of_insert c k value place field.RightLeafKey = refl
+stored_of_insert c k value place field.LeftValue = refl
+stored_of_insert c k value place field.RightValue = refl
+
+pub insert_filled : (v w : View) (c k value : ℕ) (place : Place)
+    → IsFresh v c (insert_filling c k value place.parent.node place.leaf place.key place.value)
+    → w ≡ with_stores (insert_stores c k value place) v → IsFilled w
+insert_filled v w c k value place fresh e f =
+    ap (λ (x : View). stored_at x.filled f) e
+    ∙ (stored_of_insert c k value place f ∙ ap (λ es. stored es f 0) (sym (ap (λ (x : View). x.filling) e ∙ fresh.says)))

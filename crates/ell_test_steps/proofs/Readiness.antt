@@ -1,4 +1,4 @@
-use Rattle.std.proofs.Common.{◌≡◌, ℕ, ◌≤◌, ◌==◌, Bool, true, false, nat_le, if◌then◌else◌, List, ◌∷◌, Option, Some, None, Result, Ok, Err, is_ok, IfSome, MatchBool, refl, sym, ◌∙◌, ap, subst, inl, inr}
+use Rattle.std.proofs.Common.{◌≡◌, ℕ, ◌≤◌, ◌==◌, eq-eqb, Bool, true, false, nat_le, if◌then◌else◌, List, ◌∷◌, Option, Some, None, Result, Ok, Err, is_ok, IfSome, MatchBool, refl, sym, ◌∙◌, ap, subst, inl, inr}
 use Rattle.ell_ops.specs.declared.op.Op.{Op}
 use Rattle.ell_ops.specs.declared.op.Op.TheVariants.{Insert, Delete}
 use Rattle.ell_ops.specs.Meaning.{key_of}
@@ -15,8 +15,8 @@ use Rattle.std.proofs.lemmas.List.Elements.{All-replicate}
 use Rattle.ell_core.specs.state.Facts.{told_by_state}
 use Rattle.ell_core.specs.acts.Searching.{IsLeaf, leaf_answer}
 use Rattle.ell_cards.specs.declared.view.View.{View}
-use Rattle.ell_cards.specs.Models.{PassModel, TableModel, Steps, Knows}
-use Rattle.ell_cards.specs.Changes.{after_begin, after_again, after_upd, after_key_of, after_next, after_claim, after_flag, after_mark, is_mark_of, learning, unmarking, with_found, found_word, found_update, with_stores}
+use Rattle.ell_cards.specs.Models.{PassModel, TableModel, Steps, latest, Knows}
+use Rattle.ell_cards.specs.Changes.{after_begin, after_again, after_upd, after_key_of, after_value_of, after_next, after_claim, after_flag, after_mark, is_mark_of, learning, unmarking, with_found, found_word, found_update, told_value, with_stores}
 use Rattle.ell_cards.specs.Guards.{IsOver, MayStop, MayGoDown, MayAnswer, MayIFlag, MayDFlag, IsFilled}
 use Rattle.ell_test_steps.specs.declared.memory.Memory.{Memory}
 use Rattle.ell_test_steps.specs.declared.memory.TheConstants.{FACTS}
@@ -170,17 +170,20 @@ ready_claimed t a b d m c stores h own own' taken stored filled =
     }
 
 -- the pass stands at a leaf behind a parent that was read clean
-pub claims_at : (a b : PassModel) (m : Memory) (op : Op) (x key : ℕ) (parent : Passed) → Fits a.view m → Steps a b (after_key_of x key a.view)
-    → m.op ≡ Some op → m.node ≡ Some x → m.parent ≡ Some parent → m.card ≡ None → IsLeaf x → parent.update.state ≡ state.Clean
-    → parent.update.card ≤ greatest_card → ClaimsAt b.view op (record { leaf = x; key = key; parent = parent; grandparent = m.grandparent })
-claims_at a b m op x key parent h s busy at behind no_card outer calm limit =
+pub claims_at : (a b d : PassModel) (m : Memory) (op : Op) (x key value : ℕ) (parent : Passed) → Fits a.view m → Steps a b (after_key_of x key a.view)
+    → Steps b d (after_value_of x value b.view) → m.op ≡ Some op → m.node ≡ Some x → m.parent ≡ Some parent → m.card ≡ None → IsLeaf x → parent.update.state ≡ state.Clean
+    → parent.update.card ≤ greatest_card → ClaimsAt d.view op (record { leaf = x; key = key; value = value; parent = parent; grandparent = m.grandparent })
+claims_at a b d m op x key value parent h s s' busy at behind no_card outer calm limit =
     let stands = ap (λ (z : Search). z.node) h.search ∙ at in
-    subst (λ (w : View). ClaimsAt w op (record { leaf = x; key = key; parent = parent; grandparent = m.grandparent }))
-    (sym (view_after a b (after_key_of x key a.view) s)) (record {
+    let keyed = after_key_of x key a.view in
+    let is : d.view ≡ after_value_of x value keyed = view_after b d (after_value_of x value b.view) s' ∙ ap (after_value_of x value) (view_after a b keyed s) in
+    subst (λ (w : View). ClaimsAt w op (record { leaf = x; key = key; value = value; parent = parent; grandparent = m.grandparent })) (sym is) (record {
       ends = record {
         stands = stands;
         outer = outer;
         told = told_here a.view.worker.search.node a.view.here x key stands;
+        value_told = latest _ _;
+        value = ap (λ t. if t then value else told_value keyed.told x) (eq-eqb x x refl);
         behind = ap (λ (z : Search). z.parent) h.search ∙ ap seen_any behind;
         above = ap (λ (z : Search). z.grandparent) h.search;
       };

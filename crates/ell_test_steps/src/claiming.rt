@@ -33,9 +33,11 @@ pub(crate) fn claim<A: Allocator + Copy>(
         return None;
     }
     let key = table.key_of(pass, leaf);
+    let value = table.value_of(pass, leaf);
     let place = Place {
         leaf,
         key,
+        value,
         parent,
         grandparent: memory.grandparent,
     };
@@ -62,7 +64,7 @@ fn claim_for_insert<A: Allocator + Copy>(
         return None;
     }
     let card = take_card(table, pass, Op::Insert(key, value), place)?;
-    fill_insert(table, pass, card, key, place);
+    fill_insert(table, pass, card, key, value, place);
     memory.card = Some(card);
     memory.flagged = false;
     Some(Stepped::Moved)

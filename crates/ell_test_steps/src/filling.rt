@@ -17,11 +17,12 @@ use ell_ops::Op;
 use ell_word::{State, left_leaf_of, pack, right_leaf_of};
 use std::alloc::Allocator;
 
-/// Where a search ended: a leaf with its key, its parent, and its grandparent if there is one.
+/// Where a search ended: a leaf with its key and its value, its parent, and its grandparent if there is one.
 #[derive(Clone, Copy)]
 pub struct Place {
     pub leaf: u64,
     pub key: u64,
+    pub value: u64,
     pub parent: Passed,
     pub grandparent: Option<Passed>,
 }
@@ -38,7 +39,7 @@ pub(crate) fn take_card<A: Allocator + Copy>(
     requires no_card { pass.old.view.worker.card ≡ None }
     requires ends { EndsAt pass.old.view place }
     requires calm { place.parent.update.state ≡ Clean }
-    requires wants { Wants pass.old.view op place.key }
+    requires wants { Wants pass.old.view op place.leaf place.key }
     ensures own { pass.new.table ≡ pass.old.table }
     ensures named { IfSome result (λ card. card ≤ greatest_card) }
     ensures taken { IfSome result (λ card. pass.new.view ≡ after_claim true card (after_next card pass.old.view)) }
@@ -52,21 +53,27 @@ pub(crate) fn take_card<A: Allocator + Copy>(
     Some(card)
 }
 
-/// Fills the card of an insert of a key at a place.
+/// Fills the card of an insert of a key with its value at a place.
 pub(crate) fn fill_insert<A: Allocator + Copy>(
     table: &CardTable<A>,
     pass: &mut Pass<A>,
     card: u64,
     key: u64,
+    value: u64,
     place: Place,
 )
     requires own { pass.old.table ≡ table.now.id }
     requires limit { card ≤ greatest_card }
-    requires fresh { IsFresh pass.old.view card (insert_filling card key place.parent.node place.leaf place.key) }
+    requires fresh { IsFresh pass.old.view card (insert_filling card key value place.parent.node place.leaf place.key place.value) }
     ensures own { pass.new.table ≡ pass.old.table }
-    ensures view { pass.new.view ≡ with_stores (insert_stores card key place) pass.old.view }
+    ensures view { pass.new.view ≡ with_stores (insert_stores card key value place) pass.old.view }
     ensures filled { IsFilled pass.new.view }
 {
+    let (left_value, right_value) = if key < place.key {
+        (value, place.value)
+    } else {
+        (place.value, value)
+    };
     table.fill(pass, card, Field::P, place.parent.node);
     table.fill(pass, card, Field::L, place.leaf);
     table.fill(pass, card, Field::Key, key.max(place.key));
@@ -75,6 +82,8 @@ pub(crate) fn fill_insert<A: Allocator + Copy>(
     table.fill(pass, card, Field::Update, update_word(State::Clean, 0));
     table.fill(pass, card, Field::LeftLeafKey, key.min(place.key));
     table.fill(pass, card, Field::RightLeafKey, key.max(place.key));
+    table.fill(pass, card, Field::LeftValue, left_value);
+    table.fill(pass, card, Field::RightValue, right_value);
 }
 
 /// Fills the card of a delete of the key of a place, below a grandparent.

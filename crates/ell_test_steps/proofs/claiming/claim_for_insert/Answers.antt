@@ -11,5 +11,5 @@ returns-in_err-card g c =
 pub returns : goal.returns
 returns g c =
     ready_claimed c.args.table.now c.args.pass.now c.take_card.new.pass c.fill_insert.new.pass c.args.memory.now c.in_ok-card.card
-    (insert_stores c.in_ok-card.card c.args.key c.args.place) c.requires.ready c.take_card.ensures.own c.fill_insert.ensures.own
+    (insert_stores c.in_ok-card.card c.args.key c.args.value c.args.place) c.requires.ready c.take_card.ensures.own c.fill_insert.ensures.own
     c.in_ok-card.ensures.taken c.fill_insert.ensures.view c.fill_insert.ensures.filled
