@@ -19,7 +19,7 @@ fn main() -> io::Result<()> {
     let tree = BareTree::reserve(&bulk.start, 4 * bulk.operations.len() as u64 + 64);
     let replies = work(&bulk.operations, &settings, |operation| {
         let reply = match operation {
-            Operation::Insert(key) => tree.insert(key),
+            Operation::Insert(key) => tree.insert(key, 0),
             Operation::Delete(key) => tree.delete(key),
             Operation::Find(key) => Some(tree.find(key)),
         };

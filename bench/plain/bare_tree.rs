@@ -9,7 +9,7 @@ const INF1: u64 = u64::MAX - 1;
 const INF2: u64 = u64::MAX;
 const TRIES: u32 = 1_000_000;
 
-/// The ten words of a card, in their order.
+/// The twelve words of a card, in their order.
 #[derive(Clone, Copy)]
 enum Field {
     Gp,
@@ -22,6 +22,8 @@ enum Field {
     Update,
     LeftLeafKey,
     RightLeafKey,
+    LeftValue,
+    RightValue,
 }
 
 /// An update word is four times a card, and one of these.
@@ -61,10 +63,11 @@ struct Passed {
     update: u64,
 }
 
-/// Where a search ended: a leaf with its key, its parent, and its grandparent if there is one.
+/// Where a search ended: a leaf with its key and its value, its parent, and its grandparent if there is one.
 struct Place {
     leaf: u64,
     key: u64,
+    value: u64,
     parent: Passed,
     grandparent: Option<Passed>,
 }
@@ -93,7 +96,7 @@ impl Index<(u64, Field)> for BareTree {
     type Output = AtomicU64;
 
     fn index(&self, (card, field): (u64, Field)) -> &AtomicU64 {
-        &self.words[(1 + 10 * card + field as u64) as usize]
+        &self.words[(1 + 12 * card + field as u64) as usize]
     }
 }
 
@@ -101,7 +104,7 @@ impl BareTree {
     /// The opening tree of some ascending keys, and so many cards more, of which all words are 0.
     pub fn reserve(start: &[u64], cards: u64) -> BareTree {
         let cards = start.len() as u64 + cards;
-        let words = (0..11 + 10 * cards).map(|_| AtomicU64::new(0)).collect();
+        let words = (0..13 + 12 * cards).map(|_| AtomicU64::new(0)).collect();
         let tree = BareTree { words, cards };
         tree.claimed().store(start.len() as u64 + 1, SeqCst);
         tree.fill(0, Field::Key, INF2);
@@ -173,6 +176,14 @@ impl BareTree {
         self.word(node / 3, field)
     }
 
+    fn value(&self, leaf: u64) -> u64 {
+        let field = match leaf % 3 {
+            1 => Field::LeftValue,
+            _ => Field::RightValue,
+        };
+        self.word(leaf / 3, field)
+    }
+
     fn word(&self, card: u64, field: Field) -> u64 {
         self[(card, field)].load(SeqCst)
     }
@@ -202,6 +213,7 @@ impl BareTree {
         Place {
             leaf: node,
             key: self.key(node),
+            value: self.value(node),
             parent,
             grandparent,
         }
@@ -230,9 +242,9 @@ impl BareTree {
         keys
     }
 
-    /// None where no card is left.
-    pub fn insert(&self, key: u64) -> Option<bool> {
-        self.try_often(|| self.try_insert(key))
+    /// Adds a key with a value. None where no card is left.
+    pub fn insert(&self, key: u64, value: u64) -> Option<bool> {
+        self.try_often(|| self.try_insert(key, value))
     }
 
     /// None where no card is left.
@@ -267,7 +279,7 @@ impl BareTree {
         }
     }
 
-    fn try_insert(&self, key: u64) -> Tried {
+    fn try_insert(&self, key: u64, value: u64) -> Tried {
         let place = self.search(key);
         if place.key == key {
             self.touch();
@@ -283,8 +295,25 @@ impl BareTree {
             Claimed::NoneLeft => return Tried::Spent,
             Claimed::Lost => return Tried::Hindered,
         };
+        self.fill_insert(card, key, value, &place);
+        let flag = update_word(State::IFlag, card);
+        if let Err(found) = exchange(self.update(parent.node), parent.update, flag) {
+            self.help(parent.node, found);
+            return Tried::Hindered;
+        }
+        self.finish_insert(card, parent.node, place.leaf, key.max(place.key));
+        self.touch();
+        Tried::Answered(true)
+    }
+
+    fn fill_insert(&self, card: u64, key: u64, value: u64, place: &Place) {
         let (lesser, greater) = (key.min(place.key), key.max(place.key));
-        self.fill(card, Field::P, parent.node);
+        let (left_value, right_value) = if key < place.key {
+            (value, place.value)
+        } else {
+            (place.value, value)
+        };
+        self.fill(card, Field::P, place.parent.node);
         self.fill(card, Field::L, place.leaf);
         self.fill(card, Field::Key, greater);
         self.fill(card, Field::Left, 3 * card + 1);
@@ -292,14 +321,8 @@ impl BareTree {
         self.fill(card, Field::Update, update_word(State::Clean, 0));
         self.fill(card, Field::LeftLeafKey, lesser);
         self.fill(card, Field::RightLeafKey, greater);
-        let flag = update_word(State::IFlag, card);
-        if let Err(found) = exchange(self.update(parent.node), parent.update, flag) {
-            self.help(parent.node, found);
-            return Tried::Hindered;
-        }
-        self.finish_insert(card, parent.node, place.leaf, greater);
-        self.touch();
-        Tried::Answered(true)
+        self.fill(card, Field::LeftValue, left_value);
+        self.fill(card, Field::RightValue, right_value);
     }
 
     fn try_delete(&self, key: u64) -> Tried {

@@ -25,7 +25,7 @@ impl Set for Arc<BareTree> {
     }
 
     fn insert(&mut self, key: u64) -> Option<bool> {
-        BareTree::insert(self, key)
+        BareTree::insert(self, key, 0)
     }
 
     fn delete(&mut self, key: u64) -> Option<bool> {

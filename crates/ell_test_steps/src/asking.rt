@@ -3,10 +3,12 @@ ghost use Rattle.std.specs.Prelude.{◌≡◌};
 ghost use Rattle.ell_cards.specs.declared.view.Told.TheVariants.{Met, Key, Info, Frozen};
 ghost use Rattle.ell_cards.specs.Models.{IsTold};
 ghost use Rattle.ell_cards.specs.Guards.{IsSibling, MayAsk, MaySee, NamesNode};
-ghost use Rattle.ell_test_steps.specs.Fitting.{StepsAside};
+ghost use Rattle.ell_test_steps.specs.Fitting.{IsReady, StepsAside};
 
+use crate::memory::Memory;
 use ell_cards::{CardTable, Pass};
 use ell_core::Field;
+use ell_word::is_internal;
 use std::alloc::Allocator;
 
 /// Reads the key of a node that the pass has met.
@@ -79,4 +81,20 @@ pub(crate) fn look_sibling<A: Allocator + Copy>(
         return right;
     }
     look_child(table, pass, card, parent, false)
+}
+
+/// Reads the value of the leaf where the pass stands, if it stands at one.
+pub fn leaf_value<A: Allocator + Copy>(
+    table: &CardTable<A>,
+    pass: &mut Pass<A>,
+    memory: &Memory,
+) -> Option<u64>
+    requires { IsReady table.now pass.old memory.now }
+    ensures { IsReady table.now pass.new memory.now }
+{
+    let leaf = memory.node?;
+    if is_internal(leaf) {
+        return None;
+    }
+    Some(table.value_of(pass, leaf))
 }

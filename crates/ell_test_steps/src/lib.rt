@@ -9,5 +9,6 @@ mod helping;
 mod memory;
 mod stepping;
 
+pub use asking::leaf_value;
 pub use memory::{FACTS, Memory, Passed, nothing};
 pub use stepping::step;

@@ -6,3 +6,4 @@ mod playing;
 mod random_schedules;
 mod schedules;
 mod starts;
+mod values;

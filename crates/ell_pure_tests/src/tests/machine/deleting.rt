@@ -16,7 +16,7 @@ const FLAGGED_FOR_SEVEN: &[Line] = &[
     Does(1, &[Answer], YES),
     Searches(1, Begin(Op::Delete(7)), 3),
     Does(1, &[Claim], MOVED),
-    Filled(3, [3, 6, 8, 3, 0, 0, 0, 0, 0, 0]),
+    Filled(3, [3, 6, 8, 3, 0, 0, 0, 0, 0, 0, 0, 0]),
     Has(1, Field::Update, 11),
     Does(1, &[DFlag], WON),
     Has(1, Field::Update, 13),
@@ -26,7 +26,7 @@ const FLAGGED_FOR_SEVEN: &[Line] = &[
 const FLAGGED_FOR_SIX: &[Line] = &[
     Searches(0, Begin(Op::Insert(6, 60)), 3),
     Does(0, &[Claim], MOVED),
-    Filled(4, [0, 6, 7, 0, 6, 13, 14, 3, 5, 6]),
+    Filled(4, [0, 6, 7, 0, 6, 13, 14, 3, 5, 6, 50, 60]),
     Has(2, Field::Update, 3),
     Does(0, &[IFlag], WON),
     Has(2, Field::Update, 16),

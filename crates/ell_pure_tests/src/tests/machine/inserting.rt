@@ -1,7 +1,9 @@
-//! Two inserts that meet at the root.
+//! Two inserts that meet at the root, and the cards of inserts.
 use super::scripts::Line::{self, Does, Filled, Has, Lists, Next, Searches};
-use super::scripts::{LOST, MOVED, NOT_NOW, WON, YES, played};
-use ell_core::Act::{Again, Answer, Begin, Claim, IChild, IFlag, IUnflag};
+use super::scripts::{FIVE_INSERTED, LOST, MOVED, NOT_NOW, WON, YES, played};
+use ell_core::Act::{
+    Again, Answer, Begin, Claim, DChild, DFlag, DUnflag, IChild, IFlag, IUnflag, Mark,
+};
 use ell_core::Field;
 use ell_ops::Op;
 use ell_word::INF1;
@@ -44,14 +46,58 @@ const A_FILLED_CARD: &[Line] = &[
     Searches(0, Begin(Op::Insert(5, 50)), 1),
     Does(0, &[Claim], MOVED),
     Next(2),
-    Filled(1, [0, 0, 1, 0, INF1, 4, 5, 3, 5, INF1]),
-    Filled(2, [0; 10]),
+    Filled(1, [0, 0, 1, 0, INF1, 4, 5, 3, 5, INF1, 50, 0]),
+    Filled(2, [0; 12]),
     Lists(&[]),
 ];
 
 #[test]
 fn an_insert_fills_a_node_and_two_leaves(rt: HostRuntime) {
     played(&rt, 1, &[(0, 5)], 2, &[A_FILLED_CARD]);
+}
+
+// Beside the leaf of 5, which is leaf 4 at node 3: its copy is the left leaf of node 6, and then the right one.
+const A_GREATER_KEY: &[Line] = &[
+    Searches(0, Begin(Op::Insert(7, 70)), 2),
+    Does(0, &[Claim], MOVED),
+    Filled(2, [0, 3, 4, 0, 7, 7, 8, 3, 5, 7, 50, 70]),
+    Does(0, &[IFlag, IChild(2), IUnflag(2)], WON),
+    Does(0, &[Answer], YES),
+    Lists(&[5, 7]),
+];
+
+const A_LESSER_KEY: &[Line] = &[
+    Searches(0, Begin(Op::Insert(3, 30)), 2),
+    Does(0, &[Claim], MOVED),
+    Filled(2, [0, 3, 4, 0, 5, 7, 8, 3, 3, 5, 30, 50]),
+    Does(0, &[IFlag, IChild(2), IUnflag(2)], WON),
+    Does(0, &[Answer], YES),
+    Lists(&[3, 5]),
+];
+
+// 6 comes between the two, at leaf 7, the copy of 5's leaf; and then 5 goes, whose leaf is leaf 10, below nodes 6 and 9.
+const A_COPY_OF_A_COPY: &[Line] = &[
+    Searches(0, Begin(Op::Insert(6, 60)), 3),
+    Does(0, &[Claim], MOVED),
+    Filled(3, [0, 6, 7, 0, 6, 10, 11, 3, 5, 6, 50, 60]),
+    Does(0, &[IFlag, IChild(3), IUnflag(3)], WON),
+    Does(0, &[Answer], YES),
+    Searches(0, Begin(Op::Delete(5)), 4),
+    Does(0, &[Claim], MOVED),
+    Filled(4, [6, 9, 10, 3, 0, 0, 0, 0, 0, 0, 0, 0]),
+    Does(0, &[DFlag, Mark(4), DChild(4), DUnflag(4)], WON),
+    Does(0, &[Answer], YES),
+    Has(2, Field::Left, 11),
+    Has(3, Field::RightValue, 60),
+    Lists(&[6, 7]),
+];
+
+#[test]
+fn a_leaf_is_copied_with_its_value(rt: HostRuntime) {
+    let owned = [(0, 3), (0, 5), (0, 6), (0, 7)];
+    let greater = [FIVE_INSERTED, A_GREATER_KEY, A_COPY_OF_A_COPY];
+    played(&rt, 1, &owned, 4, &greater);
+    played(&rt, 1, &owned, 4, &[FIVE_INSERTED, A_LESSER_KEY]);
 }
 
 const A_LOST_FLAG: &[Line] = &[

@@ -1,7 +1,8 @@
-//! A schedule of 100,000 pseudo-random events of 8 workers on 64 keys, beside a plain set.
-ghost use Rattle.std.specs.Prelude.{◌≤◌, ◌<◌};
+//! A schedule of 100,000 pseudo-random events of 8 workers on 64 keys, beside a plain set and its values.
+ghost use Rattle.std.specs.Prelude.{◌≡◌, ◌≤◌, ◌<◌};
 
 use super::scripts::{LOST, MOVED, WON, opened, show};
+use super::walking::value_in;
 use ell_core::Act::{
     Again, Answer, Backtrack, Begin, Claim, DChild, DFlag, DUnflag, Down, IChild, IFlag, IUnflag,
     Leave, Mark, Upd,
@@ -36,7 +37,9 @@ const EXCHANGES: [Kind; 8] = [
 ];
 
 // A world of 8 workers, each of which owns every eighth key.
-fn eight_workers(rt: &(impl Abort + AllocGlobal)) -> World {
+fn eight_workers(rt: &(impl Abort + AllocGlobal)) -> World
+    ensures { result.last_card ≡ CARDS }
+{
     let mut owned = [(0, 0); KEYS as usize];
     for key in 0..KEYS {
         owned[key as usize] = ((key % WORKERS) as u32, key);
@@ -44,10 +47,11 @@ fn eight_workers(rt: &(impl Abort + AllocGlobal)) -> World {
     opened(rt, WORKERS as u32, &owned, CARDS).expect(rt, "an opening")
 }
 
-// What a schedule comes to by its answers: the set, the operations in hand, and how many answered yes.
+// What a schedule comes to by its answers: the set and the value of each key, the operations in hand, and how many answered yes.
 #[derive(Drop)]
 struct Plain {
     set: BTreeSet<u64>,
+    values: BTreeMap<u64, u64>,
     operations: BTreeMap<u32, Op>,
     inserted: u64,
     deleted: u64,
@@ -57,6 +61,7 @@ impl Plain {
     fn new(rt: &impl AllocGlobal) -> Plain {
         Plain {
             set: BTreeSet::new(rt.alloc()),
+            values: BTreeMap::new(rt.alloc()),
             operations: BTreeMap::new(rt.alloc()),
             inserted: 0,
             deleted: 0,
@@ -78,19 +83,26 @@ impl Plain {
                     .remove(&event.worker)
                     .expect(rt, "an operation");
                 assert!(rt; said == apply(&mut self.set, op)?);
-                self.count(op, said);
+                self.count(op, said)?;
             }
             _ => {}
         }
         Ok(())
     }
 
-    fn count(&mut self, op: Op, said: Reply) {
+    fn count(&mut self, op: Op, said: Reply) -> Result<(), NoMemory> {
         match (op, said) {
-            (Op::Insert(_, _), Reply::Yes) => self.inserted = self.inserted.wrapping_add(1),
-            (Op::Delete(_), Reply::Yes) => self.deleted = self.deleted.wrapping_add(1),
+            (Op::Insert(key, value), Reply::Yes) => {
+                self.inserted = self.inserted.wrapping_add(1);
+                self.values.insert(key, value)?;
+            }
+            (Op::Delete(key), Reply::Yes) => {
+                self.deleted = self.deleted.wrapping_add(1);
+                self.values.remove(&key);
+            }
             _ => {}
         }
+        Ok(())
     }
 }
 
@@ -181,7 +193,7 @@ impl Schedule {
         let key = self.dice.below(KEYS);
         let act = match self.dice.below(24) {
             0 => Begin(Op::Find(key)),
-            1 => Begin(Op::Insert(key, 0)),
+            1 => Begin(Op::Insert(key, self.value())),
             2 => Begin(Op::Delete(key)),
             3 => Upd,
             4 => Down,
@@ -214,6 +226,11 @@ impl Schedule {
         Event { worker, act }
     }
 
+    // A value of its own for each event.
+    fn value(&self) -> u64 {
+        self.events.len() as u64
+    }
+
     // An operation on a key that the worker owns, and mostly one that will answer yes.
     fn operation(&mut self, worker: u32) -> Op {
         let key = WORKERS * self.dice.below(KEYS / WORKERS) + worker as u64;
@@ -222,7 +239,7 @@ impl Schedule {
             return Op::Find(key);
         }
         if self.plain.set.contains(&key) == (roll == 1) {
-            Op::Insert(key, 0)
+            Op::Insert(key, self.value())
         } else {
             Op::Delete(key)
         }
@@ -295,10 +312,14 @@ fn random_events_answer_as_a_set(rt: HostRuntime) {
     assert!(rt; schedule.plain.inserted >= 1000 && schedule.plain.deleted >= 1000);
     assert!(rt; schedule.plain.operations.is_empty());
 
-    // Another world shows the same, and comes to the keys of the plain set.
+    // Another world shows the same, and comes to the keys of the plain set and to their values.
     let mut world = eight_workers(&rt);
     let shown = replay(rt.alloc(), &mut world, &schedule.events).expect(&rt, "a replay");
     assert!(rt; shown == schedule.shown);
     let keys = world.keys().expect(&rt, "keys");
     assert!(rt; keys.iter().eq(schedule.plain.set.iter()));
+    for key in 0..KEYS {
+        let value = schedule.plain.values.get(&key).copied();
+        assert!(rt; value_in(&world, CARDS, key) == value, "key {key}");
+    }
 }

@@ -36,8 +36,9 @@ pub enum Line {
     Searches(u32, Act, u32),
     /// The field of the card has this word.
     Has(u64, Field, u64),
-    /// The fields of the card have these words: Gp, P, L, Was, Key, Left, Right, Update, LeftLeafKey, RightLeafKey.
-    Filled(u64, [u64; 10]),
+    /// The fields of the card have these words: Gp, P, L, Was, Key, Left, Right, Update, LeftLeafKey, RightLeafKey,
+    /// LeftValue, RightValue.
+    Filled(u64, [u64; 12]),
     /// The tree has these keys.
     Lists(&'static [u64]),
     /// This card is the next.
@@ -140,10 +141,10 @@ fn searches(world: &mut World, worker: u32, first: Act, levels: u32) -> bool
     true
 }
 
-fn is_filled(world: &World, card: u64, wants: &[u64; 10]) -> bool
+fn is_filled(world: &World, card: u64, wants: &[u64; 12]) -> bool
     requires { card ≤ world.now.last_card }
 {
-    for at in 0..10 {
+    for at in 0..12 {
         if world.word(card, Field::ALL[at]) != wants[at] {
             return false;
         }

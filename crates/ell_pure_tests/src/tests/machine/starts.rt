@@ -13,15 +13,15 @@ use ell_ops::{KEY_MAX, Op, distinct_keys};
 use ell_word::{INF1, INF2, START_MAX};
 use std::process::Abort;
 
-// The words over the start keys 2, 4 and 6, with four cards to claim.
+// The words over the start keys 2, 4 and 6, with four cards to claim. The leaves have the value 0.
 const THREE_KEYS: &[Line] = &[
     Next(4),
-    Filled(0, [0, 0, 0, 0, INF2, 3, 2, 3, INF1, INF2]),
-    Filled(1, [0, 0, 0, 0, 6, 6, 9, 3, 0, 0]),
-    Filled(2, [0, 0, 0, 0, 4, 7, 8, 3, 2, 4]),
-    Filled(3, [0, 0, 0, 0, INF1, 10, 11, 3, 6, INF1]),
-    Filled(4, [0; 10]),
-    Filled(7, [0; 10]),
+    Filled(0, [0, 0, 0, 0, INF2, 3, 2, 3, INF1, INF2, 0, 0]),
+    Filled(1, [0, 0, 0, 0, 6, 6, 9, 3, 0, 0, 0, 0]),
+    Filled(2, [0, 0, 0, 0, 4, 7, 8, 3, 2, 4, 0, 0]),
+    Filled(3, [0, 0, 0, 0, INF1, 10, 11, 3, 6, INF1, 0, 0]),
+    Filled(4, [0; 12]),
+    Filled(7, [0; 12]),
     Lists(&[2, 4, 6]),
 ];
 
@@ -33,14 +33,14 @@ const FOUR_CARDS: &[Line] = &[
     Does(0, &[Answer], NO),
     Searches(0, Begin(Op::Delete(4)), 3),
     Does(0, &[Claim], MOVED),
-    Filled(4, [3, 6, 8, 3, 0, 0, 0, 0, 0, 0]),
+    Filled(4, [3, 6, 8, 3, 0, 0, 0, 0, 0, 0, 0, 0]),
     Does(0, &[DFlag, Mark(4), DChild(4), DUnflag(4)], WON),
     Does(0, &[Answer], YES),
     Has(1, Field::Left, 7),
     Lists(&[2, 6]),
     Searches(0, Begin(Op::Insert(5, 50)), 2),
     Does(0, &[Claim], MOVED),
-    Filled(5, [0, 3, 7, 0, 5, 16, 17, 3, 2, 5]),
+    Filled(5, [0, 3, 7, 0, 5, 16, 17, 3, 2, 5, 0, 50]),
     Does(0, &[IFlag, IChild(5), IUnflag(5)], WON),
     Does(0, &[Answer], YES),
     Lists(&[2, 5, 6]),
@@ -126,7 +126,7 @@ impl Halves {
         self.end.wrapping_sub(self.middle) == 1
     }
 
-    fn fields(&self, leaves: &[u64]) -> [u64; 10] {
+    fn fields(&self, leaves: &[u64]) -> [u64; 12] {
         let node = self.card.wrapping_mul(3);
         let key = leaves.get(self.middle).copied().unwrap_or(0);
         let first = leaves.get(self.first).copied().unwrap_or(0);
@@ -138,15 +138,15 @@ impl Halves {
             true => (node.wrapping_add(2), key),
             false => (self.right().card.wrapping_mul(3), 0),
         };
-        [0, 0, 0, 0, key, left, right, 3, left_key, right_key]
+        [0, 0, 0, 0, key, left, right, 3, left_key, right_key, 0, 0]
     }
 }
 
 // Whether a card of the world has these fields.
-fn is_card(world: &World, last: u64, card: u64, fields: &[u64; 10]) -> bool
+fn is_card(world: &World, last: u64, card: u64, fields: &[u64; 12]) -> bool
     requires { last ≤ world.now.last_card }
 {
-    card <= last && (0..10).all(|at| world.word(card, Field::ALL[at]) == fields[at])
+    card <= last && (0..12).all(|at| world.word(card, Field::ALL[at]) == fields[at])
 }
 
 // Whether the world opens with these keys as a plain loop has it.
@@ -157,7 +157,7 @@ fn is_as_by_halves(rt: &(impl Abort + AllocGlobal), world: &World, keys: &[u64])
     let mut leaves = Vec::from_slice(rt.alloc(), keys).expect(rt, "memory");
     leaves.push(INF1).expect(rt, "memory");
     let below_root = if many == 0 { 1 } else { 3 };
-    let root = [0, 0, 0, 0, INF2, below_root, 2, 3, INF1, INF2];
+    let root = [0, 0, 0, 0, INF2, below_root, 2, 3, INF1, INF2, 0, 0];
     let mut waiting = Vec::new(rt.alloc());
     waiting
         .push(halves_of(1, 0, leaves.len()))

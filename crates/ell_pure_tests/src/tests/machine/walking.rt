@@ -1,13 +1,16 @@
-//! The keys of a world's tree by the walk that any words can be walked by, which are read here by card and field.
+//! The keys of a world's tree by the walk that any words can be walked by, which are read here by card and field, and the values of
+//! its leaves.
 ghost use Rattle.std.specs.Prelude.{◌≡◌, ◌≤◌, IfOk};
 ghost use Rattle.ell_word.specs.Node.{card, greatest_card};
 ghost use Rattle.ell_core.specs.inside.World.{machine_of};
 ghost use Rattle.ell_core.specs.tree.Tree.{ListsKeys};
 
 use super::scripts::{FIVE_INSERTED, played};
-use ell_core::{TreeWords, World, child_field, key_field, keys_of_tree, room_holds_keys};
+use ell_core::{
+    TreeWords, World, child_field, key_field, keys_of_tree, room_holds_keys, value_field,
+};
 use ell_ops::NoMemory;
-use ell_word::card_of;
+use ell_word::{card_of, is_internal};
 use std::alloc::Global;
 
 // A world, of which only single words are read.
@@ -44,9 +47,30 @@ fn keys_by_words(alloc: Global, world: &World, cards: u64) -> Result<Vec<u64>, N
     Ok(keys_of_tree(&ByWords { world }, waiting, keys))
 }
 
+/// The value at the leaf of a key in the tree of a world with so many cards, if the key is there.
+pub fn value_in(world: &World, cards: u64, key: u64) -> Option<u64>
+    requires { world.now.last_card ≡ cards }
+{
+    let mut node = 0;
+    for _ in 0..=cards {
+        let card = card_of(node);
+        if card > cards {
+            return None;
+        }
+        let node_key = world.word(card, key_field(node));
+        if !is_internal(node) {
+            let value = world.word(card, value_field(node));
+            return (node_key == key).then_some(value);
+        }
+        node = world.word(card, child_field(node_key <= key));
+    }
+    None
+}
+
 #[test]
-fn words_give_the_keys(rt: HostRuntime) {
+fn words_give_the_keys_and_values(rt: HostRuntime) {
     let world = played(&rt, 2, &[(0, 5)], 4, &[FIVE_INSERTED]);
     let keys = keys_by_words(rt.alloc(), &world, 4);
     assert!(rt; keys.is_ok_and(|keys| keys.as_slice() == [5].as_slice()));
+    assert!(rt; value_in(&world, 4, 5) == Some(50) && value_in(&world, 4, 6).is_none());
 }

@@ -2,31 +2,36 @@
 use ell_core::Fact::{DFlagged, IFlagged, Marked};
 use ell_core::{
     Field, child_field, delete_filling, insert_filling, key_field, leaf_answer, table_size,
-    told_by, update_word,
+    told_by, update_word, value_field,
 };
 use ell_ops::Op;
 use ell_ops::Reply::{No, Yes};
 use ell_word::{INF1, State};
 
 #[test]
-fn a_card_has_ten_words_after_the_claim_word(rt: HostRuntime) {
+fn a_card_has_twelve_words_after_the_claim_word(rt: HostRuntime) {
     let places = [
         (Field::Gp.address(0), 1),
         (Field::RightLeafKey.address(0), 10),
-        (Field::Key.address(2), 25),
-        (table_size(2), 31),
+        (Field::LeftValue.address(0), 11),
+        (Field::RightValue.address(0), 12),
+        (Field::Gp.address(1), 13),
+        (Field::Key.address(2), 29),
+        (table_size(2), 37),
     ];
-    for row in 0..4 {
+    for row in 0..7 {
         assert!(rt; places[row].0 == places[row].1, "row {row}");
     }
     let fields = [
         (key_field(6), Field::Key),
         (key_field(7), Field::LeftLeafKey),
         (key_field(8), Field::RightLeafKey),
+        (value_field(7), Field::LeftValue),
+        (value_field(8), Field::RightValue),
         (child_field(false), Field::Left),
         (child_field(true), Field::Right),
     ];
-    for row in 0..5 {
+    for row in 0..7 {
         assert!(rt; fields[row].0 == fields[row].1, "row {row}");
     }
 }
@@ -58,8 +63,24 @@ fn a_card_is_filled_for_its_operation(rt: HostRuntime) {
         (Field::Update, 3),
         (Field::LeftLeafKey, 5),
         (Field::RightLeafKey, INF1),
+        (Field::LeftValue, 50),
+        (Field::RightValue, 0),
     ];
-    assert!(rt; insert_filling(1, 5, 0, 1, INF1) == insert);
+    assert!(rt; insert_filling(1, 5, 50, 0, 1, INF1, 0) == insert);
+    // Key 7 at the leaf of key 5: node 6 over leaves 7 and 8, the old leaf's copy on the left.
+    let greater = [
+        (Field::P, 3),
+        (Field::L, 4),
+        (Field::Key, 7),
+        (Field::Left, 7),
+        (Field::Right, 8),
+        (Field::Update, 3),
+        (Field::LeftLeafKey, 5),
+        (Field::RightLeafKey, 7),
+        (Field::LeftValue, 50),
+        (Field::RightValue, 70),
+    ];
+    assert!(rt; insert_filling(2, 7, 70, 3, 4, 5, 50) == greater);
     let delete = [
         (Field::Gp, 0),
         (Field::P, 3),

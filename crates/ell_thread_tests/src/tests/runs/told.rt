@@ -11,17 +11,17 @@ const OPERATIONS: u32 = 2_000;
 // A list of one worker, and how often it comes to each kind of step, as a person worked it out.
 type List = (&'static [Op], &'static [(Kind, u64)]);
 
-// A search reads three words at each inner node, and the key of the leaf where it ends.
+// A search reads three words at each inner node, and the key and the value of the leaf where it ends.
 const LISTS: [List; 4] = [
-    (&[Find(5)], &[(Kind::Note, 2), (Kind::Look, 4)]),
-    // It reads the number of the next card, and the key of the parent; a card for an insert has eight words.
+    (&[Find(5)], &[(Kind::Note, 2), (Kind::Look, 5)]),
+    // It reads the number of the next card, and the key of the parent; a card for an insert has ten words.
     (
         &[Insert(5, 50)],
         &[
             (Kind::Note, 2),
-            (Kind::Look, 6),
+            (Kind::Look, 7),
             (Kind::Claim, 1),
-            (Kind::Fill, 8),
+            (Kind::Fill, 10),
             (Kind::IFlag, 1),
             (Kind::IChild, 1),
             (Kind::IUnflag, 1),
@@ -32,9 +32,9 @@ const LISTS: [List; 4] = [
         &[Insert(5, 50), Insert(5, 50)],
         &[
             (Kind::Note, 4),
-            (Kind::Look, 13),
+            (Kind::Look, 15),
             (Kind::Claim, 1),
-            (Kind::Fill, 8),
+            (Kind::Fill, 10),
             (Kind::IFlag, 1),
             (Kind::IChild, 1),
             (Kind::IUnflag, 1),
@@ -46,9 +46,9 @@ const LISTS: [List; 4] = [
         &[Insert(5, 50), Delete(5)],
         &[
             (Kind::Note, 4),
-            (Kind::Look, 18),
+            (Kind::Look, 20),
             (Kind::Claim, 2),
-            (Kind::Fill, 12),
+            (Kind::Fill, 14),
             (Kind::IFlag, 1),
             (Kind::IChild, 1),
             (Kind::IUnflag, 1),

@@ -3,7 +3,7 @@ use super::parting::{joined, parted};
 use ell_cards::{CardFault, CardTable};
 use ell_core::Field;
 
-const WORDS: [(Field, u64); 10] = [
+const WORDS: [(Field, u64); 12] = [
     (Field::Gp, 0),
     (Field::P, 0),
     (Field::L, 0),
@@ -14,6 +14,8 @@ const WORDS: [(Field, u64); 10] = [
     (Field::Update, 3),
     (Field::LeftLeafKey, 18_446_744_073_709_551_614),
     (Field::RightLeafKey, 18_446_744_073_709_551_615),
+    (Field::LeftValue, 0),
+    (Field::RightValue, 0),
 ];
 
 #[test]

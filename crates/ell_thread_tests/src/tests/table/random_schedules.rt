@@ -71,12 +71,12 @@ impl Drawing {
         }
     }
 
-    // An operation on a key of a worker.
+    // An operation on a key of a worker; an insert has a value of its own.
     fn operation(&mut self, worker: u32) -> Op {
         let key = (worker % 4) as u64 * 2 + self.dice.below(2);
         match self.dice.below(5) {
             0 => Op::Find(key),
-            1 | 2 => Op::Insert(key, 0),
+            1 | 2 => Op::Insert(key, self.done),
             _ => Op::Delete(key),
         }
     }

@@ -29,20 +29,20 @@ const INF1: u64 = 18_446_744_073_709_551_614;
 const INF2: u64 = 18_446_744_073_709_551_615;
 
 // The words of each card, in the order of `Field::ALL`.
-const OPENING: [[u64; 10]; 8] = [
-    [0, 0, 0, 0, INF2, 3, 2, 3, INF1, INF2],
-    [0, 0, 0, 0, 6, 6, 9, 3, 0, 0],
-    [0, 0, 0, 0, 4, 7, 8, 3, 2, 4],
-    [0, 0, 0, 0, INF1, 10, 11, 3, 6, INF1],
-    [0; 10],
-    [0; 10],
-    [0; 10],
-    [0; 10],
+const OPENING: [[u64; 12]; 8] = [
+    [0, 0, 0, 0, INF2, 3, 2, 3, INF1, INF2, 0, 0],
+    [0, 0, 0, 0, 6, 6, 9, 3, 0, 0, 0, 0],
+    [0, 0, 0, 0, 4, 7, 8, 3, 2, 4, 0, 0],
+    [0, 0, 0, 0, INF1, 10, 11, 3, 6, INF1, 0, 0],
+    [0; 12],
+    [0; 12],
+    [0; 12],
+    [0; 12],
 ];
 
 // Whether a card has these words.
-fn has_words(closed: &Closed<Global>, card: u64, words: &[u64; 10]) -> bool {
-    card <= closed.last_card() && (0..10).all(|at| closed.word(card, Field::ALL[at]) == words[at])
+fn has_words(closed: &Closed<Global>, card: u64, words: &[u64; 12]) -> bool {
+    card <= closed.last_card() && (0..12).all(|at| closed.word(card, Field::ALL[at]) == words[at])
 }
 
 #[test]
@@ -64,10 +64,10 @@ fn no_start_keys_open_as_a_plain_table(rt: HostRuntime) {
     let (table, mut pass) = made.expect(&rt, "table");
     assert!(rt; table.last_card() == CARDS && table.next(&mut pass) == 1);
     let closed = closed(&rt, table, pass, &START);
-    let root = [0, 0, 0, 0, INF2, 1, 2, 3, INF1, INF2];
+    let root = [0, 0, 0, 0, INF2, 1, 2, 3, INF1, INF2, 0, 0];
     assert!(rt; has_words(&closed, 0, &root));
     for card in 1..=closed.last_card() {
-        assert!(rt; has_words(&closed, card, &[0; 10]), "card {card}");
+        assert!(rt; has_words(&closed, card, &[0; 12]), "card {card}");
     }
 }
 

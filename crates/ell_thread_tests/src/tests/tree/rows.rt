@@ -13,8 +13,8 @@ const KEYS: [u64; 2] = [5, 7];
 
 const CARDS: u64 = 3;
 
-// How many steps a call of one try may make on a tree of so many cards.
-const MOST_STEPS: u64 = 640;
+// How many steps a call of one try may make on a tree of so many cards: seven for each of them, and 28.
+const MOST_STEPS: u64 = 49;
 
 // Does an operation with one try, which is to end as its row says, after a step at least; one that may change the set after so many
 // at most.
@@ -110,10 +110,11 @@ fn parts_insert_beside_one_another(rt: HostRuntime) {
     assert!(rt; played(&rt, &parted).as_slice() == KEYS.as_slice());
 }
 
-// Each takes six steps: it begins, reads the root's update word and key, goes down to a leaf and reads its key, and answers.
+// Each takes seven steps: it begins, reads the root's update word and key, goes down to a leaf and reads its key and its value, and
+// answers.
 #[test]
-fn finds_in_the_opening_tree_take_six_steps(rt: HostRuntime) {
+fn finds_in_the_opening_tree_take_seven_steps(rt: HostRuntime) {
     let (tree, mut pass) = Tree::reserve(rt.alloc(), &KEYS, CARDS).expect(&rt, "tree");
-    assert!(rt; ask(&rt, &tree, &mut pass, Find(5), 1, &NoGate) == Ok(false) && pass.steps() == 6);
-    assert!(rt; ask(&rt, &tree, &mut pass, Find(7), 1, &NoGate) == Ok(false) && pass.steps() == 12);
+    assert!(rt; ask(&rt, &tree, &mut pass, Find(5), 1, &NoGate) == Ok(false) && pass.steps() == 7);
+    assert!(rt; ask(&rt, &tree, &mut pass, Find(7), 1, &NoGate) == Ok(false) && pass.steps() == 14);
 }
