@@ -3,8 +3,9 @@ ghost use Rattle.std.specs.Prelude.{◌≡◌};
 ghost use Rattle.ell_test_steps.specs.Fitting.{IsIdle, IsReady};
 
 use ell_cards::{CardTable, Pass};
-use ell_core::Act::{self, Answer, Begin, Claim, DChild, DFlag, DUnflag, Down, IChild, IFlag};
-use ell_core::Act::{IUnflag, Mark, Upd};
+use ell_core::Act::{
+    self, Answer, Begin, Claim, DChild, DFlag, DUnflag, Down, IChild, IFlag, IUnflag, Mark, Upd,
+};
 use ell_ops::Op::{Delete, Find, Insert};
 use ell_test_steps::{Memory, leaf_value, nothing, step};
 use std::alloc::Global;
@@ -40,7 +41,10 @@ fn play(rt: &impl Abort, table: &CardTable<Global>, pass: Pass<Global>, turns: &
     let mut memory = nothing();
     for (row, (acts, want)) in turns.iter().enumerate() {
         go(rt, table, &mut pass, &mut memory, acts);
-        assert!(rt; leaf_value(table, &mut pass, &memory) == *want, "turn {row}");
+        assert!(rt;
+            leaf_value(table, &mut pass, &memory) == *want,
+            "turn {row}"
+        );
     }
 }
 
