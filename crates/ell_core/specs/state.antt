@@ -1,4 +1,4 @@
--- Where the words of a table stand in one list: the claim word is word 0, and then each card has ten words.
+-- Where the words of a table stand in one list: the claim word is word 0, and then each card has twelve words.
 pub mod Layout
 -- The words of the machine as functions: those of Info go by the card, those of the tree by the node.
 pub mod Words

@@ -9,7 +9,7 @@ pub const KEY_MAX: u64 = 18_446_744_073_709_551_613;
 pub enum Op {
     /// Is the key in the set?
     Find(u64),
-    /// Adds the key; was it absent? Behind the key stands a value, which is not kept yet.
+    /// Adds the key; was it absent? Behind the key stands a value, which is kept, but not told yet.
     Insert(u64, u64),
     /// Removes the key; was it present?
     Delete(u64),

@@ -125,11 +125,11 @@ impl<A: Allocator + Copy> Tree<A> {
         find(&self.table, pass, key, gate)
     }
 
-    /// Adds a key of the pass: whether it was absent. Its value is not kept yet. It is tried so often at most, at least once, in at
-    /// most `tries * (7 * cards + 27) + 1` steps, where `cards` is the number of the last card. `Busy` comes where something was in
-    /// the way of every try, and `Spent` where a try that would add the key finds all cards given out. After either the set is as it
-    /// was, and nothing of the call is under way. However it ends, whatever was in the way of a try is over by then: a card that
-    /// another pass took first, or a change of a neighbour, which was helped to its end where nobody else had ended it.
+    /// Adds a key of the pass: whether it was absent. Its value is kept, but not told yet. It is tried so often at most, at least
+    /// once, in at most `tries * (7 * cards + 27) + 1` steps, where `cards` is the number of the last card. `Busy` comes where
+    /// something was in the way of every try, and `Spent` where a try that would add the key finds all cards given out. After either
+    /// the set is as it was, and nothing of the call is under way. However it ends, whatever was in the way of a try is over by then:
+    /// a card that another pass took first, or a change of a neighbour, which was helped to its end where nobody else had ended it.
     pub fn insert<G: StepGate>(
         &self,
         pass: &mut Pass<A>,
