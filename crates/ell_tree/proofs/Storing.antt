@@ -1,4 +1,4 @@
-use Rattle.std.proofs.Common.{◌≡◌, ℕ, ◌+◌, ◌≤◌, if◌then◌else◌, nat_lt, min, max, List, [], ◌∷◌, refl, sym, ◌∙◌, ap, subst, arith}
+use Rattle.std.proofs.Common.{◌≡◌, ℕ, ◌+◌, ◌≤◌, if◌then◌else◌, nat_lt, min, max, List, [], ◌∷◌, refl, sym, ◌∙◌, ap, arith}
 use Rattle.ell_word.specs.Node.{left_leaf, right_leaf}
 use Rattle.ell_core.specs.declared.field.Field.{Field}
 use Rattle.ell_core.specs.declared.field.Field.TheVariants as field
@@ -44,7 +44,7 @@ insert_stores parent leaf lesser greater left right update left_value right_valu
 -- it is what the card is to say
 stored_of_insert : (c k value parent leaf leaf_key leaf_value : ℕ) (f : Field)
     → stored_at (insert_stores parent leaf (min k leaf_key) (max k leaf_key) (left_leaf c) (right_leaf c) (clean 0)
-        (if nat_lt k leaf_key then value else leaf_value) (if nat_lt k leaf_key then leaf_value else value)) f
+    (if nat_lt k leaf_key then value else leaf_value) (if nat_lt k leaf_key then leaf_value else value)) f
     ≡ stored (insert_filling c k value parent leaf leaf_key leaf_value) f 0
 stored_of_insert c k value parent leaf leaf_key leaf_value field.Gp = refl
 stored_of_insert c k value parent leaf leaf_key leaf_value field.P = refl

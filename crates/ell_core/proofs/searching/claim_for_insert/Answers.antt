@@ -1,4 +1,4 @@
-use Rattle.std.proofs.Common.{◌≡◌, arith, rules, ◌<◌, ◌≤◌, ap, ◌∙◌, refl, inl, false, Some}
+use Rattle.std.proofs.Common.{arith, rules, ◌<◌, ◌≤◌, ap, ◌∙◌, refl, inl, false, Some}
 use Rattle.ell_core.specs.declared.event.Stepped.TheVariants.{Moved}
 use Rattle.ell_core.specs.state.Cards.{claimed, insert_filling}
 use Rattle.ell_core.specs.inside.Inside.{words_in, worker_in}
@@ -35,7 +35,7 @@ returns-then-card-memory g c =
 pub returns : goal.returns
 returns g c =
     let filling = c.insert_filling.ensures
-        ∙ (λ t. insert_filling (c.next-card.ensures t) c.args.key c.args.value c.args.at.parent.node c.args.at.leaf (c.key-leaf_key.ensures t) (c.value.ensures t)) in
+    ∙ (λ t. insert_filling (c.next-card.ensures t) c.args.key c.args.value c.args.at.parent.node c.args.at.leaf (c.key-leaf_key.ensures t) (c.value.ensures t)) in
     let words = c.claim.ensures.words ∙ ap (claimed (words_in c.args.memory.now)) filling in
     let room : (words_in c.args.memory.now).next ≤ c.args.memory.now.last_card = omega arith in record {
       done = record {
