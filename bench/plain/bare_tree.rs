@@ -219,11 +219,12 @@ impl BareTree {
         }
     }
 
-    pub fn find(&self, key: u64) -> bool {
+    /// The value of a key, if it is present.
+    pub fn find(&self, key: u64) -> Option<u64> {
         self.touch();
         let place = self.search(key);
         self.touch();
-        place.key == key
+        (place.key == key).then_some(place.value)
     }
 
     /// The keys of the leaves, ascending, when no thread is at work.

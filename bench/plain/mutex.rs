@@ -1,9 +1,10 @@
-// A program that bench/run measures elltree against: the same operations in threads, on a `BTreeSet` behind a `Mutex`.
+// A program that bench/run measures elltree against: the same operations in threads, on a `BTreeMap` behind a `Mutex`.
+// Its texts name no values, so each is 0.
 
 mod text;
 mod workers;
 
-use std::collections::BTreeSet;
+use std::collections::BTreeMap;
 use std::io;
 use std::sync::Mutex;
 use std::{env, process};
@@ -16,14 +17,14 @@ fn main() -> io::Result<()> {
         process::exit(2);
     };
     let bulk = read_bulk()?;
-    let set = Mutex::new(BTreeSet::from_iter(bulk.start));
+    let map = Mutex::new(BTreeMap::from_iter(bulk.start.into_iter().map(|key| (key, 0u64))));
     let replies = work(&bulk.operations, &settings, |operation| {
-        let mut keys = set.lock().unwrap();
+        let mut pairs = map.lock().unwrap();
         match operation {
-            Operation::Insert(key) => keys.insert(key),
-            Operation::Delete(key) => keys.remove(&key),
-            Operation::Find(key) => keys.contains(&key),
+            Operation::Insert(key) => pairs.insert(key, 0).is_none(),
+            Operation::Delete(key) => pairs.remove(&key).is_some(),
+            Operation::Find(key) => pairs.get(&key).is_some(),
         }
     });
-    write_answer(&replies, set.into_inner().unwrap().into_iter())
+    write_answer(&replies, map.into_inner().unwrap().into_keys())
 }

@@ -1,31 +1,32 @@
 // The programs that bench/tree/run measures the tree against, with the keys and operations of crates/ell_tree_bench in the same
-// order: the same tree over bare atomic words, a BTreeSet behind a Mutex, and a BTreeSet in one thread.
+// order: the same tree over bare atomic words, a BTreeMap behind a Mutex, and a BTreeMap in one thread.
 
 #[path = "../plain/bare_tree.rs"]
 mod bare_tree;
 
 use bare_tree::BareTree;
-use std::collections::BTreeSet;
+use std::collections::btree_map::{BTreeMap, Entry};
 use std::env;
+use std::fmt::{self, Display, Formatter};
 use std::process::ExitCode;
 use std::sync::{Arc, Mutex};
 use std::thread;
 use std::time::Instant;
 
-/// A thread's handle on a set of keys. An insert or a delete answers none where no card is left.
-trait Set: Clone + Send {
-    fn find(&mut self, key: u64) -> bool;
-    fn insert(&mut self, key: u64) -> Option<bool>;
+/// A thread's handle on a map. An insert or a delete answers none where no card is left. A key that is present keeps its value.
+trait Map: Clone + Send {
+    fn find(&mut self, key: u64) -> Option<u64>;
+    fn insert(&mut self, key: u64, value: u64) -> Option<bool>;
     fn delete(&mut self, key: u64) -> Option<bool>;
 }
 
-impl Set for Arc<BareTree> {
-    fn find(&mut self, key: u64) -> bool {
+impl Map for Arc<BareTree> {
+    fn find(&mut self, key: u64) -> Option<u64> {
         BareTree::find(self, key)
     }
 
-    fn insert(&mut self, key: u64) -> Option<bool> {
-        BareTree::insert(self, key, 0)
+    fn insert(&mut self, key: u64, value: u64) -> Option<bool> {
+        BareTree::insert(self, key, value)
     }
 
     fn delete(&mut self, key: u64) -> Option<bool> {
@@ -33,48 +34,72 @@ impl Set for Arc<BareTree> {
     }
 }
 
-impl Set for Arc<Mutex<BTreeSet<u64>>> {
-    fn find(&mut self, key: u64) -> bool {
-        self.lock().unwrap().contains(&key)
+impl Map for Arc<Mutex<BTreeMap<u64, u64>>> {
+    fn find(&mut self, key: u64) -> Option<u64> {
+        self.lock().unwrap().find(key)
     }
 
-    fn insert(&mut self, key: u64) -> Option<bool> {
-        Some(self.lock().unwrap().insert(key))
-    }
-
-    fn delete(&mut self, key: u64) -> Option<bool> {
-        Some(self.lock().unwrap().remove(&key))
-    }
-}
-
-impl Set for BTreeSet<u64> {
-    fn find(&mut self, key: u64) -> bool {
-        self.contains(&key)
-    }
-
-    fn insert(&mut self, key: u64) -> Option<bool> {
-        Some(BTreeSet::insert(self, key))
+    fn insert(&mut self, key: u64, value: u64) -> Option<bool> {
+        Map::insert(&mut *self.lock().unwrap(), key, value)
     }
 
     fn delete(&mut self, key: u64) -> Option<bool> {
-        Some(self.remove(&key))
+        self.lock().unwrap().delete(key)
     }
 }
 
-/// How many operations were answered with yes, and how many had no answer.
+impl Map for BTreeMap<u64, u64> {
+    fn find(&mut self, key: u64) -> Option<u64> {
+        self.get(&key).copied()
+    }
+
+    fn insert(&mut self, key: u64, value: u64) -> Option<bool> {
+        let Entry::Vacant(place) = self.entry(key) else {
+            return Some(false);
+        };
+        place.insert(value);
+        Some(true)
+    }
+
+    fn delete(&mut self, key: u64) -> Option<bool> {
+        Some(self.remove(&key).is_some())
+    }
+}
+
+/// How many operations were answered with yes or with a value, the sum of those values, and how many operations had no answer.
 #[derive(Clone, Copy, Default)]
 struct Tally {
     yes: u64,
+    sum: u64,
     held: u64,
 }
 
 impl Tally {
-    fn count(&mut self, outcome: Option<bool>) {
+    fn count_find(&mut self, value: Option<u64>) {
+        if let Some(value) = value {
+            self.yes += 1;
+            self.sum = self.sum.wrapping_add(value);
+        }
+    }
+
+    fn count_change(&mut self, outcome: Option<bool>) {
         match outcome {
             Some(true) => self.yes += 1,
             Some(false) => {}
             None => self.held += 1,
         }
+    }
+
+    fn add(&mut self, other: Tally) {
+        self.yes += other.yes;
+        self.sum = self.sum.wrapping_add(other.sum);
+        self.held += other.held;
+    }
+}
+
+impl Display for Tally {
+    fn fmt(&self, f: &mut Formatter) -> fmt::Result {
+        write!(f, "{} {} {}", self.yes, self.sum, self.held)
     }
 }
 
@@ -96,83 +121,84 @@ fn next_number(number: u64) -> u64 {
         .wrapping_add(1_442_695_040_888_963_407)
 }
 
-fn insert_all(set: &mut impl Set, keys: &[u64]) -> Tally {
+/// The value that a key is first inserted with.
+fn first_value(key: u64) -> u64 {
+    key.wrapping_mul(3).wrapping_add(1)
+}
+
+fn insert_all(map: &mut impl Map, keys: &[u64]) -> Tally {
     let (mut tally, mut place) = (Tally::default(), 0);
     for _ in 0..keys.len() {
         place = next_place(place, keys.len());
-        tally.count(set.insert(keys[place]));
+        tally.count_change(map.insert(keys[place], first_value(keys[place])));
     }
     tally
 }
 
-fn find_many(set: &mut impl Set, keys: &[u64], count: u64) -> Tally {
+fn find_many(map: &mut impl Map, keys: &[u64], count: u64) -> Tally {
     let (mut tally, mut number) = (Tally::default(), 0);
     for _ in 0..count {
         number = next_number(number);
         let key = keys[(number >> 32) as usize % keys.len()];
-        tally.count(Some(set.find(key)));
+        tally.count_find(map.find(key));
     }
     tally
 }
 
-fn do_mixed(set: &mut impl Set, keys: &[u64], count: u64) -> Tally {
+fn do_mixed(map: &mut impl Map, keys: &[u64], count: u64) -> Tally {
     let (mut tally, mut number) = (Tally::default(), 0);
     for _ in 0..count {
         number = next_number(number);
         let key = keys[(number >> 32) as usize % keys.len()];
-        tally.count(match number >> 62 {
-            0 => set.insert(key),
-            1 => set.delete(key),
-            _ => Some(set.find(key)),
-        });
+        match number >> 62 {
+            0 => tally.count_change(map.insert(key, number)),
+            1 => tally.count_change(map.delete(key)),
+            _ => tally.count_find(map.find(key)),
+        }
     }
     tally
 }
 
-fn do_work(set: &mut impl Set, keys: &[u64], work: Work) -> Tally {
+fn do_work(map: &mut impl Map, keys: &[u64], work: Work) -> Tally {
     match work {
         _ if keys.is_empty() => Tally::default(),
-        Work::Inserts => insert_all(set, keys),
-        Work::Finds(count) => find_many(set, keys, count),
-        Work::Mixed(count) => do_mixed(set, keys, count),
+        Work::Inserts => insert_all(map, keys),
+        Work::Finds(count) => find_many(map, keys, count),
+        Work::Mixed(count) => do_mixed(map, keys, count),
     }
 }
 
 /// Has each handle do this work on its stripe of the keys, in threads of their own, the first in this one: what came of it, and
 /// the nanoseconds that it took.
-fn do_all(sets: &mut [impl Set], stripes: &[Vec<u64>], work: Work) -> (Tally, u128) {
+fn do_all(maps: &mut [impl Map], stripes: &[Vec<u64>], work: Work) -> (Tally, u128) {
     let start = Instant::now();
     let mut total = Tally::default();
-    let mut shares = sets.iter_mut().zip(stripes);
+    let mut shares = maps.iter_mut().zip(stripes);
     thread::scope(|scope| {
-        let (set, keys) = shares.next().unwrap();
-        let others = shares.map(|(set, keys)| scope.spawn(move || do_work(set, keys, work)));
+        let (map, keys) = shares.next().unwrap();
+        let others = shares.map(|(map, keys)| scope.spawn(move || do_work(map, keys, work)));
         let others: Vec<_> = others.collect();
-        let first = do_work(set, keys, work);
+        let first = do_work(map, keys, work);
         let tallies = others.into_iter().map(|thread| thread.join().unwrap());
         for tally in tallies.chain([first]) {
-            total.yes += tally.yes;
-            total.held += tally.held;
+            total.add(tally);
         }
     });
     (total, start.elapsed().as_nanos())
 }
 
 /// Does all that is timed, and prints what came of it and the times.
-fn measure<S: Set>(reserve: impl FnOnce() -> S, threads: u64, [keys, finds, mixed]: [u64; 3]) {
+fn measure<M: Map>(reserve: impl FnOnce() -> M, threads: u64, [keys, finds, mixed]: [u64; 3]) {
     let start = Instant::now();
-    let set = reserve();
+    let map = reserve();
     let reserved = start.elapsed().as_nanos();
     let stripe = |rest| (0..keys).filter(|key| key % threads == rest).collect();
     let stripes: Vec<Vec<u64>> = (0..threads).map(stripe).collect();
-    let mut sets = vec![set; stripes.len()];
-    let (inserted, inserts_took) = do_all(&mut sets, &stripes, Work::Inserts);
-    let (found, finds_took) = do_all(&mut sets, &stripes, Work::Finds(finds / threads));
-    let (mixed, mixed_took) = do_all(&mut sets, &stripes, Work::Mixed(mixed / threads));
-    println!(
-        "inserts {} {} finds {} {} mixed {} {}",
-        inserted.yes, inserted.held, found.yes, found.held, mixed.yes, mixed.held
-    );
+    let mut maps = vec![map; stripes.len()];
+    let (inserted, inserts_took) = do_all(&mut maps, &stripes, Work::Inserts);
+    let (found, finds_took) = do_all(&mut maps, &stripes, Work::Finds(finds / threads));
+    let (mixed, mixed_took) = do_all(&mut maps, &stripes, Work::Mixed(mixed / threads));
+    println!("inserts {inserted} finds {found} mixed {mixed}");
     eprintln!("{reserved} {inserts_took} {finds_took} {mixed_took}");
 }
 
@@ -193,8 +219,8 @@ fn main() -> ExitCode {
     };
     match kind {
         Some("bare") => measure(|| Arc::new(reserve_bare(cards)), threads, sizes),
-        Some("mutex") => measure(|| Arc::new(Mutex::new(BTreeSet::new())), threads, sizes),
-        Some("plain") if threads == 1 => measure(BTreeSet::new, threads, sizes),
+        Some("mutex") => measure(|| Arc::new(Mutex::new(BTreeMap::new())), threads, sizes),
+        Some("plain") if threads == 1 => measure(BTreeMap::new, threads, sizes),
         _ => {
             eprintln!("baselines: bare, mutex, or plain in one thread");
             return ExitCode::from(2);

@@ -6,7 +6,7 @@ pub mod OwnCards
 pub mod OwnSound
 -- where the machine of the rule has the table's own words
 pub mod OwnWords
--- how step calls change the keys of the tree that the table's own words make
+-- how step calls change the keys of the tree that the table's own words make, and their values
 pub mod OwnKeys
 -- what step calls do to ledgers, and what these tell of the tree that the table's own words make
 pub mod OwnLedgers

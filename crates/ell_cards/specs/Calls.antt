@@ -1,4 +1,4 @@
-use Rattle.std.specs.Prelude.{◌≡◌, ◌≢◌, ℕ, ◌+◌, ◌<◌, ◌≤◌, ◌==◌, ◌%◌, ◌↔◌, if◌then◌else◌, Bool, false, Option, Some, None}
+use Rattle.std.specs.Prelude.{◌≡◌, ◌≢◌, ℕ, ◌+◌, ◌<◌, ◌≤◌, ◌==◌, ◌%◌, ◌↔◌, if◌then◌else◌, Bool, false, Option, Some, None, is_some}
 use Rattle.ell_ops.specs.declared.op.Op.{Op}
 use Rattle.ell_ops.specs.Meaning.{key_of}
 use Rattle.ell_word.specs.Node.{IsInternal, card, internal}
@@ -17,7 +17,7 @@ use Rattle.ell_core.specs.state.Cards.{iflag, dflag, marked, clean}
 use Rattle.ell_core.specs.acts.Searching.{IsLeaf}
 use Rattle.ell_core.specs.acts.Exchanges.{won_or_lost}
 use Rattle.ell_core.specs.acts.Events.{Steps}
-use Rattle.ell_core.specs.statements.StepLaws.{AnswersAsSet}
+use Rattle.ell_core.specs.statements.StepLaws.{AnswersAsMap, contents_in}
 use Rattle.ell_cards.specs.declared.call.Call.{Call}
 use Rattle.ell_cards.specs.declared.call.Call.TheVariants as call
 use Rattle.ell_cards.specs.declared.view.Told.TheVariants.{Met, Info}
@@ -25,7 +25,6 @@ use Rattle.ell_cards.specs.declared.view.View.{View}
 use Rattle.ell_cards.specs.Models.{IsTold, Does, StandsAt, InTable, KnowsDelete}
 use Rattle.ell_cards.specs.Changes.{learning, with_found, after_begin, after_again, after_leave, after_answer, after_upd, after_down, after_next, after_key_of, after_value_of, after_info, after_frozen_child, after_claim, after_fill, after_flag, after_mark}
 use Rattle.ell_cards.specs.Guards.{MayBegin, MayStop, MayAnswer, MayRead, MayGoDown, MayAsk, MaySee, MayClaim, MayFill, MayIFlag, MayDFlag, MayIChild, MayIUnflag, MayMark, MayDChild, MayDUnflag, MayBacktrack}
-use Rattle.ell_core.specs.declared.view.Entry.TheVariants.{Present}
 
 -- the address of the update word of a node
 abbrev pub update_at : ℕ → ℕ
@@ -185,8 +184,13 @@ Becomes i None said m m' = m' ≡ m
 -- grandparent
 pub record TellsLeaf (v : View) (x key : ℕ) : Type 0 where
   pub present : (op : Op) → Does v op → StandsAt v x → IsLeaf x
-      → (key ≡ key_of op) ↔ (ledger_of v.worker.ledger (key_of op) ≡ Some Present)
+      → is_some (contents_in (ledger_of v.worker.ledger) (key_of op)) ≡ (key == key_of op)
   pub deep : (op : Op) → Does v op → StandsAt v x → IsLeaf x → key ≡ key_of op → v.worker.search.grandparent ≢ None
+
+-- the value of a leaf where the pass stands, whose key it was told to be the operation's, is that of its ledger
+abbrev pub TellsValue : View → ℕ → ℕ → Type 0
+TellsValue v x value = (op : Op) → Does v op → StandsAt v x → v.here ≡ Some (key_of op)
+    → contents_in (ledger_of v.worker.ledger) (key_of op) ≡ Some value
 
 -- where a card goes is ever deeper: a delete's parent below its grandparent, and a leaf below the parent
 abbrev pub TellsDepth : View → ℕ → Field → ℕ → Type 0
@@ -206,11 +210,12 @@ TellsNode cards _ x = Unit {0}
 -- what a call tells of the word that it found
 abbrev pub Tells : ℕ → Call → View → ℕ → Type 0
 Tells cards (call.Answer said) v n =
-    AnswersAsSet (ledger_of v.worker.ledger) (ledger_of (after (call.Answer said) n v).worker.ledger) v.worker.operation said
+    AnswersAsMap (ledger_of v.worker.ledger) (ledger_of (after (call.Answer said) n v).worker.ledger) v.worker.operation said
 Tells cards (call.Upd x) v n = (unpacked n).card ≤ cards
 Tells cards (call.Down x right) v n = (x < n) × InTable cards n
 Tells cards call.Next v n = (1 ≤ n) × (n ≤ cards + 1)
 Tells cards (call.KeyOf x) v n = TellsLeaf v x n
+Tells cards (call.ValueOf x) v n = TellsValue v x n
 Tells cards (call.Info c f) v n = TellsNode cards f n × TellsDepth v c f n
 Tells cards (call.FrozenChild c p right) v n = (p < n) × InTable cards n
 Tells cards (call.IFlag c p from) v n = (unpacked n).card ≤ cards

@@ -141,7 +141,7 @@ with_key k entry (e ∷ es) = (e.0, if k == e.0 then entry else e.1) ∷ with_ke
 
 -- the ledger after an operation was answered so
 abbrev pub answered_ledger : Option Op → Reply → List (ℕ × Entry) → List (ℕ × Entry)
-answered_ledger (Some (Insert k value)) Yes ledger = with_key k Present ledger
+answered_ledger (Some (Insert k value)) Yes ledger = with_key k (Present value) ledger
 answered_ledger (Some (Delete k)) Yes ledger = with_key k Absent ledger
 answered_ledger _ _ ledger = ledger
 
@@ -329,8 +329,8 @@ idle_view ledger = record {
   hindrances = [];
 }
 
--- the first pass of a table: it owns all keys, of which the start keys are present and the others absent
-abbrev pub first_view : List ℕ → List ℕ → View
+-- the first pass of a table: it owns all keys, of which the start keys are present with their values, and the others absent
+abbrev pub first_view : List ℕ → List (ℕ × ℕ) → View
 first_view keys start = idle_view (keys_at_start keys start)
 
 -- what is left of a pass that was joined to another

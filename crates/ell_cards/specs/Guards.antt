@@ -1,4 +1,4 @@
-use Rattle.std.specs.Prelude.{◌≡◌, ◌≢◌, ℕ, ◌⊎◌, ◌==◌, nat_le, Bool, true, false, Some, None}
+use Rattle.std.specs.Prelude.{◌≡◌, ◌≢◌, ℕ, ◌⊎◌, nat_le, Bool, true, false, Option, Some, None}
 use Rattle.ell_ops.specs.declared.op.Op.{Op}
 use Rattle.ell_ops.specs.declared.op.Op.TheVariants.{Find, Insert, Delete}
 use Rattle.ell_ops.specs.Meaning.{key_of}
@@ -29,14 +29,21 @@ pub record MayStop (v : View) : Type 0 where
   pub busy : Does v op
   pub backed : (c : ℕ) → v.worker.card ≡ Some c → v.worker.flagged ≡ true → Knows v (Backed c)
 
--- an answer at the leaf where the pass stands, whose key it was told
+-- what a leaf has of key k, by what the pass was told of the leaf: its key and, if that is k, its value
+abbrev pub TellsOf : View → ℕ → ℕ → ℕ → Option ℕ → Type 0
+TellsOf v leaf key k None = key ≢ k
+TellsOf v leaf key k (Some value) = (key ≡ k) × IsTold v (Value leaf value)
+
+-- an answer at the leaf where the pass stands, whose key it was told, and its value too, where it has the operation's key
 pub record AnswersAtLeaf (v : View) (op : Op) (said : Reply) : Type 0 where
   pub leaf : ℕ
   pub key : ℕ
+  pub there : Option ℕ
   pub stands : StandsAt v leaf
   pub outer : IsLeaf leaf
   pub told : v.here ≡ Some key
-  pub says : leaf_answer op (key == key_of op) ≡ Some said
+  pub tells : TellsOf v leaf key (key_of op) there
+  pub says : leaf_answer op there ≡ Some said
 
 -- the card of an operation is known to be over
 abbrev pub IsOver : View → Op → ℕ → Type 0

@@ -8,12 +8,12 @@ use Rattle.ell_word.specs.Word.{unpacked}
 use Rattle.ell_word.specs.declared.update.State.TheVariants as state
 use Rattle.ell_core.specs.state.Words.{Words, words_of}
 use Rattle.ell_core.specs.state.Machine.{Machine, ledger_of}
-use Rattle.ell_core.specs.state.Cards.{card_key}
+use Rattle.ell_core.specs.state.Cards.{card_key, card_value}
 use Rattle.ell_core.specs.soundness.Sound.{IsSound}
-use Rattle.ell_core.specs.tree.Tree.{Reached, IsTreeKey}
+use Rattle.ell_core.specs.tree.Tree.{Reached, IsTreeKey, IsTreePair}
 use Rattle.ell_core.specs.history.Stages.{waits}
 use Rattle.ell_core.specs.history.Later.{SaysTheSame}
-use Rattle.ell_core.specs.statements.StepLaws.{AddsKey, TakesKey, SameKeys, AnswersAsSet}
+use Rattle.ell_core.specs.statements.StepLaws.{AddsPair, TakesKey, SamePairs, AnswersAsMap}
 use Rattle.ell_cards.specs.declared.call.Call.{Call}
 use Rattle.ell_cards.specs.declared.call.Call.TheVariants as call
 use Rattle.ell_cards.specs.declared.view.View.{View}
@@ -47,6 +47,7 @@ pub record IsHeld (v : View) (c : ℕ) : Type 0 where
 -- where the words of the rule's machine are the table's own: the claim word, and each card that does not wait for its flag. That
 -- is each card of a node that is reached from the root, each that a flag or a mark of such a node names, and each that a pass
 -- knows flagged or marked, or has in hand, flagged. The same nodes are reached in both, and the trees have the same keys
+-- with the same values
 pub record WordsAreOwn (keys : List ℕ) (cards : ℕ) (s : TableState) (r : Kept keys cards s) : Type 0 where
   pub next : r.words.next ≡ (own_words s).next
   pub settled : (c : ℕ) → waits (r.stages c) ≡ false → SaysTheSame (own_words s) r.words c
@@ -56,42 +57,42 @@ pub record WordsAreOwn (keys : List ℕ) (cards : ℕ) (s : TableState) (r : Kep
       → SaysTheSame (own_words s) r.words (unpacked ((own_words s).update x)).card
   pub known : (i c : ℕ) (v : View) → get_elem? s.views i ≡ some v → KnowsCard v c → SaysTheSame (own_words s) r.words c
   pub held : (i c : ℕ) (v : View) → get_elem? s.views i ≡ some v → IsHeld v c → SaysTheSame (own_words s) r.words c
-  pub tree : SameKeys (own_words s) r.words
+  pub tree : SamePairs (own_words s) r.words
 
 -- so they are in every state of the rule
 abbrev pub RuleHasOwnWords : Type 0
 RuleHasOwnWords = (keys : List ℕ) (cards : ℕ) (s : TableState) (r : Kept keys cards s) → WordsAreOwn keys cards s r
 
--- what a call does to the keys of the tree, by whether it is a won exchange: a won ichild adds its card's key, a won dchild takes
--- its card's key away, and nothing else changes them
-abbrev pub KeysChangeBy : Call → Bool → Words → Words → Type 0
-KeysChangeBy (call.IChild c p l right) true old new = AddsKey old new (card_key old c)
-KeysChangeBy (call.DChild c gp p s right) true old new = TakesKey old new (card_key old c)
-KeysChangeBy _ _ old new = SameKeys old new
+-- what a call does to the keys of the tree and their values, by whether it is a won exchange: a won ichild adds its card's key with
+-- its value, a won dchild takes its card's key away, and nothing else changes them
+abbrev pub PairsChangeBy : Call → Bool → Words → Words → Type 0
+PairsChangeBy (call.IChild c p l right) true old new = AddsPair old new (card_key old c) (card_value old c)
+PairsChangeBy (call.DChild c gp p s right) true old new = TakesKey old new (card_key old c)
+PairsChangeBy _ _ old new = SamePairs old new
 
--- so each step call of each pass changes the keys of the tree that the table's own words make
-abbrev pub TableKeysChangeAtWins : Type 0
-TableKeysChangeAtWins = (keys : List ℕ) (cards : ℕ) (s : TableState) → Kept keys cards s → (id : ℕ) (v : View) (c : Call)
+-- so each step call of each pass changes the pairs of the tree that the table's own words make
+abbrev pub TablePairsChangeAtWins : Type 0
+TablePairsChangeAtWins = (keys : List ℕ) (cards : ℕ) (s : TableState) → Kept keys cards s → (id : ℕ) (v : View) (c : Call)
     → get_elem? s.views id ≡ some v → May cards c v
-    → KeysChangeBy c (is_won (atomic_of c) (found_by s c)) (own_words s) (own_words (state_after s id v c))
+    → PairsChangeBy c (is_won (atomic_of c) (found_by s c)) (own_words s) (own_words (state_after s id v c))
 
--- what a call does to the ledger of its pass: an answer is the set's, by the ledger, which becomes the set after it; no other call
+-- what a call does to the ledger of its pass: an answer is the map's, by the ledger, which becomes the map after it; no other call
 -- changes it
 abbrev pub LedgerChangesBy : Call → View → View → Type 0
 LedgerChangesBy (call.Answer said) v w =
-    AnswersAsSet (ledger_of v.worker.ledger) (ledger_of w.worker.ledger) v.worker.operation said
+    AnswersAsMap (ledger_of v.worker.ledger) (ledger_of w.worker.ledger) v.worker.operation said
 LedgerChangesBy _ v w = w.worker.ledger ≡ v.worker.ledger
 
 -- so does each step call of each pass
-abbrev pub TableAnswersAreTheSets : Type 0
-TableAnswersAreTheSets = (keys : List ℕ) (cards : ℕ) (s : TableState) → Kept keys cards s → (id : ℕ) (v : View) (c : Call)
+abbrev pub TableAnswersAreTheMaps : Type 0
+TableAnswersAreTheMaps = (keys : List ℕ) (cards : ℕ) (s : TableState) → Kept keys cards s → (id : ℕ) (v : View) (c : Call)
     → get_elem? s.views id ≡ some v → May cards c v → LedgerChangesBy c v (view_after s v c)
 
--- a pass with nothing in hand has each of its keys in its ledger as the tree has it that the table's own words make
+-- a pass with nothing in hand has each of its keys in its ledger as the tree has it that the table's own words make, with its value
 abbrev pub LedgersTellTheTree : Type 0
 LedgersTellTheTree = (keys : List ℕ) (cards : ℕ) (s : TableState) → Kept keys cards s → (id : ℕ) (v : View)
-    → get_elem? s.views id ≡ some v → IsFree v → (key : ℕ) → ledger_of v.worker.ledger key ≢ None
-    → IsTreeKey (own_words s) key ↔ (ledger_of v.worker.ledger key ≡ Some Present)
+    → get_elem? s.views id ≡ some v → IsFree v → (key value : ℕ) → ledger_of v.worker.ledger key ≢ None
+    → IsTreePair (own_words s) key value ↔ (ledger_of v.worker.ledger key ≡ Some (Present value))
 
 -- and each key of that tree is some pass's
 pub record IsOwnedKey (s : TableState) (key : ℕ) : Type 0 where
@@ -111,9 +112,9 @@ pub record IsAtWork (s : TableState) (c : ℕ) (op : Op) : Type 0 where
   pub does : Does view op
   pub held : IsHeld view c
 
--- whose a won child exchange is: a won ichild is of an insert of its card's key that is in hand, a won dchild of a delete
+-- whose a won child exchange is: a won ichild is of an insert of its card's key and value that is in hand, a won dchild of a delete
 abbrev pub ChangeIsOf : Call → Bool → TableState → Type 0
-ChangeIsOf (call.IChild c p l right) true s = (value : ℕ) × IsAtWork s c (Insert (card_key (own_words s) c) value)
+ChangeIsOf (call.IChild c p l right) true s = IsAtWork s c (Insert (card_key (own_words s) c) (card_value (own_words s) c))
 ChangeIsOf (call.DChild c gp p y right) true s = IsAtWork s c (Delete (card_key (own_words s) c))
 ChangeIsOf _ _ s = Unit {0}
 

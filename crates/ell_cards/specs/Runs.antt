@@ -10,14 +10,14 @@ use Rattle.ell_core.specs.state.Machine.{Machine}
 use Rattle.ell_core.specs.state.Moves.{Split, Join}
 use Rattle.ell_core.specs.acts.Runs.{Run}
 use Rattle.ell_core.specs.soundness.Sound.{IsSound}
-use Rattle.ell_core.specs.statements.StepLaws.{SameKeys}
+use Rattle.ell_core.specs.statements.StepLaws.{SamePairs}
 use Rattle.ell_cards.specs.declared.call.Call.{Call}
 use Rattle.ell_cards.specs.declared.view.View.{View}
 use Rattle.ell_cards.specs.Models.{IsFree}
 use Rattle.ell_cards.specs.Calls.{word_of, atomic_of, is_won, act_of, said_of, Becomes, May}
 use Rattle.ell_cards.specs.Rule.{TableState, Kept}
 use Rattle.ell_cards.specs.Laws.{machine_of, found_by, state_after, state_split, state_joined}
-use Rattle.ell_cards.specs.OwnWords.{own_words, own_machine, KeysChangeBy}
+use Rattle.ell_cards.specs.OwnWords.{own_words, own_machine, PairsChangeBy}
 
 -- the word that a step call touches is one of the table
 abbrev pub StepsStayInside : Type 0
@@ -77,8 +77,8 @@ GoesBy s (Joins seat other) m m' = Join m seat other m'
 -- how the keys of the tree that the table's own words make change by a turn: as the call says, if it is a won exchange; by a split
 -- or a join not at all
 abbrev pub KeysGoBy : TableState → Turn → TableState → Type 0
-KeysGoBy s (Makes seat c) s' = KeysChangeBy c (is_won (atomic_of c) (found_by s c)) (own_words s) (own_words s')
-KeysGoBy s _ s' = SameKeys (own_words s) (own_words s')
+KeysGoBy s (Makes seat c) s' = PairsChangeBy c (is_won (atomic_of c) (found_by s c)) (own_words s) (own_words s')
+KeysGoBy s _ s' = SamePairs (own_words s) (own_words s')
 
 -- a turn between states of the rule: the machine goes on by it, so do the keys of the tree, and the table's own words after it are
 -- a sound state

@@ -11,7 +11,7 @@ ghost use Rattle.ell_cards.specs.Ends.{ClosedModel, Ends};
 
 use crate::pass::Pass;
 use crate::table::CardTable;
-use ell_core::{Field, TreeWords, child_field, key_field};
+use ell_core::{Field, TreeWords, child_field, key_field, value_field};
 use ell_word::card_of;
 use std::alloc::Allocator;
 use std::marker::Model;
@@ -82,6 +82,10 @@ impl<A: Allocator + Copy> TreeWords for Closed<A> {
 
     fn key(&self, node: u64) -> u64 {
         self.word(card_of(node), key_field(node))
+    }
+
+    fn value(&self, leaf: u64) -> u64 {
+        self.word(card_of(leaf), value_field(leaf))
     }
 
     fn child(&self, node: u64, right: bool) -> u64 {

@@ -4,7 +4,7 @@
 //! a machine of `ell_core` that the invariant holds of. A law speaks of each state of the rule, whatever has led to it; and the
 //! table's calls make their steps through `atomic_table`, which takes none, by whatever thread, that does not keep the rule.
 ghost use Rattle.ell_cards.specs.Laws.{StepsAreEvents, SplitsAreMoves, JoinsAreMoves};
-ghost use Rattle.ell_cards.specs.OwnWords.{OwnWordsAreSound, RuleIsSound, RuleHasOwnWords, TableKeysChangeAtWins, TableAnswersAreTheSets, LedgersTellTheTree, TreeKeysAreOwned, TableChangesAreOperations};
+ghost use Rattle.ell_cards.specs.OwnWords.{OwnWordsAreSound, RuleIsSound, RuleHasOwnWords, TablePairsChangeAtWins, TableAnswersAreTheMaps, LedgersTellTheTree, TreeKeysAreOwned, TableChangesAreOperations};
 ghost use Rattle.ell_cards.specs.Runs.{StepsStayInside, RunsAreLawful, RunsAreSchedules};
 ghost use Rattle.ell_cards.specs.RunLaws.{TableWinsAreInOrder, TableNodesGoOn};
 ghost use Rattle.ell_cards.specs.Starts.{TablesStart, StartsAreKept, StartsHaveTheirKeys, FirstPassMayBegin, RunsFromStarts};
@@ -32,19 +32,20 @@ pub fn rule_is_sound()
     ensures words { RuleHasOwnWords }
 {}
 
-/// At each step call of each pass the keys of the tree, as the table's own words make it, change at a won ichild, which adds its
-/// card's key, and at a won dchild, which takes its card's key away; at every other step they are the same. Whichever pass makes
-/// it, a won ichild is of an insert of that key that some pass has in hand, and a won dchild of a delete.
-pub fn table_keys_change_at_wins()
-    ensures keys { TableKeysChangeAtWins }
+/// At each step call of each pass the keys of the tree and their values, as the table's own words make it, change at a won ichild,
+/// which adds its card's key with its value, and at a won dchild, which takes its card's key away; at every other step they are the
+/// same. Whichever pass makes it, a won ichild is of an insert of that key and value that some pass has in hand, and a won dchild of
+/// a delete.
+pub fn table_pairs_change_at_wins()
+    ensures pairs { TablePairsChangeAtWins }
     ensures operations { TableChangesAreOperations }
 {}
 
-/// Each answer of a pass is the set's answer to its operation, by its ledger, which becomes the set after the operation; no other
-/// step call changes a ledger. And the set is the one in the table: each key of the tree that the table's own words make is some
-/// pass's, and a pass with nothing in hand has each of its keys in its ledger as that tree has it.
-pub fn table_answers_are_the_sets()
-    ensures answers { TableAnswersAreTheSets }
+/// Each answer of a pass is the map's answer to its operation, by its ledger, which becomes the map after the operation; no other
+/// step call changes a ledger. And the map is the one in the table: each key of the tree that the table's own words make is some
+/// pass's, and a pass with nothing in hand has each of its keys in its ledger as that tree has it, with its value.
+pub fn table_answers_are_the_maps()
+    ensures answers { TableAnswersAreTheMaps }
     ensures ledgers { LedgersTellTheTree }
     ensures owned { TreeKeysAreOwned }
 {}
@@ -69,9 +70,9 @@ pub fn table_nodes_go_on()
     ensures { TableNodesGoOn }
 {}
 
-/// The laws are about something. Any ascending list of real keys, any ascending list of start keys among them and any number of
-/// cards have a table as it starts, which is of the rule, by a machine that is an opening, with nothing won yet; the keys of its tree
-/// are the start keys, and its one pass may begin any operation on a key of its own.
+/// The laws are about something. Any ascending list of real keys, any ascending list of start keys among them, with any values, and
+/// any number of cards have a table as it starts, which is of the rule, by a machine that is an opening, with nothing won yet; the
+/// keys of its tree are the start keys, with their values, and its one pass may begin any operation on a key of its own.
 pub fn tables_start()
     ensures tables { TablesStart }
     ensures kept { StartsAreKept }

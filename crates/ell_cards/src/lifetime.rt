@@ -2,6 +2,7 @@
 ghost use Rattle.std.specs.Prelude.{◌≡◌, ◌≢◌, ◌≤◌, ◌<◌, [], filter, not, max, true, length, None, IfOk, IfErr, OnOk};
 ghost use Rattle.std.specs.List.{All};
 ghost use Rattle.std.specs.List.Sorted.{IsStrictlyIncreasing};
+ghost use Rattle.std.specs.Map.{keys_of};
 ghost use Rattle.ell_ops.specs.Meaning.{greatest_key};
 ghost use Rattle.ell_ops.specs.KeySet.{set_of};
 ghost use Rattle.ell_word.specs.Node.{greatest_card, most_start};
@@ -40,20 +41,20 @@ impl<A: Allocator + Copy> CardTable<A> {
         CardTable::reserve_from(alloc, &[], keys, cards)
     }
 
-    /// A table of a tree that has these start keys, balanced, with so many cards to be claimed, and one pass that owns all these
-    /// keys: the start keys are present, the others absent. The tree of the start keys has a card for each of them, so the number
+    /// A table of a tree that has these start keys with their values, balanced, with so many cards to be claimed, and one pass that
+    /// owns all these keys: the start keys are present, the others absent. The tree of the start keys has a card for each of them, so the number
     /// of the last card is the number of cards asked for plus that of the start keys. Errors are as of `reserve`. Conditions: those
     /// of `reserve`; the start keys are strictly ascending, among the keys, and at most `START_MAX`.
     pub fn reserve_from(
         alloc: A,
-        start: &[u64],
+        start: &[(u64, u64)],
         keys: &[u64],
         cards: u64,
     ) -> Result<(CardTable<A>, Pass<A>), CardFault>
         requires ascending { IsStrictlyIncreasing keys.now }
         requires real { All (λ k. k ≤ greatest_key) keys.now }
-        requires start_ascending { IsStrictlyIncreasing start.now }
-        requires given { All (λ k. set_of keys.now k ≡ true) start.now }
+        requires start_ascending { IsStrictlyIncreasing (keys_of start.now) }
+        requires given { All (λ k. set_of keys.now k ≡ true) (keys_of start.now) }
         requires few { length start.now ≤ most_start }
         ensures cards { OnOk result (IsCardCount cards) }
         ensures table { IfOk result (λ made. (made.0.keys ≡ keys.now) × (made.0.last_card ≡ last_card start.now cards)) }
@@ -212,12 +213,12 @@ fn opened<A: Allocator + Copy>(
     Table::of_words(alloc, words.as_slice(), plan)
 }
 
-// A copy of some keys.
-fn copied<A: Allocator + Copy>(alloc: A, keys: &[u64]) -> Result<Vec<u64, A>, AllocError>
-    ensures { IfOk result (λ copy. copy.items ≡ keys.now) }
+// A copy of some items.
+fn copied<T: Copy, A: Allocator + Copy>(alloc: A, items: &[T]) -> Result<Vec<T, A>, AllocError>
+    ensures { IfOk result (λ copy. copy.items ≡ items.now) }
 {
-    let mut copy = Vec::with_capacity(alloc, keys.len())?;
-    copy.extend_from_slice(keys)?;
+    let mut copy = Vec::with_capacity(alloc, items.len())?;
+    copy.extend_from_slice(items)?;
     Ok(copy)
 }
 

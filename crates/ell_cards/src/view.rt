@@ -58,8 +58,8 @@ pub struct View {
 pub struct Plan<A: Allocator + Copy> {
     /// The keys that passes own, strictly ascending.
     pub keys: Vec<u64, A>,
-    /// The start keys, those of them that are present before the first operation, strictly ascending.
-    pub start: Vec<u64, A>,
+    /// The start keys, those of them that are present before the first operation, strictly ascending, with their values.
+    pub start: Vec<(u64, u64), A>,
     /// The number of the last card: how many there are beside card 0.
     pub last_card: u64,
 }

@@ -2,12 +2,12 @@
 ghost use Rattle.std.specs.Prelude.{◌≡◌, ◌≤◌, ◌<◌, ◌+◌, Some};
 ghost use Rattle.ell_core.specs.state.Machine.{ledger_of};
 ghost use Rattle.ell_core.specs.acts.Searching.{IsLeaf};
-ghost use Rattle.ell_core.specs.statements.StepLaws.{AnswersAsSet};
+ghost use Rattle.ell_core.specs.statements.StepLaws.{AnswersAsMap};
 ghost use Rattle.ell_cards.specs.declared.view.Told.TheVariants.{Met};
 ghost use Rattle.ell_cards.specs.Models.{Steps, IsTold, InTable};
 ghost use Rattle.ell_cards.specs.Changes.{after_begin, after_again, after_leave, after_answer, after_upd, after_down, after_next, after_key_of, after_value_of};
 ghost use Rattle.ell_cards.specs.Guards.{MayBegin, MayStop, MayAnswer, MayRead, MayGoDown};
-ghost use Rattle.ell_cards.specs.Calls.{TellsLeaf};
+ghost use Rattle.ell_cards.specs.Calls.{TellsLeaf, TellsValue};
 
 use crate::call::Call;
 use crate::pass::Pass;
@@ -55,7 +55,7 @@ impl<A: Allocator + Copy> CardTable<A> {
         requires own { pass.old.table ≡ self.now.id }
         requires may { MayAnswer pass.old.view said }
         ensures step { Steps pass.old pass.new (after_answer said pass.old.view) }
-        ensures set { AnswersAsSet (ledger_of pass.old.view.worker.ledger) (ledger_of pass.new.view.worker.ledger) pass.old.view.worker.operation said }
+        ensures set { AnswersAsMap (ledger_of pass.old.view.worker.ledger) (ledger_of pass.new.view.worker.ledger) pass.old.view.worker.operation said }
     {
         self.load(pass, Call::Answer(said), 0);
     }
@@ -109,13 +109,15 @@ impl<A: Allocator + Copy> CardTable<A> {
         self.load(pass, Call::KeyOf(node), key_at(node))
     }
 
-    /// Reads the value of a leaf that the pass has met.
+    /// Reads the value of a leaf that the pass has met. Of the leaf where it stands, whose key is known to be the operation's, it is
+    /// the value that the pass has there.
     #[inline(always)]
     pub fn value_of(&self, pass: &mut Pass<A>, leaf: u64) -> u64
         requires own { pass.old.table ≡ self.now.id }
         requires met { IsTold pass.old.view (Met leaf) }
         requires outer { IsLeaf leaf }
         ensures step { Steps pass.old pass.new (after_value_of leaf result pass.old.view) }
+        ensures value { TellsValue pass.old.view leaf result }
     {
         self.names(pass);
         self.load(pass, Call::ValueOf(leaf), value_at(leaf))

@@ -20,8 +20,8 @@ pub mod Pairs
 pub mod Paths
 -- Ranges and paths: the nodes that have a range are those reached from node 0, and where the walks for a key go.
 pub mod Reached
--- The real keys of the leaves in a list of nodes; below a node of a lawful tree they ascend.
-pub mod RealKeys
+-- The real keys of the leaves in a list of nodes, with their values; below a node of a lawful tree they ascend.
+pub mod RealPairs
 -- A node p with a leaf l is cut out: the child of its parent g that p was is now the other child of p, w.
 pub mod Removes
 -- How low the nodes of a walk's stack may be, and so how long the stack is.

@@ -1,8 +1,9 @@
-//! The keys of a tree, by a walk over its nodes.
+//! The keys of a tree with their values, by a walk over its nodes.
 ghost use Rattle.std.specs.Prelude.{◌≡◌, ℕ, [], vec_capacity};
 ghost use Rattle.ell_word.specs.Node.{IsInternal};
 ghost use Rattle.ell_core.specs.state.Words.{Words};
-ghost use Rattle.ell_core.specs.tree.Tree.{Reached, IsLawful, ListsKeys};
+ghost use Rattle.ell_core.specs.acts.Searching.{IsLeaf};
+ghost use Rattle.ell_core.specs.tree.Tree.{Reached, IsLawful, ListsTreePairs};
 ghost use Rattle.ell_core.specs.tree.Room.{HasRoom, HoldsKeys};
 
 use ell_ops::KEY_MAX;
@@ -21,6 +22,12 @@ pub trait TreeWords {
         requires { can_read self.now node }
         ensures { result ≡ (words self.now).key node };
 
+    /// The value of a leaf.
+    fn value(&self, leaf: u64) -> u64
+        requires read { can_read self.now leaf }
+        requires outer { IsLeaf leaf }
+        ensures { result ≡ (words self.now).value leaf };
+
     /// The child of an internal node on a side.
     fn child(&self, node: u64, right: bool) -> u64
         requires read { can_read self.now node }
@@ -28,20 +35,20 @@ pub trait TreeWords {
         ensures { result ≡ (words self.now).child node right };
 }
 
-/// The keys of a lawful tree, each once, ascending. Nothing is allocated: the two lists, empty as they come, have room for the
-/// nodes that wait and for the keys. The walk goes left first, and comes to each node once.
-pub fn keys_of_tree<T: TreeWords, A: Allocator>(
+/// The keys of a lawful tree with their values, each key once, ascending. Nothing is allocated: the two lists, empty as they come,
+/// have room for the nodes that wait and for the pairs. The walk goes left first, and comes to each node once.
+pub fn pairs_of_tree<T: TreeWords, A: Allocator>(
     tree: &T,
     mut waiting: Vec<u64, A>,
-    mut keys: Vec<u64, A>,
-) -> Vec<u64, A>
+    mut pairs: Vec<(u64, u64), A>,
+) -> Vec<(u64, u64), A>
     requires lawful { IsLawful (T.words tree.now) }
     requires readable { (x : ℕ) → Reached (T.words tree.now) x → T.can_read tree.now x }
     requires no_nodes { waiting.items ≡ [] }
-    requires no_keys { keys.items ≡ [] }
+    requires no_pairs { pairs.items ≡ [] }
     requires room { HasRoom (T.words tree.now) (vec_capacity waiting) }
-    requires keys_room { HoldsKeys (T.words tree.now) (vec_capacity keys) }
-    ensures { ListsKeys (T.words tree.now) result.items }
+    requires pairs_room { HoldsKeys (T.words tree.now) (vec_capacity pairs) }
+    ensures { ListsTreePairs (T.words tree.now) result.items }
 {
     waiting.push(0).unwrap();
     while let Some(node) = waiting.pop() {
@@ -51,9 +58,9 @@ pub fn keys_of_tree<T: TreeWords, A: Allocator>(
         } else {
             let key = tree.key(node);
             if key <= KEY_MAX {
-                keys.push(key).unwrap();
+                pairs.push((key, tree.value(node))).unwrap();
             }
         }
     }
-    keys
+    pairs
 }

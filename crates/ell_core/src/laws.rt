@@ -19,8 +19,8 @@ pub use premises::{
 };
 pub use refuted::{events_promise_no_more, runs_promise_no_more};
 pub use schedules::{
-    answers_are_the_sets, claimed_cards_are_fixed, every_state_is_sound, facts_last,
-    keys_change_at_wins, marked_nodes_are_frozen, wins_are_in_order, words_rise,
+    answers_are_the_maps, claimed_cards_are_fixed, every_state_is_sound, facts_last,
+    marked_nodes_are_frozen, pairs_change_at_wins, wins_are_in_order, words_rise,
 };
 pub use steps::{
     cards_wait, events_are_lawful, invariant_is_sound, moves_are_lawful, owner_finds_clean,

@@ -25,7 +25,7 @@ pub(crate) struct Memory<A: Allocator + Copy> {
 
 impl<A: Allocator + Copy> Memory<A> {
     /// The opening tree over these start keys, and cards whose words are 0, up to the last one.
-    pub fn opening(alloc: A, start: &[u64], last: u64) -> Result<Memory<A>, NoMemory>
+    pub fn opening(alloc: A, start: &[(u64, u64)], last: u64) -> Result<Memory<A>, NoMemory>
         requires room { length start.now ≤ last }
         requires most { last ≤ greatest_card }
         requires few { length start.now < greatest_card }
@@ -186,6 +186,10 @@ impl<A: Allocator + Copy> TreeWords for Memory<A> {
 
     fn key(&self, node: u64) -> u64 {
         Memory::key(self, node)
+    }
+
+    fn value(&self, leaf: u64) -> u64 {
+        Memory::value(self, leaf)
     }
 
     fn child(&self, node: u64, right: bool) -> u64 {

@@ -3,8 +3,9 @@ ghost use Rattle.std.specs.Prelude.{◌≡◌, ◌↔◌, ℕ, Bool, IsTrue, IfS
 ghost use Rattle.ell_ops.specs.declared.op.Op.TheVariants.{Insert, Delete};
 ghost use Rattle.ell_core.specs.declared.event.Act.TheVariants as act;
 ghost use Rattle.ell_core.specs.declared.view.Seen.{Seen};
-ghost use Rattle.ell_core.specs.acts.Searching.{begun, ended, MayStop, AtCleanLeaf, IsClean, leaf_answer, card_answer, Answers};
-ghost use Rattle.ell_core.specs.inside.Inside.{worker_in, scene_in, IsReady, TakesTurn};
+ghost use Rattle.ell_core.specs.acts.Searching.{begun, ended, MayStop, AtCleanLeaf, IsClean, IsLeaf, value_at, leaf_answer, card_answer, Answers};
+ghost use Rattle.ell_core.specs.inside.Fits.{IsNode};
+ghost use Rattle.ell_core.specs.inside.Inside.{words_in, worker_in, scene_in, IsReady, IsSized, TakesTurn};
 
 use crate::event::{CoreFault, Stepped};
 use crate::fact::{Fact, told_by};
@@ -255,14 +256,29 @@ pub(crate) fn leave<A: Allocator + Copy>(
     Ok(Stepped::Moved)
 }
 
-/// The answer of an operation at a leaf, which has the operation's key or not: none where there is something to do.
-pub fn leaf_answer(op: Op, has: bool) -> Option<Reply>
-    ensures { result ≡ leaf_answer op has }
+/// The answer of an operation at a leaf, which has the operation's key with this value, or has another key: none where there is
+/// something to do.
+pub fn leaf_answer(op: Op, there: Option<u64>) -> Option<Reply>
+    ensures { result ≡ leaf_answer op there }
 {
-    match (op, has) {
-        (Op::Find(_), has) => Some(Reply::yes_if(has)),
-        (Op::Insert(_, _), true) | (Op::Delete(_), false) => Some(Reply::No),
+    match (op, there) {
+        (Op::Find(_), there) => Some(Reply::found(there)),
+        (Op::Insert(_, _), Some(_)) | (Op::Delete(_), None) => Some(Reply::No),
         _ => None,
+    }
+}
+
+// The value of a key at a leaf, if the leaf has the key.
+fn value_at<A: Allocator + Copy>(memory: &Memory<A>, leaf: u64, key: u64) -> Option<u64>
+    requires sized { IsSized memory.now }
+    requires node { IsNode memory.now.last_card leaf }
+    requires outer { IsLeaf leaf }
+    ensures { result ≡ value_at (words_in memory.now) leaf key }
+{
+    if memory.key(leaf) == key {
+        Some(memory.value(leaf))
+    } else {
+        None
     }
 }
 
@@ -286,7 +302,7 @@ fn answer_of<A: Allocator + Copy>(memory: &Memory<A>, worker: &Worker<A>, op: Op
 {
     if let Some(node) = worker.search.node
         && !is_internal(node)
-        && let Some(reply) = leaf_answer(op, memory.key(node) == op.key())
+        && let Some(reply) = leaf_answer(op, value_at(memory, node, op.key()))
     {
         return Some(reply);
     }
@@ -296,8 +312,8 @@ fn answer_of<A: Allocator + Copy>(memory: &Memory<A>, worker: &Worker<A>, op: Op
     }
 }
 
-/// Answers the operation, and has nothing in hand any more. An insert or delete that answers yes makes its key present or
-/// absent.
+/// Answers the operation, and has nothing in hand any more. An insert that answers yes makes its key present with its value, a
+/// delete absent.
 pub(crate) fn answer<A: Allocator + Copy>(
     memory: &Memory<A>,
     worker: &mut Worker<A>,
@@ -312,7 +328,7 @@ pub(crate) fn answer<A: Allocator + Copy>(
         return Err(CoreFault::NotNow);
     };
     match (op, reply) {
-        (Op::Insert(key, _), Reply::Yes) => worker.settle(key, Entry::Present),
+        (Op::Insert(key, value), Reply::Yes) => worker.settle(key, Entry::Present(value)),
         (Op::Delete(key), Reply::Yes) => worker.settle(key, Entry::Absent),
         _ => {}
     }

@@ -1,6 +1,6 @@
 //! A worker as contracts see it.
 ghost use Rattle.std.specs.Prelude.{◌≡◌};
-ghost use Rattle.ell_core.specs.state.Machine.{present_if};
+ghost use Rattle.ell_core.specs.state.Machine.{entry_of};
 
 use crate::fact::Fact;
 use ell_ops::Op;
@@ -29,18 +29,18 @@ pub struct Search {
 /// What a ledger says of a key that it has.
 #[derive(Clone, Copy)]
 pub enum Entry {
-    /// The key is not in the set.
+    /// The key is absent.
     Absent,
-    /// The key is in the set.
-    Present,
+    /// The key is present, with this value.
+    Present(u64),
 }
 
 impl Entry {
-    /// Present exactly where this holds.
-    pub fn present_if(holds: bool) -> Entry
-        ensures { result ≡ present_if holds }
+    /// Present with a value, if there is one.
+    pub fn of(value: Option<u64>) -> Entry
+        ensures { result ≡ entry_of value }
     {
-        if holds { Entry::Present } else { Entry::Absent }
+        value.map_or(Entry::Absent, Entry::Present)
     }
 }
 

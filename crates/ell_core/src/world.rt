@@ -1,12 +1,14 @@
 //! A world: the machine with plain lists for its functions, run one event at a time.
 ghost use Rattle.std.specs.Prelude.{◌≡◌, ◌≤◌, ℕ, true, false, [], length, vec_len, IfOk, IfErr, OnOk, OnErr};
 ghost use Rattle.std.specs.List.{All};
+ghost use Rattle.std.specs.Map.{keys_of};
+ghost use Rattle.ell_ops.specs.Contents.{contents_of};
 ghost use Rattle.ell_ops.specs.Meaning.{greatest_key, most_workers};
 ghost use Rattle.ell_word.specs.Node.{most_cards, most_start};
 ghost use Rattle.std.specs.List.Sorted.{IsStrictlyIncreasing};
 ghost use Rattle.ell_core.specs.state.Words.{word};
 ghost use Rattle.ell_core.specs.acts.Events.{Steps};
-ghost use Rattle.ell_core.specs.tree.Tree.{ListsKeys};
+ghost use Rattle.ell_core.specs.tree.Tree.{ListsKeys, ListsTreePairs};
 ghost use Rattle.ell_core.specs.state.Machine.{idle};
 ghost use Rattle.ell_core.specs.inside.Inside.{worker_at};
 ghost use Rattle.ell_core.specs.state.Opening.{opening, opening_ledger, last_card, is_given, Faultless, OpeningRefused};
@@ -16,7 +18,7 @@ ghost use Rattle.ell_core.specs.history.Invariant.{HasInvariant};
 
 use crate::event::{CoreFault, Event, Stepped};
 use crate::field::Field;
-use crate::keys::keys_of_tree;
+use crate::keys::pairs_of_tree;
 use crate::memory::Memory;
 use crate::turn::turn;
 use crate::view::Entry;
@@ -70,15 +72,15 @@ impl<A: Allocator + Copy> World<A> {
         World::from_start(alloc, workers, owned, &[], cards)
     }
 
-    /// The opening tree over start keys, balanced, with workers and the keys that the entries give them: the start keys are present,
-    /// the others absent. The start keys' tree has a card for each of them, so the cards to be claimed are those after them, and the
+    /// The opening tree over start keys, balanced, with workers and the keys that the entries give them: the start keys are present
+    /// with their values, the others absent. The start keys' tree has a card for each of them, so the cards to be claimed are those after them, and the
     /// last card is as many more as there are start keys. Conditions: those of `new`; the start keys are strictly ascending, among the
     /// keys of the entries, and at most `START_MAX`. Faults are as of `new`.
     pub fn from_start(
         alloc: A,
         workers: u32,
         owned: &[(u32, u64)],
-        start: &[u64],
+        start: &[(u64, u64)],
         cards: u64,
     ) -> Result<World<A>, CoreFault>
         requires some_worker { 1 ≤ workers }
@@ -86,8 +88,8 @@ impl<A: Allocator + Copy> World<A> {
         requires some_card { 1 ≤ cards }
         requires most_cards { cards ≤ most_cards }
         requires keys { All (λ entry. entry.1 ≤ greatest_key) owned.now }
-        requires ascending { IsStrictlyIncreasing start.now }
-        requires given { All (λ k. is_given owned.now k ≡ true) start.now }
+        requires ascending { IsStrictlyIncreasing (keys_of start.now) }
+        requires given { All (λ k. is_given owned.now k ≡ true) (keys_of start.now) }
         requires most_start { length start.now ≤ most_start }
         ensures opening { IfOk result (λ world.
             machine_of world ≡ opening (record { count = workers; owned = owned.now; start = start.now; cards = cards })) }
@@ -131,10 +133,19 @@ impl<A: Allocator + Copy> World<A> {
     pub fn keys(&self) -> Result<Vec<u64, A>, NoMemory>
         ensures { IfOk result (λ keys. ListsKeys (machine_of self.now).words keys.items) }
     {
+        let pairs = self.pairs()?;
+        let keys = pairs.iter().map(|pair| pair.0).collect(self.alloc)?;
+        Ok(keys)
+    }
+
+    /// The keys of the tree with their values, each key once, ascending.
+    pub fn pairs(&self) -> Result<Vec<(u64, u64), A>, NoMemory>
+        ensures { IfOk result (λ pairs. ListsTreePairs (machine_of self.now).words pairs.items) }
+    {
         let places = self.memory.last_card as usize + 2;
         let waiting = Vec::with_capacity(self.alloc, places)?;
-        let keys = Vec::with_capacity(self.alloc, places)?;
-        Ok(keys_of_tree(&self.memory, waiting, keys))
+        let pairs = Vec::with_capacity(self.alloc, places)?;
+        Ok(pairs_of_tree(&self.memory, waiting, pairs))
     }
 
     /// The word of a field of a card. Condition: the card is at most the last card.
@@ -158,9 +169,9 @@ fn owning_workers<A: Allocator + Copy>(
     alloc: A,
     count: u32,
     owned: &[(u32, u64)],
-    start: &[u64],
+    start: &[(u64, u64)],
 ) -> Result<Vec<Worker<A>, A>, CoreFault>
-    requires { IsStrictlyIncreasing start.now }
+    requires { IsStrictlyIncreasing (keys_of start.now) }
     ensures count { IfOk result (λ workers. vec_len workers ≡ count) }
     ensures ledgers { IfOk result (λ workers. (i : ℕ) → worker_at workers.items i ≡ idle (opening_ledger owned.now start.now i) (λ _. false)) }
     ensures faultless { OnOk result (Faultless count owned.now) }
@@ -178,7 +189,18 @@ fn owning_workers<A: Allocator + Copy>(
         if !taken.insert(*key)? {
             return Err(CoreFault::OwnedTwice);
         }
-        owner.own(*key, Entry::present_if(start.binary_search(key).is_ok()))?;
+        owner.own(*key, Entry::of(value_of(start, *key)))?;
     }
     Ok(workers)
+}
+
+// The value of a key among start keys, which ascend, if it is one of them.
+fn value_of(start: &[(u64, u64)], key: u64) -> Option<u64>
+    requires { IsStrictlyIncreasing (keys_of start.now) }
+    ensures { result ≡ contents_of start.now key }
+{
+    match start.binary_search_by(|pair| pair.0.cmp(&key)) {
+        Ok(place) => Some(start[place].1),
+        Err(_) => None,
+    }
 }

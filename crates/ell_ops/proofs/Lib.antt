@@ -2,9 +2,11 @@
 pub mod DistinctKeys
 -- Two ascending lists in one.
 pub mod Merges
+-- Keys with their values against std's ordered maps.
+pub mod Pairs
 -- The element at a place of a list that grows, is cut or is written.
 pub mod Places
--- The last writer of a key, one operation after the other.
+-- The last writer of a key and of its value, one operation after the other.
 pub mod Presence
 -- Lists of numbers that rise.
 pub mod Rising

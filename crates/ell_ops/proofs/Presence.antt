@@ -1,119 +1,266 @@
-use Rattle.std.proofs.Common.{◌≡◌, ℕ, zero, suc, ◌<◌, ◌↔◌, Bool, true, false, cond, not, List, [], ◌∷◌, Some, eqb, take, arith, refl, ap, sym, ◌∙◌, inl, inr, ⊎_elim}
-use Rattle.std.specs.Prelude.{slice_get, IsTrue}
-use Rattle.std.proofs.lemmas.Bool.{cases_eq, eq-eqb, ne_eqb, cond-true, cond-false}
+use Rattle.std.proofs.Common.{◌≡◌, ◌≢◌, ℕ, zero, suc, ◌<◌, ◌≤◌, ◌↔◌, Bool, true, false, cond, not, Option, Some, None, is_some, if◌then◌else◌, unwrap_or, List, [], ◌∷◌, eqb, take, arith, refl, ap, sym, ◌∙◌, inl, inr, ⊎_elim}
+use Rattle.std.specs.Prelude.{slice_get}
+use Rattle.std.proofs.lemmas.Bool.{cases_eq, eq-eqb, ne_eqb}
 use Rattle.ell_ops.specs.declared.op.Op.{Op}
 use Rattle.ell_ops.specs.declared.op.Op.TheVariants.{Find, Insert, Delete}
-use Rattle.ell_ops.specs.declared.reply.Reply.TheVariants.{Yes}
-use Rattle.ell_ops.specs.Meaning.{Contents, key_of, yes_if, reply_of, after, replies, final}
-use Rattle.ell_ops.specs.LastWriter.{NoDelete, IsPresent, Answers, FoldHasPresentKeys, RepliesGoByPresence}
+use Rattle.ell_ops.specs.declared.reply.Reply.TheVariants.{No, Yes, Found}
+use Rattle.ell_ops.specs.Contents.{Contents}
+use Rattle.ell_ops.specs.Meaning.{key_of, yes_if, found, reply_of, after, replies, final}
+use Rattle.ell_ops.specs.LastWriter.{NoInsert, NoDelete, IsAbsent, HasValue, IsPresent, Answers, FoldHasPresentKeys, RepliesGoByPresence}
 
--- no delete behind the first operation, in the list and in its rest
-moved_up : (op : Op) (ops : List Op) (key low high : ℕ) → NoDelete ops key low high → NoDelete (op ∷ ops) key (suc low) (suc high)
-moved_up op ops key low high free zero from to = absurd (omega arith)
-moved_up op ops key low high free (suc j) from to = free j (omega arith) (omega arith)
+-- no insert behind the first operation, in the list and in its rest
+inserts_up : (op : Op) (ops : List Op) (key low high : ℕ) → NoInsert ops key low high → NoInsert (op ∷ ops) key (suc low) (suc high)
+inserts_up op ops key low high free zero value from to = absurd (omega arith)
+inserts_up op ops key low high free (suc j) value from to = free j value (omega arith) (omega arith)
 
-moved_down : (op : Op) (ops : List Op) (key low high : ℕ) → NoDelete (op ∷ ops) key (suc low) (suc high) → NoDelete ops key low high
-moved_down op ops key low high free j from to = free (suc j) (omega arith) (omega arith)
+inserts_down : (op : Op) (ops : List Op) (key low high : ℕ) → NoInsert (op ∷ ops) key (suc low) (suc high) → NoInsert ops key low high
+inserts_down op ops key low high free j value from to = free (suc j) value (omega arith) (omega arith)
 
--- and with the first operation, which is no delete of the key
-with_first : (op : Op) (ops : List Op) (key high : ℕ) → (op ≡ Delete key → ⊥) → NoDelete ops key 0 high → NoDelete (op ∷ ops) key 0 (suc high)
-with_first op ops key high other free zero from to = λ e. let same : op ≡ Delete key = cc in other same
-with_first op ops key high other free (suc j) from to = free j (omega arith) (omega arith)
+-- and with the first operation, which is no insert of the key
+inserts_first : (op : Op) (ops : List Op) (key high : ℕ) → ((value : ℕ) → op ≢ Insert key value) → NoInsert ops key 0 high → NoInsert (op ∷ ops) key 0 (suc high)
+inserts_first op ops key high other free zero value from to = λ e. let same : op ≡ Insert key value = cc in other value same
+inserts_first op ops key high other free (suc j) value from to = free j value (omega arith) (omega arith)
 
-without_first : (op : Op) (ops : List Op) (key high : ℕ) → NoDelete (op ∷ ops) key 0 (suc high) → NoDelete ops key 0 high
-without_first op ops key high free j from to = free (suc j) (omega arith) (omega arith)
+inserts_rest : (op : Op) (ops : List Op) (key high : ℕ) → NoInsert (op ∷ ops) key 0 (suc high) → NoInsert ops key 0 high
+inserts_rest op ops key high free j value from to = free (suc j) value (omega arith) (omega arith)
 
--- a key that the first operation leaves in the set, and no delete takes after it
-kept_forth : (set : Contents) (op : Op) (ops : List Op) (key i : ℕ) → IsTrue (after op set key) → NoDelete ops key 0 i → IsPresent set (op ∷ ops) key (suc i)
-kept_forth set (Find k) ops key i had free = inr (record { had = had; stays = with_first (Find k) ops key i (λ e. cc) free })
-kept_forth set (Insert k v) ops key i had free =
+-- the same of deletes
+deletes_up : (op : Op) (ops : List Op) (key low high : ℕ) → NoDelete ops key low high → NoDelete (op ∷ ops) key (suc low) (suc high)
+deletes_up op ops key low high free zero from to = absurd (omega arith)
+deletes_up op ops key low high free (suc j) from to = free j (omega arith) (omega arith)
+
+deletes_down : (op : Op) (ops : List Op) (key low high : ℕ) → NoDelete (op ∷ ops) key (suc low) (suc high) → NoDelete ops key low high
+deletes_down op ops key low high free j from to = free (suc j) (omega arith) (omega arith)
+
+deletes_first : (op : Op) (ops : List Op) (key high : ℕ) → (op ≢ Delete key) → NoDelete ops key 0 high → NoDelete (op ∷ ops) key 0 (suc high)
+deletes_first op ops key high other free zero from to = λ e. let same : op ≡ Delete key = cc in other same
+deletes_first op ops key high other free (suc j) from to = free j (omega arith) (omega arith)
+
+deletes_rest : (op : Op) (ops : List Op) (key high : ℕ) → NoDelete (op ∷ ops) key 0 (suc high) → NoDelete ops key 0 high
+deletes_rest op ops key high free j from to = free (suc j) (omega arith) (omega arith)
+
+-- what an insert leaves at its key, and at another; and a delete
+insert_here : (there : Contents) (key value : ℕ) → after (Insert key value) there key ≡ Some (unwrap_or (there key) value)
+insert_here there key value = ap (λ t. if t then Some (unwrap_or (there key) value) else there key) (eq-eqb key key refl)
+
+insert_else : (there : Contents) (k value key : ℕ) → key ≢ k → after (Insert k value) there key ≡ there key
+insert_else there k value key n = ap (λ t. if t then Some (unwrap_or (there key) value) else there key) (ne_eqb key k n)
+
+delete_here : (there : Contents) (key : ℕ) → after (Delete key) there key ≡ None
+delete_here there key = ap (λ t. if t then None else there key) (eq-eqb key key refl)
+
+delete_else : (there : Contents) (k key : ℕ) → key ≢ k → after (Delete k) there key ≡ there key
+delete_else there k key n = ap (λ t. if t then None else there key) (ne_eqb key k n)
+
+-- what an operation on a key does to that key, as data: it leaves it as it was, adds it with a value, or takes it away
+data Did (there : Contents) (op : Op) (key : ℕ) : Type 0 where
+  left : after op there key ≡ there key → ((value : ℕ) → op ≢ Insert key value) → (op ≢ Delete key) → Did there op key
+  inserted : (value : ℕ) → op ≡ Insert key value → after op there key ≡ Some (unwrap_or (there key) value) → Did there op key
+  deleted : op ≡ Delete key → after op there key ≡ None → Did there op key
+
+did : (there : Contents) (op : Op) (key : ℕ) → Did there op key
+did there (Find k) key = left refl (λ value e. absurd cc) (λ e. absurd cc)
+did there (Insert k v) key =
     ⊎_elim
-    (λ e. inl (record { at = 0; value = v; before = omega arith; insert = ap (λ q. Some (Insert q v)) (sym e); stays = with_first (Insert k v) ops key i (λ e. cc) free }))
-    (λ ne. inr (record { had = sym (cond-false (eqb key k) true (set key) (ne_eqb key k ne)) ∙ had; stays = with_first (Insert k v) ops key i (λ e. cc) free }))
+    (λ e. let same : Insert k v ≡ Insert key v = ap (λ q. Insert q v) (sym e) in inserted v same (ap (λ o. after o there key) same ∙ insert_here there key v))
+    (λ n. left (insert_else there k v key n) (λ value e. let same : k ≡ key = cc in n (sym same)) (λ e. absurd cc))
     (cases_eq key k)
-kept_forth set (Delete k) ops key i had free =
+did there (Delete k) key =
     ⊎_elim
-    (λ e. let gone : cond (eqb key k) false (set key) ≡ false = cond-true (eqb key k) false (set key) (eq-eqb key k e) in cc)
-    (λ ne. inr (record {
-      had = sym (cond-false (eqb key k) false (set key) (ne_eqb key k ne)) ∙ had;
-      stays = with_first (Delete k) ops key i (λ e. let same : k ≡ key = cc in ne (sym same)) free;
-    }))
+    (λ e. let same : Delete k ≡ Delete key = ap Delete (sym e) in deleted same (ap (λ o. after o there key) same ∙ delete_here there key))
+    (λ n. left (delete_else there k key n) (λ value e. absurd cc) (λ e. let same : k ≡ key = cc in n (sym same)))
     (cases_eq key k)
 
-kept_back : (set : Contents) (op : Op) (ops : List Op) (key i : ℕ) → IsTrue (set key) → NoDelete (op ∷ ops) key 0 (suc i) → IsTrue (after op set key)
-kept_back set (Find k) ops key i had free = had
-kept_back set (Insert k v) ops key i had free =
-    ⊎_elim
-    (λ e. cond-true (eqb key k) true (set key) (eq-eqb key k e))
-    (λ ne. cond-false (eqb key k) true (set key) (ne_eqb key k ne) ∙ had)
-    (cases_eq key k)
-kept_back set (Delete k) ops key i had free =
-    ⊎_elim
-    (λ e. absurd (free 0 (omega arith) (omega arith) (ap (λ q. Some (Delete q)) (sym e))))
-    (λ ne. cond-false (eqb key k) false (set key) (ne_eqb key k ne) ∙ had)
-    (cases_eq key k)
+-- a key that is absent in the rest, behind the first operation, is absent in the list
+absent_forth : (there : Contents) (op : Op) (ops : List Op) (key i : ℕ) → IsAbsent (after op there) ops key i → IsAbsent there (op ∷ ops) key (suc i)
+absent_forth there op ops key i (inl h) =
+    inl (record { at = suc h.at; before = let b = h.before in omega arith; delete = h.delete; stays = inserts_up op ops key h.at i h.stays })
+absent_forth there op ops key i (inr h) = by (did there op key)
+  where
+    by : Did there op key → IsAbsent there (op ∷ ops) key (suc i)
+    by (left same no_insert no_delete) = inr (record { lacked = sym same ∙ h.lacked; stays = inserts_first op ops key i no_insert h.stays })
+    by (inserted value is has) = absurd (let clash : Some (unwrap_or (there key) value) ≡ None = sym has ∙ h.lacked in cc)
+    by (deleted is none) = inl (record {
+      at = 0;
+      before = omega arith;
+      delete = ap Some is;
+      stays = inserts_first op ops key i (λ value e. let clash : Delete key ≡ Insert key value = sym is ∙ e in absurd cc) h.stays;
+    })
 
--- an insert that stands first leaves its key in the set
-first_insert : (set : Contents) (op : Op) (key value : ℕ) → Some op ≡ Some (Insert key value) → IsTrue (after op set key)
-first_insert set op key value e =
-    let same : op ≡ Insert key value = cc in
-    ap (λ o. after o set key) same ∙ cond-true (eqb key key) true (set key) (eq-eqb key key refl)
+absent_back : (there : Contents) (op : Op) (ops : List Op) (key i : ℕ) → IsAbsent there (op ∷ ops) key (suc i) → IsAbsent (after op there) ops key i
+absent_back there op ops key i (inl h) = at_place h.at h.before h.delete h.stays
+  where
+    at_place : (at : ℕ) → at < suc i → slice_get (op ∷ ops) at ≡ Some (Delete key) → NoInsert (op ∷ ops) key at (suc i) → IsAbsent (after op there) ops key i
+    at_place zero before delete stays = let is : op ≡ Delete key = cc in
+        inr (record { lacked = ap (λ o. after o there key) is ∙ delete_here there key; stays = inserts_rest op ops key i stays })
+    at_place (suc at) before delete stays = inl (record { at = at; before = omega arith; delete = delete; stays = inserts_down op ops key at i stays })
+absent_back there op ops key i (inr h) = by (did there op key)
+  where
+    by : Did there op key → IsAbsent (after op there) ops key i
+    by (left same no_insert no_delete) = inr (record { lacked = same ∙ h.lacked; stays = inserts_rest op ops key i h.stays })
+    by (inserted value is has) = absurd (h.stays 0 value (omega arith) (omega arith) (ap Some is))
+    by (deleted is none) = inr (record { lacked = none; stays = inserts_rest op ops key i h.stays })
 
-inserted_back : (set : Contents) (op : Op) (ops : List Op) (key i at value : ℕ) → at < suc i → slice_get (op ∷ ops) at ≡ Some (Insert key value) → NoDelete (op ∷ ops) key at (suc i)
-    → IsPresent (after op set) ops key i
-inserted_back set op ops key i zero value before insert stays = inr (record { had = first_insert set op key value insert; stays = without_first op ops key i stays })
-inserted_back set op ops key i (suc at) value before insert stays =
-    inl (record { at = at; value = value; before = omega arith; insert = insert; stays = moved_down op ops key at i stays })
+-- so it is of one that is present with a value
+value_forth : (there : Contents) (op : Op) (ops : List Op) (key i value : ℕ) → HasValue (after op there) ops key i value → HasValue there (op ∷ ops) key (suc i) value
+value_forth there op ops key i value (inl h) = inl (record {
+  at = suc h.at;
+  before = let b = h.before in omega arith;
+  insert = h.insert;
+  absent = absent_forth there op ops key h.at h.absent;
+  stays = deletes_up op ops key h.at i h.stays;
+})
+value_forth there op ops key i value (inr h) = by (did there op key)
+  where
+    new : (v : ℕ) → op ≡ Insert key v → (o : Option ℕ) → there key ≡ o → Some (unwrap_or o v) ≡ Some value → HasValue there (op ∷ ops) key (suc i) value
+    new v is None none e = let same : v ≡ value = cc in inl (record {
+      at = 0;
+      before = omega arith;
+      insert = ap Some (is ∙ ap (Insert key) same);
+      absent = inr (record { lacked = none; stays = λ j u from to. absurd (omega arith) });
+      stays = deletes_first op ops key i (λ d. let clash : Insert key v ≡ Delete key = sym is ∙ d in absurd cc) h.stays;
+    })
+    new v is (Some w) had e = inr (record {
+      had = had ∙ e;
+      stays = deletes_first op ops key i (λ d. let clash : Insert key v ≡ Delete key = sym is ∙ d in absurd cc) h.stays;
+    })
 
--- what is present in the rest, from the set behind the first operation, is present in the list
-forth : (set : Contents) (op : Op) (ops : List Op) (key i : ℕ) → IsPresent (after op set) ops key i → IsPresent set (op ∷ ops) key (suc i)
-forth set op ops key i (inl h) = inl (record { at = suc h.at; value = h.value; before = let b = h.before in omega arith; insert = h.insert; stays = moved_up op ops key h.at i h.stays })
-forth set op ops key i (inr h) = kept_forth set op ops key i h.had h.stays
+    by : Did there op key → HasValue there (op ∷ ops) key (suc i) value
+    by (left same no_insert no_delete) = inr (record { had = sym same ∙ h.had; stays = deletes_first op ops key i no_delete h.stays })
+    by (inserted v is has) = new v is (there key) refl (sym has ∙ h.had)
+    by (deleted is none) = absurd (let clash : None ≡ Some value = sym none ∙ h.had in cc)
 
-back : (set : Contents) (op : Op) (ops : List Op) (key i : ℕ) → IsPresent set (op ∷ ops) key (suc i) → IsPresent (after op set) ops key i
-back set op ops key i (inl h) = inserted_back set op ops key i h.at h.value h.before h.insert h.stays
-back set op ops key i (inr h) = inr (record { had = kept_back set op ops key i h.had h.stays; stays = without_first op ops key i h.stays })
+value_back : (there : Contents) (op : Op) (ops : List Op) (key i value : ℕ) → HasValue there (op ∷ ops) key (suc i) value → HasValue (after op there) ops key i value
+value_back there op ops key i value (inl h) = at_place h.at h.before h.insert h.absent h.stays
+  where
+    first : IsAbsent there (op ∷ ops) key 0 → there key ≡ None
+    first (inl d) = let b = d.before in absurd (omega arith)
+    first (inr m) = m.lacked
+
+    at_place : (at : ℕ) → at < suc i → slice_get (op ∷ ops) at ≡ Some (Insert key value) → IsAbsent there (op ∷ ops) key at → NoDelete (op ∷ ops) key at (suc i)
+        → HasValue (after op there) ops key i value
+    at_place zero before insert absent stays = let is : op ≡ Insert key value = cc in inr (record {
+      had = ap (λ o. after o there key) is ∙ (insert_here there key value ∙ ap (λ o. Some (unwrap_or o value)) (first absent));
+      stays = deletes_rest op ops key i stays;
+    })
+    at_place (suc at) before insert absent stays = inl (record {
+      at = at;
+      before = omega arith;
+      insert = insert;
+      absent = absent_back there op ops key at absent;
+      stays = deletes_down op ops key at i stays;
+    })
+value_back there op ops key i value (inr h) = by (did there op key)
+  where
+    by : Did there op key → HasValue (after op there) ops key i value
+    by (left same no_insert no_delete) = inr (record { had = same ∙ h.had; stays = deletes_rest op ops key i h.stays })
+    by (inserted v is has) = inr (record { had = has ∙ ap (λ o. Some (unwrap_or o v)) h.had; stays = deletes_rest op ops key i h.stays })
+    by (deleted is none) = absurd (h.stays 0 (omega arith) (omega arith) (ap Some is))
 
 -- before the first operation, and in the empty list
-none_yet : (set : Contents) (ops : List Op) (key : ℕ) → (IsTrue (set key) → IsPresent set ops key 0) × (IsPresent set ops key 0 → IsTrue (set key))
-none_yet set ops key = (
-  λ had. inr (record { had = had; stays = λ j from to. absurd (omega arith) }),
-  elim [ inl h ↦ (let b = h.before in absurd (omega arith)) | inr h ↦ h.had ],
+none_yet : (there : Contents) (ops : List Op) (key : ℕ)
+    → ((value : ℕ) → (there key ≡ Some value) ↔ HasValue there ops key 0 value) × ((there key ≡ None) ↔ IsAbsent there ops key 0)
+none_yet there ops key = (
+  λ value. (
+    λ had. inr (record { had = had; stays = λ j from to. absurd (omega arith) }),
+    elim [ inl h ↦ (let b = h.before in absurd (omega arith)) | inr h ↦ h.had ],
+  ),
+  (
+    λ lacked. inr (record { lacked = lacked; stays = λ j v from to. absurd (omega arith) }),
+    elim [ inl h ↦ (let b = h.before in absurd (omega arith)) | inr h ↦ h.lacked ],
+  ),
 )
 
-nothing_stands : (set : Contents) (key i : ℕ) → (IsTrue (set key) → IsPresent set [] key i) × (IsPresent set [] key i → IsTrue (set key))
-nothing_stands set key i = (
-  λ had. inr (record { had = had; stays = λ j from to e. cc }),
-  elim [ inl h ↦ (let e = h.insert in cc) | inr h ↦ h.had ],
+nothing_stands : (there : Contents) (key i : ℕ)
+    → ((value : ℕ) → (there key ≡ Some value) ↔ HasValue there [] key i value) × ((there key ≡ None) ↔ IsAbsent there [] key i)
+nothing_stands there key i = (
+  λ value. (
+    λ had. inr (record { had = had; stays = λ j from to e. absurd cc }),
+    elim [ inl h ↦ (let e = h.insert in absurd cc) | inr h ↦ h.had ],
+  ),
+  (
+    λ lacked. inr (record { lacked = lacked; stays = λ j v from to e. absurd cc }),
+    elim [ inl h ↦ (let e = h.delete in absurd cc) | inr h ↦ h.lacked ],
+  ),
 )
 
 pub present_keys : FoldHasPresentKeys
-present_keys set [] key zero = none_yet set [] key
-present_keys set [] key (suc i) = nothing_stands set key (suc i)
-present_keys set (op ∷ ops) key zero = none_yet set (op ∷ ops) key
-present_keys set (op ∷ ops) key (suc i) =
-    let rest = present_keys (after op set) ops key i in
-    (λ h. forth set op ops key i (rest.0 h), λ h. rest.1 (back set op ops key i h))
+present_keys there [] key zero = none_yet there [] key
+present_keys there [] key (suc i) = nothing_stands there key (suc i)
+present_keys there (op ∷ ops) key zero = none_yet there (op ∷ ops) key
+present_keys there (op ∷ ops) key (suc i) =
+    let rest = present_keys (after op there) ops key i in (
+      λ value. (
+        λ h. value_forth there op ops key i value ((rest.0 value).0 h),
+        λ h. (rest.0 value).1 (value_back there op ops key i value h),
+      ),
+      (λ h. absent_forth there op ops key i (rest.1.0 h), λ h. rest.1.1 (absent_back there op ops key i h)),
+    )
 
--- the reply at a position is that on the set before it
-pub reply_at : (set : Contents) (ops : List Op) (i : ℕ) (op : Op) → slice_get ops i ≡ Some op → slice_get (replies set ops) i ≡ Some (reply_of op (final set (take i ops)))
-reply_at set [] i op e = cc
-reply_at set (first ∷ ops) zero op e = let same : first ≡ op = cc in ap (λ o. Some (reply_of o set)) same
-reply_at set (first ∷ ops) (suc i) op e = reply_at (after first set) ops i op e
+-- the reply at a position is that where it stands
+pub reply_at : (there : Contents) (ops : List Op) (i : ℕ) (op : Op) → slice_get ops i ≡ Some op → slice_get (replies there ops) i ≡ Some (reply_of op (final there (take i ops)))
+reply_at there [] i op e = absurd cc
+reply_at there (first ∷ ops) zero op e = let same : first ≡ op = cc in ap (λ o. Some (reply_of o there)) same
+reply_at there (first ∷ ops) (suc i) op e = reply_at (after first there) ops i op e
 
-not_true : (b : Bool) (P : Type 0) → (IsTrue b ↔ P) → IsTrue (not b) ↔ (¬ P)
-not_true true P same = (λ h p. cc, λ no. absurd (no (same.0 refl)))
-not_true false P same = (λ h p. let t = same.1 p in cc, λ no. refl)
+module _ (o : Option ℕ) (P : ℕ → Type 0) (N : Type 0) (some : (value : ℕ) → (o ≡ Some value) ↔ P value) (none : (o ≡ None) ↔ N) where
+  -- what is found, where a key is as it is
+  finds : (value : ℕ) → (found o ≡ Found value) ↔ P value
+  finds value = by o some
+    where
+      by : (q : Option ℕ) → ((v : ℕ) → (q ≡ Some v) ↔ P v) → (found q ≡ Found value) ↔ P value
+      by None has = (λ e. absurd cc, λ p. let e = (has value).1 p in absurd cc)
+      by (Some v) has = (λ e. let same : Some v ≡ Some value = cc in (has value).0 same, λ p. let e = (has value).1 p in cc)
 
-yes : (b : Bool) (P : Type 0) → (IsTrue b ↔ P) → (yes_if b ≡ Yes) ↔ P
-yes true P same = (λ h. same.0 refl, λ p. refl)
-yes false P same = (λ h. absurd cc, λ p. let t = same.1 p in absurd cc)
+  finds_none : (found o ≡ No) ↔ N
+  finds_none = by o none
+    where
+      by : (q : Option ℕ) → (q ≡ None) ↔ N → (found q ≡ No) ↔ N
+      by None has = (λ e. has.0 refl, λ n. refl)
+      by (Some v) has = (λ e. absurd cc, λ n. let e = has.1 n in absurd cc)
 
-answers : (op : Op) (set : Contents) (P : Type 0) → (IsTrue (set (key_of op)) ↔ P) → Answers op (reply_of op set) P
-answers (Find key) set P same = yes (set key) P same
-answers (Insert key value) set P same = yes (not (set key)) (¬ P) (not_true (set key) P same)
-answers (Delete key) set P same = yes (set key) P same
+  -- yes where it is present, and where it is absent
+  yes_some : (yes_if (is_some o) ≡ Yes) ↔ ((value : ℕ) × P value)
+  yes_some = by o some
+    where
+      by : (q : Option ℕ) → ((v : ℕ) → (q ≡ Some v) ↔ P v) → (yes_if (is_some q) ≡ Yes) ↔ ((value : ℕ) × P value)
+      by None has = (λ e. absurd cc, λ p. let e = (has p.0).1 p.1 in absurd cc)
+      by (Some v) has = (λ e. (v, (has v).0 refl), λ p. refl)
+
+  no_some : (yes_if (is_some o) ≡ No) ↔ N
+  no_some = by o none
+    where
+      by : (q : Option ℕ) → (q ≡ None) ↔ N → (yes_if (is_some q) ≡ No) ↔ N
+      by None has = (λ e. has.0 refl, λ n. refl)
+      by (Some v) has = (λ e. absurd cc, λ n. let e = has.1 n in absurd cc)
+
+  yes_none : (yes_if (not (is_some o)) ≡ Yes) ↔ N
+  yes_none = by o none
+    where
+      by : (q : Option ℕ) → (q ≡ None) ↔ N → (yes_if (not (is_some q)) ≡ Yes) ↔ N
+      by None has = (λ e. has.0 refl, λ n. refl)
+      by (Some v) has = (λ e. absurd cc, λ n. let e = has.1 n in absurd cc)
+
+  no_none : (yes_if (not (is_some o)) ≡ No) ↔ ((value : ℕ) × P value)
+  no_none = by o some
+    where
+      by : (q : Option ℕ) → ((v : ℕ) → (q ≡ Some v) ↔ P v) → (yes_if (not (is_some q)) ≡ No) ↔ ((value : ℕ) × P value)
+      by None has = (λ e. absurd cc, λ p. let e = (has p.0).1 p.1 in absurd cc)
+      by (Some v) has = (λ e. (v, (has v).0 refl), λ p. refl)
+
+answers : (there : Contents) (ops : List Op) (i : ℕ) (op : Op) → Answers there ops i op (reply_of op (final there (take i ops)))
+answers there ops i (Find key) =
+    let h = present_keys there ops key i in
+    let o = final there (take i ops) key in
+    (finds o (HasValue there ops key i) (IsAbsent there ops key i) h.0 h.1, finds_none o (HasValue there ops key i) (IsAbsent there ops key i) h.0 h.1)
+answers there ops i (Insert key value) =
+    let h = present_keys there ops key i in
+    let o = final there (take i ops) key in
+    (yes_none o (HasValue there ops key i) (IsAbsent there ops key i) h.0 h.1, no_none o (HasValue there ops key i) (IsAbsent there ops key i) h.0 h.1)
+answers there ops i (Delete key) =
+    let h = present_keys there ops key i in
+    let o = final there (take i ops) key in
+    (yes_some o (HasValue there ops key i) (IsAbsent there ops key i) h.0 h.1, no_some o (HasValue there ops key i) (IsAbsent there ops key i) h.0 h.1)
 
 pub replies_by_presence : RepliesGoByPresence
-replies_by_presence set ops i op e =
-    (reply_of op (final set (take i ops)), reply_at set ops i op e, answers op (final set (take i ops)) (IsPresent set ops (key_of op) i) (present_keys set ops (key_of op) i))
+replies_by_presence there ops i op e = (reply_of op (final there (take i ops)), reply_at there ops i op e, answers there ops i op)

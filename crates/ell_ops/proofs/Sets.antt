@@ -7,7 +7,7 @@ use Rattle.std.proofs.lemmas.Map.Lookups.{btree_set_from_contains, exact_unsigne
 use Rattle.std.specs.BTreeMap.{is_at}
 use Rattle.std.specs.List.{list_any}
 use Rattle.std.specs.Ordering.{nat_cmp}
-use Rattle.ell_ops.specs.KeySet.{KeySet, set_of, with_key, without_key, Lists}
+use Rattle.ell_ops.specs.KeySet.{KeySet, set_of, Lists}
 
 -- std's test for a key is equality
 pub is_at-nat : (q key : ℕ) → is_at (nat_cmp q) key ≡ eqb q key
@@ -22,24 +22,6 @@ contains-set_of (key ∷ keys) q = ap (λ b. b || list_any (is_at (nat_cmp q)) k
 pub eqb-swap : (a b : ℕ) → eqb a b ≡ eqb b a
 eqb-swap a b = grind (arith, nat_tests)
 
--- what an insert or a delete (b says which) does to std's set, key by key, it does to the set of its keys
-changed : (old new : List ℕ) (key : ℕ) (b : Bool) →
-    ((q : ℕ) → list_any (is_at (nat_cmp q)) new ≡ cond (is_at (nat_cmp key) q) b (list_any (is_at (nat_cmp q)) old)) →
-    (q : ℕ) → set_of new q ≡ cond (eqb q key) b (set_of old q)
-changed old new key b h q =
-    sym (contains-set_of new q) ∙ h q ∙ ap (λ t. cond t b (list_any (is_at (nat_cmp q)) old)) (is_at-nat key q ∙ eqb-swap key q)
-    ∙ ap (cond (eqb q key) b) (contains-set_of old q)
-
-pub set_of-insert : (old new : List ℕ) (key : ℕ) →
-    ((q : ℕ) → list_any (is_at (nat_cmp q)) new ≡ cond (is_at (nat_cmp key) q) true (list_any (is_at (nat_cmp q)) old)) →
-    set_of new ≡ with_key (set_of old) key
-set_of-insert old new key h = λ i q. changed old new key true h q i
-
-pub set_of-remove : (old new : List ℕ) (key : ℕ) →
-    ((q : ℕ) → list_any (is_at (nat_cmp q)) new ≡ cond (is_at (nat_cmp key) q) false (list_any (is_at (nat_cmp q)) old)) →
-    set_of new ≡ without_key (set_of old) key
-set_of-remove old new key h = λ i q. changed old new key false h q i
-
 -- a set has one ascending list of its keys
 pub one_list : (set : KeySet) (xs ys : List ℕ) → Lists set xs → Lists set ys → xs ≡ ys
 one_list set xs ys first second =
@@ -47,12 +29,3 @@ one_list set xs ys first second =
     (sorted_from_strictly_increasing xs first.ascending) (sorted_from_strictly_increasing ys second.ascending)
     (λ q. contains-set_of xs q ∙ ap (λ f. f q) (first.each ∙ sym second.each) ∙ sym (contains-set_of ys q))
     exact_unsigned
-
--- one more key at the end of a list is one more key of its set
-pub set_of-push : (keys : List ℕ) (key : ℕ) → set_of (keys ++ key ∷ []) ≡ with_key (set_of keys) key
-set_of-push keys key = λ i q. (list_any-append (λ k. eqb q k) keys (key ∷ []) ∙ swapped (set_of keys q) (eqb q key)) i where
-  swapped : (a b : Bool) → (a || (b || false)) ≡ cond b true a
-  swapped true true = refl
-  swapped true false = refl
-  swapped false true = refl
-  swapped false false = refl

@@ -1,4 +1,4 @@
-use Rattle.std.specs.Prelude.{◌≡◌, ℕ, Bool, true, false, List, ◌==◌, ◌||◌, if◌then◌else◌}
+use Rattle.std.specs.Prelude.{◌≡◌, ℕ, Bool, false, List, ◌==◌, ◌||◌}
 use Rattle.std.specs.List.{list_any}
 use Rattle.std.specs.List.Sorted.{IsStrictlyIncreasing}
 
@@ -7,14 +7,6 @@ KeySet = ℕ → Bool
 
 abbrev pub empty : KeySet
 empty = λ _. false
-
--- the set with the key
-abbrev pub with_key : KeySet → ℕ → KeySet
-with_key set key = λ q. if q == key then true else set q
-
--- the set without the key
-abbrev pub without_key : KeySet → ℕ → KeySet
-without_key set key = λ q. if q == key then false else set q
 
 -- the keys of either set
 abbrev pub union : KeySet → KeySet → KeySet

@@ -1,43 +1,71 @@
-use Rattle.std.specs.Prelude.{◌≡◌, ◌≢◌, ℕ, ◌<◌, ◌≤◌, ◌↔◌, ◌⊎◌, IsTrue, List, Some, slice_get, take}
+use Rattle.std.specs.Prelude.{◌≡◌, ◌≢◌, ℕ, ◌<◌, ◌≤◌, ◌↔◌, ◌⊎◌, List, Some, None, slice_get, take}
 use Rattle.ell_ops.specs.declared.op.Op.{Op}
 use Rattle.ell_ops.specs.declared.op.Op.TheVariants.{Find, Insert, Delete}
 use Rattle.ell_ops.specs.declared.reply.Reply.{Reply}
-use Rattle.ell_ops.specs.declared.reply.Reply.TheVariants.{Yes}
-use Rattle.ell_ops.specs.Meaning.{Contents, key_of, replies, final}
+use Rattle.ell_ops.specs.declared.reply.Reply.TheVariants.{No, Yes, Found}
+use Rattle.ell_ops.specs.Contents.{Contents}
+use Rattle.ell_ops.specs.Meaning.{key_of, replies, final}
 
--- no delete of the key stands from position low up to position high
+-- no insert of the key stands from position low up to position high
+abbrev pub NoInsert : List Op → ℕ → ℕ → ℕ → Type 0
+NoInsert ops key low high = (j value : ℕ) → low ≤ j → j < high → slice_get ops j ≢ Some (Insert key value)
+
+-- nor a delete of it
 abbrev pub NoDelete : List Op → ℕ → ℕ → ℕ → Type 0
 NoDelete ops key low high = (j : ℕ) → low ≤ j → j < high → slice_get ops j ≢ Some (Delete key)
 
--- some insert of the key stands before position i, with no delete of it between
-pub record IsInserted (ops : List Op) (key i : ℕ) : Type 0 where
+-- some delete of the key stands before position i, with no insert of it between
+pub record IsDeleted (ops : List Op) (key i : ℕ) : Type 0 where
   pub at : ℕ
-  pub value : ℕ
+  pub before : at < i
+  pub delete : slice_get ops at ≡ Some (Delete key)
+  pub stays : NoInsert ops key at i
+
+-- the key was not there at first, and no insert of it stands before position i
+pub record IsMissing (there : Contents) (ops : List Op) (key i : ℕ) : Type 0 where
+  pub lacked : there key ≡ None
+  pub stays : NoInsert ops key 0 i
+
+-- the key is absent before position i
+abbrev pub IsAbsent : Contents → List Op → ℕ → ℕ → Type 0
+IsAbsent there ops key i = IsDeleted ops key i ⊎ IsMissing there ops key i
+
+-- some insert of the key with this value stands before position i where the key was absent, with no delete of it between
+pub record IsInserted (there : Contents) (ops : List Op) (key i value : ℕ) : Type 0 where
+  pub at : ℕ
   pub before : at < i
   pub insert : slice_get ops at ≡ Some (Insert key value)
+  pub absent : IsAbsent there ops key at
   pub stays : NoDelete ops key at i
 
--- the set had the key, and no delete of it stands before position i
-pub record IsKept (set : Contents) (ops : List Op) (key i : ℕ) : Type 0 where
-  pub had : IsTrue (set key)
+-- the key was there at first with this value, and no delete of it stands before position i
+pub record IsKept (there : Contents) (ops : List Op) (key i value : ℕ) : Type 0 where
+  pub had : there key ≡ Some value
   pub stays : NoDelete ops key 0 i
+
+-- the key is present with this value before position i
+abbrev pub HasValue : Contents → List Op → ℕ → ℕ → ℕ → Type 0
+HasValue there ops key i value = IsInserted there ops key i value ⊎ IsKept there ops key i value
 
 -- the key is present before position i
 abbrev pub IsPresent : Contents → List Op → ℕ → ℕ → Type 0
-IsPresent set ops key i = IsInserted ops key i ⊎ IsKept set ops key i
+IsPresent there ops key i = (value : ℕ) × HasValue there ops key i value
 
--- the reply of an operation on a key that is present or not
-abbrev pub Answers : Op → Reply → Type 0 → Type 0
-Answers (Find key) reply present = (reply ≡ Yes) ↔ present
-Answers (Insert key value) reply present = (reply ≡ Yes) ↔ (¬ present)
-Answers (Delete key) reply present = (reply ≡ Yes) ↔ present
+-- the reply of an operation by its key before its position: of a find the value, if the key is present; of an insert yes exactly
+-- where it is absent; of a delete yes exactly where it is present
+abbrev pub Answers : Contents → List Op → ℕ → Op → Reply → Type 0
+Answers there ops i (Find key) reply =
+    ((value : ℕ) → (reply ≡ Found value) ↔ HasValue there ops key i value) × ((reply ≡ No) ↔ IsAbsent there ops key i)
+Answers there ops i (Insert key value) reply = ((reply ≡ Yes) ↔ IsAbsent there ops key i) × ((reply ≡ No) ↔ IsPresent there ops key i)
+Answers there ops i (Delete key) reply = ((reply ≡ Yes) ↔ IsPresent there ops key i) × ((reply ≡ No) ↔ IsAbsent there ops key i)
 
--- before each position, and at the end, the set has the keys that are present
+-- before each position, and at the end, there are the keys that are present, with their values
 abbrev pub FoldHasPresentKeys : Type 0
-FoldHasPresentKeys = (set : Contents) (ops : List Op) (key i : ℕ) →
-    (IsTrue (final set (take i ops) key) ↔ IsPresent set ops key i)
+FoldHasPresentKeys = (there : Contents) (ops : List Op) (key i : ℕ)
+    → ((value : ℕ) → (final there (take i ops) key ≡ Some value) ↔ HasValue there ops key i value)
+    × ((final there (take i ops) key ≡ None) ↔ IsAbsent there ops key i)
 
--- each operation's reply goes by whether its key is present
+-- each operation's reply goes by its key before it
 abbrev pub RepliesGoByPresence : Type 0
-RepliesGoByPresence = (set : Contents) (ops : List Op) (i : ℕ) (op : Op) → slice_get ops i ≡ Some op →
-    (reply : Reply) × (slice_get (replies set ops) i ≡ Some reply) × Answers op reply (IsPresent set ops (key_of op) i)
+RepliesGoByPresence = (there : Contents) (ops : List Op) (i : ℕ) (op : Op) → slice_get ops i ≡ Some op
+    → (reply : Reply) × (slice_get (replies there ops) i ≡ Some reply) × Answers there ops i op reply

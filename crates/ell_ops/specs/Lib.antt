@@ -1,6 +1,9 @@
 -- Sets of keys. A set is what it answers: whether it has each key.
 pub mod KeySet
+-- What there is: keys with their values.
+pub mod Contents
 -- What an operation answers and leaves, and the same for a list of them, applied by one thread.
 pub mod Meaning
--- Which keys are present, read off the list without applying it: the last insert or delete of a key decides.
+-- Which keys are present, read off the list without applying it: the last insert or delete of a key decides, and whose
+-- value a present key has: that of the insert that found it absent.
 pub mod LastWriter

@@ -1,9 +1,9 @@
-use Rattle.std.specs.Prelude.{◌≡◌, ℕ, ◌-◌, ◌^◌, ◌≤◌, Bool, true, false, not, List, [], ◌∷◌}
+use Rattle.std.specs.Prelude.{◌≡◌, ℕ, ◌-◌, ◌^◌, ◌≤◌, Bool, true, false, not, Option, Some, None, is_some, List, [], ◌∷◌}
 use Rattle.ell_ops.specs.declared.op.Op.{Op}
 use Rattle.ell_ops.specs.declared.op.Op.TheVariants.{Find, Insert, Delete}
 use Rattle.ell_ops.specs.declared.reply.Reply.{Reply}
-use Rattle.ell_ops.specs.declared.reply.Reply.TheVariants.{No, Yes}
-use Rattle.ell_ops.specs.KeySet.{KeySet, with_key, without_key}
+use Rattle.ell_ops.specs.declared.reply.Reply.TheVariants.{No, Yes, Found}
+use Rattle.ell_ops.specs.Contents.{Contents, with_pair, without}
 
 -- the greatest key: the two numbers above it that 64 bits hold mark the ends of the tree
 abbrev pub greatest_key : ℕ
@@ -19,43 +19,44 @@ key_of (Find key) = key
 key_of (Insert key value) = key
 key_of (Delete key) = key
 
--- the operation's key is one that a set may have
+-- the operation's key is one that may be there
 abbrev pub Fits : Op → Type 0
 Fits op = key_of op ≤ greatest_key
-
--- what operations find, and what they leave: the keys that are there
-abbrev pub Contents : Type 0
-Contents = KeySet
 
 -- yes exactly where it holds
 abbrev pub yes_if : Bool → Reply
 yes_if true = Yes
 yes_if false = No
 
--- the reply of an operation on a set
+-- a value that was found, or no
+abbrev pub found : Option ℕ → Reply
+found (Some value) = Found value
+found None = No
+
+-- the reply of an operation where this is there
 abbrev pub reply_of : Op → Contents → Reply
-reply_of (Find key) set = yes_if (set key)
-reply_of (Insert key value) set = yes_if (not (set key))
-reply_of (Delete key) set = yes_if (set key)
+reply_of (Find key) there = found (there key)
+reply_of (Insert key value) there = yes_if (not (is_some (there key)))
+reply_of (Delete key) there = yes_if (is_some (there key))
 
--- the set that an operation leaves
+-- what an operation leaves: an insert of a key that is there leaves its value
 abbrev pub after : Op → Contents → Contents
-after (Find key) set = set
-after (Insert key value) set = with_key set key
-after (Delete key) set = without_key set key
+after (Find key) there = there
+after (Insert key value) there = with_pair there key value
+after (Delete key) there = without there key
 
--- the operation adds a key that the set does not have
+-- the operation adds a key that is not there
 abbrev pub AddsKey : Op → Contents → Type 0
-AddsKey (Find key) set = ⊥
-AddsKey (Insert key value) set = set key ≡ false
-AddsKey (Delete key) set = ⊥
+AddsKey (Find key) there = ⊥
+AddsKey (Insert key value) there = there key ≡ None
+AddsKey (Delete key) there = ⊥
 
--- the reply of each operation of a list, in order, from a set
+-- the reply of each operation of a list, in order, where this is there at first
 abbrev pub replies : Contents → List Op → List Reply
-replies set [] = []
-replies set (op ∷ ops) = reply_of op set ∷ replies (after op set) ops
+replies there [] = []
+replies there (op ∷ ops) = reply_of op there ∷ replies (after op there) ops
 
--- the set that the list leaves
+-- what the list leaves
 abbrev pub final : Contents → List Op → Contents
-final set [] = set
-final set (op ∷ ops) = final (after op set) ops
+final there [] = there
+final there (op ∷ ops) = final (after op there) ops

@@ -1,69 +1,95 @@
-//! A list of operations, applied by one thread to an ordered set.
+//! A list of operations, applied by one thread to an ordered map.
 ghost use Rattle.std.specs.Prelude.{◌≡◌, IfOk, OnOk, OnErr};
 ghost use Rattle.std.specs.List.Sorted.{IsStrictlyIncreasing};
-ghost use Rattle.ell_ops.specs.KeySet.{set_of, empty, Lists};
+ghost use Rattle.std.specs.Map.{keys_of};
+ghost use Rattle.ell_ops.specs.declared.op.Op.TheVariants.{Insert};
+ghost use Rattle.ell_ops.specs.Contents.{contents_of, nothing, ListsPairs};
 ghost use Rattle.ell_ops.specs.Meaning.{reply_of, after, AddsKey, replies, final};
 
 use crate::no_memory::NoMemory;
 use crate::op::Op;
 use crate::reply::Reply;
 use std::alloc::Allocator;
-use std::collections::BTreeSet;
+use std::collections::BTreeMap;
 
-/// Applies one operation to an ordered set. Find answers whether the key is in the set, insert
-/// whether it was not, delete whether it was. Only an insert of an absent key can meet `NoMemory`,
-/// and then the set is as it was.
-pub fn apply<A: Allocator + Copy>(set: &mut BTreeSet<u64, A>, op: Op) -> Result<Reply, NoMemory>
-    ensures reply { IfOk result (λ reply. reply ≡ reply_of op (set_of set.old.keys)) }
-    ensures after { OnOk result (set_of set.new.keys ≡ after op (set_of set.old.keys)) }
-    ensures err { OnErr result (set.new.keys ≡ set.old.keys) }
-    ensures refused { OnErr result (AddsKey op (set_of set.old.keys)) }
+/// Applies one operation to an ordered map. Find answers the key's value if the key is present, insert whether it was absent,
+/// delete whether it was present; an insert of a present key leaves its value. Only an insert of an absent key can meet
+/// `NoMemory`, and then the map is as it was.
+pub fn apply<A: Allocator + Copy>(
+    map: &mut BTreeMap<u64, u64, A>,
+    op: Op,
+) -> Result<Reply, NoMemory>
+    ensures reply { IfOk result (λ reply. reply ≡ reply_of op (contents_of map.old.entries)) }
+    ensures after { OnOk result (contents_of map.new.entries ≡ after op (contents_of map.old.entries)) }
+    ensures err { OnErr result (map.new.entries ≡ map.old.entries) }
+    ensures refused { OnErr result (AddsKey op (contents_of map.old.entries)) }
 {
     match op {
-        Op::Find(key) => Ok(Reply::yes_if(set.contains(&key))),
-        Op::Insert(key, _) => Ok(Reply::yes_if(set.insert(key)?)),
-        Op::Delete(key) => Ok(Reply::yes_if(set.remove(&key))),
+        Op::Find(key) => Ok(Reply::found(map.get(&key).copied())),
+        Op::Insert(key, value) => insert(map, key, value),
+        Op::Delete(key) => Ok(Reply::yes_if(map.remove(&key).is_some())),
     }
 }
 
-/// Applies a list of operations to the empty set, one after the other. Answers the reply of each
-/// operation, in their order, and the keys of the last set, ascending.
+// Adds a key with its value, unless it is present.
+fn insert<A: Allocator + Copy>(
+    map: &mut BTreeMap<u64, u64, A>,
+    key: u64,
+    value: u64,
+) -> Result<Reply, NoMemory>
+    ensures reply { IfOk result (λ reply. reply ≡ reply_of (Insert key value) (contents_of map.old.entries)) }
+    ensures after { OnOk result (contents_of map.new.entries ≡ after (Insert key value) (contents_of map.old.entries)) }
+    ensures err { OnErr result (map.new.entries ≡ map.old.entries) }
+    ensures refused { OnErr result (AddsKey (Insert key value) (contents_of map.old.entries)) }
+{
+    if map.contains_key(&key) {
+        return Ok(Reply::No);
+    }
+    map.insert(key, value)?;
+    Ok(Reply::Yes)
+}
+
+/// Applies a list of operations to the empty map, one after the other. Answers the reply of each operation, in their order, and
+/// the keys of the last map, ascending, with their values.
 pub fn apply_all<A: Allocator + Copy>(
     alloc: A,
     ops: &[Op],
-) -> Result<(Vec<Reply, A>, Vec<u64, A>), NoMemory>
-    ensures replies { IfOk result (λ done. done.0.items ≡ replies empty ops.now) }
-    ensures keys { IfOk result (λ done. Lists (final empty ops.now) done.1.items) }
+) -> Result<(Vec<Reply, A>, Vec<(u64, u64), A>), NoMemory>
+    ensures replies { IfOk result (λ done. done.0.items ≡ replies nothing ops.now) }
+    ensures pairs { IfOk result (λ done. ListsPairs (final nothing ops.now) done.1.items) }
 {
     apply_from(alloc, &[], ops)
 }
 
-/// The same from the set of `start`, whose keys are strictly ascending.
+/// The same from the map of `start`, whose keys are strictly ascending.
 pub fn apply_from<A: Allocator + Copy>(
     alloc: A,
-    start: &[u64],
+    start: &[(u64, u64)],
     ops: &[Op],
-) -> Result<(Vec<Reply, A>, Vec<u64, A>), NoMemory>
-    requires { IsStrictlyIncreasing start.now }
-    ensures replies { IfOk result (λ done. done.0.items ≡ replies (set_of start.now) ops.now) }
-    ensures keys { IfOk result (λ done. Lists (final (set_of start.now) ops.now) done.1.items) }
+) -> Result<(Vec<Reply, A>, Vec<(u64, u64), A>), NoMemory>
+    requires { IsStrictlyIncreasing (keys_of start.now) }
+    ensures replies { IfOk result (λ done. done.0.items ≡ replies (contents_of start.now) ops.now) }
+    ensures pairs { IfOk result (λ done. ListsPairs (final (contents_of start.now) ops.now) done.1.items) }
 {
-    let mut set = ordered_set(alloc, start)?;
+    let mut map = ordered_map(alloc, start)?;
     let mut replies = Vec::with_capacity(alloc, ops.len())?;
     for op in ops {
-        replies.push(apply(&mut set, *op)?)?;
+        replies.push(apply(&mut map, *op)?)?;
     }
-    let keys = set.iter().copied().collect(alloc)?;
-    Ok((replies, keys))
+    let pairs = map.iter().map(|(key, value)| (*key, *value)).collect(alloc)?;
+    Ok((replies, pairs))
 }
 
-// The set of the keys in a list.
-fn ordered_set<A: Allocator + Copy>(alloc: A, keys: &[u64]) -> Result<BTreeSet<u64, A>, NoMemory>
-    ensures { IfOk result (λ set. set_of set.keys ≡ set_of keys.now) }
+// The map of the pairs in a list.
+fn ordered_map<A: Allocator + Copy>(
+    alloc: A,
+    pairs: &[(u64, u64)],
+) -> Result<BTreeMap<u64, u64, A>, NoMemory>
+    ensures { IfOk result (λ map. contents_of map.entries ≡ contents_of pairs.now) }
 {
-    let mut set = BTreeSet::new(alloc);
-    for key in keys {
-        set.insert(*key)?;
+    let mut map = BTreeMap::new(alloc);
+    for (key, value) in pairs {
+        insert(&mut map, *key, *value)?;
     }
-    Ok(set)
+    Ok(map)
 }

@@ -1,15 +1,15 @@
-//! One operation on a set of keys.
+//! One operation on keys with their values.
 ghost use Rattle.std.specs.Prelude.{◌≡◌, ◌↔◌, IsTrue};
 
 /// The greatest key, 2^64 - 3: the two numbers above it that 64 bits hold mark the ends of the tree.
 pub const KEY_MAX: u64 = 18_446_744_073_709_551_613;
 
-/// One operation on a set of keys.
+/// One operation on a map from keys to values.
 #[derive(Clone, Copy, Debug, PartialEq, Eq)]
 pub enum Op {
-    /// Is the key in the set?
+    /// What is the key's value, if the key is present?
     Find(u64),
-    /// Adds the key; was it absent? Behind the key stands a value, which is kept, but not told yet.
+    /// Adds the key with its value; was it absent? A key that is present keeps its value.
     Insert(u64, u64),
     /// Removes the key; was it present?
     Delete(u64),

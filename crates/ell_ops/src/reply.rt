@@ -1,14 +1,17 @@
 //! What an operation answers.
 ghost use Rattle.std.specs.Prelude.{◌≡◌};
-ghost use Rattle.ell_ops.specs.Meaning.{yes_if};
+ghost use Rattle.ell_ops.specs.Meaning.{found, yes_if};
 
-/// What an operation answers: a find whether its key is there, an insert whether it was not there, a delete whether it was.
+/// What an operation answers: a find the value of its key, if it is present, an insert whether it was absent, a delete whether it
+/// was present.
 #[derive(Clone, Copy, Debug, PartialEq, Eq)]
 pub enum Reply {
-    /// It is not so, and nothing was changed.
+    /// Nothing was found, and nothing was changed.
     No,
-    /// It is so; an insert has added its key, a delete has removed it.
+    /// An insert has added its key, or a delete has removed it.
     Yes,
+    /// A find has found its key, with this value.
+    Found(u64),
 }
 
 impl Reply {
@@ -17,5 +20,12 @@ impl Reply {
         ensures { result ≡ yes_if holds }
     {
         if holds { Reply::Yes } else { Reply::No }
+    }
+
+    /// A value that was found, or no.
+    pub fn found(value: Option<u64>) -> Reply
+        ensures { result ≡ found value }
+    {
+        value.map_or(Reply::No, Reply::Found)
     }
 }

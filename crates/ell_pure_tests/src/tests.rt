@@ -1,4 +1,5 @@
 //! What no clause says, and what clauses come to, by examples that a person worked out.
+mod answering;
 mod machine;
 mod operations;
 mod parts;

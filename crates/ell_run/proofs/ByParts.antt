@@ -5,7 +5,8 @@ use Rattle.std.proofs.Math.Seq.{take-add}
 use Rattle.std.proofs.lemmas.List.{map-append, take-append-drop, take-map, take-take}
 use Rattle.std.proofs.lemmas.Bool.{cases_Bool, cases_eq, eqb-true, eq-eqb, ne_eqb, cond-true, cond-false}
 use Rattle.ell_ops.specs.declared.Op.{Op}
-use Rattle.ell_ops.specs.Meaning.{Contents, key_of, after, replies, final}
+use Rattle.ell_ops.specs.Contents.{Contents}
+use Rattle.ell_ops.specs.Meaning.{key_of, after, replies, final}
 use Rattle.ell_parts.specs.Parting.{Parting, IsLawful, part}
 use Rattle.ell_run.specs.ByParts.{ops_in, Owns, done, IsRest, AreDone, ReplyAlike, PartsServe}
 use Rattle.ell_ops.proofs.Places.{slice_get-drop, slice_get_from_take, slice_get_within_take}

@@ -6,7 +6,8 @@ use Rattle.std.proofs.lemmas.List.{append-nil, append_assoc, length-append}
 use Rattle.std.proofs.lemmas.List.FromFn.{length-range_with_len}
 use Rattle.std.proofs.lemmas.List.Sums.{sum_by-append, sum_by-cons, sum_by-take-drop}
 use Rattle.ell_ops.specs.declared.op.Op.{Op}
-use Rattle.ell_ops.specs.Meaning.{Contents, final}
+use Rattle.ell_ops.specs.Contents.{Contents}
+use Rattle.ell_ops.specs.Meaning.{final}
 use Rattle.ell_parts.specs.Parting.{Parting, part}
 use Rattle.ell_tree.specs.Ledgers.{PassModel, present_in}
 use Rattle.ell_run.specs.ByParts.{ops_in}
@@ -106,7 +107,7 @@ worked-insert cards tries parting xs ys worker before after ps none h =
       table = h.table;
       idle = h.idle;
       told = pieces-insert (present_in before) parting xs ys worker ps none h.told;
-      set = h.set ∙ ap (final (present_in before)) (sym (done-insert parting xs ys worker ps (present_in before) h.told));
+      map = h.map ∙ ap (final (present_in before)) (sym (done-insert parting xs ys worker ps (present_in before) h.told));
       owned = h.owned;
       answers = omega (arith, sum-insert ps (length xs));
       held =

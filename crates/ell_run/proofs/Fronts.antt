@@ -5,7 +5,8 @@ use Rattle.std.proofs.lemmas.Bool.{cond-true, cond-false, le-ltb, lt-ltb}
 use Rattle.std.proofs.lemmas.List.{append-nil, length_push, map-append, take_more}
 use Rattle.std.proofs.lemmas.Option.{slice_get_within, get_or_from_slice_get}
 use Rattle.ell_ops.specs.declared.op.Op.{Op}
-use Rattle.ell_ops.specs.Meaning.{Contents, reply_of, final}
+use Rattle.ell_ops.specs.Contents.{Contents}
+use Rattle.ell_ops.specs.Meaning.{reply_of, final}
 use Rattle.ell_ops.specs.Meaning.{after as after_op}
 use Rattle.ell_tree.specs.declared.operations.Held.{Held}
 use Rattle.ell_tree.specs.Ends.{Answers, HeldFor, LaidDown}
@@ -26,7 +27,7 @@ pub record IsFrontDone (items : List (ℕ × Op)) (i : ℕ) (before after : Pass
   pub few : i ≤ length items
   pub count : length piece ≡ i
   pub told : piece ≡ piece_from (present_in before) (take i items)
-  pub set : present_in after ≡ final (present_in before) (ops_in (take i items))
+  pub map : present_in after ≡ final (present_in before) (ops_in (take i items))
   pub owned : (key : ℕ) → Owns after key ↔ Owns before key
   pub answered : answers after ≡ answers before + i
   pub grows : hindrances before ≤ hindrances after
@@ -45,11 +46,11 @@ front_more items i d before mid after piece reply below h a meets =
     let item = get_or items i d in
     let s = present_in before in
     let more : take (i + 1) items ≡ take i items ++ item ∷ [] = take_more items i d below in
-    let says : reply ≡ reply_of item.1 (final s (ops_in (take i items))) = a.says ∙ ap (reply_of item.1) h.set in
+    let says : reply ≡ reply_of item.1 (final s (ops_in (take i items))) = a.says ∙ ap (reply_of item.1) h.map in
     let few = h.few in
     let one = a.answered in
     let others = h.answered in
-    let same : present_in after ≡ after_op item.1 (present_in mid) = λ j key. a.set key j in
+    let same : present_in after ≡ after_op item.1 (present_in mid) = λ j key. a.map key j in
     record {
       table = a.table ∙ h.table;
       idle = a.idle;
@@ -58,7 +59,7 @@ front_more items i d before mid after piece reply below h a meets =
       told = ap (λ r. piece ++ (item.0, r) ∷ []) says
           ∙ ap (λ l. l ++ (item.0, reply_of item.1 (final s (ops_in (take i items)))) ∷ []) h.told
           ∙ sym (piece_from-push s (take i items) item) ∙ ap (piece_from s) (sym more);
-      set = same ∙ ap (after_op item.1) h.set ∙ sym (final-append (ops_in (take i items)) (item.1 ∷ []) s)
+      map = same ∙ ap (after_op item.1) h.map ∙ sym (final-append (ops_in (take i items)) (item.1 ∷ []) s)
           ∙ ap (final s) (sym (ap ops_in more ∙ map-append (λ (x : ℕ × Op). x.1) (take i items) (item ∷ [])));
       owned = λ key. let old = h.owned key in let new = a.owned key in (λ o. old.0 (new.0 o), λ o. new.1 (old.1 o));
       answered = omega arith;
@@ -81,7 +82,7 @@ front_all cards tries items i before after piece all h =
         done = h.told ∙ ap (piece_from (present_in before)) same;
         held = λ position op e. absurd (let within = slice_get_within items (length piece) (position, op) e in omega arith);
       };
-      set = h.set ∙ ap (λ l. final (present_in before) (ops_in l)) same;
+      map = h.map ∙ ap (λ l. final (present_in before) (ops_in l)) same;
       owned = h.owned;
       answers = omega arith;
       held =
@@ -110,10 +111,10 @@ front_held cards tries items i d before mid after piece why below h l held_for =
         held = λ position op e.
             let here : get_or items i d ≡ (position, op) =
             ap (λ n. get_or items n d) (sym count) ∙ get_or_from_slice_get items (length piece) (position, op) d e in
-            ap (λ l. reply_of op (final (present_in before) (ops_in l))) (sym same) ∙ ap (reply_of op) (sym h.set)
+            ap (λ l. reply_of op (final (present_in before) (ops_in l))) (sym same) ∙ ap (reply_of op) (sym h.map)
             ∙ ap (λ (x : ℕ × Op). reply_of x.1 (present_in mid)) (sym here) ∙ l.would;
       };
-      set = kept ∙ h.set ∙ ap (λ l. final (present_in before) (ops_in l)) same;
+      map = kept ∙ h.map ∙ ap (λ l. final (present_in before) (ops_in l)) same;
       owned = λ key. let old = h.owned key in rw l.ledger old;
       answers = omega arith;
       held =
@@ -137,7 +138,7 @@ one_worked cards tries parting (w ∷ []) d label before told after items piece 
       table = off.table;
       idle = off.idle;
       told = (off.told, tt);
-      set = off.set ∙ ap (final (present_in before)) (sym (append-nil (ops_in (front (part parting w) piece))));
+      map = off.map ∙ ap (final (present_in before)) (sym (append-nil (ops_in (front (part parting w) piece))));
       owned = off.owned;
       answers = let counted = off.answers in omega arith;
       held = subst (λ n. AreHeld cards tries n before after) (sym (add-zero (one_held (part parting w) piece))) off.held;

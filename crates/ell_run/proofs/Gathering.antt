@@ -5,7 +5,8 @@ use Rattle.std.proofs.lemmas.List.{flat_map_more}
 use Rattle.std.proofs.lemmas.Option.{slice_get_within}
 use Rattle.std.proofs.lemmas.Bool.{cases_Bool, cases_eq, eq-eqb, cond-true, cond-false}
 use Rattle.ell_ops.specs.declared.op.Op.{Op}
-use Rattle.ell_ops.specs.Meaning.{Contents, reply_of, final, replies}
+use Rattle.ell_ops.specs.Contents.{Contents}
+use Rattle.ell_ops.specs.Meaning.{reply_of, final, replies}
 use Rattle.ell_parts.specs.Gathering.{IsFor, AreSound}
 use Rattle.ell_parts.specs.Parting.{Parting, IsLawful, part}
 use Rattle.ell_ops.proofs.Places.{slice_get-append, slice_get-append_behind, slice_get-append_cases, slice_get-take, slice_get_from_take, slice_get_within_take}

@@ -208,14 +208,14 @@ module _ (tree : TreeModel) (parting : Parting) (low high : List ℕ) (pass left
     set_at key =
         ⊎_elim
         (λ l.
-        present_alike both first key (ledger_at_left key l) ∙ ap (λ s. s key) did.set
+        present_alike both first key (ledger_at_left key l) ∙ ap (λ s. s key) did.map
         ∙ final_alike (ops_done parting low ps) (ops_done parting low ps ++ ops_done parting high qs) (present_in left) (present_in pass) key
         (present_alike left pass key l.kept)
         (sym (on_key-append key (ops_done parting low ps) (ops_done parting high qs)
         ∙ ap (λ ops. on_key key (ops_done parting low ps) ++ ops) (done_off_key parting key high qs l.off)
         ∙ append-nil (on_key key (ops_done parting low ps)))))
         (λ r.
-        present_alike both second key (ledger_at_right key r) ∙ ap (λ s. s key) other.set
+        present_alike both second key (ledger_at_right key r) ∙ ap (λ s. s key) other.map
         ∙ final_alike (ops_done parting high qs) (ops_done parting low ps ++ ops_done parting high qs) (present_in right) (present_in pass) key
         (present_alike right pass key r.kept)
         (sym (on_key-append key (ops_done parting low ps) (ops_done parting high qs)
@@ -253,7 +253,7 @@ module _ (tree : TreeModel) (parting : Parting) (low high : List ℕ) (pass left
           table = union.own ∙ did.table ∙ h.on_left.own;
           idle = union.idle;
           told = pieces-append (present_in pass) parting low high ps qs first_told second_told;
-          set = (λ i key. set_at key i) ∙ ap (final (present_in pass)) (sym (done-append (present_in pass) parting low high ps qs first_told));
+          map = (λ i key. set_at key i) ∙ ap (final (present_in pass)) (sym (done-append (present_in pass) parting low high ps qs first_told));
           owned = owned_at;
           answers = omega (arith, sum_by-append (λ (piece : List (ℕ × Reply)). length piece) ps qs);
           held =

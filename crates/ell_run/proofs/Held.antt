@@ -12,7 +12,7 @@ use Rattle.ell_tree.specs.Ledgers.{PassModel, hindrances}
 use Rattle.ell_run.specs.Pieces.{ArePieces, all_held, one_held}
 use Rattle.ell_run.specs.Work.{AreHeld, HasNoCards}
 use Rattle.ell_ops.specs.declared.reply.Reply.{Reply}
-use Rattle.ell_ops.specs.Meaning.{Contents}
+use Rattle.ell_ops.specs.Contents.{Contents}
 
 -- what was in a pass's way stays told
 pub hindrances_grow : (before after : PassModel) → Meets before.view after.view → hindrances before ≤ hindrances after

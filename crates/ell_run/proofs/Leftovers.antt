@@ -11,8 +11,9 @@ use Rattle.std.proofs.lemmas.List.Filters.{length-filter_both}
 use Rattle.std.proofs.lemmas.Map.Keys.{any_passes_from_place}
 use Rattle.std.proofs.lemmas.Option.{slice_get-get_or, slice_get_within}
 use Rattle.ell_ops.specs.declared.op.Op.{Op}
-use Rattle.ell_ops.specs.KeySet.{Lists, set_of}
-use Rattle.ell_ops.specs.Meaning.{Contents, final, replies, reply_of}
+use Rattle.ell_ops.specs.Contents.{ListsPairs, contents_of}
+use Rattle.ell_ops.specs.Contents.{Contents}
+use Rattle.ell_ops.specs.Meaning.{final, replies, reply_of}
 use Rattle.ell_ops.proofs.Places.{slice_get_below, slice_get-append, slice_get-append_behind, slice_get-append_cases, slice_get-drop, slice_get_from_take, slice_get_within_take}
 use Rattle.ell_ops.proofs.Presence.{reply_at}
 use Rattle.ell_parts.specs.Gathering.{AreSound, IsFor}
@@ -288,23 +289,23 @@ module _ (start : Contents) (parting : Parting) (lawful : IsLawful parting) (pie
       ∙ ap (λ (p : List (ℕ × Reply)). on_key key (ops_in (take (length p) (part parting worker)))) (sym none))
       (cases_lt worker parting.workers))
 
-  module _ (keys : List ℕ) (listed : Lists (final start (ops_done parting (all_workers parting) pieces)) keys) where
+  module _ (pairs : List (ℕ × ℕ)) (listed : ListsPairs (final start (ops_done parting (all_workers parting) pieces)) pairs) where
     abbrev rest : List (ℕ × Op)
     rest = late_ops parting.ops early
 
     abbrev last : List (ℕ × Reply)
-    last = piece_from (set_of keys) rest
+    last = piece_from (contents_of pairs) rest
 
-    -- replies and keys come out as those of one thread
-    pub one_thread : IsAsOneThread start parting counts (set_of keys) rest
-    one_thread = parts_serve start parting counts (set_of keys) rest lawful (are_done (set_of keys) listed.each) is_rest
+    -- replies and pairs come out as those of one thread
+    pub one_thread : IsAsOneThread start parting counts (contents_of pairs) rest
+    one_thread = parts_serve start parting counts (contents_of pairs) rest lawful (are_done (contents_of pairs) listed.each) is_rest
 
     late_sound : AreSound (length parting.ops) last (length last)
     late_sound k position below is_for =
-        let t = tagged rest (replies (set_of keys) (ops_in rest)) k position is_for.0 is_for.1 in (
+        let t = tagged rest (replies (contents_of pairs) (ops_in rest)) k position is_for.0 is_for.1 in (
           slice_get_within parting.ops position t.0 (late_item parting.ops early k position t.0 t.1).0,
           λ i earlier again.
-              let s = tagged rest (replies (set_of keys) (ops_in rest)) i position again.0 again.1 in
+              let s = tagged rest (replies (contents_of pairs) (ops_in rest)) i position again.0 again.1 in
               let order = part_ascends (owner_by early) parting.ops 0 k i position position s.0 t.0
               (ap (λ l. slice_get l k) (sym (late_as_part parting.ops early)) ∙ t.1)
               (ap (λ l. slice_get l i) (sym (late_as_part parting.ops early)) ∙ s.1) earlier in
@@ -320,12 +321,12 @@ module _ (start : Contents) (parting : Parting) (lawful : IsLawful parting) (pie
         let found = part_has (owner_by early) 0 parting.ops 0 position op.0 op.1 own in
         let item : slice_get rest found.0 ≡ Some (position, op.0) =
         ap (λ l. slice_get l found.0) (late_as_part parting.ops early) ∙ found.1 ∙ ap (λ n. Some (n, op.0)) same in
-        let reply = reply_of op.0 (final (set_of keys) (take found.0 (ops_in rest))) in (
+        let reply = reply_of op.0 (final (contents_of pairs) (take found.0 (ops_in rest))) in (
           found.0,
           (
             reply,
-            untagged rest (replies (set_of keys) (ops_in rest)) found.0 position op.0 reply item
-                (reply_at (set_of keys) (ops_in rest) found.0 op.0 (op_at rest found.0 position op.0 item)),
+            untagged rest (replies (contents_of pairs) (ops_in rest)) found.0 position op.0 reply item
+                (reply_at (contents_of pairs) (ops_in rest) found.0 op.0 (op_at rest found.0 position op.0 item)),
           ),
         )
 
@@ -334,7 +335,7 @@ module _ (start : Contents) (parting : Parting) (lawful : IsLawful parting) (pie
     are_answers = record {
       sound = together_sound (length parting.ops) early last (pieces_sound start parting lawful counts parting.workers) late_sound
           (λ i j position first second.
-          let t = tagged rest (replies (set_of keys) (ops_in rest)) j position second.0 second.1 in
+          let t = tagged rest (replies (contents_of pairs) (ops_in rest)) j position second.0 second.1 in
           let none = (late_item parting.ops early j position t.0 t.1).1 in
           let some = answers_it early i position first in
           cc);
@@ -347,7 +348,7 @@ module _ (start : Contents) (parting : Parting) (lawful : IsLawful parting) (pie
       told = λ k position reply e. ⊎_elim
           (λ first. (any_tells start parting lawful counts parting.workers k position reply first.1).tells.told)
           (λ second.
-          let t = tagged rest (replies (set_of keys) (ops_in rest)) second.0 position reply second.2 in
+          let t = tagged rest (replies (contents_of pairs) (ops_in rest)) second.0 position reply second.2 in
           sym (one_thread.late second.0 position t.0 t.1) ∙ t.2)
           (slice_get-append_cases early last k (position, reply) e);
     }
@@ -382,19 +383,19 @@ module _ {V : Type 0} (seen : V → List (ℕ × Reply)) (start : Contents) (par
       ((worker : ℕ) → worker < parting.workers → length (part parting worker) ≤ count_of (map seen pieces) worker) → [] ≡ late_ops parting.ops (flat_map seen pieces)
   nothing_late lawful all = sym (ap (late_ops parting.ops) all_pieces ∙ none_late start parting lawful (map seen pieces) told all)
 
-  module _ (lawful : IsLawful parting) (keys : List ℕ) (listed : Lists (final start (ops_done parting (all_workers parting) (map seen pieces))) keys)
+  module _ (lawful : IsLawful parting) (pairs : List (ℕ × ℕ)) (listed : ListsPairs (final start (ops_done parting (all_workers parting) (map seen pieces))) pairs)
       (late : List (ℕ × Op)) (late_is : late ≡ late_ops parting.ops (flat_map seen pieces)) where
     rest_is : late ≡ late_ops parting.ops (pieces_of start parting (count_of (map seen pieces)) parting.workers)
     rest_is = late_is ∙ ap (late_ops parting.ops) all_pieces
 
     -- the pieces and the replies to what was late answer each position once, as one thread does
-    pub all_answer : (piece : V) → seen piece ≡ piece_from (set_of keys) late → AreAnswers start parting.ops (flat_map seen (pieces ++ piece ∷ []))
+    pub all_answer : (piece : V) → seen piece ≡ piece_from (contents_of pairs) late → AreAnswers start parting.ops (flat_map seen (pieces ++ piece ∷ []))
     all_answer piece piece_is =
         subst (AreAnswers start parting.ops)
         (sym (flat_map-append seen pieces (piece ∷ [])
-        ∙ ap₂ ◌++◌ all_pieces (append-nil (seen piece) ∙ piece_is ∙ ap (piece_from (set_of keys)) rest_is)))
-        (are_answers start parting lawful (map seen pieces) told keys listed)
+        ∙ ap₂ ◌++◌ all_pieces (append-nil (seen piece) ∙ piece_is ∙ ap (piece_from (contents_of pairs)) rest_is)))
+        (are_answers start parting lawful (map seen pieces) told pairs listed)
 
     -- and what was late leaves the set of one thread
-    pub last_set : final (set_of keys) (ops_in late) ≡ final start parting.ops
-    last_set = ap (λ l. final (set_of keys) (ops_in l)) rest_is ∙ (one_thread start parting lawful (map seen pieces) told keys listed).final
+    pub last_map : final (contents_of pairs) (ops_in late) ≡ final start parting.ops
+    last_map = ap (λ l. final (contents_of pairs) (ops_in l)) rest_is ∙ (one_thread start parting lawful (map seen pieces) told pairs listed).final

@@ -1,26 +1,27 @@
-use Rattle.std.proofs.Common.{◌≡◌, ◌≢◌, ℕ, true, false, cond, not, All, List, [], ◌∷◌, ◌++◌, eqb, refl, ap, ap₂, sym, ◌∙◌, ⊎_elim}
-use Rattle.std.specs.Prelude.{filter, ◌==◌}
+use Rattle.std.proofs.Common.{◌≡◌, ◌≢◌, ℕ, false, cond, not, Some, None, unwrap_or, All, List, [], ◌∷◌, ◌++◌, eqb, refl, ap, ap₂, sym, ◌∙◌, ⊎_elim}
+use Rattle.std.specs.Prelude.{filter, ◌==◌, is_some}
 use Rattle.std.proofs.lemmas.Bool.{cases_Bool, ne_eqb, eqb-false, cond-true, cond-false}
 use Rattle.std.proofs.lemmas.List.Elements.{All-head, All-tail, All-weaker, filter-append}
 use Rattle.ell_ops.specs.declared.Op.{Op}
 use Rattle.ell_ops.specs.declared.Op.TheVariants.{Find, Insert, Delete}
-use Rattle.ell_ops.specs.Meaning.{Contents, key_of, reply_of, after, replies, final, yes_if}
+use Rattle.ell_ops.specs.Contents.{Contents}
+use Rattle.ell_ops.specs.Meaning.{key_of, reply_of, after, replies, final, yes_if, found}
 
 -- the operations on a key
 abbrev pub on_key : ℕ → List Op → List Op
 on_key key ops = filter (λ op. key_of op == key) ops
 
--- sets that agree at a key agree there after an operation
+-- maps that agree at a key agree there after an operation
 pub after_alike : (op : Op) (s t : Contents) (key : ℕ) → s key ≡ t key → after op s key ≡ after op t key
 after_alike (Find k) s t key same = same
-after_alike (Insert k value) s t key same = ap (cond (eqb key k) true) same
-after_alike (Delete k) s t key same = ap (cond (eqb key k) false) same
+after_alike (Insert k value) s t key same = ap (λ o. cond (eqb key k) (Some (unwrap_or o value)) o) same
+after_alike (Delete k) s t key same = ap (cond (eqb key k) None) same
 
 -- an operation on another key leaves the key as it is
 after_other : (op : Op) (s : Contents) (key : ℕ) → eqb (key_of op) key ≡ false → after op s key ≡ s key
 after_other (Find k) s key other = refl
-after_other (Insert k value) s key other = cond-false (eqb key k) true (s key) (ne_eqb key k (λ e. eqb-false k key other (sym e)))
-after_other (Delete k) s key other = cond-false (eqb key k) false (s key) (ne_eqb key k (λ e. eqb-false k key other (sym e)))
+after_other (Insert k value) s key other = cond-false (eqb key k) (Some (unwrap_or (s key) value)) (s key) (ne_eqb key k (λ e. eqb-false k key other (sym e)))
+after_other (Delete k) s key other = cond-false (eqb key k) None (s key) (ne_eqb key k (λ e. eqb-false k key other (sym e)))
 
 pub final_on_key : (ops : List Op) (s t : Contents) (key : ℕ) → s key ≡ t key → final s ops key ≡ final t (on_key key ops) key
 final_on_key [] s t key same = same
@@ -44,11 +45,11 @@ final-append (x ∷ xs) ys s = final-append xs ys (after x s)
 
 -- the reply to an operation goes by its key alone
 pub reply_alike : (op : Op) (s t : Contents) → s (key_of op) ≡ t (key_of op) → reply_of op s ≡ reply_of op t
-reply_alike (Find k) s t same = ap yes_if same
-reply_alike (Insert k value) s t same = ap (λ b. yes_if (not b)) same
-reply_alike (Delete k) s t same = ap yes_if same
+reply_alike (Find k) s t same = ap found same
+reply_alike (Insert k value) s t same = ap (λ o. yes_if (not (is_some o))) same
+reply_alike (Delete k) s t same = ap (λ o. yes_if (is_some o)) same
 
--- so sets that agree at a key agree there after a list
+-- so maps that agree at a key agree there after a list
 pub final_agree : (ops : List Op) (s t : Contents) (key : ℕ) → s key ≡ t key → final s ops key ≡ final t ops key
 final_agree ops s t key same = final_alike ops ops s t key same refl
 

@@ -1,6 +1,7 @@
 use Rattle.std.proofs.Common.{◌≡◌, ◌↔◌, ℕ, ◌<◌, ◌≤◌, ◌⊎◌, inl, inr, ⊎_elim, ◌||◌, Bool, true, false, cond, All, None, Some, List, eqb, length, get_or, map, arith, refl, ap, sym, ◌∙◌}
 use Rattle.std.specs.List.{Contains}
 use Rattle.std.specs.List.Sorted.{IsStrictlyIncreasing}
+use Rattle.std.specs.Map.{keys_of as keys_in}
 use Rattle.std.proofs.lemmas.Bool.{eq-eqb, eqb-true, cond-true, or_right}
 use Rattle.std.proofs.lemmas.List.{get_or-map, length-map}
 use Rattle.std.proofs.lemmas.List.Elements.{All-contains}
@@ -116,9 +117,10 @@ module _ (keys : List ℕ) (entry : ℕ → Entry) (pass : PassModel) (fresh : (
   pub owns_all : (last : PassModel) → ((key : ℕ) → Owns last key ↔ Owns pass key) → All (λ key. Owns last key) keys
   owns_all last same j d below = (same (get_or keys j d)).1 (owns_among (get_or keys j d) (finds_key keys j d below))
 
--- the first pass of a tree that has the keys of two lists, and begins with those of the first, owns those of the second
-pub owns_used : (start used keys : List ℕ) (tree : TreeModel) (pass : PassModel) → Lists (union (set_of start) (set_of used)) keys → tree.keys ≡ keys →
+-- the first pass of a tree that has the keys of some pairs and those of a list, and begins with the pairs, owns those of the list
+pub owns_used : (start : List (ℕ × ℕ)) (used keys : List ℕ) (tree : TreeModel) (pass : PassModel) →
+    Lists (union (set_of (keys_in start)) (set_of used)) keys → tree.keys ≡ keys →
     IsFirst start tree pass → All (λ key. Owns pass key) used
 owns_used start used keys tree pass united same first =
     owns_those tree.keys (start_entry start) pass first.ledger used
-    (λ key there. ap (λ keys. set_of keys key) same ∙ second_among start used keys united key there)
+    (λ key there. ap (λ keys. set_of keys key) same ∙ second_among (keys_in start) used keys united key there)

@@ -4,7 +4,8 @@ use Rattle.std.proofs.lemmas.List.{append_assoc}
 use Rattle.std.proofs.lemmas.List.Elements.{All-head, All-tail, All-take, All-map}
 use Rattle.std.proofs.lemmas.Option.{slice_get_within, get_or_from_slice_get}
 use Rattle.ell_ops.specs.declared.op.Op.{Op}
-use Rattle.ell_ops.specs.Meaning.{Contents, key_of, final}
+use Rattle.ell_ops.specs.Contents.{Contents}
+use Rattle.ell_ops.specs.Meaning.{key_of, final}
 use Rattle.ell_parts.specs.Parting.{Parting, part}
 use Rattle.ell_run.specs.ByParts.{ops_in}
 use Rattle.ell_run.specs.Pieces.{ArePieces, IsPiece, front, numbered, ops_done}

@@ -1,7 +1,7 @@
 use Rattle.std.proofs.Common.{◌≡◌, ℕ, ◌<◌, ◌≤◌, List, Option, None, Some, Ok, length, take, ap, sym, ◌∙◌}
 use Rattle.std.specs.Prelude.{IfSome}
 use Rattle.std.specs.Io.KnownBytes.{Appends}
-use Rattle.ell_ops.specs.KeySet.{Lists, set_of}
+use Rattle.ell_ops.specs.Contents.{ListsPairs, contents_of}
 use Rattle.ell_ops.specs.Meaning.{replies, final}
 use Rattle.ell_parts.specs.Parting.{Parting}
 use Rattle.ell_text.specs.declared.output.WriteFault.{WriteFault}
@@ -15,31 +15,31 @@ use Rattle.ell_run.specs.Settings.{IsPartedAs}
 use Rattle.ell_ops.specs.declared.reply.Reply.{Reply}
 
 module _ (read : List ℕ) (given : BulkValue) (meant : bulk read ≡ Ok given) where
-  -- replies and keys of one thread are the answer
-  is_answer : (bytes : List ℕ) (said : List Reply) (keys : List ℕ) → read ≡ bytes → said ≡ replies (set_of given.start) given.ops →
-      Lists (final (set_of given.start) given.ops) keys → IsAnswer bytes (answer said keys)
-  is_answer bytes said keys whole told listed =
-      record { given = given; keys = keys; read = ap bulk (sym whole) ∙ meant; listed = listed; written = ap (λ said. answer said keys) told }
+  -- replies and pairs of one thread are the answer
+  is_answer : (bytes : List ℕ) (said : List Reply) (pairs : List (ℕ × ℕ)) → read ≡ bytes → said ≡ replies (contents_of given.start) given.ops →
+      ListsPairs (final (contents_of given.start) given.ops) pairs → IsAnswer bytes (answer given.version said pairs)
+  is_answer bytes said pairs whole told listed =
+      record { given = given; pairs = pairs; read = ap bulk (sym whole) ∙ meant; listed = listed; written = ap (λ said. answer given.version said pairs) told }
 
   -- the whole answer went out
-  pub answered : (input before after : Option (List ℕ)) (said : List Reply) (keys : List ℕ) → IfSome input (λ bytes. read ≡ bytes) →
-      said ≡ replies (set_of given.start) given.ops → Lists (final (set_of given.start) given.ops) keys → Appends before after (answer said keys) →
+  pub answered : (input before after : Option (List ℕ)) (said : List Reply) (pairs : List (ℕ × ℕ)) → IfSome input (λ bytes. read ≡ bytes) →
+      said ≡ replies (contents_of given.start) given.ops → ListsPairs (final (contents_of given.start) given.ops) pairs → Appends before after (answer given.version said pairs) →
       IsAnswered input before after
-  answered None before after said keys whole told listed out = tt
-  answered (Some bytes) before after said keys whole told listed out = (answer said keys, is_answer bytes said keys whole told listed, out)
+  answered None before after said pairs whole told listed out = tt
+  answered (Some bytes) before after said pairs whole told listed out = (answer given.version said pairs, is_answer bytes said pairs whole told listed, out)
 
   -- its write was cut short
-  pub cut_short : (input before after : Option (List ℕ)) (said : List Reply) (keys : List ℕ) (fault : WriteFault) → IfSome input (λ bytes. read ≡ bytes) →
-      said ≡ replies (set_of given.start) given.ops → Lists (final (set_of given.start) given.ops) keys →
-      fault.written < length (answer said keys) → Appends before after (take fault.written (answer said keys)) →
+  pub cut_short : (input before after : Option (List ℕ)) (said : List Reply) (pairs : List (ℕ × ℕ)) (fault : WriteFault) → IfSome input (λ bytes. read ≡ bytes) →
+      said ≡ replies (contents_of given.start) given.ops → ListsPairs (final (contents_of given.start) given.ops) pairs →
+      fault.written < length (answer given.version said pairs) → Appends before after (take fault.written (answer given.version said pairs)) →
       Tells (of_write fault) input before after
-  cut_short None before after said keys fault whole told listed missing out = tt
-  cut_short (Some bytes) before after said keys fault whole told listed missing out =
-      (answer said keys, is_answer bytes said keys whole told listed, missing, out)
+  cut_short None before after said pairs fault whole told listed missing out = tt
+  cut_short (Some bytes) before after said pairs fault whole told listed missing out =
+      (answer given.version said pairs, is_answer bytes said pairs whole told listed, missing, out)
 
   -- how many operations are late
   pub reported : (settings : Settings) (input : Option (List ℕ)) (parting : Parting) (count : ℕ) → IfSome input (λ bytes. read ≡ bytes) →
-      IsPartedAs settings given.ops parting → count ≤ length given.ops → IsLate (set_of given.start) parting count → IsReported settings input count
+      IsPartedAs settings given.ops parting → count ≤ length given.ops → IsLate (contents_of given.start) parting count → IsReported settings input count
   reported settings None parting count whole parted few late = tt
   reported settings (Some bytes) parting count whole parted few late =
       (given, ap bulk (sym whole) ∙ meant, record { parting = parting; parted = parted; few = few; late = late })

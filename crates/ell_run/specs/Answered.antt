@@ -1,6 +1,6 @@
 use Rattle.std.specs.Prelude.{◌≡◌, ℕ, ◌<◌, ◌≤◌, List, length, take, Option, IfSome, Ok, Err, ⊤}
 use Rattle.std.specs.Io.KnownBytes.{Appends, Keeps}
-use Rattle.ell_ops.specs.KeySet.{Lists, set_of}
+use Rattle.ell_ops.specs.Contents.{ListsPairs, contents_of}
 use Rattle.ell_ops.specs.Meaning.{replies, final}
 use Rattle.ell_text.specs.Limits.{most_bytes}
 use Rattle.ell_text.specs.Bulk.{BulkValue, bulk}
@@ -12,13 +12,13 @@ use Rattle.ell_run.specs.declared.settings.Settings.{Settings}
 use Rattle.ell_run.specs.declared.bytes.RunFault.{RunFault}
 use Rattle.ell_run.specs.declared.bytes.RunFault.TheVariants.{Read, TooLong, Text, NoMemory, Write}
 
--- the text is the answer of one thread that applies the operations of the bulk text to the set of its start keys
+-- the text is the answer, in the bulk text's version, of one thread that applies its operations to the map of its start keys
 pub record IsAnswer (bytes text : List ℕ) : Type 0 where
   pub given : BulkValue
-  pub keys : List ℕ
+  pub pairs : List (ℕ × ℕ)
   pub read : bulk bytes ≡ Ok given
-  pub listed : Lists (final (set_of given.start) given.ops) keys
-  pub written : text ≡ answer (replies (set_of given.start) given.ops) keys
+  pub listed : ListsPairs (final (contents_of given.start) given.ops) pairs
+  pub written : text ≡ answer given.version (replies (contents_of given.start) given.ops) pairs
 
 -- the answer to the bytes that were read went out, and nothing else
 abbrev pub IsAnswered : Option (List ℕ) → Option (List ℕ) → Option (List ℕ) → Type 0
@@ -29,7 +29,7 @@ pub record IsLateOf (settings : Settings) (given : BulkValue) (count : ℕ) : Ty
   pub parting : Parting
   pub parted : IsPartedAs settings given.ops parting
   pub few : count ≤ length given.ops
-  pub late : IsLate (set_of given.start) parting count
+  pub late : IsLate (contents_of given.start) parting count
 
 -- so many operations of the bytes that were read are late
 abbrev pub IsReported : Settings → Option (List ℕ) → ℕ → Type 0

@@ -1,6 +1,7 @@
 use Rattle.std.specs.Prelude.{◌≡◌, ℕ, List, Some, map, filter, take, drop, slice_get, slice_index, ◌==◌}
 use Rattle.ell_ops.specs.declared.Op.{Op}
-use Rattle.ell_ops.specs.Meaning.{Contents, key_of, replies, final}
+use Rattle.ell_ops.specs.Contents.{Contents}
+use Rattle.ell_ops.specs.Meaning.{key_of, replies, final}
 use Rattle.ell_parts.specs.Parting.{Parting, IsLawful, part}
 
 -- the operations of numbered ones
@@ -20,12 +21,12 @@ abbrev pub IsRest : Parting → (ℕ → ℕ) → List (ℕ × Op) → Type 0
 IsRest parting counts rest = (worker : ℕ) →
     filter (λ item. slice_index parting.owners item.0 == worker) rest ≡ drop (counts worker) (part parting worker)
 
--- each worker has done a front of its part, from the set: each key is as its worker left it
+-- each worker has done a front of its part, from the map: each key is as its worker left it
 abbrev pub AreDone : Contents → Parting → (ℕ → ℕ) → Contents → Type 0
 AreDone set parting counts after = (worker key : ℕ) → Owns parting worker key →
     after key ≡ final set (ops_in (done parting counts worker)) key
 
--- the replies of a list of numbered operations, from a set, are those of their positions in the whole list
+-- the replies of a list of numbered operations, from a map, are those of their positions in the whole list
 abbrev pub ReplyAlike : Contents → List (ℕ × Op) → Contents → List Op → Type 0
 ReplyAlike start items set ops = (j i : ℕ) (op : Op) → slice_get items j ≡ Some (i, op) →
     slice_get (replies start (ops_in items)) j ≡ slice_get (replies set ops) i

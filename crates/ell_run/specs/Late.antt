@@ -1,8 +1,8 @@
 use Rattle.std.specs.Prelude.{◌≡◌, ℕ, ◌<◌, Bool, not, List, Some, length, filter, slice_get, ◌==◌}
 use Rattle.std.specs.List.{enumerate_from, flat_map, list_any}
 use Rattle.ell_ops.specs.declared.op.Op.{Op}
-use Rattle.ell_ops.specs.KeySet.{Lists}
-use Rattle.ell_ops.specs.Meaning.{Contents, replies, final}
+use Rattle.ell_ops.specs.Contents.{Contents, ListsPairs}
+use Rattle.ell_ops.specs.Meaning.{replies, final}
 use Rattle.ell_parts.specs.Parting.{Parting}
 use Rattle.ell_run.specs.Pieces.{ArePieces, all_workers, ops_done}
 use Rattle.ell_ops.specs.declared.reply.Reply.{Reply}
@@ -19,19 +19,19 @@ late_ops ops items = filter (λ item. not (is_answered items item.0)) (enumerate
 pub record AreMarks (items : List (ℕ × Reply)) (marks : List Bool) : Type 0 where
   pub each : (position : ℕ) → position < length marks → slice_get marks position ≡ Some (is_answered items position)
 
--- all workers have worked from a set, and left these pieces and these keys
-pub record AreLeft (start : Contents) (parting : Parting) (pieces : List (List (ℕ × Reply))) (keys : List ℕ) : Type 0 where
+-- all workers have worked from a map, and left these pieces, and these keys with their values
+pub record AreLeft (start : Contents) (parting : Parting) (pieces : List (List (ℕ × Reply))) (pairs : List (ℕ × ℕ)) : Type 0 where
   pub told : ArePieces start parting (all_workers parting) pieces
-  pub listed : Lists (final start (ops_done parting (all_workers parting) pieces)) keys
+  pub listed : ListsPairs (final start (ops_done parting (all_workers parting) pieces)) pairs
 
--- so many operations are late: those that no piece answers, where all workers have worked from a set
+-- so many operations are late: those that no piece answers, where all workers have worked from a map
 pub record IsLate (start : Contents) (parting : Parting) (late : ℕ) : Type 0 where
   pub pieces : List (List (ℕ × Reply))
   pub told : ArePieces start parting (all_workers parting) pieces
   pub count : late ≡ length (late_ops parting.ops (flat_map (λ piece. piece) pieces))
 
--- what a run of a list from a set comes to: its replies, its keys, and how many operations are late
-pub record IsOutcome (start : Contents) (ops : List Op) (parting : Parting) (said : List Reply) (keys : List ℕ) (count : ℕ) : Type 0 where
+-- what a run of a list from a map comes to: its replies, its keys with their values, and how many operations are late
+pub record IsOutcome (start : Contents) (ops : List Op) (parting : Parting) (said : List Reply) (pairs : List (ℕ × ℕ)) (count : ℕ) : Type 0 where
   pub told : said ≡ replies start ops
-  pub listed : Lists (final start ops) keys
+  pub listed : ListsPairs (final start ops) pairs
   pub late : IsLate start parting count

@@ -1,7 +1,8 @@
 use Rattle.std.specs.Prelude.{◌≡◌, ℕ, ◌+◌, ◌≤◌, nat_lt, if◌then◌else◌, List, [], ◌∷◌, ◌++◌, Some, length, map, filter, take, slice_get, slice_index_or}
 use Rattle.std.specs.List.{range_with_len, zip}
 use Rattle.ell_ops.specs.declared.op.Op.{Op}
-use Rattle.ell_ops.specs.Meaning.{Contents, reply_of, replies, final}
+use Rattle.ell_ops.specs.Contents.{Contents}
+use Rattle.ell_ops.specs.Meaning.{reply_of, replies, final}
 use Rattle.ell_parts.specs.Parting.{Parting, part}
 use Rattle.ell_run.specs.ByParts.{ops_in}
 use Rattle.ell_ops.specs.declared.reply.Reply.{Reply}
@@ -11,7 +12,7 @@ use Rattle.ell_ops.specs.declared.reply.Reply.TheVariants.{Yes}
 abbrev pub numbered : List (ℕ × Op) → List Reply → List (ℕ × Reply)
 numbered items said = map (λ answered. (answered.0.0, answered.1)) (zip items said)
 
--- the replies to numbered operations from a set, with their positions
+-- the replies to numbered operations from a map, with their positions
 abbrev pub piece_from : Contents → List (ℕ × Op) → List (ℕ × Reply)
 piece_from set items = numbered items (replies set (ops_in items))
 
@@ -19,14 +20,14 @@ piece_from set items = numbered items (replies set (ops_in items))
 abbrev pub front : List (ℕ × Op) → List (ℕ × Reply) → List (ℕ × Op)
 front items piece = take (length piece) items
 
--- a piece has the replies of a front of a part, done from a set; the operation behind it, if there is one, would change the set
+-- a piece has the replies of a front of a part, done from a map; the operation behind it, if there is one, would change the map
 pub record IsPiece (set : Contents) (items : List (ℕ × Op)) (piece : List (ℕ × Reply)) : Type 0 where
   pub few : length piece ≤ length items
   pub done : piece ≡ piece_from set (front items piece)
   pub held : (position : ℕ) (op : Op) → slice_get items (length piece) ≡ Some (position, op) →
       reply_of op (final set (ops_in (front items piece))) ≡ Yes
 
--- one piece for each worker, in their order, each done from a set
+-- one piece for each worker, in their order, each done from a map
 abbrev pub ArePieces : Contents → Parting → List ℕ → List (List (ℕ × Reply)) → Type 0
 ArePieces set parting [] [] = Unit {0}
 ArePieces set parting [] (piece ∷ pieces) = ⊥

@@ -2,8 +2,8 @@ use Rattle.std.specs.Prelude.{◌≡◌, ◌⊎◌, ℕ, ◌+◌, ◌*◌, ◌<�
 use Rattle.std.specs.List.{list_any, sum_by}
 use Rattle.std.specs.List.Sorted.{IsStrictlyIncreasing}
 use Rattle.ell_ops.specs.declared.op.Op.{Op}
-use Rattle.ell_ops.specs.KeySet.{Lists}
-use Rattle.ell_ops.specs.Meaning.{Contents, key_of, final}
+use Rattle.ell_ops.specs.KeySet.{KeySet, Lists}
+use Rattle.ell_ops.specs.Meaning.{key_of, final}
 use Rattle.ell_parts.specs.Parting.{Parting, IsLawful, part, keys_in}
 use Rattle.ell_tree.specs.Ledgers.{PassModel, TreeModel, Owns, IsIdle, answers, hindrances, present_in}
 use Rattle.ell_tree.specs.Parts.{IsLeftPart, IsRightPart}
@@ -16,7 +16,7 @@ abbrev pub OwnsAll : PassModel → List (ℕ × Op) → Type 0
 OwnsAll pass items = All (λ item. Owns pass (key_of item.1)) items
 
 -- the keys of the parts of workers
-abbrev pub keys_for : Parting → List ℕ → Contents
+abbrev pub keys_for : Parting → List ℕ → KeySet
 keys_for parting workers = λ key. list_any (λ worker. keys_in (part parting worker) key) workers
 
 -- workers can set to work on their parts with a pass
@@ -51,18 +51,18 @@ pub record IsWorkedOff (cards tries : ℕ) (items : List (ℕ × Op)) (before af
   pub table : after.table ≡ before.table
   pub idle : IsIdle after
   pub told : IsPiece (present_in before) items piece
-  pub set : present_in after ≡ final (present_in before) (ops_in (front items piece))
+  pub map : present_in after ≡ final (present_in before) (ops_in (front items piece))
   pub owned : (key : ℕ) → Owns after key ↔ Owns before key
   pub answers : answers after ≡ answers before + length piece
   pub held : AreHeld cards tries (one_held items piece) before after
 
--- workers have worked with a pass, and left these pieces: the pass has the set that what they did leaves, one worker's operations
+-- workers have worked with a pass, and left these pieces: the pass has the map that what they did leaves, one worker's operations
 -- after the other's; each operation behind a piece was held
 pub record IsWorked (cards tries : ℕ) (parting : Parting) (workers : List ℕ) (before after : PassModel) (pieces : List (List (ℕ × Reply))) : Type 0 where
   pub table : after.table ≡ before.table
   pub idle : IsIdle after
   pub told : ArePieces (present_in before) parting workers pieces
-  pub set : present_in after ≡ final (present_in before) (ops_done parting workers pieces)
+  pub map : present_in after ≡ final (present_in before) (ops_done parting workers pieces)
   pub owned : (key : ℕ) → Owns after key ↔ Owns before key
   pub answers : answers after ≡ answers before + sum_by length pieces
   pub held : AreHeld cards tries (all_held parting workers pieces) before after

@@ -76,8 +76,8 @@ impl From<WriteFault> for RunFault {
     }
 }
 
-/// Runs a bulk text: reads all of it, runs its operations from the set of its start keys as the settings say, and writes the
-/// answer. Nothing is written before the run has ended.
+/// Runs a bulk text: reads all of it, runs its operations from the map of its start keys as the settings say, and writes the
+/// answer, as the text's version has it. Nothing is written before the run has ended.
 pub fn run_bytes<R: Threads + Sync, A: Allocator + Copy + Send + Sync, I: Read, O: Write>(
     rt: &R,
     alloc: A,
@@ -96,6 +96,6 @@ pub fn run_bytes<R: Threads + Sync, A: Allocator + Copy + Send + Sync, I: Read, 
     let parts = parts_for(alloc, &bulk.ops, settings)?;
     let limits = limits_for(&bulk.ops, settings);
     let outcome = run(rt, alloc, &bulk.start, &bulk.ops, &parts, limits, &NoGate)?;
-    write_answer(writer, &outcome.replies, &outcome.keys)?;
+    write_answer(writer, bulk.version, &outcome.replies, &outcome.pairs)?;
     Ok(Report { late: outcome.late })
 }

@@ -3,8 +3,9 @@ ghost use Rattle.std.specs.Prelude.{◌≡◌, ◌≤◌, ◌<◌, ◌++◌, ℕ
 ghost use Rattle.std.specs.List.{flat_map};
 ghost use Rattle.std.specs.List.Sorted.{IsStrictlyIncreasing};
 ghost use Rattle.ell_ops.specs.declared.reply.Reply.{Reply};
-ghost use Rattle.ell_ops.specs.KeySet.{Lists, set_of};
-ghost use Rattle.ell_ops.specs.Meaning.{Contents, final};
+ghost use Rattle.std.specs.Map.{keys_of};
+ghost use Rattle.ell_ops.specs.Contents.{Contents, ListsPairs, contents_of};
+ghost use Rattle.ell_ops.specs.Meaning.{final};
 ghost use Rattle.ell_parts.specs.Parting.{IsLawful, part};
 ghost use Rattle.ell_run.specs.ByParts.{ops_in};
 ghost use Rattle.ell_run.specs.Late.{AreMarks, late_ops};
@@ -81,22 +82,22 @@ fn mark(answered: &mut [bool], piece: &[(usize, Reply)])
     }
 }
 
-// Does operations that are left, from a set of keys: their replies, with their positions, and the keys after them.
+// Does operations that are left, from the map of some pairs: their replies, with their positions, and the pairs after them.
 pub(crate) fn do_late<A: Allocator + Copy>(
     alloc: A,
-    keys: Vec<u64, A>,
+    pairs: Vec<(u64, u64), A>,
     late: &[(usize, Op)],
-) -> Result<(Piece<A>, Vec<u64, A>), NoMemory>
-    requires { IsStrictlyIncreasing keys.items }
-    ensures piece { IfOk result (λ done. done.0.items ≡ piece_from (set_of keys.items) late.now) }
-    ensures keys { IfOk result (λ done. Lists (final (set_of keys.items) (ops_in late.now)) done.1.items) }
+) -> Result<(Piece<A>, Vec<(u64, u64), A>), NoMemory>
+    requires { IsStrictlyIncreasing (keys_of pairs.items) }
+    ensures piece { IfOk result (λ done. done.0.items ≡ piece_from (contents_of pairs.items) late.now) }
+    ensures pairs { IfOk result (λ done. ListsPairs (final (contents_of pairs.items) (ops_in late.now)) done.1.items) }
 {
     if late.is_empty() {
-        return Ok((Vec::new(alloc), keys));
+        return Ok((Vec::new(alloc), pairs));
     }
     let ops = ops_of(alloc, late)?;
-    let (replies, keys) = apply_from(alloc, &keys, &ops)?;
-    Ok((with_positions(alloc, late, &replies)?, keys))
+    let (replies, pairs) = apply_from(alloc, &pairs, &ops)?;
+    Ok((with_positions(alloc, late, &replies)?, pairs))
 }
 
 // The operations of numbered ones.

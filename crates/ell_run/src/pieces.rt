@@ -55,7 +55,7 @@ fn do_op<A: Allocator + Copy, G: StepGate>(
     ensures { Ends tree.now.last_card tries op pass.old pass.new result }
 {
     match op {
-        Op::Find(key) => Ok(Reply::yes_if(tree.find(pass, key, gate))),
+        Op::Find(key) => Ok(Reply::found(tree.find(pass, key, gate))),
         Op::Insert(key, value) => Ok(Reply::yes_if(tree.insert(pass, key, value, tries, gate)?)),
         Op::Delete(key) => Ok(Reply::yes_if(tree.delete(pass, key, tries, gate)?)),
     }

@@ -2,8 +2,10 @@
 ghost use Rattle.std.specs.Prelude.{◌≡◌, ◌≤◌, All, IfOk, IfErr, length, map};
 ghost use Rattle.std.specs.List.{flat_map};
 ghost use Rattle.std.specs.List.Sorted.{IsStrictlyIncreasing};
-ghost use Rattle.ell_ops.specs.KeySet.{Lists, set_of};
-ghost use Rattle.ell_ops.specs.Meaning.{Contents, Fits, final, greatest_key, replies};
+ghost use Rattle.std.specs.Map.{keys_of as keys_in};
+ghost use Rattle.ell_ops.specs.KeySet.{Lists};
+ghost use Rattle.ell_ops.specs.Contents.{Contents, ListsPairs, contents_of};
+ghost use Rattle.ell_ops.specs.Meaning.{Fits, final, greatest_key, replies};
 ghost use Rattle.ell_parts.specs.Parting.{IsLawful, keys_of};
 ghost use Rattle.ell_word.specs.Node.{most_start};
 ghost use Rattle.ell_run.specs.Late.{AreLeft, IsLate, IsOutcome, late_ops};
@@ -33,67 +35,75 @@ pub struct Limits {
 pub struct Outcome<A: Allocator = Global> {
     /// The reply of each operation, in the order of the list.
     pub replies: Vec<Reply, A>,
-    /// The keys of the set at the end, ascending.
-    pub keys: Vec<u64, A>,
+    /// The keys of the map at the end, ascending, with their values.
+    pub pairs: Vec<(u64, u64), A>,
     /// How many operations were done after the workers had ended.
     pub late: usize,
 }
 
-/// Runs a list of operations from the set of `start`: each worker of the parting works its own part off on one tree that all share,
-/// in a thread of its own where one can be made, and what they leave is done by one thread after they have ended. Replies and keys
-/// are those of one thread over the whole list. The gate sees each call of the tree, under the number of its worker. Conditions:
+/// Runs a list of operations from the map of `start`: each worker of the parting works its own part off on one tree that all share,
+/// in a thread of its own where one can be made, and what they leave is done by one thread after they have ended. Replies and final
+/// keys with their values are those of one thread over the whole list. The gate sees each call of the tree, under the number of its worker. Conditions:
 /// the keys of `start` are strictly ascending, at most `KEY_MAX`, and at most `START_MAX` many.
 pub fn run<R: Threads + Sync, A: Allocator + Copy + Send + Sync, G: StepGate + Sync>(
     rt: &R,
     alloc: A,
-    start: &[u64],
+    start: &[(u64, u64)],
     ops: &[Op],
     parts: &Parts<A>,
     limits: Limits,
     gate: &G,
 ) -> Result<Outcome<A>, NoMemory>
-    requires ascending { IsStrictlyIncreasing start.now }
-    requires real { All (λ key. key ≤ greatest_key) start.now }
+    requires ascending { IsStrictlyIncreasing (keys_in start.now) }
+    requires real { All (λ key. key ≤ greatest_key) (keys_in start.now) }
     requires few { length start.now ≤ most_start }
     requires fits { All Fits ops.now }
     requires parted { parts.now.ops ≡ ops.now }
     requires limits { AreLimits limits }
-    ensures replies { IfOk result (λ outcome. outcome.replies.items ≡ replies (set_of start.now) ops.now) }
-    ensures keys { IfOk result (λ outcome. Lists (final (set_of start.now) ops.now) outcome.keys.items) }
+    ensures replies { IfOk result (λ outcome. outcome.replies.items ≡ replies (contents_of start.now) ops.now) }
+    ensures pairs { IfOk result (λ outcome. ListsPairs (final (contents_of start.now) ops.now) outcome.pairs.items) }
     ensures few { IfOk result (λ outcome. outcome.late ≤ length ops.now) }
-    ensures late { IfOk result (λ outcome. IsLate (set_of start.now) parts.now outcome.late) }
+    ensures late { IfOk result (λ outcome. IsLate (contents_of start.now) parts.now outcome.late) }
 {
-    let (pieces, keys) = run_workers(rt, alloc, start, parts, limits, gate)?;
-    finish(alloc, ops, parts, pieces, keys)
+    let (pieces, pairs) = run_workers(rt, alloc, start, parts, limits, gate)?;
+    finish(alloc, ops, parts, pieces, pairs)
 }
 
-// Has the workers do their parts on one tree, which begins with the set of `start`, and ends the tree.
+// Has the workers do their parts on one tree, which begins with the map of `start`, and ends the tree.
 fn run_workers<R: Threads + Sync, A: Allocator + Copy + Send + Sync, G: StepGate + Sync>(
     rt: &R,
     alloc: A,
-    start: &[u64],
+    start: &[(u64, u64)],
     parts: &Parts<A>,
     limits: Limits,
     gate: &G,
-) -> Result<(Vec<Piece<A>, A>, Vec<u64, A>), NoMemory>
-    requires ascending { IsStrictlyIncreasing start.now }
-    requires real { All (λ key. key ≤ greatest_key) start.now }
+) -> Result<(Vec<Piece<A>, A>, Vec<(u64, u64), A>), NoMemory>
+    requires ascending { IsStrictlyIncreasing (keys_in start.now) }
+    requires real { All (λ key. key ≤ greatest_key) (keys_in start.now) }
     requires few { length start.now ≤ most_start }
     requires fits { All Fits parts.now.ops }
     requires limits { AreLimits limits }
-    ensures { IfOk result (λ left. AreLeft (set_of start.now) parts.now (map (λ piece. piece.items) left.0.items) left.1.items) }
+    ensures { IfOk result (λ left. AreLeft (contents_of start.now) parts.now (map (λ piece. piece.items) left.0.items) left.1.items) }
 {
     let used = all_keys(alloc, parts)?;
-    let keys = united_keys(alloc, start, &used)?;
+    let there = start_keys(alloc, start)?;
+    let keys = united_keys(alloc, &there, &used)?;
     let (tree, pass) = match Tree::reserve_from(alloc, start, &keys, limits.cards) {
         Ok(made) => made,
         Err(fault) => return Err(no_cards(fault)),
     };
     let (pass, pieces) = work_apart(rt, alloc, &tree, pass, &used, parts, limits.tries, gate)?;
     match tree.close(pass) {
-        Ok(keys) => Ok((pieces, keys)),
+        Ok(pairs) => Ok((pieces, pairs)),
         Err(_) => Err(NoMemory),
     }
+}
+
+// The keys of pairs, in their order.
+fn start_keys<A: Allocator + Copy>(alloc: A, start: &[(u64, u64)]) -> Result<Vec<u64, A>, NoMemory>
+    ensures { IfOk result (λ keys. keys.items ≡ keys_in start.now) }
+{
+    Ok(start.iter().map(|pair| pair.0).collect(alloc)?)
 }
 
 // The distinct keys of all parts, ascending.
@@ -121,18 +131,18 @@ fn finish<A: Allocator + Copy>(
     ops: &[Op],
     parts: &Parts<A>,
     mut pieces: Vec<Piece<A>, A>,
-    keys: Vec<u64, A>,
+    pairs: Vec<(u64, u64), A>,
 ) -> Result<Outcome<A>, NoMemory>
     requires parted { parts.now.ops ≡ ops.now }
-    requires left { (start : Contents) × AreLeft start parts.now (map (λ piece. piece.items) pieces.items) keys.items }
-    ensures outcome { (start : Contents) → AreLeft start parts.now (map (λ piece. piece.items) pieces.items) keys.items →
-        IfOk result (λ outcome. IsOutcome start ops.now parts.now outcome.replies.items outcome.keys.items outcome.late) }
+    requires left { (start : Contents) × AreLeft start parts.now (map (λ piece. piece.items) pieces.items) pairs.items }
+    ensures outcome { (start : Contents) → AreLeft start parts.now (map (λ piece. piece.items) pieces.items) pairs.items →
+        IfOk result (λ outcome. IsOutcome start ops.now parts.now outcome.replies.items outcome.pairs.items outcome.late) }
     ensures few { IfOk result (λ outcome. outcome.late ≤ length ops.now) }
     ensures count { IfOk result (λ outcome.
         outcome.late ≡ length (late_ops parts.now.ops (flat_map (λ piece. piece.items) pieces.items))) }
 {
     let late = late_ops(alloc, ops, parts, &pieces)?;
-    let (piece, keys) = do_late(alloc, keys, &late)?;
+    let (piece, pairs) = do_late(alloc, pairs, &late)?;
     pieces.push(piece)?;
     let replies = match gather(alloc, parts.len(), &pieces) {
         Ok(replies) => replies,
@@ -140,7 +150,7 @@ fn finish<A: Allocator + Copy>(
     };
     Ok(Outcome {
         replies,
-        keys,
+        pairs,
         late: late.len(),
     })
 }

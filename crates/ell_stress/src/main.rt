@@ -1,4 +1,4 @@
-//! Has 64 workers do pseudo-random operations on 64, 8 and 2 keys, again and again, and compares replies and keys with those of one
+//! Has 64 workers do pseudo-random operations on 64, 8 and 2 keys, again and again, and compares replies, keys and values with those of one
 //! thread. Standard output says on how many keys they agreed, and standard error what was counted, which is by the schedule.
 #![tactic(auto)]
 

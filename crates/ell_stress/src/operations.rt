@@ -21,7 +21,7 @@ pub fn operations(alloc: Global, seed: u64, count: u32, keys: u32) -> Result<Vec
     Ok(ops)
 }
 
-// The operation that a number stands for, of which the upper bits are the better ones.
+// The operation that a number stands for, of which the upper bits are the better ones. An insert has the number as its value.
 fn operation_of(number: u64, keys: u32) -> Op
     requires { 1 ≤ keys }
     ensures { Fits result }
@@ -29,7 +29,7 @@ fn operation_of(number: u64, keys: u32) -> Op
     let key = (number >> 32) % keys as u64;
     match (number >> 40) % 3 {
         0 => Op::Find(key),
-        1 => Op::Insert(key, 0),
+        1 => Op::Insert(key, number),
         _ => Op::Delete(key),
     }
 }

@@ -11,7 +11,7 @@ use std::alloc::Global;
 use std::thread::Threads;
 
 /// Has the workers do a list of operations on keys below a number, without a gate and with the one that counts: whether replies
-/// and keys were those of one thread.
+/// and pairs were those of one thread.
 pub fn round<R: Threads + Sync>(
     rt: &R,
     alloc: Global,
@@ -37,12 +37,12 @@ pub fn round<R: Threads + Sync>(
     Ok(true)
 }
 
-// How many operations are late in a run by 64 workers, if replies and keys are the wanted ones.
+// How many operations are late in a run by 64 workers, if replies and pairs are the wanted ones.
 fn late_in<R: Threads + Sync, G: StepGate + Sync>(
     rt: &R,
     alloc: Global,
     ops: &[Op],
-    wanted: &(Vec<Reply>, Vec<u64>),
+    wanted: &(Vec<Reply>, Vec<(u64, u64)>),
     gate: &G,
 ) -> Result<Option<u64>, NoMemory>
     requires { All Fits ops.now }
@@ -58,6 +58,6 @@ fn late_in<R: Threads + Sync, G: StepGate + Sync>(
     let cards = 4 * ops.len().min(200_000) as u64 + 64;
     let limits = Limits { cards, tries };
     let outcome = run(rt, alloc, &[], ops, &parts, limits, gate)?;
-    let is_wanted = outcome.replies == wanted.0 && outcome.keys == wanted.1;
+    let is_wanted = outcome.replies == wanted.0 && outcome.pairs == wanted.1;
     Ok(is_wanted.then_some(outcome.late as u64))
 }

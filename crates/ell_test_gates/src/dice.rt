@@ -20,20 +20,25 @@ impl Dice {
         requires { 1 ≤ bound }
         ensures { result < bound }
     {
+        (self.value() >> 33) % bound
+    }
+
+    /// A number of 64 bits, the next state.
+    pub fn value(&mut self) -> u64 {
         self.state = self
             .state
             .wrapping_mul(6_364_136_223_846_793_005)
             .wrapping_add(1_442_695_040_888_963_407);
-        (self.state >> 33) % bound
+        self.state
     }
 
-    /// A find, an insert or a delete of a key.
+    /// A find, an insert or a delete of a key. An insert has a value of 64 bits.
     pub fn operation(&mut self, key: u64) -> Op
         ensures { key_of result ≡ key }
     {
         match self.below(3) {
             0 => Op::Find(key),
-            1 => Op::Insert(key, 0),
+            1 => Op::Insert(key, self.value()),
             _ => Op::Delete(key),
         }
     }

@@ -1,4 +1,5 @@
-use Rattle.std.proofs.Common.{◌≡◌, ℕ, ◌≤◌, ◌==◌, eq-eqb, Bool, true, false, nat_le, if◌then◌else◌, List, ◌∷◌, Option, Some, None, Result, Ok, Err, is_ok, IfSome, MatchBool, refl, sym, ◌∙◌, ap, subst, inl, inr}
+use Rattle.std.proofs.Common.{◌≡◌, ℕ, ◌≤◌, ◌==◌, eq-eqb, eqb-true, Bool, true, false, true≢false, nat_le, if◌then◌else◌, List, ◌∷◌, Option, Some, None, Result, Ok, Err, is_ok, IfSome, MatchBool, refl, sym, ◌∙◌, ap, subst, inl, inr}
+use Rattle.std.specs.Bool.{then_some}
 use Rattle.ell_ops.specs.declared.op.Op.{Op}
 use Rattle.ell_ops.specs.declared.op.Op.TheVariants.{Insert, Delete}
 use Rattle.ell_ops.specs.Meaning.{key_of}
@@ -15,9 +16,10 @@ use Rattle.std.proofs.lemmas.List.Elements.{All-replicate}
 use Rattle.ell_core.specs.state.Facts.{told_by_state}
 use Rattle.ell_core.specs.acts.Searching.{IsLeaf, leaf_answer}
 use Rattle.ell_cards.specs.declared.view.View.{View}
-use Rattle.ell_cards.specs.Models.{PassModel, TableModel, Steps, latest, Knows}
+use Rattle.ell_cards.specs.declared.view.Told.TheVariants.{Value}
+use Rattle.ell_cards.specs.Models.{PassModel, TableModel, Steps, latest, IsTold, Knows}
 use Rattle.ell_cards.specs.Changes.{after_begin, after_again, after_upd, after_key_of, after_value_of, after_next, after_claim, after_flag, after_mark, is_mark_of, learning, unmarking, with_found, found_word, found_update, told_value, with_stores}
-use Rattle.ell_cards.specs.Guards.{IsOver, MayStop, MayGoDown, MayAnswer, MayIFlag, MayDFlag, IsFilled}
+use Rattle.ell_cards.specs.Guards.{IsOver, MayStop, MayGoDown, MayAnswer, TellsOf, MayIFlag, MayDFlag, IsFilled}
 use Rattle.ell_test_steps.specs.declared.memory.Memory.{Memory}
 use Rattle.ell_test_steps.specs.declared.memory.TheConstants.{FACTS}
 use Rattle.ell_test_steps.specs.declared.memory.Passed.{Passed}
@@ -97,22 +99,35 @@ may_go_down_by a b m op x u key k h s busy at read inner same =
       side = ap (nat_le key) same;
     })
 
+-- a leaf that was asked for its key and its value tells what it has of a key
+tells_at : (v : View) (x key value k : ℕ) → IsTold v (Value x value) → TellsOf v x key k (then_some (key == k) value)
+tells_at v x key value k told = by (key == k) refl
+  where
+    by : (t : Bool) → (key == k) ≡ t → TellsOf v x key k (then_some t value)
+    by true e = (eqb-true key k e, told)
+    by false e = λ same. true≢false (sym (eq-eqb key k same) ∙ e)
+
 -- the answer at a leaf, if there is one
-pub leaf_may : (a b : PassModel) (m : Memory) (op : Op) (x key k : ℕ) (o : Option Reply) → Fits a.view m → Steps a b (after_key_of x key a.view)
-    → m.op ≡ Some op → m.node ≡ Some x → IsLeaf x → k ≡ key_of op → o ≡ leaf_answer op (key == k) → IfSome o (λ said. MayAnswer b.view said)
-leaf_may a b m op x key k None h s busy at outer same e = tt
-leaf_may a b m op x key k (Some said) h s busy at outer same e =
+pub leaf_may : (a b d : PassModel) (m : Memory) (op : Op) (x key value k : ℕ) (o : Option Reply) → Fits a.view m → Steps a b (after_key_of x key a.view)
+    → Steps b d (after_value_of x value b.view) → m.op ≡ Some op → m.node ≡ Some x → IsLeaf x → k ≡ key_of op
+    → o ≡ leaf_answer op (then_some (key == k) value) → IfSome o (λ said. MayAnswer d.view said)
+leaf_may a b d m op x key value k None h s s' busy at outer same e = tt
+leaf_may a b d m op x key value k (Some said) h s s' busy at outer same e =
     let stands = ap (λ (z : Search). z.node) h.search ∙ at in
-    subst (λ (w : View). MayAnswer w said) (sym (view_after a b (after_key_of x key a.view) s)) (record {
+    let keyed = after_key_of x key a.view in
+    let is : d.view ≡ after_value_of x value keyed = view_after b d (after_value_of x value b.view) s' ∙ ap (after_value_of x value) (view_after a b keyed s) in
+    subst (λ (w : View). MayAnswer w said) (sym is) (record {
       op = op;
       busy = h.operation ∙ busy;
       answers = inl (record {
         leaf = x;
         key = key;
+        there = then_some (key == key_of op) value;
         stands = stands;
         outer = outer;
         told = told_here a.view.worker.search.node a.view.here x key stands;
-        says = sym (e ∙ ap (λ (j : ℕ). leaf_answer op (key == j)) same);
+        tells = tells_at (after_value_of x value keyed) x key value (key_of op) (latest _ _);
+        says = sym (e ∙ ap (λ (j : ℕ). leaf_answer op (then_some (key == j) value)) same);
       });
     })
 

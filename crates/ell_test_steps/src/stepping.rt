@@ -197,12 +197,13 @@ fn leaf_said<A: Allocator + Copy>(
     ensures ready { IsReady table.now pass.new memory.now }
     ensures may { IfSome result (λ said. MayAnswer pass.new.view said) }
 {
-    let node = memory.node?;
-    if is_internal(node) {
+    let leaf = memory.node?;
+    if is_internal(leaf) {
         return None;
     }
-    let key = table.key_of(pass, node);
-    leaf_answer(op, key == op.key())
+    let key = table.key_of(pass, leaf);
+    let value = table.value_of(pass, leaf);
+    leaf_answer(op, (key == op.key()).then_some(value))
 }
 
 // The answer by the card in hand, if it is known over.

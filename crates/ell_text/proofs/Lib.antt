@@ -1,5 +1,7 @@
 -- What a bulk has with one line more.
 pub mod Bulks
+-- The version of some lines, and of the same with one line more.
+pub mod Versions
 -- The first fault of a text, and what its lines say, a line at a time.
 pub mod Operations
 -- The draft of the lines that are not skipped, a line at a time.

@@ -16,5 +16,7 @@ pub mod Number
 pub mod Output
 -- Bytes on their way to a writer, and the count of those that it took.
 pub mod Sending
+-- The versions of a bulk text: in version 2 keys have values.
+pub mod Version
 -- replay texts: their lines, the script of one, what is written for it, and what its faults tell
 pub mod replays

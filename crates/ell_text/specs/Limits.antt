@@ -1,4 +1,4 @@
-use Rattle.std.specs.Prelude.{ℕ}
+use Rattle.std.specs.Prelude.{ℕ, ◌-◌, ◌^◌}
 
 -- the bytes of an input
 abbrev pub most_bytes : ℕ
@@ -7,6 +7,10 @@ most_bytes = 16777216
 -- the start lines and operations of a bulk text, together
 abbrev pub most_operations : ℕ
 most_operations = 200000
+
+-- the greatest value of a key, and the greatest number of 64 bits: it may be greater than any key
+abbrev pub greatest_value : ℕ
+greatest_value = 2 ^ 64 - 1
 
 -- the own lines and events of a replay, together
 abbrev pub most_lines : ℕ

@@ -1,4 +1,4 @@
-use Rattle.std.specs.Prelude.{ℕ, ◌≤◌, List, Option, None, Some, Result, Ok, Err, if◌then◌else◌, codes}
+use Rattle.std.specs.Prelude.{ℕ, ◌≤◌, ⊤, Bool, true, false, List, Option, None, Some, Result, Ok, Err, if◌then◌else◌, codes}
 use Rattle.std.specs.List.{after_first, before_first}
 use Rattle.std.specs.Option.{option_map}
 use Rattle.std.specs.Str.{bytes_eq}
@@ -10,15 +10,17 @@ use Rattle.ell_text.specs.declared.number.NumberFault.TheVariants.{NotANumber, T
 use Rattle.ell_text.specs.declared.line.Line.{Line}
 use Rattle.ell_text.specs.declared.line.Line.TheVariants as says
 use Rattle.ell_text.specs.declared.line.LineFault.{LineFault}
-use Rattle.ell_text.specs.declared.line.LineFault.TheVariants.{BadOperation, BadKey, KeyTooLarge}
+use Rattle.ell_text.specs.declared.line.LineFault.TheVariants.{BadOperation, BadKey, KeyTooLarge, BadValue}
 use Rattle.ell_text.specs.declared.line.LineKind.{LineKind}
 use Rattle.ell_text.specs.declared.line.LineKind.TheVariants as kind
 use Rattle.ell_text.specs.declared.line.OpKind.{OpKind}
 use Rattle.ell_text.specs.declared.line.OpKind.TheVariants.{Find, Insert, Delete}
 use Rattle.ell_text.specs.declared.line.Section.{Section}
-use Rattle.ell_text.specs.declared.line.Section.TheVariants.{Opening, Operations}
+use Rattle.ell_text.specs.declared.line.Section.TheVariants.{Head, Operations}
+use Rattle.ell_text.specs.declared.version.Version.{Version}
+use Rattle.ell_text.specs.declared.version.Version.TheVariants.{One, Two}
 use Rattle.ell_text.specs.Lines.{is_skipped, is_space}
-use Rattle.ell_text.specs.Number.{key_in}
+use Rattle.ell_text.specs.Number.{key_in, value_in}
 
 -- the kind of operation that a name names
 abbrev pub kind_of : List ℕ → Option OpKind
@@ -26,34 +28,83 @@ kind_of name = if bytes_eq name (codes "find") then Some Find else
     if bytes_eq name (codes "insert") then Some Insert else
     if bytes_eq name (codes "delete") then Some Delete else None
 
--- the operation of a kind on a key, with value 0
-abbrev pub operation_on : OpKind → ℕ → Op
-operation_on Find key = op.Find key
-operation_on Insert key = op.Insert key 0
-operation_on Delete key = op.Delete key
+-- the operation of a kind on a key: an insert has the value
+abbrev pub operation_on : OpKind → ℕ → ℕ → Op
+operation_on Find key value = op.Find key
+operation_on Insert key value = op.Insert key value
+operation_on Delete key value = op.Delete key
 
--- the kind of line that a name names in a section: in the opening it may also be a start line
+-- the kind of line that a name names in a section: before all operations it may also be a start line
 abbrev pub line_kind_of : Section → List ℕ → Option LineKind
-line_kind_of Opening name = if bytes_eq name (codes "start") then Some kind.Start else option_map kind.Operation (kind_of name)
 line_kind_of Operations name = option_map kind.Operation (kind_of name)
+line_kind_of section name = if bytes_eq name (codes "start") then Some kind.Start else option_map kind.Operation (kind_of name)
 
--- what a line of a kind says of a key
-abbrev pub line_on : LineKind → ℕ → Line
-line_on kind.Start key = says.Start key
-line_on (kind.Operation known) key = says.Operation (operation_on known key)
+-- whether a line of a kind has a value: an insert and a start line have one in version 2
+abbrev pub has_value : Version → LineKind → Bool
+has_value One known = false
+has_value Two kind.Start = true
+has_value Two (kind.Operation Insert) = true
+has_value Two (kind.Operation other) = false
 
--- what a name and a key say together: a bad name counts before a bad key
-abbrev pub line_from : Option LineKind → Result ℕ NumberFault → Result (Option Line) LineFault
-line_from None key = Err BadOperation
-line_from (Some known) (Err NotANumber) = Err BadKey
-line_from (Some known) (Err TooLarge) = Err KeyTooLarge
-line_from (Some known) (Ok key) = Ok (Some (line_on known key))
+-- a key that is misspelt or too large
+abbrev pub or_bad_key : Result ℕ NumberFault → Result ℕ LineFault
+or_bad_key (Ok key) = Ok key
+or_bad_key (Err NotANumber) = Err BadKey
+or_bad_key (Err TooLarge) = Err KeyTooLarge
 
--- what a line of a section says, nothing where it is skipped, or the line's fault
-abbrev pub line_of : Section → List ℕ → Result (Option Line) LineFault
-line_of section line = if is_skipped line then Ok None else line_from (line_kind_of section (before_first is_space line)) (key_in (after_first is_space line))
+-- a value that is misspelt or too large
+abbrev pub or_bad_value : Result ℕ NumberFault → Result ℕ LineFault
+or_bad_value (Ok value) = Ok value
+or_bad_value (Err fault) = Err BadValue
+
+-- the key that stands behind a line's name: where a value is to follow it, up to the next space, or the line's end
+abbrev pub key_behind : Bool → List ℕ → Result ℕ LineFault
+key_behind false rest = or_bad_key (key_in rest)
+key_behind true rest = or_bad_key (key_in (before_first is_space rest))
+
+-- the value that stands behind that key: where there is to be none, it is 0
+abbrev pub value_behind : Bool → List ℕ → Result ℕ LineFault
+value_behind false rest = Ok 0
+value_behind true rest = or_bad_value (value_in (after_first is_space rest))
+
+-- what a line of a kind says of a key and a value
+abbrev pub line_on : LineKind → ℕ → ℕ → Line
+line_on kind.Start key value = says.Start key value
+line_on (kind.Operation known) key value = says.Operation (operation_on known key value)
+
+-- what a kind, a key and a value say together: a bad key counts before a bad value
+abbrev pub line_from : LineKind → Result ℕ LineFault → Result ℕ LineFault → Result Line LineFault
+line_from known (Err fault) value = Err fault
+line_from known (Ok key) (Err fault) = Err fault
+line_from known (Ok key) (Ok value) = Ok (line_on known key value)
+
+-- what a line of a kind says, by what stands behind its name: a bad name counts before all else
+abbrev pub line_behind_name : Version → Option LineKind → List ℕ → Result Line LineFault
+line_behind_name version None rest = Err BadOperation
+line_behind_name version (Some known) rest = line_from known (key_behind (has_value version known) rest) (value_behind (has_value version known) rest)
+
+-- whether this is the line that says version 2: it stands at the head alone
+abbrev pub says_version : Section → List ℕ → Bool
+says_version Head line = bytes_eq line (codes "version 2")
+says_version section line = false
+
+-- what a line that is not skipped says, or its fault
+abbrev pub said_in : Version → Section → List ℕ → Result Line LineFault
+said_in version section line = if says_version section line then Ok says.Version else
+    line_behind_name version (line_kind_of section (before_first is_space line)) (after_first is_space line)
+
+-- a line is skipped, or else says this
+abbrev pub unless_skipped : Bool → Result Line LineFault → Result (Option Line) LineFault
+unless_skipped true spoken = Ok None
+unless_skipped false (Ok line) = Ok (Some line)
+unless_skipped false (Err fault) = Err fault
+
+-- what a line of a section says in a version, nothing where it is skipped, or its fault
+abbrev pub line_of : Version → Section → List ℕ → Result (Option Line) LineFault
+line_of version section line = unless_skipped (is_skipped line) (said_in version section line)
 
 -- the key that a line names is one that a set may have
 abbrev pub LineFits : Line → Type 0
-LineFits (says.Start key) = key ≤ greatest_key
+LineFits says.Version = ⊤
+LineFits (says.Start key value) = key ≤ greatest_key
 LineFits (says.Operation operation) = Fits operation

@@ -4,6 +4,7 @@ use Rattle.std.specs.List.{list_all}
 use Rattle.ell_ops.specs.Meaning.{greatest_key}
 use Rattle.ell_text.specs.declared.number.NumberFault.{NumberFault}
 use Rattle.ell_text.specs.declared.number.NumberFault.TheVariants.{NotANumber, TooLarge}
+use Rattle.ell_text.specs.Limits.{greatest_value}
 
 -- the sum of the digits, each times the weight of its place
 abbrev pub value_of : List ℕ → ℕ
@@ -23,3 +24,7 @@ number_in max bytes = if is_number bytes then (if nat_le (value_of bytes) max th
 -- the key that all of the bytes spell
 abbrev pub key_in : List ℕ → Result ℕ NumberFault
 key_in bytes = number_in greatest_key bytes
+
+-- the value of a key that all of the bytes spell
+abbrev pub value_in : List ℕ → Result ℕ NumberFault
+value_in bytes = number_in greatest_value bytes

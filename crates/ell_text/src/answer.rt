@@ -1,15 +1,19 @@
 //! The text that answers a file of operations.
 ghost use Rattle.std.specs.Prelude.{◌≡◌, ◌<◌, length, take, IfErr, OnOk};
 ghost use Rattle.std.specs.Io.KnownBytes.{Appends};
+ghost use Rattle.ell_text.specs.declared.version.Version.TheVariants.{One};
 ghost use Rattle.ell_text.specs.Answer.{reply_line, answer};
+ghost use Rattle.ell_text.specs.Version.{IsVersion};
 
 use crate::listing::{Listed, write_listing};
 use crate::output::{Output, WriteFault};
+use crate::version::Version;
 use ell_ops::Reply;
 use std::io::Write;
 
-/// Writes the answer: a line `yes` or `no` for each reply, in order, then a line `keys N` with the
-/// number of the keys, and then a line for each key, in order.
+/// Writes the answer to a text of a version, which is 1 or 2: a line `yes` or `no` for each reply, in order, then a line
+/// `keys N` with the number of the keys, and then a line for each key, in order. In version 2 the line of a find that found
+/// its key is `yes V`, and that of a key is `K V`, V being its value.
 ///
 /// Each line ends with a line feed, and numbers are in decimal digits without leading zeros.
 /// Nothing is allocated, and the writer is called for many lines at a time.
@@ -18,36 +22,49 @@ use std::io::Write;
 /// `u64::MAX`, before a byte goes out that is not counted.
 pub fn write_answer<W: Write>(
     out: &mut W,
+    version: u8,
     replies: &[Reply],
-    keys: &[u64],
+    pairs: &[(u64, u64)],
 ) -> Result<(), WriteFault>
+    requires { IsVersion version }
     // The whole text is out, behind what was there.
     ensures ok { OnOk result
-        (Appends (W.contents out.old) (W.contents out.new) (answer replies.now keys.now)) }
+        (Appends (W.contents out.old) (W.contents out.new) (answer version replies.now pairs.now)) }
     // Exactly the first `written` bytes are out.
     ensures fault { IfErr result (λ fault. Appends (W.contents out.old) (W.contents out.new)
-        (take fault.written (answer replies.now keys.now))) }
+        (take fault.written (answer version replies.now pairs.now))) }
     // Some of the text is missing.
     ensures missing { IfErr result (λ fault.
-        fault.written < length (answer replies.now keys.now)) }
+        fault.written < length (answer version replies.now pairs.now)) }
 {
-    write_listing(out, replies, keys)
+    write_listing(out, Version::numbered(version), replies, pairs)
 }
 
 impl Listed for Reply {
     ghost line = { reply_line };
 
-    fn put_line<W: Write>(&self, output: &mut Output, out: &mut W) -> Result<(), WriteFault> {
-        output.put(out, line_of(*self))
+    fn put_line<W: Write>(
+        &self,
+        version: Version,
+        output: &mut Output,
+        out: &mut W,
+    ) -> Result<(), WriteFault> {
+        match (version, *self) {
+            (Version::Two, Reply::Found(value)) => {
+                output.put(out, b"yes ")?;
+                value.put_line(version, output, out)
+            }
+            (_, reply) => output.put(out, line_of(reply)),
+        }
     }
 }
 
-/// The line of a reply.
+/// The line of a reply, without a value.
 pub(crate) fn line_of(reply: Reply) -> &'static [u8]
-    ensures { result.now ≡ reply_line reply }
+    ensures { result.now ≡ reply_line One reply }
 {
     match reply {
         Reply::No => b"no\n",
-        Reply::Yes => b"yes\n",
+        Reply::Yes | Reply::Found(_) => b"yes\n",
     }
 }

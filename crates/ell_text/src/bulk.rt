@@ -1,15 +1,18 @@
-//! The start keys and the operations of a bulk text.
-ghost use Rattle.std.specs.Prelude.{◌≡◌, ◌≢◌, ◌+◌, ◌≤◌, All, IfErr, IfOk, IsSome, None, OnOk, Some, vec_len};
+//! The version, the start keys and the operations of a bulk text.
+ghost use Rattle.std.specs.Prelude.{◌≡◌, ◌≢◌, ◌+◌, ◌≤◌, All, IfErr, IfOk, IsSome, None, OnErr, OnOk, Some, vec_len};
 ghost use Rattle.std.specs.List.Sorted.{IsStrictlyIncreasing};
+ghost use Rattle.std.specs.Map.{keys_of};
 ghost use Rattle.ell_ops.specs.Meaning.{Fits, greatest_key};
-ghost use Rattle.ell_text.specs.Bulk.{BulkFits, HasSoundLine, bulk, bulk_value, fault_of, fault_of_said, line_behind, located, nothing_said, section_behind, spoken_in, with_line, with_read};
+ghost use Rattle.ell_text.specs.Bulk.{BulkFits, HasSoundLine, bulk, bulk_value, fault_of, fault_of_said, line_behind, located, next_section, nothing_said, spoken_in, with_line, with_read};
 ghost use Rattle.ell_text.specs.Limits.{most_operations};
 ghost use Rattle.ell_text.specs.Line.{LineFits};
 ghost use Rattle.ell_text.specs.Lines.{lines};
+ghost use Rattle.ell_text.specs.Version.{IsVersion, version_numbered};
 
 use crate::limits::OPERATIONS_MAX;
 use crate::line::{Line, LineFault, Section, read_line};
 use crate::lines::lines;
+use crate::version::Version;
 use ell_ops::{NoMemory, Op};
 use std::alloc::{Allocator, Global};
 use thiserror::Error;
@@ -17,8 +20,10 @@ use thiserror::Error;
 /// What a bulk text says.
 #[derive(Debug, Drop)]
 pub struct Bulk<A: Allocator = Global> {
-    /// The keys that are there before the first operation, strictly ascending.
-    pub start: Vec<u64, A>,
+    /// The version of the text, 1 or 2. In version 1 each value is 0.
+    pub version: u8,
+    /// The keys that are there before the first operation, strictly ascending, with their values.
+    pub start: Vec<(u64, u64), A>,
     /// The operations, in their order.
     pub ops: Vec<Op, A>,
 }
@@ -27,7 +32,8 @@ pub struct Bulk<A: Allocator = Global> {
 /// line the first of this list counts.
 #[derive(Debug, Clone, Copy, PartialEq, Eq, Error)]
 pub enum TextFault {
-    /// The line's name is not `find`, `insert` or `delete`, nor, before the first operation, `start`.
+    /// The line's name is not `find`, `insert` or `delete`, nor, before the first operation, `start`, and the line is not
+    /// `version 2` before all others.
     #[error("line {line}: not an operation")]
     BadOperation { line: usize },
     /// The line's key is not a number in decimal digits with no needless 0 in front.
@@ -36,6 +42,10 @@ pub enum TextFault {
     /// The line's key is above `KEY_MAX`.
     #[error("line {line}: key too large")]
     KeyTooLarge { line: usize },
+    /// The line, an insert or a start line of version 2, has no value behind its key: no number in decimal digits with no
+    /// needless 0 in front, or one above `u64::MAX`.
+    #[error("line {line}: not a value")]
+    BadValue { line: usize },
     /// The line's start key is not greater than the start key before it.
     #[error("line {line}: start keys not ascending")]
     StartOrder { line: usize },
@@ -47,15 +57,16 @@ pub enum TextFault {
     NoMemory,
 }
 
-/// Reads the start keys and the operations of a bulk text. A fault is that of the first line that has one.
-/// `NoMemory` comes only at a line that says a start key or an operation, where no line so far has a fault.
+/// Reads the version, the start keys with their values, and the operations of a bulk text. A fault is that of the first
+/// line that has one. `NoMemory` comes only at a line that says a start key or an operation, where no line so far has a fault.
 pub fn read_bulk<A: Allocator + Copy>(alloc: A, bytes: &[u8]) -> Result<Bulk<A>, TextFault>
     ensures ok { IfOk result (λ found. bulk bytes.now ≡ Ok (bulk_value found)) }
     ensures fault { IfErr result (λ fault. fault ≢ TextFault.NoMemory → bulk bytes.now ≡ Err fault) }
     ensures no_memory { IfErr result (λ fault. fault ≡ TextFault.NoMemory → HasSoundLine (lines bytes.now)) }
+    ensures version { IfOk result (λ found. IsVersion found.version) }
     ensures within { IfOk result (λ found. vec_len found.start + vec_len found.ops ≤ most_operations) }
-    ensures start_keys { IfOk result (λ found. All (λ key. key ≤ greatest_key) found.start.items) }
-    ensures ascending { IfOk result (λ found. IsStrictlyIncreasing found.start.items) }
+    ensures start_keys { IfOk result (λ found. All (λ key. key ≤ greatest_key) (keys_of found.start.items)) }
+    ensures ascending { IfOk result (λ found. IsStrictlyIncreasing (keys_of found.start.items)) }
     ensures keys { IfOk result (λ found. All Fits found.ops.items) }
 {
     let mut bulk = Bulk::new(alloc);
@@ -71,6 +82,7 @@ impl<A: Allocator + Copy> Bulk<A> {
         ensures fits { BulkFits (bulk_value result) }
     {
         Bulk {
+            version: 1,
             start: Vec::new(alloc),
             ops: Vec::new(alloc),
         }
@@ -78,13 +90,21 @@ impl<A: Allocator + Copy> Bulk<A> {
 
     // The section of the next line.
     fn section(&self) -> Section
-        ensures { result ≡ section_behind self.now.ops.items }
+        ensures { result ≡ next_section (bulk_value self.now) }
     {
-        if self.ops.is_empty() {
-            Section::Opening
-        } else {
+        if !self.ops.is_empty() {
             Section::Operations
+        } else if self.start.is_empty() && self.version() == Version::One {
+            Section::Head
+        } else {
+            Section::Opening
         }
+    }
+
+    fn version(&self) -> Version
+        ensures { result ≡ version_numbered self.now.version }
+    {
+        Version::numbered(self.version)
     }
 
     // Appends what the line of this number says, if it says something.
@@ -101,7 +121,7 @@ impl<A: Allocator + Copy> Bulk<A> {
             → fault_of number (bulk_value self.old) (line_behind (bulk_value self.old) line.now) ≡ None) }
         ensures fits { OnOk result (BulkFits (bulk_value self.new)) }
     {
-        let said = match read_line(self.section(), line) {
+        let said = match read_line(self.version(), self.section(), line) {
             Ok(Some(said)) => said,
             Ok(None) => return Ok(()),
             Err(fault) => return Err(located(fault, number)),
@@ -117,7 +137,10 @@ impl<A: Allocator + Copy> Bulk<A> {
         ensures value { result ≡ fault_of_said number (bulk_value self.now) said }
         ensures fault { result ≢ Some TextFault.NoMemory }
     {
-        if let (Line::Start(key), Some(before)) = (said, self.start.last())
+        if said == Line::Version {
+            return None;
+        }
+        if let (Line::Start(key, _), Some((before, _))) = (said, self.start.last())
             && key <= *before
         {
             return Some(TextFault::StartOrder { line: number });
@@ -128,12 +151,17 @@ impl<A: Allocator + Copy> Bulk<A> {
         None
     }
 
-    // Appends what a line says.
+    // Appends what a line says: the line of the version sets it.
     fn append(&mut self, said: Line) -> Result<(), NoMemory>
-        ensures { OnOk result (bulk_value self.new ≡ with_line (bulk_value self.old) said) }
+        ensures ok { OnOk result (bulk_value self.new ≡ with_line (bulk_value self.old) said) }
+        ensures no_memory { OnErr result (IsSome (spoken_in (Ok (Some said)))) }
     {
         match said {
-            Line::Start(key) => self.start.push(key).map_err(|_| NoMemory),
+            Line::Version => {
+                self.version = 2;
+                Ok(())
+            }
+            Line::Start(key, value) => self.start.push((key, value)).map_err(|_| NoMemory),
             Line::Operation(op) => self.ops.push(op).map_err(|_| NoMemory),
         }
     }
@@ -147,5 +175,6 @@ fn located(fault: LineFault, line: usize) -> TextFault
         LineFault::BadOperation => TextFault::BadOperation { line },
         LineFault::BadKey => TextFault::BadKey { line },
         LineFault::KeyTooLarge => TextFault::KeyTooLarge { line },
+        LineFault::BadValue => TextFault::BadValue { line },
     }
 }

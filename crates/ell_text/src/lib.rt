@@ -2,7 +2,8 @@
 //! them, the script of a replay text and the trace of its replay.
 //!
 //! A line of a bulk text is the name of an operation, `find`, `insert` or `delete`, one space, and a key in decimal
-//! digits. Before all operations lines `start K` may stand, which say the keys that are there before. A replay text has
+//! digits. Before all operations lines `start K` may stand, which say the keys that are there before. Where the first
+//! line is `version 2`, an insert and a start line have one space more, and a value. A replay text has
 //! the line `workers N`, the line `cards N`, lines `own W K`, and a line for each event, as `0 begin find 5` and
 //! `0 mark 3`. Empty lines, lines of spaces and tabs, and lines whose first byte is `#` are skipped. `docs/FORMATS.md`
 //! has these texts in full.
@@ -21,6 +22,7 @@ mod output;
 mod replay;
 mod replay_line;
 mod trace;
+mod version;
 
 pub use answer::write_answer;
 pub use bulk::{Bulk, TextFault, read_bulk};

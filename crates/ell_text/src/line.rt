@@ -1,10 +1,12 @@
 //! What one line of a bulk text says.
 ghost use Rattle.std.specs.Prelude.{◌≡◌, ◌≤◌, IfOk, IfSome};
 ghost use Rattle.ell_ops.specs.Meaning.{greatest_key, key_of};
-ghost use Rattle.ell_text.specs.Line.{LineFits, line_of};
+ghost use Rattle.ell_text.specs.Line.{LineFits, line_behind_name, line_of, or_bad_key, or_bad_value, said_in};
+ghost use Rattle.ell_text.specs.Number.{key_in, value_in};
 
 use crate::lines::{is_skipped, split_at_space};
-use crate::number::{NumberFault, read_key};
+use crate::number::{NumberFault, read_key, read_value};
+use crate::version::Version;
 use ell_ops::Op;
 
 /// Why a line of a bulk text is at fault by itself. The first of this list that holds counts.
@@ -16,6 +18,8 @@ pub(crate) enum LineFault {
     BadKey,
     /// The key is above `KEY_MAX`.
     KeyTooLarge,
+    /// The line is to have a value, and after the key stands none.
+    BadValue,
 }
 
 /// What an operation does, without its key.
@@ -41,14 +45,14 @@ impl OpKind {
         }
     }
 
-    /// The operation of this kind on a key, with value 0.
-    pub(crate) fn on(self, key: u64) -> Op
-        ensures value { result ≡ operation_on self key }
+    /// The operation of this kind on a key. An insert has the value.
+    pub(crate) fn on(self, key: u64, value: u64) -> Op
+        ensures value { result ≡ operation_on self key value }
         ensures key { key_of result ≡ key }
     {
         match self {
             OpKind::Find => Op::Find(key),
-            OpKind::Insert => Op::Insert(key, 0),
+            OpKind::Insert => Op::Insert(key, value),
             OpKind::Delete => Op::Delete(key),
         }
     }
@@ -57,6 +61,8 @@ impl OpKind {
 /// A section of a bulk text, by the lines that may stand in it.
 #[derive(Debug, Clone, Copy, PartialEq, Eq)]
 pub(crate) enum Section {
+    /// The first line that says something: it may say the version.
+    Head,
     /// Start lines, and the first operation.
     Opening,
     /// Operations alone.
@@ -66,8 +72,10 @@ pub(crate) enum Section {
 /// What a line of a bulk text says.
 #[derive(Debug, Clone, Copy, PartialEq, Eq)]
 pub(crate) enum Line {
-    /// A key that is there before the first operation.
-    Start(u64),
+    /// The text has version 2.
+    Version,
+    /// A key that is there before the first operation, and its value.
+    Start(u64, u64),
     /// An operation.
     Operation(Op),
 }
@@ -80,45 +88,99 @@ enum LineKind {
 }
 
 impl LineKind {
-    ghost use Rattle.ell_text.specs.Line.{line_kind_of, line_on};
+    ghost use Rattle.ell_text.specs.Line.{has_value, line_kind_of, line_on};
 
     // The kind that a name names in a section.
     fn named(section: Section, name: &[u8]) -> Option<LineKind>
         ensures { result ≡ line_kind_of section name.now }
     {
-        match (section, name) {
-            (Section::Opening, b"start") => Some(LineKind::Start),
-            _ => OpKind::named(name).map(LineKind::Operation),
+        if section != Section::Operations && name == b"start".as_slice() {
+            return Some(LineKind::Start);
         }
+        OpKind::named(name).map(LineKind::Operation)
     }
 
-    // What a line of this kind says of a key.
-    fn on(self, key: u64) -> Line
-        ensures value { result ≡ line_on self key }
+    // Whether a line of this kind has a value.
+    fn has_value(self, version: Version) -> bool
+        ensures { result ≡ has_value version self }
+    {
+        matches!(
+            (version, self),
+            (
+                Version::Two,
+                LineKind::Start | LineKind::Operation(OpKind::Insert)
+            )
+        )
+    }
+
+    // What a line of this kind says of a key and a value.
+    fn on(self, key: u64, value: u64) -> Line
+        ensures value { result ≡ line_on self key value }
         ensures within { key ≤ greatest_key → LineFits result }
     {
         match self {
-            LineKind::Start => Line::Start(key),
-            LineKind::Operation(kind) => Line::Operation(kind.on(key)),
+            LineKind::Start => Line::Start(key, value),
+            LineKind::Operation(kind) => Line::Operation(kind.on(key, value)),
         }
     }
 }
 
-/// Reads what a line of a section says, or `None` where the line is skipped.
-pub(crate) fn read_line(section: Section, line: &[u8]) -> Result<Option<Line>, LineFault>
-    ensures value { result ≡ line_of section line.now }
+/// Reads what a line of a section says in a version, or `None` where the line is skipped.
+pub(crate) fn read_line(
+    version: Version,
+    section: Section,
+    line: &[u8],
+) -> Result<Option<Line>, LineFault>
+    ensures value { result ≡ line_of version section line.now }
     ensures within { IfOk result (λ found. IfSome found LineFits) }
 {
     if is_skipped(line) {
         return Ok(None);
     }
-    let (name, key) = split_at_space(line);
+    Ok(Some(read_said(version, section, line)?))
+}
+
+// What a line says that is not skipped.
+fn read_said(version: Version, section: Section, line: &[u8]) -> Result<Line, LineFault>
+    ensures value { result ≡ said_in version section line.now }
+    ensures within { IfOk result LineFits }
+{
+    if section == Section::Head && line == b"version 2".as_slice() {
+        return Ok(Line::Version);
+    }
+    let (name, rest) = split_at_space(line);
     let Some(kind) = LineKind::named(section, name) else {
         return Err(LineFault::BadOperation);
     };
-    match read_key(key) {
-        Ok(key) => Ok(Some(kind.on(key))),
+    read_behind_name(version, kind, rest)
+}
+
+// What a line of a kind says, by what stands behind its name.
+fn read_behind_name(version: Version, kind: LineKind, rest: &[u8]) -> Result<Line, LineFault>
+    ensures value { result ≡ line_behind_name version (Some kind) rest.now }
+    ensures within { IfOk result LineFits }
+{
+    if !kind.has_value(version) {
+        return Ok(kind.on(read_line_key(rest)?, 0));
+    }
+    let (key, value) = split_at_space(rest);
+    let key = read_line_key(key)?;
+    Ok(kind.on(key, read_line_value(value)?))
+}
+
+fn read_line_key(bytes: &[u8]) -> Result<u64, LineFault>
+    ensures value { result ≡ or_bad_key (key_in bytes.now) }
+    ensures within { IfOk result (λ key. key ≤ greatest_key) }
+{
+    match read_key(bytes) {
+        Ok(key) => Ok(key),
         Err(NumberFault::NotANumber) => Err(LineFault::BadKey),
         Err(NumberFault::TooLarge) => Err(LineFault::KeyTooLarge),
     }
+}
+
+fn read_line_value(bytes: &[u8]) -> Result<u64, LineFault>
+    ensures { result ≡ or_bad_value (value_in bytes.now) }
+{
+    read_value(bytes).map_err(|_| LineFault::BadValue)
 }

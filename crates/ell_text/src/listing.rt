@@ -2,91 +2,134 @@
 ghost use Rattle.std.specs.Prelude.{◌≡◌, ℕ, ◌<◌, List, length, take, IfErr, OnOk};
 ghost use Rattle.std.specs.List.{flat_map};
 ghost use Rattle.std.specs.Io.KnownBytes.{Appends};
-ghost use Rattle.ell_text.specs.Answer.{number_line, keys_lines, listing};
+ghost use Rattle.ell_text.specs.declared.version.Version.{Version};
+ghost use Rattle.ell_text.specs.Answer.{number_line, pair_line, keys_lines, listing};
 ghost use Rattle.ell_text.specs.Output.{Puts, Faults};
 
 use crate::output::{Output, WriteFault};
+use crate::version::Version;
 use std::io::Write;
 
-/// What a text shows in a line of its own.
+/// What a text shows in a line of its own, which may differ between versions.
 pub(crate) trait Listed {
-    ghost line: { Self → List ℕ };
+    ghost line: { Version → Self → List ℕ };
 
-    /// Puts the line, with its line feed.
-    fn put_line<W: Write>(&self, output: &mut Output, out: &mut W) -> Result<(), WriteFault>
+    /// Puts the line that it has in a version, with its line feed.
+    fn put_line<W: Write>(
+        &self,
+        version: Version,
+        output: &mut Output,
+        out: &mut W,
+    ) -> Result<(), WriteFault>
         ensures ok { OnOk result (Puts (W.contents out.old) (W.contents out.new) output.old output.new
-            (line self.now)) }
+            (line version self.now)) }
         ensures fault { IfErr result (Faults (W.contents out.old) (W.contents out.new) output.old
-            (line self.now)) };
+            (line version self.now)) };
 }
 
 impl Listed for u64 {
-    ghost line = { number_line };
+    ghost line = { λ version. number_line };
 
-    fn put_line<W: Write>(&self, output: &mut Output, out: &mut W) -> Result<(), WriteFault> {
+    fn put_line<W: Write>(
+        &self,
+        _version: Version,
+        output: &mut Output,
+        out: &mut W,
+    ) -> Result<(), WriteFault> {
         output.put_number(out, *self)?;
         output.put(out, b"\n")
     }
 }
 
+// A key with its value.
+impl Listed for (u64, u64) {
+    ghost line = { pair_line };
+
+    fn put_line<W: Write>(
+        &self,
+        version: Version,
+        output: &mut Output,
+        out: &mut W,
+    ) -> Result<(), WriteFault> {
+        let (key, value) = *self;
+        match version {
+            Version::One => key.put_line(version, output, out),
+            Version::Two => {
+                output.put_number(out, key)?;
+                output.put(out, b" ")?;
+                value.put_line(version, output, out)
+            }
+        }
+    }
+}
+
 /// Writes a line for each item, in order, then a line `keys N` with the number of the keys, and then a line for each
-/// key, in order. Nothing is allocated, and the writer is called for many lines at a time.
-pub(crate) fn write_listing<W: Write, T: Listed>(
+/// key, in order: the lines that they have in a version. Nothing is allocated, and the writer is called for many lines
+/// at a time.
+pub(crate) fn write_listing<W: Write, T: Listed, K: Listed>(
     out: &mut W,
+    version: Version,
     items: &[T],
-    keys: &[u64],
+    keys: &[K],
 ) -> Result<(), WriteFault>
     ensures ok { OnOk result
-        (Appends (W.contents out.old) (W.contents out.new) (listing T.line items.now keys.now)) }
+        (Appends (W.contents out.old) (W.contents out.new) (listing (T.line version) (K.line version) items.now keys.now)) }
     ensures fault { IfErr result (λ fault. Appends (W.contents out.old) (W.contents out.new)
-        (take fault.written (listing T.line items.now keys.now))) }
+        (take fault.written (listing (T.line version) (K.line version) items.now keys.now))) }
     ensures missing { IfErr result (λ fault.
-        fault.written < length (listing T.line items.now keys.now)) }
+        fault.written < length (listing (T.line version) (K.line version) items.now keys.now)) }
 {
     let mut output = Output::new();
-    put_listing(&mut output, out, items, keys)?;
+    put_listing(&mut output, out, version, items, keys)?;
     output.flush(out)
 }
 
-fn put_listing<W: Write, T: Listed>(
+fn put_listing<W: Write, T: Listed, K: Listed>(
     output: &mut Output,
     out: &mut W,
+    version: Version,
     items: &[T],
-    keys: &[u64],
+    keys: &[K],
 ) -> Result<(), WriteFault>
     ensures ok { OnOk result (Puts (W.contents out.old) (W.contents out.new) output.old output.new
-        (listing T.line items.now keys.now)) }
+        (listing (T.line version) (K.line version) items.now keys.now)) }
     ensures fault { IfErr result (Faults (W.contents out.old) (W.contents out.new) output.old
-        (listing T.line items.now keys.now)) }
+        (listing (T.line version) (K.line version) items.now keys.now)) }
 {
-    put_lines(output, out, items)?;
-    put_keys(output, out, keys)
+    put_lines(output, out, version, items)?;
+    put_keys(output, out, version, keys)
 }
 
 // A line `keys N` with the number of the keys, and then a line for each key, in order.
-fn put_keys<W: Write>(output: &mut Output, out: &mut W, keys: &[u64]) -> Result<(), WriteFault>
+fn put_keys<W: Write, K: Listed>(
+    output: &mut Output,
+    out: &mut W,
+    version: Version,
+    keys: &[K],
+) -> Result<(), WriteFault>
     ensures ok { OnOk result (Puts (W.contents out.old) (W.contents out.new) output.old output.new
-        (keys_lines keys.now)) }
+        (keys_lines (K.line version) keys.now)) }
     ensures fault { IfErr result (Faults (W.contents out.old) (W.contents out.new) output.old
-        (keys_lines keys.now)) }
+        (keys_lines (K.line version) keys.now)) }
 {
     output.put(out, b"keys ")?;
-    (keys.len() as u64).put_line(output, out)?;
-    put_lines(output, out, keys)
+    (keys.len() as u64).put_line(version, output, out)?;
+    put_lines(output, out, version, keys)
 }
 
 fn put_lines<W: Write, T: Listed>(
     output: &mut Output,
     out: &mut W,
+    version: Version,
     items: &[T],
 ) -> Result<(), WriteFault>
     ensures ok { OnOk result (Puts (W.contents out.old) (W.contents out.new) output.old output.new
-        (flat_map T.line items.now)) }
+        (flat_map (T.line version) items.now)) }
     ensures fault { IfErr result (Faults (W.contents out.old) (W.contents out.new) output.old
-        (flat_map T.line items.now)) }
+        (flat_map (T.line version) items.now)) }
 {
     for item in items {
-        item.put_line(output, out)?;
+        item.put_line(version, output, out)?;
     }
     Ok(())
 }

@@ -218,7 +218,7 @@ fn read_card_event(worker: &[u8], word: &[u8], card: &[u8]) -> Result<Event, Rep
     })
 }
 
-// `W begin operation K`.
+// `W begin operation K`: an insert has the value 0.
 fn read_begin(worker: &[u8], name: &[u8], key: &[u8]) -> Result<Event, ReplayLineFault>
     ensures value { result ≡ begin_event worker.now (codes "begin") name.now key.now }
     ensures within { IfOk result (λ event. event.worker < most_workers) }
@@ -230,7 +230,7 @@ fn read_begin(worker: &[u8], name: &[u8], key: &[u8]) -> Result<Event, ReplayLin
     let key = read_replay_key(key)?;
     Ok(Event {
         worker,
-        act: Act::Begin(kind.on(key)),
+        act: Act::Begin(kind.on(key, 0)),
     })
 }
 

@@ -6,13 +6,14 @@ ghost use Rattle.ell_text.specs.replays.Trace.{shown_line, refusal_line, trace};
 use crate::answer::line_of;
 use crate::listing::{Listed, write_listing};
 use crate::output::{Output, WriteFault};
+use crate::version::Version;
 use ell_core::{CoreFault, Shown, Stepped};
 use std::io::Write;
 
 /// Writes the trace: a line for what is shown of each event, in order, then a line `keys N` with the
 /// number of the keys, and then a line for each key, in order.
 ///
-/// The line of an event is `moved`, `won` or `lost`, for an answer `yes` or `no`, and for a refusal
+/// The line of an event is `moved`, `won` or `lost`, for an answer `yes` or `no` without a value, and for a refusal
 /// `refused` and the fault's name. Each line ends with a line feed, and numbers are in decimal digits
 /// without leading zeros. Nothing is allocated, and the writer is called for many lines at a time.
 ///
@@ -29,13 +30,18 @@ pub fn write_trace<W: Write>(out: &mut W, shown: &[Shown], keys: &[u64]) -> Resu
     ensures missing { IfErr result (λ fault.
         fault.written < length (trace shown.now keys.now)) }
 {
-    write_listing(out, shown, keys)
+    write_listing(out, Version::One, shown, keys)
 }
 
 impl Listed for Shown {
-    ghost line = { shown_line };
+    ghost line = { λ version. shown_line };
 
-    fn put_line<W: Write>(&self, output: &mut Output, out: &mut W) -> Result<(), WriteFault> {
+    fn put_line<W: Write>(
+        &self,
+        _version: Version,
+        output: &mut Output,
+        out: &mut W,
+    ) -> Result<(), WriteFault> {
         output.put(out, shown_line(*self))
     }
 }

@@ -1,4 +1,4 @@
-use Rattle.std.proofs.Common.{◌≡◌, ◌≢◌, ℕ, ◌≤◌, None, List, Contains, length, arith}
+use Rattle.std.proofs.Common.{◌≡◌, ◌≢◌, ℕ, zero, suc, ◌<◌, ◌≤◌, ◌==◌, cond, eqb-true, Bool, true, false, Option, Some, None, List, [], ◌∷◌, Contains, length, get_or, refl, sym, ◌∙◌, ap, ap₂, subst, arith}
 use Rattle.std.specs.List.{All}
 use Rattle.std.specs.List.Sorted.{IsStrictlyIncreasing}
 use Rattle.std.specs.Cmp.{nat_eq_equiv}
@@ -8,15 +8,22 @@ use Rattle.std.proofs.lemmas.List.Kept.{AllPairs-from_increasing}
 use Rattle.std.proofs.lemmas.Map.Made.{IsDistinct-from_AllPairs, length-le_from_is_member}
 use Rattle.std.proofs.lemmas.Map.Views.{list_any-from_Contains}
 use Rattle.ell_core.specs.state.Words.{words_of}
-use Rattle.ell_core.specs.tree.Tree.{ListsKeys}
+use Rattle.ell_core.specs.tree.Tree.{IsTreeKey, IsTreePair, ListsKeys, ListsTreePairs}
 use Rattle.ell_core.specs.tree.Room.{HoldsKeys}
 use Rattle.ell_core.proofs.tree.Pairs.{Contains-from_list_any}
 use Rattle.ell_cards.specs.Models.{PassModel}
 use Rattle.ell_cards.specs.Changes.{keys_of}
+use Rattle.std.specs.Map.{keys_of as pair_keys, values_of}
+use Rattle.ell_ops.specs.Contents.{contents_of}
+use Rattle.ell_ops.proofs.Pairs.{contents_at}
+use Rattle.ell_core.specs.declared.view.Entry.TheVariants.{Present}
+use Rattle.ell_core.specs.state.Words.{Words}
+use Rattle.ell_core.proofs.tree.Pairs.{Contains-first, Contains-later}
 use Rattle.ell_cards.specs.Ends.{ClosedModel, Ends}
 use Rattle.ell_cards.proofs.words.Keys.{owned_among}
-use Rattle.ell_tree.specs.Ledgers.{TreeModel, ledger}
+use Rattle.ell_tree.specs.Ledgers.{TreeModel, ledger, present_in}
 use Rattle.ell_tree.specs.Closing.{ClosesTo}
+use Rattle.ell_tree.proofs.Parting.{there_same}
 
 -- ascending keys that are all among others are no more than those
 no_longer : (keys others : List ℕ) → IsStrictlyIncreasing keys → ((k : ℕ) → Contains keys k → Contains others k) → length keys ≤ length others
@@ -25,6 +32,35 @@ no_longer keys others ascending among =
     (IsDistinct-from_AllPairs Decides-eqb keys
     (λ i j d before below same. let less = AllPairs-from_increasing keys ascending i j d before below in omega arith))
     (λ k h. list_any-from_Contains nat_eq_equiv k others (among k (Contains-from_list_any keys k h)))
+
+-- the key and the value at a place of some pairs
+pair_at : (pairs : List (ℕ × ℕ)) (i : ℕ) (d : ℕ × ℕ) → i < length pairs
+    → (get_or (pair_keys pairs) i 0 ≡ (get_or pairs i d).0) × (get_or (values_of pairs) i 0 ≡ (get_or pairs i d).1)
+pair_at [] i d low = absurd (omega arith)
+pair_at (e ∷ pairs) zero d low = (refl, refl)
+pair_at (e ∷ pairs) (suc i) d low = pair_at pairs i d (omega arith)
+
+-- a pair of ascending ones is its key's contents, and what a key contains is a pair
+listed : (pairs : List (ℕ × ℕ)) (k v : ℕ) → IsStrictlyIncreasing (pair_keys pairs) → Contains pairs (k, v) → contents_of pairs k ≡ Some v
+listed pairs k v ascending has =
+    let at = pair_at pairs has.0 (k, v) has.1 in
+    let key = at.0 ∙ ap (λ (e : ℕ × ℕ). e.0) has.2 in
+    ap (contents_of pairs) (sym key) ∙ contents_at pairs has.0 ascending has.1 ∙ ap Some (at.1 ∙ ap (λ (e : ℕ × ℕ). e.1) has.2)
+
+contained : (pairs : List (ℕ × ℕ)) (k v : ℕ) → contents_of pairs k ≡ Some v → Contains pairs (k, v)
+contained [] k v is = absurd cc
+contained (e ∷ es) k v is = by (k == e.0) refl is (contained es k v)
+  where
+    by : (t : Bool) → (k == e.0) ≡ t → cond t (Some e.1) (contents_of es k) ≡ Some v
+        → (contents_of es k ≡ Some v → Contains es (k, v)) → Contains (e ∷ es) (k, v)
+    by true same value rest =
+        let val : e.1 ≡ v = cc in
+        subst (Contains (e ∷ es)) (ap₂ (λ a b. (a, b)) (sym (eqb-true k e.0 same)) val) (Contains-first e es)
+    by false other value rest = Contains-later e es (k, v) (rest value)
+
+-- a key with a value is a key
+key_of_pair : (w : Words) (k v : ℕ) → IsTreePair w k v → IsTreeKey w k
+key_of_pair w k v h = record { leaf = h.leaf; reached = h.reached; outer = h.outer; has = h.has; real = h.real }
 
 module _ (t : TreeModel) (p : PassModel) (closed : ClosedModel) (ends : Ends t.keys p.view closed) (all : All (λ k. ledger p k ≢ None) t.keys) where
   -- a key of the tree is the pass's
@@ -42,13 +78,25 @@ module _ (t : TreeModel) (p : PassModel) (closed : ClosedModel) (ends : Ends t.k
   planned : (k : ℕ) → ledger p k ≢ None → Contains t.keys k
   planned k owns = ends.kept.owned ends.seat k p.view ends.seen owns
 
-  pub closes : (keys : List ℕ) → closed.last_card ≡ t.last_card → ListsKeys (words_of closed.words) keys → ClosesTo t p keys
-  closes keys cards lists = record {
-    ascending = lists.ascending;
-    present = λ k. (
-      λ has. let is = (lists.each k).0 has in (ends.shows.present k (ends.shows.owned k is)).0 is,
-      λ here. (lists.each k).1 ((ends.shows.present k (planned k (λ none. cc (here, none)))).1 here),
-    );
+  -- a key that a list of the tree's pairs has is present with that value, and a present key is in the list
+  listed_present : (pairs : List (ℕ × ℕ)) (k v : ℕ) → ListsTreePairs (words_of closed.words) pairs → contents_of pairs k ≡ Some v
+      → ledger p k ≡ Some (Present v)
+  listed_present pairs k v lists is =
+      let there = (lists.each k v).0 (contained pairs k v is) in
+      (ends.shows.present k v (ends.shows.owned k (key_of_pair (words_of closed.words) k v there))).0 there
+
+  present_listed : (pairs : List (ℕ × ℕ)) (k v : ℕ) → ListsTreePairs (words_of closed.words) pairs → ledger p k ≡ Some (Present v)
+      → contents_of pairs k ≡ Some v
+  present_listed pairs k v lists here =
+      listed pairs k v lists.ascending ((lists.each k v).1 ((ends.shows.present k v (planned k (λ none. cc (here, none)))).1 here))
+
+  each_present : (pairs : List (ℕ × ℕ)) → ListsTreePairs (words_of closed.words) pairs → (k : ℕ) → contents_of pairs k ≡ present_in p k
+  each_present pairs lists k =
+      sym (there_same (ledger p k) (contents_of pairs k) (λ v. (present_listed pairs k v lists, listed_present pairs k v lists)))
+
+  pub closes : (pairs : List (ℕ × ℕ)) → closed.last_card ≡ t.last_card → ListsTreePairs (words_of closed.words) pairs → ClosesTo t p pairs
+  closes pairs cards lists = record {
+    present = record { ascending = lists.ascending; each = λ i k. each_present pairs lists k i };
     closed = closed;
     cards = cards;
     ends = ends;

@@ -1,20 +1,26 @@
-use Rattle.std.proofs.Common.{◌≡◌, ℕ, ◌≤◌, Option, Some, None, IfSome, if◌then◌else◌, eq-eqb, refl, sym, ◌∙◌, ap, subst, arith}
+use Rattle.std.proofs.Common.{◌≡◌, ℕ, ◌≤◌, ◌==◌, Bool, true, false, true≢false, inl, Option, Some, None, IfSome, if◌then◌else◌, eq-eqb, eqb-true, refl, sym, ◌∙◌, ap, subst, arith}
+use Rattle.std.specs.Option.{is_some}
 use Rattle.ell_ops.specs.declared.op.Op.{Op}
+use Rattle.ell_ops.specs.declared.reply.Reply.{Reply}
+use Rattle.ell_ops.specs.Meaning.{key_of}
 use Rattle.ell_word.specs.declared.update.Update.{Update}
 use Rattle.ell_core.specs.declared.view.Search.{Search}
-use Rattle.ell_core.specs.acts.Searching.{IsLeaf}
+use Rattle.ell_core.specs.acts.Searching.{IsLeaf, leaf_answer}
+use Rattle.ell_core.specs.state.Machine.{ledger_of}
+use Rattle.ell_core.specs.statements.StepLaws.{contents_in}
 use Rattle.ell_cards.specs.declared.view.Told.TheVariants.{Met}
 use Rattle.ell_cards.specs.declared.view.View.{View}
 use Rattle.ell_cards.specs.Models.{PassModel, Steps, latest, Does, IsTold, StandsAt, InTable}
 use Rattle.ell_cards.specs.Changes.{after_upd, after_key_of, after_value_of, after_down, told_value}
-use Rattle.ell_cards.specs.Calls.{TellsLeaf}
+use Rattle.ell_cards.specs.Guards.{MayAnswer, TellsOf}
+use Rattle.ell_cards.specs.Calls.{TellsLeaf, TellsValue}
 use Rattle.ell_cards.proofs.views.Entries.{places_more}
 use Rattle.ell_cards.proofs.views.Steps.{view_after}
 use Rattle.ell_cards.proofs.views.Searches.{told_here}
 use Rattle.ell_tree.specs.declared.searching.Passed.{Passed}
 use Rattle.ell_tree.specs.declared.searching.Place.{Place}
 use Rattle.ell_tree.specs.Keeping.{Keeps, Seeks, IsInnerMet}
-use Rattle.ell_tree.specs.Searches.{seen_any, below, Passes, Stands, EndsAt}
+use Rattle.ell_tree.specs.Searches.{seen_any, below, Passes, Stands, IsAt, there_at, EndsAt}
 use Rattle.ell_tree.proofs.Keeping.{seeks_step, seeks_trans, upd_keeps, key_of_keeps, value_of_keeps, down_keeps, keeps_trans, seen_kept, place_told}
 
 -- an update is read in a step, and so are a key and a value
@@ -82,27 +88,68 @@ stands_next cards a b x child parent passed above k h search met there passes = 
   passed_above = passes_kept cards a b parent k h.passed;
 }
 
+-- what a ledger has of a key, if it has it where the place has the key, and with the place's value then
+there_by : (o : Option ℕ) (place : Place) (k : ℕ) → is_some o ≡ (place.key == k) → (place.key ≡ k → o ≡ Some place.value) → o ≡ there_at place k
+there_by o place k some same = by (place.key == k) refl
+  where
+    none : (p : Option ℕ) → is_some p ≡ false → p ≡ None
+    none None e = refl
+    none (Some x) e = absurd (true≢false e)
+
+    by : (t : Bool) → (place.key == k) ≡ t → o ≡ (if t then Some place.value else None)
+    by true e = same (eqb-true place.key k e)
+    by false e = none o (some ∙ e)
+
 -- a search that stands at a leaf, whose key and value it asks, ends there
 pub search_ends : (cards : ℕ) (a b d : PassModel) (op : Op) (place : Place) → Steps a b (after_key_of place.leaf place.key a.view)
     → Steps b d (after_value_of place.leaf place.value b.view) → Does a.view op
     → IsLeaf place.leaf → Stands cards a.view place.leaf place.parent place.grandparent → TellsLeaf a.view place.leaf place.key
-    → EndsAt cards d.view op place
-search_ends cards a b d op place s s' busy outer h tells =
+    → TellsValue b.view place.leaf place.value → EndsAt cards d.view op place
+search_ends cards a b d op place s s' busy outer h tells says =
     let stands : StandsAt a.view place.leaf = ap (λ (r : Search). r.node) h.search in
     let keyed = after_key_of place.leaf place.key a.view in
     let w = after_value_of place.leaf place.value keyed in
     let kept = keeps_trans a.view keyed w (key_of_keeps place.leaf place.key a.view) (value_of_keeps place.leaf place.value keyed) in
-    let is : d.view ≡ w = view_after b d (after_value_of place.leaf place.value b.view) s' ∙ ap (after_value_of place.leaf place.value) (view_after a b keyed s) in
+    let asked = view_after a b keyed s in
+    let is : d.view ≡ w = view_after b d (after_value_of place.leaf place.value b.view) s' ∙ ap (after_value_of place.leaf place.value) asked in
+    let told = told_here a.view.worker.search.node a.view.here place.leaf place.key stands in
     subst (λ (y : View). EndsAt cards y op place) (sym is) (record {
       at = record {
         search = h.search;
         outer = outer;
-        told = told_here a.view.worker.search.node a.view.here place.leaf place.key stands;
+        told = told;
         value_told = latest _ _;
         value = ap (λ t. if t then place.value else told_value keyed.told place.leaf) (eq-eqb place.leaf place.leaf refl);
       };
       passed = passes_kept cards a.view w place.parent kept h.passed;
       passed_above = passes_any_kept cards a.view w place.grandparent kept h.passed_above;
-      present = tells.present op busy stands outer;
+      there = there_by (contents_in (ledger_of a.view.worker.ledger) (key_of op)) place (key_of op) (tells.present op busy stands outer)
+          (λ same. subst (λ (y : View). TellsValue y place.leaf place.value) asked says op busy stands (told ∙ ap Some same));
       deep = λ same none. tells.deep op busy stands outer same (ap (λ (r : Search). r.grandparent) h.search ∙ ap seen_any none);
     })
+
+-- a place tells what its leaf has of a key
+tells_of : (v : View) (place : Place) (k : ℕ) → IsAt v place → TellsOf v place.leaf place.key k (there_at place k)
+tells_of v place k at = by (place.key == k) refl
+  where
+    by : (t : Bool) → (place.key == k) ≡ t → TellsOf v place.leaf place.key k (if t then Some place.value else None)
+    by true e = (eqb-true place.key k e, at.value_told)
+    by false e = λ same. true≢false (sym (eq-eqb place.key k same) ∙ e)
+
+-- where a search ended, an operation may be answered by what is there of its key
+pub may_answer : (v : View) (op : Op) (place : Place) (said : Reply) → Does v op → IsAt v place
+    → leaf_answer op (there_at place (key_of op)) ≡ Some said → MayAnswer v said
+may_answer v op place said busy at says = record {
+  op = op;
+  busy = busy;
+  answers = inl (record {
+    leaf = place.leaf;
+    key = place.key;
+    there = there_at place (key_of op);
+    stands = ap (λ (s : Search). s.node) at.search;
+    outer = at.outer;
+    told = at.told;
+    tells = tells_of v place (key_of op) at;
+    says = says;
+  });
+}

@@ -1,5 +1,6 @@
-use Rattle.std.proofs.Common.{◌≡◌, ◌≢◌, ℕ, max, if◌then◌else◌, Bool, true, false, Option, Some, None, Result, Ok, Err, IfOk, List, refl, sym, ◌∙◌, ap, subst, inl, inr, length-append}
+use Rattle.std.proofs.Common.{◌≡◌, ◌≢◌, ◌↔◌, ℕ, max, if◌then◌else◌, Bool, true, false, Option, Some, None, Result, Ok, Err, IfOk, List, refl, sym, ◌∙◌, ap, subst, inl, inr, length-append}
 use Rattle.std.specs.List.{All}
+use Rattle.std.specs.Map.{keys_of}
 use Rattle.ell_ops.specs.KeySet.{set_of}
 use Rattle.ell_core.specs.state.Machine.{ledger_of}
 use Rattle.ell_cards.specs.Models.{PassModel, TableModel, Steps, one_more}
@@ -9,6 +10,10 @@ use Rattle.ell_cards.proofs.lifetimes.Parts.{parts_on, parts_off}
 use Rattle.ell_cards.proofs.lifetimes.Unions.{ledger_united}
 use Rattle.ell_tree.specs.Parts.{IsFirst, IsLeftPart, IsRightPart, IsUnion, or_else}
 use Rattle.ell_core.specs.declared.view.Entry.{Entry}
+use Rattle.ell_core.specs.declared.view.Entry.TheVariants.{Present, Absent}
+use Rattle.ell_core.specs.statements.StepLaws.{value_in}
+use Rattle.ell_core.specs.statements.Premises.{keys_at_start}
+use Rattle.ell_ops.specs.Contents.{contents_of}
 use Rattle.ell_core.specs.state.Opening.{start_entry}
 
 -- what holds of a result by what held of it
@@ -16,13 +21,21 @@ pub if_ok : {T E : Type 0} (P Q : T → Type 0) (r : Result T E) → ((x : T) �
 if_ok P Q (Ok x) more h = more x h
 if_ok P Q (Err e) more h = tt
 
--- a first pass has all keys, the start keys present
-pub first_pass : (t : TableModel) (keys start : List ℕ) (p : PassModel) → All (λ k. set_of keys k ≡ true) start → t.keys ≡ keys
-    → p ≡ record { table = t.id; view = first_view keys start; steps = 0; label = 0 } → IsFirst start t p
+-- an entry has the value that there is, if each says so of each value
+pub there_same : (e : Option Entry) (o : Option ℕ) → ((v : ℕ) → (e ≡ Some (Present v)) ↔ (o ≡ Some v)) → value_in e ≡ o
+there_same (Some (Present v)) o h = sym ((h v).0 refl)
+there_same (Some Absent) None h = refl
+there_same (Some Absent) (Some v) h = let is = (h v).1 refl in absurd cc
+there_same None None h = refl
+there_same None (Some v) h = let is = (h v).1 refl in absurd cc
+
+-- a first pass has all keys, the start keys present with their values
+pub first_pass : (t : TableModel) (keys : List ℕ) (start : List (ℕ × ℕ)) (p : PassModel) → All (λ k. set_of keys k ≡ true) (keys_of start)
+    → t.keys ≡ keys → p ≡ record { table = t.id; view = first_view keys start; steps = 0; label = 0 } → IsFirst start t p
 first_pass t keys start p given same e = subst (IsFirst start t) (sym e) (record {
   own = refl;
   ledger = λ k. ledger_at_start keys start k ∙ ap (λ (ks : List ℕ). if set_of ks k then Some (start_entry start k) else None) (sym same);
-  present = λ t k. present_at_start keys start given k t;
+  present = λ t k. there_same (ledger_of (keys_at_start keys start) k) (contents_of start k) (present_at_start keys start given k) t;
   answers = refl;
   hindrances = refl;
   steps = refl;

@@ -1,7 +1,7 @@
-use Rattle.std.specs.Prelude.{◌≡◌, ℕ, ◌+◌, ◌*◌, ◌≤◌, ◌↔◌, Bool, None, Some, Result, Ok, Err}
+use Rattle.std.specs.Prelude.{◌≡◌, ℕ, ◌+◌, ◌*◌, ◌≤◌, ◌↔◌, Bool, None, Some, Result, Ok, Err, ⊤}
 use Rattle.ell_ops.specs.declared.op.Op.{Op}
 use Rattle.ell_ops.specs.declared.reply.Reply.{Reply}
-use Rattle.ell_ops.specs.declared.reply.Reply.TheVariants.{Yes}
+use Rattle.ell_ops.specs.declared.reply.Reply.TheVariants.{Yes, Found}
 use Rattle.ell_ops.specs.Meaning.{yes_if, reply_of, after}
 use Rattle.ell_cards.specs.Models.{PassModel}
 use Rattle.ell_tree.specs.declared.operations.Held.{Held}
@@ -9,17 +9,17 @@ use Rattle.ell_tree.specs.declared.operations.Held.TheVariants.{Busy, Spent}
 use Rattle.ell_tree.specs.Hindrances.{Meets}
 use Rattle.ell_tree.specs.Ledgers.{present_in, Owns, answers, hindrances, IsIdle}
 
--- an operation was answered: as a set answers it that has the pass's keys present, which becomes the set after it
+-- an operation was answered: as a map answers it that has the pass's keys present with their values, which becomes the map after it
 pub record Answers (op : Op) (said : Reply) (old new : PassModel) : Type 0 where
   pub table : new.table ≡ old.table
   pub label : new.label ≡ old.label
   pub says : said ≡ reply_of op (present_in old)
-  pub set : (key : ℕ) → present_in new key ≡ after op (present_in old) key
+  pub map : (key : ℕ) → present_in new key ≡ after op (present_in old) key
   pub owned : (key : ℕ) → Owns new key ↔ Owns old key
   pub answered : answers new ≡ answers old + 1
   pub idle : IsIdle new
 
--- an operation that would change the set was laid down without an answer: the ledger is as it was, and nothing is in hand
+-- an operation that would change the map was laid down without an answer: the ledger is as it was, and nothing is in hand
 pub record LaidDown (op : Op) (old new : PassModel) : Type 0 where
   pub table : new.table ≡ old.table
   pub label : new.label ≡ old.label
@@ -33,6 +33,11 @@ pub record LaidDown (op : Op) (old new : PassModel) : Type 0 where
 abbrev pub HeldFor : ℕ → ℕ → PassModel → PassModel → Held → Type 0
 HeldFor cards tries old new Busy = hindrances old + tries ≤ hindrances new
 HeldFor cards tries old new Spent = new.view.next ≡ Some (cards + 1)
+
+-- a change is held, or says no or yes, and no value
+abbrev pub IsPlain : Result Reply Held → Type 0
+IsPlain (Ok (Found value)) = ⊥
+IsPlain _ = ⊤
 
 -- what an insert or a delete says, as a reply
 abbrev pub replied : Result Bool Held → Result Reply Held

@@ -2,22 +2,22 @@ use Rattle.std.specs.Prelude.{◌≡◌, ◌≢◌, ℕ, None, length}
 pub use Rattle.ell_core.specs.declared.view.Entry.{Entry}
 pub use Rattle.ell_core.specs.declared.view.Entry.TheVariants.{Present, Absent}
 use Rattle.ell_core.specs.state.Machine.{Ledger, ledger_of}
-use Rattle.ell_core.specs.statements.StepLaws.{set_in}
+use Rattle.ell_core.specs.statements.StepLaws.{contents_in}
 pub use Rattle.ell_cards.specs.Models.{PassModel}
 use Rattle.ell_cards.specs.Models.{TableModel}
-use Rattle.ell_ops.specs.Meaning.{Contents}
+use Rattle.ell_ops.specs.Contents.{Contents}
 
 -- how a contract sees a tree: which table it stands on, the keys that its passes own, and how many cards it has
 abbrev pub TreeModel : Type 0
 TreeModel = TableModel
 
--- the ledger of a pass: each key of its own with whether it is present
+-- the ledger of a pass: each key of its own with whether it is present, and with which value
 abbrev pub ledger : PassModel → Ledger
 ledger p = ledger_of p.view.worker.ledger
 
--- the keys of its own that are present
+-- the keys of its own that are present, with their values
 abbrev pub present_in : PassModel → Contents
-present_in p = set_in (ledger p)
+present_in p = contents_in (ledger p)
 
 -- a pass owns a key
 abbrev pub Owns : PassModel → ℕ → Type 0

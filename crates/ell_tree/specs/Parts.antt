@@ -1,17 +1,18 @@
 use Rattle.std.specs.Prelude.{◌≡◌, ℕ, ◌+◌, if◌then◌else◌, Option, Some, None, List, max}
 use Rattle.ell_ops.specs.KeySet.{set_of}
+use Rattle.ell_ops.specs.Contents.{contents_of}
 use Rattle.ell_cards.specs.Models.{PassModel, one_more}
 pub use Rattle.ell_cards.specs.Changes.{later}
 use Rattle.ell_tree.specs.Ledgers.{TreeModel, ledger, present_in, answers, hindrances, IsIdle}
 pub use Rattle.ell_core.specs.state.Opening.{start_entry}
 use Rattle.ell_core.specs.declared.view.Entry.{Entry}
 
--- the first pass of a tree with these start keys: it owns all keys of the tree, of which the start keys are present and the others
--- absent
-pub record IsFirst (start : List ℕ) (t : TreeModel) (p : PassModel) : Type 0 where
+-- the first pass of a tree with these start keys: it owns all keys of the tree, of which the start keys are present with their
+-- values, and the others absent
+pub record IsFirst (start : List (ℕ × ℕ)) (t : TreeModel) (p : PassModel) : Type 0 where
   pub own : p.table ≡ t.id
   pub ledger : (k : ℕ) → ledger p k ≡ (if set_of t.keys k then Some (start_entry start k) else None)
-  pub present : present_in p ≡ set_of start
+  pub present : present_in p ≡ contents_of start
   pub answers : answers p ≡ 0
   pub hindrances : hindrances p ≡ 0
   pub steps : p.steps ≡ 0

@@ -1,10 +1,11 @@
-use Rattle.std.specs.Prelude.{◌≡◌, ◌≢◌, ℕ, ◌↔◌, IfSome, Option, Some, None}
+use Rattle.std.specs.Prelude.{◌≡◌, ◌≢◌, ℕ, ◌==◌, if◌then◌else◌, IfSome, Option, Some, None}
 use Rattle.ell_ops.specs.declared.op.Op.{Op}
 use Rattle.ell_ops.specs.Meaning.{key_of}
 use Rattle.ell_word.specs.Word.{packed}
 use Rattle.ell_core.specs.declared.view.Seen.{Seen}
 use Rattle.ell_core.specs.declared.view.Search.{Search}
 use Rattle.ell_core.specs.state.Machine.{ledger_of}
+use Rattle.ell_core.specs.statements.StepLaws.{contents_in}
 use Rattle.ell_core.specs.acts.Searching.{IsLeaf, at_root}
 use Rattle.ell_cards.specs.declared.view.Told.TheVariants.{Met, Value}
 use Rattle.ell_cards.specs.declared.view.View.{View}
@@ -13,7 +14,6 @@ use Rattle.ell_cards.specs.Changes.{told_value}
 use Rattle.ell_tree.specs.declared.searching.Passed.{Passed}
 use Rattle.ell_tree.specs.declared.searching.Place.{Place}
 use Rattle.ell_tree.specs.Keeping.{IsSeenAt}
-use Rattle.ell_core.specs.declared.view.Entry.TheVariants.{Present}
 
 -- an operation is in hand, and its search stands at the root
 pub record AtRoot (op : Op) (v : View) : Type 0 where
@@ -54,11 +54,14 @@ pub record IsAt (w : View) (place : Place) : Type 0 where
   pub value_told : IsTold w (Value place.leaf place.value)
   pub value : told_value w.told place.leaf ≡ place.value
 
--- a search ended at a place, whose key is the operation's exactly where the ledger has that present; and then there is a
--- grandparent
+-- what a place has of a key: its value, if its leaf has that key
+abbrev pub there_at : Place → ℕ → Option ℕ
+there_at place k = if place.key == k then Some place.value else None
+
+-- a search ended at a place, which has of the operation's key what the ledger has; and if it has the key, there is a grandparent
 pub record EndsAt (cards : ℕ) (w : View) (op : Op) (place : Place) : Type 0 where
   pub at : IsAt w place
   pub passed : Passes cards w place.parent
   pub passed_above : IfSome place.grandparent (λ x. Passes cards w x)
-  pub present : (place.key ≡ key_of op) ↔ (ledger_of w.worker.ledger (key_of op) ≡ Some Present)
+  pub there : contents_in (ledger_of w.worker.ledger) (key_of op) ≡ there_at place (key_of op)
   pub deep : place.key ≡ key_of op → place.grandparent ≢ None

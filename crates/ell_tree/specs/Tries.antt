@@ -56,7 +56,7 @@ pub record Lays (op : Op) (old new : PassModel) : Type 0 where
   pub no_card : new.view.worker.card ≡ None
   pub steps : new.steps ≤ old.steps + 1
 
--- a try ended without an answer, though the operation would change the set; nothing of it is under way, and whatever was in its
+-- a try ended without an answer, though the operation would change the map; nothing of it is under way, and whatever was in its
 -- way is over, what its search has read too
 pub record Halts (op : Op) (old new : PassModel) : Type 0 where
   pub table : new.table ≡ old.table

@@ -1,8 +1,8 @@
 //! The operations: find, insert and delete.
 ghost use Rattle.std.specs.Prelude.{◌≡◌, ◌≤◌, ◌+◌, true};
 ghost use Rattle.ell_ops.specs.declared.op.Op.TheVariants.{Find, Insert, Delete};
-ghost use Rattle.ell_ops.specs.Meaning.{key_of, yes_if};
-ghost use Rattle.ell_tree.specs.Ends.{Answers, Ends, change_steps, find_steps, replied, try_steps};
+ghost use Rattle.ell_ops.specs.Meaning.{key_of, found};
+ghost use Rattle.ell_tree.specs.Ends.{Answers, Ends, IsPlain, change_steps, find_steps, replied, try_steps};
 ghost use Rattle.ell_tree.specs.Hindrances.{Meets, way_of};
 ghost use Rattle.ell_tree.specs.Ledgers.{IsIdle, Owns};
 ghost use Rattle.ell_tree.specs.Searches.{AtRoot};
@@ -19,7 +19,7 @@ use ell_word::{Kind, StepGate};
 use std::alloc::Allocator;
 use thiserror::Error;
 
-/// Why an insert or a delete has no answer. The set is as it was before, and nothing of the call is under way.
+/// Why an insert or a delete has no answer. The map is as it was before, and nothing of the call is under way.
 #[derive(Clone, Copy, Debug, PartialEq, Eq, Error)]
 pub enum Held {
     /// All tries ended without an answer: something was in the way of each.
@@ -30,24 +30,24 @@ pub enum Held {
     Spent,
 }
 
-/// An operation that may change the set: a key and its value are inserted, or a key is deleted.
+/// An operation that may change the map: a key and its value are inserted, or a key is deleted.
 #[derive(Clone, Copy)]
 pub(crate) enum Change {
     Insert(u64, u64),
     Delete(u64),
 }
 
-/// Whether a key is present. It never helps.
+/// The value of a key, if the key is present. It never helps.
 pub(crate) fn find<A: Allocator + Copy, G: StepGate>(
     table: &CardTable<A>,
     pass: &mut Pass<A>,
     key: u64,
     gate: &G,
-) -> bool
+) -> Option<u64>
     requires own { pass.old.table ≡ table.now.id }
     requires idle { IsIdle pass.old }
     requires owned { Owns pass.old key }
-    ensures answers { Answers (Find key) (yes_if result) pass.old pass.new }
+    ensures answers { Answers (Find key) (found result) pass.old pass.new }
     ensures calm { pass.new.view.hindrances ≡ pass.old.view.hindrances }
     ensures meets { Meets pass.old.view pass.new.view }
     ensures steps { pass.new.steps ≤ pass.old.steps + find_steps table.now.last_card }
@@ -57,10 +57,10 @@ pub(crate) fn find<A: Allocator + Copy, G: StepGate>(
     gate.before(label, Kind::Begin);
     begin(table, pass, op, gate);
     let place = search(table, pass, op, gate);
-    let found = place.key == key;
-    answer(table, pass, op, Reply::yes_if(found), gate);
+    let there = (place.key == key).then_some(place.value);
+    answer(table, pass, op, Reply::found(there), gate);
     gate.after(label, true);
-    found
+    there
 }
 
 /// Makes a change in at most so many tries, and tells the gate of its start and its end.
@@ -119,6 +119,7 @@ fn try_often<A: Allocator + Copy, G: StepGate>(
 
 /// What a change answers, told by whether it is yes.
 pub(crate) fn is_yes(ended: Result<Reply, Held>) -> Result<bool, Held>
+    requires { IsPlain ended }
     ensures { replied result ≡ ended }
 {
     match ended {

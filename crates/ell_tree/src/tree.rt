@@ -2,9 +2,10 @@
 ghost use Rattle.std.specs.Prelude.{◌≡◌, ◌≤◌, ◌+◌, ◌*◌, [], true, length, IfOk, IfErr, OnOk, vec_capacity};
 ghost use Rattle.std.specs.List.{All};
 ghost use Rattle.std.specs.List.Sorted.{IsStrictlyIncreasing};
+ghost use Rattle.std.specs.Map.{keys_of};
 ghost use Rattle.ell_ops.specs.declared.op.Op.TheVariants.{Find, Insert, Delete};
 ghost use Rattle.ell_ops.specs.KeySet.{set_of};
-ghost use Rattle.ell_ops.specs.Meaning.{greatest_key, yes_if};
+ghost use Rattle.ell_ops.specs.Meaning.{greatest_key, found};
 ghost use Rattle.ell_word.specs.Node.{most_start};
 ghost use Rattle.ell_core.specs.state.Opening.{last_card};
 ghost use Rattle.ell_cards.specs.Models.{IsCardCount, Refuses};
@@ -16,14 +17,14 @@ ghost use Rattle.ell_tree.specs.Parts.{IsFirst, IsLeftPart, IsRightPart, IsUnion
 
 use crate::operations::{Change, Held, find, is_yes, make_change};
 use ell_cards::{CardFault, CardTable, Pass};
-use ell_core::keys_of_tree;
+use ell_core::pairs_of_tree;
 use ell_ops::NoMemory;
 use ell_word::StepGate;
 use std::alloc::{AllocError, Allocator};
 use std::marker::Model;
 
-/// A set of keys that many threads share, each through a pass of its own. A pass owns some of the keys, and finds, inserts and
-/// deletes those.
+/// A map from keys to values that many threads share, each through a pass of its own. A pass owns some of the keys, and finds,
+/// inserts and deletes those.
 #[derive(Drop)]
 pub struct Tree<A: Allocator + Copy> {
     table: CardTable<A>,
@@ -51,21 +52,21 @@ impl<A: Allocator + Copy> Tree<A> {
         Tree::reserve_from(alloc, &[], keys, cards)
     }
 
-    /// A tree that has these start keys from the first on, balanced, and one pass that owns all these keys: the start keys are
-    /// present, the others absent. It saves inserting them: no operation is made for them, and none of the cards asked for is taken.
+    /// A tree that has these start keys with their values from the first on, balanced, and one pass that owns all these keys: the
+    /// start keys are present, the others absent. It saves inserting them: no operation is made for them, and none of the cards asked for is taken.
     /// Their tree has a card for each of them, so the number of the last card, by which the steps of calls are bounded, is the
     /// number of cards asked for plus that of the start keys. Errors are as of `reserve`. Conditions: those of `reserve`; the start
     /// keys are strictly ascending, among the keys, and at most `START_MAX`, 200,000.
     pub fn reserve_from(
         alloc: A,
-        start: &[u64],
+        start: &[(u64, u64)],
         keys: &[u64],
         cards: u64,
     ) -> Result<(Tree<A>, Pass<A>), CardFault>
         requires ascending { IsStrictlyIncreasing keys.now }
         requires real { All (λ k. k ≤ greatest_key) keys.now }
-        requires start_ascending { IsStrictlyIncreasing start.now }
-        requires given { All (λ k. set_of keys.now k ≡ true) start.now }
+        requires start_ascending { IsStrictlyIncreasing (keys_of start.now) }
+        requires given { All (λ k. set_of keys.now k ≡ true) (keys_of start.now) }
         requires few { length start.now ≤ most_start }
         ensures cards { OnOk result (IsCardCount cards) }
         ensures tree { IfOk result (λ made. (made.0.keys ≡ keys.now) × (made.0.last_card ≡ last_card start.now cards)) }
@@ -110,13 +111,13 @@ impl<A: Allocator + Copy> Tree<A> {
         self.table.join(left, right)
     }
 
-    /// Whether a key of the pass is present. It helps nobody, nothing is in its way, and it takes at most `3 * cards + 7` steps, where
+    /// The value of a key of the pass, if the key is present. It helps nobody, nothing is in its way, and it takes at most `3 * cards + 7` steps, where
     /// `cards` is the number of the last card.
-    pub fn find<G: StepGate>(&self, pass: &mut Pass<A>, key: u64, gate: &G) -> bool
+    pub fn find<G: StepGate>(&self, pass: &mut Pass<A>, key: u64, gate: &G) -> Option<u64>
         requires own { pass.old.table ≡ self.now.id }
         requires idle { IsIdle pass.old }
         requires owned { Owns pass.old key }
-        ensures answers { Answers (Find key) (yes_if result) pass.old pass.new }
+        ensures answers { Answers (Find key) (found result) pass.old pass.new }
         ensures calm { pass.new.view.hindrances ≡ pass.old.view.hindrances }
         ensures meets { Meets pass.old.view pass.new.view }
         ensures steps { pass.new.steps ≤ pass.old.steps + find_steps self.now.last_card }
@@ -125,11 +126,11 @@ impl<A: Allocator + Copy> Tree<A> {
         find(&self.table, pass, key, gate)
     }
 
-    /// Adds a key of the pass: whether it was absent. Its value is kept, but not told yet. It is tried so often at most, at least
-    /// once, in at most `tries * (7 * cards + 27) + 1` steps, where `cards` is the number of the last card. `Busy` comes where
-    /// something was in the way of every try, and `Spent` where a try that would add the key finds all cards given out. After either
-    /// the set is as it was, and nothing of the call is under way. However it ends, whatever was in the way of a try is over by then:
-    /// a card that another pass took first, or a change of a neighbour, which was helped to its end where nobody else had ended it.
+    /// Adds a key of the pass with its value: whether the key was absent. A key that is present keeps its value. It is tried so often
+    /// at most, at least once, in at most `tries * (7 * cards + 27) + 1` steps, where `cards` is the number of the last card. `Busy`
+    /// comes where something was in the way of every try, and `Spent` where a try that would add the key finds all cards given out.
+    /// After either the map is as it was, and nothing of the call is under way. However it ends, whatever was in the way of a try is over by then: a card that
+    /// another pass took first, or a change of a neighbour, which was helped to its end where nobody else had ended it.
     pub fn insert<G: StepGate>(
         &self,
         pass: &mut Pass<A>,
@@ -149,7 +150,7 @@ impl<A: Allocator + Copy> Tree<A> {
         is_yes(make_change(&self.table, pass, Change::Insert(key, value), tries, gate))
     }
 
-    /// Takes a key of the pass away: whether it was present. Tries, steps and errors are as of `insert`.
+    /// Takes a key of the pass away, with its value: whether it was present. Tries, steps and errors are as of `insert`.
     pub fn delete<G: StepGate>(
         &self,
         pass: &mut Pass<A>,
@@ -168,35 +169,35 @@ impl<A: Allocator + Copy> Tree<A> {
         is_yes(make_change(&self.table, pass, Change::Delete(key), tries, gate))
     }
 
-    /// Ends the tree, by a pass that owns all its keys: those that are present, strictly ascending. Where memory is refused, tree
-    /// and pass come back as they were.
-    pub fn close(self, pass: Pass<A>) -> Result<Vec<u64, A>, (Tree<A>, Pass<A>, NoMemory)>
+    /// Ends the tree, by a pass that owns all its keys: those that are present with their values, the keys strictly ascending. Where
+    /// memory is refused, tree and pass come back as they were.
+    pub fn close(self, pass: Pass<A>) -> Result<Vec<(u64, u64), A>, (Tree<A>, Pass<A>, NoMemory)>
         requires own { pass.table ≡ self.id }
         requires idle { IsIdle pass }
         requires all { All (λ k. Owns pass k) self.keys }
-        ensures keys { IfOk result (λ keys. ClosesTo self pass keys.items) }
+        ensures pairs { IfOk result (λ pairs. ClosesTo self pass pairs.items) }
         ensures refused { IfErr result (λ refused. (refused.0 ≡ self) × (refused.1 ≡ pass)) }
     {
         let places = self.table.last_card() as usize + 2;
-        let Ok((waiting, keys)) = lists(self.alloc, places, pass.keys().len()) else {
+        let Ok((waiting, pairs)) = lists(self.alloc, places, pass.keys().len()) else {
             return Err((self, pass, NoMemory));
         };
         let Tree { table, alloc: _ } = self;
         let closed = table.close(pass);
-        Ok(keys_of_tree(&closed, waiting, keys))
+        Ok(pairs_of_tree(&closed, waiting, pairs))
     }
 }
 
-// Two empty lists, with room for so many nodes and so many keys.
+// Two empty lists, with room for so many nodes and so many keys with their values.
 fn lists<A: Allocator + Copy>(
     alloc: A,
     nodes: usize,
     keys: usize,
-) -> Result<(Vec<u64, A>, Vec<u64, A>), AllocError>
+) -> Result<(Vec<u64, A>, Vec<(u64, u64), A>), AllocError>
     ensures nodes { IfOk result (λ made. (made.0.items ≡ []) × (nodes ≤ vec_capacity made.0)) }
-    ensures keys { IfOk result (λ made. (made.1.items ≡ []) × (keys ≤ vec_capacity made.1)) }
+    ensures pairs { IfOk result (λ made. (made.1.items ≡ []) × (keys ≤ vec_capacity made.1)) }
 {
     let nodes = Vec::with_capacity(alloc, nodes)?;
-    let keys = Vec::with_capacity(alloc, keys)?;
-    Ok((nodes, keys))
+    let pairs = Vec::with_capacity(alloc, keys)?;
+    Ok((nodes, pairs))
 }

@@ -1,6 +1,6 @@
 //! Times a tree that threads share: its reservation, inserts of all keys, finds, and finds mixed with inserts and deletes, where
-//! each thread has a stripe of the keys. Standard output has how many operations were answered with yes, and how many had no
-//! answer, and standard error the four times, in nanoseconds.
+//! each thread has a stripe of the keys. Standard output has how many operations were answered with yes or a value, the sum of those
+//! values, and how many operations had no answer, and standard error the four times, in nanoseconds.
 #![tactic(auto)]
 
 mod sizes;

@@ -3,7 +3,7 @@ ghost use Rattle.std.specs.Prelude.{◌<◌, length};
 ghost use Rattle.ell_tree_bench.specs.Ready.{IsReady};
 
 use crate::tally::Tally;
-use ell_tree::{Held, Pass, Tree};
+use ell_tree::{Pass, Tree};
 use ell_word::NoGate;
 use std::alloc::Global;
 
@@ -52,6 +52,11 @@ fn next_number(number: u64) -> u64 {
         .wrapping_add(1_442_695_040_888_963_407)
 }
 
+// The value that a key is first inserted with.
+fn first_value(key: u64) -> u64 {
+    key.wrapping_mul(3).wrapping_add(1)
+}
+
 #[tactic(auto, using(crate::proofs::Readiness::ready_ended))]
 fn insert_all(tree: &Tree<Global>, pass: &mut Pass<Global>, keys: &[u64]) -> Tally
     requires some { 0 < length keys.now }
@@ -62,7 +67,8 @@ fn insert_all(tree: &Tree<Global>, pass: &mut Pass<Global>, keys: &[u64]) -> Tal
     let mut place = 0;
     for _ in 0..keys.len() {
         place = next_place(place, keys.len());
-        tally.count(tree.insert(pass, keys[place], 0, TRIES, &NoGate));
+        let key = keys[place];
+        tally.count_change(tree.insert(pass, key, first_value(key), TRIES, &NoGate));
     }
     tally
 }
@@ -78,7 +84,7 @@ fn find_many(tree: &Tree<Global>, pass: &mut Pass<Global>, keys: &[u64], count: 
     for _ in 0..count {
         number = next_number(number);
         let key = keys[(number >> 32) as usize % keys.len()];
-        tally.count(Ok(tree.find(pass, key, &NoGate)));
+        tally.count_find(tree.find(pass, key, &NoGate));
     }
     tally
 }
@@ -92,27 +98,28 @@ fn do_mixed(tree: &Tree<Global>, pass: &mut Pass<Global>, keys: &[u64], count: u
     let mut number = 0;
     for _ in 0..count {
         number = next_number(number);
-        tally.count(do_one(tree, pass, keys, number));
+        do_one(tree, pass, keys, number, &mut tally);
     }
     tally
 }
 
-// The mixed operation that a number stands for.
+// The mixed operation that a number stands for. An insert gives its key the number as a value.
 #[tactic(auto, using(crate::proofs::Readiness::ready_answered, crate::proofs::Readiness::ready_ended))]
 fn do_one(
     tree: &Tree<Global>,
     pass: &mut Pass<Global>,
     keys: &[u64],
     number: u64,
-) -> Result<bool, Held>
+    tally: &mut Tally,
+)
     requires some { 0 < length keys.now }
     requires ready { IsReady tree.now pass.old keys.now }
     ensures { IsReady tree.now pass.new keys.now }
 {
     let key = keys[(number >> 32) as usize % keys.len()];
     match number >> 62 {
-        0 => tree.insert(pass, key, 0, TRIES, &NoGate),
-        1 => tree.delete(pass, key, TRIES, &NoGate),
-        _ => Ok(tree.find(pass, key, &NoGate)),
+        0 => tally.count_change(tree.insert(pass, key, number, TRIES, &NoGate)),
+        1 => tally.count_change(tree.delete(pass, key, TRIES, &NoGate)),
+        _ => tally.count_find(tree.find(pass, key, &NoGate)),
     }
 }

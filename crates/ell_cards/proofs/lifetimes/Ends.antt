@@ -14,10 +14,10 @@ use Rattle.ell_core.proofs.following.Reliance.{owner_finds_clean}
 use Rattle.ell_cards.specs.declared.view.View.{View}
 use Rattle.ell_cards.specs.Models.{IsFree}
 use Rattle.ell_cards.specs.Rule.{TableState, seat_worker, seated, Kept}
-use Rattle.ell_cards.specs.Ends.{SameNode, ShowsSet, Ends}
+use Rattle.ell_cards.specs.Ends.{SameNode, ShowsMap, Ends}
 use Rattle.ell_cards.proofs.seats.Seats.{mine_is, mine_sound}
 use Rattle.ell_cards.specs.OwnWords.{own_words}
-use Rattle.ell_cards.proofs.own_words.OwnTree.{key_same, child_same, update_same, reached_same}
+use Rattle.ell_cards.proofs.own_words.OwnTree.{key_same, value_same, child_same, update_same, reached_same}
 use Rattle.ell_cards.proofs.own_words.OwnWords.{same_next, same_card, own_words_are_sound}
 use Rattle.ell_cards.proofs.own_words.OwnLedgers.{ledgers_tell_the_tree}
 
@@ -33,6 +33,7 @@ module _ (keys : List ℕ) (cards : ℕ) (s : TableState) (r : Kept keys cards s
       let same = same_card keys cards s r in
       let born = reached_born r.words r.stages sound x reached in record {
         key = key_same r.words (own_words s) r.stages sound same x born;
+        value = λ outer. value_same r.words (own_words s) r.stages sound same x outer born;
         child = λ inner right. child_same r.words (own_words s) r.stages sound same x right inner born;
         update = λ inner. update_same r.words (own_words s) r.stages sound same x inner born;
       }
@@ -61,7 +62,7 @@ module _ (keys : List ℕ) (cards : ℕ) (s : TableState) (r : Kept keys cards s
   reached_back x h = (reached_same r.words (own_words s) r.stages r.invariant.words (same_card keys cards s r) x).1 h
 
   -- the tree of the list
-  shows : ShowsSet keys v.worker.ledger (record { words = s.words; last_card = cards })
+  shows : ShowsMap keys v.worker.ledger (record { words = s.words; last_card = cards })
   shows =
       let is = own_words_are_sound keys cards s r in record {
         size = r.size;
@@ -70,7 +71,7 @@ module _ (keys : List ℕ) (cards : ℕ) (s : TableState) (r : Kept keys cards s
         clean = λ x h inner. subst IsClean (sym ((same_node x (reached_back x h)).update inner))
             (owner_finds_clean machine r.stages id r.invariant owns_all x (reached_back x h) inner);
         owned = λ k h. let by = is.ledgers.owned k h in owned_listed by.worker k by.owns;
-        present = λ k at. ledgers_tell_the_tree keys cards s r id v here free k (owns_each k at);
+        present = λ k value at. ledgers_tell_the_tree keys cards s r id v here free k value (owns_each k at);
       }
 
   -- how the table ends

@@ -26,18 +26,18 @@ use Rattle.ell_cards.proofs.words.Keys.{owned_among, among_contains}
 use Rattle.ell_cards.proofs.lifetimes.Idle.{rest_holds, root_named, met_root}
 
 -- the first pass as a worker, and nobody else
-alone : (keys start : List ℕ) (i : ℕ)
+alone : (keys : List ℕ) (start : List (ℕ × ℕ)) (i : ℕ)
     → seat_worker (get_elem? (first_view keys start ∷ []) i) ≡ first_alone (idle (ledger_of (keys_at_start keys start)) (λ _. false)) i
 alone keys start zero = refl
 alone keys start (suc i) = refl
 
 -- the machine of the first pass is the opening of one worker
-one_opens : (keys start : List ℕ) (cards : ℕ)
+one_opens : (keys : List ℕ) (start : List (ℕ × ℕ)) (cards : ℕ)
     → opening_of_one keys start cards ≡ seated (start_words start) (first_view keys start ∷ []) (last_card start cards)
 one_opens keys start cards = λ t. record { words = start_words start; worker = λ i. sym (alone keys start i) t; count = 1; last_card = last_card start cards }
 
 -- the keys of the first pass
-pub keys_start : (keys start : List ℕ) → keys_of (keys_at_start keys start) ≡ keys
+pub keys_start : (keys : List ℕ) (start : List (ℕ × ℕ)) → keys_of (keys_at_start keys start) ≡ keys
 keys_start [] start = refl
 keys_start (k ∷ ks) start = ap (λ l. k ∷ l) (keys_start ks start)
 
@@ -47,7 +47,7 @@ each_first first P h zero v e = subst P (some-injective _ _ e) h
 each_first first P h (suc j) v e = absurd (some-ne-none v (sym e))
 
 -- the rule holds of an opening table and its first pass, whose cards have won nothing
-pub opening_is_kept : (keys start : List ℕ) (cards : ℕ) (words : List ℕ) → MayStart keys start → StartWords start cards words
+pub opening_is_kept : (keys : List ℕ) (start : List (ℕ × ℕ)) (cards : ℕ) (words : List ℕ) → MayStart keys start → StartWords start cards words
     → StartIsKept keys start cards (opening words [] (first_view keys start))
 opening_is_kept keys start cards words may at =
     let w = start_words start in
@@ -76,7 +76,7 @@ opening_is_kept keys start cards words may at =
     }
 
 -- so it does by the last card
-pub kept_up_to : (keys start : List ℕ) (last : ℕ) (words : List ℕ) → MayStart keys start → length start ≤ last → length words ≡ table_size last
+pub kept_up_to : (keys : List ℕ) (start : List (ℕ × ℕ)) (last : ℕ) (words : List ℕ) → MayStart keys start → length start ≤ last → length words ≡ table_size last
     → words_of words ≡ start_words start → Kept keys last (opening words [] (first_view keys start))
 kept_up_to keys start last words may room size are =
     let all : last_card start (last - length start) ≡ last = omega arith in
@@ -84,7 +84,7 @@ kept_up_to keys start last words may room size are =
     subst (λ n. Kept keys n (opening words [] (first_view keys start))) all (opening_is_kept keys start (last - length start) words may at).kept
 
 -- the first pass has its keys
-pub first_fits : (keys start : List ℕ) (words : ℕ) → IsStrictlyIncreasing keys → PassFits keys words (first_view keys start)
+pub first_fits : (keys : List ℕ) (start : List (ℕ × ℕ)) (words : ℕ) → IsStrictlyIncreasing keys → PassFits keys words (first_view keys start)
 first_fits keys start words rising = record {
   owned = sym (keys_start keys start);
   ascending = rising;

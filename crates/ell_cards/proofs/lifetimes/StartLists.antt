@@ -4,27 +4,27 @@ use Rattle.ell_core.specs.state.Layout.{table_size}
 use Rattle.ell_core.specs.state.Words.{words_of}
 use Rattle.ell_core.specs.state.Cards.{filled_list}
 use Rattle.ell_core.specs.state.Branches.{branch_of}
-use Rattle.ell_core.specs.state.Opening.{start_leaf, root_filling, branch_filling, last_card}
+use Rattle.ell_core.specs.state.Opening.{start_leaf, start_value, root_filling, branch_filling, last_card}
 use Rattle.ell_core.proofs.words.Listed.{length_after_fields, words_after_fields}
 use Rattle.ell_core.proofs.opening.Growing.{growing, rooted_words, grows, grown_up}
 use Rattle.ell_cards.specs.Starts.{StartWords}
 
 -- zeros with the claim word and the fields of card 0, and then of so many cards more of the opening tree
-listed_up_to : List ℕ → ℕ → ℕ → List ℕ
+listed_up_to : List (ℕ × ℕ) → ℕ → ℕ → List ℕ
 listed_up_to start size zero = filled_list (slice_set (replicate size 0) 0 (length start + 1)) 0 (root_filling (length start))
-listed_up_to start size (suc n) = filled_list (listed_up_to start size n) (suc n) (branch_filling (start_leaf start) (branch_of (length start + 1) (suc n)))
+listed_up_to start size (suc n) = filled_list (listed_up_to start size n) (suc n) (branch_filling (start_leaf start) (start_value start) (branch_of (length start + 1) (suc n)))
 
-size_stays : (start : List ℕ) (size n : ℕ) → length (listed_up_to start size n) ≡ size
+size_stays : (start : List (ℕ × ℕ)) (size n : ℕ) → length (listed_up_to start size n) ≡ size
 unfolding listed_up_to
 size_stays start size zero =
     length_after_fields (slice_set (replicate size 0) 0 (length start + 1)) 0 (root_filling (length start))
     ∙ (length-set (replicate {A = ℕ} size 0) 0 (length start + 1) ∙ length-replicate {A = ℕ} size 0)
 size_stays start size (suc n) =
-    length_after_fields (listed_up_to start size n) (suc n) (branch_filling (start_leaf start) (branch_of (length start + 1) (suc n)))
+    length_after_fields (listed_up_to start size n) (suc n) (branch_filling (start_leaf start) (start_value start) (branch_of (length start + 1) (suc n)))
     ∙ size_stays start size n
 
 -- they are the words that the opening tree has so far
-words_grow : (start : List ℕ) (last n : ℕ) → n ≤ last → words_of (listed_up_to start (table_size last) n) ≡ growing start (n + 1)
+words_grow : (start : List (ℕ × ℕ)) (last n : ℕ) → n ≤ last → words_of (listed_up_to start (table_size last) n) ≡ growing start (n + 1)
 unfolding listed_up_to
 words_grow start last zero low =
     words_after_fields (slice_set (replicate (table_size last) 0) 0 (length start + 1)) last 0 (root_filling (length start))
@@ -33,14 +33,14 @@ words_grow start last zero low =
 words_grow start last (suc n) low =
     grows start (suc n) (words_of (listed_up_to start (table_size last) n)) (words_of (listed_up_to start (table_size last) (suc n))) (omega arith)
     (let next : n + 1 ≡ suc n = omega arith in words_grow start last n (omega arith) ∙ ap (growing start) next)
-    (words_after_fields (listed_up_to start (table_size last) n) last (suc n) (branch_filling (start_leaf start) (branch_of (length start + 1) (suc n)))
+    (words_after_fields (listed_up_to start (table_size last) n) last (suc n) (branch_filling (start_leaf start) (start_value start) (branch_of (length start + 1) (suc n)))
     (size_stays start (table_size last) n) low)
 
 -- a list of the words at the start
-pub start_list : List ℕ → ℕ → List ℕ
+pub start_list : List (ℕ × ℕ) → ℕ → List ℕ
 start_list start cards = listed_up_to start (table_size (last_card start cards)) (length start)
 
-pub start_list_starts : (start : List ℕ) (cards : ℕ) → StartWords start cards (start_list start cards)
+pub start_list_starts : (start : List (ℕ × ℕ)) (cards : ℕ) → StartWords start cards (start_list start cards)
 unfolding start_list
 start_list_starts start cards = record {
   size = size_stays start (table_size (last_card start cards)) (length start);

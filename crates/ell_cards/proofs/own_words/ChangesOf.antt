@@ -9,7 +9,7 @@ use Rattle.ell_core.specs.declared.event.Act.{Act}
 use Rattle.ell_core.specs.declared.event.Act.TheVariants as act
 use Rattle.ell_core.specs.state.Words.{Words}
 use Rattle.ell_core.specs.state.Machine.{Worker, worker_of}
-use Rattle.ell_core.specs.state.Cards.{card_key}
+use Rattle.ell_core.specs.state.Cards.{card_key, card_value}
 use Rattle.ell_core.specs.acts.Exchanges.{won_or_lost}
 use Rattle.ell_core.specs.soundness.Sound.{IsInHand}
 use Rattle.ell_core.specs.history.Stages.{Stage, Stages, is_insert, is_delete, insert_open, delete_open}
@@ -19,7 +19,7 @@ use Rattle.ell_core.proofs.following.Lawful.{events_lawful}
 use Rattle.ell_core.proofs.outcomes.Decide.{cases_option, some_not_none}
 use Rattle.ell_core.proofs.stages.Holding.{insert_kind, delete_kind}
 use Rattle.ell_core.proofs.stages.Order.{insert_open-insert, delete_open-delete, insert_won-insert, delete_won-delete}
-use Rattle.ell_core.proofs.words.Sides.{card_key-insert, card_key-delete}
+use Rattle.ell_core.proofs.words.Sides.{card_key-insert, card_value-insert, card_key-delete}
 use Rattle.ell_cards.specs.declared.call.Call.TheVariants as call
 use Rattle.ell_cards.specs.declared.view.View.{View}
 use Rattle.ell_cards.specs.Calls.{Becomes}
@@ -27,7 +27,7 @@ use Rattle.ell_cards.specs.Rule.{TableState, seat_worker, Kept}
 use Rattle.ell_cards.specs.Laws.{machine_of, found_by, state_after}
 use Rattle.ell_cards.specs.OwnWords.{IsAtWork, ChangeIsOf, TableChangesAreOperations}
 use Rattle.ell_cards.proofs.stepping.AllCalls.{steps_are_events}
-use Rattle.ell_cards.proofs.own_words.OwnWords.{own_card_key}
+use Rattle.ell_cards.proofs.own_words.OwnWords.{own_card_key, own_card_value}
 use Rattle.ell_cards.proofs.seats.Seats.{mine_sound}
 
 -- a card that wins its ichild has its insert's flag standing
@@ -52,10 +52,11 @@ busy_with w stage v c sound has = elim (cases_option v.operation) [
 module _ (keys : List ℕ) (cards : ℕ) (s : TableState) (r : Kept keys cards s) where
   -- the operation of a flagged card, by its kind
   inserts : (v : Worker) (op : Op) (c : ℕ) → is_insert (r.stages c) ≡ true → Flagged r.words r.stages v op c
-      → (value : ℕ) × (op ≡ Insert (card_key r.words c) value)
+      → op ≡ Insert (card_key r.words c) (card_value r.words c)
   inserts v (Find k) c is h = absurd h
   inserts v (Insert k value) c is h =
-      (value, ap (λ key. Insert key value) (sym h.1 ∙ sym (card_key-insert r.words c (insert_kind r.words r.stages r.invariant.words c is))))
+      let kind = insert_kind r.words r.stages r.invariant.words c is in
+      λ i. Insert (sym (card_key-insert r.words c kind ∙ h.1) i) (sym (card_value-insert r.words c kind ∙ h.2) i)
   inserts v (Delete k) c is h = absurd (one_kind (r.stages c) is (delete_won-delete (r.stages c) h.0))
 
   deletes : (v : Worker) (op : Op) (c : ℕ) → is_delete (r.stages c) ≡ true → Flagged r.words r.stages v op c → op ≡ Delete (card_key r.words c)
@@ -103,10 +104,11 @@ table_changes_are_operations keys cards s r id v (call.IChild c p l right) here 
     by r' true h =
         let won = won_by keys cards s r id (act.IChild c) c kind.IChild (state_after s id v (call.IChild c p l right)) r' h (one_win c kind.IChild) in
         let opened = before_ichild (r.stages c) won.0 won.1 in
-        let work = at_work keys cards s r c (λ o. (value : ℕ) × (o ≡ Insert (card_key r.words c) value))
+        let work = at_work keys cards s r c (λ o. o ≡ Insert (card_key r.words c) (card_value r.words c))
         (λ u o f. inserts keys cards s r u o c (insert_open-insert (r.stages c) opened) f) (r.invariant.workers.insert_in_hand c opened) in
-        let own = own_card_key keys cards s r id c v here (inl may.knows) in
-        (work.1.0, subst (IsAtWork s c) (work.1.1 ∙ ap (λ key. Insert key work.1.0) (sym own)) work.2)
+        let key = own_card_key keys cards s r id c v here (inl may.knows) in
+        let value = own_card_value keys cards s r id c v here (inl may.knows) in
+        subst (IsAtWork s c) (work.1 ∙ (λ i. Insert (sym key i) (sym value i))) work.2
     by r' false h = tt
 table_changes_are_operations keys cards s r id v (call.DChild c gp p y right) here may =
     let step = steps_are_events keys cards s r id v (call.DChild c gp p y right) here may in by step.kept (found_by s (call.DChild c gp p y right) == p) step.event

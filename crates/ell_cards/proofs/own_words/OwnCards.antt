@@ -8,7 +8,8 @@ use Rattle.ell_core.specs.declared.fact.Fact.TheVariants as fact
 use Rattle.ell_core.specs.declared.field.Field.TheVariants as field
 use Rattle.ell_core.specs.state.Words.{Words}
 use Rattle.ell_core.specs.state.Machine.{Worker}
-use Rattle.ell_core.specs.state.Cards.{iflag, dflag, marked, is_delete_card, card_key, card_child}
+use Rattle.ell_core.specs.state.Cards.{iflag, dflag, marked, is_delete_card, card_key, card_value, card_child}
+use Rattle.ell_core.specs.acts.Searching.{IsLeaf}
 use Rattle.ell_core.specs.state.Facts.{card_of_fact}
 use Rattle.ell_core.specs.soundness.Holds as phases
 use Rattle.ell_core.specs.soundness.Holds.{IFlagHolds, IChangeHolds, DFlagHolds, MarkHolds, UnmarkableHolds, CutHolds, Holds, insert_phase, open_delete_phase, delete_phase, phase, Phase, settled, with_settled, effective_of, effective}
@@ -17,7 +18,7 @@ use Rattle.ell_core.specs.history.Stages.{Stage, Stages, allows, waits, is_claim
 use Rattle.ell_core.specs.history.Invariant.{WordsAreSound}
 use Rattle.ell_core.specs.history.Later.{SaysTheSame}
 use Rattle.ell_core.specs.statements.StepLaws.{MayRead, GoesInTree}
-use Rattle.ell_cards.proofs.own_words.OwnTree.{key_same, child_same, update_same}
+use Rattle.ell_cards.proofs.own_words.OwnTree.{key_same, value_same, child_same, update_same}
 
 -- a card of which a fact may be known does not wait
 pub allowed_settled : (f : Fact) (s : Stage) → allows f s ≡ true → waits s ≡ false
@@ -43,6 +44,14 @@ module _ (w t : Words) (stage : Stages) (sound : WordsAreSound w stage) (same : 
   pub card_key_same : card_key t c ≡ card_key w c
   card_key_same = λ i. if is_delete_same i then leaf_key_same i
       else (if here field.LeftLeafKey i == leaf_key_same i then here field.RightLeafKey i else here field.LeftLeafKey i)
+
+  -- its value, where it goes to a leaf
+  leaf_value_same : IsLeaf (w.l c) → t.value (t.l c) ≡ w.value (w.l c)
+  leaf_value_same outer = ap t.value (here field.L) ∙ value_same w t stage sound same (w.l c) outer goes.leaf
+
+  pub card_value_same : IsLeaf (w.l c) → card_value t c ≡ card_value w c
+  card_value_same outer = λ i. if is_delete_same i then leaf_value_same outer i
+      else (if here field.LeftLeafKey i == leaf_key_same i then here field.RightValue i else here field.LeftValue i)
 
   -- the update word at a node where it goes
   update_there : (x y : ℕ) → x ≡ y → MayRead w stage y → t.update x ≡ w.update y
@@ -138,7 +147,7 @@ effective_same w t v same = by v.operation v.card v.flagged same
   where
     by : (o : Option Op) (card : Option ℕ) (flagged : Bool) → ((c : ℕ) → card ≡ Some c → flagged ≡ true → phase t c ≡ phase w c)
         → effective_of t v.ledger o card flagged ≡ effective_of w v.ledger o card flagged
-    by (Some op) (Some c) true h = ap (λ (p : Phase). with_settled v.ledger (key_of op) (settled p)) (h c refl refl)
+    by (Some op) (Some c) true h = ap (λ (p : Phase). with_settled v.ledger (key_of op) (settled op p)) (h c refl refl)
     by (Some op) (Some c) false h = refl
     by (Some op) None flagged h = refl
     by None card flagged h = refl

@@ -11,30 +11,30 @@ use Rattle.ell_cards.specs.declared.view.View.{View}
 use Rattle.ell_cards.specs.Models.{IsFree}
 use Rattle.ell_cards.specs.Rule.{TableState, seat_worker}
 use Rattle.ell_cards.specs.Laws.{found_by}
-use Rattle.ell_cards.specs.OwnWords.{own_words, TableAnswersAreTheSets, LedgersTellTheTree, IsOwnedKey, TreeKeysAreOwned}
+use Rattle.ell_cards.specs.OwnWords.{own_words, TableAnswersAreTheMaps, LedgersTellTheTree, IsOwnedKey, TreeKeysAreOwned}
 use Rattle.ell_cards.proofs.stepping.AllCalls.{steps_are_events}
 use Rattle.ell_cards.proofs.seats.LedgersStay.{claim_ledger, flag_ledger, mark_ledger}
 use Rattle.ell_cards.proofs.own_words.OwnWords.{own_words_are_sound}
 
-pub table_answers_are_the_sets : TableAnswersAreTheSets
-table_answers_are_the_sets keys cards s r id v (call.Answer said) here may = (steps_are_events keys cards s r id v (call.Answer said) here may).tells
-table_answers_are_the_sets keys cards s r id v (call.Claim c) here may = claim_ledger (found_by s (call.Claim c) == c) c v
-table_answers_are_the_sets keys cards s r id v (call.IFlag c p from) here may =
+pub table_answers_are_the_maps : TableAnswersAreTheMaps
+table_answers_are_the_maps keys cards s r id v (call.Answer said) here may = (steps_are_events keys cards s r id v (call.Answer said) here may).tells
+table_answers_are_the_maps keys cards s r id v (call.Claim c) here may = claim_ledger (found_by s (call.Claim c) == c) c v
+table_answers_are_the_maps keys cards s r id v (call.IFlag c p from) here may =
     let n = found_by s (call.IFlag c p from) in flag_ledger (n == packed from) (IFlagged c) p (unpacked n) v
-table_answers_are_the_sets keys cards s r id v (call.DFlag c gp from) here may =
+table_answers_are_the_maps keys cards s r id v (call.DFlag c gp from) here may =
     let n = found_by s (call.DFlag c gp from) in flag_ledger (n == packed from) (DFlagged c) gp (unpacked n) v
-table_answers_are_the_sets keys cards s r id v (call.Mark c p was) here may =
+table_answers_are_the_maps keys cards s r id v (call.Mark c p was) here may =
     let n = found_by s (call.Mark c p was) in mark_ledger (n == was) c p (unpacked n) v
-table_answers_are_the_sets keys cards s r id v _ here may = refl
+table_answers_are_the_maps keys cards s r id v _ here may = refl
 
 -- a worker with nothing in hand has its ledger for its effective one
 free_effective : (s : TableState) (v : View) → IsFree v → effective (own_words s) (worker_of v.worker) ≡ ledger_of v.worker.ledger
 free_effective s v free = ap (λ o. effective_of (own_words s) (ledger_of v.worker.ledger) o v.worker.card v.worker.flagged) free
 
 pub ledgers_tell_the_tree : LedgersTellTheTree
-ledgers_tell_the_tree keys cards s r id v here free key owns =
+ledgers_tell_the_tree keys cards s r id v here free key value owns =
     let mine = ap seat_worker here in
-    let present = (own_words_are_sound keys cards s r).ledgers.present id key (subst (λ (u : Worker). Owns u key) (sym mine) owns) in
+    let present = (own_words_are_sound keys cards s r).ledgers.present id key value (subst (λ (u : Worker). Owns u key) (sym mine) owns) in
     let same = ap (λ (u : Worker). effective (own_words s) u key) mine ∙ ap (λ l. l key) (free_effective s v free) in
     (λ there. sym same ∙ present.0 there, λ is. present.1 (same ∙ is))
 

@@ -14,7 +14,7 @@ use Rattle.ell_core.specs.statements.StepLaws.{GoesInTree}
 use Rattle.ell_core.proofs.following.Reliance.{may_rely}
 use Rattle.ell_core.proofs.following.Sound.{sound}
 use Rattle.ell_core.proofs.following.waiting.Cards.{flagged_settled, hand_claimed}
-use Rattle.ell_cards.proofs.own_words.OwnTree.{update_same, reached_same, reached_born, finds_same, joins_same, keys_same, lawful_same}
+use Rattle.ell_cards.proofs.own_words.OwnTree.{update_same, reached_same, reached_born, finds_same, joins_same, same_keys, pairs_same, lawful_same}
 use Rattle.ell_cards.proofs.own_words.OwnCards.{allowed_settled, allowed_claimed, phase_same, place_same, fact_same, effective_same}
 
 -- a machine that the invariant holds of, and other words that say the same at each card that does not wait
@@ -46,11 +46,11 @@ module _ (m : Machine) (t : Words) (stage : Stages) (holds : Invariant m stage) 
   own_ledgers : LedgersAreSound own
   own_ledgers = record {
     one_owner = was.ledgers.one_owner;
-    owned = λ key held. let by = was.ledgers.owned key ((keys_same m.words t stage holds.words same key).1 held) in
+    owned = λ key held. let by = was.ledgers.owned key ((same_keys t m.words (pairs_same m.words t stage holds.words same) key).1 held) in
         record { worker = by.worker; owns = by.owns };
-    present = λ i key owns.
-        let tree = keys_same m.words t stage holds.words same key in
-        let says = was.ledgers.present i key owns in
+    present = λ i key value owns.
+        let tree = pairs_same m.words t stage holds.words same key value in
+        let says = was.ledgers.present i key value owns in
         let ledger = ap (λ l. l key) (own_effective i) in
         (λ held. ledger ∙ says.0 (tree.1 held), λ is. tree.0 (says.1 (sym ledger ∙ is)));
   }
@@ -58,9 +58,10 @@ module _ (m : Machine) (t : Words) (stage : Stages) (holds : Invariant m stage) 
   own_walks : WalksAreSound own
   own_walks i op x busy stands =
       let born = ((holds.workers.each i).stands op x busy stands).born in
-      let walk = was.walks i op x busy stands in
-      let finds = finds_same m.words t stage holds.words same (key_of op) x born in record {
-        finds = (λ h. walk.finds.0 (finds.1 h), λ h. finds.0 (walk.finds.1 h));
+      let walk = was.walks i op x busy stands in record {
+        finds = λ value.
+            let finds = finds_same m.words t stage holds.words same (key_of op) value x born in
+            (λ h. (walk.finds value).0 (finds.1 h), λ h. finds.0 ((walk.finds value).1 h));
         joins = joins_same m.words t stage holds.words same (key_of op) x born walk.joins;
       }
 

@@ -2,15 +2,24 @@ use Rattle.std.proofs.Common.{◌≡◌, ℕ, ◌%◌, ◌<◌, ◌≤◌, ◌�
 use Rattle.ell_ops.specs.Meaning.{greatest_key}
 use Rattle.ell_word.specs.Node.{IsInternal, card, right_leaf}
 use Rattle.ell_core.specs.declared.field.Field.TheVariants.{Update}
-use Rattle.ell_core.specs.state.Words.{Words, key_field, child_field}
+use Rattle.ell_core.specs.state.Words.{Words, key_field, value_field, child_field}
 use Rattle.ell_core.specs.state.Cards.{child_for}
-use Rattle.ell_core.specs.tree.Tree.{OnWalk, here, next, Finds, Leads, Below, Reached, HasGrandparent, LeftIsLawful, IsLawful}
+use Rattle.ell_core.specs.acts.Searching.{IsLeaf}
+use Rattle.ell_core.specs.tree.Tree.{OnWalk, here, next, Finds, Leads, Below, Reached, IsTreeKey, HasGrandparent, LeftIsLawful, IsLawful}
 use Rattle.ell_core.specs.history.Stages.{Stages, is_born, waits, Born}
 use Rattle.ell_core.specs.history.Invariant.{WordsAreSound}
 use Rattle.ell_core.specs.history.Later.{SaysTheSame}
-use Rattle.ell_core.specs.statements.StepLaws.{SameKeys}
-use Rattle.ell_core.proofs.words.Writes.{key_at_node, child_at_node, update_at_node}
+use Rattle.ell_core.specs.statements.StepLaws.{SamePairs}
+use Rattle.ell_core.proofs.words.Writes.{key_at_node, value_at_leaf, child_at_node, update_at_node}
 use Rattle.ell_core.proofs.stages.Waiting.{born-settled}
+use Rattle.ell_core.proofs.tree.Reached.{pair_key, key_pair}
+
+-- trees of the same keys with the same values have the same keys
+pub same_keys : (old new : Words) → SamePairs old new → (k : ℕ) → IsTreeKey new k ↔ IsTreeKey old k
+same_keys old new same k = (
+  λ h. let pair = key_pair new k h in pair_key old k pair.0 ((same k pair.0).0 pair.1),
+  λ h. let pair = key_pair old k h in pair_key new k pair.0 ((same k pair.0).1 pair.1),
+)
 
 -- sound words w, and others, t, that say the same at each card that does not wait
 module _ (w t : Words) (stage : Stages) (sound : WordsAreSound w stage) (same : (c : ℕ) → waits (stage c) ≡ false → SaysTheSame w t c) where
@@ -20,6 +29,9 @@ module _ (w t : Words) (stage : Stages) (sound : WordsAreSound w stage) (same : 
 
   pub key_same : (x : ℕ) → Born stage x → t.key x ≡ w.key x
   key_same x born = key_at_node t x ∙ (at_card x born (key_field (x % 3)) ∙ sym (key_at_node w x))
+
+  pub value_same : (x : ℕ) → IsLeaf x → Born stage x → t.value x ≡ w.value x
+  value_same x outer born = value_at_leaf t x outer ∙ (at_card x born (value_field (x % 3)) ∙ sym (value_at_leaf w x outer))
 
   pub child_same : (x : ℕ) (right : Bool) → IsInternal x → Born stage x → t.child x right ≡ w.child x right
   child_same x right inner born =
@@ -93,20 +105,22 @@ module _ (w t : Words) (stage : Stages) (sound : WordsAreSound w stage) (same : 
   walk_born k born (here e) = subst (Born stage) (sym e) born
   walk_born k {x = x} born (next inner rest) = walk_born k (child_born x (nat_le (w.key x) k) inner born) rest
 
-  -- the same keys are found
-  pub finds_same : (k x : ℕ) → Born stage x → Finds w k x ↔ Finds t k x
-  finds_same k x born = (
-    λ h. record {
+  -- the same keys are found, with the same values
+  pub finds_same : (k value x : ℕ) → Born stage x → Finds w k value x ↔ Finds t k value x
+  finds_same k value x born = (
+    λ h. let there = walk_born k born h.on in record {
       leaf = h.leaf;
       on = walk_on k born h.on;
       outer = h.outer;
-      has = key_same h.leaf (walk_born k born h.on) ∙ h.has;
+      has = key_same h.leaf there ∙ h.has;
+      says = value_same h.leaf h.outer there ∙ h.says;
     },
-    λ h. let on = walk_back k born h.on in record {
+    λ h. let on = walk_back k born h.on in let there = walk_born k born on in record {
       leaf = h.leaf;
       on = on;
       outer = h.outer;
-      has = sym (key_same h.leaf (walk_born k born on)) ∙ h.has;
+      has = sym (key_same h.leaf there) ∙ h.has;
+      says = sym (value_same h.leaf h.outer there) ∙ h.says;
     },
   )
 
@@ -115,21 +129,23 @@ module _ (w t : Words) (stage : Stages) (sound : WordsAreSound w stage) (same : 
       → (y : ℕ) → OnWalk t k x y → Reached t y → OnWalk t k 0 y
   joins_same k x born h y on reached = walk_on k root_born (h y (walk_back k born on) (below_back 0 root_born y reached))
 
-  -- the trees have the same keys
-  pub keys_same : SameKeys t w
-  keys_same k = (
-    λ h. record {
+  -- the trees have the same keys with the same values
+  pub pairs_same : SamePairs t w
+  pairs_same k value = (
+    λ h. let there = leads_born 0 root_born h.reached.path h.leaf h.reached.leads in record {
       leaf = h.leaf;
       reached = below_on 0 root_born h.leaf h.reached;
       outer = h.outer;
-      has = key_same h.leaf (leads_born 0 root_born h.reached.path h.leaf h.reached.leads) ∙ h.has;
+      has = key_same h.leaf there ∙ h.has;
+      says = value_same h.leaf h.outer there ∙ h.says;
       real = h.real;
     },
-    λ h. record {
+    λ h. let there = reached_born h.leaf h.reached in record {
       leaf = h.leaf;
       reached = below_back 0 root_born h.leaf h.reached;
       outer = h.outer;
-      has = sym (key_same h.leaf (reached_born h.leaf h.reached)) ∙ h.has;
+      has = sym (key_same h.leaf there) ∙ h.has;
+      says = sym (value_same h.leaf h.outer there) ∙ h.says;
       real = h.real;
     },
   )

@@ -1,13 +1,14 @@
-use Rattle.std.proofs.Common.{◌≡◌, ℕ, false, List, sym, ◌∙◌}
+use Rattle.std.proofs.Common.{◌≡◌, ℕ, false, List, sym, ◌∙◌, inl, inr}
 use mathlib.Core.Option.{some}
 use lib.ListN.{get_elem?}
 use Rattle.ell_word.specs.Node.{card}
 use Rattle.ell_word.specs.Word.{unpacked}
-use Rattle.ell_core.specs.state.Cards.{card_key}
+use Rattle.ell_core.specs.state.Cards.{card_key, card_value}
+use Rattle.ell_core.specs.acts.Searching.{IsLeaf}
 use Rattle.ell_core.specs.soundness.Sound.{IsSound}
 use Rattle.ell_core.specs.history.Stages.{waits}
 use Rattle.ell_core.specs.history.Later.{SaysTheSame}
-use Rattle.ell_core.specs.statements.StepLaws.{SameKeys}
+use Rattle.ell_core.specs.statements.StepLaws.{SamePairs, GoesInTree}
 use Rattle.ell_core.proofs.words.Listed.{words_are_listed, listed_next}
 use Rattle.ell_core.proofs.following.Reliance.{may_rely}
 use Rattle.ell_core.proofs.following.Sound.{sound}
@@ -17,10 +18,10 @@ use Rattle.ell_cards.specs.declared.view.View.{View}
 use Rattle.ell_cards.specs.Models.{KnowsCard}
 use Rattle.ell_cards.specs.Rule.{TableState, seated, Kept}
 use Rattle.ell_cards.specs.OwnWords.{own_words, own_machine, OwnWordsAreSound, RuleIsSound, WordsAreOwn, RuleHasOwnWords}
-use Rattle.ell_cards.proofs.stepping.Known.{known_settled, known_claimed}
+use Rattle.ell_cards.proofs.stepping.Known.{known_card, known_settled, known_claimed}
 use Rattle.ell_cards.proofs.seats.Seats.{mine_sound}
-use Rattle.ell_cards.proofs.own_words.OwnTree.{reached_same, reached_born, keys_same}
-use Rattle.ell_cards.proofs.own_words.OwnCards.{card_key_same}
+use Rattle.ell_cards.proofs.own_words.OwnTree.{reached_same, reached_born, pairs_same}
+use Rattle.ell_cards.proofs.own_words.OwnCards.{card_key_same, card_value_same}
 use Rattle.ell_cards.proofs.own_words.OwnSound.{own_sound}
 
 module _ (keys : List ℕ) (cards : ℕ) (s : TableState) (r : Kept keys cards s) where
@@ -38,15 +39,25 @@ module _ (keys : List ℕ) (cards : ℕ) (s : TableState) (r : Kept keys cards s
   sound_state : IsSound (own_machine cards s)
   sound_state = own_sound (seated r.words s.views cards) (own_words s) r.stages r.invariant same_next same_card
 
-  -- the trees have the same keys
-  pub own_keys : SameKeys (own_words s) r.words
-  own_keys = keys_same r.words (own_words s) r.stages r.invariant.words same_card
+  -- the trees have the same keys with the same values
+  pub own_pairs : SamePairs (own_words s) r.words
+  own_pairs = pairs_same r.words (own_words s) r.stages r.invariant.words same_card
 
-  -- the key of a card that a pass knows
-  pub own_card_key : (id c : ℕ) (v : View) → get_elem? s.views id ≡ some v → KnowsCard v c → card_key (own_words s) c ≡ card_key r.words c
-  own_card_key id c v here knows = card_key_same r.words (own_words s) r.stages r.invariant.words same_card c
-      (known_settled keys cards s r id v here c knows)
-      ((may_rely (seated r.words s.views cards) r.stages id r.invariant).goes c (known_claimed keys cards s r id v here c knows))
+  -- a card that a pass knows: where it goes, its key and its value
+  module _ (id c : ℕ) (v : View) (here : get_elem? s.views id ≡ some v) (knows : KnowsCard v c) where
+    known_goes : GoesInTree r.words r.stages c
+    known_goes = (may_rely (seated r.words s.views cards) r.stages id r.invariant).goes c (known_claimed keys cards s r id v here c knows)
+
+    known_leaf : IsLeaf (r.words.l c)
+    known_leaf = elim (known_card keys cards s r id v here c knows) [ inl i ↦ i.leaf.outer | inr d ↦ d.leaf.outer ]
+
+    pub own_card_key : card_key (own_words s) c ≡ card_key r.words c
+    own_card_key = card_key_same r.words (own_words s) r.stages r.invariant.words same_card c
+        (known_settled keys cards s r id v here c knows) known_goes
+
+    pub own_card_value : card_value (own_words s) c ≡ card_value r.words c
+    own_card_value = card_value_same r.words (own_words s) r.stages r.invariant.words same_card c
+        (known_settled keys cards s r id v here c knows) known_goes known_leaf
 
   -- where the words are the table's own
   words_own : WordsAreOwn keys cards s r
@@ -63,7 +74,7 @@ module _ (keys : List ℕ) (cards : ℕ) (s : TableState) (r : Kept keys cards s
     known = λ i c v here knows. settled_card c (known_settled keys cards s r i v here c knows);
     held = λ i c v here h.
         settled_card c (flagged_settled r.words r.stages _ c (mine_sound keys cards s r i v here) h.holds h.flagged);
-    tree = own_keys;
+    tree = own_pairs;
   }
 
 pub own_words_are_sound : OwnWordsAreSound

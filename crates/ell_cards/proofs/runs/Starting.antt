@@ -1,15 +1,13 @@
-use Rattle.std.proofs.Common.{◌≡◌, ◌≢◌, ◌↔◌, ℕ, ◌++◌, if◌then◌else◌, true, Some, None, List, [], refl, sym, ap, ◌∙◌, subst}
+use Rattle.std.proofs.Common.{◌≡◌, ◌≢◌, ◌↔◌, ℕ, ◌++◌, Some, None, List, [], refl, sym, subst}
 use Rattle.std.specs.Prelude.{Contains}
-use Rattle.std.specs.List.{All}
-use Rattle.std.proofs.lemmas.List.Elements.{All-contains}
+use Rattle.ell_ops.specs.Contents.{contents_of}
 use Rattle.ell_ops.specs.Meaning.{key_of}
-use Rattle.ell_ops.specs.KeySet.{set_of}
 use Rattle.ell_core.specs.state.Words.{words_of}
-use Rattle.ell_core.specs.state.Machine.{ledger_of, present_if}
-use Rattle.ell_core.specs.state.Opening.{last_card, start_entry}
-use Rattle.ell_core.specs.tree.Tree.{IsTreeKey}
-use Rattle.ell_core.specs.statements.StepLaws.{is_present}
+use Rattle.ell_core.specs.state.Machine.{ledger_of}
+use Rattle.ell_core.specs.state.Opening.{last_card}
+use Rattle.ell_core.specs.tree.Tree.{IsTreePair}
 use Rattle.ell_core.proofs.outcomes.Decide.{some_not_none}
+use Rattle.ell_core.proofs.tree.Reached.{pair_key}
 use Rattle.ell_core.specs.statements.RunLaws.{InOrder}
 use Rattle.ell_core.specs.statements.Premises.{keys_at_start}
 use Rattle.atomic_table.specs.Table.{opening}
@@ -19,14 +17,13 @@ use Rattle.ell_cards.specs.Rule.{TableState}
 use Rattle.ell_cards.specs.Laws.{state_after}
 use Rattle.ell_cards.specs.RunLaws.{run_wins}
 use Rattle.ell_cards.specs.Starts.{MayStart, StartWords, TablesStart, StartIsKept, StartsAreKept, StartsHaveTheirKeys, MayBeginThere, FirstPassMayBegin, RunsFromStarts}
-use Rattle.ell_cards.proofs.words.Keys.{among_owned, among_contains, contains_among, ledger_at_start, present_at_start}
+use Rattle.ell_cards.proofs.words.Keys.{among_owned, contains_among, present_at_start}
 use Rattle.ell_cards.proofs.lifetimes.Openings.{opening_is_kept, keys_start, each_first}
 use Rattle.ell_cards.proofs.lifetimes.StartLists.{start_list, start_list_starts}
 use Rattle.ell_cards.proofs.own_words.OwnWords.{own_words_are_sound}
 use Rattle.ell_cards.proofs.own_words.OwnLedgers.{ledgers_tell_the_tree, tree_keys_are_owned}
 use Rattle.ell_cards.proofs.runs.TurnsOfRuns.{runs_are_lawful}
 use Rattle.ell_cards.proofs.runs.WinsOfRuns.{table_wins_are_in_order}
-use Rattle.ell_core.specs.declared.view.Entry.TheVariants.{Present}
 
 -- a new table is one
 pub tables_start : TablesStart
@@ -40,31 +37,20 @@ pub starts_are_kept : StartsAreKept
 starts_are_kept keys start cards s starts =
     subst (StartIsKept keys start cards) (sym starts.is) (opening_is_kept keys start cards s.words starts.may starts.words)
 
--- a present key is a start key
-present_only : (keys start : List ℕ) → All (λ k. set_of keys k ≡ true) start → (k : ℕ) → ledger_of (keys_at_start keys start) k ≡ Some Present
-    → set_of start k ≡ true
-present_only keys start given k is = sym (present_at_start keys start given k) ∙ ap is_present is
-
--- a start key is present
-start_present : (keys start : List ℕ) → All (λ k. set_of keys k ≡ true) start → (k : ℕ) → set_of start k ≡ true
-    → ledger_of (keys_at_start keys start) k ≡ Some Present
-start_present keys start given k is =
-    let owned = All-contains (λ x. set_of keys x ≡ true) start k given (among_contains start k is) in
-    ledger_at_start keys start k ∙ (ap (λ t. if t then Some (start_entry start k) else None) owned ∙ ap (λ b. Some (present_if b)) is)
-
 -- each key of the tree is the first pass's, which has it in its ledger as the tree has it
-first_tree : (keys start : List ℕ) (cards : ℕ) (words : List ℕ) → MayStart keys start → StartWords start cards words → (k : ℕ)
-    → IsTreeKey (words_of words) k ↔ (set_of start k ≡ true)
-first_tree keys start cards words may at k =
+first_tree : (keys : List ℕ) (start : List (ℕ × ℕ)) (cards : ℕ) (words : List ℕ) → MayStart keys start → StartWords start cards words
+    → (k value : ℕ) → IsTreePair (words_of words) k value ↔ (contents_of start k ≡ Some value)
+first_tree keys start cards words may at k value =
     let last = last_card start cards in
     let s : TableState = opening words [] (first_view keys start) in
     let r = (opening_is_kept keys start cards words may at).kept in
-    let tells = ledgers_tell_the_tree keys last s r 0 (first_view keys start) refl refl k in (
+    let tells = ledgers_tell_the_tree keys last s r 0 (first_view keys start) refl refl k value in
+    let present = present_at_start keys start may.given k value in (
       λ there.
-          let owned = tree_keys_are_owned keys last s r k there in
-          each_first (first_view keys start) (λ v. ledger_of v.worker.ledger k ≢ None → set_of start k ≡ true)
-          (λ owns. present_only keys start may.given k ((tells owns).0 there)) owned.seat owned.view owned.there owned.owns,
-      λ is. let present = start_present keys start may.given k is in (tells (some_not_none present)).1 present,
+          let owned = tree_keys_are_owned keys last s r k (pair_key (words_of words) k value there) in
+          each_first (first_view keys start) (λ v. ledger_of v.worker.ledger k ≢ None → contents_of start k ≡ Some value)
+          (λ owns. present.0 ((tells owns).0 there)) owned.seat owned.view owned.there owned.owns,
+      λ is. let held = present.1 is in (tells (some_not_none held)).1 held,
     )
 
 pub starts_have_their_keys : StartsHaveTheirKeys

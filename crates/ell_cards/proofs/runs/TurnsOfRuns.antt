@@ -9,7 +9,7 @@ use Rattle.ell_cards.proofs.seats.Taken.{word_fits}
 use Rattle.ell_cards.proofs.lifetimes.Splits.{splits_are_moves}
 use Rattle.ell_cards.proofs.lifetimes.Joins.{joins_are_moves}
 use Rattle.ell_cards.proofs.own_words.OwnWords.{own_words_are_sound}
-use Rattle.ell_cards.proofs.own_words.OwnKeys.{table_keys_change_at_wins}
+use Rattle.ell_cards.proofs.own_words.OwnKeys.{table_pairs_change_at_wins}
 
 -- the word that a step call touches is in the table
 pub steps_stay_inside : StepsStayInside
@@ -26,7 +26,7 @@ module _ (keys : List ℕ) (cards : ℕ) where
         step.kept,
         record {
           machine = step.event;
-          tree = table_keys_change_at_wins keys cards s r seat h.view c h.there h.may;
+          tree = table_pairs_change_at_wins keys cards s r seat h.view c h.there h.may;
           sound = own_words_are_sound keys cards (state_after s seat h.view c) step.kept;
         },
       )
@@ -36,7 +36,7 @@ module _ (keys : List ℕ) (cards : ℕ) where
         step.kept,
         record {
           machine = step.split;
-          tree = λ k. (λ x. x, λ x. x);
+          tree = λ k value. (λ x. x, λ x. x);
           sound = own_words_are_sound keys cards (state_split s seat h.view left) step.kept;
         },
       )
@@ -46,7 +46,7 @@ module _ (keys : List ℕ) (cards : ℕ) where
         step.kept,
         record {
           machine = step.join;
-          tree = λ k. (λ x. x, λ x. x);
+          tree = λ k value. (λ x. x, λ x. x);
           sound = own_words_are_sound keys cards (state_joined s seat other h.view h.view') step.kept;
         },
       )

@@ -36,7 +36,7 @@ settled_keys k b [] = refl
 settled_keys k b (e ∷ es) = ap (λ ks. e.0 ∷ ks) (settled_keys k b es)
 
 answered_keys : (o : Option Op) (said : Reply) (l : List (ℕ × Entry)) → keys_of (answered_ledger o said l) ≡ keys_of l
-answered_keys (Some (Insert k value)) Yes l = settled_keys k Present l
+answered_keys (Some (Insert k value)) Yes l = settled_keys k (Present value) l
 answered_keys (Some (Delete k)) Yes l = settled_keys k Absent l
 answered_keys _ _ l = refl
 

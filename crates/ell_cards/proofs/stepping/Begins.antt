@@ -1,4 +1,4 @@
-use Rattle.std.proofs.Common.{◌≡◌, ◌≢◌, ◌⊎◌, ◌∷◌, set, if◌then◌else◌, ℕ, ◌==◌, List, Some, None, refl, sym, ap, ◌∙◌, subst, inl, inr}
+use Rattle.std.proofs.Common.{◌≡◌, ◌≢◌, ◌⊎◌, ◌∷◌, set, if◌then◌else◌, ℕ, eq-eqb, ne_eqb, List, Option, Some, None, refl, sym, ap, ◌∙◌, subst, inl, inr}
 use mathlib.Core.Option.{some}
 use lib.ListN.{get_elem?}
 use Rattle.ell_ops.specs.declared.op.Op.{Op}
@@ -9,19 +9,19 @@ use Rattle.ell_core.specs.declared.event.Event.{Event}
 use Rattle.ell_core.specs.declared.event.Stepped.TheVariants.{Moved, Answered}
 use Rattle.ell_core.specs.state.Facts.{known_of}
 use Rattle.ell_core.specs.state.Machine.{Worker, Ledger, worker_of, ledger_of}
-use Rattle.ell_core.specs.acts.Searching.{leaf_answer, card_answer, ledger_after, Answers}
+use Rattle.ell_core.specs.acts.Searching.{leaf_answer, value_at, card_answer, ledger_after, Answers}
 use Rattle.ell_core.specs.acts.Events.{Happens}
 use Rattle.ell_core.specs.history.Stages.{is_born}
-use Rattle.ell_core.specs.statements.StepLaws.{AnswersAsSet}
+use Rattle.ell_core.specs.statements.StepLaws.{AnswersAsMap}
 use Rattle.ell_core.proofs.outcomes.Decide.{some_not_none}
 use Rattle.ell_core.proofs.following.Lawful.{events_lawful}
 use Rattle.ell_cards.specs.declared.call.Call.TheVariants as call
 use Rattle.ell_cards.specs.declared.view.Told.{Told}
-use Rattle.ell_cards.specs.declared.view.Told.TheVariants.{Met}
+use Rattle.ell_cards.specs.declared.view.Told.TheVariants.{Met, Value}
 use Rattle.ell_cards.specs.declared.view.View.{View}
 use Rattle.ell_cards.specs.Models.{Has}
 use Rattle.ell_cards.specs.Changes.{after_begin, after_again, after_leave, after_answer, answered_ledger}
-use Rattle.ell_cards.specs.Guards.{MayBegin, MayStop, MayAnswer, AnswersAtLeaf, AnswersByCard, IsOver}
+use Rattle.ell_cards.specs.Guards.{MayBegin, MayStop, MayAnswer, TellsOf, AnswersAtLeaf, AnswersByCard, IsOver}
 use Rattle.ell_cards.specs.Rule.{TableState, seated, seat_worker, EntryHolds, Kept}
 use Rattle.ell_cards.specs.Laws.{IsEvent}
 use Rattle.ell_cards.proofs.seats.Entries.{with_entry}
@@ -32,7 +32,7 @@ use Rattle.ell_cards.proofs.stepping.Settling.{settled_put}
 use Rattle.ell_core.specs.declared.view.Entry.{Entry}
 use Rattle.ell_core.specs.declared.view.Entry.TheVariants.{Present, Absent}
 use Rattle.ell_ops.specs.declared.reply.Reply.{Reply}
-use Rattle.ell_ops.specs.declared.reply.Reply.TheVariants.{Yes, No}
+use Rattle.ell_ops.specs.declared.reply.Reply.TheVariants.{Yes, No, Found}
 
 -- a view with no key told where it stands and no card in hand
 bare : (v after : View) → after.here ≡ None → after.worker.card ≡ None
@@ -95,10 +95,12 @@ module _ (keys : List ℕ) (cards : ℕ) (s : TableState) (r : Kept keys cards s
 answered : (op : Op) (said : Reply) (l : List (ℕ × Entry)) → ledger_of l (key_of op) ≢ None → (key : ℕ)
     → ledger_of (answered_ledger (Some op) said l) key ≡ ledger_after op said (ledger_of l) key
 answered (Find k) said l owns key = refl
-answered (Insert k value) Yes l owns key = settled_put k Present l owns key
+answered (Insert k value) Yes l owns key = settled_put k (Present value) l owns key
 answered (Insert k value) No l owns key = refl
+answered (Insert k value) (Found had) l owns key = refl
 answered (Delete k) Yes l owns key = settled_put k Absent l owns key
 answered (Delete k) No l owns key = refl
+answered (Delete k) (Found had) l owns key = refl
 
 -- the answer by a card that is over
 over_answers : (v : View) (op : Op) (c : ℕ) (said : Reply) → IsOver v op c → said ≡ Yes → card_answer op c (known_of v.worker.facts) ≡ Some said
@@ -107,6 +109,14 @@ over_answers v (Insert k value) c said over e = ap (λ b. if b then Some Yes els
 over_answers v (Delete k) c said over e = ap (λ b. if b then Some Yes else None) over ∙ ap Some (sym e)
 
 module _ (keys : List ℕ) (cards : ℕ) (s : TableState) (r : Kept keys cards s) (id : ℕ) (v : View) (here : get_elem? s.views id ≡ some v) where
+  -- what the leaf has of a key, by what the pass was told of it
+  leaf_has : (leaf key k : ℕ) (there : Option ℕ) → r.words.key leaf ≡ key → TellsOf v leaf key k there → value_at r.words leaf k ≡ there
+  leaf_has leaf key k None is other =
+      ap (λ b. if b then Some (r.words.value leaf) else None) (ne_eqb (r.words.key leaf) k (λ e. other (sym is ∙ e)))
+  leaf_has leaf key k (Some value) is same =
+      ap (λ b. if b then Some (r.words.value leaf) else None) (eq-eqb (r.words.key leaf) k (is ∙ same.0))
+      ∙ ap Some ((r.views id v here).entries (Value leaf value) same.1).1
+
   -- the machine's answer
   answers_now : (op : Op) (said : Reply) → v.worker.operation ≡ Some op → AnswersAtLeaf v op said ⊎ AnswersByCard v op said
       → Answers (mine keys cards s r id v here) op said
@@ -114,7 +124,7 @@ module _ (keys : List ℕ) (cards : ℕ) (s : TableState) (r : Kept keys cards s
     leaf = a.leaf;
     stands = a.stands;
     outer = a.outer;
-    answers = ap (λ k. leaf_answer op (k == key_of op)) (here_key keys cards s r id v here a.leaf a.key a.stands a.told) ∙ a.says;
+    answers = ap (leaf_answer op) (leaf_has a.leaf a.key (key_of op) a.there (here_key keys cards s r id v here a.leaf a.key a.stands a.told) a.tells) ∙ a.says;
   })
   answers_now op said busy (inr a) = inr (
     record { card = a.card; holds = a.holds; flagged = a.flagged; answers = over_answers v op a.card said a.over a.yes },
@@ -148,9 +158,9 @@ module _ (keys : List ℕ) (cards : ℕ) (s : TableState) (r : Kept keys cards s
       let told = (events_lawful m r.stages e (Answered said) (seated r.words (set s.views id after) cards) r.invariant l.1.steps).ledgers.0 in
       let now : (seat_worker (get_elem? (set s.views id after) id)).ledger ≡ ledger_of after.worker.ledger =
       ap (λ o. (seat_worker o).ledger) (set_there s.views id after v here) in
-      let set_now : AnswersAsSet (ledger_of v.worker.ledger) (ledger_of after.worker.ledger) v.worker.operation said =
-      subst (λ (l : Ledger). AnswersAsSet (ledger_of v.worker.ledger) l v.worker.operation said) now
-      (subst (λ (u : Worker). AnswersAsSet u.ledger (seat_worker (get_elem? (set s.views id after) id)).ledger u.operation said) same told) in
+      let set_now : AnswersAsMap (ledger_of v.worker.ledger) (ledger_of after.worker.ledger) v.worker.operation said =
+      subst (λ (l : Ledger). AnswersAsMap (ledger_of v.worker.ledger) l v.worker.operation said) now
+      (subst (λ (u : Worker). AnswersAsMap u.ledger (seat_worker (get_elem? (set s.views id after) id)).ledger u.operation said) same told) in
       is_event keys cards s r id v here (call.Answer said) act.Answer (Answered said) r.words
       (looks keys cards s r id v here act.Answer (Answered said) after happens (λ c. refl)
       (r.views id v here).entries

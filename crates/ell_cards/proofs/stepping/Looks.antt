@@ -1,6 +1,9 @@
-use Rattle.std.proofs.Common.{◌≡◌, ℕ, ◌<◌, ◌≤◌, ◌%◌, if◌then◌else◌, eqb-true, nat_le, Bool, true, false, List, ◌∷◌, get_or, Some, None, refl, sym, ap, ◌∙◌, subst, arith}
+use Rattle.std.proofs.Common.{◌≡◌, ◌≢◌, ◌↔◌, ℕ, ◌<◌, ◌≤◌, ◌==◌, ◌%◌, if◌then◌else◌, eqb-true, eq-eqb, nat_le, Bool, true, false, List, ◌∷◌, get_or, Option, Some, None, refl, sym, ap, ◌∙◌, subst, arith}
+use Rattle.std.specs.Prelude.{is_some}
+use Rattle.std.proofs.lemmas.Bool.{false≢true}
 use mathlib.Core.Option.{some}
 use lib.ListN.{get_elem?}
+use Rattle.ell_ops.specs.declared.op.Op.{Op}
 use Rattle.ell_ops.specs.Meaning.{key_of, greatest_key}
 use Rattle.ell_word.specs.Node.{card, IsInternal}
 use Rattle.ell_word.specs.Word.{unpacked}
@@ -10,22 +13,24 @@ use Rattle.ell_core.specs.declared.field.Field.TheVariants as field
 use Rattle.ell_core.specs.declared.view.Seen.{Seen}
 use Rattle.ell_core.specs.state.Words.{key_field, value_field, child_field}
 use Rattle.ell_core.specs.state.Facts.{known_of, learned_any, told_by}
-use Rattle.ell_core.specs.state.Machine.{Worker, worker_of}
+use Rattle.ell_core.specs.declared.view.Entry.{Entry}
+use Rattle.ell_core.specs.declared.view.Entry.TheVariants.{Present, Absent}
+use Rattle.ell_core.specs.state.Machine.{Worker, worker_of, ledger_of}
 use Rattle.ell_core.specs.state.Cards.{child_for, is_right}
-use Rattle.ell_core.specs.acts.Searching.{IsLeaf}
+use Rattle.ell_core.specs.acts.Searching.{IsLeaf, value_at as value_there}
 use Rattle.ell_core.specs.acts.Events.{Happens}
 use Rattle.ell_core.specs.history.Stages.{Born}
-use Rattle.ell_core.specs.statements.StepLaws.{MayRead}
+use Rattle.ell_core.specs.statements.StepLaws.{MayRead, value_in, contents_in}
 use Rattle.ell_core.proofs.outcomes.Decide.{some_not_none}
 use Rattle.ell_core.proofs.words.Writes.{update_at_node, child_at_node, key_at_node, value_at_leaf}
 use Rattle.ell_cards.specs.declared.call.Call.TheVariants as call
 use Rattle.ell_cards.specs.declared.view.Told.{Told}
 use Rattle.ell_cards.specs.declared.view.Told.TheVariants.{Met, Key, Value}
 use Rattle.ell_cards.specs.declared.view.View.{View}
-use Rattle.ell_cards.specs.Models.{Has, latest, earlier, IsTold, StandsAt, InTable}
+use Rattle.ell_cards.specs.Models.{Has, latest, earlier, IsTold, Does, StandsAt, InTable}
 use Rattle.ell_cards.specs.Changes.{places_by, after_upd, after_down, after_next, after_key_of, after_value_of, is_at, seen_at}
 use Rattle.ell_cards.specs.Guards.{MayRead as MayUpd, MayGoDown}
-use Rattle.ell_cards.specs.Calls.{TellsLeaf, update_at, child_at, key_at, value_at}
+use Rattle.ell_cards.specs.Calls.{TellsLeaf, TellsValue, update_at, child_at, key_at, value_at}
 use Rattle.ell_cards.specs.Rule.{TableState, EntryHolds, Kept}
 use Rattle.ell_cards.specs.Laws.{IsEvent}
 use Rattle.ell_cards.proofs.words.Updates.{packed_again}
@@ -34,6 +39,25 @@ use Rattle.ell_cards.proofs.views.Entries.{places_more}
 use Rattle.ell_cards.proofs.seats.Entries.{with_entry, places_hold, facts_known}
 use Rattle.ell_cards.proofs.seats.Seats.{mine, becomes, mine_is, mine_sound, relies, stands_born, born_claimed}
 use Rattle.ell_cards.proofs.seats.Frames.{looks, kept_told, is_event, is_no_event}
+
+-- an entry that is not present has no value
+no_value : (entry : Option Entry) → ((value : ℕ) → entry ≢ Some (Present value)) → value_in entry ≡ None
+no_value (Some (Present value)) h = absurd (h value refl)
+no_value (Some Absent) h = refl
+no_value None h = refl
+
+-- an entry that is present just with the value of a node that has its key
+same_value : (entry : Option Entry) (key k value : ℕ) → ((n : ℕ) → ((key ≡ k) × (value ≡ n)) ↔ (entry ≡ Some (Present n)))
+    → value_in entry ≡ (if key == k then Some value else None)
+same_value entry key k value tells = by (key == k) refl
+  where
+    by : (b : Bool) → (key == k) ≡ b → value_in entry ≡ (if b then Some value else None)
+    by true same = ap value_in ((tells value).0 (eqb-true key k same, refl))
+    by false apart = no_value entry (λ n e. false≢true (sym apart ∙ eq-eqb key k ((tells n).1 e).0))
+
+some_if : (b : Bool) (value : ℕ) → is_some (if b then Some value else None) ≡ b
+some_if true value = refl
+some_if false value = refl
 
 module _ (keys : List ℕ) (cards : ℕ) (s : TableState) (r : Kept keys cards s) (id : ℕ) (v : View) (here : get_elem? s.views id ≡ some v) where
   -- a node that came into the tree has its key in the table
@@ -61,6 +85,16 @@ module _ (keys : List ℕ) (cards : ℕ) (s : TableState) (r : Kept keys cards s
   -- the key of the node where the pass stands
   pub here_key : (x key : ℕ) → StandsAt v x → v.here ≡ Some key → r.words.key x ≡ key
   here_key x key at told = let h = r.views id v here in (h.entries (Key x key) (h.here x key at told)).1
+
+  -- the ledger has the operation's key as the leaf has it where the pass stands
+  leaf_contents : (op : Op) (x : ℕ) → Does v op → StandsAt v x → IsLeaf x
+      → contents_in (ledger_of v.worker.ledger) (key_of op) ≡ value_there r.words x (key_of op)
+  leaf_contents op x busy stands outer =
+      let same = mine_is keys cards s r id v here in
+      same_value (ledger_of v.worker.ledger (key_of op)) (r.words.key x) (key_of op) (r.words.value x)
+      (subst (λ (u : Worker). (n : ℕ) → ((r.words.key x ≡ key_of op) × (r.words.value x ≡ n)) ↔ (u.ledger (key_of op) ≡ Some (Present n))) same
+      ((relies keys cards s r id v here).leaf_key op x (ap (λ (u : Worker). u.operation) same ∙ busy)
+      (ap (λ (u : Worker). u.search.node) same ∙ stands) outer))
 
   -- an update word that was found at a node names a card of the table
   pub names_card : (x n : ℕ) → MayRead r.words r.stages x → r.words.update x ≡ n → (unpacked n).card ≤ cards
@@ -194,12 +228,7 @@ module _ (keys : List ℕ) (cards : ℕ) (s : TableState) (r : Kept keys cards s
       leaf : (n : ℕ) → r.words.key x ≡ n → TellsLeaf v x n
       leaf n is = record {
         present = λ op busy stands outer.
-            let same = mine_is keys cards s r id v here in
-            let tells = (relies keys cards s r id v here).leaf_key op x (ap (λ (u : Worker). u.operation) same ∙ busy)
-            (ap (λ (u : Worker). u.search.node) same ∙ stands) outer in (
-              (λ e. ap (λ (u : Worker). u.ledger (key_of op)) (sym same) ∙ tells.0 (is ∙ e)),
-              (λ e. sym is ∙ tells.1 (ap (λ (u : Worker). u.ledger (key_of op)) same ∙ e)),
-            );
+            ap is_some (leaf_contents op x busy stands outer) ∙ (some_if (r.words.key x == key_of op) (r.words.value x) ∙ ap (λ k. k == key_of op) is);
         deep = λ op busy stands outer e.
             let sound = mine_sound keys cards s r id v here in
             let real = sound.real (key_of op) (sound.owned op busy) in
@@ -212,10 +241,15 @@ module _ (keys : List ℕ) (cards : ℕ) (s : TableState) (r : Kept keys cards s
       let n = get_or s.words (value_at x) 0 in
       let h = r.views id v here in
       let born = h.entries (Met x) met in
+      let is = value_listed x outer born in
       is_no_event keys cards s r id v here (call.ValueOf x)
       (kept_told keys cards s r id v here (after_value_of x n v) refl (record {
-        entries = with_entry (EntryHolds r.words r.stages) (Value x n) v.told (born, value_listed x outer born) h.entries;
+        entries = with_entry (EntryHolds r.words r.stages) (Value x n) v.told (born, is) h.entries;
         here = λ y key at told. earlier (Key y key) (Value x n) v.told (h.here y key at told);
         hand = h.hand;
       }) (value_at x))
-      refl refl tt
+      refl refl (leaf n is)
+    where
+      leaf : (n : ℕ) → r.words.value x ≡ n → TellsValue v x n
+      leaf n is op busy stands told = leaf_contents op x busy stands outer
+          ∙ (ap (λ b. if b then Some (r.words.value x) else None) (eq-eqb (r.words.key x) (key_of op) (here_key x (key_of op) stands told)) ∙ ap Some is)

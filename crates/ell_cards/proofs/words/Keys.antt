@@ -1,16 +1,20 @@
-use Rattle.std.proofs.Common.{◌≡◌, ◌≢◌, ℕ, ◌==◌, ◌||◌, cond, if◌then◌else◌, eqb-true, Bool, true, false, List, [], ◌∷◌, Some, None, refl, sym, ap, ◌∙◌, subst, true≢false}
-use Rattle.std.specs.Prelude.{Contains}
+use Rattle.std.proofs.Common.{◌≡◌, ◌≢◌, ◌↔◌, ℕ, ◌==◌, ◌||◌, cond, if◌then◌else◌, eqb-true, Bool, true, false, List, [], ◌∷◌, Some, None, refl, sym, ap, ◌∙◌, subst, true≢false}
+use Rattle.std.specs.Prelude.{Contains, is_some}
 use Rattle.std.specs.List.{All}
+use Rattle.std.specs.Map.{keys_of as pair_keys}
 use Rattle.std.proofs.lemmas.List.Elements.{All-contains}
+use Rattle.std.proofs.lemmas.Map.Made.{is_some-lookup}
+use Rattle.std.proofs.lemmas.Option.{same_Some}
+use Rattle.ell_ops.specs.Contents.{contents_of}
 use Rattle.ell_ops.specs.KeySet.{set_of}
-use Rattle.ell_core.specs.state.Machine.{ledger_of, present_if}
-use Rattle.ell_core.specs.statements.StepLaws.{is_present}
+use Rattle.ell_core.specs.state.Machine.{ledger_of, entry_of}
 use Rattle.ell_core.specs.statements.Premises.{keys_at_start}
-use Rattle.ell_core.proofs.opening.KeyLists.{place_of}
+use Rattle.ell_core.proofs.opening.KeyLists.{place_of, holds_present}
 pub use Rattle.ell_core.proofs.opening.KeyLists.{at_place}
 use Rattle.ell_core.proofs.outcomes.Decide.{some_not_none}
 use Rattle.ell_cards.specs.Changes.{keys_of}
 use Rattle.ell_core.specs.declared.view.Entry.{Entry}
+use Rattle.ell_core.specs.declared.view.Entry.TheVariants.{Present}
 use Rattle.ell_core.specs.state.Opening.{start_entry}
 
 -- a key that is among the keys, in std's word
@@ -41,7 +45,8 @@ owned_among (e ∷ es) k owns = by (k == e.0) owns (owned_among es k)
     by false h rest = rest h
 
 -- keys as they are at the start are owned, and present if they are start keys
-pub ledger_at_start : (keys start : List ℕ) (k : ℕ) → ledger_of (keys_at_start keys start) k ≡ (if set_of keys k then Some (start_entry start k) else None)
+pub ledger_at_start : (keys : List ℕ) (start : List (ℕ × ℕ)) (k : ℕ)
+    → ledger_of (keys_at_start keys start) k ≡ (if set_of keys k then Some (start_entry start k) else None)
 ledger_at_start [] start k = refl
 ledger_at_start (x ∷ xs) start k = by (k == x) refl (ledger_at_start xs start k)
   where
@@ -50,15 +55,18 @@ ledger_at_start (x ∷ xs) start k = by (k == x) refl (ledger_at_start xs start 
     by true same e = ap (λ n. Some (start_entry start n)) (sym (eqb-true k x same))
     by false same e = e
 
--- start keys that are all among the keys are present, and no others
-pub present_at_start : (keys start : List ℕ) → All (λ k. set_of keys k ≡ true) start → (k : ℕ)
-    → is_present (ledger_of (keys_at_start keys start) k) ≡ set_of start k
-present_at_start keys start given k =
-    ap is_present (ledger_at_start keys start k)
-    ∙ by (set_of keys k) (set_of start k) (λ among. All-contains (λ x. set_of keys x ≡ true) start k given (among_contains start k among))
+-- start keys that are all among the keys are present with their values, and no others
+pub present_at_start : (keys : List ℕ) (start : List (ℕ × ℕ)) → All (λ k. set_of keys k ≡ true) (pair_keys start) → (k value : ℕ)
+    → (ledger_of (keys_at_start keys start) k ≡ Some (Present value)) ↔ (contents_of start k ≡ Some value)
+present_at_start keys start given k value =
+    let at = ledger_at_start keys start k in (
+      λ is. by (set_of keys k) (sym at ∙ is),
+      λ is.
+          let among = sym (is_some-lookup (λ x. k == x) start) ∙ ap is_some is in
+          let owned = All-contains (λ x. set_of keys x ≡ true) (pair_keys start) k given (among_contains (pair_keys start) k among) in
+          at ∙ (ap (λ t. if t then Some (start_entry start k) else None) owned ∙ ap (λ o. Some (entry_of o)) is),
+    )
   where
-    by : (owned here : Bool) → (here ≡ true → owned ≡ true) → is_present (if owned then Some (present_if here) else None) ≡ here
-    by true true h = refl
-    by true false h = refl
-    by false true h = absurd (true≢false (sym (h refl)))
-    by false false h = refl
+    by : (t : Bool) → (if t then Some (start_entry start k) else None) ≡ Some (Present value) → contents_of start k ≡ Some value
+    by true is = holds_present (contents_of start k) value (same_Some (start_entry start k) (Present value) is)
+    by false is = absurd (some_not_none is refl)

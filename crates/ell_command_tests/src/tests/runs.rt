@@ -9,7 +9,35 @@ const FOUR_LINES: &str = "insert 5\nfind 5\ndelete 5\nfind 5\n";
 
 const FOUR_ANSWERS: &str = "yes\nyes\nyes\nno\nkeys 0\n";
 
-static ANSWERS: [Row<'static>; 8] = [
+// Version 2, with start keys and a key that comes and goes.
+const VALUES: &str = "version 2
+start 3 33
+start 5 55
+find 5
+insert 7 70
+insert 3 30
+find 3
+find 7
+delete 5
+find 5
+insert 5 500
+";
+
+const VALUES_ANSWERS: &str = "yes 55
+yes
+no
+yes 33
+yes 70
+yes
+no
+yes
+keys 3
+3 33
+5 500
+7 70
+";
+
+static ANSWERS: [Row<'static>; 13] = [
     (RUN, "", (0, "keys 0\n", "")),
     (RUN, FOUR_LINES, (0, FOUR_ANSWERS, "")),
     (
@@ -38,9 +66,30 @@ static ANSWERS: [Row<'static>; 8] = [
         (0, "yes\nyes\nyes\nno\nkeys 3\n2\n5\n6\n", ""),
     ),
     (RUN, "start 3\n", (0, "keys 1\n3\n", "")),
+    (RUN, VALUES, (0, VALUES_ANSWERS, "")),
+    (
+        &["run", "--workers=64", "--parting=range", "--cards=1"],
+        VALUES,
+        (0, VALUES_ANSWERS, ""),
+    ),
+    (RUN, "version 2\n", (0, "keys 0\n", "")),
+    (
+        RUN,
+        "# values\n\nversion 2\r\nstart 3 33",
+        (0, "keys 1\n3 33\n", ""),
+    ),
+    (
+        RUN,
+        "version 2\ninsert 4 18446744073709551615\nfind 4\nfind 5\n",
+        (
+            0,
+            "yes\nyes 18446744073709551615\nno\nkeys 1\n4 18446744073709551615\n",
+            "",
+        ),
+    ),
 ];
 
-static FAULTS: [Row<'static>; 6] = [
+static FAULTS: [Row<'static>; 12] = [
     (
         RUN,
         "insert 18446744073709551614\n",
@@ -70,6 +119,36 @@ static FAULTS: [Row<'static>; 6] = [
         RUN,
         "find 1\nstart 2\n",
         (2, "", "elltree: line 2: not an operation\n"),
+    ),
+    (
+        RUN,
+        "version 2\ninsert 5\n",
+        (2, "", "elltree: line 2: not a value\n"),
+    ),
+    (
+        RUN,
+        "version 2\nstart 5 18446744073709551616\n",
+        (2, "", "elltree: line 2: not a value\n"),
+    ),
+    (
+        RUN,
+        "version 2\nstart 5 50\nstart 5 60\n",
+        (2, "", "elltree: line 3: start keys not ascending\n"),
+    ),
+    (
+        RUN,
+        "version 2\nfind 5 50\n",
+        (2, "", "elltree: line 2: not a key\n"),
+    ),
+    (
+        RUN,
+        "find 5\nversion 2\n",
+        (2, "", "elltree: line 2: not an operation\n"),
+    ),
+    (
+        RUN,
+        "insert 5 50\n",
+        (2, "", "elltree: line 1: not a key\n"),
     ),
 ];
 

@@ -1,19 +1,19 @@
-use Rattle.std.proofs.Common.{◌≡◌, ℕ, ◌==◌, if◌then◌else◌, Bool, true, false, not, Option, Some, None, inl, inr, refl, sym, ap, ◌∙◌, subst, arith}
-use Rattle.std.proofs.lemmas.Bool.{cases_eq, false≢true, eqb-true, eq-eqb}
-use Rattle.std.proofs.lemmas.Bool.Decides.{nat_tests}
+use Rattle.std.proofs.Common.{◌≡◌, ◌≢◌, ℕ, ◌==◌, if◌then◌else◌, Bool, true, false, not, Option, Some, None, is_some, unwrap_or, inl, inr, refl, sym, ap, ◌∙◌, subst}
+use Rattle.std.proofs.lemmas.Bool.{false≢true, eqb-true, eq-eqb}
 use Rattle.ell_ops.specs.declared.op.Op.{Op}
 use Rattle.ell_ops.specs.declared.op.Op.TheVariants.{Find, Insert, Delete}
-use Rattle.ell_ops.specs.Meaning.{Contents, key_of, reply_of, after, yes_if}
+use Rattle.ell_ops.specs.Contents.{Contents, with_pair, without}
+use Rattle.ell_ops.specs.Meaning.{key_of, reply_of, after, yes_if, found}
 use Rattle.ell_core.specs.declared.event.Stepped.{Stepped}
 use Rattle.ell_core.specs.declared.event.Stepped.TheVariants.{Answered}
 use Rattle.ell_core.specs.declared.fact.Fact.TheVariants as fact
 use Rattle.ell_core.specs.state.Words.{Words, put}
 use Rattle.ell_core.specs.state.Machine.{Ledger, Worker, Machine, Scene, scene}
-use Rattle.ell_core.specs.acts.Searching.{IsLeaf, leaf_answer, card_answer, ledger_after, Answers, Answer}
+use Rattle.ell_core.specs.acts.Searching.{IsLeaf, value_at, leaf_answer, card_answer, ledger_after, Answers, Answer}
 use Rattle.ell_core.specs.tree.Ranges.{at_leaf}
 use Rattle.ell_core.specs.history.Stages.{Stages}
 use Rattle.ell_core.specs.history.Invariant.{StandIsSound, Flagged, Invariant}
-use Rattle.ell_core.specs.statements.StepLaws.{is_present, set_in}
+use Rattle.ell_core.specs.statements.StepLaws.{value_in, contents_in}
 use Rattle.ell_core.proofs.outcomes.Decide.{same_value, some_not_none}
 use Rattle.ell_core.proofs.keeping.search.Answer.{gives_if}
 use Rattle.ell_core.proofs.tree.Bounds.{leaf_key}
@@ -21,88 +21,107 @@ use Rattle.ell_core.specs.declared.view.Entry.{Entry}
 use Rattle.ell_core.specs.declared.view.Entry.TheVariants.{Present, Absent}
 use Rattle.ell_ops.specs.declared.reply.Reply.{Reply}
 
--- an operation's reply is that on the set of a ledger, and the later ledger has the set that the operation leaves
-pub record AnswersTheSet (op : Op) (reply : Reply) (ledger later : Ledger) : Type 0 where
-  pub reply_is : reply ≡ reply_of op (set_in ledger)
-  pub set_is : (k : ℕ) → set_in later k ≡ after op (set_in ledger) k
+-- an operation's reply is that on the contents of a ledger, and the later ledger has what the operation leaves
+pub record AnswersTheMap (op : Op) (reply : Reply) (ledger later : Ledger) : Type 0 where
+  pub reply_is : reply ≡ reply_of op (contents_in ledger)
+  pub map_is : (k : ℕ) → contents_in later k ≡ after op (contents_in ledger) k
 
--- an entry that is present is so by its name
-present_entry : (entry : Option Entry) → is_present entry ≡ true → entry ≡ Some Present
-present_entry (Some Present) h = refl
-present_entry (Some Absent) h = absurd (false≢true h)
-present_entry None h = absurd (false≢true h)
+-- an entry that has a value is present with it
+present_entry : (entry : Option Entry) (value : ℕ) → value_in entry ≡ Some value → entry ≡ Some (Present value)
+present_entry (Some (Present v)) value h = let same : v ≡ value = cc in ap (λ n. Some (Present n)) same
+present_entry (Some Absent) value h = absurd cc
+present_entry None value h = absurd cc
 
--- two tests that are met together are equal
-same_test : (a b : Bool) → (a ≡ true → b ≡ true) → (b ≡ true → a ≡ true) → a ≡ b
-same_test true b to from = sym (to refl)
-same_test false true to from = from refl
-same_test false false to from = refl
+-- a worker that stands at a leaf finds its key there, with its value, exactly where the ledger has it present so
+has_value : (w : Words) (stage : Stages) (v : Worker) (k x : ℕ) → StandIsSound w stage v k x → IsLeaf x
+    → value_at w x k ≡ contents_in v.ledger k
+has_value w stage v k x h outer = by (w.key x == k) refl
+  where
+    other : w.key x ≢ k → (o : Option ℕ) → contents_in v.ledger k ≡ o → None ≡ o
+    other n None e = refl
+    other n (Some value) e = absurd (n (leaf_key w.key w.child k x outer ((h.leads value).1 (present_entry (v.ledger k) value e))))
 
--- a worker that stands at a leaf finds its key there exactly where the ledger has it present
-has_present : (w : Words) (stage : Stages) (v : Worker) (k x : ℕ) → StandIsSound w stage v k x → IsLeaf x
-    → (w.key x == k) ≡ set_in v.ledger k
-has_present w stage v k x h outer = same_test (w.key x == k) (set_in v.ledger k)
-    (λ e. ap is_present (h.leads.0 (at_leaf outer (eqb-true (w.key x) k e))))
-    (λ e. eq-eqb (w.key x) k (leaf_key w.key w.child k x outer (h.leads.1 (present_entry (v.ledger k) e))))
+    by : (b : Bool) → (w.key x == k) ≡ b → (if b then Some (w.value x) else None) ≡ contents_in v.ledger k
+    by true same = sym (ap value_in ((h.leads (w.value x)).0 (at_leaf outer (eqb-true (w.key x) k same) refl)))
+    by false apart = other (λ e. false≢true (sym apart ∙ eq-eqb (w.key x) k e)) (contents_in v.ledger k) refl
 
--- an entry that is put in place of another, in the set
-put_present : (ledger : Ledger) (k : ℕ) (made : Entry) (q : ℕ)
-    → set_in (put ledger k (Some made)) q ≡ (if q == k then is_present (Some made) else set_in ledger q)
-put_present ledger k made q = by_test (q == k) where
+-- an entry that is put in place of another, in the contents
+put_value : (ledger : Ledger) (k : ℕ) (made : Entry) (q : ℕ)
+    → contents_in (put ledger k (Some made)) q ≡ (if q == k then value_in (Some made) else contents_in ledger q)
+put_value ledger k made q = by_test (q == k) where
   by_test : (test : Bool)
-      → is_present (if test then Some made else ledger q) ≡ (if test then is_present (Some made) else is_present (ledger q))
+      → value_in (if test then Some made else ledger q) ≡ (if test then value_in (Some made) else value_in (ledger q))
   by_test true = refl
   by_test false = refl
 
--- a set with a key that it has, and one without a key that it lacks, is as it was
-key_kept : (set : Contents) (k : ℕ) (made : Bool) → set k ≡ made → (q : ℕ) → set q ≡ (if q == k then made else set q)
-key_kept set k made h q = elim (cases_eq q k) [
-  | inl e ↦ (let f : set q ≡ made = ap set e ∙ h in grind (arith, nat_tests))
-  | inr n ↦ grind (arith, nat_tests)
-]
+-- with a key that is there, and without one that is not, contents are as they were
+key_kept : (there : Contents) (k value had : ℕ) → there k ≡ Some had → (q : ℕ) → there q ≡ with_pair there k value q
+key_kept there k value had h q = by (q == k) refl
+  where
+    by : (b : Bool) → (q == k) ≡ b → there q ≡ (if b then Some (unwrap_or (there q) value) else there q)
+    by true same = let has = ap there (eqb-true q k same) ∙ h in has ∙ ap (λ o. Some (unwrap_or o value)) (sym has)
+    by false other = refl
 
--- an answer at a leaf answers the set, where the leaf has the key exactly if the set has it
-pub leaf_answers : (op : Op) (has : Bool) (reply : Reply) (ledger : Ledger) → has ≡ set_in ledger (key_of op)
-    → leaf_answer op has ≡ Some reply → AnswersTheSet op reply ledger (ledger_after op reply ledger)
-leaf_answers (Find k) has reply ledger h e = record { reply_is = sym (same_value refl e) ∙ ap yes_if h; set_is = λ q. refl }
-leaf_answers (Insert k value) true reply ledger h e =
-    subst (λ b. AnswersTheSet (Insert k value) b ledger (ledger_after (Insert k value) b ledger)) (same_value refl e)
-    (record { reply_is = ap (λ b. yes_if (not b)) h; set_is = key_kept (set_in ledger) k true (sym h) })
-leaf_answers (Insert k value) false reply ledger h e = absurd (some_not_none e refl)
-leaf_answers (Delete k) true reply ledger h e = absurd (some_not_none e refl)
-leaf_answers (Delete k) false reply ledger h e =
-    subst (λ b. AnswersTheSet (Delete k) b ledger (ledger_after (Delete k) b ledger)) (same_value refl e)
-    (record { reply_is = ap yes_if h; set_is = key_kept (set_in ledger) k false (sym h) })
+key_lacked : (there : Contents) (k : ℕ) → there k ≡ None → (q : ℕ) → there q ≡ without there k q
+key_lacked there k h q = by (q == k) refl
+  where
+    by : (b : Bool) → (q == k) ≡ b → there q ≡ (if b then None else there q)
+    by true same = ap there (eqb-true q k same) ∙ h
+    by false other = refl
 
--- an answer by a card answers the set: the key was absent for an insert, present for a delete
+-- a key that was not there gets the value
+key_added : (there : Contents) (k value : ℕ) → there k ≡ None → (q : ℕ) → (if q == k then Some value else there q) ≡ with_pair there k value q
+key_added there k value h q = by (q == k) refl
+  where
+    by : (b : Bool) → (q == k) ≡ b → (if b then Some value else there q) ≡ (if b then Some (unwrap_or (there q) value) else there q)
+    by true same = ap (λ o. Some (unwrap_or o value)) (sym (ap there (eqb-true q k same) ∙ h))
+    by false other = refl
+
+-- an answer at a leaf answers the map, where the leaf has the key with a value exactly as the map has it
+pub leaf_answers : (op : Op) (there : Option ℕ) (reply : Reply) (ledger : Ledger) → there ≡ contents_in ledger (key_of op)
+    → leaf_answer op there ≡ Some reply → AnswersTheMap op reply ledger (ledger_after op reply ledger)
+leaf_answers (Find k) there reply ledger h e = record { reply_is = sym (same_value refl e) ∙ ap found h; map_is = λ q. refl }
+leaf_answers (Insert k value) (Some had) reply ledger h e =
+    subst (λ b. AnswersTheMap (Insert k value) b ledger (ledger_after (Insert k value) b ledger)) (same_value refl e)
+    (record { reply_is = ap (λ o. yes_if (not (is_some o))) h; map_is = key_kept (contents_in ledger) k value had (sym h) })
+leaf_answers (Insert k value) None reply ledger h e = absurd (some_not_none e refl)
+leaf_answers (Delete k) (Some had) reply ledger h e = absurd (some_not_none e refl)
+leaf_answers (Delete k) None reply ledger h e =
+    subst (λ b. AnswersTheMap (Delete k) b ledger (ledger_after (Delete k) b ledger)) (same_value refl e)
+    (record { reply_is = ap (λ o. yes_if (is_some o)) h; map_is = key_lacked (contents_in ledger) k (sym h) })
+
+-- an answer by a card answers the map: the key was absent for an insert, present for a delete
 pub card_answers : (w : Words) (stage : Stages) (v : Worker) (op : Op) (c : ℕ) (reply : Reply) → Flagged w stage v op c
-    → card_answer op c v.knows ≡ Some reply → AnswersTheSet op reply v.ledger (ledger_after op reply v.ledger)
+    → card_answer op c v.knows ≡ Some reply → AnswersTheMap op reply v.ledger (ledger_after op reply v.ledger)
 card_answers w stage v (Find k) c reply h e = absurd h
 card_answers w stage v (Insert k value) c reply h e =
-    subst (λ b. AnswersTheSet (Insert k value) b v.ledger (ledger_after (Insert k value) b v.ledger))
+    subst (λ b. AnswersTheMap (Insert k value) b v.ledger (ledger_after (Insert k value) b v.ledger))
     (sym (gives_if (v.knows (fact.IOver c)) reply e).1)
-    (record { reply_is = ap (λ o. yes_if (not (is_present o))) (sym h.2); set_is = put_present v.ledger k Present })
+    (record {
+      reply_is = ap (λ o. yes_if (not (is_some (value_in o)))) (sym h.3);
+      map_is = λ q. put_value v.ledger k (Present value) q ∙ key_added (contents_in v.ledger) k value (ap value_in h.3) q;
+    })
 card_answers w stage v (Delete k) c reply h e =
-    subst (λ b. AnswersTheSet (Delete k) b v.ledger (ledger_after (Delete k) b v.ledger))
+    subst (λ b. AnswersTheMap (Delete k) b v.ledger (ledger_after (Delete k) b v.ledger))
     (sym (gives_if (v.knows (fact.DOver c)) reply e).1)
-    (record { reply_is = ap (λ o. yes_if (is_present o)) (sym h.2); set_is = put_present v.ledger k Absent })
+    (record { reply_is = ap (λ o. yes_if (is_some (value_in o))) (sym h.2.1); map_is = put_value v.ledger k Absent })
 
--- an answer is the reply of the operation on the set of the worker's ledger, and leaves the set that the operation leaves
-pub answers_the_set : (m : Machine) (stage : Stages) (i : ℕ) (said : Stepped) (becomes : Scene) (op : Op) (reply : Reply)
+-- an answer is the reply of the operation on the contents of the worker's ledger, and leaves what the operation leaves
+pub answers_the_map : (m : Machine) (stage : Stages) (i : ℕ) (said : Stepped) (becomes : Scene) (op : Op) (reply : Reply)
     → Invariant m stage → Answer (scene m i) said becomes → (m.worker i).operation ≡ Some op → said ≡ Answered reply
-    → AnswersTheSet op reply (m.worker i).ledger becomes.worker.ledger
-answers_the_set m stage i said becomes op reply sound r busy says =
-    subst (λ o. AnswersTheSet o reply v.ledger becomes.worker.ledger) (same_value r.busy busy)
-    (subst (λ b. AnswersTheSet r.op b v.ledger becomes.worker.ledger) (let same : r.reply ≡ reply = cc in same)
-    (subst (λ (s : Scene). AnswersTheSet r.op r.reply v.ledger s.worker.ledger) (sym r.gives) (by_case r.answers)))
+    → AnswersTheMap op reply (m.worker i).ledger becomes.worker.ledger
+answers_the_map m stage i said becomes op reply sound r busy says =
+    subst (λ o. AnswersTheMap o reply v.ledger becomes.worker.ledger) (same_value r.busy busy)
+    (subst (λ b. AnswersTheMap r.op b v.ledger becomes.worker.ledger) (let same : r.reply ≡ reply = cc in same)
+    (subst (λ (s : Scene). AnswersTheMap r.op r.reply v.ledger s.worker.ledger) (sym r.gives) (by_case r.answers)))
   where
     v : Worker
     v = m.worker i
 
-    by_case : Answers (scene m i) r.op r.reply → AnswersTheSet r.op r.reply v.ledger (ledger_after r.op r.reply v.ledger)
+    by_case : Answers (scene m i) r.op r.reply → AnswersTheMap r.op r.reply v.ledger (ledger_after r.op r.reply v.ledger)
     by_case answers = elim answers [
       | inl at ↦ leaf_answers r.op _ r.reply v.ledger
-          (has_present m.words stage v (key_of r.op) at.leaf
+          (has_value m.words stage v (key_of r.op) at.leaf
           ((sound.workers.each i).stands r.op at.leaf r.busy at.stands) at.outer) at.answers
       | inr by ↦ card_answers m.words stage v r.op by.0.card r.reply
           ((sound.workers.each i).flagged r.op by.0.card r.busy by.0.holds by.0.flagged).0 by.0.answers

@@ -8,58 +8,58 @@ use Rattle.ell_core.specs.state.Words.{Words}
 use Rattle.ell_core.specs.state.Machine.{Machine, Scene, scene, with_scene}
 use Rattle.ell_core.specs.declared.fact.Fact.TheVariants.{Marked}
 use Rattle.ell_core.specs.declared.field.Field.{Field}
-use Rattle.ell_core.specs.state.Cards.{card_key, claimed, insert_filling, delete_filling}
+use Rattle.ell_core.specs.state.Cards.{card_key, card_value, claimed, insert_filling, delete_filling}
 use Rattle.ell_core.specs.acts.Searching.{claims}
 use Rattle.ell_core.specs.acts.Exchanges.{won_or_lost, IChild}
 use Rattle.ell_core.specs.acts.Events.{Row, Happens, Steps}
 use Rattle.ell_core.specs.history.Stages.{Stages, IClaimed, is_insert, is_delete}
-use Rattle.ell_core.specs.history.Invariant.{Invariant, WordsAreSound, LeadsTo, insert_key, delete_key}
+use Rattle.ell_core.specs.history.Invariant.{Invariant, WordsAreSound, LeadsToValue, insert_key, insert_value, delete_key}
 use Rattle.ell_core.specs.history.Later.{Follows}
-use Rattle.ell_core.specs.statements.StepLaws.{AddsKey, TakesKey, KeysChange, SameKeys}
-use Rattle.ell_core.proofs.following.TreeKeys.{KeepsLinks, row_links, links_keep, keys_same, keys_more, keys_less}
+use Rattle.ell_core.specs.statements.StepLaws.{AddsPair, TakesKey, PairsChange, SamePairs}
+use Rattle.ell_core.proofs.following.TreeKeys.{KeepsLinks, row_links, links_keep, pairs_same, pairs_more, pairs_less}
 use Rattle.ell_core.proofs.keeping.claim.Filling.{claimed_claims}
 use Rattle.ell_core.proofs.keeping.claim.Frames.{Claiming, leads_kept, leads_before}
 use Rattle.ell_core.proofs.keeping.insert_child.IChild.{ichild_won-waits, ichild_won-gains, ichild_lost-same}
 use Rattle.ell_core.proofs.keeping.delete_child.DChild.{dchild-loses_key, dchild-lost_same}
 use Rattle.ell_core.proofs.stages.Holding.{insert_kind, delete_kind}
 use Rattle.ell_core.proofs.stages.Order.{marked-delete}
-use Rattle.ell_core.proofs.words.Sides.{card_key-insert, card_key-delete}
+use Rattle.ell_core.proofs.words.Sides.{card_key-insert, card_value-insert, card_key-delete}
 use Rattle.ell_core.proofs.stages.LaterKeys.{root_born}
 use Rattle.ell_ops.specs.declared.reply.Reply.{Reply}
 
 -- the keys stay where an act keeps the links
 same_keys : (m : Machine) (stage : Stages) (a : Act) (i : ℕ) (said : Stepped) (becomes : Scene) → KeepsLinks a → Invariant m stage
-    → Row a (scene m i) said becomes → Follows m stage a i said (with_scene m i becomes) → SameKeys m.words becomes.words
+    → Row a (scene m i) said becomes → Follows m stage a i said (with_scene m i becomes) → SamePairs m.words becomes.words
 same_keys m stage a i said becomes links invariant row after =
-    keys_same m.words becomes.words stage after.stages invariant.words.tree after.invariant.words.tree
-    (λ k. links_keep m.words becomes.words (row_links a links (scene m i) said becomes row) k 0)
+    pairs_same m.words becomes.words stage after.stages invariant.words.tree after.invariant.words.tree
+    (λ k v. links_keep m.words becomes.words (row_links a links (scene m i) said becomes row) k v 0)
 
 -- the same walks lead to keys after a claim
-claim_leads : (w : Words) (stage : Stages) (filling : List (Field × ℕ)) → WordsAreSound w stage → (k : ℕ)
-    → LeadsTo (claimed w filling) k 0 ↔ LeadsTo w k 0
-claim_leads w stage filling sound k =
+claim_leads : (w : Words) (stage : Stages) (filling : List (Field × ℕ)) → WordsAreSound w stage → (k v : ℕ)
+    → LeadsToValue (claimed w filling) k v 0 ↔ LeadsToValue w k v 0
+claim_leads w stage filling sound k v =
     let claiming : Claiming w (claimed w filling) stage IClaimed = record { words = sound; claims = claimed_claims w filling; fresh = inl refl } in
     let root = root_born w stage sound in
-    (leads_before w (claimed w filling) stage IClaimed claiming k 0 root, leads_kept w (claimed w filling) stage IClaimed claiming k 0 root)
+    (leads_before w (claimed w filling) stage IClaimed claiming k v 0 root, leads_kept w (claimed w filling) stage IClaimed claiming k v 0 root)
 
 -- the keys stay after a scene that is said to be this claim's
 claimed_keys : (m : Machine) (stage : Stages) (i : ℕ) (said : Stepped) (becomes : Scene) (filling : List (Field × ℕ)) → Invariant m stage
-    → becomes ≡ claims (scene m i) filling → Follows m stage act.Claim i said (with_scene m i becomes) → SameKeys m.words becomes.words
+    → becomes ≡ claims (scene m i) filling → Follows m stage act.Claim i said (with_scene m i becomes) → SamePairs m.words becomes.words
 claimed_keys m stage i said becomes filling invariant is after =
-    keys_same m.words becomes.words stage after.stages invariant.words.tree after.invariant.words.tree
-    (λ k. subst (λ (s : Scene). LeadsTo s.words k 0 ↔ LeadsTo m.words k 0) (sym is) (claim_leads m.words stage filling invariant.words k))
+    pairs_same m.words becomes.words stage after.stages invariant.words.tree after.invariant.words.tree
+    (λ k v. subst (λ (s : Scene). LeadsToValue s.words k v 0 ↔ LeadsToValue m.words k v 0) (sym is) (claim_leads m.words stage filling invariant.words k v))
 
 -- a claim keeps the keys
 claim_keys : (m : Machine) (stage : Stages) (i : ℕ) (said : Stepped) (becomes : Scene) → Invariant m stage
-    → Row act.Claim (scene m i) said becomes → Follows m stage act.Claim i said (with_scene m i becomes) → SameKeys m.words becomes.words
+    → Row act.Claim (scene m i) said becomes → Follows m stage act.Claim i said (with_scene m i becomes) → SamePairs m.words becomes.words
 claim_keys m stage i said becomes invariant (inl row) after =
     claimed_keys m stage i said becomes (insert_filling m.words.next row.key row.value row.parent.node row.leaf (m.words.key row.leaf) (m.words.value row.leaf)) invariant row.gives after
 claim_keys m stage i said becomes invariant (inr row) after =
     claimed_keys m stage i said becomes (delete_filling row.grandparent.node row.parent.node row.leaf row.parent.word) invariant row.gives after
 
 -- words that did not change have the same keys
-same_words-keys : (old new : Words) → new ≡ old → SameKeys old new
-same_words-keys old new same = subst (SameKeys old) (sym same) (λ k. (λ h. h, λ h. h))
+same_words-keys : (old new : Words) → new ≡ old → SamePairs old new
+same_words-keys old new same = subst (SamePairs old) (sym same) (λ k v. (λ h. h, λ h. h))
 
 -- the key of an insert's card, and of a delete's
 insert_card_key : (m : Machine) (stage : Stages) (c : ℕ) → Invariant m stage → is_insert (stage c) ≡ true → card_key m.words c ≡ insert_key m.words c
@@ -68,16 +68,23 @@ insert_card_key m stage c invariant h = card_key-insert m.words c (insert_kind m
 delete_card_key : (m : Machine) (stage : Stages) (c : ℕ) → Invariant m stage → is_delete (stage c) ≡ true → card_key m.words c ≡ delete_key m.words c
 delete_card_key m stage c invariant h = card_key-delete m.words c (delete_kind m.words stage invariant.words c h)
 
--- a won child exchange of an insert adds the card's key
+-- the value of an insert's card
+insert_card_value : (m : Machine) (stage : Stages) (c : ℕ) → Invariant m stage → is_insert (stage c) ≡ true → card_value m.words c ≡ insert_value m.words c
+insert_card_value m stage c invariant h = card_value-insert m.words c (insert_kind m.words stage invariant.words c h)
+
+-- a won child exchange of an insert adds the card's key with its value
 ichild_keys : (m : Machine) (stage : Stages) (i c : ℕ) (becomes : Scene) → Invariant m stage → IChild c (scene m i) Won becomes
-    → Follows m stage (act.IChild c) i Won (with_scene m i becomes) → AddsKey m.words becomes.words (card_key m.words c)
+    → Follows m stage (act.IChild c) i Won (with_scene m i becomes) → AddsPair m.words becomes.words (card_key m.words c) (card_value m.words c)
 ichild_keys m stage i c becomes invariant row after =
     let waits = ichild_won-waits m stage i c becomes invariant row in
     let inserts : is_insert (stage c) ≡ true = ap is_insert waits in
     let gains = ichild_won-gains m stage i c becomes invariant row in
-    subst (AddsKey m.words becomes.words) (sym (insert_card_key m stage c invariant inserts))
-    (keys_more m.words becomes.words stage after.stages (insert_key m.words c) invariant.words.tree after.invariant.words.tree
-    ((invariant.words.cards c).insert inserts).real gains.absent gains.keys)
+    let key_is = insert_card_key m stage c invariant inserts in
+    let value_is = insert_card_value m stage c invariant inserts in
+    subst (λ k. AddsPair m.words becomes.words k (card_value m.words c)) (sym key_is)
+    (subst (AddsPair m.words becomes.words (insert_key m.words c)) (sym value_is)
+    (pairs_more m.words becomes.words stage after.stages (insert_key m.words c) (insert_value m.words c) invariant.words.tree after.invariant.words.tree
+    ((invariant.words.cards c).insert inserts).real gains.absent gains.pairs))
 
 -- a won child exchange of a delete takes the card's key away
 dchild_keys : (m : Machine) (stage : Stages) (i c : ℕ) (becomes : Scene) → Invariant m stage → Happens m.last_card (act.DChild c) (scene m i) Won becomes
@@ -86,7 +93,7 @@ dchild_keys m stage i c becomes invariant happens after =
     let deletes : is_delete (stage c) ≡ true = marked-delete (stage c) ((invariant.workers.each i).facts (Marked c) happens.row.may) in
     let loses = dchild-loses_key c m stage i becomes invariant happens in
     subst (TakesKey m.words becomes.words) (sym (delete_card_key m stage c invariant deletes))
-    (keys_less m.words becomes.words stage after.stages (delete_key m.words c) invariant.words.tree after.invariant.words.tree
+    (pairs_less m.words becomes.words stage after.stages (delete_key m.words c) invariant.words.tree after.invariant.words.tree
     ((invariant.words.cards c).delete deletes).real loses.had loses.each)
 
 -- what an answer of a child exchange can be
@@ -100,7 +107,7 @@ no_reply reply false e = cc
 
 -- each act changes the keys as it should
 act_keys : (a : Act) (m : Machine) (stage : Stages) (i : ℕ) (said : Stepped) (becomes : Scene) → Invariant m stage
-    → Happens m.last_card a (scene m i) said becomes → Follows m stage a i said (with_scene m i becomes) → KeysChange a said m.words becomes.words
+    → Happens m.last_card a (scene m i) said becomes → Follows m stage a i said (with_scene m i becomes) → PairsChange a said m.words becomes.words
 act_keys (act.Begin op) m stage i said becomes invariant h after = same_keys m stage (act.Begin op) i said becomes tt invariant h.row after
 act_keys act.Upd m stage i said becomes invariant h after = same_keys m stage act.Upd i said becomes tt invariant h.row after
 act_keys act.Down m stage i said becomes invariant h after = same_keys m stage act.Down i said becomes tt invariant h.row after
@@ -127,7 +134,7 @@ act_keys act.Answer m stage i said becomes invariant h after = same_keys m stage
 
 -- each event changes the keys as its act should
 pub steps_keys : (m : Machine) (stage : Stages) (e : Event) (said : Stepped) (m' : Machine) → Invariant m stage → Steps m e said m'
-    → Follows m stage e.act e.worker said m' → KeysChange e.act said m.words m'.words
+    → Follows m stage e.act e.worker said m' → PairsChange e.act said m.words m'.words
 steps_keys m stage e said m' invariant h after =
-    subst (λ (t : Machine). KeysChange e.act said m.words t.words) (sym h.gives)
+    subst (λ (t : Machine). PairsChange e.act said m.words t.words) (sym h.gives)
     (act_keys e.act m stage e.worker said h.becomes invariant h.happens (subst (Follows m stage e.act e.worker said) h.gives after))

@@ -8,7 +8,7 @@ use Rattle.ell_core.specs.state.Words.{put}
 use Rattle.ell_core.specs.state.Machine.{Worker, Machine, Scene, scene, with_scene}
 use Rattle.ell_core.specs.acts.Searching.{Answer}
 use Rattle.ell_core.specs.acts.Events.{Steps}
-use Rattle.ell_core.specs.statements.StepLaws.{AnswersAsSet, LedgersChange, KnowledgeLasts}
+use Rattle.ell_core.specs.statements.StepLaws.{AnswersAsMap, LedgersChange, KnowledgeLasts}
 use Rattle.ell_core.proofs.words.Writes.{put_same, put_other}
 use Rattle.ell_core.proofs.following.RowLedgers.{LedgerChanges, row_knows, row_ledger}
 
@@ -48,7 +48,7 @@ ledgers_change m i Moved s h = ledgers_stay m i s h
 ledgers_change m i Won s h = ledgers_stay m i s h
 ledgers_change m i Lost s h = ledgers_stay m i s h
 ledgers_change m i (Answered reply) s h = (
-  subst (λ ledger. AnswersAsSet (m.worker i).ledger ledger (m.worker i).operation reply) (sym (ledger_here m i s)) h,
+  subst (λ ledger. AnswersAsMap (m.worker i).ledger ledger (m.worker i).operation reply) (sym (ledger_here m i s)) h,
   ledger_there m i s,
 )
 

@@ -15,17 +15,22 @@ use Rattle.ell_core.specs.tree.Ranges.{at_leaf}
 use Rattle.ell_core.specs.history.Stages.{Stages}
 use Rattle.ell_core.specs.history.Invariant.{Invariant}
 use Rattle.ell_core.proofs.following.Sound.{flag_sound}
-use Rattle.ell_core.proofs.tree.Bounds.{leaf_key}
+use Rattle.ell_core.proofs.tree.Bounds.{leaf_key, leaf_holds}
 use Rattle.ell_core.specs.declared.view.Entry.TheVariants.{Present}
 
 -- the invariant holds of the state
 module _ (m : Machine) (stage : Stages) (sound : Invariant m stage) where
-  -- a worker that stands at a leaf sees by its key whether its ledger has the operation's key present
+  -- a worker that stands at a leaf sees by its key and its value whether its ledger has the operation's key present, and how
   pub leaf_key_tells : (i : ℕ) (op : Op) (x : ℕ) → (m.worker i).operation ≡ Some op → (m.worker i).search.node ≡ Some x
-      → IsLeaf x → (m.words.key x ≡ key_of op) ↔ ((m.worker i).ledger (key_of op) ≡ Some Present)
-  leaf_key_tells i op x busy stands outer =
-      let leads = ((sound.workers.each i).stands op x busy stands).leads in
-      (λ has. leads.0 (at_leaf outer has), λ present. leaf_key m.words.key m.words.child (key_of op) x outer (leads.1 present))
+      → IsLeaf x → (value : ℕ) → ((m.words.key x ≡ key_of op) × (m.words.value x ≡ value)) ↔ ((m.worker i).ledger (key_of op) ≡ Some (Present value))
+  leaf_key_tells i op x busy stands outer value =
+      let leads = ((sound.workers.each i).stands op x busy stands).leads value in (
+        λ has. leads.0 (at_leaf outer has.0 has.1),
+        λ present. (
+          leaf_key m.words.key m.words.child (key_of op) x outer (leads.1 present),
+          leaf_holds m.words.key m.words.child (key_of op) x outer (leads.1 present),
+        ),
+      )
 
   -- a worker with a flagged card in hand has an operation, whose key it owns
   flagged_owns : (j : ℕ) → (m.worker j).flagged ≡ true → (k : ℕ) × Owns (m.worker j) k

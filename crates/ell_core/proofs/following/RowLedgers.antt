@@ -10,7 +10,7 @@ use Rattle.ell_core.specs.state.Machine.{Ledger, Worker, Scene}
 use Rattle.ell_core.specs.acts.Searching.{Answer}
 use Rattle.ell_core.specs.acts.Exchanges.{won_or_lost, flagged_worker, mark_teaches}
 use Rattle.ell_core.specs.acts.Events.{Row}
-use Rattle.ell_core.specs.statements.StepLaws.{AnswersAsSet}
+use Rattle.ell_core.specs.statements.StepLaws.{AnswersAsMap}
 use Rattle.ell_core.proofs.outcomes.Wants.{learned_keeps, learned_any_keeps}
 
 -- what a mark teaches adds to what was known
@@ -57,7 +57,7 @@ row_knows act.Answer s said after r = by_scene s after _ r.gives (λ fact h. h)
 
 -- what a row does to the ledger of its worker, by its answer
 abbrev pub LedgerChanges : Scene → Stepped → Scene → Type 0
-LedgerChanges s (Answered reply) after = AnswersAsSet s.worker.ledger after.worker.ledger s.worker.operation reply
+LedgerChanges s (Answered reply) after = AnswersAsMap s.worker.ledger after.worker.ledger s.worker.operation reply
 LedgerChanges s _ after = after.worker.ledger ≡ s.worker.ledger
 
 -- a row that answers no operation leaves the ledger

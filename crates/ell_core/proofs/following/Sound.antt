@@ -10,7 +10,7 @@ use Rattle.ell_core.specs.tree.Tree.{Leads, Reached}
 use Rattle.ell_core.specs.soundness.Sound.{LedgersAreSound, WalksAreSound, FactsAreSound, NamesAreSound, flags_at, FlagIsSound, FlagsAreSound, IsSound}
 use Rattle.ell_core.specs.history.Stages.{Stages, is_born, is_marked, delete_open, Born}
 use Rattle.ell_core.specs.history.Invariant.{IsOut, WordsAreSound, Invariant}
-use Rattle.ell_core.proofs.tree.Reached.{not_out, finds_iff, joins_walk, tree_key_leads, leads_tree_key}
+use Rattle.ell_core.proofs.tree.Reached.{not_out, finds_iff, joins_walk, tree_key_leads, tree_pair_leads, leads_tree_pair}
 use Rattle.ell_core.proofs.tree.Lawful.{tree_lawful}
 use Rattle.ell_core.proofs.stages.Holding.{fact_holds, effective-staged}
 use Rattle.ell_core.proofs.stages.Order.{born-claimed, marked_cases}
@@ -63,9 +63,10 @@ module _ (m : Machine) (stage : Stages) (sound : Invariant m stage) where
   walks_sound : WalksAreSound m
   walks_sound i op x busy stands =
       let it = (sound.workers.each i).stands op x busy stands in
-      let same = finds_iff m.words (key_of op) x in
       record {
-        finds = (λ h. it.leads.0 (same.0 h), λ h. same.1 (it.leads.1 h));
+        finds = λ value. (let same = finds_iff m.words (key_of op) value x in
+            let leads = it.leads value in
+            (λ h. leads.0 (same.0 h), λ h. same.1 (leads.1 h)));
         joins = λ y on reached. joins_walk m.words sound.words.tree.ordered (key_of op) it.course on reached;
       }
 
@@ -78,11 +79,11 @@ module _ (m : Machine) (stage : Stages) (sound : Invariant m stage) where
       record {
         one_owner = sound.workers.one_owner;
         owned = λ k held. sound.workers.owned k held.real (tree_key_leads m.words ordered k held);
-        present = λ i k owns.
-            (let says = sound.workers.present i k owns in
+        present = λ i k value owns.
+            (let says = sound.workers.present i k value owns in
             let same = ap (λ f. f k) (effective-staged m.words stage sound.words (m.worker i) (sound.workers.each i)) in (
-              λ held. same ∙ says.0 (tree_key_leads m.words ordered k held),
-              λ h. leads_tree_key m.words k ((sound.workers.each i).real k owns) (says.1 (sym same ∙ h)),
+              λ held. same ∙ says.0 (tree_pair_leads m.words ordered k value held),
+              λ h. leads_tree_pair m.words k value ((sound.workers.each i).real k owns) (says.1 (sym same ∙ h)),
             ));
       }
 

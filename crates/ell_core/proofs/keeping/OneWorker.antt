@@ -5,7 +5,8 @@ use Rattle.ell_core.specs.state.Words.{Words, put}
 use Rattle.ell_core.specs.state.Machine.{Worker, Machine, nobody, with_scene}
 use Rattle.ell_core.specs.soundness.Sound.{Owns, IsOwned, IsInHand}
 use Rattle.ell_core.specs.history.Stages.{Stages, insert_open, delete_open, staged, staged_of}
-use Rattle.ell_core.specs.history.Invariant.{LeadsTo, WorkerIsSound, WorkersAreSound, Invariant}
+use Rattle.ell_core.specs.history.Invariant.{LeadsToValue, WorkerIsSound, WorkersAreSound, Invariant}
+use Rattle.ell_core.proofs.tree.Reached.{leads_by_value}
 use Rattle.ell_core.specs.history.Later.{Follows, wins_of, wins_by}
 use Rattle.ell_core.proofs.words.Later.{words_same}
 use Rattle.ell_core.proofs.words.Writes.{put_cases}
@@ -20,11 +21,11 @@ pub record HasInHand (v : Worker) (c : ℕ) : Type 0 where
 abbrev pub StaysInHand : (old new : Worker) → Bool → ℕ → Type 0
 StaysInHand old new stood c = HasInHand new c ⊎ ((stood ≡ true) × (HasInHand old c → HasInHand new c))
 
--- worker i becomes v, with these words and stages: the same keys lead to a leaf of theirs, all workers are sound, worker i
+-- worker i becomes v, with these words and stages: the same keys lead to a leaf of theirs and of the same value, all workers are sound, worker i
 -- owns what it owned, the effective ledgers count as before, and each card whose flag stands stays in hand
 pub record Becomes (m : Machine) (stage : Stages) (i : ℕ) (words : Words) (new : Stages) (v : Worker) : Type 0 where
   pub there : i < m.count
-  pub leads : (k : ℕ) → LeadsTo words k 0 ↔ LeadsTo m.words k 0
+  pub leads : (k value : ℕ) → LeadsToValue words k value 0 ↔ LeadsToValue m.words k value 0
   pub own : WorkerIsSound words new v
   pub others : (j : ℕ) → j ≢ i → WorkerIsSound words new (m.worker j)
   pub owns : (k : ℕ) → Owns v k ↔ Owns (m.worker i) k
@@ -80,11 +81,11 @@ module _ (m : Machine) (stage : Stages) (i : ℕ) (words : Words) (new : Stages)
   workers_become = record {
     each = λ j. put_cases (WorkerIsSound words new) m.worker i v j (λ e. h.own) (λ n. h.others j n);
     one_owner = λ a b k g f. old.one_owner a b k (owned_before a k g) (owned_before b k f);
-    present = λ j k o. (let before = owned_before j k o in
-        let was = old.present j k before in
+    present = λ j k value o. (let before = owned_before j k o in
+        let was = old.present j k value before in
         let same = counts_after j k before in
-        (λ l. same ∙ was.0 ((h.leads k).0 l), λ e. (h.leads k).1 (was.1 (sym same ∙ e))));
-    owned = λ k real l. owned_after k (old.owned k real ((h.leads k).0 l));
+        (λ l. same ∙ was.0 ((h.leads k value).0 l), λ e. (h.leads k value).1 (was.1 (sym same ∙ e))));
+    owned = λ k real l. owned_after k (old.owned k real ((leads_by_value m.words words k 0 (h.leads k)).0 l));
     insert_in_hand = λ c g. elim (h.inserts c g) [
       | inl here ↦ in_hand_here m words i v c here
       | inr stood ↦ in_hand_kept m words i v c stood.1 (old.insert_in_hand c stood.0)
@@ -131,7 +132,7 @@ keeps_worker m stage i v there sound h = record {
   kinds = sound.kinds;
   workers = workers_become m stage i m.words stage v (record {
     there = there;
-    leads = λ k. (λ l. l, λ l. l);
+    leads = λ k value. (λ l. l, λ l. l);
     own = h.own;
     others = λ j n. sound.workers.each j;
     owns = h.owns;

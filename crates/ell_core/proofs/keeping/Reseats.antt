@@ -8,7 +8,7 @@ use Rattle.ell_core.specs.state.Machine.{Worker, Machine, nobody}
 use Rattle.ell_core.specs.state.Moves.{IsIdle}
 use Rattle.ell_core.specs.soundness.Sound.{Owns, IsOwned, IsInHand}
 use Rattle.ell_core.specs.history.Stages.{Stages, allows, staged}
-use Rattle.ell_core.specs.history.Invariant.{LeadsTo, WorkerIsSound, Invariant}
+use Rattle.ell_core.specs.history.Invariant.{LeadsTo, LeadsToValue, WorkerIsSound, Invariant}
 use Rattle.ell_core.specs.declared.view.Entry.TheVariants.{Present}
 
 -- a worker knows only what the stages of the cards allow
@@ -82,10 +82,10 @@ module _ (m : Machine) (stage : Stages) (worker : ℕ → Worker) (count : ℕ) 
       sym x.here ∙ (ap (λ n. h.lands n k) one ∙ y.here)
 
   -- the keys of the tree among a new worker's are those present
-  reseated_present : (n k : ℕ) → Owns (worker n) k → LeadsTo m.words k 0 ↔ (staged stage (worker n) k ≡ Some Present)
-  reseated_present n k owns =
+  reseated_present : (n k value : ℕ) → Owns (worker n) k → LeadsToValue m.words k value 0 ↔ (staged stage (worker n) k ≡ Some (Present value))
+  reseated_present n k value owns =
       let c = h.comes n k owns in
-      let old = before.workers.present c.old k c.owned in
+      let old = before.workers.present c.old k value c.owned in
       (λ found. c.same ∙ old.0 found, λ is. old.1 (sym c.same ∙ is))
 
   -- a key of the tree has a new owner

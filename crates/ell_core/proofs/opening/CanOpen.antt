@@ -3,6 +3,7 @@ use Rattle.std.proofs.lemmas.Bool.{eqb-true}
 use Rattle.std.proofs.lemmas.List.Folds.{Any-from_list_any}
 use Rattle.std.proofs.lemmas.Option.{none-some, same_Some}
 use Rattle.std.specs.List.{All}
+use Rattle.std.specs.Map.{keys_of}
 use Rattle.ell_ops.specs.Meaning.{greatest_key}
 use Rattle.ell_core.specs.state.Opening.{Setup, IsStranger, IsRepeat, opening, is_given}
 use Rattle.ell_core.specs.history.Invariant.{Invariant}
@@ -59,4 +60,4 @@ start_real owned start real given i d below =
 
 -- what can open opens with the invariant
 pub opening_has : (setup : Setup) → CanOpen setup → Invariant (opening setup) (start_stages (length setup.start + 1))
-opening_has setup can = opening_invariant setup can.ascending (start_real setup.owned setup.start can.real can.given) can.faultless can.real can.given
+opening_has setup can = opening_invariant setup can.ascending (start_real setup.owned (keys_of setup.start) can.real can.given) can.faultless can.real can.given

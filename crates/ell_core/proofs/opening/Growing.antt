@@ -14,16 +14,16 @@ use Rattle.ell_core.proofs.words.Stored.{filled_stored, filled_elsewhere}
 use Rattle.ell_core.proofs.opening.NewWords.{filled_claim, filled_inner_value, filled_leaf_child, filled_leaf_update}
 use Rattle.ell_core.specs.declared.branch.Branch.{Branch}
 use Rattle.ell_core.specs.state.Branches.{root_branch, branch_of, left_child}
-use Rattle.ell_core.specs.state.Opening.{start_leaf, root_field, branch_field, start_field, start_words, root_filling, branch_filling}
+use Rattle.ell_core.specs.state.Opening.{start_leaf, start_value, root_field, branch_field, start_field, start_words, root_filling, branch_filling}
 
 -- the fields of all cards where the opening tree's are written below card n, and those of the others are 0
-abbrev pub grown : List ℕ → ℕ → ℕ → Field → ℕ
+abbrev pub grown : List (ℕ × ℕ) → ℕ → ℕ → Field → ℕ
 grown start n zero field = root_field (length start) field
 grown start n (suc c) field =
-    if nat_lt (suc c) n then branch_field (start_leaf start) (branch_of (length start + 1) (suc c)) field else 0
+    if nat_lt (suc c) n then branch_field (start_leaf start) (start_value start) (branch_of (length start + 1) (suc c)) field else 0
 
 -- the words that have them
-abbrev pub growing : List ℕ → ℕ → Words
+abbrev pub growing : List (ℕ × ℕ) → ℕ → Words
 growing start n = words_from (length start + 1) (grown start n)
 
 -- a list of zeros has zero everywhere
@@ -47,21 +47,21 @@ root_stored many RightLeafKey = refl
 root_stored many LeftValue = refl
 root_stored many RightValue = refl
 
-branch_stored : (leaf : ℕ → ℕ) (b : Branch) (field : Field) → stored (branch_filling leaf b) field 0 ≡ branch_field leaf b field
-branch_stored leaf b Gp = refl
-branch_stored leaf b P = refl
-branch_stored leaf b L = refl
-branch_stored leaf b Was = refl
-branch_stored leaf b Key = refl
-branch_stored leaf b Left = refl
-branch_stored leaf b Right = refl
-branch_stored leaf b Update = refl
-branch_stored leaf b LeftLeafKey = refl
-branch_stored leaf b RightLeafKey = refl
-branch_stored leaf b LeftValue = refl
-branch_stored leaf b RightValue = refl
+branch_stored : (leaf value : ℕ → ℕ) (b : Branch) (field : Field) → stored (branch_filling leaf value b) field 0 ≡ branch_field leaf value b field
+branch_stored leaf value b Gp = refl
+branch_stored leaf value b P = refl
+branch_stored leaf value b L = refl
+branch_stored leaf value b Was = refl
+branch_stored leaf value b Key = refl
+branch_stored leaf value b Left = refl
+branch_stored leaf value b Right = refl
+branch_stored leaf value b Update = refl
+branch_stored leaf value b LeftLeafKey = refl
+branch_stored leaf value b RightLeafKey = refl
+branch_stored leaf value b LeftValue = refl
+branch_stored leaf value b RightValue = refl
 
-module _ (start : List ℕ) (size : ℕ) (some : 0 < size) where
+module _ (start : List (ℕ × ℕ)) (size : ℕ) (some : 0 < size) where
   -- zeros after a write of the claim word
   abbrev begun : List ℕ
   begun = slice_set (replicate size 0) 0 (length start + 1)
@@ -79,7 +79,7 @@ module _ (start : List ℕ) (size : ℕ) (some : 0 < size) where
   rooted zero field = filled_stored (words_of begun) 0 (root_filling (length start)) field
       ∙ (ap (stored (root_filling (length start)) field) (begun_word 0 field) ∙ root_stored (length start) field)
   rooted (suc c) field = filled_elsewhere (words_of begun) 0 (root_filling (length start)) (suc c) field (omega arith) ∙ (begun_word (suc c) field
-      ∙ sym (ap (λ t. if t then branch_field (start_leaf start) (branch_of (length start + 1) (suc c)) field else 0) (le-ltb (suc c) 1 (omega arith))))
+      ∙ sym (ap (λ t. if t then branch_field (start_leaf start) (start_value start) (branch_of (length start + 1) (suc c)) field else 0) (le-ltb (suc c) 1 (omega arith))))
 
   pub rooted_words : filled (words_of begun) 0 (root_filling (length start)) ≡ growing start 1
   rooted_words = equal_words _ _ record {
@@ -99,39 +99,39 @@ coded_root left right update =
     (Key, infinity2) ∷ (Left, left) ∷ (Right, right) ∷ (Update, update) ∷ (LeftLeafKey, infinity1) ∷ (RightLeafKey, infinity2) ∷ []
 
 -- so begins the table
-pub begins : (words start : List ℕ) (size left right update : ℕ) → words ≡ replicate size 0 → 0 < size → left ≡ left_child (root_branch (length start + 1))
+pub begins : (words : List ℕ) (start : List (ℕ × ℕ)) (size left right update : ℕ) → words ≡ replicate size 0 → 0 < size → left ≡ left_child (root_branch (length start + 1))
     → right ≡ right_leaf 0 → update ≡ clean 0
     → filled (words_of (slice_set words 0 (length start + 1))) 0 (coded_root left right update) ≡ growing start 1
 begins words start size left right update zeros some l r u =
     (λ t. filled (words_of (slice_set (zeros t) 0 (length start + 1))) 0 (coded_root (l t) (r t) (u t))) ∙ rooted_words start size some
 
 -- the fields of the card that comes next are 0
-next_zero : (start : List ℕ) (n : ℕ) (field : Field) → 0 < n → grown start n n field ≡ 0
+next_zero : (start : List (ℕ × ℕ)) (n : ℕ) (field : Field) → 0 < n → grown start n n field ≡ 0
 next_zero start zero field some = absurd (omega arith)
 next_zero start (suc n) field some =
-    ap (λ t. if t then branch_field (start_leaf start) (branch_of (length start + 1) (suc n)) field else 0) (le-ltb (suc n) (suc n) (omega arith))
+    ap (λ t. if t then branch_field (start_leaf start) (start_value start) (branch_of (length start + 1) (suc n)) field else 0) (le-ltb (suc n) (suc n) (omega arith))
 
 -- and then those of its branch
-next_there : (start : List ℕ) (n : ℕ) (field : Field) → 0 < n
-    → grown start (n + 1) n field ≡ branch_field (start_leaf start) (branch_of (length start + 1) n) field
+next_there : (start : List (ℕ × ℕ)) (n : ℕ) (field : Field) → 0 < n
+    → grown start (n + 1) n field ≡ branch_field (start_leaf start) (start_value start) (branch_of (length start + 1) n) field
 next_there start zero field some = absurd (omega arith)
 next_there start (suc n) field some =
-    ap (λ t. if t then branch_field (start_leaf start) (branch_of (length start + 1) (suc n)) field else 0) (lt-ltb (suc n) (suc n + 1) (omega arith))
+    ap (λ t. if t then branch_field (start_leaf start) (start_value start) (branch_of (length start + 1) (suc n)) field else 0) (lt-ltb (suc n) (suc n + 1) (omega arith))
 
 -- the other cards' stay
-others_stay : (start : List ℕ) (n c : ℕ) (field : Field) → c ≢ n → grown start n c field ≡ grown start (n + 1) c field
+others_stay : (start : List (ℕ × ℕ)) (n c : ℕ) (field : Field) → c ≢ n → grown start n c field ≡ grown start (n + 1) c field
 others_stay start n zero field apart = refl
 others_stay start n (suc c) field apart =
-    ap (λ t. if t then branch_field (start_leaf start) (branch_of (length start + 1) (suc c)) field else 0) (elim (cases_lt (suc c) n) [
+    ap (λ t. if t then branch_field (start_leaf start) (start_value start) (branch_of (length start + 1) (suc c)) field else 0) (elim (cases_lt (suc c) n) [
       | inl less ↦ lt-ltb (suc c) n less ∙ sym (lt-ltb (suc c) (n + 1) (omega arith))
       | inr past ↦ le-ltb (suc c) n past ∙ sym (le-ltb (suc c) (n + 1) (omega arith))
     ])
 
 -- one card more
-pub grows : (start : List ℕ) (n : ℕ) (old new : Words) → 0 < n → old ≡ growing start n
-    → new ≡ filled old n (branch_filling (start_leaf start) (branch_of (length start + 1) n)) → new ≡ growing start (n + 1)
+pub grows : (start : List (ℕ × ℕ)) (n : ℕ) (old new : Words) → 0 < n → old ≡ growing start n
+    → new ≡ filled old n (branch_filling (start_leaf start) (start_value start) (branch_of (length start + 1) n)) → new ≡ growing start (n + 1)
 grows start n old new some is writes =
-    let fields = branch_filling (start_leaf start) (branch_of (length start + 1) n) in
+    let fields = branch_filling (start_leaf start) (start_value start) (branch_of (length start + 1) n) in
     writes ∙ (ap (λ (w : Words). filled w n fields) is ∙ equal_words _ _ record {
       next = filled_claim (growing start n) n fields;
       word = λ c field. by c field ∙ sym (made_word (length start + 1) (grown start (n + 1)) c field);
@@ -143,30 +143,30 @@ grows start n old new some is writes =
           ∙ (made_leaf_update (length start + 1) (grown start n) x h ∙ sym (made_leaf_update (length start + 1) (grown start (n + 1)) x h));
     })
   where
-    here : (field : Field) → word (filled (growing start n) n (branch_filling (start_leaf start) (branch_of (length start + 1) n))) n field
+    here : (field : Field) → word (filled (growing start n) n (branch_filling (start_leaf start) (start_value start) (branch_of (length start + 1) n))) n field
         ≡ grown start (n + 1) n field
-    here field = filled_stored (growing start n) n (branch_filling (start_leaf start) (branch_of (length start + 1) n)) field
-        ∙ (ap (stored (branch_filling (start_leaf start) (branch_of (length start + 1) n)) field)
+    here field = filled_stored (growing start n) n (branch_filling (start_leaf start) (start_value start) (branch_of (length start + 1) n)) field
+        ∙ (ap (stored (branch_filling (start_leaf start) (start_value start) (branch_of (length start + 1) n)) field)
         (made_word (length start + 1) (grown start n) n field ∙ next_zero start n field some)
-        ∙ (branch_stored (start_leaf start) (branch_of (length start + 1) n) field ∙ sym (next_there start n field some)))
+        ∙ (branch_stored (start_leaf start) (start_value start) (branch_of (length start + 1) n) field ∙ sym (next_there start n field some)))
 
-    by : (c : ℕ) (field : Field) → word (filled (growing start n) n (branch_filling (start_leaf start) (branch_of (length start + 1) n))) c field
+    by : (c : ℕ) (field : Field) → word (filled (growing start n) n (branch_filling (start_leaf start) (start_value start) (branch_of (length start + 1) n))) c field
         ≡ grown start (n + 1) c field
     by c field = elim (cases_eq c n) [
-      | inl e ↦ subst (λ d. word (filled (growing start n) n (branch_filling (start_leaf start) (branch_of (length start + 1) n))) d field
+      | inl e ↦ subst (λ d. word (filled (growing start n) n (branch_filling (start_leaf start) (start_value start) (branch_of (length start + 1) n))) d field
           ≡ grown start (n + 1) d field) (sym e) (here field)
-      | inr apart ↦ filled_elsewhere (growing start n) n (branch_filling (start_leaf start) (branch_of (length start + 1) n)) c field apart
+      | inr apart ↦ filled_elsewhere (growing start n) n (branch_filling (start_leaf start) (start_value start) (branch_of (length start + 1) n)) c field apart
           ∙ (made_word (length start + 1) (grown start n) c field ∙ others_stay start n c field apart)
     ]
 
 -- with all cards of the opening tree they are the words at the start
-pub grown_up : (start : List ℕ) (n : ℕ) → n ≡ length start + 1 → growing start n ≡ start_words start
+pub grown_up : (start : List (ℕ × ℕ)) (n : ℕ) → n ≡ length start + 1 → growing start n ≡ start_words start
 grown_up start n is = λ t. words_from (length start + 1) (λ c field. all c field t)
   where
     all : (c : ℕ) (field : Field) → grown start n c field ≡ start_field start c field
     all zero field = refl
     all (suc c) field =
-        ap (λ t. if t then branch_field (start_leaf start) (branch_of (length start + 1) (suc c)) field else 0) (elim (cases_lt c (length start)) [
+        ap (λ t. if t then branch_field (start_leaf start) (start_value start) (branch_of (length start + 1) (suc c)) field else 0) (elim (cases_lt c (length start)) [
           | inl less ↦ lt-ltb (suc c) n (omega arith) ∙ sym (lt-ltb c (length start) less)
           | inr past ↦ le-ltb (suc c) n (omega arith) ∙ sym (le-ltb c (length start) past)
         ])

@@ -1,25 +1,27 @@
 use Rattle.std.proofs.Common.{◌≡◌, ◌≢◌, ℕ, ◌+◌, ◌<◌, ◌≤◌, ◌==◌, ◌⊎◌, inl, inr, if◌then◌else◌, Bool, true, false, nat_lt, Some, None, List, length, get_or, refl, sym, ap, ◌∙◌, subst, arith}
-use Rattle.std.proofs.lemmas.Bool.{false≢true, cases_lt, and_from, eqb-true, eq-eqb, lt-ltb, le-ltb}
+use Rattle.std.proofs.lemmas.Bool.{false≢true, cases_lt, and_from, eq-eqb, lt-ltb, le-ltb}
 use Rattle.std.proofs.lemmas.Option.{none-some, same_Some}
-use Rattle.std.proofs.lemmas.Grind.{get_or_default_zero}
 use Rattle.std.proofs.lemmas.List.Folds.{Any-from_list_any, list_any_at}
 use Rattle.std.specs.List.{All, list_any}
 use Rattle.std.specs.List.Sorted.{IsStrictlyIncreasing}
-use Rattle.ell_ops.specs.KeySet.{set_of}
+use Rattle.std.specs.Map.{keys_of}
+use Rattle.ell_core.proofs.tree.Reached.{leads_any, leads_some, one_value}
+use Rattle.ell_ops.specs.Contents.{contents_of}
+use Rattle.ell_ops.proofs.Pairs.{contents_at, place_in}
 use Rattle.ell_ops.specs.Meaning.{greatest_key}
 use Rattle.ell_word.specs.Node.{IsInternal, card, internal}
 use Rattle.ell_core.specs.state.Words.{Words}
 use Rattle.ell_core.specs.state.Cards.{iflag, dflag, marked, clean}
-use Rattle.ell_core.specs.state.Machine.{idle, present_if}
+use Rattle.ell_core.specs.state.Machine.{idle, entry_of}
 use Rattle.ell_core.specs.history.Stages.{Stage, Stages, Unclaimed, Opening, is_claimed, is_start, is_insert, is_delete, is_born, insert_open, delete_open, insert_won, delete_won}
-use Rattle.ell_core.specs.history.Invariant.{GoesNowhere, Invariant, top, LeadsTo, IsIn, CardIsSound, ChildrenAreSound, UpdateIsSound, TreeIsSound, WordsAreSound, WorkerIsSound, WorkersAreSound}
+use Rattle.ell_core.specs.history.Invariant.{GoesNowhere, Invariant, top, LeadsTo, LeadsToValue, IsIn, CardIsSound, ChildrenAreSound, UpdateIsSound, TreeIsSound, WordsAreSound, WorkerIsSound, WorkersAreSound}
 use Rattle.ell_core.specs.tree.Ranges.{IsOrdered}
 use Rattle.ell_core.proofs.keeping.going_on.Stages.{no_insert, no_delete}
 use Rattle.ell_core.proofs.opening.Owners.{ledger_there, opening_one_owner, opening_stranger, opening_real}
 use Rattle.ell_core.proofs.outcomes.Decide.{some_not_none}
-use Rattle.ell_core.specs.state.Opening.{Setup, gives, Faultless, start_leaf, start_words, opening_ledger, opening, is_given, start_entry}
+use Rattle.ell_core.specs.state.Opening.{Setup, gives, Faultless, start_leaf, start_value, start_words, opening_ledger, opening, is_given, start_entry}
 use Rattle.ell_core.proofs.opening.StartTree.{tree_ordered, card_reached, child_more, child_on, left_less, right_least, finds_leaf, finds_leaves_only}
-use Rattle.ell_core.proofs.opening.StartWords.{leaf_key, leaf_last, leaf_root, leaves_rise, leaves_end, has_branches, clean_update, goes_none, later_blank}
+use Rattle.ell_core.proofs.opening.StartWords.{has_value, keys_length, leaf_key, leaf_last, leaf_root, leaves_rise, leaves_end, has_branches, clean_update, goes_none, later_blank}
 use Rattle.ell_core.specs.declared.view.Entry.TheVariants.{Present}
 use Rattle.ell_core.proofs.opening.KeyLists.{holds_present}
 
@@ -78,11 +80,11 @@ unclaimed_past end c is = elim (start_cases end c) [
 ]
 
 -- a key that an entry names is some worker's
-pub record IsGiven (owned : List (ℕ × ℕ)) (start : List ℕ) (key : ℕ) : Type 0 where
+pub record IsGiven (owned start : List (ℕ × ℕ)) (key : ℕ) : Type 0 where
   pub worker : ℕ
   pub owns : opening_ledger owned start worker key ≢ None
 
-given_owned : (owned : List (ℕ × ℕ)) (start : List ℕ) (key : ℕ) → is_given owned key ≡ true → IsGiven owned start key
+given_owned : (owned start : List (ℕ × ℕ)) (key : ℕ) → is_given owned key ≡ true → IsGiven owned start key
 given_owned owned start key is =
     let any = Any-from_list_any (λ (entry : ℕ × ℕ). entry.1 == key) owned is in
     let test : gives any.1.0 key any.1 ≡ true = and_from (any.1.0 == any.1.0) (any.1.1 == key) (eq-eqb any.1.0 any.1.0 refl) any.4 in
@@ -90,7 +92,7 @@ given_owned owned start key is =
     let some : list_any (gives any.1.0 key) owned ≡ true = list_any_at (gives any.1.0 key) owned any.0 any.1 any.2 at in
     record { worker = any.1.0; owns = λ none. some_not_none (ap (λ t. if t then Some (start_entry start key) else None) some) none }
 
-module _ (start : List ℕ) (ascending : IsStrictlyIncreasing start) (real : All (λ k. k ≤ greatest_key) start) where
+module _ (start : List (ℕ × ℕ)) (ascending : IsStrictlyIncreasing (keys_of start)) (real : All (λ k. k ≤ greatest_key) (keys_of start)) where
   -- how many cards the opening tree has
   abbrev end : ℕ
   end = length start + 1
@@ -103,42 +105,48 @@ module _ (start : List ℕ) (ascending : IsStrictlyIncreasing start) (real : All
 
   -- the tree of the start keys
   ordered : IsOrdered w.key w.child top
-  ordered = tree_ordered (length start + 1) some (start_leaf start) w.key w.child top (leaves_rise start ascending real) (leaves_end start ascending real)
+  ordered = tree_ordered (length start + 1) some (start_leaf start) w.key w.child (has_value start) top (leaves_rise start ascending real) (leaves_end start ascending real)
       (has_branches start)
 
   reached : (c : ℕ) → c < length start + 1 → IsIn w (internal c)
-  reached = card_reached (length start + 1) some (start_leaf start) w.key w.child top (leaves_rise start ascending real) (leaves_end start ascending real)
+  reached = card_reached (length start + 1) some (start_leaf start) w.key w.child (has_value start) top (leaves_rise start ascending real) (leaves_end start ascending real)
       (has_branches start)
 
   on_card : (c : ℕ) (right : Bool) → c < length start + 1 → card (w.child (internal c) right) < length start + 1
-  on_card = child_on (length start + 1) some (start_leaf start) w.key w.child top (leaves_rise start ascending real) (leaves_end start ascending real)
+  on_card = child_on (length start + 1) some (start_leaf start) w.key w.child (has_value start) top (leaves_rise start ascending real) (leaves_end start ascending real)
       (has_branches start)
 
-  -- a key that is found is a start key, or one of the two above all keys; and each of those is found
-  pub found_start : (k : ℕ) → k ≤ greatest_key → LeadsTo w k 0 → set_of start k ≡ true
-  found_start k low found =
-      let leaf = finds_leaves_only (length start + 1) some (start_leaf start) w.key w.child top (leaves_rise start ascending real) (leaves_end start ascending real)
-      (has_branches start) k found in
+  -- each leaf's key is found, with its value
+  finds : (i : ℕ) → i ≤ length start + 1 → LeadsToValue w (start_leaf start i) (start_value start i) 0
+  finds = finds_leaf (length start + 1) some (start_leaf start) w.key w.child (has_value start) top (leaves_rise start ascending real)
+      (leaves_end start ascending real) (has_branches start)
+
+  -- a real key that is found is a start key, with its value
+  pub found_start : (k value : ℕ) → k ≤ greatest_key → LeadsToValue w k value 0 → contents_of start k ≡ Some value
+  found_start k value low found =
+      let leaf = finds_leaves_only (length start + 1) some (start_leaf start) w.key w.child (has_value start) top (leaves_rise start ascending real)
+      (leaves_end start ascending real) (has_branches start) k found in
       let within = leaf.inside in
       let is = leaf.is in
       elim (cases_lt leaf.at (length start)) [
-        | inl below ↦ list_any_at (λ n. k == n) start leaf.at 0 below (eq-eqb k (get_or start leaf.at 0) (sym is ∙ leaf_key start leaf.at below))
+        | inl below ↦
+            let key_is : get_or (keys_of start) leaf.at 0 ≡ k = sym (leaf_key start leaf.at below) ∙ is in
+            let there = subst (λ n. LeadsToValue w n (start_value start leaf.at) 0) is (finds leaf.at within) in
+            let value_is : value ≡ start_value start leaf.at = one_value w k value (start_value start leaf.at) found there in
+            ap (contents_of start) (sym key_is) ∙ (contents_at start leaf.at ascending below ∙ ap Some (sym value_is))
         | inr past ↦ absurd (elim (cases_lt (length start) leaf.at) [
           | inl more ↦ (let e : leaf.at ≡ length start + 1 = omega arith in let h = ap (start_leaf start) e ∙ leaf_root start in omega arith)
           | inr less ↦ (let e : leaf.at ≡ length start = omega arith in let h = ap (start_leaf start) e ∙ leaf_last start in omega arith)
         ])
       ]
 
-  finds : (i : ℕ) → i ≤ length start + 1 → LeadsTo w (start_leaf start i) 0
-  finds = finds_leaf (length start + 1) some (start_leaf start) w.key w.child top (leaves_rise start ascending real) (leaves_end start ascending real)
-      (has_branches start)
-
-  pub start_found : (k : ℕ) → set_of start k ≡ true → LeadsTo w k 0
-  start_found k is =
-      let any = Any-from_list_any (λ n. k == n) start is in
-      let same : any.1 ≡ k = sym (eqb-true k any.1 any.4) in
-      let at : start_leaf start any.0 ≡ any.1 = leaf_key start any.0 any.2 ∙ (sym (get_or_default_zero start any.0 any.1 any.2) ∙ any.3) in
-      subst (λ n. LeadsTo w n 0) (at ∙ same) (finds any.0 (let below = any.2 in omega arith))
+  -- and each start key is found
+  pub start_found : (k value : ℕ) → contents_of start k ≡ Some value → LeadsToValue w k value 0
+  start_found k value is =
+      let place = place_in start k value is in
+      let below = place.below in
+      subst (λ n. LeadsToValue w n value 0) (leaf_key start place.at below ∙ place.key_is)
+      (subst (λ v. LeadsToValue w (start_leaf start place.at) v 0) place.value_is (finds place.at (omega arith)))
 
   -- each card is sound
   card_sound : (c : ℕ) → CardIsSound w (start_stages (length start + 1)) c
@@ -157,11 +165,11 @@ module _ (start : List ℕ) (ascending : IsStrictlyIncreasing start) (real : All
   children_sound : (c : ℕ) → c < length start + 1 → ChildrenAreSound w (start_stages (length start + 1)) (internal c)
   children_sound c below = record {
     born = λ right. below_born (length start + 1) (card (w.child (internal c) right)) (on_card c right below);
-    rising = λ right. child_more (length start + 1) some (start_leaf start) w.key w.child top (leaves_rise start ascending real) (leaves_end start ascending real)
+    rising = λ right. child_more (length start + 1) some (start_leaf start) w.key w.child (has_value start) top (leaves_rise start ascending real) (leaves_end start ascending real)
         (has_branches start) right c below;
-    left_less = left_less (length start + 1) some (start_leaf start) w.key w.child top (leaves_rise start ascending real) (leaves_end start ascending real)
+    left_less = left_less (length start + 1) some (start_leaf start) w.key w.child (has_value start) top (leaves_rise start ascending real) (leaves_end start ascending real)
         (has_branches start) c below;
-    right_more = right_least (length start + 1) some (start_leaf start) w.key w.child top (leaves_rise start ascending real) (leaves_end start ascending real)
+    right_more = right_least (length start + 1) some (start_leaf start) w.key w.child (has_value start) top (leaves_rise start ascending real) (leaves_end start ascending real)
         (has_branches start) c below;
   }
 
@@ -179,7 +187,8 @@ module _ (start : List ℕ) (ascending : IsStrictlyIncreasing start) (real : All
     root_key = refl;
     root_right = refl;
     right_key = refl;
-    last = subst (λ n. LeadsTo w n 0) (leaf_last start) (finds (length start) (omega arith));
+    last = subst (λ n. LeadsTo w n 0) (leaf_last start)
+        (leads_any w (start_leaf start (length start)) (start_value start (length start)) 0 (finds (length start) (omega arith)));
     there = λ x inner born calm. subst (IsIn w) (sym (node_of x inner)) (reached (card x) (born_below (length start + 1) (card x) born));
   }
 
@@ -198,9 +207,9 @@ module _ (start : List ℕ) (ascending : IsStrictlyIncreasing start) (real : All
   }
 
 -- where the start keys ascend, no entry is faulty, each names a real key, and some entry names each start key
-module _ (setup : Setup) (ascending : IsStrictlyIncreasing setup.start) (real : All (λ k. k ≤ greatest_key) setup.start)
+module _ (setup : Setup) (ascending : IsStrictlyIncreasing (keys_of setup.start)) (real : All (λ k. k ≤ greatest_key) (keys_of setup.start))
     (faultless : Faultless setup.count setup.owned) (owned_real : All (λ entry. entry.1 ≤ greatest_key) setup.owned)
-    (given : All (λ k. is_given setup.owned k ≡ true) setup.start) where
+    (given : All (λ k. is_given setup.owned k ≡ true) (keys_of setup.start)) where
   worker_sound : (i : ℕ) → WorkerIsSound (start_words setup.start) (start_stages (length setup.start + 1)) (idle (opening_ledger setup.owned setup.start i) (λ _. false))
   worker_sound i = record {
     facts = λ fact h. absurd (false≢true h);
@@ -213,23 +222,29 @@ module _ (setup : Setup) (ascending : IsStrictlyIncreasing setup.start) (real : 
   }
 
   -- a start key has an owner
-  pub start_owned : (k : ℕ) → set_of setup.start k ≡ true → IsGiven setup.owned setup.start k
-  start_owned k is =
-      let any = Any-from_list_any (λ n. k == n) setup.start is in
-      let same : any.1 ≡ k = sym (eqb-true k any.1 any.4) in
-      given_owned setup.owned setup.start k (subst (λ n. is_given setup.owned n ≡ true) (any.3 ∙ same) (given any.0 any.1 any.2))
+  pub start_owned : (k value : ℕ) → contents_of setup.start k ≡ Some value → IsGiven setup.owned setup.start k
+  start_owned k value is =
+      let place = place_in setup.start k value is in
+      let below = place.below in
+      let n = keys_length setup.start in
+      given_owned setup.owned setup.start k (subst (λ n. is_given setup.owned n ≡ true) place.key_is (given place.at 0 (omega arith)))
 
   workers_sound : WorkersAreSound (opening setup) (start_stages (length setup.start + 1))
   unfolding opening
   workers_sound = record {
     each = worker_sound;
     one_owner = λ i j k a b. opening_one_owner setup.count setup.owned setup.start faultless i j k a b;
-    present = λ i k owns. (
+    present = λ i k value owns. (
       λ found. ledger_there setup.owned setup.start i k owns
-          ∙ ap (λ b. Some (present_if b)) (found_start setup.start ascending real k (opening_real setup.owned setup.start i k owned_real owns) found),
-      λ has. start_found setup.start ascending real k (holds_present (set_of setup.start k) (same_Some (start_entry setup.start k) Present (sym (ledger_there setup.owned setup.start i k owns) ∙ has))),
+          ∙ ap (λ there. Some (entry_of there)) (found_start setup.start ascending real k value (opening_real setup.owned setup.start i k owned_real owns) found),
+      λ has. start_found setup.start ascending real k value
+          (holds_present (contents_of setup.start k) value
+          (same_Some (start_entry setup.start k) (Present value) (sym (ledger_there setup.owned setup.start i k owns) ∙ has))),
     );
-    owned = λ k below found. let at = start_owned k (found_start setup.start ascending real k below found) in record { worker = at.worker; owns = at.owns };
+    owned = λ k below found.
+        let there = leads_some (start_words setup.start) k found in
+        let at = start_owned k there.0 (found_start setup.start ascending real k there.0 below there.1) in
+        record { worker = at.worker; owns = at.owns };
     insert_in_hand = λ c h. absurd (false≢true (sym (each_stage (λ s. insert_open s ≡ false) (length setup.start + 1) c refl refl) ∙ h));
     delete_in_hand = λ c h. absurd (false≢true (sym (each_stage (λ s. delete_open s ≡ false) (length setup.start + 1) c refl refl) ∙ h));
     strangers = opening_stranger setup.count setup.owned setup.start faultless;

@@ -1,21 +1,28 @@
-use Rattle.std.proofs.Common.{◌≡◌, ◌↔◌, ℕ, zero, suc, ◌<◌, ◌≤◌, ◌==◌, ◌||◌, eqb-true, eq-eqb, Bool, true, false, IsTrue, List, [], ◌∷◌, length, get_or, refl, sym, ap, subst, inl, inr, arith, true≢false}
+use Rattle.std.proofs.Common.{◌≡◌, ◌↔◌, ℕ, zero, suc, ◌<◌, ◌≤◌, ◌==◌, ◌||◌, eqb-true, eq-eqb, Bool, true, false, IsTrue, Option, Some, None, List, [], ◌∷◌, length, get_or, refl, sym, ap, ◌∙◌, subst, inl, inr, arith, Less, Equal, Greater, true≢false}
 use Rattle.std.specs.Prelude.{MatchResult}
 use Rattle.std.specs.Result.{is_ok}
 use Rattle.std.specs.declared.result.Result.{Result}
 use Rattle.std.specs.declared.result.Result.TheVariants.{Ok, Err}
-use Rattle.std.specs.Ordering.{nat_cmp}
-use Rattle.std.specs.List.Sorted.{IsStrictlyIncreasing, IsBinarySearchResult}
+use Rattle.std.specs.Ordering.{nat_cmp, ordering_index}
+use Rattle.std.specs.List.Sorted.{IsStrictlyIncreasing, IsNonDecreasingBy, IsBinarySearchResult}
+use Rattle.std.specs.Map.{keys_of, values_of}
+use Rattle.std.proofs.lemmas.Cmp.{ranked}
+use Rattle.ell_ops.specs.Contents.{contents_of}
+use Rattle.ell_ops.proofs.Pairs.{contents_at, place_in}
 use Rattle.std.proofs.lemmas.List.Kept.{AllPairs-from_increasing}
 use Rattle.std.proofs.lemmas.List.Sorted.{searched}
 use Rattle.std.proofs.lemmas.Bool.{cases_eq, cases_lt}
+use Rattle.std.proofs.lemmas.Bool.Decides.{nat_tests}
+use Rattle.std.proofs.lemmas.List.{length-map}
+use Rattle.std.proofs.lemmas.List.Sorted.{IsNonDecreasingBy-from_default}
 use Rattle.ell_ops.specs.KeySet.{set_of}
 use Rattle.ell_core.specs.declared.view.Entry.TheVariants.{Present}
-use Rattle.ell_core.specs.state.Machine.{present_if}
+use Rattle.ell_core.specs.state.Machine.{entry_of}
 
--- what is said to be present holds
-pub holds_present : (b : Bool) → present_if b ≡ Present → b ≡ true
-holds_present true h = refl
-holds_present false h = cc
+-- what is said to be present is there
+pub holds_present : (there : Option ℕ) (value : ℕ) → entry_of there ≡ Present value → there ≡ Some value
+holds_present (Some v) value h = let same : v ≡ value = cc in ap Some same
+holds_present None value h = absurd cc
 
 -- a key at a place is among the keys
 pub at_place : (keys : List ℕ) (i d : ℕ) → i < length keys → set_of keys (get_or keys i d) ≡ true
@@ -70,3 +77,59 @@ search_tells keys k found rising says = by (is_ok found) (set_of keys k) (search
     by true b h = sym (h.0 refl)
     by false true h = h.1 refl
     by false false h = refl
+
+-- a key and a value at a place are those of the pair there
+pair_at : (pairs : List (ℕ × ℕ)) (i : ℕ) → i < length pairs
+    → (get_or (keys_of pairs) i 0 ≡ (get_or pairs i (0, 0)).0) × (get_or (values_of pairs) i 0 ≡ (get_or pairs i (0, 0)).1)
+pair_at [] i low = absurd (omega arith)
+pair_at (p ∷ pairs) zero low = (refl, refl)
+pair_at (p ∷ pairs) (suc i) low = pair_at pairs i (omega arith)
+
+-- what a binary search finds among ascending pairs is the value of the key
+pub found_by_search : (pairs : List (ℕ × ℕ)) (k i : ℕ) → IsStrictlyIncreasing (keys_of pairs) → i < length pairs
+    → ((d : ℕ × ℕ) → nat_cmp (get_or pairs i d).0 k ≡ Equal) → Some (get_or pairs i (0, 0)).1 ≡ contents_of pairs k
+found_by_search pairs k i rising low found =
+    let at = pair_at pairs i low in
+    let key : (get_or pairs i (0, 0)).0 ≡ k = ranked _ _ Equal (sym (found (0, 0))) in
+    sym (ap (contents_of pairs) (sym (at.0 ∙ key)) ∙ (contents_at pairs i rising low ∙ ap Some at.1))
+
+-- where it finds none, there is none
+pub missed_by_search : (pairs : List (ℕ × ℕ)) (k i : ℕ)
+    → ((n : ℕ) (d : ℕ × ℕ) → 0 ≤ n → n < i → nat_cmp (get_or pairs n d).0 k ≡ Less)
+    → ((n : ℕ) (d : ℕ × ℕ) → i ≤ n → n < length pairs → nat_cmp (get_or pairs n d).0 k ≡ Greater) → None ≡ contents_of pairs k
+missed_by_search pairs k i less more = by (contents_of pairs k) refl
+  where
+    nowhere : (value : ℕ) → contents_of pairs k ≡ Some value → ⊥
+    nowhere value is =
+        let place = place_in pairs k value is in
+        let at = pair_at pairs place.at place.below in
+        let same : (get_or pairs place.at (0, 0)).0 ≡ k = sym at.0 ∙ place.key_is in
+        elim (cases_lt place.at i) [
+          | inl before ↦ (let h : (get_or pairs place.at (0, 0)).0 < k = ranked _ _ Less (sym (less place.at (0, 0) (omega arith) before)) in omega arith)
+          | inr past ↦ (let h : k < (get_or pairs place.at (0, 0)).0 = ranked _ _ Greater (sym (more place.at (0, 0) past place.below)) in omega arith)
+        ]
+
+    by : (o : Option ℕ) → contents_of pairs k ≡ o → None ≡ o
+    by None e = refl
+    by (Some value) e = absurd (nowhere value e)
+
+-- a comparison with a greater number is no less
+cmp_more : (a b k : ℕ) → a ≤ b → ordering_index (nat_cmp a k) ≤ ordering_index (nat_cmp b k)
+cmp_more a b k le = grind (arith, nat_tests)
+
+-- ascending pairs are in the order of that search
+pub search_order : (pairs : List (ℕ × ℕ)) (k : ℕ) → IsStrictlyIncreasing (keys_of pairs)
+    → IsNonDecreasingBy (λ (p : ℕ × ℕ). ordering_index (nat_cmp p.0 k)) pairs
+search_order pairs k rising = IsNonDecreasingBy-from_default (λ (p : ℕ × ℕ). ordering_index (nat_cmp p.0 k)) pairs (0, 0)
+    (λ i j le low. cmp_more (get_or pairs i (0, 0)).0 (get_or pairs j (0, 0)).0 k (at i j le low))
+  where
+    at : (i j : ℕ) → i ≤ j → j < length pairs → (get_or pairs i (0, 0)).0 ≤ (get_or pairs j (0, 0)).0
+    at i j le low =
+        let n = length-map pairs (λ p. p.0) in
+        let first = (pair_at pairs i (omega arith)).0 in
+        let second = (pair_at pairs j low).0 in
+        elim (cases_eq i j) [
+          | inl e ↦ (let same = ap (λ m. (get_or pairs m (0, 0)).0) e in omega arith)
+          | inr apart ↦ (let less : get_or (keys_of pairs) i 0 < get_or (keys_of pairs) j 0 =
+              AllPairs-from_increasing (keys_of pairs) rising i j 0 (omega arith) (omega arith) in omega arith)
+        ]

@@ -7,6 +7,7 @@ use Rattle.std.specs.List.{All, list_any}
 use Rattle.std.specs.List.Sorted.{IsStrictlyIncreasing}
 use Rattle.ell_ops.specs.KeySet.{set_of}
 use Rattle.ell_ops.specs.Meaning.{greatest_key}
+use Rattle.std.specs.Map.{keys_of}
 use Rattle.ell_core.specs.state.Machine.{idle, ledger_of}
 use Rattle.ell_core.specs.state.Opening.{Setup, opening, start_words, last_card, is_given, opening_ledger, gives, IsStranger, IsRepeat, start_entry}
 use Rattle.ell_core.specs.history.Invariant.{Invariant}
@@ -26,7 +27,7 @@ abbrev pub entries : List ℕ → List (ℕ × ℕ)
 entries keys = map entry_of keys
 
 -- the ledger of worker 0 has all keys
-first_ledger : (start keys : List ℕ) (k : ℕ) → opening_ledger (entries keys) start 0 k ≡ ledger_of (keys_at_start keys start) k
+first_ledger : (start : List (ℕ × ℕ)) (keys : List ℕ) (k : ℕ) → opening_ledger (entries keys) start 0 k ≡ ledger_of (keys_at_start keys start) k
 first_ledger start [] k = refl
 first_ledger start (x ∷ keys) k = by (x == k) refl (first_ledger start keys k)
   where
@@ -43,7 +44,7 @@ none_given : (keys : List ℕ) (i k : ℕ) → list_any (gives (suc i) k) (entri
 none_given [] i k = refl
 none_given (x ∷ keys) i k = ap (λ t. (t && (x == k)) || list_any (gives (suc i) k) (entries keys)) (ne_eqb 0 (suc i) (λ e. omega arith)) ∙ none_given keys i k
 
-other_ledger : (start keys : List ℕ) (i k : ℕ) → opening_ledger (entries keys) start (suc i) k ≡ None
+other_ledger : (start : List (ℕ × ℕ)) (keys : List ℕ) (i k : ℕ) → opening_ledger (entries keys) start (suc i) k ≡ None
 other_ledger start keys i k = ap (λ t. if t then Some (start_entry start k) else None) (none_given keys i k)
 
 -- each of the keys is given
@@ -90,8 +91,8 @@ no_repeat keys rising at s =
     let same : q.key ≡ p.key = sym (ap (λ (x : ℕ × ℕ). x.1) q.is) ∙ (s.same ∙ ap (λ (x : ℕ × ℕ). x.1) p.is) in
     omega arith
 
-module _ (keys start : List ℕ) (cards : ℕ) (rising : IsStrictlyIncreasing keys) (real : All (λ k. k ≤ greatest_key) keys)
-    (ascending : IsStrictlyIncreasing start) (among : All (λ k. set_of keys k ≡ true) start) where
+module _ (keys : List ℕ) (start : List (ℕ × ℕ)) (cards : ℕ) (rising : IsStrictlyIncreasing keys) (real : All (λ k. k ≤ greatest_key) keys)
+    (ascending : IsStrictlyIncreasing (keys_of start)) (among : All (λ k. set_of keys k ≡ true) (keys_of start)) where
   -- the entries can open
   abbrev setup : Setup
   setup = record { count = 1; owned = entries keys; start = start; cards = cards }
@@ -101,7 +102,7 @@ module _ (keys start : List ℕ) (cards : ℕ) (rising : IsStrictlyIncreasing ke
     faultless = λ at. (no_stranger keys at, no_repeat keys rising at);
     real = All-map (λ entry. entry.1 ≤ greatest_key) entry_of keys real;
     ascending = ascending;
-    given = λ i d below. given_entry keys (get_or start i d) ∙ among i d below;
+    given = λ i d below. given_entry keys (get_or (keys_of start) i d) ∙ among i d below;
   }
 
   -- the workers are the first one alone
@@ -115,8 +116,8 @@ module _ (keys start : List ℕ) (cards : ℕ) (rising : IsStrictlyIncreasing ke
   state_is = λ t. record { words = start_words start; worker = λ i. workers_are i t; count = 1; last_card = last_card start cards }
 
 -- it has the invariant with the stages at the start
-pub one_worker_has : (keys start : List ℕ) (cards : ℕ) → IsStrictlyIncreasing keys → All (λ k. k ≤ greatest_key) keys
-    → IsStrictlyIncreasing start → All (λ k. set_of keys k ≡ true) start
+pub one_worker_has : (keys : List ℕ) (start : List (ℕ × ℕ)) (cards : ℕ) → IsStrictlyIncreasing keys → All (λ k. k ≤ greatest_key) keys
+    → IsStrictlyIncreasing (keys_of start) → All (λ k. set_of keys k ≡ true) (keys_of start)
     → Invariant (opening_of_one keys start cards) (start_stages (length start + 1))
 one_worker_has keys start cards rising real ascending among =
     subst (λ m. Invariant m (start_stages (length start + 1))) (sym (state_is keys start cards rising real ascending among))

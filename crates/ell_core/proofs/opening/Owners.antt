@@ -35,7 +35,7 @@ held_some true entry h = refl
 held_some false entry h = absurd (h refl)
 
 -- it is what the ledger has
-ledger_held : (owned : List (ℕ × ℕ)) (start : List ℕ) (i key : ℕ)
+ledger_held : (owned start : List (ℕ × ℕ)) (i key : ℕ)
     → opening_ledger owned start i key ≡ held (list_any (gives i key) owned) (start_entry start key)
 ledger_held owned start i key = by (list_any (gives i key) owned)
   where
@@ -44,18 +44,18 @@ ledger_held owned start i key = by (list_any (gives i key) owned)
     by false = refl
 
 -- an owned key passes the test of the entries
-given_test : (owned : List (ℕ × ℕ)) (start : List ℕ) (i key : ℕ) → opening_ledger owned start i key ≢ None → list_any (gives i key) owned ≡ true
+given_test : (owned start : List (ℕ × ℕ)) (i key : ℕ) → opening_ledger owned start i key ≢ None → list_any (gives i key) owned ≡ true
 given_test owned start i key owns =
     held_some (list_any (gives i key) owned) (start_entry start key) (λ e. owns (ledger_held owned start i key ∙ e))
 
 -- an owned key is present exactly where it is a start key
-pub ledger_there : (owned : List (ℕ × ℕ)) (start : List ℕ) (i key : ℕ) → opening_ledger owned start i key ≢ None
+pub ledger_there : (owned start : List (ℕ × ℕ)) (i key : ℕ) → opening_ledger owned start i key ≢ None
     → opening_ledger owned start i key ≡ Some (start_entry start key)
 ledger_there owned start i key owns =
     ap (λ t. if t then Some (start_entry start key) else None) (given_test owned start i key owns)
 
 -- an owned key was given by an entry
-given : (owned : List (ℕ × ℕ)) (start : List ℕ) (i key : ℕ) → opening_ledger owned start i key ≢ None → Given owned i key
+given : (owned start : List (ℕ × ℕ)) (i key : ℕ) → opening_ledger owned start i key ≢ None → Given owned i key
 given owned start i key owns =
     let passed = given_test owned start i key owns in
     let any = Any-from_list_any (gives i key) owned passed in
@@ -70,7 +70,7 @@ given owned start i key owns =
       names = eqb-true any.1.1 key tests.1;
     }
 
-module _ (count : ℕ) (owned : List (ℕ × ℕ)) (start : List ℕ) (faultless : Faultless count owned) where
+module _ (count : ℕ) (owned start : List (ℕ × ℕ)) (faultless : Faultless count owned) where
   -- two entries for one key do not stand at different places
   one_place : (a b : ℕ) (x y : ℕ × ℕ) → slice_get owned a ≡ Some x → slice_get owned b ≡ Some y → x.1 ≡ y.1 → a < b → ⊥
   one_place a b x y at_a at_b same less =
@@ -106,7 +106,7 @@ module _ (count : ℕ) (owned : List (ℕ × ℕ)) (start : List ℕ) (faultless
   opening_stranger i past = ap (λ (ledger : Ledger). idle ledger (λ _. false)) (λ t key. given_nothing i key past t)
 
 -- an owned key is a real key if the entries name real keys
-pub opening_real : (owned : List (ℕ × ℕ)) (start : List ℕ) (i key : ℕ) → All (λ entry. entry.1 ≤ greatest_key) owned → opening_ledger owned start i key ≢ None
+pub opening_real : (owned start : List (ℕ × ℕ)) (i key : ℕ) → All (λ entry. entry.1 ≤ greatest_key) owned → opening_ledger owned start i key ≢ None
     → key ≤ greatest_key
 opening_real owned start i key real owns =
     let a = given owned start i key owns in
@@ -160,7 +160,7 @@ elsewhere_at true false this h = refl
 elsewhere_at false false this h = refl
 
 -- one more entry gives its worker its key, present if it is a start key
-pub opening_ledger-push_same : (start : List ℕ) (entries : List (ℕ × ℕ)) (entry : ℕ × ℕ) →
+pub opening_ledger-push_same : (start entries : List (ℕ × ℕ)) (entry : ℕ × ℕ) →
     opening_ledger (entries ++ entry ∷ []) start entry.0 ≡ put (opening_ledger entries start entry.0) entry.1 (Some (start_entry start entry.1))
 opening_ledger-push_same start entries entry = λ t key. at key t where
   at : (key : ℕ) → opening_ledger (entries ++ entry ∷ []) start entry.0 key ≡ put (opening_ledger entries start entry.0) entry.1 (Some (start_entry start entry.1)) key
@@ -171,7 +171,7 @@ opening_ledger-push_same start entries entry = λ t key. at key t where
       (λ e. ap (λ n. Some (start_entry start n)) (eqb-true key entry.1 e))
 
 -- and no other worker any
-pub opening_ledger-push_other : (start : List ℕ) (entries : List (ℕ × ℕ)) (entry : ℕ × ℕ) (i : ℕ) → (entry.0 ≡ i → ⊥) →
+pub opening_ledger-push_other : (start entries : List (ℕ × ℕ)) (entry : ℕ × ℕ) (i : ℕ) → (entry.0 ≡ i → ⊥) →
     opening_ledger (entries ++ entry ∷ []) start i ≡ opening_ledger entries start i
 opening_ledger-push_other start entries entry i apart = λ t key. at key t where
   at : (key : ℕ) → opening_ledger (entries ++ entry ∷ []) start i key ≡ opening_ledger entries start i key
@@ -180,7 +180,7 @@ opening_ledger-push_other start entries entry i apart = λ t key. at key t where
       (list_any-append (gives i key) entries (entry ∷ []) ∙ elsewhere_at (list_any (gives i key) entries) (entry.0 == i) (entry.1 == key) (ne_eqb entry.0 i apart))
 
 -- the workers have the ledgers that these entries give them, and nothing else
-abbrev pub HaveLedgers : {A : Type 0} → List (Worker A) → List ℕ → List (ℕ × ℕ) → Type 0
+abbrev pub HaveLedgers : {A : Type 0} → List (Worker A) → List (ℕ × ℕ) → List (ℕ × ℕ) → Type 0
 HaveLedgers workers start entries = (i : ℕ) → worker_at workers i ≡ idle (opening_ledger entries start i) (λ _. false)
 
 -- a worker with one key more
@@ -188,7 +188,7 @@ abbrev pub owning : machine.Worker → ℕ → Entry → machine.Worker
 owning v key entry = record v { ledger = put v.ledger key (Some entry) }
 
 -- the worker of one more entry gets its key
-pub HaveLedgers-push : {A : Type 0} (workers : List (Worker A)) (start : List ℕ) (entries : List (ℕ × ℕ)) (entry : ℕ × ℕ) (old new : Worker A) → HaveLedgers workers start entries →
+pub HaveLedgers-push : {A : Type 0} (workers : List (Worker A)) (start entries : List (ℕ × ℕ)) (entry : ℕ × ℕ) (old new : Worker A) → HaveLedgers workers start entries →
     entry.0 < length workers → old ≡ get_or workers entry.0 old → worker_in new ≡ owning (worker_in old) entry.1 (start_entry start entry.1) →
     HaveLedgers (set workers entry.0 new) start (entries ++ entry ∷ [])
 HaveLedgers-push workers start entries entry old new have below stood owns i =
@@ -206,7 +206,7 @@ HaveLedgers-push workers start entries entry old new have below stood owns i =
           ∙ ap (λ (ledger : Ledger). idle ledger (λ _. false)) (sym (opening_ledger-push_same start entries entry))
 
 -- the same for the next entry of a list
-pub HaveLedgers-more : {A : Type 0} (workers : List (Worker A)) (start : List ℕ) (owned : List (ℕ × ℕ)) (n : ℕ) (old new : Worker A) → n < length owned → HaveLedgers workers start (take n owned) →
+pub HaveLedgers-more : {A : Type 0} (workers : List (Worker A)) (start owned : List (ℕ × ℕ)) (n : ℕ) (old new : Worker A) → n < length owned → HaveLedgers workers start (take n owned) →
     (get_or owned n (0, 0)).0 < length workers → old ≡ get_or workers (get_or owned n (0, 0)).0 old →
     worker_in new ≡ owning (worker_in old) (get_or owned n (0, 0)).1 (start_entry start (get_or owned n (0, 0)).1) →
     HaveLedgers (set workers (get_or owned n (0, 0)).0 new) start (take (n + 1) owned)

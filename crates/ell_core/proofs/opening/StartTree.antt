@@ -6,17 +6,19 @@ use Rattle.ell_core.specs.state.Branches.{left_branch, right_branch, descend, br
 use Rattle.ell_core.specs.tree.Ranges.{low_of, high_of, Spans, root, goes, Meets, at_leaf, below, IsOrdered, IsSpanned}
 use Rattle.ell_core.proofs.opening.Branches.{branch_card, branch_holds, branch_left, branch_right, branch_within, cards_within, above}
 
--- a card has the node of a branch: its key is that of the first leaf on its right
-pub record HasBranch (leaf key : ℕ → ℕ) (child : ℕ → Bool → ℕ) (c : ℕ) (b : Branch) : Type 0 where
+-- a card has the node of a branch: its key is that of the first leaf on its right; and of each leaf holds what is to
+pub record HasBranch (leaf key : ℕ → ℕ) (child : ℕ → Bool → ℕ) (holds : ℕ → ℕ → Type 0) (c : ℕ) (b : Branch) : Type 0 where
   pub node_key : key (internal c) ≡ leaf (b.first + b.left)
   pub left : child (internal c) false ≡ left_child b
   pub right : child (internal c) true ≡ right_child b
   pub left_key : b.left ≡ 1 → key (left_leaf c) ≡ leaf b.first
   pub right_key : b.right ≡ 1 → key (right_leaf c) ≡ leaf (b.first + b.left)
+  pub left_holds : b.left ≡ 1 → holds b.first (left_leaf c)
+  pub right_holds : b.right ≡ 1 → holds (b.first + b.left) (right_leaf c)
 
-module _ (leaves : ℕ) (some : 0 < leaves) (leaf key : ℕ → ℕ) (child : ℕ → Bool → ℕ) (top : ℕ)
+module _ (leaves : ℕ) (some : 0 < leaves) (leaf key : ℕ → ℕ) (child : ℕ → Bool → ℕ) (holds : ℕ → ℕ → Type 0) (top : ℕ)
     (rising : (i j : ℕ) → i < j → j ≤ leaves → leaf i < leaf j) (low_top : (i : ℕ) → i ≤ leaves → leaf i < top)
-    (has : (c : ℕ) → c < leaves → HasBranch leaf key child c (branch_of leaves c)) where
+    (has : (c : ℕ) → c < leaves → HasBranch leaf key child holds c (branch_of leaves c)) where
   -- the leaves of a branch lie between two keys
   Between : Branch → ℕ → ℕ → Type 0
   Between b low high = (i : ℕ) → b.first ≤ i → i < b.first + (b.left + b.right) → (low ≤ leaf i) × (leaf i < high)
@@ -272,9 +274,9 @@ module _ (leaves : ℕ) (some : 0 < leaves) (leaf key : ℕ → ℕ) (child : �
     pub inside : at ≤ leaves
     pub is : leaf at ≡ k
 
-  meets_leaf_key : (k x low high : ℕ) → Meets key child k x → Place x low high → IsLeafKey k
-  meets_leaf_key k x low high (at_leaf outer e) (inl at) = absurd (let is = at.is in outer (omega arith))
-  meets_leaf_key k x low high (at_leaf outer e) (inr at) = record { at = at.at; inside = at.inside; is = sym at.is ∙ e }
+  meets_leaf_key : {that : ℕ → Type 0} (k x low high : ℕ) → Meets key child that k x → Place x low high → IsLeafKey k
+  meets_leaf_key k x low high (at_leaf outer e _) (inl at) = absurd (let is = at.is in outer (omega arith))
+  meets_leaf_key k x low high (at_leaf outer e _) (inr at) = record { at = at.at; inside = at.inside; is = sym at.is ∙ e }
   meets_leaf_key k x low high (below {x = _} {y = y} inner e rest) (inr at) = absurd (at.outer inner)
   meets_leaf_key k x low high (below {x = _} {y = y} inner e rest) (inl at) =
       let right : Bool = nat_le (key x) k in
@@ -301,12 +303,13 @@ module _ (leaves : ℕ) (some : 0 < leaves) (leaf key : ℕ → ℕ) (child : �
       ]
 
   -- the walk goes on to a child
-  walks : (c : ℕ) (right : Bool) (k : ℕ) → nat_le (key (internal c)) k ≡ right → Meets key child k (child (internal c) right) → Meets key child k (internal c)
+  walks : {that : ℕ → Type 0} (c : ℕ) (right : Bool) (k : ℕ) → nat_le (key (internal c)) k ≡ right → Meets key child that k (child (internal c) right)
+      → Meets key child that k (internal c)
   walks c right k side rest = below (omega arith) (sym (ap (child (internal c)) side)) rest
 
   -- the walk for a key of the leaves of a branch finds it
   finds : (n c i : ℕ) → leaves ≤ c + n → c < leaves → (branch_of leaves c).first ≤ i
-      → i < (branch_of leaves c).first + ((branch_of leaves c).left + (branch_of leaves c).right) → Meets key child (leaf i) (internal c)
+      → i < (branch_of leaves c).first + ((branch_of leaves c).left + (branch_of leaves c).right) → Meets key child (holds i) (leaf i) (internal c)
   finds zero c i enough inside from to = absurd (omega arith)
   finds (suc n) c i enough inside from to =
       let b = branch_of leaves c in
@@ -323,12 +326,13 @@ module _ (leaves : ℕ) (some : 0 < leaves) (leaf key : ℕ → ℕ) (child : �
               let link : child (internal c) false ≡ left_leaf c = w.left ∙ (ap (λ t. if t then left_leaf b.card else internal (b.card + 1)) (eq-eqb b.left 1 one) ∙ ap left_leaf is) in
               let first : b.first ≡ i = omega arith in
               at_leaf (λ e. omega arith) (ap key link ∙ (w.left_key one ∙ ap leaf first))
+              (subst (holds i) (sym link) (subst (λ n. holds n (left_leaf c)) first (w.left_holds one)))
           | inr more ↦
               let next : branch_of leaves (c + 1) ≡ left_branch b = branch_left leaves some c inside (omega arith) in
               let first : (branch_of leaves (c + 1)).first ≡ b.first = ap (λ (t : Branch). t.first) next in
               let left = ap (λ (t : Branch). t.left) next in
               let right = ap (λ (t : Branch). t.right) next in
-              subst (Meets key child (leaf i)) (sym (left_reached c inside (omega arith)))
+              subst (Meets key child (holds i) (leaf i)) (sym (left_reached c inside (omega arith)))
               (finds n (c + 1) i (omega arith) (omega arith) (omega arith) (omega arith))
         ])
         | inr past ↦ walks c true (leaf i) (goes_right c i inside past (omega arith)) (elim (cases_eq b.right 1) [
@@ -336,22 +340,23 @@ module _ (leaves : ℕ) (some : 0 < leaves) (leaf key : ℕ → ℕ) (child : �
               let link : child (internal c) true ≡ right_leaf c = w.right ∙ (ap (λ t. if t then right_leaf b.card else internal (b.card + b.left)) (eq-eqb b.right 1 one) ∙ ap right_leaf is) in
               let first : b.first + b.left ≡ i = omega arith in
               at_leaf (λ e. omega arith) (ap key link ∙ (w.right_key one ∙ ap leaf first))
+              (subst (holds i) (sym link) (subst (λ n. holds n (right_leaf c)) first (w.right_holds one)))
           | inr more ↦
               let next : branch_of leaves (c + b.left) ≡ right_branch b = branch_right leaves some c inside (omega arith) in
               let first : (branch_of leaves (c + b.left)).first ≡ b.first + b.left = ap (λ (t : Branch). t.first) next in
               let left = ap (λ (t : Branch). t.left) next in
               let right = ap (λ (t : Branch). t.right) next in
-              subst (Meets key child (leaf i)) (sym (right_reached c inside (omega arith)))
+              subst (Meets key child (holds i) (leaf i)) (sym (right_reached c inside (omega arith)))
               (finds n (c + b.left) i (omega arith) (omega arith) (omega arith) (omega arith))
         ])
       ]
 
   -- so the walk from the root finds the keys of all leaves, and no other
-  pub finds_leaf : (i : ℕ) → i ≤ leaves → Meets key child (leaf i) 0
+  pub finds_leaf : (i : ℕ) → i ≤ leaves → Meets key child (holds i) (leaf i) 0
   unfolding descend
   finds_leaf i inside = finds leaves 0 i (omega arith) some (omega arith) (omega arith)
 
-  pub finds_leaves_only : (k : ℕ) → Meets key child k 0 → IsLeafKey k
+  pub finds_leaves_only : {that : ℕ → Type 0} (k : ℕ) → Meets key child that k 0 → IsLeafKey k
   finds_leaves_only k found = meets_leaf_key k 0 0 top found (places (root refl refl refl))
 
   -- each reached node is on a card of the tree

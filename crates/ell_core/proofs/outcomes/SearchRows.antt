@@ -1,4 +1,4 @@
-use Rattle.std.proofs.Common.{◌≡◌, ℕ, ◌%◌, ◌==◌, true, Option, Some, None, refl, sym, ap, ◌∙◌, subst, inl, inr, ◌⊎◌}
+use Rattle.std.proofs.Common.{◌≡◌, ℕ, ◌%◌, true, Option, Some, None, refl, sym, ap, ◌∙◌, subst, inl, inr, ◌⊎◌}
 use Rattle.std.proofs.lemmas.Bool.{cases_eq, cases_Bool, false≢true}
 use Rattle.ell_ops.specs.declared.op.Op.{Op}
 use Rattle.ell_ops.specs.declared.op.Op.TheVariants.{Insert, Delete}
@@ -9,7 +9,7 @@ use Rattle.ell_core.specs.declared.view.Seen.{Seen}
 use Rattle.ell_core.specs.state.Cards.{child_for, insert_filling, delete_filling}
 use Rattle.ell_core.specs.state.Facts.{learned_any, told_by}
 use Rattle.ell_core.specs.state.Machine.{Worker, Scene}
-use Rattle.ell_core.specs.acts.Searching.{IsLeaf, IsClean, Begin, Upd, Down, AtCleanLeaf, ClaimInsert, ClaimDelete, MayStop, Again, Leave, leaf_answer, card_answer, AnswersAtLeaf, AnswersByCard, Answers, Answer, begun, ended, with_read, gone_down, claims, ledger_after}
+use Rattle.ell_core.specs.acts.Searching.{IsLeaf, IsClean, Begin, Upd, Down, AtCleanLeaf, ClaimInsert, ClaimDelete, MayStop, Again, Leave, value_at, leaf_answer, card_answer, AnswersAtLeaf, AnswersByCard, Answers, Answer, begun, ended, with_read, gone_down, claims, ledger_after}
 use Rattle.ell_core.proofs.outcomes.Decide.{Decided, Settled, ap2, settles_either, cases_option, cases_insert, cases_delete, decides_clean, decides_internal, same_value, some_not_none, same_seen}
 use Rattle.ell_ops.specs.declared.reply.Reply.{Reply}
 
@@ -265,13 +265,13 @@ Replies P = OneReply P ⊎ ((reply : Reply) → ¬ P reply)
 
 -- at a leaf where the search stands there is one answer or none
 leaf_reply_at : (s : Scene) (op : Op) (leaf : ℕ) → s.worker.search.node ≡ Some leaf → IsLeaf leaf → Replies (AnswersAtLeaf s op)
-leaf_reply_at s op leaf stands outer = elim (cases_option (leaf_answer op (s.words.key leaf == key_of op))) [
+leaf_reply_at s op leaf stands outer = elim (cases_option (leaf_answer op (value_at s.words leaf (key_of op)))) [
   | inl a ↦ inl (record {
     reply = a.0;
     has = record { leaf = leaf; stands = stands; outer = outer; answers = a.1 };
-    only = λ other r. same_value r.answers (ap (λ x. leaf_answer op (s.words.key x == key_of op)) (same_value r.stands stands) ∙ a.1);
+    only = λ other r. same_value r.answers (ap (λ x. leaf_answer op (value_at s.words x (key_of op))) (same_value r.stands stands) ∙ a.1);
   })
-  | inr e ↦ inr (λ reply r. some_not_none r.answers (ap (λ x. leaf_answer op (s.words.key x == key_of op)) (same_value r.stands stands) ∙ e))
+  | inr e ↦ inr (λ reply r. some_not_none r.answers (ap (λ x. leaf_answer op (value_at s.words x (key_of op))) (same_value r.stands stands) ∙ e))
 ]
 
 -- where a worker stands there is one answer or none

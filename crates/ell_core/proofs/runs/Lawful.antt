@@ -11,8 +11,8 @@ use Rattle.ell_core.specs.acts.Runs.{Shows, Run}
 use Rattle.ell_core.specs.history.Stages.{Stages}
 use Rattle.ell_core.specs.history.Invariant.{Invariant}
 use Rattle.ell_core.specs.history.Later.{wins_of}
-use Rattle.ell_core.specs.statements.StepLaws.{SameKeys}
-use Rattle.ell_core.specs.statements.RunLaws.{CanOpen, EveryStateHasInvariant, EveryStateIsSound, ShownChange, KeysChangeAtWins, ShownLedgers, AnswersAreTheSets, wins_in, InOrder, WinsInOrder, WinsAreInOrder, Follow, MarkedNodesAreFrozen, WordsRise, KnowledgeIsNeverLost, ClaimedCardsAreFixed, StagesRise}
+use Rattle.ell_core.specs.statements.StepLaws.{SamePairs}
+use Rattle.ell_core.specs.statements.RunLaws.{CanOpen, EveryStateHasInvariant, EveryStateIsSound, ShownChange, PairsChangeAtWins, ShownLedgers, AnswersAreTheMaps, wins_in, InOrder, WinsInOrder, WinsAreInOrder, Follow, MarkedNodesAreFrozen, WordsRise, KnowledgeIsNeverLost, ClaimedCardsAreFixed, StagesRise}
 use Rattle.ell_core.proofs.opening.Invariant.{start_stages}
 use Rattle.ell_core.proofs.opening.CanOpen.{opening_has}
 use Rattle.ell_core.proofs.following.Sound.{sound, word_by_state}
@@ -35,19 +35,19 @@ passed_has m passed =
 pub passed_sound : EveryStateIsSound
 passed_sound m passed = let has = passed_has m passed in sound m has.stages has.invariant
 
--- where nothing changed the keys are the same
-same_state : (m m' : Machine) → m' ≡ m → SameKeys m.words m'.words
-same_state m m' same = subst (λ (n : Machine). SameKeys m.words n.words) (sym same) (λ k. (λ h. h, λ h. h))
+-- where nothing changed keys and values are the same
+same_state : (m m' : Machine) → m' ≡ m → SamePairs m.words m'.words
+same_state m m' same = subst (λ (n : Machine). SamePairs m.words n.words) (sym same) (λ k v. (λ h. h, λ h. h))
 
--- what is shown of an event changes the keys so
-shown_keys : (m : Machine) (stage : Stages) (e : Event) (x : Shown) (m' : Machine) → Invariant m stage → Shows m e x m'
+-- what is shown of an event changes them so
+shown_pairs : (m : Machine) (stage : Stages) (e : Event) (x : Shown) (m' : Machine) → Invariant m stage → Shows m e x m'
     → ShownChange e.act x m.words m'.words
-shown_keys m stage e (shown.Step said) m' invariant shows = (events_lawful m stage e said m' invariant shows).keys
-shown_keys m stage e (shown.Refused fault) m' invariant shows = same_state m m' shows.1
+shown_pairs m stage e (shown.Step said) m' invariant shows = (events_lawful m stage e said m' invariant shows).pairs
+shown_pairs m stage e (shown.Refused fault) m' invariant shows = same_state m m' shows.1
 
--- the keys of the tree change at the won child exchanges
-pub keys_change : KeysChangeAtWins
-keys_change m e x m' passed shows = let has = passed_has m passed in shown_keys m has.stages e x m' has.invariant shows
+-- the keys of the tree and their values change at the won child exchanges
+pub pairs_change : PairsChangeAtWins
+pairs_change m e x m' passed shows = let has = passed_has m passed in shown_pairs m has.stages e x m' has.invariant shows
 
 -- and the ledgers so
 shown_ledgers : (m : Machine) (stage : Stages) (e : Event) (x : Shown) (m' : Machine) → Invariant m stage → Shows m e x m'
@@ -55,9 +55,9 @@ shown_ledgers : (m : Machine) (stage : Stages) (e : Event) (x : Shown) (m' : Mac
 shown_ledgers m stage e (shown.Step said) m' invariant shows = (events_lawful m stage e said m' invariant shows).ledgers
 shown_ledgers m stage e (shown.Refused fault) m' invariant shows = shows.1
 
--- each answer is the set's
-pub answers_set : AnswersAreTheSets
-answers_set m e x m' passed shows = let has = passed_has m passed in shown_ledgers m has.stages e x m' has.invariant shows
+-- each answer is the map's
+pub answers_map : AnswersAreTheMaps
+answers_map m e x m' passed shows = let has = passed_has m passed in shown_ledgers m has.stages e x m' has.invariant shows
 
 -- the wins of each card in a run from an opening are those up to its stage
 wins_from : (setup : Setup) (events : List Event) (answers : List Shown) (m' : Machine) → CanOpen setup → WinsInOrder (opening setup) events answers m'

@@ -14,9 +14,10 @@ use Rattle.ell_core.specs.tree.Tree.{infinity2, Reached}
 use Rattle.ell_core.specs.acts.Runs.{Run}
 use Rattle.ell_core.specs.soundness.Sound.{Owns}
 use Rattle.ell_core.specs.statements.RunLaws.{IsOpening}
-use Rattle.ell_core.specs.statements.Refuted.{WordsAlwaysRise, NextCardIsFixed, FlaggedNodesAreFrozen, NothingIsLearnt, ChildExchangesComeFirst, OneLedgerForAll, InsertsAddTheNextKey, AnswersAreOfTheSetAfter, BusyOwnersFindClean, SplitsMayTeach}
+use Rattle.ell_core.specs.statements.Refuted.{WordsAlwaysRise, NextCardIsFixed, FlaggedNodesAreFrozen, NothingIsLearnt, ChildExchangesComeFirst, OneLedgerForAll, InsertsAddTheNextKey, AnswersAreOfTheMapAfter, BusyOwnersFindClean, SplitsMayTeach}
+use Rattle.ell_core.proofs.tree.Reached.{pair_key}
 use Rattle.ell_core.proofs.following.Sound.{sound}
-use Rattle.ell_core.proofs.runs.Lawful.{passed_has, keys_change}
+use Rattle.ell_core.proofs.runs.Lawful.{passed_has, pairs_change}
 use Rattle.ell_core.proofs.runs.Passed.{openings_open, follows_itself}
 use Rattle.ell_core.proofs.runs.SmallRun.{opened, begun_state, down_state, claimed_state, flagged_state, changed_state, over_state, answered_state, by, begins, reads, read_state, setup, can_open, goes_down, claims_card, flags_root, changes_child, answers, opened_passed, down_passed, claimed_passed, flagged_passed, over_passed, follows}
 use Rattle.ell_core.specs.declared.view.Entry.TheVariants.{Absent}
@@ -54,12 +55,13 @@ ledgers_differ same =
 pub next_key_wrong : ¬ InsertsAddTheNextKey
 next_key_wrong adds =
     let shows = changes_child in
-    let right = keys_change flagged_state (by (act.IChild 1)) (shown.Step Won) changed_state flagged_passed shows in
+    let right = pairs_change flagged_state (by (act.IChild 1)) (shown.Step Won) changed_state flagged_passed shows in
     let wrong = adds flagged_state (by (act.IChild 1)) 1 changed_state flagged_passed refl shows in
-    ⊎_elim right.absent (λ e. let h : 5 ≡ infinity2 = e in omega arith) ((wrong.keys 5).0 ((right.keys 5).1 (inr refl)))
+    ⊎_elim (λ had. right.absent (pair_key flagged_state.words 5 50 had)) (λ e. let h : 5 ≡ infinity2 = e.0 in omega arith)
+    ((wrong.pairs 5 50).0 ((right.pairs 5 50).1 (inr (refl, refl))))
 
--- the set after an insert has its key
-pub after_wrong : ¬ AnswersAreOfTheSetAfter
+-- the map after an insert has its key
+pub after_wrong : ¬ AnswersAreOfTheMapAfter
 after_wrong after =
     let h : Yes ≡ No = after over_state (by act.Answer) (Insert 5 50) Yes answered_state over_passed refl answers in cc
 

@@ -16,12 +16,12 @@ settled_other ledger key (Some present) k n = put_other ledger key (Some present
 -- a key counts as before where the card in hand has made the same of its key, or is for another key
 counts_same_of : (stage new : Stages) (ledger : Ledger) (operation : Option Op) (hand : Option ℕ) (flagged : Bool) (k : ℕ)
     → ((op : Op) (d : ℕ) → operation ≡ Some op → hand ≡ Some d → flagged ≡ true
-    → (made_of (new d) ≡ made_of (stage d)) ⊎ (k ≢ key_of op))
+    → (made_of op (new d) ≡ made_of op (stage d)) ⊎ (k ≢ key_of op))
     → staged_of new ledger operation hand flagged k ≡ staged_of stage ledger operation hand flagged k
 counts_same_of stage new ledger (Some op) (Some d) true k h = elim (h op d refl refl refl) [
   | inl e ↦ ap (λ made. with_settled ledger (key_of op) made k) e
-  | inr n ↦ settled_other ledger (key_of op) (made_of (new d)) k n
-      ∙ sym (settled_other ledger (key_of op) (made_of (stage d)) k n)
+  | inr n ↦ settled_other ledger (key_of op) (made_of op (new d)) k n
+      ∙ sym (settled_other ledger (key_of op) (made_of op (stage d)) k n)
 ]
 counts_same_of stage new ledger None _ _ k h = refl
 counts_same_of stage new ledger (Some op) None _ k h = refl
@@ -30,25 +30,26 @@ counts_same_of stage new ledger (Some op) (Some d) false k h = refl
 -- so of a worker
 pub counts_same : (stage new : Stages) (v : Worker) (k : ℕ)
     → ((op : Op) (d : ℕ) → v.operation ≡ Some op → v.card ≡ Some d → v.flagged ≡ true
-    → (made_of (new d) ≡ made_of (stage d)) ⊎ (k ≢ key_of op))
+    → (made_of op (new d) ≡ made_of op (stage d)) ⊎ (k ≢ key_of op))
     → staged new v k ≡ staged stage v k
 counts_same stage new v k h = counts_same_of stage new v.ledger v.operation v.card v.flagged k h
 
 -- where a flagged card has made nothing of its key, the ledger counts
 counts_unmade_of : (stage : Stages) (ledger : Ledger) (operation : Option Op) (card : Option ℕ) (flagged : Bool)
-    → ((c : ℕ) → card ≡ Some c → flagged ≡ true → made_of (stage c) ≡ None)
+    → ((op : Op) (c : ℕ) → operation ≡ Some op → card ≡ Some c → flagged ≡ true → made_of op (stage c) ≡ None)
     → staged_of stage ledger operation card flagged ≡ ledger
-counts_unmade_of stage ledger (Some op) (Some c) true h = ap (with_settled ledger (key_of op)) (h c refl refl)
+counts_unmade_of stage ledger (Some op) (Some c) true h = ap (with_settled ledger (key_of op)) (h op c refl refl refl)
 counts_unmade_of stage ledger (Some op) (Some c) false h = refl
 counts_unmade_of stage ledger (Some op) None flagged h = refl
 counts_unmade_of stage ledger None card flagged h = refl
 
 -- so of a worker
-pub counts_unmade : (stage : Stages) (v : Worker) → ((c : ℕ) → v.card ≡ Some c → v.flagged ≡ true → made_of (stage c) ≡ None)
+pub counts_unmade : (stage : Stages) (v : Worker)
+    → ((op : Op) (c : ℕ) → v.operation ≡ Some op → v.card ≡ Some c → v.flagged ≡ true → made_of op (stage c) ≡ None)
     → staged stage v ≡ v.ledger
 counts_unmade stage v h = counts_unmade_of stage v.ledger v.operation v.card v.flagged h
 
 -- what a worker's flagged card has made of its key counts
 pub counts_made : (stage : Stages) (v : Worker) (op : Op) (c : ℕ) → v.operation ≡ Some op → v.card ≡ Some c → v.flagged ≡ true
-    → staged stage v ≡ with_settled v.ledger (key_of op) (made_of (stage c))
+    → staged stage v ≡ with_settled v.ledger (key_of op) (made_of op (stage c))
 counts_made stage v op c busy holds flagged = λ t. staged_of stage v.ledger (busy t) (holds t) (flagged t)

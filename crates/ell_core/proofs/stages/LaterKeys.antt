@@ -1,9 +1,9 @@
-use Rattle.std.proofs.Common.{◌≡◌, ℕ, ◌<◌, nat_le, true, ap, ◌∙◌, arith}
+use Rattle.std.proofs.Common.{◌≡◌, ℕ, ◌<◌, nat_le, true, ap, ◌∙◌, arith, ◌==◌, if◌then◌else◌}
 use Rattle.ell_word.specs.Node.{card, internal, left_leaf, right_leaf}
 use Rattle.ell_core.specs.state.Words.{Words}
 use Rattle.ell_core.specs.state.Cards.{is_right}
 use Rattle.ell_core.specs.history.Stages.{Stages, is_insert, is_delete, is_born, Born}
-use Rattle.ell_core.specs.history.Invariant.{insert_key, delete_key, insert_side, delete_side, leaf_side, InsertCard, DeleteCard, WordsAreSound}
+use Rattle.ell_core.specs.history.Invariant.{insert_key, insert_value, delete_key, insert_side, delete_side, leaf_side, InsertCard, DeleteCard, WordsAreSound}
 use Rattle.ell_core.specs.history.Later.{WordsLater, SameInfo}
 use Rattle.ell_core.proofs.words.Sides.{key_of_three}
 use Rattle.ell_core.proofs.stages.Order.{born-claimed, insert-claimed, delete-claimed}
@@ -60,12 +60,19 @@ module _ (old new : Words) (stage : Stages) (sound : WordsAreSound old stage) (w
     pub insert_leaf_value : new.value (new.l c) ≡ old.value (old.l c)
     insert_leaf_value = value_later (old.l c) (new.l c) insert_info.l insert_said.leaf.born
 
-    -- so its own key is as it was, and its side of the parent
+    -- so its own key is as it was, with its value, and its side of the parent
     pub insert_key_later : insert_key new c ≡ insert_key old c
     insert_key_later =
         let left = insert_node_key (left_leaf c) (omega arith) in
         let right = insert_node_key (right_leaf c) (omega arith) in
         λ t. key_of_three (left t) (right t) (insert_leaf_key t)
+
+    pub insert_value_later : insert_value new c ≡ insert_value old c
+    insert_value_later =
+        let left = insert_node_key (left_leaf c) (omega arith) in
+        let left_value = insert_node_value (left_leaf c) (omega arith) in
+        let right_value = insert_node_value (right_leaf c) (omega arith) in
+        λ t. if left t == insert_leaf_key t then right_value t else left_value t
 
     pub insert_side_later : insert_side new c ≡ insert_side old c
     insert_side_later = side_later (old.p c) (new.p c) (old.key (internal c)) (new.key (internal c)) insert_info.p

@@ -88,7 +88,7 @@ module _ (key : ℕ → ℕ) (child : ℕ → Bool → ℕ) (top : ℕ) (ordered
     l_cut : (a b : ℕ) → ¬ Spans key after top l a b
     l_cut a b r =
         gone key child after top g s p t l w shape ordered low high reached
-        (leaf_is_met key after top ordered_cut r shape.leaf)
+        (leaf_is_met key after top ordered_cut {holds = λ leaf. Unit {0}} r shape.leaf tt)
 
     p_spans : Spans key child top p (low_of s low (key g)) (high_of s high (key g))
     p_spans = goes s reached shape.node (sym shape.parent) refl refl

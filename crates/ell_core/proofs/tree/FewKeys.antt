@@ -2,9 +2,11 @@ use Rattle.std.proofs.Common.{◌≡◌, ◌≢◌, ℕ, zero, suc, ◌+◌, ◌
 use Rattle.std.proofs.lemmas.Bool.{cond-true, cond-false, eq-eqb, ne_eqb}
 use Rattle.std.proofs.lemmas.Bool.Decides.{Decides-eqb}
 use Rattle.std.proofs.lemmas.List.Kept.{AllPairs-from_increasing}
+use Rattle.std.proofs.lemmas.Map.Entries.{length-keys_of}
 use Rattle.std.proofs.lemmas.Map.Made.{IsDistinct-from_AllPairs, length-le_from_is_member}
 use Rattle.std.proofs.lemmas.Map.Views.{list_any-from_Contains}
 use Rattle.std.specs.Cmp.{nat_eq_equiv}
+use Rattle.std.specs.Map.{keys_of}
 use Rattle.ell_word.specs.Node.{IsInternal, internal, card}
 use Rattle.ell_core.specs.state.Words.{Words}
 use Rattle.ell_core.specs.acts.Searching.{IsLeaf}
@@ -13,7 +15,7 @@ use Rattle.ell_core.specs.tree.Room.{HasRoom, HoldsKeys}
 use Rattle.ell_core.proofs.tree.Pairs.{Contains-none, Contains-first, Contains-later, Contains-cons_cases, Contains-from_list_any, AllPairs-none, AllPairs-cons, length-le_from_apart}
 use Rattle.ell_core.proofs.tree.Paths.{internal_or_leaf, Below-refl}
 use Rattle.ell_core.proofs.tree.Nodes.{nodes_below, nodes_below-none, nodes_below-leaf, nodes_below-inner, nodes_below-only, nodes_below-apart}
-use Rattle.ell_core.proofs.tree.RealKeys.{inner, real, infinite, kind_of, real_keys, real_keys-none, real_keys-inner, real_keys-real, real_keys-infinite, real_keys-append, ListsKeys-all}
+use Rattle.ell_core.proofs.tree.RealPairs.{inner, real, infinite, kind_of, real_pairs, real_pairs-none, real_pairs-inner, real_pairs-real, real_pairs-infinite, real_pairs-append, ListsTreePairs-all, ListsKeys-of_pairs}
 
 -- the cards of the internal nodes among nodes
 unfoldable inner_cards : List ℕ → List ℕ
@@ -73,10 +75,10 @@ inner_cards-apart (x ∷ xs) apart =
     (internal_or_leaf x)
 
 -- below a node there is at most one real key more than there are internal nodes
-few_keys : (w : Words) (fuel x : ℕ) → length (real_keys w (nodes_below w fuel x)) ≤ length (inner_cards (nodes_below w fuel x)) + 1
+few_keys : (w : Words) (fuel x : ℕ) → length (real_pairs w (nodes_below w fuel x)) ≤ length (inner_cards (nodes_below w fuel x)) + 1
 few_keys w zero x =
-    let none = ap (λ nodes. length (real_keys w nodes)) (nodes_below-none w x) in
-    let no_key = ap length (real_keys-none w) in
+    let none = ap (λ nodes. length (real_pairs w nodes)) (nodes_below-none w x) in
+    let no_pair = ap length (real_pairs-none w) in
     omega arith
 few_keys w (suc fuel) x = elim (kind_of w x) [
   | inner e ↦
@@ -84,22 +86,22 @@ few_keys w (suc fuel) x = elim (kind_of w x) [
       let rights = nodes_below w fuel (w.child x true) in
       let on_left = few_keys w fuel (w.child x false) in
       let on_right = few_keys w fuel (w.child x true) in
-      let keys = ap (λ nodes. length (real_keys w nodes)) (nodes_below-inner w fuel x e) in
+      let pairs = ap (λ nodes. length (real_pairs w nodes)) (nodes_below-inner w fuel x e) in
       let cards = ap (λ nodes. length (inner_cards nodes)) (nodes_below-inner w fuel x e) in
-      let same_keys = ap length (real_keys-inner w x (lefts ++ rights) e ∙ real_keys-append w lefts rights) in
-      let both = length-append (real_keys w lefts) (real_keys w rights) in
+      let same_pairs = ap length (real_pairs-inner w x (lefts ++ rights) e ∙ real_pairs-append w lefts rights) in
+      let both = length-append (real_pairs w lefts) (real_pairs w rights) in
       let one_card = ap length (inner_cards-inner x (lefts ++ rights) e) in
       let both_cards = inner_cards-length lefts rights in
       omega arith
   | real outer low ↦
-      let keys = ap (λ nodes. length (real_keys w nodes)) (nodes_below-leaf w fuel x outer) in
-      let one = ap length (real_keys-real w x [] outer low) in
-      let none = ap length (real_keys-none w) in
+      let pairs = ap (λ nodes. length (real_pairs w nodes)) (nodes_below-leaf w fuel x outer) in
+      let one = ap length (real_pairs-real w x [] outer low) in
+      let none = ap length (real_pairs-none w) in
       omega arith
   | infinite outer above ↦
-      let keys = ap (λ nodes. length (real_keys w nodes)) (nodes_below-leaf w fuel x outer) in
-      let same = ap length (real_keys-infinite w x [] outer above) in
-      let none = ap length (real_keys-none w) in
+      let pairs = ap (λ nodes. length (real_pairs w nodes)) (nodes_below-leaf w fuel x outer) in
+      let same = ap length (real_pairs-infinite w x [] outer above) in
+      let none = ap length (real_pairs-none w) in
       omega arith
 ]
 
@@ -117,7 +119,9 @@ pub HoldsKeys-from_room : (w : Words) (places : ℕ) → IsLawful w → HasRoom 
 HoldsKeys-from_room w places lawful room keys listed =
     let inside : (x : ℕ) → Reached w x → x < 3 * places = λ x reached. let h = room x reached in omega arith in
     let nodes = nodes_below w (3 * places) 0 in
-    let all = no_longer w keys (real_keys w nodes) listed (ListsKeys-all w (3 * places) lawful inside) in
+    let pairs = real_pairs w nodes in
+    let all = no_longer w keys (keys_of pairs) listed (ListsKeys-of_pairs w pairs (ListsTreePairs-all w (3 * places) lawful inside)) in
+    let same = length-keys_of pairs in
     let few = few_keys w (3 * places) 0 in
     let cards : length (inner_cards nodes) ≤ places - 1 =
     length-le_from_apart (inner_cards nodes) (places - 1)

@@ -24,10 +24,11 @@ module _ (Born : ℕ → Type 0) (key key_after : ℕ → ℕ) (child after : �
   next_same k x o = ap (λ v. after x (nat_le v k)) (same_key x o) ∙ same_child x (nat_le (key x) k) o
 
   -- a key is met as before
-  pub Meets-same : (k : ℕ) {x : ℕ} → Born x → Meets key child k x → Meets key_after after k x
-  Meets-same k o (at_leaf {x = x} h e) = at_leaf h (same_key x o ∙ e)
-  Meets-same k o (below {x = x} i e f) =
-      below i (e ∙ sym (next_same k x o)) (Meets-same k (subst Born (sym e) (closed x (nat_le (key x) k) i o)) f)
+  pub Meets-same : {holds holds_after : ℕ → Type 0} → ((x : ℕ) → Born x → holds x → holds_after x) → (k : ℕ) {x : ℕ} → Born x
+      → Meets key child holds k x → Meets key_after after holds_after k x
+  Meets-same still k o (at_leaf {x = x} h e p) = at_leaf h (same_key x o ∙ e) (still x o p)
+  Meets-same still k o (below {x = x} i e f) =
+      below i (e ∙ sym (next_same k x o)) (Meets-same still k (subst Born (sym e) (closed x (nat_le (key x) k) i o)) f)
 
 module _ (Born : ℕ → Type 0) (key key_after : ℕ → ℕ) (child after : ℕ → Bool → ℕ) (top : ℕ) (start : Born 0)
     (closed : (x : ℕ) (t : Bool) → IsInternal x → Born x → Born (child x t))
@@ -49,10 +50,11 @@ module _ (Born : ℕ → Type 0) (key key_after : ℕ → ℕ) (child after : �
       (λ x t o. sym (same_child x t o)) r
 
   -- a key that is met afterwards was met before
-  pub Meets-back : (k : ℕ) {x : ℕ} → Born x → Meets key_after after k x → Meets key child k x
-  Meets-back k o f =
+  pub Meets-back : {holds holds_after : ℕ → Type 0} → ((x : ℕ) → Born x → holds_after x → holds x) → (k : ℕ) {x : ℕ} → Born x
+      → Meets key_after after holds_after k x → Meets key child holds k x
+  Meets-back still k o f =
       Meets-same Born key_after key after child top start closed_after (λ x o. sym (same_key x o))
-      (λ x t o. sym (same_child x t o)) k o f
+      (λ x t o. sym (same_child x t o)) still k o f
 
   -- the tree stays in order
   pub IsOrdered-same : IsOrdered key child top → IsOrdered key_after after top

@@ -10,7 +10,7 @@ use Rattle.ell_core.specs.tree.Ranges.{low_of, high_of, Spans, root, goes, IsOrd
 use Rattle.ell_core.specs.history.Stages.{Stages}
 use Rattle.ell_core.specs.history.Invariant.{top, TreeIsSound}
 use Rattle.ell_core.proofs.tree.Paths.{Leads-from_leaf, Below-leaf, Reached-below, Reached-child}
-use Rattle.ell_core.proofs.tree.Reached.{OnWalk-below, Meets-finds, Reached-spans, key_below}
+use Rattle.ell_core.proofs.tree.Reached.{leads_some, OnWalk-below, Meets-finds, Reached-spans, key_below}
 
 -- an ordered tree
 module _ (w : Words) (ordered : IsOrdered w.key w.child top) where
@@ -123,7 +123,8 @@ left_of_root w {x = x} {y = y} at_root greatest (next inner on) outer =
 -- the left part of a sound tree
 left_lawful : (w : Words) (stage : Stages) → TreeIsSound w stage → LeftIsLawful w
 left_lawful w stage sound =
-    let found = Meets-finds w infinity1 sound.last in
+    let last = leads_some w infinity1 sound.last in
+    let found = Meets-finds w infinity1 last.0 last.1 in
     let there = left_of_root w refl sound.root_key found.on found.outer in
     let left_reached = Reached-child w 0 false (record { path = []; leads = refl }) refl in
     let last_reached = Reached-below w (w.child 0 false) found.leaf left_reached there in

@@ -1,9 +1,12 @@
-use Rattle.std.proofs.Common.{◌≡◌, ◌≢◌, ℕ, zero, suc, ◌-◌, ◌<◌, ◌≤◌, ◌⊎◌, inl, inr, ⊎_elim, eqb, true, List, [], ◌∷◌, ◌++◌, Contains, AllPairs, length, get_or, arith, refl, sym, subst, length-append}
+use Rattle.std.proofs.Common.{◌≡◌, ◌≢◌, ℕ, zero, suc, ◌-◌, ◌+◌, ◌<◌, ◌≤◌, ◌⊎◌, inl, inr, ⊎_elim, eqb, true, List, [], ◌∷◌, ◌++◌, Contains, AllPairs, length, get_or, arith, refl, ap, sym, subst, ◌∙◌, length-append}
 use Rattle.std.specs.List.{list_any}
+use Rattle.std.specs.List.Sorted.{IsStrictlyIncreasing}
+use Rattle.std.specs.Map.{keys_of}
 use Rattle.std.proofs.lemmas.Bool.{cases_lt, eqb-true, or_cases}
 use Rattle.std.proofs.lemmas.Bool.Decides.{Decides-eqb}
-use Rattle.std.proofs.lemmas.List.{get_or_append_left, get_or-append_right}
+use Rattle.std.proofs.lemmas.List.{get_or_append_left, get_or-append_right, get_or-map}
 use Rattle.std.proofs.lemmas.List.Elements.{Contains-get_or}
+use Rattle.std.proofs.lemmas.Map.Entries.{length-keys_of}
 use Rattle.std.proofs.lemmas.Map.Made.{IsDistinct-from_AllPairs}
 use Rattle.std.proofs.lemmas.Map.Steps.{length-le_from_distinct_below}
 
@@ -26,6 +29,27 @@ Contains-cons_cases {X} x xs y h = at h.0 h.1 h.2
     at : (k : ℕ) → k < suc (length xs) → get_or (x ∷ xs) k y ≡ y → (x ≡ y) ⊎ Contains xs y
     at zero below e = inl e
     at (suc k) below e = inr (k, omega arith, e)
+
+-- the key of a pair of a list is among the keys
+pub Contains-keys_of : (pairs : List (ℕ × ℕ)) (key value : ℕ) → Contains pairs (key, value) → Contains (keys_of pairs) key
+Contains-keys_of pairs key value h =
+    (h.0, omega (arith, length-keys_of pairs, h.1), get_or-map (λ e. e.0) pairs h.0 (key, value) key h.1 ∙ ap (λ e. e.0) h.2)
+
+-- each of the keys has a value
+pub Contains-from_keys_of : (pairs : List (ℕ × ℕ)) (key : ℕ) → Contains (keys_of pairs) key → (value : ℕ) × Contains pairs (key, value)
+Contains-from_keys_of [] key h = absurd (Contains-none key h)
+Contains-from_keys_of (e ∷ es) key h = ⊎_elim
+    (λ here. (e.1, subst (λ k. Contains (e ∷ es) (k, e.1)) here (Contains-first e es)))
+    (λ later. let found = Contains-from_keys_of es key later in (found.0, Contains-later e es (key, found.0) found.1))
+    (Contains-cons_cases e.0 (keys_of es) key h)
+
+-- where each pair's key is less than those of the later pairs, the keys ascend
+pub IsStrictlyIncreasing-keys_of : (pairs : List (ℕ × ℕ)) → AllPairs (λ a b. a.0 < b.0) pairs → IsStrictlyIncreasing (keys_of pairs)
+IsStrictlyIncreasing-keys_of pairs apart k below =
+    let long = length-keys_of pairs in
+    subst (λ x. x < get_or (keys_of pairs) (k + 1) 0) (sym (get_or-map (λ e. e.0) pairs k (0, 0) 0 (omega arith)))
+    (subst (λ y. (get_or pairs k (0, 0)).0 < y) (sym (get_or-map (λ e. e.0) pairs (k + 1) (0, 0) 0 (omega arith)))
+    (apart k (k + 1) (0, 0) (omega arith) (omega arith)))
 
 -- no list has a pair before it has an element
 pub AllPairs-none : {X : Type 0} (R : X → X → Type 0) → AllPairs R []

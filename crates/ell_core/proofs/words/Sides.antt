@@ -2,9 +2,9 @@ use Rattle.std.proofs.Common.{◌≡◌, ℕ, ◌==◌, ◌⊎◌, if◌then◌e
 use Rattle.std.proofs.lemmas.Bool.{eq-eqb}
 use Rattle.ell_word.specs.Node.{left_leaf, right_leaf}
 use Rattle.ell_core.specs.state.Words.{Words}
-use Rattle.ell_core.specs.state.Cards.{is_right, is_delete_card, card_key, sibling}
+use Rattle.ell_core.specs.state.Cards.{is_right, is_delete_card, card_key, card_value, sibling}
 use Rattle.ell_core.specs.history.Stages.{Stages}
-use Rattle.ell_core.specs.history.Invariant.{insert_key, delete_key, insert_side, InsertCard}
+use Rattle.ell_core.specs.history.Invariant.{insert_key, insert_value, delete_key, insert_side, InsertCard}
 
 -- an insert's key by the three keys that it depends on
 abbrev pub key_of_three : ℕ → ℕ → ℕ → ℕ
@@ -13,6 +13,10 @@ key_of_three left right leaf = if left == leaf then right else left
 -- the own key of a card that counts as an insert's
 pub card_key-insert : (w : Words) (c : ℕ) → is_delete_card w c ≡ false → card_key w c ≡ insert_key w c
 card_key-insert w c h = ap (λ b. if b then w.key (w.l c) else insert_key w c) h
+
+-- and its value
+pub card_value-insert : (w : Words) (c : ℕ) → is_delete_card w c ≡ false → card_value w c ≡ insert_value w c
+card_value-insert w c h = ap (λ b. if b then w.value (w.l c) else insert_value w c) h
 
 -- the own key of a card that counts as a delete's
 pub card_key-delete : (w : Words) (c : ℕ) → is_delete_card w c ≡ true → card_key w c ≡ delete_key w c

@@ -1,7 +1,7 @@
-use Rattle.std.specs.Prelude.{◌≡◌, ◌≢◌, ℕ, ◌==◌, if◌then◌else◌, ◌⊎◌, Bool, true, false, Option, Some, None, List}
+use Rattle.std.specs.Prelude.{◌≡◌, ◌≢◌, ℕ, ◌==◌, if◌then◌else◌, ◌⊎◌, true, false, Option, Some, None, List}
 use Rattle.ell_ops.specs.declared.op.Op.{Op}
 use Rattle.ell_ops.specs.declared.op.Op.TheVariants.{Find, Insert, Delete}
-use Rattle.ell_ops.specs.Meaning.{key_of, yes_if}
+use Rattle.ell_ops.specs.Meaning.{key_of, found}
 use Rattle.ell_word.specs.Node.{IsInternal}
 use Rattle.ell_word.specs.Word.{unpacked}
 use Rattle.ell_word.specs.declared.update.State.TheVariants as state
@@ -11,7 +11,7 @@ use Rattle.ell_core.specs.declared.fact.Fact.TheVariants.{IOver, DOver, Backed}
 use Rattle.ell_core.specs.declared.view.Seen.{Seen}
 use Rattle.ell_core.specs.declared.view.Search.{Search}
 use Rattle.ell_core.specs.declared.field.Field.{Field}
-use Rattle.ell_core.specs.state.Words.{put}
+use Rattle.ell_core.specs.state.Words.{Words, put}
 use Rattle.ell_core.specs.state.Facts.{Knowledge, learned_any, told_by}
 use Rattle.ell_core.specs.state.Machine.{Ledger, Worker, Scene, no_search}
 use Rattle.ell_core.specs.state.Cards.{child_for, insert_filling, delete_filling, claimed}
@@ -141,18 +141,22 @@ pub record Leave (s : Scene) (said : Stepped) (after : Scene) : Type 0 where
   pub says : said ≡ Moved
   pub gives : after ≡ record s { worker = ended s.worker }
 
--- the answer at a leaf, which has the operation's key or not: find whether, insert and delete no where nothing is to do
-abbrev pub leaf_answer : Op → Bool → Option Reply
-leaf_answer (Find key) has = Some (yes_if has)
-leaf_answer (Insert key value) true = Some No
-leaf_answer (Delete key) false = Some No
+-- the value of a key at a leaf, if the leaf has the key
+abbrev pub value_at : Words → ℕ → ℕ → Option ℕ
+value_at w leaf key = if w.key leaf == key then Some (w.value leaf) else None
+
+-- the answer at a leaf, which has the operation's key with a value or not: a find's, and no of insert and delete where nothing is to do
+abbrev pub leaf_answer : Op → Option ℕ → Option Reply
+leaf_answer (Find key) there = Some (found there)
+leaf_answer (Insert key value) (Some there) = Some No
+leaf_answer (Delete key) None = Some No
 leaf_answer _ _ = None
 
 pub record AnswersAtLeaf (s : Scene) (op : Op) (reply : Reply) : Type 0 where
   pub leaf : ℕ
   pub stands : s.worker.search.node ≡ Some leaf
   pub outer : IsLeaf leaf
-  pub answers : leaf_answer op (s.words.key leaf == key_of op) ≡ Some reply
+  pub answers : leaf_answer op (value_at s.words leaf (key_of op)) ≡ Some reply
 
 -- the answer by a flagged card: yes, once the card is known to be over
 abbrev pub card_answer : Op → ℕ → Knowledge → Option Reply
@@ -170,9 +174,9 @@ pub record AnswersByCard (s : Scene) (op : Op) (reply : Reply) : Type 0 where
 abbrev pub Answers : Scene → Op → Reply → Type 0
 Answers s op reply = AnswersAtLeaf s op reply ⊎ (AnswersByCard s op reply × ((r : Reply) → ¬ AnswersAtLeaf s op r))
 
--- the ledger after an answer: an insert or delete that answers yes makes its key present or absent
+-- the ledger after an answer: an insert that answers yes makes its key present with its value, a delete absent
 abbrev pub ledger_after : Op → Reply → Ledger → Ledger
-ledger_after (Insert key value) Yes ledger = put ledger key (Some Present)
+ledger_after (Insert key value) Yes ledger = put ledger key (Some (Present value))
 ledger_after (Delete key) Yes ledger = put ledger key (Some Absent)
 ledger_after _ _ ledger = ledger
 

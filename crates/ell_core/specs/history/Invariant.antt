@@ -33,7 +33,11 @@ IsOut w x = IsCutOut w.key w.child top x
 
 -- the walk for key k from x ends at a leaf of key k
 abbrev pub LeadsTo : Words → ℕ → ℕ → Type 0
-LeadsTo w k x = Meets w.key w.child k x
+LeadsTo w k x = Meets w.key w.child (λ leaf. Unit {0}) k x
+
+-- it ends at a leaf of key k and this value
+abbrev pub LeadsToValue : Words → ℕ → ℕ → ℕ → Type 0
+LeadsToValue w k value x = Meets w.key w.child (λ leaf. w.value leaf ≡ value) k x
 
 -- x is on course for key k
 abbrev pub IsOnCourse : Words → ℕ → ℕ → Type 0
@@ -42,6 +46,10 @@ IsOnCourse w k x = OnCourse w.key w.child top k x
 -- an insert's key: that of its two leaf keys which the leaf in the tree has not
 abbrev pub insert_key : Words → ℕ → ℕ
 insert_key w c = if w.key (left_leaf c) == w.key (w.l c) then w.key (right_leaf c) else w.key (left_leaf c)
+
+-- an insert's value: that of the same leaf
+abbrev pub insert_value : Words → ℕ → ℕ
+insert_value w c = if w.key (left_leaf c) == w.key (w.l c) then w.value (right_leaf c) else w.value (left_leaf c)
 
 -- a delete's key
 abbrev pub delete_key : Words → ℕ → ℕ
@@ -205,7 +213,7 @@ pub record SeenIsSound (w : Words) (stage : Stages) (k : ℕ) (seen : Seen) (x :
 pub record StandIsSound (w : Words) (stage : Stages) (v : Worker) (k x : ℕ) : Type 0 where
   pub born : Born stage x
   pub read : (word : ℕ) → v.search.read ≡ Some word → word ≤ w.update x
-  pub leads : LeadsTo w k x ↔ (v.ledger k ≡ Some Present)
+  pub leads : (value : ℕ) → LeadsToValue w k value x ↔ (v.ledger k ≡ Some (Present value))
   pub course : IsOnCourse w k x
   pub parent : (seen : Seen) → v.search.parent ≡ Some seen → SeenIsSound w stage k seen x × IsOnCourse w k seen.node
   pub grandparent : (seen above : Seen) → v.search.parent ≡ Some seen → v.search.grandparent ≡ Some above
@@ -214,8 +222,8 @@ pub record StandIsSound (w : Words) (stage : Stages) (v : Worker) (k x : ℕ) : 
   pub has_grandparent : (seen : Seen) → v.search.parent ≡ Some seen → seen.node ≢ 0 → v.search.grandparent ≢ None
   pub deep : IsLeaf x → w.key x ≤ greatest_key → v.search.grandparent ≢ None
 
--- an insert's card in hand that is not flagged says what its worker's search saw
-pub record InsertInHand (w : Words) (stage : Stages) (v : Worker) (k c : ℕ) : Type 0 where
+-- an insert's card in hand that is not flagged says what its worker's search saw, and has the operation's key and value
+pub record InsertInHand (w : Words) (stage : Stages) (v : Worker) (k value c : ℕ) : Type 0 where
   pub parent : Seen
   pub claimed : (is_insert (stage c) ≡ true) × (insert_won (stage c) ≡ false)
   pub stands : v.search.node ≡ Some (w.l c)
@@ -224,6 +232,7 @@ pub record InsertInHand (w : Words) (stage : Stages) (v : Worker) (k c : ℕ) : 
   pub calm : IsClean parent.word
   pub earlier : parent.word < iflag c
   pub own : insert_key w c ≡ k
+  pub own_value : insert_value w c ≡ value
 
 -- the same of a delete's card
 pub record DeleteInHand (w : Words) (stage : Stages) (v : Worker) (k c : ℕ) : Type 0 where
@@ -243,14 +252,15 @@ pub record DeleteInHand (w : Words) (stage : Stages) (v : Worker) (k c : ℕ) : 
 -- a card in hand that is not flagged is of the operation's kind
 abbrev pub Unflagged : Words → Stages → Worker → Op → ℕ → Type 0
 Unflagged w stage v (Find k) c = ⊥
-Unflagged w stage v (Insert k value) c = InsertInHand w stage v k c
+Unflagged w stage v (Insert k value) c = InsertInHand w stage v k value c
 Unflagged w stage v (Delete k) c = DeleteInHand w stage v k c
 
--- a card in hand that is flagged is of the operation's kind and key, which was absent for an insert, present for a delete
+-- a card in hand that is flagged is of the operation's kind, key and value; the key was absent for an insert, present for a delete
 abbrev pub Flagged : Words → Stages → Worker → Op → ℕ → Type 0
 Flagged w stage v (Find k) c = ⊥
-Flagged w stage v (Insert k value) c = (insert_won (stage c) ≡ true) × (insert_key w c ≡ k) × (v.ledger k ≡ Some Absent)
-Flagged w stage v (Delete k) c = (delete_won (stage c) ≡ true) × (delete_key w c ≡ k) × (v.ledger k ≡ Some Present)
+Flagged w stage v (Insert k value) c =
+    (insert_won (stage c) ≡ true) × (insert_key w c ≡ k) × (insert_value w c ≡ value) × (v.ledger k ≡ Some Absent)
+Flagged w stage v (Delete k) c = (delete_won (stage c) ≡ true) × (delete_key w c ≡ k) × ((value : ℕ) × (v.ledger k ≡ Some (Present value)))
 
 -- a worker
 pub record WorkerIsSound (w : Words) (stage : Stages) (v : Worker) : Type 0 where
@@ -263,12 +273,12 @@ pub record WorkerIsSound (w : Words) (stage : Stages) (v : Worker) : Type 0 wher
   pub flagged : (op : Op) (c : ℕ) → v.operation ≡ Some op → v.card ≡ Some c → v.flagged ≡ true
       → Flagged w stage v op c × (v.search.node ≡ None)
 
--- the workers: each key has one owner at most; the keys of the tree among a worker's are those present in its effective
--- ledger, and each key of the tree has an owner; a card whose flag stands is in hand; and past the last worker there is nobody
+-- the workers: each key has one owner at most; the keys of the tree among a worker's, with their values, are those present in its
+-- effective ledger, and each key of the tree has an owner; a card whose flag stands is in hand; and past the last worker there is nobody
 pub record WorkersAreSound (m : Machine) (stage : Stages) : Type 0 where
   pub each : (i : ℕ) → WorkerIsSound m.words stage (m.worker i)
   pub one_owner : (i j k : ℕ) → Owns (m.worker i) k → Owns (m.worker j) k → i ≡ j
-  pub present : (i k : ℕ) → Owns (m.worker i) k → LeadsTo m.words k 0 ↔ (staged stage (m.worker i) k ≡ Some Present)
+  pub present : (i k value : ℕ) → Owns (m.worker i) k → LeadsToValue m.words k value 0 ↔ (staged stage (m.worker i) k ≡ Some (Present value))
   pub owned : (k : ℕ) → k ≤ greatest_key → LeadsTo m.words k 0 → IsOwned m k
   pub insert_in_hand : (c : ℕ) → insert_open (stage c) ≡ true → IsInHand m c
   pub delete_in_hand : (c : ℕ) → delete_open (stage c) ≡ true → IsInHand m c

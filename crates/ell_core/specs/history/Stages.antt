@@ -1,5 +1,6 @@
 use Rattle.std.specs.Prelude.{◌≡◌, ℕ, Bool, true, false, Option, Some, None}
 use Rattle.ell_ops.specs.declared.op.Op.{Op}
+use Rattle.ell_ops.specs.declared.op.Op.TheVariants.{Insert, Delete}
 use Rattle.ell_ops.specs.Meaning.{key_of}
 use Rattle.ell_word.specs.Node.{card}
 use Rattle.ell_core.specs.declared.fact.Fact.{Fact}
@@ -183,17 +184,17 @@ allows (fact.Backed c) stage = is_backed stage
 abbrev pub Born : Stages → ℕ → Type 0
 Born stage x = is_born (stage (card x)) ≡ true
 
--- what a card's stage has made of its key, if anything: present or absent
-abbrev pub made_of : Stage → Option Entry
-made_of IChanged = Some Present
-made_of IOver = Some Present
-made_of DCut = Some Absent
-made_of DOver = Some Absent
-made_of _ = None
+-- what an operation has made of its key by its card's stage, if anything: an insert present, with its value, a delete absent
+abbrev pub made_of : Op → Stage → Option Entry
+made_of (Insert key value) IChanged = Some (Present value)
+made_of (Insert key value) IOver = Some (Present value)
+made_of (Delete key) DCut = Some Absent
+made_of (Delete key) DOver = Some Absent
+made_of _ _ = None
 
 -- the effective ledger, by the stages
 abbrev pub staged_of : Stages → Ledger → Option Op → Option ℕ → Bool → Ledger
-staged_of stage ledger (Some op) (Some c) true = with_settled ledger (key_of op) (made_of (stage c))
+staged_of stage ledger (Some op) (Some c) true = with_settled ledger (key_of op) (made_of op (stage c))
 staged_of stage ledger _ _ _ = ledger
 
 -- the same of a worker

@@ -1,5 +1,6 @@
 use Rattle.std.specs.Prelude.{◌≡◌, ◌≢◌, ℕ, ◌<◌, ◌≤◌, ◌==◌, if◌then◌else◌, Bool, true, false, Option, Some, None}
 use Rattle.ell_ops.specs.declared.op.Op.{Op}
+use Rattle.ell_ops.specs.declared.op.Op.TheVariants.{Insert, Delete}
 use Rattle.ell_ops.specs.Meaning.{key_of}
 use Rattle.ell_core.specs.declared.fact.Fact.{Fact}
 use Rattle.ell_core.specs.declared.fact.Fact.TheVariants as fact
@@ -76,21 +77,21 @@ delete_phase w c =
 abbrev pub phase : Words → ℕ → Phase
 phase w c = if is_delete_card w c then delete_phase w c else insert_phase w c
 
--- what a card's phase has made of its key, if anything: present or absent
-abbrev pub settled : Phase → Option Entry
-settled IChanged = Some Present
-settled IOver = Some Present
-settled DCut = Some Absent
-settled DOver = Some Absent
-settled _ = None
+-- what an operation has made of its key by its card's phase, if anything: an insert present, with its value, a delete absent
+abbrev pub settled : Op → Phase → Option Entry
+settled (Insert key value) IChanged = Some (Present value)
+settled (Insert key value) IOver = Some (Present value)
+settled (Delete key) DCut = Some Absent
+settled (Delete key) DOver = Some Absent
+settled _ _ = None
 
--- a ledger where a key has come to be present or absent, if anything
+-- a ledger where a key has come to be this, if anything
 abbrev pub with_settled : Ledger → ℕ → Option Entry → Ledger
 with_settled ledger key None = ledger
 with_settled ledger key (Some entry) = put ledger key (Some entry)
 
 abbrev pub effective_of : Words → Ledger → Option Op → Option ℕ → Bool → Ledger
-effective_of w ledger (Some op) (Some c) true = with_settled ledger (key_of op) (settled (phase w c))
+effective_of w ledger (Some op) (Some c) true = with_settled ledger (key_of op) (settled op (phase w c))
 effective_of w ledger _ _ _ = ledger
 
 -- the effective ledger: the ledger, where the key of an operation whose card is flagged counts as what that card has made

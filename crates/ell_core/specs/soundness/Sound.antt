@@ -8,7 +8,7 @@ use Rattle.ell_word.specs.declared.update.State.TheVariants as state
 use Rattle.ell_core.specs.declared.fact.Fact.{Fact}
 use Rattle.ell_core.specs.state.Words.{Words}
 use Rattle.ell_core.specs.state.Machine.{Worker, Machine, nobody}
-use Rattle.ell_core.specs.tree.Tree.{OnWalk, Finds, Reached, IsTreeKey, IsLawful}
+use Rattle.ell_core.specs.tree.Tree.{OnWalk, Finds, Reached, IsTreeKey, IsTreePair, IsLawful}
 use Rattle.ell_core.specs.soundness.Holds.{Holds, effective}
 use Rattle.ell_core.specs.declared.view.Entry.TheVariants.{Present}
 
@@ -21,17 +21,18 @@ pub record IsOwned (m : Machine) (key : ℕ) : Type 0 where
   pub worker : ℕ
   pub owns : Owns (m.worker worker) key
 
--- no key has two owners, each key of the tree has one, and the keys of the tree among a worker's keys are those present
--- in its effective ledger
+-- no key has two owners, each key of the tree has one, and the keys of the tree among a worker's keys, with their values, are those
+-- present in its effective ledger
 pub record LedgersAreSound (m : Machine) : Type 0 where
   pub one_owner : (i j key : ℕ) → Owns (m.worker i) key → Owns (m.worker j) key → i ≡ j
   pub owned : (key : ℕ) → IsTreeKey m.words key → IsOwned m key
-  pub present : (i key : ℕ) → Owns (m.worker i) key → IsTreeKey m.words key ↔ (effective m.words (m.worker i) key ≡ Some Present)
+  pub present : (i key value : ℕ) → Owns (m.worker i) key
+      → IsTreePair m.words key value ↔ (effective m.words (m.worker i) key ≡ Some (Present value))
 
--- where a worker stands, the walk for its key finds the key exactly when its ledger has it present, and what is reached of
--- that walk lies on the walk from the root
+-- where a worker stands, the walk for its key finds the key with a value exactly when its ledger has it present with that value, and
+-- what is reached of that walk lies on the walk from the root
 pub record WalkIsSound (w : Words) (v : Worker) (key x : ℕ) : Type 0 where
-  pub finds : Finds w key x ↔ (v.ledger key ≡ Some Present)
+  pub finds : (value : ℕ) → Finds w key value x ↔ (v.ledger key ≡ Some (Present value))
   pub joins : (y : ℕ) → OnWalk w key x y → Reached w y → OnWalk w key 0 y
 
 abbrev pub WalksAreSound : Machine → Type 0

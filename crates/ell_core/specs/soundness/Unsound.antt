@@ -1,4 +1,4 @@
-use Rattle.std.specs.Prelude.{ℕ, ◌==◌, if◌then◌else◌, true, false, Some, None}
+use Rattle.std.specs.Prelude.{ℕ, ◌==◌, if◌then◌else◌, true, false, Some, None, ◌*◌}
 use Rattle.ell_ops.specs.declared.op.Op.TheVariants.{Find}
 use Rattle.ell_word.specs.Node.{left_leaf, right_leaf}
 use Rattle.ell_core.specs.declared.fact.Fact.TheVariants.{IFlagged}
@@ -19,9 +19,9 @@ one_key key entry = λ k. if k == key then Some entry else None
 abbrev pub owner : ℕ → Entry → Worker
 owner key entry = idle (one_key key entry) (λ _. false)
 
--- a worker that owns two keys, both present, and has nothing in hand
+-- a worker that owns two keys, both present with ten times the key for their value, and has nothing in hand
 abbrev pub owner_of_two : ℕ → ℕ → Worker
-owner_of_two key other = idle (put (one_key key Present) other (Some Present)) (λ _. false)
+owner_of_two key other = idle (put (one_key key (Present (10 * key))) other (Some (Present (10 * other)))) (λ _. false)
 
 -- the worker with a card in hand that won its flag
 abbrev pub holding : ℕ → Worker → Worker
@@ -58,7 +58,11 @@ key_missing_in_ledger = with_one five (owner 5 Absent)
 
 -- present, right to left: a key that is present in the ledger alone, with the tree as it was opened
 abbrev pub key_kept_in_ledger : Machine
-key_kept_in_ledger = with_one opening_words (owner 5 Present)
+key_kept_in_ledger = with_one opening_words (owner 5 (Present 50))
+
+-- present, left to right: a key of the tree that its owner's ledger has present with another value
+abbrev pub key_with_other_value : Machine
+key_with_other_value = with_one five (owner 5 (Present 51))
 
 -- a state is unsound by its searches
 abbrev pub BreaksSearches : Machine → Type 0
@@ -70,7 +74,7 @@ key_found_too_early = with_one five_filled (searching 5 (left_leaf 1) (owner 5 A
 
 -- finds, right to left: a search that still stands at the leaf that was there before its key came, the key present
 abbrev pub key_not_found : Machine
-key_not_found = with_one five (searching 5 (left_leaf 0) (owner 5 Present))
+key_not_found = with_one five (searching 5 (left_leaf 0) (owner 5 (Present 50)))
 
 -- joins: a search for key 5 that stands at the right leaf, where no walk for 5 comes by
 abbrev pub search_astray : Machine
@@ -82,7 +86,7 @@ BreaksStrangers m = (¬ StrangersAreNobody m) × (¬ IsSound m)
 
 -- the tree with key 5, which its one worker owns, and this one past it
 abbrev pub with_stranger : Worker → Machine
-with_stranger v = let m = with_one five (owner 5 Present) in record m { worker = put m.worker 1 v }
+with_stranger v = let m = with_one five (owner 5 (Present 50)) in record m { worker = put m.worker 1 v }
 
 -- strangers: a key that is owned where there is no worker
 abbrev pub key_of_stranger : Machine

@@ -33,7 +33,7 @@ not_an_insert = with_one (record (with_update opening_words 0 (clean 1)) { next 
 
 -- an insert's child exchange was made without its flag
 abbrev pub linked_unflagged : Machine
-linked_unflagged = with_one five_linked (owner 5 Present)
+linked_unflagged = with_one five_linked (owner 5 (Present 50))
 
 -- an insert's flag was taken away, and the child is the leaf still
 abbrev pub never_linked : Machine
@@ -41,15 +41,15 @@ never_linked = with_one (with_update five_filled 0 (clean 1)) (owner 5 Absent)
 
 -- an insert's child exchange was made, and its flag stands still
 abbrev pub insert_flag_stands : Machine
-insert_flag_stands = with_one (with_update five 0 (iflag 1)) (holding 1 (owner 5 Present))
+insert_flag_stands = with_one (with_update five 0 (iflag 1)) (holding 1 (owner 5 (Present 50)))
 
 -- card 1 is an insert's, and is over
 abbrev pub not_a_delete : Machine
-not_a_delete = with_one five (owner 5 Present)
+not_a_delete = with_one five (owner 5 (Present 50))
 
 -- card 1 is an insert's, and a mark of it stands
 abbrev pub mark_of_an_insert : Machine
-mark_of_an_insert = with_one (with_update five 0 (marked 1)) (holding 1 (owner 5 Present))
+mark_of_an_insert = with_one (with_update five 0 (marked 1)) (holding 1 (owner 5 (Present 50)))
 
 -- a delete marked and cut, and its flag was never set
 abbrev pub cut_unflagged : Machine
@@ -57,11 +57,11 @@ cut_unflagged = with_one (five_cut (clean 1) (marked 2)) (owner 5 Absent)
 
 -- a delete can't mark any more, and its flag was never set
 abbrev pub passed_unflagged : Machine
-passed_unflagged = with_one (five_updated (clean 1) (clean 1)) (owner 5 Present)
+passed_unflagged = with_one (five_updated (clean 1) (clean 1)) (owner 5 (Present 50))
 
 -- a delete's flag was taken away, and the parent's update word is the one that its search read
 abbrev pub never_marked : Machine
-never_marked = with_one (five_updated (clean 2) (clean 0)) (owner 5 Present)
+never_marked = with_one (five_updated (clean 2) (clean 0)) (owner 5 (Present 50))
 
 -- a delete cut without a mark
 abbrev pub cut_unmarked : Machine
@@ -69,7 +69,7 @@ cut_unmarked = with_one (five_cut (clean 2) (clean 0)) (owner 5 Absent)
 
 -- a delete marked, its flag was taken away, and the child is the parent still
 abbrev pub never_cut : Machine
-never_cut = with_one (five_updated (clean 2) (marked 2)) (holding 2 (owner 5 Present))
+never_cut = with_one (five_updated (clean 2) (marked 2)) (holding 2 (owner 5 (Present 50)))
 
 -- a delete marked and cut, and its flag stands still
 abbrev pub cut_flag_stands : Machine
@@ -77,4 +77,4 @@ cut_flag_stands = with_one (five_cut (dflag 2) (marked 2)) (holding 2 (owner 5 A
 
 -- a delete can't mark any more, and its flag stands still
 abbrev pub passed_flag_stands : Machine
-passed_flag_stands = with_one (five_updated (dflag 2) (clean 1)) (holding 2 (owner 5 Present))
+passed_flag_stands = with_one (five_updated (dflag 2) (clean 1)) (holding 2 (owner 5 (Present 50)))

@@ -14,7 +14,7 @@ BreaksNames m = (¬ NamesAreSound m.words) × (¬ IsSound m)
 
 -- nodes: those of card 1 are in the tree, and card 1 was not claimed
 abbrev pub node_not_claimed : Machine
-node_not_claimed = with_one (record five_linked { next = 1 }) (owner 5 Present)
+node_not_claimed = with_one (record five_linked { next = 1 }) (owner 5 (Present 50))
 
 -- updates: the root's update word names a card that was not claimed
 abbrev pub card_not_claimed : Machine
@@ -42,7 +42,7 @@ flag_not_won = with_one root_flagged (record (owner 5 Absent) { card = Some 1 })
 
 -- place: card 2, whose grandparent is the root and whose parent is node 3, is in hand and flagged, with these update words there
 abbrev pub placed : ℕ → ℕ → Machine
-placed above behind = with_one (five_updated above behind) (holding 2 (owner 5 Present))
+placed above behind = with_one (five_updated above behind) (holding 2 (owner 5 (Present 50)))
 
 -- place: an insert's flag at the grandparent
 abbrev pub iflag_elsewhere : Machine

@@ -1,6 +1,6 @@
 use Rattle.std.specs.Prelude.{◌+◌, true, false}
 use Rattle.ell_word.specs.Node.{internal, left_leaf, right_leaf}
-use Rattle.ell_core.specs.state.Words.{with_child, with_key}
+use Rattle.ell_core.specs.state.Words.{with_child, with_key, with_value}
 use Rattle.ell_core.specs.state.Machine.{Machine}
 use Rattle.ell_core.specs.state.Opening.{opening_words}
 use Rattle.ell_core.specs.tree.Tree.{infinity1, infinity2, IsLawful}
@@ -15,7 +15,7 @@ BreaksTree m = (¬ IsLawful m.words) × (¬ IsSound m)
 
 -- rises: the old leaf is under the new node in place of its copy
 abbrev pub child_of_less_number : Machine
-child_of_less_number = with_one (with_child five (internal 1) true (left_leaf 0)) (owner 5 Present)
+child_of_less_number = with_one (with_child five (internal 1) true (left_leaf 0)) (owner 5 (Present 50))
 
 -- one path: both links of a node lead to one leaf (with two paths to a node, numbers or keys are out of order too)
 abbrev pub leaf_linked_twice : Machine
@@ -23,7 +23,7 @@ leaf_linked_twice = with_one (with_child five (internal 1) false (right_leaf 1))
 
 -- left less: the new node has the lesser key of its leaves, so that the left one has its own
 abbrev pub node_with_lesser_key : Machine
-node_with_lesser_key = with_one (with_key five (internal 1) 5) (owner 5 Present)
+node_with_lesser_key = with_one (with_key five (internal 1) 5) (owner 5 (Present 50))
 
 -- right more: a node's key is above that of its right leaf
 abbrev pub node_with_key_too_great : Machine
@@ -45,12 +45,12 @@ leaf_past_infinity = with_one (with_key opening_words (right_leaf 0) (infinity2 
 
 -- the left side, there and last key: no leaf has the lesser infinity, the keys are 5 and 7
 abbrev pub lesser_infinity_lost : Machine
-lesser_infinity_lost = with_one (with_key (with_key five (internal 1) 7) (right_leaf 1) 7) (owner_of_two 5 7)
+lesser_infinity_lost = with_one (with_value (with_key (with_key five (internal 1) 7) (right_leaf 1) 7) (right_leaf 1) 70) (owner_of_two 5 7)
 
 -- the left side, outer: only the internal node has the lesser infinity, and its right leaf has 7 (where keys are in order, such a
 -- node has a leaf of its own key)
 abbrev pub lesser_infinity_of_no_leaf : Machine
-lesser_infinity_of_no_leaf = with_one (with_key five (right_leaf 1) 7) (owner_of_two 5 7)
+lesser_infinity_of_no_leaf = with_one (with_value (with_key five (right_leaf 1) 7) (right_leaf 1) 70) (owner_of_two 5 7)
 
 -- the left side, real: another leaf has the greater infinity (where keys are in order, the lesser infinity stands once, and the
 -- greater one not on the left)
@@ -59,4 +59,4 @@ infinity_on_the_left = with_one (with_key five (left_leaf 1) infinity2) (owner 5
 
 -- the left side, deep: a leaf of a real key right below the root (then it is the only leaf there, and the lesser infinity is lost)
 abbrev pub leaf_below_the_root : Machine
-leaf_below_the_root = with_one (with_key opening_words (left_leaf 0) 5) (owner 5 Present)
+leaf_below_the_root = with_one (with_key opening_words (left_leaf 0) 5) (owner 5 (Present 0))

@@ -46,6 +46,12 @@ card_key w c =
     if is_delete_card w c then w.key (w.l c)
     else (if w.key (left_leaf c) == w.key (w.l c) then w.key (right_leaf c) else w.key (left_leaf c))
 
+-- the value that goes with it: that of the same leaf
+abbrev pub card_value : Words → ℕ → ℕ
+card_value w c =
+    if is_delete_card w c then w.value (w.l c)
+    else (if w.key (left_leaf c) == w.key (w.l c) then w.value (right_leaf c) else w.value (left_leaf c))
+
 -- the child of a node on the side of a card's own key
 abbrev pub card_child : Words → ℕ → ℕ → ℕ
 card_child w c node = child_for w (card_key w c) node

@@ -1,4 +1,4 @@
-use Rattle.std.specs.Prelude.{ℕ, ◌==◌, Bool, true, false, Option, Some, None, List}
+use Rattle.std.specs.Prelude.{ℕ, ◌==◌, Bool, false, Option, Some, None, List}
 use Rattle.std.specs.Map.{lookup}
 use Rattle.ell_ops.specs.declared.op.Op.{Op}
 use Rattle.ell_core.specs.declared.view.Search.{Search}
@@ -8,14 +8,14 @@ use Rattle.ell_core.specs.state.Facts.{Knowledge, known_of}
 use Rattle.ell_core.specs.declared.view.Entry.{Entry}
 use Rattle.ell_core.specs.declared.view.Entry.TheVariants.{Present, Absent}
 
--- which keys a worker owns: none says not owned, and else whether it is absent or present
+-- which keys a worker owns: none says not owned, and else whether it is absent, or present with which value
 abbrev pub Ledger : Type 0
 Ledger = ℕ → Option Entry
 
--- present exactly where it holds
-abbrev pub present_if : Bool → Entry
-present_if true = Present
-present_if false = Absent
+-- present with a value, if there is one
+abbrev pub entry_of : Option ℕ → Entry
+entry_of (Some value) = Present value
+entry_of None = Absent
 
 -- a worker: its ledger, the operation in hand, its search, the card in hand and whether that won its flag, its knowledge
 pub record Worker : Type 0 where

@@ -1,13 +1,14 @@
 use Rattle.std.specs.Prelude.{◌≡◌, ℕ, ◌+◌, ◌<◌, ◌≤◌, ◌==◌, ◌&&◌, if◌then◌else◌, Bool, false, zero, suc, nat_lt, Some, None, List, [], ◌∷◌, ◌++◌, length, slice_get, slice_index}
 use Rattle.std.specs.List.{list_any}
-use Rattle.ell_ops.specs.KeySet.{set_of}
+use Rattle.std.specs.Map.{keys_of, values_of}
+use Rattle.ell_ops.specs.Contents.{contents_of}
 use Rattle.ell_word.specs.Node.{right_leaf}
 use Rattle.ell_core.specs.declared.event.CoreFault.{CoreFault}
 use Rattle.ell_core.specs.declared.event.CoreFault.TheVariants.{NoSuchWorker, OwnedTwice, NoMemory}
 use Rattle.ell_core.specs.declared.field.Field.{Field}
 use Rattle.ell_core.specs.declared.field.Field.TheVariants.{Gp, P, L, Was, Key, Left, Right, Update, LeftLeafKey, RightLeafKey, LeftValue, RightValue}
 use Rattle.ell_core.specs.state.Words.{Words, words_from}
-use Rattle.ell_core.specs.state.Machine.{Ledger, Machine, idle, present_if}
+use Rattle.ell_core.specs.state.Machine.{Ledger, Machine, idle, entry_of}
 use Rattle.ell_core.specs.state.Cards.{clean}
 use Rattle.ell_core.specs.tree.Tree.{infinity1, infinity2}
 use Rattle.ell_core.specs.declared.branch.Branch.{Branch}
@@ -15,8 +16,12 @@ use Rattle.ell_core.specs.state.Branches.{root_branch, branch_of, left_child, ri
 use Rattle.ell_core.specs.declared.view.Entry.{Entry}
 
 -- the keys of the leaves at the start, from left to right: the start keys, and the two above all keys
-abbrev pub start_leaf : List ℕ → ℕ → ℕ
-start_leaf start i = slice_index (start ++ infinity1 ∷ infinity2 ∷ []) i
+abbrev pub start_leaf : List (ℕ × ℕ) → ℕ → ℕ
+start_leaf start i = slice_index (keys_of start ++ infinity1 ∷ infinity2 ∷ []) i
+
+-- their values: those of the start keys, and 0
+abbrev pub start_value : List (ℕ × ℕ) → ℕ → ℕ
+start_value start i = slice_index (values_of start) i
 
 -- the fields of card 0 at the start: a root of the greatest key; on its left the tree over the start keys and the lesser of the
 -- two keys above all keys, or, where there are no start keys, the leaf of that key; on its right the leaf of the greater
@@ -34,27 +39,28 @@ root_field many RightLeafKey = infinity2
 root_field many LeftValue = 0
 root_field many RightValue = 0
 
--- the fields of another card of the opening tree, by its branch and the keys of the leaves: it goes nowhere, and a leaf of it that
--- is not used has key 0
-abbrev pub branch_field : (ℕ → ℕ) → Branch → Field → ℕ
-branch_field leaf b Gp = 0
-branch_field leaf b P = 0
-branch_field leaf b L = 0
-branch_field leaf b Was = 0
-branch_field leaf b Key = leaf (b.first + b.left)
-branch_field leaf b Left = left_child b
-branch_field leaf b Right = right_child b
-branch_field leaf b Update = clean 0
-branch_field leaf b LeftLeafKey = if b.left == 1 then leaf b.first else 0
-branch_field leaf b RightLeafKey = if b.right == 1 then leaf (b.first + b.left) else 0
-branch_field leaf b LeftValue = 0
-branch_field leaf b RightValue = 0
+-- the fields of another card of the opening tree, by its branch and the keys and values of the leaves: it goes nowhere, and a leaf of
+-- it that is not used has key and value 0
+abbrev pub branch_field : (ℕ → ℕ) → (ℕ → ℕ) → Branch → Field → ℕ
+branch_field leaf value b Gp = 0
+branch_field leaf value b P = 0
+branch_field leaf value b L = 0
+branch_field leaf value b Was = 0
+branch_field leaf value b Key = leaf (b.first + b.left)
+branch_field leaf value b Left = left_child b
+branch_field leaf value b Right = right_child b
+branch_field leaf value b Update = clean 0
+branch_field leaf value b LeftLeafKey = if b.left == 1 then leaf b.first else 0
+branch_field leaf value b RightLeafKey = if b.right == 1 then leaf (b.first + b.left) else 0
+branch_field leaf value b LeftValue = if b.left == 1 then value b.first else 0
+branch_field leaf value b RightValue = if b.right == 1 then value (b.first + b.left) else 0
 
 -- those of them that are written over zeros
-abbrev pub branch_filling : (ℕ → ℕ) → Branch → List (Field × ℕ)
-branch_filling leaf b =
+abbrev pub branch_filling : (ℕ → ℕ) → (ℕ → ℕ) → Branch → List (Field × ℕ)
+branch_filling leaf value b =
     (Key, leaf (b.first + b.left)) ∷ (Left, left_child b) ∷ (Right, right_child b) ∷ (Update, clean 0)
-    ∷ (LeftLeafKey, (if b.left == 1 then leaf b.first else 0)) ∷ (RightLeafKey, (if b.right == 1 then leaf (b.first + b.left) else 0)) ∷ []
+    ∷ (LeftLeafKey, (if b.left == 1 then leaf b.first else 0)) ∷ (RightLeafKey, (if b.right == 1 then leaf (b.first + b.left) else 0))
+    ∷ (LeftValue, (if b.left == 1 then value b.first else 0)) ∷ (RightValue, (if b.right == 1 then value (b.first + b.left) else 0)) ∷ []
 
 -- those of card 0 that are written over zeros, where there are so many start keys
 abbrev pub root_filling : ℕ → List (Field × ℕ)
@@ -63,13 +69,13 @@ root_filling many =
     ∷ (RightLeafKey, infinity2) ∷ []
 
 -- the fields of all cards at the start: those of the cards after the opening tree's are 0
-abbrev pub start_field : List ℕ → ℕ → Field → ℕ
+abbrev pub start_field : List (ℕ × ℕ) → ℕ → Field → ℕ
 start_field start zero field = root_field (length start) field
 start_field start (suc c) field =
-    if nat_lt c (length start) then branch_field (start_leaf start) (branch_of (length start + 1) (suc c)) field else 0
+    if nat_lt c (length start) then branch_field (start_leaf start) (start_value start) (branch_of (length start + 1) (suc c)) field else 0
 
 -- the words at the start: the next card is the one after the opening tree's
-abbrev pub start_words : List ℕ → Words
+abbrev pub start_words : List (ℕ × ℕ) → Words
 start_words start = words_from (length start + 1) (start_field start)
 
 -- the words at the start where there are no start keys
@@ -81,23 +87,23 @@ abbrev pub gives : ℕ → ℕ → ℕ × ℕ → Bool
 gives i key entry = (entry.0 == i) && (entry.1 == key)
 
 -- what start keys make of a key
-abbrev pub start_entry : List ℕ → ℕ → Entry
-start_entry start key = present_if (set_of start key)
+abbrev pub start_entry : List (ℕ × ℕ) → ℕ → Entry
+start_entry start key = entry_of (contents_of start key)
 
 -- the ledger of worker i at the start: its keys are those that the entries give it, and the start keys among them are present
-abbrev pub opening_ledger : List (ℕ × ℕ) → List ℕ → ℕ → Ledger
+abbrev pub opening_ledger : List (ℕ × ℕ) → List (ℕ × ℕ) → ℕ → Ledger
 opening_ledger owned start i = λ key. if list_any (gives i key) owned then Some (start_entry start key) else None
 
--- what a state opens with: so many workers, the keys that they own, by entries of a worker and a key, the start keys, and so many
--- cards beside those of the start keys' tree
+-- what a state opens with: so many workers, the keys that they own, by entries of a worker and a key, the start keys with their
+-- values, and so many cards beside those of the start keys' tree
 pub record Setup : Type 0 where
   pub count : ℕ
   pub owned : List (ℕ × ℕ)
-  pub start : List ℕ
+  pub start : List (ℕ × ℕ)
   pub cards : ℕ
 
 -- the last card, where so many cards follow those of the start keys' tree
-abbrev pub last_card : List ℕ → ℕ → ℕ
+abbrev pub last_card : List (ℕ × ℕ) → ℕ → ℕ
 last_card start cards = cards + length start
 
 -- the opening state

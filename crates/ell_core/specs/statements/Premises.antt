@@ -1,5 +1,6 @@
 use Rattle.std.specs.Prelude.{◌≡◌, ◌≢◌, ℕ, ◌<◌, ◌≤◌, ◌||◌, if◌then◌else◌, Bool, Option, Some, None, List, [], ◌∷◌, true, zero, suc, false, map}
 use Rattle.std.specs.List.{All}
+use Rattle.std.specs.Map.{keys_of}
 use Rattle.std.specs.List.Sorted.{IsStrictlyIncreasing}
 use Rattle.ell_ops.specs.KeySet.{set_of}
 use Rattle.ell_ops.specs.Meaning.{greatest_key}
@@ -108,11 +109,11 @@ first_alone v zero = v
 first_alone v (suc i) = nobody
 
 -- these keys, of which the start keys are present and the others absent
-abbrev pub keys_at_start : List ℕ → List ℕ → List (ℕ × Entry)
+abbrev pub keys_at_start : List ℕ → List (ℕ × ℕ) → List (ℕ × Entry)
 keys_at_start keys start = map (λ k. (k, start_entry start k)) keys
 
 -- the state at the start of one worker that owns these keys, of which the start keys are present, with so many cards to claim
-abbrev pub opening_of_one : List ℕ → List ℕ → ℕ → Machine
+abbrev pub opening_of_one : List ℕ → List (ℕ × ℕ) → ℕ → Machine
 opening_of_one keys start cards = record {
   words = start_words start;
   worker = first_alone (idle (ledger_of (keys_at_start keys start)) (λ _. false));
@@ -121,11 +122,11 @@ opening_of_one keys start cards = record {
 }
 
 -- it is an opening, and has the invariant
-pub record OpensForOne (keys start : List ℕ) (cards : ℕ) : Type 0 where
+pub record OpensForOne (keys : List ℕ) (start : List (ℕ × ℕ)) (cards : ℕ) : Type 0 where
   pub opens : IsOpening (opening_of_one keys start cards)
   pub lawful : HasInvariant (opening_of_one keys start cards)
 
 -- so it is with every ascending list of real keys, and every ascending list of start keys among them
 abbrev pub OneWorkerOpens : Type 0
-OneWorkerOpens = (keys start : List ℕ) (cards : ℕ) → IsStrictlyIncreasing keys → All (λ k. k ≤ greatest_key) keys
-    → IsStrictlyIncreasing start → All (λ k. set_of keys k ≡ true) start → OpensForOne keys start cards
+OneWorkerOpens = (keys : List ℕ) (start : List (ℕ × ℕ)) (cards : ℕ) → IsStrictlyIncreasing keys → All (λ k. k ≤ greatest_key) keys
+    → IsStrictlyIncreasing (keys_of start) → All (λ k. set_of keys k ≡ true) (keys_of start) → OpensForOne keys start cards

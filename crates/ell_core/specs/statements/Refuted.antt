@@ -14,7 +14,7 @@ use Rattle.ell_core.specs.declared.event.Stepped.TheVariants.{Won, Answered}
 use Rattle.ell_core.specs.state.Words.{put}
 use Rattle.ell_core.specs.state.Machine.{Worker, Machine}
 use Rattle.ell_core.specs.state.Moves.{IsIdle, Parts, KnowsNoMore}
-use Rattle.ell_core.specs.state.Cards.{card_key}
+use Rattle.ell_core.specs.state.Cards.{card_key, card_value}
 use Rattle.ell_core.specs.acts.Searching.{IsClean}
 use Rattle.ell_core.specs.acts.Events.{Steps}
 use Rattle.ell_core.specs.acts.Runs.{Run}
@@ -23,7 +23,7 @@ use Rattle.ell_core.specs.soundness.Sound.{Owns}
 use Rattle.ell_core.specs.history.Stages.{Stages}
 use Rattle.ell_core.specs.history.Invariant.{Invariant}
 use Rattle.ell_core.specs.history.Later.{SameInfo, SameNode}
-use Rattle.ell_core.specs.statements.StepLaws.{AddsKey, KnowledgeLasts, set_in}
+use Rattle.ell_core.specs.statements.StepLaws.{AddsPair, KnowledgeLasts, contents_in}
 use Rattle.ell_core.specs.statements.RunLaws.{IsPassed, IsOpening, Follow, Begins, wins_in, cut_order, back_order}
 use Rattle.ell_ops.specs.declared.reply.Reply.{Reply}
 
@@ -59,16 +59,16 @@ abbrev pub OneLedgerForAll : Type 0
 OneLedgerForAll = (m : Machine) (e : Event) (said : Stepped) (m' : Machine) → IsPassed m → Steps m e said m'
     → (j : ℕ) → (m'.worker j).ledger ≡ (m.worker e.worker).ledger
 
--- a won ichild adds the key of the next card (in truth its own card's)
+-- a won ichild adds the key and the value of the next card (in truth its own card's)
 abbrev pub InsertsAddTheNextKey : Type 0
 InsertsAddTheNextKey = (m : Machine) (e : Event) (c : ℕ) (m' : Machine) → IsPassed m → e.act ≡ act.IChild c → Steps m e Won m'
-    → AddsKey m.words m'.words (card_key m.words m.words.next)
+    → AddsPair m.words m'.words (card_key m.words m.words.next) (card_value m.words m.words.next)
 
--- an answer is that of the set after the operation (in truth of the set before it)
-abbrev pub AnswersAreOfTheSetAfter : Type 0
-AnswersAreOfTheSetAfter = (m : Machine) (e : Event) (op : Op) (reply : Reply) (m' : Machine) → IsPassed m
+-- an answer is that of the map after the operation (in truth of the map before it)
+abbrev pub AnswersAreOfTheMapAfter : Type 0
+AnswersAreOfTheMapAfter = (m : Machine) (e : Event) (op : Op) (reply : Reply) (m' : Machine) → IsPassed m
     → (m.worker e.worker).operation ≡ Some op → Steps m e (Answered reply) m'
-    → reply ≡ reply_of op (set_in (m'.worker e.worker).ledger)
+    → reply ≡ reply_of op (contents_in (m'.worker e.worker).ledger)
 
 -- one that owns every key finds every update word clean, with an operation in hand too (in truth its own flag may stand)
 abbrev pub BusyOwnersFindClean : Type 0

@@ -1,6 +1,7 @@
 use Rattle.std.specs.Prelude.{◌≡◌, ℕ, ◌<◌, ◌≤◌, ◌⊎◌, Bool, true, List, [], ◌∷◌, ◌++◌}
 use Rattle.std.specs.List.Sorted.{IsStrictlyIncreasing}
 use Rattle.std.specs.List.{All}
+use Rattle.std.specs.Map.{keys_of}
 use Rattle.ell_ops.specs.Meaning.{greatest_key}
 use Rattle.ell_word.specs.Node.{internal, card}
 use Rattle.ell_word.specs.Word.{unpacked}
@@ -19,15 +20,15 @@ use Rattle.ell_core.specs.soundness.Sound.{IsSound}
 use Rattle.ell_core.specs.history.Stages.{Stages}
 use Rattle.ell_core.specs.history.Invariant.{Invariant, HasInvariant}
 use Rattle.ell_core.specs.history.Later.{WordsLater, StagesLater, SameNode, SameInfo, wins_by}
-use Rattle.ell_core.specs.statements.StepLaws.{KeysChange, SameKeys, LedgersChange, KnowledgeLasts, FactsLast}
+use Rattle.ell_core.specs.statements.StepLaws.{PairsChange, SamePairs, LedgersChange, KnowledgeLasts, FactsLast}
 
 -- what an opening takes: each entry's worker is there, no key is owned twice, and each is a real one; the start keys ascend, and each
 -- of them is owned
 pub record CanOpen (setup : Setup) : Type 0 where
   pub faultless : Faultless setup.count setup.owned
   pub real : All (λ entry. entry.1 ≤ greatest_key) setup.owned
-  pub ascending : IsStrictlyIncreasing setup.start
-  pub given : All (λ k. is_given setup.owned k ≡ true) setup.start
+  pub ascending : IsStrictlyIncreasing (keys_of setup.start)
+  pub given : All (λ k. is_given setup.owned k ≡ true) (keys_of setup.start)
 
 -- a state of a run: some schedule leads to it from an opening state
 pub record IsPassed (m : Machine) : Type 0 where
@@ -47,12 +48,12 @@ EveryStateIsSound = (m : Machine) → IsPassed m → IsSound m
 
 -- what is shown of an event changes the keys of the tree as its act does; a refusal changes nothing
 abbrev pub ShownChange : Act → Shown → Words → Words → Type 0
-ShownChange a (shown.Step said) old new = KeysChange a said old new
-ShownChange a (shown.Refused fault) old new = SameKeys old new
+ShownChange a (shown.Step said) old new = PairsChange a said old new
+ShownChange a (shown.Refused fault) old new = SamePairs old new
 
 -- the keys of the tree change at a won ichild and a won dchild alone, by the card's key
-abbrev pub KeysChangeAtWins : Type 0
-KeysChangeAtWins = (m : Machine) (e : Event) (x : Shown) (m' : Machine) → IsPassed m → Shows m e x m'
+abbrev pub PairsChangeAtWins : Type 0
+PairsChangeAtWins = (m : Machine) (e : Event) (x : Shown) (m' : Machine) → IsPassed m → Shows m e x m'
     → ShownChange e.act x m.words m'.words
 
 -- what is shown of an event changes the ledgers as its answer does; a refusal changes nothing
@@ -61,8 +62,8 @@ ShownLedgers m i (shown.Step said) m' = LedgersChange m i said m'
 ShownLedgers m i (shown.Refused fault) m' = m' ≡ m
 
 -- each answer is the set's
-abbrev pub AnswersAreTheSets : Type 0
-AnswersAreTheSets = (m : Machine) (e : Event) (x : Shown) (m' : Machine) → IsPassed m → Shows m e x m'
+abbrev pub AnswersAreTheMaps : Type 0
+AnswersAreTheMaps = (m : Machine) (e : Event) (x : Shown) (m' : Machine) → IsPassed m → Shows m e x m'
     → ShownLedgers m e.worker x m'
 
 -- what is won for a card, by what is shown of an event: for the card that it names, or a flag for the card in hand before it

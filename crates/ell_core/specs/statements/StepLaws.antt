@@ -1,6 +1,7 @@
 use Rattle.std.specs.Prelude.{◌≡◌, ◌≢◌, ℕ, ◌+◌, ◌<◌, ◌≤◌, ◌⊎◌, ◌↔◌, Bool, true, false, Option, Some, None}
 use Rattle.ell_ops.specs.declared.op.Op.{Op}
-use Rattle.ell_ops.specs.Meaning.{Contents, key_of, reply_of, after}
+use Rattle.ell_ops.specs.Contents.{Contents}
+use Rattle.ell_ops.specs.Meaning.{key_of, reply_of, after}
 use Rattle.ell_word.specs.Node.{IsInternal, card}
 use Rattle.ell_word.specs.Word.{unpacked}
 use Rattle.ell_word.specs.declared.update.State.TheVariants as state
@@ -15,11 +16,11 @@ use Rattle.ell_core.specs.declared.view.Seen.{Seen}
 use Rattle.ell_core.specs.state.Words.{Words}
 use Rattle.ell_core.specs.state.Facts.{card_of_fact}
 use Rattle.ell_core.specs.state.Machine.{Ledger, Worker, Machine, Scene, scene}
-use Rattle.ell_core.specs.state.Cards.{card_key, marked}
+use Rattle.ell_core.specs.state.Cards.{card_key, card_value, marked}
 use Rattle.ell_core.specs.acts.Searching.{IsLeaf, IsClean, Down}
 use Rattle.ell_core.specs.acts.Events.{Steps}
 use Rattle.ell_core.specs.state.Moves.{IsIdle, Split, Join}
-use Rattle.ell_core.specs.tree.Tree.{Reached, IsTreeKey}
+use Rattle.ell_core.specs.tree.Tree.{Reached, IsTreeKey, IsTreePair}
 use Rattle.ell_core.specs.soundness.Holds.{Holds}
 use Rattle.ell_core.specs.soundness.Sound.{Owns, IsSound, flags_at}
 use Rattle.ell_core.specs.history.Stages.{Stages, Born}
@@ -29,49 +30,49 @@ use Rattle.ell_core.specs.declared.view.Entry.{Entry}
 use Rattle.ell_core.specs.declared.view.Entry.TheVariants.{Present}
 use Rattle.ell_ops.specs.declared.reply.Reply.{Reply}
 
--- the tree has one key more, which it had not
-pub record AddsKey (old new : Words) (key : ℕ) : Type 0 where
+-- the tree has one key more, which it had not, with this value
+pub record AddsPair (old new : Words) (key value : ℕ) : Type 0 where
   pub absent : ¬ IsTreeKey old key
-  pub keys : (k : ℕ) → IsTreeKey new k ↔ (IsTreeKey old k ⊎ (k ≡ key))
+  pub pairs : (k v : ℕ) → IsTreePair new k v ↔ (IsTreePair old k v ⊎ ((k ≡ key) × (v ≡ value)))
 
--- the tree has one key less, which it had
+-- the tree has one key less, which it had; each other key has its value still
 pub record TakesKey (old new : Words) (key : ℕ) : Type 0 where
   pub present : IsTreeKey old key
-  pub keys : (k : ℕ) → IsTreeKey new k ↔ (IsTreeKey old k × (k ≢ key))
+  pub pairs : (k v : ℕ) → IsTreePair new k v ↔ (IsTreePair old k v × (k ≢ key))
 
--- the tree has the same keys
-abbrev pub SameKeys : Words → Words → Type 0
-SameKeys old new = (k : ℕ) → IsTreeKey new k ↔ IsTreeKey old k
+-- the tree has the same keys with the same values
+abbrev pub SamePairs : Words → Words → Type 0
+SamePairs old new = (k v : ℕ) → IsTreePair new k v ↔ IsTreePair old k v
 
--- what an act does to the keys of the tree: a won ichild adds its card's key, a won dchild takes its card's key away, and
--- nothing else changes them (paper of 2010: an update takes effect at its child exchange)
-abbrev pub KeysChange : Act → Stepped → Words → Words → Type 0
-KeysChange (act.IChild c) Won old new = AddsKey old new (card_key old c)
-KeysChange (act.DChild c) Won old new = TakesKey old new (card_key old c)
-KeysChange _ _ old new = SameKeys old new
+-- what an act does to the keys of the tree and their values: a won ichild adds its card's key with its value, a won dchild takes its
+-- card's key away, and nothing else changes them (paper of 2010: an update takes effect at its child exchange)
+abbrev pub PairsChange : Act → Stepped → Words → Words → Type 0
+PairsChange (act.IChild c) Won old new = AddsPair old new (card_key old c) (card_value old c)
+PairsChange (act.DChild c) Won old new = TakesKey old new (card_key old c)
+PairsChange _ _ old new = SamePairs old new
 
--- whether an entry of a ledger is a key that is present
-abbrev pub is_present : Option Entry → Bool
-is_present (Some Present) = true
-is_present _ = false
+-- the value that an entry of a ledger has, if it is of a key that is present
+abbrev pub value_in : Option Entry → Option ℕ
+value_in (Some (Present value)) = Some value
+value_in _ = None
 
--- the set of the keys that a ledger has present
-abbrev pub set_in : Ledger → Contents
-set_in ledger = λ key. is_present (ledger key)
+-- the keys that a ledger has present, with their values
+abbrev pub contents_in : Ledger → Contents
+contents_in ledger = λ key. value_in (ledger key)
 
--- an answer is the set's answer to the operation in hand, and the ledger becomes the set after it, of the same keys
-pub record AnswersAsSet (old new : Ledger) (operation : Option Op) (reply : Reply) : Type 0 where
+-- an answer is the map's answer to the operation in hand, and the ledger becomes the map after it, of the same keys
+pub record AnswersAsMap (old new : Ledger) (operation : Option Op) (reply : Reply) : Type 0 where
   pub op : Op
   pub busy : operation ≡ Some op
-  pub says : reply ≡ reply_of op (set_in old)
-  pub set : (key : ℕ) → set_in new key ≡ after op (set_in old) key
+  pub says : reply ≡ reply_of op (contents_in old)
+  pub map : (key : ℕ) → contents_in new key ≡ after op (contents_in old) key
   pub owned : (key : ℕ) → (new key ≡ None) ↔ (old key ≡ None)
 
--- what an event does to the ledgers: an answer is the set's, on the ledger of its own worker; no other event changes any
+-- what an event does to the ledgers: an answer is the map's, on the ledger of its own worker; no other event changes any
 -- ledger, nor an answer another worker's
 abbrev pub LedgersChange : Machine → ℕ → Stepped → Machine → Type 0
 LedgersChange m i (Answered reply) m' =
-    AnswersAsSet (m.worker i).ledger (m'.worker i).ledger (m.worker i).operation reply
+    AnswersAsMap (m.worker i).ledger (m'.worker i).ledger (m.worker i).operation reply
     × ((j : ℕ) → j ≢ i → (m'.worker j).ledger ≡ (m.worker j).ledger)
 LedgersChange m i _ m' = (j : ℕ) → (m'.worker j).ledger ≡ (m.worker j).ledger
 
@@ -83,11 +84,11 @@ KnowledgeLasts m m' = (i : ℕ) (fact : Fact) → (m.worker i).knows fact ≡ tr
 abbrev pub FactsLast : Words → Words → Type 0
 FactsLast old new = (fact : Fact) → Holds old fact → Holds new fact
 
--- an event leads from a state that the invariant holds of to one that it holds of; with what it does to keys, ledgers,
+-- an event leads from a state that the invariant holds of to one that it holds of; with what it does to pairs, ledgers,
 -- knowledge and facts
 pub record EventIsLawful (m : Machine) (stage : Stages) (e : Event) (said : Stepped) (m' : Machine) : Type 0 where
   pub follows : Follows m stage e.act e.worker said m'
-  pub keys : KeysChange e.act said m.words m'.words
+  pub pairs : PairsChange e.act said m.words m'.words
   pub ledgers : LedgersChange m e.worker said m'
   pub knowledge : KnowledgeLasts m m'
   pub facts : FactsLast m.words m'.words
@@ -171,7 +172,7 @@ is_of_marked _ = false
 
 -- what a step of worker i may rely on: where it stands, and what it reads and has read there; that a down leads to a greater
 -- node of the table; what its search has behind it; where the cards go of which it knows anything, and that the mark of one
--- that was marked stands; the key of a leaf where it stands, and the grandparent that there is above its own key's; that a node
+-- that was marked stands; the key and the value of a leaf where it stands, and the grandparent that there is above its own key's; that a node
 -- that came into the tree, the card in hand, and each card of which anything is known, are claimed ones of the table; that with a
 -- card in hand that is not flagged it stands somewhere; that it owns its operation's key; and where claimed cards go
 pub record Reliance (m : Machine) (stage : Stages) (i : ℕ) : Type 0 where
@@ -194,7 +195,7 @@ pub record Reliance (m : Machine) (stage : Stages) (i : ℕ) : Type 0 where
   pub marked : (f : Fact) → (m.worker i).knows f ≡ true → is_of_marked f ≡ true
       → m.words.update (m.words.p (card_of_fact f)) ≡ marked (card_of_fact f)
   pub leaf_key : (op : Op) (x : ℕ) → (m.worker i).operation ≡ Some op → (m.worker i).search.node ≡ Some x → IsLeaf x
-      → (m.words.key x ≡ key_of op) ↔ ((m.worker i).ledger (key_of op) ≡ Some Present)
+      → (value : ℕ) → ((m.words.key x ≡ key_of op) × (m.words.value x ≡ value)) ↔ ((m.worker i).ledger (key_of op) ≡ Some (Present value))
   pub claimed : (x : ℕ) → Born stage x → card x < m.words.next
   pub known : (f : Fact) → (m.worker i).knows f ≡ true → card_of_fact f < m.words.next
   pub hand : (c : ℕ) → (m.worker i).card ≡ Some c → c < m.words.next

@@ -1,5 +1,6 @@
 use Rattle.std.specs.Prelude.{◌≡◌, ◌≢◌, ℕ, ◌+◌, ◌<◌, ◌≤◌, ◌↔◌, Bool, true, false, List, [], ◌∷◌, Contains}
 use Rattle.std.specs.List.Sorted.{IsStrictlyIncreasing}
+use Rattle.std.specs.Map.{keys_of}
 use Rattle.ell_ops.specs.Meaning.{greatest_key}
 use Rattle.ell_word.specs.Node.{IsInternal, right_leaf}
 use Rattle.ell_core.specs.state.Words.{Words}
@@ -18,12 +19,13 @@ pub data OnWalk (w : Words) (key : ℕ) : ℕ → ℕ → Type 0 where
   here : {x y : ℕ} → y ≡ x → OnWalk w key x y
   next : {x y : ℕ} → IsInternal x → OnWalk w key (child_for w key x) y → OnWalk w key x y
 
--- the walk for a key from x ends at a leaf that has the key
-pub record Finds (w : Words) (key x : ℕ) : Type 0 where
+-- the walk for a key from x ends at a leaf that has the key and this value
+pub record Finds (w : Words) (key value x : ℕ) : Type 0 where
   pub leaf : ℕ
   pub on : OnWalk w key x leaf
   pub outer : IsLeaf leaf
   pub has : w.key leaf ≡ key
+  pub says : w.value leaf ≡ value
 
 -- a path, a list of sides of which true is the right one, leads from x to y over internal nodes
 abbrev pub Leads : Words → ℕ → List Bool → ℕ → Type 0
@@ -45,6 +47,15 @@ pub record IsTreeKey (w : Words) (key : ℕ) : Type 0 where
   pub reached : Reached w leaf
   pub outer : IsLeaf leaf
   pub has : w.key leaf ≡ key
+  pub real : key ≤ greatest_key
+
+-- a key of the tree with its value: a reached leaf has both
+pub record IsTreePair (w : Words) (key value : ℕ) : Type 0 where
+  pub leaf : ℕ
+  pub reached : Reached w leaf
+  pub outer : IsLeaf leaf
+  pub has : w.key leaf ≡ key
+  pub says : w.value leaf ≡ value
   pub real : key ≤ greatest_key
 
 -- a node has a parent and a grandparent that are reached
@@ -76,6 +87,11 @@ pub record IsLawful (w : Words) : Type 0 where
   pub root_right : w.child 0 true ≡ right_leaf 0
   pub right_key : w.key (right_leaf 0) ≡ infinity2
   pub left : LeftIsLawful w
+
+-- a list has the keys of the tree with their values, each key once, ascending
+pub record ListsTreePairs (w : Words) (pairs : List (ℕ × ℕ)) : Type 0 where
+  pub ascending : IsStrictlyIncreasing (keys_of pairs)
+  pub each : (key value : ℕ) → Contains pairs (key, value) ↔ IsTreePair w key value
 
 -- a list has the keys of the tree, each once, ascending
 pub record ListsKeys (w : Words) (keys : List ℕ) : Type 0 where

@@ -1,6 +1,6 @@
 //! Laws of every schedule: any list of events, by any workers in any order, from any opening state on; refused events, and helpers
 //! who come back long after an operation has ended, are schedules too. Each law is the contract of a function that does nothing.
-ghost use Rattle.ell_core.specs.statements.RunLaws.{EveryStateHasInvariant, EveryStateIsSound, KeysChangeAtWins, AnswersAreTheSets, WinsAreInOrder, MarkedNodesAreFrozen, WordsRise, KnowledgeIsNeverLost, ClaimedCardsAreFixed, StagesRise};
+ghost use Rattle.ell_core.specs.statements.RunLaws.{EveryStateHasInvariant, EveryStateIsSound, PairsChangeAtWins, AnswersAreTheMaps, WinsAreInOrder, MarkedNodesAreFrozen, WordsRise, KnowledgeIsNeverLost, ClaimedCardsAreFixed, StagesRise};
 
 /// Every state of a run is sound, since the invariant holds of it.
 pub fn every_state_is_sound()
@@ -10,14 +10,14 @@ pub fn every_state_is_sound()
 
 /// The keys of the tree change at a won ichild, which adds its card's key, and at a won dchild, which takes its card's key away;
 /// at every other event, and where one is refused, they are the same.
-pub fn keys_change_at_wins()
-    ensures { KeysChangeAtWins }
+pub fn pairs_change_at_wins()
+    ensures { PairsChangeAtWins }
 {}
 
 /// Each answer is the set's answer on the ledger of its worker, and the ledger becomes the set after the operation; no other
 /// event changes a ledger.
-pub fn answers_are_the_sets()
-    ensures { AnswersAreTheSets }
+pub fn answers_are_the_maps()
+    ensures { AnswersAreTheMaps }
 {}
 
 /// In every run each card wins iflag, ichild, iunflag, or dflag, mark, dchild, dunflag, or dflag, backtrack: each at most once,

@@ -2,7 +2,7 @@
 //! a function that does nothing.
 ghost use Rattle.std.specs.Prelude.{[], ◌∷◌};
 ghost use Rattle.ell_core.specs.declared.fact.Fact.TheVariants.{IFlagged, IChanged, IOver, DFlagged, Marked, Unmarkable, Cut, DOver, Backed};
-ghost use Rattle.ell_core.specs.soundness.Unsound.{BreaksLedgers, key_owned_twice, key_without_owner, key_missing_in_ledger, key_kept_in_ledger, BreaksSearches, key_found_too_early, key_not_found, search_astray, BreaksStrangers, key_of_stranger, busy_stranger, knowing_stranger};
+ghost use Rattle.ell_core.specs.soundness.Unsound.{BreaksLedgers, key_owned_twice, key_without_owner, key_missing_in_ledger, key_kept_in_ledger, key_with_other_value, BreaksSearches, key_found_too_early, key_not_found, search_astray, BreaksStrangers, key_of_stranger, busy_stranger, knowing_stranger};
 ghost use Rattle.ell_core.specs.soundness.UnsoundTrees.{BreaksTree, child_of_less_number, leaf_linked_twice, node_with_lesser_key, node_with_key_too_great, root_of_lesser_infinity, root_with_other_leaf, leaf_past_infinity, lesser_infinity_lost, lesser_infinity_of_no_leaf, infinity_on_the_left, leaf_below_the_root};
 ghost use Rattle.ell_core.specs.soundness.UnsoundFacts.{NoneHolds, not_an_insert, linked_unflagged, never_linked, insert_flag_stands, not_a_delete, mark_of_an_insert, cut_unflagged, passed_unflagged, never_marked, cut_unmarked, never_cut, cut_flag_stands, passed_flag_stands};
 ghost use Rattle.ell_core.specs.soundness.UnsoundFlags.{BreaksNames, node_not_claimed, card_not_claimed, BreaksFlags, flag_left_standing, flag_of_another, flag_not_won, iflag_elsewhere, dflag_elsewhere, mark_elsewhere};
@@ -30,6 +30,7 @@ pub fn no_ledger_is_wrong()
     ensures owned { BreaksLedgers key_without_owner }
     ensures present { BreaksLedgers key_missing_in_ledger }
     ensures only { BreaksLedgers key_kept_in_ledger }
+    ensures value { BreaksLedgers key_with_other_value }
 {}
 
 /// No search finds a key that is absent, misses one that is present, or stands where the walk for its key does not come by.

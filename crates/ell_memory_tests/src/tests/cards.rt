@@ -16,7 +16,7 @@ use ell_test_steps::{Memory, nothing, step};
 use std::alloc::{Allocator, Global};
 use std::process::Abort;
 
-const START: [u64; 1] = [7];
+const START: [(u64, u64); 1] = [(7, 77)];
 
 // Reserves a table.
 fn reserve(heap: &Heap, refusal: Refusal) -> Ended {

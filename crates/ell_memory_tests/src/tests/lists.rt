@@ -1,7 +1,7 @@
 //! Lists of operations, their parts and their replies.
 use super::refusing::{Heap, Refusal};
 use super::sweeping::{Ended, sweep};
-use ell_ops::Reply::{self, No, Yes};
+use ell_ops::Reply::{self, Found, No, Yes};
 use ell_ops::{NoMemory, Op, apply_all, apply_from};
 use ell_parts::{GatherFault, PartFault, Parts, gather};
 use std::alloc::Allocator;
@@ -13,33 +13,33 @@ const OPS: [Op; 4] = [
     Op::Delete(7),
 ];
 
-// Each operation answers that it is so, and these keys are left.
+// Each change is made, 7 is found with its value, and these keys are left, with their values.
 fn are_answered<A: Allocator>(
-    answered: &Result<(Vec<Reply, A>, Vec<u64, A>), NoMemory>,
-    keys: &[u64],
+    answered: &Result<(Vec<Reply, A>, Vec<(u64, u64), A>), NoMemory>,
+    pairs: &[(u64, u64)],
 ) -> Ended {
     match answered {
         Ok((replies, left)) => Ended::answered(
-            replies.as_slice() == [Yes; 4].as_slice() && left.as_slice() == keys,
+            replies.as_slice() == [Yes, Yes, Found(70), Yes].as_slice() && left.as_slice() == pairs,
         ),
         Err(NoMemory) => Ended::NoMemory,
     }
 }
 
-// Answers operations, from the empty set.
+// Answers operations, from the empty map.
 fn answer_all(heap: &Heap, refusal: Refusal) -> Ended {
     heap.refuse(refusal);
     let answered = apply_all(heap, &OPS);
     heap.stop();
-    are_answered(&answered, &[5])
+    are_answered(&answered, &[(5, 50)])
 }
 
-// Answers operations, from the set that has 9.
+// Answers operations, from the map that has 9.
 fn answer_from(heap: &Heap, refusal: Refusal) -> Ended {
     heap.refuse(refusal);
-    let answered = apply_from(heap, &[9], &OPS);
+    let answered = apply_from(heap, &[(9, 99)], &OPS);
     heap.stop();
-    are_answered(&answered, &[5, 9])
+    are_answered(&answered, &[(5, 50), (9, 99)])
 }
 
 // The keys of these are 5, 6 and 9.
@@ -115,7 +115,7 @@ fn gather_two<A: Allocator>(
     let gathered = gather(heap, 3, pieces);
     heap.stop();
     match gathered {
-        Ok(replies) => Ended::answered(replies.as_slice() == [Yes, Yes, No].as_slice()),
+        Ok(replies) => Ended::answered(replies.as_slice() == [Yes, Found(70), No].as_slice()),
         Err(fault) => Ended::no_memory(fault == GatherFault::NoMemory),
     }
 }
@@ -138,7 +138,7 @@ fn replies_are_gathered_or_there_is_no_memory(rt: HostRuntime) {
     let first = [(0, Yes), (2, No)]
         .to_vec(rt.alloc())
         .expect(&rt, "no memory");
-    let second = [(1, Yes)].to_vec(rt.alloc()).expect(&rt, "no memory");
+    let second = [(1, Found(70))].to_vec(rt.alloc()).expect(&rt, "no memory");
     let pieces = [first, second];
     sweep(&rt, |heap, refusal| gather_two(heap, refusal, &pieces));
 }

@@ -21,24 +21,25 @@ fn run_two<R: Threads + Abort + Sync>(rt: &R, heap: &Heap, refusal: Refusal) -> 
     match ran {
         Ok(outcome) => Ended::answered(
             outcome.replies.as_slice() == [Reply::Yes; 2].as_slice()
-                && outcome.keys.as_slice() == [5, 7].as_slice(),
+                && outcome.pairs.as_slice() == [(5, 50), (7, 70)].as_slice(),
         ),
         Err(_) => Ended::NoMemory,
     }
 }
 
-// Runs an insert and a delete by two workers, over start keys that an operation names and that none does.
+// Runs an insert, a find and a delete by two workers, over start keys that an operation names and that none does.
 fn run_from_start<R: Threads + Abort + Sync>(rt: &R, heap: &Heap, refusal: Refusal) -> Ended {
-    let ops = [Op::Insert(5, 50), Op::Delete(7)];
-    let parts = Parts::by_owner(heap, &ops, &[0, 1], 2).expect(rt, "no memory");
+    let ops = [Op::Insert(5, 50), Op::Find(7), Op::Delete(7)];
+    let replies = [Reply::Yes, Reply::Found(77), Reply::Yes];
+    let parts = Parts::by_owner(heap, &ops, &[0, 1, 1], 2).expect(rt, "no memory");
     let limits = Limits { cards: 8, tries: 8 };
     heap.refuse(refusal);
-    let ran = run(rt, heap, &[3, 7], &ops, &parts, limits, &NoGate);
+    let ran = run(rt, heap, &[(3, 33), (7, 77)], &ops, &parts, limits, &NoGate);
     heap.stop();
     match ran {
         Ok(outcome) => Ended::answered(
-            outcome.replies.as_slice() == [Reply::Yes; 2].as_slice()
-                && outcome.keys.as_slice() == [3, 5].as_slice(),
+            outcome.replies.as_slice() == replies.as_slice()
+                && outcome.pairs.as_slice() == [(3, 33), (5, 50)].as_slice(),
         ),
         Err(_) => Ended::NoMemory,
     }
@@ -116,6 +117,12 @@ fn a_text_is_run_or_there_is_no_memory(rt: HostRuntime) {
     );
     let text = b"start 3\nstart 5\ninsert 7\ndelete 5\n";
     let wants = b"yes\nyes\nkeys 2\n3\n7\n";
+    sweep(
+        &rt,
+        |heap, refusal| run_text(&rt, heap, refusal, text, wants),
+    );
+    let text = b"version 2\nstart 3 33\nstart 5 55\ninsert 7 70\nfind 5\ndelete 5\n";
+    let wants = b"yes\nyes 55\nyes\nkeys 2\n3 33\n7 70\n";
     sweep(
         &rt,
         |heap, refusal| run_text(&rt, heap, refusal, text, wants),

@@ -11,15 +11,17 @@ use std::alloc::{AllocError, Allocator, Global};
 
 const LINE: &[u8] = b"insert 5\n";
 
+const LINE_WITH_VALUE: &[u8] = b"insert 5 50\n";
+
 // Several reads long.
 const LINES: usize = 20_000;
 
-// Some bytes, and so many lines.
-fn lines(alloc: Global, front: &[u8], count: usize) -> Result<Vec<u8>, AllocError> {
+// Some bytes, and a line so many times.
+fn lines(alloc: Global, front: &[u8], line: &[u8], count: usize) -> Result<Vec<u8>, AllocError> {
     let mut text = Vec::new(alloc);
     text.extend_from_slice(front)?;
     for _ in 0..count {
-        text.extend_from_slice(LINE)?;
+        text.extend_from_slice(line)?;
     }
     Ok(text)
 }
@@ -36,15 +38,22 @@ fn read_input(heap: &Heap, refusal: Refusal, text: &[u8]) -> Ended {
     }
 }
 
-// Reads a text of a start line and a hundred operations.
-fn read_operations(heap: &Heap, refusal: Refusal, text: &[u8]) -> Ended {
+// Reads a text of a version, of a start line and a hundred inserts of 5, which have these values.
+fn read_operations(
+    heap: &Heap,
+    refusal: Refusal,
+    text: &[u8],
+    version: u8,
+    values: (u64, u64),
+) -> Ended {
     heap.refuse(refusal);
     let read = read_bulk(heap, text);
     heap.stop();
     match read {
         Ok(bulk) => Ended::answered(
-            bulk.start.as_slice() == [3].as_slice()
-                && bulk.ops.as_slice() == [Op::Insert(5, 0); 100].as_slice(),
+            bulk.version == version
+                && bulk.start.as_slice() == [(3, values.0)].as_slice()
+                && bulk.ops.as_slice() == [Op::Insert(5, values.1); 100].as_slice(),
         ),
         Err(fault) => Ended::no_memory(fault == TextFault::NoMemory),
     }
@@ -106,24 +115,40 @@ fn scripts_are_replayed_or_there_is_no_memory(rt: HostRuntime) {
 
 #[test]
 fn inputs_are_read_or_there_is_no_memory(rt: HostRuntime) {
-    let text = lines(rt.alloc(), b"", LINES).expect(&rt, "no memory");
+    let text = lines(rt.alloc(), b"", LINE, LINES).expect(&rt, "no memory");
     sweep(&rt, |heap, refusal| read_input(heap, refusal, &text));
 }
 
 #[test]
 fn operations_are_read_or_there_is_no_memory(rt: HostRuntime) {
-    let text = lines(rt.alloc(), b"start 3\n", 100).expect(&rt, "no memory");
-    sweep(&rt, |heap, refusal| read_operations(heap, refusal, &text));
+    let text = lines(rt.alloc(), b"start 3\n", LINE, 100).expect(&rt, "no memory");
+    sweep(
+        &rt,
+        |heap, refusal| read_operations(heap, refusal, &text, 1, (0, 0)),
+    );
+    let front = b"version 2\nstart 3 33\n";
+    let text = lines(rt.alloc(), front, LINE_WITH_VALUE, 100).expect(&rt, "no memory");
+    sweep(
+        &rt,
+        |heap, refusal| read_operations(heap, refusal, &text, 2, (33, 50)),
+    );
 }
 
 #[test]
 fn memory_is_wanted_at_a_start_key_or_an_operation(rt: HostRuntime) {
-    let texts: [(&[u8], TextFault, u64); 5] = [
+    let texts: [(&[u8], TextFault, u64); 8] = [
         (b"insert 007\ninsert 5\n", TextFault::BadKey { line: 1 }, 0),
         (b"start 007\nstart 5\n", TextFault::BadKey { line: 1 }, 0),
         (b"start 5\nstart 5\n", TextFault::NoMemory, 1),
         (b"# none\n\nfind 5 \n", TextFault::BadKey { line: 3 }, 0),
         (b"insert 5\ninsert 007\n", TextFault::NoMemory, 1),
+        (b"version 2\ninsert 5\n", TextFault::BadValue { line: 2 }, 0),
+        (b"version 2\nstart 5 50\nstart 5\n", TextFault::NoMemory, 1),
+        (
+            b"version 2\ninsert 5 50\ninsert 5\n",
+            TextFault::NoMemory,
+            1,
+        ),
     ];
     let heap = Heap::new(rt.alloc());
     for (text, want, growths) in texts {
@@ -138,14 +163,21 @@ fn a_text_is_written_without_memory(rt: HostRuntime) {
     let heap = Heap::new(rt.alloc());
     let shown = [
         Shown::Step(Stepped::Moved),
-        Shown::Step(Stepped::Answered(Reply::Yes)),
+        Shown::Step(Stepped::Answered(Reply::Found(50))),
     ];
+    let (replies, pairs) = (
+        [Reply::Found(50), Reply::No, Reply::Yes],
+        [(5, 50), (7, 70)],
+    );
     let mut answer = Vec::with_capacity(&heap, 100).expect(&rt, "no memory");
+    let mut valued = Vec::with_capacity(&heap, 100).expect(&rt, "no memory");
     let mut trace = Vec::with_capacity(&heap, 100).expect(&rt, "no memory");
     heap.refuse(Refusal::From(1));
-    assert!(rt; write_answer(&mut answer, &[Reply::Yes, Reply::No], &[5, 7]).is_ok());
+    assert!(rt; write_answer(&mut answer, 1, &replies, &pairs).is_ok());
+    assert!(rt; write_answer(&mut valued, 2, &replies, &pairs).is_ok());
     assert!(rt; write_trace(&mut trace, &shown, &[5, 7]).is_ok());
     assert!(rt; heap.growths() == 0);
-    assert!(rt; answer.as_slice() == b"yes\nno\nkeys 2\n5\n7\n".as_slice());
+    assert!(rt; answer.as_slice() == b"yes\nno\nyes\nkeys 2\n5\n7\n".as_slice());
+    assert!(rt; valued.as_slice() == b"yes 50\nno\nyes\nkeys 2\n5 50\n7 70\n".as_slice());
     assert!(rt; trace.as_slice() == b"moved\nyes\nkeys 2\n5\n7\n".as_slice());
 }

@@ -7,6 +7,7 @@ ghost use Rattle.ell_tree.specs.Ledgers.{IsIdle, Owns};
 use super::passes::{KEYS, owns_both, tells};
 use super::refusing::{Heap, Refusal};
 use super::sweeping::{Ended, sweep};
+use ell_ops::Reply::{self, Found, No, Yes};
 use ell_ops::{NoMemory, Op};
 use ell_tree::{CardFault, Held, Pass, Tree};
 use ell_word::NoGate;
@@ -15,13 +16,13 @@ use std::process::Abort;
 
 const CARDS: u64 = 4;
 
-const START: [u64; 1] = [7];
+const START: [(u64, u64); 1] = [(7, 77)];
 
 // An operation that may take one card, and what it is to answer.
-type Row = (Op, Result<bool, Held>);
+type Row = (Op, Result<Reply, Held>);
 
 // Does an operation on a key of the pass.
-fn answer_of<A: Allocator + Copy>(tree: &Tree<A>, pass: &mut Pass<A>, op: Op) -> Result<bool, Held>
+fn answer_of<A: Allocator + Copy>(tree: &Tree<A>, pass: &mut Pass<A>, op: Op) -> Result<Reply, Held>
     requires own { pass.old.table ≡ tree.now.id }
     requires idle { IsIdle pass.old }
     requires owned { Owns pass.old (key_of op) }
@@ -29,9 +30,9 @@ fn answer_of<A: Allocator + Copy>(tree: &Tree<A>, pass: &mut Pass<A>, op: Op) ->
     ensures idle { IsIdle pass.new }
 {
     match op {
-        Op::Find(key) => Ok(tree.find(pass, key, &NoGate)),
-        Op::Insert(key, value) => tree.insert(pass, key, value, 1, &NoGate),
-        Op::Delete(key) => tree.delete(pass, key, 1, &NoGate),
+        Op::Find(key) => Ok(Reply::found(tree.find(pass, key, &NoGate))),
+        Op::Insert(key, value) => Ok(Reply::yes_if(tree.insert(pass, key, value, 1, &NoGate)?)),
+        Op::Delete(key) => Ok(Reply::yes_if(tree.delete(pass, key, 1, &NoGate)?)),
     }
 }
 
@@ -50,7 +51,7 @@ fn are_answered<A: Allocator + Copy>(tree: &Tree<A>, pass: &mut Pass<A>, rows: &
     true
 }
 
-// A tree in which 5 came and went, and 7 is.
+// A tree in which 5 came and went, and 7 is, with the same value as in one that opens with it.
 fn planted<'a>(rt: &impl Abort, heap: &'a Heap) -> (Tree<&'a Heap>, Pass<&'a Heap>)
     ensures own { result.1.table ≡ result.0.id }
     ensures idle { IsIdle result.1 }
@@ -58,9 +59,9 @@ fn planted<'a>(rt: &impl Abort, heap: &'a Heap) -> (Tree<&'a Heap>, Pass<&'a Hea
     ensures owned { All (λ k. Owns result.1 k) KEYS }
 {
     let rows = [
-        (Op::Insert(5, 50), Ok(true)),
-        (Op::Insert(7, 70), Ok(true)),
-        (Op::Delete(5), Ok(true)),
+        (Op::Insert(5, 50), Ok(Yes)),
+        (Op::Insert(7, 77), Ok(Yes)),
+        (Op::Delete(5), Ok(Yes)),
     ];
     let (tree, mut pass) = Tree::reserve(heap, &KEYS, CARDS).expect(rt, "no memory");
     pass.relabel(3);
@@ -182,7 +183,7 @@ fn join(rt: &impl Abort, heap: &Heap, refusal: Refusal) -> Ended {
     }
 }
 
-// Ends a tree: whether 7 was in it, and no other key.
+// Ends a tree: whether 7 was in it, with its value, and no other key.
 fn is_closed<A: Allocator + Copy>(tree: Tree<A>, pass: Pass<A>) -> bool
     requires own { pass.table ≡ tree.id }
     requires idle { IsIdle pass }
@@ -190,7 +191,7 @@ fn is_closed<A: Allocator + Copy>(tree: Tree<A>, pass: Pass<A>) -> bool
     requires owned { All (λ k. Owns pass k) KEYS }
 {
     match tree.close(pass) {
-        Ok(keys) => keys.as_slice() == [7].as_slice(),
+        Ok(pairs) => pairs.as_slice() == START.as_slice(),
         Err(_) => false,
     }
 }
@@ -205,10 +206,10 @@ fn close<'a>(heap: &'a Heap, refusal: Refusal, made: (Tree<&'a Heap>, Pass<&'a H
     let (tree, pass) = made;
     let steps = pass.steps();
     heap.refuse(refusal);
-    let keys = tree.close(pass);
+    let pairs = tree.close(pass);
     heap.stop();
-    match keys {
-        Ok(keys) => Ended::answered(keys.as_slice() == [7].as_slice()),
+    match pairs {
+        Ok(pairs) => Ended::answered(pairs.as_slice() == START.as_slice()),
         Err((tree, pass, NoMemory)) => {
             Ended::no_memory(tells(&pass, &KEYS, 3, steps) && is_closed(tree, pass))
         }
@@ -265,10 +266,10 @@ fn cards_are_tested_before_memory(rt: HostRuntime) {
 #[test]
 fn an_operation_wants_no_memory(rt: HostRuntime) {
     let rows = [
-        (Op::Find(5), Ok(false)),
-        (Op::Find(7), Ok(true)),
-        (Op::Insert(5, 50), Ok(true)),
-        (Op::Insert(7, 70), Ok(false)),
+        (Op::Find(5), Ok(No)),
+        (Op::Find(7), Ok(Found(77))),
+        (Op::Insert(5, 50), Ok(Yes)),
+        (Op::Insert(7, 70), Ok(No)),
         (Op::Delete(5), Err(Held::Spent)),
     ];
     let heap = Heap::new(rt.alloc());
@@ -281,13 +282,13 @@ fn an_operation_wants_no_memory(rt: HostRuntime) {
 #[test]
 fn an_operation_on_start_keys_wants_no_memory(rt: HostRuntime) {
     let rows = [
-        (Op::Find(5), Ok(false)),
-        (Op::Find(7), Ok(true)),
-        (Op::Insert(7, 70), Ok(false)),
-        (Op::Delete(7), Ok(true)),
-        (Op::Insert(5, 50), Ok(true)),
-        (Op::Insert(7, 70), Ok(true)),
-        (Op::Delete(5), Ok(true)),
+        (Op::Find(5), Ok(No)),
+        (Op::Find(7), Ok(Found(77))),
+        (Op::Insert(7, 70), Ok(No)),
+        (Op::Delete(7), Ok(Yes)),
+        (Op::Insert(5, 50), Ok(Yes)),
+        (Op::Insert(7, 70), Ok(Yes)),
+        (Op::Delete(5), Ok(Yes)),
         (Op::Delete(7), Err(Held::Spent)),
     ];
     let heap = Heap::new(rt.alloc());

@@ -11,7 +11,12 @@ use std::process::Abort;
 
 const OWNED: [(u32, u64); 3] = [(0, 5), (0, 6), (1, 7)];
 
-const START: [u64; 2] = [5, 7];
+const START: [(u64, u64); 2] = [(5, 55), (7, 77)];
+
+const START_KEYS: [u64; 2] = [5, 7];
+
+// What the schedule leaves.
+const LEFT: [(u64, u64); 2] = [(5, 50), (6, 60)];
 
 // More growths than any event asks for.
 const MOST: u64 = 100;
@@ -35,12 +40,15 @@ fn words(alloc: Global, heap: &Heap, world: &World<&Heap>) -> Result<Vec<u64>, N
     }
 }
 
-// All that a world tells of itself: its words and its keys.
+// All that a world tells of itself: its words, and its keys with their values.
 fn told(alloc: Global, heap: &Heap, world: &World<&Heap>) -> Result<Vec<u64>, NoMemory>
     requires { world.now.last_card ≡ CARDS }
 {
     let mut told = words(alloc, heap, world)?;
-    told.extend_from_slice(&world.keys()?)?;
+    let pairs = world.pairs()?;
+    for (key, value) in &pairs {
+        told.extend_from_slice(&[*key, *value])?;
+    }
     Ok(told)
 }
 
@@ -58,6 +66,14 @@ fn is_same(alloc: Global, heap: &Heap, world: &World<&Heap>, before: &[u64]) -> 
 fn has_keys(world: &World<&Heap>, wants: &[u64]) -> bool {
     match world.keys() {
         Ok(keys) => keys.as_slice() == wants,
+        Err(NoMemory) => false,
+    }
+}
+
+// Whether a world has these keys with their values.
+fn has_pairs(world: &World<&Heap>, wants: &[(u64, u64)]) -> bool {
+    match world.pairs() {
+        Ok(pairs) => pairs.as_slice() == wants,
         Err(NoMemory) => false,
     }
 }
@@ -115,7 +131,7 @@ fn an_event_is_done_or_changes_nothing(rt: HostRuntime) {
         }
     }
     assert!(rt; refused > 0);
-    assert!(rt; has_keys(&world, &[5, 6]));
+    assert!(rt; has_keys(&world, &[5, 6]) && has_pairs(&world, &LEFT));
 }
 
 // Opens a world.
@@ -129,7 +145,7 @@ fn open(heap: &Heap, refusal: Refusal) -> Ended {
     }
 }
 
-// Whether a world that opened with start keys has them, and the words of one that nothing was refused to.
+// Whether a world that opened with start keys has them with their values, and the words of one that nothing was refused to.
 fn is_started(alloc: Global, world: &World<&Heap>) -> bool
     requires { world.now.last_card ≡ CARDS + 2 }
 {
@@ -139,7 +155,7 @@ fn is_started(alloc: Global, world: &World<&Heap>) -> bool
     let are_same = (0..=CARDS + 2).all(|card| {
         Field::ALL.iter().all(|field| world.word(card, *field) == plain.word(card, *field))
     });
-    are_same && world.next() == 3 && plain.next() == 3 && has_keys(world, &START)
+    are_same && world.next() == 3 && plain.next() == 3 && has_pairs(world, &START)
 }
 
 // Opens a world with start keys.
@@ -194,7 +210,32 @@ fn list(heap: &Heap, refusal: Refusal) -> Ended {
 
 fn list_start_keys(heap: &Heap, refusal: Refusal) -> Ended {
     match World::from_start(heap, 2, &OWNED, &START, CARDS) {
-        Ok(world) => list_of(heap, refusal, &world, &START),
+        Ok(world) => list_of(heap, refusal, &world, &START_KEYS),
+        Err(_) => Ended::Wrong,
+    }
+}
+
+// Lists the keys of a world with their values. Where there is no memory for it, the world lists them then.
+fn pairs_of(heap: &Heap, refusal: Refusal, world: &World<&Heap>, wants: &[(u64, u64)]) -> Ended {
+    heap.refuse(refusal);
+    let pairs = world.pairs();
+    heap.stop();
+    match pairs {
+        Ok(pairs) => Ended::answered(pairs.as_slice() == wants),
+        Err(NoMemory) => Ended::no_memory(has_pairs(world, wants)),
+    }
+}
+
+fn list_pairs(heap: &Heap, refusal: Refusal) -> Ended {
+    match played(heap) {
+        Some(world) => pairs_of(heap, refusal, &world, &LEFT),
+        None => Ended::Wrong,
+    }
+}
+
+fn list_start_pairs(heap: &Heap, refusal: Refusal) -> Ended {
+    match World::from_start(heap, 2, &OWNED, &START, CARDS) {
+        Ok(world) => pairs_of(heap, refusal, &world, &START),
         Err(_) => Ended::Wrong,
     }
 }
@@ -216,6 +257,12 @@ fn a_world_is_opened_with_start_keys_or_there_is_no_memory(rt: HostRuntime) {
 fn keys_are_listed_or_there_is_no_memory(rt: HostRuntime) {
     sweep(&rt, list);
     sweep(&rt, list_start_keys);
+}
+
+#[test]
+fn pairs_are_listed_or_there_is_no_memory(rt: HostRuntime) {
+    sweep(&rt, list_pairs);
+    sweep(&rt, list_start_pairs);
 }
 
 // The events one by one.

@@ -1,5 +1,5 @@
 //! Balanced trees and openings with start keys; schedules of a few events, with the answers, words and keys that a person gave
-//! them, and a long one beside a plain set.
+//! them, and a long one beside a plain map.
 mod branches;
 mod deleting;
 mod given_worlds;

@@ -1,17 +1,17 @@
-//! Worked lists of operations, with the replies and keys that a person gave them.
+//! Worked lists of operations, with the replies and the pairs that a person gave them.
 use super::shared::have_texts;
-use ell_ops::Reply::{self, No, Yes};
+use ell_ops::Reply::{self, Found, No, Yes};
 use ell_ops::{KEY_MAX, NoMemory, Op, apply_all, apply_from, united_keys};
 use std::alloc::AllocError;
 
-// Whether a list of operations came to these replies and keys.
+// Whether a list of operations came to these replies, and to these keys with their values.
 fn is_done(
-    done: Result<(Vec<Reply>, Vec<u64>), NoMemory>,
+    done: Result<(Vec<Reply>, Vec<(u64, u64)>), NoMemory>,
     replies: &[Reply],
-    keys: &[u64],
+    pairs: &[(u64, u64)],
 ) -> bool {
     match done {
-        Ok((said, left)) => said.as_slice() == replies && left.as_slice() == keys,
+        Ok((said, left)) => said.as_slice() == replies && left.as_slice() == pairs,
         Err(NoMemory) => false,
     }
 }
@@ -44,17 +44,44 @@ fn one_thread_answers(rt: HostRuntime) {
     let ops = [
         Op::Insert(5, 50),
         Op::Find(5),
-        Op::Insert(5, 50),
+        Op::Insert(5, 51),
+        Op::Find(5),
         Op::Delete(5),
         Op::Find(5),
         Op::Delete(5),
     ];
-    let replies = [Yes, Yes, No, Yes, No, No];
+    let replies = [Yes, Found(50), No, Found(50), Yes, No, No];
     assert!(rt; is_done(apply_all(rt.alloc(), &ops), &replies, &[]));
     assert!(rt; is_done(apply_all(rt.alloc(), &[]), &[], &[]));
 
     let ops = [Op::Delete(3), Op::Insert(4, 40), Op::Find(9)];
-    assert!(rt; is_done(apply_from(rt.alloc(), &[3, 9], &ops), &[Yes; 3], &[4, 9]));
+    let start = [(3, 31), (9, 92)];
+    let replies = [Yes, Yes, Found(92)];
+    assert!(rt;
+        is_done(
+            apply_from(rt.alloc(), &start, &ops),
+            &replies,
+            &[(4, 40), (9, 92)]
+        )
+    );
+}
+
+#[test]
+fn a_key_has_the_value_that_found_it_absent(rt: HostRuntime) {
+    let ops = [
+        Op::Insert(5, 0),
+        Op::Find(5),
+        Op::Delete(5),
+        Op::Insert(5, u64::MAX),
+        Op::Insert(5, 7),
+        Op::Find(5),
+        Op::Insert(8, 80),
+        Op::Delete(8),
+        Op::Insert(8, 81),
+    ];
+    let replies = [Yes, Found(0), Yes, Yes, No, Found(u64::MAX), No, Yes, Yes];
+    let pairs = [(5, u64::MAX), (8, 81)];
+    assert!(rt; is_done(apply_from(rt.alloc(), &[(8, 79)], &ops), &replies, &pairs));
 }
 
 #[test]
@@ -73,7 +100,8 @@ fn eight_keys_of_which_four_are_deleted(rt: HostRuntime) {
         Op::Delete(6),
         Op::Delete(8),
     ];
-    assert!(rt; is_done(apply_all(rt.alloc(), &ops), &[Yes; 12], &[1, 3, 5, 7]));
+    let pairs = [(1, 10), (3, 30), (5, 50), (7, 70)];
+    assert!(rt; is_done(apply_all(rt.alloc(), &ops), &[Yes; 12], &pairs));
 }
 
 #[test]

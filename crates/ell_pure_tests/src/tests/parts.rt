@@ -1,7 +1,7 @@
 //! Small partings and gatherings, with the parts and replies that a person gave them.
 use super::shared::have_texts;
 use ell_ops::Op;
-use ell_ops::Reply::{self, No, Yes};
+use ell_ops::Reply::{self, Found, No, Yes};
 use ell_parts::{GatherFault, PartFault, Parts, gather};
 use std::alloc::{AllocError, Global};
 
@@ -75,6 +75,33 @@ fn stripes_go_by_the_remainder(rt: HostRuntime) {
     }
 }
 
+// Five inserts of three keys, whose values go the other way.
+const FIVE_INSERTS: [Op; 5] = [
+    Op::Insert(3, 1),
+    Op::Insert(4, 5),
+    Op::Insert(3, 0),
+    Op::Insert(8, 18_446_744_073_709_551_615),
+    Op::Insert(4, 4),
+];
+
+#[test]
+fn parts_keep_the_values(rt: HostRuntime) {
+    let threes: &[(usize, Op)] = &[(0, Op::Insert(3, 1)), (2, Op::Insert(3, 0))];
+    let fours: &[(usize, Op)] = &[(1, Op::Insert(4, 5)), (4, Op::Insert(4, 4))];
+    let eights: &[(usize, Op)] = &[(3, Op::Insert(8, 18_446_744_073_709_551_615))];
+    let fours_and_eights: &[(usize, Op)] = &[
+        (1, Op::Insert(4, 5)),
+        (3, Op::Insert(8, 18_446_744_073_709_551_615)),
+        (4, Op::Insert(4, 4)),
+    ];
+    let striped = Parts::striped(rt.alloc(), &FIVE_INSERTS, 2);
+    assert!(rt; is_parted(striped, &[(fours_and_eights, &[4, 8]), (threes, &[3])]));
+    let ranged = Parts::ranged(rt.alloc(), &FIVE_INSERTS, 3);
+    assert!(rt; is_parted(ranged, &[(threes, &[3]), (fours, &[4]), (eights, &[8])]));
+    let owned = Parts::by_owner(rt.alloc(), &FIVE_INSERTS, &[1, 2, 1, 0, 2], 3);
+    assert!(rt; is_parted(owned, &[(eights, &[8]), (threes, &[3]), (fours, &[4])]));
+}
+
 #[test]
 fn ranges_go_by_the_order_of_the_keys(rt: HostRuntime) {
     let ops = [
@@ -129,13 +156,31 @@ fn replies_come_together(rt: HostRuntime) {
 }
 
 #[test]
+fn found_values_come_together(rt: HostRuntime) {
+    let greatest = Found(18_446_744_073_709_551_615);
+    let pieces: [&[Item]; 3] = [
+        &[(3, Found(30)), (0, greatest)],
+        &[],
+        &[(4, Yes), (1, No), (2, Found(0))],
+    ];
+    let replies = [greatest, No, Found(0), Found(30), Yes];
+    assert!(rt; is_gathered(rt.alloc(), 5, &pieces, Ok(&replies)));
+}
+
+#[test]
 fn replies_that_do_not_fit(rt: HostRuntime) {
-    let rows: [(&[Item], GatherFault); 3] = [
+    let rows: [(&[Item], GatherFault); 6] = [
         (&[(0, Yes), (0, Yes)], GatherFault::Doubled { at: 0 }),
         (&[(2, Yes)], GatherFault::Stranger { at: 2 }),
         (&[(1, Yes)], GatherFault::Missing { at: 0 }),
+        (
+            &[(1, Found(5)), (1, Found(6))],
+            GatherFault::Doubled { at: 1 },
+        ),
+        (&[(0, Yes), (2, Found(0))], GatherFault::Stranger { at: 2 }),
+        (&[(0, Found(1))], GatherFault::Missing { at: 1 }),
     ];
-    for row in 0..3 {
+    for row in 0..6 {
         let (piece, fault) = rows[row];
         assert!(rt;
             is_gathered(rt.alloc(), 2, &[piece], Err(fault)),

@@ -6,10 +6,12 @@ use std::alloc::{AllocError, Global};
 use std::io::{self, ErrorKind, Read, Write};
 use std::process::Abort;
 
-// Whether a text has these start keys and these operations.
-fn is_read(alloc: Global, text: &[u8], start: &[u64], ops: &[Op]) -> bool {
+// Whether a text has this version, these start keys with their values, and these operations.
+fn is_read(alloc: Global, text: &[u8], version: u8, start: &[(u64, u64)], ops: &[Op]) -> bool {
     match read_bulk(alloc, text) {
-        Ok(bulk) => bulk.start.as_slice() == start && bulk.ops.as_slice() == ops,
+        Ok(bulk) => {
+            bulk.version == version && bulk.start.as_slice() == start && bulk.ops.as_slice() == ops
+        }
         Err(_) => false,
     }
 }
@@ -37,38 +39,87 @@ fn operations_are_read(rt: HostRuntime) {
     ];
     for row in 0..8 {
         let (text, want) = readings[row];
-        assert!(rt; is_read(rt.alloc(), text, &[], want), "row {row}");
+        assert!(rt; is_read(rt.alloc(), text, 1, &[], want), "row {row}");
     }
 }
 
 #[test]
 fn start_keys_are_read(rt: HostRuntime) {
-    let readings: [(&[u8], &[u64], &[Op]); 5] = [
+    let readings: [(&[u8], &[(u64, u64)], &[Op]); 5] = [
         (
             b"start 2\nstart 4\nstart 6\nfind 4\ndelete 4\ninsert 5\nfind 4\n",
-            &[2, 4, 6],
+            &[(2, 0), (4, 0), (6, 0)],
             &[Op::Find(4), Op::Delete(4), Op::Insert(5, 0), Op::Find(4)],
         ),
-        (b"start 3\n", &[3], &[]),
+        (b"start 3\n", &[(3, 0)], &[]),
         (
             b"start 0\nstart 18446744073709551613",
-            &[0, 18_446_744_073_709_551_613],
+            &[(0, 0), (18_446_744_073_709_551_613, 0)],
             &[],
         ),
         (
             b"# two keys\r\nstart 1\r\n\n \t\r\nstart 9\r\n#\nfind 9\r\n\n# start 10\nfind 1",
-            &[1, 9],
+            &[(1, 0), (9, 0)],
             &[Op::Find(9), Op::Find(1)],
         ),
         (
             b"start 9\nstart 10\ninsert 9\n",
-            &[9, 10],
+            &[(9, 0), (10, 0)],
             &[Op::Insert(9, 0)],
         ),
     ];
     for row in 0..5 {
         let (text, start, ops) = readings[row];
-        assert!(rt; is_read(rt.alloc(), text, start, ops), "row {row}");
+        assert!(rt; is_read(rt.alloc(), text, 1, start, ops), "row {row}");
+    }
+}
+
+#[test]
+fn values_are_read(rt: HostRuntime) {
+    let readings: [(&[u8], &[(u64, u64)], &[Op]); 8] = [
+        (
+            b"version 2\ninsert 5 50\ninsert 7 70\ninsert 5 51\nfind 5\ndelete 7\nfind 7\n",
+            &[],
+            &[
+                Op::Insert(5, 50),
+                Op::Insert(7, 70),
+                Op::Insert(5, 51),
+                Op::Find(5),
+                Op::Delete(7),
+                Op::Find(7),
+            ],
+        ),
+        (
+            b"version 2\nstart 3 30\ndelete 3\ninsert 3 31\nfind 3\n",
+            &[(3, 30)],
+            &[Op::Delete(3), Op::Insert(3, 31), Op::Find(3)],
+        ),
+        (b"version 2\n", &[], &[]),
+        (b"version 2", &[], &[]),
+        (
+            b"version 2\ninsert 0 18446744073709551615\n",
+            &[],
+            &[Op::Insert(0, 18_446_744_073_709_551_615)],
+        ),
+        (
+            b"# values\n\n \t\r\nversion 2\r\nstart 0 0\n# start 3\nstart 4 18446744073709551614\r\n\nfind 4",
+            &[(0, 0), (4, 18_446_744_073_709_551_614)],
+            &[Op::Find(4)],
+        ),
+        (
+            b"version 2\nstart 18446744073709551613 18446744073709551615\ninsert 1 0",
+            &[(18_446_744_073_709_551_613, 18_446_744_073_709_551_615)],
+            &[Op::Insert(1, 0)],
+        ),
+        (
+            b"version 2\nstart 4 9\nstart 5 9\nstart 6 0\ninsert 4 9\r\ninsert 4 8\r\n",
+            &[(4, 9), (5, 9), (6, 0)],
+            &[Op::Insert(4, 9), Op::Insert(4, 8)],
+        ),
+    ];
+    for row in 0..8 {
+        let (text, start, ops) = readings[row];
+        assert!(rt; is_read(rt.alloc(), text, 2, start, ops), "row {row}");
     }
 }
 
@@ -159,6 +210,98 @@ fn faults_of_start_lines_are_found(rt: HostRuntime) {
     }
 }
 
+#[test]
+fn faults_of_the_version_are_found(rt: HostRuntime) {
+    let not_first = TextFault::BadOperation { line: 2 };
+    let far_down = TextFault::BadOperation { line: 3 };
+    let misspelt = TextFault::BadOperation { line: 1 };
+    let no_key = TextFault::BadKey { line: 1 };
+    let faults: [(&[u8], TextFault); 20] = [
+        (b"version 2\nversion 2\n", not_first),
+        (b"find 5\nversion 2\n", not_first),
+        (b"start 5\nversion 2\n", not_first),
+        (b"version 2 \n", misspelt),
+        (b"version 2\r", misspelt),
+        (b"version  2\n", misspelt),
+        (b" version 2\n", misspelt),
+        (b"Version 2\n", misspelt),
+        (b"version 1\n", misspelt),
+        (b"version 02\n", misspelt),
+        (b"version\n", misspelt),
+        (b"insert 5 50\n", no_key),
+        (b"start 5 50\n", no_key),
+        (b"# 1\n\nversion 3\n", TextFault::BadOperation { line: 3 }),
+        (b"version 2\ninsert 5 50\nversion 2\n", far_down),
+        (b"version 2\nstart 5 50\nversion 2\n", far_down),
+        (b"version 2\n# 2\nversion 2\n", far_down),
+        (b"insert 5\nfind 5\nversion 2\n", far_down),
+        (b"version 2 2\n", misspelt),
+        (b"version\t2\n", misspelt),
+    ];
+    for row in 0..20 {
+        let (text, want) = faults[row];
+        assert!(rt;
+            read_bulk(rt.alloc(), text).err() == Some(want),
+            "row {row}"
+        );
+    }
+}
+
+#[test]
+fn faults_of_values_are_found(rt: HostRuntime) {
+    let bad_value = TextFault::BadValue { line: 2 };
+    let bad_key = TextFault::BadKey { line: 2 };
+    let key_too_large = TextFault::KeyTooLarge { line: 2 };
+    let faults: [(&[u8], TextFault); 27] = [
+        (b"version 2\ninsert 5\n", bad_value),
+        (b"version 2\nstart 5\n", bad_value),
+        (b"version 2\ninsert 5 050\n", bad_value),
+        (b"version 2\ninsert 5 18446744073709551616\n", bad_value),
+        (b"version 2\ninsert 5 \n", bad_value),
+        (b"version 2\ninsert 5  50\n", bad_value),
+        (b"version 2\ninsert 5 50 \n", bad_value),
+        (b"version 2\ninsert 5 50 1\n", bad_value),
+        (b"version 2\nstart 5 -1\n", bad_value),
+        (b"version 2\ninsert 5 50\r", bad_value),
+        (b"version 2\ninsert 5 00\n", bad_value),
+        (b"version 2\ninsert 5 +5\n", bad_value),
+        (b"version 2\ninsert 5 0x5\n", bad_value),
+        (b"version 2\nstart 5 5\t\n", bad_value),
+        (b"version 2\nstart 5 18446744073709551616\n", bad_value),
+        (
+            b"version 2\nstart 5 1000000000000000000000000000000000000000\n",
+            bad_value,
+        ),
+        (b"version 2\ninsert x 5\n", bad_key),
+        (b"version 2\ninsert 5\t50\n", bad_key),
+        (b"version 2\nfind 5 1\n", bad_key),
+        (b"version 2\ndelete 5 1\n", bad_key),
+        (b"version 2\ninsert\n", bad_key),
+        (b"version 2\ninsert  5\n", bad_key),
+        (b"version 2\ninsert 18446744073709551614 x\n", key_too_large),
+        (b"version 2\nstart 18446744073709551614\n", key_too_large),
+        (
+            b"version 2\nstart 4 1\nstart 4 1\n",
+            TextFault::StartOrder { line: 3 },
+        ),
+        (
+            b"version 2\nstart 4 1\nstart 4\n",
+            TextFault::BadValue { line: 3 },
+        ),
+        (
+            b"version 2\nstart 4 1\nstart 3 2\n",
+            TextFault::StartOrder { line: 3 },
+        ),
+    ];
+    for row in 0..27 {
+        let (text, want) = faults[row];
+        assert!(rt;
+            read_bulk(rt.alloc(), text).err() == Some(want),
+            "row {row}"
+        );
+    }
+}
+
 // How many start keys and operations there are together, or the fault.
 fn count(alloc: Global, text: &[u8]) -> Result<usize, TextFault> {
     let bulk = read_bulk(alloc, text)?;
@@ -200,6 +343,30 @@ fn the_limit_of_operations(rt: HostRuntime) {
     }
 }
 
+// The line of the version, 200,000 operations, and then other bytes.
+fn with_values_to_the_limit(alloc: Global, ending: &[u8]) -> Result<Vec<u8>, AllocError> {
+    let mut text = repeated(alloc, b"version 2\n", 1, b"")?;
+    text.extend_from_slice(&repeated(alloc, b"find 0\n", 200_000, ending)?)?;
+    Ok(text)
+}
+
+#[test]
+fn the_line_of_the_version_is_no_operation(rt: HostRuntime) {
+    let endings: [(&[u8], Result<usize, TextFault>); 3] = [
+        (b"", Ok(200_000)),
+        (
+            b"insert 0 1\n",
+            Err(TextFault::TooManyOperations { line: 200_002 }),
+        ),
+        (b"insert 0\n", Err(TextFault::BadValue { line: 200_002 })),
+    ];
+    for row in 0..3 {
+        let (ending, want) = endings[row];
+        let text = with_values_to_the_limit(rt.alloc(), ending).expect(&rt, "memory");
+        assert!(rt; count(rt.alloc(), &text) == want, "row {row}");
+    }
+}
+
 #[test]
 fn the_limit_of_start_keys_and_operations(rt: HostRuntime) {
     let endings: [(&[u8], Result<usize, TextFault>); 3] = [
@@ -234,6 +401,7 @@ fn faults_of_texts_in_words(rt: HostRuntime) {
             ),
             (TextFault::BadKey { line: 12 }, "line 12: not a key"),
             (TextFault::KeyTooLarge { line: 1 }, "line 1: key too large"),
+            (TextFault::BadValue { line: 2 }, "line 2: not a value"),
             (
                 TextFault::StartOrder { line: 2 },
                 "line 2: start keys not ascending",

@@ -59,7 +59,7 @@ fn each_form(rt: HostRuntime) {
 
 #[test]
 fn faults_of_the_heads(rt: HostRuntime) {
-    let faults: [(&[u8], ReplayFault); 15] = [
+    let faults: [(&[u8], ReplayFault); 17] = [
         (b"", ReplayFault::Ended),
         (b"# nothing\n", ReplayFault::Ended),
         (b"workers 1\n", ReplayFault::Ended),
@@ -78,8 +78,16 @@ fn faults_of_the_heads(rt: HostRuntime) {
             ReplayFault::BadNumber { line: 3 },
         ),
         (b"workers 1\ncards x\n", ReplayFault::BadNumber { line: 2 }),
+        (
+            b"version 2\nworkers 1\ncards 1",
+            ReplayFault::BadLine { line: 1 },
+        ),
+        (
+            b"workers 1\nversion 2\ncards 1",
+            ReplayFault::BadLine { line: 2 },
+        ),
     ];
-    for row in 0..15 {
+    for row in 0..17 {
         let (text, want) = faults[row];
         assert!(rt; fault_of(rt.alloc(), text) == Some(want), "row {row}");
     }
@@ -90,7 +98,7 @@ fn faults_behind_the_heads(rt: HostRuntime) {
     let bad_line = Some(ReplayFault::BadLine { line: 3 });
     let bad_number = Some(ReplayFault::BadNumber { line: 3 });
     let key_too_large = Some(ReplayFault::KeyTooLarge { line: 3 });
-    let faults: [(&[u8], Option<ReplayFault>); 29] = [
+    let faults: [(&[u8], Option<ReplayFault>); 33] = [
         (b"", None),
         (b"1 upd", None),
         (b"63 mark 1000000", None),
@@ -107,6 +115,10 @@ fn faults_behind_the_heads(rt: HostRuntime) {
         (b"own 0", bad_line),
         (b"own 0 5 6", bad_line),
         (b"cards 9", bad_line),
+        (b"version 2", bad_line),
+        (b"start 5 50", bad_line),
+        (b"0 begin insert 5 50", bad_line),
+        (b"0 begin insert 5 0", bad_line),
         (b" upd", bad_number),
         (b"own upd", bad_number),
         (b"own begin find 5", bad_number),
@@ -121,7 +133,7 @@ fn faults_behind_the_heads(rt: HostRuntime) {
         (b"64 begin find 18446744073709551614", bad_number),
         (b"0 upd\nown 0 5", Some(ReplayFault::BadLine { line: 4 })),
     ];
-    for row in 0..29 {
+    for row in 0..33 {
         let (lines, want) = faults[row];
         assert!(rt; fault_behind(rt.alloc(), 0, lines) == want, "row {row}");
     }

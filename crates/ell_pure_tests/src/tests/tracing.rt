@@ -13,6 +13,8 @@ fn a_line_of_each_kind(rt: HostRuntime) {
         Shown::Step(Stepped::Lost),
         Shown::Step(Stepped::Answered(Reply::Yes)),
         Shown::Step(Stepped::Answered(Reply::No)),
+        Shown::Step(Stepped::Answered(Reply::Found(50))),
+        Shown::Step(Stepped::Answered(Reply::Found(0))),
         Shown::Refused(CoreFault::NoSuchWorker),
         Shown::Refused(CoreFault::NotOwned),
         Shown::Refused(CoreFault::NotNow),
@@ -23,7 +25,7 @@ fn a_line_of_each_kind(rt: HostRuntime) {
     let mut out = Vec::new(rt.alloc());
     let written = write_trace(&mut out, &shown, &[5, 18_446_744_073_709_551_613]);
     let text: &[u8] =
-        b"moved\nwon\nlost\nyes\nno\nrefused NoSuchWorker\nrefused NotOwned\nrefused NotNow\n\
+        b"moved\nwon\nlost\nyes\nno\nyes\nyes\nrefused NoSuchWorker\nrefused NotOwned\nrefused NotNow\n\
         refused NoCards\nrefused OwnedTwice\nrefused NoMemory\nkeys 2\n5\n18446744073709551613\n";
     assert!(rt; written.is_ok() && out.as_slice() == text);
 }
@@ -40,6 +42,22 @@ const TWO_INSERTS_TRACE: &[u8] = b"moved\nmoved\nmoved\nmoved\nmoved\nmoved\nmov
 const ONE_INSERT: &[u8] = b"workers 1\ncards 1\nown 0 5\n\
     0 begin insert 5\n0 upd\n0 down\n0 claim\n0 iflag\n0 ichild 1\n0 iunflag 1\n0 answer\n";
 
+// Worker 0 inserts 5 twice, finds it, deletes it and does not find it any more.
+const ONE_LIFE: &[u8] = b"workers 1\ncards 2\nown 0 5\n\
+    0 begin insert 5\n0 upd\n0 down\n0 claim\n0 iflag\n0 ichild 1\n0 iunflag 1\n0 answer\n\
+    0 begin insert 5\n0 upd\n0 down\n0 upd\n0 down\n0 answer\n\
+    0 begin find 5\n0 upd\n0 down\n0 upd\n0 down\n0 answer\n\
+    0 begin delete 5\n0 upd\n0 down\n0 upd\n0 down\n0 claim\n\
+    0 dflag\n0 mark 2\n0 dchild 2\n0 dunflag 2\n0 answer\n\
+    0 begin find 5\n0 upd\n0 down\n0 answer\n";
+
+const ONE_LIFE_TRACE: &[u8] = b"moved\nmoved\nmoved\nmoved\nwon\nwon\nwon\nyes\n\
+    moved\nmoved\nmoved\nmoved\nmoved\nno\n\
+    moved\nmoved\nmoved\nmoved\nmoved\nyes\n\
+    moved\nmoved\nmoved\nmoved\nmoved\nmoved\n\
+    won\nwon\nwon\nwon\nyes\n\
+    moved\nmoved\nmoved\nno\nkeys 0\n";
+
 // What a replay of a text answers, if it wrote this trace.
 fn answer_with(alloc: Global, text: &[u8], trace: &[u8]) -> Option<Result<(), ScriptFault>> {
     let mut out = Vec::new(alloc);
@@ -54,15 +72,16 @@ fn answer_with(alloc: Global, text: &[u8], trace: &[u8]) -> Option<Result<(), Sc
 
 #[test]
 fn traces(rt: HostRuntime) {
-    let texts: [(&[u8], &[u8]); 3] = [
+    let texts: [(&[u8], &[u8]); 4] = [
         (TWO_INSERTS, TWO_INSERTS_TRACE),
         (
             ONE_INSERT,
             b"moved\nmoved\nmoved\nmoved\nwon\nwon\nwon\nyes\nkeys 1\n5\n",
         ),
+        (ONE_LIFE, ONE_LIFE_TRACE),
         (b"workers 1\ncards 1\n", b"keys 0\n"),
     ];
-    for row in 0..3 {
+    for row in 0..4 {
         let (text, trace) = texts[row];
         assert!(rt;
             answer_with(rt.alloc(), text, trace) == Some(Ok(())),
@@ -76,12 +95,17 @@ fn faults_before_a_trace(rt: HostRuntime) {
     let owned_twice = ScriptFault::Start(CoreFault::OwnedTwice);
     let no_such_worker = ScriptFault::Start(CoreFault::NoSuchWorker);
     let bad_number = ScriptFault::Text(ReplayFault::BadNumber { line: 2 });
-    let faults: [(&[u8], ScriptFault); 3] = [
+    let bad_line = ScriptFault::Text(ReplayFault::BadLine { line: 4 });
+    let faults: [(&[u8], ScriptFault); 4] = [
         (b"workers 2\ncards 4\nown 0 5\nown 1 5\n", owned_twice),
         (b"workers 2\ncards 4\nown 2 5\n", no_such_worker),
         (b"workers 2\ncards 0\n", bad_number),
+        (
+            b"workers 1\ncards 1\nown 0 5\n0 begin insert 5 50\n",
+            bad_line,
+        ),
     ];
-    for row in 0..3 {
+    for row in 0..4 {
         let (text, fault) = faults[row];
         assert!(rt;
             answer_with(rt.alloc(), text, b"") == Some(Err(fault)),

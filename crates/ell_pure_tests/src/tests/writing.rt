@@ -1,13 +1,16 @@
 //! What no clause says: the bytes of the text, how often the writer is called, and what is a failure
 //! of the writer.
+ghost use Rattle.ell_text.specs.Version.{IsVersion};
+
 use super::shared::{have_texts, repeated};
-use ell_ops::Reply::{self, No, Yes};
+use ell_ops::Reply::{self, Found, No, Yes};
 use ell_text::{WriteFault, write_answer};
 use std::alloc::Global;
 use std::io;
 use std::io::{ErrorKind, Write};
 
-const YES_YES_YES_NO: [Reply; 4] = [Yes, Yes, Yes, No];
+// The replies to `insert 5`, `find 5`, `delete 5` and `find 5`, where keys have the value 0.
+const FOUR_REPLIES: [Reply; 4] = [Yes, Found(0), Yes, No];
 
 // What a full writer answers.
 #[derive(Clone, Copy)]
@@ -56,23 +59,75 @@ impl Write for Limited {
 }
 
 // Whether this is the answer.
-fn is_written(alloc: Global, replies: &[Reply], keys: &[u64], text: &[u8]) -> bool {
+fn is_written(
+    alloc: Global,
+    version: u8,
+    replies: &[Reply],
+    pairs: &[(u64, u64)],
+    text: &[u8],
+) -> bool
+    requires { IsVersion version }
+{
     let mut out = Vec::new(alloc);
-    write_answer(&mut out, replies, keys).is_ok() && out.as_slice() == text
+    write_answer(&mut out, version, replies, pairs).is_ok() && out.as_slice() == text
 }
 
 #[test]
 fn writes_a_line_for_each_reply_and_key(rt: HostRuntime) {
     let text = b"yes\nyes\nyes\nno\nkeys 0\n";
-    assert!(rt; is_written(rt.alloc(), &YES_YES_YES_NO, &[], text));
+    assert!(rt; is_written(rt.alloc(), 1, &FOUR_REPLIES, &[], text));
     let text = b"yes\nkeys 1\n18446744073709551613\n";
-    assert!(rt; is_written(rt.alloc(), &[Yes], &[18_446_744_073_709_551_613], text));
+    assert!(rt;
+        is_written(
+            rt.alloc(),
+            1,
+            &[Yes],
+            &[(18_446_744_073_709_551_613, 0)],
+            text
+        )
+    );
+    let text = b"yes\nkeys 2\n5\n7\n";
+    assert!(rt; is_written(rt.alloc(), 1, &[Found(50)], &[(5, 50), (7, 70)], text));
+}
+
+#[test]
+fn writes_values_in_version_2(rt: HostRuntime) {
+    let answers: [(&[Reply], &[(u64, u64)], &[u8]); 5] = [
+        (
+            &[Yes, Yes, No, Found(50), Yes, No],
+            &[(5, 50)],
+            b"yes\nyes\nno\nyes 50\nyes\nno\nkeys 1\n5 50\n",
+        ),
+        (
+            &[Yes, Yes, Found(31)],
+            &[(3, 31)],
+            b"yes\nyes\nyes 31\nkeys 1\n3 31\n",
+        ),
+        (&[], &[], b"keys 0\n"),
+        (
+            &[Yes],
+            &[(0, 18_446_744_073_709_551_615)],
+            b"yes\nkeys 1\n0 18446744073709551615\n",
+        ),
+        (
+            &[Found(0), No],
+            &[(1, 0), (18_446_744_073_709_551_613, 2)],
+            b"yes 0\nno\nkeys 2\n1 0\n18446744073709551613 2\n",
+        ),
+    ];
+    for row in 0..5 {
+        let (replies, pairs, text) = answers[row];
+        assert!(rt;
+            is_written(rt.alloc(), 2, replies, pairs, text),
+            "row {row}"
+        );
+    }
 }
 
 #[test]
 fn stops_at_an_interrupted_write(rt: HostRuntime) {
     let mut out = Limited::new(rt.alloc(), 5, usize::MAX, WhenFull::Interrupted);
-    let result = write_answer(&mut out, &YES_YES_YES_NO, &[]);
+    let result = write_answer(&mut out, 1, &FOUR_REPLIES, &[]);
     assert!(rt; result == Err(WriteFault { written: 5 }));
     assert!(rt; out.taken.as_slice() == b"yes\ny".as_slice() && out.calls == 2);
 }
@@ -80,14 +135,22 @@ fn stops_at_an_interrupted_write(rt: HostRuntime) {
 #[test]
 fn stops_at_a_write_that_takes_nothing(rt: HostRuntime) {
     let mut out = Limited::new(rt.alloc(), 0, usize::MAX, WhenFull::TakesNothing);
-    let result = write_answer(&mut out, &YES_YES_YES_NO, &[]);
+    let result = write_answer(&mut out, 1, &FOUR_REPLIES, &[]);
     assert!(rt; result == Err(WriteFault { written: 0 }) && out.calls == 1);
+}
+
+#[test]
+fn stops_within_a_value(rt: HostRuntime) {
+    let mut out = Limited::new(rt.alloc(), 5, usize::MAX, WhenFull::Interrupted);
+    let result = write_answer(&mut out, 2, &[Found(50)], &[(5, 50)]);
+    assert!(rt; result == Err(WriteFault { written: 5 }));
+    assert!(rt; out.taken.as_slice() == b"yes 5".as_slice());
 }
 
 #[test]
 fn goes_on_after_a_partial_write(rt: HostRuntime) {
     let mut out = Limited::new(rt.alloc(), usize::MAX, 1, WhenFull::Interrupted);
-    let result = write_answer(&mut out, &YES_YES_YES_NO, &[]);
+    let result = write_answer(&mut out, 1, &FOUR_REPLIES, &[]);
     assert!(rt; result == Ok(()) && out.taken.len() == 22 && out.calls == 22);
 }
 
@@ -95,7 +158,12 @@ fn goes_on_after_a_partial_write(rt: HostRuntime) {
 fn calls_the_writer_once_for_each_full_buffer(rt: HostRuntime) {
     let text = repeated(rt.alloc(), b"no\n", 20_000, b"keys 3\n7\n1234567890\n0\n");
     let mut out = Limited::new(rt.alloc(), usize::MAX, usize::MAX, WhenFull::Interrupted);
-    let result = write_answer(&mut out, &[No; 20_000], &[7, 1_234_567_890, 0]);
+    let result = write_answer(
+        &mut out,
+        1,
+        &[No; 20_000],
+        &[(7, 0), (1_234_567_890, 0), (0, 0)],
+    );
     assert!(rt; result == Ok(()) && text.is_ok_and(|text| out.taken == text));
     // A buffer has 8,192 bytes.
     assert!(rt; out.taken.len() == 60_022 && out.calls == 60_022u64.div_ceil(8_192));

@@ -117,13 +117,13 @@ card_event worker word card = do
   card ← card_in card
   Ok (record { worker = worker; act = act_on kind card })
 
--- `W begin operation K`
+-- `W begin operation K`: an insert has the value 0
 abbrev pub begin_event : List ℕ → List ℕ → List ℕ → List ℕ → Result Event ReplayLineFault
 begin_event worker word name key = do
   kind ← or_bad_line (begun word name)
   worker ← worker_in worker
   key ← replay_key_in key
-  Ok (record { worker = worker; act = Begin (operation_on kind key) })
+  Ok (record { worker = worker; act = Begin (operation_on kind key 0) })
 
 -- the event that the pieces of a line say
 abbrev pub event_of : List (List ℕ) → Result Event ReplayLineFault

@@ -1,16 +1,17 @@
-use Rattle.std.proofs.Common.{◌≡◌, ◌≢◌, ℕ, ◌≤◌, true, false, Some, None, [], ◌∷◌, refl, sym, ap, ◌∙◌, arith}
+use Rattle.std.proofs.Common.{◌≡◌, ◌≢◌, ℕ, ◌≤◌, true, false, Some, None, unwrap_or, [], ◌∷◌, refl, sym, ap, ◌∙◌, arith}
 use Rattle.std.proofs.lemmas.Bool.Decides.{nat_tests}
 use Rattle.ell_ops.specs.declared.op.Op.TheVariants.{Find}
 use Rattle.ell_core.specs.declared.fact.Fact.TheVariants.{IFlagged}
 use Rattle.ell_core.specs.state.Machine.{Machine}
 use Rattle.ell_core.specs.state.Opening.{opening_words}
 use Rattle.ell_core.specs.acts.Searching.{IsLeaf}
-use Rattle.ell_core.specs.tree.Tree.{infinity1, OnWalk, here, next, Finds, IsTreeKey}
+use Rattle.ell_core.specs.tree.Tree.{infinity1, OnWalk, here, next, Finds, IsTreeKey, IsTreePair}
 use Rattle.ell_core.specs.soundness.Sound.{LedgersAreSound, WalksAreSound, StrangersAreNobody}
 use Rattle.ell_core.specs.soundness.SmallTrees.{five}
-use Rattle.ell_core.specs.soundness.Unsound.{BreaksLedgers, key_owned_twice, key_without_owner, key_missing_in_ledger, key_kept_in_ledger, BreaksSearches, key_found_too_early, key_not_found, search_astray, BreaksStrangers, key_of_stranger, busy_stranger, knowing_stranger}
+use Rattle.ell_core.specs.statements.StepLaws.{value_in}
+use Rattle.ell_core.specs.soundness.Unsound.{BreaksLedgers, key_owned_twice, key_without_owner, key_missing_in_ledger, key_kept_in_ledger, key_with_other_value, BreaksSearches, key_found_too_early, key_not_found, search_astray, BreaksStrangers, key_of_stranger, busy_stranger, knowing_stranger}
 use Rattle.ell_core.proofs.opening.Ranges.{opening_ordered, opening_empty}
-use Rattle.ell_core.proofs.tree.Reached.{tree_key_leads}
+use Rattle.ell_core.proofs.tree.Reached.{pair_key, tree_key_leads}
 use Rattle.ell_core.specs.declared.view.Entry.TheVariants.{Present, Absent}
 
 -- a state whose ledgers are unsound is unsound
@@ -46,6 +47,17 @@ five_there = record {
   real = omega arith;
 }
 
+-- with value 50
+fifty_there : IsTreePair five 5 50
+fifty_there = record {
+  leaf = 4;
+  reached = record { path = false ∷ false ∷ []; leads = (refl, (refl, refl)) };
+  outer = four_leaf;
+  has = refl;
+  says = refl;
+  real = omega arith;
+}
+
 -- nobody owns key 5
 not_owned : (i : ℕ) → (key_without_owner.worker i).ledger 5 ≡ None
 not_owned i = grind (arith, nat_tests)
@@ -57,19 +69,25 @@ owned_broken = breaks_ledgers key_without_owner (λ sound. let it = sound.owned 
 -- a key of the tree that is absent in its owner's ledger
 pub present_broken : BreaksLedgers key_missing_in_ledger
 present_broken = breaks_ledgers key_missing_in_ledger (λ sound.
-    let there : Some Absent ≡ Some Present = (sound.present 0 5 (λ e. let f : Some Absent ≡ None = e in cc)).0 five_there in cc)
+    let there : Some Absent ≡ Some (Present 50) = (sound.present 0 5 50 (λ e. let f : Some Absent ≡ None = e in cc)).0 fifty_there in cc)
 
 -- a key that is present in the ledger alone: the opening tree has no key
 pub kept_broken : BreaksLedgers key_kept_in_ledger
 kept_broken = breaks_ledgers key_kept_in_ledger (λ sound.
-    let there = (sound.present 0 5 (λ e. let f : Some Present ≡ None = e in cc)).1 refl in
-    opening_empty 5 there.real (tree_key_leads opening_words opening_ordered 5 there))
+    let there = (sound.present 0 5 50 (λ e. let f : Some (Present 50) ≡ None = e in cc)).1 refl in
+    opening_empty 5 there.real (tree_key_leads opening_words opening_ordered 5 (pair_key opening_words 5 50 there)))
+
+-- a key that is present in the ledger with another value than its leaf's
+pub other_value_broken : BreaksLedgers key_with_other_value
+other_value_broken = breaks_ledgers key_with_other_value (λ sound.
+    let there : Some (Present 51) ≡ Some (Present 50) = (sound.present 0 5 50 (λ e. let f : Some (Present 51) ≡ None = e in cc)).0 fifty_there in
+    let same : ◌≡◌ {A = ℕ} 51 50 = ap (λ o. unwrap_or (value_in o) 0) there in omega arith)
 
 -- a leaf of key 5, which is absent
 pub found_broken : BreaksSearches key_found_too_early
 found_broken = breaks_searches key_found_too_early (λ sound.
-    let found : Finds key_found_too_early.words 5 4 = record { leaf = 4; on = here refl; outer = four_leaf; has = refl } in
-    let there : Some Absent ≡ Some Present = (sound 0 (Find 5) 4 refl refl).finds.0 found in cc)
+    let found : Finds key_found_too_early.words 5 50 4 = record { leaf = 4; on = here refl; outer = four_leaf; has = refl; says = refl } in
+    let there : Some Absent ≡ Some (Present 50) = ((sound 0 (Find 5) 4 refl refl).finds 50).0 found in cc)
 
 -- the walk from leaf 1 stays there
 at_one : (x : ℕ) → OnWalk five 5 1 x → x ≡ 1
@@ -79,7 +97,7 @@ at_one x (next leaf rest) = absurd (zero_is_not_one (sym leaf))
 -- a leaf of another key, where key 5 is present
 pub missed_broken : BreaksSearches key_not_found
 missed_broken = breaks_searches key_not_found (λ sound.
-    let found = (sound 0 (Find 5) 1 refl refl).finds.1 refl in
+    let found = ((sound 0 (Find 5) 1 refl refl).finds 50).1 refl in
     let h : infinity1 ≡ 5 = sym (ap five.key (at_one found.leaf found.on)) ∙ found.has in omega arith)
 
 after_left : ¬ OnWalk opening_words 5 1 2

@@ -1,7 +1,7 @@
 use Rattle.std.proofs.Common.{◌≡◌, ℕ, ◌<◌, ◌≤◌, true, Some, None, List, inl, inr, refl, sym, ap, ◌∙◌, subst, arith, ◌⊎◌}
 use Rattle.std.proofs.lemmas.Bool.{false≢true}
 use Rattle.ell_ops.specs.declared.op.Op.{Op}
-use Rattle.ell_ops.specs.declared.op.Op.TheVariants.{Insert, Delete}
+use Rattle.ell_ops.specs.declared.op.Op.TheVariants.{Find, Insert, Delete}
 use Rattle.ell_ops.specs.Meaning.{key_of}
 use Rattle.ell_core.specs.declared.event.Act.TheVariants as act
 use Rattle.ell_core.specs.declared.event.Stepped.{Stepped}
@@ -11,7 +11,7 @@ use Rattle.ell_core.specs.state.Words.{Words, put}
 use Rattle.ell_core.specs.state.Machine.{Worker, Machine, Scene, scene, with_scene}
 use Rattle.ell_core.specs.state.Cards.{claimed, insert_filling, delete_filling}
 use Rattle.ell_core.specs.acts.Searching.{claims, ClaimInsert, ClaimDelete}
-use Rattle.ell_core.specs.history.Stages.{Stage, Stages, IClaimed, DClaimed, insert_open, delete_open, made_of, is_insert, is_delete}
+use Rattle.ell_core.specs.history.Stages.{Stage, Stages, Unclaimed, IClaimed, DClaimed, insert_open, delete_open, made_of, is_insert, is_delete}
 use Rattle.ell_core.specs.history.Invariant.{CardIsSound, Unflagged, WorkerIsSound, Invariant}
 use Rattle.ell_core.specs.history.Later.{Follows, Keeps}
 use Rattle.ell_core.proofs.words.Writes.{put_same, put_cases}
@@ -26,6 +26,12 @@ use Rattle.ell_core.proofs.keeping.claim.DeleteCard.{DeleteSeen, delete_claimed,
 use Rattle.ell_core.proofs.stages.Kinds.{HasKind, kinds_later}
 use Rattle.ell_core.proofs.stages.LaterKeys.{root_born}
 use Rattle.ell_core.proofs.stages.Counts.{counts_unmade, counts_same}
+
+-- nothing was made of a key by a card that was not claimed, or just was
+made_of_none : (o : Op) → (made_of o Unclaimed ≡ None) × (made_of o IClaimed ≡ None) × (made_of o DClaimed ≡ None)
+made_of_none (Find k) = (refl, refl, refl)
+made_of_none (Insert k value) = (refl, refl, refl)
+made_of_none (Delete k) = (refl, refl, refl)
 
 -- a worker without a card claims the next one for its operation, which fills it as a sound card that it then has in hand
 pub record ClaimsCard (m : Machine) (stage : Stages) (i : ℕ) (filling : List (Field × ℕ)) (new : Stage)
@@ -74,25 +80,26 @@ module _ (m : Machine) (stage : Stages) (i : ℕ) (filling : List (Field × ℕ)
       }
 
   -- the claim makes nothing of a key
-  made_same : (c : ℕ) → made_of (stages c) ≡ made_of (stage c)
-  made_same c = put_cases (λ s. made_of s ≡ made_of (stage c)) stage m.words.next new c
-      (λ e. let free = ap made_of (ap stage e ∙ unclaimed m.words after stage new claiming) in
-      just_claimed (λ s. made_of s ≡ made_of (stage c)) new h.fresh (sym free) (sym free))
+  made_same : (o : Op) (c : ℕ) → made_of o (stages c) ≡ made_of o (stage c)
+  made_same o c = put_cases (λ s. made_of o s ≡ made_of o (stage c)) stage m.words.next new c
+      (λ e. let free = ap (made_of o) (ap stage e ∙ unclaimed m.words after stage new claiming) in
+      let none = made_of_none o in
+      just_claimed (λ s. made_of o s ≡ made_of o (stage c)) new h.fresh (none.1 ∙ (sym none.0 ∙ sym free)) (none.2 ∙ (sym none.0 ∙ sym free)))
       (λ n. refl)
 
   claimer_becomes : Becomes m stage i after stages claimer
   claimer_becomes = let zero_born = root_born m.words stage h.sound.words in record {
     there = h.there;
-    leads = λ k. (
-      leads_before m.words after stage new claiming k 0 zero_born,
-      leads_kept m.words after stage new claiming k 0 zero_born,
+    leads = λ k value. (
+      leads_before m.words after stage new claiming k value 0 zero_born,
+      leads_kept m.words after stage new claiming k value 0 zero_born,
     );
     own = claimer_sound;
     others = λ j n. worker_kept m.words after stage new claiming (m.worker j) (h.sound.workers.each j);
     owns = λ k. (λ o. o, λ o. o);
-    counts = λ k o. ap (λ f. f k) (counts_unmade stages claimer (λ c e f. absurd (false≢true f))
-        ∙ sym (counts_unmade stage (m.worker i) (λ c e f. absurd (none c e))));
-    counts_others = λ j k n o. counts_same stage stages (m.worker j) k (λ op c busy holds f. inl (made_same c));
+    counts = λ k o. ap (λ f. f k) (counts_unmade stages claimer (λ o c b e f. absurd (false≢true f))
+        ∙ sym (counts_unmade stage (m.worker i) (λ o c b e f. absurd (none c e))));
+    counts_others = λ j k n o. counts_same stage stages (m.worker j) k (λ op c busy holds f. inl (made_same op c));
     inserts = λ c e. inr (
       before m.words after stage new claiming insert_open refl refl c e,
       λ had. absurd (none c had.holds),

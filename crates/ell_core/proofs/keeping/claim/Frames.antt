@@ -6,7 +6,7 @@ use Rattle.ell_core.specs.declared.field.Field.TheVariants.{Left, Right, Update}
 use Rattle.ell_core.specs.state.Words.{Words, put}
 use Rattle.ell_core.specs.state.Cards.{iflag, marked}
 use Rattle.ell_core.specs.history.Stages.{Stage, Stages, Unclaimed, IClaimed, DClaimed, is_claimed, is_start, is_born, allows, Born}
-use Rattle.ell_core.specs.history.Invariant.{top, IsIn, IsOut, LeadsTo, IsOnCourse, Blank, IsInnerBorn, WordsAreSound}
+use Rattle.ell_core.specs.history.Invariant.{top, IsIn, IsOut, LeadsToValue, IsOnCourse, Blank, IsInnerBorn, WordsAreSound}
 use Rattle.ell_core.specs.history.Later.{SameNode, WordsLater, StagesLater, wins_of}
 use Rattle.ell_core.proofs.words.Writes.{put_other, put_cases}
 use Rattle.ell_core.proofs.stages.Order.{unclaimed_stage}
@@ -125,14 +125,14 @@ module _ (w after : Words) (stage : Stages) (new : Stage) (h : Claiming w after 
       (Spans-back (Born stage) w.key after.key w.child after.child top start closed key_kept child_kept s)
 
   -- walks lead where they led
-  pub leads_kept : (k x : ℕ) → Born stage x → LeadsTo w k x → LeadsTo after k x
-  leads_kept k x born g = Meets-same
-      (Born stage) w.key after.key w.child after.child top start closed key_kept child_kept k born g
+  pub leads_kept : (k value x : ℕ) → Born stage x → LeadsToValue w k value x → LeadsToValue after k value x
+  leads_kept k value x born g = Meets-same
+      (Born stage) w.key after.key w.child after.child top start closed key_kept child_kept (λ y o e. value_kept y o ∙ e) k born g
 
   -- and to nothing more
-  pub leads_before : (k x : ℕ) → Born stage x → LeadsTo after k x → LeadsTo w k x
-  leads_before k x born g = Meets-back
-      (Born stage) w.key after.key w.child after.child top start closed key_kept child_kept k born g
+  pub leads_before : (k value x : ℕ) → Born stage x → LeadsToValue after k value x → LeadsToValue w k value x
+  leads_before k value x born g = Meets-back
+      (Born stage) w.key after.key w.child after.child top start closed key_kept child_kept (λ y o e. sym (value_kept y o) ∙ e) k born g
 
   -- what is on course stays so
   pub course_kept : (k x : ℕ) → Born stage x → IsOnCourse w k x → IsOnCourse after k x

@@ -1,5 +1,5 @@
-use Rattle.std.proofs.Common.{◌≡◌, ◌≢◌, ℕ, ◌≤◌, ◌⊎◌, nat_le, nat_lt, if◌then◌else◌, min, max, Some, inl, inr, refl, sym, ap, ◌∙◌, subst, arith}
-use Rattle.std.proofs.lemmas.Bool.{false≢true, cases_eq, cases_lt, lt-ltb, le-ltb}
+use Rattle.std.proofs.Common.{◌≡◌, ◌≢◌, ℕ, ◌≤◌, ◌⊎◌, ◌==◌, nat_le, nat_lt, if◌then◌else◌, min, max, Some, inl, inr, refl, sym, ap, ◌∙◌, subst, arith}
+use Rattle.std.proofs.lemmas.Bool.{false≢true, cases_eq, cases_lt, eq-eqb, ne_eqb, lt-ltb, le-ltb}
 use Rattle.std.proofs.lemmas.Bool.Decides.{nat_tests}
 use Rattle.ell_ops.specs.Meaning.{greatest_key}
 use Rattle.ell_core.specs.declared.field.Field.TheVariants.{Gp, Was}
@@ -9,7 +9,7 @@ use Rattle.ell_core.specs.state.Machine.{Worker}
 use Rattle.ell_core.specs.state.Cards.{is_right, child_for, claimed, insert_filling}
 use Rattle.ell_core.specs.acts.Searching.{IsLeaf, IsClean}
 use Rattle.ell_core.specs.history.Stages.{Stages, IClaimed, is_claimed, is_insert, is_delete, insert_won}
-use Rattle.ell_core.specs.history.Invariant.{insert_key, insert_side, IsInnerBorn, IsLeafBorn, InsertCard, CardIsSound, WordsAreSound, SeenIsSound, StandIsSound, InsertInHand}
+use Rattle.ell_core.specs.history.Invariant.{insert_key, insert_value, insert_side, IsInnerBorn, IsLeafBorn, InsertCard, CardIsSound, WordsAreSound, SeenIsSound, StandIsSound, InsertInHand}
 use Rattle.ell_core.proofs.words.Writes.{put_same}
 use Rattle.ell_core.proofs.words.Sides.{key_of_three}
 use Rattle.ell_core.proofs.keeping.claim.Filling.{claimed_claims, claimed_insert, IsFilledInsert}
@@ -29,6 +29,20 @@ copy_of_two : (k value leaf leaf_value : ℕ) → leaf ≢ k
 copy_of_two k value leaf leaf_value apart = elim (cases_lt k leaf) [
   | inl less ↦ inr (omega arith, ap (λ t. if t then leaf_value else value) (lt-ltb k leaf less))
   | inr past ↦ inl (omega arith, ap (λ t. if t then value else leaf_value) (le-ltb k leaf past))
+]
+
+-- and its value is the one on its side
+value_of_two : (k value leaf leaf_value : ℕ) → leaf ≢ k
+    → (if min k leaf == leaf then (if nat_lt k leaf then leaf_value else value) else (if nat_lt k leaf then value else leaf_value)) ≡ value
+value_of_two k value leaf leaf_value apart = elim (cases_lt k leaf) [
+  | inl less ↦
+      ap (λ t. if t then (if nat_lt k leaf then leaf_value else value) else (if nat_lt k leaf then value else leaf_value))
+      (ne_eqb (min k leaf) leaf (λ e. omega arith))
+      ∙ ap (λ t. if t then value else leaf_value) (lt-ltb k leaf less)
+  | inr past ↦
+      ap (λ t. if t then (if nat_lt k leaf then leaf_value else value) else (if nat_lt k leaf then value else leaf_value))
+      (eq-eqb (min k leaf) leaf (omega arith))
+      ∙ ap (λ t. if t then leaf_value else value) (le-ltb k leaf past)
 ]
 
 -- where both are on one side of a node's key, so is the greater one
@@ -79,6 +93,10 @@ module _ (w : Words) (stage : Stages) (v : Worker) (k value leaf : ℕ) (parent 
   own_key : insert_key after w.next ≡ k
   own_key = (λ t. key_of_three (filled.left_key t) (filled.right_key t) (leaf_key t)) ∙ own_of_two k (w.key leaf) h.absent
 
+  own_value : insert_value after w.next ≡ value
+  own_value = (λ t. if filled.left_key t == leaf_key t then filled.right_value t else filled.left_value t)
+      ∙ value_of_two k value (w.key leaf) (w.value leaf) h.absent
+
   side_is : insert_side after w.next ≡ is_right w parent.node k
   side_is = (λ t. nat_le (parent_key t) (filled.key t)) ∙ side_of_two (w.key parent.node) k (w.key leaf) h.seen.side
 
@@ -124,7 +142,7 @@ module _ (w : Words) (stage : Stages) (v : Worker) (k value leaf : ℕ) (parent 
 
   -- the claimer, that still stands there, has it in hand
   pub insert_in_hand : (u : Worker) → u.search.node ≡ Some leaf → u.search.parent ≡ Some parent → IsClean parent.word
-      → InsertInHand after stages u k w.next
+      → InsertInHand after stages u k value w.next
   insert_in_hand u stands behind calm = record {
     parent = parent;
     claimed = (ap is_insert at_stage, ap insert_won at_stage);
@@ -134,4 +152,5 @@ module _ (w : Words) (stage : Stages) (v : Worker) (k value leaf : ℕ) (parent 
     calm = calm;
     earlier = earlier_word w stage h.words parent.node parent.word h.seen.node h.seen.word;
     own = own_key;
+    own_value = own_value;
   }

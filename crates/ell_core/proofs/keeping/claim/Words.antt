@@ -8,6 +8,7 @@ use Rattle.ell_core.specs.tree.Tree.{infinity1}
 use Rattle.ell_core.specs.history.Invariant.{top, CardIsSound, ChildrenAreSound, UpdateIsSound, TreeIsSound, WordsAreSound, InsertStage, DeleteStage, insert_side, delete_side}
 use Rattle.ell_core.proofs.words.Writes.{put_other, put_same}
 use Rattle.ell_core.proofs.tree.Frames.{IsOrdered-same}
+use Rattle.ell_core.proofs.tree.Reached.{leads_any, leads_some}
 use Rattle.ell_core.proofs.keeping.claim.Frames.{Claiming, another, kept, born_kept, born_before, key_kept, child_kept, update_kept, closed, in_kept, leads_kept, claim_goes_on, just_claimed}
 use Rattle.ell_core.proofs.keeping.claim.Filling.{others_say}
 use Rattle.ell_core.proofs.keeping.going_on.Cards.{GoesOn, card_on}
@@ -109,7 +110,7 @@ module _ (w after : Words) (stage : Stages) (new : Stage) (h : Claiming w after 
     root_key = key_kept w after stage new h 0 zero_born ∙ old.root_key;
     root_right = child_kept w after stage new h 0 true zero_born ∙ old.root_right;
     right_key = key_kept w after stage new h (right_leaf 0) zero_born ∙ old.right_key;
-    last = leads_kept w after stage new h infinity1 0 zero_born old.last;
+    last = let there = leads_some w infinity1 old.last in leads_any after infinity1 there.0 0 (leads_kept w after stage new h infinity1 there.0 0 zero_born there.1);
     there = λ x inner born calm. (let was_born = born_before w after stage new h x born in
         in_kept w after stage new h x
         (old.there x inner was_born (λ c e. calm c (update_kept w after stage new h x was_born ∙ e))));

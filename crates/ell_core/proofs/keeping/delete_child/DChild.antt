@@ -11,7 +11,8 @@ use Rattle.ell_core.specs.state.Cards.{sibling}
 use Rattle.ell_core.specs.acts.Exchanges.{knowing, DChild}
 use Rattle.ell_core.specs.acts.Events.{Happens}
 use Rattle.ell_core.specs.history.Stages.{Stages, DMarked, DCut, is_cut}
-use Rattle.ell_core.specs.history.Invariant.{LeadsTo, delete_key, WordsAreSound, Invariant}
+use Rattle.ell_core.specs.history.Invariant.{LeadsTo, LeadsToValue, delete_key, WordsAreSound, Invariant}
+use Rattle.ell_core.proofs.tree.Reached.{leads_any}
 use Rattle.ell_core.specs.history.Later.{Follows, Keeps, wins_of}
 use Rattle.ell_core.proofs.words.Writes.{put_same}
 use Rattle.ell_core.proofs.stages.Order.{cut-marked, marked_cases}
@@ -120,20 +121,20 @@ keeps_dchild c m stage i said becomes there sound happens =
           (lost-follows c m stage i there sound cut)
     ]
 
--- a key was in the tree, and is in it no longer; every other key is as it was
+-- a key was in the tree, and is in it no longer; every other key is as it was, with its value
 pub record LosesKey (old new : Words) (key : ℕ) : Type 0 where
   pub had : LeadsTo old key 0
-  pub each : (k : ℕ) → LeadsTo new k 0 ↔ (LeadsTo old k 0 × (k ≢ key))
+  pub each : (k v : ℕ) → LeadsToValue new k v 0 ↔ (LeadsToValue old k v 0 × (k ≢ key))
 
 -- the child exchange of a marked delete takes its key from the tree
 cut-loses_key : (w : Words) (c : ℕ) → CutTree w c → LosesKey w (cut_words w c) (delete_key w c)
 cut-loses_key w c tree = record {
   had = tree.there;
-  each = λ k. (λ l. ((tree.leads k 0 (other k l)).0 l, other k l), λ h. (tree.leads k 0 h.1).1 h.0);
+  each = λ k v. (λ l. ((tree.leads k v 0 (other k v l)).0 l, other k v l), λ h. (tree.leads k v 0 h.1).1 h.0);
 }
   where
-    other : (k : ℕ) → LeadsTo (cut_words w c) k 0 → k ≢ delete_key w c
-    other k l e = tree.gone (subst (λ j. LeadsTo (cut_words w c) j 0) e l)
+    other : (k v : ℕ) → LeadsToValue (cut_words w c) k v 0 → k ≢ delete_key w c
+    other k v l e = tree.gone (subst (λ j. LeadsTo (cut_words w c) j 0) e (leads_any (cut_words w c) k v 0 l))
 
 -- a won child exchange takes the delete's key from the tree
 pub dchild-loses_key : (c : ℕ) (m : Machine) (stage : Stages) (i : ℕ) (becomes : Scene) → Invariant m stage

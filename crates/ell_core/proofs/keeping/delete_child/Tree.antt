@@ -7,7 +7,7 @@ use Rattle.ell_core.specs.state.Words.{Words, with_child}
 use Rattle.ell_core.specs.state.Cards.{dflag, marked, exchange_side, sibling}
 use Rattle.ell_core.specs.tree.Ranges.{IsOrdered, goes}
 use Rattle.ell_core.specs.history.Stages.{Stages, DMarked, is_delete, is_marked, delete_open, delete_waits}
-use Rattle.ell_core.specs.history.Invariant.{top, IsIn, IsOut, LeadsTo, IsOnCourse, delete_key, delete_side, leaf_side, IsInnerBorn, IsLeafBorn, WordsAreSound}
+use Rattle.ell_core.specs.history.Invariant.{top, IsIn, IsOut, LeadsTo, LeadsToValue, IsOnCourse, delete_key, delete_side, leaf_side, IsInnerBorn, IsLeafBorn, WordsAreSound}
 use Rattle.ell_core.proofs.words.Later.{child_there, child_elsewhere}
 use Rattle.ell_core.proofs.tree.Bounds.{leaf_is_met}
 use Rattle.ell_core.proofs.tree.Removes.{Removes, stays, was_p, was_l, Spans-left, Spans-remove, IsOrdered-remove, Meets-removed, Meets-kept, gone, met_before}
@@ -76,7 +76,7 @@ pub record CutTree (w : Words) (c : ℕ) : Type 0 where
   pub out : IsOut (cut_words w c) (w.p c)
   pub still_out : (x : ℕ) → IsOut w x → IsOut (cut_words w c) x
   pub course : (k x : ℕ) → IsOnCourse w k x → IsOnCourse (cut_words w c) k x
-  pub leads : (k x : ℕ) → k ≢ delete_key w c → LeadsTo (cut_words w c) k x ↔ LeadsTo w k x
+  pub leads : (k value x : ℕ) → k ≢ delete_key w c → LeadsToValue (cut_words w c) k value x ↔ LeadsToValue w k value x
   pub gone : ¬ LeadsTo (cut_words w c) (delete_key w c) 0
   pub there : LeadsTo w (delete_key w c) 0
 
@@ -144,12 +144,12 @@ module _ (w : Words) (stage : Stages) (c : ℕ) (at : CutsAt w stage c) (ordered
     -- it did lead to the leaf
     there_before : LeadsTo w (delete_key w c) 0
     there_before = met_before w.key w.child after top (w.gp c) (delete_side w c) (w.p c) other (w.l c) (sibling w c)
-        cuts_out ordered alive.low alive.high alive.spans
+        cuts_out ordered alive.low alive.high alive.spans tt
 
     -- the parent is out, for below it is the leaf
     out_of_tree : IsOut (cut_words w c) (w.p c)
     out_of_tree low high r = gone_after (leaf_is_met w.key after top ordered_after
-        (goes (leaf_side w c) r at.parent.inner (sym leaf_after) refl refl) at.leaf.outer)
+        (goes (leaf_side w c) r at.parent.inner (sym leaf_after) refl refl) at.leaf.outer tt)
 
     -- what was on course stays so
     course_after : (k x : ℕ) → IsOnCourse w k x → IsOnCourse (cut_words w c) k x
@@ -158,8 +158,8 @@ module _ (w : Words) (stage : Stages) (c : ℕ) (at : CutsAt w stage c) (ordered
         cuts_out alive.low alive.high alive.spans k h
 
     -- every other key leads where it led
-    leads_after : (k x : ℕ) → k ≢ delete_key w c → LeadsTo (cut_words w c) k x ↔ LeadsTo w k x
-    leads_after k x apart = (
+    leads_after : (k value x : ℕ) → k ≢ delete_key w c → LeadsToValue (cut_words w c) k value x ↔ LeadsToValue w k value x
+    leads_after k value x apart = (
       λ h. Meets-kept w.key w.child after top (w.gp c) (delete_side w c) (w.p c) other (w.l c) (sibling w c)
           cuts_out ordered alive.low alive.high alive.spans k apart h,
       λ h. Meets-removed w.key w.child after top (w.gp c) (delete_side w c) (w.p c) other (w.l c) (sibling w c)

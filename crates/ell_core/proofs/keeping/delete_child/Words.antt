@@ -7,6 +7,7 @@ use Rattle.ell_core.specs.tree.Tree.{infinity1}
 use Rattle.ell_core.specs.history.Stages.{Stages, Stage, Opening, DMarked, DCut, is_claimed, is_insert, is_delete, is_born, insert_open, delete_open, is_marked, Born, insert_won}
 use Rattle.ell_core.specs.history.Invariant.{insert_side, delete_side, leaf_side, CardIsSound, InsertStage, DeleteStage, ChildrenAreSound, UpdateIsSound, TreeIsSound, WordsAreSound}
 use Rattle.ell_core.specs.history.Later.{SaysTheSame, StagesLater, WordsLater}
+use Rattle.ell_core.proofs.tree.Reached.{leads_any, leads_some}
 use Rattle.ell_core.proofs.words.Writes.{put_other, put_same}
 use Rattle.ell_core.proofs.stages.Order.{delete_waits-open, insert_waits-open}
 use Rattle.ell_core.proofs.words.Later.{child_there, child_elsewhere, words_child, child_says}
@@ -173,7 +174,8 @@ module _ (w : Words) (stage : Stages) (sound : WordsAreSound w stage) (c : ℕ) 
     root_key = sound.tree.root_key;
     root_right = root_right_after;
     right_key = sound.tree.right_key;
-    last = (tree.leads infinity1 0 (λ e. let real = at.real in omega arith)).1 sound.tree.last;
+    last = let there = leads_some w infinity1 sound.tree.last in
+        leads_any after infinity1 there.0 0 ((tree.leads infinity1 there.0 0 (λ e. let real = at.real in omega arith)).1 there.1);
     there = λ x inner born calm. tree.stays x inner (λ e. calm c (ap w.update e ∙ at.mark))
         (sound.tree.there x inner (before is_born refl (card x) born) calm);
   }

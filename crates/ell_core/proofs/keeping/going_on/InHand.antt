@@ -6,7 +6,7 @@ use Rattle.ell_core.specs.declared.view.Search.{Search}
 use Rattle.ell_core.specs.state.Words.{Words}
 use Rattle.ell_core.specs.state.Machine.{Worker}
 use Rattle.ell_core.specs.history.Stages.{Stages, is_insert, is_delete, insert_won, delete_won, is_claimed}
-use Rattle.ell_core.specs.history.Invariant.{insert_key, delete_key, StandIsSound, Unflagged, Flagged, WorkerIsSound}
+use Rattle.ell_core.specs.history.Invariant.{insert_key, insert_value, delete_key, StandIsSound, Unflagged, Flagged, WorkerIsSound}
 use Rattle.ell_core.specs.history.Later.{SameInfo, StagesLater}
 use Rattle.ell_core.proofs.stages.Order.{insert_won-insert, delete_won-delete, insert-claimed, delete-claimed, insert_not_won, delete_not_won}
 
@@ -20,15 +20,15 @@ pub record SamePlace (old new : Search) : Type 0 where
 pub same_place : (search : Search) → SamePlace search search
 same_place search = record { node = refl; parent = refl; grandparent = refl }
 
--- a card goes where it went, for the key that it had
+-- a card goes where it went, for the key and the value that it had
 pub record SameGoal (old new : Words) (stage : Stages) (c : ℕ) : Type 0 where
-  pub insert : is_insert (stage c) ≡ true → SameInfo old new c × (insert_key new c ≡ insert_key old c)
+  pub insert : is_insert (stage c) ≡ true → SameInfo old new c × (insert_key new c ≡ insert_key old c) × (insert_value new c ≡ insert_value old c)
   pub delete : is_delete (stage c) ≡ true → SameInfo old new c × (delete_key new c ≡ delete_key old c)
 
 -- in the same words it does
 pub same_goal : (w : Words) (stage : Stages) (c : ℕ) → SameGoal w w stage c
 same_goal w stage c = record {
-  insert = λ h. (record { gp = refl; p = refl; l = refl; was = refl }, refl);
+  insert = λ h. (record { gp = refl; p = refl; l = refl; was = refl }, refl, refl);
   delete = λ h. (record { gp = refl; p = refl; l = refl; was = refl }, refl);
 }
 
@@ -71,6 +71,7 @@ module _ (old new : Words) (stage stages : Stages) (v u : Worker) where
     calm = h.calm;
     earlier = h.earlier;
     own = same.1 ∙ h.own;
+    own_value = same.2 ∙ h.own_value;
   }
   unflagged_same (Delete k) c at goal place h = let same = goal.delete h.claimed.0 in record {
     parent = h.parent;
@@ -94,12 +95,13 @@ module _ (old new : Words) (stage stages : Stages) (v u : Worker) where
   flagged_same (Insert k value) c later goal same h = (
     later.told (fact.IFlagged c) c h.0,
     (goal.insert (insert_won-insert (stage c) h.0)).1 ∙ h.1,
-    ap (λ f. f k) same ∙ h.2,
+    (goal.insert (insert_won-insert (stage c) h.0)).2 ∙ h.2,
+    ap (λ f. f k) same ∙ h.3,
   )
   flagged_same (Delete k) c later goal same h = (
     later.told (fact.DFlagged c) c h.0,
     (goal.delete (delete_won-delete (stage c) h.0)).1 ∙ h.1,
-    ap (λ f. f k) same ∙ h.2,
+    (h.2.0, ap (λ f. f k) same ∙ h.2.1),
   )
 
 -- a worker with the same ledger, at the same place, stands as it stood, if the word that it read is not past the node's
@@ -108,7 +110,7 @@ pub stands_same : (w : Words) (stage : Stages) (v u : Worker) (k x : ℕ) → Sa
 stands_same w stage v u k x place same read h = record {
   born = h.born;
   read = read;
-  leads = (λ l. ap (λ f. f k) same ∙ h.leads.0 l, λ e. h.leads.1 (sym (ap (λ f. f k) same) ∙ e));
+  leads = λ value. (λ l. ap (λ f. f k) same ∙ (h.leads value).0 l, λ e. (h.leads value).1 (sym (ap (λ f. f k) same) ∙ e));
   course = h.course;
   parent = λ seen e. h.parent seen (sym place.parent ∙ e);
   grandparent = λ seen above e f. h.grandparent seen above (sym place.parent ∙ e) (sym place.grandparent ∙ f);

@@ -7,9 +7,10 @@ use Rattle.ell_core.specs.state.Machine.{Worker, Machine}
 use Rattle.ell_core.specs.soundness.Sound.{Owns, IsOwned, IsInHand}
 use Rattle.ell_core.specs.soundness.Holds.{with_settled}
 use Rattle.ell_core.specs.history.Stages.{Stage, Stages, insert_won, insert_open, delete_won, delete_open, made_of, staged}
-use Rattle.ell_core.specs.history.Invariant.{LeadsTo, Flagged, WorkerIsSound, WorkersAreSound}
+use Rattle.ell_core.specs.history.Invariant.{LeadsTo, LeadsToValue, Flagged, WorkerIsSound, WorkersAreSound}
 use Rattle.ell_core.proofs.outcomes.Decide.{cases_option, same_value, some_not_none}
 use Rattle.ell_core.proofs.words.Writes.{put_same, put_other, put_cases}
+use Rattle.ell_core.proofs.tree.Reached.{leads_by_value}
 use Rattle.ell_core.proofs.stages.Counts.{counts_same, counts_made}
 use Rattle.ell_core.proofs.keeping.going_on.Cards.{GoesOn}
 use Rattle.ell_core.proofs.keeping.going_on.Workers.{worker_on}
@@ -17,24 +18,24 @@ use Rattle.ell_core.proofs.keeping.going_on.InHand.{won_elsewhere}
 use Rattle.ell_core.specs.declared.view.Entry.{Entry}
 use Rattle.ell_core.specs.declared.view.Entry.TheVariants.{Present}
 
--- a child exchange takes card c, whose flag stands in some worker's hand, to a stage that has made its key present or absent: so
--- the key leads to a leaf or does not, and every other key leads where it led
+-- a child exchange takes card c, whose flag stands in some worker's hand, to a stage that has made its key present with a value, or
+-- absent: so the key leads to a leaf of that value or to none, and every other key leads where it led
 pub record SettlesKey (m : Machine) (stage : Stages) (words : Words) (c : ℕ) (new : Stage) (key : ℕ) (made : Entry) : Type 0 where
   pub goes : GoesOn m.words words stage (put stage c new)
   pub hand : IsInHand m c
   pub won : (insert_won (stage c) ≡ true) ⊎ (delete_won (stage c) ≡ true)
-  pub own : (v : Worker) (op : Op) → Flagged m.words stage v op c → key_of op ≡ key
-  pub makes : made_of new ≡ Some made
-  pub leads : (k x : ℕ) → k ≢ key → LeadsTo words k x ↔ LeadsTo m.words k x
-  pub led : LeadsTo words key 0 ↔ (made ≡ Present)
+  pub own : (v : Worker) (op : Op) → Flagged m.words stage v op c → (key_of op ≡ key) × (made_of op new ≡ Some made)
+  pub leads : (k value x : ℕ) → k ≢ key → LeadsToValue words k value x ↔ LeadsToValue m.words k value x
+  pub led : (value : ℕ) → LeadsToValue words key value 0 ↔ (made ≡ Present value)
   pub inserts : insert_open new ≡ true → insert_open (stage c) ≡ true
   pub deletes : delete_open new ≡ true → delete_open (stage c) ≡ true
 
 -- a worker has the card in hand, flagged, for an operation on its key, and stands nowhere
-record HoldsFor (v : Worker) (c key : ℕ) : Type 0 where
+record HoldsFor (v : Worker) (c key : ℕ) (new : Stage) (made : Entry) : Type 0 where
   op : Op
   busy : v.operation ≡ Some op
   own : key_of op ≡ key
+  makes : made_of op new ≡ Some made
   holds : v.card ≡ Some c
   flagged : v.flagged ≡ true
   nowhere : v.search.node ≡ None
@@ -46,12 +47,13 @@ module _ (m : Machine) (stage : Stages) (words : Words) (c : ℕ) (new : Stage) 
   stages = put stage c new
 
   -- whoever has the card in hand has it for its key
-  holds_for : (i : ℕ) → (m.worker i).card ≡ Some c → (m.worker i).flagged ≡ true → HoldsFor (m.worker i) c key
+  holds_for : (i : ℕ) → (m.worker i).card ≡ Some c → (m.worker i).flagged ≡ true → HoldsFor (m.worker i) c key new made
   holds_for i holds flagged = elim (cases_option (m.worker i).operation) [
     | inl o ↦ (let g = (old.each i).flagged o.0 c o.1 holds flagged in record {
       op = o.0;
       busy = o.1;
-      own = h.own (m.worker i) o.0 g.0;
+      own = (h.own (m.worker i) o.0 g.0).0;
+      makes = (h.own (m.worker i) o.0 g.0).1;
       holds = holds;
       flagged = flagged;
       nowhere = g.1;
@@ -60,15 +62,15 @@ module _ (m : Machine) (stage : Stages) (words : Words) (c : ℕ) (new : Stage) 
   ]
 
   -- one worker has it, and owns the key
-  holder : HoldsFor (m.worker h.hand.worker) c key
+  holder : HoldsFor (m.worker h.hand.worker) c key new made
   holder = holds_for h.hand.worker h.hand.holds h.hand.flagged
 
   owner : Owns (m.worker h.hand.worker) key
   owner = subst (Owns (m.worker h.hand.worker)) holder.own ((old.each h.hand.worker).owned holder.op holder.busy)
 
   -- so whoever owns the key has the card in hand
-  owner_holds : (i : ℕ) → Owns (m.worker i) key → HoldsFor (m.worker i) c key
-  owner_holds i owns = subst (λ n. HoldsFor (m.worker n) c key) (sym (old.one_owner i h.hand.worker key owns owner)) holder
+  owner_holds : (i : ℕ) → Owns (m.worker i) key → HoldsFor (m.worker i) c key new made
+  owner_holds i owns = subst (λ n. HoldsFor (m.worker n) c key new made) (sym (old.one_owner i h.hand.worker key owns owner)) holder
 
   -- and nobody stands anywhere with it
   stands_apart : (i : ℕ) (op : Op) (x : ℕ) → (m.worker i).operation ≡ Some op → (m.worker i).search.node ≡ Some x → key_of op ≢ key
@@ -79,7 +81,7 @@ module _ (m : Machine) (stage : Stages) (words : Words) (c : ℕ) (new : Stage) 
   worker_after : (i : ℕ) → WorkerIsSound words stages (m.worker i)
   worker_after i = let was = old.each i in
       worker_on m.words words stage stages h.goes (m.worker i)
-      (λ op x busy stands born. h.leads (key_of op) x (stands_apart i op x busy stands))
+      (λ op x busy stands born value. h.leads (key_of op) value x (stands_apart i op x busy stands))
       (λ op d busy holds f hand. put_other stage c new d
       (won_elsewhere m.words stage (m.worker i) c was h.won op d busy holds f))
       was
@@ -90,36 +92,36 @@ module _ (m : Machine) (stage : Stages) (words : Words) (c : ℕ) (new : Stage) 
       let g = owner_holds i owns in
       let ledger = (m.worker i).ledger in
       ap (λ f. f key) (counts_made stages (m.worker i) g.op c g.busy g.holds g.flagged)
-      ∙ ((λ t. with_settled ledger (g.own t) ((ap made_of (put_same stage c new) ∙ h.makes) t) key)
+      ∙ ((λ t. with_settled ledger (g.own t) ((ap (made_of g.op) (put_same stage c new) ∙ g.makes) t) key)
       ∙ put_same ledger key (Some made))
 
   -- every other key counts as before
   counts_elsewhere : (i k : ℕ) → k ≢ key → staged stages (m.worker i) k ≡ staged stage (m.worker i) k
   counts_elsewhere i k other = counts_same stage stages (m.worker i) k (λ op d busy holds flagged. elim (cases_eq d c) [
-    | inl e ↦ inr (λ same. other (same ∙ h.own (m.worker i) op
-        (subst (Flagged m.words stage (m.worker i) op) e ((old.each i).flagged op d busy holds flagged).0)))
-    | inr n ↦ inl (ap made_of (put_other stage c new d n))
+    | inl e ↦ inr (λ same. other (same ∙ (h.own (m.worker i) op
+        (subst (Flagged m.words stage (m.worker i) op) e ((old.each i).flagged op d busy holds flagged).0)).0))
+    | inr n ↦ inl (ap (made_of op) (put_other stage c new d n))
   ])
 
-  -- the keys present are those of the tree
-  present_after : (i k : ℕ) → Owns (m.worker i) k → LeadsTo words k 0 ↔ (staged stages (m.worker i) k ≡ Some Present)
-  present_after i k owns = elim (cases_eq k key) [
+  -- the keys present are those of the tree, with their values
+  present_after : (i k value : ℕ) → Owns (m.worker i) k → LeadsToValue words k value 0 ↔ (staged stages (m.worker i) k ≡ Some (Present value))
+  present_after i k value owns = elim (cases_eq k key) [
     | inl e ↦
         let counts = ap (staged stages (m.worker i)) e ∙ counts_here i (subst (Owns (m.worker i)) e owns) in (
-          λ l. counts ∙ ap (λ e. Some e) (h.led.0 (subst (λ n. LeadsTo words n 0) e l)),
-          λ s. subst (λ n. LeadsTo words n 0) (sym e) (h.led.1 (same_value counts s)),
+          λ l. counts ∙ ap (λ e. Some e) ((h.led value).0 (subst (λ n. LeadsToValue words n value 0) e l)),
+          λ s. subst (λ n. LeadsToValue words n value 0) (sym e) ((h.led value).1 (same_value counts s)),
         )
     | inr n ↦
-        let was = old.present i k owns in
+        let was = old.present i k value owns in
         let same = counts_elsewhere i k n in
-        (λ l. same ∙ was.0 ((h.leads k 0 n).0 l), λ s. (h.leads k 0 n).1 (was.1 (sym same ∙ s)))
+        (λ l. same ∙ was.0 ((h.leads k value 0 n).0 l), λ s. (h.leads k value 0 n).1 (was.1 (sym same ∙ s)))
   ]
 
   -- each key of the tree has an owner
   owned_after : (k : ℕ) → k ≤ greatest_key → LeadsTo words k 0 → IsOwned (record m { words = words }) k
   owned_after k real l = elim (cases_eq k key) [
     | inl e ↦ record { worker = h.hand.worker; owns = subst (Owns (m.worker h.hand.worker)) (sym e) owner }
-    | inr n ↦ (let was = old.owned k real ((h.leads k 0 n).0 l) in record { worker = was.worker; owns = was.owns })
+    | inr n ↦ (let was = old.owned k real ((leads_by_value m.words words k 0 (λ value. h.leads k value 0 n)).0 l) in record { worker = was.worker; owns = was.owns })
   ]
 
   -- a card in hand is in hand

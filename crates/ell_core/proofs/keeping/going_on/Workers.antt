@@ -7,8 +7,8 @@ use Rattle.ell_core.specs.state.Facts.{card_of_fact}
 use Rattle.ell_core.specs.state.Machine.{Worker}
 use Rattle.ell_core.specs.state.Cards.{is_right, child_for}
 use Rattle.ell_core.specs.history.Stages.{Stages, Born}
-use Rattle.ell_core.specs.history.Invariant.{LeadsTo, SeenIsSound, StandIsSound, Unflagged, WorkerIsSound}
-use Rattle.ell_core.proofs.stages.LaterKeys.{insert_info, insert_key_later, delete_info, delete_key_later, key_later, side_later}
+use Rattle.ell_core.specs.history.Invariant.{LeadsToValue, SeenIsSound, StandIsSound, Unflagged, WorkerIsSound}
+use Rattle.ell_core.proofs.stages.LaterKeys.{insert_info, insert_key_later, insert_value_later, delete_info, delete_key_later, key_later, side_later}
 use Rattle.ell_core.proofs.keeping.going_on.Cards.{GoesOn, inner_on}
 use Rattle.ell_core.proofs.keeping.going_on.InHand.{SameGoal, same_place, unflagged_same, flagged_same}
 
@@ -32,12 +32,12 @@ module _ (old new : Words) (stage stages : Stages) (h : GoesOn old new stage sta
       }
 
   -- a worker stands as it stood, if the walk for its key leads where it led
-  pub stand_on : (v : Worker) (k x : ℕ) → LeadsTo new k x ↔ LeadsTo old k x → StandIsSound old stage v k x
+  pub stand_on : (v : Worker) (k x : ℕ) → ((value : ℕ) → LeadsToValue new k value x ↔ LeadsToValue old k value x) → StandIsSound old stage v k x
       → StandIsSound new stages v k x
   stand_on v k x leads was = record {
     born = h.later.born x was.born;
     read = λ word e. (let a = was.read word e in let up = h.words.update x in omega arith);
-    leads = (λ l. was.leads.0 (leads.0 l), λ e. leads.1 (was.leads.1 e));
+    leads = λ value. (λ l. (was.leads value).0 ((leads value).0 l), λ e. (leads value).1 ((was.leads value).1 e));
     course = h.course k x was.born was.course;
     parent = λ seen e. (let a = was.parent seen e in
         (seen_on k x seen was.born a.0, h.course k seen.node a.0.node.born a.1));
@@ -47,10 +47,14 @@ module _ (old new : Words) (stage stages : Stages) (h : GoesOn old new stage sta
     deep = λ outer real. was.deep outer (let key = key_later old new stage h.sound h.words x x refl was.born in omega arith);
   }
 
-  -- a card goes where it went, for the key that it had
+  -- a card goes where it went, for the key and the value that it had
   pub goal_on : (c : ℕ) → SameGoal old new stage c
   goal_on c = record {
-    insert = λ e. (insert_info old new stage h.sound h.words c e, insert_key_later old new stage h.sound h.words c e);
+    insert = λ e. (
+      insert_info old new stage h.sound h.words c e,
+      insert_key_later old new stage h.sound h.words c e,
+      insert_value_later old new stage h.sound h.words c e,
+    );
     delete = λ e. (delete_info old new stage h.sound h.words c e, delete_key_later old new stage h.sound h.words c e);
   }
 
@@ -58,7 +62,7 @@ module _ (old new : Words) (stage stages : Stages) (h : GoesOn old new stage sta
   -- its stage
   pub worker_on : (v : Worker)
       → ((op : Op) (x : ℕ) → v.operation ≡ Some op → v.search.node ≡ Some x → Born stage x
-      → LeadsTo new (key_of op) x ↔ LeadsTo old (key_of op) x)
+      → (value : ℕ) → LeadsToValue new (key_of op) value x ↔ LeadsToValue old (key_of op) value x)
       → ((op : Op) (c : ℕ) → v.operation ≡ Some op → v.card ≡ Some c → v.flagged ≡ false → Unflagged old stage v op c
       → stages c ≡ stage c)
       → WorkerIsSound old stage v → WorkerIsSound new stages v

@@ -10,13 +10,13 @@ use Rattle.ell_core.specs.state.Facts.{Knowledge, learned}
 use Rattle.ell_core.specs.state.Machine.{Machine, Scene, scene, with_scene}
 use Rattle.ell_core.specs.acts.Exchanges.{knowing, IChild}
 use Rattle.ell_core.specs.history.Stages.{Stages, IFlagged, IChanged, is_changed}
-use Rattle.ell_core.specs.history.Invariant.{LeadsTo, insert_key, WordsAreSound, Invariant}
+use Rattle.ell_core.specs.history.Invariant.{LeadsTo, LeadsToValue, insert_key, insert_value, WordsAreSound, Invariant}
 use Rattle.ell_core.specs.history.Later.{Follows, Keeps, wins_of}
 use Rattle.ell_core.proofs.words.Writes.{put_same}
 use Rattle.ell_core.proofs.stages.Order.{waits_or_changed}
 use Rattle.ell_core.proofs.keeping.Learning.{KnowsAllowed, learns_fact, takes_on_knowing, follows_knowing}
 use Rattle.ell_core.proofs.keeping.OneWorker.{keeps_worker}
-use Rattle.ell_core.proofs.keeping.insert_child.Tree.{ichild_words, its_child, keys_after, key_absent}
+use Rattle.ell_core.proofs.keeping.insert_child.Tree.{ichild_words, its_child, pairs_after, key_absent}
 use Rattle.ell_core.proofs.keeping.insert_child.Cards.{ichild_stages, stages_after, words_after, unborn_says}
 use Rattle.ell_core.proofs.keeping.insert_child.Words.{sound_after}
 use Rattle.ell_core.proofs.keeping.insert_child.Workers.{ichild_machine, workers_after}
@@ -111,26 +111,26 @@ ichild_won-waits m stage i c becomes sound row = elim (waits_or_made m stage i s
   | inr changed ↦ (let clash : Won ≡ Lost = (lost_changed m stage i sound c changed Won becomes row).0 in absurd (cc))
 ]
 
--- what a child exchange that is won does to the keys of the tree: the card's key was absent, and comes to them
-pub record GainsKey (old new : Words) (k : ℕ) : Type 0 where
+-- what a child exchange that is won does to the keys of the tree: the card's key was absent, and comes to them with its value
+pub record GainsKey (old new : Words) (k value : ℕ) : Type 0 where
   pub absent : ¬ LeadsTo old k 0
-  pub keys : (j : ℕ) → LeadsTo new j 0 ↔ (LeadsTo old j 0 ⊎ (j ≡ k))
+  pub pairs : (j v : ℕ) → LeadsToValue new j v 0 ↔ (LeadsToValue old j v 0 ⊎ ((j ≡ k) × (v ≡ value)))
 
 -- where the card waits, the child exchange brings its key into the tree, and no other
 pub ichild_gains : (w : Words) (stage : Stages) (sound : WordsAreSound w stage) (c : ℕ) → stage c ≡ IFlagged
-    → GainsKey w (ichild_words w c) (insert_key w c)
+    → GainsKey w (ichild_words w c) (insert_key w c) (insert_value w c)
 ichild_gains w stage sound c flagged = record {
   absent = key_absent w stage sound c flagged;
-  keys = keys_after w stage sound c flagged;
+  pairs = pairs_after w stage sound c flagged;
 }
 
 -- so does each one that is won
 pub ichild_won-gains : (m : Machine) (stage : Stages) (i c : ℕ) (becomes : Scene) → Invariant m stage
-    → IChild c (scene m i) Won becomes → GainsKey m.words becomes.words (insert_key m.words c)
+    → IChild c (scene m i) Won becomes → GainsKey m.words becomes.words (insert_key m.words c) (insert_value m.words c)
 ichild_won-gains m stage i c becomes sound row =
     let flagged = ichild_won-waits m stage i c becomes sound row in
     let gives = (won_waiting m stage i sound c flagged Won becomes row).1 in
-    subst (λ s. GainsKey m.words s.words (insert_key m.words c)) (sym gives)
+    subst (λ s. GainsKey m.words s.words (insert_key m.words c) (insert_value m.words c)) (sym gives)
     (ichild_gains m.words stage sound.words c flagged)
 
 -- one that is lost changes no word

@@ -1,15 +1,16 @@
 use Rattle.std.proofs.Common.{◌≡◌, ◌≢◌, ℕ, ◌<◌, ◌≤◌, ◌==◌, ◌↔◌, if◌then◌else◌, Bool, true, false, nat_le, inl, inr, ◌⊎◌, refl, sym, ap, ◌∙◌, subst, arith}
-use Rattle.std.proofs.lemmas.Bool.{cases_eq, false≢true}
+use Rattle.std.proofs.lemmas.Bool.{cases_eq, false≢true, eq-eqb, ne_eqb}
 use Rattle.std.proofs.lemmas.Bool.Decides.{nat_tests}
 use Rattle.ell_word.specs.Node.{IsInternal, card, internal, left_leaf, right_leaf}
 use Rattle.ell_core.specs.state.Words.{Words, with_child}
 use Rattle.ell_core.specs.state.Cards.{iflag, marked, is_right}
 use Rattle.ell_core.specs.tree.Ranges.{Spans, goes, IsOrdered, Relinked, low_of, high_of}
 use Rattle.ell_core.specs.history.Stages.{Stages, IFlagged, is_insert, is_born, insert_open, insert_waits, Born}
-use Rattle.ell_core.specs.history.Invariant.{top, IsIn, IsOut, LeadsTo, IsOnCourse, insert_key, insert_side, InsertCard, Unborn, WordsAreSound}
+use Rattle.ell_core.specs.history.Invariant.{top, IsIn, IsOut, LeadsTo, LeadsToValue, IsOnCourse, insert_key, insert_value, insert_side, InsertCard, Unborn, WordsAreSound}
 use Rattle.ell_core.proofs.words.Later.{child_there, child_elsewhere}
 use Rattle.ell_core.proofs.tree.Bounds.{side_within}
 use Rattle.ell_core.proofs.tree.OneRange.{unique}
+use Rattle.ell_core.proofs.tree.Reached.{leads_any, one_value}
 use Rattle.ell_core.proofs.tree.Inserts.{Inserts, Spans-stays, IsOrdered-insert, Meets-inserted, Meets-before, Meets-new, absent_before}
 use Rattle.ell_core.proofs.tree.Courses.{OnCourse-range, OnCourse-insert, stays_out}
 
@@ -221,25 +222,50 @@ module _ (w : Words) (stage : Stages) (sound : WordsAreSound w stage) (c : ℕ) 
         spans = goes (insert_side w c) place.spans its_card.parent.inner (sym its_relinks.there) refl refl;
       }
 
-  -- every other key is met as before
-  pub leads_still : (k x : ℕ) → k ≢ insert_key w c → LeadsTo w k x → LeadsTo (ichild_words w c) k x
-  leads_still k x other leads =
+  -- a leaf of the card that has the old leaf's key has its value
+  copy_value : (right : Bool) → w.key (w.child (internal c) right) ≡ w.key (w.l c) → w.value (w.child (internal c) right) ≡ w.value (w.l c)
+  copy_value false same = ap w.value its_nodes.left ∙ elim its_card.copy [
+    | inl copy ↦ copy.value
+    | inr copy ↦ (let less = its_card.ordered in let at = ap w.key its_nodes.left in let has = copy.key in absurd (omega arith))
+  ]
+  copy_value true same = ap w.value its_nodes.right ∙ elim its_card.copy [
+    | inl copy ↦ (let less = its_card.ordered in let at = ap w.key its_nodes.right in let has = copy.key in absurd (omega arith))
+    | inr copy ↦ copy.value
+  ]
+
+  -- and the one that has the card's key has the card's value
+  new_value : (right : Bool) → w.key (w.child (internal c) right) ≡ insert_key w c → w.value (w.child (internal c) right) ≡ insert_value w c
+  new_value false same = ap w.value its_nodes.left ∙ sym (ap (λ t. if t then w.value (right_leaf c) else w.value (left_leaf c))
+      (ne_eqb (w.key (left_leaf c)) (w.key (w.l c)) (λ e. key_differs (sym e ∙ (sym (ap w.key its_nodes.left) ∙ same)))))
+  new_value true same = ap w.value its_nodes.right ∙ sym (ap (λ t. if t then w.value (right_leaf c) else w.value (left_leaf c)) (elim its_keys [
+    | inl h ↦ eq-eqb (w.key (left_leaf c)) (w.key (w.l c)) h.0
+    | inr h ↦ (let at = ap w.key its_nodes.right in let n = key_differs in absurd (n (sym h.1 ∙ (sym at ∙ same))))
+  ]))
+
+  copies : (value : ℕ) (right : Bool) → w.key (w.child (internal c) right) ≡ w.key (w.l c)
+      → (w.value (w.child (internal c) right) ≡ value) ↔ (w.value (w.l c) ≡ value)
+  copies value right same = (λ e. sym (copy_value right same) ∙ e, λ e. copy_value right same ∙ e)
+
+  -- every other key is met as before, with its value
+  pub leads_still : (k value x : ℕ) → k ≢ insert_key w c → LeadsToValue w k value x → LeadsToValue (ichild_words w c) k value x
+  leads_still k value x other leads =
       Meets-inserted w.key w.child (ichild_words w c).child top (w.p c) (insert_side w c) (w.l c) (internal c)
-      (insert_key w c) its_shape k other leads
+      (insert_key w c) its_shape (copies value) k other leads
 
   -- and no further one
-  pub led_before : (k x : ℕ) → k ≢ insert_key w c → LeadsTo (ichild_words w c) k x → LeadsTo w k x
-  led_before k x other leads =
+  pub led_before : (k value x : ℕ) → k ≢ insert_key w c → LeadsToValue (ichild_words w c) k value x → LeadsToValue w k value x
+  led_before k value x other leads =
       Meets-before w.key w.child (ichild_words w c).child top (w.p c) (insert_side w c) (w.l c) (internal c)
-      (insert_key w c) its_shape k other leads
+      (insert_key w c) its_shape (copies value) k other leads
 
-  -- the card's key is in the tree afterwards
-  pub key_gained : LeadsTo (ichild_words w c) (insert_key w c) 0
+  -- the card's key is in the tree afterwards, with the card's value
+  pub key_gained : LeadsToValue (ichild_words w c) (insert_key w c) (insert_value w c) 0
   key_gained =
       let there = parent_in in
       let range = key_range there.low there.high there.spans in
       Meets-new w.key w.child (ichild_words w c).child top (w.p c) (insert_side w c) (w.l c) (internal c)
       (insert_key w c) its_shape sound.tree.ordered there.low there.high there.spans its_card.parent.inner range.0 range.1
+      (new_value (nat_le (w.key (internal c)) (insert_key w c)) its_shape.new_key)
 
   -- and was not before
   pub key_absent : ¬ LeadsTo w (insert_key w c) 0
@@ -250,9 +276,19 @@ module _ (w : Words) (stage : Stages) (sound : WordsAreSound w stage) (c : ℕ) 
       (insert_key w c) its_shape sound.tree.ordered there.low there.high there.spans its_card.parent.inner
       range.0 range.1 key_differs
 
+  -- the card's key leads to the card's value alone
+  pub gained_only : (value : ℕ) → LeadsToValue (ichild_words w c) (insert_key w c) value 0 → value ≡ insert_value w c
+  gained_only value leads = one_value (ichild_words w c) (insert_key w c) value (insert_value w c) leads key_gained
+
   -- the keys of the tree afterwards are those before and the card's
-  pub keys_after : (k : ℕ) → LeadsTo (ichild_words w c) k 0 ↔ (LeadsTo w k 0 ⊎ (k ≡ insert_key w c))
-  keys_after k = elim (cases_eq k (insert_key w c)) [
-    | inl e ↦ (λ h. inr e, λ h. subst (λ z. LeadsTo (ichild_words w c) z 0) (sym e) key_gained)
-    | inr n ↦ (λ h. inl (led_before k 0 n h), λ h. elim h [ inl g ↦ leads_still k 0 n g | inr e ↦ absurd (n e) ])
+  pub pairs_after : (k v : ℕ) → LeadsToValue (ichild_words w c) k v 0 ↔ (LeadsToValue w k v 0 ⊎ ((k ≡ insert_key w c) × (v ≡ insert_value w c)))
+  pairs_after k v = elim (cases_eq k (insert_key w c)) [
+    | inl e ↦ (
+      λ h. inr (e, gained_only v (subst (λ z. LeadsToValue (ichild_words w c) z v 0) e h)),
+      λ h. elim h [
+        | inl g ↦ absurd (key_absent (leads_any w (insert_key w c) v 0 (subst (λ z. LeadsToValue w z v 0) e g)))
+        | inr f ↦ subst (λ z. LeadsToValue (ichild_words w c) z v 0) (sym e) (subst (λ u. LeadsToValue (ichild_words w c) (insert_key w c) u 0) (sym f.1) key_gained)
+      ],
+    )
+    | inr n ↦ (λ h. inl (led_before k v 0 n h), λ h. elim h [ inl g ↦ leads_still k v 0 n g | inr e ↦ absurd (n e.0) ])
   ]

@@ -7,6 +7,7 @@ use Rattle.ell_core.specs.state.Cards.{marked}
 use Rattle.ell_core.specs.tree.Tree.{infinity1, infinity2}
 use Rattle.ell_core.specs.history.Stages.{Stages, IFlagged, IChanged, is_claimed, is_born, insert_open, delete_open, is_marked, Born}
 use Rattle.ell_core.specs.history.Invariant.{IsIn, insert_key, insert_side, ChildrenAreSound, UpdateIsSound, TreeIsSound, WordsAreSound}
+use Rattle.ell_core.proofs.tree.Reached.{leads_any, leads_some}
 use Rattle.ell_core.proofs.words.Writes.{put_same, put_other}
 use Rattle.ell_core.proofs.keeping.insert_child.Tree.{ichild_words, its_card, its_nodes, its_child, its_relinks, in_after, node_in, ordered_after, leads_still}
 use Rattle.ell_core.proofs.keeping.insert_child.Cards.{ichild_stages, as_before, still, stages_after, words_after, child_other, card_after, insert_after, delete_after}
@@ -169,7 +170,8 @@ module _ (w : Words) (stage : Stages) (sound : WordsAreSound w stage) (c : ℕ) 
     right_key = sound.tree.right_key;
     last =
         let real = (its_card w stage sound c flagged).real in
-        leads_still w stage sound c flagged infinity1 0 (λ e. omega arith) sound.tree.last;
+        let there = leads_some w infinity1 sound.tree.last in
+        leads_any (ichild_words w c) infinity1 there.0 0 (leads_still w stage sound c flagged infinity1 there.0 0 (λ e. omega arith) there.1);
     there = there_after;
   }
 

@@ -1,4 +1,4 @@
-use Rattle.std.proofs.Common.{◌≡◌, ◌≢◌, ℕ, ◌↔◌, if◌then◌else◌, Bool, true, false, Some, None, inl, inr, refl, sym, ap, ◌∙◌, subst, arith}
+use Rattle.std.proofs.Common.{◌≡◌, ◌≢◌, ℕ, ◌↔◌, if◌then◌else◌, Bool, true, false, Option, Some, None, inl, inr, refl, sym, ap, ◌∙◌, subst, arith}
 use Rattle.ell_ops.specs.declared.op.Op.{Op}
 use Rattle.ell_ops.specs.declared.op.Op.TheVariants.{Find, Insert, Delete}
 use Rattle.ell_ops.specs.Meaning.{key_of}
@@ -23,13 +23,13 @@ use Rattle.ell_ops.specs.declared.reply.Reply.{Reply}
 use Rattle.ell_ops.specs.declared.reply.Reply.TheVariants.{Yes}
 
 -- an answer at a leaf leaves the ledger
-pub leaf_answer-ledger : (op : Op) (has : Bool) (reply : Reply) (ledger : Ledger) → leaf_answer op has ≡ Some reply
+pub leaf_answer-ledger : (op : Op) (there : Option ℕ) (reply : Reply) (ledger : Ledger) → leaf_answer op there ≡ Some reply
     → ledger_after op reply ledger ≡ ledger
-leaf_answer-ledger (Find k) has reply ledger e = refl
-leaf_answer-ledger (Insert k value) true reply ledger e = ap (λ b. ledger_after (Insert k value) b ledger) (sym (same_value refl e))
-leaf_answer-ledger (Insert k value) false reply ledger e = absurd (some_not_none e refl)
-leaf_answer-ledger (Delete k) true reply ledger e = absurd (some_not_none e refl)
-leaf_answer-ledger (Delete k) false reply ledger e = ap (λ b. ledger_after (Delete k) b ledger) (sym (same_value refl e))
+leaf_answer-ledger (Find k) there reply ledger e = refl
+leaf_answer-ledger (Insert k value) (Some v) reply ledger e = ap (λ b. ledger_after (Insert k value) b ledger) (sym (same_value refl e))
+leaf_answer-ledger (Insert k value) None reply ledger e = absurd (some_not_none e refl)
+leaf_answer-ledger (Delete k) (Some v) reply ledger e = absurd (some_not_none e refl)
+leaf_answer-ledger (Delete k) None reply ledger e = ap (λ b. ledger_after (Delete k) b ledger) (sym (same_value refl e))
 
 -- an option that a test gives or not: the test was met, and this is what it gives
 pub gives_if : (test : Bool) (reply : Reply) → (if test then Some Yes else None) ≡ Some reply → (test ≡ true) × (reply ≡ Yes)
@@ -37,16 +37,16 @@ gives_if true reply e = (refl, sym (same_value refl e))
 gives_if false reply e = absurd (some_not_none e refl)
 
 -- a card that may be answered by is over, and made its key what the answer makes it
-pub record IsOver (s : Stage) (made : Entry) : Type 0 where
-  pub made_it : made_of s ≡ Some made
+pub record IsOver (op : Op) (s : Stage) (made : Entry) : Type 0 where
+  pub made_it : made_of op s ≡ Some made
   pub no_insert : insert_open s ≡ false
   pub no_delete : delete_open s ≡ false
 
-insert_is_over : (s : Stage) → insert_over s ≡ true → IsOver s Present
-insert_is_over s h = record { made_it = grind arith; no_insert = grind arith; no_delete = grind arith }
+insert_is_over : (k value : ℕ) (s : Stage) → insert_over s ≡ true → IsOver (Insert k value) s (Present value)
+insert_is_over k value s h = record { made_it = grind arith; no_insert = grind arith; no_delete = grind arith }
 
-delete_is_over : (s : Stage) → delete_over s ≡ true → IsOver s Absent
-delete_is_over s h = record { made_it = grind arith; no_insert = grind arith; no_delete = grind arith }
+delete_is_over : (k : ℕ) (s : Stage) → delete_over s ≡ true → IsOver (Delete k) s Absent
+delete_is_over k s h = record { made_it = grind arith; no_insert = grind arith; no_delete = grind arith }
 
 -- the effective ledger of a worker with a flagged card in hand
 staged_in_hand : (stage : Stages) (v : Worker) (op : Op) (c : ℕ) → v.operation ≡ Some op → v.card ≡ Some c → v.flagged ≡ true
@@ -57,7 +57,7 @@ staged_in_hand stage v op c busy holds flagged =
     ∙ ap (staged_of stage v.ledger (Some op) (Some c)) flagged)
 
 module _ (stage : Stages) (v : Worker) (op : Op) (c : ℕ) (made : Entry) (busy : v.operation ≡ Some op)
-    (holds : v.card ≡ Some c) (flagged : v.flagged ≡ true) (over : IsOver (stage c) made) (owns : Owns v (key_of op)) where
+    (holds : v.card ≡ Some c) (flagged : v.flagged ≡ true) (over : IsOver op (stage c) made) (owns : Owns v (key_of op)) where
   -- the ledger after an answer by a card that is over
   abbrev ledger : Ledger
   ledger = put v.ledger (key_of op) (Some made)
@@ -89,11 +89,11 @@ drops_by_card stage v (Find k) c reply facts busy holds flagged owns e = absurd 
 drops_by_card stage v (Insert k value) c reply facts busy holds flagged owns e =
     let g = gives_if (v.knows (fact.IOver c)) reply e in
     subst (λ b. MayDrop stage v (ledger_after (Insert k value) b v.ledger)) (sym g.1)
-    (drops_over stage v (Insert k value) c Present busy holds flagged (insert_is_over (stage c) (facts (fact.IOver c) g.0)) owns)
+    (drops_over stage v (Insert k value) c (Present value) busy holds flagged (insert_is_over k value (stage c) (facts (fact.IOver c) g.0)) owns)
 drops_by_card stage v (Delete k) c reply facts busy holds flagged owns e =
     let g = gives_if (v.knows (fact.DOver c)) reply e in
     subst (λ b. MayDrop stage v (ledger_after (Delete k) b v.ledger)) (sym g.1)
-    (drops_over stage v (Delete k) c Absent busy holds flagged (delete_is_over (stage c) (facts (fact.DOver c) g.0)) owns)
+    (drops_over stage v (Delete k) c Absent busy holds flagged (delete_is_over k (stage c) (facts (fact.DOver c) g.0)) owns)
 
 module _ (m : Machine) (stage : Stages) (i : ℕ) (sound : Invariant m stage) (op : Op) (reply : Reply)
     (busy : (m.worker i).operation ≡ Some op) where

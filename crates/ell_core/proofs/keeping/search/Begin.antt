@@ -30,7 +30,7 @@ pub drops_backed : (stage : Stages) (v : Worker)
 drops_backed stage v h = record {
   owns = λ k. (λ o. o, λ o. o);
   counts = λ k. ap (λ f. f k)
-      (counts_unmade stage v (λ c e f. backed_made (stage c) (h c e f)));
+      (counts_unmade stage v (λ op c b e f. backed_made op (stage c) (h c e f)));
   inserts = λ c hand. backed_insert (stage c) (h c hand.holds hand.flagged);
   deletes = λ c hand. backed_delete (stage c) (h c hand.holds hand.flagged);
 }
@@ -73,7 +73,7 @@ module _ (m : Machine) (stage : Stages) (i : ℕ) (sound : Invariant m stage) wh
   stands_at_root op owns may = record {
     born = ap is_born sound.words.opening;
     read = λ word e. absurd (some_not_none e refl);
-    leads = (let present = sound.workers.present i (key_of op) owns in
+    leads = λ value. (let present = sound.workers.present i (key_of op) value owns in
         (λ l. sym (may.counts (key_of op)) ∙ present.0 l, λ e. present.1 (may.counts (key_of op) ∙ e)));
     course = OnCourse-start m.words.key m.words.child top sound.words.tree.ordered (key_of op) below_top;
     parent = λ seen e. absurd (some_not_none e refl);

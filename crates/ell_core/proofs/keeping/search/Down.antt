@@ -92,9 +92,9 @@ module _ (w : Words) (stage : Stages) (words : WordsAreSound w stage) (v : Worke
   stands_down = record {
     born = children.born (is_right w seen.node k);
     read = λ word e. absurd (some_not_none e refl);
-    leads = (
-      λ l. stood.leads.0 (below inner refl l),
-      λ e. below_of w.key w.child top words.tree.ordered inner refl (stood.leads.1 e),
+    leads = λ value. (
+      λ l. (stood.leads value).0 (below inner refl l),
+      λ e. below_of w.key w.child top words.tree.ordered inner refl ((stood.leads value).1 e),
     );
     course = OnCourse-down w.key w.child top words.tree.ordered stood.course inner;
     parent = λ other e. subst (λ s. SeenIsSound w stage k s child × IsOnCourse w k s.node) (same_value refl e)

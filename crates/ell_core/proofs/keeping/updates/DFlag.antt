@@ -55,8 +55,8 @@ module _ (m : Machine) (stage : Stages) (i k c : ℕ) (grandparent : Seen) (ther
   seen_above = stand.grandparent hand.parent grandparent hand.behind above
 
   -- the key was present, since the leaf where it stands has it
-  present : (m.worker i).ledger k ≡ Some Present
-  present = stand.leads.0 (at_leaf said.leaf.outer hand.own)
+  present : (value : ℕ) × ((m.worker i).ledger k ≡ Some (Present value))
+  present = let value = m.words.value (m.words.l c) in (value, (stand.leads value).0 (at_leaf said.leaf.outer hand.own refl))
 
   module _ (won : m.words.update grandparent.node ≡ grandparent.word) where
     -- the words after the flag

@@ -90,7 +90,7 @@ module _ (m : Machine) (stage : Stages) (i c : ℕ) (op : Op) (sound : Invariant
 
   -- worker i's effective ledger is its ledger
   pub unflagged_ledger : staged stage (m.worker i) ≡ (m.worker i).ledger
-  unflagged_ledger = counts_unmade stage (m.worker i) (λ d e f. absurd (not_flagged f))
+  unflagged_ledger = counts_unmade stage (m.worker i) (λ o d b e f. absurd (not_flagged f))
 
   module _ (fact : Fact) (x : ℕ) (place : IsInnerBorn stage x) where
     -- the worker where it lost the flag
@@ -112,7 +112,7 @@ module _ (m : Machine) (stage : Stages) (i c : ℕ) (op : Op) (sound : Invariant
     loser_takes = record {
       own = loser_sound;
       owns = λ k. (λ o. o, λ o. o);
-      counts = λ k o. ap (λ f. f k) (counts_unmade stage loser (λ d e f. absurd (false≢true f)) ∙ sym unflagged_ledger);
+      counts = λ k o. ap (λ f. f k) (counts_unmade stage loser (λ o d b e f. absurd (false≢true f)) ∙ sym unflagged_ledger);
       inserts = λ d e had. absurd (not_flagged had.flagged);
       deletes = λ d e had. absurd (not_flagged had.flagged);
     }
@@ -123,7 +123,7 @@ module _ (m : Machine) (stage : Stages) (i c : ℕ) (op : Op) (sound : Invariant
     flag_loses a there none = follows_worker m stage a i Lost loser there sound none loser_takes
 
   module _ (fact : Fact) (x value found : ℕ) (new : Stage) (e : Exchange m.words stage x value c new)
-      (names : card_of_fact fact ≡ c) (told : allows fact new ≡ true) (unmade : made_of new ≡ None)
+      (names : card_of_fact fact ≡ c) (told : allows fact new ≡ true) (unmade : made_of op new ≡ None)
       (flag : Flagged (with_update m.words x value) (put stage c new)
       (flagged_worker (m.worker i) true fact found) op c) where
     -- the worker where it won the flag
@@ -152,7 +152,7 @@ module _ (m : Machine) (stage : Stages) (i c : ℕ) (op : Op) (sound : Invariant
     -- its card has made nothing of its key
     winner_ledger : staged (put stage c new) winner ≡ (m.worker i).ledger
     winner_ledger = counts_made (put stage c new) winner op c h.busy h.holds refl
-        ∙ ap (with_settled (m.worker i).ledger (key_of op)) (ap made_of (put_same stage c new) ∙ unmade)
+        ∙ ap (with_settled (m.worker i).ledger (key_of op)) (ap (made_of op) (put_same stage c new) ∙ unmade)
 
     new_worker : NewWorker m stage i x value c new winner
     new_worker = record {

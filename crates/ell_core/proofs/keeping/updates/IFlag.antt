@@ -39,15 +39,15 @@ other_of_two left right leaf less = elim (cases_eq left leaf) [
 ]
 
 -- an entry that is there and is not present is absent
-absent_entry : (entry : Option Entry) → entry ≢ None → entry ≢ Some Present → entry ≡ Some Absent
+absent_entry : (entry : Option Entry) → entry ≢ None → ((value : ℕ) → entry ≢ Some (Present value)) → entry ≡ Some Absent
 absent_entry None there unmade = absurd (there refl)
-absent_entry (Some Present) there unmade = absurd (unmade refl)
+absent_entry (Some (Present value)) there unmade = absurd (unmade value refl)
 absent_entry (Some Absent) there unmade = refl
 
 module _ (m : Machine) (stage : Stages) (i k value c : ℕ) (parent : Seen) (there : i < m.count) (sound : Invariant m stage)
     (h : HoldsCard m i c (Insert k value)) (behind : (m.worker i).search.parent ≡ Some parent) where
   -- what the worker's search saw on its way to the leaf
-  hand : InsertInHand m.words stage (m.worker i) k c
+  hand : InsertInHand m.words stage (m.worker i) k value c
   hand = hand_of m stage i c (Insert k value) sound h
 
   same_parent : hand.parent ≡ parent
@@ -75,8 +75,8 @@ module _ (m : Machine) (stage : Stages) (i k value c : ℕ) (parent : Seen) (the
   -- the key was absent, since the leaf where it stands has another one
   absent : (m.worker i).ledger k ≡ Some Absent
   absent = absent_entry ((m.worker i).ledger k) ((sound.workers.each i).owned (Insert k value) h.busy)
-      (λ e. other_of_two (m.words.key (left_leaf c)) (m.words.key (right_leaf c)) (m.words.key (m.words.l c)) said.ordered
-      (hand.own ∙ sym (leaf_key m.words.key m.words.child k (m.words.l c) said.leaf.outer (stand.leads.1 e))))
+      (λ v e. other_of_two (m.words.key (left_leaf c)) (m.words.key (right_leaf c)) (m.words.key (m.words.l c)) said.ordered
+      (hand.own ∙ sym (leaf_key m.words.key m.words.child k (m.words.l c) said.leaf.outer ((stand.leads v).1 e))))
 
   module _ (won : m.words.update parent.node ≡ parent.word) where
     -- the parent's word was clean, and is the card's flag
@@ -138,7 +138,7 @@ module _ (m : Machine) (stage : Stages) (i k value c : ℕ) (parent : Seen) (the
     }))
     wins = flag_wins m stage i c (Insert k value) sound h (fact.IFlagged c) parent.node (iflag c)
         (m.words.update parent.node) IFlagged exchange
-        refl refl refl (ap insert_won (put_same stage c IFlagged), hand.own, absent) act.IFlag kind.IFlag there new_word
+        refl refl refl (ap insert_won (put_same stage c IFlagged), hand.own, hand.own_value, absent) act.IFlag kind.IFlag there new_word
         (ap (λ s. wins_of s ++ kind.IFlag ∷ []) (sym at)) (λ d. refl)
 
   -- iflag, by its row

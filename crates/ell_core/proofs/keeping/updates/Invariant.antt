@@ -61,7 +61,7 @@ module _ (m : Machine) (stage : Stages) (i x value c : ℕ) (new : Stage) (v : W
   becomes : i < m.count → Invariant m stage → Becomes m stage i (with_update m.words x value) (put stage c new) v
   becomes there old = record {
     there = there;
-    leads = λ k. (λ l. l, λ l. l);
+    leads = λ k held. (λ l. l, λ l. l);
     own = n.sound;
     others = λ j other. worker_later m.words stage x value c new e old.words (m.worker j) (n.others j other) (old.workers.each j);
     owns = λ k. (let same = ap (λ ledger. ledger k) n.ledger in (λ o none. o (same ∙ none), λ o none. o (sym same ∙ none)));

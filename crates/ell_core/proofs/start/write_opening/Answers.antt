@@ -6,7 +6,7 @@ use Rattle.ell_core.specs.state.Words.{words_of}
 use Rattle.ell_core.specs.state.Cards.{filled}
 use Rattle.ell_core.specs.declared.branch.Branch.{Branch}
 use Rattle.ell_core.specs.state.Branches.{branch_of}
-use Rattle.ell_core.specs.state.Opening.{start_leaf, branch_filling}
+use Rattle.ell_core.specs.state.Opening.{start_leaf, start_value, branch_filling}
 use Rattle.ell_core.proofs.opening.Branches.{branch_card, branch_holds, branch_within, cards_within}
 use Rattle.ell_core.proofs.opening.Growing.{begins, grows, grown_up}
 use Rattle.ell_core.proofs.start.write_opening.Goals as goal
@@ -63,9 +63,9 @@ loop-card-preserved c =
     let some : 0 < c.loop-card.card = omega arith in
     grows c.args.start.now c.loop-card.card (words_of c.loop-card.words) (words_of c.write_branch.new.words) some c.loop-card.invariant
     (c.write_branch.ensures
-    ∙ (ap (λ (b : Branch). filled (words_of c.loop-card.words) b.card (branch_filling (start_leaf c.args.start.now) b)) c.branch_of.ensures
+    ∙ (ap (λ (b : Branch). filled (words_of c.loop-card.words) b.card (branch_filling (start_leaf c.args.start.now) (start_value c.args.start.now) b)) c.branch_of.ensures
     ∙ ap (λ n. filled (words_of c.loop-card.words) n
-    (branch_filling (start_leaf c.args.start.now) (branch_of (length c.args.start.now + 1) c.loop-card.card)))
+    (branch_filling (start_leaf c.args.start.now) (start_value c.args.start.now) (branch_of (length c.args.start.now + 1) c.loop-card.card)))
     (branch_card (length c.args.start.now + 1) (omega arith) c.loop-card.card below)))
 
 pub returns : goal.returns

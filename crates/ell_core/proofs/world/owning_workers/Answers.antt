@@ -6,9 +6,8 @@ use Rattle.std.specs.List.{list_any}
 use Rattle.ell_core.specs.inside.Inside.{worker_in, worker_at}
 use Rattle.ell_core.proofs.opening.Faults.{HasKeys-more, FaultlessBefore-more, Faultless-all, stranger_first, repeat_first}
 use Rattle.ell_core.proofs.opening.Owners.{worker_at-push, owning, HaveLedgers, HaveLedgers-more}
-use Rattle.ell_core.proofs.opening.KeyLists.{search_tells}
 use Rattle.ell_core.proofs.world.owning_workers.Goals as goal
-use Rattle.ell_core.specs.state.Machine.{present_if}
+use Rattle.ell_core.specs.state.Machine.{entry_of}
 use Rattle.ell_core.specs.state.Opening.{start_entry}
 
 pub loop-init : goal.loop-init
@@ -63,8 +62,7 @@ loop-worker-preserved g c =
     let there = c.in-Some.ensures.variant.0 refl in
     let ok = c.loop-worker.workers.ok in
     let below : entry.0 < length workers = omega arith in
-    let present : c.present_if.result ≡ start_entry c.args.start.now entry.1 =
-    c.present_if.ensures ∙ ap present_if (c.is_ok.ensures.value ∙ search_tells c.args.start.now entry.1 c.binary_search.result c.requires c.binary_search.ensures.position) in
+    let present : c.of.result ≡ start_entry c.args.start.now entry.1 = c.of.ensures ∙ ap entry_of c.value_of.ensures in
     record {
       count = length-set workers entry.0 c.own.new.self ∙ h.count;
       ledgers = HaveLedgers-more workers c.args.start.now owned n c.in-Some.owner.now c.own.new.self within h.ledgers below c.in-Some.ensures.value

@@ -41,7 +41,7 @@ const BACKTRACKED: &[Line] = &[
     Has(2, Field::Update, 19),
     Does(1, &[Backtrack(3)], WON),
     Has(1, Field::Update, 15),
-    Lists(&[5, 6, 7]),
+    Lists(&[(5, 50), (6, 60), (7, 70)]),
     Searches(1, Again, 3),
     Does(1, &[Claim], MOVED),
     Does(1, &[DFlag], WON),
@@ -55,7 +55,7 @@ const BACKTRACKED: &[Line] = &[
     Does(1, &[Answer], YES),
     Does(0, &[IChild(4), IUnflag(4)], LOST),
     Does(0, &[Answer], YES),
-    Lists(&[5, 6]),
+    Lists(&[(5, 50), (6, 60)]),
 ];
 
 #[test]
@@ -80,7 +80,7 @@ const A_LATE_CHILD_EXCHANGE: &[Line] = &[
     Searches(1, Begin(Op::Find(7)), 1),
     Does(1, &[Upd], MOVED),
     Has(0, Field::Left, 3),
-    Lists(&[5]),
+    Lists(&[(5, 50)]),
     Does(1, &[DChild(2)], WON),
     Has(0, Field::Left, 5),
     Lists(&[]),

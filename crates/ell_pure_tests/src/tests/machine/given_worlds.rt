@@ -2,7 +2,7 @@
 ghost use Rattle.std.specs.Prelude.{IfOk};
 ghost use Rattle.ell_core.specs.inside.World.{machine_of};
 ghost use Rattle.ell_core.specs.tree.Tree.{IsLawful};
-ghost use Rattle.ell_core.specs.statements.StepLaws.{KeysChange};
+ghost use Rattle.ell_core.specs.statements.StepLaws.{PairsChange};
 
 use super::scripts::{FIVE_INSERTED, played};
 use ell_core::Act::Begin;
@@ -16,9 +16,9 @@ fn has_lawful_tree(world: &World)
     world.laws_hold();
 }
 
-// One event more in any world does to the keys of the tree what its act should.
+// One event more in any world does to the keys of the tree and their values what its act should.
 fn step_lawfully(world: &mut World, event: Event) -> Result<Stepped, CoreFault>
-    ensures { IfOk result (λ said. KeysChange event.act said (machine_of world.old).words (machine_of world.new).words) }
+    ensures { IfOk result (λ said. PairsChange event.act said (machine_of world.old).words (machine_of world.new).words) }
 {
     world.laws_hold();
     events_are_lawful();

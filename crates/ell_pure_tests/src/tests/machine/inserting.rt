@@ -1,6 +1,6 @@
 //! Two inserts that meet at the root, and the cards of inserts.
-use super::scripts::Line::{self, Does, Filled, Has, Lists, Next, Searches};
-use super::scripts::{FIVE_INSERTED, LOST, MOVED, NOT_NOW, WON, YES, played};
+use super::scripts::Line::{self, Does, Filled, Finds, Has, Lists, Next, Searches};
+use super::scripts::{FIVE_INSERTED, LOST, MOVED, NO, NOT_NOW, WON, YES, played};
 use ell_core::Act::{
     Again, Answer, Begin, Claim, DChild, DFlag, DUnflag, IChild, IFlag, IUnflag, Mark,
 };
@@ -20,7 +20,7 @@ const A_STALLED_INSERT: &[Line] = &[
     Has(0, Field::Left, 3),
     Does(1, &[IUnflag(1)], WON),
     Has(0, Field::Update, 7),
-    Lists(&[5]),
+    Lists(&[(5, 50)]),
     Searches(1, Again, 2),
     Does(1, &[Claim], MOVED),
     Has(1, Field::Update, 3),
@@ -31,10 +31,10 @@ const A_STALLED_INSERT: &[Line] = &[
     Has(1, Field::Left, 6),
     Has(1, Field::Update, 11),
     Does(1, &[Answer], YES),
-    Lists(&[5, 7]),
+    Lists(&[(5, 50), (7, 70)]),
     Does(0, &[IChild(1), IUnflag(1)], LOST),
     Does(0, &[Answer], YES),
-    Lists(&[5, 7]),
+    Lists(&[(5, 50), (7, 70)]),
 ];
 
 #[test]
@@ -63,7 +63,7 @@ const A_GREATER_KEY: &[Line] = &[
     Filled(2, [0, 3, 4, 0, 7, 7, 8, 3, 5, 7, 50, 70]),
     Does(0, &[IFlag, IChild(2), IUnflag(2)], WON),
     Does(0, &[Answer], YES),
-    Lists(&[5, 7]),
+    Lists(&[(5, 50), (7, 70)]),
 ];
 
 const A_LESSER_KEY: &[Line] = &[
@@ -72,7 +72,7 @@ const A_LESSER_KEY: &[Line] = &[
     Filled(2, [0, 3, 4, 0, 5, 7, 8, 3, 3, 5, 30, 50]),
     Does(0, &[IFlag, IChild(2), IUnflag(2)], WON),
     Does(0, &[Answer], YES),
-    Lists(&[3, 5]),
+    Lists(&[(3, 30), (5, 50)]),
 ];
 
 // 6 comes between the two, at leaf 7, the copy of 5's leaf; and then 5 goes, whose leaf is leaf 10, below nodes 6 and 9.
@@ -89,7 +89,7 @@ const A_COPY_OF_A_COPY: &[Line] = &[
     Does(0, &[Answer], YES),
     Has(2, Field::Left, 11),
     Has(3, Field::RightValue, 60),
-    Lists(&[6, 7]),
+    Lists(&[(6, 60), (7, 70)]),
 ];
 
 #[test]
@@ -98,6 +98,41 @@ fn a_leaf_is_copied_with_its_value(rt: HostRuntime) {
     let greater = [FIVE_INSERTED, A_GREATER_KEY, A_COPY_OF_A_COPY];
     played(&rt, 1, &owned, 4, &greater);
     played(&rt, 1, &owned, 4, &[FIVE_INSERTED, A_LESSER_KEY]);
+}
+
+// A second insert of 5 leaves its value, and one after a delete gives it another: first 52, and then 0.
+const OTHER_VALUES: &[Line] = &[
+    Finds(0, 5, 2, Some(50)),
+    Searches(0, Begin(Op::Insert(5, 51)), 2),
+    Does(0, &[Answer], NO),
+    Finds(0, 5, 2, Some(50)),
+    Lists(&[(5, 50)]),
+    Searches(0, Begin(Op::Delete(5)), 2),
+    Does(0, &[Claim], MOVED),
+    Does(0, &[DFlag, Mark(2), DChild(2), DUnflag(2)], WON),
+    Does(0, &[Answer], YES),
+    Finds(0, 5, 1, None),
+    Searches(0, Begin(Op::Insert(5, 52)), 1),
+    Does(0, &[Claim], MOVED),
+    Does(0, &[IFlag, IChild(3), IUnflag(3)], WON),
+    Does(0, &[Answer], YES),
+    Finds(0, 5, 2, Some(52)),
+    Lists(&[(5, 52)]),
+    Searches(0, Begin(Op::Delete(5)), 2),
+    Does(0, &[Claim], MOVED),
+    Does(0, &[DFlag, Mark(4), DChild(4), DUnflag(4)], WON),
+    Does(0, &[Answer], YES),
+    Searches(0, Begin(Op::Insert(5, 0)), 1),
+    Does(0, &[Claim], MOVED),
+    Does(0, &[IFlag, IChild(5), IUnflag(5)], WON),
+    Does(0, &[Answer], YES),
+    Finds(0, 5, 2, Some(0)),
+    Lists(&[(5, 0)]),
+];
+
+#[test]
+fn a_key_has_the_value_that_found_it_absent(rt: HostRuntime) {
+    played(&rt, 1, &[(0, 5)], 5, &[FIVE_INSERTED, OTHER_VALUES]);
 }
 
 const A_LOST_FLAG: &[Line] = &[

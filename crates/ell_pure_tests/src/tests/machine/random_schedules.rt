@@ -1,4 +1,4 @@
-//! A schedule of 100,000 pseudo-random events of 8 workers on 64 keys, beside a plain set and its values.
+//! A schedule of 100,000 pseudo-random events of 8 workers on 64 keys, beside a plain map.
 ghost use Rattle.std.specs.Prelude.{◌≡◌, ◌≤◌, ◌<◌};
 
 use super::scripts::{LOST, MOVED, WON, opened, show};
@@ -11,7 +11,7 @@ use ell_core::{Act, Event, Shown, Stepped, World, replay};
 use ell_ops::{NoMemory, Op, Reply, apply};
 use ell_test_gates::Dice;
 use ell_word::Kind;
-use std::collections::{BTreeMap, BTreeSet};
+use std::collections::BTreeMap;
 use std::process::Abort;
 
 const EVENTS: usize = 100_000;
@@ -47,28 +47,28 @@ fn eight_workers(rt: &(impl Abort + AllocGlobal)) -> World
     opened(rt, WORKERS as u32, &owned, CARDS).expect(rt, "an opening")
 }
 
-// What a schedule comes to by its answers: the set and the value of each key, the operations in hand, and how many answered yes.
+// What a schedule comes to by its answers: the map, the operations in hand, and how many of each kind answered yes or found a value.
 #[derive(Drop)]
 struct Plain {
-    set: BTreeSet<u64>,
-    values: BTreeMap<u64, u64>,
+    map: BTreeMap<u64, u64>,
     operations: BTreeMap<u32, Op>,
     inserted: u64,
     deleted: u64,
+    found: u64,
 }
 
 impl Plain {
     fn new(rt: &impl AllocGlobal) -> Plain {
         Plain {
-            set: BTreeSet::new(rt.alloc()),
-            values: BTreeMap::new(rt.alloc()),
+            map: BTreeMap::new(rt.alloc()),
             operations: BTreeMap::new(rt.alloc()),
             inserted: 0,
             deleted: 0,
+            found: 0,
         }
     }
 
-    // An answer is to be that of the set. A refusal changes nothing.
+    // An answer is to be that of the map. A refusal changes nothing.
     fn follow(&mut self, rt: &impl Abort, event: Event, shown: Shown) -> Result<(), NoMemory> {
         match (event.act, shown) {
             (Begin(op), MOVED) => {
@@ -82,27 +82,21 @@ impl Plain {
                     .operations
                     .remove(&event.worker)
                     .expect(rt, "an operation");
-                assert!(rt; said == apply(&mut self.set, op)?);
-                self.count(op, said)?;
+                assert!(rt; said == apply(&mut self.map, op)?);
+                self.count(op, said);
             }
             _ => {}
         }
         Ok(())
     }
 
-    fn count(&mut self, op: Op, said: Reply) -> Result<(), NoMemory> {
+    fn count(&mut self, op: Op, said: Reply) {
         match (op, said) {
-            (Op::Insert(key, value), Reply::Yes) => {
-                self.inserted = self.inserted.wrapping_add(1);
-                self.values.insert(key, value)?;
-            }
-            (Op::Delete(key), Reply::Yes) => {
-                self.deleted = self.deleted.wrapping_add(1);
-                self.values.remove(&key);
-            }
+            (Op::Insert(_, _), Reply::Yes) => self.inserted = self.inserted.wrapping_add(1),
+            (Op::Delete(_), Reply::Yes) => self.deleted = self.deleted.wrapping_add(1),
+            (Op::Find(_), Reply::Found(_)) => self.found = self.found.wrapping_add(1),
             _ => {}
         }
-        Ok(())
     }
 }
 
@@ -238,7 +232,7 @@ impl Schedule {
         if roll == 0 {
             return Op::Find(key);
         }
-        if self.plain.set.contains(&key) == (roll == 1) {
+        if self.plain.map.contains_key(&key) == (roll == 1) {
             Op::Insert(key, self.value())
         } else {
             Op::Delete(key)
@@ -305,21 +299,23 @@ fn is_rich(exchanges: &[(Kind, Shown)]) -> bool {
 }
 
 #[test]
-fn random_events_answer_as_a_set(rt: HostRuntime) {
+fn random_events_answer_as_a_map(rt: HostRuntime) {
     let mut schedule = Schedule::new(&rt);
     schedule.draw_all(&rt).expect(&rt, "a schedule");
     assert!(rt; is_rich(&schedule.exchanges));
     assert!(rt; schedule.plain.inserted >= 1000 && schedule.plain.deleted >= 1000);
+    assert!(rt; schedule.plain.found >= 10);
     assert!(rt; schedule.plain.operations.is_empty());
 
-    // Another world shows the same, and comes to the keys of the plain set and to their values.
+    // Another world shows the same, and comes to the pairs of the plain map.
     let mut world = eight_workers(&rt);
     let shown = replay(rt.alloc(), &mut world, &schedule.events).expect(&rt, "a replay");
     assert!(rt; shown == schedule.shown);
-    let keys = world.keys().expect(&rt, "keys");
-    assert!(rt; keys.iter().eq(schedule.plain.set.iter()));
+    let pairs = world.pairs().expect(&rt, "pairs");
+    let plain = schedule.plain.map.iter().map(|(key, value)| (*key, *value));
+    assert!(rt; pairs.iter().copied().eq(plain));
     for key in 0..KEYS {
-        let value = schedule.plain.values.get(&key).copied();
+        let value = schedule.plain.map.get(&key).copied();
         assert!(rt; value_in(&world, CARDS, key) == value, "key {key}");
     }
 }

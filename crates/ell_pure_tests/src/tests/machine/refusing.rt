@@ -30,7 +30,7 @@ const NO_CARD_LEFT: &[Line] = &[
     Does(0, &[Claim], NO_CARDS),
     Next(2),
     Does(0, &[Leave], MOVED),
-    Lists(&[5]),
+    Lists(&[(5, 50)]),
 ];
 
 #[test]

@@ -35,8 +35,8 @@ fn a_replay_goes_on_after_a_refusal(rt: HostRuntime) {
         assert!(rt; shown[at] == rows[at].1, "event {at}");
     }
     assert!(rt; world.next() == 3);
-    let keys = world.keys();
-    assert!(rt; keys.is_ok_and(|keys| keys.as_slice() == [5].as_slice()));
+    let pairs = world.pairs();
+    assert!(rt; pairs.is_ok_and(|pairs| pairs.as_slice() == [(5, 50)].as_slice()));
     let none = replay(rt.alloc(), &mut world, &[]);
     assert!(rt; none.is_ok_and(|shown| shown.is_empty()));
 }

@@ -1,9 +1,9 @@
-//! What a script is made of: events and what each is to show, and looks at words and keys.
+//! What a script is made of: events and what each is to show, and looks at words, keys and values.
 ghost use Rattle.std.specs.Prelude.{◌≡◌, ◌≤◌, IfOk};
 ghost use Rattle.ell_ops.specs.Meaning.{most_workers};
 ghost use Rattle.ell_word.specs.Node.{most_cards};
 
-use Line::{Does, Filled, Has, Lists, Next, Searches};
+use Line::{Does, Filled, Finds, Has, Lists, Next, Searches};
 use ell_core::Act::{Answer, Begin, Claim, Down, IChild, IFlag, IUnflag, Upd};
 use ell_core::{Act, CoreFault, Event, Field, Shown, Stepped, World};
 use ell_ops::{KEY_MAX, Op, Reply};
@@ -39,8 +39,10 @@ pub enum Line {
     /// The fields of the card have these words: Gp, P, L, Was, Key, Left, Right, Update, LeftLeafKey, RightLeafKey,
     /// LeftValue, RightValue.
     Filled(u64, [u64; 12]),
-    /// The tree has these keys.
-    Lists(&'static [u64]),
+    /// The worker looks for this key, goes down so many times, and finds this value, or that the key is absent.
+    Finds(u32, u64, u32, Option<u64>),
+    /// The tree has these keys with these values.
+    Lists(&'static [(u64, u64)]),
     /// This card is the next.
     Next(u64),
 }
@@ -109,9 +111,10 @@ fn holds(world: &mut World, cards: u64, line: Line) -> bool
     match line {
         Does(worker, acts, want) => does(world, worker, acts, want),
         Searches(worker, first, levels) => searches(world, worker, first, levels),
+        Finds(worker, key, levels, want) => finds(world, worker, key, levels, want),
         Has(card, field, want) => card <= cards && world.word(card, field) == want,
         Filled(card, wants) => card <= cards && is_filled(world, card, &wants),
-        Lists(want) => world.keys().is_ok_and(|keys| keys.as_slice() == want),
+        Lists(want) => world.pairs().is_ok_and(|pairs| pairs.as_slice() == want),
         Next(card) => world.next() == card,
     }
 }
@@ -139,6 +142,13 @@ fn searches(world: &mut World, worker: u32, first: Act, levels: u32) -> bool
         }
     }
     true
+}
+
+fn finds(world: &mut World, worker: u32, key: u64, levels: u32, want: Option<u64>) -> bool
+    ensures { world.new.last_card ≡ world.old.last_card }
+{
+    let said = Shown::Step(Stepped::Answered(Reply::found(want)));
+    searches(world, worker, Begin(Op::Find(key)), levels) && does(world, worker, &[Answer], said)
 }
 
 fn is_filled(world: &World, card: u64, wants: &[u64; 12]) -> bool

@@ -5,7 +5,7 @@ use ell_core::{
     told_by, update_word, value_field,
 };
 use ell_ops::Op;
-use ell_ops::Reply::{No, Yes};
+use ell_ops::Reply::{Found, No};
 use ell_word::{INF1, State};
 
 #[test]
@@ -93,15 +93,16 @@ fn a_card_is_filled_for_its_operation(rt: HostRuntime) {
 #[test]
 fn a_leaf_answers_where_nothing_is_to_do(rt: HostRuntime) {
     let rows = [
-        (Op::Find(5), true, Some(Yes)),
-        (Op::Find(5), false, Some(No)),
-        (Op::Insert(5, 50), true, Some(No)),
-        (Op::Insert(5, 50), false, None),
-        (Op::Delete(5), true, None),
-        (Op::Delete(5), false, Some(No)),
+        (Op::Find(5), Some(50), Some(Found(50))),
+        (Op::Find(5), Some(0), Some(Found(0))),
+        (Op::Find(5), None, Some(No)),
+        (Op::Insert(5, 51), Some(50), Some(No)),
+        (Op::Insert(5, 51), None, None),
+        (Op::Delete(5), Some(50), None),
+        (Op::Delete(5), None, Some(No)),
     ];
-    for row in 0..6 {
-        let (op, has, want) = rows[row];
-        assert!(rt; leaf_answer(op, has) == want, "row {row}");
+    for row in 0..7 {
+        let (op, there, want) = rows[row];
+        assert!(rt; leaf_answer(op, there) == want, "row {row}");
     }
 }

@@ -1,5 +1,5 @@
 use Rattle.std.proofs.Common.{ap, ap₂, subst, ◌∙◌}
-use Rattle.ell_ops.specs.KeySet.{Lists, set_of}
+use Rattle.ell_ops.specs.Contents.{ListsPairs, contents_of}
 use Rattle.ell_ops.specs.Meaning.{final, replies}
 use Rattle.ell_run.specs.Pieces.{numbered}
 use Rattle.ell_run.proofs.late.do_late.Goals as goal
@@ -9,10 +9,10 @@ returns-clause-piece g c =
     c.in_ok-with_positions.ensures
     ∙ ap (numbered c.args.late.now)
     (c.deref-3.ensures.value ∙ c.in_ok-replies.ensures.replies
-    ∙ ap₂ (λ keys ops. replies (set_of keys) ops) c.deref.ensures.value (c.deref-2.ensures.value ∙ c.in_ok-ops.ensures))
+    ∙ ap₂ (λ pairs ops. replies (contents_of pairs) ops) c.deref.ensures.value (c.deref-2.ensures.value ∙ c.in_ok-ops.ensures))
 
-pub returns-clause-keys : goal.returns-clause-keys
-returns-clause-keys g c =
-    subst (λ set. Lists set c.in_ok-replies.keys.items)
-    (ap₂ (λ keys ops. final (set_of keys) ops) c.deref.ensures.value (c.deref-2.ensures.value ∙ c.in_ok-ops.ensures))
-    c.in_ok-replies.ensures.keys
+pub returns-clause-pairs : goal.returns-clause-pairs
+returns-clause-pairs g c =
+    subst (λ there. ListsPairs there c.in_ok-replies.pairs.items)
+    (ap₂ (λ pairs ops. final (contents_of pairs) ops) c.deref.ensures.value (c.deref-2.ensures.value ∙ c.in_ok-ops.ensures))
+    c.in_ok-replies.ensures.pairs

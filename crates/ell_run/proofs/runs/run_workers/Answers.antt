@@ -1,5 +1,7 @@
 use Rattle.std.proofs.Common.{All, List, ℕ, map, true, sym, subst, ◌≤◌, ◌≡◌, ◌∙◌}
-use Rattle.ell_ops.specs.KeySet.{Lists, set_of}
+use Rattle.std.specs.Map.{keys_of as keys_in}
+use Rattle.ell_ops.specs.KeySet.{Lists, set_of, union}
+use Rattle.ell_ops.specs.Contents.{contents_of}
 use Rattle.ell_ops.specs.Meaning.{greatest_key}
 use Rattle.ell_parts.specs.Parting.{keys_of}
 use Rattle.ell_tree.specs.Ledgers.{Owns}
@@ -11,23 +13,27 @@ use Rattle.ell_tree.specs.Parts.{start_entry}
 pub reserve_from-requires-clause-real : goal.reserve_from-requires-clause-real
 reserve_from-requires-clause-real g c =
     let fits : List ℕ → Type 0 = All (λ key. key ≤ greatest_key) in
-    subst fits (sym c.deref-2.ensures.value)
-    (all_united c.args.start.now c.deref.result.now c.in_ok-keys.keys.items c.in_ok-keys.ensures (λ key. key ≤ greatest_key) c.requires.real
-    (subst fits (sym c.deref.ensures.value) (keys_fit c.args.parts.now.ops c.in_ok-used.used.items c.in_ok-used.ensures.keys c.requires.fits)))
+    subst fits (sym c.deref-3.ensures.value)
+    (all_united c.deref.result.now c.deref-2.result.now c.in_ok-keys.keys.items c.in_ok-keys.ensures (λ key. key ≤ greatest_key)
+    (subst fits (sym (c.deref.ensures.value ∙ c.in_ok-there.ensures)) c.requires.real)
+    (subst fits (sym c.deref-2.ensures.value) (keys_fit c.args.parts.now.ops c.in_ok-used.used.items c.in_ok-used.ensures.keys c.requires.fits)))
 
 pub reserve_from-requires-clause-given : goal.reserve_from-requires-clause-given
 reserve_from-requires-clause-given g c =
-    subst (λ keys. All (λ key. set_of keys key ≡ true) c.args.start.now) (sym c.deref-2.ensures.value)
-    (first_given c.args.start.now c.deref.result.now c.in_ok-keys.keys.items c.in_ok-keys.ensures)
+    subst (λ keys. All (λ key. set_of keys key ≡ true) (keys_in c.args.start.now)) (sym c.deref-3.ensures.value)
+    (subst (All (λ key. set_of c.in_ok-keys.keys.items key ≡ true)) (c.deref.ensures.value ∙ c.in_ok-there.ensures)
+    (first_given c.deref.result.now c.deref-2.result.now c.in_ok-keys.keys.items c.in_ok-keys.ensures))
 
 pub work_apart-requires-clause-keys : goal.work_apart-requires-clause-keys
-work_apart-requires-clause-keys g c = λ κs outlives. subst (Lists (keys_of c.args.parts.now.ops)) (sym c.deref-3.ensures.value) c.in_ok-used.ensures.keys
+work_apart-requires-clause-keys g c = λ κs outlives. subst (Lists (keys_of c.args.parts.now.ops)) (sym c.deref-4.ensures.value) c.in_ok-used.ensures.keys
 
 pub work_apart-requires-clause-owned : goal.work_apart-requires-clause-owned
 work_apart-requires-clause-owned g c = λ κs outlives.
-    subst (All (λ key. Owns c.in-Ok.made.1 key)) (c.deref.ensures.value ∙ sym c.deref-3.ensures.value)
-    (owns_used c.args.start.now c.deref.result.now c.in_ok-keys.keys.items c.in-Ok.made.0 c.in-Ok.made.1 c.in_ok-keys.ensures
-    (c.in-Ok.ensures.tree.0 ∙ c.deref-2.ensures.value) c.in-Ok.ensures.pass)
+    subst (All (λ key. Owns c.in-Ok.made.1 key)) (c.deref-2.ensures.value ∙ sym c.deref-4.ensures.value)
+    (owns_used c.args.start.now c.deref-2.result.now c.in_ok-keys.keys.items c.in-Ok.made.0 c.in-Ok.made.1
+    (subst (λ there. Lists (union (set_of there) (set_of c.deref-2.result.now)) c.in_ok-keys.keys.items)
+    (c.deref.ensures.value ∙ c.in_ok-there.ensures) c.in_ok-keys.ensures)
+    (c.in-Ok.ensures.tree.0 ∙ c.deref-3.ensures.value) c.in-Ok.ensures.pass)
 
 pub close-requires-clause-all : goal.close-requires-clause-all
 close-requires-clause-all g c =
@@ -35,6 +41,6 @@ close-requires-clause-all g c =
 
 pub returns-in-Ok-close : goal.returns-in-Ok-close
 returns-in-Ok-close g c =
-    left_behind (set_of c.args.start.now) c.in-Ok.made.0 c.args.limits.tries c.args.parts.now c.in-Ok.made.1 c.in_ok-pass.pass
-    (map (λ piece. piece.items) c.in_ok-pass.pieces.items) c.in-Ok-close.keys.items
-    c.in-Ok.ensures.pass.present c.in_ok-pass.ensures c.in-Ok-close.ensures.keys
+    left_behind (contents_of c.args.start.now) c.in-Ok.made.0 c.args.limits.tries c.args.parts.now c.in-Ok.made.1 c.in_ok-pass.pass
+    (map (λ piece. piece.items) c.in_ok-pass.pieces.items) c.in-Ok-close.pairs.items
+    c.in-Ok.ensures.pass.present c.in_ok-pass.ensures c.in-Ok-close.ensures.pairs

@@ -2,6 +2,7 @@
 use super::scenes::{Scene, play_scene};
 use crate::tests::tree::asking::Row;
 use ell_ops::Op::{self, Delete, Insert};
+use ell_ops::Reply::Yes;
 use ell_test_gates::{Counting, Holding, two_threads_meet};
 use ell_word::{Kind, NoGate, StepGate};
 use std::process::Abort;
@@ -15,9 +16,9 @@ use std::thread::Threads;
 //        /  \
 //       5    10
 const BEFORE: [Row; 3] = [
-    (Insert(5, 50), Ok(true)),
-    (Insert(20, 200), Ok(true)),
-    (Insert(10, 100), Ok(true)),
+    (Insert(5, 50), Ok(Yes)),
+    (Insert(20, 200), Ok(Yes)),
+    (Insert(10, 100), Ok(Yes)),
 ];
 
 // The kinds of step that a worker makes.
@@ -36,25 +37,40 @@ const KINDS: [Kind; 12] = [
     Kind::Backtrack,
 ];
 
-// What worker 0 does, which is held at its flag, and worker 1, which would meet that flag; and the keys at the end.
-static BEFORE_FLAGS: [(Kind, Op, Op, &[u64]); 7] = [
-    (Kind::DFlag, Delete(5), Insert(30, 300), &[10, 20, 30]),
-    (Kind::DFlag, Delete(5), Delete(20), &[10]),
-    (Kind::DFlag, Delete(5), Delete(10), &[20]),
+// What worker 0 does, which is held at its flag, and worker 1, which would meet that flag; and the keys at the end, with their values.
+static BEFORE_FLAGS: [(Kind, Op, Op, &[(u64, u64)]); 7] = [
+    (
+        Kind::DFlag,
+        Delete(5),
+        Insert(30, 300),
+        &[(10, 100), (20, 200), (30, 300)],
+    ),
+    (Kind::DFlag, Delete(5), Delete(20), &[(10, 100)]),
+    (Kind::DFlag, Delete(5), Delete(10), &[(20, 200)]),
     (
         Kind::IFlag,
         Insert(4, 40),
         Insert(7, 70),
-        &[4, 5, 7, 10, 20],
+        &[(4, 40), (5, 50), (7, 70), (10, 100), (20, 200)],
     ),
     (
         Kind::IFlag,
         Insert(4, 40),
         Insert(12, 120),
-        &[4, 5, 10, 12, 20],
+        &[(4, 40), (5, 50), (10, 100), (12, 120), (20, 200)],
     ),
-    (Kind::IFlag, Insert(4, 40), Delete(10), &[4, 5, 20]),
-    (Kind::IFlag, Insert(12, 120), Delete(10), &[5, 12, 20]),
+    (
+        Kind::IFlag,
+        Insert(4, 40),
+        Delete(10),
+        &[(4, 40), (5, 50), (20, 200)],
+    ),
+    (
+        Kind::IFlag,
+        Insert(12, 120),
+        Delete(10),
+        &[(5, 50), (12, 120), (20, 200)],
+    ),
 ];
 
 // Whether a gate was told of a worker what another gate was: as many steps of each kind.
@@ -84,7 +100,7 @@ fn a_worker_before_its_flag_is_in_nobodys_way(rt: HostRuntime) {
     if !two_threads_meet(&rt) {
         return;
     }
-    for (row, (flag, op, other, keys)) in BEFORE_FLAGS.iter().enumerate() {
+    for (row, (flag, op, other, pairs)) in BEFORE_FLAGS.iter().enumerate() {
         let alone = told_alone(&rt, *other);
         for at in [Kind::Fill, *flag] {
             let gate = Counting::new(rt.alloc(), 2, Holding::at(at)).expect(&rt, "memory");
@@ -95,7 +111,7 @@ fn a_worker_before_its_flag_is_in_nobodys_way(rt: HostRuntime) {
             };
             let left = play_scene(&rt, scene, &gate);
             assert!(rt;
-                gate.behind().has_held() && left.as_slice() == *keys,
+                gate.behind().has_held() && left.as_slice() == *pairs,
                 "row {row}"
             );
             assert!(rt; is_told_alike(&gate, &alone, 1), "row {row} at {at:?}");

@@ -2,6 +2,7 @@
 use super::scenes::{Changes, Scene, made, play_scene};
 use crate::tests::tree::asking::Row;
 use ell_ops::Op::{self, Delete, Find, Insert};
+use ell_ops::Reply::Yes;
 use ell_test_gates::{Counting, HoldingRow, four_threads_meet};
 use ell_word::Kind;
 
@@ -20,12 +21,12 @@ use ell_word::Kind;
 //        /  \
 //       5    10
 const BEFORE: [Row; 6] = [
-    (Insert(50, 500), Ok(true)),
-    (Insert(40, 400), Ok(true)),
-    (Insert(30, 300), Ok(true)),
-    (Insert(20, 200), Ok(true)),
-    (Insert(10, 100), Ok(true)),
-    (Insert(5, 50), Ok(true)),
+    (Insert(50, 500), Ok(Yes)),
+    (Insert(40, 400), Ok(Yes)),
+    (Insert(30, 300), Ok(Yes)),
+    (Insert(20, 200), Ok(Yes)),
+    (Insert(10, 100), Ok(Yes)),
+    (Insert(5, 50), Ok(Yes)),
 ];
 
 const OWNERS: [u32; 5] = [0, 1, 2, 3, 4];
@@ -48,13 +49,13 @@ const HELP_THREE_AND_DELETE: Changes = [1, 4, 2, 2, 2, 0, 0, 0];
 const HELP_TO_INSERT_AND_INSERT: Changes = [0, 2, 0, 0, 2, 1, 2, 2];
 
 // Where each worker but the last is held, what they do, what the last one held and the one that passes come to, and the keys at
-// the end.
+// the end, with their values.
 struct Chain {
     at: &'static [Kind],
     ops: &'static [Op],
     held: Changes,
     passing: Changes,
-    keys: &'static [u64],
+    pairs: &'static [(u64, u64)],
 }
 
 const THREE: Chain = Chain {
@@ -62,7 +63,7 @@ const THREE: Chain = Chain {
     ops: &[Delete(40), Delete(30), Delete(20), Insert(60, 600)],
     held: ONE_DELETE,
     passing: HELP_THREE_AND_INSERT,
-    keys: &[5, 10, 50, 60],
+    pairs: &[(5, 50), (10, 100), (50, 500), (60, 600)],
 };
 
 const TO_INSERT: Chain = Chain {
@@ -70,7 +71,14 @@ const TO_INSERT: Chain = Chain {
     ops: &[Delete(40), Delete(30), Insert(35, 350), Insert(60, 600)],
     held: ONE_INSERT,
     passing: HELP_TO_INSERT_AND_INSERT,
-    keys: &[5, 10, 20, 35, 50, 60],
+    pairs: &[
+        (5, 50),
+        (10, 100),
+        (20, 200),
+        (35, 350),
+        (50, 500),
+        (60, 600),
+    ],
 };
 
 static CHAINS: [Chain; 9] = [
@@ -78,7 +86,7 @@ static CHAINS: [Chain; 9] = [
         at: &[Kind::Mark, Kind::Mark],
         ops: &[Delete(40), Delete(30), Insert(60, 600)],
         passing: HELP_TWO_AND_INSERT,
-        keys: &[5, 10, 20, 50, 60],
+        pairs: &[(5, 50), (10, 100), (20, 200), (50, 500), (60, 600)],
         ..THREE
     },
     THREE,
@@ -93,14 +101,14 @@ static CHAINS: [Chain; 9] = [
     Chain {
         ops: &[Delete(40), Delete(30), Delete(20), Delete(50)],
         passing: HELP_THREE_AND_DELETE,
-        keys: &[5, 10],
+        pairs: &[(5, 50), (10, 100)],
         ..THREE
     },
     // It goes by all three.
     Chain {
         ops: &[Delete(40), Delete(30), Delete(20), Find(5)],
         passing: [0; 8],
-        keys: &[5, 10, 50],
+        pairs: &[(5, 50), (10, 100), (50, 500)],
         ..THREE
     },
     Chain {
@@ -113,7 +121,7 @@ static CHAINS: [Chain; 9] = [
             Insert(60, 600),
         ],
         passing: HELP_FOUR_AND_INSERT,
-        keys: &[5, 50, 60],
+        pairs: &[(5, 50), (50, 500), (60, 600)],
         ..THREE
     },
     TO_INSERT,
@@ -146,7 +154,7 @@ fn who_passes_finishes_a_chain_of_deletes(rt: HostRuntime) {
         };
         let left = play_scene(&rt, scene, &gate);
         assert!(rt;
-            gate.behind().has_held() && left.as_slice() == chain.keys,
+            gate.behind().has_held() && left.as_slice() == chain.pairs,
             "row {row}"
         );
         assert!(rt; made(&gate, held, &chain.passing), "row {row}");

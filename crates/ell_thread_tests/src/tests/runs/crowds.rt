@@ -25,12 +25,18 @@ const MEETINGS: [(Kind, u64, bool); 8] = [
     (Kind::DUnflag, 1, false),
 ];
 
-// What each worker does on a key of its own: an insert, a find and a delete, and then another insert.
+// What each worker does on a key of its own: an insert, a find and a delete, and then another insert, with
+// another value.
 fn crowd_ops(rt: &(impl Abort + AllocGlobal), workers: u32) -> Vec<Op> {
     let mut ops = Vec::new(rt.alloc());
     for worker in 0..workers {
         let key = worker as u64;
-        for op in [Insert(key, 0), Find(key), Delete(key), Insert(key, 0)] {
+        for op in [
+            Insert(key, key.wrapping_add(100)),
+            Find(key),
+            Delete(key),
+            Insert(key, key.wrapping_add(200)),
+        ] {
             ops.push(op).expect(rt, "memory");
         }
     }
@@ -54,9 +60,9 @@ fn stop_at<R: Threads + Abort + AllocGlobal + Sync>(
     let gate = Counting::new(rt.alloc(), workers, gathering).expect(rt, "memory");
     let ops = crowd_ops(rt, workers);
     let outcome = run_striped(rt, &ops, workers, CARDS, TRIES, &gate);
-    let (replies, keys) = apply_all(rt.alloc(), &ops).expect(rt, "memory");
+    let (replies, pairs) = apply_all(rt.alloc(), &ops).expect(rt, "memory");
     assert!(rt;
-        came_to(&outcome, &replies, &keys, 0),
+        came_to(&outcome, &replies, &pairs, 0),
         "{workers} workers at {kind:?}"
     );
     gate

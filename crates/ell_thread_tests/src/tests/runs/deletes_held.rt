@@ -2,6 +2,7 @@
 use super::scenes::{Changes, Scene, made, play_scene};
 use crate::tests::tree::asking::Row;
 use ell_ops::Op::{self, Delete, Find, Insert};
+use ell_ops::Reply::Yes;
 use ell_test_gates::{Counting, Holding, two_threads_meet};
 use ell_word::Kind;
 
@@ -13,9 +14,9 @@ use ell_word::Kind;
 //        /  \
 //       5    10
 const BEFORE: [Row; 3] = [
-    (Insert(5, 50), Ok(true)),
-    (Insert(20, 200), Ok(true)),
-    (Insert(10, 100), Ok(true)),
+    (Insert(5, 50), Ok(Yes)),
+    (Insert(20, 200), Ok(Yes)),
+    (Insert(10, 100), Ok(Yes)),
 ];
 
 // What workers come to: of deletes the flag, the mark, the child, the unflag and the flag taken back, of inserts the flag, the
@@ -37,8 +38,8 @@ const HELP_AND_DELETE: Changes = [1, 2, 2, 2, 0, 0, 0, 0];
 const HELP_MARKED_AND_INSERT: Changes = [0, 0, 1, 1, 0, 1, 1, 1];
 
 // Where worker 0 is held until the operation of worker 1 has ended, what worker 0 and worker 1 come to, and the keys at the
-// end.
-type Held = (Kind, Op, Changes, Changes, &'static [u64]);
+// end, with their values.
+type Held = (Kind, Op, Changes, Changes, &'static [(u64, u64)]);
 
 // A gate is told of a step just before it is made, won or lost. All that it is told of worker 1 is of the time when worker 0
 // was held: so what worker 1 did there, and worker 0 had not done yet, worker 1 has won, and worker 0 comes to it later and
@@ -50,59 +51,101 @@ static HELD: [Held; 14] = [
         Insert(30, 300),
         ONE_DELETE,
         HELP_AND_INSERT,
-        &[10, 20, 30],
+        &[(10, 100), (20, 200), (30, 300)],
     ),
-    (Kind::Mark, Delete(20), ONE_DELETE, HELP_AND_DELETE, &[10]),
-    (Kind::Mark, Delete(10), ONE_DELETE, HELP_AND_DELETE, &[20]),
-    (Kind::Mark, Find(20), ONE_DELETE, NOTHING, &[10, 20]),
+    (
+        Kind::Mark,
+        Delete(20),
+        ONE_DELETE,
+        HELP_AND_DELETE,
+        &[(10, 100)],
+    ),
+    (
+        Kind::Mark,
+        Delete(10),
+        ONE_DELETE,
+        HELP_AND_DELETE,
+        &[(20, 200)],
+    ),
+    (
+        Kind::Mark,
+        Find(20),
+        ONE_DELETE,
+        NOTHING,
+        &[(10, 100), (20, 200)],
+    ),
     // The parent is changed before it is marked.
     (
         Kind::Mark,
         Insert(7, 70),
         TWO_TRIES,
         ONE_INSERT,
-        &[7, 10, 20],
+        &[(7, 70), (10, 100), (20, 200)],
     ),
     (
         Kind::DChild,
         Insert(30, 300),
         ONE_DELETE,
         HELP_AND_INSERT,
-        &[10, 20, 30],
+        &[(10, 100), (20, 200), (30, 300)],
     ),
     (
         Kind::DChild,
         Insert(7, 70),
         ONE_DELETE,
         HELP_MARKED_AND_INSERT,
-        &[7, 10, 20],
+        &[(7, 70), (10, 100), (20, 200)],
     ),
-    (Kind::DChild, Delete(20), ONE_DELETE, HELP_AND_DELETE, &[10]),
-    (Kind::DChild, Delete(10), ONE_DELETE, HELP_AND_DELETE, &[20]),
-    (Kind::DChild, Find(10), ONE_DELETE, NOTHING, &[10, 20]),
+    (
+        Kind::DChild,
+        Delete(20),
+        ONE_DELETE,
+        HELP_AND_DELETE,
+        &[(10, 100)],
+    ),
+    (
+        Kind::DChild,
+        Delete(10),
+        ONE_DELETE,
+        HELP_AND_DELETE,
+        &[(20, 200)],
+    ),
+    (
+        Kind::DChild,
+        Find(10),
+        ONE_DELETE,
+        NOTHING,
+        &[(10, 100), (20, 200)],
+    ),
     // A helper can't see that the mark and the child are done: it loses both, and wins the unflag.
     (
         Kind::DUnflag,
         Insert(7, 70),
         ONE_DELETE,
         HELP_AND_INSERT,
-        &[7, 10, 20],
+        &[(7, 70), (10, 100), (20, 200)],
     ),
     (
         Kind::DUnflag,
         Delete(20),
         ONE_DELETE,
         HELP_AND_DELETE,
-        &[10],
+        &[(10, 100)],
     ),
     (
         Kind::DUnflag,
         Delete(10),
         ONE_DELETE,
         HELP_AND_DELETE,
-        &[20],
+        &[(20, 200)],
     ),
-    (Kind::DUnflag, Find(20), ONE_DELETE, NOTHING, &[10, 20]),
+    (
+        Kind::DUnflag,
+        Find(20),
+        ONE_DELETE,
+        NOTHING,
+        &[(10, 100), (20, 200)],
+    ),
 ];
 
 #[test]
@@ -110,7 +153,7 @@ fn who_changes_the_set_finishes_a_delete_that_is_held(rt: HostRuntime) {
     if !two_threads_meet(&rt) {
         return;
     }
-    for (row, (at, op, held, passing, keys)) in HELD.iter().enumerate() {
+    for (row, (at, op, held, passing, pairs)) in HELD.iter().enumerate() {
         let gate = Counting::new(rt.alloc(), 2, Holding::at(*at)).expect(&rt, "memory");
         let scene = Scene {
             before: &BEFORE,
@@ -119,7 +162,7 @@ fn who_changes_the_set_finishes_a_delete_that_is_held(rt: HostRuntime) {
         };
         let left = play_scene(&rt, scene, &gate);
         assert!(rt;
-            gate.behind().has_held() && left.as_slice() == *keys,
+            gate.behind().has_held() && left.as_slice() == *pairs,
             "row {row}"
         );
         assert!(rt; made(&gate, 1, passing), "worker 1 of row {row}");

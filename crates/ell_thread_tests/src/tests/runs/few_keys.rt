@@ -17,7 +17,7 @@ const MANY_CARDS: u64 = 20_000;
 
 const FEW_CARDS: u64 = 1_000;
 
-// Runs operations by a parting, which is to give the replies and keys of one thread: how many were late.
+// Runs operations by a parting, which is to give the replies, keys and values of one thread: how many were late.
 fn late_beside_one_thread<R: Threads + Abort + AllocGlobal + Sync>(
     rt: &R,
     ops: &[Op],
@@ -28,9 +28,9 @@ fn late_beside_one_thread<R: Threads + Abort + AllocGlobal + Sync>(
     requires { parts.now.ops ≡ ops.now }
 {
     let outcome = run_by(rt, ops, parts, cards, tries, &NoGate);
-    let (replies, keys) = apply_all(rt.alloc(), ops).expect(rt, "memory");
+    let (replies, pairs) = apply_all(rt.alloc(), ops).expect(rt, "memory");
     assert!(rt;
-        came_to(&outcome, &replies, &keys, outcome.late),
+        came_to(&outcome, &replies, &pairs, outcome.late),
         "{cards} cards, {tries} tries"
     );
     outcome.late

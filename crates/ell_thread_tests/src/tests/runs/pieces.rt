@@ -4,7 +4,7 @@ ghost use Rattle.ell_tree.specs.Ledgers.{IsIdle};
 
 use crate::tests::tree::asking::close;
 use ell_ops::Op::{self, Delete, Find, Insert};
-use ell_ops::Reply::{self, Yes};
+use ell_ops::Reply::{self, Found, Yes};
 use ell_parts::Parts;
 use ell_run::{Pass, Piece, Tree, work};
 use ell_test_gates::{Holding, two_threads_meet};
@@ -48,7 +48,7 @@ fn a_worker_leaves_what_is_held(rt: HostRuntime) {
     let (tree, pass) = Tree::reserve(rt.alloc(), &[5, 6], 1).expect(&rt, "tree");
     let (pass, pieces) = work_by(&rt, &tree, pass, &ops, &parts, 8, &NoGate);
     assert!(rt; pieces.len() == 1 && is_piece(&pieces, 0, &[(0, Yes)]));
-    assert!(rt; close(&rt, tree, pass, &[5, 6]).as_slice() == [5].as_slice());
+    assert!(rt; close(&rt, tree, pass, &[5, 6]).as_slice() == [(5, 50)].as_slice());
 }
 
 #[test]
@@ -60,13 +60,13 @@ fn each_worker_has_a_piece(rt: HostRuntime) {
     assert!(rt; pieces.len() == 64);
     for worker in 0..64 {
         let want: &[(usize, Reply)] = match worker {
-            2 => &[(0, Yes), (2, Yes)],
+            2 => &[(0, Yes), (2, Found(20))],
             3 => &[(1, Yes), (3, Yes)],
             _ => &[],
         };
         assert!(rt; is_piece(&pieces, worker, want), "of worker {worker}");
     }
-    assert!(rt; close(&rt, tree, pass, &[2, 3]).as_slice() == [2].as_slice());
+    assert!(rt; close(&rt, tree, pass, &[2, 3]).as_slice() == [(2, 20)].as_slice());
 }
 
 #[test]
@@ -84,6 +84,6 @@ fn workers_leave_their_pieces(rt: HostRuntime) {
     let ops = [Delete(5), Find(7)];
     let parts = Parts::by_owner(rt.alloc(), &ops, &[0, 1], 2).expect(&rt, "parts");
     let (pass, pieces) = work_by(&rt, &tree, pass, &ops, &parts, 8, &NoGate);
-    assert!(rt; is_piece(&pieces, 0, &[(0, Yes)]) && is_piece(&pieces, 1, &[(1, Yes)]));
-    assert!(rt; close(&rt, tree, pass, &[5, 7]).as_slice() == [7].as_slice());
+    assert!(rt; is_piece(&pieces, 0, &[(0, Yes)]) && is_piece(&pieces, 1, &[(1, Found(70))]));
+    assert!(rt; close(&rt, tree, pass, &[5, 7]).as_slice() == [(7, 70)].as_slice());
 }

@@ -1,6 +1,7 @@
 //! Operations, limits, and runs of the ones under the others.
 ghost use Rattle.std.specs.Prelude.{◌≡◌};
 ghost use Rattle.std.specs.List.Sorted.{IsStrictlyIncreasing};
+ghost use Rattle.std.specs.Map.{keys_of};
 ghost use Rattle.ell_run.specs.Limits.{AreLimits};
 
 use ell_ops::{KEY_MAX, Op, Reply};
@@ -49,18 +50,19 @@ pub fn run_by<R: Threads + Abort + AllocGlobal + Sync, G: StepGate + Sync>(
 /// The same from start keys, which are strictly ascending.
 pub fn run_from<R: Threads + Abort + AllocGlobal + Sync, G: StepGate + Sync>(
     rt: &R,
-    start: &[u64],
+    start: &[(u64, u64)],
     ops: &[Op],
     parts: &Parts<Global>,
     cards: u64,
     tries: u32,
     gate: &G,
 ) -> Outcome
-    requires ascending { IsStrictlyIncreasing start.now }
+    requires ascending { IsStrictlyIncreasing (keys_of start.now) }
     requires parted { parts.now.ops ≡ ops.now }
 {
     let limits = limits_of(rt, cards, tries);
-    assert!(rt; start.len() <= START_MAX && start.iter().all(|key| *key <= KEY_MAX));
+    assert!(rt; start.len() <= START_MAX);
+    assert!(rt; start.iter().map(|pair| pair.0).all(|key| key <= KEY_MAX));
     assert!(rt; ops.iter().all(|op| op.fits()));
     run(rt, rt.alloc(), start, ops, parts, limits, gate).expect(rt, "memory")
 }
@@ -92,7 +94,9 @@ pub fn run_striped<R: Threads + Abort + AllocGlobal + Sync, G: StepGate + Sync>(
     run_by(rt, ops, &parts, cards, tries, gate)
 }
 
-/// Whether a run came to these replies and keys, and did so many operations late.
-pub fn came_to(outcome: &Outcome, replies: &[Reply], keys: &[u64], late: usize) -> bool {
-    outcome.replies.as_slice() == replies && outcome.keys.as_slice() == keys && outcome.late == late
+/// Whether a run came to these replies and to these keys with their values, and did so many operations late.
+pub fn came_to(outcome: &Outcome, replies: &[Reply], pairs: &[(u64, u64)], late: usize) -> bool {
+    outcome.replies.as_slice() == replies
+        && outcome.pairs.as_slice() == pairs
+        && outcome.late == late
 }

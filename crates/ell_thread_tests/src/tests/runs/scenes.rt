@@ -36,24 +36,39 @@ pub struct Scene<'a> {
     pub owners: &'a [u32],
 }
 
-// How many operations of a worker were answered yes.
-fn yes_count(piece: &Piece) -> usize {
-    piece.iter().filter(|said| said.1 == Reply::Yes).count()
+// Whether a reply is that of an operation that does what it is for: a find, which finds the key with ten times the key as its
+// value, or a change that is made.
+fn is_done(op: Op, reply: Reply) -> bool {
+    match op {
+        Op::Find(key) => reply == Reply::Found(key.wrapping_mul(10)),
+        _ => reply == Reply::Yes,
+    }
 }
 
-/// Plays a scene, in which each operation of a worker is to answer yes: the keys at the end.
+// How many of the operations a worker was answered so.
+fn done_count(ops: &[Op], piece: &Piece) -> usize {
+    piece
+        .iter()
+        .filter(|(at, reply)| ops.get(*at).is_some_and(|op| is_done(*op, *reply)))
+        .count()
+}
+
+/// Plays a scene, in which each operation of a worker is to do what it is for: the keys at the end, with their values.
 pub fn play_scene<R: Threads + Abort + AllocGlobal + Sync, G: StepGate + Sync>(
     rt: &R,
     scene: Scene,
     gate: &G,
-) -> Vec<u64> {
+) -> Vec<(u64, u64)> {
     let keys = keys_below(rt, 64, &[0, 1, 2, 3]);
     let (tree, pass) = Tree::reserve(rt.alloc(), &keys, 64).expect(rt, "tree");
     let pass = play(rt, &tree, pass, 1, &NoGate, scene.before);
     let parts = Parts::by_owner(rt.alloc(), scene.ops, scene.owners, WORKERS).expect(rt, "parts");
     let (pass, pieces) = work_by(rt, &tree, pass, scene.ops, &parts, 8, gate);
-    let yes = pieces.iter().map(yes_count).fold(0, usize::wrapping_add);
-    assert!(rt; yes == scene.ops.len());
+    let done = pieces
+        .iter()
+        .map(|piece| done_count(scene.ops, piece))
+        .fold(0, usize::wrapping_add);
+    assert!(rt; done == scene.ops.len());
     close(rt, tree, pass, &keys)
 }
 

@@ -44,7 +44,10 @@ fn a_stalled_neighbour_holds_up_nobody(rt: HostRuntime) {
             gate.behind().has_held() && gate.behind().answered() == 1,
             "row {row}"
         );
-        assert!(rt; came_to(&outcome, &[Reply::Yes; 3], &[7], 0), "row {row}");
+        assert!(rt;
+            came_to(&outcome, &[Reply::Yes; 3], &[(7, 70)], 0),
+            "row {row}"
+        );
         assert!(rt;
             child_changes(&gate, 1) == helped.wrapping_add(1),
             "row {row}"
@@ -64,7 +67,7 @@ fn two_inserts_of_which_one_is_late<R: Threads + Abort + AllocGlobal + Sync>(
     let ops = [Insert(5, 50), Insert(7, 70)];
     let outcome = run_owned(rt, &ops, &[0, 1], 2, cards, tries, &gate);
     assert!(rt; gate.behind().has_held() && gate.behind().answered() == 0);
-    assert!(rt; came_to(&outcome, &[Reply::Yes; 2], &[5, 7], 1));
+    assert!(rt; came_to(&outcome, &[Reply::Yes; 2], &[(5, 50), (7, 70)], 1));
     gate
 }
 

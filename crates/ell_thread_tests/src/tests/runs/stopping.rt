@@ -1,7 +1,7 @@
 //! Workers that go by one that is held, with few cards or in a crowd: what is left is done, and nothing is lost.
 use super::running::run_owned;
 use ell_ops::Op::{self, Delete, Find, Insert};
-use ell_ops::Reply;
+use ell_ops::{Reply, apply_all};
 use ell_test_gates::{Counting, Holding, four_threads_meet, two_threads_meet};
 use ell_word::Kind;
 use std::process::Abort;
@@ -19,19 +19,20 @@ struct Stop<'a> {
     // How many operations of the others end with an answer, and how many operations are left.
     answered: u64,
     late: usize,
-    keys: &'a [u64],
+    pairs: &'a [(u64, u64)],
 }
 
-// Runs such a list, each operation of which is to answer yes: how often worker 0 takes a flag back.
+// Runs such a list, each operation of which is to answer as on one thread, and not no: how often worker 0 takes a flag back.
 fn run_stopped<R: Threads + Abort + AllocGlobal + Sync>(rt: &R, stop: Stop) -> u64 {
     let holding = Holding::until(stop.at, stop.ends);
     let gate = Counting::new(rt.alloc(), stop.workers, holding).expect(rt, "memory");
     let (ops, owners, workers) = (stop.ops, stop.owners, stop.workers);
     let outcome = run_owned(rt, ops, owners, workers, stop.cards, 1_000, &gate);
     assert!(rt; gate.behind().has_held() && gate.behind().answered() == stop.answered);
-    assert!(rt; outcome.replies.len() == ops.len());
+    let (replies, _pairs) = apply_all(rt.alloc(), ops).expect(rt, "memory");
+    assert!(rt; outcome.replies.as_slice() == replies.as_slice());
     assert!(rt; !outcome.replies.contains(&Reply::No));
-    assert!(rt; outcome.keys.as_slice() == stop.keys && outcome.late == stop.late);
+    assert!(rt; outcome.pairs.as_slice() == stop.pairs && outcome.late == stop.late);
     gate.count(0, Kind::Backtrack)
 }
 
@@ -52,7 +53,7 @@ const LOST_MARK: Stop = Stop {
     cards: 3,
     answered: 1,
     late: 3,
-    keys: &[7, 9],
+    pairs: &[(7, 70), (9, 90)],
 };
 
 #[test]
@@ -74,14 +75,14 @@ const CROWD: Stop = Stop {
         Delete(9),
         Insert(11, 110),
         Find(7),
-        Insert(5, 50),
+        Insert(5, 55),
     ],
     owners: &[0, 1, 2, 0, 2, 3, 1, 0],
     workers: 4,
     cards: 1_000,
     answered: 5,
     late: 0,
-    keys: &[5, 7, 11],
+    pairs: &[(5, 55), (7, 70), (11, 110)],
 };
 
 #[test]
@@ -103,7 +104,7 @@ const ONE_LEFT: Stop = Stop {
     cards: 2,
     answered: 1,
     late: 3,
-    keys: &[5, 7, 9],
+    pairs: &[(5, 50), (7, 70), (9, 90)],
 };
 
 const NONE_LEFT: Stop = Stop {
@@ -135,7 +136,7 @@ const GONE: Stop = Stop {
     cards: 1,
     answered: 1,
     late: 1,
-    keys: &[5, 7],
+    pairs: &[(5, 50), (7, 70)],
 };
 
 #[test]

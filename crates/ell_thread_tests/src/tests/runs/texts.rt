@@ -14,7 +14,14 @@ const SEVENS: &[u8] = b"insert 7\ninsert 7\ndelete 7\ndelete 7\n";
 
 const ONE_OF_64: &[u8] = b"insert 1\ninsert 65\nfind 1\n";
 
-const ROWS: [Row; 8] = [
+// In version 2: 3 and 5 are there first; a second insert leaves a value, and one behind a delete brings another.
+const WITH_VALUES: &[u8] =
+    b"version 2\nstart 3 33\nstart 5 18446744073709551615\nfind 5\ninsert 7 70\ninsert 3 30\nfind 3\nfind 7\ndelete 3\nfind 3\ninsert 3 30\nfind 3\n";
+
+const WITH_VALUES_ANSWER: &[u8] =
+    b"yes 18446744073709551615\nyes\nno\nyes 33\nyes 70\nyes\nno\nyes\nyes 30\nkeys 3\n3 30\n5 18446744073709551615\n7 70\n";
+
+const ROWS: [Row; 13] = [
     (b"", 4, Parting::Stripe, None, b"keys 0\n"),
     (EIGHT_KEYS, 4, Parting::Stripe, None, FOUR_LEFT),
     (EIGHT_KEYS, 1, Parting::Stripe, None, FOUR_LEFT),
@@ -34,6 +41,17 @@ const ROWS: [Row; 8] = [
         Parting::Stripe,
         None,
         b"yes\nyes\nyes\nkeys 2\n1\n65\n",
+    ),
+    (WITH_VALUES, 1, Parting::Stripe, None, WITH_VALUES_ANSWER),
+    (WITH_VALUES, 4, Parting::Stripe, None, WITH_VALUES_ANSWER),
+    (WITH_VALUES, 64, Parting::Stripe, None, WITH_VALUES_ANSWER),
+    (WITH_VALUES, 64, Parting::Range, None, WITH_VALUES_ANSWER),
+    (
+        b"version 2\nstart 3 0\nfind 3\nfind 4\n",
+        4,
+        Parting::Stripe,
+        None,
+        b"yes 0\nno\nkeys 1\n3 0\n",
     ),
 ];
 

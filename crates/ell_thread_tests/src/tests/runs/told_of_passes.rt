@@ -86,7 +86,7 @@ fn ops_with_a_long_part(rt: &(impl Abort + AllocGlobal), workers: u32, longest: 
     let mut ops = Vec::new(rt.alloc());
     for worker in 0..workers {
         if worker != longest {
-            ops.push(Op::Insert(worker as u64, 0)).expect(rt, "memory");
+            ops.push(Op::Insert(worker as u64, 7)).expect(rt, "memory");
         }
     }
     for _ in 0..100 {

@@ -1,7 +1,7 @@
 //! How often a run tries an insert that another one is in the way of.
 use super::running::{came_to, run_owned};
 use ell_ops::Op::{Find, Insert};
-use ell_ops::Reply;
+use ell_ops::Reply::{Found, Yes};
 use ell_test_gates::{Counting, Holding, Told, two_threads_meet};
 use ell_word::Kind;
 
@@ -25,11 +25,9 @@ fn a_run_tries_as_often_as_its_limits_say(rt: HostRuntime) {
     for (row, (tries, answered, held, late)) in ROWS.iter().enumerate() {
         let gate = Counting::new(rt.alloc(), 2, Holding::at(Kind::IChild)).expect(&rt, "memory");
         let outcome = run_owned(&rt, &ops, &[0, 1, 1, 1], 2, 100, *tries, &gate);
+        let (replies, pairs) = ([Yes, Yes, Found(70), Yes], [(5, 50), (7, 70), (9, 90)]);
         assert!(rt; gate.behind().has_held(), "row {row}");
-        assert!(rt;
-            came_to(&outcome, &[Reply::Yes; 4], &[5, 7, 9], *late),
-            "row {row}"
-        );
+        assert!(rt; came_to(&outcome, &replies, &pairs, *late), "row {row}");
         assert!(rt; ended_so(gate.told(1), *answered, *held), "row {row}");
     }
 }

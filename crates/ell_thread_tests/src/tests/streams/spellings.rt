@@ -15,7 +15,14 @@ const BAD_KEY: TextFault = TextFault::BadKey { line: 1 };
 
 const KEY_TOO_LARGE: TextFault = TextFault::KeyTooLarge { line: 1 };
 
-const MISSPELLINGS: [Misspelling; 30] = [
+// In the second line, below the one of version 2.
+const BAD_SECOND_OPERATION: TextFault = TextFault::BadOperation { line: 2 };
+
+const BAD_SECOND_KEY: TextFault = TextFault::BadKey { line: 2 };
+
+const BAD_VALUE: TextFault = TextFault::BadValue { line: 2 };
+
+const MISSPELLINGS: [Misspelling; 47] = [
     // Where the line ends.
     (b"find 5\r", BAD_KEY),
     (b"find 5\r\r\n", BAD_KEY),
@@ -52,6 +59,28 @@ const MISSPELLINGS: [Misspelling; 30] = [
     (b"insert 18446744073709551615\n", KEY_TOO_LARGE),
     (b"insert 18446744073709551616\n", KEY_TOO_LARGE),
     (b"insert 018446744073709551614\n", BAD_KEY),
+    // Versions.
+    (b"version 1\n", BAD_OPERATION),
+    (b"version 02\n", BAD_OPERATION),
+    (b"version 2 \n", BAD_OPERATION),
+    (b"version 2\nversion 2\n", BAD_SECOND_OPERATION),
+    (b"find 5\nversion 2\n", BAD_SECOND_OPERATION),
+    // Values.
+    (b"version 2\ninsert 7\n", BAD_VALUE),
+    (b"version 2\ninsert 7 \n", BAD_VALUE),
+    (b"version 2\ninsert 7 x\n", BAD_VALUE),
+    (b"version 2\ninsert 7 08\n", BAD_VALUE),
+    (b"version 2\ninsert 7  8\n", BAD_VALUE),
+    (b"version 2\ninsert 7 8 9\n", BAD_VALUE),
+    (b"version 2\ninsert 7 18446744073709551616\n", BAD_VALUE),
+    (b"version 2\nstart 7\n", BAD_VALUE),
+    (b"version 2\nfind 7 8\n", BAD_SECOND_KEY),
+    (b"version 2\ndelete 7 8\n", BAD_SECOND_KEY),
+    (b"version 2\ninsert 007 8\n", BAD_SECOND_KEY),
+    (
+        b"version 2\ninsert 18446744073709551614 8\n",
+        TextFault::KeyTooLarge { line: 2 },
+    ),
 ];
 
 #[test]
@@ -65,7 +94,7 @@ fn misspelt_lines_are_refused(rt: HostRuntime) {
     }
 }
 
-const SPELLINGS: [Spelling; 8] = [
+const SPELLINGS: [Spelling; 14] = [
     (b"\r\n", b"keys 0\n"),
     (b" \t\r\n", b"keys 0\n"),
     (b"#\xFF\n", b"keys 0\n"),
@@ -79,6 +108,15 @@ const SPELLINGS: [Spelling; 8] = [
     (
         b"insert 18446744073709551613\ndelete 18446744073709551613\n",
         b"yes\nyes\nkeys 0\n",
+    ),
+    (b"version 2", b"keys 0\n"),
+    (b"# none\n\nversion 2\r\n", b"keys 0\n"),
+    (b"version 2\nfind 5", b"no\nkeys 0\n"),
+    (b"version 2\ninsert 0 7", b"yes\nkeys 1\n0 7\n"),
+    (b"version 2\nstart 0 7\r\n", b"keys 1\n0 7\n"),
+    (
+        b"version 2\ninsert 18446744073709551613 18446744073709551615\nfind 18446744073709551613\n",
+        b"yes\nyes 18446744073709551615\nkeys 1\n18446744073709551613 18446744073709551615\n",
     ),
 ];
 

@@ -32,7 +32,7 @@ fn claim_many(
     let mut memory = nothing();
     let mut cards = Vec::new(rt.alloc());
     for _ in 0..TRIES {
-        for act in [Begin(Op::Insert(key, 0)), Upd, Down, Claim] {
+        for act in [Begin(Op::Insert(key, 50)), Upd, Down, Claim] {
             let _ = step(table, &mut pass, &mut memory, act);
         }
         if let Some(card) = memory.card {

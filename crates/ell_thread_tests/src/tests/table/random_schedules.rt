@@ -2,6 +2,7 @@
 ghost use Rattle.std.specs.Prelude.{◌≡◌, ◌≤◌, length, true};
 ghost use Rattle.std.specs.List.{All};
 ghost use Rattle.std.specs.List.Sorted.{IsStrictlyIncreasing};
+ghost use Rattle.std.specs.Map.{keys_of};
 ghost use Rattle.ell_ops.specs.KeySet.{set_of};
 ghost use Rattle.ell_word.specs.Node.{most_start};
 ghost use Rattle.ell_cards.specs.Models.{IsFree};
@@ -251,9 +252,9 @@ fn random_acts(
 }
 
 // Random acts on a table with start keys, each of which is to answer as in a world, whose words it has at the end.
-fn acts_as_the_world(rt: &(impl Abort + AllocGlobal), start: &[u64])
-    requires ascending { IsStrictlyIncreasing start.now }
-    requires given { All (λ k. set_of KEYS k ≡ true) start.now }
+fn acts_as_the_world(rt: &(impl Abort + AllocGlobal), start: &[(u64, u64)])
+    requires ascending { IsStrictlyIncreasing (keys_of start.now) }
+    requires given { All (λ k. set_of KEYS k ≡ true) (keys_of start.now) }
     requires few { length start.now ≤ most_start }
 {
     let made = CardTable::reserve_from(rt.alloc(), start, &KEYS, CARDS);
@@ -275,5 +276,6 @@ fn random_acts_answer_as_the_world(rt: HostRuntime) {
 
 #[test]
 fn random_acts_over_start_keys_answer_as_the_world(rt: HostRuntime) {
-    acts_as_the_world(&rt, &[0, 2, 3, 5, 6, 7]);
+    let start = [(0, 10), (2, 12), (3, 13), (5, u64::MAX), (6, 16), (7, 17)];
+    acts_as_the_world(&rt, &start);
 }

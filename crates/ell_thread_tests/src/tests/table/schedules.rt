@@ -6,8 +6,8 @@ use ell_core::Act::{
     Again, Answer, Backtrack, Begin, Claim, DChild, DFlag, DUnflag, Down, IChild, IFlag, IUnflag,
     Leave, Mark, Upd,
 };
-use ell_core::World;
-use ell_ops::Op;
+use ell_core::{Shown, Stepped, World};
+use ell_ops::{Op, Reply};
 use std::process::Abort;
 
 // Plays a schedule of worker 0, which owns 5 and 6, and of worker 1, which owns 7.
@@ -20,6 +20,8 @@ fn played(rt: &(impl Abort + AllocGlobal), turns: &[Turn]) {
     let both = play(rt, &table, parts, &mut world, turns);
     same_words(rt, &closed(rt, table, both, &keys), &world);
 }
+
+const FOUND_50: Shown = Shown::Step(Stepped::Answered(Reply::Found(50)));
 
 const STALLED_INSERT: [Turn; 14] = [
     (0, &[Begin(Op::Insert(5, 50)), Upd, Down, Claim], MOVED),
@@ -35,7 +37,7 @@ const STALLED_INSERT: [Turn; 14] = [
     (0, &[Begin(Op::Find(5)), Upd, Down, Upd, Down], MOVED),
     (0, &[Upd, Down], MOVED),
     (0, &[Upd], NOT_NOW),
-    (0, &[Answer], YES),
+    (0, &[Answer], FOUND_50),
 ];
 
 #[test]

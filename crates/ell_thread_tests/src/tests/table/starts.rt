@@ -11,12 +11,14 @@ use ell_cards::{CardFault, CardTable, Closed, Pass};
 use ell_core::Act::{
     Again, Answer, Begin, Claim, DChild, DFlag, DUnflag, Down, IChild, IFlag, IUnflag, Mark, Upd,
 };
-use ell_core::{Field, World};
-use ell_ops::Op;
+use ell_core::{Field, Shown, Stepped, World};
+use ell_ops::{Op, Reply};
 use std::alloc::Global;
 use std::process::Abort;
 
-const START: [u64; 3] = [2, 4, 6];
+const START: [(u64, u64); 3] = [(2, 200), (4, 400), (6, 600)];
+
+const START_KEYS: [u64; 3] = [2, 4, 6];
 
 // The keys of the tables on which schedules are played: worker 0 owns the first three, worker 1 the others.
 const KEYS: [u64; 6] = [2, 4, 5, 6, 7, 8];
@@ -32,8 +34,8 @@ const INF2: u64 = 18_446_744_073_709_551_615;
 const OPENING: [[u64; 12]; 8] = [
     [0, 0, 0, 0, INF2, 3, 2, 3, INF1, INF2, 0, 0],
     [0, 0, 0, 0, 6, 6, 9, 3, 0, 0, 0, 0],
-    [0, 0, 0, 0, 4, 7, 8, 3, 2, 4, 0, 0],
-    [0, 0, 0, 0, INF1, 10, 11, 3, 6, INF1, 0, 0],
+    [0, 0, 0, 0, 4, 7, 8, 3, 2, 4, 200, 400],
+    [0, 0, 0, 0, INF1, 10, 11, 3, 6, INF1, 600, 0],
     [0; 12],
     [0; 12],
     [0; 12],
@@ -47,11 +49,11 @@ fn has_words(closed: &Closed<Global>, card: u64, words: &[u64; 12]) -> bool {
 
 #[test]
 fn three_start_keys_stand_in_their_tree(rt: HostRuntime) {
-    let made = CardTable::reserve_from(rt.alloc(), &START, &START, CARDS);
+    let made = CardTable::reserve_from(rt.alloc(), &START, &START_KEYS, CARDS);
     let (table, mut pass) = made.expect(&rt, "table");
     assert!(rt; table.last_card() == 7 && table.next(&mut pass) == 4);
-    assert!(rt; pass.keys() == START.as_slice());
-    let closed = closed(&rt, table, pass, &START);
+    assert!(rt; pass.keys() == START_KEYS.as_slice());
+    let closed = closed(&rt, table, pass, &START_KEYS);
     assert!(rt; closed.last_card() == 7);
     for (card, words) in (0..8).zip(&OPENING) {
         assert!(rt; has_words(&closed, card, words), "card {card}");
@@ -60,10 +62,10 @@ fn three_start_keys_stand_in_their_tree(rt: HostRuntime) {
 
 #[test]
 fn no_start_keys_open_as_a_plain_table(rt: HostRuntime) {
-    let made = CardTable::reserve_from(rt.alloc(), &[], &START, CARDS);
+    let made = CardTable::reserve_from(rt.alloc(), &[], &START_KEYS, CARDS);
     let (table, mut pass) = made.expect(&rt, "table");
     assert!(rt; table.last_card() == CARDS && table.next(&mut pass) == 1);
-    let closed = closed(&rt, table, pass, &START);
+    let closed = closed(&rt, table, pass, &START_KEYS);
     let root = [0, 0, 0, 0, INF2, 1, 2, 3, INF1, INF2, 0, 0];
     assert!(rt; has_words(&closed, 0, &root));
     for card in 1..=closed.last_card() {
@@ -81,13 +83,13 @@ fn start_keys_add_no_card_to_those_that_may_be_asked_for(rt: HostRuntime) {
     }
 }
 
-// A table with the start keys, and its pass: they are present, and its other keys are not.
+// A table with the start keys, and its pass: they are present with their values, and its other keys are not.
 fn opened(rt: &(impl Abort + AllocGlobal)) -> (CardTable<Global>, Pass<Global>)
     ensures own { result.1.table ≡ result.0.id }
     ensures idle { IsIdle result.1.view }
     ensures keys { result.0.keys ≡ KEYS }
     ensures cards { result.0.last_card ≡ 7 }
-    ensures present { All (λ k. ledger_of result.1.view.worker.ledger k ≡ Some Present) START }
+    ensures present { All (λ pair. ledger_of result.1.view.worker.ledger pair.0 ≡ Some (Present pair.1)) START }
     ensures absent { All (λ k. ledger_of result.1.view.worker.ledger k ≡ Some Absent) (5 ∷ 7 ∷ 8 ∷ []) }
     ensures strange { All (λ k. ledger_of result.1.view.worker.ledger k ≡ None) (1 ∷ 3 ∷ 9 ∷ []) }
 {
@@ -106,19 +108,25 @@ fn played(rt: &(impl Abort + AllocGlobal), turns: &[Turn]) {
     same_words(rt, &closed(rt, table, both, &KEYS), &world);
 }
 
+const FOUND_200: Shown = Shown::Step(Stepped::Answered(Reply::Found(200)));
+
+const FOUND_400: Shown = Shown::Step(Stepped::Answered(Reply::Found(400)));
+
+const FOUND_600: Shown = Shown::Step(Stepped::Answered(Reply::Found(600)));
+
 const FOUND: [Turn; 10] = [
     (
         0,
         &[Begin(Op::Find(2)), Upd, Down, Upd, Down, Upd, Down],
         MOVED,
     ),
-    (0, &[Answer], YES),
+    (0, &[Answer], FOUND_200),
     (
         0,
         &[Begin(Op::Find(4)), Upd, Down, Upd, Down, Upd, Down],
         MOVED,
     ),
-    (0, &[Answer], YES),
+    (0, &[Answer], FOUND_400),
     (
         0,
         &[Begin(Op::Find(5)), Upd, Down, Upd, Down, Upd, Down],
@@ -130,7 +138,7 @@ const FOUND: [Turn; 10] = [
         &[Begin(Op::Find(6)), Upd, Down, Upd, Down, Upd, Down],
         MOVED,
     ),
-    (1, &[Answer], YES),
+    (1, &[Answer], FOUND_600),
     (
         1,
         &[Begin(Op::Find(7)), Upd, Down, Upd, Down, Upd, Down],

@@ -2,14 +2,14 @@
 ghost use Rattle.std.specs.Prelude.{◌≡◌, ◌≤◌};
 ghost use Rattle.ell_tree.specs.Ledgers.{IsIdle};
 
-use ell_ops::Op;
+use ell_ops::{Op, Reply};
 use ell_tree::{Held, Pass, Tree};
 use ell_word::StepGate;
 use std::alloc::Global;
 use std::process::Abort;
 
 /// An operation, and how it is to end.
-pub type Row = (Op, Result<bool, Held>);
+pub type Row = (Op, Result<Reply, Held>);
 
 /// Does an operation on a key of the pass.
 pub fn ask<G: StepGate>(
@@ -19,7 +19,7 @@ pub fn ask<G: StepGate>(
     op: Op,
     tries: u32,
     gate: &G,
-) -> Result<bool, Held>
+) -> Result<Reply, Held>
     requires own { pass.old.table ≡ tree.now.id }
     requires idle { IsIdle pass.old }
     requires tries { 1 ≤ tries }
@@ -28,9 +28,9 @@ pub fn ask<G: StepGate>(
 {
     assert!(rt; pass.owns(op.key()));
     match op {
-        Op::Find(key) => Ok(tree.find(pass, key, gate)),
-        Op::Insert(key, value) => tree.insert(pass, key, value, tries, gate),
-        Op::Delete(key) => tree.delete(pass, key, tries, gate),
+        Op::Find(key) => Ok(Reply::found(tree.find(pass, key, gate))),
+        Op::Insert(key, value) => Ok(Reply::yes_if(tree.insert(pass, key, value, tries, gate)?)),
+        Op::Delete(key) => Ok(Reply::yes_if(tree.delete(pass, key, tries, gate)?)),
     }
 }
 
@@ -59,8 +59,13 @@ pub fn play<G: StepGate>(
     pass
 }
 
-/// Ends a tree, by a pass that is to own all its keys: those that are present.
-pub fn close(rt: &impl Abort, tree: Tree<Global>, pass: Pass<Global>, keys: &[u64]) -> Vec<u64>
+/// Ends a tree, by a pass that is to own all its keys: those that are present, with their values.
+pub fn close(
+    rt: &impl Abort,
+    tree: Tree<Global>,
+    pass: Pass<Global>,
+    keys: &[u64],
+) -> Vec<(u64, u64)>
     requires own { pass.table ≡ tree.id }
     requires idle { IsIdle pass }
     requires keys { tree.keys ≡ keys.now }

@@ -1,11 +1,11 @@
-//! Four threads on one tree, whose keys lie between one another's, each beside a plain set of its own.
+//! Four threads on one tree, whose keys lie between one another's, each beside a plain map of its own.
 ghost use Rattle.std.specs.Prelude.{◌≡◌};
 ghost use Rattle.ell_tree.specs.Ledgers.{IsIdle};
 
 use super::asking::{ask, close};
-use super::plain_set::{KEYS, PlainSet, apply_plainly, are_keys_of};
+use super::plain_map::{KEYS, PlainMap, apply_plainly, are_pairs_of};
 use crate::tests::keys::keys_below;
-use ell_ops::Op;
+use ell_ops::{Op, Reply};
 use ell_test_gates::Dice;
 use ell_tree::{Held, Pass, Tree};
 use ell_word::NoGate;
@@ -23,11 +23,11 @@ const TRIES: u32 = 1_000;
 // How often an operation is asked anew whose tries all found something in their way.
 const ROUNDS: u32 = 1_000;
 
-// What a thread leaves: its pass, and what its keys are to be.
+// What a thread leaves: its pass, and what its keys and their values are to be.
 #[derive(Drop)]
 struct Done {
     pass: Pass<Global>,
-    plain: PlainSet,
+    plain: PlainMap,
 }
 
 /// Does an operation, again where all its tries found something in their way.
@@ -36,7 +36,7 @@ pub fn ask_often(
     tree: &Tree<Global>,
     pass: &mut Pass<Global>,
     op: Op,
-) -> Result<bool, Held>
+) -> Result<Reply, Held>
     requires own { pass.old.table ≡ tree.now.id }
     requires idle { IsIdle pass.old }
     ensures own { pass.new.table ≡ tree.now.id }
@@ -51,7 +51,7 @@ pub fn ask_often(
     Err(Held::Busy)
 }
 
-// One thread's operations, each of which is to answer as a plain set does: that set is what it leaves.
+// One thread's operations, each of which is to answer as a plain map does: that map is what it leaves.
 fn work(rt: &impl Abort, tree: &Tree<Global>, pass: Pass<Global>, thread: u64) -> Done
     requires own { pass.table ≡ tree.now.id }
     requires idle { IsIdle pass }
@@ -59,7 +59,7 @@ fn work(rt: &impl Abort, tree: &Tree<Global>, pass: Pass<Global>, thread: u64) -
     ensures idle { IsIdle result.pass }
 {
     let mut pass = pass;
-    let (mut dice, mut plain) = (Dice::new(thread), [false; 256]);
+    let (mut dice, mut plain) = (Dice::new(thread), [None; 256]);
     for number in 0..OPERATIONS {
         let key = dice.below(KEYS / 4) * 4 + thread % 4;
         let op = dice.operation(key);
@@ -108,7 +108,7 @@ fn work_by_two<R: Threads + Abort + Sync>(
     )
 }
 
-// What two threads leave, in one: the pass of both, and the union of their plain sets.
+// What two threads leave, in one: the pass of both, and the union of their plain maps.
 fn together(rt: &impl Abort, tree: &Tree<Global>, one: Done, other: Done) -> Done
     requires first { (one.pass.table ≡ tree.now.id) × IsIdle one.pass }
     requires second { (other.pass.table ≡ tree.now.id) × IsIdle other.pass }
@@ -116,14 +116,16 @@ fn together(rt: &impl Abort, tree: &Tree<Global>, one: Done, other: Done) -> Don
 {
     let pass = tree.join(one.pass, other.pass).ok().expect(rt, "memory");
     let mut plain = one.plain;
-    for (present, also) in plain.iter_mut().zip(&other.plain) {
-        *present = *present || *also;
+    for (value, also) in plain.iter_mut().zip(&other.plain) {
+        if value.is_none() {
+            *value = *also;
+        }
     }
     Done { pass, plain }
 }
 
 #[test]
-fn four_threads_answer_as_plain_sets(rt: HostRuntime) {
+fn four_threads_answer_as_plain_maps(rt: HostRuntime) {
     let keys = keys_below(&rt, KEYS, &[0, 1, 2, 3]);
     let (tree, pass) = Tree::reserve(rt.alloc(), &keys, CARDS).expect(&rt, "tree");
     let (low, high) = parted(&rt, &tree, pass, KEYS, &[0, 1]);
@@ -138,5 +140,5 @@ fn four_threads_answer_as_plain_sets(rt: HostRuntime) {
     let low = together(&rt, &tree, zero, one);
     let high = together(&rt, &tree, two, three);
     let all = together(&rt, &tree, low, high);
-    assert!(rt; are_keys_of(&close(&rt, tree, all.pass, &keys), &all.plain));
+    assert!(rt; are_pairs_of(&close(&rt, tree, all.pass, &keys), &all.plain));
 }

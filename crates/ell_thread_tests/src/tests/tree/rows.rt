@@ -4,6 +4,7 @@ ghost use Rattle.ell_tree.specs.Ledgers.{IsIdle};
 
 use super::asking::{Row, ask, close};
 use ell_ops::Op::{Delete, Find, Insert};
+use ell_ops::Reply::{Found, No, Yes};
 use ell_tree::{CardFault, Held, Pass, Tree};
 use ell_word::NoGate;
 use std::alloc::Global;
@@ -16,7 +17,7 @@ const CARDS: u64 = 3;
 // How many steps a call of one try may make on a tree of so many cards: seven for each of them, and 28.
 const MOST_STEPS: u64 = 49;
 
-// Does an operation with one try, which is to end as its row says, after a step at least; one that may change the set after so many
+// Does an operation with one try, which is to end as its row says, after a step at least; one that may change the map after so many
 // at most.
 fn play_counted(rt: &impl Abort, tree: &Tree<Global>, pass: &mut Pass<Global>, row: Row)
     requires own { pass.old.table ≡ tree.now.id }
@@ -60,13 +61,14 @@ fn play_parted(
     (left, right)
 }
 
-// Plays three rows by the whole pass of a tree, then parts it by 5, plays rows of the parts, and ends the tree.
-fn played(rt: &(impl Abort + AllocGlobal), parted: &[(Part, Row)]) -> Vec<u64> {
+// Plays three rows by the whole pass of a tree, then parts it by 5, plays rows of the parts, and ends the tree. The second insert of
+// 5 leaves the value of the first.
+fn played(rt: &(impl Abort + AllocGlobal), parted: &[(Part, Row)]) -> Vec<(u64, u64)> {
     let (tree, mut pass) = Tree::reserve(rt.alloc(), &KEYS, CARDS).expect(rt, "tree");
     assert!(rt; pass.owns(5) && !pass.owns(6));
-    play_counted(rt, &tree, &mut pass, (Insert(5, 50), Ok(true)));
-    play_counted(rt, &tree, &mut pass, (Insert(5, 50), Ok(false)));
-    play_counted(rt, &tree, &mut pass, (Find(7), Ok(false)));
+    play_counted(rt, &tree, &mut pass, (Insert(5, 50), Ok(Yes)));
+    play_counted(rt, &tree, &mut pass, (Insert(5, 55), Ok(No)));
+    play_counted(rt, &tree, &mut pass, (Find(7), Ok(No)));
     assert!(rt; pass.owns(5));
     let parts = tree.split(pass, &[5]).ok().expect(rt, "memory");
     let (left, right) = play_parted(rt, &tree, parts, parted);
@@ -96,18 +98,19 @@ fn held_changes_have_texts(rt: HostRuntime) {
 #[test]
 fn a_delete_is_spent_once_all_cards_are_given_out(rt: HostRuntime) {
     let parted = [
-        (Part::Right, (Insert(7, 70), Ok(true))),
-        (Part::Left, (Delete(5), Ok(true))),
+        (Part::Right, (Insert(7, 70), Ok(Yes))),
+        (Part::Left, (Find(5), Ok(Found(50)))),
+        (Part::Left, (Delete(5), Ok(Yes))),
         (Part::Right, (Delete(7), Err(Held::Spent))),
-        (Part::Right, (Find(7), Ok(true))),
+        (Part::Right, (Find(7), Ok(Found(70)))),
     ];
-    assert!(rt; played(&rt, &parted).as_slice() == [7].as_slice());
+    assert!(rt; played(&rt, &parted).as_slice() == [(7, 70)].as_slice());
 }
 
 #[test]
 fn parts_insert_beside_one_another(rt: HostRuntime) {
-    let parted = [(Part::Right, (Insert(7, 70), Ok(true)))];
-    assert!(rt; played(&rt, &parted).as_slice() == KEYS.as_slice());
+    let parted = [(Part::Right, (Insert(7, 70), Ok(Yes)))];
+    assert!(rt; played(&rt, &parted).as_slice() == [(5, 50), (7, 70)].as_slice());
 }
 
 // Each takes seven steps: it begins, reads the root's update word and key, goes down to a leaf and reads its key and its value, and
@@ -115,6 +118,6 @@ fn parts_insert_beside_one_another(rt: HostRuntime) {
 #[test]
 fn finds_in_the_opening_tree_take_seven_steps(rt: HostRuntime) {
     let (tree, mut pass) = Tree::reserve(rt.alloc(), &KEYS, CARDS).expect(&rt, "tree");
-    assert!(rt; ask(&rt, &tree, &mut pass, Find(5), 1, &NoGate) == Ok(false) && pass.steps() == 7);
-    assert!(rt; ask(&rt, &tree, &mut pass, Find(7), 1, &NoGate) == Ok(false) && pass.steps() == 14);
+    assert!(rt; ask(&rt, &tree, &mut pass, Find(5), 1, &NoGate) == Ok(No) && pass.steps() == 7);
+    assert!(rt; ask(&rt, &tree, &mut pass, Find(7), 1, &NoGate) == Ok(No) && pass.steps() == 14);
 }

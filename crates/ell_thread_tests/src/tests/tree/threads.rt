@@ -3,6 +3,7 @@ ghost use Rattle.std.specs.Prelude.{◌≤◌};
 
 use super::asking::{Row, close, play};
 use ell_ops::Op::{Delete, Insert};
+use ell_ops::Reply::Yes;
 use ell_test_gates::{Holding, two_threads_meet};
 use ell_tree::{Held, Tree};
 use ell_word::{Kind, NoGate};
@@ -12,7 +13,7 @@ use std::thread::{Threads, join};
 const KEYS: [u64; 2] = [5, 7];
 
 // What two workers do at once: worker 0, which owns 5, is held at its first step of a kind until worker 1, which owns 7, has ended.
-// What one worker does afterwards, with one try each; and the keys at the end.
+// What one worker does afterwards, with one try each; and the keys at the end, with their values.
 #[derive(Clone, Copy)]
 struct Crossing<'a> {
     cards: u64,
@@ -21,7 +22,7 @@ struct Crossing<'a> {
     left: &'a [Row],
     right: Row,
     afterwards: &'a [Row],
-    keys: &'a [u64],
+    pairs: &'a [(u64, u64)],
 }
 
 // Plays a crossing, whose operations and keys are to be as it says.
@@ -44,7 +45,7 @@ fn cross<R: Threads + Abort + AllocGlobal + Sync>(rt: &R, crossing: Crossing)
     assert!(rt; gate.has_held() && gate.answered() == answered);
     let both = tree.join(five, seven).ok().expect(rt, "memory");
     let both = play(rt, &tree, both, 1, &NoGate, crossing.afterwards);
-    assert!(rt; close(rt, tree, both, &KEYS).as_slice() == crossing.keys);
+    assert!(rt; close(rt, tree, both, &KEYS).as_slice() == crossing.pairs);
 }
 
 // Worker 0 is held at the child exchange of its insert, or of its delete.
@@ -52,16 +53,16 @@ const AT_ITS_INSERT: Crossing = Crossing {
     cards: 8,
     tries: 8,
     held_at: Kind::IChild,
-    left: &[(Insert(5, 50), Ok(true))],
-    right: (Insert(7, 70), Ok(true)),
+    left: &[(Insert(5, 50), Ok(Yes))],
+    right: (Insert(7, 70), Ok(Yes)),
     afterwards: &[],
-    keys: &[5, 7],
+    pairs: &[(5, 50), (7, 70)],
 };
 
 const AT_ITS_DELETE: Crossing = Crossing {
     held_at: Kind::DChild,
-    left: &[(Insert(5, 50), Ok(true)), (Delete(5), Ok(true))],
-    keys: &[7],
+    left: &[(Insert(5, 50), Ok(Yes)), (Delete(5), Ok(Yes))],
+    pairs: &[(7, 70)],
     ..AT_ITS_INSERT
 };
 
@@ -85,14 +86,14 @@ fn a_try_that_helps_is_over(rt: HostRuntime) {
         let at_its_flag = Crossing {
             tries: 1,
             right: (Insert(7, 70), Err(Held::Busy)),
-            keys: &[5],
+            pairs: &[(5, 50)],
             ..AT_ITS_INSERT
         };
         cross(&rt, at_its_flag);
         let at_its_mark = Crossing {
             tries: 1,
             right: (Insert(7, 70), Err(Held::Busy)),
-            keys: &[],
+            pairs: &[],
             ..AT_ITS_DELETE
         };
         cross(&rt, at_its_mark);
@@ -105,7 +106,7 @@ fn a_helper_may_find_all_cards_given_out(rt: HostRuntime) {
         let with_one_card = Crossing {
             cards: 1,
             right: (Insert(7, 70), Err(Held::Spent)),
-            keys: &[5],
+            pairs: &[(5, 50)],
             ..AT_ITS_INSERT
         };
         cross(&rt, with_one_card);
@@ -119,16 +120,16 @@ fn a_delete_that_loses_its_mark_tries_again(rt: HostRuntime) {
             cards: 8,
             tries: 1,
             held_at: Kind::Mark,
-            left: &[(Insert(5, 50), Ok(true)), (Delete(5), Err(Held::Busy))],
-            right: (Insert(7, 70), Ok(true)),
-            afterwards: &[(Delete(5), Ok(true)), (Delete(7), Ok(true))],
-            keys: &[],
+            left: &[(Insert(5, 50), Ok(Yes)), (Delete(5), Err(Held::Busy))],
+            right: (Insert(7, 70), Ok(Yes)),
+            afterwards: &[(Delete(5), Ok(Yes)), (Delete(7), Ok(Yes))],
+            pairs: &[],
         };
         cross(&rt, with_one_try);
         let with_two = Crossing {
             tries: 2,
-            left: &[(Insert(5, 50), Ok(true)), (Delete(5), Ok(true))],
-            afterwards: &[(Delete(7), Ok(true))],
+            left: &[(Insert(5, 50), Ok(Yes)), (Delete(5), Ok(Yes))],
+            afterwards: &[(Delete(7), Ok(Yes))],
             ..with_one_try
         };
         cross(&rt, with_two);

@@ -1,11 +1,14 @@
-use Rattle.std.proofs.Common.{◌≡◌, ◌≢◌, ℕ, List, length, ap, ◌∙◌, subst, rules, arith}
+use Rattle.std.proofs.Common.{◌≡◌, ◌≢◌, ℕ, if◌then◌else◌, Some, None, List, length, eq-eqb, ap, ◌∙◌, subst, rules, arith}
 use Rattle.ell_ops.specs.declared.op.Op.TheVariants.{Insert}
+use Rattle.ell_ops.specs.declared.reply.Reply.TheVariants.{No}
+use Rattle.ell_core.specs.acts.Searching.{leaf_answer}
 use Rattle.ell_word.specs.declared.update.State.TheVariants.{Clean}
 use Rattle.ell_core.specs.declared.view.Search.{Search}
 use Rattle.ell_cards.specs.declared.view.Told.TheVariants.{Met}
 use Rattle.ell_core.specs.declared.field.Field.{Field}
 use Rattle.ell_tree.specs.Hindrances.{way_of}
 use Rattle.ell_tree.specs.Tries.{HasCard}
+use Rattle.ell_tree.proofs.Descending.{may_answer}
 use Rattle.ell_tree.proofs.Filling.{insert_fills, is_insert}
 use Rattle.ell_tree.proofs.Meeting.{meets_trans, meets_more, insert_way, nowhere_way, way_over, way_free, no_way}
 use Rattle.ell_tree.proofs.Halting.{goes_meets, seek_meets, walk_meets, said_meets, flag_lost}
@@ -13,6 +16,13 @@ use Rattle.ell_tree.proofs.inserting.try_insert.Goals as goal
 
 pub take_card-requires-clause-wants : goal.take_card-requires-clause-wants
 take_card-requires-clause-wants g c = (c.if-place-key.false, (c.search-place.result.value, c.search-place.ensures.ends.at.value_told))
+
+pub answer-requires-clause-may : goal.answer-requires-clause-may
+answer-requires-clause-may g c =
+    let s = c.search-place in
+    let op = Insert c.args.key c.args.value in
+    may_answer s.new.pass.view op s.result No (s.ensures.seeks.goes.view.operation ∙ c.requires.root.busy) s.ensures.ends.at
+    (ap (λ t. leaf_answer op (if t then Some s.result.value else None)) (eq-eqb s.result.key c.args.key c.if-place-key.true))
 
 pub flag_insert-requires-clause-card : goal.flag_insert-requires-clause-card
 flag_insert-requires-clause-card g c =

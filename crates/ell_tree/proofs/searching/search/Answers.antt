@@ -41,5 +41,5 @@ returns g c =
           (omega (arith, i.stands.passed.node.inner, i.stands.passed.node.there));
       ends = search_ends c.args.table.now.last_card l.pass k.new.pass v.new.pass c.args.op
           (record { leaf = l.node; key = k.result; value = v.result; parent = l.parent; grandparent = l.grandparent }) k.ensures.step v.ensures.step
-          (i.seeks.goes.view.operation ∙ c.requires.root.busy) outer i.stands k.ensures.leaf;
+          (i.seeks.goes.view.operation ∙ c.requires.root.busy) outer i.stands k.ensures.leaf v.ensures.value;
     }

@@ -1,8 +1,9 @@
-use Rattle.std.proofs.Common.{ap, sym, subst}
+use Rattle.std.proofs.Common.{ℕ, List, ap, sym, subst}
 use Rattle.std.specs.List.Sorted.{IsStrictlyIncreasing}
 use Rattle.atomic_table.specs.Table.{Me}
 use Rattle.ell_cards.specs.declared.view.View.{View}
 use Rattle.ell_cards.specs.Inside.{PassFits}
+use Rattle.ell_cards.specs.Starts.{MayStart}
 use Rattle.ell_cards.proofs.lifetimes.Openings.{first_fits}
 use Rattle.ell_cards.proofs.table.CardTable.reserve_from.Goals as goal
 
@@ -16,3 +17,10 @@ invariant_of-pass g c =
       subst (λ (m : Me (Unit {0}) View). PassFits keys words m.0) (sym knows) (first_fits keys start words rising),
       ap (λ (m : Me (Unit {0}) View). m.1) knows,
     )
+
+pub opened-requires-clause-may : goal.opened-requires-clause-may
+opened-requires-clause-may g c =
+    let asked = c.requires in
+    subst (MayStart c.in_ok-copy.copy.items) (sym c.in_ok-present.ensures)
+    (subst (λ (keys : List ℕ). MayStart keys c.args.start.now) (sym c.in_ok-copy.ensures)
+    (record { ascending = asked.ascending; real = asked.real; start_ascending = asked.start_ascending; given = asked.given }))

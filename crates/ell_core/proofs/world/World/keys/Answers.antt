@@ -1,56 +1,13 @@
--- The tree of a world is lawful, its nodes are those of the table, and so both lists have room.
-use Rattle.std.proofs.Common.{ℕ, ◌+◌, ◌≤◌, arith, ap, subst, sym, ◌∙◌}
-use Rattle.std.specs.Prelude.{vec_capacity}
-use Rattle.ell_core.specs.declared.world.World.TheInside.{Inside}
-use Rattle.ell_core.specs.tree.Tree.{Reached, IsLawful, ListsKeys}
-use Rattle.ell_core.specs.tree.Room.{HasRoom}
-use Rattle.ell_core.specs.inside.Fits.{IsNode}
-use Rattle.ell_core.specs.inside.Inside.{words_in}
-use Rattle.ell_core.specs.inside.World.{WorldValue, machine_of}
-use Rattle.ell_core.specs.inside.WorldInside.{value_in, InsideFits}
-use Rattle.ell_core.proofs.tree.FewKeys.{HoldsKeys-from_room}
-use Rattle.ell_core.proofs.following.Sound.{sound}
-use Rattle.ell_core.proofs.inside.Turns.{words_are, cards_are}
+use Rattle.std.proofs.Common.{rules, ◌≡◌, subst, sym}
+use Rattle.std.specs.Map.{keys_of}
+use Rattle.ell_core.specs.tree.Tree.{ListsKeys}
+use Rattle.ell_core.specs.inside.World.{machine_of}
+use Rattle.ell_core.proofs.tree.RealPairs.{ListsKeys-of_pairs}
 use Rattle.ell_core.proofs.world.World.keys.Goals as goal
-
--- the tree is lawful
-lawful : {A : Type 0} (world : Inside A) → InsideFits world → IsLawful (words_in world.memory)
-lawful world fits =
-    subst IsLawful (sym (words_are world.memory world.workers.items))
-    (sound (machine_of (value_in world)) fits.lawful.stages fits.lawful.invariant).tree
-
--- a reached node is one of the table
-node : {A : Type 0} (world : Inside A) → InsideFits world → (x : ℕ) → Reached (words_in world.memory) x → IsNode world.memory.last_card x
-node world fits x reached =
-    let value = value_in world in
-    let names = (sound (machine_of value) fits.lawful.stages fits.lawful.invariant).names in
-    let below = names.nodes x (subst (λ w. Reached w x) (words_are world.memory world.workers.items) reached) in
-    let limit = fits.lawful.invariant.limit in
-    let cards = cards_are world.memory world.workers.items in
-    omega arith
-
--- two places more than the number of cards are room
-room : {A : Type 0} (world : Inside A) (places : ℕ) → InsideFits world → world.memory.last_card + 2 ≤ places → HasRoom (words_in world.memory) places
-room world places fits enough x reached = let inside = node world fits x reached in omega arith
-
-pub keys_of_tree-requires-clause-lawful : goal.keys_of_tree-requires-clause-lawful
-keys_of_tree-requires-clause-lawful g c = lawful c.self.inside c.self.invariant
-
-pub keys_of_tree-requires-clause-readable : goal.keys_of_tree-requires-clause-readable
-keys_of_tree-requires-clause-readable g c x reached =
-    (record { size = c.self.invariant.size; limit = c.self.invariant.limit }, node c.self.inside c.self.invariant x reached)
-
-pub keys_of_tree-requires-clause-room : goal.keys_of_tree-requires-clause-room
-keys_of_tree-requires-clause-room g c =
-    room c.self.inside (vec_capacity c.in_ok-waiting.waiting) c.self.invariant (omega (arith, c.in_ok-waiting.ensures.capacity))
-
-pub keys_of_tree-requires-clause-keys_room : goal.keys_of_tree-requires-clause-keys_room
-keys_of_tree-requires-clause-keys_room g c =
-    HoldsKeys-from_room (words_in c.self.inside.memory) (vec_capacity c.in_ok-keys.keys) (lawful c.self.inside c.self.invariant)
-    (room c.self.inside (vec_capacity c.in_ok-keys.keys) c.self.invariant (omega (arith, c.in_ok-keys.ensures.capacity)))
 
 pub returns : goal.returns
 returns g c =
-    subst (λ w. ListsKeys w c.keys_of_tree.result.items)
-    (words_are c.self.inside.memory c.self.inside.workers.items ∙ ap (λ (value : WorldValue). (machine_of value).words) c.self.view_is)
-    c.keys_of_tree.ensures
+    let w = (machine_of c.args.self.now).words in
+    let pairs = c.in_ok-pairs.pairs.items in
+    let same : c.in_ok-keys.keys.items ≡ keys_of pairs = search rules in
+    subst (ListsKeys w) (sym same) (ListsKeys-of_pairs w pairs c.in_ok-pairs.ensures)

@@ -11,4 +11,4 @@ returns-clause-fits g c =
     let sound : fault_of_said c.args.number (bulk_value c.args.self.now) c.in-Ok-Some.said ≡ None = search rules in
     on_ok_with c.append.result c.map_err.result c.map_err.ensures.variant
     (λ is. subst BulkFits (sym is) (fits_more c.args.number (bulk_value c.args.self.now) c.in-Ok-Some.said c.requires.fits within sound))
-    c.append.ensures
+    c.append.ensures.ok

@@ -9,4 +9,4 @@ returns c =
     let new = machine_of c.step.new.self in
     let has = c.laws_hold.ensures.invariant in
     IfOk-weaker c.step.result _ _
-    (λ said steps. (c.events_are_lawful.ensures old has.stages c.args.event said new has.invariant steps).keys) c.step.ensures.done
+    (λ said steps. (c.events_are_lawful.ensures old has.stages c.args.event said new has.invariant steps).pairs) c.step.ensures.done

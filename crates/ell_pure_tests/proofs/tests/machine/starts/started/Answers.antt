@@ -14,7 +14,8 @@ from_start-requires-clause-keys g c =
     (All-map (λ (entry : ℕ × ℕ). entry.1 ≤ greatest_key) entry_of c.args.keys.now c.requires.real)
 
 pub from_start-requires-clause-given : goal.from_start-requires-clause-given
-from_start-requires-clause-given g c k d below =
+from_start-requires-clause-given g c =
     let keys = c.args.keys.now in
-    subst (λ (owned : List (ℕ × ℕ)). is_given owned (get_or keys k d) ≡ true) (sym (c.deref.ensures.value ∙ c.all_of_first-owned.ensures))
-    (given_entry keys (get_or keys k d) ∙ at_place keys k d below)
+    subst (λ (listed : List ℕ). All (λ k. is_given c.deref.result.now k ≡ true) listed) (sym c.requires.same)
+    (λ k d below. subst (λ (owned : List (ℕ × ℕ)). is_given owned (get_or keys k d) ≡ true) (sym (c.deref.ensures.value ∙ c.all_of_first-owned.ensures))
+    (given_entry keys (get_or keys k d) ∙ at_place keys k d below))

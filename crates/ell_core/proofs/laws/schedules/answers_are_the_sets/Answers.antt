@@ -1,6 +1,0 @@
--- By the law of one event.
-use Rattle.ell_core.proofs.runs.Lawful.{answers_set}
-use Rattle.ell_core.proofs.laws.schedules.answers_are_the_sets.Goals as goal
-
-pub returns : goal.returns
-returns c = answers_set
