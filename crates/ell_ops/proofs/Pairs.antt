@@ -120,11 +120,11 @@ rest_same : (d e : ℕ × ℕ) (xs ys : List (ℕ × ℕ)) → d.0 ≡ e.0 → O
     → ((q : ℕ) → contents_of (d ∷ xs) q ≡ contents_of (e ∷ ys) q) → (q : ℕ) → contents_of xs q ≡ contents_of ys q
 rest_same d e xs ys one over_x over_y same q = ⊎_elim
     (λ is. let in_x = ap (contents_of xs) is ∙ absent_over d.0 xs over_x in
-        let in_y = ap (contents_of ys) (is ∙ one) ∙ absent_over e.0 ys over_y in
-        in_x ∙ sym in_y)
+    let in_y = ap (contents_of ys) (is ∙ one) ∙ absent_over e.0 ys over_y in
+    in_x ∙ sym in_y)
     (λ other.
-        sym (ap (λ t. cond t (Some d.1) (contents_of xs q)) (ne_eqb q d.0 other)) ∙ (same q
-        ∙ ap (λ t. cond t (Some e.1) (contents_of ys q)) (ne_eqb q e.0 (λ f. other (f ∙ sym one)))))
+    sym (ap (λ t. cond t (Some d.1) (contents_of xs q)) (ne_eqb q d.0 other)) ∙ (same q
+    ∙ ap (λ t. cond t (Some e.1) (contents_of ys q)) (ne_eqb q e.0 (λ f. other (f ∙ sym one)))))
     (cases_eq q d.0)
 
 same_pairs : (xs ys : List (ℕ × ℕ)) → Rises (keys_of xs) → Rises (keys_of ys) → ((q : ℕ) → contents_of xs q ≡ contents_of ys q) → xs ≡ ys

@@ -76,7 +76,10 @@ pub fn apply_from<A: Allocator + Copy>(
     for op in ops {
         replies.push(apply(&mut map, *op)?)?;
     }
-    let pairs = map.iter().map(|(key, value)| (*key, *value)).collect(alloc)?;
+    let pairs = map
+        .iter()
+        .map(|(key, value)| (*key, *value))
+        .collect(alloc)?;
     Ok((replies, pairs))
 }
 
