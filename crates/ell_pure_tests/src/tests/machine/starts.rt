@@ -1,5 +1,5 @@
 //! Openings with start keys: the words of their tree beside those that a plain loop makes, and what events make of it.
-ghost use Rattle.std.specs.Prelude.{◌≡◌, ◌≤◌, All, IfOk, length, map};
+ghost use Rattle.std.specs.Prelude.{◌/◌, ◌≡◌, ◌≤◌, All, IfOk, length, map};
 ghost use Rattle.std.specs.Map.{keys_of};
 ghost use Rattle.std.specs.List.Sorted.{IsStrictlyIncreasing};
 ghost use Rattle.ell_ops.specs.Meaning.{greatest_key};
@@ -90,7 +90,7 @@ fn started(
 
 // Each of these keys with half of it as its value.
 fn with_halves(rt: &(impl Abort + AllocGlobal), keys: &[u64]) -> Vec<(u64, u64)>
-    ensures { keys_of result.items ≡ keys.now }
+    ensures { result.items ≡ map (λ k. (k, k / 2)) keys.now }
 {
     let pairs = keys.iter().map(|key| (*key, *key / 2)).collect(rt.alloc());
     pairs.expect(rt, "memory")
