@@ -119,8 +119,8 @@ impl BareTree {
         tree
     }
 
-    /// Makes a card the node over some leaves, two at least, in a tree as balanced as can be. The nodes below it have the next cards,
-    /// those on the left first.
+    /// Makes a card the node over some leaves, two at least, in a tree as balanced as can be. The nodes below it have the next
+    /// cards, those on the left first.
     fn fill_branch(&self, card: u64, leaves: &[(u64, u64)]) {
         let (left, right) = leaves.split_at(leaves.len() / 2);
         self.fill(card, Field::Key, right[0].0);

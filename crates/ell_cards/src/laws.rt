@@ -50,9 +50,9 @@ pub fn table_answers_are_the_maps()
     ensures owned { TreeKeysAreOwned }
 {}
 
-/// In every run of step calls, splits and joins, of any passes in any order, every state is of the rule and sound, each call is its
-/// event and each split and join the machine's, and the keys of the tree change at the won ichilds and dchilds alone. A run of
-/// step calls is one of the machine, by the events of its calls.
+/// In every run of step calls, splits and joins, of any passes in any order, every state is of the rule and sound, each call
+/// is its event and each split and join the machine's, and the keys of the tree and their values change at the won ichilds
+/// and dchilds alone. A run of step calls is one of the machine, by the events of its calls.
 pub fn runs_are_lawful()
     ensures turns { RunsAreLawful }
     ensures schedules { RunsAreSchedules }

@@ -41,10 +41,11 @@ impl<A: Allocator + Copy> CardTable<A> {
         CardTable::reserve_from(alloc, &[], keys, cards)
     }
 
-    /// A table of a tree that has these start keys with their values, balanced, with so many cards to be claimed, and one pass that
-    /// owns all these keys: the start keys are present, the others absent. The tree of the start keys has a card for each of them, so the number
-    /// of the last card is the number of cards asked for plus that of the start keys. Errors are as of `reserve`. Conditions: those
-    /// of `reserve`; the start keys are strictly ascending, among the keys, and at most `START_MAX`.
+    /// A table of a tree that has these start keys with their values, balanced, with so many cards to be claimed, and one
+    /// pass that owns all these keys: the start keys are present, the others absent. The tree of the start keys has a card
+    /// for each of them, so the number of the last card is the number of cards asked for plus that of the start keys. Errors
+    /// are as of `reserve`. Conditions: those of `reserve`; the start keys are strictly ascending, among the keys, and at
+    /// most `START_MAX`.
     pub fn reserve_from(
         alloc: A,
         start: &[(u64, u64)],

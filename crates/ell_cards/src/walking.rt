@@ -49,13 +49,13 @@ impl<A: Allocator + Copy> CardTable<A> {
         self.load(pass, Call::Leave, 0);
     }
 
-    /// Answers the operation in hand. What is said is the set's answer on the pass's ledger, which becomes the set after it.
+    /// Answers the operation in hand. What is said is the map's answer on the pass's ledger, which becomes the map after it.
     #[inline(always)]
     pub fn answer(&self, pass: &mut Pass<A>, said: Reply)
         requires own { pass.old.table ≡ self.now.id }
         requires may { MayAnswer pass.old.view said }
         ensures step { Steps pass.old pass.new (after_answer said pass.old.view) }
-        ensures set { AnswersAsMap (ledger_of pass.old.view.worker.ledger) (ledger_of pass.new.view.worker.ledger) pass.old.view.worker.operation said }
+        ensures reply { AnswersAsMap (ledger_of pass.old.view.worker.ledger) (ledger_of pass.new.view.worker.ledger) pass.old.view.worker.operation said }
     {
         self.load(pass, Call::Answer(said), 0);
     }

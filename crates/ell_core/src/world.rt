@@ -72,10 +72,10 @@ impl<A: Allocator + Copy> World<A> {
         World::from_start(alloc, workers, owned, &[], cards)
     }
 
-    /// The opening tree over start keys, balanced, with workers and the keys that the entries give them: the start keys are present
-    /// with their values, the others absent. The start keys' tree has a card for each of them, so the cards to be claimed are those after them, and the
-    /// last card is as many more as there are start keys. Conditions: those of `new`; the start keys are strictly ascending, among the
-    /// keys of the entries, and at most `START_MAX`. Faults are as of `new`.
+    /// The opening tree over start keys, balanced, with workers and the keys that the entries give them: the start keys are
+    /// present with their values, the others absent. The start keys' tree has a card for each of them, so the cards to be
+    /// claimed are those after them, and the last card is as many more as there are start keys. Conditions: those of `new`;
+    /// the start keys are strictly ascending, among the keys of the entries, and at most `START_MAX`. Faults are as of `new`.
     pub fn from_start(
         alloc: A,
         workers: u32,

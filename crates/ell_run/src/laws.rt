@@ -6,7 +6,7 @@ ghost use Rattle.ell_run.specs.Settings.{most_tries};
 use crate::settings::TRIES_MAX;
 
 /// Parts serve: where each worker of a lawful parting has done a front of its part, whatever came in between, and the rest
-/// is applied afterwards, each worker's in its order, replies and final set are those of one thread over the whole list.
+/// is applied afterwards, each worker's in its order, replies and final map are those of one thread over the whole list.
 pub fn by_parts()
     ensures { PartsServe }
 {}

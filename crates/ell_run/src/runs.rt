@@ -41,10 +41,11 @@ pub struct Outcome<A: Allocator = Global> {
     pub late: usize,
 }
 
-/// Runs a list of operations from the map of `start`: each worker of the parting works its own part off on one tree that all share,
-/// in a thread of its own where one can be made, and what they leave is done by one thread after they have ended. Replies and final
-/// keys with their values are those of one thread over the whole list. The gate sees each call of the tree, under the number of its worker. Conditions:
-/// the keys of `start` are strictly ascending, at most `KEY_MAX`, and at most `START_MAX` many.
+/// Runs a list of operations from the map of `start`: each worker of the parting works its own part off on one tree that all
+/// share, in a thread of its own where one can be made, and what they leave is done by one thread after they have ended.
+/// Replies and final keys with their values are those of one thread over the whole list. The gate sees each call of the tree,
+/// under the number of its worker. Conditions: the keys of `start` are strictly ascending, at most `KEY_MAX`, and at most
+/// `START_MAX` many.
 pub fn run<R: Threads + Sync, A: Allocator + Copy + Send + Sync, G: StepGate + Sync>(
     rt: &R,
     alloc: A,

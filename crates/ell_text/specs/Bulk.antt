@@ -156,7 +156,7 @@ with_read before (Ok (Some line)) = with_line before line
 with_read before (Ok None) = before
 with_read before (Err fault) = before
 
--- a run may begin with this: it has a version, there is not too much of it, the start keys ascend, and all keys may stand in a set
+-- a run may begin with this: it has a version, there is not too much of it, the start keys ascend, and all keys may stand in a map
 pub record BulkFits (b : BulkValue) : Type 0 where
   pub version : IsVersion b.version
   pub within : length b.start + length b.ops ≤ most_operations

@@ -103,7 +103,7 @@ unless_skipped false (Err fault) = Err fault
 abbrev pub line_of : Version → Section → List ℕ → Result (Option Line) LineFault
 line_of version section line = unless_skipped (is_skipped line) (said_in version section line)
 
--- the key that a line names is one that a set may have
+-- the key that a line names is one that a map may have
 abbrev pub LineFits : Line → Type 0
 LineFits says.Version = ⊤
 LineFits (says.Start key value) = key ≤ greatest_key

@@ -44,7 +44,7 @@ pub(crate) fn try_delete<A: Allocator + Copy, G: StepGate>(
         answer(table, pass, op, Reply::No, gate);
         return Tried::Answered(Reply::No);
     }
-    // A leaf of a key of the set has a grandparent.
+    // A leaf of a real key has a grandparent.
     let Some(above) = place.grandparent else {
         return Tried::Hindered;
     };

@@ -1,4 +1,4 @@
-//! A set of keys that many threads share: the non-blocking binary search tree of Ellen, Fatourou, Ruppert and van Breugel
+//! A map from keys to values that many threads share: the non-blocking binary search tree of Ellen, Fatourou, Ruppert and van Breugel
 //! (PODC 2010). No writer waits for another; a writer that stalls is finished by its neighbours.
 #![tactic(auto)]
 

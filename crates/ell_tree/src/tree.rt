@@ -52,11 +52,12 @@ impl<A: Allocator + Copy> Tree<A> {
         Tree::reserve_from(alloc, &[], keys, cards)
     }
 
-    /// A tree that has these start keys with their values from the first on, balanced, and one pass that owns all these keys: the
-    /// start keys are present, the others absent. It saves inserting them: no operation is made for them, and none of the cards asked for is taken.
-    /// Their tree has a card for each of them, so the number of the last card, by which the steps of calls are bounded, is the
-    /// number of cards asked for plus that of the start keys. Errors are as of `reserve`. Conditions: those of `reserve`; the start
-    /// keys are strictly ascending, among the keys, and at most `START_MAX`, 200,000.
+    /// A tree that has these start keys with their values from the first on, balanced, and one pass that owns all these keys:
+    /// the start keys are present, the others absent. It saves inserting them: no operation is made for them, and none of the
+    /// cards asked for is taken. Their tree has a card for each of them, so the number of the last card, by which the steps
+    /// of calls are bounded, is the number of cards asked for plus that of the start keys. Errors are as of `reserve`.
+    /// Conditions: those of `reserve`; the start keys are strictly ascending, among the keys, and at most `START_MAX`,
+    /// 200,000.
     pub fn reserve_from(
         alloc: A,
         start: &[(u64, u64)],
@@ -111,8 +112,8 @@ impl<A: Allocator + Copy> Tree<A> {
         self.table.join(left, right)
     }
 
-    /// The value of a key of the pass, if the key is present. It helps nobody, nothing is in its way, and it takes at most `3 * cards + 7` steps, where
-    /// `cards` is the number of the last card.
+    /// The value of a key of the pass, if the key is present. It helps nobody, nothing is in its way, and it takes at most
+    /// `3 * cards + 7` steps, where `cards` is the number of the last card.
     pub fn find<G: StepGate>(&self, pass: &mut Pass<A>, key: u64, gate: &G) -> Option<u64>
         requires own { pass.old.table ≡ self.now.id }
         requires idle { IsIdle pass.old }
@@ -126,11 +127,12 @@ impl<A: Allocator + Copy> Tree<A> {
         find(&self.table, pass, key, gate)
     }
 
-    /// Adds a key of the pass with its value: whether the key was absent. A key that is present keeps its value. It is tried so often
-    /// at most, at least once, in at most `tries * (7 * cards + 27) + 1` steps, where `cards` is the number of the last card. `Busy`
-    /// comes where something was in the way of every try, and `Spent` where a try that would add the key finds all cards given out.
-    /// After either the map is as it was, and nothing of the call is under way. However it ends, whatever was in the way of a try is over by then: a card that
-    /// another pass took first, or a change of a neighbour, which was helped to its end where nobody else had ended it.
+    /// Adds a key of the pass with its value: whether the key was absent. A key that is present keeps its value. It is tried
+    /// so often at most, at least once, in at most `tries * (7 * cards + 27) + 1` steps, where `cards` is the number of the
+    /// last card. `Busy` comes where something was in the way of every try, and `Spent` where a try that would add the key
+    /// finds all cards given out. After either the map is as it was, and nothing of the call is under way. However it ends,
+    /// whatever was in the way of a try is over by then: a card that another pass took first, or a change of a neighbour,
+    /// which was helped to its end where nobody else had ended it.
     pub fn insert<G: StepGate>(
         &self,
         pass: &mut Pass<A>,

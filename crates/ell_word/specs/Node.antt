@@ -12,7 +12,7 @@ most_cards = 1000000
 abbrev pub most_start : ℕ
 most_start = 200000
 
--- the lesser of the two keys above all keys of the set
+-- the lesser of the two keys above all real keys
 abbrev pub infinity1 : ℕ
 infinity1 = 2 ^ 64 - 2
 

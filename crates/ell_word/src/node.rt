@@ -11,7 +11,7 @@ pub const CARDS_MAX: u64 = 1_000_000;
 /// The most start keys.
 pub const START_MAX: usize = 200_000;
 
-/// The lesser of the two keys above all keys of the set: the greatest leaf of the root's left subtree has it.
+/// The lesser of the two keys above all real keys: the greatest leaf of the root's left subtree has it.
 pub const INF1: u64 = 18_446_744_073_709_551_614;
 
 /// The greater of the two: the root and its right leaf have it.

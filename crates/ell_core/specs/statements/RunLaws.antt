@@ -46,12 +46,12 @@ EveryStateHasInvariant = (m : Machine) → IsPassed m → HasInvariant m
 abbrev pub EveryStateIsSound : Type 0
 EveryStateIsSound = (m : Machine) → IsPassed m → IsSound m
 
--- what is shown of an event changes the keys of the tree as its act does; a refusal changes nothing
+-- what is shown of an event changes the tree's keys and their values as its act does; a refusal changes nothing
 abbrev pub ShownChange : Act → Shown → Words → Words → Type 0
 ShownChange a (shown.Step said) old new = PairsChange a said old new
 ShownChange a (shown.Refused fault) old new = SamePairs old new
 
--- the keys of the tree change at a won ichild and a won dchild alone, by the card's key
+-- the tree's keys and their values change at a won ichild and a won dchild alone, by the card's key and value
 abbrev pub PairsChangeAtWins : Type 0
 PairsChangeAtWins = (m : Machine) (e : Event) (x : Shown) (m' : Machine) → IsPassed m → Shows m e x m'
     → ShownChange e.act x m.words m'.words
@@ -61,7 +61,7 @@ abbrev pub ShownLedgers : Machine → ℕ → Shown → Machine → Type 0
 ShownLedgers m i (shown.Step said) m' = LedgersChange m i said m'
 ShownLedgers m i (shown.Refused fault) m' = m' ≡ m
 
--- each answer is the set's
+-- each answer is the map's
 abbrev pub AnswersAreTheMaps : Type 0
 AnswersAreTheMaps = (m : Machine) (e : Event) (x : Shown) (m' : Machine) → IsPassed m → Shows m e x m'
     → ShownLedgers m e.worker x m'

@@ -172,9 +172,10 @@ is_of_marked _ = false
 
 -- what a step of worker i may rely on: where it stands, and what it reads and has read there; that a down leads to a greater
 -- node of the table; what its search has behind it; where the cards go of which it knows anything, and that the mark of one
--- that was marked stands; the key and the value of a leaf where it stands, and the grandparent that there is above its own key's; that a node
--- that came into the tree, the card in hand, and each card of which anything is known, are claimed ones of the table; that with a
--- card in hand that is not flagged it stands somewhere; that it owns its operation's key; and where claimed cards go
+-- that was marked stands; the key and the value of a leaf where it stands, and the grandparent that there is above its own
+-- key's; that a node that came into the tree, the card in hand, and each card of which anything is known, are claimed ones of
+-- the table; that with a card in hand that is not flagged it stands somewhere; that it owns its operation's key; and where
+-- claimed cards go
 pub record Reliance (m : Machine) (stage : Stages) (i : ℕ) : Type 0 where
   pub stands : (x : ℕ) → (m.worker i).search.node ≡ Some x → Born stage x
   pub reads : (x : ℕ) → (m.worker i).search.node ≡ Some x → IsInternal x → MayRead m.words stage x

@@ -7,7 +7,7 @@ use Rattle.ell_core.specs.state.Words.{Words}
 use Rattle.ell_core.specs.state.Cards.{child_for}
 use Rattle.ell_core.specs.acts.Searching.{IsLeaf}
 
--- the two keys above all keys of the set
+-- the two keys above all real keys
 abbrev pub infinity1 : ℕ
 infinity1 = greatest_key + 1
 

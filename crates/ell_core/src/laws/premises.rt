@@ -9,7 +9,7 @@ pub fn two_keys_can_open()
 {}
 
 /// One worker can open with any ascending list of real keys, all of them its own, and any ascending list of start keys among them,
-/// which are present, where there are cards for their tree.
+/// each with any value, which are present with them, where there are cards for their tree.
 pub fn one_worker_can_open()
     ensures { OneWorkerOpens }
 {}
@@ -20,8 +20,8 @@ pub fn openings_are_passed()
     ensures openings { OpeningsAreOpenings }
 {}
 
-/// The keys of an opening's tree are the start keys; each of them has an owner, and of the keys that a worker owns just they are
-/// present.
+/// The keys of an opening's tree are the start keys, with their values; each of them has an owner, and of the keys that a worker
+/// owns just they are present, with these values.
 pub fn openings_have_their_start_keys()
     ensures { OpeningsHaveTheirStartKeys }
 {}

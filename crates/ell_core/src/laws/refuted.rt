@@ -12,7 +12,7 @@ pub fn runs_promise_no_more()
     ensures order { ¬ ChildExchangesComeFirst }
 {}
 
-/// Of one event: ledgers differ, an insert adds the key of its own card, an answer is of the set before the operation, an owner
+/// Of one event: ledgers differ, an insert adds the key of its own card, an answer is of the map before the operation, an owner
 /// of all keys with an operation in hand may find a flag, and no part of a split may know more than its whole.
 pub fn events_promise_no_more()
     ensures ledgers { ¬ OneLedgerForAll }

@@ -8,13 +8,13 @@ pub fn every_state_is_sound()
     ensures sound { EveryStateIsSound }
 {}
 
-/// The keys of the tree change at a won ichild, which adds its card's key, and at a won dchild, which takes its card's key away;
-/// at every other event, and where one is refused, they are the same.
+/// The keys of the tree and their values change at a won ichild, which adds its card's key with the card's value, and at a won
+/// dchild, which takes its card's key away; at every other event, and where one is refused, they are the same.
 pub fn pairs_change_at_wins()
     ensures { PairsChangeAtWins }
 {}
 
-/// Each answer is the set's answer on the ledger of its worker, and the ledger becomes the set after the operation; no other
+/// Each answer is the map's answer on the ledger of its worker, and the ledger becomes the map after the operation; no other
 /// event changes a ledger.
 pub fn answers_are_the_maps()
     ensures { AnswersAreTheMaps }
@@ -41,7 +41,7 @@ pub fn facts_last()
     ensures { KnowledgeIsNeverLost }
 {}
 
-/// Where a claimed card goes and the keys of its nodes never change; and a node that came into the tree stays one that did.
+/// Where a claimed card goes, and the keys and values of its nodes, never change; and a node that came into the tree stays one that did.
 pub fn claimed_cards_are_fixed()
     ensures cards { ClaimedCardsAreFixed }
     ensures nodes { StagesRise }

@@ -8,7 +8,7 @@ pub fn invariant_is_sound()
     ensures { InvariantIsSound }
 {}
 
-/// Each of the fifteen events, won and lost, keeps the invariant, and changes keys, ledgers, knowledge and facts as it should.
+/// Each of the fifteen events, won and lost, keeps the invariant, and changes the keys with their values, ledgers, knowledge and facts as it should.
 pub fn events_are_lawful()
     ensures { EventsAreLawful }
 {}
@@ -22,7 +22,7 @@ pub fn moves_are_lawful()
 /// What a step may rely on: where a worker stands and what it has behind it came into the tree, children have greater numbers and
 /// stand in the table, an update word names a claimed card that set it there, and so does one that was read before. Cards go to
 /// nodes that came into the tree, a delete's ever deeper, and the mark of one that is known marked stands. A leaf where a worker
-/// stands has its key exactly where its ledger has it present, and then there is a grandparent. Each card in hand, or of which
+/// stands has its key and value exactly where its ledger has them, and then there is a grandparent. Each card in hand, or of which
 /// anything is known, is a claimed one.
 pub fn steps_may_rely()
     ensures { StepsMayRely }

@@ -23,8 +23,8 @@ pub fn no_tree_is_unlawful()
     ensures left_deep { BreaksTree leaf_below_the_root }
 {}
 
-/// No key has two owners, a key of the tree has one, and the owner has it present exactly when the tree has it: the set is in the
-/// tree, and not in the workers.
+/// No key has two owners, a key of the tree has one, and the owner has it present exactly when the tree has it, and with the same
+/// value: the map is in the tree, and not in the workers.
 pub fn no_ledger_is_wrong()
     ensures one_owner { BreaksLedgers key_owned_twice }
     ensures owned { BreaksLedgers key_without_owner }
