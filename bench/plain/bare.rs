@@ -7,7 +7,7 @@ mod workers;
 use bare_tree::BareTree;
 use std::io;
 use std::{env, process};
-use text::{read_bulk, write_answer, Operation};
+use text::{read_bulk, write_answer, Operation, Reply};
 use workers::{settings, work};
 
 fn main() -> io::Result<()> {
@@ -19,11 +19,11 @@ fn main() -> io::Result<()> {
     let tree = BareTree::reserve(&bulk.start, 4 * bulk.operations.len() as u64 + 64);
     let replies = work(&bulk.operations, &settings, |operation| {
         let reply = match operation {
-            Operation::Insert(key) => tree.insert(key, 0),
-            Operation::Delete(key) => tree.delete(key),
-            Operation::Find(key) => Some(tree.find(key).is_some()),
+            Operation::Insert(key, value) => tree.insert(key, value).map(Reply::from),
+            Operation::Delete(key) => tree.delete(key).map(Reply::from),
+            Operation::Find(key) => Some(Reply::from(tree.find(key))),
         };
         reply.expect("a card for each try")
     });
-    write_answer(&replies, tree.keys().into_iter())
+    write_answer(bulk.has_values, &replies, tree.pairs().into_iter())
 }

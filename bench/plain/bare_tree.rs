@@ -101,8 +101,8 @@ impl Index<(u64, Field)> for BareTree {
 }
 
 impl BareTree {
-    /// The opening tree of some ascending keys, and so many cards more, of which all words are 0.
-    pub fn reserve(start: &[u64], cards: u64) -> BareTree {
+    /// The opening tree of some ascending keys with their values, and so many cards more, of which all words are 0.
+    pub fn reserve(start: &[(u64, u64)], cards: u64) -> BareTree {
         let cards = start.len() as u64 + cards;
         let words = (0..13 + 12 * cards).map(|_| AtomicU64::new(0)).collect();
         let tree = BareTree { words, cards };
@@ -114,26 +114,28 @@ impl BareTree {
         tree.fill(0, Field::LeftLeafKey, INF1);
         tree.fill(0, Field::RightLeafKey, INF2);
         if !start.is_empty() {
-            tree.fill_branch(1, &[start, &[INF1]].concat());
+            tree.fill_branch(1, &[start, &[(INF1, 0)]].concat());
         }
         tree
     }
 
     /// Makes a card the node over some leaves, two at least, in a tree as balanced as can be. The nodes below it have the next cards,
     /// those on the left first.
-    fn fill_branch(&self, card: u64, leaves: &[u64]) {
+    fn fill_branch(&self, card: u64, leaves: &[(u64, u64)]) {
         let (left, right) = leaves.split_at(leaves.len() / 2);
-        self.fill(card, Field::Key, right[0]);
+        self.fill(card, Field::Key, right[0].0);
         self.fill(card, Field::Update, update_word(State::Clean, 0));
-        if let [key] = left {
+        if let [(key, value)] = left {
             self.fill(card, Field::LeftLeafKey, *key);
+            self.fill(card, Field::LeftValue, *value);
             self.fill(card, Field::Left, 3 * card + 1);
         } else {
             self.fill(card, Field::Left, 3 * (card + 1));
             self.fill_branch(card + 1, left);
         }
-        if let [key] = right {
+        if let [(key, value)] = right {
             self.fill(card, Field::RightLeafKey, *key);
+            self.fill(card, Field::RightValue, *value);
             self.fill(card, Field::Right, 3 * card + 2);
         } else {
             let below = card + left.len() as u64;
@@ -227,23 +229,23 @@ impl BareTree {
         (place.key == key).then_some(place.value)
     }
 
-    /// The keys of the leaves, ascending, when no thread is at work.
+    /// The keys of the leaves with their values, the keys ascending, when no thread is at work.
     #[allow(dead_code)]
-    pub fn keys(&self) -> Vec<u64> {
-        let (mut keys, mut pending) = (Vec::new(), vec![0]);
+    pub fn pairs(&self) -> Vec<(u64, u64)> {
+        let (mut pairs, mut pending) = (Vec::new(), vec![0]);
         while let Some(node) = pending.pop() {
             if is_internal(node) {
                 pending.push(self.child(node, true).load(SeqCst));
                 pending.push(self.child(node, false).load(SeqCst));
             } else {
-                keys.push(self.key(node));
+                pairs.push((self.key(node), self.value(node)));
             }
         }
-        keys.retain(|&key| key < INF1);
-        keys
+        pairs.retain(|&(key, _)| key < INF1);
+        pairs
     }
 
-    /// Adds a key with a value. None where no card is left.
+    /// Adds a key with a value, unless it is present. None where no card is left.
     pub fn insert(&self, key: u64, value: u64) -> Option<bool> {
         self.try_often(|| self.try_insert(key, value))
     }

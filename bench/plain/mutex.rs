@@ -1,14 +1,15 @@
 // A program that bench/run measures elltree against: the same operations in threads, on a `BTreeMap` behind a `Mutex`.
-// Its texts name no values, so each is 0.
 
+mod map;
 mod text;
 mod workers;
 
+use map::apply;
 use std::collections::BTreeMap;
 use std::io;
 use std::sync::Mutex;
 use std::{env, process};
-use text::{read_bulk, write_answer, Operation};
+use text::{read_bulk, write_answer};
 use workers::{settings, work};
 
 fn main() -> io::Result<()> {
@@ -17,14 +18,9 @@ fn main() -> io::Result<()> {
         process::exit(2);
     };
     let bulk = read_bulk()?;
-    let map = Mutex::new(BTreeMap::from_iter(bulk.start.into_iter().map(|key| (key, 0u64))));
+    let map = Mutex::new(BTreeMap::from_iter(bulk.start));
     let replies = work(&bulk.operations, &settings, |operation| {
-        let mut pairs = map.lock().unwrap();
-        match operation {
-            Operation::Insert(key) => pairs.insert(key, 0).is_none(),
-            Operation::Delete(key) => pairs.remove(&key).is_some(),
-            Operation::Find(key) => pairs.get(&key).is_some(),
-        }
+        apply(operation, &mut map.lock().unwrap())
     });
-    write_answer(&replies, map.into_inner().unwrap().into_keys())
+    write_answer(bulk.has_values, &replies, map.into_inner().unwrap().into_iter())
 }

@@ -1,6 +1,6 @@
 //! Operations that are parted among threads, each key with one of them.
 
-use crate::text::Operation;
+use crate::text::{Operation, Reply};
 use std::thread;
 
 type Part = Vec<(usize, Operation)>;
@@ -49,19 +49,19 @@ fn part(operations: &[Operation], settings: &Settings) -> Vec<Part> {
 }
 
 /// Does all operations, each part of them in a thread of its own, the first in this one: the replies, in the order of the list.
-pub fn work(operations: &[Operation], settings: &Settings, apply: impl Fn(Operation) -> bool + Sync) -> Vec<bool> {
+pub fn work(operations: &[Operation], settings: &Settings, apply: impl Fn(Operation) -> Reply + Sync) -> Vec<Reply> {
     let parts = part(operations, settings);
-    let work_off = |part: &Part| -> Vec<(usize, bool)> {
+    let work_off = |part: &Part| -> Vec<(usize, Reply)> {
         let replies = part.iter().map(|&(at, operation)| (at, apply(operation)));
         replies.collect()
     };
-    let pieces: Vec<Vec<(usize, bool)>> = thread::scope(|scope| {
+    let pieces: Vec<Vec<(usize, Reply)>> = thread::scope(|scope| {
         let others: Vec<_> = parts[1..].iter().map(|part| scope.spawn(|| work_off(part))).collect();
         let first = work_off(&parts[0]);
         let others = others.into_iter().map(|thread| thread.join().unwrap());
         [first].into_iter().chain(others).collect()
     });
-    let mut replies = vec![false; operations.len()];
+    let mut replies = vec![Reply::No; operations.len()];
     for (at, reply) in pieces.into_iter().flatten() {
         replies[at] = reply;
     }

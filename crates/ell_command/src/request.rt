@@ -36,23 +36,27 @@ pub enum Request {
 // The names of the partings of keys.
 static PARTINGS: [&str; 2] = ["stripe", "range"];
 
-const ABOUT: &str = "Finds, inserts and deletes on a set of keys, in bulk";
+const ABOUT: &str = "Finds, inserts and deletes on a map of keys and values, in bulk";
 
-const RUN_ABOUT: &str = "Run a text of finds, inserts and deletes on a set";
+const RUN_ABOUT: &str = "Run a text of finds, inserts and deletes on a map";
 
-const RUN_LONG_ABOUT: &str = "Run a text of finds, inserts and deletes on a set
+const RUN_LONG_ABOUT: &str = "Run a text of finds, inserts and deletes on a map
 
 Reads the text from standard input, one operation a line: `find K`, `insert K`
 or `delete K`, where the key K is a decimal number from 0 to
 18446744073709551613. Empty lines and lines that begin with `#` are skipped. A
 text has at most 200,000 operations and 16,777,216 bytes.
 
-The set begins empty. For one that is there already, lines `start K` before all
-operations give its keys, ascending. They count as operations, and have no
-answer.
+The map begins empty. For one that has keys already, lines `start K` before all
+operations give them, ascending. They count as operations, and have no answer.
 
 Writes `yes` or `no` for each operation to standard output, in order, then
-`keys N` and the N keys of the final set, ascending, one a line.";
+`keys N` and the N keys that are left, ascending, one a line.
+
+In a text whose first line is `version 2` the keys have values, from 0 to
+18446744073709551615: its lines are `insert K V`, `start K V`, `find K` and
+`delete K`. An insert of a key that is there keeps its value. A find answers
+`yes V`, and the last lines are `K V`.";
 
 const RUN_AFTER_HELP: &str = "Example:
   The four lines
@@ -66,6 +70,18 @@ const RUN_AFTER_HELP: &str = "Example:
     yes
     no
     keys 0
+
+  The four lines
+    version 2
+    insert 5 50
+    insert 5 51
+    find 5
+  give the answers
+    yes
+    no
+    yes 50
+    keys 1
+    5 50
 
 The tree is not rebalanced: where keys come sorted, it is deep, and a run slow.
 Shuffled files, `--workers 64` or `--cards 1` (one thread's run) are fast.

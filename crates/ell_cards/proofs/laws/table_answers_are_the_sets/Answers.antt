@@ -1,6 +1,0 @@
--- What the call of an answer tells, and the ledgers of a sound state.
-use Rattle.ell_cards.proofs.own_words.OwnLedgers.{table_answers_are_the_sets, ledgers_tell_the_tree, tree_keys_are_owned}
-use Rattle.ell_cards.proofs.laws.table_answers_are_the_sets.Goals as goal
-
-pub returns : goal.returns
-returns c = record { answers = table_answers_are_the_sets; ledgers = ledgers_tell_the_tree; owned = tree_keys_are_owned }
