@@ -1,17 +1,20 @@
 //! Runs by 64 workers beside one thread.
-ghost use Rattle.std.specs.Prelude.{◌≤◌, All};
-ghost use Rattle.ell_ops.specs.Meaning.{Fits};
+ghost use Rattle.std.specs.Prelude.{◌≤◌, All, length};
+ghost use Rattle.std.specs.List.Sorted.{IsStrictlyIncreasing};
+ghost use Rattle.std.specs.Map.{keys_of};
+ghost use Rattle.ell_ops.specs.Meaning.{Fits, greatest_key};
+ghost use Rattle.ell_word.specs.Node.{most_start};
 
 use crate::counts::{Counts, add};
-use crate::operations::operations;
-use ell_ops::{NoMemory, Op, Reply, WORKERS_MAX, apply_all};
+use crate::operations::{operations, start_pairs};
+use ell_ops::{NoMemory, Op, Reply, WORKERS_MAX, apply_from};
 use ell_run::{Limits, Parting, Settings, parts_for, run};
 use ell_word::{NoGate, StepGate};
 use std::alloc::Global;
 use std::thread::Threads;
 
-/// Has the workers do a list of operations on keys below a number, without a gate and with the one that counts: whether replies
-/// and pairs were those of one thread.
+/// Has the workers do a list of operations on keys below a number, from the empty map and from one that has some of the keys: whether
+/// replies and pairs were those of one thread.
 pub fn round<R: Threads + Sync>(
     rt: &R,
     alloc: Global,
@@ -20,19 +23,38 @@ pub fn round<R: Threads + Sync>(
     keys: u32,
     counts: &Counts,
 ) -> Result<bool, NoMemory>
-    requires { 1 ≤ keys }
+    requires some { 1 ≤ keys }
+    requires few { keys ≤ most_start }
 {
     let ops = operations(alloc, seed, count, keys)?;
-    let wanted = apply_all(alloc, &ops)?;
-    let bare = late_in(rt, alloc, &ops, &wanted, &NoGate)?;
-    let at_gate = late_in(rt, alloc, &ops, &wanted, counts)?;
+    let start = start_pairs(alloc, !seed, keys)?;
+    Ok(agree(rt, alloc, &[], &ops, counts)? && agree(rt, alloc, &start, &ops, counts)?)
+}
+
+// Has the workers do the operations from the map of `start`, without a gate and with the one that counts: whether replies and pairs were
+// those of one thread.
+fn agree<R: Threads + Sync>(
+    rt: &R,
+    alloc: Global,
+    start: &[(u64, u64)],
+    ops: &[Op],
+    counts: &Counts,
+) -> Result<bool, NoMemory>
+    requires ascending { IsStrictlyIncreasing (keys_of start.now) }
+    requires real { All (λ key. key ≤ greatest_key) (keys_of start.now) }
+    requires few { length start.now ≤ most_start }
+    requires fits { All Fits ops.now }
+{
+    let wanted = apply_from(alloc, start, ops)?;
+    let bare = late_in(rt, alloc, start, ops, &wanted, &NoGate)?;
+    let at_gate = late_in(rt, alloc, start, ops, &wanted, counts)?;
     let (Some(late), Some(late_at_gate)) = (bare, at_gate) else {
         return Ok(false);
     };
     add(&counts.late, late);
     add(&counts.late_at_gate, late_at_gate);
-    let answered = ops.iter().zip(&wanted.0);
-    let changes = answered.filter(|it| *it.1 == Reply::Yes && !matches!(it.0, Op::Find(_)));
+    // A find answers its value or no, so each yes is of a change.
+    let changes = wanted.0.iter().filter(|it| **it == Reply::Yes);
     add(&counts.changes, changes.count() as u64);
     Ok(true)
 }
@@ -41,11 +63,15 @@ pub fn round<R: Threads + Sync>(
 fn late_in<R: Threads + Sync, G: StepGate + Sync>(
     rt: &R,
     alloc: Global,
+    start: &[(u64, u64)],
     ops: &[Op],
     wanted: &(Vec<Reply>, Vec<(u64, u64)>),
     gate: &G,
 ) -> Result<Option<u64>, NoMemory>
-    requires { All Fits ops.now }
+    requires ascending { IsStrictlyIncreasing (keys_of start.now) }
+    requires real { All (λ key. key ≤ greatest_key) (keys_of start.now) }
+    requires few { length start.now ≤ most_start }
+    requires fits { All Fits ops.now }
 {
     let tries = 1000;
     let settings = Settings {
@@ -57,7 +83,7 @@ fn late_in<R: Threads + Sync, G: StepGate + Sync>(
     let parts = parts_for(alloc, ops, settings)?;
     let cards = 4 * ops.len().min(200_000) as u64 + 64;
     let limits = Limits { cards, tries };
-    let outcome = run(rt, alloc, &[], ops, &parts, limits, gate)?;
+    let outcome = run(rt, alloc, start, ops, &parts, limits, gate)?;
     let is_wanted = outcome.replies == wanted.0 && outcome.pairs == wanted.1;
     Ok(is_wanted.then_some(outcome.late as u64))
 }
