@@ -1,12 +1,12 @@
-use Rattle.std.proofs.Common.{◌≡◌, ◌≢◌, ℕ, zero, suc, ◌<◌, ◌≤◌, ◌↔◌, Bool, true, false, cond, not, Option, Some, None, is_some, if◌then◌else◌, unwrap_or, List, [], ◌∷◌, eqb, take, arith, refl, ap, sym, ◌∙◌, inl, inr, ⊎_elim}
+use Rattle.std.proofs.Common.{◌≡◌, ◌≢◌, ℕ, zero, suc, ◌<◌, ◌↔◌, not, Option, Some, None, is_some, if◌then◌else◌, unwrap_or, List, [], ◌∷◌, take, arith, refl, ap, sym, ◌∙◌, inl, inr, ⊎_elim}
 use Rattle.std.specs.Prelude.{slice_get}
 use Rattle.std.proofs.lemmas.Bool.{cases_eq, eq-eqb, ne_eqb}
 use Rattle.ell_ops.specs.declared.op.Op.{Op}
 use Rattle.ell_ops.specs.declared.op.Op.TheVariants.{Find, Insert, Delete}
 use Rattle.ell_ops.specs.declared.reply.Reply.TheVariants.{No, Yes, Found}
 use Rattle.ell_ops.specs.Contents.{Contents}
-use Rattle.ell_ops.specs.Meaning.{key_of, yes_if, found, reply_of, after, replies, final}
-use Rattle.ell_ops.specs.LastWriter.{NoInsert, NoDelete, IsAbsent, HasValue, IsPresent, Answers, FoldHasPresentKeys, RepliesGoByPresence}
+use Rattle.ell_ops.specs.Meaning.{yes_if, found, reply_of, after, replies, final}
+use Rattle.ell_ops.specs.LastWriter.{NoInsert, NoDelete, IsAbsent, HasValue, Answers, FoldHasPresentKeys, RepliesGoByPresence}
 
 -- no insert behind the first operation, in the list and in its rest
 inserts_up : (op : Op) (ops : List Op) (key low high : ℕ) → NoInsert ops key low high → NoInsert (op ∷ ops) key (suc low) (suc high)

@@ -4,7 +4,7 @@ use Rattle.ell_ops.specs.declared.op.Op.TheVariants.{Find, Insert, Delete}
 use Rattle.ell_ops.specs.declared.reply.Reply.{Reply}
 use Rattle.ell_ops.specs.declared.reply.Reply.TheVariants.{No, Yes, Found}
 use Rattle.ell_ops.specs.Contents.{Contents}
-use Rattle.ell_ops.specs.Meaning.{key_of, replies, final}
+use Rattle.ell_ops.specs.Meaning.{replies, final}
 
 -- no insert of the key stands from position low up to position high
 abbrev pub NoInsert : List Op → ℕ → ℕ → ℕ → Type 0

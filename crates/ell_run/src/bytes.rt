@@ -1,5 +1,5 @@
 //! A bulk text, run from bytes to bytes.
-ghost use Rattle.std.specs.Prelude.{◌≡◌, ◌≤◌, IfErr, IfOk, OnOk};
+ghost use Rattle.std.specs.Prelude.{◌≡◌, IfErr, IfOk, OnOk};
 ghost use Rattle.ell_run.specs.Answered.{IsAnswered, IsReported, Tells};
 ghost use Rattle.ell_run.specs.RunFault.{of_input, of_text, of_write};
 ghost use Rattle.ell_run.specs.Settings.{AreSettings};

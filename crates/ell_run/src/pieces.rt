@@ -1,5 +1,5 @@
 //! What one worker does on its part, with a pass of the shared tree, and the pieces that workers leave.
-ghost use Rattle.std.specs.Prelude.{◌≡◌, ◌≤◌, ℕ, List, All, IfOk, length, map};
+ghost use Rattle.std.specs.Prelude.{◌≡◌, ◌≤◌, ℕ, IfOk, length, map};
 ghost use Rattle.ell_ops.specs.Meaning.{key_of};
 ghost use Rattle.ell_tree.specs.Ends.{Ends};
 ghost use Rattle.ell_tree.specs.Ledgers.{IsIdle, Owns, PassModel};

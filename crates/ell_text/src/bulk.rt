@@ -5,7 +5,6 @@ ghost use Rattle.std.specs.Map.{keys_of};
 ghost use Rattle.ell_ops.specs.Meaning.{Fits, greatest_key};
 ghost use Rattle.ell_text.specs.Bulk.{BulkFits, HasSoundLine, bulk, bulk_value, fault_of, fault_of_said, line_behind, located, next_section, nothing_said, spoken_in, with_line, with_read};
 ghost use Rattle.ell_text.specs.Limits.{most_operations};
-ghost use Rattle.ell_text.specs.Line.{LineFits};
 ghost use Rattle.ell_text.specs.Lines.{lines};
 ghost use Rattle.ell_text.specs.Version.{IsVersion, version_numbered};
 

@@ -1,5 +1,5 @@
 //! A listing: a line for each item, and then the keys. Replies are listed, and what is shown of events.
-ghost use Rattle.std.specs.Prelude.{◌≡◌, ℕ, ◌<◌, List, length, take, IfErr, OnOk};
+ghost use Rattle.std.specs.Prelude.{ℕ, ◌<◌, List, length, take, IfErr, OnOk};
 ghost use Rattle.std.specs.List.{flat_map};
 ghost use Rattle.std.specs.Io.KnownBytes.{Appends};
 ghost use Rattle.ell_text.specs.declared.version.Version.{Version};

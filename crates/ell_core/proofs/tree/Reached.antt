@@ -3,7 +3,7 @@ use Rattle.ell_ops.specs.Meaning.{greatest_key}
 use Rattle.ell_core.specs.state.Words.{Words}
 use Rattle.ell_core.specs.acts.Searching.{IsLeaf}
 use Rattle.ell_core.specs.tree.Tree.{OnWalk, here, next, Finds, Leads, Below, Reached, IsTreeKey, IsTreePair}
-use Rattle.ell_core.specs.tree.Ranges.{low_of, high_of, Spans, root, goes, Meets, at_leaf, below, IsOrdered, OnCourse}
+use Rattle.ell_core.specs.tree.Ranges.{low_of, high_of, Spans, root, goes, at_leaf, below, IsOrdered}
 use Rattle.ell_core.specs.tree.Ranges as ranges
 use Rattle.ell_core.specs.history.Invariant.{top, IsIn, IsOut, LeadsTo, LeadsToValue, IsOnCourse}
 use Rattle.ell_core.proofs.tree.Bounds.{leaf_holds, Meets-map, child_within, side_of, leaf_is_met}

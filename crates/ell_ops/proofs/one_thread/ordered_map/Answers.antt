@@ -1,4 +1,4 @@
-use Rattle.std.proofs.Common.{◌≡◌, ℕ, List, take, get_or, ap, sym, ◌∙◌}
+use Rattle.std.proofs.Common.{take, get_or, ap, sym, ◌∙◌}
 use Rattle.std.proofs.lemmas.List.{take_more}
 use Rattle.ell_ops.specs.Contents.{contents_of, with_pair}
 use Rattle.ell_ops.proofs.Pairs.{contents_of-push}

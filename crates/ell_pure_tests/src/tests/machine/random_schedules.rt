@@ -1,5 +1,5 @@
 //! A schedule of 100,000 pseudo-random events of 8 workers on 64 keys, beside a plain map.
-ghost use Rattle.std.specs.Prelude.{◌≡◌, ◌≤◌, ◌<◌};
+ghost use Rattle.std.specs.Prelude.{◌≡◌, ◌<◌};
 
 use super::scripts::{LOST, MOVED, WON, opened, show};
 use super::walking::value_in;

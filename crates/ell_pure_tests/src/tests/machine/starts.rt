@@ -3,7 +3,7 @@ ghost use Rattle.std.specs.Prelude.{◌/◌, ◌≡◌, ◌≤◌, All, IfOk, le
 ghost use Rattle.std.specs.Map.{keys_of};
 ghost use Rattle.std.specs.List.Sorted.{IsStrictlyIncreasing};
 ghost use Rattle.ell_ops.specs.Meaning.{greatest_key};
-ghost use Rattle.ell_word.specs.Node.{most_cards, most_start};
+ghost use Rattle.ell_word.specs.Node.{most_start};
 ghost use Rattle.ell_core.specs.state.Opening.{last_card};
 
 use super::scripts::Line::{self, Does, Filled, Finds, Has, Lists, Next, Searches};

@@ -1,5 +1,4 @@
 //! Runs over start keys: small ones with the answers that a person gave them, and random ones beside one thread.
-ghost use Rattle.std.specs.Prelude.{◌≡◌};
 ghost use Rattle.std.specs.List.Sorted.{IsStrictlyIncreasing};
 ghost use Rattle.std.specs.Map.{keys_of};
 
