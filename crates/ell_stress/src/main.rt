@@ -1,5 +1,6 @@
-//! Has 64 workers do pseudo-random operations on 64, 8 and 2 keys, from the empty map and from one with some of the keys, again and again,
-//! and compares replies, keys and values with those of one thread. Standard output says on how many keys they agreed, and standard error what was counted, which is by the schedule.
+//! Has 64 workers do pseudo-random operations on 64, 8 and 2 keys, from the empty map and from one with some of the keys, again and
+//! again, and compares replies, keys and values with those of one thread. Standard output says on how many keys they agreed, and
+//! standard error what was counted, which is by the schedule.
 #![tactic(auto)]
 
 ghost use Rattle.std.specs.Prelude.{◌≤◌};
