@@ -116,8 +116,8 @@ after_begin op v = record v {
   told = Met 0 ∷ v.told;
   here = None;
   next = None;
-  filling = [];
-  filled = [];
+  planned = [];
+  stores = [];
 }
 
 -- again: the operation in hand begins once more, and what its search read in the way was a hindrance
@@ -129,20 +129,20 @@ abbrev pub after_leave : View → View
 after_leave v = record v {
   worker = idle_worker v.worker.ledger v.worker.facts;
   here = None;
-  filling = [];
-  filled = [];
+  planned = [];
+  stores = [];
   hindrances = given_up v;
 }
 
 -- the ledger where a key's entry is this one now
-abbrev pub with_key : ℕ → Entry → List (ℕ × Entry) → List (ℕ × Entry)
-with_key k entry [] = []
-with_key k entry (e ∷ es) = (e.0, if k == e.0 then entry else e.1) ∷ with_key k entry es
+abbrev pub with_entry : ℕ → Entry → List (ℕ × Entry) → List (ℕ × Entry)
+with_entry k entry [] = []
+with_entry k entry (e ∷ es) = (e.0, if k == e.0 then entry else e.1) ∷ with_entry k entry es
 
 -- the ledger after an operation was answered so
 abbrev pub answered_ledger : Option Op → Reply → List (ℕ × Entry) → List (ℕ × Entry)
-answered_ledger (Some (Insert k value)) Yes ledger = with_key k (Present value) ledger
-answered_ledger (Some (Delete k)) Yes ledger = with_key k Absent ledger
+answered_ledger (Some (Insert k value)) Yes ledger = with_entry k (Present value) ledger
+answered_ledger (Some (Delete k)) Yes ledger = with_entry k Absent ledger
 answered_ledger _ _ ledger = ledger
 
 -- answer: nothing is in hand any more, and the ledger goes by the answer
@@ -150,8 +150,8 @@ abbrev pub after_answer : Reply → View → View
 after_answer said v = record v {
   worker = idle_worker (answered_ledger v.worker.operation said v.worker.ledger) v.worker.facts;
   here = None;
-  filling = [];
-  filled = [];
+  planned = [];
+  stores = [];
   answers = v.answers + 1;
 }
 
@@ -252,18 +252,18 @@ abbrev pub after_claim : Bool → ℕ → View → View
 after_claim true c v = record v {
   worker = record (v.worker) { card = Some c; flagged = false };
   told = told_filling c (filling_of c v) v.told;
-  filling = filling_of c v;
-  filled = [];
+  planned = filling_of c v;
+  stores = [];
 }
 after_claim false c v = record v { hindrances = Claim c ∷ v.hindrances }
 
 -- fill: a word of the card in hand was stored
 abbrev pub after_fill : Field → ℕ → View → View
-after_fill f x v = record v { filled = (f, x) ∷ v.filled }
+after_fill f x v = record v { stores = (f, x) ∷ v.stores }
 
 -- the view where these words of the card in hand were stored, the last first
 abbrev pub with_stores : List (Field × ℕ) → View → View
-with_stores stores v = record v { filled = stores }
+with_stores stores v = record v { stores = stores }
 
 -- the search stands nowhere any more
 abbrev pub nowhere : Search → Search
@@ -322,8 +322,8 @@ idle_view ledger = record {
   told = Met 0 ∷ [];
   here = None;
   next = None;
-  filling = [];
-  filled = [];
+  planned = [];
+  stores = [];
   found = None;
   answers = 0;
   hindrances = [];
@@ -353,8 +353,8 @@ part_view ledger v = record v {
   worker = idle_worker ledger v.worker.facts;
   here = None;
   next = None;
-  filling = [];
-  filled = [];
+  planned = [];
+  stores = [];
   found = None;
 }
 
@@ -389,8 +389,8 @@ joined_view v w = record {
   told = v.told ++ w.told;
   here = None;
   next = later v.next w.next;
-  filling = [];
-  filled = [];
+  planned = [];
+  stores = [];
   found = None;
   answers = v.answers + w.answers;
   hindrances = v.hindrances ++ w.hindrances;

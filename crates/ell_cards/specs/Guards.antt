@@ -35,7 +35,7 @@ TellsOf v leaf key k None = key ≢ k
 TellsOf v leaf key k (Some value) = (key ≡ k) × IsTold v (Value leaf value)
 
 -- an answer at the leaf where the pass stands, whose key it was told, and its value too, where it has the operation's key
-pub record AnswersAtLeaf (v : View) (op : Op) (said : Reply) : Type 0 where
+pub record KnowsAnswerAtLeaf (v : View) (op : Op) (said : Reply) : Type 0 where
   pub leaf : ℕ
   pub key : ℕ
   pub there : Option ℕ
@@ -52,7 +52,7 @@ IsOver v (Insert k value) c = Knows v (IOver c)
 IsOver v (Delete k) c = Knows v (DOver c)
 
 -- an answer by the card in hand, which is over: yes
-pub record AnswersByCard (v : View) (op : Op) (said : Reply) : Type 0 where
+pub record KnowsAnswerByCard (v : View) (op : Op) (said : Reply) : Type 0 where
   pub card : ℕ
   pub holds : v.worker.card ≡ Some card
   pub flagged : v.worker.flagged ≡ true
@@ -63,7 +63,7 @@ pub record AnswersByCard (v : View) (op : Op) (said : Reply) : Type 0 where
 pub record MayAnswer (v : View) (said : Reply) : Type 0 where
   pub op : Op
   pub busy : Does v op
-  pub answers : AnswersAtLeaf v op said ⊎ AnswersByCard v op said
+  pub answers : KnowsAnswerAtLeaf v op said ⊎ KnowsAnswerByCard v op said
 
 -- upd: the pass stands at this internal node, and has not read its update word
 pub record MayRead (v : View) (x : ℕ) : Type 0 where
@@ -140,7 +140,7 @@ pub record MayFill (v : View) (c : ℕ) : Type 0 where
 
 -- the card in hand is filled: what was stored is what it is to say, in every field
 abbrev pub IsFilled : View → Type 0
-IsFilled v = (f : Field) → stored_at v.filled f ≡ stored v.filling f 0
+IsFilled v = (f : Field) → stored_at v.stores f ≡ stored v.planned f 0
 
 -- iflag: an insert's card is in hand, filled and not flagged, and this is the parent with the update that was read there
 pub record MayIFlag (v : View) (c p : ℕ) (from : Update) : Type 0 where

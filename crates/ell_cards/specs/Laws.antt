@@ -8,11 +8,11 @@ use Rattle.ell_cards.specs.declared.view.View.{View}
 use Rattle.ell_cards.specs.Models.{IsFree}
 use Rattle.ell_cards.specs.Changes.{left_view, right_view, joined_view, spent_view}
 use Rattle.ell_cards.specs.Calls.{word_of, atomic_of, left_by, after, act_of, said_of, Becomes, May, Tells}
-use Rattle.ell_cards.specs.Rule.{TableState, seated, Kept}
+use Rattle.ell_cards.specs.Rule.{TableState, seated, RuleHolds}
 
 -- the machine that a state of the rule is
-abbrev pub machine_of : (keys : List ℕ) (cards : ℕ) (s : TableState) → Kept keys cards s → Machine
-machine_of keys cards s r = seated r.words s.views cards
+abbrev pub machine_of_table : (keys : List ℕ) (cards : ℕ) (s : TableState) → RuleHolds keys cards s → Machine
+machine_of_table keys cards s r = seated r.words s.views cards
 
 -- the word that a step call finds
 abbrev pub found_by : TableState → Call → ℕ
@@ -32,14 +32,14 @@ state_after s id v c = record {
 }
 
 -- that state is of the rule again, by a machine to which the call's event leads, or the same one; and what the call tells is so
-pub record IsEvent (keys : List ℕ) (cards : ℕ) (s : TableState) (r : Kept keys cards s) (id : ℕ) (v : View) (c : Call) : Type 0 where
-  pub kept : Kept keys cards (state_after s id v c)
-  pub event : Becomes id (act_of c (found_by s c)) (said_of c (found_by s c)) (machine_of keys cards s r) (machine_of keys cards (state_after s id v c) kept)
+pub record IsEvent (keys : List ℕ) (cards : ℕ) (s : TableState) (r : RuleHolds keys cards s) (id : ℕ) (v : View) (c : Call) : Type 0 where
+  pub kept : RuleHolds keys cards (state_after s id v c)
+  pub event : Becomes id (act_of c (found_by s c)) (said_of c (found_by s c)) (machine_of_table keys cards s r) (machine_of_table keys cards (state_after s id v c) kept)
   pub tells : Tells cards c v (found_by s c)
 
 -- each step call is one event of the machine, or leaves it
 abbrev pub StepsAreEvents : Type 0
-StepsAreEvents = (keys : List ℕ) (cards : ℕ) (s : TableState) (r : Kept keys cards s) (id : ℕ) (v : View) (c : Call)
+StepsAreEvents = (keys : List ℕ) (cards : ℕ) (s : TableState) (r : RuleHolds keys cards s) (id : ℕ) (v : View) (c : Call)
     → get_elem? s.views id ≡ some v → May cards c v → IsEvent keys cards s r id v c
 
 -- the state after a split of the pass in a seat: the seat has the left part, and a new one at the end the right part
@@ -51,13 +51,13 @@ state_split s id v left = record {
 }
 
 -- that state is of the rule again, by a machine that is the one before after a split of that worker
-pub record IsSplit (keys : List ℕ) (cards : ℕ) (s : TableState) (r : Kept keys cards s) (id : ℕ) (v : View) (left : List ℕ) : Type 0 where
-  pub kept : Kept keys cards (state_split s id v left)
-  pub split : Split (machine_of keys cards s r) id (machine_of keys cards (state_split s id v left) kept)
+pub record IsSplit (keys : List ℕ) (cards : ℕ) (s : TableState) (r : RuleHolds keys cards s) (id : ℕ) (v : View) (left : List ℕ) : Type 0 where
+  pub kept : RuleHolds keys cards (state_split s id v left)
+  pub split : Split (machine_of_table keys cards s r) id (machine_of_table keys cards (state_split s id v left) kept)
 
 -- each split is one of the machine
 abbrev pub SplitsAreMoves : Type 0
-SplitsAreMoves = (keys : List ℕ) (cards : ℕ) (s : TableState) (r : Kept keys cards s) (id : ℕ) (v : View) (left : List ℕ)
+SplitsAreMoves = (keys : List ℕ) (cards : ℕ) (s : TableState) (r : RuleHolds keys cards s) (id : ℕ) (v : View) (left : List ℕ)
     → get_elem? s.views id ≡ some v → IsFree v → IsSplit keys cards s r id v left
 
 -- the state after a join of the passes in two seats: the first has what both had, and the other nothing
@@ -69,12 +69,12 @@ state_joined s id other v w = record {
 }
 
 -- that state is of the rule again, by a machine that is the one before after a join of these workers
-pub record IsJoin (keys : List ℕ) (cards : ℕ) (s : TableState) (r : Kept keys cards s) (id other : ℕ) (v w : View) : Type 0 where
-  pub kept : Kept keys cards (state_joined s id other v w)
-  pub join : Join (machine_of keys cards s r) id other (machine_of keys cards (state_joined s id other v w) kept)
+pub record IsJoin (keys : List ℕ) (cards : ℕ) (s : TableState) (r : RuleHolds keys cards s) (id other : ℕ) (v w : View) : Type 0 where
+  pub kept : RuleHolds keys cards (state_joined s id other v w)
+  pub join : Join (machine_of_table keys cards s r) id other (machine_of_table keys cards (state_joined s id other v w) kept)
 
 -- each join is one of the machine
 abbrev pub JoinsAreMoves : Type 0
-JoinsAreMoves = (keys : List ℕ) (cards : ℕ) (s : TableState) (r : Kept keys cards s) (id other : ℕ) (v w : View)
+JoinsAreMoves = (keys : List ℕ) (cards : ℕ) (s : TableState) (r : RuleHolds keys cards s) (id other : ℕ) (v w : View)
     → get_elem? s.views id ≡ some v → get_elem? s.views other ≡ some w → id ≢ other → IsFree v → IsFree w
     → IsJoin keys cards s r id other v w

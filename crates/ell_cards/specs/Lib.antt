@@ -17,7 +17,7 @@ pub mod Stepping
 -- the laws of the rule
 pub mod Laws
 -- how a table ends
-pub mod Ends
+pub mod Closed
 -- what the table's own words are in a state of the rule, and how the keys of their tree change
 pub mod OwnWords
 -- runs of a table: turns of its passes, one after the other
@@ -26,3 +26,15 @@ pub mod Runs
 pub mod RunLaws
 -- tables as they start, and where runs lead from there
 pub mod Starts
+-- what its public clauses cite of the crates below
+pub use Rattle.ell_ops.specs.KeySet
+pub use Rattle.ell_ops.specs.Meaning
+pub use Rattle.ell_word.specs.Node
+pub use Rattle.ell_word.specs.Word
+pub use Rattle.ell_core.specs.state.Cards
+pub use Rattle.ell_core.specs.state.Layout
+pub use Rattle.ell_core.specs.state.Machine
+pub use Rattle.ell_core.specs.state.Opening
+pub use Rattle.ell_core.specs.state.Words
+pub use Rattle.ell_core.specs.acts.Searching
+pub use Rattle.ell_core.specs.statements.StepLaws

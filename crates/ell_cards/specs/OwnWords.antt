@@ -19,8 +19,8 @@ use Rattle.ell_cards.specs.declared.call.Call.TheVariants as call
 use Rattle.ell_cards.specs.declared.view.View.{View}
 use Rattle.ell_cards.specs.Models.{KnowsCard, Does, IsFree}
 use Rattle.ell_cards.specs.Calls.{atomic_of, is_won, May}
-use Rattle.ell_cards.specs.Rule.{TableState, seated, Kept}
-use Rattle.ell_cards.specs.Laws.{machine_of, found_by, view_after, state_after}
+use Rattle.ell_cards.specs.Rule.{TableState, seated, RuleHolds}
+use Rattle.ell_cards.specs.Laws.{machine_of_table, found_by, view_after, state_after}
 use Rattle.ell_core.specs.declared.view.Entry.TheVariants.{Present}
 
 -- the table's own words, by their names
@@ -33,11 +33,11 @@ own_machine cards s = seated (own_words s) s.views cards
 
 -- in a state of the rule the table's own words, with what its passes know, are a sound state
 abbrev pub OwnWordsAreSound : Type 0
-OwnWordsAreSound = (keys : List ℕ) (cards : ℕ) (s : TableState) → Kept keys cards s → IsSound (own_machine cards s)
+OwnWordsAreSound = (keys : List ℕ) (cards : ℕ) (s : TableState) → RuleHolds keys cards s → IsSound (own_machine cards s)
 
 -- so is the rule's machine
 abbrev pub RuleIsSound : Type 0
-RuleIsSound = (keys : List ℕ) (cards : ℕ) (s : TableState) (r : Kept keys cards s) → IsSound (machine_of keys cards s r)
+RuleIsSound = (keys : List ℕ) (cards : ℕ) (s : TableState) (r : RuleHolds keys cards s) → IsSound (machine_of_table keys cards s r)
 
 -- a card is in the hand of a pass, flagged
 pub record IsHeld (v : View) (c : ℕ) : Type 0 where
@@ -48,7 +48,7 @@ pub record IsHeld (v : View) (c : ℕ) : Type 0 where
 -- is each card of a node that is reached from the root, each that a flag or a mark of such a node names, and each that a pass
 -- knows flagged or marked, or has in hand, flagged. The same nodes are reached in both, and the trees have the same keys
 -- with the same values
-pub record WordsAreOwn (keys : List ℕ) (cards : ℕ) (s : TableState) (r : Kept keys cards s) : Type 0 where
+pub record WordsAreOwn (keys : List ℕ) (cards : ℕ) (s : TableState) (r : RuleHolds keys cards s) : Type 0 where
   pub next : r.words.next ≡ (own_words s).next
   pub settled : (c : ℕ) → waits (r.stages c) ≡ false → SaysTheSame (own_words s) r.words c
   pub reached : (x : ℕ) → Reached r.words x ↔ Reached (own_words s) x
@@ -61,7 +61,7 @@ pub record WordsAreOwn (keys : List ℕ) (cards : ℕ) (s : TableState) (r : Kep
 
 -- so they are in every state of the rule
 abbrev pub RuleHasOwnWords : Type 0
-RuleHasOwnWords = (keys : List ℕ) (cards : ℕ) (s : TableState) (r : Kept keys cards s) → WordsAreOwn keys cards s r
+RuleHasOwnWords = (keys : List ℕ) (cards : ℕ) (s : TableState) (r : RuleHolds keys cards s) → WordsAreOwn keys cards s r
 
 -- what a call does to the keys of the tree and their values, by whether it is a won exchange: a won ichild adds its card's key with
 -- its value, a won dchild takes its card's key away, and nothing else changes them
@@ -72,7 +72,7 @@ PairsChangeBy _ _ old new = SamePairs old new
 
 -- so each step call of each pass changes the pairs of the tree that the table's own words make
 abbrev pub TablePairsChangeAtWins : Type 0
-TablePairsChangeAtWins = (keys : List ℕ) (cards : ℕ) (s : TableState) → Kept keys cards s → (id : ℕ) (v : View) (c : Call)
+TablePairsChangeAtWins = (keys : List ℕ) (cards : ℕ) (s : TableState) → RuleHolds keys cards s → (id : ℕ) (v : View) (c : Call)
     → get_elem? s.views id ≡ some v → May cards c v
     → PairsChangeBy c (is_won (atomic_of c) (found_by s c)) (own_words s) (own_words (state_after s id v c))
 
@@ -85,12 +85,12 @@ LedgerChangesBy _ v w = w.worker.ledger ≡ v.worker.ledger
 
 -- so does each step call of each pass
 abbrev pub TableAnswersAreTheMaps : Type 0
-TableAnswersAreTheMaps = (keys : List ℕ) (cards : ℕ) (s : TableState) → Kept keys cards s → (id : ℕ) (v : View) (c : Call)
+TableAnswersAreTheMaps = (keys : List ℕ) (cards : ℕ) (s : TableState) → RuleHolds keys cards s → (id : ℕ) (v : View) (c : Call)
     → get_elem? s.views id ≡ some v → May cards c v → LedgerChangesBy c v (view_after s v c)
 
 -- a pass with nothing in hand has each of its keys in its ledger as the tree has it that the table's own words make, with its value
 abbrev pub LedgersTellTheTree : Type 0
-LedgersTellTheTree = (keys : List ℕ) (cards : ℕ) (s : TableState) → Kept keys cards s → (id : ℕ) (v : View)
+LedgersTellTheTree = (keys : List ℕ) (cards : ℕ) (s : TableState) → RuleHolds keys cards s → (id : ℕ) (v : View)
     → get_elem? s.views id ≡ some v → IsFree v → (key value : ℕ) → ledger_of v.worker.ledger key ≢ None
     → IsTreePair (own_words s) key value ↔ (ledger_of v.worker.ledger key ≡ Some (Present value))
 
@@ -102,7 +102,7 @@ pub record IsOwnedKey (s : TableState) (key : ℕ) : Type 0 where
   pub owns : ledger_of view.worker.ledger key ≢ None
 
 abbrev pub TreeKeysAreOwned : Type 0
-TreeKeysAreOwned = (keys : List ℕ) (cards : ℕ) (s : TableState) → Kept keys cards s → (key : ℕ) → IsTreeKey (own_words s) key → IsOwnedKey s key
+TreeKeysAreOwned = (keys : List ℕ) (cards : ℕ) (s : TableState) → RuleHolds keys cards s → (key : ℕ) → IsTreeKey (own_words s) key → IsOwnedKey s key
 
 -- a pass has this operation in hand, and for it this card, flagged
 pub record IsAtWork (s : TableState) (c : ℕ) (op : Op) : Type 0 where
@@ -120,5 +120,5 @@ ChangeIsOf _ _ s = Unit {0}
 
 -- so are those of each pass, which may be another's helper
 abbrev pub TableChangesAreOperations : Type 0
-TableChangesAreOperations = (keys : List ℕ) (cards : ℕ) (s : TableState) → Kept keys cards s → (id : ℕ) (v : View) (c : Call)
+TableChangesAreOperations = (keys : List ℕ) (cards : ℕ) (s : TableState) → RuleHolds keys cards s → (id : ℕ) (v : View) (c : Call)
     → get_elem? s.views id ≡ some v → May cards c v → ChangeIsOf c (is_won (atomic_of c) (found_by s c)) s

@@ -8,7 +8,7 @@ use Rattle.ell_core.specs.state.Layout.{listed, table_size}
 use Rattle.ell_core.specs.state.Words.{Words, word}
 use Rattle.ell_core.specs.state.Machine.{Worker, Machine, nobody, worker_of}
 use Rattle.ell_core.specs.state.Cards.{marked, stored}
-use Rattle.ell_core.specs.soundness.Sound.{Owns}
+use Rattle.ell_core.specs.soundness.Sound.{WorkerOwns}
 use Rattle.ell_core.specs.history.Stages.{Stages, Born, waits}
 use Rattle.ell_core.specs.history.Invariant.{Invariant}
 use Rattle.ell_cards.specs.declared.view.Told.{Told}
@@ -51,21 +51,23 @@ EntryHolds w stage (Info c f x) = (c < w.next) × (is_fixed f ≡ true) × (word
 EntryHolds w stage (Frozen c right x) =
     (c < w.next) × (w.update (w.p c) ≡ marked c) × (w.child (w.p c) right ≡ x) × Born stage x
 
--- the card in hand that is not flagged: in the machine it says what it is to say; in the table, what was stored of it
-pub record HandHolds (words : List ℕ) (w : Words) (filling filled : List (Field × ℕ)) (c : ℕ) : Type 0 where
-  pub machine : (f : Field) → word w c f ≡ stored filling f 0
-  pub table : (f : Field) → listed words c f ≡ stored_at filled f
+-- the card in hand that is not flagged: in the machine it says what it is to say; in the table, what was stored of it. So of a card
+-- that is to say P 0 and L 2, and of which P was stored, the machine has both, and the table has P and a 0 for L
+pub record CardInHandHolds (words : List ℕ) (w : Words) (planned stores : List (Field × ℕ)) (c : ℕ) : Type 0 where
+  pub machine : (f : Field) → word w c f ≡ stored planned f 0
+  pub table : (f : Field) → listed words c f ≡ stored_at stores f
 
 -- what a pass knows beside the worker that it is
 pub record ViewHolds (words : List ℕ) (w : Words) (stage : Stages) (v : View) : Type 0 where
   pub entries : (e : Told) → IsTold v e → EntryHolds w stage e
   pub here : (x key : ℕ) → v.worker.search.node ≡ Some x → v.here ≡ Some key → IsTold v (Key x key)
-  pub hand : (c : ℕ) → v.worker.card ≡ Some c → v.worker.flagged ≡ false → HandHolds words w v.filling v.filled c
+  pub hand : (c : ℕ) → v.worker.card ≡ Some c → v.worker.flagged ≡ false → CardInHandHolds words w v.planned v.stores c
 
--- the rule of a table with these keys and so many cards: there is a machine that the invariant holds of, its workers the
--- passes; the table has its claim word, and its words at every card that does not wait for its flag; what passes know holds;
--- and every key that a pass owns is one of the table's
-pub record Kept (keys : List ℕ) (cards : ℕ) (s : TableState) : Type 0 where
+-- the rule holds of a state of a table with these keys and so many cards: there is a machine that the invariant holds of, its workers
+-- the passes; the table has its claim word, and its words at every card that does not wait for its flag; what passes know holds;
+-- and every key that a pass owns is one of the table's. So while a pass fills card 3, the machine has card 3 whole and the table what
+-- was stored of it, and at every other card that won its flag the two are alike
+pub record RuleHolds (keys : List ℕ) (cards : ℕ) (s : TableState) : Type 0 where
   pub words : Words
   pub stages : Stages
   pub invariant : Invariant (seated words s.views cards) stages
@@ -73,4 +75,4 @@ pub record Kept (keys : List ℕ) (cards : ℕ) (s : TableState) : Type 0 where
   pub next : slice_index s.words 0 ≡ words.next
   pub settled : (c : ℕ) (f : Field) → waits (stages c) ≡ false → listed s.words c f ≡ word words c f
   pub views : (j : ℕ) (v : View) → get_elem? s.views j ≡ some v → ViewHolds s.words words stages v
-  pub owned : (j k : ℕ) (v : View) → get_elem? s.views j ≡ some v → Owns (worker_of v.worker) k → Contains keys k
+  pub owned : (j k : ℕ) (v : View) → get_elem? s.views j ≡ some v → WorkerOwns (worker_of v.worker) k → Contains keys k

@@ -11,7 +11,7 @@ use Rattle.ell_core.specs.statements.RunLaws.{InOrder}
 use Rattle.ell_cards.specs.declared.call.Call.{Call}
 use Rattle.ell_cards.specs.declared.call.Call.TheVariants as call
 use Rattle.ell_cards.specs.Calls.{atomic_of, is_won}
-use Rattle.ell_cards.specs.Rule.{TableState, Kept}
+use Rattle.ell_cards.specs.Rule.{TableState, RuleHolds}
 use Rattle.ell_cards.specs.Laws.{found_by}
 use Rattle.ell_cards.specs.OwnWords.{own_words}
 use Rattle.ell_cards.specs.Runs.{Turn, Makes, TableRun}
@@ -39,11 +39,11 @@ run_wins cards s [] s' run d = []
 run_wins cards s (t ∷ ts) s' run d = turn_wins s t d ++ run_wins cards run.0 ts s' run.2 d
 
 -- what was won for a card up to a state of the rule, by its stage there
-abbrev pub won_before : (keys : List ℕ) (cards : ℕ) (s : TableState) → Kept keys cards s → ℕ → List Kind
+abbrev pub won_before : (keys : List ℕ) (cards : ℕ) (s : TableState) → RuleHolds keys cards s → ℕ → List Kind
 won_before keys cards s r c = wins_of (r.stages c)
 
 -- what was won for each card before, none for card 0 and for one that is yet to be claimed, goes on in order in every run
-pub record WinsGoOn (keys : List ℕ) (cards : ℕ) (s : TableState) (r : Kept keys cards s) : Type 0 where
+pub record WinsGoOn (keys : List ℕ) (cards : ℕ) (s : TableState) (r : RuleHolds keys cards s) : Type 0 where
   pub first : (c : ℕ) → c ≡ 0 → won_before keys cards s r c ≡ []
   pub fresh : (c : ℕ) → (own_words s).next ≤ c → won_before keys cards s r c ≡ []
   pub order : (turns : List Turn) (s' : TableState) (run : TableRun cards s turns s') (c : ℕ)
@@ -51,7 +51,7 @@ pub record WinsGoOn (keys : List ℕ) (cards : ℕ) (s : TableState) (r : Kept k
 
 -- so it does from every state of the rule
 abbrev pub TableWinsAreInOrder : Type 0
-TableWinsAreInOrder = (keys : List ℕ) (cards : ℕ) (s : TableState) (r : Kept keys cards s) → WinsGoOn keys cards s r
+TableWinsAreInOrder = (keys : List ℕ) (cards : ℕ) (s : TableState) (r : RuleHolds keys cards s) → WinsGoOn keys cards s r
 
 -- a node goes on: it has its key; an internal one has no lesser children and no lesser update word, and once that is a mark,
 -- neither it nor the children change
@@ -63,5 +63,5 @@ pub record NodeGoesOn (old new : Words) (x : ℕ) : Type 0 where
 
 -- so does each node that was reached once, in every run, by the table's own words
 abbrev pub TableNodesGoOn : Type 0
-TableNodesGoOn = (keys : List ℕ) (cards : ℕ) (s : TableState) → Kept keys cards s → (turns : List Turn) (s' : TableState)
+TableNodesGoOn = (keys : List ℕ) (cards : ℕ) (s : TableState) → RuleHolds keys cards s → (turns : List Turn) (s' : TableState)
     → TableRun cards s turns s' → (x : ℕ) → Reached (own_words s) x → NodeGoesOn (own_words s) (own_words s') x

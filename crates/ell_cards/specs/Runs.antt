@@ -15,13 +15,13 @@ use Rattle.ell_cards.specs.declared.call.Call.{Call}
 use Rattle.ell_cards.specs.declared.view.View.{View}
 use Rattle.ell_cards.specs.Models.{IsFree}
 use Rattle.ell_cards.specs.Calls.{word_of, atomic_of, is_won, act_of, said_of, Becomes, May}
-use Rattle.ell_cards.specs.Rule.{TableState, Kept}
-use Rattle.ell_cards.specs.Laws.{machine_of, found_by, state_after, state_split, state_joined}
+use Rattle.ell_cards.specs.Rule.{TableState, RuleHolds}
+use Rattle.ell_cards.specs.Laws.{machine_of_table, found_by, state_after, state_split, state_joined}
 use Rattle.ell_cards.specs.OwnWords.{own_words, own_machine, PairsChangeBy}
 
 -- the word that a step call touches is one of the table
 abbrev pub StepsStayInside : Type 0
-StepsStayInside = (keys : List ℕ) (cards : ℕ) (s : TableState) → Kept keys cards s → (id : ℕ) (v : View) (c : Call)
+StepsStayInside = (keys : List ℕ) (cards : ℕ) (s : TableState) → RuleHolds keys cards s → (id : ℕ) (v : View) (c : Call)
     → get_elem? s.views id ≡ some v → May cards c v → word_of c < length s.words
 
 -- a turn of a table: the pass in a seat makes a step call; or it is split, and the left part gets these of its keys; or it is joined
@@ -82,26 +82,26 @@ KeysGoBy s _ s' = SamePairs (own_words s) (own_words s')
 
 -- a turn between states of the rule: the machine goes on by it, so do the keys of the tree, and the table's own words after it are
 -- a sound state
-pub record TurnIsLawful (keys : List ℕ) (cards : ℕ) (s : TableState) (r : Kept keys cards s) (t : Turn) (s' : TableState) (r' : Kept keys cards s') : Type 0 where
-  pub machine : GoesBy s t (machine_of keys cards s r) (machine_of keys cards s' r')
+pub record TurnIsLawful (keys : List ℕ) (cards : ℕ) (s : TableState) (r : RuleHolds keys cards s) (t : Turn) (s' : TableState) (r' : RuleHolds keys cards s') : Type 0 where
+  pub machine : GoesBy s t (machine_of_table keys cards s r) (machine_of_table keys cards s' r')
   pub tree : KeysGoBy s t s'
   pub sound : IsSound (own_machine cards s')
 
 -- the turns of a run from a state of the rule, each to a state of the rule
-abbrev pub TurnsAreLawful : (keys : List ℕ) (cards : ℕ) (s : TableState) (r : Kept keys cards s) (turns : List Turn) (s' : TableState) (r' : Kept keys cards s')
+abbrev pub TurnsAreLawful : (keys : List ℕ) (cards : ℕ) (s : TableState) (r : RuleHolds keys cards s) (turns : List Turn) (s' : TableState) (r' : RuleHolds keys cards s')
     → TableRun cards s turns s' → Type 0
-TurnsAreLawful keys cards s r [] s' r' run = machine_of keys cards s' r' ≡ machine_of keys cards s r
+TurnsAreLawful keys cards s r [] s' r' run = machine_of_table keys cards s' r' ≡ machine_of_table keys cards s r
 TurnsAreLawful keys cards s r (t ∷ ts) s' r' run =
-    (between : Kept keys cards run.0) × TurnIsLawful keys cards s r t run.0 between × TurnsAreLawful keys cards run.0 between ts s' r' run.2
+    (between : RuleHolds keys cards run.0) × TurnIsLawful keys cards s r t run.0 between × TurnsAreLawful keys cards run.0 between ts s' r' run.2
 
 -- a run leads from a state of the rule to one, by such turns
-pub record RunIsLawful (keys : List ℕ) (cards : ℕ) (s : TableState) (r : Kept keys cards s) (turns : List Turn) (s' : TableState) (run : TableRun cards s turns s') : Type 0 where
-  pub kept : Kept keys cards s'
+pub record RunIsLawful (keys : List ℕ) (cards : ℕ) (s : TableState) (r : RuleHolds keys cards s) (turns : List Turn) (s' : TableState) (run : TableRun cards s turns s') : Type 0 where
+  pub kept : RuleHolds keys cards s'
   pub lawful : TurnsAreLawful keys cards s r turns s' kept run
 
 -- so does every run
 abbrev pub RunsAreLawful : Type 0
-RunsAreLawful = (keys : List ℕ) (cards : ℕ) (s : TableState) (r : Kept keys cards s) (turns : List Turn) (s' : TableState)
+RunsAreLawful = (keys : List ℕ) (cards : ℕ) (s : TableState) (r : RuleHolds keys cards s) (turns : List Turn) (s' : TableState)
     (run : TableRun cards s turns s') → RunIsLawful keys cards s r turns s' run
 
 -- the event of a call, if it is one, and what the machine shows of it
@@ -139,6 +139,6 @@ AreCalls (_ ∷ ts) = ⊥
 
 -- a run of step calls whose turns are lawful is a run of the machine, by the events of the calls
 abbrev pub RunsAreSchedules : Type 0
-RunsAreSchedules = (keys : List ℕ) (cards : ℕ) (s : TableState) (r : Kept keys cards s) (turns : List Turn) (s' : TableState) (r' : Kept keys cards s')
+RunsAreSchedules = (keys : List ℕ) (cards : ℕ) (s : TableState) (r : RuleHolds keys cards s) (turns : List Turn) (s' : TableState) (r' : RuleHolds keys cards s')
     (run : TableRun cards s turns s') → AreCalls turns → TurnsAreLawful keys cards s r turns s' r' run
-    → Run (machine_of keys cards s r) (events_in cards s turns s' run) (shown_in cards s turns s' run) (machine_of keys cards s' r')
+    → Run (machine_of_table keys cards s r) (events_in cards s turns s' run) (shown_in cards s turns s' run) (machine_of_table keys cards s' r')

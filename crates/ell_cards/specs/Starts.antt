@@ -15,8 +15,8 @@ use Rattle.ell_core.specs.soundness.Sound.{IsSound}
 use Rattle.ell_core.specs.statements.RunLaws.{IsOpening, InOrder}
 use Rattle.ell_cards.specs.declared.call.Call.TheVariants as call
 use Rattle.ell_cards.specs.Changes.{first_view}
-use Rattle.ell_cards.specs.Rule.{TableState, Kept}
-use Rattle.ell_cards.specs.Laws.{machine_of}
+use Rattle.ell_cards.specs.Rule.{TableState, RuleHolds}
+use Rattle.ell_cards.specs.Laws.{machine_of_table}
 use Rattle.ell_cards.specs.OwnWords.{own_words, own_machine}
 use Rattle.ell_cards.specs.Runs.{Turn, Makes, TableTurns, TableRun}
 use Rattle.ell_cards.specs.RunLaws.{won_before, run_wins}
@@ -50,8 +50,8 @@ TablesStart = (keys : List ℕ) (start : List (ℕ × ℕ)) (cards : ℕ) → Ma
 
 -- it is of the rule, by a machine that is an opening, and nothing was won yet
 pub record StartIsKept (keys : List ℕ) (start : List (ℕ × ℕ)) (cards : ℕ) (s : TableState) : Type 0 where
-  pub kept : Kept keys (last_card start cards) s
-  pub opening : IsOpening (machine_of keys (last_card start cards) s kept)
+  pub kept : RuleHolds keys (last_card start cards) s
+  pub opening : IsOpening (machine_of_table keys (last_card start cards) s kept)
   pub unwon : (c : ℕ) → won_before keys (last_card start cards) s kept c ≡ []
 
 abbrev pub StartsAreKept : Type 0
@@ -73,7 +73,7 @@ FirstPassMayBegin = (keys : List ℕ) (start : List (ℕ × ℕ)) (cards : ℕ) 
 
 -- where a run from a start leads: a state of the rule, sound by the table's own words, and each card has won in order
 pub record RunFromStart (keys : List ℕ) (cards : ℕ) (s : TableState) (turns : List Turn) (s' : TableState) (run : TableRun cards s turns s') : Type 0 where
-  pub kept : Kept keys cards s'
+  pub kept : RuleHolds keys cards s'
   pub sound : IsSound (own_machine cards s')
   pub wins : (c : ℕ) → InOrder (run_wins cards s turns s' run c)
 

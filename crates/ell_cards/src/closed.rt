@@ -7,7 +7,7 @@ ghost use Rattle.ell_core.specs.state.Layout.{listed, table_size};
 ghost use Rattle.ell_core.specs.state.Words.{words_of};
 ghost use Rattle.ell_core.specs.state.Machine.{ledger_of};
 ghost use Rattle.ell_cards.specs.Models.{IsFree};
-ghost use Rattle.ell_cards.specs.Ends.{ClosedModel, Ends};
+ghost use Rattle.ell_cards.specs.Closed.{ClosedModel, TableEnds};
 
 use crate::pass::Pass;
 use crate::table::CardTable;
@@ -36,7 +36,7 @@ impl<A: Allocator + Copy> CardTable<A> {
         requires own { pass.table ≡ self.id }
         requires free { IsFree pass.view }
         requires all { All (λ k. ledger_of pass.view.worker.ledger k ≢ None) self.keys }
-        ensures ends { Ends self.keys pass.view result }
+        ensures ends { TableEnds self.keys pass.view result }
         ensures cards { result.last_card ≡ self.last_card }
     {
         let CardTable {

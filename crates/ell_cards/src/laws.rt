@@ -1,6 +1,6 @@
 //! The laws of a table, whose words many passes share. Each is the contract of a function that does nothing, so that it is proved.
 //!
-//! A state of the table is the list of its words and what each pass knows. Its rule, `Kept`, holds of it where it is the state of
+//! A state of the table is the list of its words and what each pass knows. Its rule, `RuleHolds`, holds of it where it is the state of
 //! a machine of `ell_core` that the invariant holds of. A law speaks of each state of the rule, whatever has led to it; and the
 //! table's calls make their steps through `atomic_table`, which takes none, by whatever thread, that does not keep the rule.
 ghost use Rattle.ell_cards.specs.Laws.{StepsAreEvents, SplitsAreMoves, JoinsAreMoves};

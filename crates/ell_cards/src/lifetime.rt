@@ -16,7 +16,7 @@ ghost use Rattle.ell_cards.specs.Starts.{MayStart};
 
 use crate::fault::CardFault;
 use crate::pass::Pass;
-use crate::rule::{CardRule, Joined, PartedBy, Parting};
+use crate::rule::{CardRule, Joined, PartedBy, SplitInto};
 use crate::table::CardTable;
 use crate::view::{Plan, View};
 use atomic_table::{Seat, Table};
@@ -122,7 +122,7 @@ impl<A: Allocator + Copy> CardTable<A> {
     }
 
     // Parts a pass: one part has these keys, and the other those.
-    fn split_as<J: Parting>(
+    fn split_as<J: SplitInto>(
         &self,
         pass: Pass<A>,
         left: Vec<u64, A>,

@@ -8,10 +8,10 @@ use std::marker::{Brand, PhantomData};
 pub(crate) struct CardRule;
 
 impl<A: Allocator + Copy> TableRule<(), View, Plan<A>> for CardRule {
-    ghost use Rattle.ell_cards.specs.Rule.{Kept};
+    ghost use Rattle.ell_cards.specs.Rule.{RuleHolds};
     ghost use Rattle.ell_cards.specs.Changes.{first_view};
 
-    ghost holds = { λ plan. Kept plan.keys.items plan.last_card };
+    ghost holds = { λ plan. RuleHolds plan.keys.items plan.last_card };
 
     ghost first = { λ plan. first_view plan.keys.items plan.start.items };
 }
@@ -42,7 +42,7 @@ impl<J: Telling> Play<(), View> for By<J> {
 }
 
 /// What two passes know after a split. The caller picks it.
-pub(crate) trait Parting {
+pub(crate) trait SplitInto {
     ghost use Rattle.ell_cards.specs.declared.view.View.{View};
 
     ghost left: { View };
@@ -50,7 +50,7 @@ pub(crate) trait Parting {
     ghost right: { View };
 }
 
-impl Parting for Brand {
+impl SplitInto for Brand {
     ghost use Rattle.ell_cards.specs.Changes.{spent_view};
 
     ghost left = { spent_view };
@@ -63,7 +63,7 @@ pub(crate) struct PartedBy<J> {
     parts: PhantomData<J>,
 }
 
-impl<J: Parting> Split<View> for PartedBy<J> {
+impl<J: SplitInto> Split<View> for PartedBy<J> {
     ghost left = { λ _. J.left };
 
     ghost right = { λ _. J.right };

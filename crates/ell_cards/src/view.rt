@@ -41,9 +41,9 @@ pub struct View {
     /// the later one does.
     pub next: Option<u64>,
     /// What the card in hand is to say, by its claim.
-    pub filling: LinkedList<(Field, u64)>,
+    pub planned: LinkedList<(Field, u64)>,
     /// What was stored of the card in hand, the last first.
-    pub filled: LinkedList<(Field, u64)>,
+    pub stores: LinkedList<(Field, u64)>,
     /// The word that the last exchange found, that of the claim word apart.
     pub found: Option<u64>,
     /// How many operations it has answered.

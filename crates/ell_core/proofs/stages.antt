@@ -2,7 +2,7 @@
 pub mod Advances
 -- The effective ledgers by the stages of the cards: what counts where a card has made something of its key, nothing, or the same.
 pub mod Counts
--- What a card's stage allows to be known holds of the words, and what the phase of its words has settled, its stage made.
+-- What a card's stage allows to be known holds of the words, and what the phase of its words has made, its stage has made.
 pub mod Holding
 -- Of what kind each card is after an event: what later words and stages keep.
 pub mod Kinds

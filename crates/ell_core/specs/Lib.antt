@@ -12,3 +12,7 @@ pub mod history
 pub mod statements
 -- a world as its code keeps it
 pub mod inside
+-- what its public clauses cite of the crates below
+pub use Rattle.ell_ops.specs.Contents
+pub use Rattle.ell_ops.specs.Meaning
+pub use Rattle.ell_word.specs.Node

@@ -3,7 +3,7 @@ ghost use Rattle.std.specs.Prelude.{◌≡◌, ◌↔◌, ℕ, IsTrue, IfSome, I
 ghost use Rattle.ell_ops.specs.declared.op.Op.TheVariants.{Insert, Delete};
 ghost use Rattle.ell_core.specs.declared.event.Act.TheVariants as act;
 ghost use Rattle.ell_core.specs.declared.view.Seen.{Seen};
-ghost use Rattle.ell_core.specs.acts.Searching.{begun, ended, MayStop, AtCleanLeaf, IsClean, IsLeaf, value_at, leaf_answer, card_answer, Answers};
+ghost use Rattle.ell_core.specs.acts.Searching.{begun, ended, MayStop, AtCleanLeaf, IsClean, IsLeaf, value_at, leaf_answer, card_answer, HasAnswer};
 ghost use Rattle.ell_core.specs.inside.Fits.{IsNode};
 ghost use Rattle.ell_core.specs.inside.Inside.{words_in, worker_in, scene_in, IsReady, IsSized, TakesTurn};
 
@@ -297,8 +297,8 @@ fn card_answer<A: Allocator + Copy>(worker: &Worker<A>, op: Op, card: u64) -> Op
 // The operation's answer: at a leaf if it has one there, else by its card.
 fn answer_of<A: Allocator + Copy>(memory: &Memory<A>, worker: &Worker<A>, op: Op) -> Option<Reply>
     requires { IsReady memory.now worker.now }
-    ensures some { IfSome result (λ reply. Answers (scene_in memory.now worker.now) op reply) }
-    ensures none { IfNone result ((reply : Reply) → ¬ Answers (scene_in memory.now worker.now) op reply) }
+    ensures some { IfSome result (λ reply. HasAnswer (scene_in memory.now worker.now) op reply) }
+    ensures none { IfNone result ((reply : Reply) → ¬ HasAnswer (scene_in memory.now worker.now) op reply) }
 {
     if let Some(node) = worker.search.node
         && !is_internal(node)

@@ -6,7 +6,7 @@ use Rattle.ell_ops.specs.declared.op.Op.TheVariants.{Find, Insert, Delete}
 use Rattle.ell_ops.specs.declared.reply.Reply.TheVariants.{No, Yes, Found}
 use Rattle.ell_ops.specs.Contents.{Contents}
 use Rattle.ell_ops.specs.Meaning.{yes_if, found, reply_of, after, replies, final}
-use Rattle.ell_ops.specs.LastWriter.{NoInsert, NoDelete, IsAbsent, HasValue, Answers, FoldHasPresentKeys, RepliesGoByPresence}
+use Rattle.ell_ops.specs.LastWriter.{NoInsert, NoDelete, IsAbsent, HasValue, GoesByPresence, FoldHasPresentKeys, RepliesGoByPresence}
 
 -- no insert behind the first operation, in the list and in its rest
 inserts_up : (op : Op) (ops : List Op) (key low high : ℕ) → NoInsert ops key low high → NoInsert (op ∷ ops) key (suc low) (suc high)
@@ -248,7 +248,7 @@ module _ (o : Option ℕ) (P : ℕ → Type 0) (N : Type 0) (some : (value : ℕ
       by None has = (λ e. absurd cc, λ p. let e = (has p.0).1 p.1 in absurd cc)
       by (Some v) has = (λ e. (v, (has v).0 refl), λ p. refl)
 
-answers : (there : Contents) (ops : List Op) (i : ℕ) (op : Op) → Answers there ops i op (reply_of op (final there (take i ops)))
+answers : (there : Contents) (ops : List Op) (i : ℕ) (op : Op) → GoesByPresence there ops i op (reply_of op (final there (take i ops)))
 answers there ops i (Find key) =
     let h = present_keys there ops key i in
     let o = final there (take i ops) key in

@@ -53,11 +53,11 @@ IsPresent there ops key i = (value : ℕ) × HasValue there ops key i value
 
 -- the reply of an operation by its key before its position: of a find the value, if the key is present; of an insert yes exactly
 -- where it is absent; of a delete yes exactly where it is present
-abbrev pub Answers : Contents → List Op → ℕ → Op → Reply → Type 0
-Answers there ops i (Find key) reply =
+abbrev pub GoesByPresence : Contents → List Op → ℕ → Op → Reply → Type 0
+GoesByPresence there ops i (Find key) reply =
     ((value : ℕ) → (reply ≡ Found value) ↔ HasValue there ops key i value) × ((reply ≡ No) ↔ IsAbsent there ops key i)
-Answers there ops i (Insert key value) reply = ((reply ≡ Yes) ↔ IsAbsent there ops key i) × ((reply ≡ No) ↔ IsPresent there ops key i)
-Answers there ops i (Delete key) reply = ((reply ≡ Yes) ↔ IsPresent there ops key i) × ((reply ≡ No) ↔ IsAbsent there ops key i)
+GoesByPresence there ops i (Insert key value) reply = ((reply ≡ Yes) ↔ IsAbsent there ops key i) × ((reply ≡ No) ↔ IsPresent there ops key i)
+GoesByPresence there ops i (Delete key) reply = ((reply ≡ Yes) ↔ IsPresent there ops key i) × ((reply ≡ No) ↔ IsAbsent there ops key i)
 
 -- before each position, and at the end, there are the keys that are present, with their values
 abbrev pub FoldHasPresentKeys : Type 0
@@ -68,4 +68,4 @@ FoldHasPresentKeys = (there : Contents) (ops : List Op) (key i : ℕ)
 -- each operation's reply goes by its key before it
 abbrev pub RepliesGoByPresence : Type 0
 RepliesGoByPresence = (there : Contents) (ops : List Op) (i : ℕ) (op : Op) → slice_get ops i ≡ Some op
-    → (reply : Reply) × (slice_get (replies there ops) i ≡ Some reply) × Answers there ops i op reply
+    → (reply : Reply) × (slice_get (replies there ops) i ≡ Some reply) × GoesByPresence there ops i op reply

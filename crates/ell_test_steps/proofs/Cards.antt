@@ -54,5 +54,5 @@ pub insert_filled : (v w : View) (c k value : ℕ) (place : Place)
     → IsFresh v c (insert_filling c k value place.parent.node place.leaf place.key place.value)
     → w ≡ with_stores (insert_stores c k value place) v → IsFilled w
 insert_filled v w c k value place fresh e f =
-    ap (λ (x : View). stored_at x.filled f) e
-    ∙ (stored_of_insert c k value place f ∙ ap (λ es. stored es f 0) (sym (ap (λ (x : View). x.filling) e ∙ fresh.says)))
+    ap (λ (x : View). stored_at x.stores f) e
+    ∙ (stored_of_insert c k value place f ∙ ap (λ es. stored es f 0) (sym (ap (λ (x : View). x.planned) e ∙ fresh.says)))

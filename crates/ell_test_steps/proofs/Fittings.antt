@@ -20,7 +20,7 @@ use Rattle.ell_cards.specs.Changes.{after_begin, after_upd, after_down, after_ne
 use Rattle.ell_cards.specs.Guards.{IsFilled}
 use Rattle.ell_cards.proofs.views.Facts.{knows_new, knows_more, facts_by_more}
 use Rattle.ell_cards.proofs.views.Entries.{places_more, filling_more}
-use Rattle.ell_test_steps.specs.declared.memory.Memory.{Memory}
+use Rattle.ell_test_steps.specs.declared.memory.Remembered.{Remembered}
 use Rattle.ell_test_steps.specs.Remembering.{KnowsAny, KnowsAll}
 use Rattle.ell_test_steps.specs.Fitting.{Fits, StepsAside, packed_any, root_memory, ended_search}
 
@@ -39,7 +39,7 @@ facts_by_new state.DFlag c fs v e = subst (λ (es : List Fact). known_of es (fac
 facts_by_new state.Mark c fs v e = subst (λ (es : List Fact). known_of es (fact.Marked c) ≡ true) (sym e) (knows_new (fact.Marked c) fs)
 facts_by_new state.Clean c fs v e = tt
 
-pub fits_aside : (a b : PassModel) (m : Memory) → Fits a.view m → StepsAside a b → Fits b.view m
+pub fits_aside : (a b : PassModel) (m : Remembered) → Fits a.view m → StepsAside a b → Fits b.view m
 fits_aside a b m h s = record {
   operation = ap (λ (w : WorkerView). w.operation) s.worker ∙ h.operation;
   search = ap (λ (w : WorkerView). w.search) s.worker ∙ h.search;
@@ -51,7 +51,7 @@ fits_aside a b m h s = record {
 }
 
 -- more facts are remembered
-pub fits_known : (v : View) (m n : Memory) → Fits v m → n ≡ record m { known = n.known; turn = n.turn } → KnowsAll v n.known → Fits v n
+pub fits_known : (v : View) (m n : Remembered) → Fits v m → n ≡ record m { known = n.known; turn = n.turn } → KnowsAll v n.known → Fits v n
 fits_known v m n h e knows =
     subst (Fits v) (sym e) (record {
       operation = h.operation;
@@ -63,7 +63,7 @@ fits_known v m n h e knows =
       filled = h.filled;
     })
 
-pub fits_root : (v : View) (m : Memory) (op : Option Op) → KnowsAll v m.known → Fits (after_begin op v) (root_memory op m)
+pub fits_root : (v : View) (m : Remembered) (op : Option Op) → KnowsAll v m.known → Fits (after_begin op v) (root_memory op m)
 fits_root v m op knows = record {
   operation = refl;
   search = refl;
@@ -74,7 +74,7 @@ fits_root v m op knows = record {
   filled = λ c e g. cc e;
 }
 
-pub fits_read : (v : View) (m : Memory) (x : ℕ) (u : Update) → Fits v m → Fits (after_upd x u v) (record m { read = Some u })
+pub fits_read : (v : View) (m : Remembered) (x : ℕ) (u : Update) → Fits v m → Fits (after_upd x u v) (record m { read = Some u })
 fits_read v m x u h = record {
   operation = h.operation;
   search = ap (λ (s : Search). with_read s (packed u)) h.search;
@@ -85,7 +85,7 @@ fits_read v m x u h = record {
   filled = h.filled;
 }
 
-pub fits_down : (v : View) (m : Memory) (x child : ℕ) (u : Update) → Fits v m → m.node ≡ Some x → m.read ≡ Some u
+pub fits_down : (v : View) (m : Remembered) (x child : ℕ) (u : Update) → Fits v m → m.node ≡ Some x → m.read ≡ Some u
     → Fits (after_down x child v) (record m { node = Some child; read = None; parent = Some (record { node = x; update = u }); grandparent = m.parent })
 fits_down v m x child u h at read = record {
   operation = h.operation;
@@ -101,7 +101,7 @@ fits_down v m x child u h at read = record {
   filled = h.filled;
 }
 
-pub fits_claimed : (v : View) (m : Memory) (c : ℕ) (stores : List (Field × ℕ)) → Fits v m → IsFilled (with_stores stores (after_claim true c (after_next c v)))
+pub fits_claimed : (v : View) (m : Remembered) (c : ℕ) (stores : List (Field × ℕ)) → Fits v m → IsFilled (with_stores stores (after_claim true c (after_next c v)))
     → Fits (with_stores stores (after_claim true c (after_next c v))) (record m { card = Some c; flagged = false })
 fits_claimed v m c stores h filled =
     let more = filling_more c (filling_of c (after_next c v)) v.told in
@@ -115,7 +115,7 @@ fits_claimed v m c stores h filled =
       filled = λ d e g. filled;
     }
 
-pub fits_flag_won : (v : View) (m : Memory) (n : ℕ) (f : Fact) (x : ℕ) (u : Update) → Fits v m
+pub fits_flag_won : (v : View) (m : Remembered) (n : ℕ) (f : Fact) (x : ℕ) (u : Update) → Fits v m
     → Fits (with_found n (after_flag true f x u v)) (ended_search true m)
 fits_flag_won v m n f x u h = record {
   operation = h.operation;
@@ -127,7 +127,7 @@ fits_flag_won v m n f x u h = record {
   filled = λ c e g. cc g;
 }
 
-pub fits_flag_lost : (v : View) (m : Memory) (n : ℕ) (f : Fact) (x : ℕ) (u : Update) → Fits v m
+pub fits_flag_lost : (v : View) (m : Remembered) (n : ℕ) (f : Fact) (x : ℕ) (u : Update) → Fits v m
     → Fits (with_found n (after_flag false f x u v)) (ended_search false m)
 fits_flag_lost v m n f x u h = record {
   operation = h.operation;

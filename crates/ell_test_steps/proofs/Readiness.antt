@@ -20,7 +20,7 @@ use Rattle.ell_cards.specs.declared.view.Told.TheVariants.{Value}
 use Rattle.ell_cards.specs.Models.{PassModel, TableModel, Steps, latest, IsTold, Knows}
 use Rattle.ell_cards.specs.Changes.{after_begin, after_again, after_upd, after_key_of, after_value_of, after_next, after_claim, after_flag, after_mark, is_mark_of, learning, unmarking, with_found, found_word, found_update, told_value, with_stores}
 use Rattle.ell_cards.specs.Guards.{IsOver, MayStop, MayGoDown, MayAnswer, TellsOf, MayIFlag, MayDFlag, IsFilled}
-use Rattle.ell_test_steps.specs.declared.memory.Memory.{Memory}
+use Rattle.ell_test_steps.specs.declared.memory.Remembered.{Remembered}
 use Rattle.ell_test_steps.specs.declared.memory.TheConstants.{FACTS}
 use Rattle.ell_test_steps.specs.declared.memory.Passed.{Passed}
 use Rattle.ell_test_steps.specs.Claims.{ClaimsAt}
@@ -34,25 +34,25 @@ use Rattle.ell_test_steps.proofs.Fittings.{fits_aside, fits_known, fits_root, fi
 use Rattle.ell_ops.specs.declared.reply.Reply.{Reply}
 use Rattle.ell_ops.specs.declared.reply.Reply.TheVariants.{Yes}
 
-pub ready_aside : (t : TableModel) (a b : PassModel) (m : Memory) → IsReady t a m → StepsAside a b → IsReady t b m
+pub ready_aside : (t : TableModel) (a b : PassModel) (m : Remembered) → IsReady t a m → StepsAside a b → IsReady t b m
 ready_aside t a b m h s = record { own = s.table ∙ h.own; fits = fits_aside a b m h.fits s }
 
 -- a step to a view that fits what is remembered now
-pub ready_step : (t : TableModel) (a b : PassModel) (m n k : Memory) (v : View) → IsReady t a m → Steps a b v → n ≡ k → Fits v k → IsReady t b n
+pub ready_step : (t : TableModel) (a b : PassModel) (m n k : Remembered) (v : View) → IsReady t a m → Steps a b v → n ≡ k → Fits v k → IsReady t b n
 ready_step t a b m n k v h s e fits = record {
   own = ap (λ (p : PassModel). p.table) s ∙ h.own;
   fits = subst (λ (w : View). Fits w n) (sym (ap (λ (p : PassModel). p.view) s)) (subst (Fits v) (sym e) fits);
 }
 
 -- what is known is remembered
-pub ready_known : (t : TableModel) (a : PassModel) (m n : Memory) (Learnt : View → Type 0) → IsReady t a m → Learns m n Learnt → Learnt a.view → IsReady t a n
+pub ready_known : (t : TableModel) (a : PassModel) (m n : Remembered) (Learnt : View → Type 0) → IsReady t a m → Learns m n Learnt → Learnt a.view → IsReady t a n
 ready_known t a m n Learnt h more known = record {
   own = h.own;
   fits = fits_known a.view m n h.fits more.rest (more.known a.view h.fits.knows known);
 }
 
 -- what steps beside the search taught is remembered
-pub ready_learnt : (t : TableModel) (a b : PassModel) (m n : Memory) (Learnt : View → Type 0) → IsReady t a m → StepsAside a b → Learns m n Learnt → Learnt b.view → IsReady t b n
+pub ready_learnt : (t : TableModel) (a b : PassModel) (m n : Remembered) (Learnt : View → Type 0) → IsReady t a m → StepsAside a b → Learns m n Learnt → Learnt b.view → IsReady t b n
 ready_learnt t a b m n Learnt h s = ready_known t b m n Learnt (ready_aside t a b m h s)
 
 -- what an update that was read tells is known
@@ -60,7 +60,7 @@ pub update_known : (a b : PassModel) (x : ℕ) (u : Update) (o : Option Fact) �
 update_known a b x u o s e =
     subst (KnowsAny b.view) (sym e) (facts_by_new u.state u.card a.view.worker.facts b.view (ap (λ (v : View). v.worker.facts) (view_after a b (after_upd x u a.view) s)))
 
-pub ready_again : (t : TableModel) (a b : PassModel) (m n : Memory) (op : Op) → IsReady t a m → m.op ≡ Some op → Steps a b (after_again a.view)
+pub ready_again : (t : TableModel) (a b : PassModel) (m n : Remembered) (op : Op) → IsReady t a m → m.op ≡ Some op → Steps a b (after_again a.view)
     → n ≡ root_memory (Some op) m → IsReady t b n
 ready_again t a b m n op h busy s e =
     let begun : Fits (after_begin a.view.worker.operation a.view) (root_memory (Some op) m) =
@@ -76,14 +76,14 @@ ready_again t a b m n op h busy s e =
     })
 
 -- where the card in hand, if it is flagged, is remembered backed, the operation may stop
-pub may_stop_by : (v : View) (m : Memory) (op : Op) → Fits v m → m.op ≡ Some op → MayStopBy m → MayStop v
+pub may_stop_by : (v : View) (m : Remembered) (op : Op) → Fits v m → m.op ≡ Some op → MayStopBy m → MayStop v
 may_stop_by v m op h busy stops = record {
   op = op;
   busy = h.operation ∙ busy;
   backed = λ c holds flagged. stops v h.knows c (sym h.card ∙ holds) (sym h.flagged ∙ flagged);
 }
 
-pub may_go_down_by : (a b : PassModel) (m : Memory) (op : Op) (x : ℕ) (u : Update) (key k : ℕ) → Fits a.view m → Steps a b (after_key_of x key a.view)
+pub may_go_down_by : (a b : PassModel) (m : Remembered) (op : Op) (x : ℕ) (u : Update) (key k : ℕ) → Fits a.view m → Steps a b (after_key_of x key a.view)
     → m.op ≡ Some op → m.node ≡ Some x → m.read ≡ Some u → IsInternal x → k ≡ key_of op → MayGoDown b.view x (nat_le key k)
 may_go_down_by a b m op x u key k h s busy at read inner same =
     let stands = ap (λ (z : Search). z.node) h.search ∙ at in
@@ -108,7 +108,7 @@ tells_at v x key value k told = by (key == k) refl
     by false e = λ same. true≢false (sym (eq-eqb key k same) ∙ e)
 
 -- the answer at a leaf, if there is one
-pub leaf_may : (a b d : PassModel) (m : Memory) (op : Op) (x key value k : ℕ) (o : Option Reply) → Fits a.view m → Steps a b (after_key_of x key a.view)
+pub leaf_may : (a b d : PassModel) (m : Remembered) (op : Op) (x key value k : ℕ) (o : Option Reply) → Fits a.view m → Steps a b (after_key_of x key a.view)
     → Steps b d (after_value_of x value b.view) → m.op ≡ Some op → m.node ≡ Some x → IsLeaf x → k ≡ key_of op
     → o ≡ leaf_answer op (then_some (key == k) value) → IfSome o (λ said. MayAnswer d.view said)
 leaf_may a b d m op x key value k None h s s' busy at outer same e = tt
@@ -131,7 +131,7 @@ leaf_may a b d m op x key value k (Some said) h s s' busy at outer same e =
       });
     })
 
-pub may_iflag_by : (v : View) (m : Memory) (k value l c : ℕ) (parent : Passed) → Fits v m → m.op ≡ Some (Insert k value) → m.node ≡ Some l
+pub may_iflag_by : (v : View) (m : Remembered) (k value l c : ℕ) (parent : Passed) → Fits v m → m.op ≡ Some (Insert k value) → m.node ≡ Some l
     → m.parent ≡ Some parent → m.card ≡ Some c → m.flagged ≡ false → MayIFlag v c parent.node parent.update
 may_iflag_by v m k value l c parent h busy at behind holds unflagged = record {
   key = k;
@@ -144,7 +144,7 @@ may_iflag_by v m k value l c parent h busy at behind holds unflagged = record {
   filled = h.filled c holds unflagged;
 }
 
-pub may_dflag_by : (v : View) (m : Memory) (k l c : ℕ) (parent above : Passed) → Fits v m → m.op ≡ Some (Delete k) → m.node ≡ Some l → m.parent ≡ Some parent
+pub may_dflag_by : (v : View) (m : Remembered) (k l c : ℕ) (parent above : Passed) → Fits v m → m.op ≡ Some (Delete k) → m.node ≡ Some l → m.parent ≡ Some parent
     → m.grandparent ≡ Some above → m.card ≡ Some c → m.flagged ≡ false → MayDFlag v c above.node above.update
 may_dflag_by v m k l c parent above h busy at behind up holds unflagged = record {
   key = k;
@@ -159,7 +159,7 @@ may_dflag_by v m k l c parent above h busy at behind up holds unflagged = record
 }
 
 -- a flag that was won, or lost
-pub ready_flagged : (t : TableModel) (a b : PassModel) (m n : Memory) (f : Fact) (x : ℕ) (u : Update) (r : Result (Unit {0}) Update) → IsReady t a m
+pub ready_flagged : (t : TableModel) (a b : PassModel) (m n : Remembered) (f : Fact) (x : ℕ) (u : Update) (r : Result (Unit {0}) Update) → IsReady t a m
     → Steps a b (with_found (found_word (packed u) r) (after_flag (is_ok r) f x (found_update u r) a.view))
     → Learns (ended_search (is_ok r) m) n (λ v. KnowsAny v (flag_tells f r)) → IsReady t b n
 ready_flagged t a b m n f x u (Ok won) h s more =
@@ -174,7 +174,7 @@ ready_flagged t a b m n f x u (Err found) h s more =
     (facts_by_new found.state found.card a.view.worker.facts b.view (ap (λ (v : View). v.worker.facts) (view_after a b w s)))
 
 -- a card that is claimed and filled
-pub ready_claimed : (t : TableModel) (a b d : PassModel) (m : Memory) (c : ℕ) (stores : List (Field × ℕ)) → IsReady t a m → b.table ≡ a.table → d.table ≡ b.table
+pub ready_claimed : (t : TableModel) (a b d : PassModel) (m : Remembered) (c : ℕ) (stores : List (Field × ℕ)) → IsReady t a m → b.table ≡ a.table → d.table ≡ b.table
     → b.view ≡ after_claim true c (after_next c a.view) → d.view ≡ with_stores stores b.view → IsFilled d.view → IsReady t d (record m { card = Some c; flagged = false })
 ready_claimed t a b d m c stores h own own' taken stored filled =
     let same = stored ∙ ap (with_stores stores) taken in
@@ -185,7 +185,7 @@ ready_claimed t a b d m c stores h own own' taken stored filled =
     }
 
 -- the pass stands at a leaf behind a parent that was read clean
-pub claims_at : (a b d : PassModel) (m : Memory) (op : Op) (x key value : ℕ) (parent : Passed) → Fits a.view m → Steps a b (after_key_of x key a.view)
+pub claims_at : (a b d : PassModel) (m : Remembered) (op : Op) (x key value : ℕ) (parent : Passed) → Fits a.view m → Steps a b (after_key_of x key a.view)
     → Steps b d (after_value_of x value b.view) → m.op ≡ Some op → m.node ≡ Some x → m.parent ≡ Some parent → m.card ≡ None → IsLeaf x → parent.update.state ≡ state.Clean
     → parent.update.card ≤ greatest_card → ClaimsAt d.view op (record { leaf = x; key = key; value = value; parent = parent; grandparent = m.grandparent })
 claims_at a b d m op x key value parent h s s' busy at behind no_card outer calm limit =
@@ -221,7 +221,7 @@ lost_mark_known v c x w u = by (is_mark_of c u.state u.card)
     )
 
 -- a mark that was won, or lost
-pub ready_marked : (t : TableModel) (a b : PassModel) (m n : Memory) (c x w : ℕ) (u : Update) (r : Result (Unit {0}) Update) → IsReady t a m
+pub ready_marked : (t : TableModel) (a b : PassModel) (m n : Remembered) (c x w : ℕ) (u : Update) (r : Result (Unit {0}) Update) → IsReady t a m
     → Steps a b (with_found (found_word w r) (after_mark (is_ok r) c x (found_update u r) a.view)) → Learns m n (λ v. KnowsMark v c r) → IsReady t b n
 ready_marked t a b m n c x w u (Ok won) h s more =
     ready_learnt t a b m n (λ v. Knows v (fact.Marked c)) h (mark_aside a b w true c x u s) more
@@ -231,7 +231,7 @@ ready_marked t a b m n c x w u (Err found) h s more =
     (subst (λ (v : View). KnowsLostMark v c found) (sym (view_after a b (with_found (packed found) (after_mark false c x found a.view)) s)) (lost_mark_known a.view c x (packed found) found))
 
 -- the answer by the card in hand, which is remembered over
-pub card_may : (v : View) (m : Memory) (op is : Op) (c : ℕ) → op ≡ is → m.card ≡ Some c → m.flagged ≡ true → (KnowsAll v m.known → IsOver v is c) → Fits v m → m.op ≡ Some op
+pub card_may : (v : View) (m : Remembered) (op is : Op) (c : ℕ) → op ≡ is → m.card ≡ Some c → m.flagged ≡ true → (KnowsAll v m.known → IsOver v is c) → Fits v m → m.op ≡ Some op
     → MayAnswer v Yes
 card_may v m op is c same holds flagged over h busy = record {
   op = is;
@@ -240,7 +240,7 @@ card_may v m op is c same holds flagged over h busy = record {
 }
 
 -- a pass with nothing in hand fits where nothing is remembered
-pub ready_idle : (t : TableModel) (p : PassModel) (m : Memory) → p.table ≡ t.id → IsIdle p.view → IsNothing m → IsReady t p m
+pub ready_idle : (t : TableModel) (p : PassModel) (m : Remembered) → p.table ≡ t.id → IsIdle p.view → IsNothing m → IsReady t p m
 ready_idle t p m own idle e = record {
   own = own;
   fits = subst (Fits p.view) (sym e) (record {
@@ -255,8 +255,8 @@ ready_idle t p m own idle e = record {
 }
 
 -- an operation is taken in hand, and what was known is forgotten
-pub ready_begun : (t : TableModel) (a b : PassModel) (m n k : Memory) (op : Op) → IsReady t a m → Steps a b (after_begin (Some op) a.view) → IsNothing k
+pub ready_begun : (t : TableModel) (a b : PassModel) (m n k : Remembered) (op : Op) → IsReady t a m → Steps a b (after_begin (Some op) a.view) → IsNothing k
     → n ≡ root_memory (Some op) k → IsReady t b n
 ready_begun t a b m n k op h s nothing e =
     ready_step t a b m n (root_memory (Some op) k) (after_begin (Some op) a.view) h s e
-    (fits_root a.view k (Some op) (subst (λ (j : Memory). KnowsAll a.view j.known) (sym nothing) (All-replicate (KnowsAny a.view) FACTS None tt)))
+    (fits_root a.view k (Some op) (subst (λ (j : Remembered). KnowsAll a.view j.known) (sym nothing) (All-replicate (KnowsAny a.view) FACTS None tt)))

@@ -36,8 +36,8 @@ pub record ClaimsAt (v : View) (op : Op) (place : Place) : Type 0 where
 -- a card is in hand that is to say this, and nothing of it was stored
 pub record IsFresh (v : View) (c : ℕ) (filling : List (Field × ℕ)) : Type 0 where
   pub may : MayFill v c
-  pub says : v.filling ≡ filling
-  pub empty : v.filled ≡ []
+  pub says : v.planned ≡ filling
+  pub empty : v.stores ≡ []
 
 -- the stores of an insert's card, the last first
 abbrev pub insert_stores : ℕ → ℕ → ℕ → Place → List (Field × ℕ)

@@ -6,7 +6,7 @@ use Rattle.ell_cards.specs.Models.{Knows}
 use Rattle.ell_cards.specs.Changes.{is_mark_of}
 use Rattle.ell_core.specs.state.Facts.{told_by_state}
 use Rattle.ell_core.specs.declared.fact.Fact.TheVariants.{Marked, Unmarkable}
-use Rattle.ell_test_steps.specs.declared.memory.Memory.{Memory}
+use Rattle.ell_test_steps.specs.declared.memory.Remembered.{Remembered}
 
 -- the pass knows a fact, if there is one
 abbrev pub KnowsAny : View → Option Fact → Type 0
@@ -17,7 +17,7 @@ abbrev pub KnowsAll : View → List (Option Fact) → Type 0
 KnowsAll v facts = All (KnowsAny v) facts
 
 -- what is remembered changes in its facts alone, and a pass that knew them, and what it learnt, knows them after
-pub record Learns (m n : Memory) (Learnt : View → Type 0) : Type 0 where
+pub record Learns (m n : Remembered) (Learnt : View → Type 0) : Type 0 where
   pub rest : n ≡ record m { known = n.known; turn = n.turn }
   pub known : (v : View) → KnowsAll v m.known → Learnt v → KnowsAll v n.known
 

@@ -5,7 +5,7 @@ ghost use Rattle.ell_cards.specs.Models.{IsTold};
 ghost use Rattle.ell_cards.specs.Guards.{IsSibling, MayAsk, MaySee, NamesNode};
 ghost use Rattle.ell_test_steps.specs.Fitting.{IsReady, StepsAside};
 
-use crate::memory::Memory;
+use crate::memory::Remembered;
 use ell_cards::{CardTable, Pass};
 use ell_core::Field;
 use ell_word::is_internal;
@@ -87,7 +87,7 @@ pub(crate) fn look_sibling<A: Allocator + Copy>(
 pub fn leaf_value<A: Allocator + Copy>(
     table: &CardTable<A>,
     pass: &mut Pass<A>,
-    memory: &Memory,
+    memory: &Remembered,
 ) -> Option<u64>
     requires { IsReady table.now pass.old memory.now }
     ensures { IsReady table.now pass.new memory.now }

@@ -7,7 +7,7 @@ ghost use Rattle.ell_test_steps.specs.Fitting.{IsReady, ended_search};
 ghost use Rattle.ell_test_steps.specs.Remembering.{KnowsAny, Learns, flag_tells};
 
 use crate::filling::{Place, fill_delete, fill_insert, take_card};
-use crate::memory::{Memory, Passed, fact_of, remember};
+use crate::memory::{Remembered, Passed, fact_of, remember};
 use ell_cards::{CardTable, Pass};
 use ell_core::{Fact, Stepped};
 use ell_ops::Op;
@@ -18,7 +18,7 @@ use std::alloc::Allocator;
 pub(crate) fn claim<A: Allocator + Copy>(
     table: &CardTable<A>,
     pass: &mut Pass<A>,
-    memory: &mut Memory,
+    memory: &mut Remembered,
 ) -> Option<Stepped>
     requires { IsReady table.now pass.old memory.old }
     ensures { IsReady table.now pass.new memory.new }
@@ -51,7 +51,7 @@ pub(crate) fn claim<A: Allocator + Copy>(
 fn claim_for_insert<A: Allocator + Copy>(
     table: &CardTable<A>,
     pass: &mut Pass<A>,
-    memory: &mut Memory,
+    memory: &mut Remembered,
     key: u64,
     value: u64,
     place: Place,
@@ -73,7 +73,7 @@ fn claim_for_insert<A: Allocator + Copy>(
 fn claim_for_delete<A: Allocator + Copy>(
     table: &CardTable<A>,
     pass: &mut Pass<A>,
-    memory: &mut Memory,
+    memory: &mut Remembered,
     key: u64,
     place: Place,
 ) -> Option<Stepped>
@@ -105,7 +105,7 @@ fn calm_grandparent(place: Place) -> Option<Passed>
 }
 
 // The search ends with the exchange for a flag: won, the card in hand is flagged, and lost, it is laid aside.
-fn end_search(memory: &mut Memory, flag: Result<(), Update>, new: Fact) -> Stepped
+fn end_search(memory: &mut Remembered, flag: Result<(), Update>, new: Fact) -> Stepped
     ensures { Learns (ended_search (is_ok flag) memory.old) memory.new (λ v. KnowsAny v (flag_tells new flag)) }
 {
     memory.node = None;
@@ -129,7 +129,7 @@ fn end_search(memory: &mut Memory, flag: Result<(), Update>, new: Fact) -> Stepp
 pub(crate) fn iflag<A: Allocator + Copy>(
     table: &CardTable<A>,
     pass: &mut Pass<A>,
-    memory: &mut Memory,
+    memory: &mut Remembered,
 ) -> Option<Stepped>
     requires { IsReady table.now pass.old memory.old }
     ensures { IsReady table.now pass.new memory.new }
@@ -152,7 +152,7 @@ pub(crate) fn iflag<A: Allocator + Copy>(
 pub(crate) fn dflag<A: Allocator + Copy>(
     table: &CardTable<A>,
     pass: &mut Pass<A>,
-    memory: &mut Memory,
+    memory: &mut Remembered,
 ) -> Option<Stepped>
     requires { IsReady table.now pass.old memory.old }
     ensures { IsReady table.now pass.new memory.new }

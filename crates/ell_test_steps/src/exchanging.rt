@@ -6,7 +6,7 @@ ghost use Rattle.ell_test_steps.specs.Remembering.{KnowsMark, Learns};
 
 use crate::asking::look_info;
 use crate::helping::{change_child, clear_delete, clear_insert, cut_parent, go_back};
-use crate::memory::{Memory, fact_of, remember, remembers};
+use crate::memory::{Remembered, fact_of, remember, remembers};
 use ell_cards::{CardTable, Pass};
 use ell_core::{Fact, Field, Stepped};
 use ell_word::{State, Update};
@@ -21,7 +21,7 @@ fn won_or_lost(won: bool) -> Stepped {
 pub(crate) fn ichild<A: Allocator + Copy>(
     table: &CardTable<A>,
     pass: &mut Pass<A>,
-    memory: &mut Memory,
+    memory: &mut Remembered,
     card: u64,
 ) -> Option<Stepped>
     requires { IsReady table.now pass.old memory.old }
@@ -39,7 +39,7 @@ pub(crate) fn ichild<A: Allocator + Copy>(
 pub(crate) fn iunflag<A: Allocator + Copy>(
     table: &CardTable<A>,
     pass: &mut Pass<A>,
-    memory: &mut Memory,
+    memory: &mut Remembered,
     card: u64,
 ) -> Option<Stepped>
     requires { IsReady table.now pass.old memory.old }
@@ -57,7 +57,7 @@ pub(crate) fn iunflag<A: Allocator + Copy>(
 pub(crate) fn dchild<A: Allocator + Copy>(
     table: &CardTable<A>,
     pass: &mut Pass<A>,
-    memory: &mut Memory,
+    memory: &mut Remembered,
     card: u64,
 ) -> Option<Stepped>
     requires { IsReady table.now pass.old memory.old }
@@ -75,7 +75,7 @@ pub(crate) fn dchild<A: Allocator + Copy>(
 pub(crate) fn dunflag<A: Allocator + Copy>(
     table: &CardTable<A>,
     pass: &mut Pass<A>,
-    memory: &mut Memory,
+    memory: &mut Remembered,
     card: u64,
 ) -> Option<Stepped>
     requires { IsReady table.now pass.old memory.old }
@@ -93,7 +93,7 @@ pub(crate) fn dunflag<A: Allocator + Copy>(
 pub(crate) fn backtrack<A: Allocator + Copy>(
     table: &CardTable<A>,
     pass: &mut Pass<A>,
-    memory: &mut Memory,
+    memory: &mut Remembered,
     card: u64,
 ) -> Option<Stepped>
     requires { IsReady table.now pass.old memory.old }
@@ -111,7 +111,7 @@ pub(crate) fn backtrack<A: Allocator + Copy>(
 pub(crate) fn mark<A: Allocator + Copy>(
     table: &CardTable<A>,
     pass: &mut Pass<A>,
-    memory: &mut Memory,
+    memory: &mut Remembered,
     card: u64,
 ) -> Option<Stepped>
     requires { IsReady table.now pass.old memory.old }
@@ -138,7 +138,7 @@ fn is_mark(card: u64, update: Update) -> bool
 
 // What a mark tells is remembered: won, that it stands, and lost, the card's own mark, or that the card is unmarkable, and what the
 // update tells that was found.
-fn learn_mark(memory: &mut Memory, card: u64, mark: Result<(), Update>) -> Stepped
+fn learn_mark(memory: &mut Remembered, card: u64, mark: Result<(), Update>) -> Stepped
     ensures { Learns memory.old memory.new (λ v. KnowsMark v card mark) }
 {
     match mark {

@@ -10,5 +10,5 @@ mod memory;
 mod stepping;
 
 pub use asking::leaf_value;
-pub use memory::{FACTS, Memory, Passed, nothing};
+pub use memory::{FACTS, Remembered, Passed, nothing};
 pub use stepping::step;

@@ -22,7 +22,7 @@ pub struct Passed {
 
 /// What is remembered of a pass: operation, search, card in hand, and the latest facts that it learnt.
 #[derive(Clone, Copy)]
-pub struct Memory {
+pub struct Remembered {
     pub op: Option<Op>,
     pub node: Option<u64>,
     pub read: Option<Update>,
@@ -35,10 +35,10 @@ pub struct Memory {
 }
 
 /// What is remembered of a pass with nothing in hand.
-pub fn nothing() -> Memory
+pub fn nothing() -> Remembered
     ensures { IsNothing result }
 {
-    Memory {
+    Remembered {
         op: None,
         node: None,
         read: None,
@@ -52,7 +52,7 @@ pub fn nothing() -> Memory
 }
 
 /// Remembers a fact, if there is one that is not remembered yet, in place of the oldest.
-pub(crate) fn remember(memory: &mut Memory, fact: Option<Fact>)
+pub(crate) fn remember(memory: &mut Remembered, fact: Option<Fact>)
     ensures { Learns memory.old memory.new (λ v. KnowsAny v fact) }
 {
     if memory.known.contains(&fact) {
@@ -64,7 +64,7 @@ pub(crate) fn remember(memory: &mut Memory, fact: Option<Fact>)
 }
 
 /// Whether a fact is remembered.
-pub(crate) fn remembers(memory: &Memory, fact: Fact) -> bool
+pub(crate) fn remembers(memory: &Remembered, fact: Fact) -> bool
     ensures { (v : View) → KnowsAll v memory.now.known → IsTrue result → Knows v fact }
 {
     memory.known.contains(&Some(fact))

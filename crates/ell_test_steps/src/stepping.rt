@@ -7,7 +7,7 @@ ghost use Rattle.ell_test_steps.specs.Fitting.{Fits, IsReady, MayStopBy, idle_me
 
 use crate::claiming::{claim, dflag, iflag};
 use crate::exchanging::{backtrack, dchild, dunflag, ichild, iunflag, mark};
-use crate::memory::{Memory, Passed, fact_of, nothing, remember, remembers};
+use crate::memory::{Remembered, Passed, fact_of, nothing, remember, remembers};
 use ell_cards::{CardTable, Pass};
 use ell_core::{Act, Fact, Stepped, leaf_answer};
 use ell_ops::{Op, Reply};
@@ -18,7 +18,7 @@ use std::alloc::Allocator;
 pub fn step<A: Allocator + Copy>(
     table: &CardTable<A>,
     pass: &mut Pass<A>,
-    memory: &mut Memory,
+    memory: &mut Remembered,
     act: Act,
 ) -> Option<Stepped>
     requires { IsReady table.now pass.old memory.old }
@@ -44,10 +44,10 @@ pub fn step<A: Allocator + Copy>(
 }
 
 // Nothing is in hand.
-fn lay_down(memory: &mut Memory)
+fn lay_down(memory: &mut Remembered)
     ensures { memory.new ≡ idle_memory memory.old }
 {
-    *memory = Memory {
+    *memory = Remembered {
         known: memory.known,
         turn: memory.turn,
         ..nothing()
@@ -55,7 +55,7 @@ fn lay_down(memory: &mut Memory)
 }
 
 // The search stands at the root.
-fn to_root(memory: &mut Memory, op: Option<Op>)
+fn to_root(memory: &mut Remembered, op: Option<Op>)
     ensures { memory.new ≡ root_memory op memory.old }
 {
     lay_down(memory);
@@ -67,7 +67,7 @@ fn to_root(memory: &mut Memory, op: Option<Op>)
 fn begin<A: Allocator + Copy>(
     table: &CardTable<A>,
     pass: &mut Pass<A>,
-    memory: &mut Memory,
+    memory: &mut Remembered,
     op: Op,
 ) -> Option<Stepped>
     requires { IsReady table.now pass.old memory.old }
@@ -85,7 +85,7 @@ fn begin<A: Allocator + Copy>(
 fn upd<A: Allocator + Copy>(
     table: &CardTable<A>,
     pass: &mut Pass<A>,
-    memory: &mut Memory,
+    memory: &mut Remembered,
 ) -> Option<Stepped>
     requires { IsReady table.now pass.old memory.old }
     ensures { IsReady table.now pass.new memory.new }
@@ -103,7 +103,7 @@ fn upd<A: Allocator + Copy>(
 fn down<A: Allocator + Copy>(
     table: &CardTable<A>,
     pass: &mut Pass<A>,
-    memory: &mut Memory,
+    memory: &mut Remembered,
 ) -> Option<Stepped>
     requires { IsReady table.now pass.old memory.old }
     ensures { IsReady table.now pass.new memory.new }
@@ -124,7 +124,7 @@ fn down<A: Allocator + Copy>(
 }
 
 // Whether the card in hand, if it is flagged, is known backed.
-fn may_stop(memory: &Memory) -> bool
+fn may_stop(memory: &Remembered) -> bool
     ensures { IsTrue result → MayStopBy memory.now }
 {
     match memory.card {
@@ -136,7 +136,7 @@ fn may_stop(memory: &Memory) -> bool
 fn again<A: Allocator + Copy>(
     table: &CardTable<A>,
     pass: &mut Pass<A>,
-    memory: &mut Memory,
+    memory: &mut Remembered,
 ) -> Option<Stepped>
     requires { IsReady table.now pass.old memory.old }
     ensures { IsReady table.now pass.new memory.new }
@@ -153,7 +153,7 @@ fn again<A: Allocator + Copy>(
 fn leave<A: Allocator + Copy>(
     table: &CardTable<A>,
     pass: &mut Pass<A>,
-    memory: &mut Memory,
+    memory: &mut Remembered,
 ) -> Option<Stepped>
     requires { IsReady table.now pass.old memory.old }
     ensures { IsReady table.now pass.new memory.new }
@@ -170,7 +170,7 @@ fn leave<A: Allocator + Copy>(
 fn answer<A: Allocator + Copy>(
     table: &CardTable<A>,
     pass: &mut Pass<A>,
-    memory: &mut Memory,
+    memory: &mut Remembered,
 ) -> Option<Stepped>
     requires { IsReady table.now pass.old memory.old }
     ensures { IsReady table.now pass.new memory.new }
@@ -189,7 +189,7 @@ fn answer<A: Allocator + Copy>(
 fn leaf_said<A: Allocator + Copy>(
     table: &CardTable<A>,
     pass: &mut Pass<A>,
-    memory: &Memory,
+    memory: &Remembered,
     op: Op,
 ) -> Option<Reply>
     requires ready { IsReady table.now pass.old memory.now }
@@ -207,7 +207,7 @@ fn leaf_said<A: Allocator + Copy>(
 }
 
 // The answer by the card in hand, if it is known over.
-fn card_said(memory: &Memory, op: Op) -> Option<Reply>
+fn card_said(memory: &Remembered, op: Op) -> Option<Reply>
     ensures { IfSome result (λ said. (v : View) → Fits v memory.now → memory.now.op ≡ Some op → MayAnswer v said) }
 {
     let card = memory.card?;

@@ -11,7 +11,7 @@ use Rattle.ell_core.specs.state.Opening.{opening, OpeningRefused}
 use Rattle.ell_core.specs.acts.Runs.{Run}
 use Rattle.ell_core.specs.tree.Tree.{ListsKeys}
 use Rattle.ell_text.specs.declared.output.WriteFault.{WriteFault}
-use Rattle.ell_text.specs.replays.Replayed.{setup_of, IsReplay, IsReplayed, IsStartRefused, IsTrace, Tells}
+use Rattle.ell_text.specs.replays.Replayed.{setup_of, IsReplay, IsReplayed, IsStartRefused, IsTrace, ScriptFaultTells}
 use Rattle.ell_text.specs.replays.Script.{ScriptValue, script}
 use Rattle.ell_text.specs.replays.ScriptFault.{of_start, of_write}
 use Rattle.ell_text.specs.replays.Trace.{trace}
@@ -48,7 +48,7 @@ whole_trace input before after read value shown keys whole meant replayed out =
 -- the write of the trace was cut short
 pub cut_trace : (input before after : Option (List ℕ)) (read : List ℕ) (value : ScriptValue) (shown : List Shown) (keys : List ℕ) (fault : WriteFault)
     → IfSome input (λ bytes. read ≡ bytes) → script read ≡ Ok value → IsReplay value shown keys → fault.written < length (trace shown keys)
-    → Appends before after (take fault.written (trace shown keys)) → Tells (of_write fault) input before after
+    → Appends before after (take fault.written (trace shown keys)) → ScriptFaultTells (of_write fault) input before after
 cut_trace input before after read value shown keys fault whole meant replayed missing out =
     IfSome_then input (traced input read value shown keys whole meant replayed) (λ bytes is_trace. (trace shown keys, is_trace, missing, out))
 
@@ -60,7 +60,7 @@ refused_start input read value fault whole meant refused by_entry =
 
 -- the opening was refused
 pub no_start : (input before after : Option (List ℕ)) (read : List ℕ) (value : ScriptValue) (fault : CoreFault) → IfSome input (λ bytes. read ≡ bytes)
-    → script read ≡ Ok value → OpeningRefused value.workers value.owned fault → Keeps before after → Tells (of_start fault) input before after
+    → script read ≡ Ok value → OpeningRefused value.workers value.owned fault → Keeps before after → ScriptFaultTells (of_start fault) input before after
 no_start input before after read value NoSuchWorker whole meant refused kept =
     (kept, refused_start input read value NoSuchWorker whole meant refused (search rules))
 no_start input before after read value OwnedTwice whole meant refused kept =

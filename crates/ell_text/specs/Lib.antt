@@ -20,3 +20,6 @@ pub mod Sending
 pub mod Version
 -- replay texts: their lines, the script of one, what is written for it, and what its faults tell
 pub mod replays
+-- what its public clauses cite of the crates below
+pub use Rattle.ell_ops.specs.Meaning
+pub use Rattle.ell_word.specs.Node

@@ -1,6 +1,6 @@
 //! A replay text, run from bytes to bytes.
 ghost use Rattle.std.specs.Prelude.{◌≡◌, IfErr, OnOk};
-ghost use Rattle.ell_text.specs.replays.Replayed.{IsReplayed, Tells};
+ghost use Rattle.ell_text.specs.replays.Replayed.{IsReplayed, ScriptFaultTells};
 ghost use Rattle.ell_text.specs.replays.ScriptFault.{of_input, of_start, of_text, of_write};
 ghost use Rattle.ell_text.specs.declared.bytes.ScriptFault.TheVariants.{NoMemory as no_memory};
 
@@ -108,7 +108,7 @@ pub fn replay_bytes<A: Allocator + Copy, I: Read, O: Write>(
 ) -> Result<(), ScriptFault>
     ensures ok { OnOk result (IsReplayed (I.remaining reader.old) (O.contents writer.old) (O.contents writer.new)) }
     ensures fault { IfErr result (λ fault.
-        Tells fault (I.remaining reader.old) (O.contents writer.old) (O.contents writer.new)) }
+        ScriptFaultTells fault (I.remaining reader.old) (O.contents writer.old) (O.contents writer.new)) }
 {
     let bytes = read_all(alloc, reader)?;
     let script = read_replay(alloc, &bytes)?;

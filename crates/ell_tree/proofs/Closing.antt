@@ -19,7 +19,7 @@ use Rattle.ell_ops.proofs.Pairs.{contents_at}
 use Rattle.ell_core.specs.declared.view.Entry.TheVariants.{Present}
 use Rattle.ell_core.specs.state.Words.{Words}
 use Rattle.ell_core.proofs.tree.Pairs.{Contains-first, Contains-later}
-use Rattle.ell_cards.specs.Ends.{ClosedModel, Ends}
+use Rattle.ell_cards.specs.Closed.{ClosedModel, TableEnds}
 use Rattle.ell_cards.proofs.words.Keys.{owned_among}
 use Rattle.ell_tree.specs.Ledgers.{TreeModel, ledger, present_in}
 use Rattle.ell_tree.specs.Closing.{ClosesTo}
@@ -62,7 +62,7 @@ contained (e ∷ es) k v is = by (k == e.0) refl is (contained es k v)
 key_of_pair : (w : Words) (k v : ℕ) → IsTreePair w k v → IsTreeKey w k
 key_of_pair w k v h = record { leaf = h.leaf; reached = h.reached; outer = h.outer; has = h.has; real = h.real }
 
-module _ (t : TreeModel) (p : PassModel) (closed : ClosedModel) (ends : Ends t.keys p.view closed) (all : All (λ k. ledger p k ≢ None) t.keys) where
+module _ (t : TreeModel) (p : PassModel) (closed : ClosedModel) (ends : TableEnds t.keys p.view closed) (all : All (λ k. ledger p k ≢ None) t.keys) where
   -- a key of the tree is the pass's
   tree_owned : (keys : List ℕ) → ListsKeys (words_of closed.words) keys → (k : ℕ) → Contains keys k → ledger p k ≢ None
   tree_owned keys lists k has = All-contains (λ x. ledger p x ≢ None) t.keys k all (ends.shows.owned k ((lists.each k).0 has))

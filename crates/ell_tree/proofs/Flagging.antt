@@ -79,21 +79,21 @@ module _ (flag : ℕ → Fact) (c x : ℕ) (from : Update) where
   }
 
   module _ (a b d : PassModel) (n : ℕ) (r : Result (Unit {0}) Update) (fills : Fills a b n) (step : Steps b d (flagging r b.view)) where
-    flagged_view : d.view ≡ flagging r (with_stores b.view.filled a.view)
+    flagged_view : d.view ≡ flagging r (with_stores b.view.stores a.view)
     flagged_view = view_after b d (flagging r b.view) step ∙ ap (flagging r) fills.view
 
     pub flag_goes : Goes a d (n + 1)
     flag_goes = record {
       table = ap (λ (p : PassModel). p.table) step ∙ fills.table;
       label = ap (λ (p : PassModel). p.label) step ∙ fills.label;
-      view = subst (Keeps a.view) (sym flagged_view) (flagging_keeps b.view.filled r a.view);
+      view = subst (Keeps a.view) (sym flagged_view) (flagging_keeps b.view.stores r a.view);
       steps = let taken = ap (λ (p : PassModel). p.steps) step in omega (arith, taken, fills.steps);
     }
 
     pub flag_ends : (cards : ℕ) → a.view.worker.card ≡ Some c → IsInnerMet cards a.view x → IfErr r (λ u. u.card ≤ cards) → Flags cards flag c x a d r
     flag_ends cards holds node named = by r flagged_view named
       where
-        by : (q : Result (Unit {0}) Update) → d.view ≡ flagging q (with_stores b.view.filled a.view) → IfErr q (λ u. u.card ≤ cards) → Flags cards flag c x a d q
+        by : (q : Result (Unit {0}) Update) → d.view ≡ flagging q (with_stores b.view.stores a.view) → IfErr q (λ u. u.card ≤ cards) → Flags cards flag c x a d q
         by (Ok won) e m = subst (IsFlagged flag c a.view) (sym e) (record {
           knows = knows_new (flag c) a.view.worker.facts;
           card = holds;
@@ -105,7 +105,7 @@ module _ (flag : ℕ → Fact) (c x : ℕ) (from : Update) where
           seen = record {
             node = record { met = places_more x u.state u.card a.view.told (Met x) node.met; inner = node.inner; there = node.there };
             named = m;
-            place = place_told x u.state u.card a.view (flagging (Err u) (with_stores b.view.filled a.view)) refl refl;
+            place = place_told x u.state u.card a.view (flagging (Err u) (with_stores b.view.stores a.view)) refl refl;
           };
           no_card = refl;
           nowhere = refl;

@@ -17,7 +17,7 @@ pub record Stores (old new : PassModel) (stores : List (Field × ℕ)) (n : ℕ)
   pub view : new.view ≡ with_stores stores old.view
 
 -- none at first
-pub stores_none : (a : PassModel) → a.view.filled ≡ [] → Stores a a [] 0
+pub stores_none : (a : PassModel) → a.view.stores ≡ [] → Stores a a [] 0
 stores_none a empty = record {
   table = refl;
   label = refl;
@@ -62,13 +62,13 @@ stored_of_insert c k value parent leaf leaf_key leaf_value field.RightValue = re
 -- an insert's card is filled by ten stores
 pub fills_insert : (a b : PassModel) (c k value parent leaf leaf_key leaf_value lesser greater left right update left_value right_value : ℕ)
     → Stores a b (insert_stores parent leaf lesser greater left right update left_value right_value) 10
-    → a.view.filling ≡ insert_filling c k value parent leaf leaf_key leaf_value
+    → a.view.planned ≡ insert_filling c k value parent leaf leaf_key leaf_value
     → lesser ≡ min k leaf_key → greater ≡ max k leaf_key → left ≡ left_leaf c → right ≡ right_leaf c → update ≡ clean 0
     → left_value ≡ (if nat_lt k leaf_key then value else leaf_value) → right_value ≡ (if nat_lt k leaf_key then leaf_value else value)
     → Fills a b 10
 fills_insert a b c k value parent leaf leaf_key leaf_value lesser greater left right update left_value right_value h says low high l r u lv rv =
-    let filled = ap (λ (v : View). v.filled) h.view in
-    let filling = ap (λ (v : View). v.filling) h.view ∙ says in record {
+    let filled = ap (λ (v : View). v.stores) h.view in
+    let filling = ap (λ (v : View). v.planned) h.view ∙ says in record {
       table = h.table;
       label = h.label;
       steps = h.steps;

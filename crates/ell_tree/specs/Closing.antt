@@ -3,7 +3,7 @@ use Rattle.ell_ops.specs.Contents.{ListsPairs}
 use Rattle.ell_core.specs.state.Words.{words_of}
 use Rattle.ell_core.specs.tree.Tree.{ListsTreePairs}
 use Rattle.ell_cards.specs.Models.{PassModel}
-use Rattle.ell_cards.specs.Ends.{ClosedModel, Ends}
+use Rattle.ell_cards.specs.Closed.{ClosedModel, TableEnds}
 use Rattle.ell_tree.specs.Ledgers.{TreeModel, present_in}
 
 -- the keys of a tree with their values as a pass that owns them all closes it: those that are present in the pass's ledger,
@@ -12,5 +12,5 @@ pub record ClosesTo (t : TreeModel) (p : PassModel) (pairs : List (ℕ × ℕ)) 
   pub present : ListsPairs (present_in p) pairs
   pub closed : ClosedModel
   pub cards : closed.last_card ≡ t.last_card
-  pub ends : Ends t.keys p.view closed
+  pub ends : TableEnds t.keys p.view closed
   pub tree : ListsTreePairs (words_of closed.words) pairs

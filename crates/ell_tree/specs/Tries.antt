@@ -83,8 +83,8 @@ pub record HasCard (op : Op) (place : Place) (filling : List (Field × ℕ)) (v 
   pub stands : StandsAt v place.leaf
   pub behind : v.worker.search.parent ≡ Some (seen place.parent)
   pub above : v.worker.search.grandparent ≡ seen_any place.grandparent
-  pub says : v.filling ≡ filling
-  pub empty : v.filled ≡ []
+  pub says : v.planned ≡ filling
+  pub empty : v.stores ≡ []
   pub told : (e : Told) → Has (told_filling c filling []) e → IsTold v e
 
 -- no card was taken, and the search stands where it stood
@@ -105,7 +105,7 @@ pub record Fills (old new : PassModel) (n : ℕ) : Type 0 where
   pub table : new.table ≡ old.table
   pub label : new.label ≡ old.label
   pub steps : new.steps ≤ old.steps + n
-  pub view : new.view ≡ with_stores new.view.filled old.view
+  pub view : new.view ≡ with_stores new.view.stores old.view
   pub filled : IsFilled new.view
 
 -- a flag was set: the card in hand is flagged, and its flag known

@@ -4,24 +4,24 @@ use Rattle.std.specs.List.{All}
 use mathlib.Core.Option.{Option, some, none}
 use lib.ListN.{get_elem?}
 use Rattle.ell_core.specs.state.Machine.{Worker, Machine, ledger_of}
-use Rattle.ell_core.specs.state.Moves.{IsIdle}
+use Rattle.ell_core.specs.state.Moves.{WorkerIsIdle}
 use Rattle.ell_core.specs.acts.Searching.{IsClean}
 use Rattle.ell_core.specs.tree.Tree.{Reached}
-use Rattle.ell_core.specs.soundness.Sound.{Owns}
+use Rattle.ell_core.specs.soundness.Sound.{WorkerOwns}
 use Rattle.ell_core.specs.statements.StepLaws.{OwnsAll}
 use Rattle.ell_core.proofs.following.Sound.{reached_born, sound}
 use Rattle.ell_core.proofs.following.Reliance.{owner_finds_clean}
 use Rattle.ell_cards.specs.declared.view.View.{View}
 use Rattle.ell_cards.specs.Models.{IsFree}
-use Rattle.ell_cards.specs.Rule.{TableState, seat_worker, seated, Kept}
-use Rattle.ell_cards.specs.Ends.{SameNode, ShowsMap, Ends}
+use Rattle.ell_cards.specs.Rule.{TableState, seat_worker, seated, RuleHolds}
+use Rattle.ell_cards.specs.Closed.{SameNode, ShowsMap, TableEnds}
 use Rattle.ell_cards.proofs.seats.Seats.{mine_is, mine_sound}
 use Rattle.ell_cards.specs.OwnWords.{own_words}
 use Rattle.ell_cards.proofs.own_words.OwnTree.{key_same, value_same, child_same, update_same, reached_same}
 use Rattle.ell_cards.proofs.own_words.OwnWords.{same_next, same_card, own_words_are_sound}
 use Rattle.ell_cards.proofs.own_words.OwnLedgers.{ledgers_tell_the_tree}
 
-module _ (keys : List ℕ) (cards : ℕ) (s : TableState) (r : Kept keys cards s) (id : ℕ) (v : View) (here : get_elem? s.views id ≡ some v)
+module _ (keys : List ℕ) (cards : ℕ) (s : TableState) (r : RuleHolds keys cards s) (id : ℕ) (v : View) (here : get_elem? s.views id ≡ some v)
     (free : IsFree v) (all : All (λ k. ledger_of v.worker.ledger k ≢ None) keys) where
   abbrev machine : Machine
   machine = seated r.words s.views cards
@@ -43,18 +43,18 @@ module _ (keys : List ℕ) (cards : ℕ) (s : TableState) (r : Kept keys cards s
   owns_each k at = subst (λ x. ledger_of v.worker.ledger x ≢ None) at.2 (all at.0 k at.1)
 
   -- each key that any seat owns is one of the table
-  owned_listed : (j k : ℕ) → Owns (machine.worker j) k → Contains keys k
+  owned_listed : (j k : ℕ) → WorkerOwns (machine.worker j) k → Contains keys k
   owned_listed j k owns = by (get_elem? s.views j) refl owns
     where
-      by : (o : Option View) → get_elem? s.views j ≡ o → Owns (seat_worker o) k → Contains keys k
+      by : (o : Option View) → get_elem? s.views j ≡ o → WorkerOwns (seat_worker o) k → Contains keys k
       by none e own = absurd (own refl)
       by (some u) e own = r.owned j k u e own
 
   -- so the pass owns every key that any seat owns
   owns_all : OwnsAll machine id
   owns_all = record {
-    all = λ j k owns. subst (λ (u : Worker). Owns u k) (sym (mine_is keys cards s r id v here)) (owns_each k (owned_listed j k owns));
-    free = subst IsIdle (sym (mine_is keys cards s r id v here)) ((mine_sound keys cards s r id v here).free free);
+    all = λ j k owns. subst (λ (u : Worker). WorkerOwns u k) (sym (mine_is keys cards s r id v here)) (owns_each k (owned_listed j k owns));
+    free = subst WorkerIsIdle (sym (mine_is keys cards s r id v here)) ((mine_sound keys cards s r id v here).free free);
   }
 
   -- what is reached in the list is reached in the machine
@@ -75,7 +75,7 @@ module _ (keys : List ℕ) (cards : ℕ) (s : TableState) (r : Kept keys cards s
       }
 
   -- how the table ends
-  pub ends : Ends keys v (record { words = s.words; last_card = cards })
+  pub ends : TableEnds keys v (record { words = s.words; last_card = cards })
   ends = record {
     state = s;
     seat = id;

@@ -7,9 +7,9 @@ use Rattle.ell_core.specs.declared.fact.Fact.{Fact}
 use Rattle.ell_core.specs.state.Words.{put}
 use Rattle.ell_core.specs.state.Facts.{known_of, same_fact}
 use Rattle.ell_core.specs.state.Machine.{Worker, nobody, worker_of, ledger_of}
-use Rattle.ell_core.specs.state.Moves.{IsIdle, Parts, Join}
+use Rattle.ell_core.specs.state.Moves.{WorkerIsIdle, AreParted, Join}
 use Rattle.ell_core.specs.history.Stages.{is_born}
-use Rattle.ell_core.specs.soundness.Sound.{Owns}
+use Rattle.ell_core.specs.soundness.Sound.{WorkerOwns}
 use Rattle.ell_core.proofs.following.Lawful.{joins_lawful}
 use Rattle.ell_core.proofs.outcomes.Decide.{some_not_none}
 use Rattle.ell_cards.specs.declared.view.View.{View}
@@ -73,7 +73,7 @@ none_of (Some t) h = absurd (h (some_not_none refl))
 
 -- two ledgers of which no key is in both are the parts of the one that they make
 united_parts : (l m : List (ℕ × Entry)) → ((k : ℕ) → ledger_of l k ≢ None → ledger_of m k ≢ None → ⊥)
-    → Parts (ledger_of (united l m)) (ledger_of l) (ledger_of m)
+    → AreParted (ledger_of (united l m)) (ledger_of l) (ledger_of m)
 united_parts l m apart k = elim (ledger_united l m k) [
   | inl a ↦ inl (sym a.0, none_of (ledger_of m k) (apart k a.1))
   | inr b ↦ inr (b.0, sym b.1)
@@ -90,19 +90,19 @@ joins_are_moves keys cards s r id other v w here there apart free other_free =
     let h = r.views id v here in
     let g = r.views other w there in
     let one : (k : ℕ) → ledger_of v.worker.ledger k ≢ None → ledger_of w.worker.ledger k ≢ None → ⊥ = λ k ours theirs.
-    apart (r.invariant.workers.one_owner id other k (subst (λ (u : Worker). Owns u k) (sym same) ours) (subst (λ (u : Worker). Owns u k) (sym same') theirs)) in
+    apart (r.invariant.workers.one_owner id other k (subst (λ (u : Worker). WorkerOwns u k) (sym same) ours) (subst (λ (u : Worker). WorkerOwns u k) (sym same') theirs)) in
     let parts = united_parts v.worker.ledger w.worker.ledger one in
     let turned : other ≢ id = λ e. apart (sym e) in
     let join : Join m id other (seated r.words views cards) = record {
       left_there = inside s.views id v here;
       right_there = inside s.views other w there;
       apart = apart;
-      left_free = subst IsIdle (sym same) ((mine_sound keys cards s r id v here).free free);
-      right_free = subst IsIdle (sym same') ((mine_sound keys cards s r other w there).free other_free);
+      left_free = subst WorkerIsIdle (sym same) ((mine_sound keys cards s r id v here).free free);
+      right_free = subst WorkerIsIdle (sym same') ((mine_sound keys cards s r other w there).free other_free);
       both = worker_of both.worker;
       both_free = refl;
-      ledgers = subst (λ (u : Worker). Parts (ledger_of both.worker.ledger) u.ledger (m.worker other).ledger) (sym same)
-          (subst (λ (u : Worker). Parts (ledger_of both.worker.ledger) (ledger_of v.worker.ledger) u.ledger) (sym same') parts);
+      ledgers = subst (λ (u : Worker). AreParted (ledger_of both.worker.ledger) u.ledger (m.worker other).ledger) (sym same)
+          (subst (λ (u : Worker). AreParted (ledger_of both.worker.ledger) (ledger_of v.worker.ledger) u.ledger) (sym same') parts);
       knows = λ f k. elim (known_either v.worker.facts w.worker.facts f k) [
         | inl a ↦ inl (ap (λ (u : Worker). u.knows f) same ∙ a)
         | inr b ↦ inr (ap (λ (u : Worker). u.knows f) same' ∙ b)
@@ -126,7 +126,7 @@ joins_are_moves keys cards s r id other v w here there apart free other_free =
             (rest_holds s.words r.words r.stages spent_view
             (λ e told. met_root (EntryHolds r.words r.stages) (ap is_born r.invariant.words.opening) e told) refl refl)
             r.views;
-        owned = λ j k. each_joined s.views id other v w here there turned both (λ u. Owns (worker_of u.worker) k → Contains keys k)
+        owned = λ j k. each_joined s.views id other v w here there turned both (λ u. WorkerOwns (worker_of u.worker) k → Contains keys k)
             (λ has. elim (ledger_united v.worker.ledger w.worker.ledger k) [
               | inl a ↦ r.owned id k v here a.1
               | inr b ↦ r.owned other k w there (λ none. has (b.1 ∙ none))

@@ -8,7 +8,7 @@ use Rattle.ell_core.specs.state.Layout.{table_size}
 use Rattle.ell_core.specs.state.Words.{Words, word, words_of}
 use Rattle.ell_core.specs.state.Opening.{start_words, last_card}
 use Rattle.ell_core.specs.state.Machine.{idle, worker_of, ledger_of}
-use Rattle.ell_core.specs.soundness.Sound.{Owns}
+use Rattle.ell_core.specs.soundness.Sound.{WorkerOwns}
 use Rattle.ell_core.specs.history.Stages.{is_born}
 use Rattle.ell_core.specs.history.Invariant.{Invariant}
 use Rattle.ell_core.specs.statements.RunLaws.{IsOpening}
@@ -20,7 +20,7 @@ use Rattle.ell_core.proofs.runs.Wins.{opening_wins}
 use Rattle.ell_cards.specs.declared.view.View.{View}
 use Rattle.ell_cards.specs.Changes.{keys_of, first_view}
 use Rattle.ell_cards.specs.Inside.{PassFits}
-use Rattle.ell_cards.specs.Rule.{seat_worker, seated, Kept, EntryHolds, ViewHolds}
+use Rattle.ell_cards.specs.Rule.{seat_worker, seated, RuleHolds, EntryHolds, ViewHolds}
 use Rattle.ell_cards.specs.Starts.{MayStart, StartWords, StartIsKept}
 use Rattle.ell_cards.proofs.words.Keys.{owned_among, among_contains}
 use Rattle.ell_cards.proofs.lifetimes.Idle.{rest_holds, root_named, met_root}
@@ -67,7 +67,7 @@ opening_is_kept keys start cards words may at =
         views = each_first first (ViewHolds words w stages)
             (rest_holds words w stages first
             (λ e told. met_root (EntryHolds w stages) (ap is_born invariant.words.opening) e told) refl refl);
-        owned = λ j k. each_first first (λ v. Owns (worker_of v.worker) k → Contains keys k)
+        owned = λ j k. each_first first (λ v. WorkerOwns (worker_of v.worker) k → Contains keys k)
             (λ owns. subst (λ (ks : List ℕ). Contains ks k) (keys_start keys start)
             (among_contains (keys_of (keys_at_start keys start)) k (owned_among (keys_at_start keys start) k owns))) j;
       };
@@ -77,11 +77,11 @@ opening_is_kept keys start cards words may at =
 
 -- so it does by the last card
 pub kept_up_to : (keys : List ℕ) (start : List (ℕ × ℕ)) (last : ℕ) (words : List ℕ) → MayStart keys start → length start ≤ last → length words ≡ table_size last
-    → words_of words ≡ start_words start → Kept keys last (opening words [] (first_view keys start))
+    → words_of words ≡ start_words start → RuleHolds keys last (opening words [] (first_view keys start))
 kept_up_to keys start last words may room size are =
     let all : last_card start (last - length start) ≡ last = omega arith in
     let at : StartWords start (last - length start) words = record { size = size ∙ ap table_size (sym all); are = are } in
-    subst (λ n. Kept keys n (opening words [] (first_view keys start))) all (opening_is_kept keys start (last - length start) words may at).kept
+    subst (λ n. RuleHolds keys n (opening words [] (first_view keys start))) all (opening_is_kept keys start (last - length start) words may at).kept
 
 -- the first pass has its keys
 pub first_fits : (keys : List ℕ) (start : List (ℕ × ℕ)) (words : ℕ) → IsStrictlyIncreasing keys → PassFits keys words (first_view keys start)

@@ -2,7 +2,7 @@ use Rattle.std.proofs.Common.{◌≡◌, ◌≢◌, ℕ, suc, ◌+◌, ◌<◌, 
 use Rattle.std.specs.List.{All}
 use Rattle.std.specs.List.Sorted.{IsStrictlyIncreasing}
 use Rattle.ell_core.specs.state.Machine.{Ledger, ledger_of}
-use Rattle.ell_core.specs.state.Moves.{Parts}
+use Rattle.ell_core.specs.state.Moves.{AreParted}
 use Rattle.ell_ops.specs.KeySet.{set_of}
 use Rattle.ell_cards.specs.Changes.{keys_of, part_on, part_off}
 use Rattle.ell_core.proofs.opening.KeyLists.{place_of}
@@ -151,7 +151,7 @@ parts_off keys (e ∷ es) k off = by (set_of keys e.0) refl (parts_off keys es k
     )
 
 -- the two parts of a ledger are parts
-pub ledger_parts : (keys : List ℕ) (l : List (ℕ × Entry)) → Parts (ledger_of l) (ledger_of (part_on keys l)) (ledger_of (part_off keys l))
+pub ledger_parts : (keys : List ℕ) (l : List (ℕ × Entry)) → AreParted (ledger_of l) (ledger_of (part_on keys l)) (ledger_of (part_off keys l))
 ledger_parts keys l k = by (set_of keys k) refl
   where
     by : (b : Bool) → set_of keys k ≡ b → ((ledger_of (part_on keys l) k ≡ ledger_of l k) × (ledger_of (part_off keys l) k ≡ None))
@@ -160,7 +160,7 @@ ledger_parts keys l k = by (set_of keys k) refl
     by false e = inr (parts_off keys l k e)
 
 -- what a part owns, the whole owned
-pub part_owns : (whole left right : Ledger) → Parts whole left right → (k : ℕ) → (left k ≢ None → whole k ≢ None) × (right k ≢ None → whole k ≢ None)
+pub part_owns : (whole left right : Ledger) → AreParted whole left right → (k : ℕ) → (left k ≢ None → whole k ≢ None) × (right k ≢ None → whole k ≢ None)
 part_owns whole left right parts k = elim (parts k) [
   | inl a ↦ ((λ h e. h (a.0 ∙ e)), (λ h e. h a.1))
   | inr b ↦ ((λ h e. h b.0), (λ h e. h (b.1 ∙ e)))

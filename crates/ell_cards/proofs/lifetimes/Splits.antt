@@ -10,8 +10,8 @@ use lib.ListN.{get_elem?}
 use Rattle.atomic_table.proofs.Lists.{at_set, at_snoc, at_last}
 use Rattle.ell_core.specs.state.Words.{put}
 use Rattle.ell_core.specs.state.Machine.{Worker, worker_of, ledger_of}
-use Rattle.ell_core.specs.state.Moves.{IsIdle, Parts, Split}
-use Rattle.ell_core.specs.soundness.Sound.{Owns}
+use Rattle.ell_core.specs.state.Moves.{WorkerIsIdle, AreParted, Split}
+use Rattle.ell_core.specs.soundness.Sound.{WorkerOwns}
 use Rattle.ell_core.proofs.following.Lawful.{splits_lawful}
 use Rattle.ell_core.proofs.words.Writes.{put_same, put_other}
 use Rattle.ell_cards.specs.declared.view.View.{View}
@@ -73,12 +73,12 @@ splits_are_moves keys cards s r id v chosen here free =
     let owns = part_owns (ledger_of v.worker.ledger) (ledger_of left.worker.ledger) (ledger_of right.worker.ledger) parts in
     let split : Split m id (seated r.words views cards) = record {
       there = inside s.views id v here;
-      free = subst IsIdle (sym same) ((mine_sound keys cards s r id v here).free free);
+      free = subst WorkerIsIdle (sym same) ((mine_sound keys cards s r id v here).free free);
       left = worker_of left.worker;
       right = worker_of right.worker;
       left_free = refl;
       right_free = refl;
-      ledgers = subst (λ (u : Worker). Parts u.ledger (ledger_of left.worker.ledger) (ledger_of right.worker.ledger)) (sym same) parts;
+      ledgers = subst (λ (u : Worker). AreParted u.ledger (ledger_of left.worker.ledger) (ledger_of right.worker.ledger)) (sym same) parts;
       left_knows = λ f k. ap (λ (u : Worker). u.knows f) same ∙ k;
       right_knows = λ f k. ap (λ (u : Worker). u.knows f) same ∙ k;
       gives = λ t. record {
@@ -99,7 +99,7 @@ splits_are_moves keys cards s r id v chosen here free =
             (rest_holds s.words r.words r.stages left h.entries refl refl)
             (rest_holds s.words r.words r.stages right h.entries refl refl)
             r.views;
-        owned = λ j k. each_split s.views id v here left right (λ u. Owns (worker_of u.worker) k → Contains keys k)
+        owned = λ j k. each_split s.views id v here left right (λ u. WorkerOwns (worker_of u.worker) k → Contains keys k)
             (λ has. r.owned id k v here ((owns k).0 has))
             (λ has. r.owned id k v here ((owns k).1 has))
             (λ i u at has. r.owned i k u at has) j;

@@ -23,8 +23,8 @@ use Rattle.ell_core.proofs.words.Sides.{card_key-insert, card_value-insert, card
 use Rattle.ell_cards.specs.declared.call.Call.TheVariants as call
 use Rattle.ell_cards.specs.declared.view.View.{View}
 use Rattle.ell_cards.specs.Calls.{Becomes}
-use Rattle.ell_cards.specs.Rule.{TableState, seat_worker, Kept}
-use Rattle.ell_cards.specs.Laws.{machine_of, found_by, state_after}
+use Rattle.ell_cards.specs.Rule.{TableState, seat_worker, RuleHolds}
+use Rattle.ell_cards.specs.Laws.{machine_of_table, found_by, state_after}
 use Rattle.ell_cards.specs.OwnWords.{IsAtWork, ChangeIsOf, TableChangesAreOperations}
 use Rattle.ell_cards.proofs.stepping.AllCalls.{steps_are_events}
 use Rattle.ell_cards.proofs.own_words.OwnWords.{own_card_key, own_card_value}
@@ -49,7 +49,7 @@ busy_with w stage v c sound has = elim (cases_option v.operation) [
   | inr e ↦ absurd (some_not_none has (ap (λ (u : Worker). u.card) (sound.free e)))
 ]
 
-module _ (keys : List ℕ) (cards : ℕ) (s : TableState) (r : Kept keys cards s) where
+module _ (keys : List ℕ) (cards : ℕ) (s : TableState) (r : RuleHolds keys cards s) where
   -- the operation of a flagged card, by its kind
   inserts : (v : Worker) (op : Op) (c : ℕ) → is_insert (r.stages c) ≡ true → Flagged r.words r.stages v op c
       → op ≡ Insert (card_key r.words c) (card_value r.words c)
@@ -65,7 +65,7 @@ module _ (keys : List ℕ) (cards : ℕ) (s : TableState) (r : Kept keys cards s
   deletes v (Delete k) c is h = ap Delete (sym h.1 ∙ sym (card_key-delete r.words c (delete_kind r.words r.stages r.invariant.words c is)))
 
   -- whoever has the card in hand, flagged, is at work with it
-  at_work : (c : ℕ) (Q : Op → Type 0) → ((v : Worker) (o : Op) → Flagged r.words r.stages v o c → Q o) → IsInHand (machine_of keys cards s r) c
+  at_work : (c : ℕ) (Q : Op → Type 0) → ((v : Worker) (o : Op) → Flagged r.words r.stages v o c → Q o) → IsInHand (machine_of_table keys cards s r) c
       → (op : Op) × Q op × IsAtWork s c op
   at_work c Q which hand = by hand.worker (get_elem? s.views hand.worker) refl hand.holds hand.flagged
     where
@@ -81,13 +81,13 @@ module _ (keys : List ℕ) (cards : ℕ) (s : TableState) (r : Kept keys cards s
           )
 
   -- a card that wins has this win after those before
-  won_by : (id : ℕ) (a : Act) (c : ℕ) (k : Kind) (s' : TableState) (r' : Kept keys cards s')
-      → Becomes id (Some a) (won_or_lost true) (machine_of keys cards s r) (machine_of keys cards s' r')
-      → wins_by a ((machine_of keys cards s r).worker id).card (won_or_lost true) c ≡ k ∷ []
+  won_by : (id : ℕ) (a : Act) (c : ℕ) (k : Kind) (s' : TableState) (r' : RuleHolds keys cards s')
+      → Becomes id (Some a) (won_or_lost true) (machine_of_table keys cards s r) (machine_of_table keys cards s' r')
+      → wins_by a ((machine_of_table keys cards s r).worker id).card (won_or_lost true) c ≡ k ∷ []
       → (later : Stage) × (wins_of later ≡ wins_of (r.stages c) ++ k ∷ [])
   won_by id a c k s' r' steps is =
-      let follows = (events_lawful (machine_of keys cards s r) r.stages (record { worker = id; act = a }) (won_or_lost true)
-      (machine_of keys cards s' r') r.invariant steps).follows in
+      let follows = (events_lawful (machine_of_table keys cards s r) r.stages (record { worker = id; act = a }) (won_or_lost true)
+      (machine_of_table keys cards s' r') r.invariant steps).follows in
       (follows.stages c, follows.wins c ∙ ap (λ ks. wins_of (r.stages c) ++ ks) is)
 
 -- one win, of this card
@@ -98,8 +98,8 @@ pub table_changes_are_operations : TableChangesAreOperations
 table_changes_are_operations keys cards s r id v (call.IChild c p l right) here may =
     let step = steps_are_events keys cards s r id v (call.IChild c p l right) here may in by step.kept (found_by s (call.IChild c p l right) == l) step.event
   where
-    by : (r' : Kept keys cards (state_after s id v (call.IChild c p l right))) (b : Bool)
-        → Becomes id (Some (act.IChild c)) (won_or_lost b) (machine_of keys cards s r) (machine_of keys cards (state_after s id v (call.IChild c p l right)) r')
+    by : (r' : RuleHolds keys cards (state_after s id v (call.IChild c p l right))) (b : Bool)
+        → Becomes id (Some (act.IChild c)) (won_or_lost b) (machine_of_table keys cards s r) (machine_of_table keys cards (state_after s id v (call.IChild c p l right)) r')
         → ChangeIsOf (call.IChild c p l right) b s
     by r' true h =
         let won = won_by keys cards s r id (act.IChild c) c kind.IChild (state_after s id v (call.IChild c p l right)) r' h (one_win c kind.IChild) in
@@ -113,8 +113,8 @@ table_changes_are_operations keys cards s r id v (call.IChild c p l right) here 
 table_changes_are_operations keys cards s r id v (call.DChild c gp p y right) here may =
     let step = steps_are_events keys cards s r id v (call.DChild c gp p y right) here may in by step.kept (found_by s (call.DChild c gp p y right) == p) step.event
   where
-    by : (r' : Kept keys cards (state_after s id v (call.DChild c gp p y right))) (b : Bool)
-        → Becomes id (Some (act.DChild c)) (won_or_lost b) (machine_of keys cards s r) (machine_of keys cards (state_after s id v (call.DChild c gp p y right)) r')
+    by : (r' : RuleHolds keys cards (state_after s id v (call.DChild c gp p y right))) (b : Bool)
+        → Becomes id (Some (act.DChild c)) (won_or_lost b) (machine_of_table keys cards s r) (machine_of_table keys cards (state_after s id v (call.DChild c gp p y right)) r')
         → ChangeIsOf (call.DChild c gp p y right) b s
     by r' true h =
         let won = won_by keys cards s r id (act.DChild c) c kind.DChild (state_after s id v (call.DChild c gp p y right)) r' h (one_win c kind.DChild) in

@@ -12,7 +12,7 @@ use Rattle.ell_core.specs.state.Cards.{iflag, dflag, marked, is_delete_card, car
 use Rattle.ell_core.specs.acts.Searching.{IsLeaf}
 use Rattle.ell_core.specs.state.Facts.{card_of_fact}
 use Rattle.ell_core.specs.soundness.Holds as phases
-use Rattle.ell_core.specs.soundness.Holds.{IFlagHolds, IChangeHolds, DFlagHolds, MarkHolds, UnmarkableHolds, CutHolds, Holds, insert_phase, open_delete_phase, delete_phase, phase, Phase, settled, with_settled, effective_of, effective}
+use Rattle.ell_core.specs.soundness.Holds.{IFlagHolds, IChangeHolds, DFlagHolds, MarkHolds, UnmarkableHolds, CutHolds, Holds, insert_phase, open_delete_phase, delete_phase, phase, Phase, made_by_phase, with_made, effective_of, effective}
 use Rattle.ell_core.specs.soundness.Sound.{flags_at}
 use Rattle.ell_core.specs.history.Stages.{Stage, Stages, allows, waits, is_claimed}
 use Rattle.ell_core.specs.history.Invariant.{WordsAreSound}
@@ -147,7 +147,7 @@ effective_same w t v same = by v.operation v.card v.flagged same
   where
     by : (o : Option Op) (card : Option ℕ) (flagged : Bool) → ((c : ℕ) → card ≡ Some c → flagged ≡ true → phase t c ≡ phase w c)
         → effective_of t v.ledger o card flagged ≡ effective_of w v.ledger o card flagged
-    by (Some op) (Some c) true h = ap (λ (p : Phase). with_settled v.ledger (key_of op) (settled op p)) (h c refl refl)
+    by (Some op) (Some c) true h = ap (λ (p : Phase). with_made v.ledger (key_of op) (made_by_phase op p)) (h c refl refl)
     by (Some op) (Some c) false h = refl
     by (Some op) None flagged h = refl
     by None card flagged h = refl

@@ -16,7 +16,7 @@ use Rattle.ell_cards.specs.declared.call.Call.TheVariants as call
 use Rattle.ell_cards.specs.declared.view.View.{View}
 use Rattle.ell_cards.specs.Models.{KnowsCard}
 use Rattle.ell_cards.specs.Calls.{atomic_of, is_won, act_of, said_of, Becomes, May}
-use Rattle.ell_cards.specs.Laws.{machine_of, found_by, state_after}
+use Rattle.ell_cards.specs.Laws.{machine_of_table, found_by, state_after}
 use Rattle.ell_cards.specs.OwnWords.{own_words, PairsChangeBy, TablePairsChangeAtWins}
 use Rattle.ell_cards.proofs.stepping.AllCalls.{steps_are_events}
 use Rattle.ell_cards.proofs.own_words.OwnTree.{same_keys}
@@ -99,7 +99,7 @@ pub table_pairs_change_at_wins : TablePairsChangeAtWins
 table_pairs_change_at_wins keys cards s r id v c here may =
     let step = steps_are_events keys cards s r id v c here may in
     let s' = state_after s id v c in
-    let change = machine_pairs (machine_of keys cards s r) r.stages r.invariant id (machine_of keys cards s' step.kept) c (found_by s c) step.event in
+    let change = machine_pairs (machine_of_table keys cards s r) r.stages r.invariant id (machine_of_table keys cards s' step.kept) c (found_by s c) step.event in
     own_change r.words step.kept.words (own_words s) (own_words s') (own_pairs keys cards s r) (own_pairs keys cards s' step.kept)
     c (is_won (atomic_of c) (found_by s c)) v cards may (λ d knows. sym (own_card_key keys cards s r id d v here knows))
     (λ d knows. sym (own_card_value keys cards s r id d v here knows)) change

@@ -5,7 +5,7 @@ use Rattle.ell_word.specs.Word.{packed, unpacked}
 use Rattle.ell_core.specs.declared.fact.Fact.TheVariants.{IFlagged, DFlagged}
 use Rattle.ell_core.specs.state.Machine.{Worker, worker_of, ledger_of}
 use Rattle.ell_core.specs.soundness.Holds.{effective_of, effective}
-use Rattle.ell_core.specs.soundness.Sound.{Owns}
+use Rattle.ell_core.specs.soundness.Sound.{WorkerOwns}
 use Rattle.ell_cards.specs.declared.call.Call.TheVariants as call
 use Rattle.ell_cards.specs.declared.view.View.{View}
 use Rattle.ell_cards.specs.Models.{IsFree}
@@ -34,7 +34,7 @@ free_effective s v free = ap (λ o. effective_of (own_words s) (ledger_of v.work
 pub ledgers_tell_the_tree : LedgersTellTheTree
 ledgers_tell_the_tree keys cards s r id v here free key value owns =
     let mine = ap seat_worker here in
-    let present = (own_words_are_sound keys cards s r).ledgers.present id key value (subst (λ (u : Worker). Owns u key) (sym mine) owns) in
+    let present = (own_words_are_sound keys cards s r).ledgers.present id key value (subst (λ (u : Worker). WorkerOwns u key) (sym mine) owns) in
     let same = ap (λ (u : Worker). effective (own_words s) u key) mine ∙ ap (λ l. l key) (free_effective s v free) in
     (λ there. sym same ∙ present.0 there, λ is. present.1 (same ∙ is))
 
@@ -42,6 +42,6 @@ pub tree_keys_are_owned : TreeKeysAreOwned
 tree_keys_are_owned keys cards s r key there =
     let owned = (own_words_are_sound keys cards s r).ledgers.owned key there in by owned.worker (get_elem? s.views owned.worker) refl owned.owns
   where
-    by : (i : ℕ) (o : Option View) → get_elem? s.views i ≡ o → Owns (seat_worker o) key → IsOwnedKey s key
+    by : (i : ℕ) (o : Option View) → get_elem? s.views i ≡ o → WorkerOwns (seat_worker o) key → IsOwnedKey s key
     by i none e owns = absurd (owns refl)
     by i (some v) e owns = record { seat = i; view = v; there = e; owns = owns }

@@ -13,7 +13,7 @@ use Rattle.ell_core.specs.history.Later.{SaysTheSame}
 use Rattle.ell_core.specs.statements.StepLaws.{GoesInTree}
 use Rattle.ell_core.proofs.following.Reliance.{may_rely}
 use Rattle.ell_core.proofs.following.Sound.{sound}
-use Rattle.ell_core.proofs.following.waiting.Cards.{flagged_settled, hand_claimed}
+use Rattle.ell_core.proofs.following.waiting.Cards.{flagged_made, hand_claimed}
 use Rattle.ell_cards.proofs.own_words.OwnTree.{update_same, reached_same, reached_born, finds_same, joins_same, same_keys, pairs_same, lawful_same}
 use Rattle.ell_cards.proofs.own_words.OwnCards.{allowed_settled, allowed_claimed, phase_same, place_same, fact_same, effective_same}
 
@@ -33,7 +33,7 @@ module _ (m : Machine) (t : Words) (stage : Stages) (holds : Invariant m stage) 
 
   -- a card in hand, flagged
   held_settled : (i c : ℕ) → (m.worker i).card ≡ Some c → (m.worker i).flagged ≡ true → waits (stage c) ≡ false
-  held_settled i c has flagged = flagged_settled m.words stage (m.worker i) c (holds.workers.each i) has flagged
+  held_settled i c has flagged = flagged_made m.words stage (m.worker i) c (holds.workers.each i) has flagged
 
   held_goes : (i c : ℕ) → (m.worker i).card ≡ Some c → GoesInTree m.words stage c
   held_goes i c has = goes c ((holds.words.cards c).claimed.0 (hand_claimed m.words stage (m.worker i) c (holds.workers.each i) has))

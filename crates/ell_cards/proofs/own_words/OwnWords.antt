@@ -12,11 +12,11 @@ use Rattle.ell_core.specs.statements.StepLaws.{SamePairs, GoesInTree}
 use Rattle.ell_core.proofs.words.Listed.{words_are_listed, listed_next}
 use Rattle.ell_core.proofs.following.Reliance.{may_rely}
 use Rattle.ell_core.proofs.following.Sound.{sound}
-use Rattle.ell_core.proofs.following.waiting.Cards.{flagged_settled}
+use Rattle.ell_core.proofs.following.waiting.Cards.{flagged_made}
 use Rattle.ell_core.proofs.stages.Waiting.{born-settled}
 use Rattle.ell_cards.specs.declared.view.View.{View}
 use Rattle.ell_cards.specs.Models.{KnowsCard}
-use Rattle.ell_cards.specs.Rule.{TableState, seated, Kept}
+use Rattle.ell_cards.specs.Rule.{TableState, seated, RuleHolds}
 use Rattle.ell_cards.specs.OwnWords.{own_words, own_machine, OwnWordsAreSound, RuleIsSound, WordsAreOwn, RuleHasOwnWords}
 use Rattle.ell_cards.proofs.stepping.Known.{known_card, known_settled, known_claimed}
 use Rattle.ell_cards.proofs.seats.Seats.{mine_sound}
@@ -24,7 +24,7 @@ use Rattle.ell_cards.proofs.own_words.OwnTree.{reached_same, reached_born, pairs
 use Rattle.ell_cards.proofs.own_words.OwnCards.{card_key_same, card_value_same}
 use Rattle.ell_cards.proofs.own_words.OwnSound.{own_sound}
 
-module _ (keys : List ℕ) (cards : ℕ) (s : TableState) (r : Kept keys cards s) where
+module _ (keys : List ℕ) (cards : ℕ) (s : TableState) (r : RuleHolds keys cards s) where
   -- the claim word, and each card that does not wait
   pub same_next : (own_words s).next ≡ r.words.next
   same_next = listed_next s.words ∙ r.next
@@ -70,10 +70,10 @@ module _ (keys : List ℕ) (cards : ℕ) (s : TableState) (r : Kept keys cards s
     flags = λ x reached inner dirty.
         let hand = (sound_state.flags x reached inner dirty).in_hand in
         let c = (unpacked ((own_words s).update x)).card in
-        settled_card c (flagged_settled r.words r.stages ((own_machine cards s).worker hand.worker) c (r.invariant.workers.each hand.worker) hand.holds hand.flagged);
+        settled_card c (flagged_made r.words r.stages ((own_machine cards s).worker hand.worker) c (r.invariant.workers.each hand.worker) hand.holds hand.flagged);
     known = λ i c v here knows. settled_card c (known_settled keys cards s r i v here c knows);
     held = λ i c v here h.
-        settled_card c (flagged_settled r.words r.stages _ c (mine_sound keys cards s r i v here) h.holds h.flagged);
+        settled_card c (flagged_made r.words r.stages _ c (mine_sound keys cards s r i v here) h.holds h.flagged);
     tree = own_pairs;
   }
 

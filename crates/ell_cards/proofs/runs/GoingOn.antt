@@ -19,8 +19,8 @@ use Rattle.ell_cards.specs.declared.call.Call.{Call}
 use Rattle.ell_cards.specs.declared.call.Call.TheVariants as call
 use Rattle.ell_cards.specs.declared.view.View.{View}
 use Rattle.ell_cards.specs.Calls.{atomic_of, is_won, act_of, said_of, Becomes, May}
-use Rattle.ell_cards.specs.Rule.{TableState, seat_worker, Kept}
-use Rattle.ell_cards.specs.Laws.{machine_of, found_by}
+use Rattle.ell_cards.specs.Rule.{TableState, seat_worker, RuleHolds}
+use Rattle.ell_cards.specs.Laws.{machine_of_table, found_by}
 use Rattle.ell_cards.specs.Runs.{Turn, Makes, Splits, Joins, TableTurns, TableRun}
 use Rattle.ell_cards.specs.RunLaws.{win_of, turn_wins, run_wins}
 use Rattle.ell_cards.proofs.runs.TurnsOfRuns.{turn_lawful}
@@ -98,32 +98,32 @@ module _ (m : Machine) (stage : Stages) (holds : Invariant m stage) (i : ℕ) (m
 
 module _ (keys : List ℕ) (cards : ℕ) where
   -- the wins of a turn
-  turn_goes : (s : TableState) (r : Kept keys cards s) (stage : Stages) → Invariant (machine_of keys cards s r) stage → (t : Turn) (s' : TableState)
-      → TableTurns cards s t s' → (k : Kept keys cards s') × Went r.words stage (turn_wins s t) (machine_of keys cards s' k)
+  turn_goes : (s : TableState) (r : RuleHolds keys cards s) (stage : Stages) → Invariant (machine_of_table keys cards s r) stage → (t : Turn) (s' : TableState)
+      → TableTurns cards s t s' → (k : RuleHolds keys cards s') × Went r.words stage (turn_wins s t) (machine_of_table keys cards s' k)
   turn_goes s r stage holds (Makes seat c) s' h =
       let turn = turn_lawful keys cards s r (Makes seat c) s' h in (
         turn.0,
-        call_wins (machine_of keys cards s r) stage holds seat (machine_of keys cards s' turn.0) c (found_by s c) h.view cards
+        call_wins (machine_of_table keys cards s r) stage holds seat (machine_of_table keys cards s' turn.0) c (found_by s c) h.view cards
             (ap (λ o. (seat_worker o).card) h.there) h.may turn.1.machine,
       )
   turn_goes s r stage holds (Splits seat left) s' h =
       let turn = turn_lawful keys cards s r (Splits seat left) s' h in
-      let m = machine_of keys cards s r in
-      let m' = machine_of keys cards s' turn.0 in
+      let m = machine_of_table keys cards s r in
+      let m' = machine_of_table keys cards s' turn.0 in
       (turn.0, went_nowhere m stage m' (splits_lawful m stage seat m' holds turn.1.machine) (ap (λ (n : Machine). n.words) turn.1.machine.gives))
   turn_goes s r stage holds (Joins seat other) s' h =
       let turn = turn_lawful keys cards s r (Joins seat other) s' h in
-      let m = machine_of keys cards s r in
-      let m' = machine_of keys cards s' turn.0 in
+      let m = machine_of_table keys cards s r in
+      let m' = machine_of_table keys cards s' turn.0 in
       (turn.0, went_nowhere m stage m' (joins_lawful m stage seat other m' holds turn.1.machine) (ap (λ (n : Machine). n.words) turn.1.machine.gives))
 
   -- what a run makes of the machine
-  pub run_goes : (s : TableState) (r : Kept keys cards s) (stage : Stages) → Invariant (machine_of keys cards s r) stage → (turns : List Turn) (s' : TableState)
+  pub run_goes : (s : TableState) (r : RuleHolds keys cards s) (stage : Stages) → Invariant (machine_of_table keys cards s r) stage → (turns : List Turn) (s' : TableState)
       → (run : TableRun cards s turns s')
-      → (k : Kept keys cards s') × Went r.words stage (run_wins cards s turns s' run) (machine_of keys cards s' k)
+      → (k : RuleHolds keys cards s') × Went r.words stage (run_wins cards s turns s' run) (machine_of_table keys cards s' k)
   run_goes s r stage holds [] s' run =
-      subst (λ x. (k : Kept keys cards x) × Went r.words stage (λ d. []) (machine_of keys cards x k)) (sym run)
-      (r, went_nowhere (machine_of keys cards s r) stage (machine_of keys cards s r) holds refl)
+      subst (λ x. (k : RuleHolds keys cards x) × Went r.words stage (λ d. []) (machine_of_table keys cards x k)) (sym run)
+      (r, went_nowhere (machine_of_table keys cards s r) stage (machine_of_table keys cards s r) holds refl)
   run_goes s r stage holds (t ∷ ts) s' run =
       let first = turn_goes s r stage holds t run.0 run.1 in
       let rest = run_goes run.0 first.0 first.1.stages first.1.invariant ts s' run.2 in (

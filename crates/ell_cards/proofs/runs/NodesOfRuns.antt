@@ -13,8 +13,8 @@ use Rattle.ell_core.proofs.following.Sound.{word_by_state}
 use Rattle.ell_core.proofs.stages.Order.{born-claimed}
 use Rattle.ell_core.proofs.stages.Waiting.{start-born}
 use Rattle.ell_core.proofs.tree.Reached.{Spans-reached}
-use Rattle.ell_cards.specs.Rule.{TableState, Kept}
-use Rattle.ell_cards.specs.Laws.{machine_of}
+use Rattle.ell_cards.specs.Rule.{TableState, RuleHolds}
+use Rattle.ell_cards.specs.Laws.{machine_of_table}
 use Rattle.ell_cards.specs.OwnWords.{own_words}
 use Rattle.ell_cards.specs.RunLaws.{run_wins, NodeGoesOn, TableNodesGoOn}
 use Rattle.ell_cards.proofs.own_words.OwnTree.{key_same, child_same, update_same, reached_born}
@@ -75,14 +75,14 @@ module _ (m : Machine) (one two : Stages) (holds : Invariant m one) (also : Inva
       ]
 
 -- two states of the rule, the second one's machine gone on from the first one's, and a node that was reached in the first
-module _ (keys : List ℕ) (cards : ℕ) (s : TableState) (r : Kept keys cards s) (s' : TableState) (k : Kept keys cards s') (won : ℕ → List Kind)
-    (went : Went r.words r.stages won (machine_of keys cards s' k)) (x : ℕ) (reached : Reached (own_words s) x) where
+module _ (keys : List ℕ) (cards : ℕ) (s : TableState) (r : RuleHolds keys cards s) (s' : TableState) (k : RuleHolds keys cards s') (won : ℕ → List Kind)
+    (went : Went r.words r.stages won (machine_of_table keys cards s' k)) (x : ℕ) (reached : Reached (own_words s) x) where
   -- it came into the tree
   born : Born r.stages x
   born = reached_born r.words (own_words s) r.stages r.invariant.words (same_card keys cards s r) x reached
 
   later : Born k.stages x
-  later = born_by_machine (machine_of keys cards s' k) went.stages k.stages went.invariant k.invariant x (went.later.born x born)
+  later = born_by_machine (machine_of_table keys cards s' k) went.stages k.stages went.invariant k.invariant x (went.later.born x born)
 
   -- so the table's own words there are the machine's
   key_then : (own_words s).key x ≡ r.words.key x

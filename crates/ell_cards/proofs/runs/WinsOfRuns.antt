@@ -12,7 +12,7 @@ use Rattle.ell_core.proofs.runs.Wins.{stage_wins}
 use Rattle.ell_core.proofs.words.Listed.{listed_next}
 use Rattle.ell_core.proofs.stages.Waiting.{unclaimed-wins}
 use Rattle.ell_cards.specs.Calls.{act_of, said_of, Becomes}
-use Rattle.ell_cards.specs.Laws.{machine_of, found_by}
+use Rattle.ell_cards.specs.Laws.{machine_of_table, found_by}
 use Rattle.ell_cards.specs.Runs.{Makes, Splits, Joins, event_of, shown_of, events_in, shown_in, RunsAreSchedules}
 use Rattle.ell_cards.specs.RunLaws.{TableWinsAreInOrder}
 use Rattle.ell_cards.proofs.runs.GoingOn.{run_goes}
@@ -26,8 +26,8 @@ after_call seat (Some a) said m between es xs m' steps run = (between, steps, ru
 pub runs_are_schedules : RunsAreSchedules
 runs_are_schedules keys cards s r [] s' r' run calls lawful = lawful
 runs_are_schedules keys cards s r (Makes seat c ∷ ts) s' r' run calls lawful =
-    after_call seat (act_of c (found_by s c)) (said_of c (found_by s c)) (machine_of keys cards s r) (machine_of keys cards run.0 lawful.0)
-    (events_in cards run.0 ts s' run.2) (shown_in cards run.0 ts s' run.2) (machine_of keys cards s' r') lawful.1.machine
+    after_call seat (act_of c (found_by s c)) (said_of c (found_by s c)) (machine_of_table keys cards s r) (machine_of_table keys cards run.0 lawful.0)
+    (events_in cards run.0 ts s' run.2) (shown_in cards run.0 ts s' run.2) (machine_of_table keys cards s' r') lawful.1.machine
     (runs_are_schedules keys cards run.0 lawful.0 ts s' r' run.2 calls lawful.2)
 runs_are_schedules keys cards s r (Splits seat left ∷ ts) s' r' run calls lawful = absurd calls
 runs_are_schedules keys cards s r (Joins seat other ∷ ts) s' r' run calls lawful = absurd calls

@@ -14,7 +14,7 @@ use Rattle.ell_core.specs.state.Words.{Words, word, written}
 use Rattle.ell_core.specs.state.Machine.{Machine, worker_of}
 use Rattle.ell_core.specs.state.Cards.{stored}
 use Rattle.ell_core.specs.acts.Events.{Happens, Steps}
-use Rattle.ell_core.specs.soundness.Sound.{Owns}
+use Rattle.ell_core.specs.soundness.Sound.{WorkerOwns}
 use Rattle.ell_core.specs.history.Stages.{Stages, waits}
 use Rattle.ell_core.specs.history.Invariant.{Invariant}
 use Rattle.ell_core.specs.history.Later.{wins_by}
@@ -25,7 +25,7 @@ use Rattle.ell_cards.specs.declared.view.Told.{Told}
 use Rattle.ell_cards.specs.declared.view.Told.TheVariants.{Key}
 use Rattle.ell_cards.specs.declared.view.View.{View}
 use Rattle.ell_cards.specs.Models.{IsTold, stored_at}
-use Rattle.ell_cards.specs.Rule.{TableState, seat_worker, seated, EntryHolds, ViewHolds, Kept}
+use Rattle.ell_cards.specs.Rule.{TableState, seat_worker, seated, EntryHolds, ViewHolds, RuleHolds}
 use Rattle.ell_cards.specs.Calls.{word_of, atomic_of, left_by, act_of, said_of, Becomes, Tells}
 use Rattle.ell_cards.specs.Laws.{found_by, view_after, state_after, IsEvent}
 use Rattle.ell_core.proofs.stages.Waiting.{waits-kind, waits-wins, kind-waits}
@@ -38,10 +38,10 @@ use Rattle.ell_cards.proofs.seats.Seats.{IsKept, Leads, Moves, leads, kept_event
 pub record Onward (v after : View) : Type 0 where
   pub here : (x key : ℕ) → after.worker.search.node ≡ Some x → after.here ≡ Some key → IsTold after (Key x key)
   pub hand : (c : ℕ) → after.worker.card ≡ Some c → after.worker.flagged ≡ false
-      → (v.worker.card ≡ Some c) × (v.worker.flagged ≡ false) × (after.filling ≡ v.filling) × (after.filled ≡ v.filled)
-  pub owns : (k : ℕ) → Owns (worker_of after.worker) k → Owns (worker_of v.worker) k
+      → (v.worker.card ≡ Some c) × (v.worker.flagged ≡ false) × (after.planned ≡ v.planned) × (after.stores ≡ v.stores)
+  pub owns : (k : ℕ) → WorkerOwns (worker_of after.worker) k → WorkerOwns (worker_of v.worker) k
 
-module _ (keys : List ℕ) (cards : ℕ) (s : TableState) (r : Kept keys cards s) (id : ℕ) (v : View) (here : get_elem? s.views id ≡ some v) where
+module _ (keys : List ℕ) (cards : ℕ) (s : TableState) (r : RuleHolds keys cards s) (id : ℕ) (v : View) (here : get_elem? s.views id ≡ some v) where
   -- a state of the rule that an event leads to
   pub record IsReached (list : List ℕ) (new : Words) (after : View) (a : core.Act) (said : Stepped) : Type 0 where
     pub kept : IsKept keys cards (record { words = list; homes = s.homes; views = set s.views id after }) new
@@ -158,7 +158,7 @@ module _ (keys : List ℕ) (cards : ℕ) (s : TableState) (r : Kept keys cards s
           (at_set s.views id j after u e);
       owned = λ j k u e has. ⊎_elim
           (λ (t : (j ≡ id) × (after ≡ u)). r.owned id k v here
-          (subst (λ z. Owns (worker_of z) k) same (subst (λ (z : View). Owns (worker_of z.worker) k) (sym t.1) has)))
+          (subst (λ z. WorkerOwns (worker_of z) k) same (subst (λ (z : View). WorkerOwns (worker_of z.worker) k) (sym t.1) has)))
           (λ (t : (j ≢ id) × (get_elem? s.views j ≡ some u)). r.owned j k u t.1 has)
           (at_set s.views id j after u e);
     };

@@ -13,7 +13,7 @@ use Rattle.ell_core.specs.state.Layout.{listed}
 use Rattle.ell_core.specs.state.Words.{Words, word, put}
 use Rattle.ell_core.specs.state.Machine.{Worker, Machine, Scene, scene, with_scene, worker_of}
 use Rattle.ell_core.specs.acts.Events.{Happens, Steps}
-use Rattle.ell_core.specs.soundness.Sound.{Owns}
+use Rattle.ell_core.specs.soundness.Sound.{WorkerOwns}
 use Rattle.ell_core.specs.history.Stages.{Stages, Born, waits}
 use Rattle.ell_core.specs.history.Invariant.{Invariant, WorkerIsSound}
 use Rattle.ell_core.specs.history.Later.{WordsLater, StagesLater, wins_of, wins_by}
@@ -23,7 +23,7 @@ use Rattle.ell_core.proofs.following.Lawful.{events_lawful}
 use Rattle.ell_core.proofs.following.Reliance.{may_rely}
 use Rattle.ell_cards.specs.declared.view.Told.{Told}
 use Rattle.ell_cards.specs.declared.view.View.{View}
-use Rattle.ell_cards.specs.Rule.{TableState, seat_worker, seated, EntryHolds, ViewHolds, Kept}
+use Rattle.ell_cards.specs.Rule.{TableState, seat_worker, seated, EntryHolds, ViewHolds, RuleHolds}
 use Rattle.ell_core.proofs.following.waiting.Cards.{hand_waits}
 use Rattle.ell_cards.proofs.seats.Entries.{entry_lasts}
 
@@ -63,10 +63,10 @@ module _ (views : List View) (id : ℕ) (v : View) (here : get_elem? views id �
 
 -- a state of the rule, and the machine that it is of, by these words
 pub record IsKept (keys : List ℕ) (cards : ℕ) (s : TableState) (w : Words) : Type 0 where
-  pub kept : Kept keys cards s
+  pub kept : RuleHolds keys cards s
   pub words : kept.words ≡ w
 
-module _ (keys : List ℕ) (cards : ℕ) (s : TableState) (r : Kept keys cards s) (id : ℕ) (v : View) (here : get_elem? s.views id ≡ some v) where
+module _ (keys : List ℕ) (cards : ℕ) (s : TableState) (r : RuleHolds keys cards s) (id : ℕ) (v : View) (here : get_elem? s.views id ≡ some v) where
   -- the machine
   abbrev pub machine : Machine
   machine = seated r.words s.views cards
@@ -146,7 +146,7 @@ module _ (keys : List ℕ) (cards : ℕ) (s : TableState) (r : Kept keys cards s
   -- the rule after an event
   pub kept_event : (a : Act) (said : Stepped) (new : Words) (after : View) (list : List ℕ) (stages : Stages)
       → Leads a said new after stages → Moves list new stages → ViewHolds list new stages after
-      → ((k : ℕ) → Owns (worker_of after.worker) k → Owns (worker_of v.worker) k)
+      → ((k : ℕ) → WorkerOwns (worker_of after.worker) k → WorkerOwns (worker_of v.worker) k)
       → IsKept keys cards (record { words = list; homes = s.homes; views = set s.views id after }) new
   kept_event a said new after list stages led moves own owns = record {
     kept = record {
@@ -162,7 +162,7 @@ module _ (keys : List ℕ) (cards : ℕ) (s : TableState) (r : Kept keys cards s
           (at_set s.views id j after u e);
       owned = λ j k u e has. ⊎_elim
           (λ (t : (j ≡ id) × (after ≡ u)).
-          r.owned id k v here (owns k (subst (λ (z : View). Owns (worker_of z.worker) k) (sym t.1) has)))
+          r.owned id k v here (owns k (subst (λ (z : View). WorkerOwns (worker_of z.worker) k) (sym t.1) has)))
           (λ (t : (j ≢ id) × (get_elem? s.views j ≡ some u)). r.owned j k u t.1 has)
           (at_set s.views id j after u e);
     };

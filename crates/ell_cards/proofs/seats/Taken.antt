@@ -16,10 +16,10 @@ use Rattle.ell_cards.specs.declared.call.Call.TheVariants as call
 use Rattle.ell_cards.specs.declared.view.View.{View}
 use Rattle.ell_cards.specs.declared.view.Told.TheVariants.{Met, Info}
 use Rattle.ell_cards.specs.Models.{KnowsCard, PassModel, Steps}
-use Rattle.ell_cards.specs.Changes.{keys_of, with_key, answered_ledger}
+use Rattle.ell_cards.specs.Changes.{keys_of, with_entry, answered_ledger}
 use Rattle.ell_cards.specs.Calls.{Load, Exchange, word_of, atomic_of, left_by, after, May}
 use Rattle.ell_cards.specs.Naming.{IsNamed}
-use Rattle.ell_cards.specs.Rule.{Kept}
+use Rattle.ell_cards.specs.Rule.{RuleHolds}
 use Rattle.ell_cards.specs.Stepping.{MayLoad, MayStore, MayExchange, KeepsPass, StepsBy, IsTaken}
 use Rattle.ell_cards.proofs.seats.Seats.{set_there}
 use Rattle.ell_cards.proofs.stepping.AllCalls.{steps_are_events}
@@ -31,7 +31,7 @@ use Rattle.ell_ops.specs.declared.reply.Reply.{Reply}
 use Rattle.ell_ops.specs.declared.reply.Reply.TheVariants.{Yes}
 
 -- settling a key leaves the keys
-settled_keys : (k : ℕ) (b : Entry) (l : List (ℕ × Entry)) → keys_of (with_key k b l) ≡ keys_of l
+settled_keys : (k : ℕ) (b : Entry) (l : List (ℕ × Entry)) → keys_of (with_entry k b l) ≡ keys_of l
 settled_keys k b [] = refl
 settled_keys k b (e ∷ es) = ap (λ ks. e.0 ∷ ks) (settled_keys k b es)
 
@@ -51,13 +51,13 @@ keys_stay _ n v = refl
 
 -- a step call keeps the rule, whatever the table is, and leaves of its pass what the call says
 taken : (keys : List ℕ) (cards : ℕ) (c : Call) (v : View) (f : ℕ → ℕ) → ((n : ℕ) → f n ≡ left_by (atomic_of c) n) → May cards c v
-    → (id : ℕ) → Allows (Kept keys cards) 0 id (v, []) (word_of c) f (λ n me. IsTaken cards c v n me.0 × (me.1 ≡ []))
+    → (id : ℕ) → Allows (RuleHolds keys cards) 0 id (v, []) (word_of c) f (λ n me. IsTaken cards c v n me.0 × (me.1 ≡ []))
 taken keys cards c v f same may id s r homes here small =
     let n = get_or s.words (word_of c) 0 in
     let w = after c n v in
     let step = steps_are_events keys cards s r id v c here may in
-    let kept : Kept keys cards (record { words = set s.words (word_of c) (f n); homes = s.homes; views = set s.views id w }) =
-    subst (λ m. Kept keys cards (record { words = set s.words (word_of c) m; homes = s.homes; views = set s.views id w })) (sym (same n)) step.kept in (
+    let kept : RuleHolds keys cards (record { words = set s.words (word_of c) (f n); homes = s.homes; views = set s.views id w }) =
+    subst (λ m. RuleHolds keys cards (record { words = set s.words (word_of c) m; homes = s.homes; views = set s.views id w })) (sym (same n)) step.kept in (
       w,
       keeps,
       tt,

@@ -26,7 +26,7 @@ use Rattle.ell_cards.specs.declared.view.View.{View}
 use Rattle.ell_cards.specs.Models.{Has}
 use Rattle.ell_cards.specs.Changes.{told_value, told_fixed, told_filling, filling_for, filling_of, after_claim}
 use Rattle.ell_cards.specs.Guards.{MayClaim, Wants}
-use Rattle.ell_cards.specs.Rule.{TableState, EntryHolds, seated, Kept}
+use Rattle.ell_cards.specs.Rule.{TableState, EntryHolds, seated, RuleHolds}
 use Rattle.ell_cards.specs.Laws.{IsEvent}
 use Rattle.ell_cards.specs.Calls.{Becomes}
 use Rattle.ell_cards.proofs.words.Fields.{filled_else}
@@ -60,11 +60,11 @@ abbrev taking : ℕ → List (Field × ℕ) → View → View
 taking c es v = record v {
   worker = record (v.worker) { card = Some c; flagged = false };
   told = told_filling c es v.told;
-  filling = es;
-  filled = [];
+  planned = es;
+  stores = [];
 }
 
-module _ (keys : List ℕ) (cards : ℕ) (s : TableState) (r : Kept keys cards s) (id : ℕ) (v : View) (here : get_elem? s.views id ≡ some v) where
+module _ (keys : List ℕ) (cards : ℕ) (s : TableState) (r : RuleHolds keys cards s) (id : ℕ) (v : View) (here : get_elem? s.views id ≡ some v) where
   -- the next card
   abbrev next : ℕ
   next = r.words.next
@@ -200,7 +200,7 @@ module _ (keys : List ℕ) (cards : ℕ) (s : TableState) (r : Kept keys cards s
 
   -- the event of a claim by whether it was won
   record ClaimAt (c : ℕ) (b : Bool) : Type 0 where
-    kept : Kept keys cards (record { words = set s.words 0 (if b then c + 1 else get_or s.words 0 0); homes = s.homes; views = set s.views id (after_claim b c v) })
+    kept : RuleHolds keys cards (record { words = set s.words 0 (if b then c + 1 else get_or s.words 0 0); homes = s.homes; views = set s.views id (after_claim b c v) })
     event : Becomes id (if b then Some act.Claim else None) Moved (machine keys cards s r id v here)
         (seated kept.words (set s.views id (after_claim b c v)) cards)
 

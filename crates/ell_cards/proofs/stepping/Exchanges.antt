@@ -27,7 +27,7 @@ use Rattle.ell_cards.specs.declared.view.Told.TheVariants.{Info, Key}
 use Rattle.ell_cards.specs.declared.view.View.{View}
 use Rattle.ell_cards.specs.Models.{IsTold}
 use Rattle.ell_cards.specs.Changes.{learning, with_found}
-use Rattle.ell_cards.specs.Rule.{TableState, EntryHolds, Kept}
+use Rattle.ell_cards.specs.Rule.{TableState, EntryHolds, RuleHolds}
 use Rattle.ell_cards.specs.Calls.{after}
 use Rattle.ell_core.proofs.stages.Waiting.{born-settled, waits-wins, first_win}
 use Rattle.ell_cards.proofs.words.Fields.{write_update_at_node, write_child_at_node}
@@ -35,7 +35,7 @@ use Rattle.ell_cards.proofs.seats.Seats.{Leads, leads, kept_event, mine, becomes
 use Rattle.ell_cards.proofs.seats.Frames.{Onward, IsReached, looks, waits_on, view_on, moves_write}
 use Rattle.ell_cards.proofs.stepping.Known.{update_found}
 
-module _ (keys : List ℕ) (cards : ℕ) (s : TableState) (r : Kept keys cards s) (id : ℕ) (v : View) (here : get_elem? s.views id ≡ some v) where
+module _ (keys : List ℕ) (cards : ℕ) (s : TableState) (r : RuleHolds keys cards s) (id : ℕ) (v : View) (here : get_elem? s.views id ≡ some v) where
   -- a field of a node that came into the tree has an address in the table
   pub in_list : (x : ℕ) (f : Field) → Born r.stages x → address (card x) f < length s.words
   in_list x f born =
@@ -143,7 +143,7 @@ module _ (w : Words) (x y expected value n : ℕ) (right : Bool) (same : x ≡ y
   pub child_says : won_or_lost (n == expected) ≡ won_or_lost (found_child w x value == expected)
   child_says = ap (λ m. won_or_lost (m == expected)) (sym found_is)
 
-module _ (keys : List ℕ) (cards : ℕ) (s : TableState) (r : Kept keys cards s) (id : ℕ) (v : View) (here : get_elem? s.views id ≡ some v) where
+module _ (keys : List ℕ) (cards : ℕ) (s : TableState) (r : RuleHolds keys cards s) (id : ℕ) (v : View) (here : get_elem? s.views id ≡ some v) where
   -- an exchange of a flag of card c for a clean word, at node x, which was told to be y: it teaches one fact, and its row follows from
   -- what it says and gives
   pub unflags : (a : Act) (c x y flag : ℕ) (new : Fact) (k : Kind) → x ≡ y → IsInnerBorn r.stages x → k ≢ kind.IFlag → k ≢ kind.DFlag

@@ -14,13 +14,13 @@ use Rattle.ell_cards.specs.declared.view.View.{View}
 use Rattle.ell_cards.specs.Models.{stored_at}
 use Rattle.ell_cards.specs.Changes.{after_fill}
 use Rattle.ell_cards.specs.Guards.{MayFill}
-use Rattle.ell_cards.specs.Rule.{TableState, seat_worker, Kept}
+use Rattle.ell_cards.specs.Rule.{TableState, seat_worker, RuleHolds}
 use Rattle.ell_cards.specs.Laws.{IsEvent}
 use Rattle.ell_cards.proofs.words.Fields.{listed_else, listed_next, listed_there}
 use Rattle.ell_cards.proofs.seats.Seats.{machine, mine_is, mine_sound}
 use Rattle.ell_cards.proofs.seats.Frames.{kept_note, is_no_event}
 
-module _ (keys : List ℕ) (cards : ℕ) (s : TableState) (r : Kept keys cards s) (id : ℕ) (v : View) (here : get_elem? s.views id ≡ some v) where
+module _ (keys : List ℕ) (cards : ℕ) (s : TableState) (r : RuleHolds keys cards s) (id : ℕ) (v : View) (here : get_elem? s.views id ≡ some v) where
   -- fill
   pub keeps_fill : (c : ℕ) (f : Field) (x : ℕ) → MayFill v c → IsEvent keys cards s r id v (call.Fill c f x)
   keeps_fill c f x may =
@@ -39,7 +39,7 @@ module _ (keys : List ℕ) (cards : ℕ) (s : TableState) (r : Kept keys cards s
         hand = λ d has un. let q : c ≡ d = (let a = may.holds in cc) in
             let held = h.hand d has un in record {
               machine = held.machine;
-              table = λ g. subst (λ z. listed list z g ≡ stored_at after.filled g) q
+              table = λ g. subst (λ z. listed list z g ≡ stored_at after.stores g) q
                   (listed_there s.words c f x g fits ∙ ap (λ y. if place f == place g then x else y) ((h.hand c may.holds may.unflagged).table g));
             };
       })

@@ -31,7 +31,7 @@ use Rattle.ell_cards.specs.Models.{Has, latest, earlier, IsTold, Does, StandsAt,
 use Rattle.ell_cards.specs.Changes.{places_by, after_upd, after_down, after_next, after_key_of, after_value_of, is_at, seen_at}
 use Rattle.ell_cards.specs.Guards.{MayRead as MayUpd, MayGoDown}
 use Rattle.ell_cards.specs.Calls.{TellsLeaf, TellsValue, update_at, child_at, key_at, value_at}
-use Rattle.ell_cards.specs.Rule.{TableState, EntryHolds, Kept}
+use Rattle.ell_cards.specs.Rule.{TableState, EntryHolds, RuleHolds}
 use Rattle.ell_cards.specs.Laws.{IsEvent}
 use Rattle.ell_cards.proofs.words.Updates.{packed_again}
 use Rattle.ell_core.proofs.stages.Waiting.{born-settled}
@@ -59,7 +59,7 @@ some_if : (b : Bool) (value : ℕ) → is_some (if b then Some value else None) 
 some_if true value = refl
 some_if false value = refl
 
-module _ (keys : List ℕ) (cards : ℕ) (s : TableState) (r : Kept keys cards s) (id : ℕ) (v : View) (here : get_elem? s.views id ≡ some v) where
+module _ (keys : List ℕ) (cards : ℕ) (s : TableState) (r : RuleHolds keys cards s) (id : ℕ) (v : View) (here : get_elem? s.views id ≡ some v) where
   -- a node that came into the tree has its key in the table
   pub key_listed : (x : ℕ) → Born r.stages x → r.words.key x ≡ get_or s.words (key_at x) 0
   key_listed x born = key_at_node r.words x ∙ sym (r.settled (card x) (key_field (x % 3)) (born-settled (r.stages (card x)) born))

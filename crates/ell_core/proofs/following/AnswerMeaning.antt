@@ -9,7 +9,7 @@ use Rattle.ell_core.specs.declared.event.Stepped.TheVariants.{Answered}
 use Rattle.ell_core.specs.declared.fact.Fact.TheVariants as fact
 use Rattle.ell_core.specs.state.Words.{Words, put}
 use Rattle.ell_core.specs.state.Machine.{Ledger, Worker, Machine, Scene, scene}
-use Rattle.ell_core.specs.acts.Searching.{IsLeaf, value_at, leaf_answer, card_answer, ledger_after, Answers, Answer}
+use Rattle.ell_core.specs.acts.Searching.{IsLeaf, value_at, leaf_answer, card_answer, ledger_after, HasAnswer, Answer}
 use Rattle.ell_core.specs.tree.Ranges.{at_leaf}
 use Rattle.ell_core.specs.history.Stages.{Stages}
 use Rattle.ell_core.specs.history.Invariant.{StandIsSound, Flagged, Invariant}
@@ -118,7 +118,7 @@ answers_the_map m stage i said becomes op reply sound r busy says =
     v : Worker
     v = m.worker i
 
-    by_case : Answers (scene m i) r.op r.reply → AnswersTheMap r.op r.reply v.ledger (ledger_after r.op r.reply v.ledger)
+    by_case : HasAnswer (scene m i) r.op r.reply → AnswersTheMap r.op r.reply v.ledger (ledger_after r.op r.reply v.ledger)
     by_case answers = elim answers [
       | inl at ↦ leaf_answers r.op _ r.reply v.ledger
           (has_value m.words stage v (key_of r.op) at.leaf

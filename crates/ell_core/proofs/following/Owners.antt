@@ -8,9 +8,9 @@ use Rattle.ell_word.specs.declared.update.State.{State}
 use Rattle.ell_word.specs.declared.update.State.TheVariants as state
 use Rattle.ell_core.specs.state.Machine.{Machine}
 use Rattle.ell_core.specs.acts.Searching.{IsLeaf, IsClean}
-use Rattle.ell_core.specs.state.Moves.{IsIdle}
+use Rattle.ell_core.specs.state.Moves.{WorkerIsIdle}
 use Rattle.ell_core.specs.tree.Tree.{Reached}
-use Rattle.ell_core.specs.soundness.Sound.{Owns, IsInHand}
+use Rattle.ell_core.specs.soundness.Sound.{WorkerOwns, IsInHand}
 use Rattle.ell_core.specs.tree.Ranges.{at_leaf}
 use Rattle.ell_core.specs.history.Stages.{Stages}
 use Rattle.ell_core.specs.history.Invariant.{Invariant}
@@ -33,23 +33,23 @@ module _ (m : Machine) (stage : Stages) (sound : Invariant m stage) where
       )
 
   -- a worker with a flagged card in hand has an operation, whose key it owns
-  flagged_owns : (j : ℕ) → (m.worker j).flagged ≡ true → (k : ℕ) × Owns (m.worker j) k
+  flagged_owns : (j : ℕ) → (m.worker j).flagged ≡ true → (k : ℕ) × WorkerOwns (m.worker j) k
   flagged_owns j flagged = by_operation (m.worker j).operation refl
     where
-      by_operation : (operation : Option Op) → (m.worker j).operation ≡ operation → (k : ℕ) × Owns (m.worker j) k
+      by_operation : (operation : Option Op) → (m.worker j).operation ≡ operation → (k : ℕ) × WorkerOwns (m.worker j) k
       by_operation None e =
           absurd (false≢true (sym (ap (λ v. v.flagged) ((sound.workers.each j).free e)) ∙ flagged))
       by_operation (Some op) e = (key_of op, (sound.workers.each j).owned op e)
 
   -- nothing is flagged where a worker with nothing in hand owns every key
-  none_in_hand : (i c : ℕ) → ((j k : ℕ) → Owns (m.worker j) k → Owns (m.worker i) k) → IsIdle (m.worker i) → ¬ IsInHand m c
+  none_in_hand : (i c : ℕ) → ((j k : ℕ) → WorkerOwns (m.worker j) k → WorkerOwns (m.worker i) k) → WorkerIsIdle (m.worker i) → ¬ IsInHand m c
   none_in_hand i c all idle hand =
       let own = flagged_owns hand.worker hand.flagged in
       let same = sound.workers.one_owner hand.worker i own.0 own.1 (all hand.worker own.0 own.1) in
       false≢true (sym (ap (λ v. v.flagged) idle) ∙ (ap (λ j. (m.worker j).flagged) (sym same) ∙ hand.flagged))
 
   -- where a worker with nothing in hand owns every key that is owned, the update words of all reached nodes are clean
-  pub all_clean : (i : ℕ) → ((j k : ℕ) → Owns (m.worker j) k → Owns (m.worker i) k) → IsIdle (m.worker i)
+  pub all_clean : (i : ℕ) → ((j k : ℕ) → WorkerOwns (m.worker j) k → WorkerOwns (m.worker i) k) → WorkerIsIdle (m.worker i)
       → (x : ℕ) → Reached m.words x → IsInternal x → IsClean (m.words.update x)
   all_clean i all idle x reached inner = by_state (unpacked (m.words.update x)).state refl
     where

@@ -12,7 +12,7 @@ use Rattle.ell_core.specs.history.Stages.{Stages, is_born, is_marked, delete_ope
 use Rattle.ell_core.specs.history.Invariant.{IsOut, WordsAreSound, Invariant}
 use Rattle.ell_core.proofs.tree.Reached.{not_out, finds_iff, joins_walk, tree_key_leads, tree_pair_leads, leads_tree_pair}
 use Rattle.ell_core.proofs.tree.Lawful.{tree_lawful}
-use Rattle.ell_core.proofs.stages.Holding.{fact_holds, effective-staged}
+use Rattle.ell_core.proofs.stages.Holding.{fact_holds, effective-at}
 use Rattle.ell_core.proofs.stages.Order.{born-claimed, marked_cases}
 
 -- the words are sound at these stages
@@ -81,7 +81,7 @@ module _ (m : Machine) (stage : Stages) (sound : Invariant m stage) where
         owned = λ k held. sound.workers.owned k held.real (tree_key_leads m.words ordered k held);
         present = λ i k value owns.
             (let says = sound.workers.present i k value owns in
-            let same = ap (λ f. f k) (effective-staged m.words stage sound.words (m.worker i) (sound.workers.each i)) in (
+            let same = ap (λ f. f k) (effective-at m.words stage sound.words (m.worker i) (sound.workers.each i)) in (
               λ held. same ∙ says.0 (tree_pair_leads m.words ordered k value held),
               λ h. leads_tree_pair m.words k value ((sound.workers.each i).real k owns) (says.1 (sym same ∙ h)),
             ));

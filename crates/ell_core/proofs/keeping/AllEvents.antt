@@ -7,7 +7,7 @@ use Rattle.ell_core.specs.state.Machine.{Machine}
 use Rattle.ell_core.specs.acts.Events.{Steps}
 use Rattle.ell_core.specs.history.Stages.{Stages}
 use Rattle.ell_core.specs.history.Invariant.{Invariant, HasInvariant}
-use Rattle.ell_core.specs.history.Later.{Follows, Keeps}
+use Rattle.ell_core.specs.history.Later.{Follows, KeepsInvariant}
 use Rattle.ell_core.proofs.keeping.search.Begin.{keeps_begin, keeps_again, keeps_leave}
 use Rattle.ell_core.proofs.keeping.search.Upd.{keeps_upd}
 use Rattle.ell_core.proofs.keeping.claim.Claim.{keeps_claim}
@@ -22,7 +22,7 @@ use Rattle.ell_core.proofs.keeping.updates.DUnflag.{keeps_dunflag, keeps_backtra
 use Rattle.ell_core.proofs.keeping.search.Answer.{keeps_answer}
 
 -- an act, whichever it is
-keeps : (a : Act) → Keeps a
+keeps : (a : Act) → KeepsInvariant a
 keeps (act.Begin op) = keeps_begin op
 keeps act.Upd = keeps_upd
 keeps act.Down = keeps_down

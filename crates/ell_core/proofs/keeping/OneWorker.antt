@@ -3,8 +3,8 @@ use Rattle.ell_core.specs.declared.event.Act.{Act}
 use Rattle.ell_core.specs.declared.event.Stepped.{Stepped}
 use Rattle.ell_core.specs.state.Words.{Words, put}
 use Rattle.ell_core.specs.state.Machine.{Worker, Machine, nobody, with_scene}
-use Rattle.ell_core.specs.soundness.Sound.{Owns, IsOwned, IsInHand}
-use Rattle.ell_core.specs.history.Stages.{Stages, insert_open, delete_open, staged, staged_of}
+use Rattle.ell_core.specs.soundness.Sound.{WorkerOwns, IsOwned, IsInHand}
+use Rattle.ell_core.specs.history.Stages.{Stages, insert_open, delete_open, effective_at, effective_at_of}
 use Rattle.ell_core.specs.history.Invariant.{LeadsToValue, WorkerIsSound, WorkersAreSound, Invariant}
 use Rattle.ell_core.proofs.tree.Reached.{leads_by_value}
 use Rattle.ell_core.specs.history.Later.{Follows, wins_of, wins_by}
@@ -28,9 +28,9 @@ pub record Becomes (m : Machine) (stage : Stages) (i : ℕ) (words : Words) (new
   pub leads : (k value : ℕ) → LeadsToValue words k value 0 ↔ LeadsToValue m.words k value 0
   pub own : WorkerIsSound words new v
   pub others : (j : ℕ) → j ≢ i → WorkerIsSound words new (m.worker j)
-  pub owns : (k : ℕ) → Owns v k ↔ Owns (m.worker i) k
-  pub counts : (k : ℕ) → Owns (m.worker i) k → staged new v k ≡ staged stage (m.worker i) k
-  pub counts_others : (j k : ℕ) → j ≢ i → Owns (m.worker j) k → staged new (m.worker j) k ≡ staged stage (m.worker j) k
+  pub owns : (k : ℕ) → WorkerOwns v k ↔ WorkerOwns (m.worker i) k
+  pub counts : (k : ℕ) → WorkerOwns (m.worker i) k → effective_at new v k ≡ effective_at stage (m.worker i) k
+  pub counts_others : (j k : ℕ) → j ≢ i → WorkerOwns (m.worker j) k → effective_at new (m.worker j) k ≡ effective_at stage (m.worker j) k
   pub inserts : (c : ℕ) → insert_open (new c) ≡ true → StaysInHand (m.worker i) v (insert_open (stage c)) c
   pub deletes : (c : ℕ) → delete_open (new c) ≡ true → StaysInHand (m.worker i) v (delete_open (stage c)) c
 
@@ -57,23 +57,23 @@ module _ (m : Machine) (stage : Stages) (i : ℕ) (words : Words) (new : Stages)
   worker = put m.worker i v
 
   -- who owns a key owned it before
-  owned_before : (j k : ℕ) → Owns (worker j) k → Owns (m.worker j) k
-  owned_before j k = put_cases (λ u. Owns u k → Owns (m.worker j) k) m.worker i v j
-      (λ e o. subst (λ n. Owns (m.worker n) k) (sym e) ((h.owns k).0 o)) (λ n o. o)
+  owned_before : (j k : ℕ) → WorkerOwns (worker j) k → WorkerOwns (m.worker j) k
+  owned_before j k = put_cases (λ u. WorkerOwns u k → WorkerOwns (m.worker j) k) m.worker i v j
+      (λ e o. subst (λ n. WorkerOwns (m.worker n) k) (sym e) ((h.owns k).0 o)) (λ n o. o)
 
   -- a key that had an owner has it
   owned_after : (k : ℕ) → IsOwned m k → IsOwned (record m { words = words; worker = worker }) k
   owned_after k o = record {
     worker = o.worker;
-    owns = put_cases (λ u. Owns u k) m.worker i v o.worker
-        (λ e. (h.owns k).1 (subst (λ n. Owns (m.worker n) k) e o.owns)) (λ n. o.owns);
+    owns = put_cases (λ u. WorkerOwns u k) m.worker i v o.worker
+        (λ e. (h.owns k).1 (subst (λ n. WorkerOwns (m.worker n) k) e o.owns)) (λ n. o.owns);
   }
 
   -- the effective ledgers count as before
-  counts_after : (j k : ℕ) → Owns (m.worker j) k → staged new (worker j) k ≡ staged stage (m.worker j) k
-  counts_after j k o = put_cases (λ u. staged new u k ≡ staged stage (m.worker j) k) m.worker i v j
-      (λ e. subst (λ n. staged new v k ≡ staged stage (m.worker n) k) (sym e)
-      (h.counts k (subst (λ n. Owns (m.worker n) k) e o)))
+  counts_after : (j k : ℕ) → WorkerOwns (m.worker j) k → effective_at new (worker j) k ≡ effective_at stage (m.worker j) k
+  counts_after j k o = put_cases (λ u. effective_at new u k ≡ effective_at stage (m.worker j) k) m.worker i v j
+      (λ e. subst (λ n. effective_at new v k ≡ effective_at stage (m.worker n) k) (sym e)
+      (h.counts k (subst (λ n. WorkerOwns (m.worker n) k) e o)))
       (λ n. h.counts_others j k n o)
 
   -- the workers are sound after the change
@@ -102,8 +102,8 @@ module _ (m : Machine) (stage : Stages) (i : ℕ) (words : Words) (new : Stages)
 -- worker i had in hand with a flag that stands
 pub record TakesOn (m : Machine) (stage : Stages) (i : ℕ) (v : Worker) : Type 0 where
   pub own : WorkerIsSound m.words stage v
-  pub owns : (k : ℕ) → Owns v k ↔ Owns (m.worker i) k
-  pub counts : (k : ℕ) → Owns (m.worker i) k → staged stage v k ≡ staged stage (m.worker i) k
+  pub owns : (k : ℕ) → WorkerOwns v k ↔ WorkerOwns (m.worker i) k
+  pub counts : (k : ℕ) → WorkerOwns (m.worker i) k → effective_at stage v k ≡ effective_at stage (m.worker i) k
   pub inserts : (c : ℕ) → insert_open (stage c) ≡ true → HasInHand (m.worker i) c → HasInHand v c
   pub deletes : (c : ℕ) → delete_open (stage c) ≡ true → HasInHand (m.worker i) c → HasInHand v c
 
@@ -114,7 +114,7 @@ pub takes_on_same : (m : Machine) (stage : Stages) (i : ℕ) (v : Worker) → Wo
 takes_on_same m stage i v own ledger operation card flagged = record {
   own = own;
   owns = λ k. (let same = ap (λ f. f k) ledger in (λ o none. o (same ∙ none), λ o none. o (sym same ∙ none)));
-  counts = λ k o. λ t. staged_of stage (ledger t) (operation t) (card t) (flagged t) k;
+  counts = λ k o. λ t. effective_at_of stage (ledger t) (operation t) (card t) (flagged t) k;
   inserts = λ c g h. record { holds = card ∙ h.holds; flagged = flagged ∙ h.flagged };
   deletes = λ c g h. record { holds = card ∙ h.holds; flagged = flagged ∙ h.flagged };
 }

@@ -5,9 +5,9 @@ use Rattle.ell_core.specs.declared.fact.Fact.{Fact}
 use Rattle.ell_core.specs.state.Words.{Words}
 use Rattle.ell_core.specs.state.Facts.{card_of_fact}
 use Rattle.ell_core.specs.state.Machine.{Worker, Machine, nobody}
-use Rattle.ell_core.specs.state.Moves.{IsIdle}
-use Rattle.ell_core.specs.soundness.Sound.{Owns, IsOwned, IsInHand}
-use Rattle.ell_core.specs.history.Stages.{Stages, allows, staged}
+use Rattle.ell_core.specs.state.Moves.{WorkerIsIdle}
+use Rattle.ell_core.specs.soundness.Sound.{WorkerOwns, IsOwned, IsInHand}
+use Rattle.ell_core.specs.history.Stages.{Stages, allows, effective_at}
 use Rattle.ell_core.specs.history.Invariant.{LeadsTo, LeadsToValue, WorkerIsSound, Invariant}
 use Rattle.ell_core.specs.declared.view.Entry.TheVariants.{Present}
 
@@ -17,22 +17,22 @@ KnowsOnlyAllowed stage v = (fact : Fact) → v.knows fact ≡ true → allows fa
 
 -- a worker owns only real keys
 abbrev pub OwnsReal : Worker → Type 0
-OwnsReal v = (k : ℕ) → Owns v k → k ≤ greatest_key
+OwnsReal v = (k : ℕ) → WorkerOwns v k → k ≤ greatest_key
 
 -- an idle worker has no operation in hand
-pub idle_free : (v : Worker) → IsIdle v → v.operation ≡ None
+pub idle_free : (v : Worker) → WorkerIsIdle v → v.operation ≡ None
 idle_free v h = ap (λ (z : Worker). z.operation) h
 
 -- nor a card
-pub idle_empty : (v : Worker) → IsIdle v → v.card ≡ None
+pub idle_empty : (v : Worker) → WorkerIsIdle v → v.card ≡ None
 idle_empty v h = ap (λ (z : Worker). z.card) h
 
 -- its effective ledger is its ledger
-pub idle_staged : (stage : Stages) (v : Worker) (k : ℕ) → IsIdle v → staged stage v k ≡ v.ledger k
-idle_staged stage v k h = ap (λ (z : Worker). staged stage z k) h
+pub idle_staged : (stage : Stages) (v : Worker) (k : ℕ) → WorkerIsIdle v → effective_at stage v k ≡ v.ledger k
+idle_staged stage v k h = ap (λ (z : Worker). effective_at stage z k) h
 
 -- an idle worker is sound that owns real keys and knows what is allowed
-pub idle_sound : (w : Words) (stage : Stages) (v : Worker) → IsIdle v → OwnsReal v → KnowsOnlyAllowed stage v → WorkerIsSound w stage v
+pub idle_sound : (w : Words) (stage : Stages) (v : Worker) → WorkerIsIdle v → OwnsReal v → KnowsOnlyAllowed stage v → WorkerIsSound w stage v
 idle_sound w stage v free real knows =
     let none = idle_free v free in
     record {
@@ -48,17 +48,17 @@ idle_sound w stage v free real knows =
 -- a worker's key comes from an old seat, whose effective ledger has the same there
 pub record Comes (m : Machine) (stage : Stages) (lands : ℕ → ℕ → ℕ) (v : Worker) (n k : ℕ) : Type 0 where
   pub old : ℕ
-  pub owned : Owns (m.worker old) k
-  pub same : staged stage v k ≡ staged stage (m.worker old) k
+  pub owned : WorkerOwns (m.worker old) k
+  pub same : effective_at stage v k ≡ effective_at stage (m.worker old) k
   pub here : lands old k ≡ n
 
 -- new workers in the seats, each key of an old one at the seat where it lands
 pub record Reseats (m : Machine) (stage : Stages) (worker : ℕ → Worker) (count : ℕ) : Type 0 where
   pub lands : ℕ → ℕ → ℕ
-  pub comes : (n k : ℕ) → Owns (worker n) k → Comes m stage lands (worker n) n k
-  pub goes : (old k : ℕ) → Owns (m.worker old) k → Owns (worker (lands old k)) k
-  pub kept : (old : ℕ) → (worker old ≡ m.worker old) ⊎ IsIdle (m.worker old)
-  pub each : (n : ℕ) → (worker n ≡ m.worker n) ⊎ (IsIdle (worker n) × KnowsOnlyAllowed stage (worker n))
+  pub comes : (n k : ℕ) → WorkerOwns (worker n) k → Comes m stage lands (worker n) n k
+  pub goes : (old k : ℕ) → WorkerOwns (m.worker old) k → WorkerOwns (worker (lands old k)) k
+  pub kept : (old : ℕ) → (worker old ≡ m.worker old) ⊎ WorkerIsIdle (m.worker old)
+  pub each : (n : ℕ) → (worker n ≡ m.worker n) ⊎ (WorkerIsIdle (worker n) × KnowsOnlyAllowed stage (worker n))
   pub strangers : (n : ℕ) → count ≤ n → worker n ≡ nobody
 
 module _ (m : Machine) (stage : Stages) (worker : ℕ → Worker) (count : ℕ) (h : Reseats m stage worker count) (before : Invariant m stage) where
@@ -74,7 +74,7 @@ module _ (m : Machine) (stage : Stages) (worker : ℕ → Worker) (count : ℕ) 
   ]
 
   -- a key has one new owner
-  reseated_owner : (a b k : ℕ) → Owns (worker a) k → Owns (worker b) k → a ≡ b
+  reseated_owner : (a b k : ℕ) → WorkerOwns (worker a) k → WorkerOwns (worker b) k → a ≡ b
   reseated_owner a b k left right =
       let x = h.comes a k left in
       let y = h.comes b k right in
@@ -82,7 +82,7 @@ module _ (m : Machine) (stage : Stages) (worker : ℕ → Worker) (count : ℕ) 
       sym x.here ∙ (ap (λ n. h.lands n k) one ∙ y.here)
 
   -- the keys of the tree among a new worker's are those present
-  reseated_present : (n k value : ℕ) → Owns (worker n) k → LeadsToValue m.words k value 0 ↔ (staged stage (worker n) k ≡ Some (Present value))
+  reseated_present : (n k value : ℕ) → WorkerOwns (worker n) k → LeadsToValue m.words k value 0 ↔ (effective_at stage (worker n) k ≡ Some (Present value))
   reseated_present n k value owns =
       let c = h.comes n k owns in
       let old = before.workers.present c.old k value c.owned in

@@ -3,8 +3,8 @@ use Rattle.std.proofs.lemmas.Bool.{false≢true, cases_eq}
 use Rattle.std.proofs.lemmas.Bool.Decides.{nat_tests}
 use Rattle.ell_core.specs.state.Words.{put}
 use Rattle.ell_core.specs.state.Machine.{Worker, Machine, nobody}
-use Rattle.ell_core.specs.state.Moves.{IsIdle, KnowsNoMore, Split, Join}
-use Rattle.ell_core.specs.soundness.Sound.{Owns}
+use Rattle.ell_core.specs.state.Moves.{WorkerIsIdle, KnowsNoMore, Split, Join}
+use Rattle.ell_core.specs.soundness.Sound.{WorkerOwns}
 use Rattle.ell_core.specs.history.Stages.{Stages}
 use Rattle.ell_core.specs.history.Invariant.{Invariant}
 use Rattle.ell_core.proofs.words.Writes.{put_same, put_other}
@@ -31,8 +31,8 @@ put_neither : {A : Type 0} (f : ℕ → A) (a b : ℕ) (x y : A) (n : ℕ) → n
 put_neither f a b x y n first second = put_other (put f a x) b y n second ∙ put_other f a x n first
 
 -- nobody has nothing in hand
-nobody_idle : (v : Worker) → v ≡ nobody → IsIdle v
-nobody_idle v h = subst IsIdle (sym h) refl
+nobody_idle : (v : Worker) → v ≡ nobody → WorkerIsIdle v
+nobody_idle v h = subst WorkerIsIdle (sym h) refl
 
 -- the seat that an old one lands at: one seat goes to another
 abbrev moved : ℕ → ℕ → ℕ → ℕ
@@ -63,7 +63,7 @@ module _ (m after : Machine) (stage : Stages) (i : ℕ) (s : Split m i after) (b
   split_workers = put (put m.worker i s.left) m.count s.right
 
   -- a part's key comes from the split worker
-  part_comes : (part : Worker) (n k : ℕ) → IsIdle part → Owns part k → part.ledger k ≡ (m.worker i).ledger k
+  part_comes : (part : Worker) (n k : ℕ) → WorkerIsIdle part → WorkerOwns part k → part.ledger k ≡ (m.worker i).ledger k
       → seat_of i m.count (s.left.ledger k) ≡ n → Comes m stage split_lands part n k
   unfolding split_lands
   part_comes part n k free owns same seat = record {
@@ -73,19 +73,19 @@ module _ (m after : Machine) (stage : Stages) (i : ℕ) (s : Split m i after) (b
     here = moved_same i (seat_of i m.count (s.left.ledger k)) ∙ seat;
   }
 
-  left_comes : (k : ℕ) → Owns s.left k → Comes m stage split_lands s.left i k
+  left_comes : (k : ℕ) → WorkerOwns s.left k → Comes m stage split_lands s.left i k
   left_comes k owns = elim (s.ledgers k) [
     | inl p ↦ part_comes s.left i k s.left_free owns p.0 (seat_some i m.count (s.left.ledger k) owns)
     | inr p ↦ absurd (owns p.0)
   ]
 
-  right_comes : (k : ℕ) → Owns s.right k → Comes m stage split_lands s.right m.count k
+  right_comes : (k : ℕ) → WorkerOwns s.right k → Comes m stage split_lands s.right m.count k
   right_comes k owns = elim (s.ledgers k) [
     | inl p ↦ absurd (owns p.1)
     | inr p ↦ part_comes s.right m.count k s.right_free owns p.1 (ap (seat_of i m.count) p.0)
   ]
 
-  other_comes : (n k : ℕ) → n ≢ i → Owns (m.worker n) k → Comes m stage split_lands (m.worker n) n k
+  other_comes : (n k : ℕ) → n ≢ i → WorkerOwns (m.worker n) k → Comes m stage split_lands (m.worker n) n k
   unfolding split_lands
   other_comes n k apart owns = record {
     old = n;
@@ -95,22 +95,22 @@ module _ (m after : Machine) (stage : Stages) (i : ℕ) (s : Split m i after) (b
   }
 
   -- a key of the split worker goes to one of the parts
-  split_goes : (k : ℕ) → Owns (m.worker i) k → Owns (split_workers (split_lands i k)) k
+  split_goes : (k : ℕ) → WorkerOwns (m.worker i) k → WorkerOwns (split_workers (split_lands i k)) k
   unfolding split_lands
   split_goes k owns = elim (s.ledgers k) [
     | inl p ↦ (let to = moved_same i _ ∙ seat_some i m.count (s.left.ledger k) (λ e. owns (sym p.0 ∙ e)) in
-        subst (λ v. Owns v k) (sym (ap split_workers to ∙ put_first m.worker i m.count s.left s.right (λ e. (let t = s.there in omega arith))))
+        subst (λ v. WorkerOwns v k) (sym (ap split_workers to ∙ put_first m.worker i m.count s.left s.right (λ e. (let t = s.there in omega arith))))
         (λ e. owns (sym p.0 ∙ e)))
     | inr p ↦ (let to = moved_same i _ ∙ ap (seat_of i m.count) p.0 in
-        subst (λ v. Owns v k) (sym (ap split_workers to ∙ put_same (put m.worker i s.left) m.count s.right)) (λ e. owns (sym p.1 ∙ e)))
+        subst (λ v. WorkerOwns v k) (sym (ap split_workers to ∙ put_same (put m.worker i s.left) m.count s.right)) (λ e. owns (sym p.1 ∙ e)))
   ]
 
   -- every other key stays; the seat at the end was empty
-  split_stays : (old k : ℕ) → old ≢ i → Owns (m.worker old) k → Owns (split_workers (split_lands old k)) k
+  split_stays : (old k : ℕ) → old ≢ i → WorkerOwns (m.worker old) k → WorkerOwns (split_workers (split_lands old k)) k
   unfolding split_lands
   split_stays old k apart owns = elim (cases_eq old m.count) [
     | inl e ↦ absurd (owns (ap (λ v. v.ledger k) (before.workers.strangers old (omega arith))))
-    | inr other ↦ subst (λ v. Owns v k)
+    | inr other ↦ subst (λ v. WorkerOwns v k)
         (sym (ap split_workers (moved_other i _ old apart) ∙ put_neither m.worker i m.count s.left s.right old apart other)) owns
   ]
 
@@ -122,15 +122,15 @@ module _ (m after : Machine) (stage : Stages) (i : ℕ) (s : Split m i after) (b
   split_reseats : Reseats m stage split_workers (m.count + 1)
   split_reseats = record {
     lands = split_lands;
-    comes = put_twice (λ n v. (k : ℕ) → Owns v k → Comes m stage split_lands v n k) m.worker i m.count s.left s.right
+    comes = put_twice (λ n v. (k : ℕ) → WorkerOwns v k → Comes m stage split_lands v n k) m.worker i m.count s.left s.right
         right_comes left_comes (λ n apart other k. other_comes n k apart);
     goes = λ old k owns. elim (cases_eq old i) [
-      | inl e ↦ subst (λ n. Owns (split_workers (split_lands n k)) k) (sym e) (split_goes k (subst (λ n. Owns (m.worker n) k) e owns))
+      | inl e ↦ subst (λ n. WorkerOwns (split_workers (split_lands n k)) k) (sym e) (split_goes k (subst (λ n. WorkerOwns (m.worker n) k) e owns))
       | inr apart ↦ split_stays old k apart owns
     ];
-    kept = put_twice (λ n v. (v ≡ m.worker n) ⊎ IsIdle (m.worker n)) m.worker i m.count s.left s.right
+    kept = put_twice (λ n v. (v ≡ m.worker n) ⊎ WorkerIsIdle (m.worker n)) m.worker i m.count s.left s.right
         (inr (nobody_idle (m.worker m.count) (before.workers.strangers m.count (omega arith)))) (inr s.free) (λ n apart other. inl refl);
-    each = put_twice (λ n v. (v ≡ m.worker n) ⊎ (IsIdle v × KnowsOnlyAllowed stage v)) m.worker i m.count s.left s.right
+    each = put_twice (λ n v. (v ≡ m.worker n) ⊎ (WorkerIsIdle v × KnowsOnlyAllowed stage v)) m.worker i m.count s.left s.right
         (inr (s.right_free, part_knows s.right s.right_knows)) (inr (s.left_free, part_knows s.left s.left_knows)) (λ n apart other. inl refl);
     strangers = put_twice (λ n v. m.count + 1 ≤ n → v ≡ nobody) m.worker i m.count s.left s.right
         (λ past. absurd (omega arith)) (λ past. absurd (let t = s.there in omega arith))
@@ -149,7 +149,7 @@ module _ (m after : Machine) (stage : Stages) (i j : ℕ) (s : Join m i j after)
   join_workers = put (put m.worker i s.both) j nobody
 
   -- a key of the joined worker comes from a part
-  part_came : (old k : ℕ) → IsIdle (m.worker old) → Owns s.both k → (m.worker old).ledger k ≡ s.both.ledger k → moved j i old ≡ i
+  part_came : (old k : ℕ) → WorkerIsIdle (m.worker old) → WorkerOwns s.both k → (m.worker old).ledger k ≡ s.both.ledger k → moved j i old ≡ i
       → Comes m stage (λ n k. moved j i n) s.both i k
   part_came old k free owns same here = record {
     old = old;
@@ -158,15 +158,15 @@ module _ (m after : Machine) (stage : Stages) (i j : ℕ) (s : Join m i j after)
     here = here;
   }
 
-  both_came : (k : ℕ) → Owns s.both k → Comes m stage (λ n k. moved j i n) s.both i k
+  both_came : (k : ℕ) → WorkerOwns s.both k → Comes m stage (λ n k. moved j i n) s.both i k
   both_came k owns = elim (s.ledgers k) [
     | inl p ↦ part_came i k s.left_free owns p.0 (moved_other j i i s.apart)
     | inr p ↦ part_came j k s.right_free owns p.1 (moved_same j i)
   ]
 
   -- a key of a part goes to the joined worker
-  join_goes : (old k : ℕ) → moved j i old ≡ i → Owns s.both k → Owns (join_workers (moved j i old)) k
-  join_goes old k to owns = subst (λ v. Owns v k) (sym (ap join_workers to ∙ put_first m.worker i j s.both nobody s.apart)) owns
+  join_goes : (old k : ℕ) → moved j i old ≡ i → WorkerOwns s.both k → WorkerOwns (join_workers (moved j i old)) k
+  join_goes old k to owns = subst (λ v. WorkerOwns v k) (sym (ap join_workers to ∙ put_first m.worker i j s.both nobody s.apart)) owns
 
   -- what the joined worker knows is allowed
   both_knows : KnowsOnlyAllowed stage s.both
@@ -176,33 +176,33 @@ module _ (m after : Machine) (stage : Stages) (i j : ℕ) (s : Join m i j after)
   ]
 
   -- each key of an old worker goes to its seat
-  all_go : (old k : ℕ) → Owns (m.worker old) k → Owns (join_workers (moved j i old)) k
+  all_go : (old k : ℕ) → WorkerOwns (m.worker old) k → WorkerOwns (join_workers (moved j i old)) k
   all_go old k owns = elim (cases_eq old j) [
-    | inl e ↦ join_goes old k (ap (moved j i) e ∙ moved_same j i) (right_part (subst (λ n. Owns (m.worker n) k) e owns))
+    | inl e ↦ join_goes old k (ap (moved j i) e ∙ moved_same j i) (right_part (subst (λ n. WorkerOwns (m.worker n) k) e owns))
     | inr other ↦ elim (cases_eq old i) [
-      | inl e ↦ join_goes old k (moved_other j i old other ∙ e) (left_part (subst (λ n. Owns (m.worker n) k) e owns))
-      | inr apart ↦ subst (λ v. Owns v k)
+      | inl e ↦ join_goes old k (moved_other j i old other ∙ e) (left_part (subst (λ n. WorkerOwns (m.worker n) k) e owns))
+      | inr apart ↦ subst (λ v. WorkerOwns v k)
           (sym (ap join_workers (moved_other j i old other) ∙ put_neither m.worker i j s.both nobody old apart other)) owns
     ]
   ]
     where
-      left_part : Owns (m.worker i) k → Owns s.both k
+      left_part : WorkerOwns (m.worker i) k → WorkerOwns s.both k
       left_part has = elim (s.ledgers k) [ inl p ↦ (λ e. has (p.0 ∙ e)) | inr p ↦ absurd (has p.0) ]
 
-      right_part : Owns (m.worker j) k → Owns s.both k
+      right_part : WorkerOwns (m.worker j) k → WorkerOwns s.both k
       right_part has = elim (s.ledgers k) [ inl p ↦ absurd (has p.1) | inr p ↦ (λ e. has (p.1 ∙ e)) ]
 
   -- the join is new workers in the seats
   join_reseats : Reseats m stage join_workers m.count
   join_reseats = record {
     lands = λ old k. moved j i old;
-    comes = put_twice (λ n v. (k : ℕ) → Owns v k → Comes m stage (λ old k. moved j i old) v n k) m.worker i j s.both nobody
+    comes = put_twice (λ n v. (k : ℕ) → WorkerOwns v k → Comes m stage (λ old k. moved j i old) v n k) m.worker i j s.both nobody
         (λ k owns. absurd (owns refl)) both_came
         (λ n apart other k owns. record { old = n; owned = owns; same = refl; here = moved_other j i n other });
     goes = all_go;
-    kept = put_twice (λ n v. (v ≡ m.worker n) ⊎ IsIdle (m.worker n)) m.worker i j s.both nobody
+    kept = put_twice (λ n v. (v ≡ m.worker n) ⊎ WorkerIsIdle (m.worker n)) m.worker i j s.both nobody
         (inr s.right_free) (inr s.left_free) (λ n apart other. inl refl);
-    each = put_twice (λ n v. (v ≡ m.worker n) ⊎ (IsIdle v × KnowsOnlyAllowed stage v)) m.worker i j s.both nobody
+    each = put_twice (λ n v. (v ≡ m.worker n) ⊎ (WorkerIsIdle v × KnowsOnlyAllowed stage v)) m.worker i j s.both nobody
         (inr (refl, λ fact h. absurd (false≢true h))) (inr (s.both_free, both_knows)) (λ n apart other. inl refl);
     strangers = put_twice (λ n v. m.count ≤ n → v ≡ nobody) m.worker i j s.both nobody
         (λ past. refl) (λ past. absurd (let t = s.left_there in omega arith))

@@ -161,25 +161,25 @@ passes (suc n) c d k l b h enough below after far near = elim (cases_eq b.card c
 ]
 
 -- the leaves of a branch, and its cards, end before a number
-pub record Ends (end : ℕ) (b : Branch) : Type 0 where
+pub record BranchEnds (end : ℕ) (b : Branch) : Type 0 where
   pub leaves : b.first + (b.left + b.right) ≤ end
   pub cards : b.card + (b.left + b.right) ≤ end
 
 -- so do those of the branches on the way down
-ends_within : (end n c : ℕ) (b : Branch) → Holds c b → Ends end b → Ends end (descend n c b)
+ends_within : (end n c : ℕ) (b : Branch) → Holds c b → BranchEnds end b → BranchEnds end (descend n c b)
 unfolding descend
 ends_within end zero c b h ends = ends
 ends_within end (suc n) c b h ends = elim (cases_eq b.card c) [
-  | inl e ↦ subst (Ends end) (sym (there (suc n) c b e)) ends
+  | inl e ↦ subst (BranchEnds end) (sym (there (suc n) c b e)) ends
   | inr apart ↦
       let up = h.above in
       let less : b.card < c = omega arith in
       let some = h.some_right in
       let leaves = ends.leaves in
       let cards = ends.cards in
-      subst (Ends end) (sym (down n c b apart))
+      subst (BranchEnds end) (sym (down n c b apart))
       (ends_within end n c (branch_to c b) (holds_next c b h less)
-      (by_side (Ends end) c b (λ on_left. record { leaves = omega arith; cards = omega arith }) (λ past. record { leaves = omega arith; cards = omega arith })))
+      (by_side (BranchEnds end) c b (λ on_left. record { leaves = omega arith; cards = omega arith }) (λ past. record { leaves = omega arith; cards = omega arith })))
 ]
 
 -- the branches where the root has so many leaves on its left, of which there are some
@@ -227,7 +227,7 @@ module _ (leaves : ℕ) (some : 0 < leaves) where
       ∙ to_right d b (omega arith)))
 
   -- the leaves and the cards of a card's branch are among those of the root
-  branch_ends : (c : ℕ) → c < leaves → Ends (leaves + 1) (branch_of leaves c)
+  branch_ends : (c : ℕ) → c < leaves → BranchEnds (leaves + 1) (branch_of leaves c)
   branch_ends c below = ends_within (leaves + 1) c c (root_branch leaves) (root_holds c below) (record { leaves = omega arith; cards = omega arith })
 
   pub branch_within : (c : ℕ) → c < leaves → (branch_of leaves c).first + ((branch_of leaves c).left + (branch_of leaves c).right) ≤ leaves + 1
@@ -328,7 +328,7 @@ tree_is_shallow n leaves c below few =
 -- a branch on the way from the root to a card
 pub record OnWay (leaves c : ℕ) (b : Branch) : Type 0 where
   pub holds : Holds c b
-  pub ends : Ends (leaves + 1) b
+  pub ends : BranchEnds (leaves + 1) b
   pub way : descend c c b ≡ branch_of leaves c
 
 -- the root is one
@@ -340,7 +340,7 @@ way_starts leaves c below = record {
 }
 
 -- so is the next one
-way_on : (leaves c : ℕ) (b : Branch) → OnWay leaves c b → b.card ≢ c → Ends (leaves + 1) (branch_to c b) → OnWay leaves c (branch_to c b)
+way_on : (leaves c : ℕ) (b : Branch) → OnWay leaves c b → b.card ≢ c → BranchEnds (leaves + 1) (branch_to c b) → OnWay leaves c (branch_to c b)
 way_on leaves c b h apart ends =
     let holds = h.holds in
     let up = holds.above in
@@ -357,16 +357,16 @@ way_left leaves c b h apart less =
     let some = h.holds.some_right in
     let leaves_end = h.ends.leaves in
     let cards_end = h.ends.cards in
-    let ends : Ends (leaves + 1) (left_branch b) = record { leaves = omega arith; cards = omega arith } in
-    subst (OnWay leaves c) (to_left c b less) (way_on leaves c b h apart (subst (Ends (leaves + 1)) (sym (to_left c b less)) ends))
+    let ends : BranchEnds (leaves + 1) (left_branch b) = record { leaves = omega arith; cards = omega arith } in
+    subst (OnWay leaves c) (to_left c b less) (way_on leaves c b h apart (subst (BranchEnds (leaves + 1)) (sym (to_left c b less)) ends))
 
 -- and on the right
 pub way_right : (leaves c : ℕ) (b : Branch) → OnWay leaves c b → b.card ≢ c → b.card + b.left ≤ c → OnWay leaves c (right_branch b)
 way_right leaves c b h apart past =
     let leaves_end = h.ends.leaves in
     let cards_end = h.ends.cards in
-    let ends : Ends (leaves + 1) (right_branch b) = record { leaves = omega arith; cards = omega arith } in
-    subst (OnWay leaves c) (to_right c b past) (way_on leaves c b h apart (subst (Ends (leaves + 1)) (sym (to_right c b past)) ends))
+    let ends : BranchEnds (leaves + 1) (right_branch b) = record { leaves = omega arith; cards = omega arith } in
+    subst (OnWay leaves c) (to_right c b past) (way_on leaves c b h apart (subst (BranchEnds (leaves + 1)) (sym (to_right c b past)) ends))
 
 -- the one of the card is where it leads
 pub way_ends : (leaves c : ℕ) (b : Branch) → OnWay leaves c b → b.card ≡ c → b ≡ branch_of leaves c

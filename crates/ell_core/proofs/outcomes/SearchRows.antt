@@ -9,7 +9,7 @@ use Rattle.ell_core.specs.declared.view.Seen.{Seen}
 use Rattle.ell_core.specs.state.Cards.{child_for, insert_filling, delete_filling}
 use Rattle.ell_core.specs.state.Facts.{learned_any, told_by}
 use Rattle.ell_core.specs.state.Machine.{Worker, Scene}
-use Rattle.ell_core.specs.acts.Searching.{IsLeaf, IsClean, Begin, Upd, Down, AtCleanLeaf, ClaimInsert, ClaimDelete, MayStop, Again, Leave, value_at, leaf_answer, card_answer, AnswersAtLeaf, AnswersByCard, Answers, Answer, begun, ended, with_read, gone_down, claims, ledger_after}
+use Rattle.ell_core.specs.acts.Searching.{IsLeaf, IsClean, Begin, Upd, Down, AtCleanLeaf, ClaimInsert, ClaimDelete, MayStop, Again, Leave, value_at, leaf_answer, card_answer, AnswersAtLeaf, AnswersByCard, HasAnswer, Answer, begun, ended, with_read, gone_down, claims, ledger_after}
 use Rattle.ell_core.proofs.outcomes.Decide.{Decided, Settled, ap2, settles_either, cases_option, cases_insert, cases_delete, decides_clean, decides_internal, same_value, some_not_none, same_seen}
 use Rattle.ell_ops.specs.declared.reply.Reply.{Reply}
 
@@ -306,7 +306,7 @@ card_reply s op = elim (cases_option s.worker.card) [
 ]
 
 -- an operation has one answer or none: the one at a leaf goes before
-reply_of_both : (s : Scene) (op : Op) → Replies (AnswersAtLeaf s op) → Replies (AnswersByCard s op) → Replies (Answers s op)
+reply_of_both : (s : Scene) (op : Op) → Replies (AnswersAtLeaf s op) → Replies (AnswersByCard s op) → Replies (HasAnswer s op)
 reply_of_both s op (inl a) d = inl (record {
   reply = a.reply;
   has = inl a.has;
@@ -324,16 +324,16 @@ abbrev answered : Scene → Op → Reply → Scene
 answered s op reply = record s { worker = record (ended s.worker) { ledger = ledger_after op reply s.worker.ledger } }
 
 -- an operation in hand is answered in one way or not
-settles_answer_of : (s : Scene) (op : Op) → s.worker.operation ≡ Some op → Replies (Answers s op) → Settled (Answer s)
+settles_answer_of : (s : Scene) (op : Op) → s.worker.operation ≡ Some op → Replies (HasAnswer s op) → Settled (Answer s)
 settles_answer_of s op busy (inl a) = inl (record {
   said = Answered a.reply;
   after = answered s op a.reply;
   row = record { op = op; reply = a.reply; busy = busy; answers = a.has; says = refl; gives = refl };
   only = λ other later r. (let same = same_value r.busy busy in
-      let one = a.only r.reply (subst (λ (x : Op). Answers s x r.reply) same r.answers) in
+      let one = a.only r.reply (subst (λ (x : Op). HasAnswer s x r.reply) same r.answers) in
       (r.says ∙ ap Answered one, r.gives ∙ ap2 (answered s) same one));
 })
-settles_answer_of s op busy (inr n) = inr (λ said after r. n r.reply (subst (λ (x : Op). Answers s x r.reply) (same_value r.busy busy) r.answers))
+settles_answer_of s op busy (inr n) = inr (λ said after r. n r.reply (subst (λ (x : Op). HasAnswer s x r.reply) (same_value r.busy busy) r.answers))
 
 -- answer has one outcome or none
 pub settles_answer : (s : Scene) → Settled (Answer s)

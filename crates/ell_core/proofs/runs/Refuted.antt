@@ -12,7 +12,7 @@ use Rattle.ell_core.specs.state.Machine.{Worker, idle}
 use Rattle.ell_core.specs.state.Opening.{opening}
 use Rattle.ell_core.specs.tree.Tree.{infinity2, Reached}
 use Rattle.ell_core.specs.acts.Runs.{Run}
-use Rattle.ell_core.specs.soundness.Sound.{Owns}
+use Rattle.ell_core.specs.soundness.Sound.{WorkerOwns}
 use Rattle.ell_core.specs.statements.RunLaws.{IsOpening}
 use Rattle.ell_core.specs.statements.Refuted.{WordsAlwaysRise, NextCardIsFixed, FlaggedNodesAreFrozen, NothingIsLearnt, ChildExchangesComeFirst, OneLedgerForAll, InsertsAddTheNextKey, AnswersAreOfTheMapAfter, BusyOwnersFindClean, SplitsMayTeach}
 use Rattle.ell_core.proofs.tree.Reached.{pair_key}
@@ -70,8 +70,8 @@ none_else : (j k : ℕ) → j ≢ 0 → (flagged_state.worker j).ledger k ≡ No
 none_else j k other = grind (arith, nat_tests)
 
 -- worker 0 owns all keys that any worker owns
-owns_all : (j k : ℕ) → Owns (flagged_state.worker j) k → Owns (flagged_state.worker 0) k
-owns_all j k owns = ⊎_elim (λ e. subst (λ i. Owns (flagged_state.worker i) k) e owns) (λ other. absurd (owns (none_else j k other))) (cases_eq j 0)
+owns_all : (j k : ℕ) → WorkerOwns (flagged_state.worker j) k → WorkerOwns (flagged_state.worker 0) k
+owns_all j k owns = ⊎_elim (λ e. subst (λ i. WorkerOwns (flagged_state.worker i) k) e owns) (λ other. absurd (owns (none_else j k other))) (cases_eq j 0)
 
 -- its own flag stands
 pub busy_finds_flag : ¬ BusyOwnersFindClean

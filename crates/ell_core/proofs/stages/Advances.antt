@@ -7,7 +7,7 @@ use Rattle.ell_ops.specs.declared.op.Op.{Op}
 use Rattle.ell_ops.specs.declared.op.Op.TheVariants.{Find, Insert, Delete}
 use Rattle.ell_core.specs.declared.fact.Fact.{Fact}
 use Rattle.ell_core.specs.state.Words.{put}
-use Rattle.ell_core.specs.history.Stages.{Stage, Stages, IClaimed, IFlagged, IChanged, IOver, DClaimed, DFlagged, DUnmarkable, DMarked, DCut, DOver, DBacked, is_claimed, is_start, is_insert, is_delete, is_born, made_of, allows}
+use Rattle.ell_core.specs.history.Stages.{Stage, Stages, IClaimed, IFlagged, IChanged, IOver, DClaimed, DFlagged, DUnmarkable, DMarked, DCut, DOver, DBacked, is_claimed, is_start, is_insert, is_delete, is_born, made_by_stage, allows}
 use Rattle.ell_core.specs.history.Later.{StagesLater, wins_of, win_for}
 use Rattle.ell_core.proofs.words.Writes.{put_cases}
 
@@ -64,7 +64,7 @@ pub record SameKind (old new : Stage) : Type 0 where
   pub insert : is_insert new ≡ is_insert old
   pub delete : is_delete new ≡ is_delete old
   pub born : is_born new ≡ is_born old
-  pub made : (op : Op) → made_of op new ≡ made_of op old
+  pub made : (op : Op) → made_by_stage op new ≡ made_by_stage op old
 
 -- a stage is of its own kind
 pub same_kind : (s : Stage) → SameKind s s
@@ -77,7 +77,7 @@ iflag_later = record { start = refl; insert = λ h. refl; delete = λ h. absurd 
   told f h = grind arith
 
 pub iflag_kind : SameKind IClaimed IFlagged
-iflag_kind = record { claimed = refl; insert = refl; delete = refl; born = refl; made = each_op (λ op. made_of op IFlagged ≡ made_of op IClaimed) (λ k. refl) (λ k value. refl) (λ k. refl) }
+iflag_kind = record { claimed = refl; insert = refl; delete = refl; born = refl; made = each_op (λ op. made_by_stage op IFlagged ≡ made_by_stage op IClaimed) (λ k. refl) (λ k value. refl) (λ k. refl) }
 
 -- its child exchange is made after that
 pub ichild_later : StageLater IFlagged IChanged
@@ -92,7 +92,7 @@ iunflag_later = record { start = refl; insert = λ h. refl; delete = λ h. absur
   told f h = grind arith
 
 pub iunflag_kind : SameKind IChanged IOver
-iunflag_kind = record { claimed = refl; insert = refl; delete = refl; born = refl; made = each_op (λ op. made_of op IOver ≡ made_of op IChanged) (λ k. refl) (λ k value. refl) (λ k. refl) }
+iunflag_kind = record { claimed = refl; insert = refl; delete = refl; born = refl; made = each_op (λ op. made_by_stage op IOver ≡ made_by_stage op IChanged) (λ k. refl) (λ k value. refl) (λ k. refl) }
 
 -- a delete is flagged after it was claimed
 pub dflag_later : StageLater DClaimed DFlagged
@@ -101,7 +101,7 @@ dflag_later = record { start = refl; insert = λ h. absurd (false≢true h); del
   told f h = grind arith
 
 pub dflag_kind : SameKind DClaimed DFlagged
-dflag_kind = record { claimed = refl; insert = refl; delete = refl; born = refl; made = each_op (λ op. made_of op DFlagged ≡ made_of op DClaimed) (λ k. refl) (λ k value. refl) (λ k. refl) }
+dflag_kind = record { claimed = refl; insert = refl; delete = refl; born = refl; made = each_op (λ op. made_by_stage op DFlagged ≡ made_by_stage op DClaimed) (λ k. refl) (λ k value. refl) (λ k. refl) }
 
 -- it is marked after that
 pub mark_later : StageLater DFlagged DMarked
@@ -110,7 +110,7 @@ mark_later = record { start = refl; insert = λ h. absurd (false≢true h); dele
   told f h = grind arith
 
 pub mark_kind : SameKind DFlagged DMarked
-mark_kind = record { claimed = refl; insert = refl; delete = refl; born = refl; made = each_op (λ op. made_of op DMarked ≡ made_of op DFlagged) (λ k. refl) (λ k value. refl) (λ k. refl) }
+mark_kind = record { claimed = refl; insert = refl; delete = refl; born = refl; made = each_op (λ op. made_by_stage op DMarked ≡ made_by_stage op DFlagged) (λ k. refl) (λ k value. refl) (λ k. refl) }
 
 -- or can't be marked any more
 pub unmarkable_later : StageLater DFlagged DUnmarkable
@@ -119,7 +119,7 @@ unmarkable_later = record { start = refl; insert = λ h. absurd (false≢true h)
   told f h = grind arith
 
 pub unmarkable_kind : SameKind DFlagged DUnmarkable
-unmarkable_kind = record { claimed = refl; insert = refl; delete = refl; born = refl; made = each_op (λ op. made_of op DUnmarkable ≡ made_of op DFlagged) (λ k. refl) (λ k value. refl) (λ k. refl) }
+unmarkable_kind = record { claimed = refl; insert = refl; delete = refl; born = refl; made = each_op (λ op. made_by_stage op DUnmarkable ≡ made_by_stage op DFlagged) (λ k. refl) (λ k value. refl) (λ k. refl) }
 
 -- it cuts after it was marked
 pub dchild_later : StageLater DMarked DCut
@@ -134,7 +134,7 @@ dunflag_later = record { start = refl; insert = λ h. absurd (false≢true h); d
   told f h = grind arith
 
 pub dunflag_kind : SameKind DCut DOver
-dunflag_kind = record { claimed = refl; insert = refl; delete = refl; born = refl; made = each_op (λ op. made_of op DOver ≡ made_of op DCut) (λ k. refl) (λ k value. refl) (λ k. refl) }
+dunflag_kind = record { claimed = refl; insert = refl; delete = refl; born = refl; made = each_op (λ op. made_by_stage op DOver ≡ made_by_stage op DCut) (λ k. refl) (λ k value. refl) (λ k. refl) }
 
 -- and its flag is taken back after it could not be marked any more
 pub backtrack_later : StageLater DUnmarkable DBacked
@@ -143,4 +143,4 @@ backtrack_later = record { start = refl; insert = λ h. absurd (false≢true h);
   told f h = grind arith
 
 pub backtrack_kind : SameKind DUnmarkable DBacked
-backtrack_kind = record { claimed = refl; insert = refl; delete = refl; born = refl; made = each_op (λ op. made_of op DBacked ≡ made_of op DUnmarkable) (λ k. refl) (λ k value. refl) (λ k. refl) }
+backtrack_kind = record { claimed = refl; insert = refl; delete = refl; born = refl; made = each_op (λ op. made_by_stage op DBacked ≡ made_by_stage op DUnmarkable) (λ k. refl) (λ k value. refl) (λ k. refl) }

@@ -11,8 +11,8 @@ use Rattle.ell_core.specs.state.Words.{Words}
 use Rattle.ell_core.specs.state.Facts.{card_of_fact}
 use Rattle.ell_core.specs.state.Machine.{Ledger, Worker}
 use Rattle.ell_core.specs.state.Cards.{iflag, dflag, marked, is_right, is_delete_card, card_child}
-use Rattle.ell_core.specs.soundness.Holds.{IFlagHolds, IChangeHolds, DFlagHolds, MarkHolds, UnmarkableHolds, CutHolds, Holds, phase, insert_phase, delete_phase, settled, with_settled, effective_of, effective}
-use Rattle.ell_core.specs.history.Stages.{Stage, Stages, is_insert, is_delete, insert_won, insert_open, insert_waits, is_changed, insert_over, delete_won, delete_open, delete_waits, is_unmarkable, is_marked, is_cut, delete_past, delete_over, is_backed, allows, made_of, staged_of, staged}
+use Rattle.ell_core.specs.soundness.Holds.{IFlagHolds, IChangeHolds, DFlagHolds, MarkHolds, UnmarkableHolds, CutHolds, Holds, phase, insert_phase, delete_phase, made_by_phase, with_made, effective_of, effective}
+use Rattle.ell_core.specs.history.Stages.{Stage, Stages, is_insert, is_delete, insert_won, insert_open, insert_waits, is_changed, insert_over, delete_won, delete_open, delete_waits, is_unmarkable, is_marked, is_cut, delete_past, delete_over, is_backed, allows, made_by_stage, effective_at_of, effective_at}
 use Rattle.ell_core.specs.history.Stages as at
 use Rattle.ell_core.specs.soundness.Holds as done
 use Rattle.ell_core.specs.history.Invariant.{insert_key, delete_key, insert_side, delete_side, WordsAreSound, Flagged, WorkerIsSound}
@@ -48,43 +48,43 @@ no_less : (flag update : ℕ) → (update ≡ flag) ⊎ (flag < update) → flag
 no_less flag update (inl e) = omega arith
 no_less flag update (inr h) = omega arith
 
--- the phase of an insert that won its flag has settled what its stage made
-settled_insert : (k value : ℕ) (s : Stage) (update flag child leaf : ℕ) → insert_won s ≡ true
+-- the phase of an insert that won its flag has made what its stage has
+made_insert : (k value : ℕ) (s : Stage) (update flag child leaf : ℕ) → insert_won s ≡ true
     → (insert_open s ≡ true → update ≡ flag) → (insert_over s ≡ true → flag < update)
     → (insert_waits s ≡ true → child ≡ leaf) → (is_changed s ≡ true → leaf < child)
-    → settled (Insert k value) (if update == flag then (if child == leaf then done.IFlagged else done.IChanged) else done.IOver) ≡ made_of (Insert k value) s
-settled_insert k value at.IFlagged update flag child leaf won opened over waits changed =
+    → made_by_phase (Insert k value) (if update == flag then (if child == leaf then done.IFlagged else done.IChanged) else done.IOver) ≡ made_by_stage (Insert k value) s
+made_insert k value at.IFlagged update flag child leaf won opened over waits changed =
     let a = opened refl in let b = waits refl in grind (arith, nat_tests)
-settled_insert k value at.IChanged update flag child leaf won opened over waits changed =
+made_insert k value at.IChanged update flag child leaf won opened over waits changed =
     let a = opened refl in let b = changed refl in grind (arith, nat_tests)
-settled_insert k value at.IOver update flag child leaf won opened over waits changed =
+made_insert k value at.IOver update flag child leaf won opened over waits changed =
     let a = over refl in grind (arith, nat_tests)
-settled_insert k value _ update flag child leaf won opened over waits changed = absurd (false≢true won)
+made_insert k value _ update flag child leaf won opened over waits changed = absurd (false≢true won)
 
--- the phase of a delete that won its flag has settled what its stage made
-settled_delete : (k : ℕ) (s : Stage) (update flag below mark child parent : ℕ) → delete_won s ≡ true
+-- the phase of a delete that won its flag has made what its stage has
+made_delete : (k : ℕ) (s : Stage) (update flag below mark child parent : ℕ) → delete_won s ≡ true
     → (delete_open s ≡ true → update ≡ flag) → (delete_past s ≡ true → flag < update)
     → (delete_waits s ≡ true → child ≡ parent) → (is_cut s ≡ true → parent < child)
     → (is_marked s ≡ true → below ≡ mark) → (below ≡ mark → is_marked s ≡ true)
-    → settled (Delete k) (if update == flag
+    → made_by_phase (Delete k) (if update == flag
     then (if below == mark then (if child == parent then done.DMarked else done.DCut) else done.DFlagged)
-    else (if below == mark then done.DOver else done.DBacktracked)) ≡ made_of (Delete k) s
-settled_delete k at.DFlagged update flag below mark child parent won opened past waits cut marks marked =
+    else (if below == mark then done.DOver else done.DBacktracked)) ≡ made_by_stage (Delete k) s
+made_delete k at.DFlagged update flag below mark child parent won opened past waits cut marks marked =
     let a = opened refl in
     elim (cases_eq below mark) [ inl e ↦ absurd (false≢true (marked e)) | inr n ↦ grind (arith, nat_tests) ]
-settled_delete k at.DUnmarkable update flag below mark child parent won opened past waits cut marks marked =
+made_delete k at.DUnmarkable update flag below mark child parent won opened past waits cut marks marked =
     let a = opened refl in
     elim (cases_eq below mark) [ inl e ↦ absurd (false≢true (marked e)) | inr n ↦ grind (arith, nat_tests) ]
-settled_delete k at.DMarked update flag below mark child parent won opened past waits cut marks marked =
+made_delete k at.DMarked update flag below mark child parent won opened past waits cut marks marked =
     let a = opened refl in let b = marks refl in let c = waits refl in grind (arith, nat_tests)
-settled_delete k at.DCut update flag below mark child parent won opened past waits cut marks marked =
+made_delete k at.DCut update flag below mark child parent won opened past waits cut marks marked =
     let a = opened refl in let b = marks refl in let c = cut refl in grind (arith, nat_tests)
-settled_delete k at.DOver update flag below mark child parent won opened past waits cut marks marked =
+made_delete k at.DOver update flag below mark child parent won opened past waits cut marks marked =
     let a = past refl in let b = marks refl in grind (arith, nat_tests)
-settled_delete k at.DBacked update flag below mark child parent won opened past waits cut marks marked =
+made_delete k at.DBacked update flag below mark child parent won opened past waits cut marks marked =
     let a = past refl in
     elim (cases_eq below mark) [ inl e ↦ absurd (false≢true (marked e)) | inr n ↦ grind (arith, nat_tests) ]
-settled_delete k _ update flag below mark child parent won opened past waits cut marks marked = absurd (false≢true won)
+made_delete k _ update flag below mark child parent won opened past waits cut marks marked = absurd (false≢true won)
 
 -- the words are sound at these stages
 module _ (w : Words) (stage : Stages) (sound : WordsAreSound w stage) where
@@ -179,43 +179,43 @@ module _ (w : Words) (stage : Stages) (sound : WordsAreSound w stage) where
   fact_holds (fact.Backed c) h =
       let backed = backed-unmarkable (stage c) h in (unmarkable_holds c backed.0, (sound.deletes c).past backed.1)
 
-  -- what the phase of a card that won its flag has settled, its stage made
-  pub insert_settled : (k value c : ℕ) → insert_won (stage c) ≡ true → settled (Insert k value) (phase w c) ≡ made_of (Insert k value) (stage c)
-  insert_settled k value c h =
+  -- what the phase of a card that won its flag has made, its stage has made
+  pub insert_made : (k value c : ℕ) → insert_won (stage c) ≡ true → made_by_phase (Insert k value) (phase w c) ≡ made_by_stage (Insert k value) (stage c)
+  insert_made k value c h =
       let kind = insert_won-insert (stage c) h in
       let child = insert_card_child c kind in
       let says = sound.inserts c in
-      ap (settled (Insert k value)) (cond-false (is_delete_card w c) (delete_phase w c) (insert_phase w c) (insert_kind c kind))
-      ∙ settled_insert k value (stage c) (w.update (w.p c)) (iflag c) (card_child w c (w.p c)) (w.l c) h says.flag says.over
+      ap (made_by_phase (Insert k value)) (cond-false (is_delete_card w c) (delete_phase w c) (insert_phase w c) (insert_kind c kind))
+      ∙ made_insert k value (stage c) (w.update (w.p c)) (iflag c) (card_child w c (w.p c)) (w.l c) h says.flag says.over
       (λ g. child ∙ says.waits g) (λ g. subst (λ n. w.l c < n) (sym child) (says.changed g))
 
   -- the same of a delete
-  pub delete_settled : (k c : ℕ) → delete_won (stage c) ≡ true → settled (Delete k) (phase w c) ≡ made_of (Delete k) (stage c)
-  delete_settled k c h =
+  pub delete_made : (k c : ℕ) → delete_won (stage c) ≡ true → made_by_phase (Delete k) (phase w c) ≡ made_by_stage (Delete k) (stage c)
+  delete_made k c h =
       let kind = delete_won-delete (stage c) h in
       let child = delete_card_child c kind in
       let says = sound.deletes c in
-      ap (settled (Delete k)) (cond-true (is_delete_card w c) (delete_phase w c) (insert_phase w c) (delete_kind c kind))
-      ∙ settled_delete k (stage c) (w.update (w.gp c)) (dflag c) (w.update (w.p c)) (marked c) (card_child w c (w.gp c)) (w.p c)
+      ap (made_by_phase (Delete k)) (cond-true (is_delete_card w c) (delete_phase w c) (insert_phase w c) (delete_kind c kind))
+      ∙ made_delete k (stage c) (w.update (w.gp c)) (dflag c) (w.update (w.p c)) (marked c) (card_child w c (w.gp c)) (w.p c)
       h says.flag says.past (λ g. child ∙ says.waits g) (λ g. subst (λ n. w.p c < n) (sym child) (says.cut g).past)
       (λ g. (says.marked g).mark) (mark_means c kind)
 
   -- the same of the card that a worker has in hand, flagged
-  flagged_settled : (v : Worker) (op : Op) (c : ℕ) → Flagged w stage v op c → settled op (phase w c) ≡ made_of op (stage c)
-  flagged_settled v (Find k) c h = absurd h
-  flagged_settled v (Insert k value) c h = insert_settled k value c h.0
-  flagged_settled v (Delete k) c h = delete_settled k c h.0
+  flagged_made : (v : Worker) (op : Op) (c : ℕ) → Flagged w stage v op c → made_by_phase op (phase w c) ≡ made_by_stage op (stage c)
+  flagged_made v (Find k) c h = absurd h
+  flagged_made v (Insert k value) c h = insert_made k value c h.0
+  flagged_made v (Delete k) c h = delete_made k c h.0
 
   -- so the effective ledger is that of the stages, whatever is in hand
-  effective_of-staged : (ledger : Ledger) (operation : Option Op) (card : Option ℕ) (flagged : Bool)
-      → ((op : Op) (c : ℕ) → operation ≡ Some op → card ≡ Some c → flagged ≡ true → settled op (phase w c) ≡ made_of op (stage c))
-      → effective_of w ledger operation card flagged ≡ staged_of stage ledger operation card flagged
-  effective_of-staged ledger (Some op) (Some c) true h = ap (with_settled ledger (key_of op)) (h op c refl refl refl)
-  effective_of-staged ledger (Some op) (Some c) false h = refl
-  effective_of-staged ledger (Some op) None flagged h = refl
-  effective_of-staged ledger None card flagged h = refl
+  effective_of-at : (ledger : Ledger) (operation : Option Op) (card : Option ℕ) (flagged : Bool)
+      → ((op : Op) (c : ℕ) → operation ≡ Some op → card ≡ Some c → flagged ≡ true → made_by_phase op (phase w c) ≡ made_by_stage op (stage c))
+      → effective_of w ledger operation card flagged ≡ effective_at_of stage ledger operation card flagged
+  effective_of-at ledger (Some op) (Some c) true h = ap (with_made ledger (key_of op)) (h op c refl refl refl)
+  effective_of-at ledger (Some op) (Some c) false h = refl
+  effective_of-at ledger (Some op) None flagged h = refl
+  effective_of-at ledger None card flagged h = refl
 
   -- the effective ledger of a sound worker, by the words and by the stages
-  pub effective-staged : (v : Worker) → WorkerIsSound w stage v → effective w v ≡ staged stage v
-  effective-staged v worker = effective_of-staged v.ledger v.operation v.card v.flagged
-      (λ op c busy holds flagged. flagged_settled v op c (worker.flagged op c busy holds flagged).0)
+  pub effective-at : (v : Worker) → WorkerIsSound w stage v → effective w v ≡ effective_at stage v
+  effective-at v worker = effective_of-at v.ledger v.operation v.card v.flagged
+      (λ op c busy holds flagged. flagged_made v op c (worker.flagged op c busy holds flagged).0)

@@ -2,7 +2,7 @@ use Rattle.std.proofs.Common.{◌≡◌, ◌≢◌, ◌⊎◌, true, false, None
 use Rattle.std.proofs.lemmas.Bool.{false≢true}
 use Rattle.ell_ops.specs.declared.op.Op.{Op}
 use Rattle.ell_ops.specs.declared.op.Op.TheVariants.{Find, Insert, Delete}
-use Rattle.ell_core.specs.history.Stages.{Stage, Unclaimed, Opening, IClaimed, IFlagged, IChanged, IOver, DClaimed, DFlagged, DUnmarkable, DMarked, DCut, DOver, DBacked, is_claimed, is_insert, is_delete, is_born, insert_won, insert_open, insert_waits, is_changed, insert_over, delete_won, delete_open, delete_waits, is_markable, is_unmarkable, is_marked, is_cut, delete_past, delete_over, is_backed, made_of}
+use Rattle.ell_core.specs.history.Stages.{Stage, Unclaimed, Opening, IClaimed, IFlagged, IChanged, IOver, DClaimed, DFlagged, DUnmarkable, DMarked, DCut, DOver, DBacked, is_claimed, is_insert, is_delete, is_born, insert_won, insert_open, insert_waits, is_changed, insert_over, delete_won, delete_open, delete_waits, is_markable, is_unmarkable, is_marked, is_cut, delete_past, delete_over, is_backed, made_by_stage}
 
 -- an insert whose flag stands has won it
 pub insert_open-won : (s : Stage) → insert_open s ≡ true → insert_won s ≡ true
@@ -198,7 +198,7 @@ pub delete_not_won : (s : Stage) → is_delete s ≡ true → delete_won s ≡ f
 delete_not_won s kind free won = grind arith
 
 -- a delete whose flag was taken back has made nothing of its key, and no flag of it stands
-pub backed_made : (op : Op) (s : Stage) → is_backed s ≡ true → made_of op s ≡ None
+pub backed_made : (op : Op) (s : Stage) → is_backed s ≡ true → made_by_stage op s ≡ None
 backed_made (Find k) s h = refl
 backed_made (Insert k value) s h = grind arith
 backed_made (Delete k) s h = grind arith

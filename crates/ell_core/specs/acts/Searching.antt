@@ -171,8 +171,8 @@ pub record AnswersByCard (s : Scene) (op : Op) (reply : Reply) : Type 0 where
   pub answers : card_answer op card s.worker.knows ≡ Some reply
 
 -- an operation's answer: at a leaf if it has one there, else by its card
-abbrev pub Answers : Scene → Op → Reply → Type 0
-Answers s op reply = AnswersAtLeaf s op reply ⊎ (AnswersByCard s op reply × ((r : Reply) → ¬ AnswersAtLeaf s op r))
+abbrev pub HasAnswer : Scene → Op → Reply → Type 0
+HasAnswer s op reply = AnswersAtLeaf s op reply ⊎ (AnswersByCard s op reply × ((r : Reply) → ¬ AnswersAtLeaf s op r))
 
 -- the ledger after an answer: an insert that answers yes makes its key present with its value, a delete absent
 abbrev pub ledger_after : Op → Reply → Ledger → Ledger
@@ -185,6 +185,6 @@ pub record Answer (s : Scene) (said : Stepped) (after : Scene) : Type 0 where
   pub op : Op
   pub reply : Reply
   pub busy : s.worker.operation ≡ Some op
-  pub answers : Answers s op reply
+  pub answers : HasAnswer s op reply
   pub says : said ≡ Answered reply
   pub gives : after ≡ record s { worker = record (ended s.worker) { ledger = ledger_after op reply s.worker.ledger } }

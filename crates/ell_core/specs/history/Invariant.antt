@@ -12,11 +12,11 @@ use Rattle.ell_core.specs.state.Facts.{card_of_fact}
 use Rattle.ell_core.specs.state.Machine.{Worker, Machine}
 use Rattle.ell_core.specs.state.Cards.{iflag, dflag, marked, clean, is_right, child_for, exchange_side, sibling}
 use Rattle.ell_core.specs.acts.Searching.{IsLeaf, IsClean}
-use Rattle.ell_core.specs.state.Moves.{IsIdle}
+use Rattle.ell_core.specs.state.Moves.{WorkerIsIdle}
 use Rattle.ell_core.specs.tree.Tree.{infinity1, infinity2}
-use Rattle.ell_core.specs.soundness.Sound.{Owns, IsOwned, IsInHand, StrangersAreNobody}
+use Rattle.ell_core.specs.soundness.Sound.{WorkerOwns, IsOwned, IsInHand, StrangersAreNobody}
 use Rattle.ell_core.specs.tree.Ranges.{IsSpanned, IsCutOut, Meets, IsOrdered, OnCourse}
-use Rattle.ell_core.specs.history.Stages.{Stages, Opening, is_claimed, is_start, is_insert, is_delete, is_born, insert_won, insert_open, insert_waits, is_changed, insert_over, delete_won, delete_open, delete_waits, is_markable, is_unmarkable, is_marked, is_cut, delete_past, allows, Born, staged}
+use Rattle.ell_core.specs.history.Stages.{Stages, Opening, is_claimed, is_start, is_insert, is_delete, is_born, insert_won, insert_open, insert_waits, is_changed, insert_over, delete_won, delete_open, delete_waits, is_markable, is_unmarkable, is_marked, is_cut, delete_past, allows, Born, effective_at}
 use Rattle.ell_core.specs.declared.view.Entry.TheVariants.{Present, Absent}
 
 -- all keys are below this number
@@ -265,9 +265,9 @@ Flagged w stage v (Delete k) c = (delete_won (stage c) ≡ true) × (delete_key 
 -- a worker
 pub record WorkerIsSound (w : Words) (stage : Stages) (v : Worker) : Type 0 where
   pub facts : (fact : Fact) → v.knows fact ≡ true → allows fact (stage (card_of_fact fact)) ≡ true
-  pub real : (k : ℕ) → Owns v k → k ≤ greatest_key
-  pub free : v.operation ≡ None → IsIdle v
-  pub owned : (op : Op) → v.operation ≡ Some op → Owns v (key_of op)
+  pub real : (k : ℕ) → WorkerOwns v k → k ≤ greatest_key
+  pub free : v.operation ≡ None → WorkerIsIdle v
+  pub owned : (op : Op) → v.operation ≡ Some op → WorkerOwns v (key_of op)
   pub stands : (op : Op) (x : ℕ) → v.operation ≡ Some op → v.search.node ≡ Some x → StandIsSound w stage v (key_of op) x
   pub unflagged : (op : Op) (c : ℕ) → v.operation ≡ Some op → v.card ≡ Some c → v.flagged ≡ false → Unflagged w stage v op c
   pub flagged : (op : Op) (c : ℕ) → v.operation ≡ Some op → v.card ≡ Some c → v.flagged ≡ true
@@ -277,8 +277,8 @@ pub record WorkerIsSound (w : Words) (stage : Stages) (v : Worker) : Type 0 wher
 -- effective ledger, and each key of the tree has an owner; a card whose flag stands is in hand; and past the last worker there is nobody
 pub record WorkersAreSound (m : Machine) (stage : Stages) : Type 0 where
   pub each : (i : ℕ) → WorkerIsSound m.words stage (m.worker i)
-  pub one_owner : (i j k : ℕ) → Owns (m.worker i) k → Owns (m.worker j) k → i ≡ j
-  pub present : (i k value : ℕ) → Owns (m.worker i) k → LeadsToValue m.words k value 0 ↔ (staged stage (m.worker i) k ≡ Some (Present value))
+  pub one_owner : (i j k : ℕ) → WorkerOwns (m.worker i) k → WorkerOwns (m.worker j) k → i ≡ j
+  pub present : (i k value : ℕ) → WorkerOwns (m.worker i) k → LeadsToValue m.words k value 0 ↔ (effective_at stage (m.worker i) k ≡ Some (Present value))
   pub owned : (k : ℕ) → k ≤ greatest_key → LeadsTo m.words k 0 → IsOwned m k
   pub insert_in_hand : (c : ℕ) → insert_open (stage c) ≡ true → IsInHand m c
   pub delete_in_hand : (c : ℕ) → delete_open (stage c) ≡ true → IsInHand m c

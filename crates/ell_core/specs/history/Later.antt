@@ -97,6 +97,6 @@ pub record Follows (m : Machine) (stage : Stages) (a : Act) (i : ℕ) (said : St
   pub wins : (c : ℕ) → wins_of (stages c) ≡ wins_of (stage c) ++ wins_by a (m.worker i).card said c
 
 -- an act keeps the invariant, whoever does it and whatever it answers
-abbrev pub Keeps : Act → Type 0
-Keeps a = (m : Machine) (stage : Stages) (i : ℕ) (said : Stepped) (becomes : Scene) → i < m.count → Invariant m stage
+abbrev pub KeepsInvariant : Act → Type 0
+KeepsInvariant a = (m : Machine) (stage : Stages) (i : ℕ) (said : Stepped) (becomes : Scene) → i < m.count → Invariant m stage
     → Happens m.last_card a (scene m i) said becomes → Follows m stage a i said (with_scene m i becomes)

@@ -1,14 +1,12 @@
 use Rattle.std.specs.Prelude.{◌≡◌, ℕ, Bool, true, false, Option, Some, None}
 use Rattle.ell_ops.specs.declared.op.Op.{Op}
-use Rattle.ell_ops.specs.declared.op.Op.TheVariants.{Insert, Delete}
 use Rattle.ell_ops.specs.Meaning.{key_of}
 use Rattle.ell_word.specs.Node.{card}
 use Rattle.ell_core.specs.declared.fact.Fact.{Fact}
 use Rattle.ell_core.specs.declared.fact.Fact.TheVariants as fact
 use Rattle.ell_core.specs.state.Machine.{Ledger, Worker}
-use Rattle.ell_core.specs.soundness.Holds.{with_settled}
+use Rattle.ell_core.specs.soundness.Holds.{made, with_made}
 use Rattle.ell_core.specs.declared.view.Entry.{Entry}
-use Rattle.ell_core.specs.declared.view.Entry.TheVariants.{Present, Absent}
 
 -- a card's stage: not claimed; one of the opening tree's; claimed for an insert, and then as far as its flag, child exchange and
 -- unflag were won; the same for a delete, whose flag is followed by mark, child exchange and unflag, or, once the mark can't be
@@ -184,19 +182,14 @@ allows (fact.Backed c) stage = is_backed stage
 abbrev pub Born : Stages → ℕ → Type 0
 Born stage x = is_born (stage (card x)) ≡ true
 
--- what an operation has made of its key by its card's stage, if anything: an insert present, with its value, a delete absent
-abbrev pub made_of : Op → Stage → Option Entry
-made_of (Insert key value) IChanged = Some (Present value)
-made_of (Insert key value) IOver = Some (Present value)
-made_of (Delete key) DCut = Some Absent
-made_of (Delete key) DOver = Some Absent
-made_of _ _ = None
+-- what an operation has made of its key by its card's stage
+abbrev pub made_by_stage : Op → Stage → Option Entry
+made_by_stage op stage = made op (is_changed stage) (is_cut stage)
 
--- the effective ledger, by the stages
-abbrev pub staged_of : Stages → Ledger → Option Op → Option ℕ → Bool → Ledger
-staged_of stage ledger (Some op) (Some c) true = with_settled ledger (key_of op) (made_of op (stage c))
-staged_of stage ledger _ _ _ = ledger
+abbrev pub effective_at_of : Stages → Ledger → Option Op → Option ℕ → Bool → Ledger
+effective_at_of stage ledger (Some op) (Some c) true = with_made ledger (key_of op) (made_by_stage op (stage c))
+effective_at_of stage ledger _ _ _ = ledger
 
--- the same of a worker
-abbrev pub staged : Stages → Worker → Ledger
-staged stage v = staged_of stage v.ledger v.operation v.card v.flagged
+-- the effective ledger of a worker, by the cards' stages: as by the words, while the words are sound at them
+abbrev pub effective_at : Stages → Worker → Ledger
+effective_at stage v = effective_at_of stage v.ledger v.operation v.card v.flagged

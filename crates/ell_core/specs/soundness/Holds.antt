@@ -77,24 +77,40 @@ delete_phase w c =
 abbrev pub phase : Words → ℕ → Phase
 phase w c = if is_delete_card w c then delete_phase w c else insert_phase w c
 
--- what an operation has made of its key by its card's phase, if anything: an insert present, with its value, a delete absent
-abbrev pub settled : Op → Phase → Option Entry
-settled (Insert key value) IChanged = Some (Present value)
-settled (Insert key value) IOver = Some (Present value)
-settled (Delete key) DCut = Some Absent
-settled (Delete key) DOver = Some Absent
-settled _ _ = None
+-- what an operation has made of its key: an insert whose child exchange was made, present with its value; a delete that has cut,
+-- absent; else nothing yet. So insert 5 with value 50 has made nothing while its flag stands alone, and then Present 50
+abbrev pub made : Op → Bool → Bool → Option Entry
+made (Insert key value) true cut = Some (Present value)
+made (Delete key) changed true = Some Absent
+made _ _ _ = None
 
--- a ledger where a key has come to be this, if anything
-abbrev pub with_settled : Ledger → ℕ → Option Entry → Ledger
-with_settled ledger key None = ledger
-with_settled ledger key (Some entry) = put ledger key (Some entry)
+-- the phase is past an insert's child exchange
+abbrev pub is_past_ichild : Phase → Bool
+is_past_ichild IChanged = true
+is_past_ichild IOver = true
+is_past_ichild _ = false
+
+-- the phase is past a delete's child exchange
+abbrev pub is_past_dchild : Phase → Bool
+is_past_dchild DCut = true
+is_past_dchild DOver = true
+is_past_dchild _ = false
+
+-- what an operation has made of its key by its card's phase
+abbrev pub made_by_phase : Op → Phase → Option Entry
+made_by_phase op phase = made op (is_past_ichild phase) (is_past_dchild phase)
+
+-- a ledger where an operation has made this of its key, if anything
+abbrev pub with_made : Ledger → ℕ → Option Entry → Ledger
+with_made ledger key None = ledger
+with_made ledger key (Some entry) = put ledger key (Some entry)
 
 abbrev pub effective_of : Words → Ledger → Option Op → Option ℕ → Bool → Ledger
-effective_of w ledger (Some op) (Some c) true = with_settled ledger (key_of op) (settled op (phase w c))
+effective_of w ledger (Some op) (Some c) true = with_made ledger (key_of op) (made_by_phase op (phase w c))
 effective_of w ledger _ _ _ = ledger
 
 -- the effective ledger: the ledger, where the key of an operation whose card is flagged counts as what that card has made
--- of it already
+-- of it already. So a worker that inserts 5 with value 50, and whose node was linked by a helper, has 5 absent in its ledger till it
+-- answers, and Present 50 in the effective one
 abbrev pub effective : Words → Worker → Ledger
 effective w v = effective_of w v.ledger v.operation v.card v.flagged

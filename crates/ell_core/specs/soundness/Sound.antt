@@ -13,20 +13,20 @@ use Rattle.ell_core.specs.soundness.Holds.{Holds, effective}
 use Rattle.ell_core.specs.declared.view.Entry.TheVariants.{Present}
 
 -- a worker owns a key
-abbrev pub Owns : Worker → ℕ → Type 0
-Owns v key = v.ledger key ≢ None
+abbrev pub WorkerOwns : Worker → ℕ → Type 0
+WorkerOwns v key = v.ledger key ≢ None
 
 -- some worker owns a key
 pub record IsOwned (m : Machine) (key : ℕ) : Type 0 where
   pub worker : ℕ
-  pub owns : Owns (m.worker worker) key
+  pub owns : WorkerOwns (m.worker worker) key
 
 -- no key has two owners, each key of the tree has one, and the keys of the tree among a worker's keys, with their values, are those
 -- present in its effective ledger
 pub record LedgersAreSound (m : Machine) : Type 0 where
-  pub one_owner : (i j key : ℕ) → Owns (m.worker i) key → Owns (m.worker j) key → i ≡ j
+  pub one_owner : (i j key : ℕ) → WorkerOwns (m.worker i) key → WorkerOwns (m.worker j) key → i ≡ j
   pub owned : (key : ℕ) → IsTreeKey m.words key → IsOwned m key
-  pub present : (i key value : ℕ) → Owns (m.worker i) key
+  pub present : (i key value : ℕ) → WorkerOwns (m.worker i) key
       → IsTreePair m.words key value ↔ (effective m.words (m.worker i) key ≡ Some (Present value))
 
 -- where a worker stands, the walk for its key finds the key with a value exactly when its ledger has it present with that value, and

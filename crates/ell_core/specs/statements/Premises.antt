@@ -8,7 +8,7 @@ use Rattle.ell_core.specs.declared.event.Event.{Event}
 use Rattle.ell_core.specs.declared.event.Shown.{Shown}
 use Rattle.ell_core.specs.state.Facts.{Knowledge}
 use Rattle.ell_core.specs.state.Machine.{Ledger, Worker, Machine, idle, nobody, ledger_of}
-use Rattle.ell_core.specs.state.Moves.{IsIdle, Parts, Split, Join}
+use Rattle.ell_core.specs.state.Moves.{WorkerIsIdle, AreParted, Split, Join}
 use Rattle.ell_core.specs.state.Opening.{Setup, opening, start_words, last_card, start_entry}
 use Rattle.ell_core.specs.acts.Runs.{Shows}
 use Rattle.ell_core.specs.history.Stages.{Stages}
@@ -51,7 +51,7 @@ failing test whole = λ key. if test key then None else whole key
 
 -- every test of keys parts every ledger
 abbrev pub EveryTestParts : Type 0
-EveryTestParts = (whole : Ledger) (test : ℕ → Bool) → Parts whole (passing test whole) (failing test whole)
+EveryTestParts = (whole : Ledger) (test : ℕ → Bool) → AreParted whole (passing test whole) (failing test whole)
 
 -- a split of worker i, whose two workers have these ledgers and know what it knew
 pub record SplitsInto (m : Machine) (i : ℕ) (left right : Ledger) : Type 0 where
@@ -62,8 +62,8 @@ pub record SplitsInto (m : Machine) (i : ℕ) (left right : Ledger) : Type 0 whe
 
 -- each idle worker can be split, whichever way its ledger is parted
 abbrev pub EveryPartingIsASplit : Type 0
-EveryPartingIsASplit = (m : Machine) (i : ℕ) (left right : Ledger) → i < m.count → IsIdle (m.worker i)
-    → Parts (m.worker i).ledger left right → SplitsInto m i left right
+EveryPartingIsASplit = (m : Machine) (i : ℕ) (left right : Ledger) → i < m.count → WorkerIsIdle (m.worker i)
+    → AreParted (m.worker i).ledger left right → SplitsInto m i left right
 
 -- an entry where there is one, and else another
 abbrev pub entry_or : Option Entry → Option Entry → Option Entry
@@ -88,12 +88,12 @@ pub record JoinsInto (m : Machine) (i j : ℕ) (both : Ledger) : Type 0 where
 -- each two idle workers can be joined, whichever ledger theirs together are
 abbrev pub EveryUnionIsAJoin : Type 0
 EveryUnionIsAJoin = (m : Machine) (i j : ℕ) (both : Ledger) → i < m.count → j < m.count → i ≢ j
-    → IsIdle (m.worker i) → IsIdle (m.worker j) → Parts both (m.worker i).ledger (m.worker j).ledger → JoinsInto m i j both
+    → WorkerIsIdle (m.worker i) → WorkerIsIdle (m.worker j) → AreParted both (m.worker i).ledger (m.worker j).ledger → JoinsInto m i j both
 
 -- so can each two of a state that the invariant holds of
 abbrev pub IdleWorkersJoin : Type 0
 IdleWorkersJoin = (m : Machine) (stage : Stages) (i j : ℕ) → Invariant m stage → i < m.count → j < m.count → i ≢ j
-    → IsIdle (m.worker i) → IsIdle (m.worker j) → JoinsInto m i j (united (m.worker i).ledger (m.worker j).ledger)
+    → WorkerIsIdle (m.worker i) → WorkerIsIdle (m.worker j) → JoinsInto m i j (united (m.worker i).ledger (m.worker j).ledger)
 
 -- the one worker of an opening owns every key that any worker owns
 abbrev pub OneWorkerOwnsAll : Type 0
@@ -101,7 +101,7 @@ OneWorkerOwnsAll = (setup : Setup) → CanOpen setup → setup.count ≡ 1 → O
 
 -- so does the one worker of a state that the invariant holds of, where it has nothing in hand
 abbrev pub IdleWorkerOwnsAll : Type 0
-IdleWorkerOwnsAll = (m : Machine) (stage : Stages) → Invariant m stage → m.count ≡ 1 → IsIdle (m.worker 0) → OwnsAll m 0
+IdleWorkerOwnsAll = (m : Machine) (stage : Stages) → Invariant m stage → m.count ≡ 1 → WorkerIsIdle (m.worker 0) → OwnsAll m 0
 
 -- worker 0, and nobody else
 abbrev pub first_alone : Worker → ℕ → Worker

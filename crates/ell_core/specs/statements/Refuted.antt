@@ -13,13 +13,13 @@ use Rattle.ell_core.specs.declared.event.Stepped.{Stepped}
 use Rattle.ell_core.specs.declared.event.Stepped.TheVariants.{Won, Answered}
 use Rattle.ell_core.specs.state.Words.{put}
 use Rattle.ell_core.specs.state.Machine.{Worker, Machine}
-use Rattle.ell_core.specs.state.Moves.{IsIdle, Parts, KnowsNoMore}
+use Rattle.ell_core.specs.state.Moves.{WorkerIsIdle, AreParted, KnowsNoMore}
 use Rattle.ell_core.specs.state.Cards.{card_key, card_value}
 use Rattle.ell_core.specs.acts.Searching.{IsClean}
 use Rattle.ell_core.specs.acts.Events.{Steps}
 use Rattle.ell_core.specs.acts.Runs.{Run}
 use Rattle.ell_core.specs.tree.Tree.{Reached}
-use Rattle.ell_core.specs.soundness.Sound.{Owns}
+use Rattle.ell_core.specs.soundness.Sound.{WorkerOwns}
 use Rattle.ell_core.specs.history.Stages.{Stages}
 use Rattle.ell_core.specs.history.Invariant.{Invariant}
 use Rattle.ell_core.specs.history.Later.{SameInfo, SameNode}
@@ -72,11 +72,11 @@ AnswersAreOfTheMapAfter = (m : Machine) (e : Event) (op : Op) (reply : Reply) (m
 
 -- one that owns every key finds every update word clean, with an operation in hand too (in truth its own flag may stand)
 abbrev pub BusyOwnersFindClean : Type 0
-BusyOwnersFindClean = (m : Machine) (i : ℕ) → IsPassed m → ((j k : ℕ) → Owns (m.worker j) k → Owns (m.worker i) k)
+BusyOwnersFindClean = (m : Machine) (i : ℕ) → IsPassed m → ((j k : ℕ) → WorkerOwns (m.worker j) k → WorkerOwns (m.worker i) k)
     → (x : ℕ) → Reached m.words x → IsInternal x → IsClean (m.words.update x)
 
 -- the right part of a split may know what nobody knew (in truth what is known has to hold)
 abbrev pub SplitsMayTeach : Type 0
-SplitsMayTeach = (m : Machine) (stage : Stages) (i : ℕ) (left right : Worker) → Invariant m stage → i < m.count → IsIdle (m.worker i)
-    → IsIdle left → IsIdle right → Parts (m.worker i).ledger left.ledger right.ledger → KnowsNoMore left (m.worker i)
+SplitsMayTeach = (m : Machine) (stage : Stages) (i : ℕ) (left right : Worker) → Invariant m stage → i < m.count → WorkerIsIdle (m.worker i)
+    → WorkerIsIdle left → WorkerIsIdle right → AreParted (m.worker i).ledger left.ledger right.ledger → KnowsNoMore left (m.worker i)
     → Invariant (record m { worker = put (put m.worker i left) m.count right; count = m.count + 1 }) stage

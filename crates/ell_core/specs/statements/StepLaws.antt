@@ -19,10 +19,10 @@ use Rattle.ell_core.specs.state.Machine.{Ledger, Worker, Machine, Scene, scene}
 use Rattle.ell_core.specs.state.Cards.{card_key, card_value, marked}
 use Rattle.ell_core.specs.acts.Searching.{IsLeaf, IsClean, Down}
 use Rattle.ell_core.specs.acts.Events.{Steps}
-use Rattle.ell_core.specs.state.Moves.{IsIdle, Split, Join}
+use Rattle.ell_core.specs.state.Moves.{WorkerIsIdle, Split, Join}
 use Rattle.ell_core.specs.tree.Tree.{Reached, IsTreeKey, IsTreePair}
 use Rattle.ell_core.specs.soundness.Holds.{Holds}
-use Rattle.ell_core.specs.soundness.Sound.{Owns, IsSound, flags_at}
+use Rattle.ell_core.specs.soundness.Sound.{WorkerOwns, IsSound, flags_at}
 use Rattle.ell_core.specs.history.Stages.{Stages, Born}
 use Rattle.ell_core.specs.history.Invariant.{Invariant}
 use Rattle.ell_core.specs.history.Later.{Follows}
@@ -201,7 +201,7 @@ pub record Reliance (m : Machine) (stage : Stages) (i : ℕ) : Type 0 where
   pub known : (f : Fact) → (m.worker i).knows f ≡ true → card_of_fact f < m.words.next
   pub hand : (c : ℕ) → (m.worker i).card ≡ Some c → c < m.words.next
   pub unflagged : (c : ℕ) → (m.worker i).card ≡ Some c → (m.worker i).flagged ≡ false → StandsBelow (m.worker i)
-  pub owned : (op : Op) → (m.worker i).operation ≡ Some op → Owns (m.worker i) (key_of op)
+  pub owned : (op : Op) → (m.worker i).operation ≡ Some op → WorkerOwns (m.worker i) (key_of op)
   pub goes : (c : ℕ) → c < m.words.next → GoesInTree m.words stage c
   pub some : 0 < m.words.next
   pub room : m.words.next ≤ m.last_card + 1
@@ -212,8 +212,8 @@ StepsMayRely = (m : Machine) (stage : Stages) (i : ℕ) → Invariant m stage �
 
 -- a worker owns every key that any worker owns, and has nothing in hand
 pub record OwnsAll (m : Machine) (i : ℕ) : Type 0 where
-  pub all : (j k : ℕ) → Owns (m.worker j) k → Owns (m.worker i) k
-  pub free : IsIdle (m.worker i)
+  pub all : (j k : ℕ) → WorkerOwns (m.worker j) k → WorkerOwns (m.worker i) k
+  pub free : WorkerIsIdle (m.worker i)
 
 -- where a worker owns every key and has nothing in hand, every reached update word is clean
 abbrev pub OwnerFindsClean : Type 0

@@ -49,11 +49,11 @@ IsBeforeWriting (Write written) = ⊥
 IsBeforeWriting _ = ⊤
 
 -- what a fault tells of the bytes that were read, and of what was written
-abbrev pub Tells : ScriptFault → Option (List ℕ) → Option (List ℕ) → Option (List ℕ) → Type 0
-Tells Read input before after = Keeps before after
-Tells TooLong input before after = Keeps before after × IfSome input (λ bytes. most_bytes < length bytes)
-Tells (Text fault) input before after = Keeps before after × IfSome input (λ bytes. script bytes ≡ Err fault)
-Tells (Start fault) input before after = Keeps before after × IfSome input (λ bytes. IsStartRefused bytes fault)
-Tells NoMemory input before after = Keeps before after
-Tells (Write written) input before after = IfSome input (λ bytes.
+abbrev pub ScriptFaultTells : ScriptFault → Option (List ℕ) → Option (List ℕ) → Option (List ℕ) → Type 0
+ScriptFaultTells Read input before after = Keeps before after
+ScriptFaultTells TooLong input before after = Keeps before after × IfSome input (λ bytes. most_bytes < length bytes)
+ScriptFaultTells (Text fault) input before after = Keeps before after × IfSome input (λ bytes. script bytes ≡ Err fault)
+ScriptFaultTells (Start fault) input before after = Keeps before after × IfSome input (λ bytes. IsStartRefused bytes fault)
+ScriptFaultTells NoMemory input before after = Keeps before after
+ScriptFaultTells (Write written) input before after = IfSome input (λ bytes.
     (text : List ℕ) × IsTrace bytes text × (written < length text) × Appends before after (take written text))

@@ -5,7 +5,7 @@ use Rattle.ell_ops.specs.declared.op.Op.{Op}
 use Rattle.ell_ops.specs.declared.op.Op.TheVariants.{Find, Insert, Delete}
 use Rattle.ell_core.specs.state.Words.{Words}
 use Rattle.ell_core.specs.state.Machine.{Worker, Machine}
-use Rattle.ell_core.specs.soundness.Sound.{Owns}
+use Rattle.ell_core.specs.soundness.Sound.{WorkerOwns}
 use Rattle.ell_core.specs.history.Stages.{Stage, Stages, is_claimed, is_start, is_insert, is_delete, waits}
 use Rattle.ell_core.specs.history.Invariant.{Unflagged, Flagged, WorkerIsSound, Invariant}
 use Rattle.ell_core.specs.history.Later.{wins_of}
@@ -42,9 +42,9 @@ hand_waits w stage v c sound holds unflagged =
     let op = busy w stage v c sound holds in by_operation w stage v op.0 c (sound.unflagged op.0 c op.1 holds unflagged)
 
 -- a flagged one does not
-pub flagged_settled : (w : Words) (stage : Stages) (v : Worker) (c : ℕ) → WorkerIsSound w stage v → v.card ≡ Some c → v.flagged ≡ true
+pub flagged_made : (w : Words) (stage : Stages) (v : Worker) (c : ℕ) → WorkerIsSound w stage v → v.card ≡ Some c → v.flagged ≡ true
     → waits (stage c) ≡ false
-flagged_settled w stage v c sound holds flagged =
+flagged_made w stage v c sound holds flagged =
     let op = busy w stage v c sound holds in by_flag w stage v op.0 c (sound.flagged op.0 c op.1 holds flagged).0
 
 -- a card that won its flag was claimed
@@ -67,13 +67,13 @@ one_kind s a b = grind arith
 
 -- two workers that have one card in hand, which is not flagged, own one key
 own_one : (w : Words) (stage : Stages) (v u : Worker) (one two : Op) (c : ℕ) → Unflagged w stage v one c → Unflagged w stage u two c
-    → WorkerIsSound w stage v → WorkerIsSound w stage u → v.operation ≡ Some one → u.operation ≡ Some two → (k : ℕ) × Owns v k × Owns u k
+    → WorkerIsSound w stage v → WorkerIsSound w stage u → v.operation ≡ Some one → u.operation ≡ Some two → (k : ℕ) × WorkerOwns v k × WorkerOwns u k
 own_one w stage v u (Find k) two c h g left right a b = absurd h
 own_one w stage v u one (Find k) c h g left right a b = absurd g
 own_one w stage v u (Insert k value) (Insert n other) c h g left right a b =
-    (k, left.owned (Insert k value) a, subst (Owns u) (sym g.own ∙ h.own) (right.owned (Insert n other) b))
+    (k, left.owned (Insert k value) a, subst (WorkerOwns u) (sym g.own ∙ h.own) (right.owned (Insert n other) b))
 own_one w stage v u (Delete k) (Delete n) c h g left right a b =
-    (k, left.owned (Delete k) a, subst (Owns u) (sym g.own ∙ h.own) (right.owned (Delete n) b))
+    (k, left.owned (Delete k) a, subst (WorkerOwns u) (sym g.own ∙ h.own) (right.owned (Delete n) b))
 own_one w stage v u (Insert k value) (Delete n) c h g left right a b = absurd (one_kind (stage c) h.claimed.0 g.claimed.0)
 own_one w stage v u (Delete k) (Insert n value) c h g left right a b = absurd (one_kind (stage c) g.claimed.0 h.claimed.0)
 
@@ -89,7 +89,7 @@ module _ (m : Machine) (stage : Stages) (invariant : Invariant m stage) where
       right = invariant.workers.each j
 
       by : (b : Bool) → (m.worker j).flagged ≡ b → i ≡ j
-      by true flagged = absurd (false≢true (sym (flagged_settled m.words stage (m.worker j) c right holds flagged)
+      by true flagged = absurd (false≢true (sym (flagged_made m.words stage (m.worker j) c right holds flagged)
           ∙ hand_waits m.words stage (m.worker i) c left h.holds h.unflagged))
       by false unflagged =
           let op = busy m.words stage (m.worker i) c left h.holds in
@@ -116,7 +116,7 @@ stages_tell_waiting m stage invariant = record {
   born = λ x h. born-settled (stage (card x)) h;
   hand = λ i c h. hand_waits m.words stage (m.worker i) c (invariant.workers.each i) h.holds h.unflagged;
   alone = one_hand m stage invariant;
-  flagged = λ i c holds flagged. flagged_settled m.words stage (m.worker i) c (invariant.workers.each i) holds flagged;
+  flagged = λ i c holds flagged. flagged_made m.words stage (m.worker i) c (invariant.workers.each i) holds flagged;
 }
 
 -- the words of a claimed card are those of its filling

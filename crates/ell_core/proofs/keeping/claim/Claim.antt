@@ -11,9 +11,9 @@ use Rattle.ell_core.specs.state.Words.{Words, put}
 use Rattle.ell_core.specs.state.Machine.{Worker, Machine, Scene, scene, with_scene}
 use Rattle.ell_core.specs.state.Cards.{claimed, insert_filling, delete_filling}
 use Rattle.ell_core.specs.acts.Searching.{claims, ClaimInsert, ClaimDelete}
-use Rattle.ell_core.specs.history.Stages.{Stage, Stages, Unclaimed, IClaimed, DClaimed, insert_open, delete_open, made_of, is_insert, is_delete}
+use Rattle.ell_core.specs.history.Stages.{Stage, Stages, Unclaimed, IClaimed, DClaimed, insert_open, delete_open, made_by_stage, is_insert, is_delete}
 use Rattle.ell_core.specs.history.Invariant.{CardIsSound, Unflagged, WorkerIsSound, Invariant}
-use Rattle.ell_core.specs.history.Later.{Follows, Keeps}
+use Rattle.ell_core.specs.history.Later.{Follows, KeepsInvariant}
 use Rattle.ell_core.proofs.words.Writes.{put_same, put_cases}
 use Rattle.ell_core.proofs.keeping.OneWorker.{Becomes, workers_become}
 use Rattle.ell_core.proofs.keeping.claim.Filling.{claimed_claims, others_say}
@@ -28,7 +28,7 @@ use Rattle.ell_core.proofs.stages.LaterKeys.{root_born}
 use Rattle.ell_core.proofs.stages.Counts.{counts_unmade, counts_same}
 
 -- nothing was made of a key by a card that was not claimed, or just was
-made_of_none : (o : Op) → (made_of o Unclaimed ≡ None) × (made_of o IClaimed ≡ None) × (made_of o DClaimed ≡ None)
+made_of_none : (o : Op) → (made_by_stage o Unclaimed ≡ None) × (made_by_stage o IClaimed ≡ None) × (made_by_stage o DClaimed ≡ None)
 made_of_none (Find k) = (refl, refl, refl)
 made_of_none (Insert k value) = (refl, refl, refl)
 made_of_none (Delete k) = (refl, refl, refl)
@@ -80,11 +80,11 @@ module _ (m : Machine) (stage : Stages) (i : ℕ) (filling : List (Field × ℕ)
       }
 
   -- the claim makes nothing of a key
-  made_same : (o : Op) (c : ℕ) → made_of o (stages c) ≡ made_of o (stage c)
-  made_same o c = put_cases (λ s. made_of o s ≡ made_of o (stage c)) stage m.words.next new c
-      (λ e. let free = ap (made_of o) (ap stage e ∙ unclaimed m.words after stage new claiming) in
+  made_same : (o : Op) (c : ℕ) → made_by_stage o (stages c) ≡ made_by_stage o (stage c)
+  made_same o c = put_cases (λ s. made_by_stage o s ≡ made_by_stage o (stage c)) stage m.words.next new c
+      (λ e. let free = ap (made_by_stage o) (ap stage e ∙ unclaimed m.words after stage new claiming) in
       let none = made_of_none o in
-      just_claimed (λ s. made_of o s ≡ made_of o (stage c)) new h.fresh (none.1 ∙ (sym none.0 ∙ sym free)) (none.2 ∙ (sym none.0 ∙ sym free)))
+      just_claimed (λ s. made_by_stage o s ≡ made_by_stage o (stage c)) new h.fresh (none.1 ∙ (sym none.0 ∙ sym free)) (none.2 ∙ (sym none.0 ∙ sym free)))
       (λ n. refl)
 
   claimer_becomes : Becomes m stage i after stages claimer
@@ -200,7 +200,7 @@ claim_delete m stage i said becomes there sound room e =
     (claim_follows m stage i filling DClaimed (Delete e.key) claims_card))
 
 -- the claim keeps the invariant
-pub keeps_claim : Keeps act.Claim
+pub keeps_claim : KeepsInvariant act.Claim
 keeps_claim m stage i said becomes there sound happens =
     let full = happens.room in
     let room : m.words.next ≤ m.last_card = omega arith in

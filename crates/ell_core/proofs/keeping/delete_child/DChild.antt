@@ -13,7 +13,7 @@ use Rattle.ell_core.specs.acts.Events.{Happens}
 use Rattle.ell_core.specs.history.Stages.{Stages, DMarked, DCut, is_cut}
 use Rattle.ell_core.specs.history.Invariant.{LeadsTo, LeadsToValue, delete_key, WordsAreSound, Invariant}
 use Rattle.ell_core.proofs.tree.Reached.{leads_any}
-use Rattle.ell_core.specs.history.Later.{Follows, Keeps, wins_of}
+use Rattle.ell_core.specs.history.Later.{Follows, KeepsInvariant, wins_of}
 use Rattle.ell_core.proofs.words.Writes.{put_same}
 use Rattle.ell_core.proofs.stages.Order.{cut-marked, marked_cases}
 use Rattle.ell_core.proofs.keeping.Learning.{KnowsAllowed, learns_fact, takes_on_knowing, follows_knowing}
@@ -107,7 +107,7 @@ lost-follows c m stage i there sound cut =
     (learns_fact stage (m.worker i).knows (Cut c) ((sound.workers.each i).facts) cut)
 
 -- the delete's child exchange keeps the invariant
-pub keeps_dchild : (c : ℕ) → Keeps (act.DChild c)
+pub keeps_dchild : (c : ℕ) → KeepsInvariant (act.DChild c)
 keeps_dchild c m stage i said becomes there sound happens =
     elim (marked_cases (stage c) ((sound.workers.each i).facts (Marked c) happens.row.may)) [
       | inl now ↦

@@ -5,7 +5,7 @@ use Rattle.ell_ops.specs.declared.op.Op.TheVariants.{Find, Insert, Delete}
 use Rattle.ell_ops.specs.Meaning.{key_of}
 use Rattle.ell_core.specs.state.Words.{Words}
 use Rattle.ell_core.specs.state.Machine.{Worker, Machine}
-use Rattle.ell_core.specs.history.Stages.{Stages, DMarked, DCut, insert_won, delete_won, delete_open, made_of}
+use Rattle.ell_core.specs.history.Stages.{Stages, DMarked, DCut, insert_won, delete_won, delete_open, made_by_stage}
 use Rattle.ell_core.specs.history.Invariant.{delete_key, Flagged, WorkersAreSound, Invariant}
 use Rattle.ell_core.proofs.tree.Reached.{leads_any}
 use Rattle.ell_core.proofs.keeping.going_on.OneKey.{settled_workers}
@@ -16,7 +16,7 @@ use Rattle.ell_core.specs.declared.view.Entry.TheVariants.{Absent}
 
 -- a marked card in hand is a delete's of the card's key
 marked_own : (w : Words) (stage : Stages) (c : ℕ) → stage c ≡ DMarked → (v : Worker) (op : Op) → Flagged w stage v op c
-    → (key_of op ≡ delete_key w c) × (made_of op DCut ≡ Some Absent)
+    → (key_of op ≡ delete_key w c) × (made_by_stage op DCut ≡ Some Absent)
 marked_own w stage c now v (Find k) h = absurd h
 marked_own w stage c now v (Insert k value) h = absurd (false≢true (ap insert_won (sym now) ∙ h.0))
 marked_own w stage c now v (Delete k) h = (sym h.1, refl)

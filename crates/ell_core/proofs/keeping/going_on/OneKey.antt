@@ -4,9 +4,9 @@ use Rattle.ell_ops.specs.declared.op.Op.{Op}
 use Rattle.ell_ops.specs.Meaning.{greatest_key, key_of}
 use Rattle.ell_core.specs.state.Words.{Words, put}
 use Rattle.ell_core.specs.state.Machine.{Worker, Machine}
-use Rattle.ell_core.specs.soundness.Sound.{Owns, IsOwned, IsInHand}
-use Rattle.ell_core.specs.soundness.Holds.{with_settled}
-use Rattle.ell_core.specs.history.Stages.{Stage, Stages, insert_won, insert_open, delete_won, delete_open, made_of, staged}
+use Rattle.ell_core.specs.soundness.Sound.{WorkerOwns, IsOwned, IsInHand}
+use Rattle.ell_core.specs.soundness.Holds.{with_made}
+use Rattle.ell_core.specs.history.Stages.{Stage, Stages, insert_won, insert_open, delete_won, delete_open, made_by_stage, effective_at}
 use Rattle.ell_core.specs.history.Invariant.{LeadsTo, LeadsToValue, Flagged, WorkerIsSound, WorkersAreSound}
 use Rattle.ell_core.proofs.outcomes.Decide.{cases_option, same_value, some_not_none}
 use Rattle.ell_core.proofs.words.Writes.{put_same, put_other, put_cases}
@@ -24,7 +24,7 @@ pub record SettlesKey (m : Machine) (stage : Stages) (words : Words) (c : ℕ) (
   pub goes : GoesOn m.words words stage (put stage c new)
   pub hand : IsInHand m c
   pub won : (insert_won (stage c) ≡ true) ⊎ (delete_won (stage c) ≡ true)
-  pub own : (v : Worker) (op : Op) → Flagged m.words stage v op c → (key_of op ≡ key) × (made_of op new ≡ Some made)
+  pub own : (v : Worker) (op : Op) → Flagged m.words stage v op c → (key_of op ≡ key) × (made_by_stage op new ≡ Some made)
   pub leads : (k value x : ℕ) → k ≢ key → LeadsToValue words k value x ↔ LeadsToValue m.words k value x
   pub led : (value : ℕ) → LeadsToValue words key value 0 ↔ (made ≡ Present value)
   pub inserts : insert_open new ≡ true → insert_open (stage c) ≡ true
@@ -35,7 +35,7 @@ record HoldsFor (v : Worker) (c key : ℕ) (new : Stage) (made : Entry) : Type 0
   op : Op
   busy : v.operation ≡ Some op
   own : key_of op ≡ key
-  makes : made_of op new ≡ Some made
+  makes : made_by_stage op new ≡ Some made
   holds : v.card ≡ Some c
   flagged : v.flagged ≡ true
   nowhere : v.search.node ≡ None
@@ -65,17 +65,17 @@ module _ (m : Machine) (stage : Stages) (words : Words) (c : ℕ) (new : Stage) 
   holder : HoldsFor (m.worker h.hand.worker) c key new made
   holder = holds_for h.hand.worker h.hand.holds h.hand.flagged
 
-  owner : Owns (m.worker h.hand.worker) key
-  owner = subst (Owns (m.worker h.hand.worker)) holder.own ((old.each h.hand.worker).owned holder.op holder.busy)
+  owner : WorkerOwns (m.worker h.hand.worker) key
+  owner = subst (WorkerOwns (m.worker h.hand.worker)) holder.own ((old.each h.hand.worker).owned holder.op holder.busy)
 
   -- so whoever owns the key has the card in hand
-  owner_holds : (i : ℕ) → Owns (m.worker i) key → HoldsFor (m.worker i) c key new made
+  owner_holds : (i : ℕ) → WorkerOwns (m.worker i) key → HoldsFor (m.worker i) c key new made
   owner_holds i owns = subst (λ n. HoldsFor (m.worker n) c key new made) (sym (old.one_owner i h.hand.worker key owns owner)) holder
 
   -- and nobody stands anywhere with it
   stands_apart : (i : ℕ) (op : Op) (x : ℕ) → (m.worker i).operation ≡ Some op → (m.worker i).search.node ≡ Some x → key_of op ≢ key
   stands_apart i op x busy stands same =
-      some_not_none stands (owner_holds i (subst (Owns (m.worker i)) same ((old.each i).owned op busy))).nowhere
+      some_not_none stands (owner_holds i (subst (WorkerOwns (m.worker i)) same ((old.each i).owned op busy))).nowhere
 
   -- each worker is sound after
   worker_after : (i : ℕ) → WorkerIsSound words stages (m.worker i)
@@ -87,27 +87,27 @@ module _ (m : Machine) (stage : Stages) (words : Words) (c : ℕ) (new : Stage) 
       was
 
   -- for its owner the key counts as what was made of it
-  counts_here : (i : ℕ) → Owns (m.worker i) key → staged stages (m.worker i) key ≡ Some made
+  counts_here : (i : ℕ) → WorkerOwns (m.worker i) key → effective_at stages (m.worker i) key ≡ Some made
   counts_here i owns =
       let g = owner_holds i owns in
       let ledger = (m.worker i).ledger in
       ap (λ f. f key) (counts_made stages (m.worker i) g.op c g.busy g.holds g.flagged)
-      ∙ ((λ t. with_settled ledger (g.own t) ((ap (made_of g.op) (put_same stage c new) ∙ g.makes) t) key)
+      ∙ ((λ t. with_made ledger (g.own t) ((ap (made_by_stage g.op) (put_same stage c new) ∙ g.makes) t) key)
       ∙ put_same ledger key (Some made))
 
   -- every other key counts as before
-  counts_elsewhere : (i k : ℕ) → k ≢ key → staged stages (m.worker i) k ≡ staged stage (m.worker i) k
+  counts_elsewhere : (i k : ℕ) → k ≢ key → effective_at stages (m.worker i) k ≡ effective_at stage (m.worker i) k
   counts_elsewhere i k other = counts_same stage stages (m.worker i) k (λ op d busy holds flagged. elim (cases_eq d c) [
     | inl e ↦ inr (λ same. other (same ∙ (h.own (m.worker i) op
         (subst (Flagged m.words stage (m.worker i) op) e ((old.each i).flagged op d busy holds flagged).0)).0))
-    | inr n ↦ inl (ap (made_of op) (put_other stage c new d n))
+    | inr n ↦ inl (ap (made_by_stage op) (put_other stage c new d n))
   ])
 
   -- the keys present are those of the tree, with their values
-  present_after : (i k value : ℕ) → Owns (m.worker i) k → LeadsToValue words k value 0 ↔ (staged stages (m.worker i) k ≡ Some (Present value))
+  present_after : (i k value : ℕ) → WorkerOwns (m.worker i) k → LeadsToValue words k value 0 ↔ (effective_at stages (m.worker i) k ≡ Some (Present value))
   present_after i k value owns = elim (cases_eq k key) [
     | inl e ↦
-        let counts = ap (staged stages (m.worker i)) e ∙ counts_here i (subst (Owns (m.worker i)) e owns) in (
+        let counts = ap (effective_at stages (m.worker i)) e ∙ counts_here i (subst (WorkerOwns (m.worker i)) e owns) in (
           λ l. counts ∙ ap (λ e. Some e) ((h.led value).0 (subst (λ n. LeadsToValue words n value 0) e l)),
           λ s. subst (λ n. LeadsToValue words n value 0) (sym e) ((h.led value).1 (same_value counts s)),
         )
@@ -120,7 +120,7 @@ module _ (m : Machine) (stage : Stages) (words : Words) (c : ℕ) (new : Stage) 
   -- each key of the tree has an owner
   owned_after : (k : ℕ) → k ≤ greatest_key → LeadsTo words k 0 → IsOwned (record m { words = words }) k
   owned_after k real l = elim (cases_eq k key) [
-    | inl e ↦ record { worker = h.hand.worker; owns = subst (Owns (m.worker h.hand.worker)) (sym e) owner }
+    | inl e ↦ record { worker = h.hand.worker; owns = subst (WorkerOwns (m.worker h.hand.worker)) (sym e) owner }
     | inr n ↦ (let was = old.owned k real ((leads_by_value m.words words k 0 (λ value. h.leads k value 0 n)).0 l) in record { worker = was.worker; owns = was.owns })
   ]
 

@@ -11,7 +11,7 @@ use Rattle.ell_core.specs.state.Machine.{Machine, Scene, scene, with_scene}
 use Rattle.ell_core.specs.acts.Exchanges.{knowing, IChild}
 use Rattle.ell_core.specs.history.Stages.{Stages, IFlagged, IChanged, is_changed}
 use Rattle.ell_core.specs.history.Invariant.{LeadsTo, LeadsToValue, insert_key, insert_value, WordsAreSound, Invariant}
-use Rattle.ell_core.specs.history.Later.{Follows, Keeps, wins_of}
+use Rattle.ell_core.specs.history.Later.{Follows, KeepsInvariant, wins_of}
 use Rattle.ell_core.proofs.words.Writes.{put_same}
 use Rattle.ell_core.proofs.stages.Order.{waits_or_changed}
 use Rattle.ell_core.proofs.keeping.Learning.{KnowsAllowed, learns_fact, takes_on_knowing, follows_knowing}
@@ -95,7 +95,7 @@ module _ (m : Machine) (stage : Stages) (i : ℕ) (sound : Invariant m stage) (c
   }
 
 -- the child exchange of an insert keeps the invariant
-pub keeps_ichild : (c : ℕ) → Keeps (act.IChild c)
+pub keeps_ichild : (c : ℕ) → KeepsInvariant (act.IChild c)
 keeps_ichild c m stage i said becomes there sound happens = elim (waits_or_made m stage i sound c happens.row.may) [
   | inl flagged ↦ (let row = won_waiting m stage i sound c flagged said becomes happens.row in
       follows_as m stage (act.IChild c) i said Won becomes (scene_won m i c) row.0 row.1 (follows_won m stage i sound c there flagged))

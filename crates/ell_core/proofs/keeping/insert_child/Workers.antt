@@ -5,7 +5,7 @@ use Rattle.ell_ops.specs.declared.op.Op.TheVariants.{Find, Insert, Delete}
 use Rattle.ell_ops.specs.Meaning.{key_of}
 use Rattle.ell_core.specs.state.Words.{Words}
 use Rattle.ell_core.specs.state.Machine.{Worker, Machine}
-use Rattle.ell_core.specs.history.Stages.{Stages, IFlagged, IChanged, insert_won, insert_open, delete_won, made_of}
+use Rattle.ell_core.specs.history.Stages.{Stages, IFlagged, IChanged, insert_won, insert_open, delete_won, made_by_stage}
 use Rattle.ell_core.specs.history.Invariant.{LeadsToValue, insert_key, insert_value, Flagged, WorkersAreSound, Invariant}
 use Rattle.ell_core.proofs.keeping.going_on.OneKey.{settled_workers}
 use Rattle.ell_core.proofs.keeping.insert_child.Tree.{ichild_words, leads_still, led_before, key_gained, gained_only}
@@ -18,7 +18,7 @@ ichild_machine m c = record m { words = ichild_words m.words c }
 
 -- a waiting card in hand is an insert's of the card's key and value
 waiting_own : (w : Words) (stage : Stages) (c : ℕ) → stage c ≡ IFlagged → (v : Worker) (op : Op) → Flagged w stage v op c
-    → (key_of op ≡ insert_key w c) × (made_of op IChanged ≡ Some (Present (insert_value w c)))
+    → (key_of op ≡ insert_key w c) × (made_by_stage op IChanged ≡ Some (Present (insert_value w c)))
 waiting_own w stage c flagged v (Find k) h = absurd h
 waiting_own w stage c flagged v (Insert k value) h = (sym h.1, ap (λ n. Some (Present n)) (sym h.2))
 waiting_own w stage c flagged v (Delete k) h = absurd (false≢true (ap delete_won (sym flagged) ∙ h.0))

@@ -6,12 +6,12 @@ use Rattle.ell_core.specs.declared.event.Act.TheVariants as act
 use Rattle.ell_core.specs.declared.fact.Fact.TheVariants as fact
 use Rattle.ell_core.specs.state.Words.{put}
 use Rattle.ell_core.specs.state.Machine.{Ledger, Worker, Machine, scene, with_scene}
-use Rattle.ell_core.specs.acts.Searching.{leaf_answer, card_answer, ledger_after, AnswersAtLeaf, Answers}
-use Rattle.ell_core.specs.soundness.Holds.{with_settled}
-use Rattle.ell_core.specs.soundness.Sound.{Owns}
-use Rattle.ell_core.specs.history.Stages.{Stage, Stages, insert_open, insert_over, delete_open, delete_over, made_of, staged, staged_of}
+use Rattle.ell_core.specs.acts.Searching.{leaf_answer, card_answer, ledger_after, AnswersAtLeaf, HasAnswer}
+use Rattle.ell_core.specs.soundness.Holds.{with_made}
+use Rattle.ell_core.specs.soundness.Sound.{WorkerOwns}
+use Rattle.ell_core.specs.history.Stages.{Stage, Stages, insert_open, insert_over, delete_open, delete_over, made_by_stage, effective_at, effective_at_of}
 use Rattle.ell_core.specs.history.Invariant.{Invariant}
-use Rattle.ell_core.specs.history.Later.{Follows, Keeps, wins_by}
+use Rattle.ell_core.specs.history.Later.{Follows, KeepsInvariant, wins_by}
 use Rattle.ell_core.proofs.outcomes.Decide.{same_value, some_not_none}
 use Rattle.ell_core.proofs.keeping.search.Begin.{MayDrop, drops_backed, takes_on_ended}
 use Rattle.ell_core.proofs.keeping.Learning.{KnowsAllowed}
@@ -38,7 +38,7 @@ gives_if false reply e = absurd (some_not_none e refl)
 
 -- a card that may be answered by is over, and made its key what the answer makes it
 pub record IsOver (op : Op) (s : Stage) (made : Entry) : Type 0 where
-  pub made_it : made_of op s ≡ Some made
+  pub made_it : made_by_stage op s ≡ Some made
   pub no_insert : insert_open s ≡ false
   pub no_delete : delete_open s ≡ false
 
@@ -49,23 +49,23 @@ delete_is_over : (k : ℕ) (s : Stage) → delete_over s ≡ true → IsOver (De
 delete_is_over k s h = record { made_it = grind arith; no_insert = grind arith; no_delete = grind arith }
 
 -- the effective ledger of a worker with a flagged card in hand
-staged_in_hand : (stage : Stages) (v : Worker) (op : Op) (c : ℕ) → v.operation ≡ Some op → v.card ≡ Some c → v.flagged ≡ true
-    → staged stage v ≡ staged_of stage v.ledger (Some op) (Some c) true
-staged_in_hand stage v op c busy holds flagged =
-    ap (λ o. staged_of stage v.ledger o v.card v.flagged) busy
-    ∙ (ap (λ o. staged_of stage v.ledger (Some op) o v.flagged) holds
-    ∙ ap (staged_of stage v.ledger (Some op) (Some c)) flagged)
+effective_in_hand : (stage : Stages) (v : Worker) (op : Op) (c : ℕ) → v.operation ≡ Some op → v.card ≡ Some c → v.flagged ≡ true
+    → effective_at stage v ≡ effective_at_of stage v.ledger (Some op) (Some c) true
+effective_in_hand stage v op c busy holds flagged =
+    ap (λ o. effective_at_of stage v.ledger o v.card v.flagged) busy
+    ∙ (ap (λ o. effective_at_of stage v.ledger (Some op) o v.flagged) holds
+    ∙ ap (effective_at_of stage v.ledger (Some op) (Some c)) flagged)
 
 module _ (stage : Stages) (v : Worker) (op : Op) (c : ℕ) (made : Entry) (busy : v.operation ≡ Some op)
-    (holds : v.card ≡ Some c) (flagged : v.flagged ≡ true) (over : IsOver op (stage c) made) (owns : Owns v (key_of op)) where
+    (holds : v.card ≡ Some c) (flagged : v.flagged ≡ true) (over : IsOver op (stage c) made) (owns : WorkerOwns v (key_of op)) where
   -- the ledger after an answer by a card that is over
   abbrev ledger : Ledger
   ledger = put v.ledger (key_of op) (Some made)
 
   -- the same keys are owned
-  owned_alike : (k : ℕ) → (ledger k ≢ None) ↔ Owns v k
-  owned_alike k = put_cases (λ o. (o ≢ None) ↔ Owns v k) v.ledger (key_of op) (Some made) k
-      (λ e. (λ n. subst (Owns v) (sym e) owns, λ n f. some_not_none refl f)) (λ n. (λ o. o, λ o. o))
+  owned_alike : (k : ℕ) → (ledger k ≢ None) ↔ WorkerOwns v k
+  owned_alike k = put_cases (λ o. (o ≢ None) ↔ WorkerOwns v k) v.ledger (key_of op) (Some made) k
+      (λ e. (λ n. subst (WorkerOwns v) (sym e) owns, λ n f. some_not_none refl f)) (λ n. (λ o. o, λ o. o))
 
   -- a card in hand is this one
   hand_is : (d : ℕ) → HasInHand v d → c ≡ d
@@ -76,14 +76,14 @@ module _ (stage : Stages) (v : Worker) (op : Op) (c : ℕ) (made : Entry) (busy 
   drops_over = record {
     owns = owned_alike;
     counts = λ k. ap (λ f. f k)
-        (staged_in_hand stage v op c busy holds flagged ∙ ap (with_settled v.ledger (key_of op)) over.made_it);
+        (effective_in_hand stage v op c busy holds flagged ∙ ap (with_made v.ledger (key_of op)) over.made_it);
     inserts = λ d h. subst (λ n. insert_open (stage n) ≡ false) (hand_is d h) over.no_insert;
     deletes = λ d h. subst (λ n. delete_open (stage n) ≡ false) (hand_is d h) over.no_delete;
   }
 
 -- an answer by a card of an insert or delete: the card is over
 drops_by_card : (stage : Stages) (v : Worker) (op : Op) (c : ℕ) (reply : Reply) → KnowsAllowed stage v.knows
-    → v.operation ≡ Some op → v.card ≡ Some c → v.flagged ≡ true → Owns v (key_of op) → card_answer op c v.knows ≡ Some reply
+    → v.operation ≡ Some op → v.card ≡ Some c → v.flagged ≡ true → WorkerOwns v (key_of op) → card_answer op c v.knows ≡ Some reply
     → MayDrop stage v (ledger_after op reply v.ledger)
 drops_by_card stage v (Find k) c reply facts busy holds flagged owns e = absurd (some_not_none e refl)
 drops_by_card stage v (Insert k value) c reply facts busy holds flagged owns e =
@@ -104,7 +104,7 @@ module _ (m : Machine) (stage : Stages) (i : ℕ) (sound : Invariant m stage) (o
       (λ c holds f. absurd (some_not_none at.stands ((sound.workers.each i).flagged op c busy holds f).1)))
 
   -- a worker that has an answer may drop what it has in hand, and has the ledger after the answer
-  pub drops_answered : Answers (scene m i) op reply → MayDrop stage (m.worker i) (ledger_after op reply (m.worker i).ledger)
+  pub drops_answered : HasAnswer (scene m i) op reply → MayDrop stage (m.worker i) (ledger_after op reply (m.worker i).ledger)
   drops_answered answers = elim answers [
     | inl at ↦ drops_at_leaf at
     | inr by ↦ (let worker = sound.workers.each i in
@@ -113,7 +113,7 @@ module _ (m : Machine) (stage : Stages) (i : ℕ) (sound : Invariant m stage) (o
   ]
 
 -- answer keeps the invariant
-pub keeps_answer : Keeps act.Answer
+pub keeps_answer : KeepsInvariant act.Answer
 keeps_answer m stage i said becomes there sound happens =
     let r = happens.row in
     subst (λ s. Follows m stage act.Answer i said (with_scene m i s)) (sym r.gives)

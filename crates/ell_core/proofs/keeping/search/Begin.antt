@@ -6,10 +6,10 @@ use Rattle.ell_core.specs.declared.event.Act.TheVariants as act
 use Rattle.ell_core.specs.declared.fact.Fact.TheVariants as fact
 use Rattle.ell_core.specs.state.Machine.{Ledger, Worker, Machine, with_scene}
 use Rattle.ell_core.specs.acts.Searching.{begun, ended, MayStop}
-use Rattle.ell_core.specs.soundness.Sound.{Owns}
-use Rattle.ell_core.specs.history.Stages.{Stages, is_born, insert_open, delete_open, is_backed, staged}
+use Rattle.ell_core.specs.soundness.Sound.{WorkerOwns}
+use Rattle.ell_core.specs.history.Stages.{Stages, is_born, insert_open, delete_open, is_backed, effective_at}
 use Rattle.ell_core.specs.history.Invariant.{top, StandIsSound, Invariant}
-use Rattle.ell_core.specs.history.Later.{Follows, Keeps, wins_by}
+use Rattle.ell_core.specs.history.Later.{Follows, KeepsInvariant, wins_by}
 use Rattle.ell_core.proofs.outcomes.Decide.{same_value, some_not_none}
 use Rattle.ell_core.proofs.tree.Courses.{OnCourse-start}
 use Rattle.ell_core.proofs.keeping.OneWorker.{HasInHand, TakesOn, follows_worker}
@@ -19,8 +19,8 @@ use Rattle.ell_core.proofs.stages.Order.{backed_made, backed_insert, backed_dele
 -- a worker may drop what it has in hand and have this ledger: it owns the same keys, which count as in its effective ledger,
 -- and no flag of its card stands
 pub record MayDrop (stage : Stages) (v : Worker) (ledger : Ledger) : Type 0 where
-  pub owns : (k : ℕ) → (ledger k ≢ None) ↔ Owns v k
-  pub counts : (k : ℕ) → staged stage v k ≡ ledger k
+  pub owns : (k : ℕ) → (ledger k ≢ None) ↔ WorkerOwns v k
+  pub counts : (k : ℕ) → effective_at stage v k ≡ ledger k
   pub inserts : (c : ℕ) → HasInHand v c → insert_open (stage c) ≡ false
   pub deletes : (c : ℕ) → HasInHand v c → delete_open (stage c) ≡ false
 
@@ -68,7 +68,7 @@ module _ (m : Machine) (stage : Stages) (i : ℕ) (sound : Invariant m stage) wh
   }
 
   -- a worker that stands at the root with an operation on a key of its own
-  stands_at_root : (op : Op) → Owns v (key_of op) → MayDrop stage v v.ledger
+  stands_at_root : (op : Op) → WorkerOwns v (key_of op) → MayDrop stage v v.ledger
       → StandIsSound m.words stage (begun (Some op) v) (key_of op) 0
   stands_at_root op owns may = record {
     born = ap is_born sound.words.opening;
@@ -86,13 +86,13 @@ module _ (m : Machine) (stage : Stages) (i : ℕ) (sound : Invariant m stage) wh
     below_top = let real = (sound.workers.each i).real (key_of op) owns in omega arith
 
   -- a worker may begin at the root
-  pub takes_on_begun : (op : Op) → Owns v (key_of op) → MayDrop stage v v.ledger → TakesOn m stage i (begun (Some op) v)
+  pub takes_on_begun : (op : Op) → WorkerOwns v (key_of op) → MayDrop stage v v.ledger → TakesOn m stage i (begun (Some op) v)
   takes_on_begun op owns may = record {
     own = record {
       facts = (sound.workers.each i).facts;
       real = (sound.workers.each i).real;
       free = λ e. absurd (some_not_none refl e);
-      owned = λ other e. subst (λ o. Owns v (key_of o)) (same_value refl e) owns;
+      owned = λ other e. subst (λ o. WorkerOwns v (key_of o)) (same_value refl e) owns;
       stands = λ other x e at. subst (λ o. StandIsSound m.words stage (begun (Some op) v) (key_of o) x) (same_value refl e)
           (subst (StandIsSound m.words stage (begun (Some op) v) (key_of op)) (same_value refl at)
           (stands_at_root op owns may));
@@ -106,7 +106,7 @@ module _ (m : Machine) (stage : Stages) (i : ℕ) (sound : Invariant m stage) wh
   }
 
 -- begin keeps the invariant
-pub keeps_begin : (op : Op) → Keeps (act.Begin op)
+pub keeps_begin : (op : Op) → KeepsInvariant (act.Begin op)
 keeps_begin op m stage i said becomes there sound happens =
     let r = happens.row in
     subst (λ s. Follows m stage (act.Begin op) i said (with_scene m i s)) (sym r.gives)
@@ -115,7 +115,7 @@ keeps_begin op m stage i said becomes there sound happens =
     (takes_on_begun m stage i sound op happens.owned (drops_idle m stage i sound r.free)))
 
 -- again keeps the invariant
-pub keeps_again : Keeps act.Again
+pub keeps_again : KeepsInvariant act.Again
 keeps_again m stage i said becomes there sound happens =
     let r = happens.row in
     let owns = (sound.workers.each i).owned r.may.op r.may.busy in
@@ -126,7 +126,7 @@ keeps_again m stage i said becomes there sound happens =
     (takes_on_begun m stage i sound r.may.op owns (drops_stopped m stage i sound r.may))))
 
 -- leave keeps the invariant
-pub keeps_leave : Keeps act.Leave
+pub keeps_leave : KeepsInvariant act.Leave
 keeps_leave m stage i said becomes there sound happens =
     let r = happens.row in
     subst (λ s. Follows m stage act.Leave i said (with_scene m i s)) (sym r.gives)

@@ -14,7 +14,7 @@ use Rattle.ell_core.specs.tree.Tree.{infinity1}
 use Rattle.ell_core.specs.tree.Ranges.{below}
 use Rattle.ell_core.specs.history.Stages.{Stages}
 use Rattle.ell_core.specs.history.Invariant.{top, IsOnCourse, ChildrenAreSound, TreeIsSound, WordsAreSound, SeenIsSound, StandIsSound, Unflagged, WorkerIsSound, Invariant}
-use Rattle.ell_core.specs.history.Later.{Follows, Keeps, wins_by}
+use Rattle.ell_core.specs.history.Later.{Follows, KeepsInvariant, wins_by}
 use Rattle.ell_core.proofs.outcomes.Decide.{same_value, some_not_none}
 use Rattle.ell_core.proofs.tree.Bounds.{below_of, leaf_key}
 use Rattle.ell_core.proofs.tree.Courses.{OnCourse-down}
@@ -128,7 +128,7 @@ takes_on_down m stage i op seen sound busy at inner read = takes_on_same m stage
     (sound_down m.words stage sound.words (m.worker i) op seen (sound.workers.each i) busy at inner read) refl refl refl refl
 
 -- down keeps the invariant
-pub keeps_down : Keeps act.Down
+pub keeps_down : KeepsInvariant act.Down
 keeps_down m stage i said becomes there sound happens =
     let r = happens.row in
     subst (λ s. Follows m stage act.Down i said (with_scene m i s)) (sym r.gives)

@@ -8,7 +8,7 @@ use Rattle.ell_core.specs.state.Machine.{Worker, Machine, with_scene}
 use Rattle.ell_core.specs.acts.Searching.{with_read}
 use Rattle.ell_core.specs.history.Stages.{Stages, Born}
 use Rattle.ell_core.specs.history.Invariant.{StandIsSound, WorkerIsSound, Invariant}
-use Rattle.ell_core.specs.history.Later.{Follows, Keeps, wins_by}
+use Rattle.ell_core.specs.history.Later.{Follows, KeepsInvariant, wins_by}
 use Rattle.ell_core.proofs.outcomes.Decide.{cases_option, same_value, some_not_none}
 use Rattle.ell_core.proofs.keeping.Learning.{KnowsAllowed, learns_word}
 use Rattle.ell_core.proofs.keeping.going_on.InHand.{SamePlace, same_goal, unflagged_same, flagged_same, stands_same}
@@ -74,7 +74,7 @@ takes_on_reading m stage i node sound at inner =
     (sound_reading m.words stage (m.worker i) node (told_to m i node) each at allowed) refl refl refl refl
 
 -- upd keeps the invariant
-pub keeps_upd : Keeps act.Upd
+pub keeps_upd : KeepsInvariant act.Upd
 keeps_upd m stage i said becomes there sound happens =
     let r = happens.row in
     subst (λ s. Follows m stage act.Upd i said (with_scene m i s)) (sym r.gives)

@@ -15,7 +15,7 @@ use Rattle.ell_core.specs.acts.Exchanges.{won_or_lost, flags, flagged_worker}
 use Rattle.ell_core.specs.tree.Ranges.{at_leaf}
 use Rattle.ell_core.specs.history.Stages.{Stages, Opening, DClaimed, DFlagged, is_claimed, delete_won, insert_open, delete_open}
 use Rattle.ell_core.specs.history.Invariant.{delete_side, DeleteCard, DeleteStage, Markable, UpdateIsSound, SeenIsSound, StandIsSound, DeleteInHand, Invariant}
-use Rattle.ell_core.specs.history.Later.{Follows, Keeps, wins_of}
+use Rattle.ell_core.specs.history.Later.{Follows, KeepsInvariant, wins_of}
 use Rattle.ell_core.proofs.words.Writes.{put_same, put_other}
 use Rattle.ell_core.proofs.stages.Order.{delete_claimed}
 use Rattle.ell_core.proofs.keeping.updates.Cards.{Exchange}
@@ -153,7 +153,7 @@ module _ (m : Machine) (stage : Stages) (i k c : ℕ) (grandparent : Seen) (ther
   ]
 
 -- dflag keeps the invariant
-pub keeps_dflag : Keeps act.DFlag
+pub keeps_dflag : KeepsInvariant act.DFlag
 keeps_dflag m stage i said becomes there sound happens = let row = happens.row in
     follows m stage i row.key row.card row.grandparent there sound
     (record { busy = row.deletes; holds = row.holds; unflagged = row.unflagged }) row.above said becomes row.says row.gives

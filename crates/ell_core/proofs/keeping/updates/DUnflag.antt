@@ -10,7 +10,7 @@ use Rattle.ell_core.specs.state.Cards.{dflag, clean}
 use Rattle.ell_core.specs.acts.Exchanges.{DUnflags, knowing, DUnflag, Backtrack}
 use Rattle.ell_core.specs.history.Stages.{Stage, Stages, delete_open, allows, DUnmarkable, DCut, DOver, DBacked, is_marked, is_cut, is_unmarkable, delete_past, delete_over, is_backed, insert_won}
 use Rattle.ell_core.specs.history.Invariant.{DeleteStage, Invariant}
-use Rattle.ell_core.specs.history.Later.{Follows, wins_of, wins_by, Keeps}
+use Rattle.ell_core.specs.history.Later.{Follows, wins_of, wins_by, KeepsInvariant}
 use Rattle.ell_core.proofs.stages.Order.{delete_not_insert_open, delete_not_opening, delete-claimed, delete_open-delete, delete_open-won, cut_cases, unmarkable_cases}
 use Rattle.ell_core.proofs.keeping.Learning.{learns_fact, follows_knowing}
 use Rattle.ell_core.proofs.keeping.updates.Cards.{Exchange}
@@ -210,10 +210,10 @@ module _ (m : Machine) (stage : Stages) (i c : ℕ) (there : i < m.count) (sound
   ]
 
 -- dunflag keeps the invariant
-pub keeps_dunflag : (c : ℕ) → Keeps (act.DUnflag c)
+pub keeps_dunflag : (c : ℕ) → KeepsInvariant (act.DUnflag c)
 keeps_dunflag c m stage i said becomes there sound happens = follows_dunflag m stage i c there sound said becomes happens.row
 
 -- backtrack keeps the invariant
-pub keeps_backtrack : (c : ℕ) → Keeps (act.Backtrack c)
+pub keeps_backtrack : (c : ℕ) → KeepsInvariant (act.Backtrack c)
 keeps_backtrack c m stage i said becomes there sound happens =
     follows_backtrack m stage i c there sound said becomes happens.row

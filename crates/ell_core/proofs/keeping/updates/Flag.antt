@@ -12,9 +12,9 @@ use Rattle.ell_core.specs.state.Words.{Words, put, with_update}
 use Rattle.ell_core.specs.state.Facts.{card_of_fact}
 use Rattle.ell_core.specs.state.Machine.{Worker, Machine, Scene, with_scene}
 use Rattle.ell_core.specs.acts.Exchanges.{flagged_worker, flags}
-use Rattle.ell_core.specs.soundness.Holds.{with_settled}
-use Rattle.ell_core.specs.soundness.Sound.{Owns}
-use Rattle.ell_core.specs.history.Stages.{Stage, Stages, made_of, staged, allows}
+use Rattle.ell_core.specs.soundness.Holds.{with_made}
+use Rattle.ell_core.specs.soundness.Sound.{WorkerOwns}
+use Rattle.ell_core.specs.history.Stages.{Stage, Stages, made_by_stage, effective_at, allows}
 use Rattle.ell_core.specs.history.Invariant.{IsInnerBorn, Unflagged, Flagged, WorkerIsSound, Invariant}
 use Rattle.ell_core.specs.history.Later.{Follows, wins_of, wins_by, win_for}
 use Rattle.ell_core.proofs.words.Writes.{put_same}
@@ -81,7 +81,7 @@ module _ (m : Machine) (stage : Stages) (i c : ℕ) (op : Op) (sound : Invariant
       let theirs = (sound.workers.each j).unflagged other d busy holds unflagged in
       let key = same_key m.words stage (m.worker i) (m.worker j) op other c hand_of
       (subst (Unflagged m.words stage (m.worker j) other) same theirs) in
-      let owns_there = subst (Owns (m.worker j)) key ((sound.workers.each j).owned other busy) in
+      let owns_there = subst (WorkerOwns (m.worker j)) key ((sound.workers.each j).owned other busy) in
       apart (sound.workers.one_owner j i (key_of op) owns_there ((sound.workers.each i).owned op h.busy))
 
   -- it has no flagged card in hand
@@ -89,7 +89,7 @@ module _ (m : Machine) (stage : Stages) (i c : ℕ) (op : Op) (sound : Invariant
   not_flagged e = false≢true (sym h.unflagged ∙ e)
 
   -- worker i's effective ledger is its ledger
-  pub unflagged_ledger : staged stage (m.worker i) ≡ (m.worker i).ledger
+  pub unflagged_ledger : effective_at stage (m.worker i) ≡ (m.worker i).ledger
   unflagged_ledger = counts_unmade stage (m.worker i) (λ o d b e f. absurd (not_flagged f))
 
   module _ (fact : Fact) (x : ℕ) (place : IsInnerBorn stage x) where
@@ -123,7 +123,7 @@ module _ (m : Machine) (stage : Stages) (i c : ℕ) (op : Op) (sound : Invariant
     flag_loses a there none = follows_worker m stage a i Lost loser there sound none loser_takes
 
   module _ (fact : Fact) (x value found : ℕ) (new : Stage) (e : Exchange m.words stage x value c new)
-      (names : card_of_fact fact ≡ c) (told : allows fact new ≡ true) (unmade : made_of op new ≡ None)
+      (names : card_of_fact fact ≡ c) (told : allows fact new ≡ true) (unmade : made_by_stage op new ≡ None)
       (flag : Flagged (with_update m.words x value) (put stage c new)
       (flagged_worker (m.worker i) true fact found) op c) where
     -- the worker where it won the flag
@@ -150,9 +150,9 @@ module _ (m : Machine) (stage : Stages) (i c : ℕ) (op : Op) (sound : Invariant
     }
 
     -- its card has made nothing of its key
-    winner_ledger : staged (put stage c new) winner ≡ (m.worker i).ledger
+    winner_ledger : effective_at (put stage c new) winner ≡ (m.worker i).ledger
     winner_ledger = counts_made (put stage c new) winner op c h.busy h.holds refl
-        ∙ ap (with_settled (m.worker i).ledger (key_of op)) (ap (made_of op) (put_same stage c new) ∙ unmade)
+        ∙ ap (with_made (m.worker i).ledger (key_of op)) (ap (made_by_stage op) (put_same stage c new) ∙ unmade)
 
     new_worker : NewWorker m stage i x value c new winner
     new_worker = record {

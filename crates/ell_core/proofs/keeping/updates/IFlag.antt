@@ -16,7 +16,7 @@ use Rattle.ell_core.specs.acts.Searching.{IsClean}
 use Rattle.ell_core.specs.acts.Exchanges.{won_or_lost, flags, flagged_worker}
 use Rattle.ell_core.specs.history.Stages.{Stages, Opening, IClaimed, IFlagged, is_claimed, insert_won, insert_open, delete_open}
 use Rattle.ell_core.specs.history.Invariant.{IsOnCourse, insert_key, insert_side, InsertCard, InsertStage, UpdateIsSound, SeenIsSound, StandIsSound, InsertInHand, Invariant}
-use Rattle.ell_core.specs.history.Later.{Follows, Keeps, wins_of}
+use Rattle.ell_core.specs.history.Later.{Follows, KeepsInvariant, wins_of}
 use Rattle.ell_core.proofs.words.Writes.{put_same}
 use Rattle.ell_core.proofs.stages.Order.{insert_claimed}
 use Rattle.ell_core.proofs.keeping.updates.Cards.{Exchange}
@@ -154,7 +154,7 @@ module _ (m : Machine) (stage : Stages) (i k value c : ℕ) (parent : Seen) (the
   ]
 
 -- iflag keeps the invariant
-pub keeps_iflag : Keeps act.IFlag
+pub keeps_iflag : KeepsInvariant act.IFlag
 keeps_iflag m stage i said becomes there sound happens = let row = happens.row in
     follows m stage i row.key row.value row.card row.parent there sound
     (record { busy = row.inserts; holds = row.holds; unflagged = row.unflagged }) row.behind said becomes row.says row.gives

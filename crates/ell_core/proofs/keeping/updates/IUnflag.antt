@@ -12,7 +12,7 @@ use Rattle.ell_core.specs.state.Cards.{iflag, clean}
 use Rattle.ell_core.specs.acts.Exchanges.{IUnflag, knowing}
 use Rattle.ell_core.specs.history.Stages.{Stage, Stages, Opening, IChanged, IOver, is_claimed, is_insert, insert_open, insert_won, insert_over, delete_open, is_changed}
 use Rattle.ell_core.specs.history.Invariant.{InsertStage, Invariant}
-use Rattle.ell_core.specs.history.Later.{Follows, Keeps, wins_of}
+use Rattle.ell_core.specs.history.Later.{Follows, KeepsInvariant, wins_of}
 use Rattle.ell_core.proofs.words.Writes.{put_same}
 use Rattle.ell_core.proofs.stages.Order.{changed_cases}
 use Rattle.ell_core.proofs.keeping.Learning.{learns_fact, follows_knowing}
@@ -113,6 +113,6 @@ module _ (m : Machine) (stage : Stages) (i c : ℕ) (there : i < m.count) (sound
   ]
 
 -- iunflag keeps the invariant
-pub keeps_iunflag : (c : ℕ) → Keeps (act.IUnflag c)
+pub keeps_iunflag : (c : ℕ) → KeepsInvariant (act.IUnflag c)
 keeps_iunflag c m stage i said becomes there sound happens =
     follows m stage i c there sound happens.row.may said becomes happens.row

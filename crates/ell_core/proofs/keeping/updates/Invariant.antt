@@ -1,7 +1,7 @@
 use Rattle.std.proofs.Common.{◌≡◌, ◌≢◌, ℕ, ◌<◌, ◌⊎◌, true, Some, inl, inr, sym, ap, ◌∙◌, refl}
 use Rattle.ell_core.specs.state.Words.{put, with_update}
 use Rattle.ell_core.specs.state.Machine.{Worker, Machine, with_scene}
-use Rattle.ell_core.specs.history.Stages.{Stage, Stages, insert_open, delete_open, staged}
+use Rattle.ell_core.specs.history.Stages.{Stage, Stages, insert_open, delete_open, effective_at}
 use Rattle.ell_core.specs.history.Invariant.{WorkerIsSound, Invariant}
 use Rattle.ell_core.proofs.keeping.OneWorker.{HasInHand, StaysInHand, Becomes, workers_become}
 use Rattle.ell_core.proofs.keeping.updates.Cards.{Exchange}
@@ -23,7 +23,7 @@ exchanged m i x value v = with_scene m i (record { words = with_update m.words x
 pub record NewWorker (m : Machine) (stage : Stages) (i x value c : ℕ) (new : Stage) (v : Worker) : Type 0 where
   pub sound : WorkerIsSound (with_update m.words x value) (put stage c new) v
   pub ledger : v.ledger ≡ (m.worker i).ledger
-  pub effective : (k : ℕ) → staged (put stage c new) v k ≡ staged stage (m.worker i) k
+  pub effective : (k : ℕ) → effective_at (put stage c new) v k ≡ effective_at stage (m.worker i) k
   pub hand : (d : ℕ) → (m.worker i).card ≡ Some d → (m.worker i).flagged ≡ true → (v.card ≡ Some d) × (v.flagged ≡ true)
   pub insert_hand : insert_open new ≡ true → (insert_open (stage c) ≡ true) ⊎ ((v.card ≡ Some c) × (v.flagged ≡ true))
   pub delete_hand : delete_open new ≡ true → (delete_open (stage c) ≡ true) ⊎ ((v.card ≡ Some c) × (v.flagged ≡ true))

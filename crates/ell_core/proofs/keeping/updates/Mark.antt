@@ -11,7 +11,7 @@ use Rattle.ell_core.specs.state.Cards.{dflag, marked}
 use Rattle.ell_core.specs.acts.Exchanges.{knowing, Mark, mark_teaches, won_or_lost}
 use Rattle.ell_core.specs.history.Stages.{Stage, Stages, Opening, DFlagged, DUnmarkable, DMarked, is_claimed, is_delete, delete_open, delete_waits, delete_won, is_markable, is_marked, is_unmarkable}
 use Rattle.ell_core.specs.history.Invariant.{DeleteCard, Markable, DeleteStage, Invariant, UpdateIsSound}
-use Rattle.ell_core.specs.history.Later.{Follows, wins_of, Keeps}
+use Rattle.ell_core.specs.history.Later.{Follows, wins_of, KeepsInvariant}
 use Rattle.ell_core.proofs.words.Writes.{put_same, put_other}
 use Rattle.ell_core.proofs.stages.Order.{delete_not_insert_open, delete_won-delete, flagged_not_marked, unmarkable_not_marked, won_cases}
 use Rattle.ell_core.proofs.keeping.Learning.{KnowsAllowed, learns_any, told_allowed, learns_fact, learns_word, follows_knowing}
@@ -280,6 +280,6 @@ module _ (m : Machine) (stage : Stages) (i c : ℕ) (there : i < m.count) (sound
   ]
 
 -- mark keeps the invariant
-pub keeps_mark : (c : ℕ) → Keeps (act.Mark c)
+pub keeps_mark : (c : ℕ) → KeepsInvariant (act.Mark c)
 keeps_mark c m stage i said becomes there sound happens =
     follows_mark m stage i c there sound happens.row.may said becomes happens.row

@@ -1,7 +1,7 @@
 use Rattle.std.proofs.Common.{◌≡◌, ℕ, inl}
 use Rattle.ell_core.specs.state.Words.{Words, put, with_update}
 use Rattle.ell_core.specs.state.Machine.{Worker}
-use Rattle.ell_core.specs.history.Stages.{Stage, Stages, staged}
+use Rattle.ell_core.specs.history.Stages.{Stage, Stages, effective_at}
 use Rattle.ell_core.specs.history.Invariant.{WorkerIsSound, WordsAreSound}
 use Rattle.ell_core.proofs.words.Writes.{put_other}
 use Rattle.ell_core.proofs.keeping.updates.Cards.{Exchange, kind_of, update_goes_on}
@@ -18,6 +18,6 @@ module _ (w : Words) (stage : Stages) (x value c : ℕ) (new : Stage) (e : Excha
       (λ op y busy at born held. (λ l. l, λ l. l)) (λ op d busy holds f hand. put_other stage c new d (other op d busy holds f)) k
 
   -- a worker's effective ledger counts as before
-  pub counts_later : (v : Worker) (k : ℕ) → staged (put stage c new) v k ≡ staged stage v k
+  pub counts_later : (v : Worker) (k : ℕ) → effective_at (put stage c new) v k ≡ effective_at stage v k
   counts_later v k = counts_same stage (put stage c new) v k
       (λ op d busy holds f. inl ((kind_of w stage x value c new e d).made op))

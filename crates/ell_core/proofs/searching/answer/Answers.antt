@@ -1,5 +1,5 @@
 use Rattle.std.proofs.Common.{◌≡◌, subst, rules}
-use Rattle.ell_core.specs.acts.Searching.{Answers}
+use Rattle.ell_core.specs.acts.Searching.{HasAnswer}
 use Rattle.ell_core.specs.inside.Inside.{scene_in}
 use Rattle.ell_core.proofs.searching.answer.Goals as goal
 
@@ -11,7 +11,7 @@ returns-in_default-answer_of g c =
         λ h. h,
         λ g.
             let same : g.row.op ≡ c.in-Some.op = cc in
-            c.in_default-answer_of.ensures.none g.row.reply (subst (λ op. Answers s op g.row.reply) same g.row.answers),
+            c.in_default-answer_of.ensures.none g.row.reply (subst (λ op. HasAnswer s op g.row.reply) same g.row.answers),
       );
       unchanged = search rules;
       words = search rules;

@@ -5,7 +5,7 @@ use Rattle.ell_core.specs.state.Facts.{told_by_state}
 use Rattle.ell_cards.specs.declared.view.View.{View}
 use Rattle.ell_cards.specs.Models.{Knows}
 use Rattle.ell_cards.specs.Changes.{is_mark_of}
-use Rattle.ell_test_steps.specs.declared.memory.Memory.{Memory}
+use Rattle.ell_test_steps.specs.declared.memory.Remembered.{Remembered}
 use Rattle.ell_test_steps.specs.Remembering.{KnowsAny, KnowsMark, Learns}
 use Rattle.ell_test_steps.proofs.exchanging.learn_mark.Goals as goal
 
@@ -29,7 +29,7 @@ returns-else-is_mark c =
     let found = c.remember-else-is_mark-2.ensures in
     let last = c.remember-else-is_mark-2.new.memory in
     record {
-      rest = found.rest ∙ ap (λ (m : Memory). record m { known = last.known; turn = last.turn }) unmarkable.rest;
+      rest = found.rest ∙ ap (λ (m : Remembered). record m { known = last.known; turn = last.turn }) unmarkable.rest;
       known = λ v all told.
           let knows = lost v c.args.card c.args.mark c.in-Err.found false c.in-Err.is c.if-is_mark.ensures told in
           found.known v (unmarkable.known v all knows.0) (subst (KnowsAny v) (sym c.fact_of.ensures) knows.1);

@@ -1,7 +1,7 @@
 use Rattle.std.proofs.Common.{Some, None, refl, rules}
 use Rattle.ell_word.specs.Node.{IsInternal}
 use Rattle.ell_cards.specs.Changes.{after_down}
-use Rattle.ell_test_steps.specs.declared.memory.Memory.{Memory}
+use Rattle.ell_test_steps.specs.declared.memory.Remembered.{Remembered}
 use Rattle.ell_test_steps.proofs.Asides.{key_aside}
 use Rattle.ell_test_steps.proofs.Fittings.{fits_down}
 use Rattle.ell_test_steps.proofs.Readiness.{ready_step, ready_aside, may_go_down_by}
@@ -20,7 +20,7 @@ returns g c =
     let child = c.down-child.result in
     let asked = ready_aside c.args.table.now c.args.pass.now c.key_of-key.new.pass c.args.memory.now c.requires
     (key_aside c.args.pass.now c.key_of-key.new.pass node c.key_of-key.result c.key_of-key.ensures.step) in
-    let m : Memory = record (c.args.memory.now) { node = Some child; read = None; parent = Some (record { node = node; update = u }); grandparent = c.args.memory.now.parent } in
+    let m : Remembered = record (c.args.memory.now) { node = Some child; read = None; parent = Some (record { node = node; update = u }); grandparent = c.args.memory.now.parent } in
     ready_step c.args.table.now c.key_of-key.new.pass c.down-child.new.pass c.args.memory.now m m
     (after_down node child c.key_of-key.new.pass.view) asked c.down-child.ensures.step refl
     (fits_down c.key_of-key.new.pass.view c.args.memory.now node child u asked.fits c.in_ok-node.was c.in_ok-update.was)

@@ -7,7 +7,7 @@ use super::parting::joined;
 use ell_cards::{CardTable, Closed, Pass};
 use ell_core::{Act, CoreFault, Event, Field, Shown, Stepped, World};
 use ell_ops::Reply;
-use ell_test_steps::{Memory, nothing, step};
+use ell_test_steps::{Remembered, nothing, step};
 use std::alloc::Global;
 use std::process::Abort;
 
@@ -40,7 +40,7 @@ fn shows(world: &mut World, worker: u32, act: Act, want: Shown) -> bool
 fn shows_too(
     table: &CardTable<Global>,
     pass: &mut Pass<Global>,
-    memory: &mut Memory,
+    memory: &mut Remembered,
     act: Act,
     want: Shown,
 ) -> bool
@@ -58,7 +58,7 @@ fn play_turn(
     rt: &impl Abort,
     table: &CardTable<Global>,
     pass: &mut Pass<Global>,
-    memory: &mut Memory,
+    memory: &mut Remembered,
     world: &mut World,
     turn: Turn,
 )

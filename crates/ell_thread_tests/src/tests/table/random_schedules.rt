@@ -18,7 +18,7 @@ use ell_core::Act::{
 use ell_core::{Act, Event, Fact, World};
 use ell_ops::Op;
 use ell_test_gates::Dice;
-use ell_test_steps::{FACTS, Memory, nothing, step};
+use ell_test_steps::{FACTS, Remembered, nothing, step};
 use std::alloc::Global;
 use std::process::Abort;
 
@@ -51,7 +51,7 @@ struct Drawing {
 
 impl Drawing {
     // An act that is lawful often, if the pass has come that far: helps above all while its own flag stands.
-    fn act(&mut self, memory: &Memory, worker: u32) -> Act {
+    fn act(&mut self, memory: &Remembered, worker: u32) -> Act {
         if memory.flagged {
             return match self.dice.below(10) {
                 0..=6 => self.help(memory),
@@ -83,7 +83,7 @@ impl Drawing {
     }
 
     // An exchange for a card of which something is remembered.
-    fn help(&mut self, memory: &Memory) -> Act {
+    fn help(&mut self, memory: &Remembered) -> Act {
         let index = self.dice.below(FACTS as u64) as usize;
         match memory.known[index] {
             Some(Fact::IFlagged(card)) => IChild(card),
@@ -111,7 +111,7 @@ fn both_step(
     rt: &impl Abort,
     table: &CardTable<Global>,
     pass: &mut Pass<Global>,
-    memory: &mut Memory,
+    memory: &mut Remembered,
     world: &mut World,
     drawing: &mut Drawing,
     event: Event,
@@ -133,7 +133,7 @@ fn turn(
     rt: &impl Abort,
     table: &CardTable<Global>,
     pass: Pass<Global>,
-    memory: &mut Memory,
+    memory: &mut Remembered,
     world: &mut World,
     drawing: &mut Drawing,
     worker: u32,
@@ -182,7 +182,7 @@ fn finish(
     rt: &impl Abort,
     table: &CardTable<Global>,
     pass: &mut Pass<Global>,
-    memory: &mut Memory,
+    memory: &mut Remembered,
     world: &mut World,
     drawing: &mut Drawing,
     worker: u32,

@@ -7,7 +7,7 @@ use ell_core::Act::{
     self, Answer, Begin, Claim, DChild, DFlag, DUnflag, Down, IChild, IFlag, IUnflag, Mark, Upd,
 };
 use ell_ops::Op::{Delete, Find, Insert};
-use ell_test_steps::{Memory, leaf_value, nothing, step};
+use ell_test_steps::{Remembered, leaf_value, nothing, step};
 use std::alloc::Global;
 use std::process::Abort;
 
@@ -19,7 +19,7 @@ fn go(
     rt: &impl Abort,
     table: &CardTable<Global>,
     pass: &mut Pass<Global>,
-    memory: &mut Memory,
+    memory: &mut Remembered,
     acts: &[Act],
 )
     requires { IsReady table.now pass.old memory.old }

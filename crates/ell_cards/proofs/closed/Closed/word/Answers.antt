@@ -3,7 +3,7 @@ use mathlib.Core.Option.{some, some-injective, some-ne-none}
 use lib.ListN.{get_elem?}
 use Rattle.std.specs.Slots.{slots_items}
 use Rattle.ell_core.specs.state.Layout.{listed}
-use Rattle.ell_cards.specs.Ends.{ClosedModel}
+use Rattle.ell_cards.specs.Closed.{ClosedModel}
 use Rattle.ell_cards.proofs.closed.Closed.word.Goals as goal
 
 -- what stands at a place is what is read there

@@ -3,7 +3,7 @@ use Rattle.std.specs.List.{All}
 use Rattle.std.specs.Slots.{slots_items}
 use Rattle.ell_core.specs.state.Machine.{ledger_of}
 use Rattle.ell_cards.specs.Models.{TableModel, PassModel, IsFree}
-use Rattle.ell_cards.specs.Ends.{ClosedModel, Ends}
+use Rattle.ell_cards.specs.Closed.{ClosedModel, TableEnds}
 use Rattle.ell_cards.proofs.lifetimes.Ends.{ends}
 use Rattle.ell_cards.proofs.table.CardTable.close.Goals as goal
 
@@ -19,7 +19,7 @@ returns-clause-ends g c =
     let free = subst (λ (p : PassModel). IsFree p.view) (sym c.pass.view_is) c.requires.free in
     let there = ends keys cards last.0 last.1.0 c.pass.inside.seat.id v last.1.1 free all in
     let closed : ClosedModel = record { words = words; last_card = c.self.inside.last_card } in
-    subst (λ (m : TableModel). Ends m.keys c.args.pass.view closed) c.self.view_is
-    (subst (λ (p : PassModel). Ends keys p.view closed) c.pass.view_is
-    (subst (λ (n : ℕ). Ends keys v (record { words = words; last_card = n })) (sym c.self.invariant.3)
-    (subst (λ (l : List ℕ). Ends keys v (record { words = l; last_card = cards })) last.2 there)))
+    subst (λ (m : TableModel). TableEnds m.keys c.args.pass.view closed) c.self.view_is
+    (subst (λ (p : PassModel). TableEnds keys p.view closed) c.pass.view_is
+    (subst (λ (n : ℕ). TableEnds keys v (record { words = words; last_card = n })) (sym c.self.invariant.3)
+    (subst (λ (l : List ℕ). TableEnds keys v (record { words = l; last_card = cards })) last.2 there)))

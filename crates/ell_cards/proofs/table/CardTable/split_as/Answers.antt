@@ -7,7 +7,7 @@ use Rattle.ell_cards.proofs.table.CardTable.split_as.Goals as goal
 pub invariant_of-left : goal.invariant_of-left
 invariant_of-left g c =
     let now = c.split_seat-other.ensures in (
-      part_fits _ _ _ _ c.self.view_is c.pass.view_is c.requires.own c.self.invariant.0 c.pass.inside.keys.items c.args.left.items _ g.J.Parting.left _ _
+      part_fits _ _ _ _ c.self.view_is c.pass.view_is c.requires.own c.self.invariant.0 c.pass.inside.keys.items c.args.left.items _ g.J.SplitInto.left _ _
           c.pass.invariant.0 (ap (λ i. i.words) now.0) c.requires.left now.2,
       ap (λ (m : Me (Unit {0}) View). m.1) now.2 ∙ c.pass.invariant.1,
     )
@@ -15,7 +15,7 @@ invariant_of-left g c =
 pub invariant_of-right : goal.invariant_of-right
 invariant_of-right g c =
     let now = c.split_seat-other.ensures in (
-      part_fits _ _ _ _ c.self.view_is c.pass.view_is c.requires.own c.self.invariant.0 c.pass.inside.keys.items c.args.right.items _ g.J.Parting.right _ _
+      part_fits _ _ _ _ c.self.view_is c.pass.view_is c.requires.own c.self.invariant.0 c.pass.inside.keys.items c.args.right.items _ g.J.SplitInto.right _ _
           c.pass.invariant.0 (ap (λ i. i.words) now.3) c.requires.right now.4,
       ap (λ (m : Me (Unit {0}) View). m.1) now.4,
     )

@@ -9,8 +9,8 @@ use Rattle.ell_core.specs.acts.Searching.{IsClean, IsLeaf}
 use Rattle.ell_core.specs.tree.Tree.{Reached, IsTreeKey, IsTreePair, IsLawful}
 use Rattle.ell_core.specs.soundness.Sound.{IsSound}
 use Rattle.ell_cards.specs.declared.view.View.{View}
-use Rattle.ell_cards.specs.Rule.{TableState, Kept}
-use Rattle.ell_cards.specs.Laws.{machine_of}
+use Rattle.ell_cards.specs.Rule.{TableState, RuleHolds}
+use Rattle.ell_cards.specs.Laws.{machine_of_table}
 use Rattle.ell_core.specs.declared.view.Entry.{Entry}
 use Rattle.ell_core.specs.declared.view.Entry.TheVariants.{Present}
 
@@ -40,13 +40,13 @@ pub record ShowsMap (keys : List ℕ) (ledger : List (ℕ × Entry)) (t : Closed
 
 -- how a table ends, by a pass that knows this: its words are those of a last state of the rule, in which a seat has this view; its
 -- machine is sound, and each node of its tree has in the list what it has in the machine, with an update word that is clean
-pub record Ends (keys : List ℕ) (v : View) (t : ClosedModel) : Type 0 where
+pub record TableEnds (keys : List ℕ) (v : View) (t : ClosedModel) : Type 0 where
   pub state : TableState
   pub seat : ℕ
-  pub kept : Kept keys t.last_card state
+  pub kept : RuleHolds keys t.last_card state
   pub seen : get_elem? state.views seat ≡ some v
   pub same : state.words ≡ t.words
-  pub sound : IsSound (machine_of keys t.last_card state kept)
+  pub sound : IsSound (machine_of_table keys t.last_card state kept)
   pub nodes : (x : ℕ) → Reached kept.words x → SameNode (words_of t.words) kept.words x
   pub clean : (x : ℕ) → Reached kept.words x → IsInternal x → IsClean (kept.words.update x)
   pub shows : ShowsMap keys v.worker.ledger t
