@@ -7,7 +7,7 @@ ghost use Rattle.ell_test_steps.specs.Fitting.{IsReady, ended_search};
 ghost use Rattle.ell_test_steps.specs.Remembering.{KnowsAny, Learns, flag_tells};
 
 use crate::filling::{Place, fill_delete, fill_insert, take_card};
-use crate::memory::{Remembered, Passed, fact_of, remember};
+use crate::memory::{Passed, Remembered, fact_of, remember};
 use ell_cards::{CardTable, Pass};
 use ell_core::{Fact, Stepped};
 use ell_ops::Op;

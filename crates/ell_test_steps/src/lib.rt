@@ -10,5 +10,5 @@ mod memory;
 mod stepping;
 
 pub use asking::leaf_value;
-pub use memory::{FACTS, Remembered, Passed, nothing};
+pub use memory::{FACTS, Passed, Remembered, nothing};
 pub use stepping::step;

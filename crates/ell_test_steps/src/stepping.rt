@@ -7,7 +7,7 @@ ghost use Rattle.ell_test_steps.specs.Fitting.{Fits, IsReady, MayStopBy, idle_me
 
 use crate::claiming::{claim, dflag, iflag};
 use crate::exchanging::{backtrack, dchild, dunflag, ichild, iunflag, mark};
-use crate::memory::{Remembered, Passed, fact_of, nothing, remember, remembers};
+use crate::memory::{Passed, Remembered, fact_of, nothing, remember, remembers};
 use ell_cards::{CardTable, Pass};
 use ell_core::{Act, Fact, Stepped, leaf_answer};
 use ell_ops::{Op, Reply};
