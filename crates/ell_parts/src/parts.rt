@@ -1,7 +1,7 @@
 //! A list of operations, parted among workers.
 ghost use Rattle.std.specs.Prelude.{◌≡◌, ◌<◌, ◌↔◌, length, IfOk, IfErr, IsErrOf, IsTrue, All, []};
 ghost use Rattle.ell_ops.specs.KeySet.{Lists};
-ghost use Rattle.ell_parts.specs.Parting.{Parting, IsWorkerCount, IsLawful, IsRanged, part, striped, keys_in, AreParts, AreKeys};
+ghost use Rattle.ell_parts.specs.PartedOps.{PartedOps, IsWorkerCount, IsLawful, IsRanged, part, striped, keys_in, AreParts, AreKeys};
 ghost use Rattle.ell_parts.specs.Faults.{IsFault, IsCountFault};
 
 use crate::fault::PartFault;
@@ -23,9 +23,9 @@ pub struct Parts<A: Allocator> {
 
 impl<A: Allocator> Model for Parts<A> {
     ghost use Rattle.std.specs.Prelude.{length};
-    ghost use Rattle.ell_parts.specs.Parting.{Parting, AreListsOf};
+    ghost use Rattle.ell_parts.specs.PartedOps.{PartedOps, AreListsOf};
 
-    ghost Value = { Parting };
+    ghost Value = { PartedOps };
 
     ghost view = { λ p. record { ops = p.ops.items; owners = p.owners.items; workers = length p.parts.items } };
 
@@ -208,7 +208,7 @@ fn keys_of_parts<A: Allocator + Copy>(
     parts: &[Vec<(usize, Op), A>],
 ) -> Result<Vec<Vec<u64, A>, A>, AllocError>
     ensures count { IfOk result (λ keys. length keys.items ≡ length parts.now) }
-    ensures keys { IfOk result (λ keys. (parting : Parting) → AreParts (λ list. list.items) parting parts.now →
+    ensures keys { IfOk result (λ keys. (parting : PartedOps) → AreParts (λ list. list.items) parting parts.now →
         AreKeys (λ list. list.items) parting keys.items) }
 {
     let mut keys = Vec::with_capacity(alloc, parts.len())?;

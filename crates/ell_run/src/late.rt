@@ -6,7 +6,7 @@ ghost use Rattle.ell_ops.specs.declared.reply.Reply.{Reply};
 ghost use Rattle.std.specs.Map.{keys_of};
 ghost use Rattle.ell_ops.specs.Contents.{Contents, ListsPairs, contents_of};
 ghost use Rattle.ell_ops.specs.Meaning.{final};
-ghost use Rattle.ell_parts.specs.Parting.{IsLawful, part};
+ghost use Rattle.ell_parts.specs.PartedOps.{IsLawful, part};
 ghost use Rattle.ell_run.specs.ByParts.{ops_in};
 ghost use Rattle.ell_run.specs.Late.{AreMarks, late_ops};
 ghost use Rattle.ell_run.specs.Pieces.{ArePieces, all_workers, count_of, piece_from};

@@ -6,7 +6,7 @@ ghost use Rattle.std.specs.Map.{keys_of as keys_in};
 ghost use Rattle.ell_ops.specs.KeySet.{Lists};
 ghost use Rattle.ell_ops.specs.Contents.{Contents, ListsPairs, contents_of};
 ghost use Rattle.ell_ops.specs.Meaning.{Fits, final, greatest_key, replies};
-ghost use Rattle.ell_parts.specs.Parting.{IsLawful, keys_of};
+ghost use Rattle.ell_parts.specs.PartedOps.{IsLawful, keys_of};
 ghost use Rattle.ell_word.specs.Node.{most_start};
 ghost use Rattle.ell_run.specs.Late.{AreLeft, IsLate, IsOutcome, late_ops};
 ghost use Rattle.ell_run.specs.Limits.{AreLimits};

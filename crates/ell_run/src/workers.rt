@@ -3,7 +3,7 @@ ghost use Rattle.std.specs.Prelude.{◌≡◌, ◌<◌, ◌≤◌, ◌++◌, ℕ
 ghost use denote.Param.Send.{Frees, IsSend, IsSync};
 ghost use Rattle.ell_ops.specs.KeySet.{Lists};
 ghost use Rattle.ell_ops.specs.Meaning.{key_of};
-ghost use Rattle.ell_parts.specs.Parting.{IsLawful, Parting, keys_of};
+ghost use Rattle.ell_parts.specs.PartedOps.{IsLawful, PartedOps, keys_of};
 ghost use Rattle.ell_tree.specs.Ledgers.{IsIdle, Owns, PassModel};
 ghost use Rattle.ell_run.specs.Pieces.{all_workers, busy};
 ghost use Rattle.ell_run.specs.Work.{AreHalves, AreReady, IsWorked, keys_for};
@@ -200,7 +200,7 @@ fn both<A: Allocator + Copy>(
     requires right { second.0.table ≡ tree.now.id }
     requires left_idle { IsIdle first.0 }
     requires right_idle { IsIdle second.0 }
-    ensures { (cards tries : ℕ) (parting : Parting) (low high : List ℕ) (pass left right : PassModel) →
+    ensures { (cards tries : ℕ) (parting : PartedOps) (low high : List ℕ) (pass left right : PassModel) →
         AreReady tree.now parting (low ++ high) pass → AreHalves parting low pass left right →
         IsWorked cards tries parting low left first.0 (map (λ piece. piece.items) first.1.items) →
         IsWorked cards tries parting high right second.0 (map (λ piece. piece.items) second.1.items) →

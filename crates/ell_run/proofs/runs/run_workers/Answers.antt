@@ -3,7 +3,7 @@ use Rattle.std.specs.Map.{keys_of as keys_in}
 use Rattle.ell_ops.specs.KeySet.{Lists, set_of, union}
 use Rattle.ell_ops.specs.Contents.{contents_of}
 use Rattle.ell_ops.specs.Meaning.{greatest_key}
-use Rattle.ell_parts.specs.Parting.{keys_of}
+use Rattle.ell_parts.specs.PartedOps.{keys_of}
 use Rattle.ell_tree.specs.Ledgers.{Owns}
 use Rattle.ell_run.proofs.Closed.{left_behind}
 use Rattle.ell_run.proofs.Opened.{all_united, first_given, keys_fit, owns_all, owns_used}
