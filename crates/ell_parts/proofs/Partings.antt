@@ -125,12 +125,11 @@ ranged_is_lawful ops keys workers count listed =
     share-lt (length keys) (rank keys (key_of op)) workers count.some (rank-lt-length keys (key_of op) (ap (λ o. set_of keys (key_of o)) (sym here) ∙ among)))
 
 -- the lists that were made are those of a lawful parting
-pub lists_made : {P K : Type 0} (items : P → List (ℕ × Op)) (numbers : K → List ℕ) (ops copied : List Op) (owners : List ℕ) (workers : ℕ) (parts : List P) (keys : List K) →
-    copied ≡ ops → length parts ≡ workers → IsLawful (record { ops = ops; owners = owners; workers = workers }) →
+pub lists_made : {P K : Type 0} (items : P → List (ℕ × Op)) (numbers : K → List ℕ) (ops : List Op) (owners : List ℕ) (workers : ℕ) (parts : List P) (keys : List K) →
+    length parts ≡ workers → IsLawful (record { ops = ops; owners = owners; workers = workers }) →
     AreParts items (record { ops = ops; owners = owners; workers = workers }) parts → length keys ≡ length parts →
     AreKeys numbers (record { ops = ops; owners = owners; workers = workers }) keys →
-    AreListsOf items numbers (record { ops = copied; owners = owners; workers = length parts }) parts keys
-lists_made items numbers ops copied owners workers parts keys same count lawful are_parts each are_keys =
-    subst (λ o. AreListsOf items numbers (record { ops = o; owners = owners; workers = length parts }) parts keys) (sym same)
-    (subst (λ w. AreListsOf items numbers (record { ops = ops; owners = owners; workers = w }) parts keys) (sym count)
-    (record { lawful = lawful; are_parts = are_parts; each = each; are_keys = are_keys }))
+    AreListsOf items numbers (record { ops = ops; owners = owners; workers = length parts }) parts keys
+lists_made items numbers ops owners workers parts keys count lawful are_parts each are_keys =
+    subst (λ w. AreListsOf items numbers (record { ops = ops; owners = owners; workers = w }) parts keys) (sym count)
+    (record { lawful = lawful; are_parts = are_parts; each = each; are_keys = are_keys })

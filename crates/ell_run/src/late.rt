@@ -20,7 +20,7 @@ use std::alloc::Allocator;
 pub(crate) fn late_ops<A: Allocator + Copy>(
     alloc: A,
     ops: &[Op],
-    parts: &Parts<A>,
+    parts: &Parts<'_, A>,
     pieces: &[Piece<A>],
 ) -> Result<Vec<(usize, Op), A>, NoMemory>
     requires parted { parts.now.ops ≡ ops.now }
@@ -41,7 +41,7 @@ pub(crate) fn late_ops<A: Allocator + Copy>(
 }
 
 // Whether each piece is as long as the part that it is of.
-fn is_all_done<A: Allocator + Copy>(parts: &Parts<A>, pieces: &[Piece<A>]) -> bool
+fn is_all_done<A: Allocator + Copy>(parts: &Parts<'_, A>, pieces: &[Piece<A>]) -> bool
     requires { length pieces.now ≡ parts.now.workers }
     ensures lawful { IsLawful parts.now }
     ensures done { IsTrue result → (worker : ℕ) → worker < parts.now.workers →

@@ -51,7 +51,7 @@ pub fn run<R: Threads + Sync, A: Allocator + Copy + Send + Sync, G: StepGate + S
     alloc: A,
     start: &[(u64, u64)],
     ops: &[Op],
-    parts: &Parts<A>,
+    parts: &Parts<'_, A>,
     limits: Limits,
     gate: &G,
 ) -> Result<Outcome<A>, NoMemory>
@@ -75,7 +75,7 @@ fn run_workers<R: Threads + Sync, A: Allocator + Copy + Send + Sync, G: StepGate
     rt: &R,
     alloc: A,
     start: &[(u64, u64)],
-    parts: &Parts<A>,
+    parts: &Parts<'_, A>,
     limits: Limits,
     gate: &G,
 ) -> Result<(Vec<Piece<A>, A>, Vec<(u64, u64), A>), NoMemory>
@@ -108,7 +108,7 @@ fn start_keys<A: Allocator + Copy>(alloc: A, start: &[(u64, u64)]) -> Result<Vec
 }
 
 // The distinct keys of all parts, ascending.
-fn all_keys<A: Allocator + Copy>(alloc: A, parts: &Parts<A>) -> Result<Vec<u64, A>, NoMemory>
+fn all_keys<A: Allocator + Copy>(alloc: A, parts: &Parts<'_, A>) -> Result<Vec<u64, A>, NoMemory>
     ensures lawful { IsLawful parts.now }
     ensures keys { IfOk result (λ keys. Lists (keys_of parts.now.ops) keys.items) }
 {
@@ -130,7 +130,7 @@ fn no_cards(fault: CardFault) -> NoMemory
 fn finish<A: Allocator + Copy>(
     alloc: A,
     ops: &[Op],
-    parts: &Parts<A>,
+    parts: &Parts<'_, A>,
     mut pieces: Vec<Piece<A>, A>,
     pairs: Vec<(u64, u64), A>,
 ) -> Result<Outcome<A>, NoMemory>

@@ -25,7 +25,7 @@ pub fn work<R: Threads + Sync, A: Allocator + Copy + Send + Sync, G: StepGate + 
     alloc: A,
     tree: &Tree<A>,
     pass: Pass<A>,
-    parts: &Parts<A>,
+    parts: &Parts<'_, A>,
     tries: u32,
     gate: &G,
 ) -> Result<(Pass<A>, Vec<Piece<A>, A>), NoMemory>
@@ -48,7 +48,7 @@ pub(crate) fn work_apart<R: Threads + Sync, A: Allocator + Copy + Send + Sync, G
     tree: &Tree<A>,
     pass: Pass<A>,
     keys: &[u64],
-    parts: &Parts<A>,
+    parts: &Parts<'_, A>,
     tries: u32,
     gate: &G,
 ) -> Result<(Pass<A>, Vec<Piece<A>, A>), NoMemory>
@@ -75,7 +75,7 @@ pub(crate) fn work_apart<R: Threads + Sync, A: Allocator + Copy + Send + Sync, G
 // The workers whose parts are not empty, ascending.
 pub(crate) fn busy_workers<A: Allocator + Copy>(
     alloc: A,
-    parts: &Parts<A>,
+    parts: &Parts<'_, A>,
 ) -> Result<Vec<u32, A>, NoMemory>
     ensures lawful { IsLawful parts.now }
     ensures busy { IfOk result (λ workers. workers.items ≡ busy parts.now) }
@@ -96,7 +96,7 @@ fn do_workers<R: Threads + Sync, A: Allocator + Copy + Send + Sync, G: StepGate 
     alloc: A,
     tree: &Tree<A>,
     pass: Pass<A>,
-    parts: &Parts<A>,
+    parts: &Parts<'_, A>,
     workers: &[u32],
     tries: u32,
     gate: &G,
@@ -127,7 +127,7 @@ fn do_one<A: Allocator + Copy, G: StepGate>(
     alloc: A,
     tree: &Tree<A>,
     mut pass: Pass<A>,
-    parts: &Parts<A>,
+    parts: &Parts<'_, A>,
     workers: &[u32],
     tries: u32,
     gate: &G,
@@ -152,7 +152,7 @@ fn halves<A: Allocator + Copy>(
     alloc: A,
     tree: &Tree<A>,
     pass: Pass<A>,
-    parts: &Parts<A>,
+    parts: &Parts<'_, A>,
     low: &[u32],
     high: &[u32],
 ) -> Result<(Pass<A>, Pass<A>), NoMemory>
@@ -172,7 +172,7 @@ fn halves<A: Allocator + Copy>(
 // The keys of the parts of workers, ascending.
 pub(crate) fn keys_for<A: Allocator + Copy>(
     alloc: A,
-    parts: &Parts<A>,
+    parts: &Parts<'_, A>,
     workers: &[u32],
 ) -> Result<Vec<u64, A>, NoMemory>
     requires { All (λ worker. worker < parts.now.workers) workers.now }

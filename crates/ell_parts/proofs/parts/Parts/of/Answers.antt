@@ -10,5 +10,5 @@ invariant_of-result g c =
     c.deref.ensures.value c.in_ok-parts.ensures.parts in
     let are_keys = c.in_ok-keys.ensures.keys parting
     (subst (λ parts. AreParts (λ part. part.items) parting parts) (sym c.deref-2.ensures.value) are_parts) in
-    lists_made (λ part. part.items) (λ keys. keys.items) c.args.ops.now c.in_ok-ops.ops.items c.args.owners.items c.args.workers c.in_ok-parts.parts.items c.in_ok-keys.keys.items
-    c.in_ok-ops.ensures.items c.in_ok-parts.ensures.count c.requires are_parts (c.in_ok-keys.ensures.count ∙ ap length c.deref-2.ensures.value) are_keys
+    lists_made (λ part. part.items) (λ keys. keys.items) c.args.ops.now c.args.owners.items c.args.workers c.in_ok-parts.parts.items c.in_ok-keys.keys.items
+    c.in_ok-parts.ensures.count c.requires are_parts (c.in_ok-keys.ensures.count ∙ ap length c.deref-2.ensures.value) are_keys
