@@ -125,3 +125,8 @@ busy_keys parting lawful = λ i key. alike (keys_for parting (busy parting) key)
         let stands = filter_at (is_busy parting) (all_workers parting) has.worker has.worker (stands_there parting has.worker has.known)
         (lt-ltb 0 (length (part parting has.worker)) has.some) in
         any_there (λ w. keys_in (part parting w) key) (busy parting) (length (filter (is_busy parting) (take has.worker (all_workers parting)))) has.worker stands.0 has.among
+
+-- a list of the keys of the busy ones has those of the list
+pub busy_listed : (parting : PartedOps) (workers keys : List ℕ) → IsLawful parting → workers ≡ busy parting →
+    Lists (keys_for parting workers) keys → Lists (keys_of parting.ops) keys
+busy_listed parting workers keys lawful all = subst (λ set. Lists set keys) (ap (keys_for parting) all ∙ busy_keys parting lawful)
