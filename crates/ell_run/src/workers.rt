@@ -134,7 +134,7 @@ fn do_workers<R: Threads + Sync, A: Allocator + Copy + Send + Sync, G: StepGate 
         return do_one(alloc, tree, pass, parts, workers, tries, gate);
     }
     let (low, high) = workers.split_at(workers.len() / 2);
-    let (left, right) = halves(alloc, tree, pass, parts, low, high)?;
+    let (left, right) = halves(alloc, tree, pass, parts, low)?;
     let front = move || -> Result<(Pass<A>, Vec<Piece<A>, A>), NoMemory>
         requires { IsSync R.row × IsSync G.row × IsSend A.row × IsSync A.row × Frees A.Allocator A.dealloc_token × AreReady tree.now parts.now low.now left × (1 ≤ tries) }
         ensures { IfOk result (λ done. IsWorked tree.entry.now.last_card tries parts.entry.now low.entry.now left done.0 (map (λ piece. piece.items) done.1.items)) }
@@ -172,21 +172,20 @@ fn do_one<A: Allocator + Copy, G: StepGate>(
     Ok((pass, pieces))
 }
 
-// Splits a pass between two rows of workers: the left part gets the keys of the first row.
+// Splits a pass between two rows of workers: the left part gets the keys of the first row, `low`, and the right part the rest.
 fn halves<A: Allocator + Copy>(
     alloc: A,
     tree: &Tree<A>,
     pass: Pass<A>,
     parts: &Parts<'_, A>,
     low: &[u32],
-    high: &[u32],
 ) -> Result<(Pass<A>, Pass<A>), NoMemory>
-    requires { AreReady tree.now parts.now (low.now ++ high.now) pass }
+    requires { (high : List ℕ) × AreReady tree.now parts.now (low.now ++ high) pass }
     ensures halves { IfOk result (λ parted. AreHalves parts.now low.now pass parted.0 parted.1) }
     ensures left { IfOk result (λ parted. AreReady tree.now parts.now low.now parted.0) }
-    ensures right { IfOk result (λ parted. AreReady tree.now parts.now high.now parted.1) }
+    ensures right { (high : List ℕ) → AreReady tree.now parts.now (low.now ++ high) pass →
+        IfOk result (λ parted. AreReady tree.now parts.now high parted.1) }
 {
-    let _ = high;
     let keys = keys_for(alloc, parts, low)?;
     match tree.split(pass, &keys) {
         Ok(parted) => Ok(parted),
