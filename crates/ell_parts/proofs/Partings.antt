@@ -10,7 +10,7 @@ use Rattle.std.specs.List.{enumerate_from, filter}
 use Rattle.ell_ops.specs.declared.op.Op.{Op}
 use Rattle.ell_ops.specs.KeySet.{set_of, Lists}
 use Rattle.ell_ops.specs.Meaning.{key_of}
-use Rattle.ell_parts.specs.Parting.{Parting, IsWorkerCount, IsLawful, part, keys_of, keys_in, striped, rank, ranged, AreParts, AreKeys, AreListsOf}
+use Rattle.ell_parts.specs.PartedOps.{PartedOps, IsWorkerCount, IsLawful, part, keys_of, keys_in, striped, rank, ranged, AreParts, AreKeys, AreListsOf}
 use Rattle.ell_parts.proofs.Ranks.{key_is_listed, rank-lt-length, share-lt}
 use Rattle.ell_ops.proofs.Places.{slice_get-push_cases, slice_get-set_same, slice_get-set_other}
 use Rattle.ell_parts.specs.Faults.{IsCounted, AreKnown, AreTogether}
@@ -60,7 +60,7 @@ AreParts-push items ops owners workers i d parts old new below known place pushe
 -- the keys of one more part
 pub AreKeys-push : {P K : Type 0} (ops : P → List (ℕ × Op)) (items : K → List ℕ) (parts : List P) (keys : List K) (from : P) (list : K) (i : ℕ) →
     length keys ≡ i → i < length parts → from ≡ get_or parts i from → Lists (keys_in (ops from)) (items list) →
-    ((parting : Parting) → AreParts ops parting parts → AreKeys items parting keys) → (parting : Parting) → AreParts ops parting parts → AreKeys items parting (keys ++ list ∷ [])
+    ((parting : PartedOps) → AreParts ops parting parts → AreKeys items parting keys) → (parting : PartedOps) → AreParts ops parting parts → AreKeys items parting (keys ++ list ∷ [])
 AreKeys-push ops items parts keys from list i count below place listed so_far parting are worker found e =
     ⊎_elim
     (λ h. so_far parting are worker found h)
@@ -71,7 +71,7 @@ AreKeys-push ops items parts keys from list i count below place listed so_far pa
     (slice_get-push_cases keys list worker found e)
 
 -- the keys of a worker's part
-pub keys_at : {K : Type 0} (items : K → List ℕ) (parting : Parting) (keys : List K) (worker : ℕ) (list : K) →
+pub keys_at : {K : Type 0} (items : K → List ℕ) (parting : PartedOps) (keys : List K) (worker : ℕ) (list : K) →
     worker < length keys → list ≡ get_or keys worker list → AreKeys items parting keys → Lists (keys_in (part parting worker)) (items list)
 keys_at items parting keys worker list below place are = are worker list (slice_get_read keys (length keys) worker list refl below place)
 
@@ -125,12 +125,11 @@ ranged_is_lawful ops keys workers count listed =
     share-lt (length keys) (rank keys (key_of op)) workers count.some (rank-lt-length keys (key_of op) (ap (λ o. set_of keys (key_of o)) (sym here) ∙ among)))
 
 -- the lists that were made are those of a lawful parting
-pub lists_made : {P K : Type 0} (items : P → List (ℕ × Op)) (numbers : K → List ℕ) (ops copied : List Op) (owners : List ℕ) (workers : ℕ) (parts : List P) (keys : List K) →
-    copied ≡ ops → length parts ≡ workers → IsLawful (record { ops = ops; owners = owners; workers = workers }) →
+pub lists_made : {P K : Type 0} (items : P → List (ℕ × Op)) (numbers : K → List ℕ) (ops : List Op) (owners : List ℕ) (workers : ℕ) (parts : List P) (keys : List K) →
+    length parts ≡ workers → IsLawful (record { ops = ops; owners = owners; workers = workers }) →
     AreParts items (record { ops = ops; owners = owners; workers = workers }) parts → length keys ≡ length parts →
     AreKeys numbers (record { ops = ops; owners = owners; workers = workers }) keys →
-    AreListsOf items numbers (record { ops = copied; owners = owners; workers = length parts }) parts keys
-lists_made items numbers ops copied owners workers parts keys same count lawful are_parts each are_keys =
-    subst (λ o. AreListsOf items numbers (record { ops = o; owners = owners; workers = length parts }) parts keys) (sym same)
-    (subst (λ w. AreListsOf items numbers (record { ops = ops; owners = owners; workers = w }) parts keys) (sym count)
-    (record { lawful = lawful; are_parts = are_parts; each = each; are_keys = are_keys }))
+    AreListsOf items numbers (record { ops = ops; owners = owners; workers = length parts }) parts keys
+lists_made items numbers ops owners workers parts keys count lawful are_parts each are_keys =
+    subst (λ w. AreListsOf items numbers (record { ops = ops; owners = owners; workers = w }) parts keys) (sym count)
+    (record { lawful = lawful; are_parts = are_parts; each = each; are_keys = are_keys })

@@ -12,7 +12,7 @@ use Rattle.ell_ops.specs.Meaning.{key_of}
 use Rattle.std.specs.Int.{div_ceil}
 use Rattle.std.specs.List.{AllWithin}
 use Rattle.ell_ops.specs.KeySet.{set_of, Lists}
-use Rattle.ell_parts.specs.Parting.{keys_of, rank, ranged}
+use Rattle.ell_parts.specs.PartedOps.{keys_of, rank, ranged}
 
 -- one more key counts if it is below
 abbrev one_if : Bool → ℕ

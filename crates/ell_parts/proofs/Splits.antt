@@ -97,12 +97,12 @@ pub together_more : (ops : List Op) (owners : List ℕ) (at key first : ℕ) →
     get_or owners first 0 ≡ get_or owners at 0 → AreTogether ops owners (at + 1)
 together_more ops owners at key first together is_first has same j k below end of_one =
     ⊎_elim
-    (λ last. let with_key : HasKey ops j key = has_key_from_same ops j k key of_one (subst (λ i. HasKey ops i key) (sym last) has) in
+    (λ last. let earlier_has_key : HasKey ops j key = has_key_from_same ops j k key of_one (subst (λ i. HasKey ops i key) (sym last) has) in
     ⊎_elim
-    (λ early. absurd (is_first.earliest j early with_key))
+    (λ early. absurd (is_first.earliest j early earlier_has_key))
     (λ late. ⊎_elim
     (λ e. ap (λ i. get_or owners i 0) e ∙ same ∙ ap (λ i. get_or owners i 0) (sym last))
-    (λ ne. sym (together first j (omega arith) (omega arith) (same_key ops first j key is_first.has with_key)) ∙ same ∙ ap (λ i. get_or owners i 0) (sym last))
+    (λ ne. sym (together first j (omega arith) (omega arith) (same_key ops first j key is_first.has earlier_has_key)) ∙ same ∙ ap (λ i. get_or owners i 0) (sym last))
     (cases_eq j first))
     (cases_lt j first))
     (λ inner. together j k below (omega arith) of_one)

@@ -1,7 +1,7 @@
 use Rattle.std.specs.Prelude.{◌≡◌, ◌≢◌, ℕ, ◌<◌, ◌≤◌, List, Some, length, slice_get, slice_index}
 use Rattle.ell_ops.specs.declared.op.Op.{Op}
 use Rattle.ell_ops.specs.Meaning.{key_of}
-use Rattle.ell_parts.specs.Parting.{IsWorkerCount}
+use Rattle.ell_parts.specs.PartedOps.{IsWorkerCount}
 use Rattle.ell_parts.specs.declared.fault.PartFault.{PartFault}
 use Rattle.ell_parts.specs.declared.fault.PartFault.TheVariants.{BadWorkers, OwnerCount, StrangerOwner, KeySplit, NoMemory}
 

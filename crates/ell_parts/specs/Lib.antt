@@ -1,5 +1,5 @@
 -- A list of operations parted among workers.
-pub mod Parting
+pub mod PartedOps
 -- When a list of workers is no parting of a list of operations.
 pub mod Faults
 -- Replies with the positions that they are for, put back into the order of the positions.

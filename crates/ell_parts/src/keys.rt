@@ -1,7 +1,7 @@
 //! The distinct keys of operations, ascending.
 ghost use Rattle.std.specs.Prelude.{IfOk};
 ghost use Rattle.ell_ops.specs.KeySet.{Lists};
-ghost use Rattle.ell_parts.specs.Parting.{keys_of, keys_in};
+ghost use Rattle.ell_parts.specs.PartedOps.{keys_of, keys_in};
 
 use ell_ops::{Op, distinct_keys};
 use std::alloc::{AllocError, Allocator};

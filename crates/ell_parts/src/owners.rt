@@ -3,7 +3,7 @@ ghost use Rattle.std.specs.Prelude.{◌≡◌, ◌<◌, ◌↔◌, IsTrue, lengt
 ghost use Rattle.std.specs.Int.{div_ceil};
 ghost use Rattle.ell_ops.specs.KeySet.{Lists};
 ghost use Rattle.ell_ops.specs.Meaning.{most_workers};
-ghost use Rattle.ell_parts.specs.Parting.{IsWorkerCount, keys_of, striped, ranged};
+ghost use Rattle.ell_parts.specs.PartedOps.{IsWorkerCount, keys_of, striped, ranged};
 ghost use Rattle.ell_parts.specs.Ranges.{AreStarts};
 ghost use Rattle.ell_parts.specs.Faults.{AreTogether, IsSplit};
 

@@ -1,7 +1,7 @@
 //! A list of operations, parted among workers.
 ghost use Rattle.std.specs.Prelude.{◌≡◌, ◌<◌, ◌↔◌, length, IfOk, IfErr, IsErrOf, IsTrue, All, []};
 ghost use Rattle.ell_ops.specs.KeySet.{Lists};
-ghost use Rattle.ell_parts.specs.Parting.{Parting, IsWorkerCount, IsLawful, IsRanged, part, striped, keys_in, AreParts, AreKeys};
+ghost use Rattle.ell_parts.specs.PartedOps.{PartedOps, IsWorkerCount, IsLawful, IsRanged, part, striped, keys_in, AreParts, AreKeys};
 ghost use Rattle.ell_parts.specs.Faults.{IsFault, IsCountFault};
 
 use crate::fault::PartFault;
@@ -11,29 +11,29 @@ use ell_ops::Op;
 use std::alloc::{AllocError, Allocator};
 use std::marker::Model;
 
-/// A list of operations and the worker of each position: equal keys have one worker. Each worker's operations stand
-/// together, with their positions in the list, and so do its keys.
+/// A list of operations, which is borrowed, and the worker of each position: equal keys have one worker. Each worker's
+/// operations stand together, with their positions in the list, and so do its keys.
 #[derive(Drop)]
-pub struct Parts<A: Allocator> {
-    ops: Vec<Op, A>,
+pub struct Parts<'a, A: Allocator> {
+    ops: &'a [Op],
     owners: Vec<u32, A>,
     parts: Vec<Vec<(usize, Op), A>, A>,
     keys: Vec<Vec<u64, A>, A>,
 }
 
-impl<A: Allocator> Model for Parts<A> {
+impl<'a, A: Allocator> Model for Parts<'a, A> {
     ghost use Rattle.std.specs.Prelude.{length};
-    ghost use Rattle.ell_parts.specs.Parting.{Parting, AreListsOf};
+    ghost use Rattle.ell_parts.specs.PartedOps.{PartedOps, AreListsOf};
 
-    ghost Value = { Parting };
+    ghost Value = { PartedOps };
 
-    ghost view = { λ p. record { ops = p.ops.items; owners = p.owners.items; workers = length p.parts.items } };
+    ghost view = { λ p. record { ops = p.ops.now; owners = p.owners.items; workers = length p.parts.items } };
 
     ghost invariant = { λ p. AreListsOf (λ part. part.items) (λ keys. keys.items)
-        (record { ops = p.ops.items; owners = p.owners.items; workers = length p.parts.items }) p.parts.items p.keys.items };
+        (record { ops = p.ops.now; owners = p.owners.items; workers = length p.parts.items }) p.parts.items p.keys.items };
 }
 
-impl<A: Allocator> Parts<A> {
+impl<A: Allocator> Parts<'_, A> {
     /// How many workers there are.
     pub fn workers(&self) -> u32
         ensures value { result ≡ self.now.workers }
@@ -74,14 +74,14 @@ impl<A: Allocator> Parts<A> {
     }
 }
 
-impl<A: Allocator + Copy> Parts<A> {
+impl<'a, A: Allocator + Copy> Parts<'a, A> {
     /// Gives each position the worker that `owners` has there. The fault is the first of [`PartFault`] that is met.
     pub fn by_owner(
         alloc: A,
-        ops: &[Op],
+        ops: &'a [Op],
         owners: &[u32],
         workers: u32,
-    ) -> Result<Parts<A>, PartFault>
+    ) -> Result<Parts<'a, A>, PartFault>
         ensures ok { IfOk result (λ parts.
             (parts ≡ record { ops = ops.now; owners = owners.now; workers = workers }) × IsLawful parts) }
         ensures fault { IfErr result (IsFault ops.now owners.now workers) }
@@ -102,7 +102,7 @@ impl<A: Allocator + Copy> Parts<A> {
 
     /// Gives each key to the worker whose number is the key's remainder by the number of workers. The faults are
     /// `BadWorkers` and want of memory.
-    pub fn striped(alloc: A, ops: &[Op], workers: u32) -> Result<Parts<A>, PartFault>
+    pub fn striped(alloc: A, ops: &'a [Op], workers: u32) -> Result<Parts<'a, A>, PartFault>
         ensures ok { IfOk result (λ parts.
             (parts ≡ record { ops = ops.now; owners = striped ops.now workers; workers = workers }) × IsLawful parts) }
         ensures bad_workers { IsErrOf result PartFault.BadWorkers ↔ (¬ IsWorkerCount workers) }
@@ -118,7 +118,7 @@ impl<A: Allocator + Copy> Parts<A> {
     /// Gives the workers the distinct keys in ascending order, each the next run of them: of n keys a run has
     /// n / workers, rounded up, so the last runs may be short or empty. The faults are `BadWorkers` and want of
     /// memory.
-    pub fn ranged(alloc: A, ops: &[Op], workers: u32) -> Result<Parts<A>, PartFault>
+    pub fn ranged(alloc: A, ops: &'a [Op], workers: u32) -> Result<Parts<'a, A>, PartFault>
         ensures ok { IfOk result (λ parts. (parts.ops ≡ ops.now) × (parts.workers ≡ workers) × IsLawful parts) }
         ensures ranged { IfOk result IsRanged }
         ensures bad_workers { IsErrOf result PartFault.BadWorkers ↔ (¬ IsWorkerCount workers) }
@@ -133,13 +133,17 @@ impl<A: Allocator + Copy> Parts<A> {
     }
 
     // The parts of a list whose owners are lawful.
-    fn of(alloc: A, ops: &[Op], owners: Vec<u32, A>, workers: u32) -> Result<Parts<A>, AllocError>
+    fn of(
+        alloc: A,
+        ops: &'a [Op],
+        owners: Vec<u32, A>,
+        workers: u32,
+    ) -> Result<Parts<'a, A>, AllocError>
         requires { IsLawful (record { ops = ops.now; owners = owners.items; workers = workers }) }
         ensures { IfOk result (λ parts. parts ≡ record { ops = ops.now; owners = owners.items; workers = workers }) }
     {
         let parts = parts_of(alloc, ops, &owners, workers)?;
         let keys = keys_of_parts(alloc, &parts)?;
-        let ops = Vec::from_slice(alloc, ops)?;
         Ok(Parts {
             ops,
             owners,
@@ -208,7 +212,7 @@ fn keys_of_parts<A: Allocator + Copy>(
     parts: &[Vec<(usize, Op), A>],
 ) -> Result<Vec<Vec<u64, A>, A>, AllocError>
     ensures count { IfOk result (λ keys. length keys.items ≡ length parts.now) }
-    ensures keys { IfOk result (λ keys. (parting : Parting) → AreParts (λ list. list.items) parting parts.now →
+    ensures keys { IfOk result (λ keys. (parting : PartedOps) → AreParts (λ list. list.items) parting parts.now →
         AreKeys (λ list. list.items) parting keys.items) }
 {
     let mut keys = Vec::with_capacity(alloc, parts.len())?;

@@ -7,8 +7,8 @@ use Rattle.std.proofs.lemmas.Bool.{cases_Bool, cases_eq, eqb-true, eq-eqb, ne_eq
 use Rattle.ell_ops.specs.declared.Op.{Op}
 use Rattle.ell_ops.specs.Contents.{Contents}
 use Rattle.ell_ops.specs.Meaning.{key_of, after, replies, final}
-use Rattle.ell_parts.specs.Parting.{Parting, IsLawful, part}
-use Rattle.ell_run.specs.ByParts.{ops_in, Owns, done, IsRest, AreDone, ReplyAlike, PartsServe}
+use Rattle.ell_parts.specs.PartedOps.{PartedOps, IsLawful, part}
+use Rattle.ell_run.specs.ByParts.{ops_in, WorkerHasKey, done, IsRest, AreDone, ReplyAlike, PartsServe}
 use Rattle.ell_ops.proofs.Places.{slice_get-drop, slice_get_from_take, slice_get_within_take}
 use Rattle.ell_ops.proofs.Presence.{reply_at}
 use Rattle.ell_run.proofs.OnKey.{on_key, final_alike, final-append, reply_alike}
@@ -95,11 +95,11 @@ stands_at owner s (o ∷ ops) worker j i op e =
     (cases_Bool (eqb (owner s) worker))
 
 -- the owner of a position
-abbrev pub owner_in : Parting → ℕ → ℕ
+abbrev pub owner_in : PartedOps → ℕ → ℕ
 owner_in parting position = slice_index parting.owners position
 
 -- an item of a part stands at its position in the list, which is its worker's
-pub part_item : (parting : Parting) (worker k position : ℕ) (op : Op) → slice_get (part parting worker) k ≡ Some (position, op) →
+pub part_item : (parting : PartedOps) (worker k position : ℕ) (op : Op) → slice_get (part parting worker) k ≡ Some (position, op) →
     (owner_in parting position ≡ worker) × (slice_get parting.ops position ≡ Some op)
 part_item parting worker k position op e =
     let h = stands_at (owner_in parting) 0 parting.ops worker k position op e in
@@ -169,23 +169,23 @@ find_key (o ∷ ops) key =
       elsewhere off none (suc d) op e on = none d op e on
 
 -- the worker of one operation on a key is that of all
-pub owns_key : (parting : Parting) → IsLawful parting → (worker d : ℕ) (op : Op) → slice_get parting.ops d ≡ Some op → slice_index parting.owners d ≡ worker →
-    Owns parting worker (key_of op)
+pub owns_key : (parting : PartedOps) → IsLawful parting → (worker d : ℕ) (op : Op) → slice_get parting.ops d ≡ Some op → slice_index parting.owners d ≡ worker →
+    WorkerHasKey parting worker (key_of op)
 owns_key parting lawful worker d op e own i other there same = lawful.together i d other op there e same ∙ own
 
 -- a key that no operation is on is anybody's
-some_owner : (parting : Parting) → IsLawful parting → (key : ℕ) → (worker : ℕ) × Owns parting worker key
+some_owner : (parting : PartedOps) → IsLawful parting → (key : ℕ) → (worker : ℕ) × WorkerHasKey parting worker key
 some_owner parting lawful key =
     ⊎_elim
     (λ found. (
       slice_index parting.owners found.0,
-      subst (Owns parting (slice_index parting.owners found.0)) found.3 (owns_key parting lawful (slice_index parting.owners found.0) found.0 found.1 found.2 refl),
+      subst (WorkerHasKey parting (slice_index parting.owners found.0)) found.3 (owns_key parting lawful (slice_index parting.owners found.0) found.0 found.1 found.2 refl),
     ))
     (λ none. (0, λ d op e on. absurd (none d op e on)))
     (find_key parting.ops key)
 
 -- what stands before an operation, in its part and in the list, leaves its key alike
-before_alike : (set : Contents) (parting : Parting) (worker d : ℕ) (op : Op) → Owns parting worker (key_of op) →
+before_alike : (set : Contents) (parting : PartedOps) (worker d : ℕ) (op : Op) → WorkerHasKey parting worker (key_of op) →
     final set (ops_in (part_from (λ i. slice_index parting.owners i) 0 (take d parting.ops) worker)) (key_of op) ≡ final set (take d parting.ops) (key_of op)
 before_alike set parting worker d op owns =
     final_alike (ops_in (part_from (λ i. slice_index parting.owners i) 0 (take d parting.ops) worker)) (take d parting.ops) set set (key_of op) refl
@@ -193,7 +193,7 @@ before_alike set parting worker d op owns =
     (λ k other e on. subst (λ n. slice_index parting.owners n ≡ worker) (omega arith) (owns k other (slice_get_from_take d parting.ops k other e) on)))
 
 -- the same for the whole list
-pub whole_alike : (set : Contents) (parting : Parting) (worker key : ℕ) → Owns parting worker key →
+pub whole_alike : (set : Contents) (parting : PartedOps) (worker key : ℕ) → WorkerHasKey parting worker key →
     final set (ops_in (part parting worker)) key ≡ final set parting.ops key
 whole_alike set parting worker key owns =
     final_alike (ops_in (part parting worker)) parting.ops set set key refl
@@ -207,7 +207,7 @@ same_reply s t xs ys j d op x y same =
     reply_at s xs j op x ∙ ap Some (reply_alike op (final s (take j xs)) (final t (take d ys)) same) ∙ sym (reply_at t ys d op y)
 
 -- a reply in a part is that in the list
-pub part_reply : (set : Contents) (parting : Parting) → IsLawful parting → (worker n : ℕ) → ReplyAlike set (take n (part parting worker)) set parting.ops
+pub part_reply : (set : Contents) (parting : PartedOps) → IsLawful parting → (worker n : ℕ) → ReplyAlike set (take n (part parting worker)) set parting.ops
 part_reply set parting lawful worker n j i op e =
     let front : take j (take n (part parting worker)) ≡ take j (part parting worker) =
     take-take j n (part parting worker) (omega (arith, slice_get_within_take n (part parting worker) j (i, op) e)) in
@@ -221,7 +221,7 @@ part_reply set parting lawful worker n j i op e =
     ∙ ap (slice_get (replies set parting.ops)) here
 
 -- an operation of the rest, in its worker's part
-record IsLeft (parting : Parting) (counts : ℕ → ℕ) (rest : List (ℕ × Op)) (j i : ℕ) (op : Op) : Type 0 where
+record IsLeft (parting : PartedOps) (counts : ℕ → ℕ) (rest : List (ℕ × Op)) (j i : ℕ) (op : Op) : Type 0 where
   place : ℕ
   there : slice_get (part parting (slice_index parting.owners i)) (counts (slice_index parting.owners i) + place) ≡ Some (i, op)
   before : filter (λ item. slice_index parting.owners item.0 == slice_index parting.owners i) (take j rest)
@@ -230,7 +230,7 @@ record IsLeft (parting : Parting) (counts : ℕ → ℕ) (rest : List (ℕ × Op
       ≡ take (counts (slice_index parting.owners i)) (part parting (slice_index parting.owners i))
       ++ take place (drop (counts (slice_index parting.owners i)) (part parting (slice_index parting.owners i)))
 
-is_left : (parting : Parting) (counts : ℕ → ℕ) (rest : List (ℕ × Op)) → IsRest parting counts rest → (j i : ℕ) (op : Op) → slice_get rest j ≡ Some (i, op) →
+is_left : (parting : PartedOps) (counts : ℕ → ℕ) (rest : List (ℕ × Op)) → IsRest parting counts rest → (j i : ℕ) (op : Op) → slice_get rest j ≡ Some (i, op) →
     IsLeft parting counts rest j i op
 is_left parting counts rest remains j i op e =
     let worker = slice_index parting.owners i in
@@ -246,7 +246,7 @@ is_left parting counts rest remains j i op e =
     }
 
 -- each item of the rest is an operation of the list at its position, and where it is on an owned key the owner's
-rest_owned : (parting : Parting) (counts : ℕ → ℕ) (rest : List (ℕ × Op)) → IsRest parting counts rest → (worker key : ℕ) → Owns parting worker key →
+rest_owned : (parting : PartedOps) (counts : ℕ → ℕ) (rest : List (ℕ × Op)) → IsRest parting counts rest → (worker key : ℕ) → WorkerHasKey parting worker key →
     (j i : ℕ) (op : Op) → slice_get rest j ≡ Some (i, op) → key_of op ≡ key → slice_index parting.owners i ≡ worker
 rest_owned parting counts rest remains worker key owns j i op e on =
     let l = is_left parting counts rest remains j i op e in
@@ -258,7 +258,7 @@ rest_owned parting counts rest remains worker key owns j i op e on =
 done_then : (set : Contents) (xs ys : List (ℕ × Op)) → final (final set (ops_in xs)) (ops_in ys) ≡ final set (ops_in (xs ++ ys))
 done_then set xs ys = sym (final-append (ops_in xs) (ops_in ys) set) ∙ ap (final set) (sym (map-append (λ (item : ℕ × Op). item.1) xs ys))
 
-rest_reply : (set : Contents) (parting : Parting) (counts : ℕ → ℕ) (after : Contents) (rest : List (ℕ × Op)) →
+rest_reply : (set : Contents) (parting : PartedOps) (counts : ℕ → ℕ) (after : Contents) (rest : List (ℕ × Op)) →
     IsLawful parting → AreDone set parting counts after → IsRest parting counts rest → ReplyAlike after rest set parting.ops
 rest_reply set parting counts after rest lawful did remains j i op e =
     let worker = slice_index parting.owners i in
@@ -279,7 +279,7 @@ rest_reply set parting counts after rest lawful did remains j i op e =
     ∙ before_alike set parting worker h.behind op owns)
     ∙ ap (slice_get (replies set parting.ops)) here
 
-rest_final : (set : Contents) (parting : Parting) (counts : ℕ → ℕ) (after : Contents) (rest : List (ℕ × Op)) →
+rest_final : (set : Contents) (parting : PartedOps) (counts : ℕ → ℕ) (after : Contents) (rest : List (ℕ × Op)) →
     IsLawful parting → AreDone set parting counts after → IsRest parting counts rest → (key : ℕ) → final after (ops_in rest) key ≡ final set parting.ops key
 rest_final set parting counts after rest lawful did remains key =
     let owner = some_owner parting lawful key in

@@ -1,7 +1,7 @@
 use Rattle.std.proofs.Common.{◌≡◌, ℕ, List, ap, subst, ◌∙◌}
 use Rattle.ell_ops.specs.Contents.{Contents}
 use Rattle.ell_ops.specs.Meaning.{final}
-use Rattle.ell_parts.specs.Parting.{Parting}
+use Rattle.ell_parts.specs.PartedOps.{PartedOps}
 use Rattle.ell_tree.specs.Closing.{ClosesTo}
 use Rattle.ell_tree.specs.Ledgers.{PassModel, TreeModel, present_in}
 use Rattle.ell_run.specs.Late.{AreLeft}
@@ -10,7 +10,7 @@ use Rattle.ell_run.specs.Work.{IsWorked}
 use Rattle.ell_ops.specs.declared.reply.Reply.{Reply}
 
 -- what workers leave on a tree that is closed behind them
-pub left_behind : (start : Contents) (tree : TreeModel) (tries : ℕ) (parting : Parting) (first last : PassModel) (pieces : List (List (ℕ × Reply))) (pairs : List (ℕ × ℕ)) →
+pub left_behind : (start : Contents) (tree : TreeModel) (tries : ℕ) (parting : PartedOps) (first last : PassModel) (pieces : List (List (ℕ × Reply))) (pairs : List (ℕ × ℕ)) →
     present_in first ≡ start → IsWorked tree.last_card tries parting (all_workers parting) first last pieces → ClosesTo tree last pairs → AreLeft start parting pieces pairs
 left_behind start tree tries parting first last pieces pairs same did closes = record {
   told = subst (λ s. ArePieces s parting (all_workers parting) pieces) same did.told;

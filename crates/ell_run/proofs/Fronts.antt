@@ -12,7 +12,7 @@ use Rattle.ell_tree.specs.declared.operations.Held.{Held}
 use Rattle.ell_tree.specs.Ends.{Answers, HeldFor, LaidDown}
 use Rattle.ell_tree.specs.Hindrances.{Meets}
 use Rattle.ell_tree.specs.Ledgers.{PassModel, Owns, IsIdle, answers, hindrances, present_in}
-use Rattle.ell_parts.specs.Parting.{Parting, part}
+use Rattle.ell_parts.specs.PartedOps.{PartedOps, part}
 use Rattle.ell_run.specs.ByParts.{ops_in}
 use Rattle.ell_run.specs.Pieces.{front, one_held, piece_from}
 use Rattle.ell_run.specs.Work.{AreHeld, IsWorked, IsWorkedOff}
@@ -124,7 +124,7 @@ front_held cards tries items i d before mid after piece why below h l held_for =
     }
 
 -- one worker has worked its part off, by a pass that got another label
-pub one_worked : (cards tries : ℕ) (parting : Parting) (workers : List ℕ) (d label : ℕ) (before told after : PassModel) (items : List (ℕ × Op)) (piece : List (ℕ × Reply))
+pub one_worked : (cards tries : ℕ) (parting : PartedOps) (workers : List ℕ) (d label : ℕ) (before told after : PassModel) (items : List (ℕ × Op)) (piece : List (ℕ × Reply))
     (pieces : List (List (ℕ × Reply))) → 0 < length workers → length workers < 2 → told ≡ record before { label = label } →
     items ≡ part parting (get_or workers 0 d) → IsWorkedOff cards tries items told after piece → pieces ≡ piece ∷ [] →
     IsWorked cards tries parting workers before after pieces

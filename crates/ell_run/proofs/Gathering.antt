@@ -8,7 +8,7 @@ use Rattle.ell_ops.specs.declared.op.Op.{Op}
 use Rattle.ell_ops.specs.Contents.{Contents}
 use Rattle.ell_ops.specs.Meaning.{reply_of, final, replies}
 use Rattle.ell_parts.specs.Gathering.{IsFor, AreSound}
-use Rattle.ell_parts.specs.Parting.{Parting, IsLawful, part}
+use Rattle.ell_parts.specs.PartedOps.{PartedOps, IsLawful, part}
 use Rattle.ell_ops.proofs.Places.{slice_get-append, slice_get-append_behind, slice_get-append_cases, slice_get-take, slice_get_from_take, slice_get_within_take}
 use Rattle.ell_ops.proofs.Presence.{reply_at}
 use Rattle.ell_run.specs.ByParts.{done, ops_in}
@@ -99,15 +99,15 @@ together_sound n xs ys first second apart k position below is_for =
     (slice_get-append_cases xs ys k (position, is_for.0) is_for.1)
 
 -- the piece of a worker, of the front of its part that it has done
-abbrev pub piece_of : Contents → Parting → (ℕ → ℕ) → ℕ → List (ℕ × Reply)
+abbrev pub piece_of : Contents → PartedOps → (ℕ → ℕ) → ℕ → List (ℕ × Reply)
 piece_of start parting counts worker = piece_from start (done parting counts worker)
 
 -- the pieces of the first workers
-abbrev pub pieces_of : Contents → Parting → (ℕ → ℕ) → ℕ → List (ℕ × Reply)
+abbrev pub pieces_of : Contents → PartedOps → (ℕ → ℕ) → ℕ → List (ℕ × Reply)
 pieces_of start parting counts workers = flat_map (λ worker. piece_of start parting counts worker) (range_with_len 0 workers)
 
 -- an item of a piece is for a position of its worker, with the reply of one thread
-pub record Tells (start : Contents) (parting : Parting) (counts : ℕ → ℕ) (worker k position : ℕ) (reply : Reply) : Type 0 where
+pub record ItemTells (start : Contents) (parting : PartedOps) (counts : ℕ → ℕ) (worker k position : ℕ) (reply : Reply) : Type 0 where
   pub op : Op
   pub early : k < counts worker
   pub item : slice_get (part parting worker) k ≡ Some (position, op)
@@ -115,9 +115,9 @@ pub record Tells (start : Contents) (parting : Parting) (counts : ℕ → ℕ) (
   pub there : slice_get parting.ops position ≡ Some op
   pub told : slice_get (replies start parting.ops) position ≡ Some reply
 
-tells : (start : Contents) (parting : Parting) → IsLawful parting → (counts : ℕ → ℕ) (worker k position : ℕ) (reply : Reply) →
-    slice_get (piece_of start parting counts worker) k ≡ Some (position, reply) → Tells start parting counts worker k position reply
-tells start parting lawful counts worker k position reply e =
+item_tells : (start : Contents) (parting : PartedOps) → IsLawful parting → (counts : ℕ → ℕ) (worker k position : ℕ) (reply : Reply) →
+    slice_get (piece_of start parting counts worker) k ≡ Some (position, reply) → ItemTells start parting counts worker k position reply
+item_tells start parting lawful counts worker k position reply e =
     let items = done parting counts worker in
     let t = tagged items (replies start (ops_in items)) k position reply e in
     let item = slice_get_from_take (counts worker) (part parting worker) k (position, t.0) t.1 in
@@ -132,19 +132,19 @@ tells start parting lawful counts worker k position reply e =
     }
 
 -- within one piece no two items are for one position, and each is for a position of the list
-piece_sound : (start : Contents) (parting : Parting) → IsLawful parting → (counts : ℕ → ℕ) (worker : ℕ) →
+piece_sound : (start : Contents) (parting : PartedOps) → IsLawful parting → (counts : ℕ → ℕ) (worker : ℕ) →
     AreSound (length parting.ops) (piece_of start parting counts worker) (length (piece_of start parting counts worker))
 piece_sound start parting lawful counts worker k position below is_for =
-    let t = tells start parting lawful counts worker k position is_for.0 is_for.1 in (
+    let t = item_tells start parting lawful counts worker k position is_for.0 is_for.1 in (
       slice_get_within parting.ops position t.op t.there,
       λ i earlier again.
-          let s = tells start parting lawful counts worker i position again.0 again.1 in
+          let s = item_tells start parting lawful counts worker i position again.0 again.1 in
           let before = part_ascends (owner_in parting) parting.ops worker k i position position s.op t.op t.item s.item earlier in
           omega arith,
     )
 
 -- one worker's piece behind those of the workers before it
-pieces_suc : (start : Contents) (parting : Parting) (counts : ℕ → ℕ) (workers : ℕ) →
+pieces_suc : (start : Contents) (parting : PartedOps) (counts : ℕ → ℕ) (workers : ℕ) →
     pieces_of start parting counts (suc workers) ≡ pieces_of start parting counts workers ++ piece_of start parting counts workers
 pieces_suc start parting counts workers =
     let same : suc workers ≡ workers + 1 = omega arith in
@@ -152,13 +152,13 @@ pieces_suc start parting counts workers =
     ∙ sym (flat_map_more (λ worker. piece_of start parting counts worker) [] (range_with_len 0 workers) workers)
 
 -- an item of the first pieces is one of some piece
-pub record AnyTells (start : Contents) (parting : Parting) (counts : ℕ → ℕ) (workers position : ℕ) (reply : Reply) : Type 0 where
+pub record AnyTells (start : Contents) (parting : PartedOps) (counts : ℕ → ℕ) (workers position : ℕ) (reply : Reply) : Type 0 where
   pub worker : ℕ
   pub below : worker < workers
   pub place : ℕ
-  pub tells : Tells start parting counts worker place position reply
+  pub tells : ItemTells start parting counts worker place position reply
 
-pub any_tells : (start : Contents) (parting : Parting) → IsLawful parting → (counts : ℕ → ℕ) (workers k position : ℕ) (reply : Reply) →
+pub any_tells : (start : Contents) (parting : PartedOps) → IsLawful parting → (counts : ℕ → ℕ) (workers k position : ℕ) (reply : Reply) →
     slice_get (pieces_of start parting counts workers) k ≡ Some (position, reply) → AnyTells start parting counts workers position reply
 any_tells start parting lawful counts zero k position reply e = let no : ⊥ = cc in absurd no
 any_tells start parting lawful counts (suc workers) k position reply e =
@@ -167,11 +167,11 @@ any_tells start parting lawful counts (suc workers) k position reply e =
     let t = any_tells start parting lawful counts workers k position reply early.1 in
     let below = t.below in
     record { worker = t.worker; below = omega arith; place = t.place; tells = t.tells })
-    (λ late. record { worker = workers; below = omega arith; place = late.0; tells = tells start parting lawful counts workers late.0 position reply late.2 })
+    (λ late. record { worker = workers; below = omega arith; place = late.0; tells = item_tells start parting lawful counts workers late.0 position reply late.2 })
     (slice_get-append_cases (pieces_of start parting counts workers) (piece_of start parting counts workers) k (position, reply)
     (ap (λ l. slice_get l k) (sym (pieces_suc start parting counts workers)) ∙ e))
 
-pub pieces_sound : (start : Contents) (parting : Parting) → IsLawful parting → (counts : ℕ → ℕ) (workers : ℕ) →
+pub pieces_sound : (start : Contents) (parting : PartedOps) → IsLawful parting → (counts : ℕ → ℕ) (workers : ℕ) →
     AreSound (length parting.ops) (pieces_of start parting counts workers) (length (pieces_of start parting counts workers))
 pieces_sound start parting lawful counts zero = λ k position below is_for. let e = is_for.1 in let no : ⊥ = cc in absurd no
 pieces_sound start parting lawful counts (suc workers) =
@@ -182,12 +182,12 @@ pieces_sound start parting lawful counts (suc workers) =
     let t = any_tells start parting lawful counts workers i position early.0 early.1 in
     let below = t.below in
     let first = t.tells.owned in
-    let s = tells start parting lawful counts workers j position late.0 late.1 in
+    let s = item_tells start parting lawful counts workers j position late.0 late.1 in
     let own = s.owned in
     omega arith))
 
 -- the piece of a worker has an item for each operation that it has done, and so have the pieces of all
-piece_has : (start : Contents) (parting : Parting) (counts : ℕ → ℕ) (worker k position : ℕ) (op : Op) → slice_get (part parting worker) k ≡ Some (position, op) → k < counts worker →
+piece_has : (start : Contents) (parting : PartedOps) (counts : ℕ → ℕ) (worker k position : ℕ) (op : Op) → slice_get (part parting worker) k ≡ Some (position, op) → k < counts worker →
     IsFor (piece_of start parting counts worker) k position
 piece_has start parting counts worker k position op e early =
     let items = done parting counts worker in
@@ -198,7 +198,7 @@ piece_has start parting counts worker k position op e early =
           (reply_at start (ops_in items) k op (op_at items k position op item)),
     )
 
-pieces_have : (start : Contents) (parting : Parting) (counts : ℕ → ℕ) (workers worker k position : ℕ) → worker < workers → IsFor (piece_of start parting counts worker) k position →
+pieces_have : (start : Contents) (parting : PartedOps) (counts : ℕ → ℕ) (workers worker k position : ℕ) → worker < workers → IsFor (piece_of start parting counts worker) k position →
     (j : ℕ) × IsFor (pieces_of start parting counts workers) j position
 pieces_have start parting counts zero worker k position below is_for = absurd (omega arith)
 pieces_have start parting counts (suc workers) worker k position below is_for =
@@ -226,7 +226,7 @@ pieces_have start parting counts (suc workers) worker k position below is_for =
     (cases_eq worker workers)
 
 -- so an operation that was done has an item
-pub done_has : (start : Contents) (parting : Parting) → IsLawful parting → (counts : ℕ → ℕ) (worker k position : ℕ) (op : Op) →
+pub done_has : (start : Contents) (parting : PartedOps) → IsLawful parting → (counts : ℕ → ℕ) (worker k position : ℕ) (op : Op) →
     slice_get (part parting worker) k ≡ Some (position, op) → k < counts worker →
     (j : ℕ) × IsFor (pieces_of start parting counts parting.workers) j position
 done_has start parting lawful counts worker k position op e early =

@@ -13,7 +13,7 @@ use Rattle.ell_ops.specs.declared.op.Op.{Op}
 use Rattle.ell_ops.specs.declared.op.Op.TheVariants.{Find}
 use Rattle.ell_ops.specs.KeySet.{Lists}
 use Rattle.ell_ops.specs.Meaning.{key_of, final}
-use Rattle.ell_parts.specs.Parting.{Parting, IsLawful, part, keys_in}
+use Rattle.ell_parts.specs.PartedOps.{PartedOps, IsLawful, part, keys_in}
 use Rattle.ell_tree.specs.Ledgers.{PassModel, TreeModel, Owns, ledger, present_in, Entry}
 use Rattle.ell_tree.specs.Parts.{IsUnion, or_else}
 use Rattle.ell_run.specs.Pieces.{all_held, ops_done}
@@ -42,7 +42,7 @@ off_key items key none k d below = λ on.
     eqb-false key (get_or keys k 0) miss (sym (same ∙ on))
 
 -- an item of a worker's part on a key
-pub record HasKey (parting : Parting) (workers : List ℕ) (key : ℕ) : Type 0 where
+pub record HasKey (parting : PartedOps) (workers : List ℕ) (key : ℕ) : Type 0 where
   pub worker : ℕ
   pub within : Contains workers worker
   pub place : ℕ
@@ -51,7 +51,7 @@ pub record HasKey (parting : Parting) (workers : List ℕ) (key : ℕ) : Type 0 
   pub on : key_of item.1 ≡ key
 
 -- a key of workers is that of some item
-pub has_key : (parting : Parting) (workers : List ℕ) (key : ℕ) → keys_for parting workers key ≡ true → HasKey parting workers key
+pub has_key : (parting : PartedOps) (workers : List ℕ) (key : ℕ) → keys_for parting workers key ≡ true → HasKey parting workers key
 has_key parting workers key some =
     let w = Any-from_list_any (λ worker. keys_in (part parting worker) key) workers some in
     let items = part parting w.1 in
@@ -68,7 +68,7 @@ has_key parting workers key some =
     }
 
 -- items on one key are one worker's
-pub same_worker : (parting : Parting) → IsLawful parting → (w v j k : ℕ) (x y : ℕ × Op) → slice_get (part parting w) j ≡ Some x → slice_get (part parting v) k ≡ Some y →
+pub same_worker : (parting : PartedOps) → IsLawful parting → (w v j k : ℕ) (x y : ℕ × Op) → slice_get (part parting w) j ≡ Some x → slice_get (part parting v) k ≡ Some y →
     key_of x.1 ≡ key_of y.1 → w ≡ v
 same_worker parting lawful w v j k x y ex ey same =
     let p = part_item parting w j x.0 x.1 ex in
@@ -91,18 +91,18 @@ below_behind xs ys x j d ascending h below =
     omega arith
 
 -- the key went to the left half, and the workers of the right one have nothing on it
-record IsLeft (parting : Parting) (high : List ℕ) (pass left right : PassModel) (key : ℕ) : Type 0 where
+record IsLeft (parting : PartedOps) (high : List ℕ) (pass left right : PassModel) (key : ℕ) : Type 0 where
   kept : ledger left key ≡ ledger pass key
   none : ledger right key ≡ None
   off : All (IsOffKey parting key) high
 
 -- or it stayed with the right half, and the workers of the left one have nothing on it
-record IsRight (parting : Parting) (low : List ℕ) (pass left right : PassModel) (key : ℕ) : Type 0 where
+record IsRight (parting : PartedOps) (low : List ℕ) (pass left right : PassModel) (key : ℕ) : Type 0 where
   kept : ledger right key ≡ ledger pass key
   none : ledger left key ≡ None
   off : All (IsOffKey parting key) low
 
-key_cases : (tree : TreeModel) (parting : Parting) (low high : List ℕ) (pass left right : PassModel) → AreReady tree parting (low ++ high) pass →
+key_cases : (tree : TreeModel) (parting : PartedOps) (low high : List ℕ) (pass left right : PassModel) → AreReady tree parting (low ++ high) pass →
     AreHalves parting low pass left right → (key : ℕ) → IsLeft parting high pass left right key ⊎ IsRight parting low pass left right key
 key_cases tree parting low high pass left right ready h key =
     let among : list_any (λ x. eqb key x) h.keys ≡ keys_for parting low key = ap (λ s. s key) h.listed.each in
@@ -143,7 +143,7 @@ or_else_none (Some b) = refl
 none_after : (p q : PassModel) (key : ℕ) → (Owns q key → Owns p key) → ledger p key ≡ None → ledger q key ≡ None
 none_after p q key back none = none_or (ledger q key) (λ h. back h none)
 
-module _ (tree : TreeModel) (parting : Parting) (low high : List ℕ) (pass left right : PassModel)
+module _ (tree : TreeModel) (parting : PartedOps) (low high : List ℕ) (pass left right : PassModel)
     (ready : AreReady tree parting (low ++ high) pass) (h : AreHalves parting low pass left right) where
   -- a worker's own keys are in its half
   own_left : (j : ℕ) (d : ℕ) → j < length low → (k : ℕ) (e : ℕ × Op) → k < length (part parting (get_or low j d)) →
@@ -264,7 +264,7 @@ module _ (tree : TreeModel) (parting : Parting) (low high : List ℕ) (pass left
         }
 
 -- the keys that a half is to get are the pass's
-pub keys_owned : (tree : TreeModel) (parting : Parting) (low high : List ℕ) (pass : PassModel) (keys : List ℕ) → AreReady tree parting (low ++ high) pass →
+pub keys_owned : (tree : TreeModel) (parting : PartedOps) (low high : List ℕ) (pass : PassModel) (keys : List ℕ) → AreReady tree parting (low ++ high) pass →
     Lists (keys_for parting low) keys → All (λ key. Owns pass key) keys
 keys_owned tree parting low high pass keys ready listed j d below =
     let key = get_or keys j d in

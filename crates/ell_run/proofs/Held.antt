@@ -2,7 +2,7 @@ use Rattle.std.proofs.Common.{◌≡◌, ℕ, ◌+◌, ◌*◌, ◌<◌, ◌≤�
 use Rattle.std.specs.List.{insert}
 use Rattle.std.proofs.Math.Nat.{mul-add, mul-one, mul-zero, zero-add}
 use Rattle.std.proofs.lemmas.List.{length-append}
-use Rattle.ell_parts.specs.Parting.{Parting, part}
+use Rattle.ell_parts.specs.PartedOps.{PartedOps, part}
 use Rattle.ell_tree.specs.Parts.{later}
 use Rattle.ell_tree.specs.declared.operations.Held.{Held}
 use Rattle.ell_tree.specs.declared.operations.Held.TheVariants.{Busy, Spent}
@@ -55,7 +55,7 @@ held_both cards tries a b pass left right first second both kept anew sum next o
     on_left
 
 -- how many are held of two rows of workers
-pub all_held-append : (s : Contents) (parting : Parting) (low high : List ℕ) (ps qs : List (List (ℕ × Reply))) → ArePieces s parting low ps →
+pub all_held-append : (s : Contents) (parting : PartedOps) (low high : List ℕ) (ps qs : List (List (ℕ × Reply))) → ArePieces s parting low ps →
     all_held parting (low ++ high) (ps ++ qs) ≡ all_held parting low ps + all_held parting high qs
 all_held-append s parting [] high [] qs h = sym (zero-add (all_held parting high qs))
 all_held-append s parting [] high (p ∷ ps) qs h = absurd h
@@ -65,7 +65,7 @@ all_held-append s parting (worker ∷ low) high (p ∷ ps) qs h =
     omega arith
 
 -- an empty piece of an empty part more
-pub all_held-insert : (s : Contents) (parting : Parting) (xs ys : List ℕ) (worker : ℕ) (ps : List (List (ℕ × Reply))) → part parting worker ≡ [] →
+pub all_held-insert : (s : Contents) (parting : PartedOps) (xs ys : List ℕ) (worker : ℕ) (ps : List (List (ℕ × Reply))) → part parting worker ≡ [] →
     ArePieces s parting (xs ++ ys) ps →
     all_held parting (xs ++ worker ∷ ys) (insert ps (length xs) []) ≡ all_held parting (xs ++ ys) ps
 all_held-insert s parting [] ys worker ps none h =

@@ -9,7 +9,7 @@ use Rattle.std.proofs.lemmas.Option.{slice_get-get_or, slice_get_within}
 use Rattle.ell_ops.specs.declared.op.Op.{Op}
 use Rattle.ell_ops.specs.KeySet.{Lists, set_of, union}
 use Rattle.ell_ops.specs.Meaning.{key_of}
-use Rattle.ell_parts.specs.Parting.{Parting, IsLawful, part, keys_in, keys_of}
+use Rattle.ell_parts.specs.PartedOps.{PartedOps, IsLawful, part, keys_in, keys_of}
 use Rattle.ell_run.specs.Pieces.{all_workers, busy}
 use Rattle.ell_run.specs.Work.{keys_for}
 use Rattle.ell_run.proofs.Busy.{is_busy}
@@ -18,7 +18,7 @@ use Rattle.ell_run.proofs.Gathering.{part_has}
 use Rattle.ell_run.proofs.Halves.{has_key}
 
 -- the keys of one worker
-pub one_row : (parting : Parting) (workers : List ℕ) (d : ℕ) (keys items : List ℕ) → 0 < length workers → length workers < 2 →
+pub one_row : (parting : PartedOps) (workers : List ℕ) (d : ℕ) (keys items : List ℕ) → 0 < length workers → length workers < 2 →
     Lists (keys_in (part parting (get_or workers 0 d))) keys → items ≡ keys → Lists (keys_for parting workers) items
 one_row parting [] d keys items some few listed same = absurd (omega arith)
 one_row parting (w ∷ v ∷ ws) d keys items some few listed same = absurd (omega arith)
@@ -31,7 +31,7 @@ one_row parting (w ∷ []) d keys items some few listed same =
     or_none false = refl
 
 -- those of two rows, one after the other
-pub both_rows : (parting : Parting) (n : ℕ) (workers low high left right ours theirs items : List ℕ) → low ≡ take n workers → high ≡ drop n workers →
+pub both_rows : (parting : PartedOps) (n : ℕ) (workers low high left right ours theirs items : List ℕ) → low ≡ take n workers → high ≡ drop n workers →
     Lists (keys_for parting low) left → Lists (keys_for parting high) right → ours ≡ left → theirs ≡ right →
     Lists (union (set_of ours) (set_of theirs)) items → Lists (keys_for parting workers) items
 both_rows parting n workers low high left right ours theirs items front back first second same other listed =
@@ -70,14 +70,14 @@ alike false true f g = g refl
 alike false false f g = refl
 
 -- a worker with an operation on the key
-record HasWorker (parting : Parting) (key : ℕ) : Type 0 where
+record HasWorker (parting : PartedOps) (key : ℕ) : Type 0 where
   worker : ℕ
   known : worker < parting.workers
   some : 0 < length (part parting worker)
   among : keys_in (part parting worker) key ≡ true
 
 -- each key of the list has one
-has_worker : (parting : Parting) → IsLawful parting → (key : ℕ) → keys_of parting.ops key ≡ true → HasWorker parting key
+has_worker : (parting : PartedOps) → IsLawful parting → (key : ℕ) → keys_of parting.ops key ≡ true → HasWorker parting key
 has_worker parting lawful key some =
     let it = key_item parting.ops key some in
     let worker = owner_in parting it.0 in
@@ -93,7 +93,7 @@ has_worker parting lawful key some =
     }
 
 -- and each key of workers is on the list
-listed_key : (parting : Parting) (workers : List ℕ) (key : ℕ) → keys_for parting workers key ≡ true → keys_of parting.ops key ≡ true
+listed_key : (parting : PartedOps) (workers : List ℕ) (key : ℕ) → keys_for parting workers key ≡ true → keys_of parting.ops key ≡ true
 listed_key parting workers key some =
     let has = has_key parting workers key some in
     let here = part_item parting has.worker has.place has.item.0 has.item.1 has.there in
@@ -101,13 +101,13 @@ listed_key parting workers key some =
     (eq-eqb key (key_of has.item.1) (sym has.on))
 
 -- a worker stands at its own place among all
-stands_there : (parting : Parting) (worker : ℕ) → worker < parting.workers → slice_get (all_workers parting) worker ≡ Some worker
+stands_there : (parting : PartedOps) (worker : ℕ) → worker < parting.workers → slice_get (all_workers parting) worker ≡ Some worker
 stands_there parting worker known =
     let number : get_or (all_workers parting) worker 0 ≡ worker = (let here = get_or-range_with_len 0 parting.workers worker 0 known in omega arith) in
     slice_get-get_or (all_workers parting) worker 0 (omega (arith, known, length-range_with_len 0 parting.workers)) ∙ ap Some number
 
 -- the keys of all workers are those of the list
-pub all_keys : (parting : Parting) → IsLawful parting → keys_for parting (all_workers parting) ≡ keys_of parting.ops
+pub all_keys : (parting : PartedOps) → IsLawful parting → keys_for parting (all_workers parting) ≡ keys_of parting.ops
 all_keys parting lawful = λ i key. alike (keys_for parting (all_workers parting) key) (keys_of parting.ops key) (listed_key parting (all_workers parting) key) (parted key) i
   where
     parted : (key : ℕ) → keys_of parting.ops key ≡ true → keys_for parting (all_workers parting) key ≡ true
@@ -116,7 +116,7 @@ all_keys parting lawful = λ i key. alike (keys_for parting (all_workers parting
         any_there (λ w. keys_in (part parting w) key) (all_workers parting) has.worker has.worker (stands_there parting has.worker has.known) has.among
 
 -- and so are those of the busy ones
-pub busy_keys : (parting : Parting) → IsLawful parting → keys_for parting (busy parting) ≡ keys_of parting.ops
+pub busy_keys : (parting : PartedOps) → IsLawful parting → keys_for parting (busy parting) ≡ keys_of parting.ops
 busy_keys parting lawful = λ i key. alike (keys_for parting (busy parting) key) (keys_of parting.ops key) (listed_key parting (busy parting) key) (parted key) i
   where
     parted : (key : ℕ) → keys_of parting.ops key ≡ true → keys_for parting (busy parting) key ≡ true
@@ -125,3 +125,8 @@ busy_keys parting lawful = λ i key. alike (keys_for parting (busy parting) key)
         let stands = filter_at (is_busy parting) (all_workers parting) has.worker has.worker (stands_there parting has.worker has.known)
         (lt-ltb 0 (length (part parting has.worker)) has.some) in
         any_there (λ w. keys_in (part parting w) key) (busy parting) (length (filter (is_busy parting) (take has.worker (all_workers parting)))) has.worker stands.0 has.among
+
+-- a list of the keys of the busy ones has those of the list
+pub busy_listed : (parting : PartedOps) (workers keys : List ℕ) → IsLawful parting → workers ≡ busy parting →
+    Lists (keys_for parting workers) keys → Lists (keys_of parting.ops) keys
+busy_listed parting workers keys lawful all = subst (λ set. Lists set keys) (ap (keys_for parting) all ∙ busy_keys parting lawful)

@@ -17,8 +17,8 @@ use Rattle.ell_ops.specs.Meaning.{final, replies, reply_of}
 use Rattle.ell_ops.proofs.Places.{slice_get_below, slice_get-append, slice_get-append_behind, slice_get-append_cases, slice_get-drop, slice_get_from_take, slice_get_within_take}
 use Rattle.ell_ops.proofs.Presence.{reply_at}
 use Rattle.ell_parts.specs.Gathering.{AreSound, IsFor}
-use Rattle.ell_parts.specs.Parting.{Parting, IsLawful, part}
-use Rattle.ell_run.specs.ByParts.{AreDone, IsAsOneThread, IsRest, Owns, done, ops_in}
+use Rattle.ell_parts.specs.PartedOps.{PartedOps, IsLawful, part}
+use Rattle.ell_run.specs.ByParts.{AreDone, IsAsOneThread, IsRest, WorkerHasKey, done, ops_in}
 use Rattle.ell_run.specs.Late.{is_answered, late_ops}
 use Rattle.ell_run.specs.Pieces.{ArePieces, IsPiece, all_workers, count_of, front, ops_done, piece_from}
 use Rattle.ell_run.proofs.ByParts.{op_at, owner_in, part_from, part_item, parts_serve, stands_at}
@@ -48,7 +48,7 @@ flat_by_places (x ∷ xs) =
     ∙ sym (flat_map-further (λ k. get_or (x ∷ xs) k []) 0 (length xs)))
 
 -- the piece at a place is that of its worker
-piece_at : (s : Contents) (parting : Parting) (a n : ℕ) (pieces : List (List (ℕ × Reply))) → ArePieces s parting (range_with_len a n) pieces →
+piece_at : (s : Contents) (parting : PartedOps) (a n : ℕ) (pieces : List (List (ℕ × Reply))) → ArePieces s parting (range_with_len a n) pieces →
     (j : ℕ) → j < n → IsPiece s (part parting (a + j)) (get_or pieces j [])
 piece_at s parting a zero pieces h j below = absurd (omega arith)
 piece_at s parting a (suc n) [] h j below = absurd h
@@ -145,7 +145,7 @@ answered_by items position some =
       (x.1, slice_get-get_or items at.0 x at.2 ∙ ap Some at.3 ∙ ap (λ n. Some (n, x.1)) (eqb-true x.0 position at.4)),
     )
 
-module _ (start : Contents) (parting : Parting) (pieces : List (List (ℕ × Reply))) (told : ArePieces start parting (all_workers parting) pieces) where
+module _ (start : Contents) (parting : PartedOps) (pieces : List (List (ℕ × Reply))) (told : ArePieces start parting (all_workers parting) pieces) where
   pub count_is : length pieces ≡ parting.workers
   count_is = length-pieces start parting (all_workers parting) pieces told ∙ length-range_with_len 0 parting.workers
 
@@ -175,7 +175,7 @@ module _ (start : Contents) (parting : Parting) (pieces : List (List (ℕ × Rep
       let p = part_item parting j k position t.0 (slice_get_from_take (count_of pieces j) (part parting j) k (position, t.0) t.1) in
       slice_get_within parting.ops position t.0 p.1
 
-module _ (start : Contents) (parting : Parting) (lawful : IsLawful parting) (pieces : List (List (ℕ × Reply))) (told : ArePieces start parting (all_workers parting) pieces) where
+module _ (start : Contents) (parting : PartedOps) (lawful : IsLawful parting) (pieces : List (List (ℕ × Reply))) (told : ArePieces start parting (all_workers parting) pieces) where
   abbrev counts : ℕ → ℕ
   counts = count_of pieces
 
@@ -237,19 +237,19 @@ module _ (start : Contents) (parting : Parting) (lawful : IsLawful parting) (pie
       (λ k item e. not_false (is_answered early item.0) (left_unanswered worker k item.0 item.1 e)))
 
   -- the other workers have nothing on a key that one owns
-  others_off : (worker key other : ℕ) → Owns parting worker key → other ≢ worker → IsOffKey parting key other
+  others_off : (worker key other : ℕ) → WorkerHasKey parting worker key → other ≢ worker → IsOffKey parting key other
   others_off worker key other owns apart k d below on =
       let item = get_or (part parting other) k d in
       let here = part_item parting other k item.0 item.1 (slice_get-get_or (part parting other) k d below) in
       apart (sym here.0 ∙ owns item.0 item.1 here.1 on)
 
-  others_off_from : (worker key a n : ℕ) → Owns parting worker key → worker < a → All (IsOffKey parting key) (range_with_len a n)
+  others_off_from : (worker key a n : ℕ) → WorkerHasKey parting worker key → worker < a → All (IsOffKey parting key) (range_with_len a n)
   others_off_from worker key a n owns before j d below =
       let within : j < n = omega (arith, length-range_with_len a n) in
       let here = get_or-range_with_len a n j d within in
       others_off worker key (get_or (range_with_len a n) j d) owns (λ e. let no : ⊥ = omega arith in no)
 
-  one_worker : (worker key a n : ℕ) (ps : List (List (ℕ × Reply))) → ArePieces start parting (range_with_len a n) ps → Owns parting worker key → a ≤ worker → worker < a + n →
+  one_worker : (worker key a n : ℕ) (ps : List (List (ℕ × Reply))) → ArePieces start parting (range_with_len a n) ps → WorkerHasKey parting worker key → a ≤ worker → worker < a + n →
       on_key key (ops_done parting (range_with_len a n) ps) ≡ on_key key (ops_in (take (length (get_or ps (worker - a) [])) (part parting worker)))
   one_worker worker key a zero ps h owns from to = absurd (omega arith)
   one_worker worker key a (suc n) [] h owns from to = absurd h
@@ -354,7 +354,7 @@ module _ (start : Contents) (parting : Parting) (lawful : IsLawful parting) (pie
     }
 
 -- what is late of one list of pieces is late of another name for it
-pub late_here : {V : Type 0} (seen : V → List (ℕ × Reply)) (parting : Parting) (ops : List Op) (pieces shown : List V) (late : List (ℕ × Op)) →
+pub late_here : {V : Type 0} (seen : V → List (ℕ × Reply)) (parting : PartedOps) (ops : List Op) (pieces shown : List V) (late : List (ℕ × Op)) →
     parting.ops ≡ ops → shown ≡ pieces → late ≡ late_ops ops (flat_map seen shown) → late ≡ late_ops parting.ops (flat_map seen pieces)
 late_here seen parting ops pieces shown late parted same is =
     is ∙ ap (λ p. late_ops ops (flat_map seen p)) same ∙ ap (λ o. late_ops o (flat_map seen pieces)) (sym parted)
@@ -364,7 +364,7 @@ pub flat_map-seen : {X Y : Type 0} (seen : X → List Y) (xs : List X) → flat_
 flat_map-seen seen [] = refl
 flat_map-seen seen (x ∷ xs) = ap (λ l. seen x ++ l) (flat_map-seen seen xs)
 
-module _ {V : Type 0} (seen : V → List (ℕ × Reply)) (start : Contents) (parting : Parting) (pieces : List V) (told : ArePieces start parting (all_workers parting) (map seen pieces)) where
+module _ {V : Type 0} (seen : V → List (ℕ × Reply)) (start : Contents) (parting : PartedOps) (pieces : List V) (told : ArePieces start parting (all_workers parting) (map seen pieces)) where
   pub one_each : length pieces ≡ parting.workers
   one_each = sym (length-map pieces seen) ∙ count_is start parting (map seen pieces) told
 

@@ -13,7 +13,7 @@ use Rattle.ell_ops.specs.declared.op.Op.{Op}
 use Rattle.ell_ops.specs.declared.op.Op.TheVariants.{Find}
 use Rattle.ell_ops.specs.KeySet.{Lists, set_of, union}
 use Rattle.ell_ops.specs.Meaning.{Fits, greatest_key, key_of}
-use Rattle.ell_parts.specs.Parting.{Parting, IsLawful, keys_of, part}
+use Rattle.ell_parts.specs.PartedOps.{PartedOps, IsLawful, keys_of, part}
 use Rattle.ell_tree.specs.Ledgers.{PassModel, TreeModel, Owns, IsIdle, ledger, Entry}
 use Rattle.ell_tree.specs.Parts.{IsFirst, start_entry}
 use Rattle.ell_run.specs.Pieces.{all_workers, busy}
@@ -23,7 +23,7 @@ use Rattle.ell_run.proofs.ByParts.{part_item}
 use Rattle.ell_run.proofs.Rows.{all_at}
 
 -- workers can set to work with a pass that owns all keys of the operations
-ready_with : (tree : TreeModel) (parting : Parting) (workers : List ℕ) (pass : PassModel) → IsLawful parting →
+ready_with : (tree : TreeModel) (parting : PartedOps) (workers : List ℕ) (pass : PassModel) → IsLawful parting →
     All (λ worker. worker < parting.workers) workers → IsStrictlyIncreasing workers → pass.table ≡ tree.id → IsIdle pass →
     All (λ op. Owns pass (key_of op)) parting.ops → AreReady tree parting workers pass
 ready_with tree parting workers pass lawful known ascending own idle owned = record {
@@ -40,14 +40,14 @@ ready_with tree parting workers pass lawful known ascending own idle owned = rec
 }
 
 -- the busy ones can
-pub busy_ready : (tree : TreeModel) (parting : Parting) (pass : PassModel) → IsLawful parting → pass.table ≡ tree.id → IsIdle pass →
+pub busy_ready : (tree : TreeModel) (parting : PartedOps) (pass : PassModel) → IsLawful parting → pass.table ≡ tree.id → IsIdle pass →
     All (λ op. Owns pass (key_of op)) parting.ops → AreReady tree parting (busy parting) pass
 busy_ready tree parting pass lawful =
     ready_with tree parting (busy parting) pass lawful (busy_known parting)
     (IsStrictlyIncreasing-filter (is_busy parting) (all_workers parting) (all_ascend parting))
 
 -- and so can all
-pub all_ready : (tree : TreeModel) (parting : Parting) (pass : PassModel) → IsLawful parting → pass.table ≡ tree.id → IsIdle pass →
+pub all_ready : (tree : TreeModel) (parting : PartedOps) (pass : PassModel) → IsLawful parting → pass.table ≡ tree.id → IsIdle pass →
     All (λ op. Owns pass (key_of op)) parting.ops → AreReady tree parting (all_workers parting) pass
 all_ready tree parting pass lawful = ready_with tree parting (all_workers parting) pass lawful (all_known parting) (all_ascend parting)
 

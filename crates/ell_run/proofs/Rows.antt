@@ -6,7 +6,7 @@ use Rattle.std.proofs.lemmas.Option.{slice_get_within, get_or_from_slice_get}
 use Rattle.ell_ops.specs.declared.op.Op.{Op}
 use Rattle.ell_ops.specs.Contents.{Contents}
 use Rattle.ell_ops.specs.Meaning.{key_of, final}
-use Rattle.ell_parts.specs.Parting.{Parting, part}
+use Rattle.ell_parts.specs.PartedOps.{PartedOps, part}
 use Rattle.ell_run.specs.ByParts.{ops_in}
 use Rattle.ell_run.specs.Pieces.{ArePieces, IsPiece, front, numbered, ops_done}
 use Rattle.ell_run.proofs.OnKey.{on_key, on_key-append, none_on_key, final_agree, replies_alike, reply_alike}
@@ -38,7 +38,7 @@ piece_alike s t items piece same h =
     }
 
 -- and so are pieces of workers
-pub pieces_alike : (s t : Contents) (parting : Parting) (workers : List ℕ) (pieces : List (List (ℕ × Reply))) →
+pub pieces_alike : (s t : Contents) (parting : PartedOps) (workers : List ℕ) (pieces : List (List (ℕ × Reply))) →
     All (λ worker. AgreeOn s t (part parting worker)) workers → ArePieces s parting workers pieces → ArePieces t parting workers pieces
 pieces_alike s t parting [] [] same h = tt
 pieces_alike s t parting [] (piece ∷ pieces) same h = h
@@ -49,7 +49,7 @@ pieces_alike s t parting (worker ∷ workers) (piece ∷ pieces) same h = (
 )
 
 -- one piece a worker
-pub length-pieces : (s : Contents) (parting : Parting) (workers : List ℕ) (pieces : List (List (ℕ × Reply))) → ArePieces s parting workers pieces →
+pub length-pieces : (s : Contents) (parting : PartedOps) (workers : List ℕ) (pieces : List (List (ℕ × Reply))) → ArePieces s parting workers pieces →
     length pieces ≡ length workers
 length-pieces s parting [] [] h = refl
 length-pieces s parting [] (piece ∷ pieces) h = absurd h
@@ -57,14 +57,14 @@ length-pieces s parting (worker ∷ workers) [] h = absurd h
 length-pieces s parting (worker ∷ workers) (piece ∷ pieces) h = ap suc (length-pieces s parting workers pieces h.1)
 
 -- the pieces of two rows of workers
-pub pieces-append : (s : Contents) (parting : Parting) (low high : List ℕ) (ps qs : List (List (ℕ × Reply))) →
+pub pieces-append : (s : Contents) (parting : PartedOps) (low high : List ℕ) (ps qs : List (List (ℕ × Reply))) →
     ArePieces s parting low ps → ArePieces s parting high qs → ArePieces s parting (low ++ high) (ps ++ qs)
 pieces-append s parting [] high [] qs first second = second
 pieces-append s parting [] high (p ∷ ps) qs first second = absurd first
 pieces-append s parting (worker ∷ low) high [] qs first second = absurd first
 pieces-append s parting (worker ∷ low) high (p ∷ ps) qs first second = (first.0, pieces-append s parting low high ps qs first.1 second)
 
-pub done-append : (s : Contents) (parting : Parting) (low high : List ℕ) (ps qs : List (List (ℕ × Reply))) → ArePieces s parting low ps →
+pub done-append : (s : Contents) (parting : PartedOps) (low high : List ℕ) (ps qs : List (List (ℕ × Reply))) → ArePieces s parting low ps →
     ops_done parting (low ++ high) (ps ++ qs) ≡ ops_done parting low ps ++ ops_done parting high qs
 done-append s parting [] high [] qs h = refl
 done-append s parting [] high (p ∷ ps) qs h = absurd h
@@ -74,7 +74,7 @@ done-append s parting (worker ∷ low) high (p ∷ ps) qs h =
     ∙ sym (append_assoc (ops_in (front (part parting worker) p)) (ops_done parting low ps) (ops_done parting high qs))
 
 -- a worker has nothing to do with a key
-abbrev pub IsOffKey : Parting → ℕ → ℕ → Type 0
+abbrev pub IsOffKey : PartedOps → ℕ → ℕ → Type 0
 IsOffKey parting key worker = All (λ item. key_of item.1 ≢ key) (part parting worker)
 
 pub front_off_key : (items : List (ℕ × Op)) (key n : ℕ) → All (λ item. key_of item.1 ≢ key) items → on_key key (ops_in (take n items)) ≡ []
@@ -83,7 +83,7 @@ front_off_key items key n off =
     (All-map (λ op. key_of op ≢ key) (λ (item : ℕ × Op). item.1) (take n items) (All-take (λ item. key_of item.1 ≢ key) n items off))
 
 -- then what the workers do has nothing on it
-pub done_off_key : (parting : Parting) (key : ℕ) (workers : List ℕ) (pieces : List (List (ℕ × Reply))) → All (IsOffKey parting key) workers →
+pub done_off_key : (parting : PartedOps) (key : ℕ) (workers : List ℕ) (pieces : List (List (ℕ × Reply))) → All (IsOffKey parting key) workers →
     on_key key (ops_done parting workers pieces) ≡ []
 done_off_key parting key [] pieces off = refl
 done_off_key parting key (worker ∷ workers) [] off = refl

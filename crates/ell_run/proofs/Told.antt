@@ -3,12 +3,12 @@ use Rattle.std.specs.Prelude.{IfSome}
 use Rattle.std.specs.Io.KnownBytes.{Appends}
 use Rattle.ell_ops.specs.Contents.{ListsPairs, contents_of}
 use Rattle.ell_ops.specs.Meaning.{replies, final}
-use Rattle.ell_parts.specs.Parting.{Parting}
+use Rattle.ell_parts.specs.PartedOps.{PartedOps}
 use Rattle.ell_text.specs.declared.output.WriteFault.{WriteFault}
 use Rattle.ell_text.specs.Bulk.{BulkValue, bulk}
 use Rattle.ell_text.specs.Answer.{answer}
 use Rattle.ell_run.specs.declared.settings.Settings.{Settings}
-use Rattle.ell_run.specs.Answered.{IsAnswer, IsAnswered, IsReported, Tells}
+use Rattle.ell_run.specs.Answered.{IsAnswer, IsAnswered, IsReported, FaultTells}
 use Rattle.ell_run.specs.Late.{IsLate}
 use Rattle.ell_run.specs.RunFault.{of_write}
 use Rattle.ell_run.specs.Settings.{IsPartedAs}
@@ -32,13 +32,13 @@ module _ (read : List ℕ) (given : BulkValue) (meant : bulk read ≡ Ok given) 
   pub cut_short : (input before after : Option (List ℕ)) (said : List Reply) (pairs : List (ℕ × ℕ)) (fault : WriteFault) → IfSome input (λ bytes. read ≡ bytes) →
       said ≡ replies (contents_of given.start) given.ops → ListsPairs (final (contents_of given.start) given.ops) pairs →
       fault.written < length (answer given.version said pairs) → Appends before after (take fault.written (answer given.version said pairs)) →
-      Tells (of_write fault) input before after
+      FaultTells (of_write fault) input before after
   cut_short None before after said pairs fault whole told listed missing out = tt
   cut_short (Some bytes) before after said pairs fault whole told listed missing out =
       (answer given.version said pairs, is_answer bytes said pairs whole told listed, missing, out)
 
   -- how many operations are late
-  pub reported : (settings : Settings) (input : Option (List ℕ)) (parting : Parting) (count : ℕ) → IfSome input (λ bytes. read ≡ bytes) →
+  pub reported : (settings : Settings) (input : Option (List ℕ)) (parting : PartedOps) (count : ℕ) → IfSome input (λ bytes. read ≡ bytes) →
       IsPartedAs settings given.ops parting → count ≤ length given.ops → IsLate (contents_of given.start) parting count → IsReported settings input count
   reported settings None parting count whole parted few late = tt
   reported settings (Some bytes) parting count whole parted few late =

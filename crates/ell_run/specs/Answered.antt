@@ -5,7 +5,7 @@ use Rattle.ell_ops.specs.Meaning.{replies, final}
 use Rattle.ell_text.specs.Limits.{most_bytes}
 use Rattle.ell_text.specs.Bulk.{BulkValue, bulk}
 use Rattle.ell_text.specs.Answer.{answer}
-use Rattle.ell_parts.specs.Parting.{Parting}
+use Rattle.ell_parts.specs.PartedOps.{PartedOps}
 use Rattle.ell_run.specs.Late.{IsLate}
 use Rattle.ell_run.specs.Settings.{IsPartedAs}
 use Rattle.ell_run.specs.declared.settings.Settings.{Settings}
@@ -26,7 +26,7 @@ IsAnswered input before after = IfSome input (λ bytes. (text : List ℕ) × IsA
 
 -- so many operations of a bulk text are late, parted as the settings ask
 pub record IsLateOf (settings : Settings) (given : BulkValue) (count : ℕ) : Type 0 where
-  pub parting : Parting
+  pub parting : PartedOps
   pub parted : IsPartedAs settings given.ops parting
   pub few : count ≤ length given.ops
   pub late : IsLate (contents_of given.start) parting count
@@ -41,10 +41,10 @@ IsBeforeWriting (Write written) = ⊥
 IsBeforeWriting _ = ⊤
 
 -- what a fault tells of the bytes that were read, and of what was written
-abbrev pub Tells : RunFault → Option (List ℕ) → Option (List ℕ) → Option (List ℕ) → Type 0
-Tells Read input before after = Keeps before after
-Tells TooLong input before after = Keeps before after × IfSome input (λ bytes. most_bytes < length bytes)
-Tells (Text fault) input before after = Keeps before after × IfSome input (λ bytes. bulk bytes ≡ Err fault)
-Tells NoMemory input before after = Keeps before after
-Tells (Write written) input before after = IfSome input (λ bytes.
+abbrev pub FaultTells : RunFault → Option (List ℕ) → Option (List ℕ) → Option (List ℕ) → Type 0
+FaultTells Read input before after = Keeps before after
+FaultTells TooLong input before after = Keeps before after × IfSome input (λ bytes. most_bytes < length bytes)
+FaultTells (Text fault) input before after = Keeps before after × IfSome input (λ bytes. bulk bytes ≡ Err fault)
+FaultTells NoMemory input before after = Keeps before after
+FaultTells (Write written) input before after = IfSome input (λ bytes.
     (text : List ℕ) × IsAnswer bytes text × (written < length text) × Appends before after (take written text))

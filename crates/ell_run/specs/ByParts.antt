@@ -2,28 +2,28 @@ use Rattle.std.specs.Prelude.{◌≡◌, ℕ, List, Some, map, filter, take, dro
 use Rattle.ell_ops.specs.declared.Op.{Op}
 use Rattle.ell_ops.specs.Contents.{Contents}
 use Rattle.ell_ops.specs.Meaning.{key_of, replies, final}
-use Rattle.ell_parts.specs.Parting.{Parting, IsLawful, part}
+use Rattle.ell_parts.specs.PartedOps.{PartedOps, IsLawful, part}
 
 -- the operations of numbered ones
 abbrev pub ops_in : List (ℕ × Op) → List Op
 ops_in items = map (λ item. item.1) items
 
 -- each operation on the key is the worker's
-abbrev pub Owns : Parting → ℕ → ℕ → Type 0
-Owns parting worker key = (i : ℕ) (op : Op) → slice_get parting.ops i ≡ Some op → key_of op ≡ key → slice_index parting.owners i ≡ worker
+abbrev pub WorkerHasKey : PartedOps → ℕ → ℕ → Type 0
+WorkerHasKey parting worker key = (i : ℕ) (op : Op) → slice_get parting.ops i ≡ Some op → key_of op ≡ key → slice_index parting.owners i ≡ worker
 
 -- the front of a worker's part that it has done
-abbrev pub done : Parting → (ℕ → ℕ) → ℕ → List (ℕ × Op)
+abbrev pub done : PartedOps → (ℕ → ℕ) → ℕ → List (ℕ × Op)
 done parting counts worker = take (counts worker) (part parting worker)
 
 -- the rest: each worker's operations in it are those that it has not done, in their order
-abbrev pub IsRest : Parting → (ℕ → ℕ) → List (ℕ × Op) → Type 0
+abbrev pub IsRest : PartedOps → (ℕ → ℕ) → List (ℕ × Op) → Type 0
 IsRest parting counts rest = (worker : ℕ) →
     filter (λ item. slice_index parting.owners item.0 == worker) rest ≡ drop (counts worker) (part parting worker)
 
 -- each worker has done a front of its part, from the map: each key is as its worker left it
-abbrev pub AreDone : Contents → Parting → (ℕ → ℕ) → Contents → Type 0
-AreDone set parting counts after = (worker key : ℕ) → Owns parting worker key →
+abbrev pub AreDone : Contents → PartedOps → (ℕ → ℕ) → Contents → Type 0
+AreDone set parting counts after = (worker key : ℕ) → WorkerHasKey parting worker key →
     after key ≡ final set (ops_in (done parting counts worker)) key
 
 -- the replies of a list of numbered operations, from a map, are those of their positions in the whole list
@@ -32,13 +32,13 @@ ReplyAlike start items set ops = (j i : ℕ) (op : Op) → slice_get items j ≡
     slice_get (replies start (ops_in items)) j ≡ slice_get (replies set ops) i
 
 -- what comes out of it
-pub record IsAsOneThread (set : Contents) (parting : Parting) (counts : ℕ → ℕ) (after : Contents) (rest : List (ℕ × Op)) : Type 0 where
+pub record IsAsOneThread (set : Contents) (parting : PartedOps) (counts : ℕ → ℕ) (after : Contents) (rest : List (ℕ × Op)) : Type 0 where
   pub early : (worker : ℕ) → ReplyAlike set (done parting counts worker) set parting.ops
   pub late : ReplyAlike after rest set parting.ops
   pub final : final after (ops_in rest) ≡ final set parting.ops
 
 -- parts done up to any point, in any interleaving, and then the rest, are the whole list done by one thread
 abbrev pub PartsServe : Type 0
-PartsServe = (set : Contents) (parting : Parting) (counts : ℕ → ℕ) (after : Contents) (rest : List (ℕ × Op)) →
+PartsServe = (set : Contents) (parting : PartedOps) (counts : ℕ → ℕ) (after : Contents) (rest : List (ℕ × Op)) →
     IsLawful parting → AreDone set parting counts after → IsRest parting counts rest →
     IsAsOneThread set parting counts after rest

@@ -3,7 +3,7 @@ use Rattle.std.specs.List.{enumerate_from, flat_map, list_any}
 use Rattle.ell_ops.specs.declared.op.Op.{Op}
 use Rattle.ell_ops.specs.Contents.{Contents, ListsPairs}
 use Rattle.ell_ops.specs.Meaning.{replies, final}
-use Rattle.ell_parts.specs.Parting.{Parting}
+use Rattle.ell_parts.specs.PartedOps.{PartedOps}
 use Rattle.ell_run.specs.Pieces.{ArePieces, all_workers, ops_done}
 use Rattle.ell_ops.specs.declared.reply.Reply.{Reply}
 
@@ -20,18 +20,18 @@ pub record AreMarks (items : List (ℕ × Reply)) (marks : List Bool) : Type 0 w
   pub each : (position : ℕ) → position < length marks → slice_get marks position ≡ Some (is_answered items position)
 
 -- all workers have worked from a map, and left these pieces, and these keys with their values
-pub record AreLeft (start : Contents) (parting : Parting) (pieces : List (List (ℕ × Reply))) (pairs : List (ℕ × ℕ)) : Type 0 where
+pub record AreLeft (start : Contents) (parting : PartedOps) (pieces : List (List (ℕ × Reply))) (pairs : List (ℕ × ℕ)) : Type 0 where
   pub told : ArePieces start parting (all_workers parting) pieces
   pub listed : ListsPairs (final start (ops_done parting (all_workers parting) pieces)) pairs
 
 -- so many operations are late: those that no piece answers, where all workers have worked from a map
-pub record IsLate (start : Contents) (parting : Parting) (late : ℕ) : Type 0 where
+pub record IsLate (start : Contents) (parting : PartedOps) (late : ℕ) : Type 0 where
   pub pieces : List (List (ℕ × Reply))
   pub told : ArePieces start parting (all_workers parting) pieces
   pub count : late ≡ length (late_ops parting.ops (flat_map (λ piece. piece) pieces))
 
 -- what a run of a list from a map comes to: its replies, its keys with their values, and how many operations are late
-pub record IsOutcome (start : Contents) (ops : List Op) (parting : Parting) (said : List Reply) (pairs : List (ℕ × ℕ)) (count : ℕ) : Type 0 where
+pub record IsOutcome (start : Contents) (ops : List Op) (parting : PartedOps) (said : List Reply) (pairs : List (ℕ × ℕ)) (count : ℕ) : Type 0 where
   pub told : said ≡ replies start ops
   pub listed : ListsPairs (final start ops) pairs
   pub late : IsLate start parting count

@@ -3,7 +3,7 @@ use Rattle.std.specs.List.{range_with_len, zip}
 use Rattle.ell_ops.specs.declared.op.Op.{Op}
 use Rattle.ell_ops.specs.Contents.{Contents}
 use Rattle.ell_ops.specs.Meaning.{reply_of, replies, final}
-use Rattle.ell_parts.specs.Parting.{Parting, part}
+use Rattle.ell_parts.specs.PartedOps.{PartedOps, part}
 use Rattle.ell_run.specs.ByParts.{ops_in}
 use Rattle.ell_ops.specs.declared.reply.Reply.{Reply}
 use Rattle.ell_ops.specs.declared.reply.Reply.TheVariants.{Yes}
@@ -28,7 +28,7 @@ pub record IsPiece (set : Contents) (items : List (ℕ × Op)) (piece : List (�
       reply_of op (final set (ops_in (front items piece))) ≡ Yes
 
 -- one piece for each worker, in their order, each done from a map
-abbrev pub ArePieces : Contents → Parting → List ℕ → List (List (ℕ × Reply)) → Type 0
+abbrev pub ArePieces : Contents → PartedOps → List ℕ → List (List (ℕ × Reply)) → Type 0
 ArePieces set parting [] [] = Unit {0}
 ArePieces set parting [] (piece ∷ pieces) = ⊥
 ArePieces set parting (worker ∷ workers) [] = ⊥
@@ -40,7 +40,7 @@ abbrev pub count_of : List (List (ℕ × Reply)) → ℕ → ℕ
 count_of pieces worker = length (slice_index_or pieces worker [])
 
 -- the operations that the pieces of workers answer, worker by worker
-abbrev pub ops_done : Parting → List ℕ → List (List (ℕ × Reply)) → List Op
+abbrev pub ops_done : PartedOps → List ℕ → List (List (ℕ × Reply)) → List Op
 ops_done parting [] pieces = []
 ops_done parting (worker ∷ workers) [] = []
 ops_done parting (worker ∷ workers) (piece ∷ pieces) =
@@ -51,15 +51,15 @@ abbrev pub one_held : List (ℕ × Op) → List (ℕ × Reply) → ℕ
 one_held items piece = if nat_lt (length piece) (length items) then 1 else 0
 
 -- how many workers' pieces leave something of their parts
-abbrev pub all_held : Parting → List ℕ → List (List (ℕ × Reply)) → ℕ
+abbrev pub all_held : PartedOps → List ℕ → List (List (ℕ × Reply)) → ℕ
 all_held parting [] pieces = 0
 all_held parting (worker ∷ workers) [] = 0
 all_held parting (worker ∷ workers) (piece ∷ pieces) = one_held (part parting worker) piece + all_held parting workers pieces
 
 -- all workers, ascending
-abbrev pub all_workers : Parting → List ℕ
+abbrev pub all_workers : PartedOps → List ℕ
 all_workers parting = range_with_len 0 parting.workers
 
 -- the workers that have something to do, ascending
-abbrev pub busy : Parting → List ℕ
+abbrev pub busy : PartedOps → List ℕ
 busy parting = filter (λ worker. nat_lt 0 (length (part parting worker))) (all_workers parting)

@@ -1,8 +1,7 @@
 use Rattle.std.specs.Prelude.{◌≡◌, ℕ, ◌≤◌, IfSome, List}
 use Rattle.ell_ops.specs.declared.op.Op.{Op}
 pub use Rattle.ell_ops.specs.Meaning.{most_workers}
-use Rattle.ell_parts.specs.Parting.{IsWorkerCount, striped, IsRanged}
-use Rattle.ell_parts.specs.Parting as parts
+use Rattle.ell_parts.specs.PartedOps.{PartedOps, IsWorkerCount, striped, IsRanged}
 use Rattle.ell_word.specs.Node.{most_cards}
 use Rattle.ell_run.specs.declared.settings.Parting.{Parting}
 use Rattle.ell_run.specs.declared.settings.Parting.TheVariants.{Stripe, Range}
@@ -24,12 +23,12 @@ pub record AreSettings (settings : Settings) : Type 0 where
   pub tries : IsAllowed most_tries settings.tries
 
 -- the owners of a parting are those in stripes, or in ranges
-abbrev pub HasOwners : Parting → parts.Parting → Type 0
+abbrev pub HasOwners : Parting → PartedOps → Type 0
 HasOwners Stripe parting = parting.owners ≡ striped parting.ops parting.workers
 HasOwners Range parting = IsRanged parting
 
 -- a parting is that of the operations which the settings ask for
-pub record IsPartedAs (settings : Settings) (ops : List Op) (parting : parts.Parting) : Type 0 where
+pub record IsPartedAs (settings : Settings) (ops : List Op) (parting : PartedOps) : Type 0 where
   pub all : parting.ops ≡ ops
   pub workers : parting.workers ≡ settings.workers
   pub owners : HasOwners settings.parting parting

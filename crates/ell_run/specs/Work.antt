@@ -4,7 +4,7 @@ use Rattle.std.specs.List.Sorted.{IsStrictlyIncreasing}
 use Rattle.ell_ops.specs.declared.op.Op.{Op}
 use Rattle.ell_ops.specs.KeySet.{KeySet, Lists}
 use Rattle.ell_ops.specs.Meaning.{key_of, final}
-use Rattle.ell_parts.specs.Parting.{Parting, IsLawful, part, keys_in}
+use Rattle.ell_parts.specs.PartedOps.{PartedOps, IsLawful, part, keys_in}
 use Rattle.ell_tree.specs.Ledgers.{PassModel, TreeModel, Owns, IsIdle, answers, hindrances, present_in}
 use Rattle.ell_tree.specs.Parts.{IsLeftPart, IsRightPart}
 use Rattle.ell_run.specs.ByParts.{ops_in}
@@ -16,11 +16,11 @@ abbrev pub OwnsAll : PassModel → List (ℕ × Op) → Type 0
 OwnsAll pass items = All (λ item. Owns pass (key_of item.1)) items
 
 -- the keys of the parts of workers
-abbrev pub keys_for : Parting → List ℕ → KeySet
+abbrev pub keys_for : PartedOps → List ℕ → KeySet
 keys_for parting workers = λ key. list_any (λ worker. keys_in (part parting worker) key) workers
 
 -- workers can set to work on their parts with a pass
-pub record AreReady (tree : TreeModel) (parting : Parting) (workers : List ℕ) (pass : PassModel) : Type 0 where
+pub record AreReady (tree : TreeModel) (parting : PartedOps) (workers : List ℕ) (pass : PassModel) : Type 0 where
   pub lawful : IsLawful parting
   pub known : All (λ worker. worker < parting.workers) workers
   pub ascending : IsStrictlyIncreasing workers
@@ -29,7 +29,7 @@ pub record AreReady (tree : TreeModel) (parting : Parting) (workers : List ℕ) 
   pub owned : All (λ worker. OwnsAll pass (part parting worker)) workers
 
 -- a pass was split: its left part has the keys of these workers, and its right part the rest
-pub record AreHalves (parting : Parting) (low : List ℕ) (pass left right : PassModel) : Type 0 where
+pub record AreHalves (parting : PartedOps) (low : List ℕ) (pass left right : PassModel) : Type 0 where
   pub keys : List ℕ
   pub listed : Lists (keys_for parting low) keys
   pub on_left : IsLeftPart keys pass left
@@ -58,7 +58,7 @@ pub record IsWorkedOff (cards tries : ℕ) (items : List (ℕ × Op)) (before af
 
 -- workers have worked with a pass, and left these pieces: the pass has the map that what they did leaves, one worker's operations
 -- after the other's; each operation behind a piece was held
-pub record IsWorked (cards tries : ℕ) (parting : Parting) (workers : List ℕ) (before after : PassModel) (pieces : List (List (ℕ × Reply))) : Type 0 where
+pub record IsWorked (cards tries : ℕ) (parting : PartedOps) (workers : List ℕ) (before after : PassModel) (pieces : List (List (ℕ × Reply))) : Type 0 where
   pub table : after.table ≡ before.table
   pub idle : IsIdle after
   pub told : ArePieces (present_in before) parting workers pieces

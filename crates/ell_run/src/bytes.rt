@@ -1,6 +1,6 @@
 //! A bulk text, run from bytes to bytes.
 ghost use Rattle.std.specs.Prelude.{◌≡◌, IfErr, IfOk, OnOk};
-ghost use Rattle.ell_run.specs.Answered.{IsAnswered, IsReported, Tells};
+ghost use Rattle.ell_run.specs.Answered.{FaultTells, IsAnswered, IsReported};
 ghost use Rattle.ell_run.specs.RunFault.{of_input, of_text, of_write};
 ghost use Rattle.ell_run.specs.Settings.{AreSettings};
 ghost use Rattle.ell_run.specs.declared.bytes.RunFault.TheVariants.{NoMemory as no_memory};
@@ -89,7 +89,7 @@ pub fn run_bytes<R: Threads + Sync, A: Allocator + Copy + Send + Sync, I: Read, 
     ensures ok { OnOk result (IsAnswered (I.remaining reader.old) (O.contents writer.old) (O.contents writer.new)) }
     ensures late { IfOk result (λ report. IsReported settings (I.remaining reader.old) report.late) }
     ensures fault { IfErr result (λ fault.
-        Tells fault (I.remaining reader.old) (O.contents writer.old) (O.contents writer.new)) }
+        FaultTells fault (I.remaining reader.old) (O.contents writer.old) (O.contents writer.new)) }
 {
     let bytes = read_all(alloc, reader)?;
     let bulk = read_bulk(alloc, &bytes)?;

@@ -6,7 +6,7 @@ ghost use Rattle.ell_ops.specs.declared.reply.Reply.{Reply};
 ghost use Rattle.std.specs.Map.{keys_of};
 ghost use Rattle.ell_ops.specs.Contents.{Contents, ListsPairs, contents_of};
 ghost use Rattle.ell_ops.specs.Meaning.{final};
-ghost use Rattle.ell_parts.specs.Parting.{IsLawful, part};
+ghost use Rattle.ell_parts.specs.PartedOps.{IsLawful, part};
 ghost use Rattle.ell_run.specs.ByParts.{ops_in};
 ghost use Rattle.ell_run.specs.Late.{AreMarks, late_ops};
 ghost use Rattle.ell_run.specs.Pieces.{ArePieces, all_workers, count_of, piece_from};
@@ -20,7 +20,7 @@ use std::alloc::Allocator;
 pub(crate) fn late_ops<A: Allocator + Copy>(
     alloc: A,
     ops: &[Op],
-    parts: &Parts<A>,
+    parts: &Parts<'_, A>,
     pieces: &[Piece<A>],
 ) -> Result<Vec<(usize, Op), A>, NoMemory>
     requires parted { parts.now.ops ≡ ops.now }
@@ -41,7 +41,7 @@ pub(crate) fn late_ops<A: Allocator + Copy>(
 }
 
 // Whether each piece is as long as the part that it is of.
-fn is_all_done<A: Allocator + Copy>(parts: &Parts<A>, pieces: &[Piece<A>]) -> bool
+fn is_all_done<A: Allocator + Copy>(parts: &Parts<'_, A>, pieces: &[Piece<A>]) -> bool
     requires { length pieces.now ≡ parts.now.workers }
     ensures lawful { IsLawful parts.now }
     ensures done { IsTrue result → (worker : ℕ) → worker < parts.now.workers →

@@ -64,7 +64,7 @@ fn do_op<A: Allocator + Copy, G: StepGate>(
 // Puts empty pieces between those of the busy workers: one piece for each worker, in order.
 pub(crate) fn with_empty_pieces<A: Allocator + Copy>(
     alloc: A,
-    parts: &Parts<A>,
+    parts: &Parts<'_, A>,
     mut pieces: Vec<Piece<A>, A>,
 ) -> Result<Vec<Piece<A>, A>, NoMemory>
     requires { length pieces.items ≡ length (busy parts.now) }

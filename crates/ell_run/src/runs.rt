@@ -3,10 +3,8 @@ ghost use Rattle.std.specs.Prelude.{◌≡◌, ◌≤◌, All, IfOk, length, map
 ghost use Rattle.std.specs.List.{flat_map};
 ghost use Rattle.std.specs.List.Sorted.{IsStrictlyIncreasing};
 ghost use Rattle.std.specs.Map.{keys_of as keys_in};
-ghost use Rattle.ell_ops.specs.KeySet.{Lists};
 ghost use Rattle.ell_ops.specs.Contents.{Contents, ListsPairs, contents_of};
 ghost use Rattle.ell_ops.specs.Meaning.{Fits, final, greatest_key, replies};
-ghost use Rattle.ell_parts.specs.Parting.{IsLawful, keys_of};
 ghost use Rattle.ell_word.specs.Node.{most_start};
 ghost use Rattle.ell_run.specs.Late.{AreLeft, IsLate, IsOutcome, late_ops};
 ghost use Rattle.ell_run.specs.Limits.{AreLimits};
@@ -51,7 +49,7 @@ pub fn run<R: Threads + Sync, A: Allocator + Copy + Send + Sync, G: StepGate + S
     alloc: A,
     start: &[(u64, u64)],
     ops: &[Op],
-    parts: &Parts<A>,
+    parts: &Parts<'_, A>,
     limits: Limits,
     gate: &G,
 ) -> Result<Outcome<A>, NoMemory>
@@ -75,7 +73,7 @@ fn run_workers<R: Threads + Sync, A: Allocator + Copy + Send + Sync, G: StepGate
     rt: &R,
     alloc: A,
     start: &[(u64, u64)],
-    parts: &Parts<A>,
+    parts: &Parts<'_, A>,
     limits: Limits,
     gate: &G,
 ) -> Result<(Vec<Piece<A>, A>, Vec<(u64, u64), A>), NoMemory>
@@ -86,14 +84,25 @@ fn run_workers<R: Threads + Sync, A: Allocator + Copy + Send + Sync, G: StepGate
     requires limits { AreLimits limits }
     ensures { IfOk result (λ left. AreLeft (contents_of start.now) parts.now (map (λ piece. piece.items) left.0.items) left.1.items) }
 {
-    let used = all_keys(alloc, parts)?;
+    let workers = busy_workers(alloc, parts)?;
+    let used = keys_for(alloc, parts, &workers)?;
     let there = start_keys(alloc, start)?;
     let keys = united_keys(alloc, &there, &used)?;
     let (tree, pass) = match Tree::reserve_from(alloc, start, &keys, limits.cards) {
         Ok(made) => made,
         Err(fault) => return Err(no_cards(fault)),
     };
-    let (pass, pieces) = work_apart(rt, alloc, &tree, pass, &used, parts, limits.tries, gate)?;
+    let (pass, pieces) = work_apart(
+        rt,
+        alloc,
+        &tree,
+        pass,
+        &used,
+        parts,
+        &workers,
+        limits.tries,
+        gate,
+    )?;
     match tree.close(pass) {
         Ok(pairs) => Ok((pieces, pairs)),
         Err(_) => Err(NoMemory),
@@ -105,15 +114,6 @@ fn start_keys<A: Allocator + Copy>(alloc: A, start: &[(u64, u64)]) -> Result<Vec
     ensures { IfOk result (λ keys. keys.items ≡ keys_in start.now) }
 {
     Ok(start.iter().map(|pair| pair.0).collect(alloc)?)
-}
-
-// The distinct keys of all parts, ascending.
-fn all_keys<A: Allocator + Copy>(alloc: A, parts: &Parts<A>) -> Result<Vec<u64, A>, NoMemory>
-    ensures lawful { IsLawful parts.now }
-    ensures keys { IfOk result (λ keys. Lists (keys_of parts.now.ops) keys.items) }
-{
-    let workers = busy_workers(alloc, parts)?;
-    keys_for(alloc, parts, &workers)
 }
 
 // The one fault that a tree of as many cards as there may be can have.
@@ -130,7 +130,7 @@ fn no_cards(fault: CardFault) -> NoMemory
 fn finish<A: Allocator + Copy>(
     alloc: A,
     ops: &[Op],
-    parts: &Parts<A>,
+    parts: &Parts<'_, A>,
     mut pieces: Vec<Piece<A>, A>,
     pairs: Vec<(u64, u64), A>,
 ) -> Result<Outcome<A>, NoMemory>

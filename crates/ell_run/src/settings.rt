@@ -45,7 +45,7 @@ pub fn parts_for<A: Allocator + Copy>(
     alloc: A,
     ops: &[Op],
     settings: Settings,
-) -> Result<Parts<A>, NoMemory>
+) -> Result<Parts<'_, A>, NoMemory>
     requires { AreSettings settings }
     ensures { IfOk result (IsPartedAs settings ops.now) }
 {

@@ -3,7 +3,7 @@ ghost use Rattle.std.specs.Prelude.{◌≡◌, ◌<◌, ◌≤◌, ◌++◌, ℕ
 ghost use denote.Param.Send.{Frees, IsSend, IsSync};
 ghost use Rattle.ell_ops.specs.KeySet.{Lists};
 ghost use Rattle.ell_ops.specs.Meaning.{key_of};
-ghost use Rattle.ell_parts.specs.Parting.{IsLawful, Parting, keys_of};
+ghost use Rattle.ell_parts.specs.PartedOps.{IsLawful, PartedOps, keys_of};
 ghost use Rattle.ell_tree.specs.Ledgers.{IsIdle, Owns, PassModel};
 ghost use Rattle.ell_run.specs.Pieces.{all_workers, busy};
 ghost use Rattle.ell_run.specs.Work.{AreHalves, AreReady, IsWorked, keys_for};
@@ -25,7 +25,7 @@ pub fn work<R: Threads + Sync, A: Allocator + Copy + Send + Sync, G: StepGate + 
     alloc: A,
     tree: &Tree<A>,
     pass: Pass<A>,
-    parts: &Parts<A>,
+    parts: &Parts<'_, A>,
     tries: u32,
     gate: &G,
 ) -> Result<(Pass<A>, Vec<Piece<A>, A>), NoMemory>
@@ -37,7 +37,30 @@ pub fn work<R: Threads + Sync, A: Allocator + Copy + Send + Sync, G: StepGate + 
         IsWorked tree.now.last_card tries parts.now (all_workers parts.now) pass done.0 (map (λ piece. piece.items) done.1.items)) }
 {
     let workers = busy_workers(alloc, parts)?;
-    let (pass, pieces) = do_workers(rt, alloc, tree, pass, parts, &workers, tries, gate)?;
+    work_busy(rt, alloc, tree, pass, parts, &workers, tries, gate)
+}
+
+// The same, where the workers whose parts are not empty are known.
+fn work_busy<R: Threads + Sync, A: Allocator + Copy + Send + Sync, G: StepGate + Sync>(
+    rt: &R,
+    alloc: A,
+    tree: &Tree<A>,
+    pass: Pass<A>,
+    parts: &Parts<'_, A>,
+    workers: &[u32],
+    tries: u32,
+    gate: &G,
+) -> Result<(Pass<A>, Vec<Piece<A>, A>), NoMemory>
+    requires own { pass.table ≡ tree.now.id }
+    requires idle { IsIdle pass }
+    requires lawful { IsLawful parts.now }
+    requires busy { workers.now ≡ busy parts.now }
+    requires owned { All (λ op. Owns pass (key_of op)) parts.now.ops }
+    requires tries { 1 ≤ tries }
+    ensures { IfOk result (λ done.
+        IsWorked tree.now.last_card tries parts.now (all_workers parts.now) pass done.0 (map (λ piece. piece.items) done.1.items)) }
+{
+    let (pass, pieces) = do_workers(rt, alloc, tree, pass, parts, workers, tries, gate)?;
     Ok((pass, with_empty_pieces(alloc, parts, pieces)?))
 }
 
@@ -48,13 +71,15 @@ pub(crate) fn work_apart<R: Threads + Sync, A: Allocator + Copy + Send + Sync, G
     tree: &Tree<A>,
     pass: Pass<A>,
     keys: &[u64],
-    parts: &Parts<A>,
+    parts: &Parts<'_, A>,
+    workers: &[u32],
     tries: u32,
     gate: &G,
 ) -> Result<(Pass<A>, Vec<Piece<A>, A>), NoMemory>
     requires own { pass.table ≡ tree.now.id }
     requires idle { IsIdle pass }
     requires lawful { IsLawful parts.now }
+    requires busy { workers.now ≡ busy parts.now }
     requires keys { Lists (keys_of parts.now.ops) keys.now }
     requires owned { All (λ key. Owns pass key) keys.now }
     requires tries { 1 ≤ tries }
@@ -65,7 +90,7 @@ pub(crate) fn work_apart<R: Threads + Sync, A: Allocator + Copy + Send + Sync, G
         Ok(parted) => parted,
         Err(_) => return Err(NoMemory),
     };
-    let (ours, pieces) = work(rt, alloc, tree, ours, parts, tries, gate)?;
+    let (ours, pieces) = work_busy(rt, alloc, tree, ours, parts, workers, tries, gate)?;
     match tree.join(ours, others) {
         Ok(pass) => Ok((pass, pieces)),
         Err(_) => Err(NoMemory),
@@ -75,7 +100,7 @@ pub(crate) fn work_apart<R: Threads + Sync, A: Allocator + Copy + Send + Sync, G
 // The workers whose parts are not empty, ascending.
 pub(crate) fn busy_workers<A: Allocator + Copy>(
     alloc: A,
-    parts: &Parts<A>,
+    parts: &Parts<'_, A>,
 ) -> Result<Vec<u32, A>, NoMemory>
     ensures lawful { IsLawful parts.now }
     ensures busy { IfOk result (λ workers. workers.items ≡ busy parts.now) }
@@ -96,7 +121,7 @@ fn do_workers<R: Threads + Sync, A: Allocator + Copy + Send + Sync, G: StepGate 
     alloc: A,
     tree: &Tree<A>,
     pass: Pass<A>,
-    parts: &Parts<A>,
+    parts: &Parts<'_, A>,
     workers: &[u32],
     tries: u32,
     gate: &G,
@@ -109,7 +134,7 @@ fn do_workers<R: Threads + Sync, A: Allocator + Copy + Send + Sync, G: StepGate 
         return do_one(alloc, tree, pass, parts, workers, tries, gate);
     }
     let (low, high) = workers.split_at(workers.len() / 2);
-    let (left, right) = halves(alloc, tree, pass, parts, low, high)?;
+    let (left, right) = halves(alloc, tree, pass, parts, low)?;
     let front = move || -> Result<(Pass<A>, Vec<Piece<A>, A>), NoMemory>
         requires { IsSync R.row × IsSync G.row × IsSend A.row × IsSync A.row × Frees A.Allocator A.dealloc_token × AreReady tree.now parts.now low.now left × (1 ≤ tries) }
         ensures { IfOk result (λ done. IsWorked tree.entry.now.last_card tries parts.entry.now low.entry.now left done.0 (map (λ piece. piece.items) done.1.items)) }
@@ -127,7 +152,7 @@ fn do_one<A: Allocator + Copy, G: StepGate>(
     alloc: A,
     tree: &Tree<A>,
     mut pass: Pass<A>,
-    parts: &Parts<A>,
+    parts: &Parts<'_, A>,
     workers: &[u32],
     tries: u32,
     gate: &G,
@@ -147,21 +172,20 @@ fn do_one<A: Allocator + Copy, G: StepGate>(
     Ok((pass, pieces))
 }
 
-// Splits a pass between two rows of workers: the left part gets the keys of the first row.
+// Splits a pass between two rows of workers: the left part gets the keys of the first row, `low`, and the right part the rest.
 fn halves<A: Allocator + Copy>(
     alloc: A,
     tree: &Tree<A>,
     pass: Pass<A>,
-    parts: &Parts<A>,
+    parts: &Parts<'_, A>,
     low: &[u32],
-    high: &[u32],
 ) -> Result<(Pass<A>, Pass<A>), NoMemory>
-    requires { AreReady tree.now parts.now (low.now ++ high.now) pass }
+    requires { (high : List ℕ) × AreReady tree.now parts.now (low.now ++ high) pass }
     ensures halves { IfOk result (λ parted. AreHalves parts.now low.now pass parted.0 parted.1) }
     ensures left { IfOk result (λ parted. AreReady tree.now parts.now low.now parted.0) }
-    ensures right { IfOk result (λ parted. AreReady tree.now parts.now high.now parted.1) }
+    ensures right { (high : List ℕ) → AreReady tree.now parts.now (low.now ++ high) pass →
+        IfOk result (λ parted. AreReady tree.now parts.now high parted.1) }
 {
-    let _ = high;
     let keys = keys_for(alloc, parts, low)?;
     match tree.split(pass, &keys) {
         Ok(parted) => Ok(parted),
@@ -172,7 +196,7 @@ fn halves<A: Allocator + Copy>(
 // The keys of the parts of workers, ascending.
 pub(crate) fn keys_for<A: Allocator + Copy>(
     alloc: A,
-    parts: &Parts<A>,
+    parts: &Parts<'_, A>,
     workers: &[u32],
 ) -> Result<Vec<u64, A>, NoMemory>
     requires { All (λ worker. worker < parts.now.workers) workers.now }
@@ -200,7 +224,7 @@ fn both<A: Allocator + Copy>(
     requires right { second.0.table ≡ tree.now.id }
     requires left_idle { IsIdle first.0 }
     requires right_idle { IsIdle second.0 }
-    ensures { (cards tries : ℕ) (parting : Parting) (low high : List ℕ) (pass left right : PassModel) →
+    ensures { (cards tries : ℕ) (parting : PartedOps) (low high : List ℕ) (pass left right : PassModel) →
         AreReady tree.now parting (low ++ high) pass → AreHalves parting low pass left right →
         IsWorked cards tries parting low left first.0 (map (λ piece. piece.items) first.1.items) →
         IsWorked cards tries parting high right second.0 (map (λ piece. piece.items) second.1.items) →

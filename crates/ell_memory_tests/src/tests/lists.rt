@@ -61,7 +61,7 @@ const STRIPED: [Part; 2] = [(&[1], &[6]), (&[0, 2, 3], &[5, 9])];
 const RANGED: [Part; 2] = [(&[0, 1, 2], &[5, 6]), (&[3], &[9])];
 
 // Whether a worker has this part.
-fn has_part<A: Allocator>(parts: &Parts<A>, worker: u32, want: Part) -> bool {
+fn has_part<A: Allocator>(parts: &Parts<'_, A>, worker: u32, want: Part) -> bool {
     if parts.workers() <= worker {
         return false;
     }
@@ -70,7 +70,7 @@ fn has_part<A: Allocator>(parts: &Parts<A>, worker: u32, want: Part) -> bool {
 }
 
 // Whether the list was parted so, at which no memory is wanted for a look.
-fn are_parts(heap: &Heap, parted: &Result<Parts<&Heap>, PartFault>, want: [Part; 2]) -> Ended {
+fn are_parts(heap: &Heap, parted: &Result<Parts<'_, &Heap>, PartFault>, want: [Part; 2]) -> Ended {
     let growths = heap.growths();
     let ended = match parted {
         Ok(parts) => Ended::answered(

@@ -11,14 +11,14 @@ const FIVES: [Op; 3] = [Op::Insert(5, 50), Op::Find(6), Op::Delete(5)];
 type Want = (&'static [(usize, Op)], &'static [u64]);
 
 // Whether a parting has these parts of the workers, and no more.
-fn is_parted(parted: Result<Parts<Global>, PartFault>, wants: &[Want]) -> bool {
+fn is_parted(parted: Result<Parts<'_, Global>, PartFault>, wants: &[Want]) -> bool {
     match parted {
         Ok(parts) => are_parts(&parts, wants),
         Err(_) => false,
     }
 }
 
-fn are_parts(parts: &Parts<Global>, wants: &[Want]) -> bool {
+fn are_parts(parts: &Parts<'_, Global>, wants: &[Want]) -> bool {
     if parts.workers() as usize != wants.len() {
         return false;
     }
@@ -41,7 +41,7 @@ fn owners_part_a_list(rt: HostRuntime) {
 
 #[test]
 fn parts_have_a_length(rt: HostRuntime) {
-    let length = |parts: Parts<Global>| (parts.len(), parts.is_empty());
+    let length = |parts: Parts<'_, Global>| (parts.len(), parts.is_empty());
     let fives = Parts::by_owner(rt.alloc(), &FIVES, &[0, 1, 0], 2).map(length);
     assert!(rt; fives == Ok((3, false)));
     assert!(rt; Parts::ranged(rt.alloc(), &[], 3).map(length) == Ok((0, true)));

@@ -1,5 +1,5 @@
 use Rattle.std.proofs.Common.{◌≡◌, take}
-use Rattle.ell_parts.specs.Parting.{ranged}
+use Rattle.ell_parts.specs.PartedOps.{ranged}
 use Rattle.ell_parts.proofs.owners.ranged_owners.Given as goal
 
 -- the owners so far are those of the operations so far

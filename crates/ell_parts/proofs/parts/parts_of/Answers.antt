@@ -1,7 +1,7 @@
 use Rattle.std.proofs.Common.{◌<◌, length, get_or, arith, subst, ◌∙◌, length-set}
 use Rattle.std.proofs.lemmas.List.{take_all}
 use Rattle.ell_ops.specs.declared.op.Op.TheVariants.{Find}
-use Rattle.ell_parts.specs.Parting.{AreParts}
+use Rattle.ell_parts.specs.PartedOps.{AreParts}
 use Rattle.ell_parts.proofs.Partings.{AreParts-push}
 use Rattle.ell_parts.proofs.parts.parts_of.Goals as goal
 

@@ -1,5 +1,5 @@
 use Rattle.std.proofs.Common.{◌≡◌, length, take}
-use Rattle.ell_parts.specs.Parting.{AreParts}
+use Rattle.ell_parts.specs.PartedOps.{AreParts}
 use Rattle.ell_parts.proofs.parts.parts_of.Given as goal
 
 -- the lists are the parts of the operations so far

@@ -1,7 +1,7 @@
 use Rattle.std.proofs.Common.{◌≡◌, ◌≤◌, [], length, map, get_or, arith, ap, sym, subst, ◌∙◌, ⊎_elim}
 use Rattle.std.proofs.lemmas.Bool.{cases_eq}
 use Rattle.std.proofs.lemmas.List.{get_or-map}
-use Rattle.ell_parts.specs.Parting.{part}
+use Rattle.ell_parts.specs.PartedOps.{part}
 use Rattle.ell_run.specs.Pieces.{count_of}
 use Rattle.ell_run.proofs.late.is_all_done.Goals as goal
 

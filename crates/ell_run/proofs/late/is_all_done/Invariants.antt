@@ -1,5 +1,5 @@
 use Rattle.std.proofs.Common.{ℕ, ◌<◌, ◌≤◌, length, map}
-use Rattle.ell_parts.specs.Parting.{part}
+use Rattle.ell_parts.specs.PartedOps.{part}
 use Rattle.ell_run.specs.Pieces.{count_of}
 use Rattle.ell_run.proofs.late.is_all_done.Given as goal
 

@@ -3,6 +3,17 @@ use Rattle.std.proofs.lemmas.List.{take-append-drop}
 use Rattle.ell_run.specs.Work.{AreHalves, AreReady, IsWorked}
 use Rattle.ell_run.proofs.workers.+halves.Goals as goal
 
+pub join-first-requires-after_bounds : goal.join-first-requires-after_bounds
+join-first-requires-after_bounds g t c κs within =
+    let workers = c.args.workers.now in
+    let low = c.split_at.result.0.now in
+    let high = c.split_at.result.1.now in
+    let rows : low ++ high ≡ workers =
+    ap₂ ◌++◌ c.split_at.ensures.front c.split_at.ensures.back ∙ take-append-drop (length workers / 2) workers in
+    let ready : AreReady c.args.tree.now c.args.parts.now high c.in_ok-left.right =
+    c.in_ok-left.ensures.right high (subst (λ row. AreReady c.args.tree.now c.args.parts.now row c.args.pass) (sym rows) c.requires.ready) in
+    search rules
+
 pub returns : goal.returns
 returns g t c =
     let parting = c.args.parts.now in

@@ -1,7 +1,7 @@
 use Rattle.std.proofs.Common.{◌≡◌, filter, length}
 use Rattle.std.specs.Prelude.{nat_lt}
 use Rattle.std.specs.List.{range_with_len}
-use Rattle.ell_parts.specs.Parting.{part}
+use Rattle.ell_parts.specs.PartedOps.{part}
 use Rattle.ell_run.proofs.workers.busy_workers.Given as goal
 
 -- the workers so far are those with something to do among the first

@@ -21,7 +21,7 @@ const FEW_CARDS: u64 = 1_000;
 fn late_beside_one_thread<R: Threads + Abort + AllocGlobal + Sync>(
     rt: &R,
     ops: &[Op],
-    parts: &Parts<Global>,
+    parts: &Parts<'_, Global>,
     cards: u64,
     tries: u32,
 ) -> usize

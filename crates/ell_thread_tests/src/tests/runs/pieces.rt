@@ -19,7 +19,7 @@ pub fn work_by<R: Threads + Abort + AllocGlobal + Sync, G: StepGate + Sync>(
     tree: &Tree<Global>,
     pass: Pass<Global>,
     ops: &[Op],
-    parts: &Parts<Global>,
+    parts: &Parts<'_, Global>,
     tries: u32,
     gate: &G,
 ) -> (Pass<Global>, Vec<Piece>)

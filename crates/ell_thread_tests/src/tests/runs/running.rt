@@ -37,7 +37,7 @@ fn limits_of(rt: &impl Abort, cards: u64, tries: u32) -> Limits
 pub fn run_by<R: Threads + Abort + AllocGlobal + Sync, G: StepGate + Sync>(
     rt: &R,
     ops: &[Op],
-    parts: &Parts<Global>,
+    parts: &Parts<'_, Global>,
     cards: u64,
     tries: u32,
     gate: &G,
@@ -52,7 +52,7 @@ pub fn run_from<R: Threads + Abort + AllocGlobal + Sync, G: StepGate + Sync>(
     rt: &R,
     start: &[(u64, u64)],
     ops: &[Op],
-    parts: &Parts<Global>,
+    parts: &Parts<'_, Global>,
     cards: u64,
     tries: u32,
     gate: &G,

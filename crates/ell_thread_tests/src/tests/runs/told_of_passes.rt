@@ -17,7 +17,7 @@ use std::thread::Threads;
 // counted that comes back.
 fn leave<R: Threads + Abort + AllocGlobal + Sync>(
     rt: &R,
-    parts: &Parts<Global>,
+    parts: &Parts<'_, Global>,
     ops: &[Op],
     cards: u64,
     tries: u32,
@@ -35,7 +35,7 @@ fn leave<R: Threads + Abort + AllocGlobal + Sync>(
 // Whether a gate was told of a worker what its piece shows of its part: steps exactly where there is a part.
 fn is_told_as_left(
     gate: &Counting<NoGate>,
-    parts: &Parts<Global>,
+    parts: &Parts<'_, Global>,
     pieces: &[Piece],
     worker: u32,
 ) -> bool {

@@ -1,5 +1,5 @@
 use Rattle.std.proofs.Common.{◌≡◌, ◌<◌, ℕ, rules, length, get_or}
-use Rattle.ell_parts.specs.Parting.{IsWorkerCount}
+use Rattle.ell_parts.specs.PartedOps.{IsWorkerCount}
 use Rattle.ell_parts.proofs.Partings.{lawful_from_checks}
 use Rattle.ell_parts.proofs.parts.Parts.by_owner.Goals as goal
 

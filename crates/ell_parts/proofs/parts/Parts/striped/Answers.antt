@@ -1,5 +1,5 @@
 use Rattle.std.proofs.Common.{rules}
-use Rattle.ell_parts.specs.Parting.{IsWorkerCount}
+use Rattle.ell_parts.specs.PartedOps.{IsWorkerCount}
 use Rattle.ell_parts.proofs.Partings.{striped_is_lawful}
 use Rattle.ell_parts.proofs.parts.Parts.striped.Goals as goal
 

@@ -6,7 +6,7 @@ use Rattle.ell_ops.specs.KeySet.{KeySet, set_of, Lists}
 use Rattle.ell_ops.specs.Meaning.{key_of, most_workers}
 
 -- a list, the worker of each of its positions, and how many workers there are
-pub record Parting : Type 0 where
+pub record PartedOps : Type 0 where
   pub ops : List Op
   pub owners : List ℕ
   pub workers : ℕ
@@ -22,14 +22,14 @@ KeepsKeysTogether ops owners = (i j : ℕ) (a b : Op) → slice_get ops i ≡ So
     key_of a ≡ key_of b → slice_index owners i ≡ slice_index owners j
 
 -- each position has one of the workers, and equal keys have equal workers
-pub record IsLawful (parting : Parting) : Type 0 where
+pub record IsLawful (parting : PartedOps) : Type 0 where
   pub count : IsWorkerCount parting.workers
   pub each : length parting.owners ≡ length parting.ops
   pub known : (i : ℕ) → i < length parting.owners → slice_index parting.owners i < parting.workers
   pub together : KeepsKeysTogether parting.ops parting.owners
 
 -- the part of a worker: its operations with their positions, in the order of the list
-abbrev pub part : Parting → ℕ → List (ℕ × Op)
+abbrev pub part : PartedOps → ℕ → List (ℕ × Op)
 part parting worker = filter (λ item. slice_index parting.owners item.0 == worker) (enumerate_from 0 parting.ops)
 
 -- the set of the keys in a list of operations
@@ -53,19 +53,19 @@ abbrev pub ranged : List ℕ → List Op → ℕ → List ℕ
 ranged keys ops workers = map (λ op. rank keys (key_of op) / div_ceil (length keys) workers) ops
 
 -- the owners are those in ranges, by the list of the distinct keys, ascending
-abbrev pub IsRanged : Parting → Type 0
+abbrev pub IsRanged : PartedOps → Type 0
 IsRanged parting = (keys : List ℕ) → Lists (keys_of parting.ops) keys → parting.owners ≡ ranged keys parting.ops parting.workers
 
 -- each list, seen by `items`, is the part of the worker at whose place it stands
-abbrev pub AreParts : {V : Type 0} → (V → List (ℕ × Op)) → Parting → List V → Type 0
+abbrev pub AreParts : {V : Type 0} → (V → List (ℕ × Op)) → PartedOps → List V → Type 0
 AreParts {V} items parting parts = (worker : ℕ) (list : V) → slice_get parts worker ≡ Some list → items list ≡ part parting worker
 
 -- each list, seen by `items`, has the keys of the part of the worker at whose place it stands, each once, ascending
-abbrev pub AreKeys : {V : Type 0} → (V → List ℕ) → Parting → List V → Type 0
+abbrev pub AreKeys : {V : Type 0} → (V → List ℕ) → PartedOps → List V → Type 0
 AreKeys {V} items parting keys = (worker : ℕ) (list : V) → slice_get keys worker ≡ Some list → Lists (keys_in (part parting worker)) (items list)
 
 -- the lists, seen by `items` and `numbers`, are the parts and the keys of a lawful parting
-pub record AreListsOf {P K : Type 0} (items : P → List (ℕ × Op)) (numbers : K → List ℕ) (parting : Parting) (parts : List P) (keys : List K) : Type 0 where
+pub record AreListsOf {P K : Type 0} (items : P → List (ℕ × Op)) (numbers : K → List ℕ) (parting : PartedOps) (parts : List P) (keys : List K) : Type 0 where
   pub lawful : IsLawful parting
   pub are_parts : AreParts items parting parts
   pub each : length keys ≡ length parts
