@@ -3,7 +3,7 @@ pub mod Ledgers
 -- how an operation ends
 pub mod Ends
 -- how passes begin, part and come together
-pub mod Parts
+pub mod PassParts
 -- how a tree ends
 pub mod Closing
 -- what was in the way, and when it is over
