@@ -1,4 +1,4 @@
-use Rattle.std.specs.Prelude.{◌≡◌, ℕ, ◌⊎◌, ◌+◌, ◌≤◌, ◌*◌, ◌==◌, if◌then◌else◌, true, Some, None, List, [], ◌∷◌, min}
+use Rattle.std.specs.Prelude.{◌≡◌, ◌≢◌, ℕ, ◌⊎◌, ◌+◌, ◌≤◌, ◌*◌, ◌==◌, if◌then◌else◌, true, Some, None, List, [], ◌∷◌, min}
 use Rattle.atomic_table.specs.Seated.{TableId}
 use Rattle.ell_ops.specs.declared.op.Op.{Op}
 use Rattle.ell_word.specs.Node.{most_cards}
@@ -7,6 +7,7 @@ use Rattle.ell_core.specs.declared.fact.Fact.TheVariants.{IFlagged, DFlagged, Ma
 use Rattle.ell_core.specs.declared.field.Field.{Field}
 use Rattle.ell_core.specs.state.Layout.{place}
 use Rattle.ell_core.specs.state.Facts.{known_of}
+use Rattle.ell_core.specs.state.Machine.{Ledger, ledger_of}
 use Rattle.ell_cards.specs.declared.fault.CardFault.{CardFault}
 use Rattle.ell_cards.specs.declared.fault.CardFault.TheVariants.{BadCards, NoMemory}
 use Rattle.ell_cards.specs.declared.view.Told.{Told}
@@ -24,6 +25,14 @@ pub record PassModel : Type 0 where
   pub view : View
   pub steps : ℕ
   pub label : ℕ
+
+-- the ledger of a pass: each key of its own with whether it is present, and with which value
+abbrev pub ledger : PassModel → Ledger
+ledger p = ledger_of p.view.worker.ledger
+
+-- a pass owns a key
+abbrev pub Owns : PassModel → ℕ → Type 0
+Owns p key = ledger p key ≢ None
 
 -- one step more, but no more than 64 bits hold
 abbrev pub one_more : ℕ → ℕ

@@ -1,9 +1,8 @@
 //! What a thread steps with.
-ghost use Rattle.std.specs.Prelude.{◌≡◌, ◌≢◌, ◌↔◌, ℕ, IsTrue, None, []};
+ghost use Rattle.std.specs.Prelude.{◌≡◌, ◌↔◌, ℕ, IsTrue, []};
 ghost use Rattle.std.specs.List.Sorted.{IsStrictlyIncreasing};
 ghost use Rattle.ell_core.specs.state.Layout.{table_size};
-ghost use Rattle.ell_core.specs.state.Machine.{ledger_of};
-ghost use Rattle.ell_cards.specs.Models.{PassModel, one_more};
+ghost use Rattle.ell_cards.specs.Models.{Owns, PassModel, one_more};
 ghost use Rattle.ell_cards.specs.Changes.{keys_of};
 ghost use Rattle.ell_cards.specs.Naming.{IsNamed};
 
@@ -12,7 +11,8 @@ use atomic_table::Seat;
 use std::alloc::Allocator;
 use std::marker::Model;
 
-/// What a thread steps with on a table: keys of its own, a label, and a count of its steps.
+/// What a thread steps with on a table: keys of its own, a label, and a count of its steps. Where a pass is dropped, its keys are lost:
+/// no other pass gets them, and the tree can't be closed any more.
 #[derive(Drop)]
 pub struct Pass<A: Allocator + Copy> {
     pub(crate) keys: Vec<u64, A>,
@@ -43,7 +43,7 @@ impl<A: Allocator + Copy> Model for Pass<A> {
 impl<A: Allocator + Copy> Pass<A> {
     /// Whether the pass owns a key.
     pub fn owns(&self, key: u64) -> bool
-        ensures { IsTrue result ↔ (ledger_of self.now.view.worker.ledger key ≢ None) }
+        ensures { IsTrue result ↔ Owns self.now key }
     {
         self.keys.binary_search(&key).is_ok()
     }

@@ -5,7 +5,7 @@ use Rattle.ell_ops.specs.KeySet.{Lists, set_of}
 use Rattle.ell_ops.specs.Meaning.{key_of}
 use Rattle.ell_parts.specs.PartedOps.{PartedOps, IsLawful, keys_of}
 use Rattle.ell_tree.specs.Ledgers.{PassModel, TreeModel, Owns, IsIdle, ledger}
-use Rattle.ell_tree.specs.Parts.{IsLeftPart, IsRightPart, IsUnion}
+use Rattle.ell_tree.specs.PassParts.{IsLeftPart, IsRightPart, IsUnion}
 use Rattle.ell_run.specs.Pieces.{all_workers}
 use Rattle.ell_run.specs.Work.{AreHalves, AreReady, IsWorked}
 use Rattle.ell_run.proofs.Halves.{worked_both}

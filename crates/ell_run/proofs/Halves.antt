@@ -15,7 +15,7 @@ use Rattle.ell_ops.specs.KeySet.{Lists}
 use Rattle.ell_ops.specs.Meaning.{key_of, final}
 use Rattle.ell_parts.specs.PartedOps.{PartedOps, IsLawful, part, keys_in}
 use Rattle.ell_tree.specs.Ledgers.{PassModel, TreeModel, Owns, ledger, present_in, Entry}
-use Rattle.ell_tree.specs.Parts.{IsUnion, or_else}
+use Rattle.ell_tree.specs.PassParts.{IsUnion, or_else}
 use Rattle.ell_run.specs.Pieces.{all_held, ops_done}
 use Rattle.ell_run.specs.Work.{AreHalves, AreHeld, AreReady, IsWorked, OwnsAll, keys_for}
 use Rattle.ell_run.proofs.ByParts.{part_item}

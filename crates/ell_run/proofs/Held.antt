@@ -3,7 +3,7 @@ use Rattle.std.specs.List.{insert}
 use Rattle.std.proofs.Math.Nat.{mul-add, mul-one, mul-zero, zero-add}
 use Rattle.std.proofs.lemmas.List.{length-append}
 use Rattle.ell_parts.specs.PartedOps.{PartedOps, part}
-use Rattle.ell_tree.specs.Parts.{later}
+use Rattle.ell_tree.specs.PassParts.{later}
 use Rattle.ell_tree.specs.declared.operations.Held.{Held}
 use Rattle.ell_tree.specs.declared.operations.Held.TheVariants.{Busy, Spent}
 use Rattle.ell_tree.specs.Ends.{HeldFor}

@@ -15,7 +15,7 @@ use Rattle.ell_ops.specs.KeySet.{Lists, set_of, union}
 use Rattle.ell_ops.specs.Meaning.{Fits, greatest_key, key_of}
 use Rattle.ell_parts.specs.PartedOps.{PartedOps, IsLawful, keys_of, part}
 use Rattle.ell_tree.specs.Ledgers.{PassModel, TreeModel, Owns, IsIdle, ledger, Entry}
-use Rattle.ell_tree.specs.Parts.{IsFirst, start_entry}
+use Rattle.ell_tree.specs.PassParts.{IsFirst, start_entry}
 use Rattle.ell_run.specs.Pieces.{all_workers, busy}
 use Rattle.ell_run.specs.Work.{AreReady}
 use Rattle.ell_run.proofs.Busy.{all_ascend, all_known, busy_known, is_busy}

@@ -6,7 +6,7 @@ use Rattle.ell_ops.specs.KeySet.{KeySet, Lists}
 use Rattle.ell_ops.specs.Meaning.{key_of, final}
 use Rattle.ell_parts.specs.PartedOps.{PartedOps, IsLawful, part, keys_in}
 use Rattle.ell_tree.specs.Ledgers.{PassModel, TreeModel, Owns, IsIdle, answers, hindrances, present_in}
-use Rattle.ell_tree.specs.Parts.{IsLeftPart, IsRightPart}
+use Rattle.ell_tree.specs.PassParts.{IsLeftPart, IsRightPart}
 use Rattle.ell_run.specs.ByParts.{ops_in}
 use Rattle.ell_run.specs.Pieces.{ArePieces, IsPiece, all_held, front, one_held, ops_done}
 use Rattle.ell_ops.specs.declared.reply.Reply.{Reply}

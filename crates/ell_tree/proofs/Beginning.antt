@@ -1,10 +1,10 @@
 use Rattle.std.proofs.Common.{◌++◌, Option, Some, [], refl, sym, ap, subst, arith}
 use Rattle.ell_ops.specs.declared.op.Op.{Op}
 use Rattle.ell_cards.specs.declared.view.View.{View}
-use Rattle.ell_cards.specs.Models.{PassModel, Steps, latest}
+use Rattle.ell_cards.specs.Models.{PassModel, Steps, Does, latest}
 use Rattle.ell_cards.specs.Changes.{after_begin, after_again, after_leave, in_the_way}
 use Rattle.ell_tree.specs.Hindrances.{way_of}
-use Rattle.ell_tree.specs.Tries.{Begins, Lays, Stops}
+use Rattle.ell_tree.specs.Tries.{Begins, Lays}
 
 -- an operation that was taken in hand stands at the root
 pub begins : (old new : PassModel) (op : Op) → Steps old new (after_begin (Some op) old.view) → Begins op [] old new
@@ -25,9 +25,9 @@ anew o v = record (after_begin o v) {
   hindrances = in_the_way o v.worker.search.node v.worker.search.parent v.worker.search.grandparent ++ v.hindrances;
 }
 
-pub begins_anew : (old new : PassModel) (op : Op) → Steps old new (after_again old.view) → Stops op old.view → Begins op (way_of op old.view) old new
-begins_anew old new op s stops =
-    let again = subst (λ (o : Option Op). Steps old new (anew o old.view)) stops.busy s in
+pub begins_anew : (old new : PassModel) (op : Op) → Steps old new (after_again old.view) → Does old.view op → Begins op (way_of op old.view) old new
+begins_anew old new op s busy =
+    let again = subst (λ (o : Option Op). Steps old new (anew o old.view)) busy s in
     subst (λ (m : PassModel). Begins op (way_of op old.view) old m) (sym again) (record {
       table = refl;
       label = refl;
@@ -40,15 +40,15 @@ begins_anew old new op s stops =
     })
 
 -- an operation that is laid down
-pub lays : (old new : PassModel) (op : Op) → Steps old new (after_leave old.view) → Stops op old.view → Lays op old new
-lays old new op s stops = subst (λ (m : PassModel). Lays op old m) (sym s) (record {
+pub lays : (old new : PassModel) (op : Op) → Steps old new (after_leave old.view) → Does old.view op → Lays op old new
+lays old new op s busy = subst (λ (m : PassModel). Lays op old m) (sym s) (record {
   table = refl;
   label = refl;
   ledger = refl;
   answers = refl;
   hindrances = ap
       (λ (o : Option Op). in_the_way o old.view.worker.search.node old.view.worker.search.parent old.view.worker.search.grandparent ++ old.view.hindrances)
-      stops.busy;
+      busy;
   knows = λ f h. h;
   next = refl;
   idle = refl;

@@ -17,7 +17,7 @@ use Rattle.ell_cards.proofs.views.Steps.{view_after}
 use Rattle.ell_cards.proofs.views.Searches.{may_claim}
 use Rattle.ell_tree.specs.declared.searching.Place.{Place}
 use Rattle.ell_tree.specs.Hindrances.{Meets}
-use Rattle.ell_tree.specs.Keeping.{Keeps, Goes}
+use Rattle.ell_tree.specs.Keeping.{LosesNothing, Goes}
 use Rattle.ell_tree.specs.Searches.{seen, IsAt}
 use Rattle.ell_tree.specs.Tries.{HasCard, HasNone}
 use Rattle.ell_tree.proofs.Keeping.{goes_step, goes_trans, next_keeps}
@@ -46,7 +46,7 @@ told_filling_over c [] es e h = elim h [ ]
 told_filling_over c (f ∷ fs) es e h =
     told_fixed_over c f.0 f.1 (told_filling c fs []) (told_filling c fs es) e (λ d. told_filling_over c fs es d) h
 
-won_keeps : (c : ℕ) (v : View) → Keeps v (after_claim true c v)
+won_keeps : (c : ℕ) (v : View) → LosesNothing v (after_claim true c v)
 won_keeps c v = record {
   ledger = refl;
   operation = refl;
@@ -55,7 +55,7 @@ won_keeps c v = record {
   told = filling_more c (filling_of c v) v.told;
 }
 
-lost_keeps : (c : ℕ) (v : View) → Keeps v (after_claim false c v)
+lost_keeps : (c : ℕ) (v : View) → LosesNothing v (after_claim false c v)
 lost_keeps c v = record { ledger = refl; operation = refl; answers = refl; knows = λ f h. h; told = λ e h. h }
 
 -- where a search stands at a leaf, and the claim word was read, a claim may be made

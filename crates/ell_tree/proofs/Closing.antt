@@ -3,7 +3,7 @@ use Rattle.std.specs.List.{All}
 use Rattle.std.specs.List.Sorted.{IsStrictlyIncreasing}
 use Rattle.std.specs.Cmp.{nat_eq_equiv}
 use Rattle.std.proofs.lemmas.Bool.Decides.{Decides-eqb}
-use Rattle.std.proofs.lemmas.List.Elements.{All-contains}
+use Rattle.std.proofs.lemmas.List.Elements.{All-nil, All-cons, All-contains}
 use Rattle.std.proofs.lemmas.List.Kept.{AllPairs-from_increasing}
 use Rattle.std.proofs.lemmas.Map.Made.{IsDistinct-from_AllPairs, length-le_from_is_member}
 use Rattle.std.proofs.lemmas.Map.Views.{list_any-from_Contains}
@@ -15,6 +15,7 @@ use Rattle.ell_cards.specs.Models.{PassModel}
 use Rattle.ell_cards.specs.Changes.{keys_of}
 use Rattle.std.specs.Map.{keys_of as pair_keys, values_of}
 use Rattle.ell_ops.specs.Contents.{contents_of}
+use Rattle.ell_ops.specs.KeySet.{set_of}
 use Rattle.ell_ops.proofs.Pairs.{contents_at}
 use Rattle.ell_core.specs.declared.view.Entry.TheVariants.{Present}
 use Rattle.ell_core.specs.state.Words.{Words}
@@ -23,7 +24,7 @@ use Rattle.ell_cards.specs.Closed.{ClosedModel, TableEnds}
 use Rattle.ell_cards.proofs.words.Keys.{owned_among}
 use Rattle.ell_tree.specs.Ledgers.{TreeModel, ledger, present_in}
 use Rattle.ell_tree.specs.Closing.{ClosesTo}
-use Rattle.ell_tree.proofs.Parting.{there_same}
+use Rattle.ell_tree.proofs.Splitting.{there_same}
 
 -- ascending keys that are all among others are no more than those
 no_longer : (keys others : List ℕ) → IsStrictlyIncreasing keys → ((k : ℕ) → Contains keys k → Contains others k) → length keys ≤ length others
@@ -57,6 +58,13 @@ contained (e ∷ es) k v is = by (k == e.0) refl is (contained es k v)
         let val : e.1 ≡ v = cc in
         subst (Contains (e ∷ es)) (ap₂ (λ a b. (a, b)) (sym (eqb-true k e.0 same)) val) (Contains-first e es)
     by false other value rest = Contains-later e es (k, v) (rest value)
+
+-- the keys of pairs are among others, if that of each pair is
+all_among : (keys : List ℕ) (pairs : List (ℕ × ℕ)) → ((k v : ℕ) → Contains pairs (k, v) → Contains keys k) → All (λ k. set_of keys k ≡ true) (pair_keys pairs)
+all_among keys [] among = All-nil (λ k. set_of keys k ≡ true)
+all_among keys (e ∷ es) among =
+    All-cons (λ k. set_of keys k ≡ true) e.0 (pair_keys es) (list_any-from_Contains nat_eq_equiv e.0 keys (among e.0 e.1 (Contains-first e es)))
+    (all_among keys es (λ k v h. among k v (Contains-later e es (k, v) h)))
 
 -- a key with a value is a key
 key_of_pair : (w : Words) (k v : ℕ) → IsTreePair w k v → IsTreeKey w k
@@ -97,6 +105,7 @@ module _ (t : TreeModel) (p : PassModel) (closed : ClosedModel) (ends : TableEnd
   pub closes : (pairs : List (ℕ × ℕ)) → closed.last_card ≡ t.last_card → ListsTreePairs (words_of closed.words) pairs → ClosesTo t p pairs
   closes pairs cards lists = record {
     present = record { ascending = lists.ascending; each = λ i k. each_present pairs lists k i };
+    among = all_among t.keys pairs (λ k v h. ends.shows.owned k (key_of_pair (words_of closed.words) k v ((lists.each k v).0 h)));
     closed = closed;
     cards = cards;
     ends = ends;

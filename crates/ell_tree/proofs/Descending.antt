@@ -19,7 +19,7 @@ use Rattle.ell_cards.proofs.views.Steps.{view_after}
 use Rattle.ell_cards.proofs.views.Searches.{told_here}
 use Rattle.ell_tree.specs.declared.searching.Passed.{Passed}
 use Rattle.ell_tree.specs.declared.searching.Place.{Place}
-use Rattle.ell_tree.specs.Keeping.{Keeps, Seeks, IsInnerMet}
+use Rattle.ell_tree.specs.Keeping.{LosesNothing, Seeks, IsInnerMet}
 use Rattle.ell_tree.specs.Searches.{seen_any, below, Passes, Stands, IsAt, there_at, EndsAt}
 use Rattle.ell_tree.proofs.Keeping.{seeks_step, seeks_trans, upd_keeps, key_of_keeps, value_of_keeps, down_keeps, keeps_trans, seen_kept, place_told}
 
@@ -69,15 +69,15 @@ module _ (a b d e : PassModel) (x : ℕ) (u : Update) (key child : ℕ)
       }))
 
 -- what a search passed stays so
-pub passes_kept : (cards : ℕ) (a b : View) (x : Passed) → Keeps a b → Passes cards a x → Passes cards b x
+pub passes_kept : (cards : ℕ) (a b : View) (x : Passed) → LosesNothing a b → Passes cards a x → Passes cards b x
 passes_kept cards a b x k h = seen_kept cards a b x.node x.update k h
 
-passes_any_kept : (cards : ℕ) (a b : View) (o : Option Passed) → Keeps a b → IfSome o (λ x. Passes cards a x) → IfSome o (λ x. Passes cards b x)
+passes_any_kept : (cards : ℕ) (a b : View) (o : Option Passed) → LosesNothing a b → IfSome o (λ x. Passes cards a x) → IfSome o (λ x. Passes cards b x)
 passes_any_kept cards a b None k h = tt
 passes_any_kept cards a b (Some x) k h = passes_kept cards a b x k h
 
 -- a search that stood below a parent has that as the grandparent a node deeper
-pub stands_next : (cards : ℕ) (a b : View) (x child : ℕ) (parent passed : Passed) (above : Option Passed) → Keeps a b
+pub stands_next : (cards : ℕ) (a b : View) (x child : ℕ) (parent passed : Passed) (above : Option Passed) → LosesNothing a b
     → Stands cards a x parent above → b.worker.search ≡ below child passed a.worker.search.parent
     → IsTold b (Met child) → InTable cards child → Passes cards b passed → Stands cards b child passed (Some parent)
 stands_next cards a b x child parent passed above k h search met there passes = record {

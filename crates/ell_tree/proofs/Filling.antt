@@ -18,7 +18,7 @@ use Rattle.ell_cards.proofs.words.Updates.{clean_word}
 use Rattle.ell_cards.proofs.views.Searches.{filling_at}
 use Rattle.ell_tree.specs.declared.searching.Passed.{Passed}
 use Rattle.ell_tree.specs.declared.searching.Place.{Place}
-use Rattle.ell_tree.specs.Keeping.{Keeps, IsInnerMet}
+use Rattle.ell_tree.specs.Keeping.{LosesNothing, IsInnerMet}
 use Rattle.ell_tree.specs.Searches.{seen, seen_any, IsAt}
 use Rattle.ell_tree.specs.Helps.{IsInsert, IsParent}
 use Rattle.ell_tree.specs.Tries.{HasCard}
@@ -43,11 +43,11 @@ delete_wants v k place above at same is calm =
     (same, (seen above, ap (λ (s : Search). s.grandparent) at.search ∙ ap seen_any is, clean_word above.update.state above.update.card calm))
 
 -- what a card tells is told still after its flag
-module _ (v t f : View) (c : ℕ) (op : Op) (place : Place) (busy : Does v op) (at : IsAt v place) (h : HasCard op place (filling_of c v) t c) (keeps : Keeps t f) where
+module _ (v t f : View) (c : ℕ) (op : Op) (place : Place) (busy : Does v op) (at : IsAt v place) (h : HasCard op place (filling_of c v) t c) (keeps : LosesNothing t f) where
   told_by_card : (filling : List (Field × ℕ)) → filling_of c v ≡ filling → (e : Told) → Has (told_filling c filling []) e → IsTold f e
   told_by_card filling is e has = keeps.told e (h.told e (subst (λ (fs : List (Field × ℕ)). Has (told_filling c fs []) e) (sym is) has))
 
-module _ (v t f : View) (c k : ℕ) (place : Place) (keeps : Keeps t f) where
+module _ (v t f : View) (c k : ℕ) (place : Place) (keeps : LosesNothing t f) where
   pub is_insert : (value : ℕ) → Does v (Insert k value) → IsAt v place → HasCard (Insert k value) place (filling_of c v) t c → Knows f (fact.IFlagged c) → IsTold t (Met place.parent.node)
       → IsInsert f c place.parent.node place.leaf (max k place.key)
   is_insert value busy at h knows met =

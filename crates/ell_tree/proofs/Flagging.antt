@@ -15,7 +15,7 @@ use Rattle.ell_cards.proofs.views.Entries.{places_more}
 use Rattle.ell_cards.proofs.views.Steps.{view_after}
 use Rattle.ell_tree.specs.declared.searching.Passed.{Passed}
 use Rattle.ell_tree.specs.declared.searching.Place.{Place}
-use Rattle.ell_tree.specs.Keeping.{Keeps, Goes, IsInnerMet}
+use Rattle.ell_tree.specs.Keeping.{LosesNothing, Goes, IsInnerMet}
 use Rattle.ell_tree.specs.Searches.{seen, seen_any}
 use Rattle.ell_tree.specs.Tries.{HasCard, Fills, Flags, IsFlagged, IsUnflagged}
 use Rattle.ell_tree.proofs.Keeping.{place_told}
@@ -62,7 +62,7 @@ module _ (flag : ℕ → Fact) (c x : ℕ) (from : Update) where
   abbrev flagging : Result (Unit {0}) Update → View → View
   flagging r v = with_found (found_word (packed from) r) (after_flag (is_ok r) (flag c) x (found_update from r) v)
 
-  flagging_keeps : (stores : List (Field × ℕ)) (r : Result (Unit {0}) Update) (v : View) → Keeps v (flagging r (with_stores stores v))
+  flagging_keeps : (stores : List (Field × ℕ)) (r : Result (Unit {0}) Update) (v : View) → LosesNothing v (flagging r (with_stores stores v))
   flagging_keeps stores (Ok won) v = record {
     ledger = refl;
     operation = refl;
@@ -86,7 +86,7 @@ module _ (flag : ℕ → Fact) (c x : ℕ) (from : Update) where
     flag_goes = record {
       table = ap (λ (p : PassModel). p.table) step ∙ fills.table;
       label = ap (λ (p : PassModel). p.label) step ∙ fills.label;
-      view = subst (Keeps a.view) (sym flagged_view) (flagging_keeps b.view.stores r a.view);
+      view = subst (LosesNothing a.view) (sym flagged_view) (flagging_keeps b.view.stores r a.view);
       steps = let taken = ap (λ (p : PassModel). p.steps) step in omega (arith, taken, fills.steps);
     }
 

@@ -1,7 +1,4 @@
-use Rattle.std.proofs.Common.{◌≡◌, ℕ, ◌+◌, ◌≤◌, ◌++◌, Bool, true, false, not, Result, Ok, Err, List, [], ◌∷◌, length, sym, ◌∙◌, ap, subst, arith, append_assoc, length-append}
-use Rattle.std.specs.Option.{is_some}
-use Rattle.ell_ops.specs.declared.reply.Reply.{Reply}
-use Rattle.ell_ops.specs.Meaning.{yes_if}
+use Rattle.std.proofs.Common.{◌≡◌, ℕ, ◌+◌, ◌≤◌, ◌++◌, true, List, [], ◌∷◌, length, sym, ◌∙◌, ap, subst, arith, append_assoc, length-append}
 use Rattle.ell_word.specs.declared.update.Update.{Update}
 use Rattle.ell_core.specs.declared.fact.Fact.{Fact}
 use Rattle.ell_core.specs.state.Facts.{known_of}
@@ -11,12 +8,7 @@ use Rattle.ell_cards.specs.declared.view.View.{View}
 use Rattle.ell_cards.specs.Models.{PassModel}
 use Rattle.ell_tree.specs.Hindrances.{IsEnded, AreOver, StillKnows, Meets}
 use Rattle.ell_tree.specs.Keeping.{Goes, Seeks, Walks}
-use Rattle.ell_tree.specs.Tries.{IsUnflagged, op_of}
-use Rattle.ell_tree.specs.Ledgers.{present_in}
-use Rattle.ell_tree.specs.Ends.{Ends, IsPlain}
-use Rattle.ell_tree.specs.declared.operations.Held.{Held}
-use Rattle.ell_tree.specs.declared.operations.Change.{Change}
-use Rattle.ell_tree.specs.declared.operations.Change.TheVariants as change
+use Rattle.ell_tree.specs.Tries.{IsUnflagged}
 use Rattle.ell_tree.proofs.Meeting.{meets_none, meets_these, meets_trans, meets_more, over_still, over_together}
 
 -- steps that met nothing
@@ -53,13 +45,3 @@ begun_meets met u v w m over e k = meets_trans u v w m (meets_these met v w e (o
 
 pub begun_count : (met : List Hindrance) (v w : View) → w.hindrances ≡ met ++ v.hindrances → length w.hindrances ≡ length met + length v.hindrances
 begun_count met v w e = ap length e ∙ length-append met v.hindrances
-
--- what a change says is no value
-plain : (b : Bool) (r : Reply) → r ≡ yes_if b → IsPlain (Ok r)
-plain true r e = subst (λ (said : Reply). IsPlain (Ok said)) (sym e) tt
-plain false r e = subst (λ (said : Reply). IsPlain (Ok said)) (sym e) tt
-
-pub change_plain : (cards tries : ℕ) (change : Change) (old new : PassModel) (r : Result Reply Held) → Ends cards tries (op_of change) old new r → IsPlain r
-change_plain cards tries (change.Insert key value) old new (Ok said) h = plain (not (is_some (present_in old key))) said h.0.says
-change_plain cards tries (change.Delete key) old new (Ok said) h = plain (is_some (present_in old key)) said h.0.says
-change_plain cards tries c old new (Err why) h = tt

@@ -14,9 +14,9 @@ use Rattle.ell_cards.specs.Models.{PassModel, Steps, Has, latest, earlier, IsTol
 use Rattle.ell_cards.specs.Changes.{facts_by, places_by, learning, with_found, after_upd, after_down, after_key_of, after_value_of, after_info, after_frozen_child, after_next}
 use Rattle.ell_cards.proofs.views.Facts.{knows_new, knows_more, facts_by_more}
 use Rattle.ell_cards.proofs.views.Entries.{places_more, info_more}
-use Rattle.ell_tree.specs.Keeping.{Keeps, Goes, Seeks, Works, Walks, IsInnerMet, TellsPlace, IsSeenAt}
+use Rattle.ell_tree.specs.Keeping.{LosesNothing, Goes, Seeks, Works, Walks, IsInnerMet, TellsPlace, IsSeenAt}
 
-pub keeps_trans : (u v w : View) → Keeps u v → Keeps v w → Keeps u w
+pub keeps_trans : (u v w : View) → LosesNothing u v → LosesNothing v w → LosesNothing u w
 keeps_trans u v w a b = record {
   ledger = b.ledger ∙ a.ledger;
   operation = b.operation ∙ a.operation;
@@ -101,16 +101,16 @@ walks_told a b n e w h = w.goes.view.told e h
 pub walks_knows : (a b : PassModel) (n : ℕ) (f : Fact) → Walks a b n → Knows a.view f → Knows b.view f
 walks_knows a b n f w h = w.goes.view.knows f h
 
-pub inner_kept : (cards : ℕ) (v w : View) (x : ℕ) → Keeps v w → IsInnerMet cards v x → IsInnerMet cards w x
+pub inner_kept : (cards : ℕ) (v w : View) (x : ℕ) → LosesNothing v w → IsInnerMet cards v x → IsInnerMet cards w x
 inner_kept cards v w x k h = record { met = k.told (Met x) h.met; inner = h.inner; there = h.there }
 
-place_kept : (v w : View) (x : ℕ) (s : State) (c : ℕ) → Keeps v w → TellsPlace v x s c → TellsPlace w x s c
+place_kept : (v w : View) (x : ℕ) (s : State) (c : ℕ) → LosesNothing v w → TellsPlace v x s c → TellsPlace w x s c
 place_kept v w x state.IFlag c k h = (k.knows (fact.IFlagged c) h.0, k.told _ h.1)
 place_kept v w x state.DFlag c k h = (k.knows (fact.DFlagged c) h.0, k.told _ h.1)
 place_kept v w x state.Mark c k h = (k.knows (fact.Marked c) h.0, k.told _ h.1)
 place_kept v w x state.Clean c k h = tt
 
-pub seen_kept : (cards : ℕ) (v w : View) (x : ℕ) (u : Update) → Keeps v w → IsSeenAt cards v x u → IsSeenAt cards w x u
+pub seen_kept : (cards : ℕ) (v w : View) (x : ℕ) (u : Update) → LosesNothing v w → IsSeenAt cards v x u → IsSeenAt cards w x u
 seen_kept cards v w x u k h = record {
   node = inner_kept cards v w x k h.node;
   named = h.named;
@@ -134,22 +134,22 @@ place_told x state.Mark c v w f t = (
 place_told x state.Clean c v w f t = tt
 
 -- a step to a view that keeps these
-pub goes_step : (old new : PassModel) (v : View) → Steps old new v → Keeps old.view v → Goes old new 1
+pub goes_step : (old new : PassModel) (v : View) → Steps old new v → LosesNothing old.view v → Goes old new 1
 goes_step old new v s k = subst (λ (m : PassModel). Goes old m 1) (sym s) (record { table = refl; label = refl; view = k; steps = omega arith })
 
-pub seeks_step : (old new : PassModel) (v : View) → Steps old new v → Keeps old.view v → v.worker.card ≡ old.view.worker.card
+pub seeks_step : (old new : PassModel) (v : View) → Steps old new v → LosesNothing old.view v → v.worker.card ≡ old.view.worker.card
     → v.worker.flagged ≡ old.view.worker.flagged → v.hindrances ≡ old.view.hindrances → Seeks old new 1
 seeks_step old new v s k card flagged hindrances =
     subst (λ (m : PassModel). Seeks old m 1) (sym s)
     (record { goes = record { table = refl; label = refl; view = k; steps = omega arith }; card = card; flagged = flagged; hindrances = hindrances })
 
-pub works_step : (old new : PassModel) (v : View) → Steps old new v → Keeps old.view v → v.worker.card ≡ old.view.worker.card
+pub works_step : (old new : PassModel) (v : View) → Steps old new v → LosesNothing old.view v → v.worker.card ≡ old.view.worker.card
     → v.worker.flagged ≡ old.view.worker.flagged → v.worker.search ≡ old.view.worker.search → Works old new 1
 works_step old new v s k card flagged search =
     subst (λ (m : PassModel). Works old m 1) (sym s)
     (record { goes = record { table = refl; label = refl; view = k; steps = omega arith }; card = card; flagged = flagged; search = search })
 
-pub walks_step : (old new : PassModel) (v : View) → Steps old new v → Keeps old.view v → v.worker.card ≡ old.view.worker.card
+pub walks_step : (old new : PassModel) (v : View) → Steps old new v → LosesNothing old.view v → v.worker.card ≡ old.view.worker.card
     → v.worker.flagged ≡ old.view.worker.flagged → v.worker.search ≡ old.view.worker.search → v.hindrances ≡ old.view.hindrances → Walks old new 1
 walks_step old new v s k card flagged search hindrances =
     subst (λ (m : PassModel). Walks old m 1) (sym s) (record {
@@ -160,7 +160,7 @@ walks_step old new v s k card flagged search hindrances =
       hindrances = hindrances;
     })
 
-pub upd_keeps : (x : ℕ) (u : Update) (v : View) → Keeps v (after_upd x u v)
+pub upd_keeps : (x : ℕ) (u : Update) (v : View) → LosesNothing v (after_upd x u v)
 upd_keeps x u v = record {
   ledger = refl;
   operation = refl;
@@ -169,22 +169,22 @@ upd_keeps x u v = record {
   told = places_more x u.state u.card v.told;
 }
 
-pub key_of_keeps : (x key : ℕ) (v : View) → Keeps v (after_key_of x key v)
+pub key_of_keeps : (x key : ℕ) (v : View) → LosesNothing v (after_key_of x key v)
 key_of_keeps x key v = record { ledger = refl; operation = refl; answers = refl; knows = λ f h. h; told = λ e h. earlier e _ _ h }
 
-pub value_of_keeps : (x value : ℕ) (v : View) → Keeps v (after_value_of x value v)
+pub value_of_keeps : (x value : ℕ) (v : View) → LosesNothing v (after_value_of x value v)
 value_of_keeps x value v = record { ledger = refl; operation = refl; answers = refl; knows = λ f h. h; told = λ e h. earlier e _ _ h }
 
-pub down_keeps : (x child : ℕ) (v : View) → Keeps v (after_down x child v)
+pub down_keeps : (x child : ℕ) (v : View) → LosesNothing v (after_down x child v)
 down_keeps x child v = record { ledger = refl; operation = refl; answers = refl; knows = λ f h. h; told = λ e h. earlier e _ _ h }
 
-pub info_keeps : (c : ℕ) (f : Field) (x : ℕ) (v : View) → Keeps v (after_info c f x v)
+pub info_keeps : (c : ℕ) (f : Field) (x : ℕ) (v : View) → LosesNothing v (after_info c f x v)
 info_keeps c f x v = record { ledger = refl; operation = refl; answers = refl; knows = λ g h. h; told = info_more c f x v.told }
 
-pub frozen_keeps : (c : ℕ) (right : Bool) (x : ℕ) (v : View) → Keeps v (after_frozen_child c right x v)
+pub frozen_keeps : (c : ℕ) (right : Bool) (x : ℕ) (v : View) → LosesNothing v (after_frozen_child c right x v)
 frozen_keeps c right x v = record { ledger = refl; operation = refl; answers = refl; knows = λ f h. h; told = λ e h. earlier e _ _ (earlier e _ _ h) }
 
-pub learning_keeps : (n : ℕ) (f : Fact) (v : View) → Keeps v (with_found n (learning f v))
+pub learning_keeps : (n : ℕ) (f : Fact) (v : View) → LosesNothing v (with_found n (learning f v))
 learning_keeps n f v = record {
   ledger = refl;
   operation = refl;
@@ -193,5 +193,5 @@ learning_keeps n f v = record {
   told = λ e h. h;
 }
 
-pub next_keeps : (n : ℕ) (v : View) → Keeps v (after_next n v)
+pub next_keeps : (n : ℕ) (v : View) → LosesNothing v (after_next n v)
 next_keeps n v = record { ledger = refl; operation = refl; answers = refl; knows = λ f h. h; told = λ e h. h }

@@ -23,6 +23,6 @@ pub mod Counting
 -- a flag, won or lost
 pub mod Flagging
 -- how passes begin, part and come together
-pub mod Parting
+pub mod Splitting
 -- how a tree ends
 pub mod Closing

@@ -9,7 +9,7 @@ use Rattle.ell_cards.specs.Changes.{learning, with_found, found_word, found_upda
 use Rattle.ell_cards.proofs.views.Facts.{knows_new, knows_more, facts_by_more}
 use Rattle.ell_cards.proofs.views.Entries.{places_more}
 use Rattle.ell_cards.proofs.views.Steps.{view_after}
-use Rattle.ell_tree.specs.Keeping.{Keeps, Works, IsInnerMet}
+use Rattle.ell_tree.specs.Keeping.{LosesNothing, Works, IsInnerMet}
 use Rattle.ell_tree.specs.Helps.{IsLost, found_instead, met_by_mark}
 use Rattle.ell_tree.proofs.Keeping.{works_step, learning_keeps, place_told}
 
@@ -17,7 +17,7 @@ use Rattle.ell_tree.proofs.Keeping.{works_step, learning_keeps, place_told}
 abbrev marking : ℕ → ℕ → ℕ → Result (Unit {0}) Update → View → View
 marking c p was r v = with_found (found_word was r) (after_mark (is_ok r) c p (found_update (unpacked was) r) v)
 
-unmarking_keeps : (n c p : ℕ) (u : Update) (v : View) → Keeps v (with_found n (unmarking c p u v))
+unmarking_keeps : (n c p : ℕ) (u : Update) (v : View) → LosesNothing v (with_found n (unmarking c p u v))
 unmarking_keeps n c p u v = record {
   ledger = refl;
   operation = refl;

@@ -1,7 +1,7 @@
-use Rattle.std.specs.Prelude.{◌≡◌, ℕ, ◌+◌, ◌*◌, ◌≤◌, ◌↔◌, Bool, None, Some, Result, Ok, Err, ⊤}
+use Rattle.std.specs.Prelude.{◌≡◌, ℕ, ◌+◌, ◌*◌, ◌≤◌, ◌↔◌, Bool, None, Some, Result, Ok, Err}
 use Rattle.ell_ops.specs.declared.op.Op.{Op}
 use Rattle.ell_ops.specs.declared.reply.Reply.{Reply}
-use Rattle.ell_ops.specs.declared.reply.Reply.TheVariants.{Yes, Found}
+use Rattle.ell_ops.specs.declared.reply.Reply.TheVariants.{Yes}
 use Rattle.ell_ops.specs.Meaning.{yes_if, reply_of, after}
 use Rattle.ell_cards.specs.Models.{PassModel}
 use Rattle.ell_tree.specs.declared.operations.Held.{Held}
@@ -33,11 +33,6 @@ pub record LaidDown (op : Op) (old new : PassModel) : Type 0 where
 abbrev pub HeldFor : ℕ → ℕ → PassModel → PassModel → Held → Type 0
 HeldFor cards tries old new Busy = hindrances old + tries ≤ hindrances new
 HeldFor cards tries old new Spent = new.view.next ≡ Some (cards + 1)
-
--- a change is held, or says no or yes, and no value
-abbrev pub IsPlain : Result Reply Held → Type 0
-IsPlain (Ok (Found value)) = ⊥
-IsPlain _ = ⊤
 
 -- what an insert or a delete says, as a reply
 abbrev pub replied : Result Bool Held → Result Reply Held

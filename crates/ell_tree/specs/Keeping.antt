@@ -12,7 +12,7 @@ use Rattle.ell_cards.specs.declared.view.View.{View}
 use Rattle.ell_cards.specs.Models.{PassModel, InTable, IsTold, Knows}
 
 -- ledger, operation and answers stay, and nothing is forgotten
-pub record Keeps (v w : View) : Type 0 where
+pub record LosesNothing (v w : View) : Type 0 where
   pub ledger : w.worker.ledger ≡ v.worker.ledger
   pub operation : w.worker.operation ≡ v.worker.operation
   pub answers : w.answers ≡ v.answers
@@ -23,7 +23,7 @@ pub record Keeps (v w : View) : Type 0 where
 pub record Goes (old new : PassModel) (n : ℕ) : Type 0 where
   pub table : new.table ≡ old.table
   pub label : new.label ≡ old.label
-  pub view : Keeps old.view new.view
+  pub view : LosesNothing old.view new.view
   pub steps : new.steps ≤ old.steps + n
 
 -- and has the same card in hand, and met nothing in its way

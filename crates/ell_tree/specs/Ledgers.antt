@@ -1,9 +1,8 @@
-use Rattle.std.specs.Prelude.{◌≡◌, ◌≢◌, ℕ, None, length}
+use Rattle.std.specs.Prelude.{◌≡◌, ℕ, None, length}
 pub use Rattle.ell_core.specs.declared.view.Entry.{Entry}
 pub use Rattle.ell_core.specs.declared.view.Entry.TheVariants.{Present, Absent}
-use Rattle.ell_core.specs.state.Machine.{Ledger, ledger_of}
 use Rattle.ell_core.specs.statements.StepLaws.{contents_in}
-pub use Rattle.ell_cards.specs.Models.{PassModel}
+pub use Rattle.ell_cards.specs.Models.{PassModel, ledger, Owns}
 use Rattle.ell_cards.specs.Models.{TableModel}
 use Rattle.ell_ops.specs.Contents.{Contents}
 
@@ -11,17 +10,9 @@ use Rattle.ell_ops.specs.Contents.{Contents}
 abbrev pub TreeModel : Type 0
 TreeModel = TableModel
 
--- the ledger of a pass: each key of its own with whether it is present, and with which value
-abbrev pub ledger : PassModel → Ledger
-ledger p = ledger_of p.view.worker.ledger
-
 -- the keys of its own that are present, with their values
 abbrev pub present_in : PassModel → Contents
 present_in p = contents_in (ledger p)
-
--- a pass owns a key
-abbrev pub Owns : PassModel → ℕ → Type 0
-Owns p key = ledger p key ≢ None
 
 -- how many operations it has answered
 abbrev pub answers : PassModel → ℕ

@@ -3,7 +3,7 @@ pub mod Ledgers
 -- how an operation ends
 pub mod Ends
 -- how passes begin, part and come together
-pub mod Parts
+pub mod PassParts
 -- how a tree ends
 pub mod Closing
 -- what was in the way, and when it is over
@@ -16,3 +16,21 @@ pub mod Searches
 pub mod Helps
 -- what a try comes to
 pub mod Tries
+-- the operations and what they answer, on a map, in the words of the crate below
+pub use Rattle.ell_ops.specs.declared.op.Op
+pub use Rattle.ell_ops.specs.declared.reply.Reply
+pub use Rattle.ell_ops.specs.Meaning
+pub use Rattle.ell_ops.specs.Contents
+pub use Rattle.ell_ops.specs.KeySet
+-- how many cards and start keys there may be
+pub use Rattle.ell_word.specs.Node
+pub use Rattle.ell_core.specs.state.Opening
+-- what a contract sees of a pass, and when a tree is refused
+pub use Rattle.ell_cards.specs.Models
+pub use Rattle.ell_cards.specs.Changes
+pub use Rattle.ell_cards.specs.declared.view.Hindrance
+pub use Rattle.ell_cards.specs.declared.fault.CardFault
+-- the words of a tree that has ended, and their pairs
+pub use Rattle.ell_cards.specs.Ends as ClosedTables
+pub use Rattle.ell_core.specs.state.Words
+pub use Rattle.ell_core.specs.tree.Tree

@@ -1,7 +1,7 @@
 use Rattle.std.specs.Prelude.{◌≡◌, ℕ, ◌+◌, ◌≤◌, ◌++◌, true, Some, None, List, [], ◌∷◌, Result, Ok, Err, length}
 use Rattle.ell_ops.specs.declared.op.Op.{Op}
-use Rattle.ell_ops.specs.declared.op.Op.TheVariants.{Insert, Delete}
-use Rattle.ell_ops.specs.Meaning.{reply_of}
+use Rattle.ell_ops.specs.declared.op.Op.TheVariants.{Find, Insert, Delete}
+use Rattle.ell_ops.specs.Meaning.{reply_of, yes_if}
 use Rattle.ell_word.specs.declared.update.Update.{Update}
 use Rattle.ell_core.specs.declared.fact.Fact.{Fact}
 use Rattle.ell_core.specs.declared.fact.Fact.TheVariants as fact
@@ -13,8 +13,6 @@ use Rattle.ell_cards.specs.declared.view.View.{View}
 use Rattle.ell_cards.specs.Models.{PassModel, Has, IsTold, Knows, Does, StandsAt}
 use Rattle.ell_cards.specs.Changes.{told_filling, filling_of, with_stores}
 use Rattle.ell_cards.specs.Guards.{IsFilled, MayFill}
-use Rattle.ell_tree.specs.declared.operations.Change.{Change}
-use Rattle.ell_tree.specs.declared.operations.Change.TheVariants as change
 use Rattle.ell_tree.specs.declared.searching.Place.{Place}
 use Rattle.ell_tree.specs.declared.trying.Claimed.{Claimed}
 use Rattle.ell_tree.specs.declared.trying.Claimed.TheVariants as claimed
@@ -26,6 +24,12 @@ use Rattle.ell_tree.specs.Hindrances.{AreOver, Meets, StillKnows, way_of}
 use Rattle.ell_tree.specs.Keeping.{IsSeenAt}
 use Rattle.ell_tree.specs.Searches.{AtRoot, seen, seen_any}
 use Rattle.ell_ops.specs.declared.reply.Reply.TheVariants.{Yes}
+
+-- an operation that may change the map: an insert or a delete
+abbrev pub IsChange : Op → Type 0
+IsChange (Find key) = ⊥
+IsChange (Insert key value) = Unit {0}
+IsChange (Delete key) = Unit {0}
 
 -- an operation starts, or starts anew, at the root; what came to be in its way before
 pub record Begins (op : Op) (met : List Hindrance) (old new : PassModel) : Type 0 where
@@ -70,7 +74,7 @@ pub record Halts (op : Op) (old new : PassModel) : Type 0 where
 
 -- how a try ends
 abbrev pub TryEnds : ℕ → Op → PassModel → PassModel → Tried → Type 0
-TryEnds cards op old new (tried.Answered said) = Answers op said old new × Meets old.view new.view
+TryEnds cards op old new (tried.Answered said) = Answers op (yes_if said) old new × Meets old.view new.view
 TryEnds cards op old new tried.Spent = Halts op old new × (new.view.next ≡ Some (cards + 1))
 TryEnds cards op old new tried.Hindered =
     Halts op old new × (length old.view.hindrances + 1 ≤ length (way_of op new.view) + length new.view.hindrances)
@@ -127,8 +131,3 @@ pub record IsUnflagged (cards x : ℕ) (found : Update) (v w : View) : Type 0 wh
 abbrev pub Flags : ℕ → (ℕ → Fact) → ℕ → ℕ → PassModel → PassModel → Result (Unit {0}) Update → Type 0
 Flags cards flag c x old new (Ok won) = IsFlagged flag c old.view new.view
 Flags cards flag c x old new (Err found) = IsUnflagged cards x found old.view new.view
-
--- the operation that a change is
-abbrev pub op_of : Change → Op
-op_of (change.Insert key value) = Insert key value
-op_of (change.Delete key) = Delete key

@@ -1,5 +1,5 @@
 //! Deletes (paper of 2010, figure 9: Delete).
-ghost use Rattle.std.specs.Prelude.{◌≡◌, ◌≤◌, ◌+◌, Some};
+ghost use Rattle.std.specs.Prelude.{◌≡◌, ◌≤◌, ◌+◌, ℕ, Some};
 ghost use Rattle.std.specs.Bool.{OnTrue, OnFalse};
 ghost use Rattle.ell_ops.specs.declared.op.Op.TheVariants.{Delete};
 ghost use Rattle.ell_word.specs.Node.{greatest_card};
@@ -41,8 +41,8 @@ pub(crate) fn try_delete<A: Allocator + Copy, G: StepGate>(
     let op = Op::Delete(key);
     let place = search(table, pass, op, gate);
     if place.key != key {
-        answer(table, pass, op, Reply::No, gate);
-        return Tried::Answered(Reply::No);
+        answer(table, pass, Reply::No, gate);
+        return Tried::Answered(false);
     }
     // A leaf of a real key has a grandparent.
     let Some(above) = place.grandparent else {
@@ -62,15 +62,15 @@ pub(crate) fn try_delete<A: Allocator + Copy, G: StepGate>(
         Claimed::NoneLeft => return Tried::Spent,
         Claimed::Lost => return Tried::Hindered,
     };
-    if let Err(found) = flag_delete(table, pass, card, key, above, place, gate) {
+    if let Err(found) = flag_delete(table, pass, card, above, place, gate) {
         help(table, pass, above.node, found, gate);
         return Tried::Hindered;
     }
     if !finish_own(table, pass, card, above.node, place.parent, gate) {
         return Tried::Hindered;
     }
-    answer(table, pass, op, Reply::Yes, gate);
-    Tried::Answered(Reply::Yes)
+    answer(table, pass, Reply::Yes, gate);
+    Tried::Answered(true)
 }
 
 // Fills the card of a delete, and flags the grandparent with it.
@@ -78,7 +78,6 @@ fn flag_delete<A: Allocator + Copy, G: StepGate>(
     table: &CardTable<A>,
     pass: &mut Pass<A>,
     card: u64,
-    key: u64,
     above: Passed,
     place: Place,
     gate: &G,
@@ -86,12 +85,12 @@ fn flag_delete<A: Allocator + Copy, G: StepGate>(
     requires own { pass.old.table ≡ table.now.id }
     requires above { place.grandparent ≡ Some above }
     requires limit { place.parent.update.card ≤ greatest_card }
-    requires card { HasCard (Delete key) place (delete_filling above.node place.parent.node place.leaf (packed place.parent.update)) pass.old.view card }
+    requires card { (key : ℕ) × HasCard (Delete key) place (delete_filling above.node place.parent.node place.leaf (packed place.parent.update)) pass.old.view card }
     requires node { IsInnerMet table.now.last_card pass.old.view above.node }
     ensures goes { Goes pass.old pass.new 5 }
     ensures flags { Flags table.now.last_card DFlagged card above.node pass.old pass.new result }
 {
-    fill_delete(table, pass, card, key, above.node, place, gate);
+    fill_delete(table, pass, card, above.node, place, gate);
     gate.before(pass.label(), Kind::DFlag);
     table.dflag(pass, card, above.node, above.update)
 }
@@ -101,17 +100,15 @@ fn fill_delete<A: Allocator + Copy, G: StepGate>(
     table: &CardTable<A>,
     pass: &mut Pass<A>,
     card: u64,
-    key: u64,
     grandparent: u64,
     place: Place,
     gate: &G,
 )
     requires own { pass.old.table ≡ table.now.id }
     requires limit { place.parent.update.card ≤ greatest_card }
-    requires card { HasCard (Delete key) place (delete_filling grandparent place.parent.node place.leaf (packed place.parent.update)) pass.old.view card }
+    requires card { (key : ℕ) × HasCard (Delete key) place (delete_filling grandparent place.parent.node place.leaf (packed place.parent.update)) pass.old.view card }
     ensures { Fills pass.old pass.new 4 }
 {
-    let _ = key;
     fill(table, pass, card, Field::Gp, grandparent, gate);
     fill(table, pass, card, Field::P, place.parent.node, gate);
     fill(table, pass, card, Field::L, place.leaf, gate);

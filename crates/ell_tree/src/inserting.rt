@@ -35,8 +35,8 @@ pub(crate) fn try_insert<A: Allocator + Copy, G: StepGate>(
     let op = Op::Insert(key, value);
     let place = search(table, pass, op, gate);
     if place.key == key {
-        answer(table, pass, op, Reply::No, gate);
-        return Tried::Answered(Reply::No);
+        answer(table, pass, Reply::No, gate);
+        return Tried::Answered(false);
     }
     let Passed {
         node: parent,
@@ -55,8 +55,8 @@ pub(crate) fn try_insert<A: Allocator + Copy, G: StepGate>(
         Ok(()) => {
             let card_key = key.max(place.key);
             finish_insert(table, pass, card, parent, place.leaf, card_key, gate);
-            answer(table, pass, op, Reply::Yes, gate);
-            Tried::Answered(Reply::Yes)
+            answer(table, pass, Reply::Yes, gate);
+            Tried::Answered(true)
         }
         Err(found) => {
             help(table, pass, parent, found, gate);

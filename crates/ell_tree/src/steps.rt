@@ -1,5 +1,6 @@
 //! The atomic steps beside the search and the card, each told to the gate just before it is made.
 ghost use Rattle.std.specs.Prelude.{◌≡◌, ◌≢◌, ◌≤◌, ◌+◌, IfSome, None, []};
+ghost use Rattle.ell_ops.specs.declared.op.Op.{Op};
 ghost use Rattle.ell_ops.specs.Meaning.{key_of};
 ghost use Rattle.ell_core.specs.declared.fact.Fact.TheVariants as fact;
 ghost use Rattle.ell_core.specs.declared.field.Field.TheVariants as field;
@@ -7,13 +8,13 @@ ghost use Rattle.ell_core.specs.state.Machine.{ledger_of};
 ghost use Rattle.ell_cards.specs.declared.view.Told.TheVariants as told;
 ghost use Rattle.ell_cards.specs.Models.{Does, IsFree, IsTold, Knows};
 ghost use Rattle.ell_cards.specs.Changes.{is_mark_of};
-ghost use Rattle.ell_cards.specs.Guards.{MayAnswer, MayAsk, MaySee, NamesNode};
+ghost use Rattle.ell_cards.specs.Guards.{MayAnswer, MayAsk, MaySee, MayStop, NamesNode};
 ghost use Rattle.ell_cards.specs.Calls.{TellsDepth, TellsNode};
 ghost use Rattle.ell_tree.specs.Ends.{Answers};
 ghost use Rattle.ell_tree.specs.Helps.{HasSibling, IsLost, IsMarked, IsParent, found_instead, met_by_mark};
 ghost use Rattle.ell_tree.specs.Hindrances.{way_of};
 ghost use Rattle.ell_tree.specs.Keeping.{Walks, Works};
-ghost use Rattle.ell_tree.specs.Tries.{Begins, Lays, Stops};
+ghost use Rattle.ell_tree.specs.Tries.{Begins, Lays};
 
 use ell_cards::{CardTable, Pass};
 use ell_core::Field;
@@ -44,58 +45,49 @@ pub(crate) fn begin<A: Allocator + Copy, G: StepGate>(
     table.begin(pass, op);
 }
 
-/// Starts the search anew.
-#[tactic(auto, using(crate::proofs::Beginning::begins_anew))]
+/// Starts the search of the operation in hand anew.
 pub(crate) fn again<A: Allocator + Copy, G: StepGate>(
     table: &CardTable<A>,
     pass: &mut Pass<A>,
-    op: Op,
     gate: &G,
 )
     requires own { pass.old.table ≡ table.now.id }
-    requires stops { Stops op pass.old.view }
-    ensures { Begins op (way_of op pass.old.view) pass.old pass.new }
+    requires may { MayStop pass.old.view }
+    ensures { (op : Op) → Does pass.old.view op → Begins op (way_of op pass.old.view) pass.old pass.new }
 {
     gate.before(pass.label(), Kind::Note);
-    let _ = op;
     table.again(pass);
 }
 
-/// Lays the operation down without an answer.
-#[tactic(auto, using(crate::proofs::Beginning::lays))]
+/// Lays the operation in hand down without an answer.
 pub(crate) fn leave<A: Allocator + Copy, G: StepGate>(
     table: &CardTable<A>,
     pass: &mut Pass<A>,
-    op: Op,
     gate: &G,
 )
     requires own { pass.old.table ≡ table.now.id }
-    requires stops { Stops op pass.old.view }
-    ensures { Lays op pass.old pass.new }
+    requires may { MayStop pass.old.view }
+    ensures { (op : Op) → Does pass.old.view op → Lays op pass.old pass.new }
 {
     gate.before(pass.label(), Kind::Note);
-    let _ = op;
     table.leave(pass);
 }
 
-/// Answers the operation.
+/// Answers the operation in hand.
 pub(crate) fn answer<A: Allocator + Copy, G: StepGate>(
     table: &CardTable<A>,
     pass: &mut Pass<A>,
-    op: Op,
     said: Reply,
     gate: &G,
 )
     requires own { pass.old.table ≡ table.now.id }
-    requires busy { Does pass.old.view op }
     requires may { MayAnswer pass.old.view said }
-    ensures answers { Answers op said pass.old pass.new }
+    ensures answers { (op : Op) → Does pass.old.view op → Answers op said pass.old pass.new }
     ensures hindrances { pass.new.view.hindrances ≡ pass.old.view.hindrances }
     ensures facts { pass.new.view.worker.facts ≡ pass.old.view.worker.facts }
     ensures steps { pass.new.steps ≤ pass.old.steps + 1 }
 {
     gate.before(pass.label(), Kind::Note);
-    let _ = op;
     table.answer(pass, said);
 }
 

@@ -13,12 +13,12 @@ ghost use Rattle.ell_tree.specs.Closing.{ClosesTo};
 ghost use Rattle.ell_tree.specs.Ends.{Answers, Ends, change_steps, find_steps, replied};
 ghost use Rattle.ell_tree.specs.Hindrances.{Meets};
 ghost use Rattle.ell_tree.specs.Ledgers.{IsIdle, Owns, TreeModel};
-ghost use Rattle.ell_tree.specs.Parts.{IsFirst, IsLeftPart, IsRightPart, IsUnion};
+ghost use Rattle.ell_tree.specs.PassParts.{IsFirst, IsLeftPart, IsRightPart, IsUnion};
 
-use crate::operations::{Change, Held, find, is_yes, make_change};
+use crate::operations::{Held, find, make_change};
 use ell_cards::{CardFault, CardTable, Pass};
 use ell_core::pairs_of_tree;
-use ell_ops::NoMemory;
+use ell_ops::{NoMemory, Op};
 use ell_word::StepGate;
 use std::alloc::{AllocError, Allocator};
 use std::marker::Model;
@@ -149,7 +149,7 @@ impl<A: Allocator + Copy> Tree<A> {
         ensures steps { pass.new.steps ≤ pass.old.steps + change_steps self.now.last_card tries }
         ensures rounded { pass.new.steps ≤ pass.old.steps + 64 * (tries + 1) * (self.now.last_card + 2) }
     {
-        is_yes(make_change(&self.table, pass, Change::Insert(key, value), tries, gate))
+        make_change(&self.table, pass, Op::Insert(key, value), tries, gate)
     }
 
     /// Takes a key of the pass away, with its value: whether it was present. Tries, steps and errors are as of `insert`.
@@ -168,7 +168,7 @@ impl<A: Allocator + Copy> Tree<A> {
         ensures steps { pass.new.steps ≤ pass.old.steps + change_steps self.now.last_card tries }
         ensures rounded { pass.new.steps ≤ pass.old.steps + 64 * (tries + 1) * (self.now.last_card + 2) }
     {
-        is_yes(make_change(&self.table, pass, Change::Delete(key), tries, gate))
+        make_change(&self.table, pass, Op::Delete(key), tries, gate)
     }
 
     /// Ends the tree, by a pass that owns all its keys: those that are present with their values, the keys strictly ascending. Where

@@ -12,14 +12,15 @@ ghost use Rattle.ell_tree.specs.Tries.{Claims};
 use crate::searching::Place;
 use ell_cards::{CardTable, Pass};
 use ell_core::Field;
-use ell_ops::{Op, Reply};
+use ell_ops::Op;
 use ell_word::{Kind, StepGate};
 use std::alloc::Allocator;
 
 /// How a try ended.
 #[derive(Clone, Copy)]
 pub(crate) enum Tried {
-    Answered(Reply),
+    /// An answer: whether it changes the map.
+    Answered(bool),
     /// No card is left.
     Spent,
     /// Something was in its way.

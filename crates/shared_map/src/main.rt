@@ -8,8 +8,7 @@ ghost use Rattle.std.specs.Prelude.{◌≡◌, IfOk};
 ghost use Rattle.ell_tree.specs.Ledgers.{IsIdle};
 
 use anyhow::{Result, bail, ensure};
-use ell_tree::{Pass, Tree};
-use ell_word::NoGate;
+use ell_tree::{NoGate, Pass, Tree};
 use std::alloc::Global;
 use std::thread::{Threads, join};
 

@@ -10,7 +10,7 @@ use Rattle.ell_run.proofs.Closed.{left_behind}
 use Rattle.ell_run.proofs.Keys.{busy_listed}
 use Rattle.ell_run.proofs.Opened.{all_united, first_given, keys_fit, owns_all, owns_used}
 use Rattle.ell_run.proofs.runs.run_workers.Goals as goal
-use Rattle.ell_tree.specs.Parts.{start_entry}
+use Rattle.ell_tree.specs.PassParts.{start_entry}
 
 pub keys_for-requires : goal.keys_for-requires
 keys_for-requires g c =

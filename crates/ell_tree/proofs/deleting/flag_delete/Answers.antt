@@ -4,7 +4,7 @@ use Rattle.ell_tree.proofs.deleting.flag_delete.Goals as goal
 
 pub dflag-requires-clause-may : goal.dflag-requires-clause-may
 dflag-requires-clause-may g c =
-    may_dflag c.args.pass.now c.fill_delete.new.pass 4 c.args.card c.args.key c.args.place c.args.above c.requires.above c.requires.card c.fill_delete.ensures
+    may_dflag c.args.pass.now c.fill_delete.new.pass 4 c.args.card c.requires.card.0 c.args.place c.args.above c.requires.above c.requires.card.1 c.fill_delete.ensures
 
 pub returns : goal.returns
 returns g c =
@@ -13,5 +13,5 @@ returns g c =
     record {
       goes = flag_goes DFlagged c.args.card above.node above.update c.args.pass.now f.new.pass c.dflag.new.pass 4 c.dflag.result f.ensures c.dflag.ensures.step;
       flags = flag_ends DFlagged c.args.card above.node above.update c.args.pass.now f.new.pass c.dflag.new.pass 4 c.dflag.result f.ensures c.dflag.ensures.step
-          c.args.table.now.last_card c.requires.card.may.holds c.requires.node c.dflag.ensures.card;
+          c.args.table.now.last_card c.requires.card.1.may.holds c.requires.node c.dflag.ensures.card;
     }

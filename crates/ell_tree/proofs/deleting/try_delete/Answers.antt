@@ -40,7 +40,8 @@ pub returns-then-place-key-clause-ends : goal.returns-then-place-key-clause-ends
 returns-then-place-key-clause-ends g c =
     let a = c.args.pass.now in
     let s = c.search-place in
-    let said = c.answer in (
+    let said = c.answer in
+    let answers = said.ensures.answers (Delete c.args.key) (s.ensures.seeks.goes.view.operation ∙ c.requires.root.busy) in (
       search rules,
       meets_trans a.view s.new.pass.view said.new.pass.view (seek_meets a s.new.pass _ s.ensures.seeks)
           (said_meets s.new.pass.view said.new.pass.view said.ensures.hindrances said.ensures.facts),
@@ -208,7 +209,8 @@ returns-clause-ends g c =
     let taken = meets_trans a.view s.new.pass.view t.view (seek_meets a s.new.pass _ s.ensures.seeks)
     (goes_meets s.new.pass t 2 c.take_card.ensures.goes c.in-Card.ensures.claims.2) in
     let flagged = meets_trans a.view t.view f.view taken (goes_meets t f 5 c.flag_delete.ensures.goes c.in_default-flag_delete.ensures.flags.hindrances) in
-    let finished = meets_trans a.view f.view m.view flagged c.finish_own.ensures.meets in (
+    let finished = meets_trans a.view f.view m.view flagged c.finish_own.ensures.meets in
+    let answers = said.ensures.answers (Delete c.args.key) (search rules) in (
       search rules,
       meets_trans a.view m.view said.new.pass.view finished (said_meets m.view said.new.pass.view said.ensures.hindrances said.ensures.facts),
     )

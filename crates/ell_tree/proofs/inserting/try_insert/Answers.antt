@@ -46,7 +46,8 @@ pub returns-then-place-key-clause-ends : goal.returns-then-place-key-clause-ends
 returns-then-place-key-clause-ends g c =
     let a = c.args.pass.now in
     let s = c.search-place in
-    let said = c.answer in (
+    let said = c.answer in
+    let answers = said.ensures.answers (Insert c.args.key c.args.value) (s.ensures.seeks.goes.view.operation ∙ c.requires.root.busy) in (
       search rules,
       meets_trans a.view s.new.pass.view said.new.pass.view (seek_meets a s.new.pass _ s.ensures.seeks)
           (said_meets s.new.pass.view said.new.pass.view said.ensures.hindrances said.ensures.facts),
@@ -145,7 +146,8 @@ returns-in-Ok-clause-ends g c =
     let taken = meets_trans a.view s.new.pass.view t.view (seek_meets a s.new.pass _ s.ensures.seeks)
     (goes_meets s.new.pass t 2 c.take_card.ensures.goes c.in-Card.ensures.claims.2) in
     let flagged = meets_trans a.view t.view f.view taken (goes_meets t f 11 c.flag_insert.ensures.goes c.in-Ok.ensures.flags.hindrances) in
-    let finished = meets_trans a.view f.view m.view flagged (walk_meets f m 3 c.finish_insert.ensures.walks) in (
+    let finished = meets_trans a.view f.view m.view flagged (walk_meets f m 3 c.finish_insert.ensures.walks) in
+    let answers = said.ensures.answers (Insert c.args.key c.args.value) (search rules) in (
       search rules,
       meets_trans a.view m.view said.new.pass.view finished (said_meets m.view said.new.pass.view said.ensures.hindrances said.ensures.facts),
     )

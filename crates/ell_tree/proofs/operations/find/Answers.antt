@@ -1,6 +1,13 @@
+use Rattle.std.proofs.Common.{◌∙◌, rules}
+use Rattle.ell_ops.specs.declared.op.Op.TheVariants.{Find}
 use Rattle.ell_tree.proofs.Meeting.{meets_none, meets_trans}
 use Rattle.ell_tree.proofs.Halting.{seek_meets, said_meets}
 use Rattle.ell_tree.proofs.operations.find.Goals as goal
+
+pub returns-clause-answers : goal.returns-clause-answers
+returns-clause-answers g c =
+    let answers = c.answer.ensures.answers (Find c.args.key) (c.search-place.ensures.seeks.goes.view.operation ∙ c.begin.ensures.root.busy) in
+    search rules
 
 -- an operation that begins, searches and is answered meets nothing
 pub returns-clause-meets : goal.returns-clause-meets

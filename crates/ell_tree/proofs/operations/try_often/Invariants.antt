@@ -4,14 +4,14 @@ use Rattle.ell_tree.specs.Ends.{try_steps}
 use Rattle.ell_tree.specs.Hindrances.{AreOver, Meets, way_of}
 use Rattle.ell_tree.specs.Ledgers.{present_in}
 use Rattle.ell_tree.specs.Searches.{AtRoot}
-use Rattle.ell_tree.specs.Tries.{Stops, op_of}
+use Rattle.ell_tree.specs.Tries.{Stops}
 use Rattle.ell_tree.proofs.operations.try_often.Given as goal
 use Rattle.ell_ops.specs.declared.reply.Reply.TheVariants.{Yes}
 
 -- each try so far met something in its way
 abbrev pub invariant-loop-round : goal.invariant-loop-round
 invariant-loop-round g l = record {
-  same : (l.op ≡ op_of l.fn.change) × (l.table ≡ l.fn.table) × (l.change ≡ l.fn.change) × (l.tries ≡ l.fn.tries);
+  same : (l.op ≡ l.fn.op) × (l.table ≡ l.fn.table) × (l.tries ≡ l.fn.tries);
   table : l.pass.table ≡ l.fn.pass.table;
   label : l.pass.label ≡ l.fn.pass.label;
   ledger : l.pass.view.worker.ledger ≡ l.fn.pass.view.worker.ledger;

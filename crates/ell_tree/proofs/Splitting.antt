@@ -8,7 +8,7 @@ use Rattle.ell_cards.specs.Changes.{first_view, part_on, part_off, left_view, ri
 use Rattle.ell_cards.proofs.words.Keys.{ledger_at_start, present_at_start}
 use Rattle.ell_cards.proofs.lifetimes.Parts.{parts_on, parts_off}
 use Rattle.ell_cards.proofs.lifetimes.Unions.{ledger_united}
-use Rattle.ell_tree.specs.Parts.{IsFirst, IsLeftPart, IsRightPart, IsUnion, or_else}
+use Rattle.ell_tree.specs.PassParts.{IsFirst, IsLeftPart, IsRightPart, IsUnion, or_else}
 use Rattle.ell_core.specs.declared.view.Entry.{Entry}
 use Rattle.ell_core.specs.declared.view.Entry.TheVariants.{Present, Absent}
 use Rattle.ell_core.specs.statements.StepLaws.{value_in}
