@@ -6,3 +6,6 @@ pub mod Faults
 pub mod Gathering
 -- Where the ranges of keys begin.
 pub mod Ranges
+-- what its public clauses cite of the crate below
+pub use Rattle.ell_ops.specs.KeySet
+pub use Rattle.ell_ops.specs.Meaning

@@ -14,3 +14,13 @@ pub mod RunFault
 pub mod Settings
 -- Workers with passes of one tree.
 pub mod Work
+-- what its public clauses cite of the crates below
+pub use Rattle.ell_ops.specs.Contents
+pub use Rattle.ell_ops.specs.KeySet
+pub use Rattle.ell_ops.specs.Meaning
+pub use Rattle.ell_word.specs.Node
+pub use Rattle.ell_text.specs.Answer
+pub use Rattle.ell_text.specs.Bulk
+pub use Rattle.ell_parts.specs.PartedOps
+pub use Rattle.ell_tree.specs.Ends
+pub use Rattle.ell_tree.specs.Ledgers

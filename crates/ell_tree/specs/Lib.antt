@@ -31,6 +31,6 @@ pub use Rattle.ell_cards.specs.Changes
 pub use Rattle.ell_cards.specs.declared.view.Hindrance
 pub use Rattle.ell_cards.specs.declared.fault.CardFault
 -- the words of a tree that has ended, and their pairs
-pub use Rattle.ell_cards.specs.Ends as ClosedTables
+pub use Rattle.ell_cards.specs.Closed
 pub use Rattle.ell_core.specs.state.Words
 pub use Rattle.ell_core.specs.tree.Tree
