@@ -1,9 +1,15 @@
 //! Trees that open with start keys, on one thread, as a person worked them out.
+ghost use Rattle.std.specs.Prelude.{◌≡◌, ◌≤◌, IfOk};
+ghost use Rattle.std.specs.List.{All};
+ghost use Rattle.std.specs.List.Sorted.{IsStrictlyIncreasing};
+ghost use Rattle.ell_tree.specs.Ledgers.{IsIdle, present_in};
+ghost use Rattle.ell_tree.specs.Meaning.{greatest_key};
+
 use super::asking::{Row, close, play};
 use ell_ops::Op::{Delete, Find, Insert};
 use ell_ops::Reply::{Found, No, Yes};
-use ell_tree::{CardFault, Held, Tree};
-use ell_word::NoGate;
+use ell_tree::{CardFault, Held, NoGate, Pass, START_MAX, Tree};
+use std::alloc::Global;
 use std::process::Abort;
 
 const START: [(u64, u64); 3] = [(2, 200), (4, 400), (6, 600)];
@@ -86,6 +92,50 @@ const EACH_KEY_TWICE: [Row; 13] = [
 fn start_keys_go_and_come_again(rt: HostRuntime) {
     let left = [(2, 20), (4, 40), (6, 60)];
     assert!(rt; played(&rt, 10, &EACH_KEY_TWICE).as_slice() == left.as_slice());
+}
+
+// Goes on after all cards of a tree are given out, by a pass that is to own all its keys: another tree has the same keys and values,
+// and so many cards to take.
+fn renewed(
+    rt: &(impl Abort + AllocGlobal),
+    tree: Tree<Global>,
+    pass: Pass<Global>,
+    keys: &[u64],
+    cards: u64,
+) -> Result<(Tree<Global>, Pass<Global>), CardFault>
+    requires own { pass.table ≡ tree.id }
+    requires idle { IsIdle pass }
+    requires keys { tree.keys ≡ keys.now }
+    requires ascending { IsStrictlyIncreasing keys.now }
+    requires real { All (λ k. k ≤ greatest_key) keys.now }
+    ensures tree { IfOk result (λ made. made.0.keys ≡ keys.now) }
+    ensures pass { IfOk result (λ made. (made.1.table ≡ made.0.id) × IsIdle made.1) }
+    ensures same { IfOk result (λ made. present_in made.1 ≡ present_in pass) }
+{
+    assert!(rt; keys.iter().all(|key| pass.owns(*key)));
+    let alloc = rt.alloc();
+    let Ok(pairs) = tree.close(pass) else {
+        return Err(CardFault::NoMemory);
+    };
+    if pairs.len() > START_MAX {
+        return Err(CardFault::NoMemory);
+    }
+    Tree::reserve_from(alloc, &pairs, keys, cards)
+}
+
+#[test]
+fn a_tree_without_cards_goes_on_as_another(rt: HostRuntime) {
+    let made = Tree::reserve_from(rt.alloc(), &START, &KEYS, 2);
+    let (tree, pass) = made.expect(&rt, "tree");
+    let pass = play(&rt, &tree, pass, 1, &NoGate, &TWO_CHANGES);
+    let (tree, pass) = renewed(&rt, tree, pass, &KEYS, 1).expect(&rt, "tree");
+    let rows = [
+        (Find(5), Ok(Found(50))),
+        (Delete(2), Ok(Yes)),
+        (Insert(1, 10), Err(Held::Spent)),
+    ];
+    let pass = play(&rt, &tree, pass, 1, &NoGate, &rows);
+    assert!(rt; close(&rt, tree, pass, &KEYS).as_slice() == [(5, 50), (6, 600)].as_slice());
 }
 
 #[test]
