@@ -117,9 +117,7 @@ fn renewed(
     let Ok(pairs) = tree.close(pass) else {
         return Err(CardFault::NoMemory);
     };
-    if pairs.len() > START_MAX {
-        return Err(CardFault::NoMemory);
-    }
+    assert!(rt; pairs.len() <= START_MAX);
     Tree::reserve_from(alloc, &pairs, keys, cards)
 }
 
