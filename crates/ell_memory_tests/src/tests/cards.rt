@@ -12,7 +12,7 @@ use super::sweeping::{Ended, sweep};
 use ell_cards::{CardFault, CardTable, Closed, Pass};
 use ell_core::Field;
 use ell_ops::NoMemory;
-use ell_test_steps::{Memory, nothing, step};
+use ell_test_steps::{Remembered, nothing, step};
 use std::alloc::{Allocator, Global};
 use std::process::Abort;
 
@@ -217,7 +217,7 @@ fn a_table_is_closed_without_memory(rt: HostRuntime) {
 fn are_done<A: Allocator + Copy>(
     table: &CardTable<A>,
     pass: &mut Pass<A>,
-    memory: &mut Memory,
+    memory: &mut Remembered,
     turn: &Turn,
 ) -> bool
     requires { IsReady table.now pass.old memory.old }
