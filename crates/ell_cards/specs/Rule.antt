@@ -52,7 +52,7 @@ EntryHolds w stage (Frozen c right x) =
     (c < w.next) × (w.update (w.p c) ≡ marked c) × (w.child (w.p c) right ≡ x) × Born stage x
 
 -- the card in hand that is not flagged: in the machine it says what it is to say; in the table, what was stored of it. So of a card
--- that is to say P 0 and L 2, and of which P was stored, the machine has both, and the table has P and a 0 for L
+-- that is to say P 3 and L 4, and of which P was stored, the machine has both, and the table has P 3 and a 0 for L
 pub record CardInHandHolds (words : List ℕ) (w : Words) (planned stores : List (Field × ℕ)) (c : ℕ) : Type 0 where
   pub machine : (f : Field) → word w c f ≡ stored planned f 0
   pub table : (f : Field) → listed words c f ≡ stored_at stores f
