@@ -1,4 +1,4 @@
--- the rule holds of an opening table
+-- an opening table has a machine
 pub mod Openings
 -- lists of the words at the start
 pub mod StartLists
@@ -6,11 +6,11 @@ pub mod StartLists
 pub mod Idle
 -- the parts of a pass's keys
 pub mod Parts
--- a split of the rule is one of the machine
+-- a split is one of the machine
 pub mod Splits
 -- the keys and the ledger of two passes in one
 pub mod Unions
--- a join of the rule is one of the machine
+-- a join is one of the machine
 pub mod Joins
 -- how a table ends
 pub mod Ends

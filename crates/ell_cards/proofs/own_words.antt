@@ -4,7 +4,7 @@ pub mod OwnTree
 pub mod OwnCards
 -- a table's own words with what its passes know are a sound state
 pub mod OwnSound
--- where the machine of the rule has the table's own words
+-- where the machine of a table has the table's own words
 pub mod OwnWords
 -- how step calls change the keys of the tree that the table's own words make, and their values
 pub mod OwnKeys

@@ -8,3 +8,13 @@ pub mod WinsOfRuns
 pub mod NodesOfRuns
 -- tables as they start, and runs from there
 pub mod Starting
+-- where turns lead a table, and what they make its steps, splits and joins owe
+pub mod Reaching
+-- laws of each table that turns have led to
+pub mod OfReached
+-- what passes know of the claim word
+pub mod Readings
+-- each card that was claimed was told to some pass
+pub mod Claims
+-- what no step can tell
+pub mod Tellings

@@ -1,8 +1,10 @@
+-- what is shown of each state that has a machine
+pub mod Statements
 -- what was told lasts, and lists of what was told
 pub mod Entries
--- the machine that words and passes are, and what an event of one pass leaves of the rule
+-- the machine that words and passes are, and what an event of one pass leaves of the machine
 pub mod Seats
--- what an event leaves of the rule, by what it does to the words
+-- what an event leaves of the machine, by what it does to the words
 pub mod Frames
 -- a claim, a flag and a mark leave the ledger
 pub mod LedgersStay

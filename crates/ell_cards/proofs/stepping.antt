@@ -8,7 +8,7 @@ pub mod Begins
 pub mod Settling
 -- info and frozen_child
 pub mod Asking
--- the exchange of a word of a card that does not wait: what it leaves of the rule, won or lost
+-- the exchange of a word of a card that does not wait: what it leaves of the machine, won or lost
 pub mod Exchanges
 -- iflag and dflag
 pub mod Flags

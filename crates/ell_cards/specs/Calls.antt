@@ -17,7 +17,7 @@ use Rattle.ell_core.specs.state.Cards.{iflag, dflag, marked, clean}
 use Rattle.ell_core.specs.acts.Searching.{IsLeaf}
 use Rattle.ell_core.specs.acts.Exchanges.{won_or_lost}
 use Rattle.ell_core.specs.acts.Events.{Steps}
-use Rattle.ell_core.specs.statements.StepLaws.{AnswersAsMap, contents_in}
+use Rattle.ell_core.specs.statements.Effects.{AnswersAsMap, contents_in}
 use Rattle.ell_cards.specs.declared.call.Call.{Call}
 use Rattle.ell_cards.specs.declared.call.Call.TheVariants as call
 use Rattle.ell_cards.specs.declared.view.Told.TheVariants.{Met, Info}

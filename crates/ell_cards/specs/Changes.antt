@@ -16,7 +16,7 @@ use Rattle.ell_core.specs.declared.view.WorkerView.{WorkerView}
 use Rattle.ell_core.specs.state.Machine.{no_search}
 use Rattle.ell_core.specs.state.Cards.{insert_filling, delete_filling}
 use Rattle.ell_core.specs.acts.Searching.{with_read, at_root}
-use Rattle.ell_core.specs.statements.Premises.{keys_at_start}
+use Rattle.ell_core.specs.state.Opening.{keys_at_start}
 use Rattle.ell_cards.specs.declared.view.Told.{Told}
 use Rattle.ell_cards.specs.declared.view.Told.TheVariants.{Met, Key, Value, Info, Frozen}
 use Rattle.ell_cards.specs.declared.view.Hindrance.{Hindrance}

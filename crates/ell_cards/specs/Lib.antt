@@ -6,26 +6,36 @@ pub mod Changes
 pub mod Guards
 -- the step calls as one table: the word that each touches, what it does to it, its event, the change, the guard, what it tells
 pub mod Calls
--- the rule of the table: its words and its passes are a state of the machine that the invariant holds of
-pub mod Rule
+-- states of a table
+pub mod States
+-- turns of its passes, and runs of a table, one turn after the other
+pub mod Turns
+-- what turns do, by the table's own words and what its passes know
+pub mod TurnEffects
+-- tables as they start, and where runs lead from there
+pub mod Starts
+-- how a table ends
+pub mod Closed
+-- laws of each table that turns have led to, by its own words
+pub mod OwnWords
+-- what passes know of the claim word and of claims
+pub mod Readings
+-- what no step can tell
+pub mod Tellings
 -- what a pass names is in its table
 pub mod Naming
 -- a pass as its code keeps it
 pub mod Inside
 -- what the generic step asks and tells
 pub mod Stepping
--- the laws of the rule
+-- the machine that a table has, wherever turns lead, and what the invariant has to keep of what passes know
+pub mod Machines
+-- step calls, splits and joins as the machine's
 pub mod Laws
--- how a table ends
-pub mod Closed
--- what the table's own words are in a state of the rule, and how the keys of their tree change
-pub mod OwnWords
--- runs of a table: turns of its passes, one after the other
+-- runs of a table as the machine's
 pub mod Runs
--- what runs of a table win for each card, and leave of its nodes
+-- what runs of a table win for each card, after what its machine won
 pub mod RunLaws
--- tables as they start, and where runs lead from there
-pub mod Starts
 -- what its public clauses cite of the crates below
 pub use Rattle.ell_ops.specs.KeySet
 pub use Rattle.ell_ops.specs.Meaning
@@ -37,4 +47,4 @@ pub use Rattle.ell_core.specs.state.Machine
 pub use Rattle.ell_core.specs.state.Opening
 pub use Rattle.ell_core.specs.state.Words
 pub use Rattle.ell_core.specs.acts.Searching
-pub use Rattle.ell_core.specs.statements.StepLaws
+pub use Rattle.ell_core.specs.statements.Effects

@@ -13,10 +13,11 @@ use Rattle.ell_cards.specs.declared.fault.CardFault.TheVariants.{BadCards, NoMem
 use Rattle.ell_cards.specs.declared.view.Told.{Told}
 use Rattle.ell_cards.specs.declared.view.View.{View}
 
--- which table it is, the keys that its passes own, and the number of its last card
+-- which table it is, the keys that its passes own, the start keys with their values, and the number of its last card
 pub record TableModel : Type 0 where
   pub id : TableId
   pub keys : List ℕ
+  pub start : List (ℕ × ℕ)
   pub last_card : ℕ
 
 -- the table that a pass belongs to, what it knows, the atomic steps made through it, and its label

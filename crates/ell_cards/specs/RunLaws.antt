@@ -1,67 +1,41 @@
-use Rattle.std.specs.Prelude.{◌≡◌, ℕ, ◌≤◌, if◌then◌else◌, Bool, Some, List, [], ◌∷◌, ◌++◌}
-use Rattle.ell_word.specs.Node.{IsInternal}
-use Rattle.ell_word.specs.Word.{unpacked}
-use Rattle.ell_word.specs.declared.update.State.TheVariants as state
+use Rattle.std.specs.Prelude.{◌≡◌, ℕ, ◌≤◌, List, [], ◌++◌}
 use Rattle.ell_word.specs.declared.gate.Kind.{Kind}
-use Rattle.ell_word.specs.declared.gate.Kind.TheVariants as kind
-use Rattle.ell_core.specs.state.Words.{Words}
-use Rattle.ell_core.specs.tree.Tree.{Reached}
-use Rattle.ell_core.specs.history.Later.{SameNode, win_for, wins_of}
-use Rattle.ell_core.specs.statements.RunLaws.{InOrder}
-use Rattle.ell_cards.specs.declared.call.Call.{Call}
-use Rattle.ell_cards.specs.declared.call.Call.TheVariants as call
-use Rattle.ell_cards.specs.Calls.{atomic_of, is_won}
-use Rattle.ell_cards.specs.Rule.{TableState, RuleHolds}
-use Rattle.ell_cards.specs.Laws.{found_by}
-use Rattle.ell_cards.specs.OwnWords.{own_words}
-use Rattle.ell_cards.specs.Runs.{Turn, Makes, TableRun}
+use Rattle.ell_core.specs.state.Opening.{last_card}
+use Rattle.ell_core.specs.history.Later.{wins_of}
+use Rattle.ell_core.specs.acts.Wins.{InOrder}
+use Rattle.ell_core.specs.statements.RunLaws.{IsOpening}
+use Rattle.ell_cards.specs.States.{TableState}
+use Rattle.ell_cards.specs.Turns.{Turn, TableRun}
+use Rattle.ell_cards.specs.TurnEffects.{own_words, run_wins}
+use Rattle.ell_cards.specs.Starts.{Starts, IsReached}
+use Rattle.ell_cards.specs.Machines.{HasMachine}
+use Rattle.ell_cards.specs.Laws.{machine_of_table}
 
--- what a call wins for a card, if it is a won exchange
-abbrev pub win_of : Call → ℕ → List Kind
-win_of (call.IFlag c p from) d = win_for (Some c) kind.IFlag d
-win_of (call.IChild c p l right) d = win_for (Some c) kind.IChild d
-win_of (call.IUnflag c p) d = win_for (Some c) kind.IUnflag d
-win_of (call.DFlag c gp from) d = win_for (Some c) kind.DFlag d
-win_of (call.Mark c p was) d = win_for (Some c) kind.Mark d
-win_of (call.DChild c gp p s right) d = win_for (Some c) kind.DChild d
-win_of (call.DUnflag c gp) d = win_for (Some c) kind.DUnflag d
-win_of (call.Backtrack c gp) d = win_for (Some c) kind.Backtrack d
-win_of _ d = []
-
--- what a turn wins for a card
-abbrev pub turn_wins : TableState → Turn → ℕ → List Kind
-turn_wins s (Makes seat c) d = if is_won (atomic_of c) (found_by s c) then win_of c d else []
-turn_wins s _ d = []
-
--- what a run wins for a card, in its order
-abbrev pub run_wins : (cards : ℕ) (s : TableState) (turns : List Turn) (s' : TableState) → TableRun cards s turns s' → ℕ → List Kind
-run_wins cards s [] s' run d = []
-run_wins cards s (t ∷ ts) s' run d = turn_wins s t d ++ run_wins cards run.0 ts s' run.2 d
-
--- what was won for a card up to a state of the rule, by its stage there
-abbrev pub won_before : (keys : List ℕ) (cards : ℕ) (s : TableState) → RuleHolds keys cards s → ℕ → List Kind
+-- what was won for a card up to a state that has a machine, by its stage there
+abbrev pub won_before : (keys : List ℕ) (cards : ℕ) (s : TableState) → HasMachine keys cards s → ℕ → List Kind
 won_before keys cards s r c = wins_of (r.stages c)
 
 -- what was won for each card before, none for card 0 and for one that is yet to be claimed, goes on in order in every run
-pub record WinsGoOn (keys : List ℕ) (cards : ℕ) (s : TableState) (r : RuleHolds keys cards s) : Type 0 where
+pub record WinsGoOn (keys : List ℕ) (cards : ℕ) (s : TableState) (r : HasMachine keys cards s) : Type 0 where
   pub first : (c : ℕ) → c ≡ 0 → won_before keys cards s r c ≡ []
   pub fresh : (c : ℕ) → (own_words s).next ≤ c → won_before keys cards s r c ≡ []
   pub order : (turns : List Turn) (s' : TableState) (run : TableRun cards s turns s') (c : ℕ)
       → InOrder (won_before keys cards s r c ++ run_wins cards s turns s' run c)
 
--- so it does from every state of the rule
+-- so it does from every state that has a machine
 abbrev pub TableWinsAreInOrder : Type 0
-TableWinsAreInOrder = (keys : List ℕ) (cards : ℕ) (s : TableState) (r : RuleHolds keys cards s) → WinsGoOn keys cards s r
+TableWinsAreInOrder = (keys : List ℕ) (cards : ℕ) (s : TableState) (r : HasMachine keys cards s) → WinsGoOn keys cards s r
 
--- a node goes on: it has its key; an internal one has no lesser children and no lesser update word, and once that is a mark,
--- neither it nor the children change
-pub record NodeGoesOn (old new : Words) (x : ℕ) : Type 0 where
-  pub key : new.key x ≡ old.key x
-  pub children : IsInternal x → (right : Bool) → old.child x right ≤ new.child x right
-  pub update : IsInternal x → old.update x ≤ new.update x
-  pub frozen : IsInternal x → (unpacked (old.update x)).state ≡ state.Mark → SameNode old new x
+-- a table as it starts has a machine that is an opening, and nothing was won yet
+pub record StartIsKept (keys : List ℕ) (start : List (ℕ × ℕ)) (cards : ℕ) (s : TableState) : Type 0 where
+  pub kept : HasMachine keys (last_card start cards) s
+  pub opening : IsOpening (machine_of_table keys (last_card start cards) s kept)
+  pub unwon : (c : ℕ) → won_before keys (last_card start cards) s kept c ≡ []
 
--- so does each node that was reached once, in every run, by the table's own words
-abbrev pub TableNodesGoOn : Type 0
-TableNodesGoOn = (keys : List ℕ) (cards : ℕ) (s : TableState) → RuleHolds keys cards s → (turns : List Turn) (s' : TableState)
-    → TableRun cards s turns s' → (x : ℕ) → Reached (own_words s) x → NodeGoesOn (own_words s) (own_words s') x
+-- so it is of every table as it starts
+abbrev pub StartsAreKept : Type 0
+StartsAreKept = (keys : List ℕ) (start : List (ℕ × ℕ)) (cards : ℕ) (s : TableState) → Starts keys start cards s → StartIsKept keys start cards s
+
+-- wherever turns have led a table, it has a machine
+abbrev pub ReachedHasMachine : Type 0
+ReachedHasMachine = (keys : List ℕ) (start : List (ℕ × ℕ)) (last : ℕ) (s : TableState) → IsReached keys start last s → HasMachine keys last s

@@ -12,14 +12,12 @@ use Rattle.ell_core.specs.state.Words.{words_of}
 use Rattle.ell_core.specs.state.Opening.{start_words, last_card}
 use Rattle.ell_core.specs.tree.Tree.{IsTreePair}
 use Rattle.ell_core.specs.soundness.Sound.{IsSound}
-use Rattle.ell_core.specs.statements.RunLaws.{IsOpening, InOrder}
+use Rattle.ell_core.specs.acts.Wins.{InOrder}
 use Rattle.ell_cards.specs.declared.call.Call.TheVariants as call
 use Rattle.ell_cards.specs.Changes.{first_view}
-use Rattle.ell_cards.specs.Rule.{TableState, RuleHolds}
-use Rattle.ell_cards.specs.Laws.{machine_of_table}
-use Rattle.ell_cards.specs.OwnWords.{own_words, own_machine}
-use Rattle.ell_cards.specs.Runs.{Turn, Makes, TableTurns, TableRun}
-use Rattle.ell_cards.specs.RunLaws.{won_before, run_wins}
+use Rattle.ell_cards.specs.States.{TableState}
+use Rattle.ell_cards.specs.Turns.{Turn, Makes, TableTurns, TableRun}
+use Rattle.ell_cards.specs.TurnEffects.{own_words, own_machine, TurnsDo, run_wins}
 
 -- what a table starts with: keys that are real ones, ascending, and start keys among them, ascending too, with their values
 pub record MayStart (keys : List ℕ) (start : List (ℕ × ℕ)) : Type 0 where
@@ -48,15 +46,6 @@ pub record StartsSome (keys : List ℕ) (start : List (ℕ × ℕ)) (cards : ℕ
 abbrev pub TablesStart : Type 0
 TablesStart = (keys : List ℕ) (start : List (ℕ × ℕ)) (cards : ℕ) → MayStart keys start → StartsSome keys start cards
 
--- it is of the rule, by a machine that is an opening, and nothing was won yet
-pub record StartIsKept (keys : List ℕ) (start : List (ℕ × ℕ)) (cards : ℕ) (s : TableState) : Type 0 where
-  pub kept : RuleHolds keys (last_card start cards) s
-  pub opening : IsOpening (machine_of_table keys (last_card start cards) s kept)
-  pub unwon : (c : ℕ) → won_before keys (last_card start cards) s kept c ≡ []
-
-abbrev pub StartsAreKept : Type 0
-StartsAreKept = (keys : List ℕ) (start : List (ℕ × ℕ)) (cards : ℕ) (s : TableState) → Starts keys start cards s → StartIsKept keys start cards s
-
 -- the keys of its tree are the start keys, with their values
 abbrev pub StartsHaveTheirKeys : Type 0
 StartsHaveTheirKeys = (keys : List ℕ) (start : List (ℕ × ℕ)) (cards : ℕ) (s : TableState) → Starts keys start cards s → (k value : ℕ)
@@ -71,12 +60,24 @@ abbrev pub FirstPassMayBegin : Type 0
 FirstPassMayBegin = (keys : List ℕ) (start : List (ℕ × ℕ)) (cards : ℕ) (s : TableState) → Starts keys start cards s → (op : Op) → Contains keys (key_of op)
     → MayBeginThere (last_card start cards) s op
 
--- where a run from a start leads: a state of the rule, sound by the table's own words, and each card has won in order
-pub record RunFromStart (keys : List ℕ) (cards : ℕ) (s : TableState) (turns : List Turn) (s' : TableState) (run : TableRun cards s turns s') : Type 0 where
-  pub kept : RuleHolds keys cards s'
-  pub sound : IsSound (own_machine cards s')
+-- what a run from a start does: the tree that the table's own words make has the start keys first, with their values, and each turn
+-- does to it as turns do; each card wins in order; and where it leads, those words, with what the passes know, are a sound state
+pub record RunFromStart (start : List (ℕ × ℕ)) (cards : ℕ) (s : TableState) (turns : List Turn) (s' : TableState) (run : TableRun cards s turns s') : Type 0 where
+  pub opens : (k value : ℕ) → IsTreePair (own_words s) k value ↔ (contents_of start k ≡ Some value)
+  pub turns_do : TurnsDo cards s turns s' run
   pub wins : (c : ℕ) → InOrder (run_wins cards s turns s' run c)
+  pub sound : IsSound (own_machine cards s')
 
+-- so does every run from a start, by any passes in any order
 abbrev pub RunsFromStarts : Type 0
 RunsFromStarts = (keys : List ℕ) (start : List (ℕ × ℕ)) (cards : ℕ) (s : TableState) → Starts keys start cards s → (turns : List Turn) (s' : TableState)
-    (run : TableRun (last_card start cards) s turns s') → RunFromStart keys (last_card start cards) s turns s' run
+    (run : TableRun (last_card start cards) s turns s') → RunFromStart start (last_card start cards) s turns s' run
+
+-- the rule of a table with these keys, start keys and last card: it is where turns of its passes have led from its start
+pub record IsReached (keys : List ℕ) (start : List (ℕ × ℕ)) (last : ℕ) (s : TableState) : Type 0 where
+  pub cards : ℕ
+  pub all : last_card start cards ≡ last
+  pub first : TableState
+  pub starts : Starts keys start cards first
+  pub turns : List Turn
+  pub run : TableRun last first turns s

@@ -8,30 +8,30 @@ use Rattle.ell_cards.specs.Models.{PassModel, one_more}
 use Rattle.ell_cards.specs.Changes.{keys_of}
 use Rattle.ell_cards.specs.Naming.{IsNamed}
 use Rattle.ell_cards.specs.Calls.{after, Tells}
-use Rattle.ell_cards.specs.Rule.{RuleHolds}
+use Rattle.ell_cards.specs.Starts.{IsReached}
 
--- whatever the table is, a load of a word keeps the rule, and this holds of the word found and of what the pass knows after
-abbrev pub MayLoad : List ℕ → ℕ → View → ℕ → (ℕ → View → Type 0) → Type 0
-MayLoad keys cards v i then =
-    (id : ℕ) → Allows (RuleHolds keys cards) 0 id (v, []) i (λ n. n) (λ n me. then n me.0 × (me.1 ≡ []))
+-- wherever turns have led the table, a load of a word is a turn again, and this holds of the word found and of what the pass knows after
+abbrev pub MayLoad : List ℕ → List (ℕ × ℕ) → ℕ → View → ℕ → (ℕ → View → Type 0) → Type 0
+MayLoad keys start cards v i then =
+    (id : ℕ) → Allows (IsReached keys start cards) 0 id (v, []) i (λ n. n) (λ n me. then n me.0 × (me.1 ≡ []))
 
 -- so does a store of a value
-abbrev pub MayStore : List ℕ → ℕ → View → ℕ → ℕ → (ℕ → View → Type 0) → Type 0
-MayStore keys cards v i value then =
-    (id : ℕ) → Allows (RuleHolds keys cards) 0 id (v, []) i (λ n. value) (λ n me. then value me.0 × (me.1 ≡ []))
+abbrev pub MayStore : List ℕ → List (ℕ × ℕ) → ℕ → View → ℕ → ℕ → (ℕ → View → Type 0) → Type 0
+MayStore keys start cards v i value then =
+    (id : ℕ) → Allows (IsReached keys start cards) 0 id (v, []) i (λ n. value) (λ n me. then value me.0 × (me.1 ≡ []))
 
 -- and an exchange of an expected value for another
-abbrev pub MayExchange : List ℕ → ℕ → View → ℕ → ℕ → ℕ → (ℕ → View → Type 0) → Type 0
-MayExchange keys cards v i expected value then =
-    (id : ℕ) → Allows (RuleHolds keys cards) 0 id (v, []) i (λ n. either (n == expected) value n) (λ n me. then n me.0 × (me.1 ≡ []))
+abbrev pub MayExchange : List ℕ → List (ℕ × ℕ) → ℕ → View → ℕ → ℕ → ℕ → (ℕ → View → Type 0) → Type 0
+MayExchange keys start cards v i expected value then =
+    (id : ℕ) → Allows (IsReached keys start cards) 0 id (v, []) i (λ n. either (n == expected) value n) (λ n me. then n me.0 × (me.1 ≡ []))
 
 -- whatever the table is, the view of a seat may be cut in these two
-abbrev pub MaySplit : List ℕ → ℕ → View → View → View → Type 0
-MaySplit keys cards v left right = (id : ℕ) → Splits (RuleHolds keys cards) id v left right
+abbrev pub MaySplit : List ℕ → List (ℕ × ℕ) → ℕ → View → View → View → Type 0
+MaySplit keys start cards v left right = (id : ℕ) → Splits (IsReached keys start cards) id v left right
 
 -- and the views of two seats may become one, and this
-abbrev pub MayJoin : List ℕ → ℕ → View → View → View → View → Type 0
-MayJoin keys cards v w both spent = (id other : ℕ) → Joins (RuleHolds keys cards) id v other w both spent
+abbrev pub MayJoin : List ℕ → List (ℕ × ℕ) → ℕ → View → View → View → View → Type 0
+MayJoin keys start cards v w both spent = (id other : ℕ) → Joins (IsReached keys start cards) id v other w both spent
 
 -- a pass with these keys may know this, where a pass of its table knew that
 pub record MayHave (cards : ℕ) (old : View) (keys : List ℕ) (v : View) : Type 0 where

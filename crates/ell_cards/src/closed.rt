@@ -36,7 +36,7 @@ impl<A: Allocator + Copy> CardTable<A> {
         requires own { pass.table ≡ self.id }
         requires free { IsFree pass.view }
         requires all { All (λ k. ledger_of pass.view.worker.ledger k ≢ None) self.keys }
-        ensures ends { TableEnds self.keys pass.view result }
+        ensures ends { TableEnds self.keys self.start pass.view result }
         ensures cards { result.last_card ≡ self.last_card }
     {
         let CardTable {

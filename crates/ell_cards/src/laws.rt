@@ -1,40 +1,43 @@
 //! The laws of a table, whose words many passes share. Each is the contract of a function that does nothing, so that it is proved.
 //!
-//! A state of the table is the list of its words and what each pass knows. Its rule, `RuleHolds`, holds of it where it is the state of
-//! a machine of `ell_core` that the invariant holds of. A law speaks of each state of the rule, whatever has led to it; and the
-//! table's calls make their steps through `atomic_table`, which takes none, by whatever thread, that does not keep the rule.
-ghost use Rattle.ell_cards.specs.Laws.{StepsAreEvents, SplitsAreMoves, JoinsAreMoves};
-ghost use Rattle.ell_cards.specs.OwnWords.{OwnWordsAreSound, RuleIsSound, RuleHasOwnWords, TablePairsChangeAtWins, TableAnswersAreTheMaps, LedgersTellTheTree, TreeKeysAreOwned, TableChangesAreOperations};
-ghost use Rattle.ell_cards.specs.Runs.{StepsStayInside, RunsAreLawful, RunsAreSchedules};
-ghost use Rattle.ell_cards.specs.RunLaws.{TableWinsAreInOrder, TableNodesGoOn};
-ghost use Rattle.ell_cards.specs.Starts.{TablesStart, StartsAreKept, StartsHaveTheirKeys, FirstPassMayBegin, RunsFromStarts};
+//! A state of the table is the list of its words and what each pass knows. The table's calls make their steps through `atomic_table`,
+//! which takes none, by whatever thread, that does not keep the table's rule: `IsReached`, that turns of its passes, each a step
+//! call, a split or a join, have led from the table's start to the state. `HasMachine` follows from it: the state is that of a machine
+//! of `ell_core` that the invariant holds of. `runs_from_starts_are_lawful` is the law of all such runs, and says nothing of machines.
+ghost use Rattle.ell_cards.specs.OwnWords.{OwnWordsAreSound, StepsStayInside, TablePairsChangeAtWins, TableChangesAreOperations, TableAnswersAreTheMaps, LedgersTellTheTree, TreeKeysAreOwned, TableNodesGoOn};
+ghost use Rattle.ell_cards.specs.Starts.{TablesStart, StartsHaveTheirKeys, FirstPassMayBegin, RunsFromStarts};
+ghost use Rattle.ell_cards.specs.Readings.{ReadingsArePast, ClaimsAreTold};
+ghost use Rattle.ell_cards.specs.Tellings.{NoGreaterNext, NoUntriedClaimLost, NoWonClaimLost, NoGreaterUpdate, NoWonIFlagLost, NoWonDFlagLost};
+ghost use Rattle.ell_cards.specs.Laws.{StepsAreEvents, SplitsAreMoves, JoinsAreMoves, MachineIsSound, MachineHasOwnWords};
+ghost use Rattle.ell_cards.specs.Runs.{RunsAreLawful, RunsAreSchedules};
+ghost use Rattle.ell_cards.specs.RunLaws.{TableWinsAreInOrder, StartsAreKept, ReachedHasMachine};
 
-/// Each step call of a pass that may make it is one atomic step on one word of the table. After it the rule holds again, of a
-/// machine to which the call's event leads from the one before, with the answer that the word found gives; or of the same one.
-/// Since that is so of whatever machine the rule held of before, it is so of call after call.
+/// Each step call of a pass that may make it is one atomic step on one word of the table. A table that had a machine before it has
+/// one after it, to which the call's event leads, with the answer that the word found gives; or the same one. Since that is so of
+/// whatever machine the table had, it is so of call after call.
 pub fn steps_are_events()
     ensures events { StepsAreEvents }
     ensures inside { StepsStayInside }
 {}
 
-/// A split of a pass with nothing in hand, and a join of two, are those of the machine; after them the rule holds again.
+/// A split of a pass with nothing in hand, and a join of two, are those of the machine that the table has.
 pub fn splits_and_joins_are_moves()
     ensures splits { SplitsAreMoves }
     ensures joins { JoinsAreMoves }
 {}
 
-/// In a state of the rule the table's own words, with what its passes know, are a sound state: a lawful tree, whose keys are
+/// Wherever turns have led a table, its own words, with what its passes know, are a sound state: a lawful tree, whose keys are
 /// those of the ledgers, in which each search stands right, each fact that is known holds, and each flag is some pass's. The
-/// rule's machine is sound too, and its words are the table's, but at cards that still wait for their flag.
-pub fn rule_is_sound()
+/// machine that it has is sound too, and its words are the table's, but at cards that still wait for their flag.
+pub fn tables_are_sound()
     ensures own { OwnWordsAreSound }
-    ensures machine { RuleIsSound }
-    ensures words { RuleHasOwnWords }
+    ensures machine { MachineIsSound }
+    ensures words { MachineHasOwnWords }
 {}
 
 /// At each step call of each pass the keys of the tree and their values, as the table's own words make it, change at a won ichild,
-/// which adds its card's key with its value, and at a won dchild, which takes its card's key away; at every other step they are the
-/// same. Whichever pass makes it, a won ichild is of an insert of that key and value that some pass has in hand, and a won dchild of
+/// which adds its card's key with its value, and at a won dchild, which takes its card's key with its value away; at every other step
+/// they are the same. Whichever pass makes it, a won ichild is of an insert of that key and value that some pass has in hand, and a won dchild of
 /// a delete.
 pub fn table_pairs_change_at_wins()
     ensures pairs { TablePairsChangeAtWins }
@@ -50,12 +53,14 @@ pub fn table_answers_are_the_maps()
     ensures owned { TreeKeysAreOwned }
 {}
 
-/// In every run of step calls, splits and joins, of any passes in any order, every state is of the rule and sound, each call
-/// is its event and each split and join the machine's, and the keys of the tree and their values change at the won ichilds
-/// and dchilds alone. A run of step calls is one of the machine, by the events of its calls.
+/// In every run of step calls, splits and joins, of any passes in any order, from a state that has a machine, every state has one
+/// and is sound, each call is its event and each split and join the machine's, and the keys of the tree and their values change at
+/// the won ichilds and dchilds alone. A run of step calls is one of the machine, by the events of its calls. And wherever turns have
+/// led a table from its start, it has a machine.
 pub fn runs_are_lawful()
     ensures turns { RunsAreLawful }
     ensures schedules { RunsAreSchedules }
+    ensures reached { ReachedHasMachine }
 {}
 
 /// In every run each card's exchanges are won in order: iflag, ichild, iunflag, or dflag, mark, dchild, dunflag, or dflag,
@@ -71,8 +76,8 @@ pub fn table_nodes_go_on()
 {}
 
 /// The laws are about something. Any ascending list of real keys, any ascending list of start keys among them, with any values, and
-/// any number of cards have a table as it starts, which is of the rule, by a machine that is an opening, with nothing won yet; the
-/// keys of its tree are the start keys, with their values, and its one pass may begin any operation on a key of its own.
+/// any number of cards have a table as it starts, with a machine that is an opening, with nothing won yet; the keys of its tree are
+/// the start keys, with their values, and its one pass may begin any operation on a key of its own.
 pub fn tables_start()
     ensures tables { TablesStart }
     ensures kept { StartsAreKept }
@@ -80,8 +85,30 @@ pub fn tables_start()
     ensures begin { FirstPassMayBegin }
 {}
 
-/// Wherever a run leads from a table as it starts, the state is of the rule, the table's own words with what its passes know are
-/// a sound state, and each card's exchanges were won in order.
+/// The law of every run from a table as it starts, by any passes in any order. The tree that the table's own words make has the
+/// start keys first, with their values. Each turn changes it at a won ichild, which adds its card's key with its value, at a won dchild,
+/// which takes its card's key with its value away, and else not at all; such a card is of an insert or a delete that some pass has in
+/// hand. Each answer is the map's on its pass's ledger, and no other turn but a split and a join changes a ledger. Each card's exchanges
+/// are won in order. And after each turn the words, with what the passes know, are a sound state.
 pub fn runs_from_starts_are_lawful()
     ensures { RunsFromStarts }
+{}
+
+/// Wherever turns have led a table, what each pass knows of the claim word is past: a reading of it is at most what the word is
+/// now, and a card whose claim the pass lost is below it. And some pass was told of each card that was claimed.
+pub fn readings_are_past()
+    ensures past { ReadingsArePast }
+    ensures told { ClaimsAreTold }
+{}
+
+/// The table's rule has force: there are things that no step can tell, since nowhere do turns lead to the state after it. None can
+/// tell a greater claim word than the table has, a claim lost that was not tried, or one lost that it won; a greater update word than
+/// a node has; a flag lost that it won.
+pub fn steps_tell_what_is_there()
+    ensures next { NoGreaterNext }
+    ensures untried { NoUntriedClaimLost }
+    ensures claim { NoWonClaimLost }
+    ensures update { NoGreaterUpdate }
+    ensures iflag { NoWonIFlagLost }
+    ensures dflag { NoWonDFlagLost }
 {}

@@ -35,6 +35,7 @@ impl<A: Allocator + Copy> CardTable<A> {
         requires real { All (λ k. k ≤ greatest_key) keys.now }
         ensures cards { OnOk result (IsCardCount cards) }
         ensures table { IfOk result (λ made. (made.0.keys ≡ keys.now) × (made.0.last_card ≡ cards)) }
+        ensures start { IfOk result (λ made. made.0.start ≡ []) }
         ensures pass { IfOk result (λ made. made.1 ≡ record { table = made.0.id; view = first_view keys.now []; steps = 0; label = 0 }) }
         ensures refused { IfErr result (Refuses cards) }
     {
@@ -59,6 +60,7 @@ impl<A: Allocator + Copy> CardTable<A> {
         requires few { length start.now ≤ most_start }
         ensures cards { OnOk result (IsCardCount cards) }
         ensures table { IfOk result (λ made. (made.0.keys ≡ keys.now) × (made.0.last_card ≡ last_card start.now cards)) }
+        ensures start { IfOk result (λ made. made.0.start ≡ start.now) }
         ensures pass { IfOk result (λ made. made.1 ≡ record { table = made.0.id; view = first_view keys.now start.now; steps = 0; label = 0 }) }
         ensures refused { IfErr result (Refuses cards) }
     {
@@ -129,7 +131,7 @@ impl<A: Allocator + Copy> CardTable<A> {
         right: Vec<u64, A>,
     ) -> (Pass<A>, Pass<A>)
         requires own { pass.table ≡ self.now.id }
-        requires rule { MaySplit self.now.keys self.now.last_card pass.view J.left J.right }
+        requires rule { MaySplit self.now.keys self.now.start self.now.last_card pass.view J.left J.right }
         requires left { MayHave self.now.last_card pass.view left.items J.left }
         requires right { MayHave self.now.last_card pass.view right.items J.right }
         ensures left { Steps pass result.0 J.left }

@@ -8,10 +8,10 @@ use std::marker::{Brand, PhantomData};
 pub(crate) struct CardRule;
 
 impl<A: Allocator + Copy> TableRule<(), View, Plan<A>> for CardRule {
-    ghost use Rattle.ell_cards.specs.Rule.{RuleHolds};
+    ghost use Rattle.ell_cards.specs.Starts.{IsReached};
     ghost use Rattle.ell_cards.specs.Changes.{first_view};
 
-    ghost holds = { λ plan. RuleHolds plan.keys.items plan.last_card };
+    ghost holds = { λ plan. IsReached plan.keys.items plan.start.items plan.last_card };
 
     ghost first = { λ plan. first_view plan.keys.items plan.start.items };
 }

@@ -31,7 +31,7 @@ pub struct CardTable<A: Allocator + Copy> {
 impl<A: Allocator + Copy> Model for CardTable<A> {
     ghost Value = { TableModel };
 
-    ghost view = { λ t. record { id = t.table.shared.table_id; keys = t.table.shared.key.keys.items; last_card = t.table.shared.key.last_card } };
+    ghost view = { λ t. record { id = t.table.shared.table_id; keys = t.table.shared.key.keys.items; start = t.table.shared.key.start.items; last_card = t.table.shared.key.last_card } };
 
     ghost invariant = { λ t. (t.table.shared.table_id.words ≡ table_size t.table.shared.key.last_card) × (t.table.shared.table_id.slots ≡ 0) × (t.table.shared.key.last_card ≤ greatest_card) × (t.last_card ≡ t.table.shared.key.last_card) };
 }
@@ -53,7 +53,7 @@ impl<A: Allocator + Copy> CardTable<A> {
     fn load_as<J: Telling>(&self, pass: &mut Pass<A>, call: Call, word: usize) -> u64
         requires own { pass.old.table ≡ self.now.id }
         requires word { IsNamed self.now.last_card pass.old.view → word < table_size self.now.last_card }
-        requires rule { MayLoad self.now.keys self.now.last_card pass.old.view word J.then }
+        requires rule { MayLoad self.now.keys self.now.start self.now.last_card pass.old.view word J.then }
         requires keeps { KeepsPass self.now.last_card pass.old.view J.then }
         ensures told { J.then result pass.new.view }
         ensures step { StepsBy pass.old pass.new }
@@ -82,7 +82,7 @@ impl<A: Allocator + Copy> CardTable<A> {
     fn store_as<J: Telling>(&self, pass: &mut Pass<A>, call: Call, word: usize, value: u64)
         requires own { pass.old.table ≡ self.now.id }
         requires word { IsNamed self.now.last_card pass.old.view → word < table_size self.now.last_card }
-        requires rule { MayStore self.now.keys self.now.last_card pass.old.view word value J.then }
+        requires rule { MayStore self.now.keys self.now.start self.now.last_card pass.old.view word value J.then }
         requires keeps { KeepsPass self.now.last_card pass.old.view J.then }
         ensures told { J.then value pass.new.view }
         ensures step { StepsBy pass.old pass.new }
@@ -117,7 +117,7 @@ impl<A: Allocator + Copy> CardTable<A> {
     ) -> u64
         requires own { pass.old.table ≡ self.now.id }
         requires word { IsNamed self.now.last_card pass.old.view → word < table_size self.now.last_card }
-        requires rule { MayExchange self.now.keys self.now.last_card pass.old.view word expected value J.then }
+        requires rule { MayExchange self.now.keys self.now.start self.now.last_card pass.old.view word expected value J.then }
         requires keeps { KeepsPass self.now.last_card pass.old.view J.then }
         ensures told { J.then result pass.new.view }
         ensures step { StepsBy pass.old pass.new }

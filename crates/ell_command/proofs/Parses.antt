@@ -12,7 +12,7 @@ use Rattle.clap.specs.declared.parser.matches.ArgMatches.TheViews.{out-ArgMatche
 use Rattle.clap.specs.declared.error.Error.{Error}
 use Rattle.clap.specs.declared.error.kind.ErrorKind.{ErrorKind}
 use Rattle.clap.specs.declared.error.kind.ErrorKind.TheVariants.{DisplayHelp, MissingSubcommand, OutOfMemory}
-use Rattle.ell_command.specs.CommandLine.{AreOptions, AreRefused, AreTaken, AsksForHelp, AsksForHelpAfter, AsksToReplay, AsksToRun, IsElltree, IsMistakeOrMemory, app_at, elltree_app, faults_of, is_mistake, name_in, options_of, rows_in, subcommand_in}
+use Rattle.ell_command.specs.CommandLine.{AreOptions, AreRefused, AreShownHelp, AreTaken, AsksForHelp, AsksForHelpAfter, AsksToReplay, AsksToRun, IsElltree, IsMistakeOrMemory, app_at, elltree_app, faults_of, is_mistake, name_in, options_of, rows_in, subcommand_in}
 use Rattle.ell_command.proofs.WrittenOut.{app_is_ready, app_is_simple, help_is_shown, nothing_is_refused, replay_help_is_shown, replay_is_taken, replay_short_help_is_shown, run_help_is_shown, run_is_taken, run_short_help_is_shown, short_help_is_shown}
 use Rattle.ell_command.proofs.Subcommands.{one_is_named}
 use Rattle.ell_command.proofs.PartingNames.{same_faults, same_rows}
@@ -58,6 +58,10 @@ help_is_asked : (words : List Text) → AsksForHelp words → faults_of words �
 help_is_asked words (inl alone) = help_is_asked_after [] words alone help_is_shown short_help_is_shown
 help_is_asked words (inr (inl after_run)) = help_is_asked_after (codes "run" ∷ []) words after_run run_help_is_shown run_short_help_is_shown
 help_is_asked words (inr (inr after_replay)) = help_is_asked_after (codes "replay" ∷ []) words after_replay replay_help_is_shown replay_short_help_is_shown
+
+-- a parse of words that come to help alone answers with help, or fails for want of memory
+pub help_shown : {T : Type 0} (words : List Text) (r : Result T Error) → FailsBy (faults_of words) r → AreShownHelp words → IsErrAnd r (HasKind (DisplayHelp ∷ []))
+help_shown words = fails_with (faults_of words) DisplayHelp
 
 -- a parse of a request for help answers with help, or fails for want of memory
 pub help_fails : {T : Type 0} (words : List Text) (r : Result T Error) → FailsBy (faults_of words) r → AsksForHelp words → IsErrAnd r (HasKind (DisplayHelp ∷ []))

@@ -151,6 +151,10 @@ abbrev pub AsksForHelp : List Text → Type 0
 AsksForHelp words = AsksForHelpAfter [] words
     ⊎ (AsksForHelpAfter (codes "run" ∷ []) words ⊎ AsksForHelpAfter (codes "replay" ∷ []) words)
 
+-- the words come to help and to no other error, as those of `AsksForHelp` do, and as `run --workers 2 --help` does
+abbrev pub AreShownHelp : List Text → Type 0
+AreShownHelp words = faults_of words ≡ kind.DisplayHelp ∷ []
+
 -- a kind of error that is a mistake in the words: no help, and no want of memory
 abbrev pub is_mistake : ErrorKind → Bool
 is_mistake kind.DisplayHelp = false

@@ -1,10 +1,12 @@
-use Rattle.std.specs.Prelude.{◌≡◌, ◌⊎◌, ℕ, ⊤}
-use Rattle.ell_run.specs.Answered.{IsBeforeWriting}
+use Rattle.std.specs.Prelude.{◌≡◌, ◌⊎◌, ℕ, List, Option, ⊤}
+use Rattle.std.specs.Io.KnownBytes.{Keeps}
+use Rattle.ell_run.specs.Answered.{FaultTells, IsAnswered, IsBeforeWriting}
 use Rattle.ell_command.specs.declared.program.Failure.{Failure}
 use Rattle.ell_command.specs.declared.program.Failure.TheVariants as failure
 use Rattle.ell_run.specs.declared.bytes.RunFault.{RunFault}
 use Rattle.ell_run.specs.declared.bytes.RunFault.TheVariants as run_fault
 use Rattle.ell_text.specs.replays.Replayed.{IsBeforeWriting as IsBeforeTrace}
+use Rattle.ell_text.specs.replays.Replayed.{IsReplayed, ScriptFaultTells}
 use Rattle.ell_text.specs.declared.bytes.ScriptFault.{ScriptFault}
 use Rattle.ell_text.specs.declared.bytes.ScriptFault.TheVariants as script_fault
 
@@ -63,3 +65,27 @@ IsBeforeOutput (failure.Run fault) = IsBeforeWriting fault
 IsBeforeOutput (failure.Replay fault) = IsBeforeTrace fault
 IsBeforeOutput failure.Write = ⊥
 IsBeforeOutput _ = ⊤
+
+-- what a failure tells where the words are taken to run: of the bytes that were read, and of what was written; by `Write` a flush failed
+abbrev pub RunFailureTells : Failure → Option (List ℕ) → Option (List ℕ) → Option (List ℕ) → Type 0
+RunFailureTells failure.NoMemory input before after = Keeps before after
+RunFailureTells (failure.Run fault) input before after = FaultTells fault input before after
+RunFailureTells failure.Write input before after = IsAnswered input before after
+RunFailureTells _ input before after = ⊥
+
+-- the same where they are taken to replay
+abbrev pub ReplayFailureTells : Failure → Option (List ℕ) → Option (List ℕ) → Option (List ℕ) → Type 0
+ReplayFailureTells failure.NoMemory input before after = Keeps before after
+ReplayFailureTells (failure.Replay fault) input before after = ScriptFaultTells fault input before after
+ReplayFailureTells failure.Write input before after = IsReplayed input before after
+ReplayFailureTells _ input before after = ⊥
+
+-- the status is that of a failure which tells of the run
+abbrev pub RunEndsBy : ℕ → Option (List ℕ) → Option (List ℕ) → Option (List ℕ) → Type 0
+RunEndsBy status input before after =
+    (failed : Failure) × (status ≡ status_of failed) × RunFailureTells failed input before after
+
+-- the status is that of a failure which tells of the replay
+abbrev pub ReplayEndsBy : ℕ → Option (List ℕ) → Option (List ℕ) → Option (List ℕ) → Type 0
+ReplayEndsBy status input before after =
+    (failed : Failure) × (status ≡ status_of failed) × ReplayFailureTells failed input before after

@@ -5,5 +5,5 @@
 mod program;
 mod request;
 
-pub use program::{ARGUMENTS_NOT_TAKEN, elltree};
+pub use program::{ARGUMENTS_NOT_TAKEN, Failure, carry_out, elltree};
 pub use request::{Request, request_of};

@@ -2,18 +2,19 @@
 ghost use Rattle.std.specs.Prelude.{◌≡◌, ◌⊎◌, IsTrue, IfErr, IsErrAnd, OnOk, Err, map};
 ghost use Rattle.std.specs.Io.KnownBytes.{Keeps};
 ghost use Rattle.clap.specs.Words.{kind_of};
-ghost use Rattle.ell_command.specs.CommandLine.{AreRefused, AreTaken, AreTakenToReplay, AreTakenToRun};
+ghost use Rattle.ell_command.specs.CommandLine.{AreRefused, AreShownHelp, AreTaken, AreTakenToReplay, AreTakenToRun};
 ghost use Rattle.ell_command.specs.CommandLine.{AsksForHelp, AsksForReport, AsksToReplay, AsksToRun};
 ghost use Rattle.ell_command.specs.CommandLine.{is_mistake};
-ghost use Rattle.ell_command.specs.Program.{IsBeforeOutput, IsRefusal, IsSilent, IsStatus, Succeeded};
-ghost use Rattle.ell_command.specs.Program.{status_of};
+ghost use Rattle.ell_command.specs.Program.{IsBeforeOutput, IsRefusal, IsSilent, IsStatus, ReplayEndsBy};
+ghost use Rattle.ell_command.specs.Program.{ReplayFailureTells, RunEndsBy, RunFailureTells, Succeeded, status_of};
 ghost use Rattle.ell_run.specs.Answered.{IsAnswered};
 ghost use Rattle.ell_text.specs.replays.Replayed.{IsReplayed};
 
 use crate::request::{Request, request_of};
 use clap::error::ErrorKind;
-use ell_run::{RunFault, run_bytes};
+use ell_run::{RunFault, run_bytes_watched};
 use ell_text::{ScriptFault, replay_bytes};
+use ell_word::{NoGate, StepGate};
 use std::alloc::Global;
 use std::convert::AsStr;
 use std::error::Error;
@@ -38,15 +39,18 @@ pub const ARGUMENTS_NOT_TAKEN: u8 = OUT_OF_MEMORY;
 // The most bytes of a text that go to standard error together.
 const TEXT_MAX: usize = 1024;
 
-// Why the program ends with another status than 0.
+/// Why the program ends with another status than 0.
 #[derive(Debug, Drop)]
-enum Failure {
-    // The words are refused, with the parser's text.
+pub enum Failure {
+    /// The words are refused, with the parser's text.
     Refused(clap::Error),
+    /// The arguments could not be parsed for want of memory.
     NoMemory,
+    /// A run ended early.
     Run(RunFault),
+    /// A replay ended early.
     Replay(ScriptFault),
-    // `out` did not take the help, or could not be flushed.
+    /// `out` did not take the help, or could not be flushed.
     Write,
 }
 
@@ -66,8 +70,8 @@ impl fmt::Display for Failure {
 impl Error for Failure {}
 
 impl Failure {
-    // The exit status that tells of the failure.
-    fn status(&self) -> u8
+    /// The exit status that tells of the failure.
+    pub fn status(&self) -> u8
         ensures { result ≡ status_of self.now }
     {
         match self {
@@ -121,11 +125,19 @@ pub fn elltree<R: Threads + Sync, S: AsStr, I: Read, O: Write, E: Write>(
         → IsReplayed (I.remaining input.old) (O.contents out.old) (O.contents out.new) }
     ensures unreported { AreTakenToReplay (map S.text words.now) → Succeeded result → err.new ≡ err.old }
 
+    // Any other status is that of a failure that tells why: 2 only where the text is at fault or too long, or an entry of a
+    // replay, and 4 after a write fault only where a front of the answer or the trace went out.
+    ensures failed { AreTakenToRun (map S.text words.now) → ¬ Succeeded result
+        → RunEndsBy result (I.remaining input.old) (O.contents out.old) (O.contents out.new) }
+    ensures replay_failed { AreTakenToReplay (map S.text words.now) → ¬ Succeeded result
+        → ReplayEndsBy result (I.remaining input.old) (O.contents out.old) (O.contents out.new) }
+
     ensures help { AsksForHelp (map S.text words.now) → ¬ IsRefusal result }
+    ensures shown { AreShownHelp (map S.text words.now) → ¬ IsRefusal result }
     ensures refused { AreRefused (map S.text words.now) → IsSilent result }
     ensures unread { ¬ AreTaken (map S.text words.now) → input.new ≡ input.old }
 {
-    match outcome(rt, alloc, words, input, out, err) {
+    match carry_out(rt, alloc, words, input, out, err, &NoGate) {
         Ok(()) => SUCCEEDED,
         Err(failure) => {
             let _ = tell(&failure, err);
@@ -134,14 +146,16 @@ pub fn elltree<R: Threads + Sync, S: AsStr, I: Read, O: Write, E: Write>(
     }
 }
 
-// Does what the words ask for, writes the report to `err`, and flushes `out` last.
-fn outcome<R: Threads + Sync, S: AsStr, I: Read, O: Write, E: Write>(
+/// Does what the words ask for, writes the report to `err`, and flushes `out` last. The gate sees each call of a run's tree, under the
+/// number of its worker. The text of a failure is left to the caller.
+pub fn carry_out<R: Threads + Sync, S: AsStr, I: Read, O: Write, E: Write, G: StepGate + Sync>(
     rt: &R,
     alloc: Global,
     words: &[S],
     input: &mut I,
     out: &mut O,
     err: &mut E,
+    gate: &G,
 ) -> Result<(), Failure>
     ensures silent { IfErr result (λ failure.
         IsBeforeOutput failure → Keeps (O.contents out.old) (O.contents out.new)) }
@@ -156,7 +170,13 @@ fn outcome<R: Threads + Sync, S: AsStr, I: Read, O: Write, E: Write>(
     ensures replay { AsksToReplay (map S.text words.now)
         → OnOk result (IsReplayed (I.remaining input.old) (O.contents out.old) (O.contents out.new)) }
     ensures unreported { AreTakenToReplay (map S.text words.now) → err.new ≡ err.old }
+    ensures failed { AreTakenToRun (map S.text words.now) → IfErr result (λ failure.
+        RunFailureTells failure (I.remaining input.old) (O.contents out.old) (O.contents out.new)) }
+    ensures replay_failed { AreTakenToReplay (map S.text words.now) → IfErr result (λ failure.
+        ReplayFailureTells failure (I.remaining input.old) (O.contents out.old) (O.contents out.new)) }
     ensures help { AsksForHelp (map S.text words.now)
+        → IfErr result (λ failure. ¬ IsRefusal (status_of failure)) }
+    ensures shown { AreShownHelp (map S.text words.now)
         → IfErr result (λ failure. ¬ IsRefusal (status_of failure)) }
     ensures refused { AreRefused (map S.text words.now)
         → IsErrAnd result (λ failure. IsSilent (status_of failure)) }
@@ -165,7 +185,9 @@ fn outcome<R: Threads + Sync, S: AsStr, I: Read, O: Write, E: Write>(
 {
     match request_of(alloc, words) {
         Ok(Request::Run { settings, report }) => {
-            let told = run_bytes(rt, alloc, input, out, settings).map_err(Failure::Run)?;
+            let told = run_bytes_watched(rt, alloc, input, out, settings, gate).map_err(
+                Failure::Run,
+            )?;
             if report {
                 let _ = tell(&format_args!("late {}\n", told.late), err);
             }

@@ -6,7 +6,7 @@ ghost use Rattle.clap.specs.Words.{FailsBy, HasKind, app_of, first_of, found_of,
 ghost use Rattle.clap.specs.Words.{rows_of, rule_of, shape_of, subcommand_name_of};
 ghost use Rattle.clap.specs.Words.{subcommand_rows_of};
 ghost use Rattle.clap.specs.declared.builder.command.Command.TheViews.{out-Command as fields_of};
-ghost use Rattle.ell_command.specs.CommandLine.{AreOptions, AreRefused, AreSaid, AreTaken, AreTakenToReplay};
+ghost use Rattle.ell_command.specs.CommandLine.{AreOptions, AreRefused, AreSaid, AreShownHelp, AreTaken, AreTakenToReplay};
 ghost use Rattle.ell_command.specs.CommandLine.{AreTakenToRun, AsksForHelp};
 ghost use Rattle.ell_command.specs.CommandLine.{AsksToReplay, AsksToRun, BorrowedNames, IsElltree};
 ghost use Rattle.ell_command.specs.CommandLine.{IsMistakeOrMemory, IsNumberUpTo, IsPlainRun};
@@ -129,6 +129,8 @@ pub fn request_of<S: AsStr>(alloc: Global, words: &[S]) -> Result<Request, Error
         → MatchResult result (λ request. request ≡ Request.Replay)
         (λ e. kind_of e ≡ ErrorKind.OutOfMemory) }
     ensures help { AsksForHelp (map S.text words.now)
+        → IsErrAnd result (HasKind (ErrorKind.DisplayHelp ∷ [])) }
+    ensures shown { AreShownHelp (map S.text words.now)
         → IsErrAnd result (HasKind (ErrorKind.DisplayHelp ∷ [])) }
     ensures refused { AreRefused (map S.text words.now)
         → IsErrAnd result (λ e. IsMistakeOrMemory (kind_of e)) }

@@ -7,3 +7,5 @@ pub mod Exchanges
 pub mod Events
 -- Schedules, lists of events, and what comes of them.
 pub mod Runs
+-- What exchanges win for each card, and the orders in which a card wins.
+pub mod Wins

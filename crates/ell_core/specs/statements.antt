@@ -1,6 +1,8 @@
 -- Laws of the definitions.
 pub mod Laws
--- What each event does to the map that the tree is, to the answers, the ledgers and the knowledge, and what a step may rely on.
+-- What each event does to the map that the tree is, to the answers, the ledgers and the knowledge.
+pub mod Effects
+-- That each event does so, and what a step may rely on.
 pub mod StepLaws
 -- Laws of every schedule, from the opening state on: any list of events, by any workers in any order, refused ones too.
 pub mod RunLaws

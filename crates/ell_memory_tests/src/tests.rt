@@ -9,4 +9,5 @@ mod schedule;
 mod sweeping;
 mod texts;
 mod trees;
+mod words;
 mod worlds;

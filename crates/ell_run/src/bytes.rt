@@ -9,7 +9,7 @@ use crate::runs::run;
 use crate::settings::{Report, Settings, limits_for, parts_for};
 use ell_ops::NoMemory;
 use ell_text::{INPUT_MAX, InputFault, TextFault, WriteFault, read_all, read_bulk, write_answer};
-use ell_word::NoGate;
+use ell_word::{NoGate, StepGate};
 use std::alloc::Allocator;
 use std::io::{Read, Write};
 use std::thread::Threads;
@@ -91,11 +91,35 @@ pub fn run_bytes<R: Threads + Sync, A: Allocator + Copy + Send + Sync, I: Read, 
     ensures fault { IfErr result (λ fault.
         FaultTells fault (I.remaining reader.old) (O.contents writer.old) (O.contents writer.new)) }
 {
+    run_bytes_watched(rt, alloc, reader, writer, settings, &NoGate)
+}
+
+/// The same, and a gate sees each call of the tree, under the number of its worker.
+pub fn run_bytes_watched<
+    R: Threads + Sync,
+    A: Allocator + Copy + Send + Sync,
+    I: Read,
+    O: Write,
+    G: StepGate + Sync,
+>(
+    rt: &R,
+    alloc: A,
+    reader: &mut I,
+    writer: &mut O,
+    settings: Settings,
+    gate: &G,
+) -> Result<Report, RunFault>
+    requires { AreSettings settings }
+    ensures ok { OnOk result (IsAnswered (I.remaining reader.old) (O.contents writer.old) (O.contents writer.new)) }
+    ensures late { IfOk result (λ report. IsReported settings (I.remaining reader.old) report.late) }
+    ensures fault { IfErr result (λ fault.
+        FaultTells fault (I.remaining reader.old) (O.contents writer.old) (O.contents writer.new)) }
+{
     let bytes = read_all(alloc, reader)?;
     let bulk = read_bulk(alloc, &bytes)?;
     let parts = parts_for(alloc, &bulk.ops, settings)?;
     let limits = limits_for(&bulk.ops, settings);
-    let outcome = run(rt, alloc, &bulk.start, &bulk.ops, &parts, limits, &NoGate)?;
+    let outcome = run(rt, alloc, &bulk.start, &bulk.ops, &parts, limits, gate)?;
     write_answer(writer, bulk.version, &outcome.replies, &outcome.pairs)?;
     Ok(Report { late: outcome.late })
 }

@@ -10,7 +10,7 @@ mod runs;
 mod settings;
 mod workers;
 
-pub use bytes::{RunFault, run_bytes};
+pub use bytes::{RunFault, run_bytes, run_bytes_watched};
 pub use ell_ops::{KEY_MAX, WORKERS_MAX};
 pub use ell_tree::{Pass, Tree};
 pub use ell_word::{CARDS_MAX, START_MAX};

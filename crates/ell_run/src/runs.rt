@@ -92,17 +92,7 @@ fn run_workers<R: Threads + Sync, A: Allocator + Copy + Send + Sync, G: StepGate
         Ok(made) => made,
         Err(fault) => return Err(no_cards(fault)),
     };
-    let (pass, pieces) = work_apart(
-        rt,
-        alloc,
-        &tree,
-        pass,
-        &used,
-        parts,
-        &workers,
-        limits.tries,
-        gate,
-    )?;
+    let (pass, pieces) = work_apart(rt, alloc, &tree, pass, &used, parts, limits.tries, gate)?;
     match tree.close(pass) {
         Ok(pairs) => Ok((pieces, pairs)),
         Err(_) => Err(NoMemory),

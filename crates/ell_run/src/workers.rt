@@ -37,34 +37,12 @@ pub fn work<R: Threads + Sync, A: Allocator + Copy + Send + Sync, G: StepGate + 
         IsWorked tree.now.last_card tries parts.now (all_workers parts.now) pass done.0 (map (λ piece. piece.items) done.1.items)) }
 {
     let workers = busy_workers(alloc, parts)?;
-    work_busy(rt, alloc, tree, pass, parts, &workers, tries, gate)
-}
-
-// The same, where the workers whose parts are not empty are known.
-fn work_busy<R: Threads + Sync, A: Allocator + Copy + Send + Sync, G: StepGate + Sync>(
-    rt: &R,
-    alloc: A,
-    tree: &Tree<A>,
-    pass: Pass<A>,
-    parts: &Parts<'_, A>,
-    workers: &[u32],
-    tries: u32,
-    gate: &G,
-) -> Result<(Pass<A>, Vec<Piece<A>, A>), NoMemory>
-    requires own { pass.table ≡ tree.now.id }
-    requires idle { IsIdle pass }
-    requires lawful { IsLawful parts.now }
-    requires busy { workers.now ≡ busy parts.now }
-    requires owned { All (λ op. Owns pass (key_of op)) parts.now.ops }
-    requires tries { 1 ≤ tries }
-    ensures { IfOk result (λ done.
-        IsWorked tree.now.last_card tries parts.now (all_workers parts.now) pass done.0 (map (λ piece. piece.items) done.1.items)) }
-{
-    let (pass, pieces) = do_workers(rt, alloc, tree, pass, parts, workers, tries, gate)?;
+    let (pass, pieces) = do_workers(rt, alloc, tree, pass, parts, &workers, tries, gate)?;
     Ok((pass, with_empty_pieces(alloc, parts, pieces)?))
 }
 
-// The same with a pass that has other keys beside those of the operations: the others stay in a pass that no worker uses.
+// The same with a pass that has other keys beside those of the operations, which are `keys`: the others stay in a pass that no worker
+// uses.
 pub(crate) fn work_apart<R: Threads + Sync, A: Allocator + Copy + Send + Sync, G: StepGate + Sync>(
     rt: &R,
     alloc: A,
@@ -72,14 +50,12 @@ pub(crate) fn work_apart<R: Threads + Sync, A: Allocator + Copy + Send + Sync, G
     pass: Pass<A>,
     keys: &[u64],
     parts: &Parts<'_, A>,
-    workers: &[u32],
     tries: u32,
     gate: &G,
 ) -> Result<(Pass<A>, Vec<Piece<A>, A>), NoMemory>
     requires own { pass.table ≡ tree.now.id }
     requires idle { IsIdle pass }
     requires lawful { IsLawful parts.now }
-    requires busy { workers.now ≡ busy parts.now }
     requires keys { Lists (keys_of parts.now.ops) keys.now }
     requires owned { All (λ key. Owns pass key) keys.now }
     requires tries { 1 ≤ tries }
@@ -90,7 +66,7 @@ pub(crate) fn work_apart<R: Threads + Sync, A: Allocator + Copy + Send + Sync, G
         Ok(parted) => parted,
         Err(_) => return Err(NoMemory),
     };
-    let (ours, pieces) = work_busy(rt, alloc, tree, ours, parts, workers, tries, gate)?;
+    let (ours, pieces) = work(rt, alloc, tree, ours, parts, tries, gate)?;
     match tree.join(ours, others) {
         Ok(pass) => Ok((pass, pieces)),
         Err(_) => Err(NoMemory),

@@ -1,5 +1,5 @@
-//! What tests on threads share: threads that meet, gates that hold workers, one that counts what it is told of each, and
-//! pseudo-random operations.
+//! What tests on threads share: threads that meet, gates that hold workers, ones that count and list what they are
+//! told, and pseudo-random operations.
 #![tactic(auto)]
 
 mod counting;
@@ -7,13 +7,17 @@ mod dice;
 mod gathering;
 mod holding;
 mod holding_row;
+mod listing;
 mod meeting;
+mod turns;
 
 pub use counting::{Counting, Told};
 pub use dice::Dice;
 pub use gathering::Gathering;
 pub use holding::Holding;
 pub use holding_row::HoldingRow;
+pub use listing::{Call, Listing, Stretch};
 pub use meeting::{
     four_threads_meet, sixteen_threads_meet, sixty_four_threads_meet, two_threads_meet,
 };
+pub use turns::{Turn, Turns, Until};

@@ -5,10 +5,12 @@ mod asking;
 mod claiming;
 mod exchanging;
 mod filling;
+mod finding;
 mod helping;
 mod memory;
 mod stepping;
 
 pub use asking::leaf_value;
+pub use finding::{Below, end_find_below};
 pub use memory::{FACTS, Passed, Remembered, nothing};
 pub use stepping::step;

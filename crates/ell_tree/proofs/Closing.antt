@@ -70,7 +70,7 @@ all_among keys (e ∷ es) among =
 key_of_pair : (w : Words) (k v : ℕ) → IsTreePair w k v → IsTreeKey w k
 key_of_pair w k v h = record { leaf = h.leaf; reached = h.reached; outer = h.outer; has = h.has; real = h.real }
 
-module _ (t : TreeModel) (p : PassModel) (closed : ClosedModel) (ends : TableEnds t.keys p.view closed) (all : All (λ k. ledger p k ≢ None) t.keys) where
+module _ (t : TreeModel) (p : PassModel) (closed : ClosedModel) (ends : TableEnds t.keys t.start p.view closed) (all : All (λ k. ledger p k ≢ None) t.keys) where
   -- a key of the tree is the pass's
   tree_owned : (keys : List ℕ) → ListsKeys (words_of closed.words) keys → (k : ℕ) → Contains keys k → ledger p k ≢ None
   tree_owned keys lists k has = All-contains (λ x. ledger p x ≢ None) t.keys k all (ends.shows.owned k ((lists.each k).0 has))
@@ -84,7 +84,7 @@ module _ (t : TreeModel) (p : PassModel) (closed : ClosedModel) (ends : TableEnd
 
   -- a key that the pass owns is one of the tree's
   planned : (k : ℕ) → ledger p k ≢ None → Contains t.keys k
-  planned k owns = ends.kept.owned ends.seat k p.view ends.seen owns
+  planned k owns = ends.shows.listed k owns
 
   -- a key that a list of the tree's pairs has is present with that value, and a present key is in the list
   listed_present : (pairs : List (ℕ × ℕ)) (k v : ℕ) → ListsTreePairs (words_of closed.words) pairs → contents_of pairs k ≡ Some v
@@ -108,6 +108,6 @@ module _ (t : TreeModel) (p : PassModel) (closed : ClosedModel) (ends : TableEnd
     among = all_among t.keys pairs (λ k v h. ends.shows.owned k (key_of_pair (words_of closed.words) k v ((lists.each k v).0 h)));
     closed = closed;
     cards = cards;
-    ends = ends;
+    ran = ends.ran;
     tree = lists;
   }

@@ -7,7 +7,7 @@ use Rattle.ell_word.specs.declared.update.Update.{Update}
 use Rattle.ell_core.specs.declared.view.Search.{Search}
 use Rattle.ell_core.specs.acts.Searching.{IsLeaf, leaf_answer}
 use Rattle.ell_core.specs.state.Machine.{ledger_of}
-use Rattle.ell_core.specs.statements.StepLaws.{contents_in}
+use Rattle.ell_core.specs.statements.Effects.{contents_in}
 use Rattle.ell_cards.specs.declared.view.Told.TheVariants.{Met}
 use Rattle.ell_cards.specs.declared.view.View.{View}
 use Rattle.ell_cards.specs.Models.{PassModel, Steps, latest, Does, IsTold, StandsAt, InTable}

@@ -11,8 +11,8 @@ use Rattle.ell_cards.proofs.lifetimes.Unions.{ledger_united}
 use Rattle.ell_tree.specs.PassParts.{IsFirst, IsLeftPart, IsRightPart, IsUnion, or_else}
 use Rattle.ell_core.specs.declared.view.Entry.{Entry}
 use Rattle.ell_core.specs.declared.view.Entry.TheVariants.{Present, Absent}
-use Rattle.ell_core.specs.statements.StepLaws.{value_in}
-use Rattle.ell_core.specs.statements.Premises.{keys_at_start}
+use Rattle.ell_core.specs.statements.Effects.{value_in}
+use Rattle.ell_core.specs.state.Opening.{keys_at_start}
 use Rattle.ell_ops.specs.Contents.{contents_of}
 use Rattle.ell_core.specs.state.Opening.{start_entry}
 

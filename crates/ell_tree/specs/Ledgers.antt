@@ -1,7 +1,7 @@
 use Rattle.std.specs.Prelude.{◌≡◌, ℕ, None, length}
 pub use Rattle.ell_core.specs.declared.view.Entry.{Entry}
 pub use Rattle.ell_core.specs.declared.view.Entry.TheVariants.{Present, Absent}
-use Rattle.ell_core.specs.statements.StepLaws.{contents_in}
+use Rattle.ell_core.specs.statements.Effects.{contents_in}
 pub use Rattle.ell_cards.specs.Models.{PassModel, ledger, Owns}
 use Rattle.ell_cards.specs.Models.{TableModel}
 use Rattle.ell_ops.specs.Contents.{Contents}
@@ -25,3 +25,7 @@ hindrances p = length p.view.hindrances
 -- it has nothing in hand
 abbrev pub IsIdle : PassModel → Type 0
 IsIdle p = p.view.worker.operation ≡ None
+
+-- it is a pass of this tree, with nothing in hand
+abbrev pub IsIdlePassOf : TreeModel → PassModel → Type 0
+IsIdlePassOf t p = (p.table ≡ t.id) × IsIdle p

@@ -5,7 +5,7 @@ use Rattle.ell_word.specs.Word.{packed}
 use Rattle.ell_core.specs.declared.view.Seen.{Seen}
 use Rattle.ell_core.specs.declared.view.Search.{Search}
 use Rattle.ell_core.specs.state.Machine.{ledger_of}
-use Rattle.ell_core.specs.statements.StepLaws.{contents_in}
+use Rattle.ell_core.specs.statements.Effects.{contents_in}
 use Rattle.ell_core.specs.acts.Searching.{IsLeaf, at_root}
 use Rattle.ell_cards.specs.declared.view.Told.TheVariants.{Met, Value}
 use Rattle.ell_cards.specs.declared.view.View.{View}

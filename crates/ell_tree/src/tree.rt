@@ -46,6 +46,7 @@ impl<A: Allocator + Copy> Tree<A> {
         requires real { All (λ k. k ≤ greatest_key) keys.now }
         ensures cards { OnOk result (IsCardCount cards) }
         ensures tree { IfOk result (λ made. (made.0.keys ≡ keys.now) × (made.0.last_card ≡ cards)) }
+        ensures start { IfOk result (λ made. made.0.start ≡ []) }
         ensures pass { IfOk result (λ made. IsFirst [] made.0 made.1) }
         ensures refused { IfErr result (Refuses cards) }
     {
@@ -71,6 +72,7 @@ impl<A: Allocator + Copy> Tree<A> {
         requires few { length start.now ≤ most_start }
         ensures cards { OnOk result (IsCardCount cards) }
         ensures tree { IfOk result (λ made. (made.0.keys ≡ keys.now) × (made.0.last_card ≡ last_card start.now cards)) }
+        ensures start { IfOk result (λ made. made.0.start ≡ start.now) }
         ensures pass { IfOk result (λ made. IsFirst start.now made.0 made.1) }
         ensures refused { IfErr result (Refuses cards) }
     {
@@ -113,7 +115,8 @@ impl<A: Allocator + Copy> Tree<A> {
     }
 
     /// The value of a key of the pass, if the key is present. It helps nobody, nothing is in its way, and it takes at most
-    /// `3 * cards + 7` steps, where `cards` is the number of the last card.
+    /// `3 * cards + 7` steps, where `cards` is the number of the last card: how many cards the tree was asked for, and one more
+    /// for each of its start keys.
     pub fn find<G: StepGate>(&self, pass: &mut Pass<A>, key: u64, gate: &G) -> Option<u64>
         requires own { pass.old.table ≡ self.now.id }
         requires idle { IsIdle pass.old }
@@ -129,10 +132,11 @@ impl<A: Allocator + Copy> Tree<A> {
 
     /// Adds a key of the pass with its value: whether the key was absent. A key that is present keeps its value. It is tried
     /// so often at most, at least once, in at most `tries * (7 * cards + 27) + 1` steps, where `cards` is the number of the
-    /// last card. `Busy` comes where something was in the way of every try, and `Spent` where a try that would add the key
-    /// finds all cards given out. After either the map is as it was, and nothing of the call is under way. However it ends,
-    /// whatever was in the way of a try is over by then: a card that another pass took first, or a change of a neighbour,
-    /// which was helped to its end where nobody else had ended it.
+    /// last card: how many cards the tree was asked for, and one more for each of its start keys. `Busy` comes where something
+    /// was in the way of every try, and `Spent` where a try that would add the key finds all cards given out. After either the
+    /// map is as it was, and nothing of the call is under way. However it ends, whatever was in the way of a try is over by
+    /// then: a card that another pass took first, or a change of a neighbour, which was helped to its end where nobody else
+    /// had ended it.
     pub fn insert<G: StepGate>(
         &self,
         pass: &mut Pass<A>,

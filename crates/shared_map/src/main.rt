@@ -5,7 +5,7 @@
 #![tactic(auto)]
 
 ghost use Rattle.std.specs.Prelude.{◌≡◌, IfOk};
-ghost use Rattle.ell_tree.specs.Ledgers.{IsIdle};
+ghost use Rattle.ell_tree.specs.Ledgers.{IsIdle, IsIdlePassOf};
 
 use anyhow::{Result, bail, ensure};
 use ell_tree::{NoGate, Pass, Tree};
@@ -40,7 +40,7 @@ const TRIES: u32 = 1_000;
 fn add_up(scores: &Tree<Global>, pass: Pass<Global>) -> Result<Pass<Global>>
     requires own { pass.table ≡ scores.now.id }
     requires idle { IsIdle pass }
-    ensures { IfOk result (λ pass. (pass.table ≡ scores.now.id) × IsIdle pass) }
+    ensures { IfOk result (λ pass. IsIdlePassOf scores.now pass) }
 {
     let mut pass = pass;
     for (player, points) in POINTS {
@@ -65,9 +65,9 @@ fn add_up_by_two<R: Threads>(
     scores: &Tree<Global>,
     parts: (Pass<Global>, Pass<Global>),
 ) -> Result<Pass<Global>>
-    requires left { (parts.0.table ≡ scores.now.id) × IsIdle parts.0 }
-    requires right { (parts.1.table ≡ scores.now.id) × IsIdle parts.1 }
-    ensures { IfOk result (λ pass. (pass.table ≡ scores.now.id) × IsIdle pass) }
+    requires left { IsIdlePassOf scores.now parts.0 }
+    requires right { IsIdlePassOf scores.now parts.1 }
+    ensures { IfOk result (λ pass. IsIdlePassOf scores.now pass) }
 {
     let (left, right) = parts;
     let (left, right) = join(

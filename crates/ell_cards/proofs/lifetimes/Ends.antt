@@ -3,40 +3,36 @@ use Rattle.std.specs.Prelude.{Contains}
 use Rattle.std.specs.List.{All}
 use mathlib.Core.Option.{Option, some, none}
 use lib.ListN.{get_elem?}
+use Rattle.ell_word.specs.Node.{IsInternal}
 use Rattle.ell_core.specs.state.Machine.{Worker, Machine, ledger_of}
 use Rattle.ell_core.specs.state.Moves.{WorkerIsIdle}
 use Rattle.ell_core.specs.acts.Searching.{IsClean}
 use Rattle.ell_core.specs.tree.Tree.{Reached}
 use Rattle.ell_core.specs.soundness.Sound.{WorkerOwns}
 use Rattle.ell_core.specs.statements.StepLaws.{OwnsAll}
-use Rattle.ell_core.proofs.following.Sound.{reached_born, sound}
+use Rattle.ell_core.proofs.following.Sound.{reached_born}
 use Rattle.ell_core.proofs.following.Reliance.{owner_finds_clean}
 use Rattle.ell_cards.specs.declared.view.View.{View}
 use Rattle.ell_cards.specs.Models.{IsFree}
-use Rattle.ell_cards.specs.Rule.{TableState, seat_worker, seated, RuleHolds}
-use Rattle.ell_cards.specs.Closed.{SameNode, ShowsMap, TableEnds}
+use Rattle.ell_cards.specs.States.{TableState, seat_worker, seated}
+use Rattle.ell_cards.specs.Machines.{HasMachine}
+use Rattle.ell_cards.specs.Closed.{ShowsMap}
 use Rattle.ell_cards.proofs.seats.Seats.{mine_is, mine_sound}
-use Rattle.ell_cards.specs.OwnWords.{own_words}
-use Rattle.ell_cards.proofs.own_words.OwnTree.{key_same, value_same, child_same, update_same, reached_same}
+use Rattle.ell_cards.specs.TurnEffects.{own_words}
+use Rattle.ell_cards.proofs.own_words.OwnTree.{update_same, reached_same}
 use Rattle.ell_cards.proofs.own_words.OwnWords.{same_next, same_card, own_words_are_sound}
 use Rattle.ell_cards.proofs.own_words.OwnLedgers.{ledgers_tell_the_tree}
 
-module _ (keys : List ℕ) (cards : ℕ) (s : TableState) (r : RuleHolds keys cards s) (id : ℕ) (v : View) (here : get_elem? s.views id ≡ some v)
+module _ (keys : List ℕ) (cards : ℕ) (s : TableState) (r : HasMachine keys cards s) (id : ℕ) (v : View) (here : get_elem? s.views id ≡ some v)
     (free : IsFree v) (all : All (λ k. ledger_of v.worker.ledger k ≢ None) keys) where
   abbrev machine : Machine
   machine = seated r.words s.views cards
 
-  -- the list has at a reached node what the machine has
-  same_node : (x : ℕ) → Reached r.words x → SameNode (own_words s) r.words x
-  same_node x reached =
+  -- the list has at a reached internal node the update word that the machine has
+  same_update : (x : ℕ) → Reached r.words x → IsInternal x → (own_words s).update x ≡ r.words.update x
+  same_update x reached inner =
       let sound = r.invariant.words in
-      let same = same_card keys cards s r in
-      let born = reached_born r.words r.stages sound x reached in record {
-        key = key_same r.words (own_words s) r.stages sound same x born;
-        value = λ outer. value_same r.words (own_words s) r.stages sound same x outer born;
-        child = λ inner right. child_same r.words (own_words s) r.stages sound same x right inner born;
-        update = λ inner. update_same r.words (own_words s) r.stages sound same x inner born;
-      }
+      update_same r.words (own_words s) r.stages sound (same_card keys cards s r) x inner (reached_born r.words r.stages sound x reached)
 
   -- the pass owns each key of the table
   owns_each : (k : ℕ) → Contains keys k → ledger_of v.worker.ledger k ≢ None
@@ -62,28 +58,15 @@ module _ (keys : List ℕ) (cards : ℕ) (s : TableState) (r : RuleHolds keys ca
   reached_back x h = (reached_same r.words (own_words s) r.stages r.invariant.words (same_card keys cards s r) x).1 h
 
   -- the tree of the list
-  shows : ShowsMap keys v.worker.ledger (record { words = s.words; last_card = cards })
+  pub shows : ShowsMap keys v.worker.ledger (record { words = s.words; last_card = cards })
   shows =
       let is = own_words_are_sound keys cards s r in record {
         size = r.size;
         tree = is.tree;
         nodes = λ x h. let low = is.names.nodes x h in let next = same_next keys cards s r in let room = r.invariant.limit in omega arith;
-        clean = λ x h inner. subst IsClean (sym ((same_node x (reached_back x h)).update inner))
+        clean = λ x h inner. subst IsClean (sym (same_update x (reached_back x h) inner))
             (owner_finds_clean machine r.stages id r.invariant owns_all x (reached_back x h) inner);
         owned = λ k h. let by = is.ledgers.owned k h in owned_listed by.worker k by.owns;
+        listed = λ k owns. r.owned id k v here owns;
         present = λ k value at. ledgers_tell_the_tree keys cards s r id v here free k value (owns_each k at);
       }
-
-  -- how the table ends
-  pub ends : TableEnds keys v (record { words = s.words; last_card = cards })
-  ends = record {
-    state = s;
-    seat = id;
-    kept = r;
-    seen = here;
-    same = refl;
-    sound = sound machine r.stages r.invariant;
-    nodes = same_node;
-    clean = owner_finds_clean machine r.stages id r.invariant owns_all;
-    shows = shows;
-  }

@@ -9,7 +9,7 @@ use Rattle.ell_cards.specs.declared.view.Told.TheVariants.{Met}
 use Rattle.ell_cards.specs.declared.view.View.{View}
 use Rattle.ell_cards.specs.Models.{Has, latest, earlier, IsTold, Knows}
 use Rattle.ell_cards.specs.Naming.{EntryIsNamed, IsNamed}
-use Rattle.ell_cards.specs.Rule.{EntryHolds, ViewHolds}
+use Rattle.ell_cards.specs.Machines.{EntryHolds, ViewHolds}
 
 -- where the entries hold of a pass with nothing in hand, all that it knows holds
 pub rest_holds : (words : List ℕ) (w : Words) (stage : Stages) (v : View) → ((e : Told) → IsTold v e → EntryHolds w stage e)

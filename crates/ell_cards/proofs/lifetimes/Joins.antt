@@ -13,12 +13,11 @@ use Rattle.ell_core.specs.soundness.Sound.{WorkerOwns}
 use Rattle.ell_core.proofs.following.Lawful.{joins_lawful}
 use Rattle.ell_core.proofs.outcomes.Decide.{some_not_none}
 use Rattle.ell_cards.specs.declared.view.View.{View}
-use Rattle.ell_cards.specs.Models.{IsFree}
 use Rattle.ell_cards.specs.Changes.{united, joined_view, spent_view}
 use Rattle.ell_cards.specs.Naming.{IsNamed}
-use Rattle.ell_cards.specs.Rule.{seat_worker, seated, EntryHolds, ViewHolds}
+use Rattle.ell_cards.specs.States.{seat_worker, seated}
+use Rattle.ell_cards.specs.Machines.{EntryHolds, ViewHolds}
 use Rattle.ell_cards.specs.Inside.{PassFits}
-use Rattle.ell_cards.specs.Stepping.{MayJoin}
 use Rattle.ell_cards.specs.Laws.{JoinsAreMoves}
 use Rattle.ell_cards.proofs.seats.Entries.{told_either}
 use Rattle.ell_cards.proofs.seats.Seats.{inside, seated_put, mine_is, mine_sound}
@@ -57,7 +56,7 @@ module _ (views : List View) (id other : ℕ) (v w : View) (here : get_elem? vie
       ∙ seated_put (set views id both) other w still_there spent_view j)
 
   -- what is so of the view of both, of what is left, and of all others, is so of the view in each seat after a join
-  each_joined : (P : View → Type 0) → P both → P spent_view → ((j : ℕ) (u : View) → get_elem? views j ≡ some u → P u)
+  pub each_joined : (P : View → Type 0) → P both → P spent_view → ((j : ℕ) (u : View) → get_elem? views j ≡ some u → P u)
       → (j : ℕ) (u : View) → get_elem? (set (set views id both) other spent_view) j ≡ some u → P u
   each_joined P of_both of_spent others j u at = ⊎_elim
       (λ (t : (j ≡ other) × (spent_view ≡ u)). subst P t.1 of_spent)
@@ -79,7 +78,7 @@ united_parts l m apart k = elim (ledger_united l m k) [
   | inr b ↦ inr (b.0, sym b.1)
 ]
 
--- a join of the rule is one of the machine
+-- a join is one of the machine
 pub joins_are_moves : JoinsAreMoves
 joins_are_moves keys cards s r id other v w here there apart free other_free =
     let m = seated r.words s.views cards in
@@ -136,11 +135,6 @@ joins_are_moves keys cards s r id other v w here there apart free other_free =
       };
       join = join;
     }
-
--- so the rule allows it
-pub joins : (keys : List ℕ) (cards : ℕ) (v w : View) → IsFree v → IsFree w → MayJoin keys cards v w (joined_view v w) spent_view
-joins keys cards v w free other_free id other s r here apart there =
-    (joins_are_moves keys cards s r id other v w here (sym (set_else s.views id other (joined_view v w) apart) ∙ there) (λ e. apart (sym e)) free other_free).kept
 
 -- the pass of both names what they named
 joined_named : (cards : ℕ) (v w : View) → IsNamed cards v → IsNamed cards w → IsNamed cards (joined_view v w)

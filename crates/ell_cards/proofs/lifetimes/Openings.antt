@@ -1,18 +1,17 @@
-use Rattle.std.proofs.Common.{◌≡◌, ℕ, zero, suc, ◌≤◌, ◌-◌, false, List, [], ◌∷◌, length, ◌+◌, refl, sym, ap, ◌∙◌, subst, arith}
+use Rattle.std.proofs.Common.{◌≡◌, ℕ, zero, suc, false, List, [], ◌∷◌, length, ◌+◌, refl, sym, ap, ◌∙◌, subst}
 use Rattle.std.specs.Prelude.{Contains}
 use Rattle.std.specs.List.Sorted.{IsStrictlyIncreasing}
 use mathlib.Core.Option.{some, some-injective, some-ne-none}
 use lib.ListN.{get_elem?}
 use Rattle.atomic_table.specs.Table.{opening}
-use Rattle.ell_core.specs.state.Layout.{table_size}
-use Rattle.ell_core.specs.state.Words.{Words, word, words_of}
+use Rattle.ell_core.specs.state.Words.{Words, word}
 use Rattle.ell_core.specs.state.Opening.{start_words, last_card}
 use Rattle.ell_core.specs.state.Machine.{idle, worker_of, ledger_of}
 use Rattle.ell_core.specs.soundness.Sound.{WorkerOwns}
 use Rattle.ell_core.specs.history.Stages.{is_born}
 use Rattle.ell_core.specs.history.Invariant.{Invariant}
 use Rattle.ell_core.specs.statements.RunLaws.{IsOpening}
-use Rattle.ell_core.specs.statements.Premises.{first_alone, keys_at_start, opening_of_one}
+use Rattle.ell_core.specs.state.Opening.{first_alone, keys_at_start, opening_of_one}
 use Rattle.ell_core.proofs.words.Listed.{words_are_listed, listed_next}
 use Rattle.ell_core.proofs.opening.Invariant.{start_stages}
 use Rattle.ell_core.proofs.opening.OneOwner.{one_worker_opens, one_worker_has}
@@ -20,8 +19,10 @@ use Rattle.ell_core.proofs.runs.Wins.{opening_wins}
 use Rattle.ell_cards.specs.declared.view.View.{View}
 use Rattle.ell_cards.specs.Changes.{keys_of, first_view}
 use Rattle.ell_cards.specs.Inside.{PassFits}
-use Rattle.ell_cards.specs.Rule.{seat_worker, seated, RuleHolds, EntryHolds, ViewHolds}
-use Rattle.ell_cards.specs.Starts.{MayStart, StartWords, StartIsKept}
+use Rattle.ell_cards.specs.States.{seat_worker, seated}
+use Rattle.ell_cards.specs.Machines.{EntryHolds, ViewHolds}
+use Rattle.ell_cards.specs.Starts.{MayStart, StartWords}
+use Rattle.ell_cards.specs.RunLaws.{StartIsKept}
 use Rattle.ell_cards.proofs.words.Keys.{owned_among, among_contains}
 use Rattle.ell_cards.proofs.lifetimes.Idle.{rest_holds, root_named, met_root}
 
@@ -46,7 +47,7 @@ pub each_first : (first : View) (P : View → Type 0) → P first → (j : ℕ) 
 each_first first P h zero v e = subst P (some-injective _ _ e) h
 each_first first P h (suc j) v e = absurd (some-ne-none v (sym e))
 
--- the rule holds of an opening table and its first pass, whose cards have won nothing
+-- an opening table with its first pass has a machine, whose cards have won nothing
 pub opening_is_kept : (keys : List ℕ) (start : List (ℕ × ℕ)) (cards : ℕ) (words : List ℕ) → MayStart keys start → StartWords start cards words
     → StartIsKept keys start cards (opening words [] (first_view keys start))
 opening_is_kept keys start cards words may at =
@@ -74,14 +75,6 @@ opening_is_kept keys start cards words may at =
       opening = subst IsOpening (one_opens keys start cards) one.opens;
       unwon = opening_wins (length start + 1);
     }
-
--- so it does by the last card
-pub kept_up_to : (keys : List ℕ) (start : List (ℕ × ℕ)) (last : ℕ) (words : List ℕ) → MayStart keys start → length start ≤ last → length words ≡ table_size last
-    → words_of words ≡ start_words start → RuleHolds keys last (opening words [] (first_view keys start))
-kept_up_to keys start last words may room size are =
-    let all : last_card start (last - length start) ≡ last = omega arith in
-    let at : StartWords start (last - length start) words = record { size = size ∙ ap table_size (sym all); are = are } in
-    subst (λ n. RuleHolds keys n (opening words [] (first_view keys start))) all (opening_is_kept keys start (last - length start) words may at).kept
 
 -- the first pass has its keys
 pub first_fits : (keys : List ℕ) (start : List (ℕ × ℕ)) (words : ℕ) → IsStrictlyIncreasing keys → PassFits keys words (first_view keys start)

@@ -15,11 +15,11 @@ use Rattle.ell_core.specs.soundness.Sound.{WorkerOwns}
 use Rattle.ell_core.proofs.following.Lawful.{splits_lawful}
 use Rattle.ell_core.proofs.words.Writes.{put_same, put_other}
 use Rattle.ell_cards.specs.declared.view.View.{View}
-use Rattle.ell_cards.specs.Models.{IsFree}
 use Rattle.ell_ops.specs.KeySet.{set_of}
 use Rattle.ell_cards.specs.Changes.{keys_of, left_view, right_view}
-use Rattle.ell_cards.specs.Rule.{seat_worker, seated, ViewHolds}
-use Rattle.ell_cards.specs.Stepping.{MaySplit, MayHave}
+use Rattle.ell_cards.specs.States.{seat_worker, seated}
+use Rattle.ell_cards.specs.Machines.{ViewHolds}
+use Rattle.ell_cards.specs.Stepping.{MayHave}
 use Rattle.ell_cards.specs.Laws.{SplitsAreMoves}
 use Rattle.ell_cards.proofs.seats.Seats.{inside, seated_put, mine_is, mine_sound}
 use Rattle.ell_cards.proofs.lifetimes.Idle.{rest_holds, rest_named}
@@ -50,7 +50,7 @@ module _ (views : List View) (id : ℕ) (v : View) (here : get_elem? views id �
   ]
 
   -- what is so of both parts, and of all others, is so of the view in each seat after a split
-  each_split : (P : View → Type 0) → P left → P right → ((j : ℕ) (u : View) → get_elem? views j ≡ some u → P u)
+  pub each_split : (P : View → Type 0) → P left → P right → ((j : ℕ) (u : View) → get_elem? views j ≡ some u → P u)
       → (j : ℕ) (u : View) → get_elem? (set views id left ++ right ∷ []) j ≡ some u → P u
   each_split P of_left of_right others j u at = ⊎_elim
       (λ (a : get_elem? (set views id left) j ≡ some u). ⊎_elim
@@ -60,7 +60,7 @@ module _ (views : List View) (id : ℕ) (v : View) (here : get_elem? views id �
       (λ (p : right ≡ u). subst P p of_right)
       (at_snoc (set views id left) right u j at)
 
--- a split of the rule is one of the machine
+-- a split is one of the machine
 pub splits_are_moves : SplitsAreMoves
 splits_are_moves keys cards s r id v chosen here free =
     let m = seated r.words s.views cards in
@@ -106,10 +106,6 @@ splits_are_moves keys cards s r id v chosen here free =
       };
       split = split;
     }
-
--- so the rule allows it
-pub splits : (keys : List ℕ) (cards : ℕ) (v : View) (chosen : List ℕ) → IsFree v → MaySplit keys cards v (left_view chosen v) (right_view chosen v)
-splits keys cards v chosen free id s r here = (splits_are_moves keys cards s r id v chosen here free).kept
 
 -- keys that a ledger owns are among its keys
 pub owned_all : (l : List (ℕ × Entry)) (keys chosen : List ℕ) → keys ≡ keys_of l → All (λ k. ledger_of l k ≢ None) chosen → All (λ k. set_of keys k ≡ true) chosen

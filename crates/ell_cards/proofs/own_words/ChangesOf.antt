@@ -14,7 +14,8 @@ use Rattle.ell_core.specs.acts.Exchanges.{won_or_lost}
 use Rattle.ell_core.specs.soundness.Sound.{IsInHand}
 use Rattle.ell_core.specs.history.Stages.{Stage, Stages, is_insert, is_delete, insert_open, delete_open}
 use Rattle.ell_core.specs.history.Invariant.{WorkerIsSound, Flagged}
-use Rattle.ell_core.specs.history.Later.{wins_of, wins_by}
+use Rattle.ell_core.specs.history.Later.{wins_of}
+use Rattle.ell_core.specs.acts.Wins.{wins_by}
 use Rattle.ell_core.proofs.following.Lawful.{events_lawful}
 use Rattle.ell_core.proofs.outcomes.Decide.{cases_option, some_not_none}
 use Rattle.ell_core.proofs.stages.Holding.{insert_kind, delete_kind}
@@ -23,9 +24,12 @@ use Rattle.ell_core.proofs.words.Sides.{card_key-insert, card_value-insert, card
 use Rattle.ell_cards.specs.declared.call.Call.TheVariants as call
 use Rattle.ell_cards.specs.declared.view.View.{View}
 use Rattle.ell_cards.specs.Calls.{Becomes}
-use Rattle.ell_cards.specs.Rule.{TableState, seat_worker, RuleHolds}
-use Rattle.ell_cards.specs.Laws.{machine_of_table, found_by, state_after}
-use Rattle.ell_cards.specs.OwnWords.{IsAtWork, ChangeIsOf, TableChangesAreOperations}
+use Rattle.ell_cards.specs.States.{TableState, seat_worker}
+use Rattle.ell_cards.specs.Machines.{HasMachine}
+use Rattle.ell_cards.specs.Laws.{machine_of_table}
+use Rattle.ell_cards.specs.Turns.{found_by, state_after}
+use Rattle.ell_cards.specs.TurnEffects.{IsAtWork, ChangeIsOf}
+use Rattle.ell_cards.proofs.seats.Statements.{OperationsByMachine}
 use Rattle.ell_cards.proofs.stepping.AllCalls.{steps_are_events}
 use Rattle.ell_cards.proofs.own_words.OwnWords.{own_card_key, own_card_value}
 use Rattle.ell_cards.proofs.seats.Seats.{mine_sound}
@@ -49,7 +53,7 @@ busy_with w stage v c sound has = elim (cases_option v.operation) [
   | inr e ↦ absurd (some_not_none has (ap (λ (u : Worker). u.card) (sound.free e)))
 ]
 
-module _ (keys : List ℕ) (cards : ℕ) (s : TableState) (r : RuleHolds keys cards s) where
+module _ (keys : List ℕ) (cards : ℕ) (s : TableState) (r : HasMachine keys cards s) where
   -- the operation of a flagged card, by its kind
   inserts : (v : Worker) (op : Op) (c : ℕ) → is_insert (r.stages c) ≡ true → Flagged r.words r.stages v op c
       → op ≡ Insert (card_key r.words c) (card_value r.words c)
@@ -81,7 +85,7 @@ module _ (keys : List ℕ) (cards : ℕ) (s : TableState) (r : RuleHolds keys ca
           )
 
   -- a card that wins has this win after those before
-  won_by : (id : ℕ) (a : Act) (c : ℕ) (k : Kind) (s' : TableState) (r' : RuleHolds keys cards s')
+  won_by : (id : ℕ) (a : Act) (c : ℕ) (k : Kind) (s' : TableState) (r' : HasMachine keys cards s')
       → Becomes id (Some a) (won_or_lost true) (machine_of_table keys cards s r) (machine_of_table keys cards s' r')
       → wins_by a ((machine_of_table keys cards s r).worker id).card (won_or_lost true) c ≡ k ∷ []
       → (later : Stage) × (wins_of later ≡ wins_of (r.stages c) ++ k ∷ [])
@@ -94,11 +98,11 @@ module _ (keys : List ℕ) (cards : ℕ) (s : TableState) (r : RuleHolds keys ca
 one_win : (c : ℕ) (k : Kind) → (if c == c then k ∷ [] else []) ≡ k ∷ []
 one_win c k = ap (λ b. if b then k ∷ [] else []) (eq-eqb c c refl)
 
-pub table_changes_are_operations : TableChangesAreOperations
+pub table_changes_are_operations : OperationsByMachine
 table_changes_are_operations keys cards s r id v (call.IChild c p l right) here may =
     let step = steps_are_events keys cards s r id v (call.IChild c p l right) here may in by step.kept (found_by s (call.IChild c p l right) == l) step.event
   where
-    by : (r' : RuleHolds keys cards (state_after s id v (call.IChild c p l right))) (b : Bool)
+    by : (r' : HasMachine keys cards (state_after s id v (call.IChild c p l right))) (b : Bool)
         → Becomes id (Some (act.IChild c)) (won_or_lost b) (machine_of_table keys cards s r) (machine_of_table keys cards (state_after s id v (call.IChild c p l right)) r')
         → ChangeIsOf (call.IChild c p l right) b s
     by r' true h =
@@ -113,7 +117,7 @@ table_changes_are_operations keys cards s r id v (call.IChild c p l right) here 
 table_changes_are_operations keys cards s r id v (call.DChild c gp p y right) here may =
     let step = steps_are_events keys cards s r id v (call.DChild c gp p y right) here may in by step.kept (found_by s (call.DChild c gp p y right) == p) step.event
   where
-    by : (r' : RuleHolds keys cards (state_after s id v (call.DChild c gp p y right))) (b : Bool)
+    by : (r' : HasMachine keys cards (state_after s id v (call.DChild c gp p y right))) (b : Bool)
         → Becomes id (Some (act.DChild c)) (won_or_lost b) (machine_of_table keys cards s r) (machine_of_table keys cards (state_after s id v (call.DChild c gp p y right)) r')
         → ChangeIsOf (call.DChild c gp p y right) b s
     by r' true h =

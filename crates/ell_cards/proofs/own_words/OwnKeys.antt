@@ -9,15 +9,17 @@ use Rattle.ell_core.specs.state.Cards.{card_key, card_value}
 use Rattle.ell_core.specs.acts.Exchanges.{won_or_lost}
 use Rattle.ell_core.specs.history.Stages.{Stages}
 use Rattle.ell_core.specs.history.Invariant.{Invariant}
-use Rattle.ell_core.specs.statements.StepLaws.{AddsPair, TakesKey, SamePairs, PairsChange}
+use Rattle.ell_core.specs.statements.Effects.{AddsPair, TakesPair, SamePairs, PairsChange}
 use Rattle.ell_core.proofs.following.Lawful.{events_lawful}
 use Rattle.ell_cards.specs.declared.call.Call.{Call}
 use Rattle.ell_cards.specs.declared.call.Call.TheVariants as call
 use Rattle.ell_cards.specs.declared.view.View.{View}
 use Rattle.ell_cards.specs.Models.{KnowsCard}
 use Rattle.ell_cards.specs.Calls.{atomic_of, is_won, act_of, said_of, Becomes, May}
-use Rattle.ell_cards.specs.Laws.{machine_of_table, found_by, state_after}
-use Rattle.ell_cards.specs.OwnWords.{own_words, PairsChangeBy, TablePairsChangeAtWins}
+use Rattle.ell_cards.specs.Laws.{machine_of_table}
+use Rattle.ell_cards.specs.Turns.{found_by, state_after}
+use Rattle.ell_cards.specs.TurnEffects.{own_words, PairsChangeBy}
+use Rattle.ell_cards.proofs.seats.Statements.{PairsByMachine}
 use Rattle.ell_cards.proofs.stepping.AllCalls.{steps_are_events}
 use Rattle.ell_cards.proofs.own_words.OwnTree.{same_keys}
 use Rattle.ell_cards.proofs.own_words.OwnWords.{own_pairs, own_card_key, own_card_value}
@@ -75,9 +77,9 @@ module _ (w w' t t' : Words) (before : SamePairs t w) (after : SamePairs t' w') 
     );
   }
 
-  own_takes : (key : ℕ) → TakesKey w w' key → TakesKey t t' key
-  own_takes key h = record {
-    present = (same_keys t w before key).0 h.present;
+  own_takes : (key value : ℕ) → TakesPair w w' key value → TakesPair t t' key value
+  own_takes key value h = record {
+    present = (before key value).0 h.present;
     pairs = λ k v. (
       λ x. let o = (h.pairs k v).0 ((after k v).1 x) in ((before k v).0 o.0, o.1),
       λ x. (after k v).0 ((h.pairs k v).1 ((before k v).1 x.0, x.1)),
@@ -92,10 +94,11 @@ module _ (w w' t t' : Words) (before : SamePairs t w) (after : SamePairs t' w') 
       subst (λ k. AddsPair t t' k (card_value t c)) (key c (inl may.knows))
       (subst (AddsPair t t' (card_key w c)) (value c (inl may.knows)) (own_adds (card_key w c) (card_value w c) h))
   own_change (call.DChild c gp p sibling right) true v cards may key value h =
-      subst (TakesKey t t') (key c (inr (inr may.knows))) (own_takes (card_key w c) h)
+      subst (λ k. TakesPair t t' k (card_value t c)) (key c (inr (inr may.knows)))
+      (subst (TakesPair t t' (card_key w c)) (value c (inr (inr may.knows))) (own_takes (card_key w c) (card_value w c) h))
   own_change _ _ v cards may key value h = own_same h
 
-pub table_pairs_change_at_wins : TablePairsChangeAtWins
+pub table_pairs_change_at_wins : PairsByMachine
 table_pairs_change_at_wins keys cards s r id v c here may =
     let step = steps_are_events keys cards s r id v c here may in
     let s' = state_after s id v c in

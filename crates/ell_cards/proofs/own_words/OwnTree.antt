@@ -9,7 +9,7 @@ use Rattle.ell_core.specs.tree.Tree.{OnWalk, here, next, Finds, Leads, Below, Re
 use Rattle.ell_core.specs.history.Stages.{Stages, is_born, waits, Born}
 use Rattle.ell_core.specs.history.Invariant.{WordsAreSound}
 use Rattle.ell_core.specs.history.Later.{SaysTheSame}
-use Rattle.ell_core.specs.statements.StepLaws.{SamePairs}
+use Rattle.ell_core.specs.statements.Effects.{SamePairs}
 use Rattle.ell_core.proofs.words.Writes.{key_at_node, value_at_leaf, child_at_node, update_at_node}
 use Rattle.ell_core.proofs.stages.Waiting.{born-settled}
 use Rattle.ell_core.proofs.tree.Reached.{pair_key, key_pair}

@@ -8,7 +8,8 @@ use Rattle.ell_core.specs.acts.Searching.{IsLeaf}
 use Rattle.ell_core.specs.soundness.Sound.{IsSound}
 use Rattle.ell_core.specs.history.Stages.{waits}
 use Rattle.ell_core.specs.history.Later.{SaysTheSame}
-use Rattle.ell_core.specs.statements.StepLaws.{SamePairs, GoesInTree}
+use Rattle.ell_core.specs.statements.StepLaws.{GoesInTree}
+use Rattle.ell_core.specs.statements.Effects.{SamePairs}
 use Rattle.ell_core.proofs.words.Listed.{words_are_listed, listed_next}
 use Rattle.ell_core.proofs.following.Reliance.{may_rely}
 use Rattle.ell_core.proofs.following.Sound.{sound}
@@ -16,15 +17,18 @@ use Rattle.ell_core.proofs.following.waiting.Cards.{flagged_made}
 use Rattle.ell_core.proofs.stages.Waiting.{born-settled}
 use Rattle.ell_cards.specs.declared.view.View.{View}
 use Rattle.ell_cards.specs.Models.{KnowsCard}
-use Rattle.ell_cards.specs.Rule.{TableState, seated, RuleHolds}
-use Rattle.ell_cards.specs.OwnWords.{own_words, own_machine, OwnWordsAreSound, RuleIsSound, WordsAreOwn, RuleHasOwnWords}
+use Rattle.ell_cards.specs.States.{TableState, seated}
+use Rattle.ell_cards.specs.Machines.{HasMachine}
+use Rattle.ell_cards.specs.TurnEffects.{own_words, own_machine}
+use Rattle.ell_cards.specs.Laws.{MachineIsSound, WordsAreOwn, MachineHasOwnWords}
+use Rattle.ell_cards.proofs.seats.Statements.{SoundByMachine}
 use Rattle.ell_cards.proofs.stepping.Known.{known_card, known_settled, known_claimed}
 use Rattle.ell_cards.proofs.seats.Seats.{mine_sound}
 use Rattle.ell_cards.proofs.own_words.OwnTree.{reached_same, reached_born, pairs_same}
 use Rattle.ell_cards.proofs.own_words.OwnCards.{card_key_same, card_value_same}
 use Rattle.ell_cards.proofs.own_words.OwnSound.{own_sound}
 
-module _ (keys : List ℕ) (cards : ℕ) (s : TableState) (r : RuleHolds keys cards s) where
+module _ (keys : List ℕ) (cards : ℕ) (s : TableState) (r : HasMachine keys cards s) where
   -- the claim word, and each card that does not wait
   pub same_next : (own_words s).next ≡ r.words.next
   same_next = listed_next s.words ∙ r.next
@@ -77,11 +81,11 @@ module _ (keys : List ℕ) (cards : ℕ) (s : TableState) (r : RuleHolds keys ca
     tree = own_pairs;
   }
 
-pub own_words_are_sound : OwnWordsAreSound
+pub own_words_are_sound : SoundByMachine
 own_words_are_sound = sound_state
 
-pub rule_is_sound : RuleIsSound
-rule_is_sound keys cards s r = sound (seated r.words s.views cards) r.stages r.invariant
+pub machine_is_sound : MachineIsSound
+machine_is_sound keys cards s r = sound (seated r.words s.views cards) r.stages r.invariant
 
-pub rule_has_own_words : RuleHasOwnWords
-rule_has_own_words = words_own
+pub machine_has_own_words : MachineHasOwnWords
+machine_has_own_words = words_own

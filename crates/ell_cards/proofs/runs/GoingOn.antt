@@ -12,17 +12,19 @@ use Rattle.ell_core.specs.state.Cards.{iflag, dflag}
 use Rattle.ell_core.specs.acts.Exchanges.{won_or_lost}
 use Rattle.ell_core.specs.history.Stages.{Stages}
 use Rattle.ell_core.specs.history.Invariant.{Invariant}
-use Rattle.ell_core.specs.history.Later.{wins_of, win_for, win_by, wins_by}
+use Rattle.ell_core.specs.history.Later.{wins_of}
+use Rattle.ell_core.specs.acts.Wins.{win_for, win_by, wins_by}
 use Rattle.ell_core.proofs.following.Lawful.{events_lawful, splits_lawful, joins_lawful}
 use Rattle.ell_core.proofs.stages.Advances.{wins_same}
 use Rattle.ell_cards.specs.declared.call.Call.{Call}
 use Rattle.ell_cards.specs.declared.call.Call.TheVariants as call
 use Rattle.ell_cards.specs.declared.view.View.{View}
 use Rattle.ell_cards.specs.Calls.{atomic_of, is_won, act_of, said_of, Becomes, May}
-use Rattle.ell_cards.specs.Rule.{TableState, seat_worker, RuleHolds}
-use Rattle.ell_cards.specs.Laws.{machine_of_table, found_by}
-use Rattle.ell_cards.specs.Runs.{Turn, Makes, Splits, Joins, TableTurns, TableRun}
-use Rattle.ell_cards.specs.RunLaws.{win_of, turn_wins, run_wins}
+use Rattle.ell_cards.specs.States.{TableState, seat_worker}
+use Rattle.ell_cards.specs.Machines.{HasMachine}
+use Rattle.ell_cards.specs.Laws.{machine_of_table}
+use Rattle.ell_cards.specs.Turns.{Turn, Makes, Splits, Joins, TableTurns, TableRun, found_by}
+use Rattle.ell_cards.specs.TurnEffects.{win_of, turn_wins, run_wins}
 use Rattle.ell_cards.proofs.runs.TurnsOfRuns.{turn_lawful}
 use Rattle.ell_core.specs.state.Words.{Words}
 use Rattle.ell_core.specs.history.Later.{WordsLater, StagesLater}
@@ -98,8 +100,8 @@ module _ (m : Machine) (stage : Stages) (holds : Invariant m stage) (i : ℕ) (m
 
 module _ (keys : List ℕ) (cards : ℕ) where
   -- the wins of a turn
-  turn_goes : (s : TableState) (r : RuleHolds keys cards s) (stage : Stages) → Invariant (machine_of_table keys cards s r) stage → (t : Turn) (s' : TableState)
-      → TableTurns cards s t s' → (k : RuleHolds keys cards s') × Went r.words stage (turn_wins s t) (machine_of_table keys cards s' k)
+  turn_goes : (s : TableState) (r : HasMachine keys cards s) (stage : Stages) → Invariant (machine_of_table keys cards s r) stage → (t : Turn) (s' : TableState)
+      → TableTurns cards s t s' → (k : HasMachine keys cards s') × Went r.words stage (turn_wins s t) (machine_of_table keys cards s' k)
   turn_goes s r stage holds (Makes seat c) s' h =
       let turn = turn_lawful keys cards s r (Makes seat c) s' h in (
         turn.0,
@@ -118,11 +120,11 @@ module _ (keys : List ℕ) (cards : ℕ) where
       (turn.0, went_nowhere m stage m' (joins_lawful m stage seat other m' holds turn.1.machine) (ap (λ (n : Machine). n.words) turn.1.machine.gives))
 
   -- what a run makes of the machine
-  pub run_goes : (s : TableState) (r : RuleHolds keys cards s) (stage : Stages) → Invariant (machine_of_table keys cards s r) stage → (turns : List Turn) (s' : TableState)
+  pub run_goes : (s : TableState) (r : HasMachine keys cards s) (stage : Stages) → Invariant (machine_of_table keys cards s r) stage → (turns : List Turn) (s' : TableState)
       → (run : TableRun cards s turns s')
-      → (k : RuleHolds keys cards s') × Went r.words stage (run_wins cards s turns s' run) (machine_of_table keys cards s' k)
+      → (k : HasMachine keys cards s') × Went r.words stage (run_wins cards s turns s' run) (machine_of_table keys cards s' k)
   run_goes s r stage holds [] s' run =
-      subst (λ x. (k : RuleHolds keys cards x) × Went r.words stage (λ d. []) (machine_of_table keys cards x k)) (sym run)
+      subst (λ x. (k : HasMachine keys cards x) × Went r.words stage (λ d. []) (machine_of_table keys cards x k)) (sym run)
       (r, went_nowhere (machine_of_table keys cards s r) stage (machine_of_table keys cards s r) holds refl)
   run_goes s r stage holds (t ∷ ts) s' run =
       let first = turn_goes s r stage holds t run.0 run.1 in

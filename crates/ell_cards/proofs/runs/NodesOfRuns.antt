@@ -13,10 +13,12 @@ use Rattle.ell_core.proofs.following.Sound.{word_by_state}
 use Rattle.ell_core.proofs.stages.Order.{born-claimed}
 use Rattle.ell_core.proofs.stages.Waiting.{start-born}
 use Rattle.ell_core.proofs.tree.Reached.{Spans-reached}
-use Rattle.ell_cards.specs.Rule.{TableState, RuleHolds}
+use Rattle.ell_cards.specs.States.{TableState}
+use Rattle.ell_cards.specs.Machines.{HasMachine}
 use Rattle.ell_cards.specs.Laws.{machine_of_table}
-use Rattle.ell_cards.specs.OwnWords.{own_words}
-use Rattle.ell_cards.specs.RunLaws.{run_wins, NodeGoesOn, TableNodesGoOn}
+use Rattle.ell_cards.specs.TurnEffects.{own_words, run_wins}
+use Rattle.ell_cards.specs.OwnWords.{NodeGoesOn}
+use Rattle.ell_cards.proofs.seats.Statements.{NodesByMachine}
 use Rattle.ell_cards.proofs.own_words.OwnTree.{key_same, child_same, update_same, reached_born}
 use Rattle.ell_cards.proofs.own_words.OwnWords.{same_card}
 use Rattle.ell_cards.proofs.runs.GoingOn.{Went, run_goes}
@@ -74,8 +76,8 @@ module _ (m : Machine) (one two : Stages) (holds : Invariant m one) (also : Inva
             ])
       ]
 
--- two states of the rule, the second one's machine gone on from the first one's, and a node that was reached in the first
-module _ (keys : List ℕ) (cards : ℕ) (s : TableState) (r : RuleHolds keys cards s) (s' : TableState) (k : RuleHolds keys cards s') (won : ℕ → List Kind)
+-- two states with machines, the second one's gone on from the first one's, and a node that was reached in the first
+module _ (keys : List ℕ) (cards : ℕ) (s : TableState) (r : HasMachine keys cards s) (s' : TableState) (k : HasMachine keys cards s') (won : ℕ → List Kind)
     (went : Went r.words r.stages won (machine_of_table keys cards s' k)) (x : ℕ) (reached : Reached (own_words s) x) where
   -- it came into the tree
   born : Born r.stages x
@@ -127,7 +129,7 @@ module _ (keys : List ℕ) (cards : ℕ) (s : TableState) (r : RuleHolds keys ca
   }
 
 -- by what a run makes of the machine
-pub table_nodes_go_on : TableNodesGoOn
+pub table_nodes_go_on : NodesByMachine
 table_nodes_go_on keys cards s r turns s' run x reached =
     let goes = run_goes keys cards s r r.stages r.invariant turns s' run in
     node_goes_on keys cards s r s' goes.0 (run_wins cards s turns s' run) goes.1 x reached

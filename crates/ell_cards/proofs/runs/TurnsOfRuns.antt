@@ -1,8 +1,11 @@
 use Rattle.std.proofs.Common.{◌≡◌, ℕ, ◌<◌, List, [], ◌∷◌, refl, sym, subst}
-use Rattle.ell_cards.specs.Rule.{TableState, RuleHolds}
+use Rattle.ell_cards.specs.States.{TableState}
+use Rattle.ell_cards.specs.Machines.{HasMachine}
 use Rattle.ell_cards.specs.Calls.{word_of}
-use Rattle.ell_cards.specs.Laws.{machine_of_table, state_after, state_split, state_joined}
-use Rattle.ell_cards.specs.Runs.{StepsStayInside, Turn, Makes, Splits, Joins, TableTurns, TurnIsLawful, RunsAreLawful}
+use Rattle.ell_cards.specs.Laws.{machine_of_table}
+use Rattle.ell_cards.specs.Turns.{Turn, Makes, Splits, Joins, TableTurns, state_after, state_split, state_joined}
+use Rattle.ell_cards.specs.Runs.{TurnIsLawful, RunsAreLawful}
+use Rattle.ell_cards.proofs.seats.Statements.{InsideByMachine}
 use Rattle.ell_cards.proofs.stepping.AllCalls.{steps_are_events}
 use Rattle.ell_cards.proofs.seats.Named.{kept_named}
 use Rattle.ell_cards.proofs.seats.Taken.{word_fits}
@@ -12,17 +15,17 @@ use Rattle.ell_cards.proofs.own_words.OwnWords.{own_words_are_sound}
 use Rattle.ell_cards.proofs.own_words.OwnKeys.{table_pairs_change_at_wins}
 
 -- the word that a step call touches is in the table
-pub steps_stay_inside : StepsStayInside
+pub steps_stay_inside : InsideByMachine
 steps_stay_inside keys cards s r id v c here may =
     subst (λ n. word_of c < n) (sym r.size) (word_fits cards c v (kept_named keys cards s r id v here) may)
 
 module _ (keys : List ℕ) (cards : ℕ) where
   -- one turn
-  pub turn_lawful : (s : TableState) (r : RuleHolds keys cards s) (t : Turn) (s' : TableState) → TableTurns cards s t s'
-      → (k : RuleHolds keys cards s') × TurnIsLawful keys cards s r t s' k
+  pub turn_lawful : (s : TableState) (r : HasMachine keys cards s) (t : Turn) (s' : TableState) → TableTurns cards s t s'
+      → (k : HasMachine keys cards s') × TurnIsLawful keys cards s r t s' k
   turn_lawful s r (Makes seat c) s' h =
       let step = steps_are_events keys cards s r seat h.view c h.there h.may in
-      subst (λ x. (k : RuleHolds keys cards x) × TurnIsLawful keys cards s r (Makes seat c) x k) (sym h.gives) (
+      subst (λ x. (k : HasMachine keys cards x) × TurnIsLawful keys cards s r (Makes seat c) x k) (sym h.gives) (
         step.kept,
         record {
           machine = step.event;
@@ -32,7 +35,7 @@ module _ (keys : List ℕ) (cards : ℕ) where
       )
   turn_lawful s r (Splits seat left) s' h =
       let step = splits_are_moves keys cards s r seat h.view left h.there h.free in
-      subst (λ x. (k : RuleHolds keys cards x) × TurnIsLawful keys cards s r (Splits seat left) x k) (sym h.gives) (
+      subst (λ x. (k : HasMachine keys cards x) × TurnIsLawful keys cards s r (Splits seat left) x k) (sym h.gives) (
         step.kept,
         record {
           machine = step.split;
@@ -42,7 +45,7 @@ module _ (keys : List ℕ) (cards : ℕ) where
       )
   turn_lawful s r (Joins seat other) s' h =
       let step = joins_are_moves keys cards s r seat other h.view h.view' h.there h.there' h.apart h.free h.free' in
-      subst (λ x. (k : RuleHolds keys cards x) × TurnIsLawful keys cards s r (Joins seat other) x k) (sym h.gives) (
+      subst (λ x. (k : HasMachine keys cards x) × TurnIsLawful keys cards s r (Joins seat other) x k) (sym h.gives) (
         step.kept,
         record {
           machine = step.join;
@@ -54,7 +57,7 @@ module _ (keys : List ℕ) (cards : ℕ) where
 -- turn by turn
 pub runs_are_lawful : RunsAreLawful
 runs_are_lawful keys cards s r [] s' run =
-    let end = subst (λ x. (k : RuleHolds keys cards x) × (machine_of_table keys cards x k ≡ machine_of_table keys cards s r)) (sym run) (r, refl) in
+    let end = subst (λ x. (k : HasMachine keys cards x) × (machine_of_table keys cards x k ≡ machine_of_table keys cards s r)) (sym run) (r, refl) in
     record { kept = end.0; lawful = end.1 }
 runs_are_lawful keys cards s r (t ∷ ts) s' run =
     let turn = turn_lawful keys cards s r t run.0 run.1 in

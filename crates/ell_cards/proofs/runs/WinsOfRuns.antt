@@ -6,14 +6,15 @@ use Rattle.ell_core.specs.declared.event.Stepped.{Stepped}
 use Rattle.ell_core.specs.state.Machine.{Machine}
 use Rattle.ell_core.specs.acts.Runs.{Run}
 use Rattle.ell_core.specs.history.Later.{wins_of}
-use Rattle.ell_core.specs.statements.RunLaws.{InOrder}
+use Rattle.ell_core.specs.acts.Wins.{InOrder}
 use Rattle.ell_core.proofs.following.facts.Claimed.{not_claimed}
 use Rattle.ell_core.proofs.runs.Wins.{stage_wins}
 use Rattle.ell_core.proofs.words.Listed.{listed_next}
 use Rattle.ell_core.proofs.stages.Waiting.{unclaimed-wins}
 use Rattle.ell_cards.specs.Calls.{act_of, said_of, Becomes}
-use Rattle.ell_cards.specs.Laws.{machine_of_table, found_by}
-use Rattle.ell_cards.specs.Runs.{Makes, Splits, Joins, event_of, shown_of, events_in, shown_in, RunsAreSchedules}
+use Rattle.ell_cards.specs.Laws.{machine_of_table}
+use Rattle.ell_cards.specs.Turns.{Makes, Splits, Joins, found_by}
+use Rattle.ell_cards.specs.Runs.{event_of, shown_of, events_in, shown_in, RunsAreSchedules}
 use Rattle.ell_cards.specs.RunLaws.{TableWinsAreInOrder}
 use Rattle.ell_cards.proofs.runs.GoingOn.{run_goes}
 

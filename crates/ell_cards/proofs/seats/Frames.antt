@@ -17,7 +17,7 @@ use Rattle.ell_core.specs.acts.Events.{Happens, Steps}
 use Rattle.ell_core.specs.soundness.Sound.{WorkerOwns}
 use Rattle.ell_core.specs.history.Stages.{Stages, waits}
 use Rattle.ell_core.specs.history.Invariant.{Invariant}
-use Rattle.ell_core.specs.history.Later.{wins_by}
+use Rattle.ell_core.specs.acts.Wins.{wins_by}
 use Rattle.ell_core.proofs.words.Writes.{written_elsewhere, written_next}
 use Rattle.ell_core.proofs.words.Listed.{apart, same_after_same_write}
 use Rattle.ell_cards.specs.declared.call.Call.{Call}
@@ -25,9 +25,11 @@ use Rattle.ell_cards.specs.declared.view.Told.{Told}
 use Rattle.ell_cards.specs.declared.view.Told.TheVariants.{Key}
 use Rattle.ell_cards.specs.declared.view.View.{View}
 use Rattle.ell_cards.specs.Models.{IsTold, stored_at}
-use Rattle.ell_cards.specs.Rule.{TableState, seat_worker, seated, EntryHolds, ViewHolds, RuleHolds}
+use Rattle.ell_cards.specs.States.{TableState, seat_worker, seated}
+use Rattle.ell_cards.specs.Machines.{EntryHolds, ViewHolds, HasMachine}
 use Rattle.ell_cards.specs.Calls.{word_of, atomic_of, left_by, act_of, said_of, Becomes, Tells}
-use Rattle.ell_cards.specs.Laws.{found_by, view_after, state_after, IsEvent}
+use Rattle.ell_cards.specs.Turns.{found_by, view_after, state_after}
+use Rattle.ell_cards.specs.Laws.{IsEvent}
 use Rattle.ell_core.proofs.stages.Waiting.{waits-kind, waits-wins, kind-waits}
 use Rattle.ell_core.proofs.following.waiting.Cards.{hand_waits}
 use Rattle.ell_cards.proofs.words.Fields.{listed_else, listed_next}
@@ -41,8 +43,8 @@ pub record Onward (v after : View) : Type 0 where
       → (v.worker.card ≡ Some c) × (v.worker.flagged ≡ false) × (after.planned ≡ v.planned) × (after.stores ≡ v.stores)
   pub owns : (k : ℕ) → WorkerOwns (worker_of after.worker) k → WorkerOwns (worker_of v.worker) k
 
-module _ (keys : List ℕ) (cards : ℕ) (s : TableState) (r : RuleHolds keys cards s) (id : ℕ) (v : View) (here : get_elem? s.views id ≡ some v) where
-  -- a state of the rule that an event leads to
+module _ (keys : List ℕ) (cards : ℕ) (s : TableState) (r : HasMachine keys cards s) (id : ℕ) (v : View) (here : get_elem? s.views id ≡ some v) where
+  -- a state that an event leads to has a machine
   pub record IsReached (list : List ℕ) (new : Words) (after : View) (a : core.Act) (said : Stepped) : Type 0 where
     pub kept : IsKept keys cards (record { words = list; homes = s.homes; views = set s.views id after }) new
     pub steps : Steps (machine keys cards s r id v here) (record { worker = id; act = a }) said (seated new (set s.views id after) cards)
@@ -103,7 +105,7 @@ module _ (keys : List ℕ) (cards : ℕ) (s : TableState) (r : RuleHolds keys ca
       other : (c : ℕ) → waits (r.stages c) ≡ true → c ≢ d
       other c wait e = true≢false (sym wait ∙ (ap (λ n. waits (r.stages n)) e ∙ calm))
 
-  -- the rule after an event that changes no word and wins nothing
+  -- the machine after an event that changes no word and wins nothing
   pub looks : (a : core.Act) (said : Stepped) (after : View)
       → (h : Happens cards a (mine keys cards s r id v here) said (becomes keys cards s r id v here r.words after))
       → ((c : ℕ) → wins_by a v.worker.card said c ≡ [])
@@ -137,7 +139,7 @@ module _ (keys : List ℕ) (cards : ℕ) (s : TableState) (r : RuleHolds keys ca
         | inr n ↦ ap seat_worker (sym (set_else s.views id j after n))
       ]
 
-  -- the rule where a pass alone learns something, and the list changes at a card that waits or not at all
+  -- the machine where a pass alone learns something, and the list changes at a card that waits or not at all
   pub kept_note : (after : View) (list : List ℕ) → after.worker ≡ v.worker → length list ≡ length s.words
       → get_or list 0 0 ≡ get_or s.words 0 0
       → ((c : ℕ) (f : Field) → waits (r.stages c) ≡ false → listed list c f ≡ listed s.words c f)

@@ -15,10 +15,11 @@ use Rattle.ell_cards.specs.declared.view.Told.{Told}
 use Rattle.ell_cards.specs.declared.view.Told.TheVariants.{Met, Key, Value, Info, Frozen}
 use Rattle.ell_cards.specs.declared.view.View.{View}
 use Rattle.ell_cards.specs.Naming.{InfoIsNamed, EntryIsNamed, SeenIsNamed, IsNamed}
-use Rattle.ell_cards.specs.Rule.{TableState, EntryHolds, RuleHolds}
+use Rattle.ell_cards.specs.States.{TableState}
+use Rattle.ell_cards.specs.Machines.{EntryHolds, HasMachine}
 use Rattle.ell_cards.proofs.seats.Seats.{mine_is, relies, stands_born, born_claimed}
 
-module _ (keys : List ℕ) (cards : ℕ) (s : TableState) (r : RuleHolds keys cards s) (id : ℕ) (v : View) (here : get_elem? s.views id ≡ some v) where
+module _ (keys : List ℕ) (cards : ℕ) (s : TableState) (r : HasMachine keys cards s) (id : ℕ) (v : View) (here : get_elem? s.views id ≡ some v) where
   -- a claimed card is one of the table
   claimed_fits : (c : ℕ) → c < r.words.next → c ≤ cards
   claimed_fits c low = let room = r.invariant.limit in omega arith

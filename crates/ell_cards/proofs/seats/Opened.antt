@@ -6,16 +6,16 @@ use Rattle.ell_cards.specs.Models.{TableModel, PassModel}
 use Rattle.ell_cards.specs.Changes.{keys_of}
 use Rattle.ell_cards.specs.Naming.{IsNamed}
 use Rattle.ell_cards.specs.Inside.{PassFits}
-use Rattle.ell_cards.specs.Rule.{RuleHolds}
+use Rattle.ell_cards.specs.Starts.{IsReached}
 use Rattle.ell_cards.specs.Stepping.{MayHave, KeepsPass}
 
 -- what a step owes, for a seat that holds no slot of a table that has none
-pub allowed : (keys : List ℕ) (cards slots id : ℕ) (me : Me (Unit {0}) View) (word : ℕ) (f : ℕ → ℕ) (told : ℕ → View → Type 0) → slots ≡ 0 → me.1 ≡ []
-    → ((seat : ℕ) → Allows (RuleHolds keys cards) 0 seat (me.0, []) word f (λ n x. told n x.0 × (x.1 ≡ [])))
-    → Allows (RuleHolds keys cards) slots id me word f (λ n x. told n x.0 × (x.1 ≡ me.1))
-allowed keys cards slots id me word f told none empty may =
-    subst (λ (l : List (ℕ × Unit {0})). Allows (RuleHolds keys cards) slots id (me.0, l) word f (λ n x. told n x.0 × (x.1 ≡ l))) (sym empty)
-    (subst (λ (z : ℕ). Allows (RuleHolds keys cards) z id (me.0, []) word f (λ n x. told n x.0 × (x.1 ≡ []))) (sym none) (may id))
+pub allowed : (keys : List ℕ) (start : List (ℕ × ℕ)) (cards slots id : ℕ) (me : Me (Unit {0}) View) (word : ℕ) (f : ℕ → ℕ) (told : ℕ → View → Type 0) → slots ≡ 0 → me.1 ≡ []
+    → ((seat : ℕ) → Allows (IsReached keys start cards) 0 seat (me.0, []) word f (λ n x. told n x.0 × (x.1 ≡ [])))
+    → Allows (IsReached keys start cards) slots id me word f (λ n x. told n x.0 × (x.1 ≡ me.1))
+allowed keys start cards slots id me word f told none empty may =
+    subst (λ (l : List (ℕ × Unit {0})). Allows (IsReached keys start cards) slots id (me.0, l) word f (λ n x. told n x.0 × (x.1 ≡ l))) (sym empty)
+    (subst (λ (z : ℕ). Allows (IsReached keys start cards) z id (me.0, []) word f (λ n x. told n x.0 × (x.1 ≡ []))) (sym none) (may id))
 
 -- a table's size tells its cards
 same_cards : (words a b : ℕ) → words ≡ table_size a → words ≡ table_size b → a ≡ b
@@ -50,16 +50,16 @@ module _ (t u : TableModel) (p q : PassModel) (same_table : t ≡ u) (same_pass 
   -- what a step owes, by what its caller says of the table and the pass
   pub owed : (seat : ℕ) (held : List (ℕ × Unit {0})) (keys : List ℕ) (word : ℕ) (f : ℕ → ℕ) (told : ℕ → View → Type 0) → t.id.slots ≡ 0 → held ≡ []
       → PassFits keys p.table.words p.view → (IsNamed u.last_card q.view → word < table_size u.last_card)
-      → ((id : ℕ) → Allows (RuleHolds u.keys u.last_card) 0 id (q.view, []) word f (λ n x. told n x.0 × (x.1 ≡ [])))
-      → (p.table ≡ t.id) × (word < t.id.words) × Allows (RuleHolds t.keys t.last_card) t.id.slots seat (p.view, held) word f (λ n x. told n x.0 × (x.1 ≡ held))
+      → ((id : ℕ) → Allows (IsReached u.keys u.start u.last_card) 0 id (q.view, []) word f (λ n x. told n x.0 × (x.1 ≡ [])))
+      → (p.table ≡ t.id) × (word < t.id.words) × Allows (IsReached t.keys t.start t.last_card) t.id.slots seat (p.view, held) word f (λ n x. told n x.0 × (x.1 ≡ held))
   owed seat held keys word f told none empty fits there rule =
       let below = subst (λ (m : TableModel). IsNamed m.last_card p.view → word < table_size m.last_card) (sym same_table)
       (subst (λ (m : PassModel). IsNamed u.last_card m.view → word < table_size u.last_card) (sym same_pass) there) (fits.named t.last_card own_size) in (
         of_table,
         subst (λ n. word < n) (sym size) below,
-        allowed t.keys t.last_card t.id.slots seat (p.view, held) word f told none empty
-            (subst (λ (m : TableModel). (id : ℕ) → Allows (RuleHolds m.keys m.last_card) 0 id (p.view, []) word f (λ n x. told n x.0 × (x.1 ≡ []))) (sym same_table)
-            (subst (λ (m : PassModel). (id : ℕ) → Allows (RuleHolds u.keys u.last_card) 0 id (m.view, []) word f (λ n x. told n x.0 × (x.1 ≡ []))) (sym same_pass) rule)),
+        allowed t.keys t.start t.last_card t.id.slots seat (p.view, held) word f told none empty
+            (subst (λ (m : TableModel). (id : ℕ) → Allows (IsReached m.keys m.start m.last_card) 0 id (p.view, []) word f (λ n x. told n x.0 × (x.1 ≡ []))) (sym same_table)
+            (subst (λ (m : PassModel). (id : ℕ) → Allows (IsReached u.keys u.start u.last_card) 0 id (m.view, []) word f (λ n x. told n x.0 × (x.1 ≡ []))) (sym same_pass) rule)),
       )
 
   -- the pass after a step that told this

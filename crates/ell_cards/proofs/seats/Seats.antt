@@ -16,14 +16,16 @@ use Rattle.ell_core.specs.acts.Events.{Happens, Steps}
 use Rattle.ell_core.specs.soundness.Sound.{WorkerOwns}
 use Rattle.ell_core.specs.history.Stages.{Stages, Born, waits}
 use Rattle.ell_core.specs.history.Invariant.{Invariant, WorkerIsSound}
-use Rattle.ell_core.specs.history.Later.{WordsLater, StagesLater, wins_of, wins_by}
+use Rattle.ell_core.specs.history.Later.{WordsLater, StagesLater, wins_of}
+use Rattle.ell_core.specs.acts.Wins.{wins_by}
 use Rattle.ell_core.specs.statements.StepLaws.{Reliance}
 use Rattle.ell_core.proofs.words.Writes.{put_same, put_other}
 use Rattle.ell_core.proofs.following.Lawful.{events_lawful}
 use Rattle.ell_core.proofs.following.Reliance.{may_rely}
 use Rattle.ell_cards.specs.declared.view.Told.{Told}
 use Rattle.ell_cards.specs.declared.view.View.{View}
-use Rattle.ell_cards.specs.Rule.{TableState, seat_worker, seated, EntryHolds, ViewHolds, RuleHolds}
+use Rattle.ell_cards.specs.States.{TableState, seat_worker, seated}
+use Rattle.ell_cards.specs.Machines.{EntryHolds, ViewHolds, HasMachine}
 use Rattle.ell_core.proofs.following.waiting.Cards.{hand_waits}
 use Rattle.ell_cards.proofs.seats.Entries.{entry_lasts}
 
@@ -61,12 +63,12 @@ module _ (views : List View) (id : ℕ) (v : View) (here : get_elem? views id �
     last_card = cards;
   }
 
--- a state of the rule, and the machine that it is of, by these words
+-- a state has a machine, of these words
 pub record IsKept (keys : List ℕ) (cards : ℕ) (s : TableState) (w : Words) : Type 0 where
-  pub kept : RuleHolds keys cards s
+  pub kept : HasMachine keys cards s
   pub words : kept.words ≡ w
 
-module _ (keys : List ℕ) (cards : ℕ) (s : TableState) (r : RuleHolds keys cards s) (id : ℕ) (v : View) (here : get_elem? s.views id ≡ some v) where
+module _ (keys : List ℕ) (cards : ℕ) (s : TableState) (r : HasMachine keys cards s) (id : ℕ) (v : View) (here : get_elem? s.views id ≡ some v) where
   -- the machine
   abbrev pub machine : Machine
   machine = seated r.words s.views cards
@@ -143,7 +145,7 @@ module _ (keys : List ℕ) (cards : ℕ) (s : TableState) (r : RuleHolds keys ca
   entries_on a said new after stages led e h =
       entry_lasts r.words new r.stages stages e led.words led.later born_claimed h
 
-  -- the rule after an event
+  -- the machine after an event
   pub kept_event : (a : Act) (said : Stepped) (new : Words) (after : View) (list : List ℕ) (stages : Stages)
       → Leads a said new after stages → Moves list new stages → ViewHolds list new stages after
       → ((k : ℕ) → WorkerOwns (worker_of after.worker) k → WorkerOwns (worker_of v.worker) k)

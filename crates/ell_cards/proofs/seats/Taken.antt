@@ -1,6 +1,4 @@
-use Rattle.std.proofs.Common.{◌≡◌, ◌==◌, ℕ, ◌%◌, ◌<◌, ◌≤◌, if◌then◌else◌, Bool, true, false, List, [], ◌∷◌, get_or, set, Option, Some, refl, sym, ap, ◌∙◌, subst, inl, inr, arith}
-use prog.Atomic.{either}
-use Rattle.atomic_table.specs.Table.{Allows, keeps}
+use Rattle.std.proofs.Common.{◌≡◌, ◌==◌, ℕ, ◌%◌, ◌<◌, ◌≤◌, List, [], ◌∷◌, Option, Some, refl, ap, inl, inr, arith}
 use Rattle.ell_ops.specs.declared.op.Op.{Op}
 use Rattle.ell_ops.specs.declared.op.Op.TheVariants.{Insert, Delete}
 use Rattle.ell_word.specs.Node.{card}
@@ -17,14 +15,10 @@ use Rattle.ell_cards.specs.declared.view.View.{View}
 use Rattle.ell_cards.specs.declared.view.Told.TheVariants.{Met, Info}
 use Rattle.ell_cards.specs.Models.{KnowsCard, PassModel, Steps}
 use Rattle.ell_cards.specs.Changes.{keys_of, with_entry, answered_ledger}
-use Rattle.ell_cards.specs.Calls.{Load, Exchange, word_of, atomic_of, left_by, after, May}
+use Rattle.ell_cards.specs.Calls.{word_of, after, May}
 use Rattle.ell_cards.specs.Naming.{IsNamed}
-use Rattle.ell_cards.specs.Rule.{RuleHolds}
-use Rattle.ell_cards.specs.Stepping.{MayLoad, MayStore, MayExchange, KeepsPass, StepsBy, IsTaken}
-use Rattle.ell_cards.proofs.seats.Seats.{set_there}
-use Rattle.ell_cards.proofs.stepping.AllCalls.{steps_are_events}
+use Rattle.ell_cards.specs.Stepping.{KeepsPass, StepsBy, IsTaken}
 use Rattle.ell_cards.proofs.seats.LedgersStay.{claim_ledger, flag_ledger, mark_ledger}
-use Rattle.ell_cards.proofs.seats.Named.{kept_named}
 use Rattle.ell_core.specs.declared.view.Entry.{Entry}
 use Rattle.ell_core.specs.declared.view.Entry.TheVariants.{Present, Absent}
 use Rattle.ell_ops.specs.declared.reply.Reply.{Reply}
@@ -41,66 +35,13 @@ answered_keys (Some (Delete k)) Yes l = settled_keys k Absent l
 answered_keys _ _ l = refl
 
 -- no step call changes which keys a pass owns
-keys_stay : (c : Call) (n : ℕ) (v : View) → keys_of (after c n v).worker.ledger ≡ keys_of v.worker.ledger
+pub keys_stay : (c : Call) (n : ℕ) (v : View) → keys_of (after c n v).worker.ledger ≡ keys_of v.worker.ledger
 keys_stay (call.Answer said) n v = answered_keys v.worker.operation said v.worker.ledger
 keys_stay (call.Claim c) n v = ap keys_of (claim_ledger (n == c) c v)
 keys_stay (call.IFlag c p from) n v = ap keys_of (flag_ledger (n == packed from) (IFlagged c) p (unpacked n) v)
 keys_stay (call.DFlag c gp from) n v = ap keys_of (flag_ledger (n == packed from) (DFlagged c) gp (unpacked n) v)
 keys_stay (call.Mark c p was) n v = ap keys_of (mark_ledger (n == was) c p (unpacked n) v)
 keys_stay _ n v = refl
-
--- a step call keeps the rule, whatever the table is, and leaves of its pass what the call says
-taken : (keys : List ℕ) (cards : ℕ) (c : Call) (v : View) (f : ℕ → ℕ) → ((n : ℕ) → f n ≡ left_by (atomic_of c) n) → May cards c v
-    → (id : ℕ) → Allows (RuleHolds keys cards) 0 id (v, []) (word_of c) f (λ n me. IsTaken cards c v n me.0 × (me.1 ≡ []))
-taken keys cards c v f same may id s r homes here small =
-    let n = get_or s.words (word_of c) 0 in
-    let w = after c n v in
-    let step = steps_are_events keys cards s r id v c here may in
-    let kept : RuleHolds keys cards (record { words = set s.words (word_of c) (f n); homes = s.homes; views = set s.views id w }) =
-    subst (λ m. RuleHolds keys cards (record { words = set s.words (word_of c) m; homes = s.homes; views = set s.views id w })) (sym (same n)) step.kept in (
-      w,
-      keeps,
-      tt,
-      kept,
-      (
-        record {
-          view = refl;
-          tells = step.tells;
-          keys = keys_stay c n v;
-          named = kept_named keys cards (record { words = set s.words (word_of c) (f n); homes = s.homes; views = set s.views id w }) kept id w
-              (set_there s.views id w v here);
-        },
-        refl,
-      ),
-    )
-
--- a load
-pub may_load : (keys : List ℕ) (cards : ℕ) (c : Call) (v : View) (word : ℕ) → word ≡ word_of c → atomic_of c ≡ Load → May cards c v
-    → MayLoad keys cards v word (IsTaken cards c v)
-may_load keys cards c v word at loads may =
-    subst (λ i. MayLoad keys cards v i (IsTaken cards c v)) (sym at) (taken keys cards c v (λ n. n) (λ n. ap (λ a. left_by a n) (sym loads)) may)
-
--- the store of a fill
-pub may_fill : (keys : List ℕ) (cards : ℕ) (c : ℕ) (f : Field) (value : ℕ) (v : View) (word : ℕ) → word ≡ address c f → May cards (call.Fill c f value) v
-    → MayStore keys cards v word value (IsTaken cards (call.Fill c f value) v)
-may_fill keys cards c f value v word at may =
-    subst (λ i. MayStore keys cards v i value (IsTaken cards (call.Fill c f value) v)) (sym at)
-    (λ id s r homes here small.
-    let x = taken keys cards (call.Fill c f value) v (λ n. value) (λ n. refl) may id s r homes here small in
-    let t = x.4.0 in
-    (x.0, x.1, x.2, x.3, (record { view = t.view; tells = tt; keys = t.keys; named = t.named }, x.4.1)))
-
-either_is : (b : Bool) (x y : ℕ) → either b x y ≡ (if b then x else y)
-either_is true x y = refl
-either_is false x y = refl
-
--- an exchange
-pub may_exchange : (keys : List ℕ) (cards : ℕ) (c : Call) (v : View) (word expected value : ℕ) → word ≡ word_of c
-    → atomic_of c ≡ Exchange expected value → May cards c v → MayExchange keys cards v word expected value (IsTaken cards c v)
-may_exchange keys cards c v word expected value at exchanges may =
-    subst (λ i. MayExchange keys cards v i expected value (IsTaken cards c v)) (sym at)
-    (taken keys cards c v (λ n. either (n == expected) value n)
-    (λ n. either_is (n == expected) value n ∙ ap (λ a. left_by a n) (sym exchanges)) may)
 
 -- what is taken leaves the pass as it has to be
 pub taken_keeps : (cards : ℕ) (c : Call) (v : View) → KeepsPass cards v (IsTaken cards c v)

@@ -16,7 +16,8 @@ use Rattle.ell_cards.specs.Models.{Has, earlier, InTable, KnowsCard}
 use Rattle.ell_cards.specs.Changes.{told_info, after_info, after_frozen_child}
 use Rattle.ell_cards.specs.Guards.{IsAsked, MayAsk, MaySee}
 use Rattle.ell_cards.specs.Calls.{child_at, TellsNode, TellsDepth}
-use Rattle.ell_cards.specs.Rule.{TableState, is_fixed, EntryHolds, RuleHolds}
+use Rattle.ell_cards.specs.States.{TableState}
+use Rattle.ell_cards.specs.Machines.{is_fixed, EntryHolds, HasMachine}
 use Rattle.ell_cards.specs.Laws.{IsEvent}
 use Rattle.ell_cards.proofs.views.Entries.{info_more}
 use Rattle.ell_cards.proofs.seats.Entries.{with_entry}
@@ -33,7 +34,7 @@ asked_fixed field.Right a = absurd a
 asked_fixed field.Update a = absurd a
 asked_fixed _ a = refl
 
-module _ (keys : List ℕ) (cards : ℕ) (s : TableState) (r : RuleHolds keys cards s) (id : ℕ) (v : View) (here : get_elem? s.views id ≡ some v) where
+module _ (keys : List ℕ) (cards : ℕ) (s : TableState) (r : HasMachine keys cards s) (id : ℕ) (v : View) (here : get_elem? s.views id ≡ some v) where
   -- where a known card goes came into the tree; an insert's has no grandparent, which is node 0
   gp_born : (c : ℕ) → KnowsCard v c → Born r.stages (r.words.gp c)
   gp_born c k = elim (known_card keys cards s r id v here c k) [

@@ -12,7 +12,7 @@ use Rattle.ell_core.specs.state.Machine.{Worker, Ledger, worker_of, ledger_of}
 use Rattle.ell_core.specs.acts.Searching.{leaf_answer, value_at, card_answer, ledger_after, HasAnswer}
 use Rattle.ell_core.specs.acts.Events.{Happens}
 use Rattle.ell_core.specs.history.Stages.{is_born}
-use Rattle.ell_core.specs.statements.StepLaws.{AnswersAsMap}
+use Rattle.ell_core.specs.statements.Effects.{AnswersAsMap}
 use Rattle.ell_core.proofs.outcomes.Decide.{some_not_none}
 use Rattle.ell_core.proofs.following.Lawful.{events_lawful}
 use Rattle.ell_cards.specs.declared.call.Call.TheVariants as call
@@ -22,7 +22,8 @@ use Rattle.ell_cards.specs.declared.view.View.{View}
 use Rattle.ell_cards.specs.Models.{Has}
 use Rattle.ell_cards.specs.Changes.{after_begin, after_again, after_leave, after_answer, answered_ledger}
 use Rattle.ell_cards.specs.Guards.{MayBegin, MayStop, MayAnswer, TellsOf, KnowsAnswerAtLeaf, KnowsAnswerByCard, IsOver}
-use Rattle.ell_cards.specs.Rule.{TableState, seated, seat_worker, EntryHolds, RuleHolds}
+use Rattle.ell_cards.specs.States.{TableState, seated, seat_worker}
+use Rattle.ell_cards.specs.Machines.{EntryHolds, HasMachine}
 use Rattle.ell_cards.specs.Laws.{IsEvent}
 use Rattle.ell_cards.proofs.seats.Entries.{with_entry}
 use Rattle.ell_cards.proofs.seats.Seats.{leads, machine, mine, becomes, mine_is, mine_sound, set_there}
@@ -43,7 +44,7 @@ bare v after no_key no_card owns = record {
   owns = owns;
 }
 
-module _ (keys : List ℕ) (cards : ℕ) (s : TableState) (r : RuleHolds keys cards s) (id : ℕ) (v : View) (here : get_elem? s.views id ≡ some v) where
+module _ (keys : List ℕ) (cards : ℕ) (s : TableState) (r : HasMachine keys cards s) (id : ℕ) (v : View) (here : get_elem? s.views id ≡ some v) where
   -- what a pass that stands at the root was told
   root_entries : (e : Told) → Has (Met 0 ∷ v.told) e → EntryHolds r.words r.stages e
   root_entries = with_entry (EntryHolds r.words r.stages) (Met 0) v.told (ap is_born r.invariant.words.opening) (r.views id v here).entries
@@ -108,7 +109,7 @@ over_answers v (Find k) c said over e = absurd over
 over_answers v (Insert k value) c said over e = ap (λ b. if b then Some Yes else None) over ∙ ap Some (sym e)
 over_answers v (Delete k) c said over e = ap (λ b. if b then Some Yes else None) over ∙ ap Some (sym e)
 
-module _ (keys : List ℕ) (cards : ℕ) (s : TableState) (r : RuleHolds keys cards s) (id : ℕ) (v : View) (here : get_elem? s.views id ≡ some v) where
+module _ (keys : List ℕ) (cards : ℕ) (s : TableState) (r : HasMachine keys cards s) (id : ℕ) (v : View) (here : get_elem? s.views id ≡ some v) where
   -- what the leaf has of a key, by what the pass was told of it
   leaf_has : (leaf key k : ℕ) (there : Option ℕ) → r.words.key leaf ≡ key → TellsOf v leaf key k there → value_at r.words leaf k ≡ there
   leaf_has leaf key k None is other =

@@ -26,7 +26,8 @@ use Rattle.ell_cards.specs.declared.view.View.{View}
 use Rattle.ell_cards.specs.Models.{Has}
 use Rattle.ell_cards.specs.Changes.{told_value, told_fixed, told_filling, filling_for, filling_of, after_claim}
 use Rattle.ell_cards.specs.Guards.{MayClaim, Wants}
-use Rattle.ell_cards.specs.Rule.{TableState, EntryHolds, seated, RuleHolds}
+use Rattle.ell_cards.specs.States.{TableState, seated}
+use Rattle.ell_cards.specs.Machines.{EntryHolds, HasMachine}
 use Rattle.ell_cards.specs.Laws.{IsEvent}
 use Rattle.ell_cards.specs.Calls.{Becomes}
 use Rattle.ell_cards.proofs.words.Fields.{filled_else}
@@ -64,7 +65,7 @@ taking c es v = record v {
   stores = [];
 }
 
-module _ (keys : List ℕ) (cards : ℕ) (s : TableState) (r : RuleHolds keys cards s) (id : ℕ) (v : View) (here : get_elem? s.views id ≡ some v) where
+module _ (keys : List ℕ) (cards : ℕ) (s : TableState) (r : HasMachine keys cards s) (id : ℕ) (v : View) (here : get_elem? s.views id ≡ some v) where
   -- the next card
   abbrev next : ℕ
   next = r.words.next
@@ -76,7 +77,7 @@ module _ (keys : List ℕ) (cards : ℕ) (s : TableState) (r : RuleHolds keys ca
   other_card : (c : ℕ) → waits (r.stages c) ≡ true → c ≢ next
   other_card c wait e = true≢false (sym (waits-claimed (r.stages c) wait) ∙ (ap (λ n. is_claimed (r.stages n)) e ∙ fresh))
 
-  -- the rule after a won claim
+  -- the machine after a won claim
   takes : (es : List (Field × ℕ)) → next ≤ cards
       → Row act.Claim (mine keys cards s r id v here) Moved (becomes keys cards s r id v here (claimed r.words es) (taking next es v))
       → Says (claimed r.words es) next es
@@ -200,7 +201,7 @@ module _ (keys : List ℕ) (cards : ℕ) (s : TableState) (r : RuleHolds keys ca
 
   -- the event of a claim by whether it was won
   record ClaimAt (c : ℕ) (b : Bool) : Type 0 where
-    kept : RuleHolds keys cards (record { words = set s.words 0 (if b then c + 1 else get_or s.words 0 0); homes = s.homes; views = set s.views id (after_claim b c v) })
+    kept : HasMachine keys cards (record { words = set s.words 0 (if b then c + 1 else get_or s.words 0 0); homes = s.homes; views = set s.views id (after_claim b c v) })
     event : Becomes id (if b then Some act.Claim else None) Moved (machine keys cards s r id v here)
         (seated kept.words (set s.views id (after_claim b c v)) cards)
 

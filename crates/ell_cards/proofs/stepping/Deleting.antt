@@ -23,7 +23,8 @@ use Rattle.ell_cards.specs.declared.view.View.{View}
 use Rattle.ell_cards.specs.Models.{IsTold}
 use Rattle.ell_cards.specs.Changes.{learning, with_found, after_mark, unmarking, is_mark_of}
 use Rattle.ell_cards.specs.Guards.{MayMark, MayDChild, MayDUnflag, MayBacktrack, IsSibling}
-use Rattle.ell_cards.specs.Rule.{TableState, EntryHolds, RuleHolds}
+use Rattle.ell_cards.specs.States.{TableState}
+use Rattle.ell_cards.specs.Machines.{EntryHolds, HasMachine}
 use Rattle.ell_cards.specs.Laws.{IsEvent}
 use Rattle.ell_cards.proofs.words.Updates.{is_mark}
 use Rattle.ell_core.proofs.stages.Waiting.{born-settled}
@@ -51,7 +52,7 @@ marking_worker v c x n false = by (is_mark_of c (unpacked n).state (unpacked n).
         ∙ ap (λ b. knowing (worker_of v.worker) (if b then learned (known_of v.worker.facts) (Marked c)
         else learned_any (learned (known_of v.worker.facts) (Unmarkable c)) (told_by n))) e
 
-module _ (keys : List ℕ) (cards : ℕ) (s : TableState) (r : RuleHolds keys cards s) (id : ℕ) (v : View) (here : get_elem? s.views id ≡ some v) where
+module _ (keys : List ℕ) (cards : ℕ) (s : TableState) (r : HasMachine keys cards s) (id : ℕ) (v : View) (here : get_elem? s.views id ≡ some v) where
   -- what is so of a pass after a mark
   mark_on : (c x n : ℕ) (b : Bool) → Onward v (with_found n (after_mark b c x (unpacked n) v))
   mark_on c x n true = learning_on keys cards s r id v here (Marked c) n

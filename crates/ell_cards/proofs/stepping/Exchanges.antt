@@ -20,14 +20,15 @@ use Rattle.ell_core.specs.acts.Exchanges.{won_or_lost, exchanged_update, exchang
 use Rattle.ell_core.specs.acts.Events.{Happens}
 use Rattle.ell_core.specs.history.Stages.{Stages, Born, waits}
 use Rattle.ell_core.specs.history.Invariant.{IsInnerBorn}
-use Rattle.ell_core.specs.history.Later.{wins_by, win_for}
+use Rattle.ell_core.specs.acts.Wins.{wins_by, win_for}
 use Rattle.ell_core.proofs.words.Listed.{address_inside}
 use Rattle.ell_cards.specs.declared.view.Told.{Told}
 use Rattle.ell_cards.specs.declared.view.Told.TheVariants.{Info, Key}
 use Rattle.ell_cards.specs.declared.view.View.{View}
 use Rattle.ell_cards.specs.Models.{IsTold}
 use Rattle.ell_cards.specs.Changes.{learning, with_found}
-use Rattle.ell_cards.specs.Rule.{TableState, EntryHolds, RuleHolds}
+use Rattle.ell_cards.specs.States.{TableState}
+use Rattle.ell_cards.specs.Machines.{EntryHolds, HasMachine}
 use Rattle.ell_cards.specs.Calls.{after}
 use Rattle.ell_core.proofs.stages.Waiting.{born-settled, waits-wins, first_win}
 use Rattle.ell_cards.proofs.words.Fields.{write_update_at_node, write_child_at_node}
@@ -35,7 +36,7 @@ use Rattle.ell_cards.proofs.seats.Seats.{Leads, leads, kept_event, mine, becomes
 use Rattle.ell_cards.proofs.seats.Frames.{Onward, IsReached, looks, waits_on, view_on, moves_write}
 use Rattle.ell_cards.proofs.stepping.Known.{update_found}
 
-module _ (keys : List ℕ) (cards : ℕ) (s : TableState) (r : RuleHolds keys cards s) (id : ℕ) (v : View) (here : get_elem? s.views id ≡ some v) where
+module _ (keys : List ℕ) (cards : ℕ) (s : TableState) (r : HasMachine keys cards s) (id : ℕ) (v : View) (here : get_elem? s.views id ≡ some v) where
   -- a field of a node that came into the tree has an address in the table
   pub in_list : (x : ℕ) (f : Field) → Born r.stages x → address (card x) f < length s.words
   in_list x f born =
@@ -76,7 +77,7 @@ module _ (keys : List ℕ) (cards : ℕ) (s : TableState) (r : RuleHolds keys ca
   Settles a new after = (stages : Stages) → Leads keys cards s r id v here a Won new after stages
       → (c : ℕ) (f : Field) → waits (r.stages c) ≡ true → waits (stages c) ≡ false → listed s.words c f ≡ word r.words c f
 
-  -- the rule after such an exchange
+  -- the machine after such an exchange
   pub exchange_leads : (a : Act) (d : ℕ) (g : Field) (expected value : ℕ) (view : Bool → View)
       → address d g < length s.words → waits (r.stages d) ≡ false
       → Happens cards a (mine keys cards s r id v here) (won_or_lost (found_at d g == expected))
@@ -143,7 +144,7 @@ module _ (w : Words) (x y expected value n : ℕ) (right : Bool) (same : x ≡ y
   pub child_says : won_or_lost (n == expected) ≡ won_or_lost (found_child w x value == expected)
   child_says = ap (λ m. won_or_lost (m == expected)) (sym found_is)
 
-module _ (keys : List ℕ) (cards : ℕ) (s : TableState) (r : RuleHolds keys cards s) (id : ℕ) (v : View) (here : get_elem? s.views id ≡ some v) where
+module _ (keys : List ℕ) (cards : ℕ) (s : TableState) (r : HasMachine keys cards s) (id : ℕ) (v : View) (here : get_elem? s.views id ≡ some v) where
   -- an exchange of a flag of card c for a clean word, at node x, which was told to be y: it teaches one fact, and its row follows from
   -- what it says and gives
   pub unflags : (a : Act) (c x y flag : ℕ) (new : Fact) (k : Kind) → x ≡ y → IsInnerBorn r.stages x → k ≢ kind.IFlag → k ≢ kind.DFlag

@@ -14,13 +14,14 @@ use Rattle.ell_cards.specs.declared.view.View.{View}
 use Rattle.ell_cards.specs.Models.{stored_at}
 use Rattle.ell_cards.specs.Changes.{after_fill}
 use Rattle.ell_cards.specs.Guards.{MayFill}
-use Rattle.ell_cards.specs.Rule.{TableState, seat_worker, RuleHolds}
+use Rattle.ell_cards.specs.States.{TableState, seat_worker}
+use Rattle.ell_cards.specs.Machines.{HasMachine}
 use Rattle.ell_cards.specs.Laws.{IsEvent}
 use Rattle.ell_cards.proofs.words.Fields.{listed_else, listed_next, listed_there}
 use Rattle.ell_cards.proofs.seats.Seats.{machine, mine_is, mine_sound}
 use Rattle.ell_cards.proofs.seats.Frames.{kept_note, is_no_event}
 
-module _ (keys : List ℕ) (cards : ℕ) (s : TableState) (r : RuleHolds keys cards s) (id : ℕ) (v : View) (here : get_elem? s.views id ≡ some v) where
+module _ (keys : List ℕ) (cards : ℕ) (s : TableState) (r : HasMachine keys cards s) (id : ℕ) (v : View) (here : get_elem? s.views id ≡ some v) where
   -- fill
   pub keeps_fill : (c : ℕ) (f : Field) (x : ℕ) → MayFill v c → IsEvent keys cards s r id v (call.Fill c f x)
   keeps_fill c f x may =

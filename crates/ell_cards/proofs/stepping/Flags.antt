@@ -19,7 +19,7 @@ use Rattle.ell_core.specs.state.Machine.{Worker, worker_of}
 use Rattle.ell_core.specs.state.Cards.{iflag, dflag}
 use Rattle.ell_core.specs.acts.Exchanges.{won_or_lost, flagged_worker, flags}
 use Rattle.ell_core.specs.acts.Events.{Happens}
-use Rattle.ell_core.specs.history.Later.{wins_by, win_for}
+use Rattle.ell_core.specs.acts.Wins.{wins_by, win_for}
 use Rattle.ell_core.specs.statements.StepLaws.{MayRead}
 use Rattle.ell_core.proofs.outcomes.Decide.{some_not_none}
 use Rattle.ell_cards.specs.declared.call.Call.TheVariants as call
@@ -29,7 +29,8 @@ use Rattle.ell_cards.specs.Models.{IsTold}
 use Rattle.ell_cards.specs.Changes.{after_flag, with_found}
 use Rattle.ell_cards.specs.Guards.{MayFill, IsFilled, MayIFlag, MayDFlag}
 use Rattle.ell_cards.specs.Calls.{update_at}
-use Rattle.ell_cards.specs.Rule.{TableState, EntryHolds, RuleHolds}
+use Rattle.ell_cards.specs.States.{TableState}
+use Rattle.ell_cards.specs.Machines.{EntryHolds, HasMachine}
 use Rattle.ell_cards.specs.Laws.{IsEvent}
 use Rattle.ell_core.proofs.stages.Waiting.{born-settled}
 use Rattle.ell_cards.proofs.seats.Entries.{facts_known}
@@ -49,7 +50,7 @@ flagging_worker v new x n false = λ t. record (worker_of v.worker) {
   knows = facts_known (unpacked n).state (unpacked n).card v.worker.facts t;
 }
 
-module _ (keys : List ℕ) (cards : ℕ) (s : TableState) (r : RuleHolds keys cards s) (id : ℕ) (v : View) (here : get_elem? s.views id ≡ some v) where
+module _ (keys : List ℕ) (cards : ℕ) (s : TableState) (r : HasMachine keys cards s) (id : ℕ) (v : View) (here : get_elem? s.views id ≡ some v) where
   -- the view after a flag exchange at node x from a word
   abbrev flag_view : Fact → ℕ → Bool → View
   flag_view new x b = let n = found_at keys cards s r id v here (card x) field.Update in with_found n (after_flag b new x (unpacked n) v)

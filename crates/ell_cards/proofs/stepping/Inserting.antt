@@ -15,14 +15,15 @@ use Rattle.ell_cards.specs.declared.call.Call.TheVariants as call
 use Rattle.ell_cards.specs.declared.view.View.{View}
 use Rattle.ell_cards.specs.Changes.{learning}
 use Rattle.ell_cards.specs.Guards.{MayIChild, MayIUnflag}
-use Rattle.ell_cards.specs.Rule.{TableState, RuleHolds}
+use Rattle.ell_cards.specs.States.{TableState}
+use Rattle.ell_cards.specs.Machines.{HasMachine}
 use Rattle.ell_cards.specs.Laws.{IsEvent}
 use Rattle.ell_core.proofs.stages.Waiting.{born-settled}
 use Rattle.ell_cards.proofs.seats.Frames.{is_event}
 use Rattle.ell_cards.proofs.stepping.Exchanges.{in_list, told_is, told_key, found_at, exchanged_words, teaches, child_exchanged, child_says, unflags}
 use Rattle.ell_cards.proofs.stepping.Known.{insert_flagged, insert_changed, child_found}
 
-module _ (keys : List ℕ) (cards : ℕ) (s : TableState) (r : RuleHolds keys cards s) (id : ℕ) (v : View) (here : get_elem? s.views id ≡ some v) where
+module _ (keys : List ℕ) (cards : ℕ) (s : TableState) (r : HasMachine keys cards s) (id : ℕ) (v : View) (here : get_elem? s.views id ≡ some v) where
   -- ichild
   pub keeps_ichild : (c p l : ℕ) (right : Bool) → MayIChild v c p l right → IsEvent keys cards s r id v (call.IChild c p l right)
   keeps_ichild c p l right may =

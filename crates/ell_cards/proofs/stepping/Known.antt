@@ -12,11 +12,12 @@ use Rattle.ell_core.proofs.words.Writes.{update_at_node, child_at_node}
 use Rattle.ell_cards.specs.declared.view.View.{View}
 use Rattle.ell_cards.specs.Models.{Knows, KnowsDelete, KnowsCard}
 use Rattle.ell_cards.specs.Calls.{update_at, child_at}
-use Rattle.ell_cards.specs.Rule.{TableState, RuleHolds}
+use Rattle.ell_cards.specs.States.{TableState}
+use Rattle.ell_cards.specs.Machines.{HasMachine}
 use Rattle.ell_core.proofs.stages.Waiting.{born-settled, insert_won-settled, delete_won-settled}
 use Rattle.ell_cards.proofs.seats.Seats.{mine_sound}
 
-module _ (keys : List ℕ) (cards : ℕ) (s : TableState) (r : RuleHolds keys cards s) (id : ℕ) (v : View) (here : get_elem? s.views id ≡ some v) where
+module _ (keys : List ℕ) (cards : ℕ) (s : TableState) (r : HasMachine keys cards s) (id : ℕ) (v : View) (here : get_elem? s.views id ≡ some v) where
   -- a card known flagged by an insert
   pub insert_flagged : (c : ℕ) → Knows v (IFlagged c) → InsertCard r.words r.stages c
   insert_flagged c k = (r.invariant.words.cards c).insert (insert_won-insert (r.stages c) ((mine_sound keys cards s r id v here).facts (IFlagged c) k))

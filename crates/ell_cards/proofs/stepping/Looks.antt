@@ -20,7 +20,8 @@ use Rattle.ell_core.specs.state.Cards.{child_for, is_right}
 use Rattle.ell_core.specs.acts.Searching.{IsLeaf, value_at as value_there}
 use Rattle.ell_core.specs.acts.Events.{Happens}
 use Rattle.ell_core.specs.history.Stages.{Born}
-use Rattle.ell_core.specs.statements.StepLaws.{MayRead, value_in, contents_in}
+use Rattle.ell_core.specs.statements.StepLaws.{MayRead}
+use Rattle.ell_core.specs.statements.Effects.{value_in, contents_in}
 use Rattle.ell_core.proofs.outcomes.Decide.{some_not_none}
 use Rattle.ell_core.proofs.words.Writes.{update_at_node, child_at_node, key_at_node, value_at_leaf}
 use Rattle.ell_cards.specs.declared.call.Call.TheVariants as call
@@ -31,7 +32,8 @@ use Rattle.ell_cards.specs.Models.{Has, latest, earlier, IsTold, Does, StandsAt,
 use Rattle.ell_cards.specs.Changes.{places_by, after_upd, after_down, after_next, after_key_of, after_value_of, is_at, seen_at}
 use Rattle.ell_cards.specs.Guards.{MayRead as MayUpd, MayGoDown}
 use Rattle.ell_cards.specs.Calls.{TellsLeaf, TellsValue, update_at, child_at, key_at, value_at}
-use Rattle.ell_cards.specs.Rule.{TableState, EntryHolds, RuleHolds}
+use Rattle.ell_cards.specs.States.{TableState}
+use Rattle.ell_cards.specs.Machines.{EntryHolds, HasMachine}
 use Rattle.ell_cards.specs.Laws.{IsEvent}
 use Rattle.ell_cards.proofs.words.Updates.{packed_again}
 use Rattle.ell_core.proofs.stages.Waiting.{born-settled}
@@ -59,7 +61,7 @@ some_if : (b : Bool) (value : ℕ) → is_some (if b then Some value else None) 
 some_if true value = refl
 some_if false value = refl
 
-module _ (keys : List ℕ) (cards : ℕ) (s : TableState) (r : RuleHolds keys cards s) (id : ℕ) (v : View) (here : get_elem? s.views id ≡ some v) where
+module _ (keys : List ℕ) (cards : ℕ) (s : TableState) (r : HasMachine keys cards s) (id : ℕ) (v : View) (here : get_elem? s.views id ≡ some v) where
   -- a node that came into the tree has its key in the table
   pub key_listed : (x : ℕ) → Born r.stages x → r.words.key x ≡ get_or s.words (key_at x) 0
   key_listed x born = key_at_node r.words x ∙ sym (r.settled (card x) (key_field (x % 3)) (born-settled (r.stages (card x)) born))

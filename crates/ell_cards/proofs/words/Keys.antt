@@ -8,7 +8,7 @@ use Rattle.std.proofs.lemmas.Option.{same_Some}
 use Rattle.ell_ops.specs.Contents.{contents_of}
 use Rattle.ell_ops.specs.KeySet.{set_of}
 use Rattle.ell_core.specs.state.Machine.{ledger_of, entry_of}
-use Rattle.ell_core.specs.statements.Premises.{keys_at_start}
+use Rattle.ell_core.specs.state.Opening.{keys_at_start}
 use Rattle.ell_core.proofs.opening.KeyLists.{place_of, holds_present}
 pub use Rattle.ell_core.proofs.opening.KeyLists.{at_place}
 use Rattle.ell_core.proofs.outcomes.Decide.{some_not_none}

@@ -1,5 +1,8 @@
 //! Reports of runs.
 use super::endings::{Row, UNFLUSHED, WIDE, assert_rows, ends, ends_into, run_into};
+use ell_command::carry_out;
+use ell_test_gates::{Holding, two_threads_meet};
+use ell_word::Kind;
 
 const RUN_WITH_REPORT: &[&str] = &["run", "--report"];
 
@@ -14,7 +17,18 @@ const TWO_INSERTS: &str = "insert 5\ninsert 6\nfind 7\nfind 8\n";
 
 const TWO_KEYS: &str = "yes\nyes\nno\nno\nkeys 2\n5\n6\n";
 
-static LATE: [Row<'static>; 6] = [
+static LATE: [Row<'static>; 7] = [
+    (
+        &[
+            "run",
+            "--workers=1",
+            "--parting=stripe",
+            "--cards=1",
+            "--report",
+        ],
+        "insert 5\ninsert 6\nfind 5\n",
+        (0, "yes\nyes\nyes\nkeys 2\n5\n6\n", "late 2\n"),
+    ),
     (
         &[
             "run",
@@ -123,4 +137,39 @@ fn a_report_comes_before_the_flush(rt: HostRuntime) {
 fn a_fault_has_no_report(rt: HostRuntime) {
     let ending = (2, "", "elltree: line 1: not a key\n");
     assert!(rt; ends(&rt, RUN_WITH_REPORT, "insert 007\n", ending));
+}
+
+// Of two workers one has the inserts of 7 and 9, and meets at its first try what the other, which inserts 6, has begun. With one try
+// both are late.
+const THREE_INSERTS: &str = "insert 6\ninsert 7\ninsert 9\n";
+
+const THREE_KEYS: &str = "yes\nyes\nyes\nkeys 3\n6\n7\n9\n";
+
+static TRIES: [(&[&str], &str); 2] = [
+    (&["run", "--workers=2", "--tries=1", "--report"], "late 2\n"),
+    (&["run", "--workers=2", "--tries=2", "--report"], "late 0\n"),
+];
+
+#[test]
+fn a_report_tells_what_tries_were_too_few_for(rt: HostRuntime) {
+    if !two_threads_meet(&rt) {
+        return;
+    }
+    for (words, late) in TRIES.iter() {
+        let gate = Holding::at(Kind::IChild);
+        let (mut out, mut err) = (Vec::new(rt.alloc()), Vec::new(rt.alloc()));
+        let mut input = THREE_INSERTS.as_bytes();
+        let carried = carry_out(
+            &rt,
+            rt.alloc(),
+            *words,
+            &mut input,
+            &mut out,
+            &mut err,
+            &gate,
+        );
+        assert!(rt; carried.is_ok() && gate.has_held(), "{words:?}");
+        assert!(rt; out.as_slice() == THREE_KEYS.as_bytes(), "{words:?}");
+        assert!(rt; err.as_slice() == late.as_bytes(), "{words:?}");
+    }
 }

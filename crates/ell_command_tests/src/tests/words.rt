@@ -111,11 +111,13 @@ fn reads_options(rt: HostRuntime) -> Result<(), Fail> {
 // Words, and parts of the help that they ask for.
 type Help<'a> = (&'a [&'a str], &'a [&'a str]);
 
-static HELP: [Help<'static>; 7] = [
+static HELP: [Help<'static>; 9] = [
     (&["--help"], &[]),
     (&["-h"], &[]),
     (&["help"], &[]),
     (&["run", "--help"], &[]),
+    (&["run", "--workers", "2", "--help"], &[]),
+    (&["run", "--report", "-h"], &[]),
     (&["help", "run"], &[]),
     (&["replay", "--help"], &[]),
     (&["help", "replay"], &[]),

@@ -13,7 +13,7 @@ use Rattle.ell_core.specs.acts.Searching.{IsLeaf, value_at, leaf_answer, card_an
 use Rattle.ell_core.specs.tree.Ranges.{at_leaf}
 use Rattle.ell_core.specs.history.Stages.{Stages}
 use Rattle.ell_core.specs.history.Invariant.{StandIsSound, Flagged, Invariant}
-use Rattle.ell_core.specs.statements.StepLaws.{value_in, contents_in}
+use Rattle.ell_core.specs.statements.Effects.{value_in, contents_in}
 use Rattle.ell_core.proofs.outcomes.Decide.{same_value, some_not_none}
 use Rattle.ell_core.proofs.keeping.search.Answer.{gives_if}
 use Rattle.ell_core.proofs.tree.Bounds.{leaf_key}

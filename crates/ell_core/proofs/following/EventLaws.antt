@@ -13,17 +13,17 @@ use Rattle.ell_core.specs.acts.Searching.{claims}
 use Rattle.ell_core.specs.acts.Exchanges.{won_or_lost, IChild}
 use Rattle.ell_core.specs.acts.Events.{Row, Happens, Steps}
 use Rattle.ell_core.specs.history.Stages.{Stages, IClaimed, is_insert, is_delete}
-use Rattle.ell_core.specs.history.Invariant.{Invariant, WordsAreSound, LeadsToValue, insert_key, insert_value, delete_key}
+use Rattle.ell_core.specs.history.Invariant.{Invariant, WordsAreSound, LeadsToValue, insert_key, insert_value, delete_key, delete_value}
 use Rattle.ell_core.specs.history.Later.{Follows}
-use Rattle.ell_core.specs.statements.StepLaws.{AddsPair, TakesKey, PairsChange, SamePairs}
+use Rattle.ell_core.specs.statements.Effects.{AddsPair, TakesPair, PairsChange, SamePairs}
 use Rattle.ell_core.proofs.following.TreeKeys.{KeepsLinks, row_links, links_keep, pairs_same, pairs_more, pairs_less}
 use Rattle.ell_core.proofs.keeping.claim.Filling.{claimed_claims}
 use Rattle.ell_core.proofs.keeping.claim.Frames.{Claiming, leads_kept, leads_before}
 use Rattle.ell_core.proofs.keeping.insert_child.IChild.{ichild_won-waits, ichild_won-gains, ichild_lost-same}
-use Rattle.ell_core.proofs.keeping.delete_child.DChild.{dchild-loses_key, dchild-lost_same}
+use Rattle.ell_core.proofs.keeping.delete_child.DChild.{dchild-loses_pair, dchild-lost_same}
 use Rattle.ell_core.proofs.stages.Holding.{insert_kind, delete_kind}
 use Rattle.ell_core.proofs.stages.Order.{marked-delete}
-use Rattle.ell_core.proofs.words.Sides.{card_key-insert, card_value-insert, card_key-delete}
+use Rattle.ell_core.proofs.words.Sides.{card_key-insert, card_value-insert, card_key-delete, card_value-delete}
 use Rattle.ell_core.proofs.stages.LaterKeys.{root_born}
 use Rattle.ell_ops.specs.declared.reply.Reply.{Reply}
 
@@ -68,9 +68,12 @@ insert_card_key m stage c invariant h = card_key-insert m.words c (insert_kind m
 delete_card_key : (m : Machine) (stage : Stages) (c : ℕ) → Invariant m stage → is_delete (stage c) ≡ true → card_key m.words c ≡ delete_key m.words c
 delete_card_key m stage c invariant h = card_key-delete m.words c (delete_kind m.words stage invariant.words c h)
 
--- the value of an insert's card
+-- the value of an insert's card, and of a delete's
 insert_card_value : (m : Machine) (stage : Stages) (c : ℕ) → Invariant m stage → is_insert (stage c) ≡ true → card_value m.words c ≡ insert_value m.words c
 insert_card_value m stage c invariant h = card_value-insert m.words c (insert_kind m.words stage invariant.words c h)
+
+delete_card_value : (m : Machine) (stage : Stages) (c : ℕ) → Invariant m stage → is_delete (stage c) ≡ true → card_value m.words c ≡ delete_value m.words c
+delete_card_value m stage c invariant h = card_value-delete m.words c (delete_kind m.words stage invariant.words c h)
 
 -- a won child exchange of an insert adds the card's key with its value
 ichild_keys : (m : Machine) (stage : Stages) (i c : ℕ) (becomes : Scene) → Invariant m stage → IChild c (scene m i) Won becomes
@@ -86,15 +89,18 @@ ichild_keys m stage i c becomes invariant row after =
     (pairs_more m.words becomes.words stage after.stages (insert_key m.words c) (insert_value m.words c) invariant.words.tree after.invariant.words.tree
     ((invariant.words.cards c).insert inserts).real gains.absent gains.pairs))
 
--- a won child exchange of a delete takes the card's key away
+-- a won child exchange of a delete takes the card's key with its value away
 dchild_keys : (m : Machine) (stage : Stages) (i c : ℕ) (becomes : Scene) → Invariant m stage → Happens m.last_card (act.DChild c) (scene m i) Won becomes
-    → Follows m stage (act.DChild c) i Won (with_scene m i becomes) → TakesKey m.words becomes.words (card_key m.words c)
+    → Follows m stage (act.DChild c) i Won (with_scene m i becomes) → TakesPair m.words becomes.words (card_key m.words c) (card_value m.words c)
 dchild_keys m stage i c becomes invariant happens after =
     let deletes : is_delete (stage c) ≡ true = marked-delete (stage c) ((invariant.workers.each i).facts (Marked c) happens.row.may) in
-    let loses = dchild-loses_key c m stage i becomes invariant happens in
-    subst (TakesKey m.words becomes.words) (sym (delete_card_key m stage c invariant deletes))
-    (pairs_less m.words becomes.words stage after.stages (delete_key m.words c) invariant.words.tree after.invariant.words.tree
-    ((invariant.words.cards c).delete deletes).real loses.had loses.each)
+    let loses = dchild-loses_pair c m stage i becomes invariant happens in
+    let key_is = delete_card_key m stage c invariant deletes in
+    let value_is = delete_card_value m stage c invariant deletes in
+    subst (λ k. TakesPair m.words becomes.words k (card_value m.words c)) (sym key_is)
+    (subst (TakesPair m.words becomes.words (delete_key m.words c)) (sym value_is)
+    (pairs_less m.words becomes.words stage after.stages (delete_key m.words c) (delete_value m.words c) invariant.words.tree
+    after.invariant.words.tree ((invariant.words.cards c).delete deletes).real loses.had loses.each))
 
 -- what an answer of a child exchange can be
 no_move : (won : Bool) → Moved ≡ won_or_lost won → ⊥

@@ -8,7 +8,7 @@ use Rattle.ell_core.specs.state.Words.{put}
 use Rattle.ell_core.specs.state.Machine.{Worker, Machine, Scene, scene, with_scene}
 use Rattle.ell_core.specs.acts.Searching.{Answer}
 use Rattle.ell_core.specs.acts.Events.{Steps}
-use Rattle.ell_core.specs.statements.StepLaws.{AnswersAsMap, LedgersChange, KnowledgeLasts}
+use Rattle.ell_core.specs.statements.Effects.{AnswersAsMap, LedgersChange, KnowledgeLasts}
 use Rattle.ell_core.proofs.words.Writes.{put_same, put_other}
 use Rattle.ell_core.proofs.following.RowLedgers.{LedgerChanges, row_knows, row_ledger}
 

@@ -10,7 +10,7 @@ use Rattle.ell_core.specs.state.Machine.{Ledger, Worker, Scene}
 use Rattle.ell_core.specs.acts.Searching.{Answer}
 use Rattle.ell_core.specs.acts.Exchanges.{won_or_lost, flagged_worker, mark_teaches}
 use Rattle.ell_core.specs.acts.Events.{Row}
-use Rattle.ell_core.specs.statements.StepLaws.{AnswersAsMap}
+use Rattle.ell_core.specs.statements.Effects.{AnswersAsMap}
 use Rattle.ell_core.proofs.outcomes.Wants.{learned_keeps, learned_any_keeps}
 
 -- what a mark teaches adds to what was known

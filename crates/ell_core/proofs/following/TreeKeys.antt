@@ -11,8 +11,8 @@ use Rattle.ell_core.specs.tree.Tree.{IsTreePair}
 use Rattle.ell_core.specs.tree.Ranges.{Meets}
 use Rattle.ell_core.specs.history.Stages.{Stages}
 use Rattle.ell_core.specs.history.Invariant.{TreeIsSound, LeadsTo, LeadsToValue}
-use Rattle.ell_core.specs.statements.StepLaws.{AddsPair, TakesKey, SamePairs}
-use Rattle.ell_core.proofs.tree.Reached.{tree_key_leads, tree_pair_leads, leads_tree_key, leads_tree_pair}
+use Rattle.ell_core.specs.statements.Effects.{AddsPair, TakesPair, SamePairs}
+use Rattle.ell_core.proofs.tree.Reached.{tree_key_leads, tree_pair_leads, leads_tree_pair}
 
 -- a key of the tree with its value is a real key to whose leaf the walk from the root leads
 pub tree_pair : (w : Words) (stage : Stages) → TreeIsSound w stage → (k v : ℕ) → IsTreePair w k v ↔ ((k ≤ greatest_key) × LeadsToValue w k v 0)
@@ -43,10 +43,10 @@ pairs_more old new stage stages key value tree tree' real absent h = record {
 }
 
 -- the keys are one less where the walks for one no longer lead to it
-pub pairs_less : (old new : Words) (stage stages : Stages) (key : ℕ) → TreeIsSound old stage → TreeIsSound new stages → key ≤ greatest_key
-    → LeadsTo old key 0 → ((k v : ℕ) → LeadsToValue new k v 0 ↔ (LeadsToValue old k v 0 × (k ≢ key))) → TakesKey old new key
-pairs_less old new stage stages key tree tree' real there h = record {
-  present = leads_tree_key old key real there;
+pub pairs_less : (old new : Words) (stage stages : Stages) (key value : ℕ) → TreeIsSound old stage → TreeIsSound new stages → key ≤ greatest_key
+    → LeadsToValue old key value 0 → ((k v : ℕ) → LeadsToValue new k v 0 ↔ (LeadsToValue old k v 0 × (k ≢ key))) → TakesPair old new key value
+pairs_less old new stage stages key value tree tree' real there h = record {
+  present = leads_tree_pair old key value real there;
   pairs = λ k v.
       let before = tree_pair old stage tree k v in
       let after = tree_pair new stages tree' k v in (

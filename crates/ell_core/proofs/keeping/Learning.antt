@@ -11,7 +11,8 @@ use Rattle.ell_core.specs.declared.event.Act.{Act}
 use Rattle.ell_core.specs.declared.event.Stepped.{Stepped}
 use Rattle.ell_core.specs.state.Machine.{Worker, Machine, with_scene}
 use Rattle.ell_core.specs.acts.Exchanges.{knowing}
-use Rattle.ell_core.specs.history.Later.{Follows, wins_by}
+use Rattle.ell_core.specs.history.Later.{Follows}
+use Rattle.ell_core.specs.acts.Wins.{wins_by}
 use Rattle.ell_core.proofs.keeping.OneWorker.{TakesOn, follows_worker, takes_on_same}
 use Rattle.ell_core.proofs.keeping.going_on.InHand.{same_place, same_goal, unflagged_same, flagged_same, stands_same}
 use Rattle.ell_core.proofs.stages.Advances.{stages_same}

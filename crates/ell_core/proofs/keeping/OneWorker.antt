@@ -7,7 +7,8 @@ use Rattle.ell_core.specs.soundness.Sound.{WorkerOwns, IsOwned, IsInHand}
 use Rattle.ell_core.specs.history.Stages.{Stages, insert_open, delete_open, effective_at, effective_at_of}
 use Rattle.ell_core.specs.history.Invariant.{LeadsToValue, WorkerIsSound, WorkersAreSound, Invariant}
 use Rattle.ell_core.proofs.tree.Reached.{leads_by_value}
-use Rattle.ell_core.specs.history.Later.{Follows, wins_of, wins_by}
+use Rattle.ell_core.specs.history.Later.{Follows, wins_of}
+use Rattle.ell_core.specs.acts.Wins.{wins_by}
 use Rattle.ell_core.proofs.words.Later.{words_same}
 use Rattle.ell_core.proofs.words.Writes.{put_cases}
 use Rattle.ell_core.proofs.stages.Advances.{stages_same, wins_same}

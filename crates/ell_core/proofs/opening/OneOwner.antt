@@ -12,7 +12,8 @@ use Rattle.ell_core.specs.state.Machine.{idle, ledger_of}
 use Rattle.ell_core.specs.state.Opening.{Setup, opening, start_words, last_card, is_given, opening_ledger, gives, IsStranger, IsRepeat, start_entry}
 use Rattle.ell_core.specs.history.Invariant.{Invariant}
 use Rattle.ell_core.specs.statements.RunLaws.{CanOpen}
-use Rattle.ell_core.specs.statements.Premises.{first_alone, keys_at_start, opening_of_one, OneWorkerOpens}
+use Rattle.ell_core.specs.statements.Premises.{OneWorkerOpens}
+use Rattle.ell_core.specs.state.Opening.{first_alone, keys_at_start, opening_of_one}
 use Rattle.ell_ops.proofs.Sets.{eqb-swap}
 use Rattle.ell_core.proofs.outcomes.Decide.{some_not_none}
 use Rattle.ell_core.proofs.opening.Invariant.{start_stages}

@@ -11,8 +11,9 @@ use Rattle.ell_core.specs.acts.Runs.{Shows, Run}
 use Rattle.ell_core.specs.history.Stages.{Stages}
 use Rattle.ell_core.specs.history.Invariant.{Invariant}
 use Rattle.ell_core.specs.history.Later.{wins_of}
-use Rattle.ell_core.specs.statements.StepLaws.{SamePairs}
-use Rattle.ell_core.specs.statements.RunLaws.{CanOpen, EveryStateHasInvariant, EveryStateIsSound, ShownChange, PairsChangeAtWins, ShownLedgers, AnswersAreTheMaps, wins_in, InOrder, WinsInOrder, WinsAreInOrder, Follow, MarkedNodesAreFrozen, WordsRise, KnowledgeIsNeverLost, ClaimedCardsAreFixed, StagesRise}
+use Rattle.ell_core.specs.statements.Effects.{SamePairs}
+use Rattle.ell_core.specs.statements.RunLaws.{CanOpen, EveryStateHasInvariant, EveryStateIsSound, ShownChange, PairsChangeAtWins, ShownLedgers, AnswersAreTheMaps, wins_in, WinsInOrder, WinsAreInOrder, Follow, MarkedNodesAreFrozen, WordsRise, KnowledgeIsNeverLost, ClaimedCardsAreFixed, StagesRise}
+use Rattle.ell_core.specs.acts.Wins.{InOrder}
 use Rattle.ell_core.proofs.opening.Invariant.{start_stages}
 use Rattle.ell_core.proofs.opening.CanOpen.{opening_has}
 use Rattle.ell_core.proofs.following.Sound.{sound, word_by_state}

@@ -10,7 +10,8 @@ use Rattle.ell_core.specs.declared.event.Shown.TheVariants as shown
 use Rattle.ell_core.specs.history.Stages.{Stages}
 use Rattle.ell_core.specs.history.Invariant.{Invariant}
 use Rattle.ell_core.specs.history.Later.{WordsLater, StagesLater, wins_of}
-use Rattle.ell_core.specs.statements.StepLaws.{KnowledgeLasts, FactsLast, EventIsLawful}
+use Rattle.ell_core.specs.statements.StepLaws.{EventIsLawful}
+use Rattle.ell_core.specs.statements.Effects.{KnowledgeLasts, FactsLast}
 use Rattle.ell_core.specs.statements.RunLaws.{shown_wins, wins_in}
 use Rattle.ell_core.proofs.words.Later.{words_same}
 use Rattle.ell_core.proofs.runs.Chains.{words_later, stages_later}

@@ -2,7 +2,7 @@ use Rattle.std.proofs.Common.{ℕ, ◌≡◌, inl, inr, [], ◌∷◌, refl}
 use Rattle.ell_word.specs.declared.gate.Kind.TheVariants as kind
 use Rattle.ell_core.specs.history.Stages.{Stage, Unclaimed, Opening, IClaimed, IFlagged, IChanged, IOver, DClaimed, DFlagged, DUnmarkable, DMarked, DCut, DOver, DBacked}
 use Rattle.ell_core.specs.history.Later.{wins_of}
-use Rattle.ell_core.specs.statements.RunLaws.{insert_order, cut_order, InOrder}
+use Rattle.ell_core.specs.acts.Wins.{insert_order, cut_order, InOrder}
 use Rattle.ell_core.proofs.opening.Invariant.{start_stages, each_stage}
 
 -- the wins of a card up to each stage are in order

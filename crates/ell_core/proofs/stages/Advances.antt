@@ -8,7 +8,8 @@ use Rattle.ell_ops.specs.declared.op.Op.TheVariants.{Find, Insert, Delete}
 use Rattle.ell_core.specs.declared.fact.Fact.{Fact}
 use Rattle.ell_core.specs.state.Words.{put}
 use Rattle.ell_core.specs.history.Stages.{Stage, Stages, IClaimed, IFlagged, IChanged, IOver, DClaimed, DFlagged, DUnmarkable, DMarked, DCut, DOver, DBacked, is_claimed, is_start, is_insert, is_delete, is_born, made_by_stage, allows}
-use Rattle.ell_core.specs.history.Later.{StagesLater, wins_of, win_for}
+use Rattle.ell_core.specs.history.Later.{StagesLater, wins_of}
+use Rattle.ell_core.specs.acts.Wins.{win_for}
 use Rattle.ell_core.proofs.words.Writes.{put_cases}
 
 -- stages that did not change are later

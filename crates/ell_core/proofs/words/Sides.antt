@@ -4,7 +4,7 @@ use Rattle.ell_word.specs.Node.{left_leaf, right_leaf}
 use Rattle.ell_core.specs.state.Words.{Words}
 use Rattle.ell_core.specs.state.Cards.{is_right, is_delete_card, card_key, card_value, sibling}
 use Rattle.ell_core.specs.history.Stages.{Stages}
-use Rattle.ell_core.specs.history.Invariant.{insert_key, insert_value, delete_key, insert_side, InsertCard}
+use Rattle.ell_core.specs.history.Invariant.{insert_key, insert_value, delete_key, delete_value, insert_side, InsertCard}
 
 -- an insert's key by the three keys that it depends on
 abbrev pub key_of_three : ℕ → ℕ → ℕ → ℕ
@@ -21,6 +21,10 @@ card_value-insert w c h = ap (λ b. if b then w.value (w.l c) else insert_value 
 -- the own key of a card that counts as a delete's
 pub card_key-delete : (w : Words) (c : ℕ) → is_delete_card w c ≡ true → card_key w c ≡ delete_key w c
 card_key-delete w c h = ap (λ b. if b then w.key (w.l c) else insert_key w c) h
+
+-- and its value
+pub card_value-delete : (w : Words) (c : ℕ) → is_delete_card w c ≡ true → card_value w c ≡ delete_value w c
+card_value-delete w c h = ap (λ b. if b then w.value (w.l c) else insert_value w c) h
 
 -- an insert's key, where the left leaf is the copy
 insert_key-right : (w : Words) (c : ℕ) → w.key (left_leaf c) ≡ w.key (w.l c) → insert_key w c ≡ w.key (right_leaf c)

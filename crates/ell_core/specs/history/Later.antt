@@ -1,11 +1,9 @@
-use Rattle.std.specs.Prelude.{◌≡◌, ℕ, ◌<◌, ◌≤◌, ◌==◌, if◌then◌else◌, Bool, true, false, Option, Some, None, List, [], ◌∷◌, ◌++◌}
+use Rattle.std.specs.Prelude.{◌≡◌, ℕ, ◌<◌, ◌≤◌, Bool, true, false, List, [], ◌∷◌, ◌++◌}
 use Rattle.ell_word.specs.Node.{card}
 use Rattle.ell_word.specs.declared.gate.Kind.{Kind}
 use Rattle.ell_word.specs.declared.gate.Kind.TheVariants as kind
 use Rattle.ell_core.specs.declared.event.Act.{Act}
-use Rattle.ell_core.specs.declared.event.Act.TheVariants as act
 use Rattle.ell_core.specs.declared.event.Stepped.{Stepped}
-use Rattle.ell_core.specs.declared.event.Stepped.TheVariants.{Won}
 use Rattle.ell_core.specs.declared.fact.Fact.{Fact}
 use Rattle.ell_core.specs.declared.field.Field.{Field}
 use Rattle.ell_core.specs.state.Words.{Words, word}
@@ -14,6 +12,7 @@ use Rattle.ell_core.specs.state.Cards.{marked}
 use Rattle.ell_core.specs.acts.Events.{Happens}
 use Rattle.ell_core.specs.history.Stages.{Stage, Stages, IFlagged, IChanged, IOver, DFlagged, DUnmarkable, DMarked, DCut, DOver, DBacked, is_start, is_insert, is_delete, is_born, allows, Born}
 use Rattle.ell_core.specs.history.Invariant.{Invariant}
+use Rattle.ell_core.specs.acts.Wins.{wins_by}
 
 -- the words of a card that say where it goes are as they were
 pub record SameInfo (old new : Words) (c : ℕ) : Type 0 where
@@ -63,28 +62,6 @@ wins_of DCut = kind.DFlag ∷ kind.Mark ∷ kind.DChild ∷ []
 wins_of DOver = kind.DFlag ∷ kind.Mark ∷ kind.DChild ∷ kind.DUnflag ∷ []
 wins_of DBacked = kind.DFlag ∷ kind.Backtrack ∷ []
 wins_of _ = []
-
--- what is won for a card, if the card is this one
-abbrev pub win_for : Option ℕ → Kind → ℕ → List Kind
-win_for None k c = []
-win_for (Some d) k c = if c == d then k ∷ [] else []
-
--- what a won act wins for a card: for the card that it names, or a flag for the card in hand
-abbrev pub win_by : Act → Option ℕ → ℕ → List Kind
-win_by act.IFlag hand c = win_for hand kind.IFlag c
-win_by act.DFlag hand c = win_for hand kind.DFlag c
-win_by (act.IChild d) hand c = win_for (Some d) kind.IChild c
-win_by (act.IUnflag d) hand c = win_for (Some d) kind.IUnflag c
-win_by (act.Mark d) hand c = win_for (Some d) kind.Mark c
-win_by (act.DChild d) hand c = win_for (Some d) kind.DChild c
-win_by (act.DUnflag d) hand c = win_for (Some d) kind.DUnflag c
-win_by (act.Backtrack d) hand c = win_for (Some d) kind.Backtrack c
-win_by _ hand c = []
-
--- what an act wins for a card by its answer
-abbrev pub wins_by : Act → Option ℕ → Stepped → ℕ → List Kind
-wins_by a hand Won c = win_by a hand c
-wins_by a hand _ c = []
 
 -- an act of worker i leads from a state that the invariant holds of to one that it holds of, with later words and stages; a
 -- claimed card whose nodes did not come into the tree says what it said; and each card's wins grow by what the act wins for it

@@ -1,4 +1,4 @@
-use Rattle.std.specs.Prelude.{◌≡◌, ℕ, ◌+◌, ◌<◌, ◌≤◌, ◌==◌, ◌&&◌, if◌then◌else◌, Bool, false, zero, suc, nat_lt, Some, None, List, [], ◌∷◌, ◌++◌, length, slice_get, slice_index}
+use Rattle.std.specs.Prelude.{◌≡◌, ℕ, ◌+◌, ◌<◌, ◌≤◌, ◌==◌, ◌&&◌, if◌then◌else◌, Bool, false, zero, suc, nat_lt, Some, None, List, [], ◌∷◌, ◌++◌, length, slice_get, slice_index, map}
 use Rattle.std.specs.List.{list_any}
 use Rattle.std.specs.Map.{keys_of, values_of}
 use Rattle.ell_ops.specs.Contents.{contents_of}
@@ -8,7 +8,7 @@ use Rattle.ell_core.specs.declared.event.CoreFault.TheVariants.{NoSuchWorker, Ow
 use Rattle.ell_core.specs.declared.field.Field.{Field}
 use Rattle.ell_core.specs.declared.field.Field.TheVariants.{Gp, P, L, Was, Key, Left, Right, Update, LeftLeafKey, RightLeafKey, LeftValue, RightValue}
 use Rattle.ell_core.specs.state.Words.{Words, words_from}
-use Rattle.ell_core.specs.state.Machine.{Ledger, Machine, idle, entry_of}
+use Rattle.ell_core.specs.state.Machine.{Ledger, Machine, idle, entry_of, Worker, nobody, ledger_of}
 use Rattle.ell_core.specs.state.Cards.{clean}
 use Rattle.ell_core.specs.tree.Tree.{infinity1, infinity2}
 use Rattle.ell_core.specs.declared.branch.Branch.{Branch}
@@ -162,3 +162,21 @@ OpeningRefused count owned NoSuchWorker = StrangerFirst count owned
 OpeningRefused count owned OwnedTwice = RepeatFirst count owned
 OpeningRefused count owned NoMemory = Unit {0}
 OpeningRefused count owned _ = ⊥
+
+-- worker 0, and nobody else
+abbrev pub first_alone : Worker → ℕ → Worker
+first_alone v zero = v
+first_alone v (suc i) = nobody
+
+-- these keys, of which the start keys are present and the others absent
+abbrev pub keys_at_start : List ℕ → List (ℕ × ℕ) → List (ℕ × Entry)
+keys_at_start keys start = map (λ k. (k, start_entry start k)) keys
+
+-- the state at the start of one worker that owns these keys, of which the start keys are present, with so many cards to claim
+abbrev pub opening_of_one : List ℕ → List (ℕ × ℕ) → ℕ → Machine
+opening_of_one keys start cards = record {
+  words = start_words start;
+  worker = first_alone (idle (ledger_of (keys_at_start keys start)) (λ _. false));
+  count = 1;
+  last_card = last_card start cards;
+}

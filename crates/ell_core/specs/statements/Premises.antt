@@ -1,4 +1,4 @@
-use Rattle.std.specs.Prelude.{◌≡◌, ◌≢◌, ℕ, ◌<◌, ◌≤◌, ◌||◌, if◌then◌else◌, Bool, Option, Some, None, List, [], ◌∷◌, true, zero, suc, false, map}
+use Rattle.std.specs.Prelude.{◌≡◌, ◌≢◌, ℕ, ◌<◌, ◌≤◌, ◌||◌, if◌then◌else◌, Bool, Option, Some, None, List, [], ◌∷◌, true}
 use Rattle.std.specs.List.{All}
 use Rattle.std.specs.Map.{keys_of}
 use Rattle.std.specs.List.Sorted.{IsStrictlyIncreasing}
@@ -7,15 +7,16 @@ use Rattle.ell_ops.specs.Meaning.{greatest_key}
 use Rattle.ell_core.specs.declared.event.Event.{Event}
 use Rattle.ell_core.specs.declared.event.Shown.{Shown}
 use Rattle.ell_core.specs.state.Facts.{Knowledge}
-use Rattle.ell_core.specs.state.Machine.{Ledger, Worker, Machine, idle, nobody, ledger_of}
+use Rattle.ell_core.specs.state.Machine.{Ledger, Machine, idle, nobody}
 use Rattle.ell_core.specs.state.Moves.{WorkerIsIdle, AreParted, Split, Join}
-use Rattle.ell_core.specs.state.Opening.{Setup, opening, start_words, last_card, start_entry}
+use Rattle.ell_core.specs.state.Opening.{Setup, opening}
 use Rattle.ell_core.specs.acts.Runs.{Shows}
 use Rattle.ell_core.specs.history.Stages.{Stages}
 use Rattle.ell_core.specs.history.Invariant.{Invariant, HasInvariant}
 use Rattle.ell_core.specs.statements.StepLaws.{OwnsAll}
 use Rattle.ell_core.specs.statements.RunLaws.{CanOpen, IsPassed, IsOpening, Follow}
 use Rattle.ell_core.specs.declared.view.Entry.{Entry}
+use Rattle.ell_core.specs.state.Opening.{opening_of_one}
 
 -- any two real keys can open, of workers that are there, be they two or one, with no start keys
 abbrev pub TwoKeysCanOpen : Type 0
@@ -102,24 +103,6 @@ OneWorkerOwnsAll = (setup : Setup) → CanOpen setup → setup.count ≡ 1 → O
 -- so does the one worker of a state that the invariant holds of, where it has nothing in hand
 abbrev pub IdleWorkerOwnsAll : Type 0
 IdleWorkerOwnsAll = (m : Machine) (stage : Stages) → Invariant m stage → m.count ≡ 1 → WorkerIsIdle (m.worker 0) → OwnsAll m 0
-
--- worker 0, and nobody else
-abbrev pub first_alone : Worker → ℕ → Worker
-first_alone v zero = v
-first_alone v (suc i) = nobody
-
--- these keys, of which the start keys are present and the others absent
-abbrev pub keys_at_start : List ℕ → List (ℕ × ℕ) → List (ℕ × Entry)
-keys_at_start keys start = map (λ k. (k, start_entry start k)) keys
-
--- the state at the start of one worker that owns these keys, of which the start keys are present, with so many cards to claim
-abbrev pub opening_of_one : List ℕ → List (ℕ × ℕ) → ℕ → Machine
-opening_of_one keys start cards = record {
-  words = start_words start;
-  worker = first_alone (idle (ledger_of (keys_at_start keys start)) (λ _. false));
-  count = 1;
-  last_card = last_card start cards;
-}
 
 -- it is an opening, and has the invariant
 pub record OpensForOne (keys : List ℕ) (start : List (ℕ × ℕ)) (cards : ℕ) : Type 0 where

@@ -23,8 +23,9 @@ use Rattle.ell_core.specs.soundness.Sound.{WorkerOwns}
 use Rattle.ell_core.specs.history.Stages.{Stages}
 use Rattle.ell_core.specs.history.Invariant.{Invariant}
 use Rattle.ell_core.specs.history.Later.{SameInfo, SameNode}
-use Rattle.ell_core.specs.statements.StepLaws.{AddsPair, KnowledgeLasts, contents_in}
-use Rattle.ell_core.specs.statements.RunLaws.{IsPassed, IsOpening, Follow, Begins, wins_in, cut_order, back_order}
+use Rattle.ell_core.specs.statements.Effects.{AddsPair, KnowledgeLasts, contents_in}
+use Rattle.ell_core.specs.statements.RunLaws.{IsPassed, IsOpening, Follow, wins_in}
+use Rattle.ell_core.specs.acts.Wins.{Begins, cut_order, back_order}
 use Rattle.ell_ops.specs.declared.reply.Reply.{Reply}
 
 -- update words rise at every event (in truth they may stay)

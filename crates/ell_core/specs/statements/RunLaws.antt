@@ -1,4 +1,4 @@
-use Rattle.std.specs.Prelude.{◌≡◌, ℕ, ◌<◌, ◌≤◌, ◌⊎◌, Bool, true, List, [], ◌∷◌, ◌++◌}
+use Rattle.std.specs.Prelude.{◌≡◌, ℕ, ◌<◌, ◌≤◌, Bool, true, List, [], ◌∷◌, ◌++◌}
 use Rattle.std.specs.List.Sorted.{IsStrictlyIncreasing}
 use Rattle.std.specs.List.{All}
 use Rattle.std.specs.Map.{keys_of}
@@ -7,7 +7,6 @@ use Rattle.ell_word.specs.Node.{internal, card}
 use Rattle.ell_word.specs.Word.{unpacked}
 use Rattle.ell_word.specs.declared.update.State.TheVariants as state
 use Rattle.ell_word.specs.declared.gate.Kind.{Kind}
-use Rattle.ell_word.specs.declared.gate.Kind.TheVariants as kind
 use Rattle.ell_core.specs.declared.event.Act.{Act}
 use Rattle.ell_core.specs.declared.event.Event.{Event}
 use Rattle.ell_core.specs.declared.event.Shown.{Shown}
@@ -19,8 +18,9 @@ use Rattle.ell_core.specs.acts.Runs.{Shows, Run}
 use Rattle.ell_core.specs.soundness.Sound.{IsSound}
 use Rattle.ell_core.specs.history.Stages.{Stages}
 use Rattle.ell_core.specs.history.Invariant.{Invariant, HasInvariant}
-use Rattle.ell_core.specs.history.Later.{WordsLater, StagesLater, SameNode, SameInfo, wins_by}
-use Rattle.ell_core.specs.statements.StepLaws.{PairsChange, SamePairs, LedgersChange, KnowledgeLasts, FactsLast}
+use Rattle.ell_core.specs.history.Later.{WordsLater, StagesLater, SameNode, SameInfo}
+use Rattle.ell_core.specs.acts.Wins.{wins_by, InOrder}
+use Rattle.ell_core.specs.statements.Effects.{PairsChange, SamePairs, LedgersChange, KnowledgeLasts, FactsLast}
 
 -- what an opening takes: each entry's worker is there, no key is owned twice, and each is a real one; the start keys ascend, and each
 -- of them is owned
@@ -77,27 +77,6 @@ wins_in m [] [] m' run c = []
 wins_in m (e ∷ es) (x ∷ xs) m' run c = shown_wins m e x c ++ wins_in run.0 es xs m' run.2 c
 wins_in m [] (x ∷ xs) m' run c = absurd run
 wins_in m (e ∷ es) [] m' run c = absurd run
-
--- a list is a beginning of another
-pub record Begins (all some : List Kind) : Type 0 where
-  pub rest : List Kind
-  pub together : some ++ rest ≡ all
-
--- the order in which an insert's card wins, by the steps of the paper of 2010
-abbrev pub insert_order : List Kind
-insert_order = kind.IFlag ∷ kind.IChild ∷ kind.IUnflag ∷ []
-
--- that of a delete's card which is cut
-abbrev pub cut_order : List Kind
-cut_order = kind.DFlag ∷ kind.Mark ∷ kind.DChild ∷ kind.DUnflag ∷ []
-
--- that of a delete's card which goes back
-abbrev pub back_order : List Kind
-back_order = kind.DFlag ∷ kind.Backtrack ∷ []
-
--- wins come in one of these orders, as far as they come
-abbrev pub InOrder : List Kind → Type 0
-InOrder wins = Begins insert_order wins ⊎ (Begins cut_order wins ⊎ Begins back_order wins)
 
 -- a state is an opening
 pub record IsOpening (m : Machine) : Type 0 where

@@ -1,88 +1,28 @@
-use Rattle.std.specs.Prelude.{◌≡◌, ◌≢◌, ℕ, ◌+◌, ◌<◌, ◌≤◌, ◌⊎◌, ◌↔◌, Bool, true, false, Option, Some, None}
+use Rattle.std.specs.Prelude.{◌≡◌, ◌≢◌, ℕ, ◌+◌, ◌<◌, ◌≤◌, ◌↔◌, Bool, true, false, Some, None}
 use Rattle.ell_ops.specs.declared.op.Op.{Op}
-use Rattle.ell_ops.specs.Contents.{Contents}
-use Rattle.ell_ops.specs.Meaning.{key_of, reply_of, after}
+use Rattle.ell_ops.specs.Meaning.{key_of}
 use Rattle.ell_word.specs.Node.{IsInternal, card}
 use Rattle.ell_word.specs.Word.{unpacked}
 use Rattle.ell_word.specs.declared.update.State.TheVariants as state
-use Rattle.ell_core.specs.declared.event.Act.{Act}
-use Rattle.ell_core.specs.declared.event.Act.TheVariants as act
 use Rattle.ell_core.specs.declared.event.Event.{Event}
 use Rattle.ell_core.specs.declared.event.Stepped.{Stepped}
-use Rattle.ell_core.specs.declared.event.Stepped.TheVariants.{Won, Answered}
 use Rattle.ell_core.specs.declared.fact.Fact.{Fact}
 use Rattle.ell_core.specs.declared.fact.Fact.TheVariants as fact
 use Rattle.ell_core.specs.declared.view.Seen.{Seen}
 use Rattle.ell_core.specs.state.Words.{Words}
 use Rattle.ell_core.specs.state.Facts.{card_of_fact}
-use Rattle.ell_core.specs.state.Machine.{Ledger, Worker, Machine, Scene, scene}
-use Rattle.ell_core.specs.state.Cards.{card_key, card_value, marked}
+use Rattle.ell_core.specs.state.Machine.{Worker, Machine, Scene, scene}
+use Rattle.ell_core.specs.state.Cards.{marked}
 use Rattle.ell_core.specs.acts.Searching.{IsLeaf, IsClean, Down}
 use Rattle.ell_core.specs.acts.Events.{Steps}
 use Rattle.ell_core.specs.state.Moves.{WorkerIsIdle, Split, Join}
-use Rattle.ell_core.specs.tree.Tree.{Reached, IsTreeKey, IsTreePair}
-use Rattle.ell_core.specs.soundness.Holds.{Holds}
+use Rattle.ell_core.specs.tree.Tree.{Reached}
 use Rattle.ell_core.specs.soundness.Sound.{WorkerOwns, IsSound, flags_at}
 use Rattle.ell_core.specs.history.Stages.{Stages, Born}
 use Rattle.ell_core.specs.history.Invariant.{Invariant}
 use Rattle.ell_core.specs.history.Later.{Follows}
-use Rattle.ell_core.specs.declared.view.Entry.{Entry}
 use Rattle.ell_core.specs.declared.view.Entry.TheVariants.{Present}
-use Rattle.ell_ops.specs.declared.reply.Reply.{Reply}
-
--- the tree has one key more, which it had not, with this value
-pub record AddsPair (old new : Words) (key value : ℕ) : Type 0 where
-  pub absent : ¬ IsTreeKey old key
-  pub pairs : (k v : ℕ) → IsTreePair new k v ↔ (IsTreePair old k v ⊎ ((k ≡ key) × (v ≡ value)))
-
--- the tree has one key less, which it had; each other key has its value still
-pub record TakesKey (old new : Words) (key : ℕ) : Type 0 where
-  pub present : IsTreeKey old key
-  pub pairs : (k v : ℕ) → IsTreePair new k v ↔ (IsTreePair old k v × (k ≢ key))
-
--- the tree has the same keys with the same values
-abbrev pub SamePairs : Words → Words → Type 0
-SamePairs old new = (k v : ℕ) → IsTreePair new k v ↔ IsTreePair old k v
-
--- what an act does to the keys of the tree and their values: a won ichild adds its card's key with its value, a won dchild takes its
--- card's key away, and nothing else changes them (paper of 2010: an update takes effect at its child exchange)
-abbrev pub PairsChange : Act → Stepped → Words → Words → Type 0
-PairsChange (act.IChild c) Won old new = AddsPair old new (card_key old c) (card_value old c)
-PairsChange (act.DChild c) Won old new = TakesKey old new (card_key old c)
-PairsChange _ _ old new = SamePairs old new
-
--- the value that an entry of a ledger has, if it is of a key that is present
-abbrev pub value_in : Option Entry → Option ℕ
-value_in (Some (Present value)) = Some value
-value_in _ = None
-
--- the keys that a ledger has present, with their values
-abbrev pub contents_in : Ledger → Contents
-contents_in ledger = λ key. value_in (ledger key)
-
--- an answer is the map's answer to the operation in hand, and the ledger becomes the map after it, of the same keys
-pub record AnswersAsMap (old new : Ledger) (operation : Option Op) (reply : Reply) : Type 0 where
-  pub op : Op
-  pub busy : operation ≡ Some op
-  pub says : reply ≡ reply_of op (contents_in old)
-  pub map : (key : ℕ) → contents_in new key ≡ after op (contents_in old) key
-  pub owned : (key : ℕ) → (new key ≡ None) ↔ (old key ≡ None)
-
--- what an event does to the ledgers: an answer is the map's, on the ledger of its own worker; no other event changes any
--- ledger, nor an answer another worker's
-abbrev pub LedgersChange : Machine → ℕ → Stepped → Machine → Type 0
-LedgersChange m i (Answered reply) m' =
-    AnswersAsMap (m.worker i).ledger (m'.worker i).ledger (m.worker i).operation reply
-    × ((j : ℕ) → j ≢ i → (m'.worker j).ledger ≡ (m.worker j).ledger)
-LedgersChange m i _ m' = (j : ℕ) → (m'.worker j).ledger ≡ (m.worker j).ledger
-
--- no worker knows less
-abbrev pub KnowledgeLasts : Machine → Machine → Type 0
-KnowledgeLasts m m' = (i : ℕ) (fact : Fact) → (m.worker i).knows fact ≡ true → (m'.worker i).knows fact ≡ true
-
--- every fact of every card that holds of the words still does
-abbrev pub FactsLast : Words → Words → Type 0
-FactsLast old new = (fact : Fact) → Holds old fact → Holds new fact
+use Rattle.ell_core.specs.statements.Effects.{PairsChange, LedgersChange, KnowledgeLasts, FactsLast}
 
 -- an event leads from a state that the invariant holds of to one that it holds of; with what it does to pairs, ledgers,
 -- knowledge and facts

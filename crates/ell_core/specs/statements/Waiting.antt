@@ -11,7 +11,8 @@ use Rattle.ell_core.specs.state.Cards.{claimed, stored}
 use Rattle.ell_core.specs.acts.Events.{Steps}
 use Rattle.ell_core.specs.history.Stages.{Stages, is_start, Born, waits}
 use Rattle.ell_core.specs.history.Invariant.{Invariant}
-use Rattle.ell_core.specs.history.Later.{SaysTheSame, Follows, wins_of, wins_by}
+use Rattle.ell_core.specs.history.Later.{SaysTheSame, Follows, wins_of}
+use Rattle.ell_core.specs.acts.Wins.{wins_by}
 
 -- a card is in hand, and is not flagged
 pub record IsUnflagged (m : Machine) (i c : ℕ) : Type 0 where

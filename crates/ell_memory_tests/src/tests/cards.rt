@@ -5,7 +5,7 @@ ghost use Rattle.ell_cards.specs.Models.{IsFree};
 ghost use Rattle.ell_test_steps.specs.Fitting.{IsIdle, IsReady};
 ghost use Rattle.ell_tree.specs.Ledgers.{Owns};
 
-use super::passes::{KEYS, owns_both, tells};
+use super::passes::{KEYS, ROOT, START, START_CARDS, START_KEYS, STARTED, owns_all, tells};
 use super::refusing::{Heap, Refusal};
 use super::schedule::{CARDS, TURNS, Turn};
 use super::sweeping::{Ended, sweep};
@@ -13,64 +13,53 @@ use ell_cards::{CardFault, CardTable, Closed, Pass};
 use ell_core::Field;
 use ell_ops::NoMemory;
 use ell_test_steps::{Remembered, nothing, step};
-use std::alloc::{Allocator, Global};
+use std::alloc::Allocator;
 use std::process::Abort;
 
-const START: [(u64, u64); 1] = [(7, 77)];
+// The cards of a table on which nothing is done.
+const FEW: u64 = 2;
 
 // Reserves a table.
 fn reserve(heap: &Heap, refusal: Refusal) -> Ended {
     heap.refuse(refusal);
-    let made = CardTable::reserve(heap, &KEYS, CARDS);
+    let made = CardTable::reserve(heap, &KEYS, FEW);
     heap.stop();
     match made {
-        Ok((_table, pass)) => Ended::answered(pass.keys() == KEYS.as_slice()),
+        Ok((table, mut pass)) => {
+            Ended::answered(pass.keys() == KEYS.as_slice() && table.next(&mut pass) == 1)
+        }
         Err(fault) => Ended::no_memory(fault == CardFault::NoMemory),
     }
 }
 
-// A word of a table that has ended, if it has the card.
-fn word_of<A: Allocator + Copy>(closed: &Closed<A>, card: u64, field: Field) -> Option<u64> {
-    if card <= closed.last_card() {
-        Some(closed.word(card, field))
-    } else {
-        None
-    }
+// Whether a card has these words in a table that has ended.
+fn has_words<A: Allocator + Copy>(closed: &Closed<A>, card: u64, words: &[u64; 12]) -> bool {
+    card <= closed.last_card() && (0..12).all(|at| closed.word(card, Field::ALL[at]) == words[at])
 }
 
-// Whether a card has the same words in two tables that have ended.
-fn is_same_card<A: Allocator + Copy, B: Allocator + Copy>(
-    one: &Closed<A>,
-    other: &Closed<B>,
-    card: u64,
-) -> bool {
-    Field::ALL.iter().all(|field| word_of(one, card, *field) == word_of(other, card, *field))
-}
-
-// Whether a table with a start key, closed at once, has the words of one that nothing was refused to.
-fn is_started<A: Allocator + Copy>(alloc: Global, table: CardTable<A>, pass: Pass<A>) -> bool
+// Whether a table that opened with start keys, closed at once, has the words of their tree.
+fn is_started<A: Allocator + Copy>(table: CardTable<A>, pass: Pass<A>) -> bool
     requires own { pass.table ≡ table.id }
     requires free { IsFree pass.view }
-    requires keys { table.keys ≡ KEYS }
+    requires keys { table.keys ≡ START_KEYS }
 {
-    let Ok((other, plain)) = CardTable::reserve_from(alloc, &START, &KEYS, CARDS) else {
-        return false;
-    };
-    if !tells(&pass, &KEYS, 0, 0) || !owns_both(&pass) || !owns_both(&plain) {
+    if !tells(&pass, &START_KEYS, 0, 0) || !owns_all(&pass, &START_KEYS) {
         return false;
     }
-    let (closed, want) = (table.close(pass), other.close(plain));
-    let last = closed.last_card();
-    last == CARDS + 1 && (0..=last).all(|card| is_same_card(&closed, &want, card))
+    let closed = table.close(pass);
+    closed.last_card() == 7
+        && (0..8)
+            .zip(&STARTED)
+            .all(|(card, words)| has_words(&closed, card, words))
 }
 
-// Reserves a table with a start key.
-fn reserve_from(alloc: Global, heap: &Heap, refusal: Refusal) -> Ended {
+// Reserves a table with start keys.
+fn reserve_from(heap: &Heap, refusal: Refusal) -> Ended {
     heap.refuse(refusal);
-    let made = CardTable::reserve_from(heap, &START, &KEYS, CARDS);
+    let made = CardTable::reserve_from(heap, &START, &START_KEYS, START_CARDS);
     heap.stop();
     match made {
-        Ok((table, pass)) => Ended::answered(is_started(alloc, table, pass)),
+        Ok((table, pass)) => Ended::answered(is_started(table, pass)),
         Err(fault) => Ended::no_memory(fault == CardFault::NoMemory),
     }
 }
@@ -89,7 +78,7 @@ fn is_parted<A: Allocator + Copy>(table: &CardTable<A>, pass: Pass<A>) -> bool
 
 // Parts a pass. Where it comes back, it is as it was, and is parted then.
 fn split(rt: &impl Abort, heap: &Heap, refusal: Refusal) -> Ended {
-    let (table, mut pass) = CardTable::reserve(heap, &KEYS, CARDS).expect(rt, "no memory");
+    let (table, mut pass) = CardTable::reserve(heap, &KEYS, FEW).expect(rt, "no memory");
     pass.relabel(3);
     assert!(rt; table.next(&mut pass) == 1);
     heap.refuse(refusal);
@@ -112,8 +101,9 @@ fn parted<'a>(
 ) -> (CardTable<&'a Heap>, Pass<&'a Heap>, Pass<&'a Heap>)
     ensures left { (result.1.table ≡ result.0.id) × IsFree result.1.view }
     ensures right { (result.2.table ≡ result.0.id) × IsFree result.2.view }
+    ensures keys { result.0.keys ≡ KEYS }
 {
-    let (table, pass) = CardTable::reserve(heap, &KEYS, CARDS).expect(rt, "no memory");
+    let (table, pass) = CardTable::reserve(heap, &KEYS, FEW).expect(rt, "no memory");
     let Ok((left, mut right)) = table.split(pass, &[5]) else {
         panic!(rt; "no memory");
     };
@@ -155,7 +145,7 @@ fn a_table_is_reserved_or_there_is_no_memory(rt: HostRuntime) {
 
 #[test]
 fn a_table_is_reserved_with_start_keys_or_there_is_no_memory(rt: HostRuntime) {
-    sweep(&rt, |heap, refusal| reserve_from(rt.alloc(), heap, refusal));
+    sweep(&rt, reserve_from);
 }
 
 #[test]
@@ -177,7 +167,7 @@ fn cards_are_tested_before_memory(rt: HostRuntime) {
         assert!(rt; fault == Some(CardFault::BadCards), "{cards} cards");
         let fault = CardTable::reserve_from(&heap, &[], &KEYS, cards).err();
         assert!(rt; fault == Some(CardFault::BadCards), "{cards} cards");
-        let fault = CardTable::reserve_from(&heap, &START, &KEYS, cards).err();
+        let fault = CardTable::reserve_from(&heap, &START, &START_KEYS, cards).err();
         assert!(rt; fault == Some(CardFault::BadCards), "{cards} cards");
     }
     assert!(rt; heap.growths() == 0);
@@ -186,30 +176,27 @@ fn cards_are_tested_before_memory(rt: HostRuntime) {
 #[test]
 fn a_pass_tells_of_itself_without_memory(rt: HostRuntime) {
     let heap = Heap::new(rt.alloc());
-    let (table, mut pass) = CardTable::reserve(&heap, &KEYS, CARDS).expect(&rt, "no memory");
+    let (table, mut pass) = CardTable::reserve(&heap, &KEYS, FEW).expect(&rt, "no memory");
     heap.refuse(Refusal::From(1));
-    assert!(rt; table.last_card() == CARDS && tells(&pass, &KEYS, 0, 0));
+    assert!(rt; table.last_card() == FEW && tells(&pass, &KEYS, 0, 0));
     pass.relabel(3);
     assert!(rt; table.next(&mut pass) == 1);
     assert!(rt; tells(&pass, &KEYS, 3, 1));
     assert!(rt; heap.growths() == 0);
 }
 
-// Whether a closed table tells its last card, and the words of the first card and of the last one where none was claimed.
-fn is_untouched<A: Allocator + Copy>(closed: &Closed<A>) -> bool {
-    let last = closed.last_card();
-    last == CARDS
-        && closed.word(0, Field::LeftLeafKey) == 18_446_744_073_709_551_614
-        && closed.word(last, Field::Key) == 0
-}
-
 #[test]
 fn a_table_is_closed_without_memory(rt: HostRuntime) {
     let heap = Heap::new(rt.alloc());
-    let (table, pass) = CardTable::reserve(&heap, &KEYS, CARDS).expect(&rt, "no memory");
-    assert!(rt; owns_both(&pass));
+    let (table, left, right) = parted(&rt, &heap);
+    let Ok(pass) = table.join(left, right) else {
+        panic!(rt; "no memory");
+    };
+    assert!(rt; owns_all(&pass, &KEYS));
     heap.refuse(Refusal::From(1));
-    assert!(rt; is_untouched(&table.close(pass)));
+    let closed = table.close(pass);
+    assert!(rt; closed.last_card() == FEW && has_words(&closed, 0, &ROOT));
+    assert!(rt; has_words(&closed, 1, &[0; 12]) && has_words(&closed, 2, &[0; 12]));
     assert!(rt; heap.growths() == 0);
 }
 

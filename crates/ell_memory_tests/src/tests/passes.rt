@@ -1,19 +1,43 @@
-//! What a pass tells of itself, on trees whose keys are 5 and 7.
+//! What a pass tells of itself, on trees whose keys are 5 and 7, or whose start keys are 2, 4 and 6.
 ghost use Rattle.std.specs.Prelude.{IsTrue};
 ghost use Rattle.std.specs.List.{All};
 ghost use Rattle.ell_tree.specs.Ledgers.{Owns};
 
 use ell_tree::Pass;
+use ell_word::{INF1, INF2};
 use std::alloc::Allocator;
 
-/// The keys of these trees.
+/// The keys of trees that open empty.
 pub(crate) const KEYS: [u64; 2] = [5, 7];
 
-/// Whether a pass owns both keys.
-pub(crate) fn owns_both<A: Allocator + Copy>(pass: &Pass<A>) -> bool
-    ensures { IsTrue result → All (λ k. Owns pass.now k) KEYS }
+/// The start keys of trees that open with them, and have no others.
+pub(crate) const START: [(u64, u64); 3] = [(2, 0), (4, 0), (6, 0)];
+
+pub(crate) const START_KEYS: [u64; 3] = [2, 4, 6];
+
+/// How many cards are asked for beside those of the start keys.
+pub(crate) const START_CARDS: u64 = 4;
+
+/// The words of the first card of an empty tree, in the order of `Field::ALL`.
+pub(crate) const ROOT: [u64; 12] = [0, 0, 0, 0, INF2, 1, 2, 3, INF1, INF2, 0, 0];
+
+/// The words of each card of a tree that opens with the start keys.
+pub(crate) const STARTED: [[u64; 12]; 8] = [
+    [0, 0, 0, 0, INF2, 3, 2, 3, INF1, INF2, 0, 0],
+    [0, 0, 0, 0, 6, 6, 9, 3, 0, 0, 0, 0],
+    [0, 0, 0, 0, 4, 7, 8, 3, 2, 4, 0, 0],
+    [0, 0, 0, 0, INF1, 10, 11, 3, 6, INF1, 0, 0],
+    [0; 12],
+    [0; 12],
+    [0; 12],
+    [0; 12],
+];
+
+/// Whether a pass owns all these keys.
+pub(crate) fn owns_all<A: Allocator + Copy>(pass: &Pass<A>, keys: &[u64]) -> bool
+    ensures { IsTrue result → All (λ k. Owns pass.now k) keys.now }
 {
-    pass.owns(5) && pass.owns(7)
+    keys.iter().all(|key| pass.owns(*key))
 }
 
 /// Whether a pass tells that it owns these keys and no other, that this is its label, and that it made so many steps.
@@ -28,7 +52,7 @@ pub(crate) fn tells<A: Allocator + Copy>(
 
 // Whether a pass owns these of the keys near its own, and no other.
 fn owns_only<A: Allocator + Copy>(pass: &Pass<A>, keys: &[u64]) -> bool {
-    [4, 5, 6, 7]
+    [2, 4, 5, 6, 7]
         .iter()
         .all(|key| pass.owns(*key) == keys.contains(key))
 }

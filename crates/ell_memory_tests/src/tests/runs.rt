@@ -1,15 +1,35 @@
-//! Runs by two workers, and runs from bytes to bytes.
+//! Runs of a few workers, and runs from bytes to bytes.
+ghost use Rattle.std.specs.Prelude.{◌≡◌};
+ghost use Rattle.ell_run.specs.Settings.{AreSettings};
+ghost use Rattle.ell_tree.specs.Ledgers.{IsIdle};
+
+use super::passes::owns_all;
 use super::refusing::{Heap, Refusal};
 use super::sweeping::{Ended, sweep};
 use ell_ops::{Op, Reply};
 use ell_parts::Parts;
-use ell_run::{Limits, Parting, Piece, RunFault, Settings, Tree, run, run_bytes, work};
+use ell_run::{Limits, Parting, Pass, Piece, RunFault, Settings, Tree, run, run_bytes, work};
 use ell_word::NoGate;
 use std::alloc::Allocator;
 use std::process::Abort;
 use std::thread::Threads;
 
-const OPS: [Op; 2] = [Op::Insert(5, 50), Op::Insert(7, 70)];
+const OPS: [Op; 2] = [Op::Insert(5, 0), Op::Insert(7, 0)];
+
+// The settings where none are named.
+const DEFAULTS: Settings = Settings {
+    workers: 4,
+    parting: Parting::Stripe,
+    cards: None,
+    tries: 1_000,
+};
+
+const TWO_RANGES: Settings = Settings {
+    workers: 2,
+    parting: Parting::Range,
+    cards: None,
+    tries: 8,
+};
 
 // Runs two inserts by two workers.
 fn run_two<R: Threads + Abort + Sync>(rt: &R, heap: &Heap, refusal: Refusal) -> Ended {
@@ -21,7 +41,7 @@ fn run_two<R: Threads + Abort + Sync>(rt: &R, heap: &Heap, refusal: Refusal) -> 
     match ran {
         Ok(outcome) => Ended::answered(
             outcome.replies.as_slice() == [Reply::Yes; 2].as_slice()
-                && outcome.pairs.as_slice() == [(5, 50), (7, 70)].as_slice(),
+                && outcome.pairs.as_slice() == [(5, 0), (7, 0)].as_slice(),
         ),
         Err(_) => Ended::NoMemory,
     }
@@ -41,6 +61,44 @@ fn run_from_start<R: Threads + Abort + Sync>(rt: &R, heap: &Heap, refusal: Refus
             outcome.replies.as_slice() == replies.as_slice()
                 && outcome.pairs.as_slice() == [(3, 33), (5, 50)].as_slice(),
         ),
+        Err(_) => Ended::NoMemory,
+    }
+}
+
+// The keys of a tree on which one worker inserts both and has a card for the first.
+const ONE_KEYS: [u64; 2] = [5, 6];
+
+// Whether a tree ends with these keys, by a pass that is to own all its keys.
+fn is_closed<A: Allocator + Copy>(tree: Tree<A>, pass: Pass<A>, wants: &[(u64, u64)]) -> bool
+    requires own { pass.table ≡ tree.id }
+    requires idle { IsIdle pass }
+    requires keys { tree.keys ≡ ONE_KEYS }
+{
+    if !owns_all(&pass, &ONE_KEYS) {
+        return false;
+    }
+    match tree.close(pass) {
+        Ok(pairs) => pairs.as_slice() == wants,
+        Err(_) => false,
+    }
+}
+
+// Has one worker do a part on a tree with one card: it leaves what is behind its first operation.
+fn work_one<R: Threads + Abort + Sync>(rt: &R, heap: &Heap, refusal: Refusal) -> Ended {
+    let ops = [Op::Insert(5, 0), Op::Insert(6, 0), Op::Find(5)];
+    let parts = Parts::striped(heap, &ops, 1).expect(rt, "no memory");
+    let (tree, pass) = Tree::reserve(heap, &ONE_KEYS, 1).expect(rt, "no memory");
+    heap.refuse(refusal);
+    let worked = work(rt, heap, &tree, pass, &parts, 8, &NoGate);
+    heap.stop();
+    match worked {
+        Ok((pass, pieces)) => {
+            let is_piece = match pieces.as_slice() {
+                [piece] => piece.as_slice() == [(0, Reply::Yes)].as_slice(),
+                _ => false,
+            };
+            Ended::answered(is_piece && is_closed(tree, pass, &[(5, 0)]))
+        }
         Err(_) => Ended::NoMemory,
     }
 }
@@ -67,22 +125,19 @@ fn are_worked<A: Allocator>(pieces: &[Piece<A>]) -> bool {
     }
 }
 
-// Runs a text by two workers, which is to answer another. Where there is no memory for it, nothing is written.
+// Runs a text, which is to answer another. Where there is no memory for it, nothing is written.
 fn run_text<R: Threads + AllocGlobal + Sync>(
     rt: &R,
     heap: &Heap,
     refusal: Refusal,
+    settings: Settings,
     text: &[u8],
     wants: &[u8],
-) -> Ended {
+) -> Ended
+    requires { AreSettings settings }
+{
     let mut reader = text;
     let mut writer = Vec::new(rt.alloc());
-    let settings = Settings {
-        workers: 2,
-        parting: Parting::Range,
-        cards: None,
-        tries: 8,
-    };
     heap.refuse(refusal);
     let ran = run_bytes(rt, heap, &mut reader, &mut writer, settings);
     heap.stop();
@@ -104,27 +159,28 @@ fn operations_are_run_over_start_keys_or_there_is_no_memory(rt: HostRuntime) {
 
 #[test]
 fn parts_are_worked_or_there_is_no_memory(rt: HostRuntime) {
+    sweep(&rt, |heap, refusal| work_one(&rt, heap, refusal));
     sweep(&rt, |heap, refusal| work_two(&rt, heap, refusal));
 }
 
 #[test]
 fn a_text_is_run_or_there_is_no_memory(rt: HostRuntime) {
-    let text = b"insert 5\ninsert 7\ndelete 5\n";
-    let wants = b"yes\nyes\nyes\nkeys 1\n7\n";
+    let text = b"insert 5\nfind 5\ndelete 5\nfind 5\n";
+    let wants = b"yes\nyes\nyes\nno\nkeys 0\n";
     sweep(
         &rt,
-        |heap, refusal| run_text(&rt, heap, refusal, text, wants),
+        |heap, refusal| run_text(&rt, heap, refusal, DEFAULTS, text, wants),
     );
     let text = b"start 3\nstart 5\ninsert 7\ndelete 5\n";
     let wants = b"yes\nyes\nkeys 2\n3\n7\n";
     sweep(
         &rt,
-        |heap, refusal| run_text(&rt, heap, refusal, text, wants),
+        |heap, refusal| run_text(&rt, heap, refusal, TWO_RANGES, text, wants),
     );
     let text = b"version 2\nstart 3 33\nstart 5 55\ninsert 7 70\nfind 5\ndelete 5\n";
     let wants = b"yes\nyes 55\nyes\nkeys 2\n3 33\n7 70\n";
     sweep(
         &rt,
-        |heap, refusal| run_text(&rt, heap, refusal, text, wants),
+        |heap, refusal| run_text(&rt, heap, refusal, TWO_RANGES, text, wants),
     );
 }

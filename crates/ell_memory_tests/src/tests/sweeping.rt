@@ -44,8 +44,19 @@ impl Ended {
 pub(crate) fn sweep<R: Abort + AllocGlobal, F: Fn(&Heap, Refusal) -> Ended>(rt: &R, attempt: F)
     requires { F.IsAlwaysCallable attempt }
 {
-    sweep_on(rt, &attempt);
+    assert!(rt; sweep_any(rt, attempt) > 0, "no growth");
+}
+
+/// The same of a call that may ask for no growth: how many it asks for where none is refused.
+pub(crate) fn sweep_any<R: Abort + AllocGlobal, F: Fn(&Heap, Refusal) -> Ended>(
+    rt: &R,
+    attempt: F,
+) -> u64
+    requires { F.IsAlwaysCallable attempt }
+{
+    let asked = sweep_on(rt, &attempt);
     sweep_alone(rt, &attempt);
+    asked
 }
 
 // How an attempt ends on a heap of its own, and how many growths its call asked for.
@@ -61,18 +72,18 @@ fn try_once<F: Fn(&Heap, Refusal) -> Ended>(
     (ended, heap.growths())
 }
 
-// The first half of a sweep: a growth and all after it are refused.
-fn sweep_on<R: Abort + AllocGlobal, F: Fn(&Heap, Refusal) -> Ended>(rt: &R, attempt: &F)
+// The first half of a sweep: a growth and all after it are refused. Answers how many growths the call asks for.
+fn sweep_on<R: Abort + AllocGlobal, F: Fn(&Heap, Refusal) -> Ended>(rt: &R, attempt: &F) -> u64
     requires { F.IsAlwaysCallable attempt.now }
 {
     for number in 1..MOST {
         let (ended, growths) = try_once(rt.alloc(), attempt, Refusal::From(number));
         if growths < number {
             assert!(rt;
-                ended == Ended::Answered && number > 1,
+                ended == Ended::Answered,
                 "growth {number} and all after it"
             );
-            return;
+            return growths;
         }
         assert!(rt;
             ended == Ended::NoMemory,

@@ -1,10 +1,11 @@
 //! Texts that are read and written.
 use super::refusing::{Heap, Refusal};
+use super::schedule::{STALLED, STALLED_CARDS, events_of};
 use super::sweeping::{Ended, sweep};
-use ell_core::{Act, Event, Shown, Stepped};
+use ell_core::{Event, Shown, Stepped};
 use ell_ops::{Op, Reply};
 use ell_text::{
-    InputFault, ReplayFault, Script, ScriptFault, TextFault, read_all, read_bulk, read_replay,
+    InputFault, ReplayFault, ScriptFault, TextFault, read_all, read_bulk, read_replay,
     replay_bytes, write_answer, write_trace,
 };
 use std::alloc::{AllocError, Allocator, Global};
@@ -38,51 +39,53 @@ fn read_input(heap: &Heap, refusal: Refusal, text: &[u8]) -> Ended {
     }
 }
 
-// Reads a text of a version, of a start line and a hundred inserts of 5, which have these values.
+// Reads a text of a version, with these start keys and operations.
 fn read_operations(
     heap: &Heap,
     refusal: Refusal,
     text: &[u8],
     version: u8,
-    values: (u64, u64),
+    start: &[(u64, u64)],
+    ops: &[Op],
 ) -> Ended {
     heap.refuse(refusal);
     let read = read_bulk(heap, text);
     heap.stop();
     match read {
         Ok(bulk) => Ended::answered(
-            bulk.version == version
-                && bulk.start.as_slice() == [(3, values.0)].as_slice()
-                && bulk.ops.as_slice() == [Op::Insert(5, values.1); 100].as_slice(),
+            bulk.version == version && bulk.start.as_slice() == start && bulk.ops.as_slice() == ops,
         ),
         Err(fault) => Ended::no_memory(fault == TextFault::NoMemory),
     }
 }
 
-const SCRIPT: &[u8] =
-    b"workers 2\ncards 4\nown 0 5\nown 1 7\n0 begin insert 5\n0 upd\n0 down\n0 claim\n0 iflag\n0 ichild 1\n\
-    0 iunflag 1\n0 answer\n";
+// An insert that is stalled behind its flag, and ended by another worker.
+const SCRIPT: &[u8] = b"workers 2\ncards 4\nown 0 5\nown 1 7\n\
+    0 begin insert 5\n0 upd\n0 down\n0 claim\n0 iflag\n\
+    1 begin insert 7\n1 upd\n1 down\n1 ichild 1\n1 iunflag 1\n\
+    1 again\n1 upd\n1 down\n1 upd\n1 down\n1 claim\n\
+    1 iflag\n1 ichild 2\n1 iunflag 2\n1 answer\n\
+    0 ichild 1\n0 iunflag 1\n0 answer\n";
 
-const TRACE: &[u8] = b"moved\nmoved\nmoved\nmoved\nwon\nwon\nwon\nyes\nkeys 1\n5\n";
+const TRACE: &[u8] = b"moved\nmoved\nmoved\nmoved\nwon\n\
+    moved\nmoved\nmoved\nwon\nwon\n\
+    moved\nmoved\nmoved\nmoved\nmoved\nmoved\n\
+    won\nwon\nwon\nyes\n\
+    lost\nlost\nyes\n\
+    keys 2\n5\n7\n";
 
-// Whether a script has the keys, the number of events and the last event of the text.
-fn is_read<A: Allocator>(script: &Script<A>) -> bool {
-    let last = Event {
-        worker: 0,
-        act: Act::Answer,
-    };
-    script.owned.as_slice() == [(0, 5), (1, 7)].as_slice()
-        && script.events.len() == 8
-        && script.events.last() == Some(&last)
-}
-
-// Reads a script.
-fn read_script(heap: &Heap, refusal: Refusal) -> Ended {
+// Reads a script, which has these events.
+fn read_script(heap: &Heap, refusal: Refusal, events: &[Event]) -> Ended {
     heap.refuse(refusal);
     let read = read_replay(heap, SCRIPT);
     heap.stop();
     match read {
-        Ok(script) => Ended::answered(is_read(&script)),
+        Ok(script) => Ended::answered(
+            script.workers == 2
+                && script.cards == STALLED_CARDS
+                && script.owned.as_slice() == [(0, 5), (1, 7)].as_slice()
+                && script.events.as_slice() == events,
+        ),
         Err(fault) => Ended::no_memory(fault == ReplayFault::NoMemory),
     }
 }
@@ -102,7 +105,8 @@ fn replay_script(heap: &Heap, refusal: Refusal, alloc: Global) -> Ended {
 
 #[test]
 fn scripts_are_read_or_there_is_no_memory(rt: HostRuntime) {
-    sweep(&rt, read_script);
+    let events = events_of(rt.alloc(), &STALLED).expect(&rt, "no memory");
+    sweep(&rt, |heap, refusal| read_script(heap, refusal, &events));
 }
 
 #[test]
@@ -113,24 +117,36 @@ fn scripts_are_replayed_or_there_is_no_memory(rt: HostRuntime) {
     );
 }
 
+// A text of four lines, and its operations.
+const FOUR_LINES: &[u8] = b"insert 5\nfind 5\ndelete 5\nfind 5\n";
+
+const FOUR: [Op; 4] = [Op::Insert(5, 0), Op::Find(5), Op::Delete(5), Op::Find(5)];
+
 #[test]
 fn inputs_are_read_or_there_is_no_memory(rt: HostRuntime) {
+    sweep(&rt, |heap, refusal| read_input(heap, refusal, FOUR_LINES));
     let text = lines(rt.alloc(), b"", LINE, LINES).expect(&rt, "no memory");
     sweep(&rt, |heap, refusal| read_input(heap, refusal, &text));
 }
 
 #[test]
 fn operations_are_read_or_there_is_no_memory(rt: HostRuntime) {
-    let text = lines(rt.alloc(), b"start 3\n", LINE, 100).expect(&rt, "no memory");
     sweep(
         &rt,
-        |heap, refusal| read_operations(heap, refusal, &text, 1, (0, 0)),
+        |heap, refusal| read_operations(heap, refusal, FOUR_LINES, 1, &[], &FOUR),
+    );
+    let text = lines(rt.alloc(), b"start 3\n", LINE, 100).expect(&rt, "no memory");
+    let ops = [Op::Insert(5, 0); 100];
+    sweep(
+        &rt,
+        |heap, refusal| read_operations(heap, refusal, &text, 1, &[(3, 0)], &ops),
     );
     let front = b"version 2\nstart 3 33\n";
     let text = lines(rt.alloc(), front, LINE_WITH_VALUE, 100).expect(&rt, "no memory");
+    let ops = [Op::Insert(5, 50); 100];
     sweep(
         &rt,
-        |heap, refusal| read_operations(heap, refusal, &text, 2, (33, 50)),
+        |heap, refusal| read_operations(heap, refusal, &text, 2, &[(3, 33)], &ops),
     );
 }
 

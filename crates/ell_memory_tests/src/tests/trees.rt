@@ -2,9 +2,9 @@
 ghost use Rattle.std.specs.Prelude.{◌≡◌};
 ghost use Rattle.std.specs.List.{All};
 ghost use Rattle.ell_ops.specs.Meaning.{key_of};
-ghost use Rattle.ell_tree.specs.Ledgers.{IsIdle, Owns};
+ghost use Rattle.ell_tree.specs.Ledgers.{IsIdle, IsIdlePassOf, Owns};
 
-use super::passes::{KEYS, owns_both, tells};
+use super::passes::{KEYS, START, START_CARDS, START_KEYS, owns_all, tells};
 use super::refusing::{Heap, Refusal};
 use super::sweeping::{Ended, sweep};
 use ell_ops::Reply::{self, Found, No, Yes};
@@ -14,9 +14,10 @@ use ell_word::NoGate;
 use std::alloc::Allocator;
 use std::process::Abort;
 
-const CARDS: u64 = 4;
+const CARDS: u64 = 3;
 
-const START: [(u64, u64); 1] = [(7, 77)];
+// What is left of the operations on an empty tree.
+const LEFT: [(u64, u64); 1] = [(7, 0)];
 
 // An operation that may take one card, and what it is to answer.
 type Row = (Op, Result<Reply, Held>);
@@ -51,7 +52,26 @@ fn are_answered<A: Allocator + Copy>(tree: &Tree<A>, pass: &mut Pass<A>, rows: &
     true
 }
 
-// A tree in which 5 came and went, and 7 is, with the same value as in one that opens with it.
+// Does operations with every growth refused: each answers what it is to, and they ask for none.
+fn answer_without_memory<'a>(
+    rt: &impl Abort,
+    heap: &'a Heap,
+    tree: &Tree<&'a Heap>,
+    pass: &mut Pass<&'a Heap>,
+    rows: &[Row],
+)
+    requires own { pass.old.table ≡ tree.now.id }
+    requires idle { IsIdle pass.old }
+    ensures own { pass.new.table ≡ tree.now.id }
+    ensures idle { IsIdle pass.new }
+{
+    heap.refuse(Refusal::From(1));
+    assert!(rt; are_answered(tree, pass, rows));
+    heap.stop();
+    assert!(rt; heap.growths() == 0);
+}
+
+// An empty tree into which 5 was put, and its pass.
 fn planted<'a>(rt: &impl Abort, heap: &'a Heap) -> (Tree<&'a Heap>, Pass<&'a Heap>)
     ensures own { result.1.table ≡ result.0.id }
     ensures idle { IsIdle result.1 }
@@ -59,28 +79,43 @@ fn planted<'a>(rt: &impl Abort, heap: &'a Heap) -> (Tree<&'a Heap>, Pass<&'a Hea
     ensures owned { All (λ k. Owns result.1 k) KEYS }
 {
     let rows = [
-        (Op::Insert(5, 50), Ok(Yes)),
-        (Op::Insert(7, 77), Ok(Yes)),
-        (Op::Delete(5), Ok(Yes)),
+        (Op::Insert(5, 0), Ok(Yes)),
+        (Op::Insert(5, 0), Ok(No)),
+        (Op::Find(7), Ok(No)),
     ];
     let (tree, mut pass) = Tree::reserve(heap, &KEYS, CARDS).expect(rt, "no memory");
     pass.relabel(3);
-    assert!(rt; are_answered(&tree, &mut pass, &rows));
-    assert!(rt; owns_both(&pass));
+    answer_without_memory(rt, heap, &tree, &mut pass, &rows);
+    assert!(rt; owns_all(&pass, &KEYS));
     (tree, pass)
 }
 
-// A tree that opens with 7.
+// A tree that opens with the start keys, and its pass.
 fn started<'a>(rt: &impl Abort, heap: &'a Heap) -> (Tree<&'a Heap>, Pass<&'a Heap>)
     ensures own { result.1.table ≡ result.0.id }
     ensures idle { IsIdle result.1 }
-    ensures keys { result.0.keys ≡ KEYS }
-    ensures owned { All (λ k. Owns result.1 k) KEYS }
+    ensures all { All (λ k. Owns result.1 k) result.0.keys }
 {
-    let made = Tree::reserve_from(heap, &START, &KEYS, CARDS);
+    let made = Tree::reserve_from(heap, &START, &START_KEYS, START_CARDS);
     let (tree, mut pass) = made.expect(rt, "no memory");
     pass.relabel(3);
-    assert!(rt; owns_both(&pass));
+    assert!(rt; owns_all(&pass, &START_KEYS));
+    (tree, pass)
+}
+
+// What a tree opens with that has 7 with a value, and can give out four cards.
+const VALUED: [(u64, u64); 1] = [(7, 77)];
+
+// Such a tree, and its pass.
+fn valued<'a>(rt: &impl Abort, heap: &'a Heap) -> (Tree<&'a Heap>, Pass<&'a Heap>)
+    ensures own { result.1.table ≡ result.0.id }
+    ensures idle { IsIdle result.1 }
+    ensures all { All (λ k. Owns result.1 k) result.0.keys }
+{
+    let made = Tree::reserve_from(heap, &VALUED, &KEYS, 4);
+    let (tree, mut pass) = made.expect(rt, "no memory");
+    pass.relabel(3);
+    assert!(rt; owns_all(&pass, &KEYS));
     (tree, pass)
 }
 
@@ -90,20 +125,20 @@ fn reserve(heap: &Heap, refusal: Refusal) -> Ended {
     let made = Tree::reserve(heap, &KEYS, CARDS);
     heap.stop();
     match made {
-        Ok((_tree, pass)) => Ended::answered(pass.keys() == KEYS.as_slice()),
+        Ok((_tree, pass)) => Ended::answered(tells(&pass, &KEYS, 0, 0)),
         Err(fault) => Ended::no_memory(fault == CardFault::NoMemory),
     }
 }
 
-// Reserves a tree that opens with 7, and ends it.
+// Reserves a tree that opens with the start keys, and ends it.
 fn reserve_from(heap: &Heap, refusal: Refusal) -> Ended {
     heap.refuse(refusal);
-    let made = Tree::reserve_from(heap, &START, &KEYS, CARDS);
+    let made = Tree::reserve_from(heap, &START, &START_KEYS, START_CARDS);
     heap.stop();
     match made {
         Ok((tree, pass)) => {
-            let is_first = tells(&pass, &KEYS, 0, 0) && owns_both(&pass);
-            Ended::answered(is_first && is_closed(tree, pass))
+            let is_first = tells(&pass, &START_KEYS, 0, 0) && owns_all(&pass, &START_KEYS);
+            Ended::answered(is_first && is_closed(tree, pass, &START))
         }
         Err(fault) => Ended::no_memory(fault == CardFault::NoMemory),
     }
@@ -138,17 +173,39 @@ fn split(rt: &impl Abort, heap: &Heap, refusal: Refusal) -> Ended {
     }
 }
 
-// A tree and the two passes of it: the right one has a label of its own.
+// A tree in which 5 came and went, and the two passes of it, of which the right one put 7 into it. It has a label of its own.
 fn parted<'a>(rt: &impl Abort, heap: &'a Heap) -> (Tree<&'a Heap>, Pass<&'a Heap>, Pass<&'a Heap>)
-    ensures left { (result.1.table ≡ result.0.id) × IsIdle result.1 }
-    ensures right { (result.2.table ≡ result.0.id) × IsIdle result.2 }
+    ensures left { IsIdlePassOf result.0 result.1 }
+    ensures right { IsIdlePassOf result.0 result.2 }
+    ensures keys { result.0.keys ≡ KEYS }
 {
     let (tree, pass) = planted(rt, heap);
-    let Ok((left, mut right)) = tree.split(pass, &[5]) else {
+    let Ok((mut left, mut right)) = tree.split(pass, &[5]) else {
         panic!(rt; "no memory");
     };
     right.relabel(4);
+    answer_without_memory(rt, heap, &tree, &mut right, &[(Op::Insert(7, 0), Ok(Yes))]);
+    answer_without_memory(rt, heap, &tree, &mut left, &[(Op::Delete(5), Ok(Yes))]);
+    let rows = [
+        (Op::Delete(7), Err(Held::Spent)),
+        (Op::Find(7), Ok(Found(0))),
+    ];
+    answer_without_memory(rt, heap, &tree, &mut right, &rows);
     (tree, left, right)
+}
+
+// The same tree, and the pass that the two were joined to.
+fn joined<'a>(rt: &impl Abort, heap: &'a Heap) -> (Tree<&'a Heap>, Pass<&'a Heap>)
+    ensures own { result.1.table ≡ result.0.id }
+    ensures idle { IsIdle result.1 }
+    ensures all { All (λ k. Owns result.1 k) result.0.keys }
+{
+    let (tree, left, right) = parted(rt, heap);
+    let Ok(pass) = tree.join(left, right) else {
+        panic!(rt; "no memory");
+    };
+    assert!(rt; owns_all(&pass, &KEYS));
+    (tree, pass)
 }
 
 // Whether a pass has both keys, and the left part's label.
@@ -158,8 +215,8 @@ fn is_whole<A: Allocator + Copy>(both: &Pass<A>) -> bool {
 
 // Joins two passes: whether the one that they become is whole.
 fn is_joined<A: Allocator + Copy>(tree: &Tree<A>, left: Pass<A>, right: Pass<A>) -> bool
-    requires left { (left.table ≡ tree.now.id) × IsIdle left }
-    requires right { (right.table ≡ tree.now.id) × IsIdle right }
+    requires left { IsIdlePassOf tree.now left }
+    requires right { IsIdlePassOf tree.now right }
 {
     match tree.join(left, right) {
         Ok(both) => is_whole(&both),
@@ -183,25 +240,30 @@ fn join(rt: &impl Abort, heap: &Heap, refusal: Refusal) -> Ended {
     }
 }
 
-// Ends a tree: whether 7 was in it, with its value, and no other key.
-fn is_closed<A: Allocator + Copy>(tree: Tree<A>, pass: Pass<A>) -> bool
+// Ends a tree: whether these keys were in it with their values.
+fn is_closed<A: Allocator + Copy>(tree: Tree<A>, pass: Pass<A>, wants: &[(u64, u64)]) -> bool
     requires own { pass.table ≡ tree.id }
     requires idle { IsIdle pass }
-    requires keys { tree.keys ≡ KEYS }
-    requires owned { All (λ k. Owns pass k) KEYS }
+    requires all { All (λ k. Owns pass k) tree.keys }
 {
     match tree.close(pass) {
-        Ok(pairs) => pairs.as_slice() == START.as_slice(),
+        Ok(pairs) => pairs.as_slice() == wants,
         Err(_) => false,
     }
 }
 
-// Ends a tree in which 7 is. Where it comes back with its pass, both are as they were, and it is ended then.
-fn close<'a>(heap: &'a Heap, refusal: Refusal, made: (Tree<&'a Heap>, Pass<&'a Heap>)) -> Ended
+// Ends a tree with these keys, which then has those that are wanted. Where it comes back with its pass, both are as they were, and
+// it is ended then.
+fn close<'a>(
+    heap: &'a Heap,
+    refusal: Refusal,
+    made: (Tree<&'a Heap>, Pass<&'a Heap>),
+    keys: &[u64],
+    wants: &[(u64, u64)],
+) -> Ended
     requires own { made.1.table ≡ made.0.id }
     requires idle { IsIdle made.1 }
-    requires keys { made.0.keys ≡ KEYS }
-    requires owned { All (λ k. Owns made.1 k) KEYS }
+    requires all { All (λ k. Owns made.1 k) made.0.keys }
 {
     let (tree, pass) = made;
     let steps = pass.steps();
@@ -209,9 +271,9 @@ fn close<'a>(heap: &'a Heap, refusal: Refusal, made: (Tree<&'a Heap>, Pass<&'a H
     let pairs = tree.close(pass);
     heap.stop();
     match pairs {
-        Ok(pairs) => Ended::answered(pairs.as_slice() == START.as_slice()),
+        Ok(pairs) => Ended::answered(pairs.as_slice() == wants),
         Err((tree, pass, NoMemory)) => {
-            Ended::no_memory(tells(&pass, &KEYS, 3, steps) && is_closed(tree, pass))
+            Ended::no_memory(tells(&pass, keys, 3, steps) && is_closed(tree, pass, wants))
         }
     }
 }
@@ -240,11 +302,15 @@ fn passes_are_joined_or_come_back(rt: HostRuntime) {
 fn a_tree_is_closed_or_comes_back(rt: HostRuntime) {
     sweep(
         &rt,
-        |heap, refusal| close(heap, refusal, planted(&rt, heap)),
+        |heap, refusal| close(heap, refusal, joined(&rt, heap), &KEYS, &LEFT),
     );
     sweep(
         &rt,
-        |heap, refusal| close(heap, refusal, started(&rt, heap)),
+        |heap, refusal| close(heap, refusal, started(&rt, heap), &START_KEYS, &START),
+    );
+    sweep(
+        &rt,
+        |heap, refusal| close(heap, refusal, valued(&rt, heap), &KEYS, &VALUED),
     );
 }
 
@@ -257,7 +323,7 @@ fn cards_are_tested_before_memory(rt: HostRuntime) {
         assert!(rt; fault == Some(CardFault::BadCards), "{cards} cards");
         let fault = Tree::reserve_from(&heap, &[], &KEYS, cards).err();
         assert!(rt; fault == Some(CardFault::BadCards), "{cards} cards");
-        let fault = Tree::reserve_from(&heap, &START, &KEYS, cards).err();
+        let fault = Tree::reserve_from(&heap, &START, &START_KEYS, cards).err();
         assert!(rt; fault == Some(CardFault::BadCards), "{cards} cards");
     }
     assert!(rt; heap.growths() == 0);
@@ -265,18 +331,9 @@ fn cards_are_tested_before_memory(rt: HostRuntime) {
 
 #[test]
 fn an_operation_wants_no_memory(rt: HostRuntime) {
-    let rows = [
-        (Op::Find(5), Ok(No)),
-        (Op::Find(7), Ok(Found(77))),
-        (Op::Insert(5, 50), Ok(Yes)),
-        (Op::Insert(7, 70), Ok(No)),
-        (Op::Delete(5), Err(Held::Spent)),
-    ];
     let heap = Heap::new(rt.alloc());
-    let (tree, mut pass) = planted(&rt, &heap);
-    heap.refuse(Refusal::From(1));
-    assert!(rt; are_answered(&tree, &mut pass, &rows));
-    assert!(rt; heap.growths() == 0);
+    let (tree, pass) = joined(&rt, &heap);
+    assert!(rt; is_closed(tree, pass, &LEFT));
 }
 
 #[test]
@@ -290,10 +347,9 @@ fn an_operation_on_start_keys_wants_no_memory(rt: HostRuntime) {
         (Op::Insert(7, 70), Ok(Yes)),
         (Op::Delete(5), Ok(Yes)),
         (Op::Delete(7), Err(Held::Spent)),
+        (Op::Find(7), Ok(Found(70))),
     ];
     let heap = Heap::new(rt.alloc());
-    let (tree, mut pass) = started(&rt, &heap);
-    heap.refuse(Refusal::From(1));
-    assert!(rt; are_answered(&tree, &mut pass, &rows));
-    assert!(rt; heap.growths() == 0);
+    let (tree, mut pass) = valued(&rt, &heap);
+    answer_without_memory(&rt, &heap, &tree, &mut pass, &rows);
 }

@@ -1,50 +1,65 @@
 //! Worlds, and lists of events on them.
-ghost use Rattle.std.specs.Prelude.{◌+◌, ◌≡◌, ◌≤◌, length};
+ghost use Rattle.std.specs.Prelude.{◌≡◌, ◌≤◌, IfOk, length};
 
+use super::passes::{START, START_CARDS, START_KEYS, STARTED};
 use super::refusing::{Heap, Refusal};
-use super::schedule::{CARDS, TURNS};
-use super::sweeping::{Ended, sweep};
+use super::schedule::{CARDS, STALLED, STALLED_CARDS, TURNS, Turn, events_of, shown_of};
+use super::sweeping::{Ended, sweep, sweep_any};
 use ell_core::{Act, CoreFault, Event, Field, Shown, Stepped, World, replay};
 use ell_ops::NoMemory;
-use std::alloc::{AllocError, Global};
+use std::alloc::Global;
 use std::process::Abort;
 
 const OWNED: [(u32, u64); 3] = [(0, 5), (0, 6), (1, 7)];
 
-const START: [(u64, u64); 2] = [(5, 55), (7, 77)];
+const STALLED_OWNED: [(u32, u64); 2] = [(0, 5), (1, 7)];
 
-const START_KEYS: [u64; 2] = [5, 7];
+const START_OWNED: [(u32, u64); 3] = [(0, 2), (0, 4), (0, 6)];
 
-// What the schedule leaves.
-const LEFT: [(u64, u64); 2] = [(5, 50), (6, 60)];
+// What is done on a world.
+#[derive(Clone, Copy)]
+enum Schedule {
+    // An insert that another worker ends.
+    StalledInsert,
+    // Each act at least once.
+    AllActs,
+}
 
-// More growths than any event asks for.
-const MOST: u64 = 100;
-
-// The claim word of a world, and each word of each card. No memory is wanted for them.
-fn words(alloc: Global, heap: &Heap, world: &World<&Heap>) -> Result<Vec<u64>, NoMemory>
-    requires { world.now.last_card ≡ CARDS }
-{
-    heap.refuse(Refusal::From(1));
-    let mut words = [world.next()].to_vec(alloc)?;
-    for card in 0..=CARDS {
-        for field in Field::ALL {
-            words.push(world.word(card, field))?;
+impl Schedule {
+    fn turns(self) -> &'static [Turn] {
+        match self {
+            Schedule::StalledInsert => &STALLED,
+            Schedule::AllActs => &TURNS,
         }
     }
-    heap.stop();
-    if heap.growths() == 0 {
-        Ok(words)
-    } else {
-        Err(NoMemory)
+
+    // A world as it opens, and its last card.
+    fn open(self, heap: &Heap) -> Result<(World<&Heap>, u64), CoreFault>
+        ensures { IfOk result (λ made. made.0.last_card ≡ made.1) }
+    {
+        match self {
+            Schedule::StalledInsert => {
+                let world = World::new(heap, 2, &STALLED_OWNED, STALLED_CARDS)?;
+                Ok((world, STALLED_CARDS))
+            }
+            Schedule::AllActs => {
+                let world = World::new(heap, 2, &OWNED, CARDS)?;
+                Ok((world, CARDS))
+            }
+        }
     }
 }
 
-// All that a world tells of itself: its words, and its keys with their values.
-fn told(alloc: Global, heap: &Heap, world: &World<&Heap>) -> Result<Vec<u64>, NoMemory>
-    requires { world.now.last_card ≡ CARDS }
+// All that a world tells of itself: its claim word, the words of its cards up to the last, and its keys with their values.
+fn told(alloc: Global, world: &World<&Heap>, last: u64) -> Result<Vec<u64>, NoMemory>
+    requires { world.now.last_card ≡ last }
 {
-    let mut told = words(alloc, heap, world)?;
+    let mut told = [world.next()].to_vec(alloc)?;
+    for card in 0..=last {
+        for field in Field::ALL {
+            told.push(world.word(card, field))?;
+        }
+    }
     let pairs = world.pairs()?;
     for (key, value) in &pairs {
         told.extend_from_slice(&[*key, *value])?;
@@ -53,10 +68,10 @@ fn told(alloc: Global, heap: &Heap, world: &World<&Heap>) -> Result<Vec<u64>, No
 }
 
 // Whether a world tells the same of itself as before.
-fn is_same(alloc: Global, heap: &Heap, world: &World<&Heap>, before: &[u64]) -> bool
-    requires { world.now.last_card ≡ CARDS }
+fn is_same(alloc: Global, world: &World<&Heap>, last: u64, before: &[u64]) -> bool
+    requires { world.now.last_card ≡ last }
 {
-    match told(alloc, heap, world) {
+    match told(alloc, world, last) {
         Ok(after) => after.as_slice() == before,
         Err(NoMemory) => false,
     }
@@ -78,93 +93,98 @@ fn has_pairs(world: &World<&Heap>, wants: &[(u64, u64)]) -> bool {
     }
 }
 
-// Does an event with this growth and all after it refused.
-fn step_on(heap: &Heap, world: &mut World<&Heap>, event: Event, want: Stepped, number: u64) -> Ended
-    ensures { world.new.last_card ≡ world.old.last_card }
-{
-    heap.refuse(Refusal::From(number));
-    let stepped = world.step(event);
-    heap.stop();
-    if heap.growths() < number {
-        Ended::answered(stepped == Ok(want))
-    } else {
-        Ended::no_memory(stepped == Err(CoreFault::NoMemory))
-    }
-}
-
-// Does an event with growth 1 and all after it refused, then with growth 2 and all after it, and so on until it is done. Until
-// then the world is as it was. Answers how often it was refused.
-fn step_swept(
-    rt: &(impl Abort + AllocGlobal),
+// Does an event behind others. Where there is no memory for it, the world is as it was, and does it then.
+fn do_behind(
+    alloc: Global,
     heap: &Heap,
-    world: &mut World<&Heap>,
+    refusal: Refusal,
+    schedule: Schedule,
+    others: &[Event],
     event: Event,
     want: Stepped,
-) -> u64
-    requires { world.old.last_card ≡ CARDS }
-    ensures { world.new.last_card ≡ CARDS }
-{
-    let before = told(rt.alloc(), heap, world).expect(rt, "no memory");
-    for number in 1..MOST {
-        let ended = step_on(heap, world, event, want, number);
-        if ended == Ended::Answered {
-            return number - 1;
-        }
-        assert!(rt; ended == Ended::NoMemory && is_same(rt.alloc(), heap, world, &before));
+) -> Ended {
+    let Ok((mut world, last)) = schedule.open(heap) else {
+        return Ended::Wrong;
+    };
+    let is_there = replay(heap, &mut world, others).is_ok();
+    let Ok(before) = told(alloc, &world, last) else {
+        return Ended::Wrong;
+    };
+    heap.refuse(refusal);
+    let stepped = world.step(event);
+    heap.stop();
+    match stepped {
+        Ok(said) => Ended::answered(is_there && said == want),
+        Err(fault) => Ended::no_memory(
+            fault == CoreFault::NoMemory
+                && is_same(alloc, &world, last, &before)
+                && world.step(event) == Ok(want),
+        ),
     }
-    panic!(rt; "more growths than a sweep has");
 }
 
-#[test]
-fn an_event_is_done_or_changes_nothing(rt: HostRuntime) {
-    let heap = Heap::new(rt.alloc());
-    let mut world = World::new(&heap, 2, &OWNED, CARDS).expect(&rt, "no memory");
-    let mut refused = 0_u64;
-    for (worker, acts, want) in &TURNS {
+// Does the events of a schedule, each with its growths refused: how many they ask for together.
+fn do_all(rt: &(impl Abort + AllocGlobal), schedule: Schedule) -> u64 {
+    let mut others = Vec::new(rt.alloc());
+    let mut asked = 0_u64;
+    for (worker, acts, want) in schedule.turns() {
         for act in *acts {
             let event = Event {
                 worker: *worker,
                 act: *act,
             };
-            let times = step_swept(&rt, &heap, &mut world, event, *want);
-            refused = refused.saturating_add(times);
+            let growths = sweep_any(rt, |heap, refusal| {
+                do_behind(rt.alloc(), heap, refusal, schedule, &others, event, *want)
+            });
+            asked = asked.saturating_add(growths);
+            others.push(event).expect(rt, "no memory");
         }
     }
-    assert!(rt; refused > 0);
-    assert!(rt; has_keys(&world, &[5, 6]) && has_pairs(&world, &LEFT));
+    asked
+}
+
+#[test]
+fn an_event_is_done_or_changes_nothing(rt: HostRuntime) {
+    for schedule in [Schedule::StalledInsert, Schedule::AllActs] {
+        assert!(rt; do_all(&rt, schedule) > 0, "no growth");
+    }
 }
 
 // Opens a world.
 fn open(heap: &Heap, refusal: Refusal) -> Ended {
     heap.refuse(refusal);
-    let made = World::new(heap, 2, &OWNED, CARDS);
+    let made = World::new(heap, 2, &STALLED_OWNED, STALLED_CARDS);
     heap.stop();
     match made {
-        Ok(world) => Ended::answered(world.next() == 1),
+        Ok(world) => Ended::answered(world.next() == 1 && has_keys(&world, &[])),
         Err(fault) => Ended::no_memory(fault == CoreFault::NoMemory),
     }
 }
 
-// Whether a world that opened with start keys has them with their values, and the words of one that nothing was refused to.
-fn is_started(alloc: Global, world: &World<&Heap>) -> bool
-    requires { world.now.last_card ≡ CARDS + 2 }
+// Whether a world that opened with start keys has the words of their tree.
+fn has_started(world: &World<&Heap>) -> bool
+    requires { world.now.last_card ≡ 7 }
 {
-    let Ok(plain) = World::from_start(alloc, 2, &OWNED, &START, CARDS) else {
-        return false;
-    };
-    let are_same = (0..=CARDS + 2).all(|card| {
-        Field::ALL.iter().all(|field| world.word(card, *field) == plain.word(card, *field))
-    });
-    are_same && world.next() == 3 && plain.next() == 3 && has_pairs(world, &START)
+    for card in 0..=7 {
+        let Some(words) = STARTED.get(card as usize) else {
+            return false;
+        };
+        for (field, word) in Field::ALL.iter().zip(words) {
+            if world.word(card, *field) != *word {
+                return false;
+            }
+        }
+    }
+    world.next() == 4
 }
 
 // Opens a world with start keys.
-fn open_from_start(alloc: Global, heap: &Heap, refusal: Refusal) -> Ended {
+fn open_from_start(heap: &Heap, refusal: Refusal) -> Ended {
     heap.refuse(refusal);
-    let made = World::from_start(heap, 2, &OWNED, &START, CARDS);
+    let made = World::from_start(heap, 1, &START_OWNED, &START, START_CARDS);
     heap.stop();
     match made {
-        Ok(world) => Ended::answered(is_started(alloc, &world)),
+        Ok(world) => Ended::answered(has_started(&world) && has_keys(&world, &START_KEYS)),
         Err(fault) => Ended::no_memory(fault == CoreFault::NoMemory),
     }
 }
@@ -179,10 +199,10 @@ fn are_done(world: &mut World<&Heap>, worker: u32, acts: &[Act], want: Stepped) 
     true
 }
 
-// A world in which all events were done.
-fn played(heap: &Heap) -> Option<World<&Heap>> {
-    let mut world = World::new(heap, 2, &OWNED, CARDS).ok()?;
-    for (worker, acts, want) in &TURNS {
+// A world in which all events of a schedule were done.
+fn played(heap: &Heap, schedule: Schedule) -> Option<World<&Heap>> {
+    let (mut world, _last) = schedule.open(heap).ok()?;
+    for (worker, acts, want) in schedule.turns() {
         if !are_done(&mut world, *worker, acts, *want) {
             return None;
         }
@@ -190,54 +210,60 @@ fn played(heap: &Heap) -> Option<World<&Heap>> {
     Some(world)
 }
 
-// Lists the keys of a world. Where there is no memory for it, the world lists them then.
-fn list_of(heap: &Heap, refusal: Refusal, world: &World<&Heap>, wants: &[u64]) -> Ended {
+// Lists the keys of a world, if there is one. Where there is no memory for it, the world lists them then.
+fn list(heap: &Heap, refusal: Refusal, made: Option<World<&Heap>>, wants: &[u64]) -> Ended {
+    let Some(world) = made else {
+        return Ended::Wrong;
+    };
     heap.refuse(refusal);
     let keys = world.keys();
     heap.stop();
     match keys {
         Ok(keys) => Ended::answered(keys.as_slice() == wants),
-        Err(NoMemory) => Ended::no_memory(has_keys(world, wants)),
+        Err(NoMemory) => Ended::no_memory(has_keys(&world, wants)),
     }
 }
 
-fn list(heap: &Heap, refusal: Refusal) -> Ended {
-    match played(heap) {
-        Some(world) => list_of(heap, refusal, &world, &[5, 6]),
-        None => Ended::Wrong,
-    }
+fn list_played(heap: &Heap, refusal: Refusal) -> Ended {
+    list(
+        heap,
+        refusal,
+        played(heap, Schedule::StalledInsert),
+        &[5, 7],
+    )
 }
 
 fn list_start_keys(heap: &Heap, refusal: Refusal) -> Ended {
-    match World::from_start(heap, 2, &OWNED, &START, CARDS) {
-        Ok(world) => list_of(heap, refusal, &world, &START_KEYS),
-        Err(_) => Ended::Wrong,
-    }
+    let made = World::from_start(heap, 1, &START_OWNED, &START, START_CARDS);
+    list(heap, refusal, made.ok(), &START_KEYS)
 }
 
-// Lists the keys of a world with their values. Where there is no memory for it, the world lists them then.
-fn pairs_of(heap: &Heap, refusal: Refusal, world: &World<&Heap>, wants: &[(u64, u64)]) -> Ended {
+// Lists the keys of a world with their values, if there is one. Where there is no memory for it, the world lists them then.
+fn pair(heap: &Heap, refusal: Refusal, made: Option<World<&Heap>>, wants: &[(u64, u64)]) -> Ended {
+    let Some(world) = made else {
+        return Ended::Wrong;
+    };
     heap.refuse(refusal);
     let pairs = world.pairs();
     heap.stop();
     match pairs {
         Ok(pairs) => Ended::answered(pairs.as_slice() == wants),
-        Err(NoMemory) => Ended::no_memory(has_pairs(world, wants)),
+        Err(NoMemory) => Ended::no_memory(has_pairs(&world, wants)),
     }
 }
 
-fn list_pairs(heap: &Heap, refusal: Refusal) -> Ended {
-    match played(heap) {
-        Some(world) => pairs_of(heap, refusal, &world, &LEFT),
-        None => Ended::Wrong,
-    }
+fn pair_played(heap: &Heap, refusal: Refusal) -> Ended {
+    pair(
+        heap,
+        refusal,
+        played(heap, Schedule::AllActs),
+        &[(5, 50), (6, 60)],
+    )
 }
 
-fn list_start_pairs(heap: &Heap, refusal: Refusal) -> Ended {
-    match World::from_start(heap, 2, &OWNED, &START, CARDS) {
-        Ok(world) => pairs_of(heap, refusal, &world, &START),
-        Err(_) => Ended::Wrong,
-    }
+fn pair_start_keys(heap: &Heap, refusal: Refusal) -> Ended {
+    let made = World::from_start(heap, 1, &[(0, 2)], &[(2, 20)], 1);
+    pair(heap, refusal, made.ok(), &[(2, 20)])
 }
 
 #[test]
@@ -247,50 +273,32 @@ fn a_world_is_opened_or_there_is_no_memory(rt: HostRuntime) {
 
 #[test]
 fn a_world_is_opened_with_start_keys_or_there_is_no_memory(rt: HostRuntime) {
-    sweep(
-        &rt,
-        |heap, refusal| open_from_start(rt.alloc(), heap, refusal),
-    );
+    sweep(&rt, open_from_start);
 }
 
 #[test]
 fn keys_are_listed_or_there_is_no_memory(rt: HostRuntime) {
-    sweep(&rt, list);
+    sweep(&rt, list_played);
     sweep(&rt, list_start_keys);
 }
 
 #[test]
 fn pairs_are_listed_or_there_is_no_memory(rt: HostRuntime) {
-    sweep(&rt, list_pairs);
-    sweep(&rt, list_start_pairs);
+    sweep(&rt, pair_played);
+    sweep(&rt, pair_start_keys);
 }
 
-// The events one by one.
-fn all_events(alloc: Global) -> Result<Vec<Event>, AllocError> {
-    let mut events = Vec::new(alloc);
-    for (worker, acts, _) in &TURNS {
-        for act in *acts {
-            events.push(Event {
-                worker: *worker,
-                act: *act,
-            })?;
-        }
-    }
-    Ok(events)
+#[test]
+fn words_of_a_world_want_no_memory(rt: HostRuntime) {
+    let heap = Heap::new(rt.alloc());
+    let made = World::from_start(&heap, 1, &START_OWNED, &START, START_CARDS);
+    let world = made.expect(&rt, "no memory");
+    heap.refuse(Refusal::From(1));
+    assert!(rt; has_started(&world));
+    assert!(rt; heap.growths() == 0);
 }
 
-// What a replay is to show of each event.
-fn all_shown(alloc: Global) -> Result<Vec<Shown>, AllocError> {
-    let mut shown = Vec::new(alloc);
-    for (_, acts, want) in &TURNS {
-        for _ in *acts {
-            shown.push(Shown::Step(*want))?;
-        }
-    }
-    Ok(shown)
-}
-
-// Replays all events. Where there is no memory for it, the world stands after some of them.
+// Replays events. Where there is no memory for it, the world stands after some of them.
 fn replay_all(
     alloc: Global,
     heap: &Heap,
@@ -298,7 +306,7 @@ fn replay_all(
     events: &[Event],
     wants: &[Shown],
 ) -> Ended {
-    let Ok(mut world) = World::new(heap, 2, &OWNED, CARDS) else {
+    let Ok((mut world, _last)) = Schedule::StalledInsert.open(heap) else {
         return Ended::Wrong;
     };
     heap.refuse(refusal);
@@ -331,7 +339,7 @@ fn stands_after(
     requires events { done ≤ length events.now }
     requires wants { done ≤ length wants.now }
 {
-    let Ok(mut world) = World::new(heap, 2, &OWNED, CARDS) else {
+    let Ok((mut world, _last)) = Schedule::StalledInsert.open(heap) else {
         return false;
     };
     heap.refuse(refusal);
@@ -345,8 +353,8 @@ fn stands_after(
 
 #[test]
 fn events_are_replayed_or_there_is_no_memory(rt: HostRuntime) {
-    let events = all_events(rt.alloc()).expect(&rt, "no memory");
-    let shown = all_shown(rt.alloc()).expect(&rt, "no memory");
+    let events = events_of(rt.alloc(), &STALLED).expect(&rt, "no memory");
+    let shown = shown_of(rt.alloc(), &STALLED).expect(&rt, "no memory");
     sweep(
         &rt,
         |heap, refusal| replay_all(rt.alloc(), heap, refusal, &events, &shown),

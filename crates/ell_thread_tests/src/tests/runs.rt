@@ -14,5 +14,6 @@ mod starts;
 mod stopping;
 mod texts;
 mod told;
+mod told_in_turns;
 mod told_of_passes;
 mod tries;

@@ -1,4 +1,4 @@
--- Nothing was won before.
+-- Turn by turn, and nothing was won before.
 use Rattle.ell_cards.proofs.runs.Starting.{runs_from_starts}
 use Rattle.ell_cards.proofs.laws.runs_from_starts_are_lawful.Goals as goal
 

@@ -3,7 +3,7 @@ use Rattle.std.proofs.lemmas.List.{with_items_is}
 use Rattle.ell_core.specs.state.Layout.{table_size}
 use Rattle.ell_core.specs.state.Words.{words_of}
 use Rattle.ell_core.specs.state.Opening.{start_words}
-use Rattle.ell_cards.proofs.lifetimes.Openings.{kept_up_to}
+use Rattle.ell_cards.proofs.runs.Reaching.{reached_first}
 use Rattle.ell_cards.proofs.lifetime.opened.Goals as goal
 
 pub of_words-requires : goal.of_words-requires
@@ -17,4 +17,4 @@ of_words-requires g c =
     ap length words_are ∙ (length_is ∙ (c.in_ok-words.ensures.len ∙ c.table_size.ensures)) in
     let are : words_of c.as_slice-2.result.now ≡ start_words plan.start.items =
     ap words_of words_are ∙ (c.write_opening.ensures ∙ ap start_words c.as_slice.ensures.value) in
-    kept_up_to plan.keys.items plan.start.items plan.last_card c.as_slice-2.result.now c.requires.may c.requires.room size are
+    reached_first plan.keys.items plan.start.items plan.last_card c.as_slice-2.result.now c.requires.may c.requires.room size are

@@ -7,7 +7,7 @@ use Rattle.ell_core.specs.acts.Events.{Happens, Steps}
 use Rattle.ell_core.specs.history.Stages.{Stages}
 use Rattle.ell_core.specs.history.Invariant.{Invariant}
 use Rattle.ell_core.specs.history.Later.{Follows}
-use Rattle.ell_core.specs.statements.StepLaws.{FactsLast}
+use Rattle.ell_core.specs.statements.Effects.{FactsLast}
 use Rattle.ell_core.proofs.following.facts.MarksKept.{marks_step}
 use Rattle.ell_core.proofs.following.facts.HoldsLater.{holds_later}
 

@@ -8,7 +8,7 @@ use Rattle.ell_core.specs.acts.Searching.{IsLeaf}
 use Rattle.ell_core.specs.tree.Tree.{infinity1, OnWalk, here, next, Finds, IsTreeKey, IsTreePair}
 use Rattle.ell_core.specs.soundness.Sound.{LedgersAreSound, WalksAreSound, StrangersAreNobody}
 use Rattle.ell_core.specs.soundness.SmallTrees.{five}
-use Rattle.ell_core.specs.statements.StepLaws.{value_in}
+use Rattle.ell_core.specs.statements.Effects.{value_in}
 use Rattle.ell_core.specs.soundness.Unsound.{BreaksLedgers, key_owned_twice, key_without_owner, key_missing_in_ledger, key_kept_in_ledger, key_with_other_value, BreaksSearches, key_found_too_early, key_not_found, search_astray, BreaksStrangers, key_of_stranger, busy_stranger, knowing_stranger}
 use Rattle.ell_core.proofs.opening.Ranges.{opening_ordered, opening_empty}
 use Rattle.ell_core.proofs.tree.Reached.{pair_key, tree_key_leads}

@@ -14,7 +14,8 @@ use Rattle.ell_core.specs.state.Cards.{exchange_side}
 use Rattle.ell_core.specs.acts.Events.{Row, Steps}
 use Rattle.ell_core.specs.history.Stages.{Stage, Stages, is_insert, is_delete, waits}
 use Rattle.ell_core.specs.history.Invariant.{Invariant}
-use Rattle.ell_core.specs.history.Later.{Follows, wins_of, win_for, win_by, wins_by}
+use Rattle.ell_core.specs.history.Later.{Follows, wins_of}
+use Rattle.ell_core.specs.acts.Wins.{win_for, win_by, wins_by}
 use Rattle.ell_core.specs.statements.Waiting.{WinsFlag, EventsLeaveWaiting}
 use Rattle.ell_core.proofs.stages.Kinds.{HasKind, kind_later}
 use Rattle.ell_core.proofs.stages.Waiting.{waits-claimed, waits-no_start, unclaimed-no_start, waits-unborn, waits-kind, waits-wins, kind-waits, first_win, unclaimed-wins, none_before}

@@ -11,7 +11,7 @@ use Rattle.ell_core.specs.state.Cards.{sibling}
 use Rattle.ell_core.specs.acts.Exchanges.{knowing, DChild}
 use Rattle.ell_core.specs.acts.Events.{Happens}
 use Rattle.ell_core.specs.history.Stages.{Stages, DMarked, DCut, is_cut}
-use Rattle.ell_core.specs.history.Invariant.{LeadsTo, LeadsToValue, delete_key, WordsAreSound, Invariant}
+use Rattle.ell_core.specs.history.Invariant.{LeadsTo, LeadsToValue, delete_key, delete_value, WordsAreSound, Invariant}
 use Rattle.ell_core.proofs.tree.Reached.{leads_any}
 use Rattle.ell_core.specs.history.Later.{Follows, KeepsInvariant, wins_of}
 use Rattle.ell_core.proofs.words.Writes.{put_same}
@@ -121,14 +121,14 @@ keeps_dchild c m stage i said becomes there sound happens =
           (lost-follows c m stage i there sound cut)
     ]
 
--- a key was in the tree, and is in it no longer; every other key is as it was, with its value
-pub record LosesKey (old new : Words) (key : ℕ) : Type 0 where
-  pub had : LeadsTo old key 0
+-- a key was in the tree with this value, and is in it no longer; every other key is as it was, with its value
+pub record LosesPair (old new : Words) (key value : ℕ) : Type 0 where
+  pub had : LeadsToValue old key value 0
   pub each : (k v : ℕ) → LeadsToValue new k v 0 ↔ (LeadsToValue old k v 0 × (k ≢ key))
 
--- the child exchange of a marked delete takes its key from the tree
-cut-loses_key : (w : Words) (c : ℕ) → CutTree w c → LosesKey w (cut_words w c) (delete_key w c)
-cut-loses_key w c tree = record {
+-- the child exchange of a marked delete takes its key with its value from the tree
+cut-loses_pair : (w : Words) (c : ℕ) → CutTree w c → LosesPair w (cut_words w c) (delete_key w c) (delete_value w c)
+cut-loses_pair w c tree = record {
   had = tree.there;
   each = λ k v. (λ l. ((tree.leads k v 0 (other k v l)).0 l, other k v l), λ h. (tree.leads k v 0 h.1).1 h.0);
 }
@@ -136,16 +136,16 @@ cut-loses_key w c tree = record {
     other : (k v : ℕ) → LeadsToValue (cut_words w c) k v 0 → k ≢ delete_key w c
     other k v l e = tree.gone (subst (λ j. LeadsTo (cut_words w c) j 0) e (leads_any (cut_words w c) k v 0 l))
 
--- a won child exchange takes the delete's key from the tree
-pub dchild-loses_key : (c : ℕ) (m : Machine) (stage : Stages) (i : ℕ) (becomes : Scene) → Invariant m stage
-    → Happens m.last_card (act.DChild c) (scene m i) Won becomes → LosesKey m.words becomes.words (delete_key m.words c)
-dchild-loses_key c m stage i becomes sound happens =
+-- a won child exchange takes the delete's key with its value from the tree
+pub dchild-loses_pair : (c : ℕ) (m : Machine) (stage : Stages) (i : ℕ) (becomes : Scene) → Invariant m stage
+    → Happens m.last_card (act.DChild c) (scene m i) Won becomes → LosesPair m.words becomes.words (delete_key m.words c) (delete_value m.words c)
+dchild-loses_pair c m stage i becomes sound happens =
     elim (marked_cases (stage c) ((sound.workers.each i).facts (Marked c) happens.row.may)) [
       | inl now ↦
           let at = cuts_at m.words stage sound.words c now in
           let won = dchild-won c (scene m i) stage Won becomes at happens.row in
-          subst (λ (b : Scene). LosesKey m.words b.words (delete_key m.words c)) (sym won.1)
-          (cut-loses_key m.words c (cut_tree m.words stage sound.words c at))
+          subst (λ (b : Scene). LosesPair m.words b.words (delete_key m.words c) (delete_value m.words c)) (sym won.1)
+          (cut-loses_pair m.words c (cut_tree m.words stage sound.words c at))
       | inr cut ↦
           let lost = (dchild-lost c (scene m i) stage Won becomes sound.words cut happens.row).0 in
           absurd (won_not_lost lost)

@@ -7,7 +7,7 @@ use Rattle.ell_core.specs.state.Words.{Words, with_child}
 use Rattle.ell_core.specs.state.Cards.{dflag, marked, exchange_side, sibling}
 use Rattle.ell_core.specs.tree.Ranges.{IsOrdered, goes}
 use Rattle.ell_core.specs.history.Stages.{Stages, DMarked, is_delete, is_marked, delete_open, delete_waits}
-use Rattle.ell_core.specs.history.Invariant.{top, IsIn, IsOut, LeadsTo, LeadsToValue, IsOnCourse, delete_key, delete_side, leaf_side, IsInnerBorn, IsLeafBorn, WordsAreSound}
+use Rattle.ell_core.specs.history.Invariant.{top, IsIn, IsOut, LeadsTo, LeadsToValue, IsOnCourse, delete_key, delete_value, delete_side, leaf_side, IsInnerBorn, IsLeafBorn, WordsAreSound}
 use Rattle.ell_core.proofs.words.Later.{child_there, child_elsewhere}
 use Rattle.ell_core.proofs.tree.Bounds.{leaf_is_met}
 use Rattle.ell_core.proofs.tree.Removes.{Removes, stays, was_p, was_l, Spans-left, Spans-remove, IsOrdered-remove, Meets-removed, Meets-kept, gone, met_before}
@@ -78,7 +78,7 @@ pub record CutTree (w : Words) (c : ℕ) : Type 0 where
   pub course : (k x : ℕ) → IsOnCourse w k x → IsOnCourse (cut_words w c) k x
   pub leads : (k value x : ℕ) → k ≢ delete_key w c → LeadsToValue (cut_words w c) k value x ↔ LeadsToValue w k value x
   pub gone : ¬ LeadsTo (cut_words w c) (delete_key w c) 0
-  pub there : LeadsTo w (delete_key w c) 0
+  pub there : LeadsToValue w (delete_key w c) (delete_value w c) 0
 
 module _ (w : Words) (stage : Stages) (c : ℕ) (at : CutsAt w stage c) (ordered : IsOrdered w.key w.child top) where
   -- the children after the exchange
@@ -141,10 +141,10 @@ module _ (w : Words) (stage : Stages) (c : ℕ) (at : CutsAt w stage c) (ordered
     gone_after = gone w.key w.child after top (w.gp c) (delete_side w c) (w.p c) other (w.l c) (sibling w c)
         cuts_out ordered alive.low alive.high alive.spans
 
-    -- it did lead to the leaf
-    there_before : LeadsTo w (delete_key w c) 0
+    -- it did lead to the leaf, which has the value
+    there_before : LeadsToValue w (delete_key w c) (delete_value w c) 0
     there_before = met_before w.key w.child after top (w.gp c) (delete_side w c) (w.p c) other (w.l c) (sibling w c)
-        cuts_out ordered alive.low alive.high alive.spans tt
+        cuts_out ordered alive.low alive.high alive.spans refl
 
     -- the parent is out, for below it is the leaf
     out_of_tree : IsOut (cut_words w c) (w.p c)

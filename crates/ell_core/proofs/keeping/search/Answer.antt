@@ -11,7 +11,8 @@ use Rattle.ell_core.specs.soundness.Holds.{with_made}
 use Rattle.ell_core.specs.soundness.Sound.{WorkerOwns}
 use Rattle.ell_core.specs.history.Stages.{Stage, Stages, insert_open, insert_over, delete_open, delete_over, made_by_stage, effective_at, effective_at_of}
 use Rattle.ell_core.specs.history.Invariant.{Invariant}
-use Rattle.ell_core.specs.history.Later.{Follows, KeepsInvariant, wins_by}
+use Rattle.ell_core.specs.history.Later.{Follows, KeepsInvariant}
+use Rattle.ell_core.specs.acts.Wins.{wins_by}
 use Rattle.ell_core.proofs.outcomes.Decide.{same_value, some_not_none}
 use Rattle.ell_core.proofs.keeping.search.Begin.{MayDrop, drops_backed, takes_on_ended}
 use Rattle.ell_core.proofs.keeping.Learning.{KnowsAllowed}

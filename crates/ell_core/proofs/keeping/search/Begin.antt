@@ -9,7 +9,8 @@ use Rattle.ell_core.specs.acts.Searching.{begun, ended, MayStop}
 use Rattle.ell_core.specs.soundness.Sound.{WorkerOwns}
 use Rattle.ell_core.specs.history.Stages.{Stages, is_born, insert_open, delete_open, is_backed, effective_at}
 use Rattle.ell_core.specs.history.Invariant.{top, StandIsSound, Invariant}
-use Rattle.ell_core.specs.history.Later.{Follows, KeepsInvariant, wins_by}
+use Rattle.ell_core.specs.history.Later.{Follows, KeepsInvariant}
+use Rattle.ell_core.specs.acts.Wins.{wins_by}
 use Rattle.ell_core.proofs.outcomes.Decide.{same_value, some_not_none}
 use Rattle.ell_core.proofs.tree.Courses.{OnCourse-start}
 use Rattle.ell_core.proofs.keeping.OneWorker.{HasInHand, TakesOn, follows_worker}

@@ -14,7 +14,8 @@ use Rattle.ell_core.specs.tree.Tree.{infinity1}
 use Rattle.ell_core.specs.tree.Ranges.{below}
 use Rattle.ell_core.specs.history.Stages.{Stages}
 use Rattle.ell_core.specs.history.Invariant.{top, IsOnCourse, ChildrenAreSound, TreeIsSound, WordsAreSound, SeenIsSound, StandIsSound, Unflagged, WorkerIsSound, Invariant}
-use Rattle.ell_core.specs.history.Later.{Follows, KeepsInvariant, wins_by}
+use Rattle.ell_core.specs.history.Later.{Follows, KeepsInvariant}
+use Rattle.ell_core.specs.acts.Wins.{wins_by}
 use Rattle.ell_core.proofs.outcomes.Decide.{same_value, some_not_none}
 use Rattle.ell_core.proofs.tree.Bounds.{below_of, leaf_key}
 use Rattle.ell_core.proofs.tree.Courses.{OnCourse-down}

@@ -8,7 +8,8 @@ use Rattle.ell_core.specs.state.Machine.{Worker, Machine, with_scene}
 use Rattle.ell_core.specs.acts.Searching.{with_read}
 use Rattle.ell_core.specs.history.Stages.{Stages, Born}
 use Rattle.ell_core.specs.history.Invariant.{StandIsSound, WorkerIsSound, Invariant}
-use Rattle.ell_core.specs.history.Later.{Follows, KeepsInvariant, wins_by}
+use Rattle.ell_core.specs.history.Later.{Follows, KeepsInvariant}
+use Rattle.ell_core.specs.acts.Wins.{wins_by}
 use Rattle.ell_core.proofs.outcomes.Decide.{cases_option, same_value, some_not_none}
 use Rattle.ell_core.proofs.keeping.Learning.{KnowsAllowed, learns_word}
 use Rattle.ell_core.proofs.keeping.going_on.InHand.{SamePlace, same_goal, unflagged_same, flagged_same, stands_same}

@@ -10,7 +10,8 @@ use Rattle.ell_core.specs.state.Cards.{dflag, clean}
 use Rattle.ell_core.specs.acts.Exchanges.{DUnflags, knowing, DUnflag, Backtrack}
 use Rattle.ell_core.specs.history.Stages.{Stage, Stages, delete_open, allows, DUnmarkable, DCut, DOver, DBacked, is_marked, is_cut, is_unmarkable, delete_past, delete_over, is_backed, insert_won}
 use Rattle.ell_core.specs.history.Invariant.{DeleteStage, Invariant}
-use Rattle.ell_core.specs.history.Later.{Follows, wins_of, wins_by, KeepsInvariant}
+use Rattle.ell_core.specs.history.Later.{Follows, wins_of, KeepsInvariant}
+use Rattle.ell_core.specs.acts.Wins.{wins_by}
 use Rattle.ell_core.proofs.stages.Order.{delete_not_insert_open, delete_not_opening, delete-claimed, delete_open-delete, delete_open-won, cut_cases, unmarkable_cases}
 use Rattle.ell_core.proofs.keeping.Learning.{learns_fact, follows_knowing}
 use Rattle.ell_core.proofs.keeping.updates.Cards.{Exchange}

@@ -16,7 +16,8 @@ use Rattle.ell_core.specs.soundness.Holds.{with_made}
 use Rattle.ell_core.specs.soundness.Sound.{WorkerOwns}
 use Rattle.ell_core.specs.history.Stages.{Stage, Stages, made_by_stage, effective_at, allows}
 use Rattle.ell_core.specs.history.Invariant.{IsInnerBorn, Unflagged, Flagged, WorkerIsSound, Invariant}
-use Rattle.ell_core.specs.history.Later.{Follows, wins_of, wins_by, win_for}
+use Rattle.ell_core.specs.history.Later.{Follows, wins_of}
+use Rattle.ell_core.specs.acts.Wins.{wins_by, win_for}
 use Rattle.ell_core.proofs.words.Writes.{put_same}
 use Rattle.ell_core.proofs.stages.Order.{one_kind}
 use Rattle.ell_core.proofs.words.Later.{words_update}

@@ -9,7 +9,8 @@ use Rattle.ell_core.specs.state.Cards.{clean}
 use Rattle.ell_core.specs.acts.Exchanges.{knowing}
 use Rattle.ell_core.specs.history.Stages.{Stage, Stages, allows, insert_won, delete_won, insert_open, delete_open}
 use Rattle.ell_core.specs.history.Invariant.{UpdateIsSound, Invariant}
-use Rattle.ell_core.specs.history.Later.{Follows, wins_of, wins_by}
+use Rattle.ell_core.specs.history.Later.{Follows, wins_of}
+use Rattle.ell_core.specs.acts.Wins.{wins_by}
 use Rattle.ell_core.proofs.words.Writes.{put_same}
 use Rattle.ell_core.proofs.words.Later.{words_update}
 use Rattle.ell_core.proofs.keeping.Learning.{KnowsAllowed, learns_fact, sound_knowing}

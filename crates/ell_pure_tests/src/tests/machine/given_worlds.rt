@@ -2,7 +2,7 @@
 ghost use Rattle.std.specs.Prelude.{IfOk};
 ghost use Rattle.ell_core.specs.inside.World.{machine_of};
 ghost use Rattle.ell_core.specs.tree.Tree.{IsLawful};
-ghost use Rattle.ell_core.specs.statements.StepLaws.{PairsChange};
+ghost use Rattle.ell_core.specs.statements.Effects.{PairsChange};
 
 use super::scripts::{FIVE_INSERTED, played};
 use ell_core::Act::Begin;

@@ -2,8 +2,8 @@ use Rattle.std.proofs.Common.{map}
 use Rattle.ell_run.proofs.Apart.{owns_left, worked_apart}
 use Rattle.ell_run.proofs.workers.work_apart.Goals as goal
 
-pub work_busy-requires-clause-owned : goal.work_busy-requires-clause-owned
-work_busy-requires-clause-owned g c = λ κs outlives.
+pub work-requires-clause-owned : goal.work-requires-clause-owned
+work-requires-clause-owned g c = λ κs outlives.
     owns_left c.args.parts.now c.args.keys.now c.args.pass c.in-Ok.parted.0 c.in-Ok.parted.1 c.requires.keys c.requires.owned c.in-Ok.ensures.left
 
 pub returns-in-Ok-join : goal.returns-in-Ok-join

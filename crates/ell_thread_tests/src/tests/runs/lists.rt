@@ -3,6 +3,7 @@ use super::running::{came_to, run_owned, run_striped};
 use ell_ops::Op::{self, Delete, Find, Insert};
 use ell_ops::Reply::{Found, No, Yes};
 use ell_run::{Parting, Settings, parts_for};
+use ell_test_gates::Listing;
 use ell_word::NoGate;
 
 const EIGHT_INSERTS: [Op; 8] = [
@@ -35,6 +36,38 @@ fn eight_keys_as_settings_part_them(rt: HostRuntime) {
     assert!(rt; parts.workers() == 4);
     assert!(rt; parts.keys(1) == [1, 5].as_slice() && parts.keys(2) == [2, 6].as_slice());
     assert!(rt; parts.keys(3) == [3, 7].as_slice() && parts.keys(0) == [4, 8].as_slice());
+}
+
+#[test]
+fn one_of_64_workers_may_have_all(rt: HostRuntime) {
+    let ops = [Insert(1, 10), Insert(65, 650), Find(1)];
+    let settings = Settings {
+        workers: 64,
+        parting: Parting::Stripe,
+        cards: None,
+        tries: 1000,
+    };
+    let parts = parts_for(rt.alloc(), &ops, settings).expect(&rt, "memory");
+    assert!(rt; parts.workers() == 64);
+    for worker in 0..64 {
+        let all = parts
+            .part(worker)
+            .iter()
+            .copied()
+            .eq([(0, ops[0]), (1, ops[1]), (2, ops[2])]);
+        assert!(rt; all == (worker == 1), "of worker {worker}");
+        assert!(rt;
+            worker == 1 || parts.part(worker).is_empty(),
+            "of worker {worker}"
+        );
+    }
+}
+
+#[test]
+fn nobody_does_anything_where_there_is_nothing_to_do(rt: HostRuntime) {
+    let gate = Listing::new(rt.alloc(), 1, NoGate).expect(&rt, "memory");
+    let outcome = run_striped(&rt, &[], 4, 64, 1000, &gate);
+    assert!(rt; came_to(&outcome, &[], &[], 0) && gate.was_told(&[]));
 }
 
 #[test]

@@ -1,6 +1,6 @@
 //! Two workers, of which one stalls at each of its steps in turn, and the other goes by.
 use super::running::{came_to, run_owned};
-use ell_ops::Op::{Delete, Insert};
+use ell_ops::Op::{self, Delete, Insert};
 use ell_ops::Reply;
 use ell_test_gates::{Counting, Holding, two_threads_meet};
 use ell_word::Kind;
@@ -54,6 +54,49 @@ fn a_stalled_neighbour_holds_up_nobody(rt: HostRuntime) {
         );
         assert!(rt; gate.count(0, Kind::Backtrack) == *backtracks, "row {row}");
         assert!(rt; gate.count(1, Kind::Backtrack) == 0, "row {row}");
+    }
+}
+
+// Where worker 0 is held until the insert of 7 by worker 1 has ended, and what they do; each operation answers yes.
+const HELD: [(Kind, &[Op], &[u32], &[(u64, u64)]); 3] = [
+    (
+        Kind::Begin,
+        &[Insert(5, 0), Insert(7, 0)],
+        &[0, 1],
+        &[(5, 0), (7, 0)],
+    ),
+    (
+        Kind::IChild,
+        &[Insert(5, 0), Insert(7, 0)],
+        &[0, 1],
+        &[(5, 0), (7, 0)],
+    ),
+    (
+        Kind::DChild,
+        &[Insert(5, 0), Delete(5), Insert(7, 0)],
+        &[0, 0, 1],
+        &[(7, 0)],
+    ),
+];
+
+#[test]
+fn eight_cards_are_enough_where_one_stalls(rt: HostRuntime) {
+    if !two_threads_meet(&rt) {
+        return;
+    }
+    for (row, (at, ops, owners, pairs)) in HELD.iter().enumerate() {
+        let gate = Holding::at(*at);
+        let outcome = run_owned(&rt, ops, owners, 2, 8, 8, &gate);
+        assert!(rt; gate.has_held() && gate.answered() == 1, "row {row}");
+        assert!(rt;
+            outcome.replies.len() == ops.len()
+                && outcome.replies.iter().all(|reply| *reply == Reply::Yes),
+            "row {row}"
+        );
+        assert!(rt;
+            outcome.pairs.as_slice() == *pairs && outcome.late == 0,
+            "row {row}"
+        );
     }
 }
 

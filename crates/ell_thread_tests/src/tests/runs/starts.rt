@@ -8,8 +8,8 @@ use ell_ops::Reply::{Found, No, Yes};
 use ell_ops::{apply_all, apply_from};
 use ell_parts::Parts;
 use ell_run::Outcome;
-use ell_test_gates::{Dice, two_threads_meet};
-use ell_word::NoGate;
+use ell_test_gates::{Counting, Dice, Told, two_threads_meet};
+use ell_word::{Kind, NoGate};
 use std::process::Abort;
 use std::thread::Threads;
 
@@ -43,6 +43,40 @@ fn operations_are_answered_over_start_keys(rt: HostRuntime) {
             "{workers} workers"
         );
     }
+}
+
+const EIGHT: [(u64, u64); 8] = [
+    (1, 10),
+    (2, 20),
+    (3, 30),
+    (4, 40),
+    (5, 50),
+    (6, 60),
+    (7, 70),
+    (8, 80),
+];
+
+// A search reads three words at each inner node, and the key and the value of its leaf. Over eight start keys and the leaf behind them
+// the first seven leaves stand below four inner nodes, the root among them, and the eighth below five. Inserts of these keys in
+// their order would leave the eighth below nine.
+#[test]
+fn a_run_finds_its_start_keys_in_a_balanced_tree(rt: HostRuntime) {
+    let ops = EIGHT.map(|pair| Find(pair.0));
+    let gate = Counting::new(rt.alloc(), 1, NoGate).expect(&rt, "memory");
+    let parts = Parts::striped(rt.alloc(), &ops, 1).expect(&rt, "parts");
+    let outcome = run_from(&rt, &EIGHT, &ops, &parts, 1, 1, &gate);
+    let replies = EIGHT.map(|pair| Found(pair.1));
+    assert!(rt; came_to(&outcome, &replies, &EIGHT, 0));
+    let looks = 7 * (3 * 4 + 2) + (3 * 5 + 2);
+    let notes = 2 * 8;
+    let told = Told {
+        begun: 8,
+        steps: looks + notes,
+        ended_behind: looks + notes,
+        answered: 8,
+        held: 0,
+    };
+    assert!(rt; gate.told(0) == told && gate.count(0, Kind::Look) == looks);
 }
 
 #[test]

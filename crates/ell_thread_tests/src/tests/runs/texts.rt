@@ -55,6 +55,43 @@ const ROWS: [Row; 13] = [
     ),
 ];
 
+// In version 2, each by one worker, by four and by 64.
+const SMALL: [(&[u8], &[u8]); 4] = [
+    (
+        b"version 2\ninsert 5 50\ninsert 7 70\ninsert 5 51\nfind 5\ndelete 7\nfind 7\n",
+        b"yes\nyes\nno\nyes 50\nyes\nno\nkeys 1\n5 50\n",
+    ),
+    (
+        b"version 2\nstart 3 30\ndelete 3\ninsert 3 31\nfind 3\n",
+        b"yes\nyes\nyes 31\nkeys 1\n3 31\n",
+    ),
+    (b"version 2\n", b"keys 0\n"),
+    (
+        b"version 2\ninsert 0 18446744073709551615\n",
+        b"yes\nkeys 1\n0 18446744073709551615\n",
+    ),
+];
+
+#[test]
+fn small_texts_with_values_have_one_answer(rt: HostRuntime) {
+    for (row, (text, answer)) in SMALL.iter().enumerate() {
+        for workers in [1, 4, 64] {
+            let settings = Settings {
+                workers,
+                parting: Parting::Stripe,
+                cards: None,
+                tries: 1000,
+            };
+            let (mut reader, mut out) = (*text, Vec::new(rt.alloc()));
+            let report = run_bytes(&rt, rt.alloc(), &mut reader, &mut out, settings);
+            assert!(rt;
+                report.is_ok() && out.as_slice() == *answer,
+                "row {row} by {workers}"
+            );
+        }
+    }
+}
+
 #[test]
 fn texts_have_one_answer(rt: HostRuntime) {
     for (row, (text, workers, parting, cards, answer)) in ROWS.iter().enumerate() {

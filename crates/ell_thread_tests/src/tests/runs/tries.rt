@@ -1,7 +1,8 @@
-//! How often a run tries an insert that another one is in the way of.
+//! How often a run, and one over bytes, tries an insert that another one is in the way of.
 use super::running::{came_to, run_owned};
 use ell_ops::Op::{Find, Insert};
 use ell_ops::Reply::{Found, Yes};
+use ell_run::{Parting, Settings, run_bytes_watched};
 use ell_test_gates::{Counting, Holding, Told, two_threads_meet};
 use ell_word::Kind;
 
@@ -28,6 +29,36 @@ fn a_run_tries_as_often_as_its_limits_say(rt: HostRuntime) {
         let (replies, pairs) = ([Yes, Yes, Found(70), Yes], [(5, 50), (7, 70), (9, 90)]);
         assert!(rt; gate.behind().has_held(), "row {row}");
         assert!(rt; came_to(&outcome, &replies, &pairs, *late), "row {row}");
+        assert!(rt; ended_so(gate.told(1), *answered, *held), "row {row}");
+    }
+}
+
+const TEXT: &str = "version 2\ninsert 6 60\ninsert 7 70\nfind 7\ninsert 9 90\n";
+
+const ANSWER: &[u8] = b"yes\nyes\nyes 70\nyes\nkeys 3\n6 60\n7 70\n9 90\n";
+
+#[test]
+fn a_text_is_tried_as_often_as_its_settings_say(rt: HostRuntime) {
+    if !two_threads_meet(&rt) {
+        return;
+    }
+    for (row, (tries, answered, held, late)) in ROWS.iter().enumerate() {
+        assert!(rt; 1 <= *tries && *tries <= 3);
+        let settings = Settings {
+            workers: 2,
+            parting: Parting::Stripe,
+            cards: None,
+            tries: *tries,
+        };
+        let gate = Counting::new(rt.alloc(), 2, Holding::at(Kind::IChild)).expect(&rt, "memory");
+        let (mut reader, mut out) = (TEXT.as_bytes(), Vec::new(rt.alloc()));
+        let report = run_bytes_watched(&rt, rt.alloc(), &mut reader, &mut out, settings, &gate);
+        assert!(rt; gate.behind().has_held(), "row {row}");
+        assert!(rt;
+            report.is_ok_and(|report| report.late == *late),
+            "row {row}"
+        );
+        assert!(rt; out.as_slice() == ANSWER, "row {row}");
         assert!(rt; ended_so(gate.told(1), *answered, *held), "row {row}");
     }
 }

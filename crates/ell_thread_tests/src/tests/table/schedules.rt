@@ -1,24 +1,27 @@
 //! Schedules that a person worked out, on a table beside a world.
 use super::parting::{closed, parted};
 use super::playing::{LOST, MOVED, NO, NOT_NOW, Turn, WON, YES, play, same_words};
-use ell_cards::CardTable;
+use ell_cards::{CardTable, Closed};
 use ell_core::Act::{
     Again, Answer, Backtrack, Begin, Claim, DChild, DFlag, DUnflag, Down, IChild, IFlag, IUnflag,
     Leave, Mark, Upd,
 };
-use ell_core::{Shown, Stepped, World};
+use ell_core::{Field, Shown, Stepped, World};
 use ell_ops::{Op, Reply};
+use std::alloc::Global;
 use std::process::Abort;
 
 // Plays a schedule of worker 0, which owns 5 and 6, and of worker 1, which owns 7.
-fn played(rt: &(impl Abort + AllocGlobal), turns: &[Turn]) {
+fn played(rt: &(impl Abort + AllocGlobal), turns: &[Turn]) -> Closed<Global> {
     let keys = [5, 6, 7];
     let (table, pass) = CardTable::reserve(rt.alloc(), &keys, 5).expect(rt, "table");
     let parts = parted(rt, &table, pass, &[5, 6]);
     let owned = [(0, 5), (0, 6), (1, 7)];
     let mut world = World::new(rt.alloc(), 2, &owned, 5).expect(rt, "world");
     let both = play(rt, &table, parts, &mut world, turns);
-    same_words(rt, &closed(rt, table, both, &keys), &world);
+    let closed = closed(rt, table, both, &keys);
+    same_words(rt, &closed, &world);
+    closed
 }
 
 const FOUND_50: Shown = Shown::Step(Stepped::Answered(Reply::Found(50)));
@@ -155,4 +158,34 @@ const NO_BACKTRACK: [Turn; 14] = [
 #[test]
 fn a_helper_may_not_backtrack(rt: HostRuntime) {
     played(&rt, &NO_BACKTRACK);
+}
+
+const ONE_KEY: [Turn; 12] = [
+    (0, &[Begin(Op::Insert(5, 0)), Upd, Down, Claim], MOVED),
+    (0, &[IFlag, IChild(1), IUnflag(1)], WON),
+    (0, &[Answer], YES),
+    (0, &[Begin(Op::Find(5)), Upd, Down, Upd, Down], MOVED),
+    (0, &[Answer], FOUND_0),
+    (
+        0,
+        &[Begin(Op::Delete(5)), Upd, Down, Upd, Down, Claim],
+        MOVED,
+    ),
+    (0, &[DFlag, Mark(2)], WON),
+    (0, &[DChild(2), DUnflag(2)], WON),
+    (0, &[Answer], YES),
+    (0, &[Begin(Op::Find(5))], MOVED),
+    (0, &[Upd, Down], MOVED),
+    (0, &[Answer], NO),
+];
+
+const FOUND_0: Shown = Shown::Step(Stepped::Answered(Reply::Found(0)));
+
+// Its leaf is the copy of the first one: the right leaf of card 1.
+#[test]
+fn the_root_has_a_leaf_again_once_the_one_key_is_gone(rt: HostRuntime) {
+    let closed = played(&rt, &ONE_KEY);
+    assert!(rt; closed.last_card() == 5 && closed.word(0, Field::Left) == 5);
+    assert!(rt; closed.word(1, Field::RightLeafKey) == 18_446_744_073_709_551_614);
+    assert!(rt; closed.word(3, Field::Key) == 0);
 }

@@ -1,6 +1,6 @@
 //! Four threads on one tree, whose keys lie between one another's, each beside a plain map of its own.
 ghost use Rattle.std.specs.Prelude.{◌≡◌};
-ghost use Rattle.ell_tree.specs.Ledgers.{IsIdle};
+ghost use Rattle.ell_tree.specs.Ledgers.{IsIdle, IsIdlePassOf};
 
 use super::asking::{ask, close};
 use super::plain_map::{KEYS, PlainMap, apply_plainly, are_pairs_of};
@@ -80,8 +80,8 @@ pub fn parted(
 ) -> (Pass<Global>, Pass<Global>)
     requires own { pass.table ≡ tree.now.id }
     requires idle { IsIdle pass }
-    ensures left { (result.0.table ≡ tree.now.id) × IsIdle result.0 }
-    ensures right { (result.1.table ≡ tree.now.id) × IsIdle result.1 }
+    ensures left { IsIdlePassOf tree.now result.0 }
+    ensures right { IsIdlePassOf tree.now result.1 }
 {
     let keys = keys_below(rt, end, places);
     assert!(rt; keys.iter().all(|key| pass.owns(*key)));
@@ -95,10 +95,10 @@ fn work_by_two<R: Threads + Abort + Sync>(
     passes: (Pass<Global>, Pass<Global>),
     threads: (u64, u64),
 ) -> (Done, Done)
-    requires first { (passes.0.table ≡ tree.now.id) × IsIdle passes.0 }
-    requires second { (passes.1.table ≡ tree.now.id) × IsIdle passes.1 }
-    ensures first { (result.0.pass.table ≡ tree.now.id) × IsIdle result.0.pass }
-    ensures second { (result.1.pass.table ≡ tree.now.id) × IsIdle result.1.pass }
+    requires first { IsIdlePassOf tree.now passes.0 }
+    requires second { IsIdlePassOf tree.now passes.1 }
+    ensures first { IsIdlePassOf tree.now result.0.pass }
+    ensures second { IsIdlePassOf tree.now result.1.pass }
 {
     let (one, other) = passes;
     join(
@@ -110,9 +110,9 @@ fn work_by_two<R: Threads + Abort + Sync>(
 
 // What two threads leave, in one: the pass of both, and the union of their plain maps.
 fn together(rt: &impl Abort, tree: &Tree<Global>, one: Done, other: Done) -> Done
-    requires first { (one.pass.table ≡ tree.now.id) × IsIdle one.pass }
-    requires second { (other.pass.table ≡ tree.now.id) × IsIdle other.pass }
-    ensures { (result.pass.table ≡ tree.now.id) × IsIdle result.pass }
+    requires first { IsIdlePassOf tree.now one.pass }
+    requires second { IsIdlePassOf tree.now other.pass }
+    ensures { IsIdlePassOf tree.now result.pass }
 {
     let pass = tree.join(one.pass, other.pass).ok().expect(rt, "memory");
     let mut plain = one.plain;

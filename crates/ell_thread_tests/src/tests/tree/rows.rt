@@ -1,6 +1,6 @@
 //! Trees of a few keys on one thread, as a person worked them out.
 ghost use Rattle.std.specs.Prelude.{◌≡◌};
-ghost use Rattle.ell_tree.specs.Ledgers.{IsIdle};
+ghost use Rattle.ell_tree.specs.Ledgers.{IsIdle, IsIdlePassOf};
 
 use super::asking::{Row, ask, close};
 use ell_ops::Op::{Delete, Find, Insert};
@@ -46,10 +46,10 @@ fn play_parted(
     parts: (Pass<Global>, Pass<Global>),
     rows: &[(Part, Row)],
 ) -> (Pass<Global>, Pass<Global>)
-    requires left { (parts.0.table ≡ tree.now.id) × IsIdle parts.0 }
-    requires right { (parts.1.table ≡ tree.now.id) × IsIdle parts.1 }
-    ensures left { (result.0.table ≡ tree.now.id) × IsIdle result.0 }
-    ensures right { (result.1.table ≡ tree.now.id) × IsIdle result.1 }
+    requires left { IsIdlePassOf tree.now parts.0 }
+    requires right { IsIdlePassOf tree.now parts.1 }
+    ensures left { IsIdlePassOf tree.now result.0 }
+    ensures right { IsIdlePassOf tree.now result.1 }
 {
     let (mut left, mut right) = parts;
     for (part, row) in rows {

@@ -2,7 +2,7 @@
 ghost use Rattle.std.specs.Prelude.{◌≡◌, ◌≤◌, IfOk};
 ghost use Rattle.std.specs.List.{All};
 ghost use Rattle.std.specs.List.Sorted.{IsStrictlyIncreasing};
-ghost use Rattle.ell_tree.specs.Ledgers.{IsIdle, present_in};
+ghost use Rattle.ell_tree.specs.Ledgers.{IsIdle, IsIdlePassOf, present_in};
 ghost use Rattle.ell_tree.specs.Meaning.{greatest_key};
 
 use super::asking::{Row, close, play};
@@ -109,7 +109,7 @@ fn renewed(
     requires ascending { IsStrictlyIncreasing keys.now }
     requires real { All (λ k. k ≤ greatest_key) keys.now }
     ensures tree { IfOk result (λ made. made.0.keys ≡ keys.now) }
-    ensures pass { IfOk result (λ made. (made.1.table ≡ made.0.id) × IsIdle made.1) }
+    ensures pass { IfOk result (λ made. IsIdlePassOf made.0 made.1) }
     ensures same { IfOk result (λ made. present_in made.1 ≡ present_in pass) }
 {
     assert!(rt; keys.iter().all(|key| pass.owns(*key)));

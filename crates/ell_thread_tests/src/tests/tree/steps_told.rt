@@ -1,8 +1,14 @@
 //! What a gate is told of each operation of one thread.
-use super::asking::ask;
+use super::asking::{Row, ask, play};
 use crate::tests::keys::keys_below;
-use ell_test_gates::{Counting, Dice, Told};
-use ell_tree::Tree;
+use ell_ops::Op::{Delete, Find, Insert};
+use ell_ops::Reply::{No, Yes};
+use ell_test_gates::Call::{After, Before};
+use ell_test_gates::{Counting, Dice, Listing, Stretch, Told};
+use ell_tree::{Held, Tree};
+use ell_word::Kind::{
+    Begin, Claim, DChild, DFlag, DUnflag, Fill, IChild, IFlag, IUnflag, Look, Mark, Note,
+};
 use ell_word::NoGate;
 
 const OPERATIONS: u32 = 1_000;
@@ -36,4 +42,101 @@ fn a_gate_is_told_each_step_and_each_end(rt: HostRuntime) {
         assert!(rt; gate.told(0) == want, "operation {number}");
     }
     assert!(rt; 0 < want.answered && 0 < want.held);
+}
+
+const ROWS: [Row; 6] = [
+    (Find(5), Ok(No)),
+    (Insert(5, 50), Ok(Yes)),
+    (Insert(5, 55), Ok(No)),
+    (Delete(7), Ok(No)),
+    (Delete(5), Ok(Yes)),
+    (Insert(7, 70), Err(Held::Spent)),
+];
+
+// A search reads three words at each inner node, one or two of them, and the key and the value of the leaf. A change then reads the
+// number of the next card. Behind its flag an insert reads the key of the parent, and behind its mark a delete the leaf, the right
+// child, and the keys of the sibling and of the grandparent.
+const TOLD: [Stretch<'static>; 6] = [
+    (
+        7,
+        &[
+            Before(Begin, 1),
+            Before(Note, 1),
+            Before(Look, 5),
+            Before(Note, 1),
+            After(true),
+        ],
+    ),
+    (
+        7,
+        &[
+            Before(Begin, 1),
+            Before(Note, 1),
+            Before(Look, 6),
+            Before(Claim, 1),
+            Before(Fill, 10),
+            Before(IFlag, 1),
+            Before(Look, 1),
+            Before(IChild, 1),
+            Before(IUnflag, 1),
+            Before(Note, 1),
+            After(true),
+        ],
+    ),
+    (
+        7,
+        &[
+            Before(Begin, 1),
+            Before(Note, 1),
+            Before(Look, 8),
+            Before(Note, 1),
+            After(true),
+        ],
+    ),
+    (
+        7,
+        &[
+            Before(Begin, 1),
+            Before(Note, 1),
+            Before(Look, 8),
+            Before(Note, 1),
+            After(true),
+        ],
+    ),
+    (
+        7,
+        &[
+            Before(Begin, 1),
+            Before(Note, 1),
+            Before(Look, 9),
+            Before(Claim, 1),
+            Before(Fill, 4),
+            Before(DFlag, 1),
+            Before(Mark, 1),
+            Before(Look, 4),
+            Before(DChild, 1),
+            Before(DUnflag, 1),
+            Before(Note, 1),
+            After(true),
+        ],
+    ),
+    (
+        7,
+        &[
+            Before(Begin, 1),
+            Before(Note, 1),
+            Before(Look, 6),
+            Before(Note, 1),
+            After(false),
+        ],
+    ),
+];
+
+#[test]
+fn a_gate_is_told_by_the_label_of_the_pass(rt: HostRuntime) {
+    let gate = Listing::new(rt.alloc(), 100, NoGate).expect(&rt, "memory");
+    let (tree, mut pass) = Tree::reserve(rt.alloc(), &[5, 7], 2).expect(&rt, "tree");
+    pass.relabel(7);
+    play(&rt, &tree, pass, 1, &gate, &ROWS);
+    assert!(rt; gate.was_told(&TOLD));
 }

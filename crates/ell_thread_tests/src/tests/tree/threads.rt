@@ -4,8 +4,12 @@ ghost use Rattle.std.specs.Prelude.{◌≤◌};
 use super::asking::{Row, close, play};
 use ell_ops::Op::{Delete, Insert};
 use ell_ops::Reply::Yes;
-use ell_test_gates::{Holding, two_threads_meet};
+use ell_test_gates::Call::{self, After, Before};
+use ell_test_gates::{Holding, Listing, Stretch, two_threads_meet};
 use ell_tree::{Held, Tree};
+use ell_word::Kind::{
+    Backtrack, Begin, Claim, DChild, DFlag, DUnflag, Fill, IChild, IFlag, IUnflag, Look, Mark, Note,
+};
 use ell_word::{Kind, NoGate};
 use std::process::Abort;
 use std::thread::{Threads, join};
@@ -13,7 +17,7 @@ use std::thread::{Threads, join};
 const KEYS: [u64; 2] = [5, 7];
 
 // What two workers do at once: worker 0, which owns 5, is held at its first step of a kind until worker 1, which owns 7, has ended.
-// What one worker does afterwards, with one try each; and the keys at the end, with their values.
+// All that the gate is told of them. What one worker does afterwards, with one try each; and the keys at the end, with their values.
 #[derive(Clone, Copy)]
 struct Crossing<'a> {
     cards: u64,
@@ -21,6 +25,7 @@ struct Crossing<'a> {
     held_at: Kind,
     left: &'a [Row],
     right: Row,
+    told: &'a [Stretch<'a>],
     afterwards: &'a [Row],
     pairs: &'a [(u64, u64)],
 }
@@ -30,7 +35,7 @@ fn cross<R: Threads + Abort + AllocGlobal + Sync>(rt: &R, crossing: Crossing)
     requires { 1 ≤ crossing.tries }
 {
     let (tries, left, right) = (crossing.tries, crossing.left, [crossing.right]);
-    let gate = Holding::at(crossing.held_at);
+    let gate = Listing::new(rt.alloc(), 100, Holding::at(crossing.held_at)).expect(rt, "memory");
     let (tree, pass) = Tree::reserve(rt.alloc(), &KEYS, crossing.cards).expect(rt, "tree");
     assert!(rt; pass.owns(5));
     let (five, mut seven) = tree.split(pass, &[5]).ok().expect(rt, "memory");
@@ -42,11 +47,83 @@ fn cross<R: Threads + Abort + AllocGlobal + Sync>(rt: &R, crossing: Crossing)
         move || play(rt, shared, seven, tries, told, right),
     );
     let answered = crossing.right.1.is_ok() as u64;
-    assert!(rt; gate.has_held() && gate.answered() == answered);
+    assert!(rt; gate.behind().has_held() && gate.behind().answered() == answered);
+    assert!(rt; gate.was_told(crossing.told));
     let both = tree.join(five, seven).ok().expect(rt, "memory");
     let both = play(rt, &tree, both, 1, &NoGate, crossing.afterwards);
     assert!(rt; close(rt, tree, both, &KEYS).as_slice() == crossing.pairs);
 }
+
+// Calls of which the searches are of the opening tree, of one that has one key more, or two. A search reads three words at each
+// inner node, and the key and the value of the leaf where it ends, and a change that finds its way free then the number of the
+// next card.
+const FLAGGED: &[Call] = &[
+    Before(Begin, 1),
+    Before(Note, 1),
+    Before(Look, 6),
+    Before(Claim, 1),
+    Before(Fill, 10),
+    Before(IFlag, 1),
+    Before(Look, 1),
+];
+
+const CHANGED: &[Call] = &[
+    Before(IChild, 1),
+    Before(IUnflag, 1),
+    Before(Note, 1),
+    After(true),
+];
+
+// From the card on.
+const INSERTED: &[Call] = &[
+    Before(Claim, 1),
+    Before(Fill, 10),
+    Before(IFlag, 1),
+    Before(Look, 1),
+    Before(IChild, 1),
+    Before(IUnflag, 1),
+    Before(Note, 1),
+    After(true),
+];
+
+// The flag is met: two words of its card are read, and the key of the parent.
+const INSERT_HELPED: &[Call] = &[
+    Before(Begin, 1),
+    Before(Note, 1),
+    Before(Look, 8),
+    Before(IChild, 1),
+    Before(IUnflag, 1),
+];
+
+// The mark is met: the grandparent is read in its card, and then what a delete reads.
+const DELETE_HELPED: &[Call] = &[
+    Before(Begin, 1),
+    Before(Note, 1),
+    Before(Look, 13),
+    Before(DChild, 1),
+    Before(DUnflag, 1),
+];
+
+const LEFT: &[Call] = &[Before(Note, 1), After(false)];
+
+const DELETE_FLAGGED: &[Call] = &[
+    Before(Begin, 1),
+    Before(Note, 1),
+    Before(Look, 9),
+    Before(Claim, 1),
+    Before(Fill, 4),
+    Before(DFlag, 1),
+];
+
+// Behind the mark the leaf is read, the right child, and the keys of the sibling and of the grandparent.
+const MARKED: &[Call] = &[Before(Mark, 1), Before(Look, 4)];
+
+const CUT: &[Call] = &[
+    Before(DChild, 1),
+    Before(DUnflag, 1),
+    Before(Note, 1),
+    After(true),
+];
 
 // Worker 0 is held at the child exchange of its insert, or of its delete.
 const AT_ITS_INSERT: Crossing = Crossing {
@@ -55,6 +132,13 @@ const AT_ITS_INSERT: Crossing = Crossing {
     held_at: Kind::IChild,
     left: &[(Insert(5, 50), Ok(Yes))],
     right: (Insert(7, 70), Ok(Yes)),
+    told: &[
+        (0, FLAGGED),
+        (1, INSERT_HELPED),
+        (1, &[Before(Note, 1), Before(Look, 9)]),
+        (1, INSERTED),
+        (0, CHANGED),
+    ],
     afterwards: &[],
     pairs: &[(5, 50), (7, 70)],
 };
@@ -62,6 +146,16 @@ const AT_ITS_INSERT: Crossing = Crossing {
 const AT_ITS_DELETE: Crossing = Crossing {
     held_at: Kind::DChild,
     left: &[(Insert(5, 50), Ok(Yes)), (Delete(5), Ok(Yes))],
+    told: &[
+        (0, FLAGGED),
+        (0, CHANGED),
+        (0, DELETE_FLAGGED),
+        (0, MARKED),
+        (1, DELETE_HELPED),
+        (1, &[Before(Note, 1), Before(Look, 6)]),
+        (1, INSERTED),
+        (0, CUT),
+    ],
     pairs: &[(7, 70)],
     ..AT_ITS_INSERT
 };
@@ -86,6 +180,7 @@ fn a_try_that_helps_is_over(rt: HostRuntime) {
         let at_its_flag = Crossing {
             tries: 1,
             right: (Insert(7, 70), Err(Held::Busy)),
+            told: &[(0, FLAGGED), (1, INSERT_HELPED), (1, LEFT), (0, CHANGED)],
             pairs: &[(5, 50)],
             ..AT_ITS_INSERT
         };
@@ -93,6 +188,15 @@ fn a_try_that_helps_is_over(rt: HostRuntime) {
         let at_its_mark = Crossing {
             tries: 1,
             right: (Insert(7, 70), Err(Held::Busy)),
+            told: &[
+                (0, FLAGGED),
+                (0, CHANGED),
+                (0, DELETE_FLAGGED),
+                (0, MARKED),
+                (1, DELETE_HELPED),
+                (1, LEFT),
+                (0, CUT),
+            ],
             pairs: &[],
             ..AT_ITS_DELETE
         };
@@ -106,6 +210,13 @@ fn a_helper_may_find_all_cards_given_out(rt: HostRuntime) {
         let with_one_card = Crossing {
             cards: 1,
             right: (Insert(7, 70), Err(Held::Spent)),
+            told: &[
+                (0, FLAGGED),
+                (1, INSERT_HELPED),
+                (1, &[Before(Note, 1), Before(Look, 9)]),
+                (1, LEFT),
+                (0, CHANGED),
+            ],
             pairs: &[(5, 50)],
             ..AT_ITS_INSERT
         };
@@ -122,6 +233,15 @@ fn a_delete_that_loses_its_mark_tries_again(rt: HostRuntime) {
             held_at: Kind::Mark,
             left: &[(Insert(5, 50), Ok(Yes)), (Delete(5), Err(Held::Busy))],
             right: (Insert(7, 70), Ok(Yes)),
+            told: &[
+                (0, FLAGGED),
+                (0, CHANGED),
+                (0, DELETE_FLAGGED),
+                (1, &[Before(Begin, 1), Before(Note, 1), Before(Look, 9)]),
+                (1, INSERTED),
+                (0, &[Before(Mark, 1), Before(Backtrack, 1)]),
+                (0, LEFT),
+            ],
             afterwards: &[(Delete(5), Ok(Yes)), (Delete(7), Ok(Yes))],
             pairs: &[],
         };
@@ -129,6 +249,18 @@ fn a_delete_that_loses_its_mark_tries_again(rt: HostRuntime) {
         let with_two = Crossing {
             tries: 2,
             left: &[(Insert(5, 50), Ok(Yes)), (Delete(5), Ok(Yes))],
+            told: &[
+                (0, FLAGGED),
+                (0, CHANGED),
+                (0, DELETE_FLAGGED),
+                (1, &[Before(Begin, 1), Before(Note, 1), Before(Look, 9)]),
+                (1, INSERTED),
+                (0, &[Before(Mark, 1), Before(Backtrack, 1)]),
+                (0, &[Before(Note, 1), Before(Look, 9), Before(Claim, 1)]),
+                (0, &[Before(Fill, 4), Before(DFlag, 1)]),
+                (0, MARKED),
+                (0, CUT),
+            ],
             afterwards: &[(Delete(7), Ok(Yes))],
             ..with_one_try
         };

@@ -1,6 +1,7 @@
 use Rattle.std.proofs.Common.{ℕ, ◌<◌, sym, subst}
 use Rattle.ell_core.specs.state.Layout.{table_size}
-use Rattle.ell_cards.proofs.seats.Taken.{may_exchange, taken_keeps, word_fits, steps_by}
+use Rattle.ell_cards.proofs.seats.Taken.{taken_keeps, word_fits, steps_by}
+use Rattle.ell_cards.proofs.runs.Reaching.{may_exchange}
 use Rattle.ell_cards.proofs.table.CardTable.exchange.Goals as goal
 
 pub exchange_as-requires-clause-word : goal.exchange_as-requires-clause-word
@@ -8,7 +9,7 @@ exchange_as-requires-clause-word g c = λ named. subst (λ (i : ℕ). i < table_
     (word_fits c.args.self.now.last_card c.args.call c.args.pass.now.view named c.requires.may)
 
 pub exchange_as-requires-clause-rule : goal.exchange_as-requires-clause-rule
-exchange_as-requires-clause-rule g c = may_exchange c.args.self.now.keys c.args.self.now.last_card c.args.call c.args.pass.now.view c.args.word c.args.expected c.args.value c.requires.word c.requires.atomic c.requires.may
+exchange_as-requires-clause-rule g c = may_exchange c.args.self.now.keys c.args.self.now.start c.args.self.now.last_card c.args.call c.args.pass.now.view c.args.word c.args.expected c.args.value c.requires.word c.requires.atomic c.requires.may
 
 pub exchange_as-requires-clause-keeps : goal.exchange_as-requires-clause-keeps
 exchange_as-requires-clause-keeps g c = taken_keeps c.args.self.now.last_card c.args.call c.args.pass.now.view

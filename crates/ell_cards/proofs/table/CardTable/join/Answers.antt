@@ -3,7 +3,8 @@ use Rattle.atomic_table.specs.Table.{Me}
 use Rattle.ell_cards.specs.declared.view.View.{View}
 use Rattle.ell_cards.specs.Models.{PassModel, IsFree}
 use Rattle.ell_cards.specs.Inside.{PassFits}
-use Rattle.ell_cards.proofs.lifetimes.Joins.{joins, joined_fits}
+use Rattle.ell_cards.proofs.lifetimes.Joins.{joined_fits}
+use Rattle.ell_cards.proofs.runs.Reaching.{joins}
 use Rattle.ell_cards.proofs.seats.Opened.{of_table, own_size}
 use Rattle.ell_cards.proofs.table.CardTable.join.Goals as goal
 
@@ -15,7 +16,7 @@ join_seat-requires g c =
       of_table _ _ _ _ c.self.view_is c.right.view_is c.requires.right size,
       c.right.invariant.1,
       omega arith,
-      joins t.key.keys.items t.key.last_card c.left.inside.seat.me.0 c.right.inside.seat.me.0
+      joins t.key.keys.items t.key.start.items t.key.last_card c.left.inside.seat.me.0 c.right.inside.seat.me.0
           (subst (λ (p : PassModel). IsFree p.view) (sym c.left.view_is) c.requires.left_free)
           (subst (λ (p : PassModel). IsFree p.view) (sym c.right.view_is) c.requires.right_free)
           c.left.inside.seat.id c.right.inside.seat.id,

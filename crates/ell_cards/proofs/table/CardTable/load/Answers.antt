@@ -1,6 +1,7 @@
 use Rattle.std.proofs.Common.{ℕ, ◌<◌, sym, subst}
 use Rattle.ell_core.specs.state.Layout.{table_size}
-use Rattle.ell_cards.proofs.seats.Taken.{may_load, taken_keeps, word_fits, steps_by}
+use Rattle.ell_cards.proofs.seats.Taken.{taken_keeps, word_fits, steps_by}
+use Rattle.ell_cards.proofs.runs.Reaching.{may_load}
 use Rattle.ell_cards.proofs.table.CardTable.load.Goals as goal
 
 pub load_as-requires-clause-word : goal.load_as-requires-clause-word
@@ -8,7 +9,7 @@ load_as-requires-clause-word g c = λ named. subst (λ (i : ℕ). i < table_size
     (word_fits c.args.self.now.last_card c.args.call c.args.pass.now.view named c.requires.may)
 
 pub load_as-requires-clause-rule : goal.load_as-requires-clause-rule
-load_as-requires-clause-rule g c = may_load c.args.self.now.keys c.args.self.now.last_card c.args.call c.args.pass.now.view c.args.word c.requires.word c.requires.atomic c.requires.may
+load_as-requires-clause-rule g c = may_load c.args.self.now.keys c.args.self.now.start c.args.self.now.last_card c.args.call c.args.pass.now.view c.args.word c.requires.word c.requires.atomic c.requires.may
 
 pub load_as-requires-clause-keeps : goal.load_as-requires-clause-keeps
 load_as-requires-clause-keeps g c = taken_keeps c.args.self.now.last_card c.args.call c.args.pass.now.view

@@ -3,7 +3,8 @@ use Rattle.ell_cards.specs.Models.{PassModel}
 use Rattle.ell_ops.specs.KeySet.{set_of}
 use Rattle.ell_cards.specs.Changes.{keys_of, left_view, right_view}
 use Rattle.ell_cards.specs.Stepping.{MayHave}
-use Rattle.ell_cards.proofs.lifetimes.Splits.{splits, owned_all, left_has, right_has}
+use Rattle.ell_cards.proofs.lifetimes.Splits.{owned_all, left_has, right_has}
+use Rattle.ell_cards.proofs.runs.Reaching.{splits}
 use Rattle.ell_cards.proofs.table.CardTable.split.Goals as goal
 
 pub parted-requires-clause-among : goal.parted-requires-clause-among
@@ -12,7 +13,7 @@ parted-requires-clause-among g c =
     (c.as_slice.ensures.value ∙ c.pass.invariant.0.owned ∙ ap (λ (m : PassModel). keys_of m.view.worker.ledger) c.pass.view_is) c.requires.owned
 
 pub split_as-requires-clause-rule : goal.split_as-requires-clause-rule
-split_as-requires-clause-rule g c = splits c.args.self.now.keys c.args.self.now.last_card c.args.pass.view c.in-Ok.left.items c.requires.free
+split_as-requires-clause-rule g c = splits c.args.self.now.keys c.args.self.now.start c.args.self.now.last_card c.args.pass.view c.in-Ok.left.items c.requires.free
 
 pub split_as-requires-clause-left : goal.split_as-requires-clause-left
 split_as-requires-clause-left g c =

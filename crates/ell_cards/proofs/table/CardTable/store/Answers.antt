@@ -1,7 +1,8 @@
 use Rattle.std.proofs.Common.{ℕ, ◌<◌, sym, subst}
 use Rattle.ell_core.specs.state.Layout.{table_size}
 use Rattle.ell_cards.specs.declared.call.Call.TheVariants as call
-use Rattle.ell_cards.proofs.seats.Taken.{may_fill, taken_keeps, word_fits, steps_by}
+use Rattle.ell_cards.proofs.seats.Taken.{taken_keeps, word_fits, steps_by}
+use Rattle.ell_cards.proofs.runs.Reaching.{may_fill}
 use Rattle.ell_cards.proofs.table.CardTable.store.Goals as goal
 
 pub store_as-requires-clause-word : goal.store_as-requires-clause-word
@@ -9,7 +10,7 @@ store_as-requires-clause-word g c = λ named. subst (λ (i : ℕ). i < table_siz
     (word_fits c.args.self.now.last_card (call.Fill c.args.card c.args.field c.args.value) c.args.pass.now.view named c.requires.may)
 
 pub store_as-requires-clause-rule : goal.store_as-requires-clause-rule
-store_as-requires-clause-rule g c = may_fill c.args.self.now.keys c.args.self.now.last_card c.args.card c.args.field c.args.value c.args.pass.now.view c.args.word
+store_as-requires-clause-rule g c = may_fill c.args.self.now.keys c.args.self.now.start c.args.self.now.last_card c.args.card c.args.field c.args.value c.args.pass.now.view c.args.word
     c.requires.word c.requires.may
 
 pub store_as-requires-clause-keeps : goal.store_as-requires-clause-keeps

@@ -6,12 +6,12 @@ use Rattle.ell_tree.proofs.tree.Tree.close.Goals as goal
 
 pub pairs_of_tree-requires-clause-pairs_room : goal.pairs_of_tree-requires-clause-pairs_room
 pairs_of_tree-requires-clause-pairs_room g c =
-    let ends = subst (λ (t : TreeModel). TableEnds t.keys c.args.pass.view c.close-closed.result) c.self.view_is c.close-closed.ensures.ends in
+    let ends = subst (λ (t : TreeModel). TableEnds t.keys t.start c.args.pass.view c.close-closed.result) c.self.view_is c.close-closed.ensures.ends in
     let same = ap length c.keys.ensures.keys in
     holds_keys c.args.self c.args.pass c.close-closed.result ends c.requires.all _ (omega (arith, same, c.in-Ok.ensures.pairs.1))
 
 pub returns-clause-pairs : goal.returns-clause-pairs
 returns-clause-pairs g c =
-    let ends = subst (λ (t : TreeModel). TableEnds t.keys c.args.pass.view c.close-closed.result) c.self.view_is c.close-closed.ensures.ends in
+    let ends = subst (λ (t : TreeModel). TableEnds t.keys t.start c.args.pass.view c.close-closed.result) c.self.view_is c.close-closed.ensures.ends in
     let cards = c.close-closed.ensures.cards ∙ ap (λ (t : TreeModel). t.last_card) c.self.view_is in
     closes c.args.self c.args.pass c.close-closed.result ends c.requires.all c.pairs_of_tree.result.items cards c.pairs_of_tree.ensures

@@ -4,21 +4,21 @@ use Rattle.ell_tree.specs.Ledgers.{present_in}
 use Rattle.ell_run.specs.Work.{AreReady, IsWorked}
 use Rattle.ell_run.proofs.Opened.{busy_ready}
 use Rattle.ell_run.proofs.Rows.{length-pieces}
-use Rattle.ell_run.proofs.workers.work_busy.Goals as goal
+use Rattle.ell_run.proofs.workers.work.Goals as goal
 
 pub do_workers-requires-clause-ready : goal.do_workers-requires-clause-ready
 do_workers-requires-clause-ready g c = λ κs outlives.
-    subst (λ workers. AreReady c.args.tree.now c.args.parts.now workers c.args.pass) (sym c.requires.busy)
-    (busy_ready c.args.tree.now c.args.parts.now c.args.pass c.requires.lawful c.requires.own c.requires.idle c.requires.owned)
+    subst (λ workers. AreReady c.args.tree.now c.args.parts.now workers c.args.pass) (sym (c.deref.ensures.value ∙ c.in_ok-workers.ensures.busy))
+    (busy_ready c.args.tree.now c.args.parts.now c.args.pass c.in_ok-workers.ensures.lawful c.requires.own c.requires.idle c.requires.owned)
 
 pub with_empty_pieces-requires : goal.with_empty_pieces-requires
 with_empty_pieces-requires g c =
     sym (length-map c.in_ok-pass.pieces.items (λ piece. piece.items))
-    ∙ length-pieces (present_in c.args.pass) c.args.parts.now c.args.workers.now (map (λ piece. piece.items) c.in_ok-pass.pieces.items) c.in_ok-pass.ensures.told
-    ∙ ap length c.requires.busy
+    ∙ length-pieces (present_in c.args.pass) c.args.parts.now c.deref.result.now (map (λ piece. piece.items) c.in_ok-pass.pieces.items) c.in_ok-pass.ensures.told
+    ∙ ap length (c.deref.ensures.value ∙ c.in_ok-workers.ensures.busy)
 
 pub returns : goal.returns
 returns g c =
     c.in_ok-with_empty_pieces.ensures c.args.tree.now.last_card c.args.tries c.args.pass c.in_ok-pass.pass
     (subst (λ workers. IsWorked c.args.tree.now.last_card c.args.tries c.args.parts.now workers c.args.pass c.in_ok-pass.pass (map (λ piece. piece.items) c.in_ok-pass.pieces.items))
-    c.requires.busy c.in_ok-pass.ensures)
+    (c.deref.ensures.value ∙ c.in_ok-workers.ensures.busy) c.in_ok-pass.ensures)

@@ -1,38 +1,20 @@
 use Rattle.std.specs.Prelude.{◌≡◌, ℕ, ◌<◌, Bool, true, false, List, length, slice_index, Some, Contains}
-use mathlib.Core.Option.{Option, some, none}
+use mathlib.Core.Option.{some}
 use lib.ListN.{get_elem?}
-use Rattle.atomic_table.specs.Table.{State}
-use Rattle.ell_core.specs.declared.field.Field.{Field}
 use Rattle.ell_core.specs.declared.field.Field.TheVariants.{Left, Right, Update}
+use Rattle.ell_core.specs.declared.field.Field.{Field}
 use Rattle.ell_core.specs.state.Layout.{listed, table_size}
 use Rattle.ell_core.specs.state.Words.{Words, word}
-use Rattle.ell_core.specs.state.Machine.{Worker, Machine, nobody, worker_of}
+use Rattle.ell_core.specs.state.Machine.{worker_of}
 use Rattle.ell_core.specs.state.Cards.{marked, stored}
 use Rattle.ell_core.specs.soundness.Sound.{WorkerOwns}
-use Rattle.ell_core.specs.history.Stages.{Stages, Born, waits}
 use Rattle.ell_core.specs.history.Invariant.{Invariant}
-use Rattle.ell_cards.specs.declared.view.Told.{Told}
+use Rattle.ell_core.specs.history.Stages.{Stages, Born, waits}
 use Rattle.ell_cards.specs.declared.view.Told.TheVariants.{Met, Key, Value, Info, Frozen}
+use Rattle.ell_cards.specs.declared.view.Told.{Told}
 use Rattle.ell_cards.specs.declared.view.View.{View}
 use Rattle.ell_cards.specs.Models.{IsTold, stored_at}
-
--- the state of a table without slots
-abbrev pub TableState : Type 0
-TableState = State (Unit {0}) View
-
--- the worker that a seat is, or nobody
-abbrev pub seat_worker : Option View → Worker
-seat_worker none = nobody
-seat_worker (some v) = worker_of v.worker
-
--- the machine of these words and views
-abbrev pub seated : Words → List View → ℕ → Machine
-seated w views cards = record {
-  words = w;
-  worker = λ i. seat_worker (get_elem? views i);
-  count = length views;
-  last_card = cards;
-}
+use Rattle.ell_cards.specs.States.{TableState, seated}
 
 -- a field that never changes once its card is claimed
 abbrev pub is_fixed : Field → Bool
@@ -63,11 +45,11 @@ pub record ViewHolds (words : List ℕ) (w : Words) (stage : Stages) (v : View) 
   pub here : (x key : ℕ) → v.worker.search.node ≡ Some x → v.here ≡ Some key → IsTold v (Key x key)
   pub hand : (c : ℕ) → v.worker.card ≡ Some c → v.worker.flagged ≡ false → CardInHandHolds words w v.planned v.stores c
 
--- the rule holds of a state of a table with these keys and so many cards: there is a machine that the invariant holds of, its workers
--- the passes; the table has its claim word, and its words at every card that does not wait for its flag; what passes know holds;
--- and every key that a pass owns is one of the table's. So while a pass fills card 3, the machine has card 3 whole and the table what
+-- a state of a table with these keys and so many cards has a machine that the invariant holds of: its workers are the passes; the
+-- table has its claim word, and its words at every card that does not wait for its flag; what passes know holds; and every key that
+-- a pass owns is one of the table's. So while a pass fills card 3, the machine has card 3 whole and the table what
 -- was stored of it, and at every other card that won its flag the two are alike
-pub record RuleHolds (keys : List ℕ) (cards : ℕ) (s : TableState) : Type 0 where
+pub record HasMachine (keys : List ℕ) (cards : ℕ) (s : TableState) : Type 0 where
   pub words : Words
   pub stages : Stages
   pub invariant : Invariant (seated words s.views cards) stages

@@ -1,0 +1,113 @@
+use Rattle.std.specs.Prelude.{◌≡◌, ℕ, if◌then◌else◌, Bool, true, Some, List, [], ◌∷◌, ◌++◌}
+use mathlib.Core.Option.{some}
+use lib.ListN.{get_elem?}
+use Rattle.ell_ops.specs.declared.op.Op.{Op}
+use Rattle.ell_ops.specs.declared.op.Op.TheVariants.{Insert, Delete}
+use Rattle.ell_word.specs.declared.gate.Kind.{Kind}
+use Rattle.ell_word.specs.declared.gate.Kind.TheVariants as kind
+use Rattle.ell_core.specs.state.Words.{Words, words_of}
+use Rattle.ell_core.specs.state.Machine.{Machine, ledger_of}
+use Rattle.ell_core.specs.state.Cards.{card_key, card_value}
+use Rattle.ell_core.specs.soundness.Sound.{IsSound}
+use Rattle.ell_core.specs.acts.Wins.{win_for}
+use Rattle.ell_core.specs.statements.Effects.{AddsPair, TakesPair, SamePairs, AnswersAsMap}
+use Rattle.ell_cards.specs.declared.call.Call.{Call}
+use Rattle.ell_cards.specs.declared.call.Call.TheVariants as call
+use Rattle.ell_cards.specs.declared.view.View.{View}
+use Rattle.ell_cards.specs.Models.{Does}
+use Rattle.ell_cards.specs.Calls.{atomic_of, is_won}
+use Rattle.ell_cards.specs.States.{TableState, seated}
+use Rattle.ell_cards.specs.Turns.{Turn, Makes, TableTurns, TableRun, found_by, view_after}
+
+-- the table's own words, by their names
+abbrev pub own_words : TableState → Words
+own_words s = words_of s.words
+
+-- the machine that has the table's own words, and the passes for workers
+abbrev pub own_machine : ℕ → TableState → Machine
+own_machine cards s = seated (own_words s) s.views cards
+
+-- a card is in the hand of a pass, flagged
+pub record IsHeld (v : View) (c : ℕ) : Type 0 where
+  pub holds : v.worker.card ≡ Some c
+  pub flagged : v.worker.flagged ≡ true
+
+-- what a call does to the keys of the tree and their values, by whether it is a won exchange: a won ichild adds its card's key with
+-- its value, a won dchild takes its card's key with its value away, and nothing else changes them
+abbrev pub PairsChangeBy : Call → Bool → Words → Words → Type 0
+PairsChangeBy (call.IChild c p l right) true old new = AddsPair old new (card_key old c) (card_value old c)
+PairsChangeBy (call.DChild c gp p s right) true old new = TakesPair old new (card_key old c) (card_value old c)
+PairsChangeBy _ _ old new = SamePairs old new
+
+-- what a call does to the ledger of its pass: an answer is the map's, by the ledger, which becomes the map after it; no other call
+-- changes it
+abbrev pub LedgerChangesBy : Call → View → View → Type 0
+LedgerChangesBy (call.Answer said) v w =
+    AnswersAsMap (ledger_of v.worker.ledger) (ledger_of w.worker.ledger) v.worker.operation said
+LedgerChangesBy _ v w = w.worker.ledger ≡ v.worker.ledger
+
+-- a pass has this operation in hand, and for it this card, flagged
+pub record IsAtWork (s : TableState) (c : ℕ) (op : Op) : Type 0 where
+  pub seat : ℕ
+  pub view : View
+  pub there : get_elem? s.views seat ≡ some view
+  pub does : Does view op
+  pub held : IsHeld view c
+
+-- whose a won child exchange is: a won ichild is of an insert of its card's key and value that is in hand, a won dchild of a delete
+abbrev pub ChangeIsOf : Call → Bool → TableState → Type 0
+ChangeIsOf (call.IChild c p l right) true s = IsAtWork s c (Insert (card_key (own_words s) c) (card_value (own_words s) c))
+ChangeIsOf (call.DChild c gp p y right) true s = IsAtWork s c (Delete (card_key (own_words s) c))
+ChangeIsOf _ _ s = Unit {0}
+
+-- how the keys of the tree that the table's own words make change by a turn: as the call says, if it is a won exchange; by a split
+-- or a join not at all
+abbrev pub PairsGoBy : TableState → Turn → TableState → Type 0
+PairsGoBy s (Makes seat c) s' = PairsChangeBy c (is_won (atomic_of c) (found_by s c)) (own_words s) (own_words s')
+PairsGoBy s _ s' = SamePairs (own_words s) (own_words s')
+
+-- whose a won ichild or dchild is: some pass has that insert or delete in hand
+abbrev pub IsWonFor : TableState → Turn → Type 0
+IsWonFor s (Makes seat c) = ChangeIsOf c (is_won (atomic_of c) (found_by s c)) s
+IsWonFor s _ = Unit {0}
+
+-- what a call does to the ledger of its pass: an answer is the map's, and no other call changes it
+abbrev pub LedgerGoesBy : (cards : ℕ) (s : TableState) (t : Turn) (s' : TableState) → TableTurns cards s t s' → Type 0
+LedgerGoesBy cards s (Makes seat c) s' turn = LedgerChangesBy c turn.view (view_after s turn.view c)
+LedgerGoesBy cards s _ s' turn = Unit {0}
+
+-- what a turn does, by the table's own words and by what its passes know: the keys of the tree that those words make change at a won
+-- ichild or dchild alone, by that card's key; that is of an operation that some pass has in hand; an answer is the map's; and the
+-- words after it, with what the passes know, are a sound state
+pub record TurnDoes (cards : ℕ) (s : TableState) (t : Turn) (s' : TableState) (turn : TableTurns cards s t s') : Type 0 where
+  pub pairs : PairsGoBy s t s'
+  pub won : IsWonFor s t
+  pub ledger : LedgerGoesBy cards s t s' turn
+  pub sound : IsSound (own_machine cards s')
+
+-- so does each turn of a run
+abbrev pub TurnsDo : (cards : ℕ) (s : TableState) (turns : List Turn) (s' : TableState) → TableRun cards s turns s' → Type 0
+TurnsDo cards s [] s' run = Unit {0}
+TurnsDo cards s (t ∷ ts) s' run = TurnDoes cards s t run.0 run.1 × TurnsDo cards run.0 ts s' run.2
+
+-- what a call wins for a card, if it is a won exchange
+abbrev pub win_of : Call → ℕ → List Kind
+win_of (call.IFlag c p from) d = win_for (Some c) kind.IFlag d
+win_of (call.IChild c p l right) d = win_for (Some c) kind.IChild d
+win_of (call.IUnflag c p) d = win_for (Some c) kind.IUnflag d
+win_of (call.DFlag c gp from) d = win_for (Some c) kind.DFlag d
+win_of (call.Mark c p was) d = win_for (Some c) kind.Mark d
+win_of (call.DChild c gp p s right) d = win_for (Some c) kind.DChild d
+win_of (call.DUnflag c gp) d = win_for (Some c) kind.DUnflag d
+win_of (call.Backtrack c gp) d = win_for (Some c) kind.Backtrack d
+win_of _ d = []
+
+-- what a turn wins for a card
+abbrev pub turn_wins : TableState → Turn → ℕ → List Kind
+turn_wins s (Makes seat c) d = if is_won (atomic_of c) (found_by s c) then win_of c d else []
+turn_wins s _ d = []
+
+-- what a run wins for a card, in its order
+abbrev pub run_wins : (cards : ℕ) (s : TableState) (turns : List Turn) (s' : TableState) → TableRun cards s turns s' → ℕ → List Kind
+run_wins cards s [] s' run d = []
+run_wins cards s (t ∷ ts) s' run d = turn_wins s t d ++ run_wins cards run.0 ts s' run.2 d
