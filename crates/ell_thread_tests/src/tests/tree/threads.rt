@@ -35,7 +35,7 @@ fn cross<R: Threads + Abort + AllocGlobal + Sync>(rt: &R, crossing: Crossing)
     requires { 1 ≤ crossing.tries }
 {
     let (tries, left, right) = (crossing.tries, crossing.left, [crossing.right]);
-    let gate = Listing::new(rt.alloc(), 100, Holding::at(crossing.held_at)).expect(rt, "memory");
+    let gate = Listing::new(rt.alloc(), 120, Holding::at(crossing.held_at)).expect(rt, "memory");
     let (tree, pass) = Tree::reserve(rt.alloc(), &KEYS, crossing.cards).expect(rt, "tree");
     assert!(rt; pass.owns(5));
     let (five, mut seven) = tree.split(pass, &[5]).ok().expect(rt, "memory");
@@ -256,7 +256,7 @@ fn a_delete_that_loses_its_mark_tries_again(rt: HostRuntime) {
                 (1, &[Before(Begin, 1), Before(Note, 1), Before(Look, 9)]),
                 (1, INSERTED),
                 (0, &[Before(Mark, 1), Before(Backtrack, 1)]),
-                (0, &[Before(Note, 1), Before(Look, 9), Before(Claim, 1)]),
+                (0, &[Before(Note, 1), Before(Look, 12), Before(Claim, 1)]),
                 (0, &[Before(Fill, 4), Before(DFlag, 1)]),
                 (0, MARKED),
                 (0, CUT),
