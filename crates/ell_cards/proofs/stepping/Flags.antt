@@ -33,6 +33,7 @@ use Rattle.ell_cards.specs.States.{TableState}
 use Rattle.ell_cards.specs.Machines.{EntryHolds, HasMachine}
 use Rattle.ell_cards.specs.Laws.{IsEvent}
 use Rattle.ell_core.proofs.stages.Waiting.{born-settled}
+use Rattle.ell_cards.proofs.views.Facts.{knows_more, facts_by_more}
 use Rattle.ell_cards.proofs.seats.Entries.{facts_known}
 use Rattle.ell_cards.proofs.seats.Seats.{mine, becomes, mine_is, relies}
 use Rattle.ell_cards.proofs.seats.Frames.{Onward, IsReached, waits_on, is_event}
@@ -56,9 +57,28 @@ module _ (keys : List ℕ) (cards : ℕ) (s : TableState) (r : HasMachine keys c
   flag_view new x b = let n = found_at keys cards s r id v here (card x) field.Update in with_found n (after_flag b new x (unpacked n) v)
 
   -- what is so of it
-  flag_on : (new : Fact) (x : ℕ) (b : Bool) → Onward v (flag_view new x b)
-  flag_on new x true = record { here = λ y k a e. absurd (some_not_none e refl); hand = λ c has un. absurd (true≢false un); owns = λ k h. h }
-  flag_on new x false = record { here = λ y k a e. absurd (some_not_none e refl); hand = λ c has un. absurd (some_not_none has refl); owns = λ k h. h }
+  flag_on : (new : Fact) (x : ℕ) (b : Bool) → Onward r.words r.stages v (flag_view new x b)
+  flag_on new x true = record {
+    here = λ y k a e. absurd (some_not_none e refl);
+    hand = λ c has un. absurd (true≢false un);
+    owns = λ k h. h;
+    read = λ m at. at;
+    least = refl;
+    before = (r.views id v here).knew;
+    knew = λ f k. knows_more new f v.worker.facts ((r.views id v here).knew f k);
+    walk = λ op y busy at. absurd (some_not_none at refl);
+  }
+  flag_on new x false =
+      let u = unpacked (found_at keys cards s r id v here (card x) field.Update) in record {
+        here = λ y k a e. absurd (some_not_none e refl);
+        hand = λ c has un. absurd (some_not_none has refl);
+        owns = λ k h. h;
+        read = λ m at. at;
+        least = refl;
+        before = (r.views id v here).knew;
+        knew = λ f k. facts_by_more u.state u.card v.worker.facts f ((r.views id v here).knew f k);
+        walk = λ op y busy at. absurd (some_not_none at refl);
+      }
 
   flag_entries : (new : Fact) (x : ℕ) → MayRead r.words r.stages x → (b : Bool) (e : Told) → IsTold (flag_view new x b) e → EntryHolds r.words r.stages e
   flag_entries new x reads true = (r.views id v here).entries
