@@ -16,5 +16,9 @@ pub mod OfReached
 pub mod Readings
 -- each card that was claimed was told to some pass
 pub mod Claims
+-- what has hindered a pass since its search began
+pub mod Hindered
+-- what comes to its end while a search goes on
+pub mod Meanwhile
 -- what no step can tell
 pub mod Tellings
