@@ -16,5 +16,13 @@ pub mod OfReached
 pub mod Readings
 -- each card that was claimed was told to some pass
 pub mod Claims
+-- nodes that searches have gone through were met
+pub mod Met
+-- what passes won, counted
+pub mod Won
+-- how often, by the cards' stages and the claim word
+pub mod Counts
+-- exchanges that can't be told otherwise than they went
+pub mod Outcomes
 -- what no step can tell
 pub mod Tellings
