@@ -20,5 +20,13 @@ pub mod Claims
 pub mod Hindered
 -- what comes to its end while a search goes on
 pub mod Meanwhile
+-- nodes that searches have gone through were met
+pub mod Met
+-- what passes won, counted
+pub mod Won
+-- how often, by the cards' stages and the claim word
+pub mod Counts
+-- exchanges that can't be told otherwise than they went
+pub mod Outcomes
 -- what no step can tell
 pub mod Tellings

@@ -1,6 +1,7 @@
 use Rattle.std.specs.Prelude.{◌≡◌, ◌≢◌, ℕ, ◌+◌, ◌<◌, ◌≤◌, ◌==◌, ◌%◌, if◌then◌else◌, Bool, false, Option, Some, None, is_some}
 use Rattle.ell_ops.specs.declared.op.Op.{Op}
 use Rattle.ell_ops.specs.Meaning.{key_of}
+use Rattle.ell_word.specs.declared.gate.Kind.TheVariants as kind
 use Rattle.ell_word.specs.Node.{IsInternal, card, internal}
 use Rattle.ell_word.specs.Word.{packed, unpacked}
 use Rattle.ell_core.specs.declared.event.Act.{Act}
@@ -23,7 +24,7 @@ use Rattle.ell_cards.specs.declared.call.Call.TheVariants as call
 use Rattle.ell_cards.specs.declared.view.Told.TheVariants.{Met, Info}
 use Rattle.ell_cards.specs.declared.view.View.{View}
 use Rattle.ell_cards.specs.Models.{IsTold, Does, StandsAt, InTable, KnowsDelete, EndWasUnknown}
-use Rattle.ell_cards.specs.Changes.{learning, with_found, after_begin, after_again, after_leave, after_answer, after_upd, after_down, after_next, after_key_of, after_value_of, after_info, after_frozen_child, after_claim, after_fill, after_flag, after_mark}
+use Rattle.ell_cards.specs.Changes.{learning, if_won, exchanged, after_begin, after_again, after_leave, after_answer, after_upd, after_down, after_next, after_key_of, after_value_of, after_info, after_frozen_child, after_claim, after_fill, after_flag, after_mark}
 use Rattle.ell_cards.specs.Guards.{MayBegin, MayStop, MayAnswer, MayRead, MayGoDown, MayAsk, MaySee, MayClaim, MayFill, MayIFlag, MayDFlag, MayIChild, MayIUnflag, MayMark, MayDChild, MayDUnflag, MayBacktrack}
 
 -- the address of the update word of a node
@@ -112,14 +113,14 @@ after (call.Info c f) n v = after_info c f n v
 after (call.FrozenChild c p right) n v = after_frozen_child c right n v
 after (call.Claim c) n v = after_claim (n == c) c v
 after (call.Fill c f value) n v = after_fill f value v
-after (call.IFlag c p from) n v = with_found n (after_flag (n == packed from) (fact.IFlagged c) p (unpacked n) v)
-after (call.IChild c p l right) n v = with_found n (learning (fact.IChanged c) v)
-after (call.IUnflag c p) n v = with_found n (learning (fact.IOver c) v)
-after (call.DFlag c gp from) n v = with_found n (after_flag (n == packed from) (fact.DFlagged c) gp (unpacked n) v)
-after (call.Mark c p was) n v = with_found n (after_mark (n == was) c p (unpacked n) v)
-after (call.DChild c gp p s right) n v = with_found n (learning (fact.Cut c) v)
-after (call.DUnflag c gp) n v = with_found n (learning (fact.DOver c) v)
-after (call.Backtrack c gp) n v = with_found n (learning (fact.Backed c) v)
+after (call.IFlag c p from) n v = exchanged (if_won (n == packed from) kind.IFlag c) n (after_flag (n == packed from) (fact.IFlagged c) p (unpacked n) v)
+after (call.IChild c p l right) n v = exchanged (if_won (n == l) kind.IChild c) n (learning (fact.IChanged c) v)
+after (call.IUnflag c p) n v = exchanged (if_won (n == iflag c) kind.IUnflag c) n (learning (fact.IOver c) v)
+after (call.DFlag c gp from) n v = exchanged (if_won (n == packed from) kind.DFlag c) n (after_flag (n == packed from) (fact.DFlagged c) gp (unpacked n) v)
+after (call.Mark c p was) n v = exchanged (if_won (n == was) kind.Mark c) n (after_mark (n == was) c p (unpacked n) v)
+after (call.DChild c gp p s right) n v = exchanged (if_won (n == p) kind.DChild c) n (learning (fact.Cut c) v)
+after (call.DUnflag c gp) n v = exchanged (if_won (n == dflag c) kind.DUnflag c) n (learning (fact.DOver c) v)
+after (call.Backtrack c gp) n v = exchanged (if_won (n == dflag c) kind.Backtrack c) n (learning (fact.Backed c) v)
 
 -- what a call asks of what the pass knows
 abbrev pub May : ℕ → Call → View → Type 0

@@ -2,6 +2,8 @@ use Rattle.std.specs.Prelude.{ℕ, ◌+◌, ◌==◌, ◌++◌, if◌then◌else
 use Rattle.ell_ops.specs.KeySet.{set_of}
 use Rattle.ell_ops.specs.declared.op.Op.{Op}
 use Rattle.ell_ops.specs.declared.op.Op.TheVariants.{Insert, Delete}
+use Rattle.ell_word.specs.declared.gate.Kind.{Kind}
+use Rattle.ell_word.specs.declared.gate.Kind.TheVariants as kind
 use Rattle.ell_word.specs.declared.update.Update.{Update}
 use Rattle.ell_word.specs.declared.update.State.{State}
 use Rattle.ell_word.specs.declared.update.State.TheVariants as state
@@ -78,9 +80,14 @@ finding x u v = record v {
 abbrev pub learning : Fact → View → View
 learning new v = record v { worker = record (v.worker) { facts = new ∷ v.worker.facts } }
 
--- an exchange found this word
-abbrev pub with_found : ℕ → View → View
-with_found n v = record v { found = Some n }
+-- an exchange of a kind for a card, if it was won
+abbrev pub if_won : Bool → Kind → ℕ → List (Kind × ℕ)
+if_won true k c = (k, c) ∷ []
+if_won false k c = []
+
+-- an exchange found this word, and won this
+abbrev pub exchanged : List (Kind × ℕ) → ℕ → View → View
+exchanged wins n v = record v { found = Some n; won = wins ++ v.won }
 
 -- what an exchange of an update word that found this answers
 abbrev pub update_outcome : ℕ → ℕ → Result (Unit {0}) Update
@@ -255,6 +262,7 @@ after_claim true c v = record v {
   told = told_filling c (filling_of c v) v.told;
   planned = filling_of c v;
   stores = [];
+  won = (kind.Claim, c) ∷ v.won;
   next_at_least = c + 1;
 }
 after_claim false c v = record v { next_at_least = c + 1; hindrances = Claim c ∷ v.hindrances }
@@ -327,6 +335,7 @@ idle_view ledger = record {
   planned = [];
   stores = [];
   found = None;
+  won = [];
   answers = 0;
   knew_before = [];
   next_at_least = 0;
@@ -362,13 +371,13 @@ part_view ledger v = record v {
   found = None;
 }
 
--- split, the left part: it gets these keys, and keeps the counts
+-- split, the left part: it gets these keys, and keeps the counts and what the pass won
 abbrev pub left_view : List ℕ → View → View
 left_view keys v = part_view (part_on keys v.worker.ledger) v
 
 -- split, the right part: it gets the other keys
 abbrev pub right_view : List ℕ → View → View
-right_view keys v = record (part_view (part_off keys v.worker.ledger) v) { answers = 0; hindrances = [] }
+right_view keys v = record (part_view (part_off keys v.worker.ledger) v) { won = []; answers = 0; hindrances = [] }
 
 -- an entry put into an ascending ledger at its place, or in place of that of its key
 abbrev pub put_entry : ℕ × Entry → List (ℕ × Entry) → List (ℕ × Entry)
@@ -386,7 +395,7 @@ later None m = m
 later (Some n) None = Some n
 later (Some n) (Some m) = Some (max n m)
 
--- join: one pass with the keys, the facts and the counts of two, what both were told, and the later reading of the claim word
+-- join: one pass with the keys, the facts and the counts of two, what both were told and won, and the later reading of the claim word
 abbrev pub joined_view : View → View → View
 joined_view v w = record {
   worker = idle_worker (united v.worker.ledger w.worker.ledger) (v.worker.facts ++ w.worker.facts);
@@ -396,6 +405,7 @@ joined_view v w = record {
   planned = [];
   stores = [];
   found = None;
+  won = v.won ++ w.won;
   answers = v.answers + w.answers;
   knew_before = [];
   next_at_least = max v.next_at_least w.next_at_least;

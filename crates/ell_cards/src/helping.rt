@@ -2,10 +2,11 @@
 //! is one atomic step.
 ghost use Rattle.std.specs.Prelude.{◌≡◌, ◌≢◌, ◌≤◌, ◌<◌, is_ok, IfErr};
 ghost use Rattle.ell_word.specs.Word.{packed, unpacked};
+ghost use Rattle.ell_word.specs.declared.gate.Kind.TheVariants as kind;
 ghost use Rattle.ell_core.specs.declared.fact.Fact.TheVariants.{IChanged, IOver, Cut, DOver, Backed};
 ghost use Rattle.ell_core.specs.state.Cards.{iflag, dflag};
 ghost use Rattle.ell_cards.specs.Models.{Steps, InTable};
-ghost use Rattle.ell_cards.specs.Changes.{after_info, after_frozen_child, after_mark, learning, with_found, found_update, found_word, found_child};
+ghost use Rattle.ell_cards.specs.Changes.{after_info, after_frozen_child, after_mark, learning, if_won, exchanged, found_update, found_word, found_child};
 ghost use Rattle.ell_cards.specs.Guards.{MayAsk, MaySee, MayIChild, MayIUnflag, MayMark, MayDChild, MayDUnflag, MayBacktrack};
 ghost use Rattle.ell_cards.specs.Calls.{TellsNode, TellsDepth};
 
@@ -60,7 +61,7 @@ impl<A: Allocator + Copy> CardTable<A> {
     ) -> Result<(), u64>
         requires own { pass.old.table ≡ self.now.id }
         requires may { MayIChild pass.old.view card parent leaf right }
-        ensures step { Steps pass.old pass.new (with_found (found_child leaf result) (learning (IChanged card) pass.old.view)) }
+        ensures step { Steps pass.old pass.new (exchanged (if_won (is_ok result) kind.IChild card) (found_child leaf result) (learning (IChanged card) pass.old.view)) }
         ensures lost { IfErr result (λ found. found ≢ leaf) }
     {
         self.names(pass);
@@ -74,7 +75,7 @@ impl<A: Allocator + Copy> CardTable<A> {
     pub fn iunflag(&self, pass: &mut Pass<A>, card: u64, parent: u64) -> Result<(), Update>
         requires own { pass.old.table ≡ self.now.id }
         requires may { MayIUnflag pass.old.view card parent }
-        ensures step { Steps pass.old pass.new (with_found (found_word (iflag card) result) (learning (IOver card) pass.old.view)) }
+        ensures step { Steps pass.old pass.new (exchanged (if_won (is_ok result) kind.IUnflag card) (found_word (iflag card) result) (learning (IOver card) pass.old.view)) }
         ensures lost { IfErr result (λ found. packed found ≢ iflag card) }
     {
         self.names(pass);
@@ -91,7 +92,7 @@ impl<A: Allocator + Copy> CardTable<A> {
     pub fn mark(&self, pass: &mut Pass<A>, card: u64, parent: u64, was: u64) -> Result<(), Update>
         requires own { pass.old.table ≡ self.now.id }
         requires may { MayMark pass.old.view card parent was }
-        ensures step { Steps pass.old pass.new (with_found (found_word was result) (after_mark (is_ok result) card parent (found_update (unpacked was) result) pass.old.view)) }
+        ensures step { Steps pass.old pass.new (exchanged (if_won (is_ok result) kind.Mark card) (found_word was result) (after_mark (is_ok result) card parent (found_update (unpacked was) result) pass.old.view)) }
         ensures lost { IfErr result (λ found. packed found ≢ was) }
         ensures card { IfErr result (λ found. found.card ≤ self.now.last_card) }
     {
@@ -116,7 +117,7 @@ impl<A: Allocator + Copy> CardTable<A> {
     ) -> Result<(), u64>
         requires own { pass.old.table ≡ self.now.id }
         requires may { MayDChild pass.old.view card grandparent parent sibling right }
-        ensures step { Steps pass.old pass.new (with_found (found_child parent result) (learning (Cut card) pass.old.view)) }
+        ensures step { Steps pass.old pass.new (exchanged (if_won (is_ok result) kind.DChild card) (found_child parent result) (learning (Cut card) pass.old.view)) }
         ensures lost { IfErr result (λ found. found ≢ parent) }
     {
         self.names(pass);
@@ -131,7 +132,7 @@ impl<A: Allocator + Copy> CardTable<A> {
     pub fn dunflag(&self, pass: &mut Pass<A>, card: u64, grandparent: u64) -> Result<(), Update>
         requires own { pass.old.table ≡ self.now.id }
         requires may { MayDUnflag pass.old.view card grandparent }
-        ensures step { Steps pass.old pass.new (with_found (found_word (dflag card) result) (learning (DOver card) pass.old.view)) }
+        ensures step { Steps pass.old pass.new (exchanged (if_won (is_ok result) kind.DUnflag card) (found_word (dflag card) result) (learning (DOver card) pass.old.view)) }
         ensures lost { IfErr result (λ found. packed found ≢ dflag card) }
     {
         self.names(pass);
@@ -148,7 +149,7 @@ impl<A: Allocator + Copy> CardTable<A> {
     pub fn backtrack(&self, pass: &mut Pass<A>, card: u64, grandparent: u64) -> Result<(), Update>
         requires own { pass.old.table ≡ self.now.id }
         requires may { MayBacktrack pass.old.view card grandparent }
-        ensures step { Steps pass.old pass.new (with_found (found_word (dflag card) result) (learning (Backed card) pass.old.view)) }
+        ensures step { Steps pass.old pass.new (exchanged (if_won (is_ok result) kind.Backtrack card) (found_word (dflag card) result) (learning (Backed card) pass.old.view)) }
         ensures lost { IfErr result (λ found. packed found ≢ dflag card) }
     {
         self.names(pass);

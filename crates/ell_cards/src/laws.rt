@@ -8,7 +8,7 @@ ghost use Rattle.ell_cards.specs.OwnWords.{OwnWordsAreSound, StepsStayInside, Ta
 ghost use Rattle.ell_cards.specs.Starts.{TablesStart, StartsHaveTheirKeys, FirstPassMayBegin, RunsFromStarts};
 ghost use Rattle.ell_cards.specs.Readings.{ReadingsArePast, ClaimsAreTold};
 ghost use Rattle.ell_cards.specs.Meanwhile.{SearchesBeginThere, SearchesReadMeanwhile, SearchesMeetMeanwhile};
-ghost use Rattle.ell_cards.specs.Tellings.{NoGreaterNext, NoUntriedClaimLost, NoWonClaimLost, NoGreaterUpdate, NoWonIFlagLost, NoWonDFlagLost};
+ghost use Rattle.ell_cards.specs.Tellings.{NoGreaterNext, NoGreaterUpdate, NoOtherOutcome, NoUntriedClaimLost};
 ghost use Rattle.ell_cards.specs.Laws.{StepsAreEvents, SplitsAreMoves, JoinsAreMoves, MachineIsSound, MachineHasOwnWords};
 ghost use Rattle.ell_cards.specs.Runs.{RunsAreLawful, RunsAreSchedules};
 ghost use Rattle.ell_cards.specs.RunLaws.{TableWinsAreInOrder, StartsAreKept, ReachedHasMachine};
@@ -113,13 +113,12 @@ pub fn searches_read_meanwhile()
 {}
 
 /// The table's rule has force: there are things that no step can tell, since nowhere do turns lead to the state after it. None can
-/// tell a greater claim word than the table has, a claim lost that was not tried, or one lost that it won; a greater update word than
-/// a node has; a flag lost that it won.
+/// tell a greater claim word than the table has, or a greater update word than a node has; that an exchange was lost that it won, or
+/// won that it lost, be it a claim, a flag, a mark, the exchange of a child or the taking away of a flag; or that a claim was lost
+/// that was not tried.
 pub fn steps_tell_what_is_there()
     ensures next { NoGreaterNext }
-    ensures untried { NoUntriedClaimLost }
-    ensures claim { NoWonClaimLost }
     ensures update { NoGreaterUpdate }
-    ensures iflag { NoWonIFlagLost }
-    ensures dflag { NoWonDFlagLost }
+    ensures outcome { NoOtherOutcome }
+    ensures untried { NoUntriedClaimLost }
 {}

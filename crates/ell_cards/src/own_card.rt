@@ -2,8 +2,9 @@
 ghost use Rattle.std.specs.Prelude.{◌≡◌, ◌≢◌, ◌≤◌, is_ok, IfErr};
 ghost use Rattle.ell_core.specs.declared.fact.Fact.TheVariants.{IFlagged, DFlagged};
 ghost use Rattle.ell_word.specs.Word.{packed};
+ghost use Rattle.ell_word.specs.declared.gate.Kind.TheVariants as kind;
 ghost use Rattle.ell_cards.specs.Models.{Steps};
-ghost use Rattle.ell_cards.specs.Changes.{after_claim, after_fill, after_flag, with_found, found_update, found_word};
+ghost use Rattle.ell_cards.specs.Changes.{after_claim, after_fill, after_flag, if_won, exchanged, found_update, found_word};
 ghost use Rattle.ell_cards.specs.Guards.{MayClaim, MayFill, MayIFlag, MayDFlag};
 
 use crate::call::Call;
@@ -51,7 +52,7 @@ impl<A: Allocator + Copy> CardTable<A> {
     ) -> Result<(), Update>
         requires own { pass.old.table ≡ self.now.id }
         requires may { MayIFlag pass.old.view card parent from }
-        ensures step { Steps pass.old pass.new (with_found (found_word (packed from) result) (after_flag (is_ok result) (IFlagged card) parent (found_update from result) pass.old.view)) }
+        ensures step { Steps pass.old pass.new (exchanged (if_won (is_ok result) kind.IFlag card) (found_word (packed from) result) (after_flag (is_ok result) (IFlagged card) parent (found_update from result) pass.old.view)) }
         ensures lost { IfErr result (λ found. found ≢ from) }
         ensures card { IfErr result (λ found. found.card ≤ self.now.last_card) }
     {
@@ -75,7 +76,7 @@ impl<A: Allocator + Copy> CardTable<A> {
     ) -> Result<(), Update>
         requires own { pass.old.table ≡ self.now.id }
         requires may { MayDFlag pass.old.view card grandparent from }
-        ensures step { Steps pass.old pass.new (with_found (found_word (packed from) result) (after_flag (is_ok result) (DFlagged card) grandparent (found_update from result) pass.old.view)) }
+        ensures step { Steps pass.old pass.new (exchanged (if_won (is_ok result) kind.DFlag card) (found_word (packed from) result) (after_flag (is_ok result) (DFlagged card) grandparent (found_update from result) pass.old.view)) }
         ensures lost { IfErr result (λ found. found ≢ from) }
         ensures card { IfErr result (λ found. found.card ≤ self.now.last_card) }
     {

@@ -1,6 +1,6 @@
 //! What a pass knows, as contracts see it.
 use ell_core::{Fact, Field, WorkerView};
-use ell_word::Update;
+use ell_word::{Kind, Update};
 use std::alloc::Allocator;
 use std::collections::LinkedList;
 
@@ -46,6 +46,8 @@ pub struct View {
     pub stores: LinkedList<(Field, u64)>,
     /// The word that the last exchange found, that of the claim word apart.
     pub found: Option<u64>,
+    /// The exchanges that it won, each by its kind and its card, the last first. When a pass is split, the left part keeps them.
+    pub won: LinkedList<(Kind, u64)>,
     /// How many operations it has answered.
     pub answers: u64,
     /// What it knew when its search began, the last first.

@@ -1,4 +1,5 @@
-use Rattle.std.proofs.Common.{ℕ, ◌∷◌, Bool, true, false, if◌then◌else◌, refl, sym, ◌∙◌, ap, subst, inl, inr}
+use Rattle.std.proofs.Common.{ℕ, List, [], ◌∷◌, Bool, true, false, if◌then◌else◌, refl, sym, ◌∙◌, ap, subst, inl, inr}
+use Rattle.ell_word.specs.declared.gate.Kind.{Kind}
 use Rattle.ell_word.specs.declared.update.Update.{Update}
 use Rattle.ell_core.specs.declared.fact.Fact.{Fact}
 use Rattle.ell_core.specs.declared.fact.Fact.TheVariants as fact
@@ -8,7 +9,7 @@ use Rattle.ell_cards.specs.declared.view.Told.{Told}
 use Rattle.ell_cards.specs.declared.view.Told.TheVariants.{Frozen}
 use Rattle.ell_cards.specs.declared.view.View.{View}
 use Rattle.ell_cards.specs.Models.{PassModel, Steps, earlier, IsTold, Knows, KnowsCard}
-use Rattle.ell_cards.specs.Changes.{learning, with_found, after_key_of, after_value_of, after_next, after_claim, after_info, after_frozen_child, after_mark, is_mark_of, unmarking}
+use Rattle.ell_cards.specs.Changes.{learning, exchanged, after_key_of, after_value_of, after_next, after_claim, after_info, after_frozen_child, after_mark, is_mark_of, unmarking}
 use Rattle.ell_cards.specs.Guards.{IsSibling}
 use Rattle.ell_cards.proofs.views.Facts.{knows_new, knows_more, facts_by_more}
 use Rattle.ell_cards.proofs.views.Entries.{places_more, info_more}
@@ -68,18 +69,18 @@ frozen_aside old new c right x s =
     (record { table = refl; worker = refl; filling = refl; filled = refl; knows = λ f h. h; told = λ e h. earlier e _ _ (earlier e _ _ h) })
 
 -- so is one that teaches a fact, which the pass knows then
-pub learn_aside : (old new : PassModel) (f : Fact) (n : ℕ) → Steps old new (with_found n (learning f old.view)) → StepsAside old new
-learn_aside old new f n s =
+pub learn_aside : (old new : PassModel) (wins : List (Kind × ℕ)) (f : Fact) (n : ℕ) → Steps old new (exchanged wins n (learning f old.view)) → StepsAside old new
+learn_aside old new wins f n s =
     subst (StepsAside old) (sym s)
     (record { table = refl; worker = refl; filling = refl; filled = refl; knows = λ g h. knows_more f g old.view.worker.facts h; told = λ e h. h })
 
-pub learns : (old new : PassModel) (f : Fact) (n : ℕ) → Steps old new (with_found n (learning f old.view)) → Knows new.view f
-learns old new f n s = subst (λ (w : View). Knows w f) (sym (view_after old new (with_found n (learning f old.view)) s)) (knows_new f old.view.worker.facts)
+pub learns : (old new : PassModel) (wins : List (Kind × ℕ)) (f : Fact) (n : ℕ) → Steps old new (exchanged wins n (learning f old.view)) → Knows new.view f
+learns old new wins f n s = subst (λ (w : View). Knows w f) (sym (view_after old new (exchanged wins n (learning f old.view)) s)) (knows_new f old.view.worker.facts)
 
 -- and a mark, won or lost
-beside_marked : (old : PassModel) (steps label n c : ℕ)
-    → StepsAside old (record { table = old.table; view = with_found n (learning (fact.Marked c) old.view); steps = steps; label = label })
-beside_marked old steps label n c = record {
+beside_marked : (old : PassModel) (wins : List (Kind × ℕ)) (steps label n c : ℕ)
+    → StepsAside old (record { table = old.table; view = exchanged wins n (learning (fact.Marked c) old.view); steps = steps; label = label })
+beside_marked old wins steps label n c = record {
   table = refl;
   worker = refl;
   filling = refl;
@@ -88,13 +89,13 @@ beside_marked old steps label n c = record {
   told = λ e h. h;
 }
 
-beside_mark : (old : PassModel) (steps label n : ℕ) (won : Bool) (c x : ℕ) (u : Update)
-    → StepsAside old (record { table = old.table; view = with_found n (after_mark won c x u old.view); steps = steps; label = label })
-beside_mark old steps label n true c x u = beside_marked old steps label n c
-beside_mark old steps label n false c x u = by (is_mark_of c u.state u.card)
+beside_mark : (old : PassModel) (wins : List (Kind × ℕ)) (steps label n : ℕ) (won : Bool) (c x : ℕ) (u : Update)
+    → StepsAside old (record { table = old.table; view = exchanged wins n (after_mark won c x u old.view); steps = steps; label = label })
+beside_mark old wins steps label n true c x u = beside_marked old wins steps label n c
+beside_mark old wins steps label n false c x u = by (is_mark_of c u.state u.card)
   where
-    by : (b : Bool) → StepsAside old (record { table = old.table; view = with_found n (if b then learning (fact.Marked c) old.view else unmarking c x u old.view); steps = steps; label = label })
-    by true = beside_marked old steps label n c
+    by : (b : Bool) → StepsAside old (record { table = old.table; view = exchanged wins n (if b then learning (fact.Marked c) old.view else unmarking c x u old.view); steps = steps; label = label })
+    by true = beside_marked old wins steps label n c
     by false = record {
       table = refl;
       worker = refl;
@@ -104,8 +105,8 @@ beside_mark old steps label n false c x u = by (is_mark_of c u.state u.card)
       told = places_more x u.state u.card old.view.told;
     }
 
-pub mark_aside : (old new : PassModel) (n : ℕ) (won : Bool) (c x : ℕ) (u : Update) → Steps old new (with_found n (after_mark won c x u old.view)) → StepsAside old new
-mark_aside old new n won c x u s = subst (StepsAside old) (sym s) (beside_mark old _ _ n won c x u)
+pub mark_aside : (old new : PassModel) (wins : List (Kind × ℕ)) (n : ℕ) (won : Bool) (c x : ℕ) (u : Update) → Steps old new (exchanged wins n (after_mark won c x u old.view)) → StepsAside old new
+mark_aside old new wins n won c x u s = subst (StepsAside old) (sym s) (beside_mark old wins _ _ n won c x u)
 
 -- what was known and told stays so over steps beside the search, and each of them is one
 pub ruleset asides = (aside_told, aside_knows, aside_knows_card, aside_sibling, aside_trans, learn_aside, learns)

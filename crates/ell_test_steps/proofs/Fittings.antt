@@ -1,5 +1,6 @@
 use Rattle.std.proofs.Common.{◌≡◌, ℕ, true, false, Option, Some, None, List, refl, sym, ◌∙◌, ap, subst}
 use Rattle.ell_ops.specs.declared.op.Op.{Op}
+use Rattle.ell_word.specs.declared.gate.Kind.{Kind}
 use Rattle.ell_word.specs.declared.update.Update.{Update}
 use Rattle.ell_word.specs.declared.update.State.{State}
 use Rattle.ell_word.specs.declared.update.State.TheVariants as state
@@ -16,7 +17,7 @@ use Rattle.ell_cards.specs.declared.view.Told.TheVariants.{Met}
 use Rattle.ell_cards.specs.declared.view.View.{View}
 use Rattle.ell_cards.specs.Models.{PassModel, latest, IsTold, Knows, stored_at}
 use Rattle.ell_core.specs.state.Cards.{stored}
-use Rattle.ell_cards.specs.Changes.{after_begin, after_upd, after_down, after_next, after_claim, after_flag, with_found, seen_at, facts_by, filling_of, with_stores, nowhere}
+use Rattle.ell_cards.specs.Changes.{after_begin, after_upd, after_down, after_next, after_claim, after_flag, exchanged, seen_at, facts_by, filling_of, with_stores, nowhere}
 use Rattle.ell_cards.specs.Guards.{IsFilled}
 use Rattle.ell_cards.proofs.views.Facts.{knows_new, knows_more, facts_by_more}
 use Rattle.ell_cards.proofs.views.Entries.{places_more, filling_more}
@@ -115,9 +116,9 @@ fits_claimed v m c stores h filled =
       filled = λ d e g. filled;
     }
 
-pub fits_flag_won : (v : View) (m : Remembered) (n : ℕ) (f : Fact) (x : ℕ) (u : Update) → Fits v m
-    → Fits (with_found n (after_flag true f x u v)) (ended_search true m)
-fits_flag_won v m n f x u h = record {
+pub fits_flag_won : (v : View) (m : Remembered) (wins : List (Kind × ℕ)) (n : ℕ) (f : Fact) (x : ℕ) (u : Update) → Fits v m
+    → Fits (exchanged wins n (after_flag true f x u v)) (ended_search true m)
+fits_flag_won v m wins n f x u h = record {
   operation = h.operation;
   search = ap nowhere h.search;
   card = h.card;
@@ -127,9 +128,9 @@ fits_flag_won v m n f x u h = record {
   filled = λ c e g. cc g;
 }
 
-pub fits_flag_lost : (v : View) (m : Remembered) (n : ℕ) (f : Fact) (x : ℕ) (u : Update) → Fits v m
-    → Fits (with_found n (after_flag false f x u v)) (ended_search false m)
-fits_flag_lost v m n f x u h = record {
+pub fits_flag_lost : (v : View) (m : Remembered) (wins : List (Kind × ℕ)) (n : ℕ) (f : Fact) (x : ℕ) (u : Update) → Fits v m
+    → Fits (exchanged wins n (after_flag false f x u v)) (ended_search false m)
+fits_flag_lost v m wins n f x u h = record {
   operation = h.operation;
   search = ap nowhere h.search;
   card = refl;

@@ -1,8 +1,10 @@
-use Rattle.std.proofs.Common.{◌≡◌, ℕ, ◌≤◌, ◌==◌, eq-eqb, eqb-true, Bool, true, false, true≢false, nat_le, if◌then◌else◌, List, ◌∷◌, Option, Some, None, Result, Ok, Err, is_ok, IfSome, MatchBool, refl, sym, ◌∙◌, ap, subst, inl, inr}
+use Rattle.std.proofs.Common.{◌≡◌, ℕ, ◌≤◌, ◌==◌, eq-eqb, eqb-true, Bool, true, false, true≢false, nat_le, if◌then◌else◌, List, [], ◌∷◌, Option, Some, None, Result, Ok, Err, is_ok, IfSome, MatchBool, refl, sym, ◌∙◌, ap, subst, inl, inr}
 use Rattle.std.specs.Bool.{then_some}
 use Rattle.ell_ops.specs.declared.op.Op.{Op}
 use Rattle.ell_ops.specs.declared.op.Op.TheVariants.{Insert, Delete}
 use Rattle.ell_ops.specs.Meaning.{key_of}
+use Rattle.ell_word.specs.declared.gate.Kind.{Kind}
+use Rattle.ell_word.specs.declared.gate.Kind.TheVariants as kind
 use Rattle.ell_word.specs.Node.{greatest_card, IsInternal}
 use Rattle.ell_word.specs.Word.{packed}
 use Rattle.ell_word.specs.declared.update.Update.{Update}
@@ -18,7 +20,7 @@ use Rattle.ell_core.specs.acts.Searching.{IsLeaf, leaf_answer}
 use Rattle.ell_cards.specs.declared.view.View.{View}
 use Rattle.ell_cards.specs.declared.view.Told.TheVariants.{Value}
 use Rattle.ell_cards.specs.Models.{PassModel, TableModel, Steps, latest, IsTold, Knows}
-use Rattle.ell_cards.specs.Changes.{after_begin, after_again, after_upd, after_key_of, after_value_of, after_next, after_claim, after_flag, after_mark, is_mark_of, learning, unmarking, with_found, found_word, found_update, told_value, with_stores}
+use Rattle.ell_cards.specs.Changes.{after_begin, after_again, after_upd, after_key_of, after_value_of, after_next, after_claim, after_flag, after_mark, is_mark_of, learning, unmarking, if_won, exchanged, found_word, found_update, told_value, with_stores}
 use Rattle.ell_cards.specs.Guards.{IsOver, MayStop, MayGoDown, MayAnswer, TellsOf, MayIFlag, MayDFlag, IsFilled}
 use Rattle.ell_test_steps.specs.declared.memory.Remembered.{Remembered}
 use Rattle.ell_test_steps.specs.declared.memory.TheConstants.{FACTS}
@@ -159,18 +161,18 @@ may_dflag_by v m k l c parent above h busy at behind up holds unflagged = record
 }
 
 -- a flag that was won, or lost
-pub ready_flagged : (t : TableModel) (a b : PassModel) (m n : Remembered) (f : Fact) (x : ℕ) (u : Update) (r : Result (Unit {0}) Update) → IsReady t a m
-    → Steps a b (with_found (found_word (packed u) r) (after_flag (is_ok r) f x (found_update u r) a.view))
+pub ready_flagged : (t : TableModel) (a b : PassModel) (m n : Remembered) (k : Kind) (c : ℕ) (f : Fact) (x : ℕ) (u : Update) (r : Result (Unit {0}) Update) → IsReady t a m
+    → Steps a b (exchanged (if_won (is_ok r) k c) (found_word (packed u) r) (after_flag (is_ok r) f x (found_update u r) a.view))
     → Learns (ended_search (is_ok r) m) n (λ v. KnowsAny v (flag_tells f r)) → IsReady t b n
-ready_flagged t a b m n f x u (Ok won) h s more =
-    let w = with_found (packed u) (after_flag true f x u a.view) in
+ready_flagged t a b m n k c f x u (Ok won) h s more =
+    let w = exchanged (if_won true k c) (packed u) (after_flag true f x u a.view) in
     ready_known t b (ended_search true m) n (λ v. Knows v f)
-    (ready_step t a b m (ended_search true m) (ended_search true m) w h s refl (fits_flag_won a.view m (packed u) f x u h.fits)) more
+    (ready_step t a b m (ended_search true m) (ended_search true m) w h s refl (fits_flag_won a.view m (if_won true k c) (packed u) f x u h.fits)) more
     (subst (λ (v : View). Knows v f) (sym (view_after a b w s)) (knows_new f a.view.worker.facts))
-ready_flagged t a b m n f x u (Err found) h s more =
-    let w = with_found (packed found) (after_flag false f x found a.view) in
+ready_flagged t a b m n k c f x u (Err found) h s more =
+    let w = exchanged [] (packed found) (after_flag false f x found a.view) in
     ready_known t b (ended_search false m) n (λ v. KnowsAny v (told_by_state found.state found.card))
-    (ready_step t a b m (ended_search false m) (ended_search false m) w h s refl (fits_flag_lost a.view m (packed found) f x found h.fits)) more
+    (ready_step t a b m (ended_search false m) (ended_search false m) w h s refl (fits_flag_lost a.view m [] (packed found) f x found h.fits)) more
     (facts_by_new found.state found.card a.view.worker.facts b.view (ap (λ (v : View). v.worker.facts) (view_after a b w s)))
 
 -- a card that is claimed and filled
@@ -209,26 +211,26 @@ claims_at a b d m op x key value parent h s s' busy at behind no_card outer calm
     })
 
 -- a lost mark tells of its card
-lost_mark_known : (v : View) (c x w : ℕ) (u : Update) → KnowsLostMark (with_found w (after_mark false c x u v)) c u
+lost_mark_known : (v : View) (c x w : ℕ) (u : Update) → KnowsLostMark (exchanged [] w (after_mark false c x u v)) c u
 lost_mark_known v c x w u = by (is_mark_of c u.state u.card)
   where
-    by : (b : Bool) → (let v' : View = with_found w (if b then learning (fact.Marked c) v else unmarking c x u v) in
+    by : (b : Bool) → (let v' : View = exchanged [] w (if b then learning (fact.Marked c) v else unmarking c x u v) in
         MatchBool b (Knows v' (fact.Marked c)) (Knows v' (fact.Unmarkable c) × KnowsAny v' (told_by_state u.state u.card)))
     by true = knows_new (fact.Marked c) v.worker.facts
     by false = (
       facts_by_more u.state u.card (fact.Unmarkable c ∷ v.worker.facts) (fact.Unmarkable c) (knows_new (fact.Unmarkable c) v.worker.facts),
-      facts_by_new u.state u.card (fact.Unmarkable c ∷ v.worker.facts) (with_found w (unmarking c x u v)) refl,
+      facts_by_new u.state u.card (fact.Unmarkable c ∷ v.worker.facts) (exchanged [] w (unmarking c x u v)) refl,
     )
 
 -- a mark that was won, or lost
 pub ready_marked : (t : TableModel) (a b : PassModel) (m n : Remembered) (c x w : ℕ) (u : Update) (r : Result (Unit {0}) Update) → IsReady t a m
-    → Steps a b (with_found (found_word w r) (after_mark (is_ok r) c x (found_update u r) a.view)) → Learns m n (λ v. KnowsMark v c r) → IsReady t b n
+    → Steps a b (exchanged (if_won (is_ok r) kind.Mark c) (found_word w r) (after_mark (is_ok r) c x (found_update u r) a.view)) → Learns m n (λ v. KnowsMark v c r) → IsReady t b n
 ready_marked t a b m n c x w u (Ok won) h s more =
-    ready_learnt t a b m n (λ v. Knows v (fact.Marked c)) h (mark_aside a b w true c x u s) more
-    (subst (λ (v : View). Knows v (fact.Marked c)) (sym (view_after a b (with_found w (after_mark true c x u a.view)) s)) (knows_new (fact.Marked c) a.view.worker.facts))
+    ready_learnt t a b m n (λ v. Knows v (fact.Marked c)) h (mark_aside a b (if_won true kind.Mark c) w true c x u s) more
+    (subst (λ (v : View). Knows v (fact.Marked c)) (sym (view_after a b (exchanged (if_won true kind.Mark c) w (after_mark true c x u a.view)) s)) (knows_new (fact.Marked c) a.view.worker.facts))
 ready_marked t a b m n c x w u (Err found) h s more =
-    ready_learnt t a b m n (λ v. KnowsLostMark v c found) h (mark_aside a b (packed found) false c x found s) more
-    (subst (λ (v : View). KnowsLostMark v c found) (sym (view_after a b (with_found (packed found) (after_mark false c x found a.view)) s)) (lost_mark_known a.view c x (packed found) found))
+    ready_learnt t a b m n (λ v. KnowsLostMark v c found) h (mark_aside a b [] (packed found) false c x found s) more
+    (subst (λ (v : View). KnowsLostMark v c found) (sym (view_after a b (exchanged [] (packed found) (after_mark false c x found a.view)) s)) (lost_mark_known a.view c x (packed found) found))
 
 -- the answer by the card in hand, which is remembered over
 pub card_may : (v : View) (m : Remembered) (op is : Op) (c : ℕ) → op ≡ is → m.card ≡ Some c → m.flagged ≡ true → (KnowsAll v m.known → IsOver v is c) → Fits v m → m.op ≡ Some op

@@ -1,5 +1,6 @@
 use Rattle.std.proofs.Common.{◌≡◌, ℕ, ◌+◌, ◌≤◌, Some, Result, Ok, Err, IfErr, List, refl, sym, ◌∙◌, ap, subst, is_ok, arith}
 use Rattle.ell_ops.specs.declared.op.Op.TheVariants.{Insert, Delete}
+use Rattle.ell_word.specs.declared.gate.Kind.{Kind}
 use Rattle.ell_word.specs.declared.update.Update.{Update}
 use Rattle.ell_word.specs.Word.{packed}
 use Rattle.ell_core.specs.declared.fact.Fact.{Fact}
@@ -8,7 +9,7 @@ use Rattle.ell_core.specs.state.Cards.{insert_filling, delete_filling}
 use Rattle.ell_cards.specs.declared.view.Told.TheVariants.{Met}
 use Rattle.ell_cards.specs.declared.view.View.{View}
 use Rattle.ell_cards.specs.Models.{PassModel, Steps}
-use Rattle.ell_cards.specs.Changes.{after_flag, with_found, found_word, found_update, with_stores}
+use Rattle.ell_cards.specs.Changes.{after_flag, if_won, exchanged, found_word, found_update, with_stores}
 use Rattle.ell_cards.specs.Guards.{MayFill, MayIFlag, MayDFlag}
 use Rattle.ell_cards.proofs.views.Facts.{knows_new, knows_more, facts_by_more}
 use Rattle.ell_cards.proofs.views.Entries.{places_more}
@@ -57,10 +58,10 @@ may_dflag a b n c k place above is h fills = record {
   filled = fills.filled;
 }
 
-module _ (flag : ℕ → Fact) (c x : ℕ) (from : Update) where
+module _ (k : Kind) (flag : ℕ → Fact) (c x : ℕ) (from : Update) where
   -- the view after a flag that was answered so
   abbrev flagging : Result (Unit {0}) Update → View → View
-  flagging r v = with_found (found_word (packed from) r) (after_flag (is_ok r) (flag c) x (found_update from r) v)
+  flagging r v = exchanged (if_won (is_ok r) k c) (found_word (packed from) r) (after_flag (is_ok r) (flag c) x (found_update from r) v)
 
   flagging_keeps : (stores : List (Field × ℕ)) (r : Result (Unit {0}) Update) (v : View) → LosesNothing v (flagging r (with_stores stores v))
   flagging_keeps stores (Ok won) v = record {

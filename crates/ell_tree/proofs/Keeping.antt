@@ -1,4 +1,5 @@
 use Rattle.std.proofs.Common.{◌≡◌, ℕ, ◌+◌, ◌≤◌, Bool, true, List, refl, sym, ◌∙◌, subst, arith}
+use Rattle.ell_word.specs.declared.gate.Kind.{Kind}
 use Rattle.ell_word.specs.declared.update.Update.{Update}
 use Rattle.ell_word.specs.declared.update.State.{State}
 use Rattle.ell_word.specs.declared.update.State.TheVariants as state
@@ -11,7 +12,7 @@ use Rattle.ell_cards.specs.declared.view.Told.{Told}
 use Rattle.ell_cards.specs.declared.view.Told.TheVariants.{Met, Info}
 use Rattle.ell_cards.specs.declared.view.View.{View}
 use Rattle.ell_cards.specs.Models.{PassModel, Steps, Has, latest, earlier, IsTold, Knows}
-use Rattle.ell_cards.specs.Changes.{facts_by, places_by, learning, with_found, after_upd, after_down, after_key_of, after_value_of, after_info, after_frozen_child, after_next}
+use Rattle.ell_cards.specs.Changes.{facts_by, places_by, learning, exchanged, after_upd, after_down, after_key_of, after_value_of, after_info, after_frozen_child, after_next}
 use Rattle.ell_cards.proofs.views.Facts.{knows_new, knows_more, facts_by_more}
 use Rattle.ell_cards.proofs.views.Entries.{places_more, info_more}
 use Rattle.ell_tree.specs.Keeping.{LosesNothing, Goes, Seeks, Works, Walks, IsInnerMet, TellsPlace, IsSeenAt}
@@ -188,8 +189,8 @@ info_keeps c f x v = record { ledger = refl; operation = refl; answers = refl; k
 pub frozen_keeps : (c : ℕ) (right : Bool) (x : ℕ) (v : View) → LosesNothing v (after_frozen_child c right x v)
 frozen_keeps c right x v = record { ledger = refl; operation = refl; answers = refl; knows = λ f h. h; told = λ e h. earlier e _ _ (earlier e _ _ h); before = refl; least = omega arith }
 
-pub learning_keeps : (n : ℕ) (f : Fact) (v : View) → LosesNothing v (with_found n (learning f v))
-learning_keeps n f v = record {
+pub learning_keeps : (wins : List (Kind × ℕ)) (n : ℕ) (f : Fact) (v : View) → LosesNothing v (exchanged wins n (learning f v))
+learning_keeps wins n f v = record {
   ledger = refl;
   operation = refl;
   answers = refl;

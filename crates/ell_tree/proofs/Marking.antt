@@ -1,11 +1,12 @@
-use Rattle.std.proofs.Common.{◌≡◌, ℕ, ◌≤◌, if◌then◌else◌, Bool, true, false, Some, None, Result, Ok, Err, ◌∷◌, IfSome, IfErr, refl, sym, ap, subst, is_ok, arith}
+use Rattle.std.proofs.Common.{◌≡◌, ℕ, ◌≤◌, if◌then◌else◌, Bool, true, false, Some, None, Result, Ok, Err, [], ◌∷◌, IfSome, IfErr, refl, sym, ap, subst, is_ok, arith}
 use Rattle.ell_word.specs.declared.update.Update.{Update}
 use Rattle.ell_word.specs.Word.{unpacked}
+use Rattle.ell_word.specs.declared.gate.Kind.TheVariants as kind
 use Rattle.ell_core.specs.declared.fact.Fact.TheVariants as fact
 use Rattle.ell_cards.specs.declared.view.Told.TheVariants.{Met}
 use Rattle.ell_cards.specs.declared.view.View.{View}
 use Rattle.ell_cards.specs.Models.{PassModel, Steps, Knows}
-use Rattle.ell_cards.specs.Changes.{learning, with_found, found_word, found_update, is_mark_of, unmarking, after_mark}
+use Rattle.ell_cards.specs.Changes.{learning, if_won, exchanged, found_word, found_update, is_mark_of, unmarking, after_mark}
 use Rattle.ell_cards.proofs.views.Facts.{knows_new, knows_more, facts_by_more}
 use Rattle.ell_cards.proofs.views.Entries.{places_more}
 use Rattle.ell_cards.proofs.views.Steps.{view_after}
@@ -15,9 +16,9 @@ use Rattle.ell_tree.proofs.Keeping.{works_step, learning_keeps, place_told}
 
 -- the view after a mark that was answered so
 abbrev marking : ℕ → ℕ → ℕ → Result (Unit {0}) Update → View → View
-marking c p was r v = with_found (found_word was r) (after_mark (is_ok r) c p (found_update (unpacked was) r) v)
+marking c p was r v = exchanged (if_won (is_ok r) kind.Mark c) (found_word was r) (after_mark (is_ok r) c p (found_update (unpacked was) r) v)
 
-unmarking_keeps : (n c p : ℕ) (u : Update) (v : View) → LosesNothing v (with_found n (unmarking c p u v))
+unmarking_keeps : (n c p : ℕ) (u : Update) (v : View) → LosesNothing v (exchanged [] n (unmarking c p u v))
 unmarking_keeps n c p u v = record {
   ledger = refl;
   operation = refl;
@@ -31,10 +32,10 @@ unmarking_keeps n c p u v = record {
 module _ (n c p : ℕ) (u : Update) (old new : PassModel) where
   -- the mark was found to stand, or another update
   abbrev either : Bool → View
-  either b = with_found n (if b then learning (fact.Marked c) old.view else unmarking c p u old.view)
+  either b = exchanged [] n (if b then learning (fact.Marked c) old.view else unmarking c p u old.view)
 
   either_works : (b : Bool) → Steps old new (either b) → Works old new 1
-  either_works true s = works_step old new (either true) s (learning_keeps n (fact.Marked c) old.view) refl refl refl
+  either_works true s = works_step old new (either true) s (learning_keeps [] n (fact.Marked c) old.view) refl refl refl
   either_works false s = works_step old new (either false) s (unmarking_keeps n c p u old.view) refl refl refl
 
   either_met : (b : Bool) → Steps old new (either b) → new.view.hindrances ≡ met_by_mark c (if b then None else Some u) old.view
@@ -59,7 +60,7 @@ module _ (n c p : ℕ) (u : Update) (old new : PassModel) where
 
 module _ (c p was : ℕ) (old new : PassModel) where
   pub mark_works : (r : Result (Unit {0}) Update) → Steps old new (marking c p was r old.view) → Works old new 1
-  mark_works (Ok won) s = works_step old new (marking c p was (Ok won) old.view) s (learning_keeps was (fact.Marked c) old.view) refl refl refl
+  mark_works (Ok won) s = works_step old new (marking c p was (Ok won) old.view) s (learning_keeps (if_won true kind.Mark c) was (fact.Marked c) old.view) refl refl refl
   mark_works (Err u) s = either_works (found_word was (Err u)) c p u old new (is_mark_of c u.state u.card) s
 
   pub mark_met : (r : Result (Unit {0}) Update) → Steps old new (marking c p was r old.view)

@@ -47,7 +47,7 @@ claim_told true c v e h = filling_more c (filling_of c v) v.told e h
 claim_told false c v e h = h
 
 -- what was told stays told
-after_told : (c : Call) (n : ℕ) (v : View) (e : Told) → IsTold v e → IsTold (after c n v) e
+pub after_told : (c : Call) (n : ℕ) (v : View) (e : Told) → IsTold v e → IsTold (after c n v) e
 after_told (call.Begin op) n v e h = earlier e (Met 0) v.told h
 after_told call.Again n v e h = earlier e (Met 0) v.told h
 after_told (call.Upd x) n v e h = places_more x (unpacked n).state (unpacked n).card v.told e h
@@ -92,7 +92,7 @@ first_set [] m more = absurd (omega arith)
 first_set (x ∷ xs) m more = refl
 
 -- a call that is no claim leaves the claim word
-leaves_next : (c : Call) (ws : List ℕ) → ((d : ℕ) → c ≢ call.Claim d) → get_or (set ws (word_of c) (left_by (atomic_of c) (get_or ws (word_of c) 0))) 0 0 ≡ get_or ws 0 0
+pub leaves_next : (c : Call) (ws : List ℕ) → ((d : ℕ) → c ≢ call.Claim d) → get_or (set ws (word_of c) (left_by (atomic_of c) (get_or ws (word_of c) 0))) 0 0 ≡ get_or ws 0 0
 leaves_next (call.Claim c) ws apart = absurd (apart c refl)
 leaves_next (call.Fill c f value) ws apart = get_or-set_other ws (word_of (call.Fill c f value)) 0 _ 0 (λ e. omega arith)
 leaves_next (call.IFlag c p from) ws apart = get_or-set_other ws (word_of (call.IFlag c p from)) 0 _ 0 (λ e. omega arith)

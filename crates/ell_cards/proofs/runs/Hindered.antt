@@ -7,6 +7,8 @@ use Rattle.ell_ops.specs.declared.op.Op.TheVariants.{Find, Insert, Delete}
 use Rattle.ell_ops.specs.declared.op.Op.{Op}
 use Rattle.ell_word.specs.Node.{IsInternal}
 use Rattle.ell_word.specs.Word.{packed, unpacked}
+use Rattle.ell_word.specs.declared.gate.Kind.{Kind}
+use Rattle.ell_word.specs.declared.gate.Kind.TheVariants as kind
 use Rattle.ell_word.specs.declared.update.State.TheVariants as state
 use Rattle.ell_word.specs.declared.update.Update.{Update}
 use Rattle.ell_core.specs.declared.fact.Fact.TheVariants.{IFlagged, DFlagged, Marked}
@@ -34,7 +36,7 @@ use Rattle.ell_cards.specs.declared.call.Call.TheVariants as call
 use Rattle.ell_cards.specs.declared.view.Hindrance.{Hindrance}
 use Rattle.ell_cards.specs.declared.view.Hindrance.TheVariants.{Claim, Found}
 use Rattle.ell_cards.specs.declared.view.View.{View}
-use Rattle.ell_cards.specs.Changes.{after_claim, after_flag, after_mark, with_found, learning, unmarking, is_mark_of, is_held}
+use Rattle.ell_cards.specs.Changes.{after_claim, after_flag, after_mark, if_won, exchanged, learning, unmarking, is_mark_of, is_held}
 use Rattle.ell_cards.specs.Calls.{after, May}
 use Rattle.ell_cards.specs.States.{TableState, seat_worker}
 use Rattle.ell_cards.specs.Machines.{HasMachine}
@@ -244,20 +246,20 @@ module _ (keys : List ℕ) (cards : ℕ) (m0 : Machine) (stage : Stages) (first 
       update_listed keys cards s r seat v there p (subst IsInternal p_is said.parent.inner) (subst (Born r.stages) p_is said.parent.born)
 
   -- a flag, won or lost, by what was found at its node
-  flag_hindered : (new : Fact) (x : ℕ) (from n : ℕ) (b : Bool) → (n == from) ≡ b
+  flag_hindered : (new : Fact) (k : Kind) (d x : ℕ) (from n : ℕ) (b : Bool) → (n == from) ≡ b
       → ((k c : ℕ) → v.worker.operation ≡ Some (Delete k) → v.worker.card ≡ Some c → PlaceSince m0.words stage (later_words.p c) (later_words.was c))
       → (n ≢ from → Met m0.words stage later_words ends (Found (unpacked n)))
-      → HinderedSince m0.words stage later_words ends old (with_found n (after_flag b new x (unpacked n) v))
-  flag_hindered new x from n true e in_hand lost = record {
+      → HinderedSince m0.words stage later_words ends old (exchanged (if_won b k d) n (after_flag b new x (unpacked n) v))
+  flag_hindered new k d x from n true e in_hand lost = record {
     met = hindered.met;
     list = hindered.list;
     each = met_later m0.words stage r.words now later_words ends words' later' hindered.met hindered.each;
     next = hindered.next;
     own = hindered.own;
-    hand = λ k c busy has flagged. in_hand k c busy has;
+    hand = λ j c busy has flagged. in_hand j c busy has;
   }
-  flag_hindered new x from n false e in_hand lost =
-      one_met (with_found n (after_flag false new x (unpacked n) v)) (Found (unpacked n)) refl
+  flag_hindered new k d x from n false e in_hand lost =
+      one_met (exchanged [] n (after_flag false new x (unpacked n) v)) (Found (unpacked n)) refl
       (lost (λ q. true≢false (sym (eq-eqb n from q) ∙ e))) refl (λ c has. absurd (some_not_none has refl)) (λ k c busy has flagged. absurd (true≢false (sym flagged)))
 
   iflag_hindered : (c p : ℕ) (from : Update) → May cards (call.IFlag c p from) v
@@ -273,7 +275,7 @@ module _ (keys : List ℕ) (cards : ℕ) (m0 : Machine) (stage : Stages) (first 
       let low = ((sound.stands (Insert may.key may.value) may.leaf may.busy may.stands).parent seen may.behind).0.word in
       let held = sound.unflagged (Insert may.key may.value) c may.busy may.may.holds may.may.unflagged in
       let same = same_Some held.parent seen (sym held.behind ∙ may.behind) in
-      flag_hindered (IFlagged c) p (packed from) n (n == packed from) refl
+      flag_hindered (IFlagged c) kind.IFlag c p (packed from) n (n == packed from) refl
       (λ k d busy has. absurd (insert_is_no_delete k may.key may.value (sym busy ∙ may.busy)))
       (finds p (packed from) n there_now.inner there_now.born (place_of seen (since.parent seen behind)) low
       (three (packed from) (subst (λ (z : Seen). IsClean z.word) same held.calm)) is)
@@ -295,7 +297,7 @@ module _ (keys : List ℕ) (cards : ℕ) (m0 : Machine) (stage : Stages) (first 
       let own = place_of held.parent (since.parent held.parent (ap (λ (z : Worker). z.search.parent) me ∙ held.behind)) in
       let goes : PlaceSince m0.words stage (r.words.p c) (r.words.was c) =
       subst (λ x. PlaceSince m0.words stage x (r.words.was c)) held.node (subst (λ m. PlaceSince m0.words stage held.parent.node m) held.was own) in
-      flag_hindered (DFlagged c) gp (packed from) n (n == packed from) refl
+      flag_hindered (DFlagged c) kind.DFlag c gp (packed from) n (n == packed from) refl
       (λ k d busy has.
       let one : c ≡ d = same_Some c d (sym may.may.holds ∙ has) in
       subst (λ e. PlaceSince m0.words stage (later_words.p e) (later_words.was e)) one
@@ -332,16 +334,16 @@ module _ (keys : List ℕ) (cards : ℕ) (m0 : Machine) (stage : Stages) (first 
       is = mark_found c p was may
 
       held : (b : Bool) → is_held v.worker.card c ≡ b → n ≢ was → HinderedSince m0.words stage later_words ends old
-          (with_found n (record (unmarking c p (unpacked n) v) { hindrances = if b then Found (unpacked n) ∷ v.hindrances else v.hindrances }))
+          (exchanged [] n (record (unmarking c p (unpacked n) v) { hindrances = if b then Found (unpacked n) ∷ v.hindrances else v.hindrances }))
       held true e other = one_met _ (Found (unpacked n)) refl (mark_met c p was n may is other (held_is v.worker.card c e)) refl hindered.own
           (λ k d busy has flagged. hand_later d (rely.hand d (ap (λ (z : Worker). z.card) me ∙ has)) (hindered.hand k d busy has flagged))
       held false e other = quiet _ refl refl refl refl refl
 
-      lost : (b : Bool) → n ≢ was → HinderedSince m0.words stage later_words ends old (with_found n (if b then learning (Marked c) v else unmarking c p (unpacked n) v))
+      lost : (b : Bool) → n ≢ was → HinderedSince m0.words stage later_words ends old (exchanged [] n (if b then learning (Marked c) v else unmarking c p (unpacked n) v))
       lost true other = quiet _ refl refl refl refl refl
       lost false other = held (is_held v.worker.card c) refl other
 
-      by : (b : Bool) → (n == was) ≡ b → HinderedSince m0.words stage later_words ends old (with_found n (after_mark b c p (unpacked n) v))
+      by : (b : Bool) → (n == was) ≡ b → HinderedSince m0.words stage later_words ends old (exchanged (if_won b kind.Mark c) n (after_mark b c p (unpacked n) v))
       by true e = quiet _ refl refl refl refl refl
       by false e = lost (is_mark_of c (unpacked n).state (unpacked n).card) (λ q. true≢false (sym (eq-eqb n was q) ∙ e))
 

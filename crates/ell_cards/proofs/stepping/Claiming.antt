@@ -6,6 +6,7 @@ use Rattle.ell_ops.specs.declared.op.Op.{Op}
 use Rattle.ell_ops.specs.Meaning.{key_of}
 use Rattle.ell_ops.specs.declared.op.Op.TheVariants.{Find, Insert, Delete}
 use Rattle.ell_word.specs.declared.gate.Kind.{Kind}
+use Rattle.ell_word.specs.declared.gate.Kind.TheVariants as kind
 use Rattle.ell_core.specs.declared.event.Act.TheVariants as act
 use Rattle.ell_core.specs.declared.event.Stepped.TheVariants.{Moved}
 use Rattle.ell_core.specs.declared.field.Field.{Field}
@@ -64,6 +65,7 @@ taking c es v = record v {
   told = told_filling c es v.told;
   planned = es;
   stores = [];
+  won = (kind.Claim, c) ∷ v.won;
   next_at_least = c + 1;
 }
 

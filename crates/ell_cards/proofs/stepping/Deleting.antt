@@ -1,4 +1,4 @@
-use Rattle.std.proofs.Common.{◌≡◌, ◌==◌, ℕ, Bool, true, false, List, ◌∷◌, if◌then◌else◌, nat_le, refl, sym, ap, ◌∙◌, subst, inl, inr, eq-eqb, ne_eqb}
+use Rattle.std.proofs.Common.{◌≡◌, ◌==◌, ℕ, Bool, true, false, List, [], ◌∷◌, if◌then◌else◌, nat_le, refl, sym, ap, ◌∙◌, subst, inl, inr, eq-eqb, ne_eqb}
 use mathlib.Core.Option.{some}
 use lib.ListN.{get_elem?}
 use Rattle.ell_word.specs.Node.{card}
@@ -21,7 +21,7 @@ use Rattle.ell_cards.specs.declared.view.Told.{Told}
 use Rattle.ell_cards.specs.declared.view.Told.TheVariants.{Key, Frozen}
 use Rattle.ell_cards.specs.declared.view.View.{View}
 use Rattle.ell_cards.specs.Models.{IsTold}
-use Rattle.ell_cards.specs.Changes.{learning, with_found, after_mark, unmarking, is_mark_of}
+use Rattle.ell_cards.specs.Changes.{learning, if_won, exchanged, after_mark, unmarking, is_mark_of}
 use Rattle.ell_cards.specs.Guards.{MayMark, MayDChild, MayDUnflag, MayBacktrack, IsSibling}
 use Rattle.ell_cards.specs.States.{TableState}
 use Rattle.ell_cards.specs.Machines.{EntryHolds, HasMachine}
@@ -39,12 +39,12 @@ use Rattle.ell_cards.proofs.stepping.Known.{known_delete, delete_cut, delete_unm
 
 -- what a mark teaches, as the view has it
 marking_worker : (v : View) (c x n : ℕ) (b : Bool)
-    → worker_of (with_found n (after_mark b c x (unpacked n) v)).worker ≡ knowing (worker_of v.worker) (mark_teaches (known_of v.worker.facts) c b n)
+    → worker_of (after_mark b c x (unpacked n) v).worker ≡ knowing (worker_of v.worker) (mark_teaches (known_of v.worker.facts) c b n)
 marking_worker v c x n true = refl
 marking_worker v c x n false = by (is_mark_of c (unpacked n).state (unpacked n).card) (is_mark c n)
   where
     by : (m : Bool) → m ≡ (n == marked c)
-        → worker_of (with_found n (if m then learning (Marked c) v else unmarking c x (unpacked n) v)).worker
+        → worker_of (if m then learning (Marked c) v else unmarking c x (unpacked n) v).worker
         ≡ knowing (worker_of v.worker) (if n == marked c then learned (known_of v.worker.facts) (Marked c)
         else learned_any (learned (known_of v.worker.facts) (Unmarkable c)) (told_by n))
     by true e = ap (λ b. knowing (worker_of v.worker) (if b then learned (known_of v.worker.facts) (Marked c)
@@ -55,12 +55,12 @@ marking_worker v c x n false = by (is_mark_of c (unpacked n).state (unpacked n).
 
 module _ (keys : List ℕ) (cards : ℕ) (s : TableState) (r : HasMachine keys cards s) (id : ℕ) (v : View) (here : get_elem? s.views id ≡ some v) where
   -- what is so of a pass after a mark
-  mark_on : (c x n : ℕ) (b : Bool) → Onward r.words r.stages v (with_found n (after_mark b c x (unpacked n) v))
-  mark_on c x n true = learning_on keys cards s r id v here (Marked c) n
+  mark_on : (c x n : ℕ) (b : Bool) → Onward r.words r.stages v (exchanged (if_won b kind.Mark c) n (after_mark b c x (unpacked n) v))
+  mark_on c x n true = learning_on keys cards s r id v here (Marked c) (if_won true kind.Mark c) n
   mark_on c x n false = by (is_mark_of c (unpacked n).state (unpacked n).card)
     where
-      by : (m : Bool) → Onward r.words r.stages v (with_found n (if m then learning (Marked c) v else unmarking c x (unpacked n) v))
-      by true = learning_on keys cards s r id v here (Marked c) n
+      by : (m : Bool) → Onward r.words r.stages v (exchanged [] n (if m then learning (Marked c) v else unmarking c x (unpacked n) v))
+      by true = learning_on keys cards s r id v here (Marked c) [] n
       by false = record {
         here = λ y key at told. places_more x (unpacked n).state (unpacked n).card v.told (Key y key) ((r.views id v here).here y key at told);
         hand = λ d has un. (has, un, refl, refl);
@@ -75,11 +75,11 @@ module _ (keys : List ℕ) (cards : ℕ) (s : TableState) (r : HasMachine keys c
 
   -- what it was told
   mark_entries : (c x n : ℕ) → MayRead r.words r.stages x → r.words.update x ≡ n → (b : Bool) (e : Told)
-      → IsTold (with_found n (after_mark b c x (unpacked n) v)) e → EntryHolds r.words r.stages e
+      → IsTold (after_mark b c x (unpacked n) v) e → EntryHolds r.words r.stages e
   mark_entries c x n reads is true = (r.views id v here).entries
   mark_entries c x n reads is false = by (is_mark_of c (unpacked n).state (unpacked n).card)
     where
-      by : (m : Bool) (e : Told) → IsTold (with_found n (if m then learning (Marked c) v else unmarking c x (unpacked n) v)) e → EntryHolds r.words r.stages e
+      by : (m : Bool) (e : Told) → IsTold (if m then learning (Marked c) v else unmarking c x (unpacked n) v) e → EntryHolds r.words r.stages e
       by true = (r.views id v here).entries
       by false = found_entries keys cards s r id v here x n v.told reads is (r.views id v here).entries
 
@@ -100,7 +100,7 @@ module _ (keys : List ℕ) (cards : ℕ) (s : TableState) (r : HasMachine keys c
       let is_p : w.update p ≡ n = ap w.update (sym p_is) ∙ is in
       let happens : Happens cards a (mine keys cards s r id v here) (won_or_lost (n == was))
       (becomes keys cards s r id v here (exchanged_words keys cards s r id v here (card p) field.Update (marked c) (n == was))
-      (with_found n (after_mark (n == was) c p (unpacked n) v))) = record {
+      (after_mark (n == was) c p (unpacked n) v)) = record {
         owned = λ h. h;
         row = record {
           may = may.knows;
@@ -115,10 +115,10 @@ module _ (keys : List ℕ) (cards : ℕ) (s : TableState) (r : HasMachine keys c
         room = λ h. h;
       } in
       is_event keys cards s r id v here (call.Mark c p was) a _ _
-      (exchange_leads keys cards s r id v here a (card p) field.Update was (marked c) (λ b. with_found n (after_mark b c p (unpacked n) v))
+      (exchange_leads keys cards s r id v here a (card p) field.Update was (marked c) (λ b. exchanged (if_won b kind.Mark c) n (after_mark b c p (unpacked n) v))
       (in_list keys cards s r id v here p field.Update born) (born-settled (r.stages (card p)) born) happens
       (λ stages led d f wait still. absurd (flags_never keys cards s r id v here a Won (written w (card p) field.Update (marked c))
-      (with_found n (after_mark true c p (unpacked n) v)) stages led kind.Mark c (λ e. (cc)) (λ e. (cc)) (λ d. refl) d wait still))
+      (exchanged (if_won true kind.Mark c) n (after_mark true c p (unpacked n) v)) stages led kind.Mark c (λ e. (cc)) (λ e. (cc)) (λ d. refl) d wait still))
       (λ d. refl) (mark_entries c p n reads is_p) (mark_on c p n))
       refl refl (names_card keys cards s r id v here p n reads is_p)
 

@@ -26,7 +26,7 @@ use Rattle.ell_cards.specs.declared.view.Told.{Told}
 use Rattle.ell_cards.specs.declared.view.Told.TheVariants.{Info, Key}
 use Rattle.ell_cards.specs.declared.view.View.{View}
 use Rattle.ell_cards.specs.Models.{IsTold}
-use Rattle.ell_cards.specs.Changes.{learning, with_found}
+use Rattle.ell_cards.specs.Changes.{learning, if_won, exchanged}
 use Rattle.ell_cards.specs.States.{TableState}
 use Rattle.ell_cards.specs.Machines.{EntryHolds, HasMachine}
 use Rattle.ell_cards.specs.Calls.{after}
@@ -105,8 +105,8 @@ module _ (keys : List ℕ) (cards : ℕ) (s : TableState) (r : HasMachine keys c
           }
 
   -- what is so of a pass that an exchange taught a fact
-  pub learning_on : (new : Fact) (n : ℕ) → Onward r.words r.stages v (with_found n (learning new v))
-  learning_on new n = record {
+  pub learning_on : (new : Fact) (wins : List (Kind × ℕ)) (n : ℕ) → Onward r.words r.stages v (exchanged wins n (learning new v))
+  learning_on new wins n = record {
     here = (r.views id v here).here;
     hand = λ c has un. (has, un, refl, refl);
     owns = λ k h. h;
@@ -124,11 +124,11 @@ module _ (keys : List ℕ) (cards : ℕ) (s : TableState) (r : HasMachine keys c
       → Happens cards a (mine keys cards s r id v here) (won_or_lost (found_at d g == expected))
       (becomes keys cards s r id v here (exchanged_words d g value (found_at d g == expected)) (learning new v))
       → IsReached keys cards s r id v here (set s.words (address d g) (if found_at d g == expected then value else found_at d g))
-      (exchanged_words d g value (found_at d g == expected)) (with_found (found_at d g) (learning new v)) a (won_or_lost (found_at d g == expected))
+      (exchanged_words d g value (found_at d g == expected)) (exchanged (if_won (found_at d g == expected) k c) (found_at d g) (learning new v)) a (won_or_lost (found_at d g == expected))
   teaches a d g expected value new k c fits calm not_i not_d wins none happens =
-      exchange_leads a d g expected value (λ b. with_found (found_at d g) (learning new v)) fits calm happens
-      (λ stages led e f wait still. absurd (flags_never a Won (written r.words d g value) (with_found (found_at d g) (learning new v)) stages led k c not_i not_d wins e wait still))
-      none (λ b. (r.views id v here).entries) (λ b. learning_on new (found_at d g))
+      exchange_leads a d g expected value (λ b. exchanged (if_won b k c) (found_at d g) (learning new v)) fits calm happens
+      (λ stages led e f wait still. absurd (flags_never a Won (written r.words d g value) (exchanged (if_won true k c) (found_at d g) (learning new v)) stages led k c not_i not_d wins e wait still))
+      none (λ b. (r.views id v here).entries) (λ b. learning_on new (if_won b k c) (found_at d g))
 
 module _ (w : Words) (x y expected value n : ℕ) (same : x ≡ y) (inner : IsInternal x) (is : w.update x ≡ n) where
   -- the exchange of an update word as the machine has it
@@ -163,7 +163,7 @@ module _ (keys : List ℕ) (cards : ℕ) (s : TableState) (r : HasMachine keys c
       → IsReached keys cards s r id v here
       (set s.words (address (card y) field.Update) (if found_at keys cards s r id v here (card y) field.Update == flag then clean c else found_at keys cards s r id v here (card y) field.Update))
       (exchanged_words keys cards s r id v here (card y) field.Update (clean c) (found_at keys cards s r id v here (card y) field.Update == flag))
-      (with_found (found_at keys cards s r id v here (card y) field.Update) (learning new v)) a (won_or_lost (found_at keys cards s r id v here (card y) field.Update == flag))
+      (exchanged (if_won (found_at keys cards s r id v here (card y) field.Update == flag) k c) (found_at keys cards s r id v here (card y) field.Update) (learning new v)) a (won_or_lost (found_at keys cards s r id v here (card y) field.Update == flag))
   unflags a c x y flag new k same node not_i not_d wins none happens =
       let n = found_at keys cards s r id v here (card y) field.Update in
       let born = subst (Born r.stages) same node.born in

@@ -26,7 +26,7 @@ use Rattle.ell_cards.specs.declared.call.Call.TheVariants as call
 use Rattle.ell_cards.specs.declared.view.Told.{Told}
 use Rattle.ell_cards.specs.declared.view.View.{View}
 use Rattle.ell_cards.specs.Models.{IsTold}
-use Rattle.ell_cards.specs.Changes.{after_flag, with_found}
+use Rattle.ell_cards.specs.Changes.{after_flag, if_won, exchanged}
 use Rattle.ell_cards.specs.Guards.{MayFill, IsFilled, MayIFlag, MayDFlag}
 use Rattle.ell_cards.specs.Calls.{update_at}
 use Rattle.ell_cards.specs.States.{TableState}
@@ -42,7 +42,7 @@ use Rattle.ell_cards.proofs.stepping.Exchanges.{in_list, found_at, exchanged_wor
 
 -- the machine's worker after a flag exchange that found n
 flagging_worker : (v : View) (new : Fact) (x n : ℕ) (b : Bool)
-    → worker_of (with_found n (after_flag b new x (unpacked n) v)).worker ≡ flagged_worker (worker_of v.worker) b new n
+    → worker_of (after_flag b new x (unpacked n) v).worker ≡ flagged_worker (worker_of v.worker) b new n
 flagging_worker v new x n true = refl
 flagging_worker v new x n false = λ t. record (worker_of v.worker) {
   search = record (v.worker.search) { node = None; read = None };
@@ -53,44 +53,44 @@ flagging_worker v new x n false = λ t. record (worker_of v.worker) {
 
 module _ (keys : List ℕ) (cards : ℕ) (s : TableState) (r : HasMachine keys cards s) (id : ℕ) (v : View) (here : get_elem? s.views id ≡ some v) where
   -- the view after a flag exchange at node x from a word
-  abbrev flag_view : Fact → ℕ → Bool → View
-  flag_view new x b = let n = found_at keys cards s r id v here (card x) field.Update in with_found n (after_flag b new x (unpacked n) v)
+  abbrev flag_view : Fact → Kind → ℕ → ℕ → Bool → View
+  flag_view new k c x b = let n = found_at keys cards s r id v here (card x) field.Update in exchanged (if_won b k c) n (after_flag b new x (unpacked n) v)
 
   -- what is so of it
-  flag_on : (new : Fact) (x : ℕ) (b : Bool) → Onward r.words r.stages v (flag_view new x b)
-  flag_on new x true = record {
-    here = λ y k a e. absurd (some_not_none e refl);
-    hand = λ c has un. absurd (true≢false un);
-    owns = λ k h. h;
+  flag_on : (new : Fact) (k : Kind) (c x : ℕ) (b : Bool) → Onward r.words r.stages v (flag_view new k c x b)
+  flag_on new k c x true = record {
+    here = λ y key a e. absurd (some_not_none e refl);
+    hand = λ d has un. absurd (true≢false un);
+    owns = λ key h. h;
     read = λ m at. at;
     least = refl;
     before = (r.views id v here).knew;
-    knew = λ f k. knows_more new f v.worker.facts ((r.views id v here).knew f k);
+    knew = λ f j. knows_more new f v.worker.facts ((r.views id v here).knew f j);
     walk = λ op y busy at. absurd (some_not_none at refl);
   }
-  flag_on new x false =
+  flag_on new k c x false =
       let u = unpacked (found_at keys cards s r id v here (card x) field.Update) in record {
-        here = λ y k a e. absurd (some_not_none e refl);
-        hand = λ c has un. absurd (some_not_none has refl);
-        owns = λ k h. h;
+        here = λ y key a e. absurd (some_not_none e refl);
+        hand = λ d has un. absurd (some_not_none has refl);
+        owns = λ key h. h;
         read = λ m at. at;
         least = refl;
         before = (r.views id v here).knew;
-        knew = λ f k. facts_by_more u.state u.card v.worker.facts f ((r.views id v here).knew f k);
+        knew = λ f j. facts_by_more u.state u.card v.worker.facts f ((r.views id v here).knew f j);
         walk = λ op y busy at. absurd (some_not_none at refl);
       }
 
-  flag_entries : (new : Fact) (x : ℕ) → MayRead r.words r.stages x → (b : Bool) (e : Told) → IsTold (flag_view new x b) e → EntryHolds r.words r.stages e
-  flag_entries new x reads true = (r.views id v here).entries
-  flag_entries new x reads false = found_entries keys cards s r id v here x (found_at keys cards s r id v here (card x) field.Update) v.told reads
+  flag_entries : (new : Fact) (k : Kind) (c x : ℕ) → MayRead r.words r.stages x → (b : Bool) (e : Told) → IsTold (flag_view new k c x b) e → EntryHolds r.words r.stages e
+  flag_entries new k c x reads true = (r.views id v here).entries
+  flag_entries new k c x reads false = found_entries keys cards s r id v here x (found_at keys cards s r id v here (card x) field.Update) v.told reads
       (update_listed keys cards s r id v here x reads.inner reads.born) (r.views id v here).entries
 
   -- the scene after it
-  flag_scene : (new : Fact) (x update value : ℕ) → MayRead r.words r.stages x →
+  flag_scene : (new : Fact) (k : Kind) (c x update value : ℕ) → MayRead r.words r.stages x →
       becomes keys cards s r id v here (exchanged_words keys cards s r id v here (card x) field.Update value (found_at keys cards s r id v here (card x) field.Update == update))
-      (flag_view new x (found_at keys cards s r id v here (card x) field.Update == update))
+      (flag_view new k c x (found_at keys cards s r id v here (card x) field.Update == update))
       ≡ flags (mine keys cards s r id v here) (record { node = x; word = update }) value new
-  flag_scene new x update value reads =
+  flag_scene new k c x update value reads =
       let w = r.words in
       let n = found_at keys cards s r id v here (card x) field.Update in
       let is = update_listed keys cards s r id v here x reads.inner reads.born in λ t. record {
@@ -103,22 +103,22 @@ module _ (keys : List ℕ) (cards : ℕ) (s : TableState) (r : HasMachine keys c
       → ((d : ℕ) → wins_by a v.worker.card Won d ≡ win_for v.worker.card k d) → ((d : ℕ) → wins_by a v.worker.card Lost d ≡ [])
       → Happens cards a (mine keys cards s r id v here) (won_or_lost (found_at keys cards s r id v here (card x) field.Update == update))
       (becomes keys cards s r id v here (exchanged_words keys cards s r id v here (card x) field.Update value (found_at keys cards s r id v here (card x) field.Update == update))
-      (flag_view new x (found_at keys cards s r id v here (card x) field.Update == update)))
+      (flag_view new k c x (found_at keys cards s r id v here (card x) field.Update == update)))
       → IsReached keys cards s r id v here
       (set s.words (update_at x) (if found_at keys cards s r id v here (card x) field.Update == update then value else found_at keys cards s r id v here (card x) field.Update))
       (exchanged_words keys cards s r id v here (card x) field.Update value (found_at keys cards s r id v here (card x) field.Update == update))
-      (flag_view new x (found_at keys cards s r id v here (card x) field.Update == update)) a
+      (flag_view new k c x (found_at keys cards s r id v here (card x) field.Update == update)) a
       (won_or_lost (found_at keys cards s r id v here (card x) field.Update == update))
   flag_leads a x update value c new k reads may filled wins none happens =
-      exchange_leads keys cards s r id v here a (card x) field.Update update value (flag_view new x)
+      exchange_leads keys cards s r id v here a (card x) field.Update update value (flag_view new k c x)
       (in_list keys cards s r id v here x field.Update reads.born) (born-settled (r.stages (card x)) reads.born)
-      happens settles none (flag_entries new x reads) (flag_on new x)
+      happens settles none (flag_entries new k c x reads) (flag_on new k c x)
     where
-      settles : Settles keys cards s r id v here a (written r.words (card x) field.Update value) (flag_view new x true)
+      settles : Settles keys cards s r id v here a (written r.words (card x) field.Update value) (flag_view new k c x true)
       settles stages led d f wait still = elim (cases_eq d c) [
         | inl e ↦ (let held = (r.views id v here).hand d (may.holds ∙ ap Some (sym e)) may.unflagged in
             held.table f ∙ (filled f ∙ sym (held.machine f)))
-        | inr m ↦ absurd (true≢false (sym (waits_on keys cards s r id v here a Won (written r.words (card x) field.Update value) (flag_view new x true) stages led d
+        | inr m ↦ absurd (true≢false (sym (waits_on keys cards s r id v here a Won (written r.words (card x) field.Update value) (flag_view new k c x true) stages led d
             (wins d ∙ (ap (λ o. win_for o k d) may.holds ∙ ap (λ (b : Bool). if b then k ∷ [] else []) (ne_eqb d c m))) wait) ∙ still))
       ]
 
@@ -144,7 +144,7 @@ module _ (keys : List ℕ) (cards : ℕ) (s : TableState) (r : HasMachine keys c
           unflagged = may.may.unflagged;
           behind = may.behind;
           says = update_says r.words p p (packed from) (iflag c) n refl reads.inner is;
-          gives = flag_scene (IFlagged c) p (packed from) (iflag c) reads;
+          gives = flag_scene (IFlagged c) kind.IFlag c p (packed from) (iflag c) reads;
         };
         room = λ h. h;
       }))
@@ -171,7 +171,7 @@ module _ (keys : List ℕ) (cards : ℕ) (s : TableState) (r : HasMachine keys c
           unflagged = may.may.unflagged;
           above = may.above;
           says = update_says r.words gp gp (packed from) (dflag c) n refl reads.inner is;
-          gives = flag_scene (DFlagged c) gp (packed from) (dflag c) reads;
+          gives = flag_scene (DFlagged c) kind.DFlag c gp (packed from) (dflag c) reads;
         };
         room = λ h. h;
       }))

@@ -1,4 +1,5 @@
 use Rattle.ell_core.specs.declared.fact.Fact.TheVariants.{DFlagged}
+use Rattle.ell_word.specs.declared.gate.Kind.TheVariants as kind
 use Rattle.ell_tree.proofs.Flagging.{may_dflag, flag_goes, flag_ends}
 use Rattle.ell_tree.proofs.deleting.flag_delete.Goals as goal
 
@@ -11,7 +12,7 @@ returns g c =
     let f = c.fill_delete in
     let above = c.args.above in
     record {
-      goes = flag_goes DFlagged c.args.card above.node above.update c.args.pass.now f.new.pass c.dflag.new.pass 4 c.dflag.result f.ensures c.dflag.ensures.step;
-      flags = flag_ends DFlagged c.args.card above.node above.update c.args.pass.now f.new.pass c.dflag.new.pass 4 c.dflag.result f.ensures c.dflag.ensures.step
+      goes = flag_goes kind.DFlag DFlagged c.args.card above.node above.update c.args.pass.now f.new.pass c.dflag.new.pass 4 c.dflag.result f.ensures c.dflag.ensures.step;
+      flags = flag_ends kind.DFlag DFlagged c.args.card above.node above.update c.args.pass.now f.new.pass c.dflag.new.pass 4 c.dflag.result f.ensures c.dflag.ensures.step
           c.args.table.now.last_card c.requires.card.1.may.holds c.requires.node c.dflag.ensures.card;
     }

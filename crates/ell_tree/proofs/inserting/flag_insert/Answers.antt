@@ -1,4 +1,5 @@
 use Rattle.ell_core.specs.declared.fact.Fact.TheVariants.{IFlagged}
+use Rattle.ell_word.specs.declared.gate.Kind.TheVariants as kind
 use Rattle.ell_tree.proofs.Flagging.{may_iflag, flag_goes, flag_ends}
 use Rattle.ell_tree.proofs.inserting.flag_insert.Goals as goal
 
@@ -10,7 +11,7 @@ returns g c =
     let f = c.fill_insert in
     let parent = c.args.place.parent in
     record {
-      goes = flag_goes IFlagged c.args.card parent.node parent.update c.args.pass.now f.new.pass c.iflag.new.pass 10 c.iflag.result f.ensures c.iflag.ensures.step;
-      flags = flag_ends IFlagged c.args.card parent.node parent.update c.args.pass.now f.new.pass c.iflag.new.pass 10 c.iflag.result f.ensures c.iflag.ensures.step
+      goes = flag_goes kind.IFlag IFlagged c.args.card parent.node parent.update c.args.pass.now f.new.pass c.iflag.new.pass 10 c.iflag.result f.ensures c.iflag.ensures.step;
+      flags = flag_ends kind.IFlag IFlagged c.args.card parent.node parent.update c.args.pass.now f.new.pass c.iflag.new.pass 10 c.iflag.result f.ensures c.iflag.ensures.step
           c.args.table.now.last_card c.requires.card.may.holds c.requires.node c.iflag.ensures.card;
     }
