@@ -23,7 +23,7 @@ use Rattle.ell_cards.specs.declared.call.Call.{Call}
 use Rattle.ell_cards.specs.declared.call.Call.TheVariants as call
 use Rattle.ell_cards.specs.declared.view.Told.TheVariants.{Met, Info}
 use Rattle.ell_cards.specs.declared.view.View.{View}
-use Rattle.ell_cards.specs.Models.{IsTold, Does, StandsAt, InTable, KnowsDelete}
+use Rattle.ell_cards.specs.Models.{IsTold, Does, StandsAt, InTable, KnowsDelete, EndWasUnknown}
 use Rattle.ell_cards.specs.Changes.{learning, if_won, exchanged, after_begin, after_again, after_leave, after_answer, after_upd, after_down, after_next, after_key_of, after_value_of, after_info, after_frozen_child, after_claim, after_fill, after_flag, after_mark}
 use Rattle.ell_cards.specs.Guards.{MayBegin, MayStop, MayAnswer, MayRead, MayGoDown, MayAsk, MaySee, MayClaim, MayFill, MayIFlag, MayDFlag, MayIChild, MayIUnflag, MayMark, MayDChild, MayDUnflag, MayBacktrack}
 
@@ -212,9 +212,11 @@ TellsNode cards _ x = Unit {0}
 abbrev pub Tells : ℕ → Call → View → ℕ → Type 0
 Tells cards (call.Answer said) v n =
     AnswersAsMap (ledger_of v.worker.ledger) (ledger_of (after (call.Answer said) n v).worker.ledger) v.worker.operation said
-Tells cards (call.Upd x) v n = (unpacked n).card ≤ cards
+    × (v.next_at_least ≤ cards + 1)
+Tells cards call.Leave v n = v.next_at_least ≤ cards + 1
+Tells cards (call.Upd x) v n = ((unpacked n).card ≤ cards) × EndWasUnknown v (unpacked n).state (unpacked n).card
 Tells cards (call.Down x right) v n = (x < n) × InTable cards n
-Tells cards call.Next v n = (1 ≤ n) × (n ≤ cards + 1)
+Tells cards call.Next v n = (1 ≤ n) × (n ≤ cards + 1) × (v.next_at_least ≤ n)
 Tells cards (call.KeyOf x) v n = TellsLeaf v x n
 Tells cards (call.ValueOf x) v n = TellsValue v x n
 Tells cards (call.Info c f) v n = TellsNode cards f n × TellsDepth v c f n

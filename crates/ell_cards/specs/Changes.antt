@@ -125,6 +125,7 @@ after_begin op v = record v {
   next = None;
   planned = [];
   stores = [];
+  knew_before = v.worker.facts;
 }
 
 -- again: the operation in hand begins once more, and what its search read in the way was a hindrance
@@ -262,8 +263,9 @@ after_claim true c v = record v {
   planned = filling_of c v;
   stores = [];
   won = (kind.Claim, c) ∷ v.won;
+  next_at_least = c + 1;
 }
-after_claim false c v = record v { hindrances = Claim c ∷ v.hindrances }
+after_claim false c v = record v { next_at_least = c + 1; hindrances = Claim c ∷ v.hindrances }
 
 -- fill: a word of the card in hand was stored
 abbrev pub after_fill : Field → ℕ → View → View
@@ -335,6 +337,8 @@ idle_view ledger = record {
   found = None;
   won = [];
   answers = 0;
+  knew_before = [];
+  next_at_least = 0;
   hindrances = [];
 }
 
@@ -403,5 +407,7 @@ joined_view v w = record {
   found = None;
   won = v.won ++ w.won;
   answers = v.answers + w.answers;
+  knew_before = [];
+  next_at_least = max v.next_at_least w.next_at_least;
   hindrances = v.hindrances ++ w.hindrances;
 }

@@ -20,6 +20,8 @@ pub mod Closed
 pub mod OwnWords
 -- what passes know of the claim word and of claims
 pub mod Readings
+-- what comes to its end while a search goes on
+pub mod Meanwhile
 -- what no step can tell
 pub mod Tellings
 -- what a pass names is in its table

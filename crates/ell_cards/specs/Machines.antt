@@ -1,19 +1,25 @@
-use Rattle.std.specs.Prelude.{◌≡◌, ℕ, ◌<◌, Bool, true, false, List, length, slice_index, Some, Contains}
+use Rattle.std.specs.Prelude.{◌≡◌, ℕ, ◌<◌, ◌≤◌, Bool, true, false, List, length, slice_index, Some, Contains}
 use mathlib.Core.Option.{some}
 use lib.ListN.{get_elem?}
+use Rattle.ell_ops.specs.declared.op.Op.{Op}
+use Rattle.ell_ops.specs.Meaning.{key_of}
+use Rattle.ell_core.specs.declared.fact.Fact.TheVariants.{DOver}
+use Rattle.ell_core.specs.declared.fact.Fact.{Fact}
 use Rattle.ell_core.specs.declared.field.Field.TheVariants.{Left, Right, Update}
 use Rattle.ell_core.specs.declared.field.Field.{Field}
 use Rattle.ell_core.specs.state.Layout.{listed, table_size}
 use Rattle.ell_core.specs.state.Words.{Words, word}
+use Rattle.ell_core.specs.state.Facts.{known_of}
 use Rattle.ell_core.specs.state.Machine.{worker_of}
 use Rattle.ell_core.specs.state.Cards.{marked, stored}
 use Rattle.ell_core.specs.soundness.Sound.{WorkerOwns}
 use Rattle.ell_core.specs.history.Invariant.{Invariant}
 use Rattle.ell_core.specs.history.Stages.{Stages, Born, waits}
+use Rattle.ell_core.specs.statements.Walks.{Avoids}
 use Rattle.ell_cards.specs.declared.view.Told.TheVariants.{Met, Key, Value, Info, Frozen}
 use Rattle.ell_cards.specs.declared.view.Told.{Told}
 use Rattle.ell_cards.specs.declared.view.View.{View}
-use Rattle.ell_cards.specs.Models.{IsTold, stored_at}
+use Rattle.ell_cards.specs.Models.{IsTold, Knows, KnewBefore, stored_at}
 use Rattle.ell_cards.specs.States.{TableState, seated}
 
 -- a field that never changes once its card is claimed
@@ -39,11 +45,21 @@ pub record CardInHandHolds (words : List ℕ) (w : Words) (planned stores : List
   pub machine : (f : Field) → word w c f ≡ stored planned f 0
   pub table : (f : Field) → listed words c f ≡ stored_at stores f
 
--- what a pass knows beside the worker that it is
+-- the deletes that a pass knew over when its search began
+abbrev pub over_before : View → ℕ → Bool
+over_before v c = known_of v.knew_before (DOver c)
+
+-- what a pass knows beside the worker that it is: the claim word is no less than its reading and than its claims tell; what it knew
+-- when its search began it knows; and the walk on which it stands comes by no parent that a delete had cut out which it knew over
+-- then. So while it walks with card 5 known over from the beginning, no walk of its key from its node comes by P(5)
 pub record ViewHolds (words : List ℕ) (w : Words) (stage : Stages) (v : View) : Type 0 where
   pub entries : (e : Told) → IsTold v e → EntryHolds w stage e
   pub here : (x key : ℕ) → v.worker.search.node ≡ Some x → v.here ≡ Some key → IsTold v (Key x key)
   pub hand : (c : ℕ) → v.worker.card ≡ Some c → v.worker.flagged ≡ false → CardInHandHolds words w v.planned v.stores c
+  pub read : (n : ℕ) → v.next ≡ Some n → n ≤ w.next
+  pub least : v.next_at_least ≤ w.next
+  pub knew : (f : Fact) → KnewBefore v f → Knows v f
+  pub walk : (op : Op) (x : ℕ) → v.worker.operation ≡ Some op → v.worker.search.node ≡ Some x → Avoids w (over_before v) (key_of op) x
 
 -- a state of a table with these keys and so many cards has a machine that the invariant holds of: its workers are the passes; the
 -- table has its claim word, and its words at every card that does not wait for its flag; what passes know holds; and every key that

@@ -1,9 +1,11 @@
-use Rattle.std.specs.Prelude.{◌≡◌, ◌≢◌, ℕ, ◌⊎◌, ◌+◌, ◌≤◌, ◌*◌, ◌==◌, if◌then◌else◌, true, Some, None, List, [], ◌∷◌, min}
+use Rattle.std.specs.Prelude.{◌≡◌, ◌≢◌, ℕ, ◌⊎◌, ◌+◌, ◌<◌, ◌≤◌, ◌*◌, ◌==◌, if◌then◌else◌, true, Some, None, List, [], ◌∷◌, min}
 use Rattle.atomic_table.specs.Seated.{TableId}
 use Rattle.ell_ops.specs.declared.op.Op.{Op}
 use Rattle.ell_word.specs.Node.{most_cards}
+use Rattle.ell_word.specs.declared.update.State.{State}
+use Rattle.ell_word.specs.declared.update.State.TheVariants as state
 use Rattle.ell_core.specs.declared.fact.Fact.{Fact}
-use Rattle.ell_core.specs.declared.fact.Fact.TheVariants.{IFlagged, DFlagged, Marked}
+use Rattle.ell_core.specs.declared.fact.Fact.TheVariants.{IFlagged, DFlagged, Marked, IOver, DOver, Backed}
 use Rattle.ell_core.specs.declared.field.Field.{Field}
 use Rattle.ell_core.specs.state.Layout.{place}
 use Rattle.ell_core.specs.state.Facts.{known_of}
@@ -55,6 +57,18 @@ IsTold v e = Has v.told e
 -- the pass knows a fact
 abbrev pub Knows : View → Fact → Type 0
 Knows v fact = known_of v.worker.facts fact ≡ true
+
+-- the pass knew a fact when its search began
+abbrev pub KnewBefore : View → Fact → Type 0
+KnewBefore v fact = known_of v.knew_before fact ≡ true
+
+-- by these facts what a card was for has come to its end: the flag of its insert or delete was taken away
+abbrev pub EndedBy : List Fact → ℕ → Type 0
+EndedBy facts c = (known_of facts (IOver c) ≡ true) ⊎ ((known_of facts (DOver c) ≡ true) ⊎ (known_of facts (Backed c) ≡ true))
+
+-- an update that is not clean is of a card beside card 0, whose end the pass did not know when its search began
+abbrev pub EndWasUnknown : View → State → ℕ → Type 0
+EndWasUnknown v s c = s ≢ state.Clean → (0 < c) × (¬ EndedBy v.knew_before c)
 
 -- the pass knows the flag or the mark of a delete's card
 abbrev pub KnowsDelete : View → ℕ → Type 0

@@ -1,5 +1,5 @@
 //! What a pass knows, as contracts see it.
-use ell_core::{Field, WorkerView};
+use ell_core::{Fact, Field, WorkerView};
 use ell_word::{Kind, Update};
 use std::alloc::Allocator;
 use std::collections::LinkedList;
@@ -50,6 +50,10 @@ pub struct View {
     pub won: LinkedList<(Kind, u64)>,
     /// How many operations it has answered.
     pub answers: u64,
+    /// What it knew when its search began, the last first.
+    pub knew_before: LinkedList<Fact>,
+    /// The claim word is this at least, by the claims that it tried: one more than the last card that it won or lost.
+    pub next_at_least: u64,
     /// What was in its way, the last first.
     pub hindrances: LinkedList<Hindrance>,
 }

@@ -4,7 +4,7 @@ ghost use Rattle.ell_core.specs.state.Machine.{ledger_of};
 ghost use Rattle.ell_core.specs.acts.Searching.{IsLeaf};
 ghost use Rattle.ell_core.specs.statements.Effects.{AnswersAsMap};
 ghost use Rattle.ell_cards.specs.declared.view.Told.TheVariants.{Met};
-ghost use Rattle.ell_cards.specs.Models.{Steps, IsTold, InTable};
+ghost use Rattle.ell_cards.specs.Models.{Steps, IsTold, InTable, EndWasUnknown};
 ghost use Rattle.ell_cards.specs.Changes.{after_begin, after_again, after_leave, after_answer, after_upd, after_down, after_next, after_key_of, after_value_of};
 ghost use Rattle.ell_cards.specs.Guards.{MayBegin, MayStop, MayAnswer, MayRead, MayGoDown};
 ghost use Rattle.ell_cards.specs.Calls.{TellsLeaf, TellsValue};
@@ -45,6 +45,7 @@ impl<A: Allocator + Copy> CardTable<A> {
         requires own { pass.old.table ≡ self.now.id }
         requires may { MayStop pass.old.view }
         ensures step { Steps pass.old pass.new (after_leave pass.old.view) }
+        ensures least { pass.old.view.next_at_least ≤ self.now.last_card + 1 }
     {
         self.load(pass, Call::Leave, 0);
     }
@@ -55,6 +56,7 @@ impl<A: Allocator + Copy> CardTable<A> {
         requires own { pass.old.table ≡ self.now.id }
         requires may { MayAnswer pass.old.view said }
         ensures step { Steps pass.old pass.new (after_answer said pass.old.view) }
+        ensures least { pass.old.view.next_at_least ≤ self.now.last_card + 1 }
         ensures reply { AnswersAsMap (ledger_of pass.old.view.worker.ledger) (ledger_of pass.new.view.worker.ledger) pass.old.view.worker.operation said }
     {
         self.load(pass, Call::Answer(said), 0);
@@ -67,6 +69,7 @@ impl<A: Allocator + Copy> CardTable<A> {
         requires may { MayRead pass.old.view node }
         ensures step { Steps pass.old pass.new (after_upd node result pass.old.view) }
         ensures card { result.card ≤ self.now.last_card }
+        ensures unknown { EndWasUnknown pass.old.view result.state result.card }
     {
         self.names(pass);
         unpack(self.load(pass, Call::Upd(node), update_at(node)))
@@ -92,6 +95,7 @@ impl<A: Allocator + Copy> CardTable<A> {
         ensures step { Steps pass.old pass.new (after_next result pass.old.view) }
         ensures some { 1 ≤ result }
         ensures room { result ≤ self.now.last_card + 1 }
+        ensures least { pass.old.view.next_at_least ≤ result }
     {
         self.load(pass, Call::Next, 0)
     }

@@ -25,3 +25,9 @@ pub mod RowLedgers
 pub mod Sound
 -- The keys of the tree before and after an event, by the walks for them.
 pub mod TreeKeys
+-- A walk that comes by no parent that was cut out comes by none later.
+pub mod Walks
+-- What a search has seen since it began is of no card that had ended then.
+pub mod Since
+-- Which update words have become clean since.
+pub mod Cleans

@@ -2,6 +2,8 @@
 pub mod Advances
 -- The effective ledgers by the stages of the cards: what counts where a card has made something of its key, nothing, or the same.
 pub mod Counts
+-- Which cards have come to their end: what has ended has ended later too.
+pub mod Ended
 -- What a card's stage allows to be known holds of the words, and what the phase of its words has made, its stage has made.
 pub mod Holding
 -- Of what kind each card is after an event: what later words and stages keep.

@@ -6,6 +6,8 @@ pub mod Exchanged
 pub mod Later
 -- The words that a list is: what they are at each field, and what a write to the list does to them.
 pub mod Listed
+-- A word is that of the update that it says.
+pub mod Packed
 -- Whether two facts are one: then they are equal, and each is itself.
 pub mod SameFact
 -- A write is seen at its own address alone, and the words at a node are words of its card.

@@ -12,9 +12,13 @@ pub mod Balanced
 pub mod Start
 -- Which cards wait for their flag, and what an event does to them.
 pub mod Waiting
+-- Which nodes the walks for keys come by, and what an event does to them.
+pub mod Walks
 -- What was told of a card stays so in later words.
 pub mod Told
 -- The premises of the laws are met: states of a run, their followers, splits, joins and owners of all keys are there.
 pub mod Premises
 -- What is not so: statements near to the laws, which a small run shows to be false.
 pub mod Refuted
+-- What a search has seen since it began.
+pub mod Since

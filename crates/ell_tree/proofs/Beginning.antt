@@ -15,7 +15,9 @@ begins old new op s = subst (λ (m : PassModel). Begins op [] old m) (sym s) (re
   answers = refl;
   hindrances = refl;
   knows = λ f h. h;
-  root = record { busy = refl; root = refl; no_card = refl; met = latest _ _ };
+  before = refl;
+  least = refl;
+  root = record { busy = refl; root = refl; no_card = refl; met = latest _ _; before = refl };
   steps = omega arith;
 })
 
@@ -35,7 +37,9 @@ begins_anew old new op s busy =
       answers = refl;
       hindrances = refl;
       knows = λ f h. h;
-      root = record { busy = refl; root = refl; no_card = refl; met = latest _ _ };
+      before = refl;
+      least = refl;
+      root = record { busy = refl; root = refl; no_card = refl; met = latest _ _; before = refl };
       steps = omega arith;
     })
 
@@ -51,6 +55,8 @@ lays old new op s busy = subst (λ (m : PassModel). Lays op old m) (sym s) (reco
       busy;
   knows = λ f h. h;
   next = refl;
+  facts = refl;
+  least = refl;
   idle = refl;
   no_card = refl;
   steps = omega arith;

@@ -1,4 +1,4 @@
-use Rattle.std.proofs.Common.{◌≡◌, ℕ, ◌+◌, ◌≤◌, true, false, None, List, [], ◌∷◌, length, refl, sym, ◌∙◌, ap, subst, arith}
+use Rattle.std.proofs.Common.{◌≡◌, ℕ, ◌+◌, ◌≤◌, Bool, true, false, None, List, [], ◌∷◌, length, refl, sym, ◌∙◌, ap, subst, arith}
 use Rattle.ell_ops.specs.declared.op.Op.{Op}
 use Rattle.ell_word.specs.declared.update.State.TheVariants as state
 use Rattle.ell_core.specs.declared.field.Field.{Field}
@@ -20,6 +20,7 @@ use Rattle.ell_tree.specs.Hindrances.{Meets}
 use Rattle.ell_tree.specs.Keeping.{LosesNothing, Goes}
 use Rattle.ell_tree.specs.Searches.{seen, IsAt}
 use Rattle.ell_tree.specs.Tries.{HasCard, HasNone}
+use Rattle.ell_tree.specs.Moves.{GivesOut}
 use Rattle.ell_tree.proofs.Keeping.{goes_step, goes_trans, next_keeps}
 
 -- what fills a card tells the same beside whatever was told before
@@ -46,17 +47,19 @@ told_filling_over c [] es e h = elim h [ ]
 told_filling_over c (f ∷ fs) es e h =
     told_fixed_over c f.0 f.1 (told_filling c fs []) (told_filling c fs es) e (λ d. told_filling_over c fs es d) h
 
-won_keeps : (c : ℕ) (v : View) → LosesNothing v (after_claim true c v)
-won_keeps c v = record {
+won_keeps : (c : ℕ) (v : View) → v.next_at_least ≤ c → LosesNothing v (after_claim true c v)
+won_keeps c v low = record {
   ledger = refl;
   operation = refl;
   answers = refl;
   knows = λ f h. h;
   told = filling_more c (filling_of c v) v.told;
+  before = refl;
+  least = omega arith;
 }
 
-lost_keeps : (c : ℕ) (v : View) → LosesNothing v (after_claim false c v)
-lost_keeps c v = record { ledger = refl; operation = refl; answers = refl; knows = λ f h. h; told = λ e h. h }
+lost_keeps : (c : ℕ) (v : View) → v.next_at_least ≤ c → LosesNothing v (after_claim false c v)
+lost_keeps c v low = record { ledger = refl; operation = refl; answers = refl; knows = λ f h. h; told = λ e h. h; before = refl; least = omega arith }
 
 -- where a search stands at a leaf, and the claim word was read, a claim may be made
 pub may_claim_at : (old new : PassModel) (c : ℕ) (op : Op) (place : Place) → Steps old new (after_next c old.view) → Does old.view op
@@ -65,11 +68,28 @@ may_claim_at old new c op place s busy no_card at calm wants =
     may_claim old new op c place.leaf place.key (seen place.parent) s busy no_card (ap (λ (r : Search). r.node) at.search) at.outer at.told
     (ap (λ (r : Search). r.parent) at.search) (clean_word place.parent.update.state place.parent.update.card calm) wants
 
-module _ (a b d : PassModel) (c : ℕ) (read : Steps a b (after_next c a.view)) where
+module _ (a b d : PassModel) (c : ℕ) (read : Steps a b (after_next c a.view)) (low : a.view.next_at_least ≤ c) where
+  low_there : b.view.next_at_least ≤ c
+  low_there = subst (λ (w : View). w.next_at_least ≤ c) (sym (view_after a b (after_next c a.view) read)) low
+
+  -- the card is given out then, whoever took it
+  pub given_out : (won : Bool) (cards : ℕ) → Steps b d (after_claim won c b.view) → 1 ≤ c → c ≤ cards → GivesOut cards a.view d.view
+  given_out won cards s first last = record {
+    card = c;
+    first = omega arith;
+    last = last;
+    before = low;
+    after = (let now = is won s in omega arith);
+  }
+    where
+      is : (t : Bool) → Steps b d (after_claim t c b.view) → d.view.next_at_least ≡ c + 1
+      is true s = ap (λ (w : View). w.next_at_least) (view_after b d (after_claim true c b.view) s)
+      is false s = ap (λ (w : View). w.next_at_least) (view_after b d (after_claim false c b.view) s)
+
   pub won_goes : Steps b d (after_claim true c b.view) → Goes a d 2
   won_goes s =
       goes_trans a b d 1 1 2 (goes_step a b (after_next c a.view) read (next_keeps c a.view))
-      (goes_step b d (after_claim true c b.view) s (won_keeps c b.view)) (omega arith)
+      (goes_step b d (after_claim true c b.view) s (won_keeps c b.view low_there)) (omega arith)
 
   -- the card is in hand then
   pub has_card : (op : Op) (place : Place) → Steps b d (after_claim true c b.view) → Does a.view op → IsAt a.view place
@@ -91,7 +111,7 @@ module _ (a b d : PassModel) (c : ℕ) (read : Steps a b (after_next c a.view)) 
   pub lost_goes : Steps b d (after_claim false c b.view) → Goes a d 2
   lost_goes s =
       goes_trans a b d 1 1 2 (goes_step a b (after_next c a.view) read (next_keeps c a.view))
-      (goes_step b d (after_claim false c b.view) s (lost_keeps c b.view)) (omega arith)
+      (goes_step b d (after_claim false c b.view) s (lost_keeps c b.view low_there)) (omega arith)
 
   -- and nothing was in the way
   pub won_calm : Steps b d (after_claim true c b.view) → d.view.hindrances ≡ a.view.hindrances

@@ -1,4 +1,4 @@
-use Rattle.std.proofs.Common.{◌≡◌, ℕ, ◌≤◌, ◌==◌, Bool, true, false, true≢false, inl, Option, Some, None, IfSome, if◌then◌else◌, eq-eqb, eqb-true, refl, sym, ◌∙◌, ap, subst, arith}
+use Rattle.std.proofs.Common.{◌≡◌, ◌≢◌, ℕ, ◌<◌, ◌≤◌, ◌==◌, List, Bool, true, false, true≢false, inl, Option, Some, None, IfSome, if◌then◌else◌, eq-eqb, eqb-true, refl, sym, ◌∙◌, ap, subst, arith}
 use Rattle.std.specs.Option.{is_some}
 use Rattle.ell_ops.specs.declared.op.Op.{Op}
 use Rattle.ell_ops.specs.declared.reply.Reply.{Reply}
@@ -10,7 +10,7 @@ use Rattle.ell_core.specs.state.Machine.{ledger_of}
 use Rattle.ell_core.specs.statements.Effects.{contents_in}
 use Rattle.ell_cards.specs.declared.view.Told.TheVariants.{Met}
 use Rattle.ell_cards.specs.declared.view.View.{View}
-use Rattle.ell_cards.specs.Models.{PassModel, Steps, latest, Does, IsTold, StandsAt, InTable}
+use Rattle.ell_cards.specs.Models.{PassModel, Steps, latest, Does, IsTold, StandsAt, InTable, EndedBy, EndWasUnknown}
 use Rattle.ell_cards.specs.Changes.{after_upd, after_key_of, after_value_of, after_down, told_value}
 use Rattle.ell_cards.specs.Guards.{MayAnswer, TellsOf}
 use Rattle.ell_cards.specs.Calls.{TellsLeaf, TellsValue}
@@ -20,7 +20,9 @@ use Rattle.ell_cards.proofs.views.Searches.{told_here}
 use Rattle.ell_tree.specs.declared.searching.Passed.{Passed}
 use Rattle.ell_tree.specs.declared.searching.Place.{Place}
 use Rattle.ell_tree.specs.Keeping.{LosesNothing, Seeks, IsInnerMet}
-use Rattle.ell_tree.specs.Searches.{seen_any, below, Passes, Stands, IsAt, there_at, EndsAt}
+use Rattle.ell_word.specs.declared.update.State.TheVariants as state
+use Rattle.ell_core.specs.declared.fact.Fact.{Fact}
+use Rattle.ell_tree.specs.Searches.{seen_any, below, Passes, EndWasUnknownAt, Stands, IsAt, there_at, EndsAt}
 use Rattle.ell_tree.proofs.Keeping.{seeks_step, seeks_trans, upd_keeps, key_of_keeps, value_of_keeps, down_keeps, keeps_trans, seen_kept, place_told}
 
 -- an update is read in a step, and so are a key and a value
@@ -68,6 +70,24 @@ module _ (a b d e : PassModel) (x : ℕ) (u : Update) (key child : ℕ)
         place = place_told x u.state u.card a.view v refl refl;
       }))
 
+  pub descend_unknown : EndWasUnknown a.view u.state u.card → EndWasUnknownAt e.view (record { node = x; update = u })
+  descend_unknown unknown = subst (λ (y : View). EndWasUnknownAt y (record { node = x; update = u })) (sym gone_view) unknown
+
+-- what was unknown is unknown as long as the search goes on
+pub unknown_kept : (a b : View) (x : Passed) → LosesNothing a b → EndWasUnknownAt a x → EndWasUnknownAt b x
+unknown_kept a b x k h = subst (λ (fs : List Fact). x.update.state ≢ state.Clean → (0 < x.update.card) × (¬ EndedBy fs x.update.card)) (sym k.before) h
+
+unknown_any_kept : (a b : View) (o : Option Passed) → LosesNothing a b → IfSome o (EndWasUnknownAt a) → IfSome o (EndWasUnknownAt b)
+unknown_any_kept a b None k h = tt
+unknown_any_kept a b (Some x) k h = unknown_kept a b x k h
+
+-- what is so of the node above the parent, if there is one
+pub unknown_above : (v : View) (o : Option Passed) (x : Passed) → o ≡ Some x → IfSome o (EndWasUnknownAt v) → EndWasUnknownAt v x
+unknown_above v o x e h = subst (λ p. IfSome p (EndWasUnknownAt v)) e h
+
+pub named_above : (cards : ℕ) (v : View) (o : Option Passed) (x : Passed) → o ≡ Some x → IfSome o (λ y. Passes cards v y) → x.update.card ≤ cards
+named_above cards v o x e h = (subst (λ p. IfSome p (λ y. Passes cards v y)) e h).named
+
 -- what a search passed stays so
 pub passes_kept : (cards : ℕ) (a b : View) (x : Passed) → LosesNothing a b → Passes cards a x → Passes cards b x
 passes_kept cards a b x k h = seen_kept cards a b x.node x.update k h
@@ -79,13 +99,15 @@ passes_any_kept cards a b (Some x) k h = passes_kept cards a b x k h
 -- a search that stood below a parent has that as the grandparent a node deeper
 pub stands_next : (cards : ℕ) (a b : View) (x child : ℕ) (parent passed : Passed) (above : Option Passed) → LosesNothing a b
     → Stands cards a x parent above → b.worker.search ≡ below child passed a.worker.search.parent
-    → IsTold b (Met child) → InTable cards child → Passes cards b passed → Stands cards b child passed (Some parent)
-stands_next cards a b x child parent passed above k h search met there passes = record {
+    → IsTold b (Met child) → InTable cards child → Passes cards b passed → EndWasUnknownAt b passed → Stands cards b child passed (Some parent)
+stands_next cards a b x child parent passed above k h search met there passes unknown = record {
   search = search ∙ ap (λ (s : Search). below child passed s.parent) h.search;
   met = met;
   there = there;
   passed = passes;
   passed_above = passes_kept cards a b parent k h.passed;
+  unknown = unknown;
+  unknown_above = unknown_kept a b parent k h.unknown;
 }
 
 -- what a ledger has of a key, if it has it where the place has the key, and with the place's value then
@@ -123,6 +145,8 @@ search_ends cards a b d op place s s' busy outer h tells says =
       };
       passed = passes_kept cards a.view w place.parent kept h.passed;
       passed_above = passes_any_kept cards a.view w place.grandparent kept h.passed_above;
+      unknown = unknown_kept a.view w place.parent kept h.unknown;
+      unknown_above = unknown_any_kept a.view w place.grandparent kept h.unknown_above;
       there = there_by (contents_in (ledger_of a.view.worker.ledger) (key_of op)) place (key_of op) (tells.present op busy stands outer)
           (λ same. subst (λ (y : View). TellsValue y place.leaf place.value) asked says op busy stands (told ∙ ap Some same));
       deep = λ same none. tells.deep op busy stands outer same (ap (λ (r : Search). r.grandparent) h.search ∙ ap seen_any none);

@@ -70,6 +70,8 @@ module _ (k : Kind) (flag : ℕ → Fact) (c x : ℕ) (from : Update) where
     answers = refl;
     knows = λ g h. knows_more (flag c) g v.worker.facts h;
     told = λ e h. h;
+    before = refl;
+    least = omega arith;
   }
   flagging_keeps stores (Err u) v = record {
     ledger = refl;
@@ -77,6 +79,8 @@ module _ (k : Kind) (flag : ℕ → Fact) (c x : ℕ) (from : Update) where
     answers = refl;
     knows = facts_by_more u.state u.card v.worker.facts;
     told = places_more x u.state u.card v.told;
+    before = refl;
+    least = omega arith;
   }
 
   module _ (a b d : PassModel) (n : ℕ) (r : Result (Unit {0}) Update) (fills : Fills a b n) (step : Steps b d (flagging r b.view)) where

@@ -26,3 +26,5 @@ pub mod Flagging
 pub mod Splitting
 -- how a tree ends
 pub mod Closing
+-- how many moves of cards a pass knows of, and why each try that is hindered shows it one more
+pub mod Moving

@@ -1,4 +1,4 @@
-use Rattle.std.proofs.Common.{◌≡◌, ℕ, ◌≤◌, if◌then◌else◌, Bool, true, false, Some, None, Result, Ok, Err, [], ◌∷◌, IfSome, IfErr, refl, sym, ap, subst, is_ok}
+use Rattle.std.proofs.Common.{◌≡◌, ℕ, ◌≤◌, if◌then◌else◌, Bool, true, false, Some, None, Result, Ok, Err, [], ◌∷◌, IfSome, IfErr, refl, sym, ap, subst, is_ok, arith}
 use Rattle.ell_word.specs.declared.update.Update.{Update}
 use Rattle.ell_word.specs.Word.{unpacked}
 use Rattle.ell_word.specs.declared.gate.Kind.TheVariants as kind
@@ -25,6 +25,8 @@ unmarking_keeps n c p u v = record {
   answers = refl;
   knows = λ g h. facts_by_more u.state u.card (fact.Unmarkable c ∷ v.worker.facts) g (knows_more (fact.Unmarkable c) g v.worker.facts h);
   told = places_more p u.state u.card v.told;
+  before = refl;
+  least = omega arith;
 }
 
 module _ (n c p : ℕ) (u : Update) (old new : PassModel) where

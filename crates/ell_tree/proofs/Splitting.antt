@@ -1,8 +1,9 @@
-use Rattle.std.proofs.Common.{◌≡◌, ◌≢◌, ◌↔◌, ℕ, max, if◌then◌else◌, Bool, true, false, Option, Some, None, Result, Ok, Err, IfOk, List, refl, sym, ◌∙◌, ap, subst, inl, inr, length-append}
+use Rattle.std.proofs.Common.{◌≡◌, ◌≢◌, ◌↔◌, ℕ, max, if◌then◌else◌, Bool, true, false, Option, Some, None, Result, Ok, Err, IfOk, List, refl, sym, ◌∙◌, ap, subst, inl, inr, length-append, arith}
 use Rattle.std.specs.List.{All}
 use Rattle.std.specs.Map.{keys_of}
 use Rattle.ell_ops.specs.KeySet.{set_of}
 use Rattle.ell_core.specs.state.Machine.{ledger_of}
+use Rattle.ell_tree.proofs.Moving.{moves_more, moves_none, known_left, known_right}
 use Rattle.ell_cards.specs.Models.{PassModel, TableModel, Steps, one_more}
 use Rattle.ell_cards.specs.Changes.{first_view, part_on, part_off, left_view, right_view, united, joined_view}
 use Rattle.ell_cards.proofs.words.Keys.{ledger_at_start, present_at_start}
@@ -40,6 +41,7 @@ first_pass t keys start p given same e = subst (IsFirst start t) (sym e) (record
   hindrances = refl;
   steps = refl;
   label = refl;
+  moves = λ cards. moves_none cards;
   idle = refl;
 })
 
@@ -66,6 +68,7 @@ left_part keys p part s = subst (IsLeftPart keys p) (sym s) (record {
   hindrances = refl;
   steps = refl;
   label = refl;
+  moves = λ cards. refl;
   idle = refl;
 })
 
@@ -77,6 +80,7 @@ right_part keys p part s = subst (IsRightPart keys p) (sym s) (record {
   hindrances = refl;
   steps = refl;
   label = refl;
+  moves = λ cards. refl;
   idle = refl;
 })
 
@@ -102,5 +106,9 @@ union left right both e = subst (IsUnion left right) (sym e) (record {
   next = refl;
   steps = refl;
   label = refl;
+  moves = λ cards. (
+    moves_more cards left.view (joined_view left.view right.view) (λ f h. known_left left.view.worker.facts right.view.worker.facts f h) (omega arith),
+    moves_more cards right.view (joined_view left.view right.view) (λ f h. known_right left.view.worker.facts right.view.worker.facts f h) (omega arith),
+  );
   idle = refl;
 })

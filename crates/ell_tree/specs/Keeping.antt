@@ -18,6 +18,8 @@ pub record LosesNothing (v w : View) : Type 0 where
   pub answers : w.answers ≡ v.answers
   pub knows : (f : Fact) → Knows v f → Knows w f
   pub told : (e : Told) → IsTold v e → IsTold w e
+  pub before : w.knew_before ≡ v.knew_before
+  pub least : v.next_at_least ≤ w.next_at_least
 
 -- a pass made at most so many steps, and kept these
 pub record Goes (old new : PassModel) (n : ℕ) : Type 0 where

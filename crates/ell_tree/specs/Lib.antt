@@ -8,6 +8,8 @@ pub mod PassParts
 pub mod Closing
 -- what was in the way, and when it is over
 pub mod Hindrances
+-- cards that are given out and come to their end, as a pass knows
+pub mod Moves
 -- what steps keep
 pub mod Keeping
 -- where a search ends

@@ -1,8 +1,9 @@
-use Rattle.std.specs.Prelude.{◌≡◌, ℕ, ◌+◌, if◌then◌else◌, Option, Some, None, List, max}
+use Rattle.std.specs.Prelude.{◌≡◌, ℕ, ◌+◌, ◌≤◌, if◌then◌else◌, Option, Some, None, List, max}
 use Rattle.ell_ops.specs.KeySet.{set_of}
 use Rattle.ell_ops.specs.Contents.{contents_of}
 use Rattle.ell_cards.specs.Models.{PassModel, one_more}
 pub use Rattle.ell_cards.specs.Changes.{later}
+use Rattle.ell_tree.specs.Moves.{moves_known}
 use Rattle.ell_tree.specs.Ledgers.{TreeModel, ledger, present_in, answers, hindrances, IsIdle}
 pub use Rattle.ell_core.specs.state.Opening.{start_entry}
 use Rattle.ell_core.specs.declared.view.Entry.{Entry}
@@ -17,6 +18,7 @@ pub record IsFirst (start : List (ℕ × ℕ)) (t : TreeModel) (p : PassModel) :
   pub hindrances : hindrances p ≡ 0
   pub steps : p.steps ≡ 0
   pub label : p.label ≡ 0
+  pub moves : (cards : ℕ) → moves_known cards p.view ≡ 0
   pub idle : IsIdle p
 
 -- the left part of a pass: it has these keys as the pass had them, and keeps the counts
@@ -27,6 +29,7 @@ pub record IsLeftPart (keys : List ℕ) (p part : PassModel) : Type 0 where
   pub hindrances : hindrances part ≡ hindrances p
   pub steps : part.steps ≡ one_more p.steps
   pub label : part.label ≡ p.label
+  pub moves : (cards : ℕ) → moves_known cards part.view ≡ moves_known cards p.view
   pub idle : IsIdle part
 
 -- the right part: it has the other keys, and counts anew
@@ -37,6 +40,7 @@ pub record IsRightPart (keys : List ℕ) (p part : PassModel) : Type 0 where
   pub hindrances : hindrances part ≡ 0
   pub steps : part.steps ≡ one_more p.steps
   pub label : part.label ≡ p.label
+  pub moves : (cards : ℕ) → moves_known cards part.view ≡ moves_known cards p.view
   pub idle : IsIdle part
 
 -- an entry of one ledger, or else of another
@@ -53,4 +57,5 @@ pub record IsUnion (left right both : PassModel) : Type 0 where
   pub next : both.view.next ≡ later left.view.next right.view.next
   pub steps : both.steps ≡ one_more (max left.steps right.steps)
   pub label : both.label ≡ left.label
+  pub moves : (cards : ℕ) → (moves_known cards left.view ≤ moves_known cards both.view) × (moves_known cards right.view ≤ moves_known cards both.view)
   pub idle : IsIdle both

@@ -9,7 +9,7 @@ use Rattle.ell_core.specs.statements.Effects.{contents_in}
 use Rattle.ell_core.specs.acts.Searching.{IsLeaf, at_root}
 use Rattle.ell_cards.specs.declared.view.Told.TheVariants.{Met, Value}
 use Rattle.ell_cards.specs.declared.view.View.{View}
-use Rattle.ell_cards.specs.Models.{IsTold, Does, InTable}
+use Rattle.ell_cards.specs.Models.{IsTold, Does, InTable, EndWasUnknown}
 use Rattle.ell_cards.specs.Changes.{told_value}
 use Rattle.ell_tree.specs.declared.searching.Passed.{Passed}
 use Rattle.ell_tree.specs.declared.searching.Place.{Place}
@@ -21,6 +21,7 @@ pub record AtRoot (op : Op) (v : View) : Type 0 where
   pub root : v.worker.search ≡ at_root
   pub no_card : v.worker.card ≡ None
   pub met : IsTold v (Met 0)
+  pub before : v.knew_before ≡ v.worker.facts
 
 -- a node that a search passed, as the view has it
 abbrev pub seen : Passed → Seen
@@ -38,6 +39,10 @@ below child x above = record { node = Some child; read = None; parent = Some (se
 abbrev pub Passes : ℕ → View → Passed → Type 0
 Passes cards w x = IsSeenAt cards w x.node x.update
 
+-- what it read there is clean, or of a card whose end the pass did not know when its search began
+abbrev pub EndWasUnknownAt : View → Passed → Type 0
+EndWasUnknownAt w x = EndWasUnknown w x.update.state x.update.card
+
 -- a search stands at a node, below a parent and perhaps a grandparent
 pub record Stands (cards : ℕ) (w : View) (node : ℕ) (parent : Passed) (grandparent : Option Passed) : Type 0 where
   pub search : w.worker.search ≡ below node parent (seen_any grandparent)
@@ -45,6 +50,8 @@ pub record Stands (cards : ℕ) (w : View) (node : ℕ) (parent : Passed) (grand
   pub there : InTable cards node
   pub passed : Passes cards w parent
   pub passed_above : IfSome grandparent (λ x. Passes cards w x)
+  pub unknown : EndWasUnknownAt w parent
+  pub unknown_above : IfSome grandparent (EndWasUnknownAt w)
 
 -- a search stands at the leaf of a place, and was told its key and its value
 pub record IsAt (w : View) (place : Place) : Type 0 where
@@ -63,5 +70,7 @@ pub record EndsAt (cards : ℕ) (w : View) (op : Op) (place : Place) : Type 0 wh
   pub at : IsAt w place
   pub passed : Passes cards w place.parent
   pub passed_above : IfSome place.grandparent (λ x. Passes cards w x)
+  pub unknown : EndWasUnknownAt w place.parent
+  pub unknown_above : IfSome place.grandparent (EndWasUnknownAt w)
   pub there : contents_in (ledger_of w.worker.ledger) (key_of op) ≡ there_at place (key_of op)
   pub deep : place.key ≡ key_of op → place.grandparent ≢ None

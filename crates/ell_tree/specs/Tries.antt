@@ -22,6 +22,7 @@ use Rattle.ell_tree.specs.Ledgers.{present_in, IsIdle}
 use Rattle.ell_tree.specs.Ends.{Answers}
 use Rattle.ell_tree.specs.Hindrances.{AreOver, Meets, StillKnows, way_of}
 use Rattle.ell_tree.specs.Keeping.{IsSeenAt}
+use Rattle.ell_tree.specs.Moves.{GivesOut, SeesMove}
 use Rattle.ell_tree.specs.Searches.{AtRoot, seen, seen_any}
 use Rattle.ell_ops.specs.declared.reply.Reply.TheVariants.{Yes}
 
@@ -39,6 +40,8 @@ pub record Begins (op : Op) (met : List Hindrance) (old new : PassModel) : Type 
   pub answers : new.view.answers ≡ old.view.answers
   pub hindrances : new.view.hindrances ≡ met ++ old.view.hindrances
   pub knows : StillKnows old.view new.view
+  pub before : new.view.knew_before ≡ old.view.worker.facts
+  pub least : new.view.next_at_least ≡ old.view.next_at_least
   pub root : AtRoot op new.view
   pub steps : new.steps ≤ old.steps + 1
 
@@ -56,6 +59,8 @@ pub record Lays (op : Op) (old new : PassModel) : Type 0 where
   pub hindrances : new.view.hindrances ≡ way_of op old.view ++ old.view.hindrances
   pub knows : StillKnows old.view new.view
   pub next : new.view.next ≡ old.view.next
+  pub facts : new.view.worker.facts ≡ old.view.worker.facts
+  pub least : new.view.next_at_least ≡ old.view.next_at_least
   pub idle : IsIdle new
   pub no_card : new.view.worker.card ≡ None
   pub steps : new.steps ≤ old.steps + 1
@@ -74,10 +79,10 @@ pub record Halts (op : Op) (old new : PassModel) : Type 0 where
 
 -- how a try ends
 abbrev pub TryEnds : ℕ → Op → PassModel → PassModel → Tried → Type 0
-TryEnds cards op old new (tried.Answered said) = Answers op (yes_if said) old new × Meets old.view new.view
+TryEnds cards op old new (tried.Answered said) = Answers op (yes_if said) old new × Meets old.view new.view × (new.view.next_at_least ≤ cards + 1)
 TryEnds cards op old new tried.Spent = Halts op old new × (new.view.next ≡ Some (cards + 1))
 TryEnds cards op old new tried.Hindered =
-    Halts op old new × (length old.view.hindrances + 1 ≤ length (way_of op new.view) + length new.view.hindrances)
+    Halts op old new × (length old.view.hindrances + 1 ≤ length (way_of op new.view) + length new.view.hindrances) × SeesMove cards old.view new.view
 
 -- a card was taken for an operation whose search ended at a place: it is to say this, nothing of it was stored, and its words
 -- that never change are told
@@ -99,10 +104,11 @@ pub record HasNone (old new : PassModel) : Type 0 where
 -- what comes of asking for a card
 abbrev pub Claims : ℕ → Op → Place → PassModel → PassModel → Claimed → Type 0
 Claims cards op place old new (claimed.Card c) =
-    HasCard op place (filling_of c old.view) new.view c × (c ≤ cards) × (new.view.hindrances ≡ old.view.hindrances)
+    HasCard op place (filling_of c old.view) new.view c × (c ≤ cards) × (new.view.hindrances ≡ old.view.hindrances) × GivesOut cards old.view new.view
 Claims cards op place old new claimed.NoneLeft =
     HasNone old new × (new.view.next ≡ Some (cards + 1)) × (new.view.hindrances ≡ old.view.hindrances)
-Claims cards op place old new claimed.Lost = HasNone old new × Meets old.view new.view × (length old.view.hindrances + 1 ≤ length new.view.hindrances)
+Claims cards op place old new claimed.Lost =
+    HasNone old new × Meets old.view new.view × (length old.view.hindrances + 1 ≤ length new.view.hindrances) × GivesOut cards old.view new.view
 
 -- the card in hand was filled in so many steps, and nothing else was done
 pub record Fills (old new : PassModel) (n : ℕ) : Type 0 where

@@ -1,5 +1,5 @@
 //! The operations: find, insert and delete.
-ghost use Rattle.std.specs.Prelude.{◌≡◌, ◌≤◌, ◌+◌, true};
+ghost use Rattle.std.specs.Prelude.{◌≡◌, ◌≢◌, ◌<◌, ◌≤◌, ◌+◌, ◌*◌, true, Err};
 ghost use Rattle.ell_ops.specs.declared.op.Op.{Op};
 ghost use Rattle.ell_ops.specs.declared.op.Op.TheVariants.{Find};
 ghost use Rattle.ell_ops.specs.Meaning.{key_of, found};
@@ -7,7 +7,9 @@ ghost use Rattle.ell_cards.specs.Guards.{MayStop};
 ghost use Rattle.ell_cards.specs.Models.{Does};
 ghost use Rattle.ell_tree.specs.Ends.{Answers, Ends, change_steps, find_steps, replied, try_steps};
 ghost use Rattle.ell_tree.specs.Hindrances.{Meets, way_of};
+ghost use Rattle.ell_tree.specs.declared.operations.Held.TheVariants.{Busy};
 ghost use Rattle.ell_tree.specs.Ledgers.{IsIdle, Owns};
+ghost use Rattle.ell_tree.specs.Moves.{moves_known};
 ghost use Rattle.ell_tree.specs.Searches.{AtRoot};
 ghost use Rattle.ell_tree.specs.Tries.{Begins, IsChange, TryEnds};
 
@@ -47,6 +49,8 @@ pub(crate) fn find<A: Allocator + Copy, G: StepGate>(
     ensures calm { pass.new.view.hindrances ≡ pass.old.view.hindrances }
     ensures meets { Meets pass.old.view pass.new.view }
     ensures steps { pass.new.steps ≤ pass.old.steps + find_steps table.now.last_card }
+    ensures moved { moves_known table.now.last_card pass.old.view ≤ moves_known table.now.last_card pass.new.view }
+    ensures bounded { moves_known table.now.last_card pass.new.view ≤ 2 * table.now.last_card }
 {
     let label = pass.label();
     let op = Op::Find(key);
@@ -74,6 +78,11 @@ pub(crate) fn make_change<A: Allocator + Copy, G: StepGate>(
     requires tries { 1 ≤ tries }
     ensures ends { Ends table.now.last_card tries op pass.old pass.new (replied result) }
     ensures steps { pass.new.steps ≤ pass.old.steps + change_steps table.now.last_card tries }
+    ensures moved { result ≡ Err Busy → moves_known table.now.last_card pass.old.view + tries ≤ moves_known table.now.last_card pass.new.view }
+    ensures enough { 2 * table.now.last_card < tries → result ≢ Err Busy }
+    ensures bounded { moves_known table.now.last_card pass.new.view ≤ 2 * table.now.last_card }
+    ensures amortized { pass.new.steps + moves_known table.now.last_card pass.old.view * try_steps table.now.last_card ≤
+        pass.old.steps + (moves_known table.now.last_card pass.new.view + 1) * try_steps table.now.last_card + 1 }
 {
     let label = pass.label();
     gate.before(label, Kind::Begin);
@@ -97,6 +106,11 @@ fn try_often<A: Allocator + Copy, G: StepGate>(
     requires tries { 1 ≤ tries }
     ensures ends { Ends table.now.last_card tries op pass.old pass.new (replied result) }
     ensures steps { pass.new.steps ≤ pass.old.steps + change_steps table.now.last_card tries }
+    ensures moved { result ≡ Err Busy → moves_known table.now.last_card pass.old.view + tries ≤ moves_known table.now.last_card pass.new.view }
+    ensures enough { 2 * table.now.last_card < tries → result ≢ Err Busy }
+    ensures bounded { moves_known table.now.last_card pass.new.view ≤ 2 * table.now.last_card }
+    ensures amortized { pass.new.steps + moves_known table.now.last_card pass.old.view * try_steps table.now.last_card ≤
+        pass.old.steps + (moves_known table.now.last_card pass.new.view + 1) * try_steps table.now.last_card + 1 }
 {
     begin(table, pass, op, gate);
     for round in 0..tries {
@@ -144,6 +158,7 @@ fn try_once<A: Allocator + Copy, G: StepGate>(
     requires root { AtRoot op pass.old.view }
     ensures steps { pass.new.steps + 1 ≤ pass.old.steps + try_steps table.now.last_card }
     ensures ends { TryEnds table.now.last_card op pass.old pass.new result }
+    ensures least { pass.old.view.next_at_least ≤ pass.new.view.next_at_least }
 {
     match op {
         Op::Insert(key, value) => try_insert(table, pass, key, value, gate),

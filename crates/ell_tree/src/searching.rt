@@ -3,7 +3,7 @@ ghost use Rattle.std.specs.Prelude.{◌≡◌, ◌<◌, ◌+◌, ◌*◌, None};
 ghost use Rattle.ell_cards.specs.Models.{Does, InTable, IsTold, StandsAt};
 ghost use Rattle.ell_cards.specs.declared.view.Told.TheVariants.{Met};
 ghost use Rattle.ell_tree.specs.Keeping.{IsInnerMet, Seeks};
-ghost use Rattle.ell_tree.specs.Searches.{AtRoot, EndsAt, Passes, below};
+ghost use Rattle.ell_tree.specs.Searches.{AtRoot, EndsAt, EndWasUnknownAt, Passes, below};
 
 use ell_cards::{CardTable, Pass};
 use ell_ops::Op;
@@ -93,6 +93,7 @@ fn descend<A: Allocator + Copy, G: StepGate>(
     ensures search { pass.new.view.worker.search ≡ below result.1 result.0 pass.old.view.worker.search.parent }
     ensures met { IsTold pass.new.view (Met result.1) }
     ensures passed { Passes table.now.last_card pass.new.view result.0 }
+    ensures unknown { EndWasUnknownAt pass.new.view result.0 }
 {
     let label = pass.label();
     gate.before(label, Kind::Look);

@@ -67,7 +67,8 @@ pub(crate) fn leave<A: Allocator + Copy, G: StepGate>(
 )
     requires own { pass.old.table ≡ table.now.id }
     requires may { MayStop pass.old.view }
-    ensures { (op : Op) → Does pass.old.view op → Lays op pass.old pass.new }
+    ensures lays { (op : Op) → Does pass.old.view op → Lays op pass.old pass.new }
+    ensures least { pass.old.view.next_at_least ≤ table.now.last_card + 1 }
 {
     gate.before(pass.label(), Kind::Note);
     table.leave(pass);
@@ -85,6 +86,8 @@ pub(crate) fn answer<A: Allocator + Copy, G: StepGate>(
     ensures answers { (op : Op) → Does pass.old.view op → Answers op said pass.old pass.new }
     ensures hindrances { pass.new.view.hindrances ≡ pass.old.view.hindrances }
     ensures facts { pass.new.view.worker.facts ≡ pass.old.view.worker.facts }
+    ensures least { pass.new.view.next_at_least ≡ pass.old.view.next_at_least }
+    ensures room { pass.new.view.next_at_least ≤ table.now.last_card + 1 }
     ensures steps { pass.new.steps ≤ pass.old.steps + 1 }
 {
     gate.before(pass.label(), Kind::Note);

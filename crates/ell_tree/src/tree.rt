@@ -1,5 +1,5 @@
 //! The tree.
-ghost use Rattle.std.specs.Prelude.{◌≡◌, ◌≤◌, ◌+◌, ◌*◌, [], true, length, IfOk, IfErr, OnOk, vec_capacity};
+ghost use Rattle.std.specs.Prelude.{◌≡◌, ◌≢◌, ◌<◌, ◌≤◌, ◌+◌, ◌*◌, [], true, length, Err, IfOk, IfErr, OnOk, vec_capacity};
 ghost use Rattle.std.specs.List.{All};
 ghost use Rattle.std.specs.List.Sorted.{IsStrictlyIncreasing};
 ghost use Rattle.std.specs.Map.{keys_of};
@@ -10,8 +10,10 @@ ghost use Rattle.ell_word.specs.Node.{most_start};
 ghost use Rattle.ell_core.specs.state.Opening.{last_card};
 ghost use Rattle.ell_cards.specs.Models.{IsCardCount, Refuses};
 ghost use Rattle.ell_tree.specs.Closing.{ClosesTo};
-ghost use Rattle.ell_tree.specs.Ends.{Answers, Ends, change_steps, find_steps, replied};
+ghost use Rattle.ell_tree.specs.Ends.{Answers, Ends, change_steps, find_steps, replied, try_steps};
 ghost use Rattle.ell_tree.specs.Hindrances.{Meets};
+ghost use Rattle.ell_tree.specs.Moves.{moves_known};
+ghost use Rattle.ell_tree.specs.declared.operations.Held.TheVariants.{Busy};
 ghost use Rattle.ell_tree.specs.Ledgers.{IsIdle, Owns, TreeModel};
 ghost use Rattle.ell_tree.specs.PassParts.{IsFirst, IsLeftPart, IsRightPart, IsUnion};
 
@@ -126,6 +128,8 @@ impl<A: Allocator + Copy> Tree<A> {
         ensures meets { Meets pass.old.view pass.new.view }
         ensures steps { pass.new.steps ≤ pass.old.steps + find_steps self.now.last_card }
         ensures rounded { pass.new.steps ≤ pass.old.steps + 64 * (self.now.last_card + 2) }
+        ensures moved { moves_known self.now.last_card pass.old.view ≤ moves_known self.now.last_card pass.new.view }
+        ensures bounded { moves_known self.now.last_card pass.new.view ≤ 2 * self.now.last_card }
     {
         find(&self.table, pass, key, gate)
     }
@@ -136,7 +140,9 @@ impl<A: Allocator + Copy> Tree<A> {
     /// was in the way of every try, and `Spent` where a try that would add the key finds all cards given out. After either the
     /// map is as it was, and nothing of the call is under way. However it ends, whatever was in the way of a try is over by
     /// then: a card that another pass took first, or a change of a neighbour, which was helped to its end where nobody else
-    /// had ended it.
+    /// had ended it. Each try that ends without an answer shows the pass a card given out, or come to its end, that it did not
+    /// know of (`moves_known`), and no card does either twice: so with more than `2 * cards` tries it is never `Busy`, and all calls of a
+    /// pass together make at most `7 * cards + 28` steps each, and `2 * cards * (7 * cards + 27)` more, in every schedule.
     pub fn insert<G: StepGate>(
         &self,
         pass: &mut Pass<A>,
@@ -152,6 +158,11 @@ impl<A: Allocator + Copy> Tree<A> {
         ensures ends { Ends self.now.last_card tries (Insert key value) pass.old pass.new (replied result) }
         ensures steps { pass.new.steps ≤ pass.old.steps + change_steps self.now.last_card tries }
         ensures rounded { pass.new.steps ≤ pass.old.steps + 64 * (tries + 1) * (self.now.last_card + 2) }
+        ensures moved { result ≡ Err Busy → moves_known self.now.last_card pass.old.view + tries ≤ moves_known self.now.last_card pass.new.view }
+        ensures enough { 2 * self.now.last_card < tries → result ≢ Err Busy }
+        ensures bounded { moves_known self.now.last_card pass.new.view ≤ 2 * self.now.last_card }
+        ensures amortized { pass.new.steps + moves_known self.now.last_card pass.old.view * try_steps self.now.last_card ≤
+            pass.old.steps + (moves_known self.now.last_card pass.new.view + 1) * try_steps self.now.last_card + 1 }
     {
         make_change(&self.table, pass, Op::Insert(key, value), tries, gate)
     }
@@ -171,6 +182,11 @@ impl<A: Allocator + Copy> Tree<A> {
         ensures ends { Ends self.now.last_card tries (Delete key) pass.old pass.new (replied result) }
         ensures steps { pass.new.steps ≤ pass.old.steps + change_steps self.now.last_card tries }
         ensures rounded { pass.new.steps ≤ pass.old.steps + 64 * (tries + 1) * (self.now.last_card + 2) }
+        ensures moved { result ≡ Err Busy → moves_known self.now.last_card pass.old.view + tries ≤ moves_known self.now.last_card pass.new.view }
+        ensures enough { 2 * self.now.last_card < tries → result ≢ Err Busy }
+        ensures bounded { moves_known self.now.last_card pass.new.view ≤ 2 * self.now.last_card }
+        ensures amortized { pass.new.steps + moves_known self.now.last_card pass.old.view * try_steps self.now.last_card ≤
+            pass.old.steps + (moves_known self.now.last_card pass.new.view + 1) * try_steps self.now.last_card + 1 }
     {
         make_change(&self.table, pass, Op::Delete(key), tries, gate)
     }

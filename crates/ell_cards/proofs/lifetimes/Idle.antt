@@ -1,4 +1,4 @@
-use Rattle.std.proofs.Common.{◌≡◌, ℕ, ◌≤◌, List, [], ◌∷◌, None, sym, ap, ◌∙◌, subst, arith, true≢false}
+use Rattle.std.proofs.Common.{◌≡◌, ℕ, ◌≤◌, List, [], ◌∷◌, Some, None, sym, ap, ◌∙◌, subst, arith, true≢false}
 use Rattle.ell_core.specs.declared.fact.Fact.{Fact}
 use Rattle.ell_core.specs.state.Words.{Words}
 use Rattle.ell_core.specs.state.Facts.{known_of, card_of_fact}
@@ -7,17 +7,21 @@ use Rattle.ell_core.proofs.outcomes.Decide.{some_not_none}
 use Rattle.ell_cards.specs.declared.view.Told.{Told}
 use Rattle.ell_cards.specs.declared.view.Told.TheVariants.{Met}
 use Rattle.ell_cards.specs.declared.view.View.{View}
-use Rattle.ell_cards.specs.Models.{Has, latest, earlier, IsTold, Knows}
+use Rattle.ell_cards.specs.Models.{Has, latest, earlier, IsTold, Knows, KnewBefore}
 use Rattle.ell_cards.specs.Naming.{EntryIsNamed, IsNamed}
 use Rattle.ell_cards.specs.Machines.{EntryHolds, ViewHolds}
 
 -- where the entries hold of a pass with nothing in hand, all that it knows holds
 pub rest_holds : (words : List ℕ) (w : Words) (stage : Stages) (v : View) → ((e : Told) → IsTold v e → EntryHolds w stage e)
-    → v.worker.card ≡ None → v.here ≡ None → ViewHolds words w stage v
-rest_holds words w stage v entries card here = record {
+    → v.worker.card ≡ None → v.here ≡ None → v.worker.search.node ≡ None → ((n : ℕ) → v.next ≡ Some n → n ≤ w.next) → v.next_at_least ≤ w.next → ((f : Fact) → KnewBefore v f → Knows v f) → ViewHolds words w stage v
+rest_holds words w stage v entries card here nowhere read least knew = record {
   entries = entries;
   here = λ x key at is. absurd (some_not_none is here);
   hand = λ c has un. absurd (some_not_none has card);
+  read = read;
+  least = least;
+  knew = knew;
+  walk = λ op x busy at. absurd (some_not_none at nowhere);
 }
 
 -- where its entries and its facts are in a table, all that it names is

@@ -1,5 +1,6 @@
-use Rattle.std.proofs.Common.{◌≡◌, ◌≢◌, ◌⊎◌, ℕ, true, false, ◌||◌, List, [], ◌∷◌, ◌++◌, length, set, Option, Bool, Some, None, refl, sym, ap, ◌∙◌, subst, inl, inr, ⊎_elim, length-set}
+use Rattle.std.proofs.Common.{◌≡◌, ◌≢◌, ◌⊎◌, ℕ, true, false, ◌||◌, List, [], ◌∷◌, ◌++◌, length, set, Option, Bool, Some, None, refl, sym, ap, ◌∙◌, subst, inl, inr, ⊎_elim, length-set, ◌≤◌, max, arith, true≢false}
 use Rattle.std.specs.Prelude.{Contains}
+use Rattle.std.proofs.lemmas.Option.{same_Some}
 use mathlib.Core.Option.{some}
 use lib.ListN.{get_elem?}
 use Rattle.atomic_table.proofs.Lists.{at_set, set_else}
@@ -13,7 +14,7 @@ use Rattle.ell_core.specs.soundness.Sound.{WorkerOwns}
 use Rattle.ell_core.proofs.following.Lawful.{joins_lawful}
 use Rattle.ell_core.proofs.outcomes.Decide.{some_not_none}
 use Rattle.ell_cards.specs.declared.view.View.{View}
-use Rattle.ell_cards.specs.Changes.{united, joined_view, spent_view}
+use Rattle.ell_cards.specs.Changes.{united, later, joined_view, spent_view}
 use Rattle.ell_cards.specs.Naming.{IsNamed}
 use Rattle.ell_cards.specs.States.{seat_worker, seated}
 use Rattle.ell_cards.specs.Machines.{EntryHolds, ViewHolds}
@@ -78,6 +79,13 @@ united_parts l m apart k = elim (ledger_united l m k) [
   | inr b ↦ inr (b.0, sym b.1)
 ]
 
+-- the later of two readings is no more than both
+later_most : (most : ℕ) (a b : Option ℕ) → ((n : ℕ) → a ≡ Some n → n ≤ most) → ((n : ℕ) → b ≡ Some n → n ≤ most) → (n : ℕ) → later a b ≡ Some n → n ≤ most
+later_most most None b h g n e = g n e
+later_most most (Some x) None h g n e = h n e
+later_most most (Some x) (Some y) h g n e =
+    let is = same_Some (max x y) n e in let low = h x refl in let low' = g y refl in omega arith
+
 -- a join is one of the machine
 pub joins_are_moves : JoinsAreMoves
 joins_are_moves keys cards s r id other v w here there apart free other_free =
@@ -121,9 +129,10 @@ joins_are_moves keys cards s r id other v w here there apart free other_free =
         next = r.next;
         settled = r.settled;
         views = each_joined s.views id other v w here there turned both (ViewHolds s.words r.words r.stages)
-            (rest_holds s.words r.words r.stages both (λ e told. elim (told_either v.told w.told e told) [ inl a ↦ h.entries e a | inr b ↦ g.entries e b ]) refl refl)
+            (rest_holds s.words r.words r.stages both (λ e told. elim (told_either v.told w.told e told) [ inl a ↦ h.entries e a | inr b ↦ g.entries e b ]) refl refl refl
+            (later_most r.words.next v.next w.next h.read g.read) (let a = h.least in let b = g.least in omega arith) (λ f k. absurd (true≢false (sym k))))
             (rest_holds s.words r.words r.stages spent_view
-            (λ e told. met_root (EntryHolds r.words r.stages) (ap is_born r.invariant.words.opening) e told) refl refl)
+            (λ e told. met_root (EntryHolds r.words r.stages) (ap is_born r.invariant.words.opening) e told) refl refl refl (λ n at. absurd (some_not_none at refl)) (omega arith) (λ f k. absurd (true≢false (sym k))))
             r.views;
         owned = λ j k. each_joined s.views id other v w here there turned both (λ u. WorkerOwns (worker_of u.worker) k → Contains keys k)
             (λ has. elim (ledger_united v.worker.ledger w.worker.ledger k) [

@@ -1,4 +1,4 @@
-use Rattle.std.proofs.Common.{◌≡◌, ℕ, zero, suc, false, List, [], ◌∷◌, length, ◌+◌, refl, sym, ap, ◌∙◌, subst}
+use Rattle.std.proofs.Common.{◌≡◌, ℕ, zero, suc, false, List, [], ◌∷◌, length, ◌+◌, refl, sym, ap, ◌∙◌, subst, arith}
 use Rattle.std.specs.Prelude.{Contains}
 use Rattle.std.specs.List.Sorted.{IsStrictlyIncreasing}
 use mathlib.Core.Option.{some, some-injective, some-ne-none}
@@ -13,6 +13,7 @@ use Rattle.ell_core.specs.history.Invariant.{Invariant}
 use Rattle.ell_core.specs.statements.RunLaws.{IsOpening}
 use Rattle.ell_core.specs.state.Opening.{first_alone, keys_at_start, opening_of_one}
 use Rattle.ell_core.proofs.words.Listed.{words_are_listed, listed_next}
+use Rattle.ell_core.proofs.outcomes.Decide.{some_not_none}
 use Rattle.ell_core.proofs.opening.Invariant.{start_stages}
 use Rattle.ell_core.proofs.opening.OneOwner.{one_worker_opens, one_worker_has}
 use Rattle.ell_core.proofs.runs.Wins.{opening_wins}
@@ -67,7 +68,7 @@ opening_is_kept keys start cards words may at =
         settled = λ c f calm. sym (words_are_listed words c f) ∙ ap (λ (v : Words). word v c f) at.are;
         views = each_first first (ViewHolds words w stages)
             (rest_holds words w stages first
-            (λ e told. met_root (EntryHolds w stages) (ap is_born invariant.words.opening) e told) refl refl);
+            (λ e told. met_root (EntryHolds w stages) (ap is_born invariant.words.opening) e told) refl refl refl (λ n at. absurd (some_not_none at refl)) (omega arith) (λ f k. k));
         owned = λ j k. each_first first (λ v. WorkerOwns (worker_of v.worker) k → Contains keys k)
             (λ owns. subst (λ (ks : List ℕ). Contains ks k) (keys_start keys start)
             (among_contains (keys_of (keys_at_start keys start)) k (owned_among (keys_at_start keys start) k owns))) j;

@@ -13,6 +13,7 @@ use Rattle.ell_core.specs.state.Machine.{Worker, worker_of, ledger_of}
 use Rattle.ell_core.specs.state.Moves.{WorkerIsIdle, AreParted, Split}
 use Rattle.ell_core.specs.soundness.Sound.{WorkerOwns}
 use Rattle.ell_core.proofs.following.Lawful.{splits_lawful}
+use Rattle.ell_core.proofs.outcomes.Decide.{some_not_none}
 use Rattle.ell_core.proofs.words.Writes.{put_same, put_other}
 use Rattle.ell_cards.specs.declared.view.View.{View}
 use Rattle.ell_ops.specs.KeySet.{set_of}
@@ -28,7 +29,7 @@ use Rattle.ell_cards.proofs.lifetimes.Parts.{keys_on, keys_off, ascending_parts,
 use Rattle.ell_core.specs.declared.view.Entry.{Entry}
 
 -- a place before the last one
-before_last : {A : Type 0} (l : List A) (a : A) (n : ℕ) → n ≢ length l → get_elem? (l ++ a ∷ []) n ≡ get_elem? l n
+pub before_last : {A : Type 0} (l : List A) (a : A) (n : ℕ) → n ≢ length l → get_elem? (l ++ a ∷ []) n ≡ get_elem? l n
 before_last [] a zero h = absurd (h refl)
 before_last [] a (suc n) h = refl
 before_last (x ∷ xs) a zero h = refl
@@ -96,8 +97,8 @@ splits_are_moves keys cards s r id v chosen here free =
         next = r.next;
         settled = r.settled;
         views = each_split s.views id v here left right (ViewHolds s.words r.words r.stages)
-            (rest_holds s.words r.words r.stages left h.entries refl refl)
-            (rest_holds s.words r.words r.stages right h.entries refl refl)
+            (rest_holds s.words r.words r.stages left h.entries refl refl refl (λ n at. absurd (some_not_none at refl)) h.least h.knew)
+            (rest_holds s.words r.words r.stages right h.entries refl refl refl (λ n at. absurd (some_not_none at refl)) h.least h.knew)
             r.views;
         owned = λ j k. each_split s.views id v here left right (λ u. WorkerOwns (worker_of u.worker) k → Contains keys k)
             (λ has. r.owned id k v here ((owns k).0 has))

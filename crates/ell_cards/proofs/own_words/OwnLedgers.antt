@@ -19,7 +19,7 @@ use Rattle.ell_cards.proofs.seats.LedgersStay.{claim_ledger, flag_ledger, mark_l
 use Rattle.ell_cards.proofs.own_words.OwnWords.{own_words_are_sound}
 
 pub table_answers_are_the_maps : AnswersByMachine
-table_answers_are_the_maps keys cards s r id v (call.Answer said) here may = (steps_are_events keys cards s r id v (call.Answer said) here may).tells
+table_answers_are_the_maps keys cards s r id v (call.Answer said) here may = (steps_are_events keys cards s r id v (call.Answer said) here may).tells.0
 table_answers_are_the_maps keys cards s r id v (call.Claim c) here may = claim_ledger (found_by s (call.Claim c) == c) c v
 table_answers_are_the_maps keys cards s r id v (call.IFlag c p from) here may =
     let n = found_by s (call.IFlag c p from) in flag_ledger (n == packed from) (IFlagged c) p (unpacked n) v

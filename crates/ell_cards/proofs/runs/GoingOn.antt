@@ -1,4 +1,8 @@
-use Rattle.std.proofs.Common.{◌≡◌, ℕ, ◌==◌, if◌then◌else◌, Bool, true, false, Option, Some, None, List, [], ◌∷◌, ◌++◌, refl, sym, ap, ◌∙◌, subst}
+use Rattle.std.proofs.Common.{◌≡◌, ℕ, ◌==◌, if◌then◌else◌, Bool, true, false, Option, Some, None, List, [], ◌∷◌, ◌++◌, refl, sym, ap, ◌∙◌, subst, inl, inr, arith}
+use Rattle.std.proofs.lemmas.Bool.{cases_lt}
+use Rattle.ell_core.specs.statements.Since.{CleansSince}
+use Rattle.ell_core.proofs.stages.Ended.{ends_last, unended_before}
+use Rattle.ell_core.proofs.following.Cleans.{cleans_go_on}
 use Rattle.std.proofs.lemmas.List.{append_assoc}
 use Rattle.ell_word.specs.Word.{packed}
 use Rattle.ell_word.specs.declared.gate.Kind.{Kind}
@@ -32,6 +36,14 @@ use Rattle.ell_core.proofs.words.Later.{words_same}
 use Rattle.ell_core.proofs.runs.Chains.{words_later, stages_later}
 use Rattle.ell_core.proofs.stages.Advances.{stages_same}
 
+-- what has become clean since, and since then
+pub cleans_chain : (w : Words) (stage : Stages) (mid : Words) (between : Stages) (end : Words) (after : Stages) → StagesLater stage between → StagesLater between after
+    → WordsLater mid end → CleansSince w stage mid between → CleansSince mid between end after → CleansSince w stage end after
+cleans_chain w stage mid between end after first second words one two x c rose now some = elim (cases_lt (mid.update x) (end.update x)) [
+  | inl less ↦ (let h = two x c less now some in (unended_before stage between first c h.0, h.1))
+  | inr most ↦ (let up = words.update x in let h = one x c (omega arith) (omega arith) some in (h.0, ends_last between after second c h.1))
+]
+
 -- a machine that came from one with these words and stages, which won this since
 pub record Went (w : Words) (stage : Stages) (won : ℕ → List Kind) (m' : Machine) : Type 0 where
   pub stages : Stages
@@ -39,23 +51,32 @@ pub record Went (w : Words) (stage : Stages) (won : ℕ → List Kind) (m' : Mac
   pub words : WordsLater w m'.words
   pub later : StagesLater stage stages
   pub wins : (d : ℕ) → wins_of (stages d) ≡ wins_of (stage d) ++ won d
+  pub cleans : CleansSince w stage m'.words stages
 
 -- nothing was won where the words are the same
-went_nowhere : (m : Machine) (stage : Stages) (m' : Machine) → Invariant m' stage → m'.words ≡ m.words → Went m.words stage (λ d. []) m'
+pub went_nowhere : (m : Machine) (stage : Stages) (m' : Machine) → Invariant m' stage → m'.words ≡ m.words → Went m.words stage (λ d. []) m'
 went_nowhere m stage m' holds is = record {
   stages = stage;
   invariant = holds;
   words = subst (WordsLater m.words) (sym is) (words_same m.words);
   later = stages_same stage;
   wins = λ d. wins_same (stage d);
+  cleans = λ x c rose now some. let same = ap (λ (v : Words). v.update x) is in absurd (omega arith);
 }
 
 -- an act of a machine, and no act
 module _ (m : Machine) (stage : Stages) (holds : Invariant m stage) (i : ℕ) (m' : Machine) where
   acts : (a : Act) (said : Stepped) → Becomes i (Some a) said m m' → Went m.words stage (wins_by a (m.worker i).card said) m'
   acts a said h =
-      let follows = (events_lawful m stage (record { worker = i; act = a }) said m' holds h).follows in
-      record { stages = follows.stages; invariant = follows.invariant; words = follows.words; later = follows.later; wins = follows.wins }
+      let follows = (events_lawful m stage (record { worker = i; act = a }) said m' holds h).follows in record {
+        stages = follows.stages;
+        invariant = follows.invariant;
+        words = follows.words;
+        later = follows.later;
+        wins = follows.wins;
+        cleans = cleans_go_on m stage m stage (record { worker = i; act = a }) said m' holds (stages_same stage) h follows
+            (λ x c rose now some. absurd (omega arith));
+      }
 
   rests : m' ≡ m → Went m.words stage (λ d. []) m'
   rests is = went_nowhere m stage m' (subst (λ (n : Machine). Invariant n stage) (sym is) holds) (ap (λ (n : Machine). n.words) is)
@@ -77,7 +98,7 @@ module _ (m : Machine) (stage : Stages) (holds : Invariant m stage) (i : ℕ) (m
       (tries a b h)
 
   -- the wins of a call
-  call_wins : (c : Call) (n : ℕ) (v : View) (cards : ℕ) → (m.worker i).card ≡ v.worker.card → May cards c v → Becomes i (act_of c n) (said_of c n) m m'
+  pub call_wins : (c : Call) (n : ℕ) (v : View) (cards : ℕ) → (m.worker i).card ≡ v.worker.card → May cards c v → Becomes i (act_of c n) (said_of c n) m m'
       → Went m.words stage (λ d. if is_won (atomic_of c) n then win_of c d else []) m'
   call_wins (call.Begin op) n v cards mine may h = acts (act.Begin op) Moved h
   call_wins call.Again n v cards mine may h = acts act.Again Moved h
@@ -138,5 +159,6 @@ module _ (keys : List ℕ) (cards : ℕ) where
           wins = λ d. rest.1.wins d
               ∙ (ap (λ ks. ks ++ run_wins cards run.0 ts s' run.2 d) (first.1.wins d)
               ∙ append_assoc (wins_of (stage d)) (turn_wins s t d) (run_wins cards run.0 ts s' run.2 d));
+          cleans = cleans_chain r.words stage first.0.words first.1.stages rest.0.words rest.1.stages first.1.later rest.1.later rest.1.words first.1.cleans rest.1.cleans;
         },
       )

@@ -8,7 +8,7 @@ use Rattle.ell_cards.specs.Changes.{after_next, after_claim, after_upd}
 use Rattle.ell_cards.specs.Calls.{update_at}
 use Rattle.ell_cards.specs.Tellings.{told_of, NoGreaterNext, NoUntriedClaimLost, NoGreaterUpdate}
 use Rattle.ell_cards.proofs.views.Entries.{places_more}
-use Rattle.ell_cards.proofs.words.Updates.{packed_again}
+use Rattle.ell_core.proofs.words.Packed.{packed_again}
 use Rattle.ell_cards.proofs.seats.Seats.{set_there, mine_sound}
 use Rattle.ell_cards.proofs.runs.Reaching.{reached_kept}
 use Rattle.ell_cards.proofs.runs.Readings.{readings_are_past}

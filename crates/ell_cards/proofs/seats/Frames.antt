@@ -1,4 +1,4 @@
-use Rattle.std.proofs.Common.{◌≡◌, ◌≢◌, ℕ, ◌<◌, true, false, List, [], ◌++◌, length, get_or, set, refl, sym, ap, ◌∙◌, subst, inl, inr, ⊎_elim, length-set, true≢false}
+use Rattle.std.proofs.Common.{◌≡◌, ◌≢◌, ℕ, ◌<◌, true, false, List, [], ◌++◌, length, get_or, set, refl, sym, ap, ◌∙◌, subst, inl, inr, ⊎_elim, length-set, true≢false, arith}
 use Rattle.std.specs.Prelude.{Some, None}
 use Rattle.std.proofs.lemmas.Bool.{cases_eq}
 use mathlib.Core.Option.{some}
@@ -15,33 +15,45 @@ use Rattle.ell_core.specs.state.Machine.{Machine, worker_of}
 use Rattle.ell_core.specs.state.Cards.{stored}
 use Rattle.ell_core.specs.acts.Events.{Happens, Steps}
 use Rattle.ell_core.specs.soundness.Sound.{WorkerOwns}
-use Rattle.ell_core.specs.history.Stages.{Stages, waits}
+use Rattle.ell_core.specs.history.Stages.{Stages, Born, waits}
 use Rattle.ell_core.specs.history.Invariant.{Invariant}
 use Rattle.ell_core.specs.acts.Wins.{wins_by}
 use Rattle.ell_core.proofs.words.Writes.{written_elsewhere, written_next}
 use Rattle.ell_core.proofs.words.Listed.{apart, same_after_same_write}
+use Rattle.ell_ops.specs.declared.op.Op.{Op}
+use Rattle.ell_ops.specs.Meaning.{key_of}
+use Rattle.ell_core.specs.declared.fact.Fact.{Fact}
+use Rattle.ell_core.specs.declared.fact.Fact.TheVariants.{DOver}
+use Rattle.ell_core.specs.statements.Walks.{Avoids}
 use Rattle.ell_cards.specs.declared.call.Call.{Call}
 use Rattle.ell_cards.specs.declared.view.Told.{Told}
 use Rattle.ell_cards.specs.declared.view.Told.TheVariants.{Key}
 use Rattle.ell_cards.specs.declared.view.View.{View}
-use Rattle.ell_cards.specs.Models.{IsTold, stored_at}
+use Rattle.ell_cards.specs.Models.{IsTold, Knows, KnewBefore, stored_at}
 use Rattle.ell_cards.specs.States.{TableState, seat_worker, seated}
-use Rattle.ell_cards.specs.Machines.{EntryHolds, ViewHolds, HasMachine}
+use Rattle.ell_cards.specs.Machines.{EntryHolds, over_before, ViewHolds, HasMachine}
 use Rattle.ell_cards.specs.Calls.{word_of, atomic_of, left_by, act_of, said_of, Becomes, Tells}
 use Rattle.ell_cards.specs.Turns.{found_by, view_after, state_after}
 use Rattle.ell_cards.specs.Laws.{IsEvent}
 use Rattle.ell_core.proofs.stages.Waiting.{waits-kind, waits-wins, kind-waits}
 use Rattle.ell_core.proofs.following.waiting.Cards.{hand_waits}
 use Rattle.ell_cards.proofs.words.Fields.{listed_else, listed_next}
-use Rattle.ell_cards.proofs.seats.Seats.{IsKept, Leads, Moves, leads, kept_event, entries_on, machine, mine, becomes, mine_sound, set_there}
+use Rattle.ell_cards.proofs.seats.Seats.{IsKept, Leads, Moves, leads, kept_event, entries_on, walk_on, machine, mine, becomes, mine_sound, set_there}
+use Rattle.ell_core.proofs.stages.Ended.{over-cut}
 
 -- what is so of a view beside its entries after an event, whatever the words: its key is told, a card that it has in hand
 -- unflagged it had so before, with the same to say and stored, and it owns no key more
-pub record Onward (v after : View) : Type 0 where
+pub record Onward (w : Words) (stage : Stages) (v after : View) : Type 0 where
   pub here : (x key : ℕ) → after.worker.search.node ≡ Some x → after.here ≡ Some key → IsTold after (Key x key)
   pub hand : (c : ℕ) → after.worker.card ≡ Some c → after.worker.flagged ≡ false
       → (v.worker.card ≡ Some c) × (v.worker.flagged ≡ false) × (after.planned ≡ v.planned) × (after.stores ≡ v.stores)
   pub owns : (k : ℕ) → WorkerOwns (worker_of after.worker) k → WorkerOwns (worker_of v.worker) k
+  pub read : (n : ℕ) → after.next ≡ Some n → v.next ≡ Some n
+  pub least : after.next_at_least ≡ v.next_at_least
+  pub before : (f : Fact) → KnewBefore after f → Knows v f
+  pub knew : (f : Fact) → KnewBefore after f → Knows after f
+  pub walk : (op : Op) (x : ℕ) → after.worker.operation ≡ Some op → after.worker.search.node ≡ Some x
+      → Born stage x × Avoids w (over_before after) (key_of op) x
 
 module _ (keys : List ℕ) (cards : ℕ) (s : TableState) (r : HasMachine keys cards s) (id : ℕ) (v : View) (here : get_elem? s.views id ≡ some v) where
   -- a state that an event leads to has a machine
@@ -61,11 +73,19 @@ module _ (keys : List ℕ) (cards : ℕ) (s : TableState) (r : HasMachine keys c
   -- the view after an event
   pub view_on : (a : core.Act) (said : Stepped) (new : Words) (after : View) (list : List ℕ) (stages : Stages)
       → Leads keys cards s r id v here a said new after stages → Moves keys cards s r id v here list new stages
-      → ((e : Told) → IsTold after e → EntryHolds new stages e) → Onward v after
+      → ((e : Told) → IsTold after e → EntryHolds new stages e) → Onward r.words r.stages v after
       → ViewHolds list new stages after
   view_on a said new after list stages led moves entries on = record {
     entries = entries;
     here = on.here;
+    read = λ n at. (let more = led.words.next in let low = (r.views id v here).read n (on.read n at) in omega arith);
+    least = (let more = led.words.next in let low = (r.views id v here).least in let same = on.least in omega arith);
+    knew = on.knew;
+    walk = λ op x busy at.
+        let on_it = on.walk op x busy at in
+        walk_on keys cards s r id v here a said new after stages led after
+        (λ c has. over-cut (r.stages c) ((mine_sound keys cards s r id v here).facts (DOver c) (on.before (DOver c) has)))
+        (key_of op) x on_it.0 on_it.1;
     hand = λ c has un.
         let was = on.hand c has un in
         let wait = hand_waits r.words r.stages (worker_of v.worker) c (mine_sound keys cards s r id v here) was.0 was.1 in
@@ -110,7 +130,7 @@ module _ (keys : List ℕ) (cards : ℕ) (s : TableState) (r : HasMachine keys c
       → (h : Happens cards a (mine keys cards s r id v here) said (becomes keys cards s r id v here r.words after))
       → ((c : ℕ) → wins_by a v.worker.card said c ≡ [])
       → ((e : Told) → IsTold after e → EntryHolds r.words r.stages e)
-      → Onward v after
+      → Onward r.words r.stages v after
       → (i : ℕ) → IsReached (set s.words i (get_or s.words i 0)) r.words after a said
   looks a said after h none entries on i =
       let l = leads keys cards s r id v here a said r.words after h in

@@ -23,9 +23,16 @@ use Rattle.ell_core.proofs.words.Writes.{put_same, put_other}
 use Rattle.ell_core.proofs.following.Lawful.{events_lawful}
 use Rattle.ell_core.proofs.following.Reliance.{may_rely}
 use Rattle.ell_cards.specs.declared.view.Told.{Told}
+use Rattle.ell_ops.specs.Meaning.{key_of}
+use Rattle.ell_core.specs.declared.fact.Fact.{Fact}
+use Rattle.ell_core.specs.declared.fact.Fact.TheVariants.{DOver}
+use Rattle.ell_core.specs.statements.Walks.{HaveCut, Avoids}
+use Rattle.ell_core.proofs.following.Walks.{events_keep_avoiding}
 use Rattle.ell_cards.specs.declared.view.View.{View}
+use Rattle.ell_core.proofs.stages.Ended.{over-cut}
+use Rattle.ell_cards.specs.Models.{Knows, KnewBefore}
 use Rattle.ell_cards.specs.States.{TableState, seat_worker, seated}
-use Rattle.ell_cards.specs.Machines.{EntryHolds, ViewHolds, HasMachine}
+use Rattle.ell_cards.specs.Machines.{EntryHolds, over_before, ViewHolds, HasMachine}
 use Rattle.ell_core.proofs.following.waiting.Cards.{hand_waits}
 use Rattle.ell_cards.proofs.seats.Entries.{entry_lasts}
 
@@ -145,6 +152,22 @@ module _ (keys : List ℕ) (cards : ℕ) (s : TableState) (r : HasMachine keys c
   entries_on a said new after stages led e h =
       entry_lasts r.words new r.stages stages e led.words led.later born_claimed h
 
+  -- the deletes that a pass knew over have made their cut
+  pub over_cut : (u : View) → WorkerIsSound r.words r.stages (worker_of u.worker) → ((f : Fact) → KnewBefore u f → Knows u f) → HaveCut r.stages (over_before u)
+  over_cut u sound knew c has = over-cut (r.stages c) (sound.facts (DOver c) (knew (DOver c) has))
+
+  -- where any pass stands came into the tree
+  pub relied_born : (j : ℕ) (u : View) → get_elem? s.views j ≡ some u → (x : ℕ) → u.worker.search.node ≡ Some x → Born r.stages x
+  relied_born j u e x at =
+      (may_rely machine r.stages j r.invariant).stands x (ap (λ (z : Worker). z.search.node) (ap seat_worker e) ∙ at)
+
+  -- a walk that comes by nothing that they cut out comes by nothing of it after an event
+  pub walk_on : (a : Act) (said : Stepped) (new : Words) (after : View) (stages : Stages) → Leads a said new after stages
+      → (u : View) → HaveCut r.stages (over_before u) → (key x : ℕ) → Born r.stages x → Avoids r.words (over_before u) key x → Avoids new (over_before u) key x
+  walk_on a said new after stages led u cut key x born avoids =
+      events_keep_avoiding machine r.stages (record { worker = id; act = a }) said (seated new (set s.views id after) cards) r.invariant led.steps
+      (over_before u) cut key x born avoids
+
   -- the machine after an event
   pub kept_event : (a : Act) (said : Stepped) (new : Words) (after : View) (list : List ℕ) (stages : Stages)
       → Leads a said new after stages → Moves list new stages → ViewHolds list new stages after
@@ -180,6 +203,13 @@ module _ (keys : List ℕ) (cards : ℕ) (s : TableState) (r : HasMachine keys c
           let h = r.views j u e in record {
             entries = λ d told. entries_on a said new after stages led d (h.entries d told);
             here = h.here;
+            read = λ n at. (let more = led.words.next in let low = h.read n at in omega arith);
+            least = (let more = led.words.next in let low = h.least in omega arith);
+            knew = h.knew;
+            walk = λ op x busy at. walk_on a said new after stages led u
+                (over_cut u (subst (λ (z : Worker). WorkerIsSound r.words r.stages z) (ap seat_worker e) (r.invariant.workers.each j)) h.knew)
+                (key_of op) x
+                (relied_born j u e x at) (h.walk op x busy at);
             hand = λ c has un.
                 let sound = subst (λ (z : Worker). WorkerIsSound r.words r.stages z) (ap seat_worker e) (r.invariant.workers.each j) in
                 let wait = hand_waits r.words r.stages (worker_of u.worker) c sound has un in

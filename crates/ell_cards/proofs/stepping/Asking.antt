@@ -115,6 +115,10 @@ module _ (keys : List ℕ) (cards : ℕ) (s : TableState) (r : HasMachine keys c
         entries = info_entries c f n may.knows may.asked is;
         here = λ y key at told. info_more c f n v.told (Key y key) (h.here y key at told);
         hand = h.hand;
+        read = h.read;
+        least = h.least;
+        knew = h.knew;
+        walk = h.walk;
       }) (address c f))
       refl refl (tells_node c f n may.knows is, tells_depth c f n may.knows is)
 
@@ -139,5 +143,9 @@ module _ (keys : List ℕ) (cards : ℕ) (s : TableState) (r : HasMachine keys c
             (with_entry (EntryHolds w r.stages) (Met n) v.told born h.entries);
         here = λ y key at told. earlier (Key y key) (Frozen c right n) (Met n ∷ v.told) (earlier (Key y key) (Met n) v.told (h.here y key at told));
         hand = h.hand;
+        read = h.read;
+        least = h.least;
+        knew = h.knew;
+        walk = h.walk;
       }) (child_at p right))
       refl refl (omega arith, born_in_table keys cards s r id v here n born)

@@ -1,4 +1,4 @@
-use Rattle.std.proofs.Common.{◌≡◌, ◌≢◌, ◌⊎◌, ◌∷◌, set, if◌then◌else◌, ℕ, eq-eqb, ne_eqb, List, Option, Some, None, refl, sym, ap, ◌∙◌, subst, inl, inr}
+use Rattle.std.proofs.Common.{◌≡◌, ◌≢◌, ◌⊎◌, ◌∷◌, set, if◌then◌else◌, ℕ, eq-eqb, ne_eqb, List, Option, Some, None, refl, sym, ap, ◌∙◌, subst, inl, inr, arith}
 use mathlib.Core.Option.{some}
 use lib.ListN.{get_elem?}
 use Rattle.ell_ops.specs.declared.op.Op.{Op}
@@ -22,8 +22,17 @@ use Rattle.ell_cards.specs.declared.view.View.{View}
 use Rattle.ell_cards.specs.Models.{Has}
 use Rattle.ell_cards.specs.Changes.{after_begin, after_again, after_leave, after_answer, answered_ledger}
 use Rattle.ell_cards.specs.Guards.{MayBegin, MayStop, MayAnswer, TellsOf, KnowsAnswerAtLeaf, KnowsAnswerByCard, IsOver}
+use Rattle.ell_cards.specs.Models.{Knows, KnewBefore}
+use Rattle.ell_core.specs.state.Words.{Words}
+use Rattle.ell_core.specs.declared.fact.Fact.{Fact}
+use Rattle.ell_core.specs.declared.fact.Fact.TheVariants.{DOver}
+use Rattle.ell_core.specs.history.Stages.{Stages, Born}
+use Rattle.ell_core.specs.statements.Walks.{Avoids}
+use Rattle.ell_core.proofs.following.Walks.{roots_avoid}
+use Rattle.ell_core.proofs.stages.Ended.{over-cut}
+use Rattle.std.proofs.lemmas.Option.{same_Some}
 use Rattle.ell_cards.specs.States.{TableState, seated, seat_worker}
-use Rattle.ell_cards.specs.Machines.{EntryHolds, HasMachine}
+use Rattle.ell_cards.specs.Machines.{EntryHolds, over_before, HasMachine}
 use Rattle.ell_cards.specs.Laws.{IsEvent}
 use Rattle.ell_cards.proofs.seats.Entries.{with_entry}
 use Rattle.ell_cards.proofs.seats.Seats.{leads, machine, mine, becomes, mine_is, mine_sound, set_there}
@@ -36,18 +45,34 @@ use Rattle.ell_ops.specs.declared.reply.Reply.{Reply}
 use Rattle.ell_ops.specs.declared.reply.Reply.TheVariants.{Yes, No, Found}
 
 -- a view with no key told where it stands and no card in hand
-bare : (v after : View) → after.here ≡ None → after.worker.card ≡ None
-    → ((k : ℕ) → ledger_of after.worker.ledger k ≢ None → ledger_of v.worker.ledger k ≢ None) → Onward v after
-bare v after no_key no_card owns = record {
+bare : (w : Words) (stage : Stages) (v after : View) → after.here ≡ None → after.worker.card ≡ None
+    → ((k : ℕ) → ledger_of after.worker.ledger k ≢ None → ledger_of v.worker.ledger k ≢ None)
+    → ((n : ℕ) → after.next ≡ Some n → v.next ≡ Some n) → after.next_at_least ≡ v.next_at_least → ((f : Fact) → KnewBefore after f → Knows v f) → ((f : Fact) → KnewBefore after f → Knows after f)
+    → ((op : Op) (x : ℕ) → after.worker.operation ≡ Some op → after.worker.search.node ≡ Some x
+    → Born stage x × Avoids w (over_before after) (key_of op) x) → Onward w stage v after
+bare w stage v after no_key no_card owns read least before knew walk = record {
   here = λ y key at told. absurd (some_not_none told no_key);
   hand = λ c has un. absurd (some_not_none has no_card);
   owns = owns;
+  read = read;
+  least = least;
+  before = before;
+  knew = knew;
+  walk = walk;
 }
 
 module _ (keys : List ℕ) (cards : ℕ) (s : TableState) (r : HasMachine keys cards s) (id : ℕ) (v : View) (here : get_elem? s.views id ≡ some v) where
   -- what a pass that stands at the root was told
   root_entries : (e : Told) → Has (Met 0 ∷ v.told) e → EntryHolds r.words r.stages e
   root_entries = with_entry (EntryHolds r.words r.stages) (Met 0) v.told (ap is_born r.invariant.words.opening) (r.views id v here).entries
+
+  -- where a search begins, its walk comes by nothing that was cut out
+  root_walk : (op : Op) (x : ℕ) → Some 0 ≡ Some x → Born r.stages x × Avoids r.words (λ c. known_of v.worker.facts (DOver c)) (key_of op) x
+  root_walk op x at = subst (λ y. Born r.stages y × Avoids r.words (λ c. known_of v.worker.facts (DOver c)) (key_of op) y) (same_Some 0 x at) (
+    ap is_born r.invariant.words.opening,
+    roots_avoid (machine keys cards s r id v here) r.stages (λ c. known_of v.worker.facts (DOver c)) (key_of op) r.invariant
+        (λ c has. over-cut (r.stages c) ((mine_sound keys cards s r id v here).facts (DOver c) has)),
+  )
 
   -- begin
   pub keeps_begin : (op : Op) → MayBegin v op → IsEvent keys cards s r id v (call.Begin op)
@@ -60,7 +85,7 @@ module _ (keys : List ℕ) (cards : ℕ) (s : TableState) (r : HasMachine keys c
       } in
       is_event keys cards s r id v here (call.Begin op) (act.Begin op) Moved r.words
       (looks keys cards s r id v here (act.Begin op) Moved after happens (λ c. refl) root_entries
-      (bare v after refl refl (λ k h. h)) 0)
+      (bare r.words r.stages v after refl refl (λ k h. h) (λ n at. absurd (some_not_none at refl)) refl (λ f k. k) (λ f k. k) (λ o x busy at. root_walk o x at)) 0)
       refl refl tt
 
   -- again
@@ -74,7 +99,7 @@ module _ (keys : List ℕ) (cards : ℕ) (s : TableState) (r : HasMachine keys c
       } in
       is_event keys cards s r id v here call.Again act.Again Moved r.words
       (looks keys cards s r id v here act.Again Moved after happens (λ c. refl) root_entries
-      (bare v after refl refl (λ k h. h)) 0)
+      (bare r.words r.stages v after refl refl (λ k h. h) (λ n at. absurd (some_not_none at refl)) refl (λ f k. k) (λ f k. k) (λ o x busy at. root_walk o x at)) 0)
       refl refl tt
 
   -- leave
@@ -89,8 +114,8 @@ module _ (keys : List ℕ) (cards : ℕ) (s : TableState) (r : HasMachine keys c
       is_event keys cards s r id v here call.Leave act.Leave Moved r.words
       (looks keys cards s r id v here act.Leave Moved after happens (λ c. refl)
       (r.views id v here).entries
-      (bare v after refl refl (λ k h. h)) 0)
-      refl refl tt
+      (bare r.words r.stages v after refl refl (λ k h. h) (λ n at. at) refl (r.views id v here).knew (r.views id v here).knew (λ o x busy at. absurd (some_not_none at refl))) 0)
+      refl refl (let low = (r.views id v here).least in let room = r.invariant.limit in omega arith)
 
 -- the ledger after an answer, as a list and as the machine has it
 answered : (op : Op) (said : Reply) (l : List (ℕ × Entry)) → ledger_of l (key_of op) ≢ None → (key : ℕ)
@@ -165,5 +190,6 @@ module _ (keys : List ℕ) (cards : ℕ) (s : TableState) (r : HasMachine keys c
       is_event keys cards s r id v here (call.Answer said) act.Answer (Answered said) r.words
       (looks keys cards s r id v here act.Answer (Answered said) after happens (λ c. refl)
       (r.views id v here).entries
-      (bare v after refl refl (λ k has none. has ((set_now.owned k).1 none))) 0)
-      refl refl set_now
+      (bare r.words r.stages v after refl refl (λ k has none. has ((set_now.owned k).1 none)) (λ n at. at) refl (r.views id v here).knew (r.views id v here).knew
+      (λ o x busy at. absurd (some_not_none at refl))) 0)
+      refl refl (set_now, (let low = (r.views id v here).least in let room = r.invariant.limit in omega arith))

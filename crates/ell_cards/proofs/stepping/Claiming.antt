@@ -1,8 +1,9 @@
-use Rattle.std.proofs.Common.{◌≡◌, ◌≢◌, ◌==◌, ℕ, ◌+◌, ◌<◌, ◌≤◌, if◌then◌else◌, Bool, true, false, List, [], ◌∷◌, ◌++◌, length, get_or, set, Some, None, refl, sym, ap, ◌∙◌, subst, inl, inr, arith, eqb-true, true≢false, length-set, get_or-set_same, get_or-set_other}
+use Rattle.std.proofs.Common.{◌≡◌, ◌≢◌, ◌==◌, ℕ, ◌+◌, ◌<◌, ◌≤◌, if◌then◌else◌, Bool, true, false, List, [], ◌∷◌, ◌++◌, length, get_or, set, Some, None, refl, sym, ap, ◌∙◌, subst, inl, inr, arith, eqb-true, true≢false, length-set, get_or-set_same, get_or-set_other, eq-eqb}
 use Rattle.std.specs.Prelude.{unwrap_or}
 use mathlib.Core.Option.{some}
 use lib.ListN.{get_elem?}
 use Rattle.ell_ops.specs.declared.op.Op.{Op}
+use Rattle.ell_ops.specs.Meaning.{key_of}
 use Rattle.ell_ops.specs.declared.op.Op.TheVariants.{Find, Insert, Delete}
 use Rattle.ell_word.specs.declared.gate.Kind.{Kind}
 use Rattle.ell_word.specs.declared.gate.Kind.TheVariants as kind
@@ -34,7 +35,7 @@ use Rattle.ell_cards.specs.Calls.{Becomes}
 use Rattle.ell_cards.proofs.words.Fields.{filled_else}
 use Rattle.ell_cards.proofs.views.Entries.{filling_more}
 use Rattle.ell_cards.proofs.seats.Entries.{with_entry, told_value_is}
-use Rattle.ell_cards.proofs.seats.Seats.{machine, leads, kept_event, mine, becomes, entries_on}
+use Rattle.ell_cards.proofs.seats.Seats.{machine, leads, kept_event, mine, becomes, mine_sound, stands_born, over_cut, walk_on, entries_on}
 use Rattle.ell_cards.proofs.seats.Frames.{IsReached, waits_on, kept_told, same_machine}
 use Rattle.ell_cards.proofs.stepping.Looks.{here_key}
 
@@ -65,6 +66,7 @@ taking c es v = record v {
   planned = es;
   stores = [];
   won = (kind.Claim, c) ∷ v.won;
+  next_at_least = c + 1;
 }
 
 module _ (keys : List ℕ) (cards : ℕ) (s : TableState) (r : HasMachine keys cards s) (id : ℕ) (v : View) (here : get_elem? s.views id ≡ some v) where
@@ -115,6 +117,12 @@ module _ (keys : List ℕ) (cards : ℕ) (s : TableState) (r : HasMachine keys c
           entries = filling_holds new l.0 next es v.told (omega arith) says
               (λ e told. entries_on keys cards s r id v here act.Claim Moved new after l.0 l.1 e ((r.views id v here).entries e told));
           here = λ x key at told. filling_more next es v.told (Key x key) ((r.views id v here).here x key at told);
+          read = λ n at. (let low = (r.views id v here).read n at in omega arith);
+          least = omega arith;
+          knew = (r.views id v here).knew;
+          walk = λ op x busy at. walk_on keys cards s r id v here act.Claim Moved new after l.0 l.1 v
+              (over_cut keys cards s r id v here v (mine_sound keys cards s r id v here) (r.views id v here).knew)
+              (key_of op) x (stands_born keys cards s r id v here x at) ((r.views id v here).walk op x busy at);
           hand = λ c has un. let q : next ≡ c = cc in record {
             machine = λ f. subst (λ d. word new d f ≡ stored es f 0) q
                 (claimed_cards_say (machine keys cards s r id v here) r.stages es f r.invariant);
@@ -216,7 +224,7 @@ module _ (keys : List ℕ) (cards : ℕ) (s : TableState) (r : HasMachine keys c
       }
   claim_at c may room false e =
       let h = r.views id v here in
-      let kept = kept_told keys cards s r id v here (after_claim false c v) refl (record { entries = h.entries; here = h.here; hand = h.hand }) 0 in record {
+      let kept = kept_told keys cards s r id v here (after_claim false c v) refl (record { entries = h.entries; here = h.here; hand = h.hand; read = h.read; least = (let low = h.read c may.read in let is = r.next in let other : get_or s.words 0 0 ≢ c = (λ q. true≢false (sym (eq-eqb (get_or s.words 0 0) c q) ∙ e)) in omega arith); knew = h.knew; walk = h.walk }) 0 in record {
         kept = kept.kept;
         event = sym (same_machine keys cards s r id v here (after_claim false c v) refl
             ∙ ap (λ w. seated w (set s.views id (after_claim false c v)) cards) (sym kept.words));

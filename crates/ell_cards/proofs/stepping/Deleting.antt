@@ -30,7 +30,8 @@ use Rattle.ell_cards.proofs.words.Updates.{is_mark}
 use Rattle.ell_core.proofs.stages.Waiting.{born-settled}
 use Rattle.ell_cards.proofs.views.Entries.{places_more}
 use Rattle.ell_cards.proofs.seats.Entries.{facts_known}
-use Rattle.ell_cards.proofs.seats.Seats.{mine, becomes, mine_is, relies}
+use Rattle.ell_cards.proofs.views.Facts.{knows_more, facts_by_more}
+use Rattle.ell_cards.proofs.seats.Seats.{mine, becomes, mine_is, relies, stands_born}
 use Rattle.ell_cards.proofs.seats.Frames.{Onward, is_event}
 use Rattle.ell_cards.proofs.stepping.Looks.{found_entries, names_card}
 use Rattle.ell_cards.proofs.stepping.Exchanges.{in_list, told_is, told_key, flags_never, found_at, exchanged_words, learning_on, exchange_leads, teaches, update_exchanged, update_says, child_exchanged, child_says, unflags}
@@ -54,16 +55,22 @@ marking_worker v c x n false = by (is_mark_of c (unpacked n).state (unpacked n).
 
 module _ (keys : List ℕ) (cards : ℕ) (s : TableState) (r : HasMachine keys cards s) (id : ℕ) (v : View) (here : get_elem? s.views id ≡ some v) where
   -- what is so of a pass after a mark
-  mark_on : (c x n : ℕ) (b : Bool) → Onward v (exchanged (if_won b kind.Mark c) n (after_mark b c x (unpacked n) v))
+  mark_on : (c x n : ℕ) (b : Bool) → Onward r.words r.stages v (exchanged (if_won b kind.Mark c) n (after_mark b c x (unpacked n) v))
   mark_on c x n true = learning_on keys cards s r id v here (Marked c) (if_won true kind.Mark c) n
   mark_on c x n false = by (is_mark_of c (unpacked n).state (unpacked n).card)
     where
-      by : (m : Bool) → Onward v (exchanged [] n (if m then learning (Marked c) v else unmarking c x (unpacked n) v))
+      by : (m : Bool) → Onward r.words r.stages v (exchanged [] n (if m then learning (Marked c) v else unmarking c x (unpacked n) v))
       by true = learning_on keys cards s r id v here (Marked c) [] n
       by false = record {
         here = λ y key at told. places_more x (unpacked n).state (unpacked n).card v.told (Key y key) ((r.views id v here).here y key at told);
         hand = λ d has un. (has, un, refl, refl);
         owns = λ k h. h;
+        read = λ m at. at;
+        least = refl;
+        before = (r.views id v here).knew;
+        knew = λ f k. facts_by_more (unpacked n).state (unpacked n).card (Unmarkable c ∷ v.worker.facts) f
+            (knows_more (Unmarkable c) f v.worker.facts ((r.views id v here).knew f k));
+        walk = λ op y busy at. (stands_born keys cards s r id v here y at, (r.views id v here).walk op y busy at);
       }
 
   -- what it was told

@@ -32,8 +32,9 @@ use Rattle.ell_cards.specs.Machines.{EntryHolds, HasMachine}
 use Rattle.ell_cards.specs.Calls.{after}
 use Rattle.ell_core.proofs.stages.Waiting.{born-settled, waits-wins, first_win}
 use Rattle.ell_cards.proofs.words.Fields.{write_update_at_node, write_child_at_node}
-use Rattle.ell_cards.proofs.seats.Seats.{Leads, leads, kept_event, mine, becomes, born_claimed, entries_on}
+use Rattle.ell_cards.proofs.seats.Seats.{Leads, leads, kept_event, mine, becomes, stands_born, born_claimed, entries_on}
 use Rattle.ell_cards.proofs.seats.Frames.{Onward, IsReached, looks, waits_on, view_on, moves_write}
+use Rattle.ell_cards.proofs.views.Facts.{knows_more}
 use Rattle.ell_cards.proofs.stepping.Known.{update_found}
 
 module _ (keys : List ℕ) (cards : ℕ) (s : TableState) (r : HasMachine keys cards s) (id : ℕ) (v : View) (here : get_elem? s.views id ≡ some v) where
@@ -85,7 +86,7 @@ module _ (keys : List ℕ) (cards : ℕ) (s : TableState) (r : HasMachine keys c
       → Settles a (written r.words d g value) (view true)
       → ((c : ℕ) → wins_by a v.worker.card Lost c ≡ [])
       → ((b : Bool) (e : Told) → IsTold (view b) e → EntryHolds r.words r.stages e)
-      → ((b : Bool) → Onward v (view b))
+      → ((b : Bool) → Onward r.words r.stages v (view b))
       → IsReached keys cards s r id v here (set s.words (address d g) (if found_at d g == expected then value else found_at d g))
       (exchanged_words d g value (found_at d g == expected)) (view (found_at d g == expected)) a (won_or_lost (found_at d g == expected))
   exchange_leads a d g expected value view fits calm happens settles none entries on = by (found_at d g == expected) happens
@@ -104,11 +105,16 @@ module _ (keys : List ℕ) (cards : ℕ) (s : TableState) (r : HasMachine keys c
           }
 
   -- what is so of a pass that an exchange taught a fact
-  pub learning_on : (new : Fact) (wins : List (Kind × ℕ)) (n : ℕ) → Onward v (exchanged wins n (learning new v))
+  pub learning_on : (new : Fact) (wins : List (Kind × ℕ)) (n : ℕ) → Onward r.words r.stages v (exchanged wins n (learning new v))
   learning_on new wins n = record {
     here = (r.views id v here).here;
     hand = λ c has un. (has, un, refl, refl);
     owns = λ k h. h;
+    read = λ m at. at;
+    least = refl;
+    before = (r.views id v here).knew;
+    knew = λ f k. knows_more new f v.worker.facts ((r.views id v here).knew f k);
+    walk = λ op x busy at. (stands_born keys cards s r id v here x at, (r.views id v here).walk op x busy at);
   }
 
   -- an exchange that teaches one fact, and wins no flag

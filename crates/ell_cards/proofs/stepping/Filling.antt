@@ -37,6 +37,10 @@ module _ (keys : List ℕ) (cards : ℕ) (s : TableState) (r : HasMachine keys c
       (record {
         entries = h.entries;
         here = h.here;
+        read = h.read;
+        least = h.least;
+        knew = h.knew;
+        walk = h.walk;
         hand = λ d has un. let q : c ≡ d = (let a = may.holds in cc) in
             let held = h.hand d has un in record {
               machine = held.machine;
@@ -47,6 +51,10 @@ module _ (keys : List ℕ) (cards : ℕ) (s : TableState) (r : HasMachine keys c
       (λ j u n e. let o = r.views j u e in record {
         entries = o.entries;
         here = o.here;
+        read = o.read;
+        least = o.least;
+        knew = o.knew;
+        walk = o.walk;
         hand = λ d has un. let held = o.hand d has un in record {
           machine = held.machine;
           table = λ g. listed_else s.words c f x d g (apart d g c f (λ q. n (other j u e d has un q))) ∙ held.table g;

@@ -33,6 +33,7 @@ use Rattle.ell_cards.specs.States.{TableState}
 use Rattle.ell_cards.specs.Machines.{EntryHolds, HasMachine}
 use Rattle.ell_cards.specs.Laws.{IsEvent}
 use Rattle.ell_core.proofs.stages.Waiting.{born-settled}
+use Rattle.ell_cards.proofs.views.Facts.{knows_more, facts_by_more}
 use Rattle.ell_cards.proofs.seats.Entries.{facts_known}
 use Rattle.ell_cards.proofs.seats.Seats.{mine, becomes, mine_is, relies}
 use Rattle.ell_cards.proofs.seats.Frames.{Onward, IsReached, waits_on, is_event}
@@ -56,9 +57,28 @@ module _ (keys : List ℕ) (cards : ℕ) (s : TableState) (r : HasMachine keys c
   flag_view new k c x b = let n = found_at keys cards s r id v here (card x) field.Update in exchanged (if_won b k c) n (after_flag b new x (unpacked n) v)
 
   -- what is so of it
-  flag_on : (new : Fact) (k : Kind) (c x : ℕ) (b : Bool) → Onward v (flag_view new k c x b)
-  flag_on new k c x true = record { here = λ y key a e. absurd (some_not_none e refl); hand = λ d has un. absurd (true≢false un); owns = λ key h. h }
-  flag_on new k c x false = record { here = λ y key a e. absurd (some_not_none e refl); hand = λ d has un. absurd (some_not_none has refl); owns = λ key h. h }
+  flag_on : (new : Fact) (k : Kind) (c x : ℕ) (b : Bool) → Onward r.words r.stages v (flag_view new k c x b)
+  flag_on new k c x true = record {
+    here = λ y key a e. absurd (some_not_none e refl);
+    hand = λ d has un. absurd (true≢false un);
+    owns = λ key h. h;
+    read = λ m at. at;
+    least = refl;
+    before = (r.views id v here).knew;
+    knew = λ f g. knows_more new f v.worker.facts ((r.views id v here).knew f g);
+    walk = λ op y busy at. absurd (some_not_none at refl);
+  }
+  flag_on new k c x false =
+      let u = unpacked (found_at keys cards s r id v here (card x) field.Update) in record {
+        here = λ y key a e. absurd (some_not_none e refl);
+        hand = λ d has un. absurd (some_not_none has refl);
+        owns = λ key h. h;
+        read = λ m at. at;
+        least = refl;
+        before = (r.views id v here).knew;
+        knew = λ f g. facts_by_more u.state u.card v.worker.facts f ((r.views id v here).knew f g);
+        walk = λ op y busy at. absurd (some_not_none at refl);
+      }
 
   flag_entries : (new : Fact) (k : Kind) (c x : ℕ) → MayRead r.words r.stages x → (b : Bool) (e : Told) → IsTold (flag_view new k c x b) e → EntryHolds r.words r.stages e
   flag_entries new k c x reads true = (r.views id v here).entries

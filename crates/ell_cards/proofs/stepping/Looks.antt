@@ -1,12 +1,22 @@
-use Rattle.std.proofs.Common.{◌≡◌, ◌≢◌, ◌↔◌, ℕ, ◌<◌, ◌≤◌, ◌==◌, ◌%◌, if◌then◌else◌, eqb-true, eq-eqb, nat_le, Bool, true, false, List, ◌∷◌, get_or, Option, Some, None, refl, sym, ap, ◌∙◌, subst, arith}
+use Rattle.std.proofs.Common.{◌≡◌, ◌≢◌, ◌↔◌, ℕ, ◌<◌, ◌≤◌, ◌==◌, ◌%◌, if◌then◌else◌, eqb-true, eq-eqb, nat_le, Bool, true, false, List, ◌∷◌, get_or, Option, Some, None, refl, sym, ap, ◌∙◌, subst, inl, inr, arith}
 use Rattle.std.specs.Prelude.{is_some}
-use Rattle.std.proofs.lemmas.Bool.{false≢true}
+use Rattle.std.proofs.lemmas.Bool.{false≢true, cases_eq}
+use Rattle.std.proofs.lemmas.Option.{same_Some}
+use Rattle.ell_word.specs.declared.update.State.{State}
+use Rattle.ell_word.specs.declared.update.State.TheVariants as state
+use Rattle.ell_core.specs.declared.fact.Fact.TheVariants.{IOver, DOver, Backed}
+use Rattle.ell_core.specs.tree.Tree.{OnWalk, next}
+use Rattle.ell_core.specs.tree.Tree as on_walk
+use Rattle.ell_core.specs.statements.Walks.{Avoids}
+use Rattle.ell_cards.proofs.views.Facts.{facts_by_more}
+use Rattle.ell_core.specs.statements.Since.{has_ended}
+use Rattle.ell_core.proofs.stages.Ended.{insert_over-ended, delete_over-ended, backed-ended, insert_over_not_marked, backed_not_marked, insert_open-unended, delete_open-unended}
 use mathlib.Core.Option.{some}
 use lib.ListN.{get_elem?}
 use Rattle.ell_ops.specs.declared.op.Op.{Op}
 use Rattle.ell_ops.specs.Meaning.{key_of, greatest_key}
 use Rattle.ell_word.specs.Node.{card, IsInternal}
-use Rattle.ell_word.specs.Word.{unpacked}
+use Rattle.ell_word.specs.Word.{packed, unpacked}
 use Rattle.ell_core.specs.declared.event.Act.TheVariants as act
 use Rattle.ell_core.specs.declared.event.Stepped.TheVariants.{Moved}
 use Rattle.ell_core.specs.declared.field.Field.TheVariants as field
@@ -19,7 +29,7 @@ use Rattle.ell_core.specs.state.Machine.{Worker, worker_of, ledger_of}
 use Rattle.ell_core.specs.state.Cards.{child_for, is_right}
 use Rattle.ell_core.specs.acts.Searching.{IsLeaf, value_at as value_there}
 use Rattle.ell_core.specs.acts.Events.{Happens}
-use Rattle.ell_core.specs.history.Stages.{Born}
+use Rattle.ell_core.specs.history.Stages.{Stage, Opening, Born, insert_open, delete_open, is_marked}
 use Rattle.ell_core.specs.statements.StepLaws.{MayRead}
 use Rattle.ell_core.specs.statements.Effects.{value_in, contents_in}
 use Rattle.ell_core.proofs.outcomes.Decide.{some_not_none}
@@ -28,14 +38,14 @@ use Rattle.ell_cards.specs.declared.call.Call.TheVariants as call
 use Rattle.ell_cards.specs.declared.view.Told.{Told}
 use Rattle.ell_cards.specs.declared.view.Told.TheVariants.{Met, Key, Value}
 use Rattle.ell_cards.specs.declared.view.View.{View}
-use Rattle.ell_cards.specs.Models.{Has, latest, earlier, IsTold, Does, StandsAt, InTable}
+use Rattle.ell_cards.specs.Models.{Has, latest, earlier, IsTold, KnewBefore, Does, StandsAt, InTable, EndedBy, EndWasUnknown}
 use Rattle.ell_cards.specs.Changes.{places_by, after_upd, after_down, after_next, after_key_of, after_value_of, is_at, seen_at}
 use Rattle.ell_cards.specs.Guards.{MayRead as MayUpd, MayGoDown}
 use Rattle.ell_cards.specs.Calls.{TellsLeaf, TellsValue, update_at, child_at, key_at, value_at}
 use Rattle.ell_cards.specs.States.{TableState}
-use Rattle.ell_cards.specs.Machines.{EntryHolds, HasMachine}
+use Rattle.ell_cards.specs.Machines.{EntryHolds, over_before, HasMachine}
 use Rattle.ell_cards.specs.Laws.{IsEvent}
-use Rattle.ell_cards.proofs.words.Updates.{packed_again}
+use Rattle.ell_core.proofs.words.Packed.{packed_again}
 use Rattle.ell_core.proofs.stages.Waiting.{born-settled}
 use Rattle.ell_cards.proofs.views.Entries.{places_more}
 use Rattle.ell_cards.proofs.seats.Entries.{with_entry, places_hold, facts_known}
@@ -112,6 +122,52 @@ module _ (keys : List ℕ) (cards : ℕ) (s : TableState) (r : HasMachine keys c
       (places_hold r.words r.stages x (unpacked (r.words.update x)).state (unpacked (r.words.update x)).card told
       reads.names.claimed reads.names.place old)
 
+  -- a card at a stage that card 0 never has is a later one
+  not_first : (f : Stage → Bool) → f Opening ≡ false → (c : ℕ) → f (r.stages c) ≡ true → 0 < c
+  not_first f never c said = elim (cases_eq c 0) [
+    | inl e ↦ absurd (false≢true (sym never ∙ (ap f (sym r.invariant.words.opening) ∙ (ap (λ n. f (r.stages n)) (sym e) ∙ said))))
+    | inr n ↦ omega arith
+  ]
+
+  -- a card whose end the pass knew has ended
+  ended_by : (c : ℕ) → EndedBy v.knew_before c → has_ended (r.stages c) ≡ true
+  ended_by c (inl k) = insert_over-ended (r.stages c) ((mine_sound keys cards s r id v here).facts (IOver c) ((r.views id v here).knew (IOver c) k))
+  ended_by c (inr (inl k)) = delete_over-ended (r.stages c) ((mine_sound keys cards s r id v here).facts (DOver c) ((r.views id v here).knew (DOver c) k))
+  ended_by c (inr (inr k)) = backed-ended (r.stages c) ((mine_sound keys cards s r id v here).facts (Backed c) ((r.views id v here).knew (Backed c) k))
+
+  -- where the pass stands it does not stand at a parent that was cut out when its search began
+  not_gone : (x c : ℕ) → StandsAt v x → r.words.p c ≡ x → ¬ KnewBefore v (DOver c)
+  not_gone x c stands at has = by v.worker.operation refl
+    where
+      by : (o : Option Op) → v.worker.operation ≡ o → ⊥
+      by None e = some_not_none stands (ap (λ (u : Worker). u.search.node) ((mine_sound keys cards s r id v here).free e))
+      by (Some op) e = (r.views id v here).walk op x e stands c has (on_walk.here at)
+
+  -- a card that is marked where the pass stands was not known to have ended when its search began
+  mark_unknown : (x c : ℕ) → StandsAt v x → is_marked (r.stages c) ≡ true → r.words.p c ≡ x → ¬ EndedBy v.knew_before c
+  mark_unknown x c stands marked at (inl k) =
+      insert_over_not_marked (r.stages c) ((mine_sound keys cards s r id v here).facts (IOver c) ((r.views id v here).knew (IOver c) k)) marked
+  mark_unknown x c stands marked at (inr (inl k)) = not_gone x c stands at k
+  mark_unknown x c stands marked at (inr (inr k)) =
+      backed_not_marked (r.stages c) ((mine_sound keys cards s r id v here).facts (Backed c) ((r.views id v here).knew (Backed c) k)) marked
+
+  -- nor was the card of any update word that is read there, unless it is clean
+  unknown_by : (x : ℕ) → StandsAt v x → IsInternal x → Born r.stages x → (st : State) (c : ℕ) → r.words.update x ≡ packed (record { state = st; card = c })
+      → EndWasUnknown v st c
+  unknown_by x stands inner born state.IFlag c e calm =
+      let stands_open = ((r.invariant.words.updates x inner born).iflagged c e).0 in
+      (not_first insert_open refl c stands_open, λ ended. false≢true (sym (insert_open-unended (r.stages c) stands_open) ∙ ended_by c ended))
+  unknown_by x stands inner born state.DFlag c e calm =
+      let stands_open = ((r.invariant.words.updates x inner born).dflagged c e).0 in
+      (not_first delete_open refl c stands_open, λ ended. false≢true (sym (delete_open-unended (r.stages c) stands_open) ∙ ended_by c ended))
+  unknown_by x stands inner born state.Mark c e calm =
+      let at = (r.invariant.words.updates x inner born).marked c e in
+      (not_first is_marked refl c at.0, mark_unknown x c stands at.0 at.1)
+  unknown_by x stands inner born state.Clean c e calm = absurd (calm refl)
+
+  read_unknown : (x n : ℕ) → StandsAt v x → IsInternal x → Born r.stages x → r.words.update x ≡ n → EndWasUnknown v (unpacked n).state (unpacked n).card
+  read_unknown x n stands inner born is = unknown_by x stands inner born (unpacked n).state (unpacked n).card (is ∙ sym (packed_again n))
+
   -- upd
   pub keeps_upd : (x : ℕ) → MayUpd v x → IsEvent keys cards s r id v (call.Upd x)
   keeps_upd x may =
@@ -145,9 +201,14 @@ module _ (keys : List ℕ) (cards : ℕ) (s : TableState) (r : HasMachine keys c
         here = λ y key at told. places_more x (unpacked n).state (unpacked n).card v.told (Key y key) ((r.views id v here).here y key at told);
         hand = λ c has un. (has, un, refl, refl);
         owns = λ k h. h;
+        read = λ m at. at;
+        least = refl;
+        before = (r.views id v here).knew;
+        knew = λ f k. facts_by_more (unpacked n).state (unpacked n).card v.worker.facts f ((r.views id v here).knew f k);
+        walk = λ op y busy at. (stands_born keys cards s r id v here y at, (r.views id v here).walk op y busy at);
       })
       (update_at x))
-      refl refl (names_card x n reads is)
+      refl refl (names_card x n reads is, read_unknown x n may.stands may.inner reads.born is)
 
   -- down
   pub keeps_down : (x : ℕ) (right : Bool) → MayGoDown v x right → IsEvent keys cards s r id v (call.Down x right)
@@ -188,6 +249,18 @@ module _ (keys : List ℕ) (cards : ℕ) (s : TableState) (r : HasMachine keys c
         here = λ y key at told. absurd (some_not_none told refl);
         hand = λ c has un. (has, un, refl, refl);
         owns = λ k h. h;
+        read = λ m at. at;
+        least = refl;
+        before = (r.views id v here).knew;
+        knew = (r.views id v here).knew;
+        walk = λ op y busy at.
+            let same_op : may.op ≡ op = (let first = may.busy in cc) in
+            subst (λ z. Born r.stages z × Avoids r.words (over_before v) (key_of op) z) (same_Some n y at) (
+              child_born,
+              subst (λ o. Avoids r.words (over_before v) (key_of o) n) same_op
+                  (λ c has on. (r.views id v here).walk may.op x may.busy may.stands c has
+                  (next may.inner (subst (λ z. OnWalk r.words (key_of may.op) z (r.words.p c)) (sym is) on))),
+            );
       })
       (child_at x right))
       refl refl (subst (λ y. x < y) is (children.rising (is_right r.words x (key_of may.op))), born_in_table n child_born)
@@ -201,8 +274,8 @@ module _ (keys : List ℕ) (cards : ℕ) (s : TableState) (r : HasMachine keys c
       let room = r.invariant.limit in
       let is = r.next in
       is_no_event keys cards s r id v here call.Next
-      (kept_told keys cards s r id v here (after_next n v) refl (record { entries = h.entries; here = h.here; hand = h.hand }) 0)
-      refl refl (omega arith, omega arith)
+      (kept_told keys cards s r id v here (after_next n v) refl (record { entries = h.entries; here = h.here; hand = h.hand; read = λ m at. (let same : n ≡ m = same_Some n m at in omega arith); least = h.least; knew = h.knew; walk = h.walk }) 0)
+      refl refl (omega arith, omega arith, (let low = h.least in omega arith))
 
   -- key_of
   pub keeps_key_of : (x : ℕ) → IsTold v (Met x) → IsEvent keys cards s r id v (call.KeyOf x)
@@ -216,6 +289,10 @@ module _ (keys : List ℕ) (cards : ℕ) (s : TableState) (r : HasMachine keys c
         entries = with_entry (EntryHolds r.words r.stages) (Key x n) v.told (born, is) h.entries;
         here = λ y key at told. tells n y key at (is_at v.worker.search.node x) refl told (h.here y key at);
         hand = h.hand;
+        read = h.read;
+        least = h.least;
+        knew = h.knew;
+        walk = h.walk;
       }) (key_at x))
       refl refl (leaf n is)
     where
@@ -249,6 +326,10 @@ module _ (keys : List ℕ) (cards : ℕ) (s : TableState) (r : HasMachine keys c
         entries = with_entry (EntryHolds r.words r.stages) (Value x n) v.told (born, is) h.entries;
         here = λ y key at told. earlier (Key y key) (Value x n) v.told (h.here y key at told);
         hand = h.hand;
+        read = h.read;
+        least = h.least;
+        knew = h.knew;
+        walk = h.walk;
       }) (value_at x))
       refl refl (leaf n is)
     where

@@ -8,17 +8,6 @@ use Rattle.ell_word.specs.declared.update.State.TheVariants.{IFlag, DFlag, Mark,
 use Rattle.ell_word.specs.declared.update.Update.{Update}
 use Rattle.ell_word.specs.Word.{number_of, state_of, packed, unpacked}
 
--- the state's number is the remainder
-number_again : (n : ℕ) → n < 4 → number_of (state_of n) ≡ n
-number_again zero small = refl
-number_again (suc zero) small = refl
-number_again (suc (suc zero)) small = refl
-number_again (suc (suc (suc n))) small = omega arith
-
--- a word is that of the update that it says
-pub packed_again : (n : ℕ) → packed (unpacked n) ≡ n
-packed_again n = ap (λ m. 4 * (n / 4) + m) (number_again (n % 4) (omega arith)) ∙ omega arith
-
 -- an update is the mark of a card where its word is
 pub is_mark : (c n : ℕ) → is_mark_of c (unpacked n).state (unpacked n).card ≡ (n == marked c)
 is_mark c n = by (n % 4) refl (omega arith)

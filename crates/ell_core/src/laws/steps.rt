@@ -2,6 +2,8 @@
 //! these steps can stand on. Each law is the contract of a function that does nothing.
 ghost use Rattle.ell_core.specs.statements.Waiting.{StagesTellWaiting, EventsLeaveWaiting, ClaimedCardsSay};
 ghost use Rattle.ell_core.specs.statements.StepLaws.{EventsAreLawful, SplitsAreLawful, JoinsAreLawful, InvariantIsSound, StepsMayRely, OwnerFindsClean};
+ghost use Rattle.ell_core.specs.statements.Walks.{RootsAvoid, EventsKeepAvoiding};
+ghost use Rattle.ell_core.specs.statements.Since.{SearchesBegin, SearchesGoOn, CleansGoOn};
 
 /// A state that the invariant holds of is sound.
 pub fn invariant_is_sound()
@@ -40,4 +42,19 @@ pub fn cards_wait()
     ensures stages { StagesTellWaiting }
     ensures events { EventsLeaveWaiting }
     ensures claimed { ClaimedCardsSay }
+{}
+
+/// No walk from the root comes by a parent that a delete has cut out; and one from a node that came into the tree, which comes by none
+/// of those that some deletes have cut out, comes by none of them after any event. So a search meets no node that was cut out when it began.
+pub fn walks_avoid_what_was_cut()
+    ensures roots { RootsAvoid }
+    ensures events { EventsKeepAvoiding }
+{}
+
+/// What a search has read since it began, whatever comes between, is of no card whose flag was taken away when it began, at no node
+/// that was cut out then.
+pub fn searches_see_what_stands()
+    ensures begin { SearchesBegin }
+    ensures go_on { SearchesGoOn }
+    ensures cleans { CleansGoOn }
 {}

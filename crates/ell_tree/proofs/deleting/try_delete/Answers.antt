@@ -8,6 +8,8 @@ use Rattle.ell_tree.proofs.Keeping.{inner_kept}
 use Rattle.ell_tree.proofs.Meeting.{meets_trans, meets_more, above_way, parent_way, nowhere_way, way_over, way_free, no_way}
 use Rattle.ell_tree.proofs.Halting.{goes_meets, seek_meets, said_meets, flag_lost}
 use Rattle.ell_tree.proofs.Filling.{delete_wants, told_grandparent, told_parent, told_was}
+use Rattle.ell_tree.proofs.Moving.{sees_end, gives_out}
+use Rattle.ell_tree.proofs.Descending.{unknown_above, named_above}
 use Rattle.ell_tree.proofs.deleting.try_delete.Goals as goal
 
 pub take_card-requires-clause-wants : goal.take_card-requires-clause-wants
@@ -45,6 +47,7 @@ returns-then-place-key-clause-ends g c =
       search rules,
       meets_trans a.view s.new.pass.view said.new.pass.view (seek_meets a s.new.pass _ s.ensures.seeks)
           (said_meets s.new.pass.view said.new.pass.view said.ensures.hindrances said.ensures.facts),
+      said.ensures.room,
     )
 
 -- a flag or a mark stood at the grandparent
@@ -73,6 +76,10 @@ returns-then-ne-clause-ends g c =
         stops = search rules;
       },
       omega (arith, way.1, more),
+      sees_end c.args.table.now.last_card a.view s.new.pass.view new.view above.update.state above.update.card s.ensures.seeks.goes.view.before
+          (unknown_above s.new.pass.view place.grandparent above c.in-Some.is s.ensures.ends.unknown_above)
+          (named_above c.args.table.now.last_card s.new.pass.view place.grandparent above c.in-Some.is s.ensures.ends.passed_above) stands c.help.ensures.ended
+          (omega (arith, s.ensures.seeks.goes.view.least, c.help.ensures.works.goes.view.least)),
     )
 
 -- or at the parent
@@ -104,6 +111,9 @@ returns-then-ne-2-clause-ends g c =
         stops = search rules;
       },
       omega (arith, way.1, more),
+      sees_end c.args.table.now.last_card a.view s.new.pass.view new.view update.state update.card s.ensures.seeks.goes.view.before s.ensures.ends.unknown
+          s.ensures.ends.passed.named stands help.ensures.ended
+          (omega (arith, s.ensures.seeks.goes.view.least, help.ensures.works.goes.view.least)),
     )
 
 -- no card was left
@@ -164,6 +174,7 @@ returns-in-Lost-clause-ends g c =
         stops = search rules;
       },
       omega (arith, quiet, claims.2),
+      gives_out c.args.table.now.last_card a.view s.new.pass.view new.view new.view s.ensures.seeks.goes.view.least claims.3 (omega arith),
     )
 
 -- the flag was lost
@@ -195,6 +206,8 @@ returns-in-Err-clause-ends g c =
         stops = search rules;
       },
       omega (arith, lost.1, more),
+      gives_out c.args.table.now.last_card a.view s.new.pass.view t.view new.view s.ensures.seeks.goes.view.least c.in-Card.ensures.claims.3
+          (omega (arith, c.flag_delete.ensures.goes.view.least, help.ensures.works.goes.view.least)),
     )
 
 -- the key was taken away
@@ -213,4 +226,5 @@ returns-clause-ends g c =
     let answers = said.ensures.answers (Delete c.args.key) (search rules) in (
       search rules,
       meets_trans a.view m.view said.new.pass.view finished (said_meets m.view said.new.pass.view said.ensures.hindrances said.ensures.facts),
+      said.ensures.room,
     )

@@ -12,6 +12,7 @@ use Rattle.ell_tree.proofs.Descending.{may_answer}
 use Rattle.ell_tree.proofs.Filling.{insert_fills, is_insert}
 use Rattle.ell_tree.proofs.Meeting.{meets_trans, meets_more, insert_way, nowhere_way, way_over, way_free, no_way}
 use Rattle.ell_tree.proofs.Halting.{goes_meets, seek_meets, walk_meets, said_meets, flag_lost}
+use Rattle.ell_tree.proofs.Moving.{sees_end, gives_out}
 use Rattle.ell_tree.proofs.inserting.try_insert.Goals as goal
 
 pub take_card-requires-clause-wants : goal.take_card-requires-clause-wants
@@ -51,6 +52,7 @@ returns-then-place-key-clause-ends g c =
       search rules,
       meets_trans a.view s.new.pass.view said.new.pass.view (seek_meets a s.new.pass _ s.ensures.seeks)
           (said_meets s.new.pass.view said.new.pass.view said.ensures.hindrances said.ensures.facts),
+      said.ensures.room,
     )
 
 -- a flag or a mark stood at the parent
@@ -78,6 +80,9 @@ returns-then-ne-clause-ends g c =
         stops = search rules;
       },
       omega (arith, way.1, more),
+      sees_end c.args.table.now.last_card a.view s.new.pass.view new.view update.state update.card s.ensures.seeks.goes.view.before s.ensures.ends.unknown
+          s.ensures.ends.passed.named stands c.help.ensures.ended
+          (omega (arith, s.ensures.seeks.goes.view.least, c.help.ensures.works.goes.view.least)),
     )
 
 -- no card was left
@@ -132,6 +137,7 @@ returns-in-Lost-clause-ends g c =
         stops = search rules;
       },
       omega (arith, quiet, claims.2),
+      gives_out c.args.table.now.last_card a.view s.new.pass.view new.view new.view s.ensures.seeks.goes.view.least claims.3 (omega arith),
     )
 
 -- the key was added
@@ -150,6 +156,7 @@ returns-in-Ok-clause-ends g c =
     let answers = said.ensures.answers (Insert c.args.key c.args.value) (search rules) in (
       search rules,
       meets_trans a.view m.view said.new.pass.view finished (said_meets m.view said.new.pass.view said.ensures.hindrances said.ensures.facts),
+      said.ensures.room,
     )
 
 -- the flag was lost
@@ -181,4 +188,6 @@ returns-in-Err-clause-ends g c =
         stops = search rules;
       },
       omega (arith, lost.1, more),
+      gives_out c.args.table.now.last_card a.view s.new.pass.view t.view new.view s.ensures.seeks.goes.view.least c.in-Card.ensures.claims.3
+          (omega (arith, c.flag_insert.ensures.goes.view.least, help.ensures.works.goes.view.least)),
     )

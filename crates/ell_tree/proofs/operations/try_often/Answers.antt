@@ -1,9 +1,11 @@
 use Rattle.std.proofs.Common.{◌≡◌, ◌*◌, ◌∙◌, ap, arith, rules, eq-eqb, eqb-true}
 use Rattle.ell_tree.specs.Ends.{try_steps}
 use Rattle.ell_tree.specs.Hindrances.{way_of}
+use Rattle.ell_tree.specs.Moves.{moves_known}
 use Rattle.ell_tree.proofs.Counting.{round_steps, rounds_steps}
 use Rattle.ell_tree.proofs.Halting.{begun_meets, begun_count}
 use Rattle.ell_tree.proofs.Meeting.{meets_trans}
+use Rattle.ell_tree.proofs.Moving.{moves_one, moves_still, moves_same, moves_most, moves_more, amortized_steps}
 use Rattle.ell_tree.proofs.operations.try_often.Goals as goal
 
 pub try_once-requires-clause-root : goal.try_once-requires-clause-root
@@ -32,7 +34,7 @@ returns-in-Spent-clause-steps g c =
     let few = round_steps l.round most c.args.pass.now.steps l.pass.steps c.restart.new.pass.steps c.try_once.new.pass.steps i.first i.later
     begins.steps (λ none. c.restart.ensures.first (eq-eqb l.round 0 none)) c.try_once.ensures.steps in
     let all = rounds_steps l.round c.args.tries most c.loop-round-test.true in
-    let lays = c.leave.ensures c.args.op c.in-Spent.ensures.ends.0.stops.busy in
+    let lays = c.leave.ensures.lays c.args.op c.in-Spent.ensures.ends.0.stops.busy in
     omega (arith, few, all, lays.steps)
 
 pub loop-round-preserved : goal.loop-round-preserved
@@ -60,9 +62,51 @@ loop-round-preserved g c =
       way = halts.way;
       hindrances = let n = begun_count (way_of op l.pass.view) l.pass.view c.restart.new.pass.view begins.hindrances in
           omega (arith, hindered, n, i.hindrances);
+      moved = let one = moves_one c.args.table.now.last_card l.pass.view c.restart.new.pass.view c.try_once.new.pass.view begins.before begins.least
+          (λ f h. halts.meets.knows f (begins.knows f h)) c.in-Hindered.ensures.ends.2 in
+          omega (arith, one, i.moved);
       first = λ none. absurd (omega (arith, none));
       later = λ some. few;
     }
+
+pub loop-round-init : goal.loop-round-init
+loop-round-init g c =
+    let cards = c.args.table.now.last_card in
+    let start = c.begin.ensures in
+    let still = moves_still cards c.args.pass.now.view c.begin.new.pass.view start.knows start.least in
+    record {
+      same = search rules;
+      table = search rules;
+      label = search rules;
+      ledger = search rules;
+      answers = search rules;
+      stops = search rules;
+      root = λ none. start.root;
+      would = λ some. absurd (omega (arith, some));
+      meets = search rules;
+      way = search rules;
+      hindrances = search rules;
+      moved = omega (arith, still);
+      first = λ none. start.steps;
+      later = λ some. absurd (omega (arith, some));
+    }
+
+pub returns-clause-moved : goal.returns-clause-moved
+returns-clause-moved g c = λ held.
+    let l = c.loop-round in
+    let cards = c.args.table.now.last_card in
+    let lays = c.leave-2.ensures.lays c.args.op l.invariant.stops.busy in
+    let same = moves_same cards l.pass.view c.leave-2.new.pass.view lays.facts lays.least in
+    let all : l.round ≡ c.args.tries = omega (arith, c.loop-round-test.false, l.auto.round-end) in
+    omega (arith, same, all, l.invariant.moved)
+
+pub returns-clause-enough : goal.returns-clause-enough
+returns-clause-enough g c = λ many held.
+    let l = c.loop-round in
+    let cards = c.args.table.now.last_card in
+    let most = moves_most cards l.pass.view c.leave-2.ensures.least in
+    let all : l.round ≡ c.args.tries = omega (arith, c.loop-round-test.false, l.auto.round-end) in
+    omega (arith, many, most, all, l.invariant.moved)
 
 pub returns-clause-steps : goal.returns-clause-steps
 returns-clause-steps g c =
@@ -70,7 +114,7 @@ returns-clause-steps g c =
     let few = i.later (omega (arith, c.requires.tries, c.loop-round-test.false)) in
     let all : c.loop-round.round ≡ c.args.tries = omega (arith, c.loop-round-test.false, c.loop-round.auto.round-end) in
     let same = ap (λ n. n * try_steps c.args.table.now.last_card) all in
-    let lays = c.leave-2.ensures c.args.op i.stops.busy in
+    let lays = c.leave-2.ensures.lays c.args.op i.stops.busy in
     omega (arith, few, same, lays.steps)
 
 pub returns-in-Answered-clause-ends : goal.returns-in-Answered-clause-ends
@@ -91,7 +135,7 @@ returns-in-Spent-clause-ends g c =
     let begins = c.restart.ensures.begins op i.stops.busy (λ none. i.root (eqb-true l.round 0 none)) in
     let halts = c.in-Spent.ensures.ends.0 in
     let tried = c.try_once.new.pass.view in
-    let lays = c.leave.ensures op halts.stops.busy in
+    let lays = c.leave.ensures.lays op halts.stops.busy in
     let begun = begun_meets (way_of op l.pass.view) a l.pass.view c.restart.new.pass.view i.meets i.way begins.hindrances begins.knows in
     let met = meets_trans a c.restart.new.pass.view tried begun halts.meets in (
       search rules,
@@ -105,10 +149,75 @@ returns-clause-ends g c =
     let l = c.loop-round in
     let i = l.invariant in
     let op = c.args.op in
-    let lays = c.leave-2.ensures op i.stops.busy in
+    let lays = c.leave-2.ensures.lays op i.stops.busy in
     let all : l.round ≡ c.args.tries = omega (arith, c.loop-round-test.false, l.auto.round-end) in
     let n = begun_count (way_of op l.pass.view) l.pass.view c.leave-2.new.pass.view lays.hindrances in (
       search rules,
       omega (arith, all, n, i.hindrances),
       begun_meets (way_of op l.pass.view) a l.pass.view c.leave-2.new.pass.view i.meets i.way lays.hindrances lays.knows,
     )
+
+pub returns-in-Answered-clause-amortized : goal.returns-in-Answered-clause-amortized
+returns-in-Answered-clause-amortized g c =
+    let l = c.loop-round in
+    let i = l.invariant in
+    let op = c.args.op in
+    let cards = c.args.table.now.last_card in
+    let begins = c.restart.ensures.begins op i.stops.busy (λ none. i.root (eqb-true l.round 0 none)) in
+    let most = try_steps cards in
+    let few = round_steps l.round most c.args.pass.now.steps l.pass.steps c.restart.new.pass.steps c.try_once.new.pass.steps i.first i.later
+    begins.steps (λ none. c.restart.ensures.first (eq-eqb l.round 0 none)) c.try_once.ensures.steps in
+    let on = moves_more cards l.pass.view c.try_once.new.pass.view
+    (λ f h. c.in-Answered.ensures.ends.1.knows f (begins.knows f h)) (omega (arith, begins.least, c.try_once.ensures.least)) in
+    amortized_steps (moves_known cards c.args.pass.now.view) (moves_known cards c.try_once.new.pass.view) l.round c.args.pass.now.steps c.try_once.new.pass.steps most
+    (omega (arith, on, i.moved)) (omega (arith, few))
+
+pub returns-in-Spent-clause-amortized : goal.returns-in-Spent-clause-amortized
+returns-in-Spent-clause-amortized g c =
+    let l = c.loop-round in
+    let i = l.invariant in
+    let op = c.args.op in
+    let cards = c.args.table.now.last_card in
+    let begins = c.restart.ensures.begins op i.stops.busy (λ none. i.root (eqb-true l.round 0 none)) in
+    let most = try_steps cards in
+    let few = round_steps l.round most c.args.pass.now.steps l.pass.steps c.restart.new.pass.steps c.try_once.new.pass.steps i.first i.later
+    begins.steps (λ none. c.restart.ensures.first (eq-eqb l.round 0 none)) c.try_once.ensures.steps in
+    let halts = c.in-Spent.ensures.ends.0 in
+    let lays = c.leave.ensures.lays op halts.stops.busy in
+    let on = moves_more cards l.pass.view c.try_once.new.pass.view
+    (λ f h. halts.meets.knows f (begins.knows f h)) (omega (arith, begins.least, c.try_once.ensures.least)) in
+    let same = moves_same cards c.try_once.new.pass.view c.leave.new.pass.view lays.facts lays.least in
+    amortized_steps (moves_known cards c.args.pass.now.view) (moves_known cards c.leave.new.pass.view) l.round c.args.pass.now.steps c.leave.new.pass.steps most
+    (omega (arith, on, same, i.moved)) (omega (arith, few, lays.steps))
+
+pub returns-clause-amortized : goal.returns-clause-amortized
+returns-clause-amortized g c =
+    let l = c.loop-round in
+    let i = l.invariant in
+    let cards = c.args.table.now.last_card in
+    let most = try_steps cards in
+    let lays = c.leave-2.ensures.lays c.args.op i.stops.busy in
+    let few = i.later (omega (arith, c.requires.tries, c.loop-round-test.false, l.auto.round-end)) in
+    let same = moves_same cards l.pass.view c.leave-2.new.pass.view lays.facts lays.least in
+    amortized_steps (moves_known cards c.args.pass.now.view) (moves_known cards c.leave-2.new.pass.view) l.round c.args.pass.now.steps c.leave-2.new.pass.steps most
+    (omega (arith, same, i.moved)) (omega (arith, few, lays.steps))
+
+pub returns-in-Answered-clause-bounded : goal.returns-in-Answered-clause-bounded
+returns-in-Answered-clause-bounded g c = moves_most c.args.table.now.last_card c.try_once.new.pass.view c.in-Answered.ensures.ends.2
+
+pub returns-in-Spent-clause-bounded : goal.returns-in-Spent-clause-bounded
+returns-in-Spent-clause-bounded g c =
+    let cards = c.args.table.now.last_card in
+    let lays = c.leave.ensures.lays c.args.op c.in-Spent.ensures.ends.0.stops.busy in
+    let same = moves_same cards c.try_once.new.pass.view c.leave.new.pass.view lays.facts lays.least in
+    let most = moves_most cards c.try_once.new.pass.view c.leave.ensures.least in
+    omega (arith, same, most)
+
+pub returns-clause-bounded : goal.returns-clause-bounded
+returns-clause-bounded g c =
+    let l = c.loop-round in
+    let cards = c.args.table.now.last_card in
+    let lays = c.leave-2.ensures.lays c.args.op l.invariant.stops.busy in
+    let same = moves_same cards l.pass.view c.leave-2.new.pass.view lays.facts lays.least in
+    let most = moves_most cards l.pass.view c.leave-2.ensures.least in
+    omega (arith, same, most)

@@ -5,6 +5,7 @@ use Rattle.ell_tree.specs.Hindrances.{AreOver, Meets, way_of}
 use Rattle.ell_tree.specs.Ledgers.{present_in}
 use Rattle.ell_tree.specs.Searches.{AtRoot}
 use Rattle.ell_tree.specs.Tries.{Stops}
+use Rattle.ell_tree.specs.Moves.{moves_known}
 use Rattle.ell_tree.proofs.operations.try_often.Given as goal
 use Rattle.ell_ops.specs.declared.reply.Reply.TheVariants.{Yes}
 
@@ -22,6 +23,7 @@ invariant-loop-round g l = record {
   meets : Meets l.fn.pass.view l.pass.view;
   way : AreOver l.pass.view (way_of l.op l.pass.view);
   hindrances : length l.fn.pass.view.hindrances + l.round ≤ length (way_of l.op l.pass.view) + length l.pass.view.hindrances;
+  moved : moves_known l.table.last_card l.fn.pass.view + l.round ≤ moves_known l.table.last_card l.pass.view;
   first : l.round ≡ 0 → l.pass.steps ≤ l.fn.pass.steps + 1;
   later : 1 ≤ l.round → l.pass.steps ≤ l.fn.pass.steps + l.round * try_steps l.table.last_card;
 }

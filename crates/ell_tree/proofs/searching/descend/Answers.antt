@@ -1,7 +1,7 @@
 use Rattle.std.proofs.Common.{refl}
 use Rattle.ell_cards.specs.declared.view.Told.TheVariants.{Met}
 use Rattle.ell_cards.proofs.views.Searches.{may_go_down}
-use Rattle.ell_tree.proofs.Descending.{upd_seeks, descend_seeks, descend_search, descend_met, descend_passed}
+use Rattle.ell_tree.proofs.Descending.{upd_seeks, descend_seeks, descend_search, descend_met, descend_passed, descend_unknown}
 use Rattle.ell_tree.proofs.searching.descend.Goals as goal
 
 pub key_of-node_key-requires-clause-met : goal.key_of-node_key-requires-clause-met
@@ -32,4 +32,5 @@ returns g c =
       met = descend_met a b d e c.args.node c.upd-update.result c.key_of-node_key.result c.down-child.result read asked gone;
       passed = descend_passed a b d e c.args.node c.upd-update.result c.key_of-node_key.result c.down-child.result read asked gone
           c.args.table.now.last_card c.requires.node c.upd-update.ensures.card;
+      unknown = descend_unknown a b d e c.args.node c.upd-update.result c.key_of-node_key.result c.down-child.result read asked gone c.upd-update.ensures.unknown;
     }

@@ -15,7 +15,7 @@ loop-grandparent-preserved g c =
     rw (c.anew.ensures, c.anew-parent.ensures) (record {
       same = (refl, refl);
       stands = stands_next c.args.table.now.last_card l.pass.view d.new.pass.view l.node d.result.1 l.parent d.result.0 l.grandparent
-          d.ensures.seeks.goes.view i.stands d.ensures.search d.ensures.met d.ensures.there d.ensures.passed;
+          d.ensures.seeks.goes.view i.stands d.ensures.search d.ensures.met d.ensures.there d.ensures.passed d.ensures.unknown;
       down = omega (arith, d.ensures.here, d.ensures.deeper);
       seeks = seeks_trans c.args.pass.now l.pass d.new.pass (l.parent.node + 3) 3 (d.result.0.node + 3) i.seeks d.ensures.seeks
           (omega (arith, i.down, i.stands.passed.node.inner, inner, d.ensures.here));

@@ -1,7 +1,7 @@
-use Rattle.std.proofs.Common.{Bool, subst, arith}
+use Rattle.std.proofs.Common.{Bool, true, false, subst, arith}
 use Rattle.ell_cards.specs.Models.{Steps}
 use Rattle.ell_cards.specs.Changes.{after_claim}
-use Rattle.ell_tree.proofs.Claiming.{may_claim_at, won_goes, won_calm, has_card, lost_goes, lost_claims}
+use Rattle.ell_tree.proofs.Claiming.{may_claim_at, won_goes, won_calm, given_out, has_card, lost_goes, lost_claims}
 use Rattle.ell_tree.proofs.trying.take_card.Goals as goal
 
 pub claim-requires-clause-may : goal.claim-requires-clause-may
@@ -16,11 +16,12 @@ returns-then-claim g c =
     let card = c.next-card.result in
     let won = subst (λ (w : Bool). Steps b c.claim.new.pass (after_claim w card b.view)) c.if-claim.true c.claim.ensures.step in
     record {
-      goes = won_goes a b c.claim.new.pass card c.next-card.ensures.step won;
+      goes = won_goes a b c.claim.new.pass card c.next-card.ensures.step c.next-card.ensures.least won;
       claims = (
-        has_card a b c.claim.new.pass card c.next-card.ensures.step c.args.op c.args.place won c.requires.busy c.requires.at,
+        has_card a b c.claim.new.pass card c.next-card.ensures.step c.next-card.ensures.least c.args.op c.args.place won c.requires.busy c.requires.at,
         omega (arith, c.last_card.ensures.cards),
-        won_calm a b c.claim.new.pass card c.next-card.ensures.step won,
+        won_calm a b c.claim.new.pass card c.next-card.ensures.step c.next-card.ensures.least won,
+        given_out a b c.claim.new.pass card c.next-card.ensures.step c.next-card.ensures.least true c.args.table.now.last_card won c.next-card.ensures.some (omega (arith, c.last_card.ensures.cards)),
       );
       limit = omega (arith, c.last_card.ensures.cards, c.last_card.ensures.limit);
     }
@@ -32,7 +33,12 @@ returns-else-claim g c =
     let card = c.next-card.result in
     let lost = subst (λ (w : Bool). Steps b c.claim.new.pass (after_claim w card b.view)) c.if-claim.false c.claim.ensures.step in
     record {
-      goes = lost_goes a b c.claim.new.pass card c.next-card.ensures.step lost;
-      claims = lost_claims a b c.claim.new.pass card c.next-card.ensures.step lost c.requires.no_card;
+      goes = lost_goes a b c.claim.new.pass card c.next-card.ensures.step c.next-card.ensures.least lost;
+      claims = let claims = lost_claims a b c.claim.new.pass card c.next-card.ensures.step c.next-card.ensures.least lost c.requires.no_card in (
+        claims.0,
+        claims.1,
+        claims.2,
+        given_out a b c.claim.new.pass card c.next-card.ensures.step c.next-card.ensures.least false c.args.table.now.last_card lost c.next-card.ensures.some (omega (arith, c.last_card.ensures.cards)),
+      );
       limit = omega (arith, c.last_card.ensures.cards, c.last_card.ensures.limit);
     }

@@ -1,0 +1,379 @@
+use Rattle.std.proofs.Common.{◌≡◌, ◌≢◌, ℕ, ◌/◌, ◌%◌, ◌<◌, ◌≤◌, ◌==◌, if◌then◌else◌, Bool, true, false, Option, Some, None, List, [], ◌∷◌, ◌++◌, inl, inr, refl, sym, ap, ◌∙◌, subst, arith, eq-eqb, eqb-true, true≢false}
+use Rattle.std.proofs.lemmas.Bool.{cases_eq, false≢true}
+use Rattle.std.proofs.lemmas.Option.{same_Some}
+use mathlib.Core.Option.{some}
+use lib.ListN.{get_elem?}
+use Rattle.ell_ops.specs.declared.op.Op.TheVariants.{Find, Insert, Delete}
+use Rattle.ell_ops.specs.declared.op.Op.{Op}
+use Rattle.ell_word.specs.declared.gate.Kind.{Kind}
+use Rattle.ell_word.specs.declared.gate.Kind.TheVariants as kind
+use Rattle.ell_word.specs.Node.{IsInternal}
+use Rattle.ell_word.specs.Word.{packed, unpacked}
+use Rattle.ell_word.specs.declared.update.State.TheVariants as state
+use Rattle.ell_word.specs.declared.update.Update.{Update}
+use Rattle.ell_core.specs.declared.fact.Fact.TheVariants.{IFlagged, DFlagged, Marked}
+use Rattle.ell_core.specs.declared.fact.Fact.{Fact}
+use Rattle.ell_core.specs.declared.field.Field.TheVariants as field
+use Rattle.ell_core.specs.declared.view.Seen.{Seen}
+use Rattle.ell_core.specs.state.Words.{Words}
+use Rattle.ell_core.specs.state.Machine.{Worker, Machine, worker_of}
+use Rattle.ell_core.specs.state.Cards.{clean}
+use Rattle.ell_core.specs.acts.Searching.{IsClean}
+use Rattle.ell_core.specs.history.Stages.{Stage, Stages, Born, delete_won, is_cut, is_markable, waits}
+use Rattle.ell_core.specs.history.Invariant.{Invariant, WorkerIsSound}
+use Rattle.ell_core.specs.history.Later.{WordsLater, StagesLater}
+use Rattle.ell_core.specs.statements.StepLaws.{Reliance}
+use Rattle.ell_core.specs.statements.Since.{has_ended, SeenSince, SearchSince, CleansSince}
+use Rattle.ell_core.proofs.outcomes.Decide.{some_not_none}
+use Rattle.ell_core.proofs.following.Reliance.{may_rely}
+use Rattle.ell_core.proofs.following.Since.{word_unended}
+use Rattle.ell_core.proofs.words.CleanWords.{clean_remainder}
+use Rattle.ell_core.proofs.stages.Ended.{ends_last}
+use Rattle.ell_core.proofs.following.waiting.Cards.{hand_waits}
+use Rattle.ell_core.proofs.stages.Order.{delete_won-delete, insert_won-insert, one_kind, won_cases}
+use Rattle.ell_cards.specs.declared.call.Call.{Call}
+use Rattle.ell_cards.specs.declared.call.Call.TheVariants as call
+use Rattle.ell_cards.specs.declared.view.Hindrance.{Hindrance}
+use Rattle.ell_cards.specs.declared.view.Hindrance.TheVariants.{Claim, Found}
+use Rattle.ell_cards.specs.declared.view.View.{View}
+use Rattle.ell_cards.specs.Changes.{after_claim, after_flag, after_mark, if_won, exchanged, learning, unmarking, is_mark_of, is_held}
+use Rattle.ell_cards.specs.Calls.{after, May}
+use Rattle.ell_cards.specs.States.{TableState, seat_worker}
+use Rattle.ell_cards.specs.Machines.{HasMachine}
+use Rattle.ell_cards.specs.Turns.{found_by}
+use Rattle.ell_cards.specs.Laws.{machine_of_table}
+use Rattle.ell_cards.specs.Readings.{AreBelow}
+use Rattle.ell_cards.specs.Meanwhile.{KeepsOn}
+use Rattle.ell_cards.proofs.seats.Seats.{relies}
+use Rattle.ell_cards.proofs.stepping.Looks.{update_listed}
+use Rattle.ell_cards.proofs.stepping.Exchanges.{told_is}
+use Rattle.ell_cards.proofs.stepping.Known.{known_delete}
+
+-- a node whose update word was no greater when a search began than one that it has read there since, and which was not cut out then
+pub record PlaceSince (w : Words) (stage : Stages) (x word : ℕ) : Type 0 where
+  pub least : w.update x ≤ word
+  pub there : (c : ℕ) → is_cut (stage c) ≡ true → w.p c ≢ x
+
+-- what was in the way since, by the words and the stages
+abbrev pub Met : Words → Stages → Words → Stages → Hindrance → Type 0
+Met w stage now after (Claim c) = (w.next ≤ c) × (c < now.next)
+Met w stage now after (Found u) = (has_ended (stage u.card) ≡ false) × (u.state ≡ state.Clean → has_ended (after u.card) ≡ true)
+
+abbrev pub AllMet : Words → Stages → Words → Stages → List Hindrance → Type 0
+AllMet w stage now after [] = Unit {0}
+AllMet w stage now after (h ∷ hs) = Met w stage now after h × AllMet w stage now after hs
+
+-- it stays so
+met_later : (w : Words) (stage : Stages) (now : Words) (after : Stages) (later_words : Words) (ends : Stages) → WordsLater now later_words → StagesLater after ends
+    → (hs : List Hindrance) → AllMet w stage now after hs → AllMet w stage later_words ends hs
+met_later w stage now after later_words ends words later [] h = tt
+met_later w stage now after later_words ends words later (Claim c ∷ hs) h =
+    let more = words.next in let low = h.0.1 in ((h.0.0, omega arith), met_later w stage now after later_words ends words later hs h.1)
+met_later w stage now after later_words ends words later (Found u ∷ hs) h =
+    ((h.0.0, λ e. ends_last after ends later u.card (h.0.1 e)), met_later w stage now after later_words ends words later hs h.1)
+
+-- the claims that were lost are below the claim word
+all_below : (w : Words) (stage : Stages) (now : Words) (after : Stages) (n : ℕ) → now.next ≤ n → (hs : List Hindrance) → AllMet w stage now after hs → AreBelow n hs
+all_below w stage now after n most [] h = tt
+all_below w stage now after n most (Claim c ∷ hs) h = let low = h.0.1 in (omega arith, all_below w stage now after n most hs h.1)
+all_below w stage now after n most (Found u ∷ hs) h = all_below w stage now after n most hs h.1
+
+-- what a pass has met since its search began, what it has read of the claim word, the card in its hand, and where that goes
+pub record HinderedSince (w : Words) (stage : Stages) (now : Words) (after : Stages) (old : List Hindrance) (v : View) : Type 0 where
+  pub met : List Hindrance
+  pub list : v.hindrances ≡ met ++ old
+  pub each : AllMet w stage now after met
+  pub next : (n : ℕ) → v.next ≡ Some n → w.next ≤ n
+  pub own : (c : ℕ) → v.worker.card ≡ Some c → AreBelow c met
+  pub hand : (k c : ℕ) → v.worker.operation ≡ Some (Delete k) → v.worker.card ≡ Some c → v.worker.flagged ≡ true → PlaceSince w stage (now.p c) (now.was c)
+
+-- a card whose flag was won does not wait for it
+won_waits : (s : Stage) → delete_won s ≡ true → waits s ≡ true → ⊥
+won_waits s h k = false≢true (sym (calm s h) ∙ k)
+  where
+    calm : (s : Stage) → delete_won s ≡ true → waits s ≡ false
+    calm s h = grind arith
+
+-- an insert is no delete
+insert_is_no_delete : (k key value : ℕ) → Some (Delete k) ≡ Some (Insert key value) → ⊥
+insert_is_no_delete k key value e = cc
+
+-- the card that is held
+held_is : (o : Option ℕ) (c : ℕ) → is_held o c ≡ true → o ≡ Some c
+held_is None c e = absurd (false≢true e)
+held_is (Some d) c e = ap Some (eqb-true d c e)
+
+module _ (keys : List ℕ) (cards : ℕ) (m0 : Machine) (stage : Stages) (first : Invariant m0 stage)
+    (s : TableState) (r : HasMachine keys cards s) (now : Stages) (holds : Invariant (machine_of_table keys cards s r) now)
+    (words : WordsLater m0.words r.words) (later : StagesLater stage now)
+    (cleans : CleansSince m0.words stage r.words now)
+    (seat : ℕ) (v : View) (there : get_elem? s.views seat ≡ some v)
+    (since : SearchSince m0.words stage r.words ((machine_of_table keys cards s r).worker seat))
+    (later_words : Words) (ends : Stages) (words' : WordsLater r.words later_words) (later' : StagesLater now ends)
+    (old : List Hindrance) (hindered : HinderedSince m0.words stage r.words now old v) where
+  -- the worker
+  me : (machine_of_table keys cards s r).worker seat ≡ worker_of v.worker
+  me = ap seat_worker there
+
+  sound : WorkerIsSound r.words now (worker_of v.worker)
+  sound = subst (WorkerIsSound r.words now) me (holds.workers.each seat)
+
+  rely : Reliance (machine_of_table keys cards s r) now seat
+  rely = may_rely (machine_of_table keys cards s r) now seat holds
+
+  hand_later : (c : ℕ) → c < r.words.next → PlaceSince m0.words stage (r.words.p c) (r.words.was c) → PlaceSince m0.words stage (later_words.p c) (later_words.was c)
+  hand_later c low h =
+      let info = words'.info c low in
+      subst (λ x. PlaceSince m0.words stage x (later_words.was c)) (sym info.p) (subst (λ n. PlaceSince m0.words stage (r.words.p c) n) (sym info.was) h)
+
+  -- a step that meets nothing, and leaves what is in hand
+  quiet : (u : View) → u.hindrances ≡ v.hindrances → u.next ≡ v.next → u.worker.operation ≡ v.worker.operation → u.worker.card ≡ v.worker.card
+      → u.worker.flagged ≡ v.worker.flagged → HinderedSince m0.words stage later_words ends old u
+  quiet u hindrances read op holds_card flag = record {
+    met = hindered.met;
+    list = hindrances ∙ hindered.list;
+    each = met_later m0.words stage r.words now later_words ends words' later' hindered.met hindered.each;
+    next = λ n e. hindered.next n (sym read ∙ e);
+    own = λ c has. hindered.own c (sym holds_card ∙ has);
+    hand = λ k c busy has flagged.
+        let mine = sym holds_card ∙ has in
+        hand_later c (rely.hand c (ap (λ (z : Worker). z.card) me ∙ mine)) (hindered.hand k c (sym op ∙ busy) mine (sym flag ∙ flagged));
+  }
+
+  -- a step of another
+  pub hindered_rests : HinderedSince m0.words stage later_words ends old v
+  hindered_rests = quiet v refl refl refl refl refl
+
+  -- a step that meets one thing
+  one_met : (u : View) (h : Hindrance) → u.hindrances ≡ h ∷ v.hindrances → Met m0.words stage later_words ends h → u.next ≡ v.next
+      → ((c : ℕ) → u.worker.card ≡ Some c → AreBelow c (h ∷ hindered.met))
+      → ((k c : ℕ) → u.worker.operation ≡ Some (Delete k) → u.worker.card ≡ Some c → u.worker.flagged ≡ true → PlaceSince m0.words stage (later_words.p c) (later_words.was c))
+      → HinderedSince m0.words stage later_words ends old u
+  one_met u h hindrances is_met read own in_hand = record {
+    met = h ∷ hindered.met;
+    list = hindrances ∙ ap (λ hs. h ∷ hs) hindered.list;
+    each = (is_met, met_later m0.words stage r.words now later_words ends words' later' hindered.met hindered.each);
+    next = λ n e. hindered.next n (sym read ∙ e);
+    own = own;
+    hand = in_hand;
+  }
+
+  -- what an exchange finds at a node in place of a word that was read there since
+  finds : (x from n : ℕ) → IsInternal x → Born now x → PlaceSince m0.words stage x from → from ≤ r.words.update x → 3 ≤ from → r.words.update x ≡ n → n ≢ from
+      → Met m0.words stage later_words ends (Found (unpacked n))
+  finds x from n inner born place low calm is other = elim (cases_eq (n % 4) 3) [
+    | inl e ↦
+        let word : r.words.update x ≡ clean (n / 4) = omega (arith, is, e) in
+        let rose : m0.words.update x < r.words.update x = (let a = place.least in omega (arith, a, low, is, other)) in
+        let h = cleans x (n / 4) rose word (omega (arith, e, is, calm, low, other)) in
+        (h.0, λ c. ends_last now ends later' (n / 4) h.1)
+    | inr dirty ↦ (
+      word_unended m0 stage (machine_of_table keys cards s r) now first holds words later x inner born place.there n is (λ c. dirty (clean_remainder n c)),
+      λ c. absurd (dirty (clean_remainder n c)),
+    )
+  ]
+
+  place_of : (seen : Seen) → SeenSince m0.words stage seen → PlaceSince m0.words stage seen.node seen.word
+  place_of seen h = record { least = h.word; there = h.there }
+
+  three : (n : ℕ) → IsClean n → 3 ≤ n
+  three n h = let rest = clean_remainder n h in omega (arith, rest)
+
+  -- a lost claim
+  claim_hindered : (c : ℕ) → May cards (call.Claim c) v → (b : Bool) → (found_by s (call.Claim c) == c) ≡ b → HinderedSince m0.words stage later_words ends old (after_claim b c v)
+  claim_hindered c may true e = record {
+    met = hindered.met;
+    list = hindered.list;
+    each = met_later m0.words stage r.words now later_words ends words' later' hindered.met hindered.each;
+    next = hindered.next;
+    own = λ d has.
+        let same = same_Some c d has in
+        let found = eqb-true (found_by s (call.Claim c)) c e in
+        let is = r.next in
+        all_below m0.words stage r.words now d (omega arith) hindered.met hindered.each;
+    hand = λ k d busy has flagged. absurd (true≢false (sym flagged));
+  }
+  claim_hindered c may false e =
+      let low = (r.views seat v there).read c may.0.read in
+      let is = r.next in
+      let more = words'.next in
+      let other : found_by s (call.Claim c) ≢ c = (λ q. true≢false (sym (eq-eqb (found_by s (call.Claim c)) c q) ∙ e)) in
+      one_met (after_claim false c v) (Claim c) refl (hindered.next c may.0.read, omega arith) refl
+      (λ d has. absurd (some_not_none has may.0.no_card))
+      (λ k d busy has flagged. absurd (some_not_none has may.0.no_card))
+
+  -- an operation is in hand where a card is
+  busy_hand : (c : ℕ) → v.worker.card ≡ Some c → (op : Op) × (v.worker.operation ≡ Some op)
+  busy_hand c has = by v.worker.operation refl
+    where
+      by : (o : Option Op) → v.worker.operation ≡ o → (op : Op) × (v.worker.operation ≡ Some op)
+      by None e = absurd (some_not_none has (ap (λ (z : Worker). z.card) (sound.free e)))
+      by (Some op) e = (op, e)
+
+  -- a card whose flag was won is flagged in hand
+  flag_hand : (c : ℕ) → v.worker.card ≡ Some c → delete_won (now c) ≡ true → v.worker.flagged ≡ true
+  flag_hand c has won = by v.worker.flagged refl
+    where
+      by : (b : Bool) → v.worker.flagged ≡ b → b ≡ true
+      by true e = refl
+      by false e = absurd (won_waits (now c) won (hand_waits r.words now (worker_of v.worker) c sound has e))
+
+  -- a delete's card in hand, flagged, is of a delete
+  deletes_hand : (op : Op) (c : ℕ) → v.worker.operation ≡ Some op → v.worker.card ≡ Some c → v.worker.flagged ≡ true → delete_won (now c) ≡ true
+      → PlaceSince m0.words stage (r.words.p c) (r.words.was c)
+  deletes_hand (Find k) c busy has flagged won = absurd (sound.flagged (Find k) c busy has flagged).0
+  deletes_hand (Insert k value) c busy has flagged won =
+      absurd (one_kind (now c) (insert_won-insert (now c) (sound.flagged (Insert k value) c busy has flagged).0.0) (delete_won-delete (now c) won))
+  deletes_hand (Delete k) c busy has flagged won = hindered.hand k c busy has flagged
+
+  -- the word that a delete's search read at the parent is no greater than the one there
+  was_low : (c : ℕ) → delete_won (now c) ≡ true → r.words.was c ≤ r.words.update (r.words.p c)
+  was_low c won =
+      let does = holds.words.deletes c in
+      let said = (holds.words.cards c).delete (delete_won-delete (now c) won) in
+      elim (won_cases (now c) won) [
+        | inl m ↦ (does.markable (ap is_markable m)).at_least
+        | inr o ↦ elim o [
+          | inl u ↦ (let above = does.unmarkable u in omega arith)
+          | inr k ↦ (let mark = (does.marked k).mark in let low = said.earlier in omega arith)
+        ]
+      ]
+
+  mark_found : (c p was : ℕ) → May cards (call.Mark c p was) v → r.words.update p ≡ found_by s (call.Mark c p was)
+  mark_found c p was may =
+      let p_is : r.words.p c ≡ p = told_is keys cards s r seat v there c field.P p may.parent in
+      let said = known_delete keys cards s r seat v there c (inl may.knows) in
+      update_listed keys cards s r seat v there p (subst IsInternal p_is said.parent.inner) (subst (Born r.stages) p_is said.parent.born)
+
+  -- a flag, won or lost, by what was found at its node
+  flag_hindered : (k : Kind) (c : ℕ) (new : Fact) (x : ℕ) (from n : ℕ) (b : Bool) → (n == from) ≡ b
+      → ((key d : ℕ) → v.worker.operation ≡ Some (Delete key) → v.worker.card ≡ Some d → PlaceSince m0.words stage (later_words.p d) (later_words.was d))
+      → (n ≢ from → Met m0.words stage later_words ends (Found (unpacked n)))
+      → HinderedSince m0.words stage later_words ends old (exchanged (if_won b k c) n (after_flag b new x (unpacked n) v))
+  flag_hindered k c new x from n true e in_hand lost = record {
+    met = hindered.met;
+    list = hindered.list;
+    each = met_later m0.words stage r.words now later_words ends words' later' hindered.met hindered.each;
+    next = hindered.next;
+    own = hindered.own;
+    hand = λ key d busy has flagged. in_hand key d busy has;
+  }
+  flag_hindered k c new x from n false e in_hand lost =
+      one_met (exchanged [] n (after_flag false new x (unpacked n) v)) (Found (unpacked n)) refl
+      (lost (λ q. true≢false (sym (eq-eqb n from q) ∙ e))) refl (λ d has. absurd (some_not_none has refl)) (λ key d busy has flagged. absurd (true≢false (sym flagged)))
+
+  iflag_hindered : (c p : ℕ) (from : Update) → May cards (call.IFlag c p from) v
+      → HinderedSince m0.words stage later_words ends old (after (call.IFlag c p from) (found_by s (call.IFlag c p from)) v)
+  iflag_hindered c p from may =
+      let n = found_by s (call.IFlag c p from) in
+      let seen : Seen = record { node = p; word = packed from } in
+      let stands = ap (λ (z : Worker). z.search.node) me ∙ may.stands in
+      let behind = ap (λ (z : Worker). z.search.parent) me ∙ may.behind in
+      let there_now = (rely.parent may.leaf seen stands behind).node in
+      let there_then = ((relies keys cards s r seat v there).parent may.leaf seen stands behind).node in
+      let is = update_listed keys cards s r seat v there p there_then.inner there_then.born in
+      let low = ((sound.stands (Insert may.key may.value) may.leaf may.busy may.stands).parent seen may.behind).0.word in
+      let held = sound.unflagged (Insert may.key may.value) c may.busy may.may.holds may.may.unflagged in
+      let same = same_Some held.parent seen (sym held.behind ∙ may.behind) in
+      flag_hindered kind.IFlag c (IFlagged c) p (packed from) n (n == packed from) refl
+      (λ k d busy has. absurd (insert_is_no_delete k may.key may.value (sym busy ∙ may.busy)))
+      (finds p (packed from) n there_now.inner there_now.born (place_of seen (since.parent seen behind)) low
+      (three (packed from) (subst (λ (z : Seen). IsClean z.word) same held.calm)) is)
+
+  dflag_hindered : (c gp : ℕ) (from : Update) → May cards (call.DFlag c gp from) v
+      → HinderedSince m0.words stage later_words ends old (after (call.DFlag c gp from) (found_by s (call.DFlag c gp from)) v)
+  dflag_hindered c gp from may =
+      let n = found_by s (call.DFlag c gp from) in
+      let seen : Seen = record { node = gp; word = packed from } in
+      let stands = ap (λ (z : Worker). z.search.node) me ∙ may.stands in
+      let behind = ap (λ (z : Worker). z.search.parent) me ∙ may.behind in
+      let above = ap (λ (z : Worker). z.search.grandparent) me ∙ may.above in
+      let there_now = (rely.grandparent may.leaf may.parent seen stands behind above).node in
+      let there_then = ((relies keys cards s r seat v there).grandparent may.leaf may.parent seen stands behind above).node in
+      let is = update_listed keys cards s r seat v there gp there_then.inner there_then.born in
+      let low = ((sound.stands (Delete may.key) may.leaf may.busy may.stands).grandparent may.parent seen may.behind may.above).word in
+      let held = sound.unflagged (Delete may.key) c may.busy may.may.holds may.may.unflagged in
+      let same = same_Some held.grandparent seen (sym held.above ∙ may.above) in
+      let own = place_of held.parent (since.parent held.parent (ap (λ (z : Worker). z.search.parent) me ∙ held.behind)) in
+      let goes : PlaceSince m0.words stage (r.words.p c) (r.words.was c) =
+      subst (λ x. PlaceSince m0.words stage x (r.words.was c)) held.node (subst (λ m. PlaceSince m0.words stage held.parent.node m) held.was own) in
+      flag_hindered kind.DFlag c (DFlagged c) gp (packed from) n (n == packed from) refl
+      (λ k d busy has.
+      let one : c ≡ d = same_Some c d (sym may.may.holds ∙ has) in
+      subst (λ e. PlaceSince m0.words stage (later_words.p e) (later_words.was e)) one
+      (hand_later c (rely.hand c (ap (λ (z : Worker). z.card) me ∙ may.may.holds)) goes))
+      (finds gp (packed from) n there_now.inner there_now.born (place_of seen (since.grandparent seen above)) low
+      (three (packed from) (subst (λ (z : Seen). IsClean z.word) same held.calm)) is)
+
+  -- a mark of the card in hand that was lost
+  mark_met : (c p was n : ℕ) → May cards (call.Mark c p was) v → r.words.update p ≡ n → n ≢ was → v.worker.card ≡ Some c
+      → Met m0.words stage later_words ends (Found (unpacked n))
+  mark_met c p was n may is other has =
+      let p_is : r.words.p c ≡ p = told_is keys cards s r seat v there c field.P p may.parent in
+      let was_is : r.words.was c ≡ was = told_is keys cards s r seat v there c field.Was was may.read in
+      let won = sound.facts (DFlagged c) may.knows in
+      let said = (holds.words.cards c).delete (delete_won-delete (now c) won) in
+      let busy = busy_hand c has in
+      let flagged = flag_hand c has won in
+      let place : PlaceSince m0.words stage p was =
+      subst (λ x. PlaceSince m0.words stage x was) p_is (subst (λ m. PlaceSince m0.words stage (r.words.p c) m) was_is
+      (deletes_hand busy.0 c busy.1 has flagged won)) in
+      let low = was_low c won in
+      finds p was n (subst IsInternal p_is said.parent.inner) (subst (Born now) p_is said.parent.born) place
+      (subst (λ x. was ≤ r.words.update x) p_is (subst (λ m. m ≤ r.words.update (r.words.p c)) was_is low))
+      (subst (λ m. 3 ≤ m) was_is (three (r.words.was c) said.calm)) is other
+
+  mark_hindered : (c p was : ℕ) → May cards (call.Mark c p was) v
+      → HinderedSince m0.words stage later_words ends old (after (call.Mark c p was) (found_by s (call.Mark c p was)) v)
+  mark_hindered c p was may = by (n == was) refl
+    where
+      n : ℕ
+      n = found_by s (call.Mark c p was)
+
+      is : r.words.update p ≡ n
+      is = mark_found c p was may
+
+      held : (b : Bool) → is_held v.worker.card c ≡ b → n ≢ was → HinderedSince m0.words stage later_words ends old
+          (exchanged [] n (record (unmarking c p (unpacked n) v) { hindrances = if b then Found (unpacked n) ∷ v.hindrances else v.hindrances }))
+      held true e other = one_met _ (Found (unpacked n)) refl (mark_met c p was n may is other (held_is v.worker.card c e)) refl hindered.own
+          (λ k d busy has flagged. hand_later d (rely.hand d (ap (λ (z : Worker). z.card) me ∙ has)) (hindered.hand k d busy has flagged))
+      held false e other = quiet _ refl refl refl refl refl
+
+      lost : (b : Bool) → n ≢ was → HinderedSince m0.words stage later_words ends old (exchanged [] n (if b then learning (Marked c) v else unmarking c p (unpacked n) v))
+      lost true other = quiet _ refl refl refl refl refl
+      lost false other = held (is_held v.worker.card c) refl other
+
+      by : (b : Bool) → (n == was) ≡ b → HinderedSince m0.words stage later_words ends old (exchanged (if_won b kind.Mark c) n (after_mark b c p (unpacked n) v))
+      by true e = quiet _ refl refl refl refl refl
+      by false e = lost (is_mark_of c (unpacked n).state (unpacked n).card) (λ q. true≢false (sym (eq-eqb n was q) ∙ e))
+
+  -- any call that keeps on
+  pub call_hindered : (c : Call) → KeepsOn c → May cards c v → HinderedSince m0.words stage later_words ends old (after c (found_by s c) v)
+  call_hindered (call.Begin op) keeps may = absurd keeps
+  call_hindered call.Again keeps may = absurd keeps
+  call_hindered call.Leave keeps may = absurd keeps
+  call_hindered (call.Answer said) keeps may = absurd keeps
+  call_hindered (call.Upd x) keeps may = quiet _ refl refl refl refl refl
+  call_hindered (call.Down x right) keeps may = quiet _ refl refl refl refl refl
+  call_hindered call.Next keeps may = record {
+    met = hindered.met;
+    list = hindered.list;
+    each = met_later m0.words stage r.words now later_words ends words' later' hindered.met hindered.each;
+    next = λ n e. (let same = same_Some (found_by s call.Next) n e in let is = r.next in let more = words.next in omega arith);
+    own = hindered.own;
+    hand = λ k c busy has flagged. hand_later c (rely.hand c (ap (λ (z : Worker). z.card) me ∙ has)) (hindered.hand k c busy has flagged);
+  }
+  call_hindered (call.KeyOf x) keeps may = quiet _ refl refl refl refl refl
+  call_hindered (call.ValueOf x) keeps may = quiet _ refl refl refl refl refl
+  call_hindered (call.Info c f) keeps may = quiet _ refl refl refl refl refl
+  call_hindered (call.FrozenChild c p right) keeps may = quiet _ refl refl refl refl refl
+  call_hindered (call.Claim c) keeps may = claim_hindered c may (found_by s (call.Claim c) == c) refl
+  call_hindered (call.Fill c f value) keeps may = quiet _ refl refl refl refl refl
+  call_hindered (call.IFlag c p from) keeps may = iflag_hindered c p from may
+  call_hindered (call.IChild c p l right) keeps may = quiet _ refl refl refl refl refl
+  call_hindered (call.IUnflag c p) keeps may = quiet _ refl refl refl refl refl
+  call_hindered (call.DFlag c gp from) keeps may = dflag_hindered c gp from may
+  call_hindered (call.Mark c p was) keeps may = mark_hindered c p was may
+  call_hindered (call.DChild c gp p y right) keeps may = quiet _ refl refl refl refl refl
+  call_hindered (call.DUnflag c gp) keeps may = quiet _ refl refl refl refl refl
+  call_hindered (call.Backtrack c gp) keeps may = quiet _ refl refl refl refl refl

@@ -1,0 +1,133 @@
+use Rattle.std.specs.Prelude.{◌≡◌, ◌≢◌, ℕ, ◌<◌, ◌≤◌, ◌||◌, Bool, true, false, Some, None, List, [], ◌∷◌, ◌++◌}
+use mathlib.Core.Option.{some}
+use lib.ListN.{get_elem?}
+use Rattle.ell_word.specs.Word.{unpacked}
+use Rattle.ell_word.specs.declared.update.State.TheVariants as state
+use Rattle.ell_word.specs.declared.gate.Kind.{Kind}
+use Rattle.ell_word.specs.declared.gate.Kind.TheVariants as kind
+use Rattle.ell_core.specs.declared.view.Seen.{Seen}
+use Rattle.ell_core.specs.acts.Searching.{at_root}
+use Rattle.ell_core.specs.state.Opening.{last_card}
+use Rattle.ell_cards.specs.declared.call.Call.{Call}
+use Rattle.ell_cards.specs.declared.call.Call.TheVariants as call
+use Rattle.ell_cards.specs.declared.view.Hindrance.{Hindrance}
+use Rattle.ell_cards.specs.declared.view.Hindrance.TheVariants.{Claim, Found}
+use Rattle.ell_cards.specs.declared.view.View.{View}
+use Rattle.ell_cards.specs.Models.{EndedBy}
+use Rattle.ell_cards.specs.States.{TableState}
+use Rattle.ell_cards.specs.Turns.{Turn, Makes, Splits, Joins, CallIsMade, TableRun}
+use Rattle.ell_cards.specs.TurnEffects.{own_words, run_wins}
+use Rattle.ell_cards.specs.Starts.{Starts}
+use Rattle.ell_cards.specs.Readings.{AreBelow}
+
+-- whether a win ends what its card was for: it takes the card's flag away
+abbrev pub is_end : Kind → Bool
+is_end kind.IUnflag = true
+is_end kind.DUnflag = true
+is_end kind.Backtrack = true
+is_end _ = false
+
+-- whether one of these wins does
+abbrev pub has_end : List Kind → Bool
+has_end [] = false
+has_end (k ∷ ks) = is_end k || has_end ks
+
+-- a step call that neither begins a search nor ends an operation
+abbrev pub KeepsOn : Call → Type 0
+KeepsOn (call.Begin op) = ⊥
+KeepsOn call.Again = ⊥
+KeepsOn call.Leave = ⊥
+KeepsOn (call.Answer said) = ⊥
+KeepsOn _ = Unit {0}
+
+-- in these turns the pass in a seat makes no other, and is not split or joined
+abbrev pub KeepOn : ℕ → List Turn → Type 0
+KeepOn seat [] = Unit {0}
+KeepOn seat (Makes other c ∷ ts) = (other ≡ seat → KeepsOn c) × KeepOn seat ts
+KeepOn seat (Splits other left ∷ ts) = (other ≢ seat) × KeepOn seat ts
+KeepOn seat (Joins one other ∷ ts) = (one ≢ seat) × (other ≢ seat) × KeepOn seat ts
+
+-- the pass in a seat begins its search here
+pub record BeginsHere (s : TableState) (seat : ℕ) : Type 0 where
+  pub view : View
+  pub there : get_elem? s.views seat ≡ some view
+  pub root : view.worker.search ≡ at_root
+  pub no_card : view.worker.card ≡ None
+  pub unread : view.next ≡ None
+
+-- a step call that begins a search
+abbrev pub IsBeginning : Call → Type 0
+IsBeginning (call.Begin op) = Unit {0}
+IsBeginning call.Again = Unit {0}
+IsBeginning _ = ⊥
+
+-- after it a search begins there
+abbrev pub SearchesBeginThere : Type 0
+SearchesBeginThere = (cards : ℕ) (s : TableState) (seat : ℕ) (c : Call) (s' : TableState) → CallIsMade cards s seat c s' → IsBeginning c → BeginsHere s' seat
+
+-- a run of a table from its start: it leads to a state where the pass in a seat begins its search, and then goes on by any turns of any
+-- passes, while that pass neither begins another nor ends its operation
+pub record SearchRun (keys : List ℕ) (start : List (ℕ × ℕ)) (cards : ℕ) : Type 0 where
+  pub opened : TableState
+  pub starts : Starts keys start cards opened
+  pub before : List Turn
+  pub begun : TableState
+  pub led : TableRun (last_card start cards) opened before begun
+  pub seat : ℕ
+  pub begins : BeginsHere begun seat
+  pub meanwhile : List Turn
+  pub now : TableState
+  pub run : TableRun (last_card start cards) begun meanwhile now
+  pub keeps : KeepOn seat meanwhile
+  pub view : View
+  pub there : get_elem? now.views seat ≡ some view
+
+-- whether what a card was for had come to its end when the search began
+abbrev pub ended_before : (keys : List ℕ) (start : List (ℕ × ℕ)) (cards : ℕ) → SearchRun keys start cards → ℕ → Bool
+ended_before keys start cards r c = has_end (run_wins (last_card start cards) r.opened r.before r.begun r.led c)
+
+-- whether it has come to its end since
+abbrev pub ended_since : (keys : List ℕ) (start : List (ℕ × ℕ)) (cards : ℕ) → SearchRun keys start cards → ℕ → Bool
+ended_since keys start cards r c = has_end (run_wins (last_card start cards) r.begun r.meanwhile r.now r.run c)
+
+-- a card had not ended when the search began; and if the pass knows now that it has, then that was since
+pub record EndsMeanwhile (keys : List ℕ) (start : List (ℕ × ℕ)) (cards : ℕ) (r : SearchRun keys start cards) (c : ℕ) : Type 0 where
+  pub before : ended_before keys start cards r c ≡ false
+  pub since : EndedBy r.view.worker.facts c → ended_since keys start cards r c ≡ true
+
+-- an update word is clean, or of such a card
+abbrev pub WordEndsMeanwhile : (keys : List ℕ) (start : List (ℕ × ℕ)) (cards : ℕ) → SearchRun keys start cards → ℕ → Type 0
+WordEndsMeanwhile keys start cards r word = (unpacked word).state ≢ state.Clean → EndsMeanwhile keys start cards r (unpacked word).card
+
+-- so is each update word that the search has read and has with it: where it stands, at the parent, at the grandparent
+pub record ReadsMeanwhile (keys : List ℕ) (start : List (ℕ × ℕ)) (cards : ℕ) (r : SearchRun keys start cards) : Type 0 where
+  pub here : (x word : ℕ) → r.view.worker.search.node ≡ Some x → r.view.worker.search.read ≡ Some word → WordEndsMeanwhile keys start cards r word
+  pub parent : (seen : Seen) → r.view.worker.search.parent ≡ Some seen → WordEndsMeanwhile keys start cards r seen.word
+  pub grandparent : (seen : Seen) → r.view.worker.search.grandparent ≡ Some seen → WordEndsMeanwhile keys start cards r seen.word
+
+-- what was in the way is of this time: a claim was lost of a card that was given out since; or an update was found whose card had not
+-- ended when the search began, and that has since, where the update is a clean one, or the pass knows now that it has
+abbrev pub IsMeanwhile : (keys : List ℕ) (start : List (ℕ × ℕ)) (cards : ℕ) → SearchRun keys start cards → Hindrance → Type 0
+IsMeanwhile keys start cards r (Claim c) = ((own_words r.begun).next ≤ c) × (c < (own_words r.now).next)
+IsMeanwhile keys start cards r (Found u) =
+    EndsMeanwhile keys start cards r u.card × (u.state ≡ state.Clean → ended_since keys start cards r u.card ≡ true)
+
+abbrev pub AreMeanwhile : (keys : List ℕ) (start : List (ℕ × ℕ)) (cards : ℕ) → SearchRun keys start cards → List Hindrance → Type 0
+AreMeanwhile keys start cards r [] = Unit {0}
+AreMeanwhile keys start cards r (h ∷ hs) = IsMeanwhile keys start cards r h × AreMeanwhile keys start cards r hs
+
+-- so is all that came to be in the way since the search began: what a lost claim, flag or mark has found. No lost claim is of the card
+-- in hand, or of a later one
+pub record MetMeanwhile (keys : List ℕ) (start : List (ℕ × ℕ)) (cards : ℕ) (r : SearchRun keys start cards) : Type 0 where
+  pub met : List Hindrance
+  pub list : r.view.hindrances ≡ met ++ r.begins.view.hindrances
+  pub each : AreMeanwhile keys start cards r met
+  pub own : (c : ℕ) → r.view.worker.card ≡ Some c → AreBelow c met
+
+-- what a search has read since it began, in every run
+abbrev pub SearchesReadMeanwhile : Type 0
+SearchesReadMeanwhile = (keys : List ℕ) (start : List (ℕ × ℕ)) (cards : ℕ) (r : SearchRun keys start cards) → ReadsMeanwhile keys start cards r
+
+-- and what came to be in its way
+abbrev pub SearchesMeetMeanwhile : Type 0
+SearchesMeetMeanwhile = (keys : List ℕ) (start : List (ℕ × ℕ)) (cards : ℕ) (r : SearchRun keys start cards) → MetMeanwhile keys start cards r

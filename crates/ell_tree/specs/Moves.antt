@@ -1,0 +1,41 @@
+use Rattle.std.specs.Prelude.{ℕ, zero, suc, ◌+◌, ◌-◌, ◌<◌, ◌≤◌, ◌⊎◌, ◌||◌, if◌then◌else◌, Bool, List}
+use Rattle.ell_core.specs.declared.fact.Fact.{Fact}
+use Rattle.ell_core.specs.declared.fact.Fact.TheVariants.{IOver, DOver, Backed}
+use Rattle.ell_core.specs.state.Facts.{known_of}
+use Rattle.ell_cards.specs.declared.view.View.{View}
+use Rattle.ell_cards.specs.Models.{EndedBy}
+
+-- a pass saw a card given out, to itself or to another: it did not know so at the first view, and does at the second
+pub record GivesOut (cards : ℕ) (v w : View) : Type 0 where
+  pub card : ℕ
+  pub first : 0 < card
+  pub last : card ≤ cards
+  pub before : v.next_at_least ≤ card
+  pub after : card < w.next_at_least
+
+-- a pass saw a card come to its end: it did not know so when its search began, as the first view has it, and does at the second
+pub record SeesEnd (cards : ℕ) (v w : View) : Type 0 where
+  pub card : ℕ
+  pub first : 0 < card
+  pub last : card ≤ cards
+  pub before : ¬ EndedBy v.knew_before card
+  pub after : EndedBy w.worker.facts card
+  pub least : v.next_at_least ≤ w.next_at_least
+
+-- it saw one or the other
+abbrev pub SeesMove : ℕ → View → View → Type 0
+SeesMove cards v w = GivesOut cards v w ⊎ SeesEnd cards v w
+
+-- whether facts tell that what a card was for has come to its end
+abbrev pub knows_end : List Fact → ℕ → Bool
+knows_end facts c = known_of facts (IOver c) || (known_of facts (DOver c) || known_of facts (Backed c))
+
+-- of how many of the first cards facts tell that
+abbrev pub ends_known : ℕ → List Fact → ℕ
+ends_known zero facts = 0
+ends_known (suc n) facts = (if knows_end facts (suc n) then 1 else 0) + ends_known n facts
+
+-- a card moves twice: it is given out, and it comes to its end. How many such moves a pass knows of: the cards whose end it knows, and
+-- those that its claims have shown it to be given out. After a claim of card 3, won or lost, that is 3 cards
+abbrev pub moves_known : ℕ → View → ℕ
+moves_known cards v = ends_known cards v.worker.facts + (v.next_at_least - 1)
