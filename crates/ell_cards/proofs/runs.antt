@@ -16,10 +16,6 @@ pub mod OfReached
 pub mod Readings
 -- each card that was claimed was told to some pass
 pub mod Claims
--- what has hindered a pass since its search began
-pub mod Hindered
--- what comes to its end while a search goes on
-pub mod Meanwhile
 -- nodes that searches have gone through were met
 pub mod Met
 -- what passes won, counted
@@ -28,5 +24,9 @@ pub mod Won
 pub mod Counts
 -- exchanges that can't be told otherwise than they went
 pub mod Outcomes
+-- what has hindered a pass since its search began
+pub mod Hindered
+-- what comes to its end while a search goes on
+pub mod Meanwhile
 -- what no step can tell
 pub mod Tellings

@@ -5,6 +5,8 @@ use mathlib.Core.Option.{some}
 use lib.ListN.{get_elem?}
 use Rattle.ell_ops.specs.declared.op.Op.TheVariants.{Find, Insert, Delete}
 use Rattle.ell_ops.specs.declared.op.Op.{Op}
+use Rattle.ell_word.specs.declared.gate.Kind.{Kind}
+use Rattle.ell_word.specs.declared.gate.Kind.TheVariants as kind
 use Rattle.ell_word.specs.Node.{IsInternal}
 use Rattle.ell_word.specs.Word.{packed, unpacked}
 use Rattle.ell_word.specs.declared.gate.Kind.{Kind}
@@ -246,21 +248,21 @@ module _ (keys : List ℕ) (cards : ℕ) (m0 : Machine) (stage : Stages) (first 
       update_listed keys cards s r seat v there p (subst IsInternal p_is said.parent.inner) (subst (Born r.stages) p_is said.parent.born)
 
   -- a flag, won or lost, by what was found at its node
-  flag_hindered : (new : Fact) (k : Kind) (d x : ℕ) (from n : ℕ) (b : Bool) → (n == from) ≡ b
-      → ((k c : ℕ) → v.worker.operation ≡ Some (Delete k) → v.worker.card ≡ Some c → PlaceSince m0.words stage (later_words.p c) (later_words.was c))
+  flag_hindered : (k : Kind) (c : ℕ) (new : Fact) (x : ℕ) (from n : ℕ) (b : Bool) → (n == from) ≡ b
+      → ((key d : ℕ) → v.worker.operation ≡ Some (Delete key) → v.worker.card ≡ Some d → PlaceSince m0.words stage (later_words.p d) (later_words.was d))
       → (n ≢ from → Met m0.words stage later_words ends (Found (unpacked n)))
-      → HinderedSince m0.words stage later_words ends old (exchanged (if_won b k d) n (after_flag b new x (unpacked n) v))
-  flag_hindered new k d x from n true e in_hand lost = record {
+      → HinderedSince m0.words stage later_words ends old (exchanged (if_won b k c) n (after_flag b new x (unpacked n) v))
+  flag_hindered k c new x from n true e in_hand lost = record {
     met = hindered.met;
     list = hindered.list;
     each = met_later m0.words stage r.words now later_words ends words' later' hindered.met hindered.each;
     next = hindered.next;
     own = hindered.own;
-    hand = λ j c busy has flagged. in_hand j c busy has;
+    hand = λ key d busy has flagged. in_hand key d busy has;
   }
-  flag_hindered new k d x from n false e in_hand lost =
+  flag_hindered k c new x from n false e in_hand lost =
       one_met (exchanged [] n (after_flag false new x (unpacked n) v)) (Found (unpacked n)) refl
-      (lost (λ q. true≢false (sym (eq-eqb n from q) ∙ e))) refl (λ c has. absurd (some_not_none has refl)) (λ k c busy has flagged. absurd (true≢false (sym flagged)))
+      (lost (λ q. true≢false (sym (eq-eqb n from q) ∙ e))) refl (λ d has. absurd (some_not_none has refl)) (λ key d busy has flagged. absurd (true≢false (sym flagged)))
 
   iflag_hindered : (c p : ℕ) (from : Update) → May cards (call.IFlag c p from) v
       → HinderedSince m0.words stage later_words ends old (after (call.IFlag c p from) (found_by s (call.IFlag c p from)) v)
@@ -275,7 +277,7 @@ module _ (keys : List ℕ) (cards : ℕ) (m0 : Machine) (stage : Stages) (first 
       let low = ((sound.stands (Insert may.key may.value) may.leaf may.busy may.stands).parent seen may.behind).0.word in
       let held = sound.unflagged (Insert may.key may.value) c may.busy may.may.holds may.may.unflagged in
       let same = same_Some held.parent seen (sym held.behind ∙ may.behind) in
-      flag_hindered (IFlagged c) kind.IFlag c p (packed from) n (n == packed from) refl
+      flag_hindered kind.IFlag c (IFlagged c) p (packed from) n (n == packed from) refl
       (λ k d busy has. absurd (insert_is_no_delete k may.key may.value (sym busy ∙ may.busy)))
       (finds p (packed from) n there_now.inner there_now.born (place_of seen (since.parent seen behind)) low
       (three (packed from) (subst (λ (z : Seen). IsClean z.word) same held.calm)) is)
@@ -297,7 +299,7 @@ module _ (keys : List ℕ) (cards : ℕ) (m0 : Machine) (stage : Stages) (first 
       let own = place_of held.parent (since.parent held.parent (ap (λ (z : Worker). z.search.parent) me ∙ held.behind)) in
       let goes : PlaceSince m0.words stage (r.words.p c) (r.words.was c) =
       subst (λ x. PlaceSince m0.words stage x (r.words.was c)) held.node (subst (λ m. PlaceSince m0.words stage held.parent.node m) held.was own) in
-      flag_hindered (DFlagged c) kind.DFlag c gp (packed from) n (n == packed from) refl
+      flag_hindered kind.DFlag c (DFlagged c) gp (packed from) n (n == packed from) refl
       (λ k d busy has.
       let one : c ≡ d = same_Some c d (sym may.may.holds ∙ has) in
       subst (λ e. PlaceSince m0.words stage (later_words.p e) (later_words.was e)) one

@@ -65,7 +65,7 @@ module _ (keys : List ℕ) (cards : ℕ) (s : TableState) (r : HasMachine keys c
     read = λ m at. at;
     least = refl;
     before = (r.views id v here).knew;
-    knew = λ f j. knows_more new f v.worker.facts ((r.views id v here).knew f j);
+    knew = λ f g. knows_more new f v.worker.facts ((r.views id v here).knew f g);
     walk = λ op y busy at. absurd (some_not_none at refl);
   }
   flag_on new k c x false =
@@ -76,7 +76,7 @@ module _ (keys : List ℕ) (cards : ℕ) (s : TableState) (r : HasMachine keys c
         read = λ m at. at;
         least = refl;
         before = (r.views id v here).knew;
-        knew = λ f j. facts_by_more u.state u.card v.worker.facts f ((r.views id v here).knew f j);
+        knew = λ f g. facts_by_more u.state u.card v.worker.facts f ((r.views id v here).knew f g);
         walk = λ op y busy at. absurd (some_not_none at refl);
       }
 
