@@ -11,6 +11,7 @@ ghost use Rattle.ell_run.specs.Limits.{AreLimits};
 
 use crate::late::{do_late, late_ops};
 use crate::pieces::Piece;
+use crate::reservation::cards_to_reserve;
 use crate::workers::{busy_workers, keys_for, work_apart};
 use ell_ops::{NoMemory, Op, Reply, united_keys};
 use ell_parts::{GatherFault, Parts, gather};
@@ -22,7 +23,8 @@ use std::thread::Threads;
 /// How much a run may use.
 #[derive(Clone, Copy, Debug, PartialEq, Eq)]
 pub struct Limits {
-    /// The cards that the tree has to give out, 1 to `CARDS_MAX`. Start keys take none of them.
+    /// The cards that the tree has to give out, 1 to `CARDS_MAX`. Start keys take none of them. No more of them are reserved
+    /// than the operations can take.
     pub cards: u64,
     /// The tries that an insert or a delete has, 1 to `TRIES_MAX`.
     pub tries: u32,
@@ -64,7 +66,7 @@ pub fn run<R: Threads + Sync, A: Allocator + Copy + Send + Sync, G: StepGate + S
     ensures few { IfOk result (λ outcome. outcome.late ≤ length ops.now) }
     ensures late { IfOk result (λ outcome. IsLate (contents_of start.now) parts.now outcome.late) }
 {
-    let (pieces, pairs) = run_workers(rt, alloc, start, parts, limits, gate)?;
+    let (pieces, pairs) = run_workers(rt, alloc, start, ops, parts, limits, gate)?;
     finish(alloc, ops, parts, pieces, pairs)
 }
 
@@ -73,6 +75,7 @@ fn run_workers<R: Threads + Sync, A: Allocator + Copy + Send + Sync, G: StepGate
     rt: &R,
     alloc: A,
     start: &[(u64, u64)],
+    ops: &[Op],
     parts: &Parts<'_, A>,
     limits: Limits,
     gate: &G,
@@ -88,7 +91,8 @@ fn run_workers<R: Threads + Sync, A: Allocator + Copy + Send + Sync, G: StepGate
     let used = keys_for(alloc, parts, &workers)?;
     let there = start_keys(alloc, start)?;
     let keys = united_keys(alloc, &there, &used)?;
-    let (tree, pass) = match Tree::reserve_from(alloc, start, &keys, limits.cards) {
+    let cards = cards_to_reserve(ops, workers.len(), limits);
+    let (tree, pass) = match Tree::reserve_from(alloc, start, &keys, cards) {
         Ok(made) => made,
         Err(fault) => return Err(no_cards(fault)),
     };
