@@ -131,3 +131,15 @@ SearchesReadMeanwhile = (keys : List ℕ) (start : List (ℕ × ℕ)) (cards : �
 -- and what came to be in its way
 abbrev pub SearchesMeetMeanwhile : Type 0
 SearchesMeetMeanwhile = (keys : List ℕ) (start : List (ℕ × ℕ)) (cards : ℕ) (r : SearchRun keys start cards) → MetMeanwhile keys start cards r
+
+-- what a pass knows of moves was made in a run: the cards that its claims have shown to be given out are, and each card that it knows to
+-- have come to its end did so
+pub record KnowsWhatMoved (cards : ℕ) (first : TableState) (turns : List Turn) (s : TableState) (run : TableRun cards first turns s) (v : View) : Type 0 where
+  pub given_out : v.next_at_least ≤ (own_words s).next
+  pub ended : (c : ℕ) → EndedBy v.worker.facts c → has_end (run_wins cards first turns s run c) ≡ true
+
+-- so it is of each pass after every run from a start
+abbrev pub KnownMovesWereMade : Type 0
+KnownMovesWereMade = (keys : List ℕ) (start : List (ℕ × ℕ)) (cards : ℕ) (first : TableState) → Starts keys start cards first → (turns : List Turn) (s : TableState)
+    (run : TableRun (last_card start cards) first turns s) (seat : ℕ) (v : View) → get_elem? s.views seat ≡ some v
+    → KnowsWhatMoved (last_card start cards) first turns s run v

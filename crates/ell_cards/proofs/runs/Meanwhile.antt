@@ -40,7 +40,7 @@ use Rattle.ell_cards.specs.Laws.{machine_of_table}
 use Rattle.ell_cards.specs.Turns.{Turn, Makes, Splits, Joins, TableTurns, TableRun, found_by, view_after, state_after}
 use Rattle.ell_cards.specs.TurnEffects.{turn_wins, run_wins}
 use Rattle.ell_cards.specs.RunLaws.{StartIsKept}
-use Rattle.ell_cards.specs.Meanwhile.{is_end, has_end, KeepsOn, KeepOn, BeginsHere, IsBeginning, SearchesBeginThere, SearchRun, ended_before, ended_since, EndsMeanwhile, WordEndsMeanwhile, AreMeanwhile, SearchesReadMeanwhile, SearchesMeetMeanwhile}
+use Rattle.ell_cards.specs.Meanwhile.{is_end, has_end, KeepsOn, KeepOn, BeginsHere, IsBeginning, SearchesBeginThere, SearchRun, ended_before, ended_since, EndsMeanwhile, WordEndsMeanwhile, AreMeanwhile, SearchesReadMeanwhile, SearchesMeetMeanwhile, KnownMovesWereMade}
 use Rattle.ell_cards.proofs.runs.TurnsOfRuns.{turn_lawful}
 use Rattle.ell_core.proofs.following.Lawful.{splits_lawful, joins_lawful}
 use Rattle.ell_core.proofs.words.Listed.{listed_next}
@@ -236,6 +236,18 @@ module _ (m0 : Machine) (stage0 : Stages) (first : Invariant m0 stage0) (seat : 
         subst (Leads s') (λ i d. append_assoc (won d) (turn_wins s t d) (run_wins cards run.0 ts s' run.2 d) i)
         (run_since run.0 (λ d. won d ++ turn_wins s t d) one ts s' run.2 keeps.1)
 
+-- what a pass knows to have ended has
+facts_ended : (m : Machine) (stages : Stages) → Invariant m stages → (seat : ℕ) (v : View) → m.worker seat ≡ worker_of v.worker
+    → (c : ℕ) → EndedBy v.worker.facts c → has_ended (stages c) ≡ true
+facts_ended m stages holds seat v mine c ended =
+    let facts = (holds.workers.each seat).facts in elim ended [
+      | inl k ↦ insert_over-ended (stages c) (facts (IOver c) (ap (λ (u : Worker). u.knows (IOver c)) mine ∙ k))
+      | inr j ↦ elim j [
+        | inl k ↦ delete_over-ended (stages c) (facts (DOver c) (ap (λ (u : Worker). u.knows (DOver c)) mine ∙ k))
+        | inr k ↦ backed-ended (stages c) (facts (Backed c) (ap (λ (u : Worker). u.knows (Backed c)) mine ∙ k))
+      ]
+    ]
+
 module _ (keys : List ℕ) (start : List (ℕ × ℕ)) (cards : ℕ) (q : SearchRun keys start cards) where
   abbrev last : ℕ
   last = last_card start cards
@@ -300,14 +312,7 @@ module _ (keys : List ℕ) (start : List (ℕ × ℕ)) (cards : ℕ) (q : Search
 
   -- what the pass knows to have ended has
   known_ended : (c : ℕ) → EndedBy q.view.worker.facts c → has_ended (led.went.stages c) ≡ true
-  known_ended c ended =
-      let facts = (led.went.invariant.workers.each q.seat).facts in elim ended [
-        | inl k ↦ insert_over-ended (led.went.stages c) (facts (IOver c) (ap (λ (u : Worker). u.knows (IOver c)) mine ∙ k))
-        | inr j ↦ elim j [
-          | inl k ↦ delete_over-ended (led.went.stages c) (facts (DOver c) (ap (λ (u : Worker). u.knows (DOver c)) mine ∙ k))
-          | inr k ↦ backed-ended (led.went.stages c) (facts (Backed c) (ap (λ (u : Worker). u.knows (Backed c)) mine ∙ k))
-        ]
-      ]
+  known_ended c ended = facts_ended now led.went.stages led.went.invariant q.seat q.view mine c ended
 
   ends_by : (c : ℕ) → has_ended (stage c) ≡ false → EndsMeanwhile keys start cards q c
   ends_by c un = record { before = not_before c un; since = λ ended. ended_in c un (known_ended c ended) }
@@ -346,6 +351,21 @@ searches_meet_meanwhile keys start cards q =
       list = subst (λ (u : View). u.hindrances ≡ l.hindered.met ++ q.begins.view.hindrances) same l.hindered.list;
       each = met_in keys start cards q l.hindered.met l.hindered.each;
       own = λ c has. l.hindered.own c (ap (λ (u : View). u.worker.card) same ∙ has);
+    }
+
+-- what a pass knows of moves was made
+pub known_moves_were_made : KnownMovesWereMade
+known_moves_were_made keys start cards first starts turns s run seat v there =
+    let last = last_card start cards in
+    let opens = starts_are_kept keys start cards first starts in
+    let led = run_goes keys last first opens.kept opens.kept.stages opens.kept.invariant turns s run in
+    let low = (led.0.views seat v there).least in
+    let is = listed_next s.words ∙ led.0.next in record {
+      given_out = omega (arith, low, is);
+      ended = λ c ended.
+          let won = led.1.wins c ∙ ap (λ ks. ks ++ run_wins last first turns s run c) (opens.unwon c) in
+          ap has_end (sym won) ∙ (wins_end (led.1.stages c)
+          ∙ facts_ended (machine_of_table keys last s led.0) led.1.stages led.1.invariant seat v (ap seat_worker there) c ended);
     }
 
 -- a search begins after a begin and after an again
