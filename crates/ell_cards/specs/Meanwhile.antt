@@ -32,11 +32,9 @@ abbrev pub has_end : List Kind → Bool
 has_end [] = false
 has_end (k ∷ ks) = is_end k || has_end ks
 
--- a step call that neither takes an operation in hand nor lays one down
+-- a step call that takes no operation in hand
 abbrev pub KeepsOn : Call → Type 0
 KeepsOn (call.Begin op) = ⊥
-KeepsOn call.Leave = ⊥
-KeepsOn (call.Answer said) = ⊥
 KeepsOn _ = Unit {0}
 
 -- in these turns the pass in a seat makes no other, and is not split or joined
@@ -65,7 +63,7 @@ abbrev pub SearchesBeginThere : Type 0
 SearchesBeginThere = (cards : ℕ) (s : TableState) (seat : ℕ) (c : Call) (s' : TableState) → CallIsMade cards s seat c s' → IsBeginning c → BeginsHere s' seat
 
 -- a run of a table from its start: it leads to a state where the pass in a seat begins a search, and then goes on by any turns of any
--- passes, while that pass keeps its operation in hand: it may begin its search anew, again and again
+-- passes, while that pass takes no other operation in hand: it may begin its search anew, again and again, and lay its operation down
 pub record SearchRun (keys : List ℕ) (start : List (ℕ × ℕ)) (cards : ℕ) : Type 0 where
   pub opened : TableState
   pub starts : Starts keys start cards opened

@@ -6,6 +6,7 @@ use mathlib.Core.Option.{some}
 use lib.ListN.{get_elem?}
 use Rattle.ell_ops.specs.declared.op.Op.TheVariants.{Find, Insert, Delete}
 use Rattle.ell_ops.specs.declared.op.Op.{Op}
+use Rattle.ell_ops.specs.declared.reply.Reply.{Reply}
 use Rattle.ell_word.specs.declared.gate.Kind.{Kind}
 use Rattle.ell_word.specs.declared.gate.Kind.TheVariants as kind
 use Rattle.ell_word.specs.Node.{IsInternal}
@@ -38,7 +39,7 @@ use Rattle.ell_cards.specs.declared.call.Call.TheVariants as call
 use Rattle.ell_cards.specs.declared.view.Hindrance.{Hindrance}
 use Rattle.ell_cards.specs.declared.view.Hindrance.TheVariants.{Claim, Found}
 use Rattle.ell_cards.specs.declared.view.View.{View}
-use Rattle.ell_cards.specs.Changes.{unless_clean, read_in_way, first_in_way, in_the_way, after_again, after_claim, after_flag, after_mark, if_won, exchanged, learning, unmarking, is_mark_of, is_held}
+use Rattle.ell_cards.specs.Changes.{unless_clean, read_in_way, first_in_way, in_the_way, given_up, after_again, after_leave, after_answer, after_claim, after_flag, after_mark, if_won, exchanged, learning, unmarking, is_mark_of, is_held}
 use Rattle.ell_cards.specs.Calls.{after, May}
 use Rattle.ell_cards.specs.States.{TableState, seat_worker}
 use Rattle.ell_cards.specs.Machines.{HasMachine}
@@ -380,28 +381,40 @@ module _ (keys : List ℕ) (cards : ℕ) (m0 : Machine) (stage : Stages) (first 
       by true e = quiet _ refl refl refl refl refl
       by false e = lost (is_mark_of c (unpacked n).state (unpacked n).card) (λ q. true≢false (sym (eq-eqb n was q) ∙ e))
 
-  -- a try that is given up
-  again_hindered : HinderedSince m0.words stage later_words ends old (after_again v)
-  again_hindered =
+  -- a try that is given up, with no card in hand then
+  gives_up : (u : View) → u.hindrances ≡ given_up v → ((n : ℕ) → u.next ≡ Some n → m0.words.next ≤ n) → u.worker.card ≡ None
+      → HinderedSince m0.words stage later_words ends old u
+  gives_up u hindrances read no_card =
       let way = in_the_way v.worker.operation v.worker.search.node v.worker.search.parent v.worker.search.grandparent in record {
         met = way ++ hindered.met;
-        list = ap (λ hs. way ++ hs) hindered.list ∙ sym (append_assoc way hindered.met old);
+        list = hindrances ∙ (ap (λ hs. way ++ hs) hindered.list ∙ sym (append_assoc way hindered.met old));
         each = all_append m0.words stage later_words ends way hindered.met
             (way_met m0.words stage later_words ends v.worker.operation v.worker.search.node v.worker.search.parent v.worker.search.grandparent
             (λ seen e. since.parent seen (ap (λ (z : Worker). z.search.parent) me ∙ e))
             (λ seen e. since.grandparent seen (ap (λ (z : Worker). z.search.grandparent) me ∙ e)))
             (met_later m0.words stage r.words now later_words ends words' later' hindered.met hindered.each);
-        next = λ n e. absurd (some_not_none e refl);
-        own = λ c has. absurd (some_not_none has refl);
-        hand = λ k c busy has flagged. absurd (some_not_none has refl);
+        next = read;
+        own = λ c has. absurd (some_not_none has no_card);
+        hand = λ k c busy has flagged. absurd (some_not_none has no_card);
       }
+
+  -- an answer
+  answers : (said : Reply) → HinderedSince m0.words stage later_words ends old (after_answer said v)
+  answers said = record {
+    met = hindered.met;
+    list = hindered.list;
+    each = met_later m0.words stage r.words now later_words ends words' later' hindered.met hindered.each;
+    next = hindered.next;
+    own = λ c has. absurd (some_not_none has refl);
+    hand = λ k c busy has flagged. absurd (some_not_none has refl);
+  }
 
   -- any call that keeps on
   pub call_hindered : (c : Call) → KeepsOn c → May cards c v → HinderedSince m0.words stage later_words ends old (after c (found_by s c) v)
   call_hindered (call.Begin op) keeps may = absurd keeps
-  call_hindered call.Again keeps may = again_hindered
-  call_hindered call.Leave keeps may = absurd keeps
-  call_hindered (call.Answer said) keeps may = absurd keeps
+  call_hindered call.Again keeps may = gives_up (after_again v) refl (λ n e. absurd (some_not_none e refl)) refl
+  call_hindered call.Leave keeps may = gives_up (after_leave v) refl hindered.next refl
+  call_hindered (call.Answer said) keeps may = answers said
   call_hindered (call.Upd x) keeps may = quiet _ refl refl refl refl refl
   call_hindered (call.Down x right) keeps may = quiet _ refl refl refl refl refl
   call_hindered call.Next keeps may = record {

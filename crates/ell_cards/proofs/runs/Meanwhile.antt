@@ -12,7 +12,7 @@ use Rattle.ell_core.specs.declared.event.Stepped.{Stepped}
 use Rattle.ell_core.specs.declared.fact.Fact.TheVariants.{Cut, IOver, DOver, Backed}
 use Rattle.ell_core.specs.declared.view.Search.{Search}
 use Rattle.ell_core.specs.state.Words.{Words, put}
-use Rattle.ell_core.specs.state.Machine.{Worker, Machine, nobody, worker_of}
+use Rattle.ell_core.specs.state.Machine.{Worker, Machine, no_search, nobody, worker_of}
 use Rattle.ell_core.specs.state.Moves.{WorkerIsIdle}
 use Rattle.ell_core.specs.history.Stages.{Stage, Stages}
 use Rattle.ell_core.specs.history.Invariant.{Invariant}
@@ -37,7 +37,7 @@ use Rattle.ell_cards.specs.declared.view.Hindrance.{Hindrance}
 use Rattle.ell_cards.specs.declared.view.Hindrance.TheVariants.{Claim, Found}
 use Rattle.ell_cards.specs.declared.view.View.{View}
 use Rattle.ell_cards.specs.Models.{EndedBy}
-use Rattle.ell_cards.specs.Calls.{act_of, said_of, Becomes, May}
+use Rattle.ell_cards.specs.Calls.{after, act_of, said_of, Becomes, May}
 use Rattle.ell_cards.specs.Changes.{left_view, right_view, joined_view, spent_view}
 use Rattle.ell_cards.specs.States.{TableState, seat_worker}
 use Rattle.ell_cards.specs.Machines.{HasMachine}
@@ -84,12 +84,16 @@ claim_goes : (b : Bool) → GoesOnAny (if b then Some act.Claim else None)
 claim_goes true = tt
 claim_goes false = tt
 
--- the act of a call that keeps on goes on, unless it begins the search anew
-call_goes : (c : Call) (n : ℕ) → KeepsOn c → GoesOnAny (act_of c n) ⊎ (c ≡ call.Again)
+-- a search that stands at the root, or nowhere
+abbrev IsFresh : Search → Type 0
+IsFresh q = (q ≡ at_root) ⊎ (q ≡ no_search)
+
+-- the act of a call that keeps on goes on, or leaves such a search
+call_goes : (c : Call) (n : ℕ) → KeepsOn c → GoesOnAny (act_of c n) ⊎ ((u : View) → IsFresh (after c n u).worker.search)
 call_goes (call.Begin op) n h = absurd h
-call_goes call.Again n h = inr refl
-call_goes call.Leave n h = absurd h
-call_goes (call.Answer said) n h = absurd h
+call_goes call.Again n h = inr (λ u. inl refl)
+call_goes call.Leave n h = inr (λ u. inr refl)
+call_goes (call.Answer said) n h = inr (λ u. inr refl)
 call_goes (call.Upd x) n h = inl tt
 call_goes (call.Down x right) n h = inl tt
 call_goes (call.Claim c) n h = inl (claim_goes (n == c))
@@ -103,14 +107,18 @@ call_goes (call.DUnflag c gp) n h = inl tt
 call_goes (call.Backtrack c gp) n h = inl tt
 call_goes _ n h = inl tt
 
--- a worker with nothing in hand has read nothing
-idle_since : (w : Words) (stage : Stages) (now : Words) (v : Worker) → WorkerIsIdle v → SearchSince w stage now v
-idle_since w stage now v idle = let none = ap (λ (u : Worker). u.search) idle in record {
+-- a search that stands nowhere has read nothing
+none_since : (w : Words) (stage : Stages) (now : Words) (v : Worker) → v.search ≡ no_search → SearchSince w stage now v
+none_since w stage now v none = record {
   walk = λ op x busy at. absurd (some_not_none at (ap (λ (s : Search). s.node) none));
   read = λ x word at has. absurd (some_not_none at (ap (λ (s : Search). s.node) none));
   parent = λ seen has. absurd (some_not_none has (ap (λ (s : Search). s.parent) none));
   grandparent = λ seen has. absurd (some_not_none has (ap (λ (s : Search). s.grandparent) none));
 }
+
+-- nor has a worker with nothing in hand
+idle_since : (w : Words) (stage : Stages) (now : Words) (v : Worker) → WorkerIsIdle v → SearchSince w stage now v
+idle_since w stage now v idle = none_since w stage now v (ap (λ (u : Worker). u.search) idle)
 
 -- a search that begins later has read nothing, and no walk from the root comes by what was cut out
 begins_since : (w : Words) (stage0 : Stages) (m : Machine) (stage : Stages) (i : ℕ) → Invariant m stage → StagesLater stage0 stage
@@ -197,9 +205,11 @@ module _ (m0 : Machine) (stage0 : Stages) (first : Invariant m0 stage0) (seat : 
               ∙ (ap (λ u. get_elem? (set s.views seat (view_after s u c)) seat) own ∙ set_there s.views seat (view_after s at.view c) at.view at.there)) in
               let since : SearchSince m0.words stage0 turn.0.words (m'.worker seat) = elim (call_goes c (found_by s c) (keep.0 (sym e))) [
                 | inl g ↦ on (λ same. g) at.since
-                | inr anew ↦ begins_since m0.words stage0 m' goes.stages seat goes.invariant
-                    (stages_later stage0 at.went.stages goes.stages at.went.later goes.later)
-                    (ap (λ o. (seat_worker o).search) now ∙ ap (λ d. (view_after s at.view d).worker.search) anew)
+                | inr fresh ↦ elim (fresh at.view) [
+                  | inl root ↦ begins_since m0.words stage0 m' goes.stages seat goes.invariant
+                      (stages_later stage0 at.went.stages goes.stages at.went.later goes.later) (ap (λ o. (seat_worker o).search) now ∙ root)
+                  | inr none ↦ none_since m0.words stage0 turn.0.words (m'.worker seat) (ap (λ o. (seat_worker o).search) now ∙ none)
+                ]
               ] in
               then_goes s won at s' turn.0 (turn_wins s (Makes other c)) goes since (view_after s at.view c) now
               (call_hindered keys cards m0 stage0 first s at.kept at.went.stages at.went.invariant at.went.words at.went.later at.went.cleans seat at.view at.there at.since
