@@ -8,6 +8,14 @@ pub mod WinsOfRuns
 pub mod NodesOfRuns
 -- tables as they start, and runs from there
 pub mod Starting
+-- what a turn makes of a pass that begins nothing by it
+pub mod OwnSeat
+-- a look goes by nodes that have been on its walk since it began
+pub mod Looking
+-- where looks begin in runs from a start
+pub mod Beginnings
+-- a pass that looks owns what it owned, and reads its own changes
+pub mod OwnLooks
 -- where turns lead a table, and what they make its steps, splits and joins owe
 pub mod Reaching
 -- laws of each table that turns have led to

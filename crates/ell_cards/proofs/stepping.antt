@@ -22,3 +22,5 @@ pub mod Claiming
 pub mod Filling
 -- every step call is an event of the machine, or leaves it
 pub mod AllCalls
+-- The steps of a look for a key, whoever owns it.
+pub mod Looking

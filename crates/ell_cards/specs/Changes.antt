@@ -23,6 +23,7 @@ use Rattle.ell_cards.specs.declared.view.Told.{Told}
 use Rattle.ell_cards.specs.declared.view.Told.TheVariants.{Met, Key, Value, Info, Frozen}
 use Rattle.ell_cards.specs.declared.view.Hindrance.{Hindrance}
 use Rattle.ell_cards.specs.declared.view.Hindrance.TheVariants.{Claim, Found}
+use Rattle.ell_cards.specs.declared.view.Looking.{Looking}
 use Rattle.ell_cards.specs.declared.view.View.{View}
 use Rattle.ell_core.specs.declared.view.Entry.{Entry}
 use Rattle.ell_core.specs.declared.view.Entry.TheVariants.{Present, Absent}
@@ -116,11 +117,12 @@ found_child expected (Err found) = found
 abbrev pub idle_worker : List (ℕ × Entry) → List Fact → WorkerView
 idle_worker ledger facts = record { ledger = ledger; operation = None; search = no_search; card = None; flagged = false; facts = facts }
 
--- begin: this operation is in hand, and the search stands at the root, which the pass has met
+-- begin: this operation is in hand, and the search stands at the root, which the pass has met; a look is at its end
 abbrev pub after_begin : Option Op → View → View
 after_begin op v = record v {
   worker = record (v.worker) { operation = op; search = at_root; card = None; flagged = false };
   told = Met 0 ∷ v.told;
+  looking = None;
   here = None;
   next = None;
   planned = [];
@@ -223,6 +225,19 @@ after_info c f x v = record v { told = told_info c f x v.told }
 -- frozen_child: a child of the parent that a card marked was told, and is met
 abbrev pub after_frozen_child : ℕ → Bool → ℕ → View → View
 after_frozen_child c right x v = record v { told = Frozen c right x ∷ Met x ∷ v.told }
+
+-- look_for: a look for a key has come to the root's left child, which the pass has met
+abbrev pub after_look_for : ℕ → ℕ → View → View
+after_look_for key child v = record v { told = Met child ∷ v.told; looking = Some (record { key = key; node = child }); looks = v.looks + 1 }
+
+-- a look that has come to a child
+abbrev pub looked_down : ℕ → Option Looking → Option Looking
+looked_down child None = None
+looked_down child (Some look) = Some (record { key = look.key; node = child })
+
+-- look_down: the look has come to this child, which the pass has met
+abbrev pub after_look_down : ℕ → View → View
+after_look_down child v = record v { told = Met child ∷ v.told; looking = looked_down child v.looking }
 
 -- the value that was told of a leaf the last time, or 0
 abbrev pub told_value : List Told → ℕ → ℕ
@@ -340,6 +355,8 @@ idle_view ledger = record {
   knew_before = [];
   next_at_least = 0;
   hindrances = [];
+  looking = None;
+  looks = 0;
 }
 
 -- the first pass of a table: it owns all keys, of which the start keys are present with their values, and the others absent
@@ -369,6 +386,7 @@ part_view ledger v = record v {
   planned = [];
   stores = [];
   found = None;
+  looking = None;
 }
 
 -- split, the left part: it gets these keys, and keeps the counts and what the pass won
@@ -377,7 +395,7 @@ left_view keys v = part_view (part_on keys v.worker.ledger) v
 
 -- split, the right part: it gets the other keys
 abbrev pub right_view : List ℕ → View → View
-right_view keys v = record (part_view (part_off keys v.worker.ledger) v) { won = []; answers = 0; hindrances = [] }
+right_view keys v = record (part_view (part_off keys v.worker.ledger) v) { won = []; answers = 0; hindrances = []; looks = 0 }
 
 -- an entry put into an ascending ledger at its place, or in place of that of its key
 abbrev pub put_entry : ℕ × Entry → List (ℕ × Entry) → List (ℕ × Entry)
@@ -410,4 +428,6 @@ joined_view v w = record {
   knew_before = [];
   next_at_least = max v.next_at_least w.next_at_least;
   hindrances = v.hindrances ++ w.hindrances;
+  looking = None;
+  looks = v.looks + w.looks;
 }

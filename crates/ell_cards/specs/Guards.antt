@@ -1,7 +1,7 @@
-use Rattle.std.specs.Prelude.{◌≡◌, ◌≢◌, ℕ, ◌⊎◌, nat_le, Bool, true, false, Option, Some, None}
+use Rattle.std.specs.Prelude.{◌≡◌, ◌≢◌, ℕ, ◌≤◌, ◌⊎◌, nat_le, Bool, true, false, Option, Some, None}
 use Rattle.ell_ops.specs.declared.op.Op.{Op}
 use Rattle.ell_ops.specs.declared.op.Op.TheVariants.{Find, Insert, Delete}
-use Rattle.ell_ops.specs.Meaning.{key_of}
+use Rattle.ell_ops.specs.Meaning.{greatest_key, key_of}
 use Rattle.ell_word.specs.declared.update.Update.{Update}
 use Rattle.ell_word.specs.Node.{IsInternal}
 use Rattle.ell_word.specs.Word.{packed}
@@ -12,7 +12,8 @@ use Rattle.ell_core.specs.declared.view.Seen.{Seen}
 use Rattle.ell_core.specs.state.Machine.{ledger_of}
 use Rattle.ell_core.specs.state.Cards.{stored}
 use Rattle.ell_core.specs.acts.Searching.{IsLeaf, IsClean, leaf_answer}
-use Rattle.ell_cards.specs.declared.view.Told.TheVariants.{Key, Value, Info, Frozen}
+use Rattle.ell_cards.specs.declared.view.Told.TheVariants.{Met, Key, Value, Info, Frozen}
+use Rattle.ell_cards.specs.declared.view.Looking.{Looking}
 use Rattle.ell_cards.specs.declared.view.View.{View}
 use Rattle.ell_cards.specs.Models.{IsTold, Knows, KnowsCard, Does, StandsAt, IsFree, stored_at}
 use Rattle.ell_ops.specs.declared.reply.Reply.{Reply}
@@ -103,6 +104,22 @@ NamesNode _ = ⊥
 pub record MayAsk (v : View) (c : ℕ) (f : Field) : Type 0 where
   pub knows : KnowsCard v c
   pub asked : IsAsked f
+
+-- look_for: nothing is in hand; the key may be any pass's
+pub record MayLookFor (v : View) (key : ℕ) : Type 0 where
+  pub free : IsFree v
+  pub real : key ≤ greatest_key
+
+-- look_down: a look has come to this internal node, which the pass has met and whose key it was told, and this is the side of the look's key
+pub record MayLookDown (v : View) (x : ℕ) (right : Bool) : Type 0 where
+  pub look : Looking
+  pub key : ℕ
+  pub looks : v.looking ≡ Some look
+  pub there : look.node ≡ x
+  pub met : IsTold v (Met x)
+  pub inner : IsInternal x
+  pub told : IsTold v (Key x key)
+  pub side : right ≡ nat_le key look.key
 
 -- frozen_child: the card is known marked, and this is its parent
 pub record MaySee (v : View) (c p : ℕ) : Type 0 where

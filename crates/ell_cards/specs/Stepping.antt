@@ -9,6 +9,7 @@ use Rattle.ell_cards.specs.Changes.{keys_of}
 use Rattle.ell_cards.specs.Naming.{IsNamed}
 use Rattle.ell_cards.specs.Calls.{after, Tells}
 use Rattle.ell_cards.specs.Starts.{IsReached}
+use Rattle.ell_cards.specs.Looking.{ReadsItsOwn}
 
 -- wherever turns have led the table, a load of a word is a turn again, and this holds of the word found and of what the pass knows after
 abbrev pub MayLoad : List ℕ → List (ℕ × ℕ) → ℕ → View → ℕ → (ℕ → View → Type 0) → Type 0
@@ -50,10 +51,11 @@ pub record StepsBy (old new : PassModel) : Type 0 where
   pub steps : new.steps ≡ one_more old.steps
   pub label : new.label ≡ old.label
 
--- what a step call that found this word leaves of a pass: what it knows is as the call says, and what the call tells is so; the
--- pass owns the keys that it owned, and names what is in its table
+-- what a step call that found this word leaves of a pass: what it knows is as the call says, and what the call tells is so; what a
+-- look has found of its own keys is what its ledger has; the pass owns the keys that it owned, and names what is in its table
 pub record IsTaken (cards : ℕ) (c : Call) (v : View) (n : ℕ) (w : View) : Type 0 where
   pub view : w ≡ after c n v
   pub tells : Tells cards c v n
+  pub own : ReadsItsOwn w
   pub keys : keys_of w.worker.ledger ≡ keys_of v.worker.ledger
   pub named : IsNamed cards w

@@ -28,6 +28,10 @@ pub enum Call {
     Info(u64, Field),
     /// Reads a child, the right one or the left one, of the parent of a card: card, parent, side.
     FrozenChild(u64, u64, bool),
+    /// Begins a look for a key, whoever owns it: reads the root's left child.
+    LookFor(u64),
+    /// Goes down in a look from a node, to the right child or to the left one.
+    LookDown(u64, bool),
     /// Takes a card.
     Claim(u64),
     /// Stores a word of a card.

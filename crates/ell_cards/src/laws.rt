@@ -8,6 +8,7 @@ ghost use Rattle.ell_cards.specs.OwnWords.{OwnWordsAreSound, StepsStayInside, Ta
 ghost use Rattle.ell_cards.specs.Starts.{TablesStart, StartsHaveTheirKeys, FirstPassMayBegin, RunsFromStarts};
 ghost use Rattle.ell_cards.specs.Readings.{ReadingsArePast, ClaimsAreTold};
 ghost use Rattle.ell_cards.specs.Meanwhile.{SearchesBeginThere, SearchesReadMeanwhile, SearchesMeetMeanwhile, KnownMovesWereMade};
+ghost use Rattle.ell_cards.specs.Looking.{LooksAreOfOneState, LooksAreInOrder, LooksReadTheirOwn};
 ghost use Rattle.ell_cards.specs.Tellings.{NoGreaterNext, NoGreaterUpdate, NoOtherOutcome, NoUntriedClaimLost};
 ghost use Rattle.ell_cards.specs.Laws.{StepsAreEvents, SplitsAreMoves, JoinsAreMoves, MachineIsSound, MachineHasOwnWords};
 ghost use Rattle.ell_cards.specs.Runs.{RunsAreLawful, RunsAreSchedules};
@@ -113,6 +114,16 @@ pub fn searches_read_meanwhile()
     ensures reads { SearchesReadMeanwhile }
     ensures meets { SearchesMeetMeanwhile }
     ensures moved { KnownMovesWereMade }
+{}
+
+/// What a pass finds by a look for any key, whoever owns it, was so in one state of the table since the look began, by the table's own
+/// words, whatever turns of whatever passes came meanwhile: the tree had the key with that value, or had it not. So looks are
+/// linearizable: of two, of which the second begins after the first has ended, the second is of no earlier state. And a pass that looks for
+/// a key of its own finds what its ledger has.
+pub fn looks_are_of_one_state()
+    ensures each { LooksAreOfOneState }
+    ensures order { LooksAreInOrder }
+    ensures own { LooksReadTheirOwn }
 {}
 
 /// The table's rule has force: there are things that no step can tell, since nowhere do turns lead to the state after it. None can

@@ -9,6 +9,7 @@ ghost use Rattle.ell_cards.specs.Changes.{after_fill};
 ghost use Rattle.ell_cards.specs.Naming.{IsNamed};
 ghost use Rattle.ell_cards.specs.Guards.{MayFill};
 ghost use Rattle.ell_cards.specs.Calls.{word_of, atomic_of, Load, Exchange, after, May, Tells};
+ghost use Rattle.ell_cards.specs.Looking.{ReadsItsOwn};
 ghost use Rattle.ell_cards.specs.Stepping.{MayLoad, MayStore, MayExchange, KeepsPass, StepsBy};
 
 use crate::call::Call;
@@ -73,6 +74,7 @@ impl<A: Allocator + Copy> CardTable<A> {
         requires atomic { atomic_of call ≡ Load }
         ensures step { Steps pass.old pass.new (after call result pass.old.view) }
         ensures tells { Tells self.now.last_card call pass.old.view result }
+        ensures looked { ReadsItsOwn pass.new.view }
     {
         self.load_as::<Brand>(pass, call, word)
     }

@@ -28,6 +28,13 @@ pub enum Hindrance {
     Found(Update),
 }
 
+/// A look for a key, whoever owns it, and the node that it has come to.
+#[derive(Clone, Copy)]
+pub struct Looking {
+    pub key: u64,
+    pub node: u64,
+}
+
 /// What a pass knows. No value of this type is made.
 #[derive(Drop)]
 pub struct View {
@@ -56,6 +63,10 @@ pub struct View {
     pub next_at_least: u64,
     /// What was in its way, the last first.
     pub hindrances: LinkedList<Hindrance>,
+    /// The look that it began last, until an operation begins, or the pass is split or joined.
+    pub looking: Option<Looking>,
+    /// How many looks it began.
+    pub looks: u64,
 }
 
 /// What a table is made for. A table keeps the number of its last card; the keys go to its first pass, and the start keys into

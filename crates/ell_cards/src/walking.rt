@@ -5,9 +5,10 @@ ghost use Rattle.ell_core.specs.acts.Searching.{IsLeaf};
 ghost use Rattle.ell_core.specs.statements.Effects.{AnswersAsMap};
 ghost use Rattle.ell_cards.specs.declared.view.Told.TheVariants.{Met};
 ghost use Rattle.ell_cards.specs.Models.{Steps, IsTold, InTable, EndWasUnknown};
-ghost use Rattle.ell_cards.specs.Changes.{after_begin, after_again, after_leave, after_answer, after_upd, after_down, after_next, after_key_of, after_value_of};
-ghost use Rattle.ell_cards.specs.Guards.{MayBegin, MayStop, MayAnswer, MayRead, MayGoDown};
+ghost use Rattle.ell_cards.specs.Changes.{after_begin, after_again, after_leave, after_answer, after_upd, after_down, after_next, after_key_of, after_value_of, after_look_for, after_look_down};
+ghost use Rattle.ell_cards.specs.Guards.{MayBegin, MayStop, MayAnswer, MayRead, MayGoDown, MayLookFor, MayLookDown};
 ghost use Rattle.ell_cards.specs.Calls.{TellsLeaf, TellsValue};
+ghost use Rattle.ell_cards.specs.Looking.{ReadsItsOwn};
 
 use crate::call::Call;
 use crate::pass::Pass;
@@ -100,21 +101,49 @@ impl<A: Allocator + Copy> CardTable<A> {
         self.load(pass, Call::Next, 0)
     }
 
+    /// Begins a look for a key, whoever owns it, at the root's left child, a node of the table: the root's key is above every real one.
+    #[inline(always)]
+    pub fn look_for(&self, pass: &mut Pass<A>, key: u64) -> u64
+        requires own { pass.old.table ≡ self.now.id }
+        requires may { MayLookFor pass.old.view key }
+        ensures step { Steps pass.old pass.new (after_look_for key result pass.old.view) }
+        ensures greater { 0 < result }
+        ensures there { InTable self.now.last_card result }
+    {
+        self.names(pass);
+        self.load(pass, Call::LookFor(key), child_at(0, false))
+    }
+
+    /// Goes down in a look from the internal node that it has come to, to the child on its key's side: a greater node of the table.
+    #[inline(always)]
+    pub fn look_down(&self, pass: &mut Pass<A>, node: u64, right: bool) -> u64
+        requires own { pass.old.table ≡ self.now.id }
+        requires may { MayLookDown pass.old.view node right }
+        ensures step { Steps pass.old pass.new (after_look_down result pass.old.view) }
+        ensures greater { node < result }
+        ensures there { InTable self.now.last_card result }
+    {
+        self.names(pass);
+        self.load(pass, Call::LookDown(node, right), child_at(node, right))
+    }
+
     /// Reads the key of a node that the pass has met. Of the leaf where it stands it is the operation's exactly where the pass
-    /// has that present, and then the leaf has a grandparent.
+    /// has that present, and then the leaf has a grandparent. If a look has come to its end by that, of a key of the pass's own, it has
+    /// found what the pass has there.
     #[inline(always)]
     pub fn key_of(&self, pass: &mut Pass<A>, node: u64) -> u64
         requires own { pass.old.table ≡ self.now.id }
         requires met { IsTold pass.old.view (Met node) }
         ensures step { Steps pass.old pass.new (after_key_of node result pass.old.view) }
         ensures leaf { TellsLeaf pass.old.view node result }
+        ensures looked { ReadsItsOwn pass.new.view }
     {
         self.names(pass);
         self.load(pass, Call::KeyOf(node), key_at(node))
     }
 
     /// Reads the value of a leaf that the pass has met. Of the leaf where it stands, whose key is known to be the operation's, it is
-    /// the value that the pass has there.
+    /// the value that the pass has there; so it is of the leaf to which a look for a key of the pass's own has come.
     #[inline(always)]
     pub fn value_of(&self, pass: &mut Pass<A>, leaf: u64) -> u64
         requires own { pass.old.table ≡ self.now.id }
@@ -122,6 +151,7 @@ impl<A: Allocator + Copy> CardTable<A> {
         requires outer { IsLeaf leaf }
         ensures step { Steps pass.old pass.new (after_value_of leaf result pass.old.view) }
         ensures value { TellsValue pass.old.view leaf result }
+        ensures looked { ReadsItsOwn pass.new.view }
     {
         self.names(pass);
         self.load(pass, Call::ValueOf(leaf), value_at(leaf))

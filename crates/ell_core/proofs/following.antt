@@ -31,3 +31,5 @@ pub mod Walks
 pub mod Since
 -- Which update words have become clean since.
 pub mod Cleans
+-- What is on course for a key stays so, and where its child on the key's side changes, it is on the walk from the root.
+pub mod Looks

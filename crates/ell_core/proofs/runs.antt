@@ -12,3 +12,5 @@ pub mod Runs
 pub mod SmallRun
 -- The wins of a card up to each stage come in the order of an insert, of a delete that cuts, or of one that goes back.
 pub mod Wins
+-- A look for a key finds what was so in one state of the run.
+pub mod Looks

@@ -22,3 +22,5 @@ pub mod Premises
 pub mod Refuted
 -- What a search has seen since it began.
 pub mod Since
+-- A reader of any key, who only loads, finds what was so in one state of the run meanwhile.
+pub mod Looks

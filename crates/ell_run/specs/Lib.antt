@@ -24,3 +24,5 @@ pub use Rattle.ell_text.specs.Bulk
 pub use Rattle.ell_parts.specs.PartedOps
 pub use Rattle.ell_tree.specs.Ends
 pub use Rattle.ell_tree.specs.Ledgers
+-- How many cards the operations of a run can take.
+pub mod Reservation

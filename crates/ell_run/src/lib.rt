@@ -6,6 +6,7 @@ mod bytes;
 mod late;
 mod laws;
 mod pieces;
+mod reservation;
 mod runs;
 mod settings;
 mod workers;

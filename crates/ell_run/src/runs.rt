@@ -5,16 +5,20 @@ ghost use Rattle.std.specs.List.Sorted.{IsStrictlyIncreasing};
 ghost use Rattle.std.specs.Map.{keys_of as keys_in};
 ghost use Rattle.ell_ops.specs.Contents.{Contents, ListsPairs, contents_of};
 ghost use Rattle.ell_ops.specs.Meaning.{Fits, final, greatest_key, replies};
-ghost use Rattle.ell_word.specs.Node.{most_start};
+ghost use Rattle.ell_tree.specs.Ledgers.{Owns};
+ghost use Rattle.ell_tree.specs.PassParts.{IsFirst};
+ghost use Rattle.ell_word.specs.Node.{most_cards, most_start};
 ghost use Rattle.ell_run.specs.Late.{AreLeft, IsLate, IsOutcome, late_ops};
 ghost use Rattle.ell_run.specs.Limits.{AreLimits};
+ghost use Rattle.ell_run.specs.Settings.{IsAllowed};
 
 use crate::late::{do_late, late_ops};
 use crate::pieces::Piece;
+use crate::reservation::cards_to_reserve;
 use crate::workers::{busy_workers, keys_for, work_apart};
 use ell_ops::{NoMemory, Op, Reply, united_keys};
 use ell_parts::{GatherFault, Parts, gather};
-use ell_tree::{CardFault, Tree};
+use ell_tree::{CardFault, Pass, Tree};
 use ell_word::StepGate;
 use std::alloc::{Allocator, Global};
 use std::thread::Threads;
@@ -22,7 +26,8 @@ use std::thread::Threads;
 /// How much a run may use.
 #[derive(Clone, Copy, Debug, PartialEq, Eq)]
 pub struct Limits {
-    /// The cards that the tree has to give out, 1 to `CARDS_MAX`. Start keys take none of them.
+    /// The cards that the tree has to give out, 1 to `CARDS_MAX`. Start keys take none of them. No more of them are reserved
+    /// than the operations can take.
     pub cards: u64,
     /// The tries that an insert or a delete has, 1 to `TRIES_MAX`.
     pub tries: u32,
@@ -64,7 +69,7 @@ pub fn run<R: Threads + Sync, A: Allocator + Copy + Send + Sync, G: StepGate + S
     ensures few { IfOk result (λ outcome. outcome.late ≤ length ops.now) }
     ensures late { IfOk result (λ outcome. IsLate (contents_of start.now) parts.now outcome.late) }
 {
-    let (pieces, pairs) = run_workers(rt, alloc, start, parts, limits, gate)?;
+    let (pieces, pairs) = run_workers(rt, alloc, start, ops, parts, limits, gate)?;
     finish(alloc, ops, parts, pieces, pairs)
 }
 
@@ -73,6 +78,7 @@ fn run_workers<R: Threads + Sync, A: Allocator + Copy + Send + Sync, G: StepGate
     rt: &R,
     alloc: A,
     start: &[(u64, u64)],
+    ops: &[Op],
     parts: &Parts<'_, A>,
     limits: Limits,
     gate: &G,
@@ -86,16 +92,42 @@ fn run_workers<R: Threads + Sync, A: Allocator + Copy + Send + Sync, G: StepGate
 {
     let workers = busy_workers(alloc, parts)?;
     let used = keys_for(alloc, parts, &workers)?;
-    let there = start_keys(alloc, start)?;
-    let keys = united_keys(alloc, &there, &used)?;
-    let (tree, pass) = match Tree::reserve_from(alloc, start, &keys, limits.cards) {
-        Ok(made) => made,
-        Err(fault) => return Err(no_cards(fault)),
-    };
+    let cards = cards_to_reserve(ops, workers.len(), limits);
+    let (tree, pass) = reserve(alloc, start, &used, cards)?;
     let (pass, pieces) = work_apart(rt, alloc, &tree, pass, &used, parts, limits.tries, gate)?;
     match tree.close(pass) {
         Ok(pairs) => Ok((pieces, pairs)),
         Err(_) => Err(NoMemory),
+    }
+}
+
+// A tree that begins with the map of `start`, and a pass with its keys and these used ones.
+fn reserve<A: Allocator + Copy>(
+    alloc: A,
+    start: &[(u64, u64)],
+    used: &[u64],
+    cards: u64,
+) -> Result<(Tree<A>, Pass<A>), NoMemory>
+    requires ascending { IsStrictlyIncreasing (keys_in start.now) }
+    requires real { All (λ key. key ≤ greatest_key) (keys_in start.now) }
+    requires few { length start.now ≤ most_start }
+    requires used_ascending { IsStrictlyIncreasing used.now }
+    requires used_real { All (λ key. key ≤ greatest_key) used.now }
+    requires cards { IsAllowed most_cards cards }
+    ensures pass { IfOk result (λ made. IsFirst start.now made.0 made.1) }
+    ensures owned { IfOk result (λ made. All (λ key. Owns made.1 key) used.now) }
+{
+    if start.is_empty() {
+        return match Tree::reserve(alloc, used, cards) {
+            Ok(made) => Ok(made),
+            Err(fault) => Err(no_cards(fault)),
+        };
+    }
+    let there = start_keys(alloc, start)?;
+    let keys = united_keys(alloc, &there, used)?;
+    match Tree::reserve_from(alloc, start, &keys, cards) {
+        Ok(made) => Ok(made),
+        Err(fault) => Err(no_cards(fault)),
     }
 }
 

@@ -41,8 +41,8 @@ pub fn work<R: Threads + Sync, A: Allocator + Copy + Send + Sync, G: StepGate + 
     Ok((pass, with_empty_pieces(alloc, parts, pieces)?))
 }
 
-// The same with a pass that has other keys beside those of the operations, which are `keys`: the others stay in a pass that no worker
-// uses.
+// The same with a pass that may have other keys beside those of the operations, which are `keys`: the others stay in a pass that no
+// worker uses.
 pub(crate) fn work_apart<R: Threads + Sync, A: Allocator + Copy + Send + Sync, G: StepGate + Sync>(
     rt: &R,
     alloc: A,
@@ -62,6 +62,9 @@ pub(crate) fn work_apart<R: Threads + Sync, A: Allocator + Copy + Send + Sync, G
     ensures { IfOk result (λ done.
         IsWorked tree.now.last_card tries parts.now (all_workers parts.now) pass done.0 (map (λ piece. piece.items) done.1.items)) }
 {
+    if pass.keys().len() == keys.len() {
+        return work(rt, alloc, tree, pass, parts, tries, gate);
+    }
     let (ours, others) = match tree.split(pass, keys) {
         Ok(parted) => parted,
         Err(_) => return Err(NoMemory),

@@ -1,16 +1,19 @@
-use Rattle.std.proofs.Common.{◌≡◌, ◌<◌, ◌≤◌, ◌^◌, ℕ, Bool, true, false, ◌&&◌, not, ◌==◌, List, [], ◌∷◌, length, Result, Ok, Err, ◌∙◌, arith, rules, ⊎_elim, get_or}
+use Rattle.std.proofs.Common.{◌≡◌, ◌<◌, ◌+◌, ◌-◌, ◌*◌, take, ap, sym, ◌≤◌, ◌^◌, ℕ, Bool, true, false, ◌&&◌, not, ◌==◌, List, [], ◌∷◌, length, Result, Ok, Err, ◌∙◌, arith, rules, ⊎_elim, get_or}
 use Rattle.std.specs.List.{list_all}
 use Rattle.std.specs.Char.{is_ascii_digit}
 use Rattle.std.specs.Str.{IsAscii}
 use Rattle.std.specs.Option.{MatchOption}
 use Rattle.std.specs.Result.{result_ok}
-use Rattle.std.specs.Str.Parse.{ParsesUnsigned}
-use Rattle.std.proofs.lemmas.Bool.{cases_lt, false≢true}
+use Rattle.std.specs.Str.Parse.{ParsesUnsigned, digits_value}
+use Rattle.std.proofs.lemmas.Bool.{and_parts, cases_lt, cond-true, false≢true, le-leb, leb-true}
 use Rattle.std.proofs.lemmas.Str.Parse.{IsNumeralModel, numerals_by_weight, digit_at, parse_digits}
 use Rattle.std.proofs.Math.Bool.{and-true}
-use Rattle.std.proofs.lemmas.List.{get_or_past}
+use Rattle.std.proofs.lemmas.List.{get_or_default, get_or_past, take_more}
 use Rattle.std.specs.Int.{IsInRange}
-use Rattle.ell_text.specs.Number.{value_of, is_number}
+use Rattle.std.proofs.lemmas.List.Folds.{list_all-append}
+use Rattle.std.proofs.lemmas.Int.Digits.{digits_value_more}
+use Rattle.std.proofs.lemmas.Str.{digit_value_digit}
+use Rattle.ell_text.specs.Number.{value_of, is_number, number_in}
 
 -- the digits and their value are those of std's numerals
 numerals : IsNumeralModel (λ digits. list_all is_ascii_digit digits ≡ true) value_of
@@ -30,6 +33,37 @@ digits_from_number (first ∷ second ∷ more) h = without_middle _ (not (first 
 some_from_number : (bytes : List ℕ) → is_number bytes ≡ true → 0 < length bytes
 some_from_number [] h = absurd (false≢true h)
 some_from_number (digit ∷ more) h = omega arith
+
+-- digits spell their value
+pub value_by_digits : (bytes : List ℕ) → list_all is_ascii_digit bytes ≡ true → value_of bytes ≡ digits_value 10 bytes
+value_by_digits bytes digits = numerals.same bytes (numerals.to bytes digits)
+
+-- one digit more
+pub digits_more : (bytes : List ℕ) (i : ℕ) → i < length bytes → is_ascii_digit (get_or bytes i 0) ≡ true → list_all is_ascii_digit (take i bytes) ≡ true
+    → list_all is_ascii_digit (take (i + 1) bytes) ≡ true
+digits_more bytes i within digit front =
+    ap (list_all is_ascii_digit) (take_more bytes i 0 within)
+    ∙ list_all-append is_ascii_digit (take i bytes) (get_or bytes i 0 ∷ [])
+    ∙ ap (λ all. all && (is_ascii_digit (get_or bytes i 0) && true)) front
+    ∙ ap (λ all. all && true) digit
+
+pub value_more : (bytes : List ℕ) (i number digit next : ℕ) → i < length bytes → is_ascii_digit (get_or bytes i 0) ≡ true → number ≡ digits_value 10 (take i bytes)
+    → digit ≡ get_or bytes i 0 - 48 → next ≡ number * 10 + digit → next ≡ digits_value 10 (take (i + 1) bytes)
+value_more bytes i number digit next within is front byte step =
+    let parts = and_parts _ _ is in
+    let range : IsInRange 48 57 (get_or bytes i 0) = (leb-true 48 (get_or bytes i 0) parts.0, leb-true (get_or bytes i 0) 57 parts.1) in
+    omega (arith, digits_value_more 10 bytes i within, digit_value_digit (get_or bytes i 0) range)
+
+-- no byte of a number is below 48
+pub number_at_least : (bytes : List ℕ) (i d : ℕ) → is_number bytes ≡ true → i < length bytes → 48 ≤ get_or bytes i d
+number_at_least bytes i d spelt within =
+    let digit : IsInRange 48 57 (get_or bytes i 0) = digit_at bytes i (numerals.to bytes (digits_from_number bytes spelt)) within in
+    omega (arith, digit, get_or_default bytes i d 0 within)
+
+-- a number of at most max
+pub number_within : (max number : ℕ) (bytes : List ℕ) → is_number bytes ≡ true → number ≡ value_of bytes → number ≤ max → number_in max bytes ≡ Ok number
+number_within max number bytes spelt value within =
+    cond-true _ _ _ spelt ∙ cond-true _ _ _ (le-leb (value_of bytes) max (omega arith)) ∙ ap Ok (sym value)
 
 -- digits are text
 pub IsAscii-from_number : (bytes : List ℕ) → is_number bytes ≡ true → IsAscii bytes

@@ -10,6 +10,8 @@ pub mod Drafts
 pub mod Reading
 -- The lines of a text are those that bstr cuts.
 pub mod CutLines
+-- The first line of a text, and what one says that is spelt plainly.
+pub mod FirstLines
 -- Numbers in decimal digits, and what std's `parse` reads of them.
 pub mod Digits
 -- Steps of an `Output`, one after another.

@@ -1,4 +1,4 @@
-use Rattle.std.specs.Prelude.{ℕ, ◌≤◌, ⊤, Bool, true, false, List, Option, None, Some, Result, Ok, Err, if◌then◌else◌, codes}
+use Rattle.std.specs.Prelude.{ℕ, ◌≡◌, ◌<◌, ◌≤◌, ◌∷◌, ◌++◌, length, ⊤, Bool, true, false, List, Option, None, Some, Result, Ok, Err, if◌then◌else◌, codes}
 use Rattle.std.specs.List.{after_first, before_first}
 use Rattle.std.specs.Option.{option_map}
 use Rattle.std.specs.Str.{bytes_eq}
@@ -19,8 +19,9 @@ use Rattle.ell_text.specs.declared.line.Section.{Section}
 use Rattle.ell_text.specs.declared.line.Section.TheVariants.{Head, Operations}
 use Rattle.ell_text.specs.declared.version.Version.{Version}
 use Rattle.ell_text.specs.declared.version.Version.TheVariants.{One, Two}
-use Rattle.ell_text.specs.Lines.{is_skipped, is_space}
-use Rattle.ell_text.specs.Number.{key_in, value_in}
+use Rattle.ell_text.specs.Lines.{is_skipped, is_space, lines}
+use Rattle.ell_text.specs.Limits.{greatest_value}
+use Rattle.ell_text.specs.Number.{IsNumberInFront, key_in, value_in}
 
 -- the kind of operation that a name names
 abbrev pub kind_of : List ℕ → Option OpKind
@@ -103,8 +104,32 @@ unless_skipped false (Err fault) = Err fault
 abbrev pub line_of : Version → Section → List ℕ → Result (Option Line) LineFault
 line_of version section line = unless_skipped (is_skipped line) (said_in version section line)
 
+-- the first line of a text, read so, and the rest, which stands behind it
+pub record IsFirstLine (version : Version) (section : Section) (text : List ℕ) (read : Result (Option Line) LineFault) (rest : List ℕ) : Type 0 where
+  pub line : List ℕ
+  pub cut : lines text ≡ line ∷ lines rest
+  pub read_so : line_of version section line ≡ read
+  pub shorter : length rest < length text
+
 -- the key that a line names is one that a map may have
 abbrev pub LineFits : Line → Type 0
 LineFits says.Version = ⊤
 LineFits (says.Start key value) = key ≤ greatest_key
 LineFits (says.Operation operation) = Fits operation
+
+-- the name of a kind of line
+abbrev pub name_of : LineKind → List ℕ
+name_of kind.Start = codes "start"
+name_of (kind.Operation Find) = codes "find"
+name_of (kind.Operation Insert) = codes "insert"
+name_of (kind.Operation Delete) = codes "delete"
+
+-- the name of a kind stands in front of a text, behind it one space and then the rest, and in the section it names that kind
+pub record HasKindInFront (section : Section) (text : List ℕ) (known : LineKind) (rest : List ℕ) : Type 0 where
+  pub cut : text ≡ name_of known ++ 32 ∷ rest
+  pub named : line_kind_of section (name_of known) ≡ Some known
+
+-- where there is to be a value, one space, it and the rest are the bytes; else it is 0
+abbrev pub IsValueInFront : Bool → List ℕ → ℕ → List ℕ → Type 0
+IsValueInFront false bytes value rest = (value ≡ 0) × (rest ≡ bytes)
+IsValueInFront true bytes value rest = (number : List ℕ) × (bytes ≡ 32 ∷ number) × IsNumberInFront greatest_value number value rest

@@ -7,6 +7,10 @@ pub use Rattle.std.specs.Str.Lines.{lines}
 abbrev pub is_space : ℕ → Bool
 is_space byte = byte == 32
 
+-- what ends a line
+abbrev pub is_line_feed : ℕ → Bool
+is_line_feed byte = byte == 10
+
 -- nothing but spaces and tabs
 abbrev pub is_blank : List ℕ → Bool
 is_blank line = list_all (λ byte. byte == 32 || byte == 9) line

@@ -1,4 +1,4 @@
-use Rattle.std.specs.Prelude.{ℕ, ◌+◌, ◌-◌, ◌*◌, ◌^◌, ◌==◌, ◌&&◌, Bool, false, not, List, [], ◌∷◌, length, nat_le, Result, Ok, Err, if◌then◌else◌}
+use Rattle.std.specs.Prelude.{ℕ, ◌+◌, ◌-◌, ◌*◌, ◌^◌, ◌==◌, ◌&&◌, ◌≡◌, ◌≤◌, ◌++◌, Bool, true, false, not, List, [], ◌∷◌, length, nat_le, Result, Ok, Err, if◌then◌else◌}
 use Rattle.std.specs.Char.{is_ascii_digit}
 use Rattle.std.specs.List.{list_all}
 use Rattle.ell_ops.specs.Meaning.{greatest_key}
@@ -28,3 +28,11 @@ key_in bytes = number_in greatest_key bytes
 -- the value of a key that all of the bytes spell
 abbrev pub value_in : List ℕ → Result ℕ NumberFault
 value_in bytes = number_in greatest_value bytes
+
+-- digits in front of the rest of some bytes spell a number of at most max
+pub record IsNumberInFront (max : ℕ) (bytes : List ℕ) (number : ℕ) (rest : List ℕ) : Type 0 where
+  pub digits : List ℕ
+  pub cut : bytes ≡ digits ++ rest
+  pub spelt : is_number digits ≡ true
+  pub value : number_in max digits ≡ Ok number
+  pub within : number ≤ max

@@ -1,16 +1,16 @@
 //! The version, the start keys and the operations of a bulk text.
-ghost use Rattle.std.specs.Prelude.{◌≡◌, ◌≢◌, ◌+◌, ◌≤◌, All, IfErr, IfOk, IsSome, None, OnErr, OnOk, Some, vec_len};
+ghost use Rattle.std.specs.Prelude.{◌≡◌, ◌≢◌, ◌+◌, ◌≤◌, All, IfErr, IfOk, IfSome, IsSome, None, OnErr, OnOk, Some, vec_len};
 ghost use Rattle.std.specs.List.Sorted.{IsStrictlyIncreasing};
 ghost use Rattle.std.specs.Map.{keys_of};
 ghost use Rattle.ell_ops.specs.Meaning.{Fits, greatest_key};
-ghost use Rattle.ell_text.specs.Bulk.{BulkFits, HasSoundLine, bulk, bulk_value, fault_of, fault_of_said, line_behind, located, next_section, nothing_said, spoken_in, with_line, with_read};
+ghost use Rattle.ell_text.specs.Bulk.{BulkFits, HasSoundLine, bulk, bulk_value, fault_of, fault_of_said, located, next_section, nothing_said, spoken_in, with_line, with_read};
 ghost use Rattle.ell_text.specs.Limits.{most_operations};
+ghost use Rattle.ell_text.specs.Line.{LineFits};
 ghost use Rattle.ell_text.specs.Lines.{lines};
 ghost use Rattle.ell_text.specs.Version.{IsVersion, version_numbered};
 
 use crate::limits::OPERATIONS_MAX;
-use crate::line::{Line, LineFault, Section, read_line};
-use crate::lines::lines;
+use crate::line::{Line, LineFault, Section, read_first_line};
 use crate::version::Version;
 use ell_ops::{NoMemory, Op};
 use std::alloc::{Allocator, Global};
@@ -69,8 +69,13 @@ pub fn read_bulk<A: Allocator + Copy>(alloc: A, bytes: &[u8]) -> Result<Bulk<A>,
     ensures keys { IfOk result (λ found. All Fits found.ops.items) }
 {
     let mut bulk = Bulk::new(alloc);
-    for (index, line) in lines(bytes).enumerate() {
-        bulk.append_line(line, index + 1)?;
+    let mut rest = bytes;
+    let mut number = 0;
+    'lines: while !rest.is_empty() {
+        let (read, behind) = read_first_line(bulk.version(), bulk.section(), rest);
+        number += 1;
+        bulk.append_read(read, number)?;
+        rest = behind;
     }
     Ok(bulk)
 }
@@ -106,21 +111,24 @@ impl<A: Allocator + Copy> Bulk<A> {
         Version::numbered(self.version)
     }
 
-    // Appends what the line of this number says, if it says something.
-    fn append_line(&mut self, line: &[u8], number: usize) -> Result<(), TextFault>
+    // Appends what the line of this number says, which was read so, if it says something.
+    fn append_read(
+        &mut self,
+        read: Result<Option<Line>, LineFault>,
+        number: usize,
+    ) -> Result<(), TextFault>
         requires fits { BulkFits (bulk_value self.old) }
-        ensures ok { OnOk result (bulk_value self.new
-            ≡ with_read (bulk_value self.old) (line_behind (bulk_value self.old) line.now)) }
-        ensures sound { OnOk result (fault_of number (bulk_value self.old) (line_behind (bulk_value self.old) line.now) ≡ None) }
+        requires within { IfOk read (λ found. IfSome found LineFits) }
+        ensures ok { OnOk result (bulk_value self.new ≡ with_read (bulk_value self.old) read) }
+        ensures sound { OnOk result (fault_of number (bulk_value self.old) read ≡ None) }
         ensures fault { IfErr result (λ fault. fault ≢ TextFault.NoMemory
-            → fault_of number (bulk_value self.old) (line_behind (bulk_value self.old) line.now) ≡ Some fault) }
-        ensures no_memory { IfErr result (λ fault. fault ≡ TextFault.NoMemory
-            → IsSome (spoken_in (line_behind (bulk_value self.old) line.now))) }
+            → fault_of number (bulk_value self.old) read ≡ Some fault) }
+        ensures no_memory { IfErr result (λ fault. fault ≡ TextFault.NoMemory → IsSome (spoken_in read)) }
         ensures no_memory_sound { IfErr result (λ fault. fault ≡ TextFault.NoMemory
-            → fault_of number (bulk_value self.old) (line_behind (bulk_value self.old) line.now) ≡ None) }
+            → fault_of number (bulk_value self.old) read ≡ None) }
         ensures fits { OnOk result (BulkFits (bulk_value self.new)) }
     {
-        let said = match read_line(self.version(), self.section(), line) {
+        let said = match read {
             Ok(Some(said)) => said,
             Ok(None) => return Ok(()),
             Err(fault) => return Err(located(fault, number)),

@@ -19,6 +19,7 @@ mod lines;
 mod listing;
 mod number;
 mod output;
+mod plain;
 mod replay;
 mod replay_line;
 mod trace;

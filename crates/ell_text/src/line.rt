@@ -1,11 +1,12 @@
 //! What one line of a bulk text says.
-ghost use Rattle.std.specs.Prelude.{◌≡◌, ◌≤◌, IfOk, IfSome};
+ghost use Rattle.std.specs.Prelude.{◌≡◌, ◌<◌, ◌≤◌, IfOk, IfSome, length};
 ghost use Rattle.ell_ops.specs.Meaning.{greatest_key, key_of};
-ghost use Rattle.ell_text.specs.Line.{LineFits, line_behind_name, line_of, or_bad_key, or_bad_value, said_in};
+ghost use Rattle.ell_text.specs.Line.{IsFirstLine, LineFits, line_behind_name, line_of, or_bad_key, or_bad_value, said_in};
 ghost use Rattle.ell_text.specs.Number.{key_in, value_in};
 
-use crate::lines::{is_skipped, split_at_space};
+use crate::lines::{cut_first_line, is_skipped, split_at_space};
 use crate::number::{NumberFault, read_key, read_value};
+use crate::plain::read_plain_line;
 use crate::version::Version;
 use ell_ops::Op;
 
@@ -80,9 +81,9 @@ pub(crate) enum Line {
     Operation(Op),
 }
 
-// What a line says, without its key.
+/// What a line says, without its key.
 #[derive(Debug, Clone, Copy, PartialEq, Eq)]
-enum LineKind {
+pub(crate) enum LineKind {
     Start,
     Operation(OpKind),
 }
@@ -100,8 +101,8 @@ impl LineKind {
         OpKind::named(name).map(LineKind::Operation)
     }
 
-    // Whether a line of this kind has a value.
-    fn has_value(self, version: Version) -> bool
+    /// Whether a line of this kind has a value.
+    pub(crate) fn has_value(self, version: Version) -> bool
         ensures { result ≡ has_value version self }
     {
         matches!(
@@ -113,8 +114,8 @@ impl LineKind {
         )
     }
 
-    // What a line of this kind says of a key and a value.
-    fn on(self, key: u64, value: u64) -> Line
+    /// What a line of this kind says of a key and a value.
+    pub(crate) fn on(self, key: u64, value: u64) -> Line
         ensures value { result ≡ line_on self key value }
         ensures within { key ≤ greatest_key → LineFits result }
     {
@@ -123,6 +124,24 @@ impl LineKind {
             LineKind::Operation(kind) => Line::Operation(kind.on(key, value)),
         }
     }
+}
+
+/// Reads the first line of a text that is not empty, which stands in a section: what it says in a version, as `read_line`
+/// does, and the text behind it.
+pub(crate) fn read_first_line(
+    version: Version,
+    section: Section,
+    text: &[u8],
+) -> (Result<Option<Line>, LineFault>, &[u8])
+    requires { 0 < length text.now }
+    ensures line { IsFirstLine version section text.now result.0 result.1.now }
+    ensures within { IfOk result.0 (λ found. IfSome found LineFits) }
+{
+    if let Some((said, rest)) = read_plain_line(version, section, text) {
+        return (Ok(Some(said)), rest);
+    }
+    let (line, rest) = cut_first_line(text);
+    (read_line(version, section, line), rest)
 }
 
 /// Reads what a line of a section says in a version, or `None` where the line is skipped.

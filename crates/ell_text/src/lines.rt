@@ -1,7 +1,8 @@
 //! The lines of a text, and the parts of one line.
-ghost use Rattle.std.specs.Prelude.{◌≡◌, ◌≤◌, [], ◌∷◌, length, position, MatchOption};
+ghost use Rattle.std.specs.Prelude.{◌≡◌, ◌<◌, ◌≤◌, [], ◌∷◌, length, position, MatchOption};
 ghost use Rattle.std.specs.List.{after_first, before_first, slice_split};
-ghost use Rattle.ell_text.specs.Lines.{is_blank, is_skipped, is_space, lines};
+ghost use Rattle.std.specs.Str.Lines.{strip_carriage_return};
+ghost use Rattle.ell_text.specs.Lines.{is_blank, is_line_feed, is_skipped, is_space, lines};
 
 use bstr::{ByteSlice, Lines};
 
@@ -12,6 +13,34 @@ pub(crate) fn lines(text: &[u8]) -> Lines<'_>
     ensures len { length result ≤ length text.now }
 {
     text.lines()
+}
+
+/// The first line of a text that is not empty, and the text behind it.
+pub(crate) fn cut_first_line(text: &[u8]) -> (&[u8], &[u8])
+    requires { 0 < length text.now }
+    ensures cut { lines text.now ≡ result.0.now ∷ lines result.1.now }
+    ensures shorter { length result.1.now < length text.now }
+{
+    match first_line_feed(text) {
+        Some(at) => (without_carriage_return(&text[..at]), &text[at + 1..]),
+        None => (text, &[]),
+    }
+}
+
+fn first_line_feed(text: &[u8]) -> Option<usize>
+    ensures { result ≡ position is_line_feed text.now }
+{
+    text.iter().position(|byte| *byte == b'\n')
+}
+
+// A line without the one carriage return at its end, if it has one.
+fn without_carriage_return(line: &[u8]) -> &[u8]
+    ensures { result.now ≡ strip_carriage_return line.now }
+{
+    match line {
+        [front @ .., b'\r'] => front,
+        _ => line,
+    }
 }
 
 /// Whether a line says nothing: a comment, or nothing but spaces and tabs.

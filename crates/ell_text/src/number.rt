@@ -1,12 +1,15 @@
 //! Numbers in decimal digits, as a text spells them.
-ghost use Rattle.std.specs.Prelude.{◌≡◌, ◌^◌, ◌≤◌, IfOk, IsTrue, MatchOption};
+ghost use Rattle.std.specs.Prelude.{◌≡◌, ◌^◌, ◌≤◌, IfOk, IfSome, IsTrue, MatchOption, length, take};
 ghost use Rattle.std.specs.Char.{is_ascii_digit};
 ghost use Rattle.std.specs.List.{list_all};
 ghost use Rattle.ell_ops.specs.Meaning.{greatest_key};
-ghost use Rattle.ell_text.specs.Number.{is_number, key_in, number_in, value_in, value_of};
+ghost use Rattle.ell_text.specs.Number.{IsNumberInFront, is_number, key_in, number_in, value_in, value_of};
 
 use ell_ops::KEY_MAX;
 use std::str;
+
+// The most that is below 2^64 with any digit more.
+const MOST_BEFORE_A_DIGIT: u64 = u64::MAX / 10 - 1;
 
 /// Why some bytes are no number in range.
 #[derive(Debug, Clone, Copy, PartialEq, Eq)]
@@ -43,6 +46,48 @@ pub(crate) fn read_number(bytes: &[u8], max: u64) -> Result<u64, NumberFault>
     match value(bytes) {
         Some(number) if number <= max => Ok(number),
         _ => Err(NumberFault::TooLarge),
+    }
+}
+
+/// Reads the number that the digits at the front of some bytes spell, up to the first byte that is none, in one pass, and
+/// answers what stands behind it too. It answers `None` where they spell none of at most `max`, or one of the last few below 2^64.
+pub(crate) fn read_number_in_front(bytes: &[u8], max: u64) -> Option<(u64, &[u8])>
+    ensures { IfSome result (λ read. IsNumberInFront max bytes.now read.0 read.1.now) }
+{
+    let (number, len) = digits_in_front(bytes)?;
+    let (digits, rest) = bytes.split_at(len);
+    if number > max || !spell_a_number(digits) {
+        return None;
+    }
+    Some((number, rest))
+}
+
+// The value of the digits at the front of some bytes and how many they are, unless it is 2^64 or just below, or more.
+fn digits_in_front(bytes: &[u8]) -> Option<(u64, usize)>
+    ensures len { IfSome result (λ read. read.1 ≤ length bytes.now) }
+    ensures digits { IfSome result (λ read. IsTrue (list_all is_ascii_digit (take read.1 bytes.now))) }
+    ensures value { IfSome result (λ read. read.0 ≡ value_of (take read.1 bytes.now)) }
+{
+    let mut number: u64 = 0;
+    let mut len = 0;
+    'digits: while len < bytes.len() && bytes[len].is_ascii_digit() {
+        if number > MOST_BEFORE_A_DIGIT {
+            return None;
+        }
+        number = number * 10 + u64::from(bytes[len] - b'0');
+        len += 1;
+    }
+    Some((number, len))
+}
+
+// Whether digits are a number: there is one, and no needless 0 in front.
+fn spell_a_number(digits: &[u8]) -> bool
+    ensures { IsTrue result → IsTrue (list_all is_ascii_digit digits.now) → IsTrue (is_number digits.now) }
+{
+    match digits {
+        [] => false,
+        [_] => true,
+        [first, ..] => *first != b'0',
     }
 }
 

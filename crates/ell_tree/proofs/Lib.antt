@@ -26,5 +26,7 @@ pub mod Flagging
 pub mod Splitting
 -- how a tree ends
 pub mod Closing
+-- what the steps of a look leave of a pass
+pub mod Glances
 -- how many moves of cards a pass knows of, and why each try that is hindered shows it one more
 pub mod Moving

@@ -36,3 +36,5 @@ pub use Rattle.ell_cards.specs.declared.fault.CardFault
 pub use Rattle.ell_cards.specs.Closed
 pub use Rattle.ell_core.specs.state.Words
 pub use Rattle.ell_core.specs.tree.Tree
+-- what a look for any key leaves of a pass
+pub mod Looks

@@ -6,6 +6,7 @@ mod deleting;
 mod helping;
 mod inserting;
 mod operations;
+mod reading;
 mod searching;
 mod steps;
 mod tree;

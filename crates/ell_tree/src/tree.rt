@@ -9,15 +9,18 @@ ghost use Rattle.ell_ops.specs.Meaning.{greatest_key, found};
 ghost use Rattle.ell_word.specs.Node.{most_start};
 ghost use Rattle.ell_core.specs.state.Opening.{last_card};
 ghost use Rattle.ell_cards.specs.Models.{IsCardCount, Refuses};
+ghost use Rattle.ell_cards.specs.Looking.{IsFoundInRuns};
 ghost use Rattle.ell_tree.specs.Closing.{ClosesTo};
 ghost use Rattle.ell_tree.specs.Ends.{Answers, Ends, change_steps, find_steps, replied, try_steps};
 ghost use Rattle.ell_tree.specs.Hindrances.{Meets};
 ghost use Rattle.ell_tree.specs.Moves.{moves_known};
 ghost use Rattle.ell_tree.specs.declared.operations.Held.TheVariants.{Busy};
-ghost use Rattle.ell_tree.specs.Ledgers.{IsIdle, Owns, TreeModel};
+ghost use Rattle.ell_tree.specs.Ledgers.{IsIdle, Owns, TreeModel, present_in};
+ghost use Rattle.ell_tree.specs.Looks.{OnlyLooks, look_steps};
 ghost use Rattle.ell_tree.specs.PassParts.{IsFirst, IsLeftPart, IsRightPart, IsUnion};
 
 use crate::operations::{Held, find, make_change};
+use crate::reading::look;
 use ell_cards::{CardFault, CardTable, Pass};
 use ell_core::pairs_of_tree;
 use ell_ops::{NoMemory, Op};
@@ -114,6 +117,22 @@ impl<A: Allocator + Copy> Tree<A> {
         ensures refused { IfErr result (λ refused. (refused.0 ≡ left) × (refused.1 ≡ right)) }
     {
         self.table.join(left, right)
+    }
+
+    /// The value of any key up to `KEY_MAX`, whoever owns it, if it is present: as it was in one state of the tree between the first step of
+    /// the look and its last, whatever other passes did meanwhile (`so`). A pass without keys may look too. It writes nothing, helps
+    /// nobody, waits for nobody, and takes at most `2 * cards + 3` steps, where `cards` is the number of the last card. A key of the pass's
+    /// own is answered as `find` answers it. Two looks at two keys are of two states.
+    pub fn look<G: StepGate>(&self, pass: &mut Pass<A>, key: u64, gate: &G) -> Option<u64>
+        requires own { pass.old.table ≡ self.now.id }
+        requires idle { IsIdle pass.old }
+        requires real { key ≤ greatest_key }
+        ensures so { IsFoundInRuns self.now.keys self.now.start self.now.last_card pass.new.view key result }
+        ensures one { pass.new.view.looks ≡ pass.old.view.looks + 1 }
+        ensures mine { Owns pass.old key → result ≡ present_in pass.old key }
+        ensures only { OnlyLooks pass.old pass.new (look_steps self.now.last_card) }
+    {
+        look(&self.table, pass, key, gate)
     }
 
     /// The value of a key of the pass, if the key is present. It helps nobody, nothing is in its way, and it takes at most

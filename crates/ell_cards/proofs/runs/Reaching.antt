@@ -29,6 +29,7 @@ use Rattle.ell_cards.proofs.stepping.AllCalls.{steps_are_events}
 use Rattle.ell_cards.proofs.lifetimes.Ends.{shows}
 use Rattle.ell_cards.proofs.runs.Starting.{starts_are_kept, runs_from_starts}
 use Rattle.ell_cards.proofs.runs.TurnsOfRuns.{runs_are_lawful}
+use Rattle.ell_cards.proofs.runs.OwnLooks.{looks_read_their_own}
 
 -- a run, and a turn after it
 one_more_turn : (last : ℕ) (s : TableState) (turns : List Turn) (s' : TableState) (t : Turn) (s'' : TableState) → TableRun last s turns s'
@@ -97,6 +98,7 @@ module _ (keys : List ℕ) (start : List (ℕ × ℕ)) (last : ℕ) where
           record {
             view = refl;
             tells = (steps_are_events keys last s (reached_kept s h) id v c here may).tells;
+            own = looks_read_their_own keys start last s' on id w (set_there s.views id w v here);
             keys = keys_stay c n v;
             named = kept_named keys last s' (reached_kept s' on) id w (set_there s.views id w v here);
           },
@@ -126,7 +128,7 @@ module _ (keys : List ℕ) (start : List (ℕ × ℕ)) (last : ℕ) where
       (λ id s h homes here small.
       let x = taken (call.Fill c f value) v (λ n. value) (λ n. refl) may id s h homes here small in
       let t = x.4.0 in
-      (x.0, x.1, x.2, x.3, (record { view = t.view; tells = tt; keys = t.keys; named = t.named }, x.4.1)))
+      (x.0, x.1, x.2, x.3, (record { view = t.view; tells = tt; own = t.own; keys = t.keys; named = t.named }, x.4.1)))
 
   either_is : (b : Bool) (x y : ℕ) → either b x y ≡ (if b then x else y)
   either_is true x y = refl

@@ -1,4 +1,4 @@
-use Rattle.std.proofs.Common.{◌≡◌, ◌==◌, ℕ, ◌%◌, ◌<◌, ◌≤◌, List, [], ◌∷◌, Option, Some, refl, ap, inl, inr, arith}
+use Rattle.std.proofs.Common.{◌≡◌, ◌==◌, ℕ, ◌%◌, ◌<◌, ◌≤◌, false, List, [], ◌∷◌, Option, Some, refl, ap, inl, inr, arith}
 use Rattle.ell_ops.specs.declared.op.Op.{Op}
 use Rattle.ell_ops.specs.declared.op.Op.TheVariants.{Insert, Delete}
 use Rattle.ell_word.specs.Node.{card}
@@ -65,6 +65,8 @@ word_fits cards (call.KeyOf x) v named may = address_fits cards (card x) (key_fi
 word_fits cards (call.ValueOf x) v named may = address_fits cards (card x) (value_field (x % 3)) (named.entries (Met x) may.0)
 word_fits cards (call.Info c f) v named may = address_fits cards c f (known_fits cards v c named may.knows)
 word_fits cards (call.FrozenChild c p right) v named may = address_fits cards (card p) (child_field right) (named.entries (Info c field.P p) may.parent).1
+word_fits cards (call.LookFor key) v named may = address_fits cards 0 (child_field false) (omega arith)
+word_fits cards (call.LookDown x right) v named may = address_fits cards (card x) (child_field right) (named.entries (Met x) may.met)
 word_fits cards (call.Fill c f value) v named may = address_fits cards c f (named.hand c may.holds)
 word_fits cards (call.IFlag c p from) v named may = address_fits cards (card p) field.Update (named.parent may.leaf _ may.stands may.behind).node
 word_fits cards (call.IChild c p l right) v named may = address_fits cards (card p) (child_field right) (named.entries (Info c field.P p) may.parent).1

@@ -35,7 +35,7 @@ roots_avoid m stage cards key invariant cut c has on =
     cut_out m.words stage invariant.words c (cut c has) (Reached-below m.words 0 (m.words.p c) (Below-refl m.words 0) (OnWalk-below m.words key on))
 
 -- the child of a node is as it was, or the node is in the tree
-abbrev Moved : Words → Words → ℕ → Bool → Type 0
+abbrev pub Moved : Words → Words → ℕ → Bool → Type 0
 Moved old new x right = (new.child x right ≡ old.child x right) ⊎ Reached new x
 
 module _ (old new : Words) (stage : Stages) (sound : WordsAreSound old stage) (words : WordsLater old new)
@@ -95,7 +95,7 @@ module _ (m : Machine) (stage : Stages) (i : ℕ) (said : Stepped) (becomes : Sc
   moved_links a keeps row x right = inl (ap (λ f. f x right) (row_links a keeps (scene m i) said becomes row).child)
 
   -- whatever the act is, the child of a node that came into the tree changes in the tree alone
-  moved_by : (a : Act) → Row a (scene m i) said becomes → Follows m stage a i said (with_scene m i becomes)
+  pub moved_by : (a : Act) → Row a (scene m i) said becomes → Follows m stage a i said (with_scene m i becomes)
       → (x : ℕ) (right : Bool) → IsInternal x → Born stage x → Moved m.words becomes.words x right
   moved_by act.Claim (inl row) follows x right inner born =
       moved_claim (insert_filling m.words.next row.key row.value row.parent.node row.leaf (m.words.key row.leaf) (m.words.value row.leaf)) row.gives x right born

@@ -10,11 +10,15 @@ use Rattle.ell_core.specs.declared.event.Stepped.TheVariants.{Moved, Won}
 use Rattle.ell_core.specs.declared.fact.Fact.TheVariants.{IFlagged}
 use Rattle.ell_core.specs.state.Machine.{Worker, idle}
 use Rattle.ell_core.specs.state.Opening.{opening}
-use Rattle.ell_core.specs.tree.Tree.{infinity2, Reached}
+use Rattle.ell_core.specs.state.Words.{Words}
+use Rattle.ell_core.specs.state.Cards.{child_for}
+use Rattle.ell_core.specs.acts.Searching.{IsLeaf}
+use Rattle.ell_core.specs.tree.Tree.{infinity2, Reached, OnWalk, here, next}
 use Rattle.ell_core.specs.acts.Runs.{Run}
 use Rattle.ell_core.specs.soundness.Sound.{WorkerOwns}
 use Rattle.ell_core.specs.statements.RunLaws.{IsOpening}
-use Rattle.ell_core.specs.statements.Refuted.{WordsAlwaysRise, NextCardIsFixed, FlaggedNodesAreFrozen, NothingIsLearnt, ChildExchangesComeFirst, OneLedgerForAll, InsertsAddTheNextKey, AnswersAreOfTheMapAfter, BusyOwnersFindClean, SplitsMayTeach}
+use Rattle.ell_core.specs.statements.Refuted.{WordsAlwaysRise, NextCardIsFixed, FlaggedNodesAreFrozen, NothingIsLearnt, ChildExchangesComeFirst, OneLedgerForAll, InsertsAddTheNextKey, AnswersAreOfTheMapAfter, BusyOwnersFindClean, SplitsMayTeach, LooksAreOfTheLastState, LooksAreOfTheFirstState}
+use Rattle.ell_core.specs.statements.Looks.{Looks, ends, loads, stays}
 use Rattle.ell_core.proofs.tree.Reached.{pair_key}
 use Rattle.ell_core.proofs.following.Sound.{sound}
 use Rattle.ell_core.proofs.runs.Lawful.{passed_has, pairs_change}
@@ -111,3 +115,45 @@ child_not_first first =
     (first opened
     (by (act.Begin (Insert 5 50)) ∷ by act.Upd ∷ by act.Down ∷ by act.Claim ∷ by act.IFlag ∷ [])
     (shown.Step Moved ∷ shown.Step Moved ∷ shown.Step Moved ∷ shown.Step Moved ∷ shown.Step Won ∷ []) flagged_state opens to_flag 1)
+
+-- a leaf is not internal
+no_inner : (x : ℕ) → IsLeaf x → {w : Words} {key y : ℕ} → OnWalk w key x y → y ≡ x
+no_inner x outer (here e) = e
+no_inner x outer (next inner on) = absurd (outer inner)
+
+leaf_one : IsLeaf 1
+leaf_one e = let h : ◌≡◌ {A = ℕ} 1 0 = e in omega arith
+
+leaf_four : IsLeaf 4
+leaf_four e = let h : ◌≡◌ {A = ℕ} 1 0 = e in omega arith
+
+-- a look of key 5 that loads the root's child before the exchange ends at the old leaf
+early_look : Looks 5 flagged_state (by (act.IChild 1) ∷ []) (shown.Step Won ∷ []) changed_state 0 1
+early_look = loads refl (stays changes_child (ends refl refl))
+
+-- one that loads it after the exchange ends at the new leaf
+late_look : Looks 5 flagged_state (by (act.IChild 1) ∷ []) (shown.Step Won ∷ []) changed_state 0 4
+late_look = stays changes_child (loads refl (loads refl (ends refl refl)))
+
+-- the old leaf is not on the walk afterwards
+not_later : (x y : ℕ) → OnWalk changed_state.words 5 x y → x ≡ 0 → y ≡ 1 → ⊥
+not_later x y (here e) root leaf = omega arith
+not_later x y (next inner (here e)) root leaf =
+    let h : y ≡ 3 = subst (λ n. y ≡ child_for changed_state.words 5 n) root e in omega arith
+not_later x y (next inner (next inner' on)) root leaf =
+    let down : OnWalk changed_state.words 5 4 y =
+    subst (λ n. OnWalk changed_state.words 5 (child_for changed_state.words 5 (child_for changed_state.words 5 n)) y) root on in
+    let h = no_inner 4 leaf_four down in omega arith
+
+-- the new leaf was not on it before
+not_before : (x y : ℕ) → OnWalk flagged_state.words 5 x y → x ≡ 0 → y ≡ 4 → ⊥
+not_before x y (here e) root leaf = omega arith
+not_before x y (next inner on) root leaf =
+    let down : OnWalk flagged_state.words 5 1 y = subst (λ n. OnWalk flagged_state.words 5 (child_for flagged_state.words 5 n) y) root on in
+    let h = no_inner 1 leaf_one down in omega arith
+
+pub not_of_last : ¬ LooksAreOfTheLastState
+not_of_last law = not_later 0 1 (law 5 flagged_state (by (act.IChild 1) ∷ []) (shown.Step Won ∷ []) changed_state 1 flagged_passed (omega arith) early_look leaf_one) refl refl
+
+pub not_of_first : ¬ LooksAreOfTheFirstState
+not_of_first law = not_before 0 4 (law 5 flagged_state (by (act.IChild 1) ∷ []) (shown.Step Won ∷ []) changed_state 4 flagged_passed (omega arith) late_look leaf_four) refl refl

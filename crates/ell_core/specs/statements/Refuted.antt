@@ -1,6 +1,6 @@
-use Rattle.std.specs.Prelude.{◌≡◌, ◌≢◌, ℕ, ◌+◌, ◌<◌, ◌⊎◌, Some, List, [], ◌∷◌}
+use Rattle.std.specs.Prelude.{◌≡◌, ◌≢◌, ℕ, ◌+◌, ◌<◌, ◌≤◌, ◌⊎◌, Some, List, [], ◌∷◌}
 use Rattle.ell_ops.specs.declared.op.Op.{Op}
-use Rattle.ell_ops.specs.Meaning.{reply_of}
+use Rattle.ell_ops.specs.Meaning.{reply_of, greatest_key}
 use Rattle.ell_word.specs.Node.{IsInternal, internal}
 use Rattle.ell_word.specs.Word.{unpacked}
 use Rattle.ell_word.specs.declared.update.State.TheVariants as state
@@ -15,16 +15,17 @@ use Rattle.ell_core.specs.state.Words.{put}
 use Rattle.ell_core.specs.state.Machine.{Worker, Machine}
 use Rattle.ell_core.specs.state.Moves.{WorkerIsIdle, AreParted, KnowsNoMore}
 use Rattle.ell_core.specs.state.Cards.{card_key, card_value}
-use Rattle.ell_core.specs.acts.Searching.{IsClean}
+use Rattle.ell_core.specs.acts.Searching.{IsLeaf, IsClean}
 use Rattle.ell_core.specs.acts.Events.{Steps}
 use Rattle.ell_core.specs.acts.Runs.{Run}
-use Rattle.ell_core.specs.tree.Tree.{Reached}
+use Rattle.ell_core.specs.tree.Tree.{Reached, OnWalk}
 use Rattle.ell_core.specs.soundness.Sound.{WorkerOwns}
 use Rattle.ell_core.specs.history.Stages.{Stages}
 use Rattle.ell_core.specs.history.Invariant.{Invariant}
 use Rattle.ell_core.specs.history.Later.{SameInfo, SameNode}
 use Rattle.ell_core.specs.statements.Effects.{AddsPair, KnowledgeLasts, contents_in}
 use Rattle.ell_core.specs.statements.RunLaws.{IsPassed, IsOpening, Follow, wins_in}
+use Rattle.ell_core.specs.statements.Looks.{Looks}
 use Rattle.ell_core.specs.acts.Wins.{Begins, cut_order, back_order}
 use Rattle.ell_ops.specs.declared.reply.Reply.{Reply}
 
@@ -81,3 +82,13 @@ abbrev pub SplitsMayTeach : Type 0
 SplitsMayTeach = (m : Machine) (stage : Stages) (i : ℕ) (left right : Worker) → Invariant m stage → i < m.count → WorkerIsIdle (m.worker i)
     → WorkerIsIdle left → WorkerIsIdle right → AreParted (m.worker i).ledger left.ledger right.ledger → KnowsNoMore left (m.worker i)
     → Invariant (record m { worker = put (put m.worker i left) m.count right; count = m.count + 1 }) stage
+
+-- the leaf at which a look ends is the end of the walk for its key when the look ends (in truth in one of the states meanwhile)
+abbrev pub LooksAreOfTheLastState : Type 0
+LooksAreOfTheLastState = (key : ℕ) (m : Machine) (events : List Event) (answers : List Shown) (m' : Machine) (leaf : ℕ) → IsPassed m
+    → key ≤ greatest_key → Looks key m events answers m' 0 leaf → IsLeaf leaf → OnWalk m'.words key 0 leaf
+
+-- or when it begins
+abbrev pub LooksAreOfTheFirstState : Type 0
+LooksAreOfTheFirstState = (key : ℕ) (m : Machine) (events : List Event) (answers : List Shown) (m' : Machine) (leaf : ℕ) → IsPassed m
+    → key ≤ greatest_key → Looks key m events answers m' 0 leaf → IsLeaf leaf → OnWalk m.words key 0 leaf

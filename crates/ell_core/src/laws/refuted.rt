@@ -1,6 +1,6 @@
 //! What is not so: statements near to the laws, each of which a small run shows to be false. The laws say no more than they should.
 //! Each is the contract of a function that does nothing.
-ghost use Rattle.ell_core.specs.statements.Refuted.{WordsAlwaysRise, NextCardIsFixed, FlaggedNodesAreFrozen, NothingIsLearnt, ChildExchangesComeFirst, OneLedgerForAll, InsertsAddTheNextKey, AnswersAreOfTheMapAfter, BusyOwnersFindClean, SplitsMayTeach};
+ghost use Rattle.ell_core.specs.statements.Refuted.{WordsAlwaysRise, NextCardIsFixed, FlaggedNodesAreFrozen, NothingIsLearnt, ChildExchangesComeFirst, OneLedgerForAll, InsertsAddTheNextKey, AnswersAreOfTheMapAfter, BusyOwnersFindClean, SplitsMayTeach, LooksAreOfTheLastState, LooksAreOfTheFirstState};
 
 /// Of schedules: update words may stay, the next card is not filled yet, a flagged node's child is exchanged, workers learn, and
 /// an insert's flag is won before its child exchange.
@@ -20,4 +20,10 @@ pub fn events_promise_no_more()
     ensures answers { ¬ AnswersAreOfTheMapAfter }
     ensures busy_owner { ¬ BusyOwnersFindClean }
     ensures split { ¬ SplitsMayTeach }
+{}
+
+/// Of looks: what a look finds need not be so when it ends, nor when it began.
+pub fn looks_promise_no_more()
+    ensures last { ¬ LooksAreOfTheLastState }
+    ensures first { ¬ LooksAreOfTheFirstState }
 {}

@@ -1,6 +1,7 @@
 //! Laws of every schedule: any list of events, by any workers in any order, from any opening state on; refused events, and helpers
 //! who come back long after an operation has ended, are schedules too. Each law is the contract of a function that does nothing.
 ghost use Rattle.ell_core.specs.statements.RunLaws.{EveryStateHasInvariant, EveryStateIsSound, PairsChangeAtWins, AnswersAreTheMaps, WinsAreInOrder, MarkedNodesAreFrozen, WordsRise, KnowledgeIsNeverLost, ClaimedCardsAreFixed, StagesRise};
+ghost use Rattle.ell_core.specs.statements.Looks.{LooksAreOfOneState};
 
 /// Every state of a run is sound, since the invariant holds of it.
 pub fn every_state_is_sound()
@@ -45,4 +46,10 @@ pub fn facts_last()
 pub fn claimed_cards_are_fixed()
     ensures cards { ClaimedCardsAreFixed }
     ensures nodes { StagesRise }
+{}
+
+/// A reader of any key, who goes down from the root and loads nothing but children, ends at a leaf that in one state of the run, not
+/// before he began and not after he ended, was the end of the walk for the key. So what he finds was so in that state.
+pub fn looks_are_of_one_state()
+    ensures { LooksAreOfOneState }
 {}

@@ -4,6 +4,7 @@ ghost use Rattle.ell_core.specs.statements.Waiting.{StagesTellWaiting, EventsLea
 ghost use Rattle.ell_core.specs.statements.StepLaws.{EventsAreLawful, SplitsAreLawful, JoinsAreLawful, InvariantIsSound, StepsMayRely, OwnerFindsClean};
 ghost use Rattle.ell_core.specs.statements.Walks.{RootsAvoid, EventsKeepAvoiding};
 ghost use Rattle.ell_core.specs.statements.Since.{SearchesBegin, SearchesGoOn, CleansGoOn};
+ghost use Rattle.ell_core.specs.statements.Looks.{CoursesGoOn};
 
 /// A state that the invariant holds of is sound.
 pub fn invariant_is_sound()
@@ -57,4 +58,10 @@ pub fn searches_see_what_stands()
     ensures begin { SearchesBegin }
     ensures go_on { SearchesGoOn }
     ensures cleans { CleansGoOn }
+{}
+
+/// Of a node that is on course for a key, whoever owns it, every event leaves the child on the key's side as it was, or the node is on the
+/// walk for the key from the root. So a reader who only loads goes from nodes that have been on that walk to nodes that have been on it.
+pub fn courses_go_on()
+    ensures { CoursesGoOn }
 {}

@@ -40,7 +40,7 @@ abbrev pub cut_scene : Scene → ℕ → Words → Scene
 cut_scene s c words = record { words = words; worker = knows_cut s.worker c }
 
 -- where the card is marked and has not cut yet, the exchange is won
-dchild-won : (c : ℕ) (s : Scene) (stage : Stages) (said : Stepped) (becomes : Scene) → CutsAt s.words stage c
+pub dchild-won : (c : ℕ) (s : Scene) (stage : Stages) (said : Stepped) (becomes : Scene) → CutsAt s.words stage c
     → DChild c s said becomes → (said ≡ Won) × (becomes ≡ cut_scene s c (cut_words s.words c))
 dchild-won c s stage said becomes at row =
     let w = s.words in
@@ -49,7 +49,7 @@ dchild-won c s stage said becomes at row =
     (row.says ∙ found.0, row.gives ∙ ap (cut_scene s c) words)
 
 -- where it has cut, the exchange is lost
-dchild-lost : (c : ℕ) (s : Scene) (stage : Stages) (said : Stepped) (becomes : Scene) → WordsAreSound s.words stage
+pub dchild-lost : (c : ℕ) (s : Scene) (stage : Stages) (said : Stepped) (becomes : Scene) → WordsAreSound s.words stage
     → is_cut (stage c) ≡ true → DChild c s said becomes → (said ≡ Lost) × (becomes ≡ cut_scene s c s.words)
 dchild-lost c s stage said becomes sound cut row =
     let w = s.words in

@@ -1,9 +1,14 @@
 use Rattle.std.proofs.Common.{map}
 use Rattle.ell_run.proofs.Apart.{owns_left, worked_apart}
+use Rattle.ell_run.proofs.Opened.{owns_ops}
 use Rattle.ell_run.proofs.workers.work_apart.Goals as goal
 
 pub work-requires-clause-owned : goal.work-requires-clause-owned
 work-requires-clause-owned g c = λ κs outlives.
+    owns_ops c.args.pass c.args.parts.now.ops c.args.keys.now c.requires.keys c.requires.owned
+
+pub work-requires-2-clause-owned : goal.work-requires-2-clause-owned
+work-requires-2-clause-owned g c = λ κs outlives.
     owns_left c.args.parts.now c.args.keys.now c.args.pass c.in-Ok.parted.0 c.in-Ok.parted.1 c.requires.keys c.requires.owned c.in-Ok.ensures.left
 
 pub returns-in-Ok-join : goal.returns-in-Ok-join

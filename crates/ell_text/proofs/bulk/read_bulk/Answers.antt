@@ -1,47 +1,49 @@
--- Each turn reads the line at its index, and the last turn has read them all.
-use Rattle.std.proofs.Common.{ap, ◌∙◌}
+-- Each turn reads the first line of the rest, and the last turn has read them all.
+use Rattle.std.proofs.Common.{◌≡◌, ◌+◌, refl, sym, ap, ap₂, ◌∙◌, arith}
 use Rattle.std.proofs.lemmas.Result.{err_from_is_err_and}
-use Rattle.std.specs.Iterator.Adapters.{enumerate_source, enumerate_count}
-use Rattle.ell_text.specs.Bulk.{bulk_value}
-use Rattle.ell_text.proofs.Operations.{read_none, read_more, read_fault, read_stops, read_all_of}
+use Rattle.ell_text.specs.Bulk.{bulk_value, fault_of, line_behind, with_read}
+use Rattle.ell_text.specs.Line.{line_of}
+use Rattle.ell_text.proofs.FirstLines.{nothing_left}
+use Rattle.ell_text.proofs.Operations.{read_more, read_fault, read_stops, read_all_of}
 use Rattle.ell_text.proofs.bulk.read_bulk.Goals as goal
 
-pub loop-index-init : goal.loop-index-init
-loop-index-init g c =
-    let start = c.into_iter-index-iterator.ensures.into_iter_gives in
+pub lines-preserved : goal.lines-preserved
+lines-preserved g c =
+    let before = bulk_value c.lines.bulk in
+    let first = c.read_first_line-read.ensures.line in
+    let done = c.in_ok-append_read.ensures in
+    let read : line_behind before first.line ≡ c.read_first_line-read.result.0 =
+    ap₂ (λ version section. line_of version section first.line) (sym c.version.ensures) (sym c.section.ensures) ∙ first.read_so in
     record {
-      read = read_none _ _ _ _ (ap enumerate_source start ∙ c.enumerate-index-items.ensures.source ∙ c.lines.ensures.value)
-          (ap enumerate_count start ∙ c.enumerate-index-items.ensures.count) c.new-bulk.ensures.value;
-      fits = c.new-bulk.ensures.fits;
-    }
-
-pub loop-index-preserved : goal.loop-index-preserved
-loop-index-preserved g c =
-    let step = c.in-Some.ensures.steps in
-    let done = c.in_ok-append_line.ensures in
-    record {
-      read = read_more _ _ c.in-Some.line.now _ (bulk_value c.loop-index.bulk) (rw step.0 at c.loop-index.invariant.read)
-          _ _ step.2 (rw step.1 at done.sound) done.ok;
+      read = read_more _ _ first.line c.lines.number before (rw first.cut at c.lines.invariant.read) (c.lines.number + 1) _ refl
+          (ap (fault_of (c.lines.number + 1) before) read ∙ done.sound) (done.ok ∙ sym (ap (with_read before) read));
       fits = done.fits;
+      counted = omega (arith, c.lines.invariant.counted, first.shorter);
     }
 
-pub returns-in_err-append_line-clause-fault : goal.returns-in_err-append_line-clause-fault
-returns-in_err-append_line-clause-fault g c =
-    let step = c.in-Some.ensures.steps in
-    let failed = c.in_err-append_line.ensures in
-    let known = rw step.0 at c.loop-index.invariant.read in
+pub returns-in_err-append_read-clause-fault : goal.returns-in_err-append_read-clause-fault
+returns-in_err-append_read-clause-fault g c =
+    let before = bulk_value c.lines.bulk in
+    let first = c.read_first_line-read.ensures.line in
+    let failed = c.in_err-append_read.ensures in
+    let read : line_behind before first.line ≡ c.read_first_line-read.result.0 =
+    ap₂ (λ version section. line_of version section first.line) (sym c.version.ensures) (sym c.section.ensures) ∙ first.read_so in
     let error = err_from_is_err_and c.from_residual.result c.from_residual.ensures.1 in
-    rw (error.1, error.2) (λ other. read_fault _ _ c.in-Some.line.now _ (bulk_value c.loop-index.bulk) known _ (rw step.1 at (failed.fault other)))
+    rw (error.1, error.2) (λ other. read_fault _ _ first.line c.lines.number before (rw first.cut at c.lines.invariant.read) _
+    (ap (fault_of (c.lines.number + 1) before) read ∙ failed.fault other))
 
-pub returns-in_err-append_line-clause-no_memory : goal.returns-in_err-append_line-clause-no_memory
-returns-in_err-append_line-clause-no_memory g c =
-    let step = c.in-Some.ensures.steps in
-    let failed = c.in_err-append_line.ensures in
-    let known = rw step.0 at c.loop-index.invariant.read in
+pub returns-in_err-append_read-clause-no_memory : goal.returns-in_err-append_read-clause-no_memory
+returns-in_err-append_read-clause-no_memory g c =
+    let before = bulk_value c.lines.bulk in
+    let first = c.read_first_line-read.ensures.line in
+    let failed = c.in_err-append_read.ensures in
+    let read : line_behind before first.line ≡ c.read_first_line-read.result.0 =
+    ap₂ (λ version section. line_of version section first.line) (sym c.version.ensures) (sym c.section.ensures) ∙ first.read_so in
     let error = err_from_is_err_and c.from_residual.result c.from_residual.ensures.1 in
-    rw (error.1, error.2) (λ is. read_stops _ _ c.in-Some.line.now _ (bulk_value c.loop-index.bulk) known (rw step.1 at (failed.no_memory_sound is)) (failed.no_memory is))
+    rw (error.1, error.2) (λ is. read_stops _ _ first.line c.lines.number before (rw first.cut at c.lines.invariant.read)
+    (ap (fault_of (c.lines.number + 1) before) read ∙ failed.no_memory_sound is)
+    (rw read (failed.no_memory is)))
 
 pub returns-clause-ok : goal.returns-clause-ok
 returns-clause-ok g c =
-    let step = c.in-None.ensures.steps in
-    read_all_of _ _ (bulk_value c.loop-index.bulk) (rw step.0.0 at c.loop-index.invariant.read)
+    read_all_of _ _ (bulk_value c.lines.bulk) (rw (nothing_left c.lines.rest.now (sym c.is_empty.ensures ∙ c.lines-test.false)) at c.lines.invariant.read)

@@ -1,12 +1,16 @@
--- So far no line has a fault, and the bulk is what the lines before this one say.
-use Rattle.std.specs.Iterator.Adapters.{enumerate_source, enumerate_count}
+-- So far no line has a fault, and the bulk is what the lines before the rest say.
+use Rattle.std.proofs.Common.{◌+◌, ◌≤◌, length}
 use Rattle.ell_text.specs.Bulk.{BulkFits, bulk_value}
 use Rattle.ell_text.specs.Lines.{lines}
 use Rattle.ell_text.proofs.Operations.{IsReadTo}
 use Rattle.ell_text.proofs.bulk.read_bulk.Given as goal
 
-abbrev pub invariant-loop-index : goal.invariant-loop-index
-invariant-loop-index g l = record {
-  read : IsReadTo (lines l.fn.bytes) (enumerate_source l.index-iterator) (enumerate_count l.index-iterator) (bulk_value l.bulk);
+abbrev pub invariant-lines : goal.invariant-lines
+invariant-lines g l = record {
+  read : IsReadTo (lines l.fn.bytes) (lines l.rest) l.number (bulk_value l.bulk);
   fits : BulkFits (bulk_value l.bulk);
+  counted : l.number + length l.rest ≤ length l.fn.bytes;
 }
+
+abbrev pub decreases-lines : goal.decreases-lines
+decreases-lines g l = length l.rest

@@ -19,3 +19,6 @@ returns-clause-step g c = steps_by c.args.pass.now c.load_as.new.pass _ c.load_a
 
 pub returns-clause-tells : goal.returns-clause-tells
 returns-clause-tells g c = c.load_as.ensures.told.tells
+
+pub returns-clause-looked : goal.returns-clause-looked
+returns-clause-looked g c = c.load_as.ensures.told.own

@@ -1,0 +1,106 @@
+use Rattle.std.specs.Prelude.{◌≡◌, ◌≢◌, ℕ, ◌≤◌, Option, Some, None, List, [], ◌∷◌, suc, take, drop}
+use mathlib.Core.Option.{some}
+use lib.ListN.{get_elem?}
+use Rattle.ell_core.specs.state.Words.{Words}
+use Rattle.ell_core.specs.state.Machine.{ledger_of}
+use Rattle.ell_core.specs.state.Opening.{last_card}
+use Rattle.ell_core.specs.acts.Searching.{IsLeaf}
+use Rattle.ell_core.specs.tree.Tree.{IsTreeKey, IsTreePair}
+use Rattle.ell_core.specs.statements.Effects.{contents_in}
+use Rattle.ell_cards.specs.declared.call.Call.{Call}
+use Rattle.ell_cards.specs.declared.call.Call.TheVariants as call
+use Rattle.ell_cards.specs.declared.view.Told.TheVariants.{Key}
+use Rattle.ell_cards.specs.declared.view.View.{View}
+use Rattle.ell_cards.specs.Models.{IsTold}
+use Rattle.ell_cards.specs.Guards.{TellsOf}
+use Rattle.ell_cards.specs.States.{TableState}
+use Rattle.ell_cards.specs.Turns.{Turn, Makes, Splits, Joins, CallIsMade, TableRun}
+use Rattle.ell_cards.specs.TurnEffects.{own_words}
+use Rattle.ell_cards.specs.Starts.{Starts, IsReached}
+
+-- a state of a run of a table, its first and its last among them: some first turns lead to it, and the others from it to the end
+pub record IsAmid (cards : ℕ) (s : TableState) (turns : List Turn) (s' state : TableState) : Type 0 where
+  pub first : ℕ
+  pub before : TableRun cards s (take first turns) state
+  pub after : TableRun cards state (drop first turns) s'
+
+-- the tree of these words has a key with this value, or it has the key not at all
+abbrev pub HasThere : Words → ℕ → Option ℕ → Type 0
+HasThere w key (Some value) = IsTreePair w key value
+HasThere w key None = ¬ IsTreeKey w key
+
+-- so it was in one state of a run, by the table's own words
+pub record WasSo (cards : ℕ) (s : TableState) (turns : List Turn) (s' : TableState) (key : ℕ) (there : Option ℕ) : Type 0 where
+  pub state : TableState
+  pub amid : IsAmid cards s turns s' state
+  pub so : HasThere (own_words state) key there
+
+-- what a pass has found by its look for a key: the look has come to a leaf, of which it was told the key and, if that is the look's, the
+-- value
+pub record HasFound (v : View) (key : ℕ) (there : Option ℕ) : Type 0 where
+  pub leaf : ℕ
+  pub leaf_key : ℕ
+  pub looks : v.looking ≡ Some (record { key = key; node = leaf })
+  pub outer : IsLeaf leaf
+  pub told : IsTold v (Key leaf leaf_key)
+  pub tells : TellsOf v leaf leaf_key key there
+
+-- a step call that begins neither a look nor an operation
+abbrev pub BeginsNothing : Call → Type 0
+BeginsNothing (call.LookFor key) = ⊥
+BeginsNothing (call.Begin op) = ⊥
+BeginsNothing _ = Unit {0}
+
+-- in these turns the pass in a seat makes no other, and is not split or joined
+abbrev pub LooksOn : ℕ → List Turn → Type 0
+LooksOn seat [] = Unit {0}
+LooksOn seat (Makes other c ∷ ts) = (other ≡ seat → BeginsNothing c) × LooksOn seat ts
+LooksOn seat (Splits other left ∷ ts) = (other ≢ seat) × LooksOn seat ts
+LooksOn seat (Joins one other ∷ ts) = (one ≢ seat) × (other ≢ seat) × LooksOn seat ts
+
+-- the last look of the pass in a seat began here in a run: the pass made its call, and has begun nothing since
+pub record Began (cards : ℕ) (s : TableState) (turns : List Turn) (s' : TableState) (seat key : ℕ) : Type 0 where
+  pub first : ℕ
+  pub from : TableState
+  pub to : TableState
+  pub before : TableRun cards s (take first turns) from
+  pub call : CallIsMade cards from seat (call.LookFor key) to
+  pub after : TableRun cards to (drop (suc first) turns) s'
+  pub on : LooksOn seat (drop (suc first) turns)
+
+-- and what it has found was so in one state of the run since
+pub record FoundInRun (cards : ℕ) (s : TableState) (turns : List Turn) (s' : TableState) (seat key : ℕ) (there : Option ℕ) : Type 0 where
+  pub began : Began cards s turns s' seat key
+  pub so : WasSo cards began.to (drop (suc began.first) turns) s' key there
+
+-- so it is in every run of a table with these keys, start keys and this last card, from its start to a state in which a pass knows this
+abbrev pub IsFoundInRuns : List ℕ → List (ℕ × ℕ) → ℕ → View → ℕ → Option ℕ → Type 0
+IsFoundInRuns keys start last v key there = (cards : ℕ) (s : TableState) → last_card start cards ≡ last → Starts keys start cards s
+    → (turns : List Turn) (s' : TableState) → TableRun last s turns s' → (seat : ℕ) → get_elem? s'.views seat ≡ some v
+    → FoundInRun last s turns s' seat key there
+
+-- what any pass has found by its last look for any key, whoever owns it, whatever turns of whatever passes came meanwhile
+abbrev pub LooksAreOfOneState : Type 0
+LooksAreOfOneState = (keys : List ℕ) (start : List (ℕ × ℕ)) (last : ℕ) (v : View) (key : ℕ) (there : Option ℕ) → HasFound v key there
+    → IsFoundInRuns keys start last v key there
+
+-- two looks, by one pass or by two, of one key or of two, of which the second began after the first had come to its end: the first
+-- found what was so before the second began, and the second what was so since
+abbrev pub LooksAreInOrder : Type 0
+LooksAreInOrder = (keys : List ℕ) (start : List (ℕ × ℕ)) (cards : ℕ) (s : TableState) → Starts keys start cards s
+    → (turns : List Turn) (ended : TableState) → TableRun (last_card start cards) s turns ended
+    → (seat : ℕ) (v : View) → get_elem? ended.views seat ≡ some v → (key : ℕ) (there : Option ℕ) → HasFound v key there
+    → (other next : ℕ) (begun : TableState) → CallIsMade (last_card start cards) ended other (call.LookFor next) begun
+    → (more : List Turn) (s' : TableState) → TableRun (last_card start cards) begun more s' → LooksOn other more
+    → (w : View) → get_elem? s'.views other ≡ some w → (there' : Option ℕ) → HasFound w next there'
+    → FoundInRun (last_card start cards) s turns ended seat key there × WasSo (last_card start cards) begun more s' next there'
+
+-- what a pass has found by a look for a key of its own is what its ledger has: it reads its own changes
+abbrev pub ReadsItsOwn : View → Type 0
+ReadsItsOwn v = (key : ℕ) (there : Option ℕ) → HasFound v key there → ledger_of v.worker.ledger key ≢ None
+    → there ≡ contents_in (ledger_of v.worker.ledger) key
+
+-- so does each pass, wherever turns have led a table
+abbrev pub LooksReadTheirOwn : Type 0
+LooksReadTheirOwn = (keys : List ℕ) (start : List (ℕ × ℕ)) (last : ℕ) (s : TableState) → IsReached keys start last s → (seat : ℕ) (v : View)
+    → get_elem? s.views seat ≡ some v → ReadsItsOwn v

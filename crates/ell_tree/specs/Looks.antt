@@ -1,0 +1,22 @@
+use Rattle.std.specs.Prelude.{◌≡◌, ℕ, ◌+◌, ◌*◌, ◌≤◌}
+use Rattle.ell_cards.specs.declared.view.Told.{Told}
+use Rattle.ell_cards.specs.Models.{PassModel, IsTold}
+
+-- a pass has at most so many steps more, and was told more, and all else that it has and knows of operations is as it was: so it owns what
+-- it owned, with the same values, and has nothing in hand if it had nothing
+pub record OnlyLooks (old new : PassModel) (n : ℕ) : Type 0 where
+  pub table : new.table ≡ old.table
+  pub label : new.label ≡ old.label
+  pub worker : new.view.worker ≡ old.view.worker
+  pub answers : new.view.answers ≡ old.view.answers
+  pub hindrances : new.view.hindrances ≡ old.view.hindrances
+  pub next : new.view.next ≡ old.view.next
+  pub knew_before : new.view.knew_before ≡ old.view.knew_before
+  pub next_at_least : new.view.next_at_least ≡ old.view.next_at_least
+  pub won : new.view.won ≡ old.view.won
+  pub told : (e : Told) → IsTold old.view e → IsTold new.view e
+  pub steps : new.steps ≤ old.steps + n
+
+-- the most steps of a look in a tree of so many cards
+abbrev pub look_steps : ℕ → ℕ
+look_steps cards = 2 * cards + 3

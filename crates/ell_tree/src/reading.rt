@@ -1,0 +1,44 @@
+//! The look: a read of any key, whoever owns it. It changes nothing and helps nobody.
+ghost use Rattle.std.specs.Prelude.{◌≡◌, ◌≤◌, ◌+◌};
+ghost use Rattle.ell_ops.specs.Meaning.{greatest_key};
+ghost use Rattle.ell_cards.specs.Looking.{HasFound};
+ghost use Rattle.ell_tree.specs.Ledgers.{IsIdle, Owns, present_in};
+ghost use Rattle.ell_tree.specs.Looks.{OnlyLooks, look_steps};
+
+use ell_cards::{CardTable, Pass};
+use ell_word::{Kind, StepGate, is_internal};
+use std::alloc::Allocator;
+
+/// The value of any key, if it is there: that of the leaf at which its way from the root ends. It reads no update word, so a flag or a mark
+/// is nothing to it, and a node that was cut out while it stood there leads on as it did.
+pub(crate) fn look<A: Allocator + Copy, G: StepGate>(
+    table: &CardTable<A>,
+    pass: &mut Pass<A>,
+    key: u64,
+    gate: &G,
+) -> Option<u64>
+    requires own { pass.old.table ≡ table.now.id }
+    requires idle { IsIdle pass.old }
+    requires real { key ≤ greatest_key }
+    ensures found { HasFound pass.new.view key result }
+    ensures one { pass.new.view.looks ≡ pass.old.view.looks + 1 }
+    ensures mine { Owns pass.old key → result ≡ present_in pass.old key }
+    ensures only { OnlyLooks pass.old pass.new (look_steps table.now.last_card) }
+{
+    let label = pass.label();
+    gate.before(label, Kind::Look);
+    let mut node = table.look_for(pass, key);
+    while is_internal(node) {
+        gate.before(label, Kind::Look);
+        let node_key = table.key_of(pass, node);
+        gate.before(label, Kind::Look);
+        node = table.look_down(pass, node, node_key <= key);
+    }
+    gate.before(label, Kind::Look);
+    let leaf_key = table.key_of(pass, node);
+    if leaf_key != key {
+        return None;
+    }
+    gate.before(label, Kind::Look);
+    Some(table.value_of(pass, node))
+}
