@@ -1,5 +1,5 @@
 //! Pseudo-random lines, behind nothing, the line of version 2 or an operation: each reads alike with a line feed, with a carriage return
-//! before it, and with no end, though one that is spelt plainly is read in one pass with a line feed alone.
+//! before it, and with no end, though one that is spelt plainly is read in one pass where it has an end.
 use ell_test_gates::Dice;
 use ell_text::{Bulk, TextFault, read_bulk};
 use std::alloc::{AllocError, Global};
