@@ -2,7 +2,7 @@
 ghost use Rattle.std.specs.Prelude.{◌≡◌, ◌<◌, ◌≤◌, [], ◌∷◌, length, position, MatchOption};
 ghost use Rattle.std.specs.List.{after_first, before_first, slice_split};
 ghost use Rattle.std.specs.Str.Lines.{strip_carriage_return};
-ghost use Rattle.ell_text.specs.Lines.{is_blank, is_line_feed, is_skipped, is_space, lines};
+ghost use Rattle.ell_text.specs.Lines.{is_blank, is_skipped, is_space, lines};
 
 use bstr::{ByteSlice, Lines};
 
