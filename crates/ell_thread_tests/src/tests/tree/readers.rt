@@ -28,9 +28,9 @@ const TRIES: u32 = 1_000;
 const ROUNDS: u64 = 3_000;
 
 // How often another looks.
-const LOOKS: u32 = 40_000;
+const LOOKS: u32 = 200_000;
 
-const TREES: u32 = 2;
+const TREES: u32 = 10;
 
 // The value of a key in a round.
 fn value_of(key: u64, round: u64) -> u64 {
