@@ -15,4 +15,4 @@ pub returns-in-Ok-join : goal.returns-in-Ok-join
 returns-in-Ok-join g c =
     worked_apart c.args.parts.now c.args.keys.now c.args.pass c.in-Ok.parted.0 c.in-Ok.parted.1 c.requires.keys c.requires.owned c.in-Ok.ensures.left
     c.args.tree.now c.args.tree.now.last_card c.args.tries c.in_ok-ours.ours c.in-Ok-join.pass (map (λ piece. piece.items) c.in_ok-ours.pieces.items)
-    c.requires.lawful c.requires.own c.requires.idle c.in-Ok.ensures.right c.in_ok-ours.ensures c.in-Ok-join.ensures.joined
+    c.requires.lawful c.requires.own c.requires.idle c.in-Ok.ensures.right c.in_ok-ours.ensures.worked c.in-Ok-join.ensures.joined
