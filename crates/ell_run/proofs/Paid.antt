@@ -1,4 +1,4 @@
-use Rattle.std.proofs.Common.{◌≡◌, ℕ, ◌+◌, ◌-◌, ◌*◌, ◌<◌, ◌≤◌, List, [], ◌∷◌, ◌++◌, inl, inr, ⊎_elim, ◌/◌, ◌∙◌, length, get_or, take, drop, max, refl, ap, arith}
+use Rattle.std.proofs.Common.{◌≡◌, ℕ, ◌+◌, ◌*◌, ◌<◌, ◌≤◌, List, [], ◌∷◌, ◌++◌, ◌/◌, ◌∙◌, length, get_or, take, drop, max, ap, arith}
 use Rattle.std.proofs.Math.Nat.{mul-le-mul_right}
 use Rattle.std.proofs.lemmas.List.{length-append, length-drop, length-take}
 use Rattle.ell_ops.specs.declared.op.Op.{Op}
@@ -7,10 +7,6 @@ use Rattle.ell_tree.specs.Ends.{find_steps, try_steps}
 use Rattle.ell_tree.specs.Ledgers.{PassModel}
 use Rattle.ell_tree.specs.Moves.{moves_known}
 use Rattle.ell_run.specs.Steps.{IsPaid, longest, work_steps, worker_steps}
-
--- no call
-pub paid_none : (cards : ℕ) (p : PassModel) → IsPaid cards 0 p p
-paid_none cards p = record { steps = omega arith; most = omega arith }
 
 -- a find
 pub paid_find : (cards : ℕ) (before after : PassModel) → after.steps ≤ before.steps + find_steps cards →

@@ -46,7 +46,7 @@ pub fn work<R: Threads + Sync, A: Allocator + Copy + Send + Sync, G: StepGate + 
 }
 
 // The same with a pass that may have other keys beside those of the operations, which are `keys`: the others stay in a pass that no
-// worker uses.
+// worker uses, for a split and a join more.
 pub(crate) fn work_apart<R: Threads + Sync, A: Allocator + Copy + Send + Sync, G: StepGate + Sync>(
     rt: &R,
     alloc: A,
@@ -63,8 +63,9 @@ pub(crate) fn work_apart<R: Threads + Sync, A: Allocator + Copy + Send + Sync, G
     requires keys { Lists (keys_of parts.now.ops) keys.now }
     requires owned { All (λ key. Owns pass key) keys.now }
     requires tries { 1 ≤ tries }
-    ensures { IfOk result (λ done.
+    ensures worked { IfOk result (λ done.
         IsWorked tree.now.last_card tries parts.now (all_workers parts.now) pass done.0 (map (λ piece. piece.items) done.1.items)) }
+    ensures bounded { IfOk result (λ done. done.0.steps ≤ pass.steps + work_steps tree.now.last_card parts.now (busy parts.now) + 2) }
 {
     if pass.keys().len() == keys.len() {
         return work(rt, alloc, tree, pass, parts, tries, gate);
