@@ -122,7 +122,8 @@ impl<A: Allocator + Copy> Tree<A> {
     /// The value of any key up to `KEY_MAX`, whoever owns it, if it is present: as it was in one state of the tree between the first step of
     /// the look and its last, whatever other passes did meanwhile (`so`). A pass without keys may look too. It writes nothing, helps
     /// nobody, waits for nobody, and takes at most `2 * cards + 3` steps, where `cards` is the number of the last card. A key of the pass's
-    /// own is answered as `find` answers it. Two looks at two keys are of two states.
+    /// own is answered as `find` answers it. Two looks at two keys are of two states. The gate is told each step, as `Look`, and neither a
+    /// begin nor an end.
     pub fn look<G: StepGate>(&self, pass: &mut Pass<A>, key: u64, gate: &G) -> Option<u64>
         requires own { pass.old.table ≡ self.now.id }
         requires idle { IsIdle pass.old }

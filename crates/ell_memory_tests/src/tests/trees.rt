@@ -352,4 +352,8 @@ fn an_operation_on_start_keys_wants_no_memory(rt: HostRuntime) {
     let heap = Heap::new(rt.alloc());
     let (tree, mut pass) = valued(&rt, &heap);
     answer_without_memory(&rt, &heap, &tree, &mut pass, &rows);
+    heap.refuse(Refusal::From(1));
+    assert!(rt; tree.look(&mut pass, 7, &NoGate) == Some(70));
+    heap.stop();
+    assert!(rt; heap.growths() == 0);
 }

@@ -1,8 +1,10 @@
-//! Trees on one thread, on two that a gate holds, and on four.
+//! Trees on one thread, on two that a gate holds, on four, and on 64 of which half look.
 pub(super) mod asking;
 mod four_threads;
+mod looks;
 mod plain_map;
 mod random_operations;
+mod readers;
 mod rows;
 mod starts;
 mod steps_told;
