@@ -1,5 +1,5 @@
 //! A tree and a pass of it.
-ghost use Rattle.std.specs.Prelude.{IsTrue, if◌then◌else◌, ◌≡◌, ◌≤◌, ◌<◌, ◌+◌, ◌↔◌, ◌⊎◌, ℕ, true, None, Some, Err, IfOk, IfErr, OnOk, OnErr};
+ghost use Rattle.std.specs.Prelude.{IsTrue, if◌then◌else◌, ◌≡◌, ◌≢◌, ◌≤◌, ◌<◌, ◌+◌, ◌↔◌, ◌⊎◌, ℕ, true, None, Some, Err, IfOk, IfErr, OnOk, OnErr};
 ghost use Rattle.std.specs.Arc.{arc_value};
 ghost use Rattle.std.specs.List.Sorted.{IsStrictlyIncreasing};
 ghost use Rattle.ell_ops.specs.declared.op.Op.TheVariants.{Find, Insert, Delete};
@@ -12,8 +12,9 @@ ghost use Rattle.ell_cards.specs.Models.{IsCardCount};
 ghost use Rattle.ell_tree.specs.Ends.{Answers};
 ghost use Rattle.ell_tree.specs.Ledgers.{IsIdle, Owns, hindrances, present_in};
 ghost use Rattle.ell_tree.specs.Looks.{OnlyLooks, look_steps};
-ghost use Rattle.ell_tree.specs.PassParts.{IsFirst, IsLeftPart, IsRightPart, IsUnion};
-ghost use Rattle.ell_handle.specs.declared.refusal.Refusal.TheVariants.{Foreign, NoTries, Busy, Spent, BadCards, BadKey};
+ghost use Rattle.ell_tree.specs.PassParts.{IsLeftPart, IsRightPart, IsUnion};
+ghost use Rattle.ell_handle.specs.Opens.{OwnsAll};
+ghost use Rattle.ell_handle.specs.declared.refusal.Refusal.TheVariants.{Foreign, NoTries, Busy, Spent, BadCards, BadKey, OtherTree};
 
 use crate::keys::{all_keys, each_once, keys_in};
 use crate::refusal::Refusal;
@@ -57,7 +58,7 @@ impl Handle {
         cards: u64,
         number: u64,
     ) -> Result<Handle, Refusal>
-        ensures first { IfOk result (λ made. IsFirst start.now (arc_value made.shared).tree made.pass) }
+        ensures owns { IfOk result (λ made. OwnsAll keys.now start.now (arc_value made.shared).tree made.pass) }
         ensures present { IfOk result (λ made. present_in made.pass ≡ contents_of start.now) }
         ensures number { IfOk result (λ made. (arc_value made.shared).number ≡ number) }
         ensures cards { OnOk result (IsCardCount cards) }
@@ -118,6 +119,7 @@ impl Handle {
         ensures union { IfOk result (λ both. IsUnion self.pass other.pass both.pass) }
         ensures tree { IfOk result (λ both. both.shared ≡ self.shared) }
         ensures numbers { OnOk result ((arc_value other.shared).number ≡ (arc_value self.shared).number) }
+        ensures other_tree { IfErr result (λ refused. refused.2 ≡ OtherTree → (arc_value other.shared).number ≢ (arc_value self.shared).number) }
         ensures refused { IfErr result (λ refused. (refused.0 ≡ self) × (refused.1 ≡ other)) }
     {
         if other.shared.number != self.shared.number {
