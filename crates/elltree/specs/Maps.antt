@@ -1,10 +1,11 @@
-use Rattle.std.specs.Prelude.{◌≡◌, ℕ, Option, Some, None, List, length, map}
+use Rattle.std.specs.Prelude.{◌≡◌, ◌≢◌, ℕ, Option, Some, None, List, length, map}
 use Rattle.std.specs.Arc.{arc_value}
 use Rattle.ell_ops.specs.Contents.{Contents, nothing}
 use Rattle.ell_cards.specs.Changes.{keys_of}
 use Rattle.ell_cards.specs.Looking.{IsFoundInRuns}
-use Rattle.ell_tree.specs.Ledgers.{Owns, present_in}
+use Rattle.ell_tree.specs.Ledgers.{Owns, hindrances, present_in}
 use Rattle.ell_tree.specs.PassParts.{IsUnion}
+use Rattle.ell_handle.specs.Opens.{OwnsAll}
 use Rattle.ell_handle.specs.declared.handle.Handle.{Handle}
 use Rattle.elltree.specs.Owned.{Inside}
 use Rattle.elltree.specs.declared.Pair.{Pair}
@@ -48,6 +49,26 @@ abbrev pub IsFoundBy : Option Handle → ℕ → Option ℕ → Type 0
 IsFoundBy (Some handle) key there = Finds handle key there
 IsFoundBy None key there = ⊥
 
+-- a handle of a new tree owns all its keys: these, and those of these pairs, which are present with their values
+abbrev pub OwnsAllIn : List ℕ → List (ℕ × ℕ) → Option Handle → Type 0
+OwnsAllIn keys start (Some handle) = OwnsAll keys start (arc_value handle.shared).tree handle.pass
+OwnsAllIn keys start None = ⊥
+
+-- how often something was in the way of a handle
+abbrev pub hindrances_in : Option Handle → ℕ
+hindrances_in (Some handle) = hindrances handle.pass
+hindrances_in None = 0
+
+-- the next card to be given out, as a handle has read it last
+abbrev pub next_in : Option Handle → Option ℕ
+next_in (Some handle) = handle.pass.view.next
+next_in None = None
+
+-- the number of the last card of a handle's tree
+abbrev pub last_card_in : Option Handle → ℕ
+last_card_in (Some handle) = (arc_value handle.shared).tree.last_card
+last_card_in None = 0
+
 -- one handle has the keys of two, as they had them
 abbrev pub IsJoined : Option Handle → Option Handle → Option Handle → Type 0
 IsJoined (Some left) (Some right) (Some both) = IsUnion left.pass right.pass both.pass
@@ -60,6 +81,12 @@ abbrev pub NumbersTell : Option Handle → Option Handle → Type 0
 NumbersTell (Some left) (Some right) = (arc_value right.shared).number ≡ (arc_value left.shared).number → right.pass.table ≡ left.pass.table
 NumbersTell (Some left) None = Unit {0}
 NumbersTell None right = Unit {0}
+
+-- two handles have different numbers
+abbrev pub NumbersDiffer : Option Handle → Option Handle → Type 0
+NumbersDiffer (Some left) (Some right) = (arc_value right.shared).number ≢ (arc_value left.shared).number
+NumbersDiffer (Some left) None = ⊥
+NumbersDiffer None right = ⊥
 
 -- pairs of a host as the tree has them
 abbrev pub as_pairs : List Pair → List (ℕ × ℕ)

@@ -1,10 +1,11 @@
 //! Finds, looks, inserts and deletes.
-ghost use Rattle.std.specs.Prelude.{◌≡◌, ◌≢◌, ◌<◌, ℕ, None, Some, is_some};
+ghost use Rattle.std.specs.Prelude.{◌≡◌, ◌≢◌, ◌<◌, ◌≤◌, ◌+◌, ℕ, None, Some};
+ghost use Rattle.std.specs.Arc.{arc_value};
 ghost use Rattle.ell_ops.specs.declared.op.Op.TheVariants.{Insert, Delete};
 ghost use Rattle.ell_ops.specs.Meaning.{after, greatest_key};
-ghost use Rattle.ell_tree.specs.Ledgers.{Owns, present_in};
-ghost use Rattle.elltree.specs.Codes.{said_bad_key, said_closed, said_foreign, said_no, said_no_tries, said_yes};
-ghost use Rattle.elltree.specs.Maps.{IsFoundBy, OwnsIn, handle_of, map_of};
+ghost use Rattle.ell_tree.specs.Ledgers.{Owns, hindrances, present_in};
+ghost use Rattle.elltree.specs.Codes.{said_bad_key, said_busy, said_closed, said_foreign, said_no, said_no_tries, said_spent, said_yes};
+ghost use Rattle.elltree.specs.Maps.{IsFoundBy, OwnsIn, handle_of, hindrances_in, last_card_in, map_of, next_in};
 
 use crate::codes::{CLOSED, NO, YES, code_of_refusal};
 use crate::slot::Slot;
@@ -122,6 +123,8 @@ pub extern "C" fn elltree_slot_insert(
     ensures kept { result ≡ said_no → (k : ℕ) → map_of slot.new.raw.inside k ≡ after (Insert key value) (map_of slot.old.raw.inside) k }
     ensures foreign { result ≡ said_foreign → ¬ OwnsIn (handle_of slot.old.raw.inside) key }
     ensures no_tries { result ≡ said_no_tries → tries ≡ 0 }
+    ensures busy { result ≡ said_busy → hindrances_in (handle_of slot.old.raw.inside) + tries ≤ hindrances_in (handle_of slot.new.raw.inside) }
+    ensures spent { result ≡ said_spent → next_in (handle_of slot.new.raw.inside) ≡ Some (last_card_in (handle_of slot.old.raw.inside) + 1) }
     ensures closed { result ≡ said_closed → handle_of slot.old.raw.inside ≡ None }
     ensures none { handle_of slot.old.raw.inside ≡ None → result ≡ said_closed }
     ensures refused { result ≢ said_yes → result ≢ said_no → (k : ℕ) → map_of slot.new.raw.inside k ≡ map_of slot.old.raw.inside k }
@@ -146,6 +149,8 @@ pub extern "C" fn elltree_slot_delete(alloc: Global, slot: &mut Slot, key: u64, 
     ensures kept { result ≡ said_no → (k : ℕ) → map_of slot.new.raw.inside k ≡ after (Delete key) (map_of slot.old.raw.inside) k }
     ensures foreign { result ≡ said_foreign → ¬ OwnsIn (handle_of slot.old.raw.inside) key }
     ensures no_tries { result ≡ said_no_tries → tries ≡ 0 }
+    ensures busy { result ≡ said_busy → hindrances_in (handle_of slot.old.raw.inside) + tries ≤ hindrances_in (handle_of slot.new.raw.inside) }
+    ensures spent { result ≡ said_spent → next_in (handle_of slot.new.raw.inside) ≡ Some (last_card_in (handle_of slot.old.raw.inside) + 1) }
     ensures closed { result ≡ said_closed → handle_of slot.old.raw.inside ≡ None }
     ensures none { handle_of slot.old.raw.inside ≡ None → result ≡ said_closed }
     ensures refused { result ≢ said_yes → result ≢ said_no → (k : ℕ) → map_of slot.new.raw.inside k ≡ map_of slot.old.raw.inside k }
@@ -169,6 +174,8 @@ fn insert(handle: &mut Handle, key: u64, value: u64, tries: u32) -> i32
     ensures kept { result ≡ said_no → (k : ℕ) → present_in handle.new.pass k ≡ after (Insert key value) (present_in handle.old.pass) k }
     ensures foreign { result ≡ said_foreign → ¬ Owns handle.old.pass key }
     ensures no_tries { result ≡ said_no_tries → tries ≡ 0 }
+    ensures busy { result ≡ said_busy → hindrances handle.old.pass + tries ≤ hindrances handle.new.pass }
+    ensures spent { result ≡ said_spent → handle.new.pass.view.next ≡ Some ((arc_value handle.old.shared).tree.last_card + 1) }
     ensures unclosed { result ≢ said_closed }
     ensures refused { result ≢ said_yes → result ≢ said_no → (k : ℕ) → present_in handle.new.pass k ≡ present_in handle.old.pass k }
 {
@@ -187,6 +194,8 @@ fn delete(handle: &mut Handle, key: u64, tries: u32) -> i32
     ensures kept { result ≡ said_no → (k : ℕ) → present_in handle.new.pass k ≡ after (Delete key) (present_in handle.old.pass) k }
     ensures foreign { result ≡ said_foreign → ¬ Owns handle.old.pass key }
     ensures no_tries { result ≡ said_no_tries → tries ≡ 0 }
+    ensures busy { result ≡ said_busy → hindrances handle.old.pass + tries ≤ hindrances handle.new.pass }
+    ensures spent { result ≡ said_spent → handle.new.pass.view.next ≡ Some ((arc_value handle.old.shared).tree.last_card + 1) }
     ensures unclosed { result ≢ said_closed }
     ensures refused { result ≢ said_yes → result ≢ said_no → (k : ℕ) → present_in handle.new.pass k ≡ present_in handle.old.pass k }
 {

@@ -1,7 +1,7 @@
 //! What the exported functions answer.
 ghost use Rattle.std.specs.Prelude.{◌≡◌, ◌≢◌};
-ghost use Rattle.ell_handle.specs.declared.refusal.Refusal.TheVariants.{Foreign, NoTries, Busy, Spent, BadCards, BadKey};
-ghost use Rattle.elltree.specs.Codes.{code_of, said_bad_cards, said_bad_key, said_busy, said_closed, said_foreign, said_no, said_no_tries, said_open, said_spent, said_yes};
+ghost use Rattle.ell_handle.specs.declared.refusal.Refusal.TheVariants.{Foreign, NoTries, Busy, Spent, BadCards, BadKey, OtherTree};
+ghost use Rattle.elltree.specs.Codes.{code_of, said_bad_cards, said_bad_key, said_busy, said_closed, said_foreign, said_no, said_no_tries, said_open, said_other_tree, said_spent, said_yes};
 
 use ell_handle::Refusal;
 
@@ -45,6 +45,7 @@ pub fn code_of_refusal(refusal: Refusal) -> i32
     ensures busy { result ≡ said_busy → refusal ≡ Busy }
     ensures spent { result ≡ said_spent → refusal ≡ Spent }
     ensures bad_cards { result ≡ said_bad_cards → refusal ≡ BadCards }
+    ensures other_tree { result ≡ said_other_tree → refusal ≡ OtherTree }
     ensures bad_key { result ≡ said_bad_key → refusal ≡ BadKey }
 {
     match refusal {

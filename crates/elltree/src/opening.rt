@@ -1,11 +1,11 @@
 //! How slots open, part, come together and close.
-ghost use Rattle.std.specs.Prelude.{◌≡◌, ◌≢◌, ℕ, if◌then◌else◌, true, None, Err, IfOk, IfErr, OnOk, OnErr};
+ghost use Rattle.std.specs.Prelude.{◌≡◌, ◌≢◌, ℕ, if◌then◌else◌, true, None, Err, IfOk, OnOk, OnErr};
 ghost use Rattle.ell_ops.specs.Contents.{contents_of};
 ghost use Rattle.ell_ops.specs.KeySet.{set_of};
 ghost use Rattle.ell_cards.specs.Models.{IsCardCount};
 ghost use Rattle.ell_handle.specs.declared.refusal.Refusal.TheVariants.{BadCards};
-ghost use Rattle.elltree.specs.Codes.{said_bad_cards, said_closed, said_open, said_yes};
-ghost use Rattle.elltree.specs.Maps.{IsJoined, NumbersTell, as_pairs, handle_of, map_in, map_of};
+ghost use Rattle.elltree.specs.Codes.{said_bad_cards, said_closed, said_open, said_other_tree, said_yes};
+ghost use Rattle.elltree.specs.Maps.{IsJoined, NumbersDiffer, NumbersTell, OwnsAllIn, as_pairs, handle_of, map_in, map_of};
 
 use crate::Pair;
 use crate::codes::{CLOSED, OPEN, YES, code_of_refusal};
@@ -25,6 +25,7 @@ pub extern "C" fn elltree_slot_open(
     number: u64,
 ) -> i32
     ensures opened { result ≡ said_yes → (k : ℕ) → map_of slot.new.raw.inside k ≡ contents_of (as_pairs start.now) k }
+    ensures owns { result ≡ said_yes → OwnsAllIn keys.now (as_pairs start.now) (handle_of slot.new.raw.inside) }
     ensures cards { result ≡ said_yes → IsCardCount cards }
     ensures bad_cards { result ≡ said_bad_cards → ¬ IsCardCount cards }
     ensures busy { slot.old.is_open ≡ true → result ≡ said_open }
@@ -52,6 +53,7 @@ fn open(
     number: u64,
 ) -> Result<Box<Place, Global>, Refusal>
     ensures present { IfOk result (λ place. (k : ℕ) → map_in place.value.handle k ≡ contents_of (as_pairs start.now) k) }
+    ensures owns { IfOk result (λ place. OwnsAllIn keys.now (as_pairs start.now) place.value.handle) }
     ensures cards { OnOk result (IsCardCount cards) }
     ensures bad_cards { result ≡ Err BadCards → ¬ IsCardCount cards }
 {
@@ -140,6 +142,8 @@ pub extern "C" fn elltree_slot_join(alloc: Global, into: &mut Slot, from: &mut S
     ensures joined { result ≡ said_yes →
         IsJoined (handle_of into.old.raw.inside) (handle_of from.old.raw.inside) (handle_of into.new.raw.inside) }
     ensures given { result ≡ said_yes → from.new.raw.inside ≡ None }
+    ensures other_tree { result ≡ said_other_tree →
+        NumbersDiffer (handle_of into.old.raw.inside) (handle_of from.old.raw.inside) }
     ensures refused { result ≢ said_yes → into.new.raw.inside ≡ into.old.raw.inside }
     ensures kept { result ≢ said_yes → from.new.raw.inside ≡ from.old.raw.inside }
 {
@@ -162,6 +166,7 @@ pub extern "C" fn elltree_slot_join(alloc: Global, into: &mut Slot, from: &mut S
 fn join(place: &mut Place, added: &mut Place) -> i32
     requires numbers { NumbersTell place.old.handle added.old.handle }
     ensures joined { result ≡ said_yes → IsJoined place.old.handle added.old.handle place.new.handle }
+    ensures other_tree { result ≡ said_other_tree → NumbersDiffer place.old.handle added.old.handle }
     ensures refused { result ≢ said_yes → place.new ≡ place.old }
     ensures kept { result ≢ said_yes → added.new ≡ added.old }
 {
