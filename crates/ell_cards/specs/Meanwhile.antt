@@ -32,12 +32,9 @@ abbrev pub has_end : List Kind → Bool
 has_end [] = false
 has_end (k ∷ ks) = is_end k || has_end ks
 
--- a step call that neither begins a search nor ends an operation
+-- a step call that takes no operation in hand
 abbrev pub KeepsOn : Call → Type 0
 KeepsOn (call.Begin op) = ⊥
-KeepsOn call.Again = ⊥
-KeepsOn call.Leave = ⊥
-KeepsOn (call.Answer said) = ⊥
 KeepsOn _ = Unit {0}
 
 -- in these turns the pass in a seat makes no other, and is not split or joined
@@ -65,8 +62,8 @@ IsBeginning _ = ⊥
 abbrev pub SearchesBeginThere : Type 0
 SearchesBeginThere = (cards : ℕ) (s : TableState) (seat : ℕ) (c : Call) (s' : TableState) → CallIsMade cards s seat c s' → IsBeginning c → BeginsHere s' seat
 
--- a run of a table from its start: it leads to a state where the pass in a seat begins its search, and then goes on by any turns of any
--- passes, while that pass neither begins another nor ends its operation
+-- a run of a table from its start: it leads to a state where the pass in a seat begins a search, and then goes on by any turns of any
+-- passes, while that pass takes no other operation in hand: it may begin its search anew, again and again, and lay its operation down
 pub record SearchRun (keys : List ℕ) (start : List (ℕ × ℕ)) (cards : ℕ) : Type 0 where
   pub opened : TableState
   pub starts : Starts keys start cards opened
@@ -99,7 +96,7 @@ pub record EndsMeanwhile (keys : List ℕ) (start : List (ℕ × ℕ)) (cards : 
 abbrev pub WordEndsMeanwhile : (keys : List ℕ) (start : List (ℕ × ℕ)) (cards : ℕ) → SearchRun keys start cards → ℕ → Type 0
 WordEndsMeanwhile keys start cards r word = (unpacked word).state ≢ state.Clean → EndsMeanwhile keys start cards r (unpacked word).card
 
--- so is each update word that the search has read and has with it: where it stands, at the parent, at the grandparent
+-- so is each update word that its search has read and has with it: where it stands, at the parent, at the grandparent
 pub record ReadsMeanwhile (keys : List ℕ) (start : List (ℕ × ℕ)) (cards : ℕ) (r : SearchRun keys start cards) : Type 0 where
   pub here : (x word : ℕ) → r.view.worker.search.node ≡ Some x → r.view.worker.search.read ≡ Some word → WordEndsMeanwhile keys start cards r word
   pub parent : (seen : Seen) → r.view.worker.search.parent ≡ Some seen → WordEndsMeanwhile keys start cards r seen.word
@@ -116,8 +113,8 @@ abbrev pub AreMeanwhile : (keys : List ℕ) (start : List (ℕ × ℕ)) (cards :
 AreMeanwhile keys start cards r [] = Unit {0}
 AreMeanwhile keys start cards r (h ∷ hs) = IsMeanwhile keys start cards r h × AreMeanwhile keys start cards r hs
 
--- so is all that came to be in the way since the search began: what a lost claim, flag or mark has found. No lost claim is of the card
--- in hand, or of a later one
+-- so is all that came to be in the way since that search began, in as many tries as there were: what a lost claim, flag or mark has
+-- found, and what the search of a try that was given up had read where it was to act. No lost claim is of the card in hand, or of a later one
 pub record MetMeanwhile (keys : List ℕ) (start : List (ℕ × ℕ)) (cards : ℕ) (r : SearchRun keys start cards) : Type 0 where
   pub met : List Hindrance
   pub list : r.view.hindrances ≡ met ++ r.begins.view.hindrances
@@ -131,3 +128,15 @@ SearchesReadMeanwhile = (keys : List ℕ) (start : List (ℕ × ℕ)) (cards : �
 -- and what came to be in its way
 abbrev pub SearchesMeetMeanwhile : Type 0
 SearchesMeetMeanwhile = (keys : List ℕ) (start : List (ℕ × ℕ)) (cards : ℕ) (r : SearchRun keys start cards) → MetMeanwhile keys start cards r
+
+-- what a pass knows of moves was made in a run: the cards that its claims have shown to be given out are, and each card that it knows to
+-- have come to its end did so
+pub record KnowsWhatMoved (cards : ℕ) (first : TableState) (turns : List Turn) (s : TableState) (run : TableRun cards first turns s) (v : View) : Type 0 where
+  pub given_out : v.next_at_least ≤ (own_words s).next
+  pub ended : (c : ℕ) → EndedBy v.worker.facts c → has_end (run_wins cards first turns s run c) ≡ true
+
+-- so it is of each pass after every run from a start
+abbrev pub KnownMovesWereMade : Type 0
+KnownMovesWereMade = (keys : List ℕ) (start : List (ℕ × ℕ)) (cards : ℕ) (first : TableState) → Starts keys start cards first → (turns : List Turn) (s : TableState)
+    (run : TableRun (last_card start cards) first turns s) (seat : ℕ) (v : View) → get_elem? s.views seat ≡ some v
+    → KnowsWhatMoved (last_card start cards) first turns s run v

@@ -1,14 +1,17 @@
 use Rattle.std.proofs.Common.{◌≡◌, ◌≢◌, ℕ, ◌/◌, ◌%◌, ◌<◌, ◌≤◌, ◌==◌, if◌then◌else◌, Bool, true, false, Option, Some, None, List, [], ◌∷◌, ◌++◌, inl, inr, refl, sym, ap, ◌∙◌, subst, arith, eq-eqb, eqb-true, true≢false}
 use Rattle.std.proofs.lemmas.Bool.{cases_eq, false≢true}
+use Rattle.std.proofs.lemmas.List.{append_assoc}
 use Rattle.std.proofs.lemmas.Option.{same_Some}
 use mathlib.Core.Option.{some}
 use lib.ListN.{get_elem?}
 use Rattle.ell_ops.specs.declared.op.Op.TheVariants.{Find, Insert, Delete}
 use Rattle.ell_ops.specs.declared.op.Op.{Op}
+use Rattle.ell_ops.specs.declared.reply.Reply.{Reply}
 use Rattle.ell_word.specs.declared.gate.Kind.{Kind}
 use Rattle.ell_word.specs.declared.gate.Kind.TheVariants as kind
 use Rattle.ell_word.specs.Node.{IsInternal}
 use Rattle.ell_word.specs.Word.{packed, unpacked}
+use Rattle.ell_word.specs.declared.update.State.{State}
 use Rattle.ell_word.specs.declared.update.State.TheVariants as state
 use Rattle.ell_word.specs.declared.update.Update.{Update}
 use Rattle.ell_core.specs.declared.fact.Fact.TheVariants.{IFlagged, DFlagged, Marked}
@@ -36,7 +39,7 @@ use Rattle.ell_cards.specs.declared.call.Call.TheVariants as call
 use Rattle.ell_cards.specs.declared.view.Hindrance.{Hindrance}
 use Rattle.ell_cards.specs.declared.view.Hindrance.TheVariants.{Claim, Found}
 use Rattle.ell_cards.specs.declared.view.View.{View}
-use Rattle.ell_cards.specs.Changes.{after_claim, after_flag, after_mark, if_won, exchanged, learning, unmarking, is_mark_of, is_held}
+use Rattle.ell_cards.specs.Changes.{unless_clean, read_in_way, first_in_way, in_the_way, given_up, after_again, after_leave, after_answer, after_claim, after_flag, after_mark, if_won, exchanged, learning, unmarking, is_mark_of, is_held}
 use Rattle.ell_cards.specs.Calls.{after, May}
 use Rattle.ell_cards.specs.States.{TableState, seat_worker}
 use Rattle.ell_cards.specs.Machines.{HasMachine}
@@ -77,6 +80,37 @@ all_below : (w : Words) (stage : Stages) (now : Words) (after : Stages) (n : ℕ
 all_below w stage now after n most [] h = tt
 all_below w stage now after n most (Claim c ∷ hs) h = let low = h.0.1 in (omega arith, all_below w stage now after n most hs h.1)
 all_below w stage now after n most (Found u ∷ hs) h = all_below w stage now after n most hs h.1
+
+-- what two lists have was met, in one
+all_append : (w : Words) (stage : Stages) (now : Words) (after : Stages) (a b : List Hindrance) → AllMet w stage now after a → AllMet w stage now after b
+    → AllMet w stage now after (a ++ b)
+all_append w stage now after [] b h g = g
+all_append w stage now after (x ∷ a) b h g = (h.0, all_append w stage now after a b h.1 g)
+
+-- so was what a search had read in the way
+module _ (w : Words) (stage : Stages) (now : Words) (after : Stages) where
+  unless_met : (st : State) (c : ℕ) → (st ≢ state.Clean → has_ended (stage c) ≡ false) → AllMet w stage now after (unless_clean st c)
+  unless_met state.IFlag c h = ((h (λ e. cc), λ e. absurd (cc)), tt)
+  unless_met state.DFlag c h = ((h (λ e. cc), λ e. absurd (cc)), tt)
+  unless_met state.Mark c h = ((h (λ e. cc), λ e. absurd (cc)), tt)
+  unless_met state.Clean c h = tt
+
+  read_met : (o : Option Seen) → ((seen : Seen) → o ≡ Some seen → SeenSince w stage seen) → AllMet w stage now after (read_in_way o)
+  read_met None h = tt
+  read_met (Some seen) h = unless_met (unpacked seen.word).state (unpacked seen.word).card (h seen refl).unended
+
+  first_met : (a b : List Hindrance) → AllMet w stage now after a → AllMet w stage now after b → AllMet w stage now after (first_in_way a b)
+  first_met [] b h g = g
+  first_met (x ∷ a) b h g = h
+
+  way_met : (op : Option Op) (node : Option ℕ) (parent above : Option Seen) → ((seen : Seen) → parent ≡ Some seen → SeenSince w stage seen)
+      → ((seen : Seen) → above ≡ Some seen → SeenSince w stage seen) → AllMet w stage now after (in_the_way op node parent above)
+  way_met None node parent above h g = tt
+  way_met (Some (Find k)) node parent above h g = tt
+  way_met (Some (Insert k value)) None parent above h g = tt
+  way_met (Some (Insert k value)) (Some x) parent above h g = read_met parent h
+  way_met (Some (Delete k)) None parent above h g = tt
+  way_met (Some (Delete k)) (Some x) parent above h g = first_met (read_in_way above) (read_in_way parent) (read_met above g) (read_met parent h)
 
 -- what a pass has met since its search began, what it has read of the claim word, the card in its hand, and where that goes
 pub record HinderedSince (w : Words) (stage : Stages) (now : Words) (after : Stages) (old : List Hindrance) (v : View) : Type 0 where
@@ -347,12 +381,40 @@ module _ (keys : List ℕ) (cards : ℕ) (m0 : Machine) (stage : Stages) (first 
       by true e = quiet _ refl refl refl refl refl
       by false e = lost (is_mark_of c (unpacked n).state (unpacked n).card) (λ q. true≢false (sym (eq-eqb n was q) ∙ e))
 
+  -- a try that is given up, with no card in hand then
+  gives_up : (u : View) → u.hindrances ≡ given_up v → ((n : ℕ) → u.next ≡ Some n → m0.words.next ≤ n) → u.worker.card ≡ None
+      → HinderedSince m0.words stage later_words ends old u
+  gives_up u hindrances read no_card =
+      let way = in_the_way v.worker.operation v.worker.search.node v.worker.search.parent v.worker.search.grandparent in record {
+        met = way ++ hindered.met;
+        list = hindrances ∙ (ap (λ hs. way ++ hs) hindered.list ∙ sym (append_assoc way hindered.met old));
+        each = all_append m0.words stage later_words ends way hindered.met
+            (way_met m0.words stage later_words ends v.worker.operation v.worker.search.node v.worker.search.parent v.worker.search.grandparent
+            (λ seen e. since.parent seen (ap (λ (z : Worker). z.search.parent) me ∙ e))
+            (λ seen e. since.grandparent seen (ap (λ (z : Worker). z.search.grandparent) me ∙ e)))
+            (met_later m0.words stage r.words now later_words ends words' later' hindered.met hindered.each);
+        next = read;
+        own = λ c has. absurd (some_not_none has no_card);
+        hand = λ k c busy has flagged. absurd (some_not_none has no_card);
+      }
+
+  -- an answer
+  answers : (said : Reply) → HinderedSince m0.words stage later_words ends old (after_answer said v)
+  answers said = record {
+    met = hindered.met;
+    list = hindered.list;
+    each = met_later m0.words stage r.words now later_words ends words' later' hindered.met hindered.each;
+    next = hindered.next;
+    own = λ c has. absurd (some_not_none has refl);
+    hand = λ k c busy has flagged. absurd (some_not_none has refl);
+  }
+
   -- any call that keeps on
   pub call_hindered : (c : Call) → KeepsOn c → May cards c v → HinderedSince m0.words stage later_words ends old (after c (found_by s c) v)
   call_hindered (call.Begin op) keeps may = absurd keeps
-  call_hindered call.Again keeps may = absurd keeps
-  call_hindered call.Leave keeps may = absurd keeps
-  call_hindered (call.Answer said) keeps may = absurd keeps
+  call_hindered call.Again keeps may = gives_up (after_again v) refl (λ n e. absurd (some_not_none e refl)) refl
+  call_hindered call.Leave keeps may = gives_up (after_leave v) refl hindered.next refl
+  call_hindered (call.Answer said) keeps may = answers said
   call_hindered (call.Upd x) keeps may = quiet _ refl refl refl refl refl
   call_hindered (call.Down x right) keeps may = quiet _ refl refl refl refl refl
   call_hindered call.Next keeps may = record {

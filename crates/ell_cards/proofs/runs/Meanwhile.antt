@@ -1,4 +1,4 @@
-use Rattle.std.proofs.Common.{◌≡◌, ℕ, ◌==◌, ◌||◌, if◌then◌else◌, Bool, true, false, Option, Some, None, List, [], ◌∷◌, ◌++◌, set, length-set, inl, inr, refl, sym, ap, ◌∙◌, subst, arith}
+use Rattle.std.proofs.Common.{◌≡◌, ◌⊎◌, ℕ, ◌==◌, ◌||◌, if◌then◌else◌, Bool, true, false, Option, Some, None, List, [], ◌∷◌, ◌++◌, set, length-set, inl, inr, refl, sym, ap, ◌∙◌, subst, arith}
 use Rattle.std.proofs.lemmas.Bool.{cases_eq, false≢true}
 use Rattle.std.proofs.lemmas.List.{append_assoc, append-nil}
 use mathlib.Core.Option.{some, some-injective}
@@ -9,15 +9,15 @@ use Rattle.ell_word.specs.declared.gate.Kind.{Kind}
 use Rattle.ell_core.specs.declared.event.Act.{Act}
 use Rattle.ell_core.specs.declared.event.Act.TheVariants as act
 use Rattle.ell_core.specs.declared.event.Stepped.{Stepped}
-use Rattle.ell_core.specs.declared.fact.Fact.TheVariants.{IOver, DOver, Backed}
+use Rattle.ell_core.specs.declared.fact.Fact.TheVariants.{Cut, IOver, DOver, Backed}
 use Rattle.ell_core.specs.declared.view.Search.{Search}
 use Rattle.ell_core.specs.state.Words.{Words, put}
-use Rattle.ell_core.specs.state.Machine.{Worker, Machine, nobody, worker_of}
+use Rattle.ell_core.specs.state.Machine.{Worker, Machine, no_search, nobody, worker_of}
 use Rattle.ell_core.specs.state.Moves.{WorkerIsIdle}
 use Rattle.ell_core.specs.history.Stages.{Stage, Stages}
 use Rattle.ell_core.specs.history.Invariant.{Invariant}
 use Rattle.ell_core.specs.history.Later.{WordsLater, StagesLater, wins_of}
-use Rattle.ell_core.specs.statements.Since.{has_ended, IsOfUnended, SearchSince, GoesOn}
+use Rattle.ell_core.specs.statements.Since.{has_ended, cut_at, IsOfUnended, SearchSince, GoesOn}
 use Rattle.ell_core.proofs.outcomes.Decide.{some_not_none}
 use Rattle.ell_core.proofs.words.Writes.{put_same, put_other}
 use Rattle.ell_core.proofs.words.Later.{words_same}
@@ -26,13 +26,18 @@ use Rattle.ell_core.specs.state.Opening.{last_card}
 use Rattle.ell_core.proofs.stages.Advances.{stages_same}
 use Rattle.ell_core.proofs.stages.Ended.{insert_over-ended, delete_over-ended, backed-ended}
 use Rattle.ell_core.proofs.following.Since.{searches_begin, searches_go_on}
+use Rattle.ell_core.proofs.following.Walks.{roots_avoid}
+use Rattle.ell_core.specs.statements.Walks.{Avoids}
+use Rattle.ell_ops.specs.Meaning.{key_of}
+use Rattle.ell_core.specs.acts.Searching.{at_root}
+use Rattle.std.proofs.lemmas.Option.{same_Some}
 use Rattle.ell_cards.specs.declared.call.Call.{Call}
 use Rattle.ell_cards.specs.declared.call.Call.TheVariants as call
 use Rattle.ell_cards.specs.declared.view.Hindrance.{Hindrance}
 use Rattle.ell_cards.specs.declared.view.Hindrance.TheVariants.{Claim, Found}
 use Rattle.ell_cards.specs.declared.view.View.{View}
 use Rattle.ell_cards.specs.Models.{EndedBy}
-use Rattle.ell_cards.specs.Calls.{act_of, said_of, Becomes, May}
+use Rattle.ell_cards.specs.Calls.{after, act_of, said_of, Becomes, May}
 use Rattle.ell_cards.specs.Changes.{left_view, right_view, joined_view, spent_view}
 use Rattle.ell_cards.specs.States.{TableState, seat_worker}
 use Rattle.ell_cards.specs.Machines.{HasMachine}
@@ -40,7 +45,7 @@ use Rattle.ell_cards.specs.Laws.{machine_of_table}
 use Rattle.ell_cards.specs.Turns.{Turn, Makes, Splits, Joins, TableTurns, TableRun, found_by, view_after, state_after}
 use Rattle.ell_cards.specs.TurnEffects.{turn_wins, run_wins}
 use Rattle.ell_cards.specs.RunLaws.{StartIsKept}
-use Rattle.ell_cards.specs.Meanwhile.{is_end, has_end, KeepsOn, KeepOn, BeginsHere, IsBeginning, SearchesBeginThere, SearchRun, ended_before, ended_since, EndsMeanwhile, WordEndsMeanwhile, AreMeanwhile, SearchesReadMeanwhile, SearchesMeetMeanwhile}
+use Rattle.ell_cards.specs.Meanwhile.{is_end, has_end, KeepsOn, KeepOn, BeginsHere, IsBeginning, SearchesBeginThere, SearchRun, ended_before, ended_since, EndsMeanwhile, WordEndsMeanwhile, AreMeanwhile, SearchesReadMeanwhile, SearchesMeetMeanwhile, KnownMovesWereMade}
 use Rattle.ell_cards.proofs.runs.TurnsOfRuns.{turn_lawful}
 use Rattle.ell_core.proofs.following.Lawful.{splits_lawful, joins_lawful}
 use Rattle.ell_core.proofs.words.Listed.{listed_next}
@@ -79,32 +84,52 @@ claim_goes : (b : Bool) → GoesOnAny (if b then Some act.Claim else None)
 claim_goes true = tt
 claim_goes false = tt
 
--- the act of a call that keeps on goes on
-call_goes : (c : Call) (n : ℕ) → KeepsOn c → GoesOnAny (act_of c n)
-call_goes (call.Begin op) n h = absurd h
-call_goes call.Again n h = absurd h
-call_goes call.Leave n h = absurd h
-call_goes (call.Answer said) n h = absurd h
-call_goes (call.Upd x) n h = tt
-call_goes (call.Down x right) n h = tt
-call_goes (call.Claim c) n h = claim_goes (n == c)
-call_goes (call.IFlag c p from) n h = tt
-call_goes (call.IChild c p l right) n h = tt
-call_goes (call.IUnflag c p) n h = tt
-call_goes (call.DFlag c gp from) n h = tt
-call_goes (call.Mark c p was) n h = tt
-call_goes (call.DChild c gp p s right) n h = tt
-call_goes (call.DUnflag c gp) n h = tt
-call_goes (call.Backtrack c gp) n h = tt
-call_goes _ n h = tt
+-- a search that stands at the root, or nowhere
+abbrev IsFresh : Search → Type 0
+IsFresh q = (q ≡ at_root) ⊎ (q ≡ no_search)
 
--- a worker with nothing in hand has read nothing
-idle_since : (w : Words) (stage : Stages) (now : Words) (v : Worker) → WorkerIsIdle v → SearchSince w stage now v
-idle_since w stage now v idle = let none = ap (λ (u : Worker). u.search) idle in record {
+-- the act of a call that keeps on goes on, or leaves such a search
+call_goes : (c : Call) (n : ℕ) → KeepsOn c → GoesOnAny (act_of c n) ⊎ ((u : View) → IsFresh (after c n u).worker.search)
+call_goes (call.Begin op) n h = absurd h
+call_goes call.Again n h = inr (λ u. inl refl)
+call_goes call.Leave n h = inr (λ u. inr refl)
+call_goes (call.Answer said) n h = inr (λ u. inr refl)
+call_goes (call.Upd x) n h = inl tt
+call_goes (call.Down x right) n h = inl tt
+call_goes (call.Claim c) n h = inl (claim_goes (n == c))
+call_goes (call.IFlag c p from) n h = inl tt
+call_goes (call.IChild c p l right) n h = inl tt
+call_goes (call.IUnflag c p) n h = inl tt
+call_goes (call.DFlag c gp from) n h = inl tt
+call_goes (call.Mark c p was) n h = inl tt
+call_goes (call.DChild c gp p s right) n h = inl tt
+call_goes (call.DUnflag c gp) n h = inl tt
+call_goes (call.Backtrack c gp) n h = inl tt
+call_goes _ n h = inl tt
+
+-- a search that stands nowhere has read nothing
+none_since : (w : Words) (stage : Stages) (now : Words) (v : Worker) → v.search ≡ no_search → SearchSince w stage now v
+none_since w stage now v none = record {
   walk = λ op x busy at. absurd (some_not_none at (ap (λ (s : Search). s.node) none));
   read = λ x word at has. absurd (some_not_none at (ap (λ (s : Search). s.node) none));
   parent = λ seen has. absurd (some_not_none has (ap (λ (s : Search). s.parent) none));
   grandparent = λ seen has. absurd (some_not_none has (ap (λ (s : Search). s.grandparent) none));
+}
+
+-- nor has a worker with nothing in hand
+idle_since : (w : Words) (stage : Stages) (now : Words) (v : Worker) → WorkerIsIdle v → SearchSince w stage now v
+idle_since w stage now v idle = none_since w stage now v (ap (λ (u : Worker). u.search) idle)
+
+-- a search that begins later has read nothing, and no walk from the root comes by what was cut out
+begins_since : (w : Words) (stage0 : Stages) (m : Machine) (stage : Stages) (i : ℕ) → Invariant m stage → StagesLater stage0 stage
+    → (m.worker i).search ≡ at_root → SearchSince w stage0 m.words (m.worker i)
+begins_since w stage0 m stage i holds later root = record {
+  walk = λ op x busy at. subst (Avoids m.words (cut_at stage0) (key_of op))
+      (same_Some 0 x (sym (ap (λ (s : Search). s.node) root) ∙ at))
+      (roots_avoid m stage (cut_at stage0) (key_of op) holds (λ c h. later.told (Cut c) c h));
+  read = λ x word at has. absurd (some_not_none has (ap (λ (s : Search). s.read) root));
+  parent = λ seen has. absurd (some_not_none has (ap (λ (s : Search). s.parent) root));
+  grandparent = λ seen has. absurd (some_not_none has (ap (λ (s : Search). s.grandparent) root));
 }
 
 module _ (m0 : Machine) (stage0 : Stages) (first : Invariant m0 stage0) (seat : ℕ) where
@@ -170,21 +195,29 @@ module _ (m0 : Machine) (stage0 : Stages) (first : Invariant m0 stage0) (seat : 
         let m = machine_of_table keys cards s at.kept in
         let m' = machine_of_table keys cards s' turn.0 in
         let goes = call_wins m at.went.stages at.went.invariant other m' c (found_by s c) h.view cards (ap (λ o. (seat_worker o).card) h.there) h.may turn.1.machine in
-        let since = becomes_since m at.went.stages other (act_of c (found_by s c)) (said_of c (found_by s c)) m' at.went.invariant at.went.words at.went.later
-        turn.1.machine (λ e. call_goes c (found_by s c) (keep.0 e)) at.since in
+        let on = becomes_since m at.went.stages other (act_of c (found_by s c)) (said_of c (found_by s c)) m' at.went.invariant at.went.words at.went.later
+        turn.1.machine in
         elim (cases_eq seat other) [
           | inl e ↦
               let own : h.view ≡ at.view = some-injective h.view at.view (sym h.there ∙ (ap (get_elem? s.views) (sym e) ∙ at.there)) in
               let now : get_elem? s'.views seat ≡ some (view_after s at.view c) =
               ap (λ (t : TableState). get_elem? t.views seat) h.gives ∙ (ap (λ i. get_elem? (set s.views i (view_after s h.view c)) seat) (sym e)
               ∙ (ap (λ u. get_elem? (set s.views seat (view_after s u c)) seat) own ∙ set_there s.views seat (view_after s at.view c) at.view at.there)) in
+              let since : SearchSince m0.words stage0 turn.0.words (m'.worker seat) = elim (call_goes c (found_by s c) (keep.0 (sym e))) [
+                | inl g ↦ on (λ same. g) at.since
+                | inr fresh ↦ elim (fresh at.view) [
+                  | inl root ↦ begins_since m0.words stage0 m' goes.stages seat goes.invariant
+                      (stages_later stage0 at.went.stages goes.stages at.went.later goes.later) (ap (λ o. (seat_worker o).search) now ∙ root)
+                  | inr none ↦ none_since m0.words stage0 turn.0.words (m'.worker seat) (ap (λ o. (seat_worker o).search) now ∙ none)
+                ]
+              ] in
               then_goes s won at s' turn.0 (turn_wins s (Makes other c)) goes since (view_after s at.view c) now
               (call_hindered keys cards m0 stage0 first s at.kept at.went.stages at.went.invariant at.went.words at.went.later at.went.cleans seat at.view at.there at.since
               turn.0.words goes.stages goes.words goes.later old at.hindered c (keep.0 (sym e)) (subst (λ u. May cards c u) own h.may))
           | inr n ↦
               let now : get_elem? s'.views seat ≡ some at.view =
               ap (λ (t : TableState). get_elem? t.views seat) h.gives ∙ (set_else s.views other seat (view_after s h.view c) n ∙ at.there) in
-              then_goes s won at s' turn.0 (turn_wins s (Makes other c)) goes since at.view now
+              then_goes s won at s' turn.0 (turn_wins s (Makes other c)) goes (on (λ same. absurd (n (sym same))) at.since) at.view now
               (hindered_still s won at turn.0.words goes.stages goes.words goes.later)
         ]
     turn_since s won at (Splits other left) s' h keep =
@@ -235,6 +268,18 @@ module _ (m0 : Machine) (stage0 : Stages) (first : Invariant m0 stage0) (seat : 
         let one = turn_since s won at t run.0 run.1 keeps.0 in
         subst (Leads s') (λ i d. append_assoc (won d) (turn_wins s t d) (run_wins cards run.0 ts s' run.2 d) i)
         (run_since run.0 (λ d. won d ++ turn_wins s t d) one ts s' run.2 keeps.1)
+
+-- what a pass knows to have ended has
+facts_ended : (m : Machine) (stages : Stages) → Invariant m stages → (seat : ℕ) (v : View) → m.worker seat ≡ worker_of v.worker
+    → (c : ℕ) → EndedBy v.worker.facts c → has_ended (stages c) ≡ true
+facts_ended m stages holds seat v mine c ended =
+    let facts = (holds.workers.each seat).facts in elim ended [
+      | inl k ↦ insert_over-ended (stages c) (facts (IOver c) (ap (λ (u : Worker). u.knows (IOver c)) mine ∙ k))
+      | inr j ↦ elim j [
+        | inl k ↦ delete_over-ended (stages c) (facts (DOver c) (ap (λ (u : Worker). u.knows (DOver c)) mine ∙ k))
+        | inr k ↦ backed-ended (stages c) (facts (Backed c) (ap (λ (u : Worker). u.knows (Backed c)) mine ∙ k))
+      ]
+    ]
 
 module _ (keys : List ℕ) (start : List (ℕ × ℕ)) (cards : ℕ) (q : SearchRun keys start cards) where
   abbrev last : ℕ
@@ -300,14 +345,7 @@ module _ (keys : List ℕ) (start : List (ℕ × ℕ)) (cards : ℕ) (q : Search
 
   -- what the pass knows to have ended has
   known_ended : (c : ℕ) → EndedBy q.view.worker.facts c → has_ended (led.went.stages c) ≡ true
-  known_ended c ended =
-      let facts = (led.went.invariant.workers.each q.seat).facts in elim ended [
-        | inl k ↦ insert_over-ended (led.went.stages c) (facts (IOver c) (ap (λ (u : Worker). u.knows (IOver c)) mine ∙ k))
-        | inr j ↦ elim j [
-          | inl k ↦ delete_over-ended (led.went.stages c) (facts (DOver c) (ap (λ (u : Worker). u.knows (DOver c)) mine ∙ k))
-          | inr k ↦ backed-ended (led.went.stages c) (facts (Backed c) (ap (λ (u : Worker). u.knows (Backed c)) mine ∙ k))
-        ]
-      ]
+  known_ended c ended = facts_ended now led.went.stages led.went.invariant q.seat q.view mine c ended
 
   ends_by : (c : ℕ) → has_ended (stage c) ≡ false → EndsMeanwhile keys start cards q c
   ends_by c un = record { before = not_before c un; since = λ ended. ended_in c un (known_ended c ended) }
@@ -346,6 +384,21 @@ searches_meet_meanwhile keys start cards q =
       list = subst (λ (u : View). u.hindrances ≡ l.hindered.met ++ q.begins.view.hindrances) same l.hindered.list;
       each = met_in keys start cards q l.hindered.met l.hindered.each;
       own = λ c has. l.hindered.own c (ap (λ (u : View). u.worker.card) same ∙ has);
+    }
+
+-- what a pass knows of moves was made
+pub known_moves_were_made : KnownMovesWereMade
+known_moves_were_made keys start cards first starts turns s run seat v there =
+    let last = last_card start cards in
+    let opens = starts_are_kept keys start cards first starts in
+    let led = run_goes keys last first opens.kept opens.kept.stages opens.kept.invariant turns s run in
+    let low = (led.0.views seat v there).least in
+    let is = listed_next s.words ∙ led.0.next in record {
+      given_out = omega (arith, low, is);
+      ended = λ c ended.
+          let won = led.1.wins c ∙ ap (λ ks. ks ++ run_wins last first turns s run c) (opens.unwon c) in
+          ap has_end (sym won) ∙ (wins_end (led.1.stages c)
+          ∙ facts_ended (machine_of_table keys last s led.0) led.1.stages led.1.invariant seat v (ap seat_worker there) c ended);
     }
 
 -- a search begins after a begin and after an again

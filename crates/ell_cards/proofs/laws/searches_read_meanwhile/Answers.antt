@@ -1,5 +1,5 @@
-use Rattle.ell_cards.proofs.runs.Meanwhile.{searches_begin_there, searches_read_meanwhile, searches_meet_meanwhile}
+use Rattle.ell_cards.proofs.runs.Meanwhile.{searches_begin_there, searches_read_meanwhile, searches_meet_meanwhile, known_moves_were_made}
 use Rattle.ell_cards.proofs.laws.searches_read_meanwhile.Goals as goal
 
 pub returns : goal.returns
-returns c = record { begin = searches_begin_there; reads = searches_read_meanwhile; meets = searches_meet_meanwhile }
+returns c = record { begin = searches_begin_there; reads = searches_read_meanwhile; meets = searches_meet_meanwhile; moved = known_moves_were_made }
