@@ -6,6 +6,7 @@ mod parts;
 mod reading;
 mod replaying;
 mod shared;
+mod spellings;
 mod tracing;
 mod words;
 mod writing;

@@ -26,6 +26,8 @@ pub mod Marks
 pub mod OnKey
 -- A tree as it opens: the keys that its first pass owns, which of them are present, and who can set to work with it.
 pub mod Opened
+-- How many steps workers make.
+pub mod Paid
 -- Gathering items that have one reply of one thread for each position does not fail but for memory, and gives these.
 pub mod Replies
 -- What a row of workers leaves, worker by worker.

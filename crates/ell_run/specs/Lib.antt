@@ -12,6 +12,8 @@ pub mod Pieces
 pub mod RunFault
 -- What a run of a bulk text may be told.
 pub mod Settings
+-- How many steps workers make at most.
+pub mod Steps
 -- Workers with passes of one tree.
 pub mod Work
 -- what its public clauses cite of the crates below
@@ -24,5 +26,6 @@ pub use Rattle.ell_text.specs.Bulk
 pub use Rattle.ell_parts.specs.PartedOps
 pub use Rattle.ell_tree.specs.Ends
 pub use Rattle.ell_tree.specs.Ledgers
+pub use Rattle.ell_tree.specs.Moves
 -- How many cards the operations of a run can take.
 pub mod Reservation

@@ -1,9 +1,10 @@
 //! What one worker does on its part, with a pass of the shared tree, and the pieces that workers leave.
-ghost use Rattle.std.specs.Prelude.{◌≡◌, ◌≤◌, ℕ, IfOk, length, map};
+ghost use Rattle.std.specs.Prelude.{◌≡◌, ◌≤◌, ◌+◌, ℕ, IfOk, length, map};
 ghost use Rattle.ell_ops.specs.Meaning.{key_of};
 ghost use Rattle.ell_tree.specs.Ends.{Ends};
 ghost use Rattle.ell_tree.specs.Ledgers.{IsIdle, Owns, PassModel};
 ghost use Rattle.ell_run.specs.Pieces.{all_workers, busy, numbered};
+ghost use Rattle.ell_run.specs.Steps.{IsPaid, worker_steps};
 ghost use Rattle.ell_run.specs.Work.{IsWorked, IsWorkedOff, OwnsAll};
 
 use ell_ops::{NoMemory, Op, Reply};
@@ -28,7 +29,8 @@ pub(crate) fn work_off<A: Allocator + Copy, G: StepGate>(
     requires idle { IsIdle pass.old }
     requires owned { OwnsAll pass.old part.now }
     requires tries { 1 ≤ tries }
-    ensures { IfOk result (λ piece. IsWorkedOff tree.now.last_card tries part.now pass.old pass.new piece.items) }
+    ensures worked { IfOk result (λ piece. IsWorkedOff tree.now.last_card tries part.now pass.old pass.new piece.items) }
+    ensures bounded { IfOk result (λ piece. pass.new.steps ≤ pass.old.steps + worker_steps tree.now.last_card (length part.now)) }
 {
     let mut piece = Vec::with_capacity(alloc, part.len())?;
     for (position, op) in part {
@@ -52,7 +54,8 @@ fn do_op<A: Allocator + Copy, G: StepGate>(
     requires idle { IsIdle pass.old }
     requires owned { Owns pass.old (key_of op) }
     requires tries { 1 ≤ tries }
-    ensures { Ends tree.now.last_card tries op pass.old pass.new result }
+    ensures ends { Ends tree.now.last_card tries op pass.old pass.new result }
+    ensures paid { IsPaid tree.now.last_card 1 pass.old pass.new }
 {
     match op {
         Op::Find(key) => Ok(Reply::found(tree.find(pass, key, gate))),

@@ -1,12 +1,13 @@
 //! Workers that share one tree: each does its part with a pass of its own, in a thread of its own where one can be made.
-ghost use Rattle.std.specs.Prelude.{◌≡◌, ◌<◌, ◌≤◌, ◌++◌, ℕ, List, All, IfOk, length, map};
+ghost use Rattle.std.specs.Prelude.{◌≡◌, ◌<◌, ◌≤◌, ◌+◌, ◌++◌, ℕ, List, All, IfOk, length, map};
 ghost use denote.Param.Send.{Frees, IsSend, IsSync};
 ghost use Rattle.ell_ops.specs.KeySet.{Lists};
 ghost use Rattle.ell_ops.specs.Meaning.{key_of};
 ghost use Rattle.ell_parts.specs.PartedOps.{IsLawful, PartedOps, keys_of};
 ghost use Rattle.ell_tree.specs.Ledgers.{IsIdle, Owns, PassModel};
 ghost use Rattle.ell_run.specs.Pieces.{all_workers, busy};
-ghost use Rattle.ell_run.specs.Work.{AreHalves, AreReady, IsWorked, keys_for};
+ghost use Rattle.ell_run.specs.Steps.{work_steps};
+ghost use Rattle.ell_run.specs.Work.{AreHalves, AreReady, IsWorked, IsWorkedWithin, keys_for};
 
 use crate::pieces::{Piece, with_empty_pieces, work_off};
 use ell_ops::{NoMemory, Op, united_keys};
@@ -19,7 +20,9 @@ use std::thread::{Threads, join};
 /// Has each worker work its part off with a pass of the tree, in a thread of its own where one can be made. A worker leaves the
 /// rest of its part from the first operation on that is held: something was in its way at each of its tries, or all cards are given
 /// out. Answers the pass, with all its keys, and a piece for each worker, in their order: its replies, with their positions. After
-/// `NoMemory` the pass is gone.
+/// `NoMemory` the pass is gone. However many tries there are, and however the workers' steps fall, a worker with n operations makes
+/// at most `n * (7 * cards + 28) + 2 * cards * (7 * cards + 27)` steps, where `cards` is the number of the last card; the pass that
+/// comes back has counted no more than the worker with the most operations may, and two for each busy worker beside the first.
 pub fn work<R: Threads + Sync, A: Allocator + Copy + Send + Sync, G: StepGate + Sync>(
     rt: &R,
     alloc: A,
@@ -33,8 +36,9 @@ pub fn work<R: Threads + Sync, A: Allocator + Copy + Send + Sync, G: StepGate + 
     requires idle { IsIdle pass }
     requires owned { All (λ op. Owns pass (key_of op)) parts.now.ops }
     requires tries { 1 ≤ tries }
-    ensures { IfOk result (λ done.
+    ensures worked { IfOk result (λ done.
         IsWorked tree.now.last_card tries parts.now (all_workers parts.now) pass done.0 (map (λ piece. piece.items) done.1.items)) }
+    ensures bounded { IfOk result (λ done. done.0.steps ≤ pass.steps + work_steps tree.now.last_card parts.now (busy parts.now)) }
 {
     let workers = busy_workers(alloc, parts)?;
     let (pass, pieces) = do_workers(rt, alloc, tree, pass, parts, &workers, tries, gate)?;
@@ -42,7 +46,7 @@ pub fn work<R: Threads + Sync, A: Allocator + Copy + Send + Sync, G: StepGate + 
 }
 
 // The same with a pass that may have other keys beside those of the operations, which are `keys`: the others stay in a pass that no
-// worker uses.
+// worker uses, for a split and a join more.
 pub(crate) fn work_apart<R: Threads + Sync, A: Allocator + Copy + Send + Sync, G: StepGate + Sync>(
     rt: &R,
     alloc: A,
@@ -59,8 +63,9 @@ pub(crate) fn work_apart<R: Threads + Sync, A: Allocator + Copy + Send + Sync, G
     requires keys { Lists (keys_of parts.now.ops) keys.now }
     requires owned { All (λ key. Owns pass key) keys.now }
     requires tries { 1 ≤ tries }
-    ensures { IfOk result (λ done.
+    ensures worked { IfOk result (λ done.
         IsWorked tree.now.last_card tries parts.now (all_workers parts.now) pass done.0 (map (λ piece. piece.items) done.1.items)) }
+    ensures bounded { IfOk result (λ done. done.0.steps ≤ pass.steps + work_steps tree.now.last_card parts.now (busy parts.now) + 2) }
 {
     if pass.keys().len() == keys.len() {
         return work(rt, alloc, tree, pass, parts, tries, gate);
@@ -107,7 +112,7 @@ fn do_workers<R: Threads + Sync, A: Allocator + Copy + Send + Sync, G: StepGate 
 ) -> Result<(Pass<A>, Vec<Piece<A>, A>), NoMemory>
     requires ready { AreReady tree.now parts.now workers.now pass }
     requires tries { 1 ≤ tries }
-    ensures { IfOk result (λ done. IsWorked tree.now.last_card tries parts.now workers.now pass done.0 (map (λ piece. piece.items) done.1.items)) }
+    ensures { IfOk result (λ done. IsWorkedWithin tree.now.last_card tries parts.now workers.now pass done.0 (map (λ piece. piece.items) done.1.items)) }
 {
     if workers.len() < 2 {
         return do_one(alloc, tree, pass, parts, workers, tries, gate);
@@ -116,11 +121,11 @@ fn do_workers<R: Threads + Sync, A: Allocator + Copy + Send + Sync, G: StepGate 
     let (left, right) = halves(alloc, tree, pass, parts, low)?;
     let front = move || -> Result<(Pass<A>, Vec<Piece<A>, A>), NoMemory>
         requires { IsSync R.row × IsSync G.row × IsSend A.row × IsSync A.row × Frees A.Allocator A.dealloc_token × AreReady tree.now parts.now low.now left × (1 ≤ tries) }
-        ensures { IfOk result (λ done. IsWorked tree.entry.now.last_card tries parts.entry.now low.entry.now left done.0 (map (λ piece. piece.items) done.1.items)) }
+        ensures { IfOk result (λ done. IsWorkedWithin tree.entry.now.last_card tries parts.entry.now low.entry.now left done.0 (map (λ piece. piece.items) done.1.items)) }
     { do_workers(rt, alloc, tree, left, parts, low, tries, gate) };
     let back = move || -> Result<(Pass<A>, Vec<Piece<A>, A>), NoMemory>
         requires { IsSync R.row × IsSync G.row × IsSend A.row × IsSync A.row × Frees A.Allocator A.dealloc_token × AreReady tree.now parts.now high.now right × (1 ≤ tries) }
-        ensures { IfOk result (λ done. IsWorked tree.entry.now.last_card tries parts.entry.now high.entry.now right done.0 (map (λ piece. piece.items) done.1.items)) }
+        ensures { IfOk result (λ done. IsWorkedWithin tree.entry.now.last_card tries parts.entry.now high.entry.now right done.0 (map (λ piece. piece.items) done.1.items)) }
     { do_workers(rt, alloc, tree, right, parts, high, tries, gate) };
     let (first, second) = join(rt, front, back);
     both(tree, first?, second?)
@@ -139,7 +144,7 @@ fn do_one<A: Allocator + Copy, G: StepGate>(
     requires one { length workers.now ≤ 1 }
     requires ready { AreReady tree.now parts.now workers.now pass }
     requires tries { 1 ≤ tries }
-    ensures { IfOk result (λ done. IsWorked tree.now.last_card tries parts.now workers.now pass done.0 (map (λ piece. piece.items) done.1.items)) }
+    ensures { IfOk result (λ done. IsWorkedWithin tree.now.last_card tries parts.now workers.now pass done.0 (map (λ piece. piece.items) done.1.items)) }
 {
     let mut pieces = Vec::new(alloc);
     let [worker] = workers else {
@@ -204,10 +209,11 @@ fn both<A: Allocator + Copy>(
     requires left_idle { IsIdle first.0 }
     requires right_idle { IsIdle second.0 }
     ensures { (cards tries : ℕ) (parting : PartedOps) (low high : List ℕ) (pass left right : PassModel) →
+        0 < length low → 0 < length high →
         AreReady tree.now parting (low ++ high) pass → AreHalves parting low pass left right →
-        IsWorked cards tries parting low left first.0 (map (λ piece. piece.items) first.1.items) →
-        IsWorked cards tries parting high right second.0 (map (λ piece. piece.items) second.1.items) →
-        IfOk result (λ done. IsWorked cards tries parting (low ++ high) pass done.0 (map (λ piece. piece.items) done.1.items)) }
+        IsWorkedWithin cards tries parting low left first.0 (map (λ piece. piece.items) first.1.items) →
+        IsWorkedWithin cards tries parting high right second.0 (map (λ piece. piece.items) second.1.items) →
+        IfOk result (λ done. IsWorkedWithin cards tries parting (low ++ high) pass done.0 (map (λ piece. piece.items) done.1.items)) }
 {
     let (left, mut pieces) = first;
     let (right, mut behind) = second;

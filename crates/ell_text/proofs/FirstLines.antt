@@ -1,8 +1,8 @@
-use Rattle.std.proofs.Common.{◌≡◌, ℕ, ◌+◌, ◌-◌, ◌<◌, ◌≤◌, Bool, true, false, ◌==◌, All, List, [], ◌∷◌, get_or, nat_le, ◌++◌, length, take, drop, position, None, Some, Ok, refl, sym, ap, ap₂, ◌∙◌, arith, append_assoc, length-append}
-use Rattle.std.proofs.lemmas.Bool.{cond-false, eqb-true, leb-true, ne_eqb}
-use Rattle.std.proofs.lemmas.List.{take_all}
+use Rattle.std.proofs.Common.{◌≡◌, ℕ, ◌+◌, ◌-◌, ◌<◌, ◌≤◌, Bool, true, false, ◌==◌, All, List, [], ◌∷◌, inl, inr, get_or, nat_le, ◌++◌, length, take, drop, Some, Ok, refl, sym, ap, ap₂, ◌∙◌, arith, append_assoc, length-append}
+use Rattle.std.proofs.lemmas.Bool.{cond-false, cond-true, eq-eqb, eqb-true, false_from_ne_true, leb-true, ne_eqb}
+use Rattle.std.proofs.lemmas.List.{get_or_default}
 use Rattle.std.proofs.lemmas.List.Elements.{All-append, All-cons}
-use Rattle.std.proofs.lemmas.List.Splits.{length-slice_split, slice_split_at}
+use Rattle.std.proofs.lemmas.List.Splits.{length-slice_split, slice_split_at, slice_split_first, slice_split_none}
 use Rattle.std.proofs.lemmas.List.Sums.{AllPass-from_list_all, position_or_len_is}
 use Rattle.std.proofs.Math.Seq.{take-append_seam, drop-append-add, get_or-append_seam}
 use Rattle.std.proofs.Math.ListN.{get_or-append}
@@ -16,10 +16,9 @@ use Rattle.ell_text.specs.declared.line.Section.{Section}
 use Rattle.ell_text.specs.declared.line.Section.TheVariants.{Head, Opening, Operations}
 use Rattle.ell_text.specs.declared.version.Version.{Version}
 use Rattle.ell_text.specs.Line.{HasKindInFront, IsFirstLine, IsValueInFront, has_value, key_behind, line_behind_name, line_from, line_kind_of, line_of, line_on, name_of, or_bad_key, or_bad_value, said_in, says_version, unless_skipped, value_behind}
-use Rattle.ell_text.specs.Lines.{is_line_feed, is_skipped, is_space, lines}
+use Rattle.ell_text.specs.Lines.{IsBehindLineEnd, is_line_feed, is_skipped, is_space, lines}
 use Rattle.ell_text.specs.Number.{IsNumberInFront, is_number, key_in, value_in}
 use Rattle.ell_text.proofs.Digits.{number_at_least}
-use Rattle.ell_text.proofs.Pieces.{cut_none, cut_some}
 
 -- one part and others
 parts_more : (x : List ℕ) (parts : List (List ℕ)) → 0 < length parts → lines_of_parts (x ∷ parts) ≡ strip_carriage_return x ∷ lines_of_parts parts
@@ -27,25 +26,26 @@ parts_more x [] some = absurd (omega arith)
 parts_more x (y ∷ more) some = refl
 
 -- the first line ends at the first line feed
-pub first_line_some : (bytes : List ℕ) (i : ℕ) → position is_line_feed bytes ≡ Some i → lines bytes ≡ strip_carriage_return (take i bytes) ∷ lines (drop (i + 1) bytes)
-first_line_some bytes i is =
-    ap lines_of_parts (cut_some is_line_feed bytes i is)
-    ∙ parts_more (take i bytes) (slice_split is_line_feed (drop (i + 1) bytes)) (omega (arith, length-slice_split is_line_feed (drop (i + 1) bytes)))
+pub first_line_some : (bytes : List ℕ) (i : ℕ) → i < length bytes → is_line_feed (get_or bytes i 0) ≡ true
+    → ((k : ℕ) → k < i → is_line_feed (get_or bytes k 0) ≡ true → ⊥) → lines bytes ≡ strip_carriage_return (take i bytes) ∷ lines (drop (i + 1) bytes)
+first_line_some bytes i within here before =
+    let behind = drop (i + 1) bytes in
+    let place : position_or_len is_line_feed bytes ≡ i =
+    position_or_len_is is_line_feed bytes i 0 (omega (arith, within)) (λ k below. false_from_ne_true _ (before k below)) (λ _. here) in
+    ap lines_of_parts (slice_split_first is_line_feed bytes 0 (omega (arith, place)) ∙ ap (λ n. take n bytes ∷ slice_split is_line_feed (drop (n + 1) bytes)) place)
+    ∙ parts_more (take i bytes) (slice_split is_line_feed behind) (omega (arith, length-slice_split is_line_feed behind))
 
 -- with no line feed all is one line
-pub first_line_none : (bytes : List ℕ) → 0 < length bytes → position is_line_feed bytes ≡ None → lines bytes ≡ bytes ∷ []
-first_line_none bytes some is =
-    ap lines_of_parts (cut_none is_line_feed bytes is) ∙ cond-false _ _ _ (ne_eqb (length bytes) 0 (λ e. absurd (omega arith)))
+pub first_line_none : (bytes : List ℕ) → 0 < length bytes → ((k : ℕ) → k < length bytes → is_line_feed (get_or bytes k 0) ≡ true → ⊥) → lines bytes ≡ bytes ∷ []
+first_line_none bytes some none =
+    ap lines_of_parts (slice_split_none is_line_feed bytes
+    (λ k d below. ap is_line_feed (get_or_default bytes k d 0 below) ∙ false_from_ne_true _ (none k below)))
+    ∙ cond-false _ _ _ (ne_eqb (length bytes) 0 (λ e. absurd (omega arith)))
 
 -- nothing has no line
 pub nothing_left : (bytes : List ℕ) → (length bytes == 0) ≡ true → lines bytes ≡ []
 nothing_left [] none = refl
 nothing_left (b ∷ bytes) none = absurd (omega (arith, eqb-true (length (b ∷ bytes)) 0 none))
-
--- a byte, and what stands behind it
-pub head_and_rest : (bytes : List ℕ) (b : ℕ) → 1 ≤ length bytes → get_or bytes 0 0 ≡ b → bytes ≡ b ∷ take (length bytes - 1) (drop 1 bytes)
-head_and_rest [] b some is = absurd (omega arith)
-head_and_rest (x ∷ bytes) b some is = ap (λ head. head ∷ bytes) is ∙ ap (λ rest. b ∷ rest) (sym (take_all (length (x ∷ bytes) - 1) bytes (omega arith)))
 
 -- no byte is below a space: no line feed, and no carriage return
 abbrev IsPrinted : List ℕ → Type 0
@@ -55,11 +55,36 @@ not_stripped : (line : List ℕ) → IsPrinted line → strip_carriage_return li
 not_stripped [] printed = refl
 not_stripped (b ∷ line) printed = cond-false _ _ _ (ne_eqb (get_or (b ∷ line) (length (b ∷ line) - 1) 0) 13 (λ e. absurd (omega (arith, e, printed (length (b ∷ line) - 1) 0 (omega arith)))))
 
-line_ended : (line rest : List ℕ) → IsPrinted line → lines (line ++ 10 ∷ rest) ≡ line ∷ lines rest
-line_ended line rest printed =
-    ap lines_of_parts (slice_split_at is_line_feed line 10 rest (λ k d within. ne_eqb _ 10 (λ e. absurd (omega (arith, e, printed k d within)))) refl)
-    ∙ parts_more line (slice_split is_line_feed rest) (omega (arith, length-slice_split is_line_feed rest))
+line_before_feed : (front rest : List ℕ) → All (λ b. is_line_feed b ≡ false) front → lines (front ++ 10 ∷ rest) ≡ strip_carriage_return front ∷ lines rest
+line_before_feed front rest none =
+    ap lines_of_parts (slice_split_at is_line_feed front 10 rest none refl)
+    ∙ parts_more front (slice_split is_line_feed rest) (omega (arith, length-slice_split is_line_feed rest))
+
+no_feed : (line : List ℕ) → IsPrinted line → All (λ b. is_line_feed b ≡ false) line
+no_feed line printed k d within = ne_eqb _ 10 (λ e. absurd (omega (arith, e, printed k d within)))
+
+-- a carriage return at the end goes
+stripped : (line : List ℕ) → strip_carriage_return (line ++ 13 ∷ []) ≡ line
+stripped line =
+    let place : length (line ++ 13 ∷ []) - 1 ≡ length line = omega (arith, length-append line (13 ∷ [])) in
+    cond-true _ _ _ (eq-eqb (get_or (line ++ 13 ∷ []) (length (line ++ 13 ∷ []) - 1) 0) 13
+    (ap (λ n. get_or (line ++ 13 ∷ []) n 0) place ∙ get_or-append_seam line 13 [] 0))
+    ∙ ap (λ n. take n (line ++ 13 ∷ [])) place ∙ take-append_seam line (13 ∷ [])
+
+line_ended : (line tail rest : List ℕ) → IsPrinted line → IsBehindLineEnd tail rest → lines (line ++ tail) ≡ line ∷ lines rest
+line_ended line tail rest printed (inl feed) =
+    ap (λ l. lines (line ++ l)) feed ∙ line_before_feed line rest (no_feed line printed)
     ∙ ap (λ l. l ∷ lines rest) (not_stripped line printed)
+line_ended line tail rest printed (inr both) =
+    let front = line ++ 13 ∷ [] in
+    ap (λ l. lines (line ++ l)) both ∙ ap lines (sym (append_assoc line (13 ∷ []) (10 ∷ rest)))
+    ∙ line_before_feed front rest (All-append (λ b. is_line_feed b ≡ false) line (13 ∷ []) (no_feed line printed)
+    (All-cons (λ b. is_line_feed b ≡ false) 13 [] refl (λ k d within. absurd (omega (arith, within)))))
+    ∙ ap (λ l. l ∷ lines rest) (stripped line)
+
+tail_shorter : (tail rest : List ℕ) → IsBehindLineEnd tail rest → length rest < length tail
+tail_shorter tail rest (inl feed) = omega (arith, ap length feed)
+tail_shorter tail rest (inr both) = omega (arith, ap length both)
 
 printed_number : (bytes : List ℕ) → is_number bytes ≡ true → IsPrinted bytes
 printed_number bytes spelt k d within = omega (arith, number_at_least bytes k d spelt within)
@@ -81,28 +106,28 @@ number_after : (bytes more : List ℕ) → is_number bytes ≡ true → after_fi
 number_after bytes more spelt = ap (λ n. drop (n + 1) (bytes ++ 32 ∷ more)) (space_behind bytes more spelt) ∙ drop-append-add bytes (32 ∷ more) 1
 
 -- what stands behind a name up to the line's end, and what it says
-record SaysBehind (valued : Bool) (text : List ℕ) (key value : ℕ) (rest : List ℕ) : Type 0 where
+record SaysBehind (valued : Bool) (text : List ℕ) (key value : ℕ) (tail : List ℕ) : Type 0 where
   pub more : List ℕ
-  pub cut : text ≡ more ++ 10 ∷ rest
+  pub cut : text ≡ more ++ tail
   pub printed : IsPrinted more
   pub key_said : key_behind valued more ≡ Ok key
   pub value_said : value_behind valued more ≡ Ok value
 
-says_behind : (valued : Bool) (text behind rest : List ℕ) (key value : ℕ) → IsNumberInFront greatest_key text key behind
-    → IsValueInFront valued behind value (10 ∷ rest) → SaysBehind valued text key value rest
-says_behind false text behind rest key value number none = record {
+says_behind : (valued : Bool) (text behind tail : List ℕ) (key value : ℕ) → IsNumberInFront greatest_key text key behind
+    → IsValueInFront valued behind value tail → SaysBehind valued text key value tail
+says_behind false text behind tail key value number none = record {
   more = number.digits;
   cut = number.cut ∙ ap (λ l. number.digits ++ l) (sym none.1);
   printed = printed_number number.digits number.spelt;
   key_said = ap or_bad_key number.value;
   value_said = ap Ok (sym none.0);
 }
-says_behind true text behind rest key value number some =
+says_behind true text behind tail key value number some =
     let second = some.2 in
     let more = number.digits ++ 32 ∷ second.digits in
     record {
       more = more;
-      cut = number.cut ∙ ap (λ l. number.digits ++ l) (some.1 ∙ ap (λ l. 32 ∷ l) second.cut) ∙ sym (append_assoc number.digits (32 ∷ second.digits) (10 ∷ rest));
+      cut = number.cut ∙ ap (λ l. number.digits ++ l) (some.1 ∙ ap (λ l. 32 ∷ l) second.cut) ∙ sym (append_assoc number.digits (32 ∷ second.digits) tail);
       printed = All-append (λ b. 32 ≤ b) number.digits (32 ∷ second.digits) (printed_number number.digits number.spelt)
           (printed_behind_space second.digits (printed_number second.digits second.spelt));
       key_said = ap (λ bytes. or_bad_key (key_in bytes)) (number_before number.digits second.digits number.spelt) ∙ ap or_bad_key number.value;
@@ -160,17 +185,17 @@ read_named version section known more named =
     ∙ ap₂ (line_behind_name version) (ap (line_kind_of section) (name_before known more) ∙ named) (behind_name known more))
 
 -- a first line that is spelt plainly
-pub plain_line : (version : Version) (section : Section) (text behind after rest : List ℕ) (known : LineKind) (key value : ℕ)
-    → HasKindInFront section text known behind → IsNumberInFront greatest_key behind key after → IsValueInFront (has_value version known) after value (10 ∷ rest)
-    → IsFirstLine version section text (Ok (Some (line_on known key value))) rest
-plain_line version section text behind after rest known key value front number valued =
-    let says = says_behind (has_value version known) behind after rest key value number valued in
+pub plain_line : (version : Version) (section : Section) (text behind after tail rest : List ℕ) (known : LineKind) (key value : ℕ)
+    → HasKindInFront section text known behind → IsNumberInFront greatest_key behind key after → IsValueInFront (has_value version known) after value tail
+    → IsBehindLineEnd tail rest → IsFirstLine version section text (Ok (Some (line_on known key value))) rest
+plain_line version section text behind after tail rest known key value front number valued ends =
+    let says = says_behind (has_value version known) behind after tail key value number valued in
     let line = named_line known says.more in
-    let whole : text ≡ line ++ 10 ∷ rest = front.cut ∙ ap (named_line known) says.cut ∙ sym (append_assoc (name_of known) (32 ∷ says.more) (10 ∷ rest)) in
+    let whole : text ≡ line ++ tail = front.cut ∙ ap (named_line known) says.cut ∙ sym (append_assoc (name_of known) (32 ∷ says.more) tail) in
     record {
       line = line;
-      cut = ap lines whole ∙ line_ended line rest (printed_line known says.more says.printed);
+      cut = ap lines whole ∙ line_ended line tail rest (printed_line known says.more says.printed) ends;
       read_so = read_named version section known says.more front.named
           ∙ ap (unless_skipped false) (ap₂ (line_from known) says.key_said says.value_said);
-      shorter = omega (arith, ap length whole, length-append line (10 ∷ rest));
+      shorter = omega (arith, ap length whole, length-append line tail, tail_shorter tail rest ends);
     }

@@ -1,4 +1,4 @@
-use Rattle.std.proofs.Common.{◌≡◌, ◌+◌, ◌≤◌, ℕ, Bool, List, [], ◌∷◌, length, take, drop, Option, None, Some, ap, ◌∙◌, arith, ⊎_elim}
+use Rattle.std.proofs.Common.{◌≡◌, ◌+◌, ◌≤◌, ℕ, List, [], ◌∷◌, length, take, drop, Option, None, Some, ap, ◌∙◌, arith, ⊎_elim}
 use Rattle.std.proofs.lemmas.Bool.{cases_lt, cond-true, lt-ltb}
 use Rattle.std.proofs.lemmas.List.Quantifiers.{position-Some}
 use Rattle.std.proofs.lemmas.List.Sums.{fails_before_first, position_or_len_is}
@@ -9,22 +9,21 @@ use Rattle.ell_text.specs.Lines.{is_space}
 some_is_none : (o : Option ℕ) (i : ℕ) → o ≡ Some i → o ≡ None → ⊥
 some_is_none o i some none = cc
 
-module _ (p : ℕ → Bool) where
-  -- the first piece ends at the first byte that passes
-  pub cut_some : (xs : List ℕ) (i : ℕ) → position p xs ≡ Some i → slice_split p xs ≡ take i xs ∷ slice_split p (drop (i + 1) xs)
-  cut_some xs i is =
-      let found = position-Some p xs i 0 is in
-      let here : position_or_len p xs ≡ i = position_or_len_is p xs i 0 (omega (arith, found.0)) found.2 (λ _. found.1) in
-      slice_split_first p xs 0 (omega (arith, found.0)) ∙ ap (λ n. take n xs ∷ slice_split p (drop (n + 1) xs)) here
+-- the first piece ends at the first space
+pub cut_some : (xs : List ℕ) (i : ℕ) → position is_space xs ≡ Some i → slice_split is_space xs ≡ take i xs ∷ slice_split is_space (drop (i + 1) xs)
+cut_some xs i is =
+    let found = position-Some is_space xs i 0 is in
+    let here : position_or_len is_space xs ≡ i = position_or_len_is is_space xs i 0 (omega (arith, found.0)) found.2 (λ _. found.1) in
+    slice_split_first is_space xs 0 (omega (arith, found.0)) ∙ ap (λ n. take n xs ∷ slice_split is_space (drop (n + 1) xs)) here
 
-  -- with none that passes the line is the one piece
-  pub cut_none : (xs : List ℕ) → position p xs ≡ None → slice_split p xs ≡ xs ∷ []
-  cut_none xs is = ⊎_elim
-      (λ within.
-      let found : position p xs ≡ Some (position_or_len p xs) = cond-true _ _ _ (lt-ltb (position_or_len p xs) (length xs) within) in
-      absurd (some_is_none (position p xs) (position_or_len p xs) found is))
-      (λ past. slice_split_none p xs (λ k d below. fails_before_first p xs k d (omega arith)))
-      (cases_lt (position_or_len p xs) (length xs))
+-- with no space the line is the one piece
+pub cut_none : (xs : List ℕ) → position is_space xs ≡ None → slice_split is_space xs ≡ xs ∷ []
+cut_none xs is = ⊎_elim
+    (λ within.
+    let found : position is_space xs ≡ Some (position_or_len is_space xs) = cond-true _ _ _ (lt-ltb (position_or_len is_space xs) (length xs) within) in
+    absurd (some_is_none (position is_space xs) (position_or_len is_space xs) found is))
+    (λ past. slice_split_none is_space xs (λ k d below. fails_before_first is_space xs k d (omega arith)))
+    (cases_lt (position_or_len is_space xs) (length xs))
 
 -- one piece, or more than four where the fourth ends at a space
 pub one_piece : (a : List ℕ) (parts : List (List ℕ)) → parts ≡ a ∷ [] → length parts ≡ 1

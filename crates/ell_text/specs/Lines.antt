@@ -1,4 +1,4 @@
-use Rattle.std.specs.Prelude.{ℕ, nat_eq, ◌==◌, ◌||◌, Bool, List, codes}
+use Rattle.std.specs.Prelude.{ℕ, ◌≡◌, ◌⊎◌, ◌∷◌, nat_eq, ◌==◌, ◌||◌, Bool, List, codes}
 use Rattle.std.specs.List.{list_all, starts_with}
 -- what stands between line feeds: an empty last part is no line, and only a part before a line feed loses one carriage return at its end
 pub use Rattle.std.specs.Str.Lines.{lines}
@@ -10,6 +10,10 @@ is_space byte = byte == 32
 -- what ends a line
 abbrev pub is_line_feed : ℕ → Bool
 is_line_feed byte = byte == 10
+
+-- the rest stands behind a line feed, which may have one carriage return before it
+abbrev pub IsBehindLineEnd : List ℕ → List ℕ → Type 0
+IsBehindLineEnd bytes rest = (bytes ≡ 10 ∷ rest) ⊎ (bytes ≡ 13 ∷ 10 ∷ rest)
 
 -- nothing but spaces and tabs
 abbrev pub is_blank : List ℕ → Bool

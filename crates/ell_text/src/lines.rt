@@ -2,7 +2,7 @@
 ghost use Rattle.std.specs.Prelude.{◌≡◌, ◌<◌, ◌≤◌, [], ◌∷◌, length, position, MatchOption};
 ghost use Rattle.std.specs.List.{after_first, before_first, slice_split};
 ghost use Rattle.std.specs.Str.Lines.{strip_carriage_return};
-ghost use Rattle.ell_text.specs.Lines.{is_blank, is_line_feed, is_skipped, is_space, lines};
+ghost use Rattle.ell_text.specs.Lines.{is_blank, is_skipped, is_space, lines};
 
 use bstr::{ByteSlice, Lines};
 
@@ -21,16 +21,10 @@ pub(crate) fn cut_first_line(text: &[u8]) -> (&[u8], &[u8])
     ensures cut { lines text.now ≡ result.0.now ∷ lines result.1.now }
     ensures shorter { length result.1.now < length text.now }
 {
-    match first_line_feed(text) {
+    match text.find_byte(b'\n') {
         Some(at) => (without_carriage_return(&text[..at]), &text[at + 1..]),
         None => (text, &[]),
     }
-}
-
-fn first_line_feed(text: &[u8]) -> Option<usize>
-    ensures { result ≡ position is_line_feed text.now }
-{
-    text.iter().position(|byte| *byte == b'\n')
 }
 
 // A line without the one carriage return at its end, if it has one.

@@ -1,6 +1,7 @@
 //! Lines of a bulk text that are spelt plainly, as most are, each read in one pass.
 ghost use Rattle.std.specs.Prelude.{IfSome, Ok, Some};
 ghost use Rattle.ell_text.specs.Line.{HasKindInFront, IsFirstLine, IsValueInFront, LineFits};
+ghost use Rattle.ell_text.specs.Lines.{IsBehindLineEnd};
 
 use crate::line::{Line, LineKind, OpKind, Section};
 use crate::number::read_number_in_front;
@@ -8,7 +9,7 @@ use crate::version::Version;
 use ell_ops::KEY_MAX;
 
 /// Reads the first line of a text, which stands in a section, in one pass where it is spelt plainly: its name, one space, its
-/// key, then one space and its value if it has one, and a line feed. Answers what it says in a version, and the text behind it.
+/// key, then one space and its value if it has one, and its end. Answers what it says in a version, and the text behind it.
 /// `None` is no fault: what the line says is then for `read_line` to tell.
 pub(crate) fn read_plain_line(
     version: Version,
@@ -21,10 +22,8 @@ pub(crate) fn read_plain_line(
     let (kind, behind) = kind_in_front(section, text)?;
     let (key, behind) = read_number_in_front(behind, KEY_MAX)?;
     let (value, behind) = value_in_front(kind.has_value(version), behind)?;
-    match behind {
-        [b'\n', rest @ ..] => Some((kind.on(key, value), rest)),
-        _ => None,
-    }
+    let rest = behind_line_end(behind)?;
+    Some((kind.on(key, value), rest))
 }
 
 // The kind of line whose name stands at the front of a text, with a space behind it, and the text behind that.
@@ -58,6 +57,18 @@ fn value_in_front(has_value: bool, bytes: &[u8]) -> Option<(u64, &[u8])>
     }
     match bytes {
         [b' ', behind @ ..] => read_number_in_front(behind, u64::MAX),
+        _ => None,
+    }
+}
+
+// What stands behind the end of a line, if one stands at the front of some bytes: a line feed, which may have one carriage return
+// before it.
+fn behind_line_end(bytes: &[u8]) -> Option<&[u8]>
+    ensures { IfSome result (λ rest. IsBehindLineEnd bytes.now rest.now) }
+{
+    match bytes {
+        [b'\n', rest @ ..] => Some(rest),
+        [b'\r', b'\n', rest @ ..] => Some(rest),
         _ => None,
     }
 }

@@ -35,10 +35,10 @@ work_apart-requires-clause-owned g c = λ κs outlives.
 
 pub close-requires-clause-all : goal.close-requires-clause-all
 close-requires-clause-all g c =
-    owns_all c.in_ok-tree.tree.keys (start_entry c.args.start.now) c.in_ok-tree.pass c.in_ok-tree.ensures.pass.ledger c.in_ok-pass.pass c.in_ok-pass.ensures.owned
+    owns_all c.in_ok-tree.tree.keys (start_entry c.args.start.now) c.in_ok-tree.pass c.in_ok-tree.ensures.pass.ledger c.in_ok-pass.pass c.in_ok-pass.ensures.worked.owned
 
 pub returns-in-Ok : goal.returns-in-Ok
 returns-in-Ok g c =
     left_behind (contents_of c.args.start.now) c.in_ok-tree.tree c.args.limits.tries c.args.parts.now c.in_ok-tree.pass c.in_ok-pass.pass
     (map (λ piece. piece.items) c.in_ok-pass.pieces.items) c.in-Ok.pairs.items
-    c.in_ok-tree.ensures.pass.present c.in_ok-pass.ensures c.in-Ok.ensures.pairs
+    c.in_ok-tree.ensures.pass.present c.in_ok-pass.ensures.worked c.in-Ok.ensures.pairs

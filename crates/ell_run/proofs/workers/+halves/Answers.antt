@@ -1,6 +1,7 @@
-use Rattle.std.proofs.Common.{rules, ◌≡◌, ◌++◌, ◌/◌, IfOk, length, map, ap₂, sym, subst, ◌∙◌}
+use Rattle.std.proofs.Common.{rules, ◌≡◌, ◌++◌, ◌/◌, IfOk, length, map, ap₂, arith, sym, subst, ◌∙◌}
 use Rattle.std.proofs.lemmas.List.{take-append-drop}
-use Rattle.ell_run.specs.Work.{AreHalves, AreReady, IsWorked}
+use Rattle.ell_run.specs.Work.{AreHalves, AreReady, IsWorkedWithin}
+use Rattle.ell_run.proofs.Paid.{some_each}
 use Rattle.ell_run.proofs.workers.+halves.Goals as goal
 
 pub join-first-requires-after_bounds : goal.join-first-requires-after_bounds
@@ -25,12 +26,13 @@ returns g t c =
     let ready : AreReady c.args.tree.now parting (low ++ high) c.args.pass =
     subst (λ row. AreReady c.args.tree.now parting row c.args.pass) (sym rows) c.requires.ready in
     let halves : AreHalves parting low c.args.pass c.in_ok-left.left c.in_ok-left.right = search rules in
-    let first : IsWorked c.args.tree.now.last_card c.args.tries parting low c.in_ok-left.left c.in_ok-first.field-0.0
+    let first : IsWorkedWithin c.args.tree.now.last_card c.args.tries parting low c.in_ok-left.left c.in_ok-first.field-0.0
     (map (λ piece. piece.items) c.in_ok-first.field-0.1.items) = search rules in
-    let second : IsWorked c.args.tree.now.last_card c.args.tries parting high c.in_ok-left.right c.in_ok-second.field-0.0
+    let second : IsWorkedWithin c.args.tree.now.last_card c.args.tries parting high c.in_ok-left.right c.in_ok-second.field-0.0
     (map (λ piece. piece.items) c.in_ok-second.field-0.1.items) = search rules in
-    let done : IfOk c.both.result (λ done. IsWorked c.args.tree.now.last_card c.args.tries parting (low ++ high) c.args.pass done.0
+    let some = some_each workers low high (omega (arith, c.if-workers-lt2.false)) c.split_at.ensures.front c.split_at.ensures.back in
+    let done : IfOk c.both.result (λ done. IsWorkedWithin c.args.tree.now.last_card c.args.tries parting (low ++ high) c.args.pass done.0
     (map (λ piece. piece.items) done.1.items)) =
-    c.both.ensures c.args.tree.now.last_card c.args.tries parting low high c.args.pass c.in_ok-left.left c.in_ok-left.right ready halves first second in
-    subst (λ row. IfOk c.both.result (λ done. IsWorked c.args.tree.now.last_card c.args.tries parting row c.args.pass done.0
+    c.both.ensures c.args.tree.now.last_card c.args.tries parting low high c.args.pass c.in_ok-left.left c.in_ok-left.right some.0 some.1 ready halves first second in
+    subst (λ row. IfOk c.both.result (λ done. IsWorkedWithin c.args.tree.now.last_card c.args.tries parting row c.args.pass done.0
     (map (λ piece. piece.items) done.1.items))) rows done

@@ -1,6 +1,7 @@
-use Rattle.std.proofs.Common.{map, length, ap, sym, subst, ◌∙◌}
+use Rattle.std.proofs.Common.{◌≤◌, ◌+◌, map, length, ap, sym, subst, ◌∙◌}
 use Rattle.std.proofs.lemmas.List.{length-map}
 use Rattle.ell_tree.specs.Ledgers.{present_in}
+use Rattle.ell_run.specs.Steps.{work_steps}
 use Rattle.ell_run.specs.Work.{AreReady, IsWorked}
 use Rattle.ell_run.proofs.Opened.{busy_ready}
 use Rattle.ell_run.proofs.Rows.{length-pieces}
@@ -14,11 +15,16 @@ do_workers-requires-clause-ready g c = λ κs outlives.
 pub with_empty_pieces-requires : goal.with_empty_pieces-requires
 with_empty_pieces-requires g c =
     sym (length-map c.in_ok-pass.pieces.items (λ piece. piece.items))
-    ∙ length-pieces (present_in c.args.pass) c.args.parts.now c.deref.result.now (map (λ piece. piece.items) c.in_ok-pass.pieces.items) c.in_ok-pass.ensures.told
+    ∙ length-pieces (present_in c.args.pass) c.args.parts.now c.deref.result.now (map (λ piece. piece.items) c.in_ok-pass.pieces.items) c.in_ok-pass.ensures.worked.told
     ∙ ap length (c.deref.ensures.value ∙ c.in_ok-workers.ensures.busy)
 
-pub returns : goal.returns
-returns g c =
+pub returns-clause-worked : goal.returns-clause-worked
+returns-clause-worked g c =
     c.in_ok-with_empty_pieces.ensures c.args.tree.now.last_card c.args.tries c.args.pass c.in_ok-pass.pass
     (subst (λ workers. IsWorked c.args.tree.now.last_card c.args.tries c.args.parts.now workers c.args.pass c.in_ok-pass.pass (map (λ piece. piece.items) c.in_ok-pass.pieces.items))
-    (c.deref.ensures.value ∙ c.in_ok-workers.ensures.busy) c.in_ok-pass.ensures)
+    (c.deref.ensures.value ∙ c.in_ok-workers.ensures.busy) c.in_ok-pass.ensures.worked)
+
+pub returns-clause-bounded : goal.returns-clause-bounded
+returns-clause-bounded g c =
+    subst (λ workers. c.in_ok-pass.pass.steps ≤ c.args.pass.steps + work_steps c.args.tree.now.last_card c.args.parts.now workers)
+    (c.deref.ensures.value ∙ c.in_ok-workers.ensures.busy) c.in_ok-pass.ensures.bounded

@@ -11,7 +11,7 @@ returns-in-Some c =
     let xs = c.args.line.now in
     let i = c.in-Some.at in
     let rest = take_all (length xs - (i + 1)) (drop (i + 1) xs) (omega (arith, length-drop (i + 1) xs)) in
-    cut_some is_space xs i (sym c.first_space.ensures ∙ c.in-Some.is) ∙ ap (λ part. take i xs ∷ slice_split is_space part) (sym rest)
+    cut_some xs i (sym c.first_space.ensures ∙ c.in-Some.is) ∙ ap (λ part. take i xs ∷ slice_split is_space part) (sym rest)
 
 pub returns-in-None : goal.returns-in-None
-returns-in-None c = cut_none is_space c.args.line.now (sym c.first_space.ensures ∙ c.in-None.is)
+returns-in-None c = cut_none c.args.line.now (sym c.first_space.ensures ∙ c.in-None.is)

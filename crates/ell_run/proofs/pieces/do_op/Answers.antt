@@ -1,0 +1,6 @@
+use Rattle.ell_run.proofs.Paid.{paid_find}
+use Rattle.ell_run.proofs.pieces.do_op.Goals as goal
+
+pub returns-in-Find-clause-paid : goal.returns-in-Find-clause-paid
+returns-in-Find-clause-paid g c =
+    paid_find c.args.tree.now.last_card c.args.pass.now c.find.new.pass c.find.ensures.steps c.find.ensures.moved c.find.ensures.bounded

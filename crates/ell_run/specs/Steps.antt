@@ -1,0 +1,26 @@
+use Rattle.std.specs.Prelude.{ℕ, ◌+◌, ◌-◌, ◌*◌, ◌≤◌, List, [], ◌∷◌, length, max}
+use Rattle.ell_parts.specs.PartedOps.{PartedOps, part}
+use Rattle.ell_tree.specs.Ends.{try_steps}
+use Rattle.ell_tree.specs.Ledgers.{PassModel}
+use Rattle.ell_tree.specs.Moves.{moves_known}
+
+-- so many finds, inserts and deletes of a pass took the steps of one try each, and one step more, and those of another try only for
+-- each move that the pass came to know of, of which there are two of each card
+pub record IsPaid (cards calls : ℕ) (before after : PassModel) : Type 0 where
+  pub steps : after.steps + moves_known cards before.view * try_steps cards ≤
+      before.steps + (moves_known cards after.view + calls) * try_steps cards + calls
+  pub most : moves_known cards after.view ≤ max (moves_known cards before.view) (2 * cards)
+
+-- the most steps of a worker with so many operations: a try of each, and a try more for each move of a card
+abbrev pub worker_steps : ℕ → ℕ → ℕ
+worker_steps cards count = count * (try_steps cards + 1) + 2 * cards * try_steps cards
+
+-- the most operations that one of these workers has
+abbrev pub longest : PartedOps → List ℕ → ℕ
+longest parting [] = 0
+longest parting (worker ∷ workers) = max (length (part parting worker)) (longest parting workers)
+
+-- the most that the pass counts which comes back from these workers: the steps of the one with the most operations, and a split and a
+-- join for each worker beside the first
+abbrev pub work_steps : ℕ → PartedOps → List ℕ → ℕ
+work_steps cards parting workers = worker_steps cards (longest parting workers) + 2 * (length workers - 1)
