@@ -1,0 +1,352 @@
+//! A map from `u64` to `u64` that threads share without locks, over `libelltree.a`.
+//!
+//! A [`Tree`] is opened over a fixed set of keys, which it gives to [`Handle`]s. A handle alone finds, inserts and deletes the keys that it
+//! owns, and it never waits for another. Every handle, and every [`Reader`], looks at any key.
+//!
+//! ```
+//! let mut tree = elltree::Tree::open(&[1, 2, 3, 4], &[(2, 20)], 1_000)?;
+//! let mut low = tree.handle(&[1, 2])?;
+//! let mut high = tree.handle(&[3, 4])?;
+//! let mut reader = tree.reader()?;
+//! std::thread::scope(|threads| {
+//!     threads.spawn(|| high.insert(3, 30, 1_000).unwrap());
+//!     threads.spawn(|| assert!(matches!(reader.look(3), Ok(None | Some(30)))));
+//!     low.delete(2, 1_000).unwrap();
+//! });
+//! assert_eq!(low.find(3), Err(elltree::Refused::Foreign));
+//! assert_eq!(low.look(3)?, Some(30));
+//! tree.take_back(low).map_err(|(_, why)| why)?;
+//! tree.take_back(high).map_err(|(_, why)| why)?;
+//! assert_eq!(tree.pairs()?, [(3, 30)]);
+//! # Ok::<(), elltree::Refused>(())
+//! ```
+//!
+//! A handle may go to another thread, and is used by one at a time:
+//!
+//! ```compile_fail
+//! fn shared<T: Sync>(_: &T) {}
+//! let handle = elltree::Handle::open(&[1], &[], 10).unwrap();
+//! shared(&handle);
+//! ```
+use std::sync::atomic::{AtomicU64, Ordering};
+
+/// The greatest key that a tree may have.
+pub const KEY_MAX: u64 = u64::MAX - 2;
+
+/// The most cards that a tree may have.
+pub const CARDS_MAX: u64 = 1_000_000;
+
+/// The most start keys that a tree may have.
+pub const START_MAX: usize = 200_000;
+
+// What the library keeps of a handle.
+#[repr(C)]
+struct Slot {
+    at: *mut u8,
+    is_open: bool,
+}
+
+#[repr(C)]
+#[derive(Clone, Copy)]
+struct Pair {
+    key: u64,
+    value: u64,
+}
+
+unsafe extern "C" {
+    fn elltree_slot_open(
+        slot: &mut Slot,
+        keys: *const u64,
+        key_count: usize,
+        start: *const Pair,
+        start_count: usize,
+        cards: u64,
+        number: u64,
+    ) -> i32;
+    fn elltree_slot_split(from: &mut Slot, into: &mut Slot, keys: *const u64, count: usize) -> i32;
+    fn elltree_slot_join(into: &mut Slot, from: &mut Slot) -> i32;
+    fn elltree_slot_find(slot: &mut Slot, key: u64, value: &mut u64) -> i32;
+    fn elltree_slot_look(slot: &mut Slot, key: u64, value: &mut u64) -> i32;
+    fn elltree_slot_insert(slot: &mut Slot, key: u64, value: u64, tries: u32) -> i32;
+    fn elltree_slot_delete(slot: &mut Slot, key: u64, tries: u32) -> i32;
+    fn elltree_slot_owned(slot: &mut Slot, count: &mut usize) -> i32;
+    fn elltree_slot_pairs(slot: &mut Slot, out: *mut Pair, room: usize, count: &mut usize) -> i32;
+    fn elltree_slot_steps(slot: &mut Slot, steps: &mut u64) -> i32;
+    fn elltree_slot_free(slot: &mut Slot) -> i32;
+}
+
+/// Why a call was refused. It has changed nothing.
+#[derive(Clone, Copy, Debug, PartialEq, Eq, Hash)]
+#[non_exhaustive]
+pub enum Refused {
+    /// Something was in the way of each try.
+    Busy,
+    /// All cards of the tree are given out.
+    Spent,
+    /// The handle does not own a key of the call.
+    Foreign,
+    /// The call allows no try.
+    NoTries,
+    /// The cards are not 1 to [`CARDS_MAX`].
+    BadCards,
+    /// A key is above [`KEY_MAX`].
+    BadKey,
+    /// The start keys do not ascend strictly, or are more than [`START_MAX`].
+    BadStart,
+    /// Memory was refused.
+    NoMemory,
+    /// The handles are of two trees.
+    OtherTree,
+    /// Another code of the library.
+    Other(i32),
+}
+
+/// What a call gives, or why it was refused.
+pub type Result<T> = std::result::Result<T, Refused>;
+
+impl std::fmt::Display for Refused {
+    fn fmt(&self, f: &mut std::fmt::Formatter<'_>) -> std::fmt::Result {
+        f.write_str(match self {
+            Refused::Busy => "something was in the way of each try",
+            Refused::Spent => "all cards are given out",
+            Refused::Foreign => "the handle does not own the key",
+            Refused::NoTries => "the call allows no try",
+            Refused::BadCards => "cards are not 1 to 1,000,000",
+            Refused::BadKey => "a key is above 18446744073709551613",
+            Refused::BadStart => "start keys do not ascend strictly, or are more than 200,000",
+            Refused::NoMemory => "out of memory",
+            Refused::OtherTree => "the handles are of two trees",
+            Refused::Other(code) => return write!(f, "code {code}"),
+        })
+    }
+}
+
+impl std::error::Error for Refused {}
+
+// Yes or no, or why not.
+fn answer(code: i32) -> Result<bool> {
+    Err(match code {
+        0 => return Ok(false),
+        1 => return Ok(true),
+        -1 => Refused::Busy,
+        -2 => Refused::Spent,
+        -3 => Refused::Foreign,
+        -4 => Refused::NoTries,
+        -5 => Refused::BadCards,
+        -6 => Refused::BadKey,
+        -7 => Refused::BadStart,
+        -9 => Refused::NoMemory,
+        -12 => Refused::OtherTree,
+        _ => Refused::Other(code),
+    })
+}
+
+// A slot that holds nothing.
+const EMPTY: Slot = Slot { at: std::ptr::null_mut(), is_open: false };
+
+// The number of the next tree.
+static NEXT: AtomicU64 = AtomicU64::new(1);
+
+/// Some of the keys of a tree: this handle alone finds, inserts and deletes them. It looks at any key.
+pub struct Handle(Slot);
+
+// SAFETY: the library proves `Send` of what lies behind the pointer, and `&mut` gives a handle to one call at a time.
+unsafe impl Send for Handle {}
+
+impl Handle {
+    /// A tree over these keys and the start keys, which are present with their values. The handle owns all of them.
+    ///
+    /// `BadStart` where the start keys do not ascend strictly or are more than [`START_MAX`], then `BadKey` where a key is above
+    /// [`KEY_MAX`], then `BadCards` where the cards are not 1 to [`CARDS_MAX`].
+    ///
+    /// ```
+    /// use elltree::{Handle, Refused};
+    /// assert_eq!(Handle::open(&[1], &[], 0).err(), Some(Refused::BadCards));
+    /// assert_eq!(Handle::open(&[u64::MAX], &[], 1).err(), Some(Refused::BadKey));
+    /// assert_eq!(Handle::open(&[], &[(2, 0), (1, 0)], 1).err(), Some(Refused::BadStart));
+    /// ```
+    pub fn open(keys: &[u64], start: &[(u64, u64)], cards: u64) -> Result<Handle> {
+        let start: Vec<Pair> = start.iter().map(|&(key, value)| Pair { key, value }).collect();
+        let number = NEXT.fetch_add(1, Ordering::SeqCst);
+        let mut handle = Handle(EMPTY);
+        // SAFETY: the slot holds nothing, and the arrays are as long as said.
+        answer(unsafe {
+            elltree_slot_open(
+                &mut handle.0,
+                keys.as_ptr(),
+                keys.len(),
+                start.as_ptr(),
+                start.len(),
+                cards,
+                number,
+            )
+        })?;
+        Ok(handle)
+    }
+
+    /// A handle with these keys of this one, which keeps the others. `Foreign` where a key is not its own.
+    ///
+    /// ```
+    /// let mut all = elltree::Handle::open(&[1, 2, 3], &[], 10)?;
+    /// let mut two = all.split(&[2])?;
+    /// assert_eq!((all.owned(), two.owned()), (2, 1));
+    /// assert_eq!(all.split(&[2]).err(), Some(elltree::Refused::Foreign));
+    /// # Ok::<(), elltree::Refused>(())
+    /// ```
+    pub fn split(&mut self, keys: &[u64]) -> Result<Handle> {
+        let mut part = Handle(EMPTY);
+        // SAFETY: these are two slots, and the array is as long as said.
+        answer(unsafe { elltree_slot_split(&mut self.0, &mut part.0, keys.as_ptr(), keys.len()) })?;
+        Ok(part)
+    }
+
+    /// A reader of the handle's tree.
+    pub fn reader(&mut self) -> Result<Reader> {
+        self.split(&[]).map(Reader)
+    }
+
+    /// Takes over the keys of another handle of the same tree; it comes back where it is of another tree, or memory is refused.
+    ///
+    /// ```
+    /// let mut one = elltree::Handle::open(&[1, 2], &[], 10)?;
+    /// let two = one.split(&[2])?;
+    /// let other = elltree::Handle::open(&[3], &[], 10)?;
+    /// let (mut other, why) = one.join(other).unwrap_err();
+    /// assert_eq!((other.owned(), why), (1, elltree::Refused::OtherTree));
+    /// one.join(two).map_err(|(_, why)| why)?;
+    /// assert_eq!(one.owned(), 2);
+    /// # Ok::<(), elltree::Refused>(())
+    /// ```
+    pub fn join(&mut self, mut other: Handle) -> std::result::Result<(), (Handle, Refused)> {
+        // SAFETY: these are two slots, and equal numbers mean one tree, since all numbers come from `NEXT`.
+        match answer(unsafe { elltree_slot_join(&mut self.0, &mut other.0) }) {
+            Ok(_) => Ok(()),
+            Err(why) => Err((other, why)),
+        }
+    }
+
+    /// The value of a key of the handle's, if the key is present. `Foreign` where the handle does not own the key.
+    pub fn find(&mut self, key: u64) -> Result<Option<u64>> {
+        let mut value = 0;
+        // SAFETY: the slot is this handle's.
+        let there = answer(unsafe { elltree_slot_find(&mut self.0, key, &mut value) })?;
+        Ok(there.then_some(value))
+    }
+
+    /// The value of any key of the tree, whoever owns it, if it is present: as it was at one moment of the call. `BadKey` where the key is
+    /// above [`KEY_MAX`].
+    pub fn look(&mut self, key: u64) -> Result<Option<u64>> {
+        let mut value = 0;
+        // SAFETY: the slot is this handle's.
+        let there = answer(unsafe { elltree_slot_look(&mut self.0, key, &mut value) })?;
+        Ok(there.then_some(value))
+    }
+
+    /// Adds a key of the handle's with its value: whether the key was absent. A key that is present keeps its value.
+    ///
+    /// `NoTries` where no try is allowed, then `Foreign` where the handle does not own the key; `Busy` where something was in the way of each
+    /// try, and `Spent` where all cards are given out.
+    pub fn insert(&mut self, key: u64, value: u64, tries: u32) -> Result<bool> {
+        // SAFETY: the slot is this handle's.
+        answer(unsafe { elltree_slot_insert(&mut self.0, key, value, tries) })
+    }
+
+    /// Takes a key of the handle's away: whether it was present. Refused as an insert is.
+    pub fn delete(&mut self, key: u64, tries: u32) -> Result<bool> {
+        // SAFETY: the slot is this handle's.
+        answer(unsafe { elltree_slot_delete(&mut self.0, key, tries) })
+    }
+
+    /// How many keys the handle owns.
+    pub fn owned(&mut self) -> usize {
+        let mut count = 0;
+        // SAFETY: the slot is this handle's.
+        unsafe { elltree_slot_owned(&mut self.0, &mut count) };
+        count
+    }
+
+    /// The atomic steps that were made through the handle, and through those that it came from by a split or a join, in a row.
+    pub fn steps(&mut self) -> u64 {
+        let mut steps = 0;
+        // SAFETY: the slot is this handle's.
+        unsafe { elltree_slot_steps(&mut self.0, &mut steps) };
+        steps
+    }
+
+    /// The handle's keys that are present, ascending, with their values.
+    pub fn pairs(&mut self) -> Result<Vec<(u64, u64)>> {
+        let mut out = vec![Pair { key: 0, value: 0 }; self.owned()];
+        let mut count = 0;
+        // SAFETY: the array is as long as said.
+        answer(unsafe { elltree_slot_pairs(&mut self.0, out.as_mut_ptr(), out.len(), &mut count) })?;
+        Ok(out[..count].iter().map(|pair| (pair.key, pair.value)).collect())
+    }
+}
+
+impl Drop for Handle {
+    /// The last handle of a tree ends it. What the handle's keys have stays, and is not changed any more.
+    fn drop(&mut self) {
+        // SAFETY: the slot is this handle's; where it holds nothing, nothing happens.
+        unsafe { elltree_slot_free(&mut self.0) };
+    }
+}
+
+impl std::fmt::Debug for Handle {
+    fn fmt(&self, f: &mut std::fmt::Formatter<'_>) -> std::fmt::Result {
+        f.debug_struct("Handle").finish_non_exhaustive()
+    }
+}
+
+/// Looks at any key of a tree, and owns none.
+#[derive(Debug)]
+pub struct Reader(Handle);
+
+impl Reader {
+    /// The value of any key of the tree, if it is present: as it was at one moment of the call. `BadKey` where the key is above [`KEY_MAX`].
+    pub fn look(&mut self, key: u64) -> Result<Option<u64>> {
+        self.0.look(key)
+    }
+
+    /// Another reader of the same tree.
+    pub fn reader(&mut self) -> Result<Reader> {
+        self.0.reader()
+    }
+}
+
+/// A tree, with the keys that it has not given to a handle.
+#[derive(Debug)]
+pub struct Tree {
+    rest: Handle,
+}
+
+impl Tree {
+    /// A tree over these keys and the start keys, which are present with their values. Refused as [`Handle::open`] is.
+    pub fn open(keys: &[u64], start: &[(u64, u64)], cards: u64) -> Result<Tree> {
+        Ok(Tree { rest: Handle::open(keys, start, cards)? })
+    }
+
+    /// A handle with these keys. `Foreign` where a key is not the tree's, or another handle has it.
+    pub fn handle(&mut self, keys: &[u64]) -> Result<Handle> {
+        self.rest.split(keys)
+    }
+
+    /// A reader.
+    pub fn reader(&mut self) -> Result<Reader> {
+        self.rest.reader()
+    }
+
+    /// Takes the keys of a handle back.
+    pub fn take_back(&mut self, handle: Handle) -> std::result::Result<(), (Handle, Refused)> {
+        self.rest.join(handle)
+    }
+
+    /// How many keys no handle has.
+    pub fn left(&mut self) -> usize {
+        self.rest.owned()
+    }
+
+    /// The keys that no handle has and that are present, ascending, with their values.
+    pub fn pairs(&mut self) -> Result<Vec<(u64, u64)>> {
+        self.rest.pairs()
+    }
+}

@@ -1,0 +1,14 @@
+use Rattle.std.proofs.Common.{◌≡◌, ℕ, ◌<◌, ◌||◌, true, All, List, eqb, length, get_or, refl, ap, subst, ◌∙◌}
+use Rattle.std.proofs.lemmas.Bool.{eq-eqb}
+use Rattle.std.proofs.lemmas.List.Folds.{list_any_at}
+use Rattle.ell_ops.specs.KeySet.{Lists, set_of, union}
+
+-- the test finds each key of a list
+finds_key : (keys : List ℕ) (j d : ℕ) → j < length keys → set_of keys (get_or keys j d) ≡ true
+finds_key keys j d below = list_any_at (λ other. eqb (get_or keys j d) other) keys j d below (eq-eqb (get_or keys j d) (get_or keys j d) refl)
+
+-- the keys of one of two lists are among those of both
+pub first_given : (xs ys keys start : List ℕ) → Lists (union (set_of xs) (set_of ys)) keys → xs ≡ start → All (λ key. set_of keys key ≡ true) start
+first_given xs ys keys start united same =
+    subst (λ l. All (λ key. set_of keys key ≡ true) l) same
+    (λ j d below. ap (λ s. s (get_or xs j d)) united.each ∙ ap (λ t. t || set_of ys (get_or xs j d)) (finds_key xs j d below))

@@ -1,0 +1,10 @@
+//! Handles of a shared tree. A handle is the tree with one pass of it, as one value that a thread can have: it tests each condition of the
+//! tree's calls, and answers a call that does not meet one with a named refusal, so that its callers owe nothing.
+#![tactic(auto)]
+
+mod handle;
+mod keys;
+mod refusal;
+
+pub use handle::{Handle, Place, SharedTree, sent};
+pub use refusal::Refusal;

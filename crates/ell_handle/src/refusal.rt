@@ -1,0 +1,78 @@
+//! Why a call has no answer.
+ghost use Rattle.std.specs.Prelude.{◌≡◌};
+ghost use Rattle.ell_handle.specs.Refusals.{of_fault, of_held};
+ghost use Rattle.ell_handle.specs.declared.refusal.Refusal.TheVariants.{NoMemory as no_memory};
+
+use ell_tree::{CardFault, Held};
+use std::alloc::{AllocError, AllocFailed};
+use thiserror::Error;
+
+/// Why a call has no answer. The map is as it was before.
+#[derive(Clone, Copy, Debug, PartialEq, Eq, Error)]
+pub enum Refusal {
+    /// The handle does not own a key of the call.
+    #[error("the handle does not own the key")]
+    Foreign,
+    /// The call allows no try.
+    #[error("the call allows no try")]
+    NoTries,
+    /// Something was in the way of each try.
+    #[error("something was in the way of each try")]
+    Busy,
+    /// All cards of the tree are given out.
+    #[error("all cards are given out")]
+    Spent,
+    /// The cards are not 1 to 1,000,000.
+    #[error("cards are not 1 to 1,000,000")]
+    BadCards,
+    /// A key is above `KEY_MAX`.
+    #[error("a key is above 18446744073709551613")]
+    BadKey,
+    /// The start keys do not ascend strictly, or are more than `START_MAX`.
+    #[error("start keys do not ascend strictly, or are more than 200,000")]
+    BadStart,
+    /// The handles are of two trees.
+    #[error("the handles are of two trees")]
+    OtherTree,
+    /// Memory was refused.
+    #[error("out of memory")]
+    NoMemory,
+}
+
+impl From<AllocError> for Refusal {
+    ghost from_gives = { λ _ why. why ≡ no_memory };
+
+    fn from(_: AllocError) -> Refusal {
+        Refusal::NoMemory
+    }
+}
+
+impl<T: Drop> From<AllocFailed<T>> for Refusal {
+    ghost from_gives = { λ _ why. why ≡ no_memory };
+
+    fn from(_: AllocFailed<T>) -> Refusal {
+        Refusal::NoMemory
+    }
+}
+
+impl From<CardFault> for Refusal {
+    ghost from_gives = { λ fault why. why ≡ of_fault fault };
+
+    fn from(fault: CardFault) -> Refusal {
+        match fault {
+            CardFault::BadCards => Refusal::BadCards,
+            CardFault::NoMemory => Refusal::NoMemory,
+        }
+    }
+}
+
+impl From<Held> for Refusal {
+    ghost from_gives = { λ held why. why ≡ of_held held };
+
+    fn from(held: Held) -> Refusal {
+        match held {
+            Held::Busy => Refusal::Busy,
+            Held::Spent => Refusal::Spent,
+        }
+    }
+}

@@ -1,0 +1,70 @@
+use Rattle.std.specs.Prelude.{ℤ, pos, negsuc}
+use Rattle.ell_handle.specs.declared.refusal.Refusal.{Refusal}
+use Rattle.ell_handle.specs.declared.refusal.Refusal.TheVariants.{Foreign, NoTries, Busy, Spent, BadCards, BadKey, BadStart, OtherTree, NoMemory}
+
+-- what a call answers: yes and no are answers, and all others refusals
+abbrev pub said_no : ℤ
+said_no = pos 0
+
+abbrev pub said_yes : ℤ
+said_yes = pos 1
+
+-- something was in the way of each try
+abbrev pub said_busy : ℤ
+said_busy = negsuc 0
+
+-- all cards are given out
+abbrev pub said_spent : ℤ
+said_spent = negsuc 1
+
+-- a key is not owned
+abbrev pub said_foreign : ℤ
+said_foreign = negsuc 2
+
+-- no try is allowed
+abbrev pub said_no_tries : ℤ
+said_no_tries = negsuc 3
+
+-- the cards are not 1 to 1,000,000
+abbrev pub said_bad_cards : ℤ
+said_bad_cards = negsuc 4
+
+-- a key is above the greatest
+abbrev pub said_bad_key : ℤ
+said_bad_key = negsuc 5
+
+-- the start keys do not ascend strictly, or are too many
+abbrev pub said_bad_start : ℤ
+said_bad_start = negsuc 6
+
+-- an array has no room for all pairs
+abbrev pub said_no_room : ℤ
+said_no_room = negsuc 7
+
+-- memory was refused
+abbrev pub said_no_memory : ℤ
+said_no_memory = negsuc 8
+
+-- a slot holds nothing
+abbrev pub said_closed : ℤ
+said_closed = negsuc 9
+
+-- a slot that is to get a handle holds one
+abbrev pub said_open : ℤ
+said_open = negsuc 10
+
+-- two slots are of two trees
+abbrev pub said_other_tree : ℤ
+said_other_tree = negsuc 11
+
+-- the code of a refusal
+abbrev pub code_of : Refusal → ℤ
+code_of Foreign = said_foreign
+code_of NoTries = said_no_tries
+code_of Busy = said_busy
+code_of Spent = said_spent
+code_of BadCards = said_bad_cards
+code_of BadKey = said_bad_key
+code_of BadStart = said_bad_start
+code_of OtherTree = said_other_tree
+code_of NoMemory = said_no_memory

@@ -1,0 +1,66 @@
+use Rattle.std.specs.Prelude.{◌≡◌, ℕ, Option, Some, None, List, length, map}
+use Rattle.std.specs.Arc.{arc_value}
+use Rattle.ell_ops.specs.Contents.{Contents, nothing}
+use Rattle.ell_cards.specs.Changes.{keys_of}
+use Rattle.ell_cards.specs.Looking.{IsFoundInRuns}
+use Rattle.ell_tree.specs.Ledgers.{Owns, present_in}
+use Rattle.ell_tree.specs.PassParts.{IsUnion}
+use Rattle.ell_handle.specs.declared.handle.Handle.{Handle}
+use Rattle.elltree.specs.Owned.{Inside}
+use Rattle.elltree.specs.declared.Pair.{Pair}
+
+-- the handle of a slot
+abbrev pub handle_of : Option Inside → Option Handle
+handle_of (Some place) = place.handle
+handle_of None = None
+
+-- the keys of a handle that are present, with their values
+abbrev pub map_in : Option Handle → Contents
+map_in (Some handle) = present_in handle.pass
+map_in None = nothing
+
+-- those of a slot
+abbrev pub map_of : Option Inside → Contents
+map_of (Some place) = map_in place.handle
+map_of None = nothing
+
+-- a handle owns a key
+abbrev pub OwnsIn : Option Handle → ℕ → Type 0
+OwnsIn (Some handle) key = Owns handle.pass key
+OwnsIn None key = ⊥
+
+-- how many keys a handle owns
+abbrev pub owned_in : Option Handle → ℕ
+owned_in (Some handle) = length (keys_of handle.pass.view.worker.ledger)
+owned_in None = 0
+
+-- the steps that were made through a handle
+abbrev pub steps_in : Option Handle → ℕ
+steps_in (Some handle) = handle.pass.steps
+steps_in None = 0
+
+-- what a handle has found by its last look for a key of its tree: it was so in one state of the tree since the look began
+pub record Finds (handle : Handle) (key : ℕ) (there : Option ℕ) : Type 0 where
+  pub so : IsFoundInRuns (arc_value handle.shared).tree.keys (arc_value handle.shared).tree.start (arc_value handle.shared).tree.last_card handle.pass.view key there
+
+-- what the handle of a slot has
+abbrev pub IsFoundBy : Option Handle → ℕ → Option ℕ → Type 0
+IsFoundBy (Some handle) key there = Finds handle key there
+IsFoundBy None key there = ⊥
+
+-- one handle has the keys of two, as they had them
+abbrev pub IsJoined : Option Handle → Option Handle → Option Handle → Type 0
+IsJoined (Some left) (Some right) (Some both) = IsUnion left.pass right.pass both.pass
+IsJoined (Some left) (Some right) None = ⊥
+IsJoined (Some left) None both = ⊥
+IsJoined None right both = ⊥
+
+-- two handles are of one tree if their numbers are equal
+abbrev pub NumbersTell : Option Handle → Option Handle → Type 0
+NumbersTell (Some left) (Some right) = (arc_value right.shared).number ≡ (arc_value left.shared).number → right.pass.table ≡ left.pass.table
+NumbersTell (Some left) None = Unit {0}
+NumbersTell None right = Unit {0}
+
+-- pairs of a host as the tree has them
+abbrev pub as_pairs : List Pair → List (ℕ × ℕ)
+as_pairs pairs = map (λ pair. (pair.key, pair.value)) pairs

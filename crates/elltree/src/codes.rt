@@ -1,0 +1,61 @@
+//! What the exported functions answer.
+ghost use Rattle.std.specs.Prelude.{◌≡◌, ◌≢◌};
+ghost use Rattle.ell_handle.specs.declared.refusal.Refusal.TheVariants.{Foreign, NoTries, Busy, Spent, BadCards, BadKey};
+ghost use Rattle.elltree.specs.Codes.{code_of, said_bad_cards, said_bad_key, said_busy, said_closed, said_foreign, said_no, said_no_tries, said_open, said_spent, said_yes};
+
+use ell_handle::Refusal;
+
+pub const NO: i32 = 0;
+
+pub const YES: i32 = 1;
+
+pub const BUSY: i32 = -1;
+
+pub const SPENT: i32 = -2;
+
+pub const FOREIGN: i32 = -3;
+
+pub const NO_TRIES: i32 = -4;
+
+pub const BAD_CARDS: i32 = -5;
+
+pub const BAD_KEY: i32 = -6;
+
+pub const BAD_START: i32 = -7;
+
+pub const NO_ROOM: i32 = -8;
+
+pub const NO_MEMORY: i32 = -9;
+
+pub const CLOSED: i32 = -10;
+
+pub const OPEN: i32 = -11;
+
+pub const OTHER_TREE: i32 = -12;
+
+/// The code of a refusal.
+pub fn code_of_refusal(refusal: Refusal) -> i32
+    ensures code { result ≡ code_of refusal }
+    ensures yes { result ≢ said_yes }
+    ensures no { result ≢ said_no }
+    ensures closed { result ≢ said_closed }
+    ensures opened { result ≢ said_open }
+    ensures foreign { result ≡ said_foreign → refusal ≡ Foreign }
+    ensures no_tries { result ≡ said_no_tries → refusal ≡ NoTries }
+    ensures busy { result ≡ said_busy → refusal ≡ Busy }
+    ensures spent { result ≡ said_spent → refusal ≡ Spent }
+    ensures bad_cards { result ≡ said_bad_cards → refusal ≡ BadCards }
+    ensures bad_key { result ≡ said_bad_key → refusal ≡ BadKey }
+{
+    match refusal {
+        Refusal::Foreign => FOREIGN,
+        Refusal::NoTries => NO_TRIES,
+        Refusal::Busy => BUSY,
+        Refusal::Spent => SPENT,
+        Refusal::BadCards => BAD_CARDS,
+        Refusal::BadKey => BAD_KEY,
+        Refusal::BadStart => BAD_START,
+        Refusal::OtherTree => OTHER_TREE,
+        Refusal::NoMemory => NO_MEMORY,
+    }
+}

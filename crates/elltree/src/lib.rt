@@ -1,0 +1,23 @@
+//! A shared tree for programs in C, C++, Rust and Python: a static library over `ell_handle`.
+//!
+//! A slot is a host's own memory, all zeros to begin with, and holds a handle or nothing. Each function tests all that the tree's calls ask
+//! and answers with one of the codes of `codes`; a call that is refused leaves the slot and the map as they were. A slot is in one call at a
+//! time, and may go from one thread to another. Opening, splitting and joining ask for memory, and no other call does.
+#![tactic(auto)]
+
+pub mod calls;
+mod codes;
+pub mod opening;
+mod parts;
+pub mod reading;
+mod slot;
+#[cfg(test)]
+mod tests;
+
+/// A key with its value.
+#[repr(C)]
+#[derive(Clone, Copy)]
+pub struct Pair {
+    pub key: u64,
+    pub value: u64,
+}

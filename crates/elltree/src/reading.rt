@@ -1,0 +1,103 @@
+//! What a slot owns and has.
+ghost use Rattle.std.specs.Prelude.{◌≡◌, ◌≢◌, ℕ, None};
+ghost use Rattle.ell_tree.specs.Ledgers.{present_in};
+ghost use Rattle.elltree.specs.Codes.{said_closed, said_yes};
+ghost use Rattle.elltree.specs.Maps.{handle_of, map_of, owned_in, steps_in};
+
+use crate::Pair;
+use crate::codes::{CLOSED, NO_ROOM, YES};
+use crate::slot::Slot;
+use ell_handle::Handle;
+use std::alloc::Global;
+
+/// Writes the pairs of the slot's keys that are present, ascending, and how many they are.
+#[unsafe(no_mangle)]
+pub extern "C" fn elltree_slot_pairs(
+    alloc: Global,
+    slot: &mut Slot,
+    out: &mut [Pair],
+    count: &mut usize,
+) -> i32
+    ensures same { (k : ℕ) → map_of slot.new.raw.inside k ≡ map_of slot.old.raw.inside k }
+{
+    let Some(mut place) = slot.take(alloc) else {
+        return CLOSED;
+    };
+    let code = match &mut place.handle {
+        Some(handle) => pairs(handle, out, count),
+        None => CLOSED,
+    };
+    slot.put(place);
+    code
+}
+
+// The pairs of a handle.
+fn pairs(handle: &mut Handle, out: &mut [Pair], count: &mut usize) -> i32
+    ensures same { (k : ℕ) → present_in handle.new.pass k ≡ present_in handle.old.pass k }
+{
+    let mut written = 0;
+    for place in 0..handle.keys().len() {
+        if let Some(pair) = pair_at(handle, place) {
+            let Some(room) = out.get_mut(written) else {
+                return NO_ROOM;
+            };
+            *room = pair;
+            written += 1;
+        }
+    }
+    *count = written;
+    YES
+}
+
+// One of the keys of a handle, by its place among them, with its value, if it is present.
+fn pair_at(handle: &mut Handle, place: usize) -> Option<Pair>
+    ensures same { (k : ℕ) → present_in handle.new.pass k ≡ present_in handle.old.pass k }
+{
+    let key = handle.keys().get(place).copied()?;
+    match handle.find(key) {
+        Ok(Some(value)) => Some(Pair { key, value }),
+        _ => None,
+    }
+}
+
+/// How many keys the slot owns.
+#[unsafe(no_mangle)]
+pub extern "C" fn elltree_slot_owned(alloc: Global, slot: &mut Slot, count: &mut usize) -> i32
+    ensures count { result ≡ said_yes → count.new ≡ owned_in (handle_of slot.old.raw.inside) }
+    ensures closed { result ≡ said_closed → handle_of slot.old.raw.inside ≡ None }
+    ensures same { slot.new.raw.inside ≡ slot.old.raw.inside }
+{
+    let Some(place) = slot.take(alloc) else {
+        return CLOSED;
+    };
+    let code = match &place.handle {
+        Some(handle) => {
+            *count = handle.keys().len();
+            YES
+        }
+        None => CLOSED,
+    };
+    slot.put(place);
+    code
+}
+
+/// The atomic steps that were made through the slot's handle, and through those that it came from, in a row.
+#[unsafe(no_mangle)]
+pub extern "C" fn elltree_slot_steps(alloc: Global, slot: &mut Slot, steps: &mut u64) -> i32
+    ensures steps { result ≡ said_yes → steps.new ≡ steps_in (handle_of slot.old.raw.inside) }
+    ensures closed { result ≡ said_closed → handle_of slot.old.raw.inside ≡ None }
+    ensures same { slot.new.raw.inside ≡ slot.old.raw.inside }
+{
+    let Some(place) = slot.take(alloc) else {
+        return CLOSED;
+    };
+    let code = match &place.handle {
+        Some(handle) => {
+            *steps = handle.steps();
+            YES
+        }
+        None => CLOSED,
+    };
+    slot.put(place);
+    code
+}

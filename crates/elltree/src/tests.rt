@@ -1,0 +1,34 @@
+//! What a host sees, through the exported functions themselves.
+use crate::Pair;
+use crate::calls::{elltree_slot_find, elltree_slot_insert, elltree_slot_look};
+use crate::codes::{CLOSED, FOREIGN, NO, OPEN, YES};
+use crate::opening::{elltree_slot_free, elltree_slot_open, elltree_slot_split};
+use crate::reading::elltree_slot_owned;
+use crate::slot::Slot;
+use std::alloc::Global;
+
+const KEYS: [u64; 4] = [4, 2, 3, 1];
+
+const START: [Pair; 1] = [Pair { key: 2, value: 20 }];
+
+#[test]
+fn two_slots_part_and_close(rt: HostRuntime) {
+    let alloc: Global = rt.alloc();
+    let mut low = Slot::empty(alloc);
+    let mut high = Slot::empty(alloc);
+    let (mut value, mut count) = (0, 0);
+    assert!(rt; elltree_slot_find(alloc, &mut low, 2, &mut value) == CLOSED);
+    assert!(rt; elltree_slot_open(alloc, &mut low, &KEYS, &START, 10, 1) == YES);
+    assert!(rt; elltree_slot_open(alloc, &mut low, &KEYS, &START, 10, 1) == OPEN);
+    assert!(rt; elltree_slot_split(alloc, &mut low, &mut high, &[3, 4]) == YES);
+    assert!(rt; elltree_slot_find(alloc, &mut high, 2, &mut value) == FOREIGN);
+    assert!(rt; elltree_slot_look(alloc, &mut high, 2, &mut value) == YES);
+    assert!(rt; value == 20);
+    assert!(rt; elltree_slot_insert(alloc, &mut high, 3, 30, 9) == YES);
+    assert!(rt; elltree_slot_insert(alloc, &mut high, 3, 31, 9) == NO);
+    assert!(rt; elltree_slot_owned(alloc, &mut low, &mut count) == YES);
+    assert!(rt; count == 2);
+    assert!(rt; elltree_slot_free(alloc, &mut low) == YES);
+    assert!(rt; elltree_slot_free(alloc, &mut high) == YES);
+    assert!(rt; elltree_slot_free(alloc, &mut high) == CLOSED);
+}

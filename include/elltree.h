@@ -1,0 +1,234 @@
+/* elltree: a map from 64-bit keys to 64-bit values that threads share without locks.
+
+   A handle owns some of the keys of a tree: it alone finds, inserts and deletes them. Any handle looks at any key of its tree. A handle
+   begins as all zeros and holds nothing: struct elltree_handle h = ELLTREE_EMPTY. elltree_open makes a tree, and the handle then owns all
+   of its keys; elltree_split gives some of them to another handle, also none, for a handle that only looks. Calls on different handles
+   may run at once. A handle is in one call at a time, and may go from one thread to another.
+
+   Each call answers with ELLTREE_YES, with ELLTREE_NO, or with a negative code that says why it was refused; elltree_text has a text for
+   each. A call that was refused has changed neither the handle nor the map, and has written nothing but, for ELLTREE_NO_ROOM, pairs.
+   elltree_open, elltree_split and elltree_join ask for memory. No other call does.
+
+   What the caller owes, which nothing tests:
+   - A handle starts as all zeros. Only these functions write to it, and it is not copied while it holds something (it may be moved).
+   - A handle that holds something is freed once, by elltree_free or by a join into another; no call is on it while its memory ends.
+   - A pointer that is not null points to what the call says, and an array has as many items as the call says. No other thread writes
+     to what a running call reads, or reads what it writes.
+   - malloc, realloc and free are one allocator, which aligns blocks to 16 bytes. No call comes from a signal handler, or from the forked
+     child of a process with threads.
+   - Trees are told apart by a number, which this header counts in one variable of the program. Where a program has two such variables
+     (two shared objects that hide their symbols, or this header beside another binding), their handles are never joined.
+
+   Link with -lelltree (pkg-config elltree). */
+#ifndef ELLTREE_H
+#define ELLTREE_H
+#include <stdbool.h>
+#include <stddef.h>
+#include <stdint.h>
+#ifdef __cplusplus
+extern "C" {
+#endif
+
+/* What the library keeps of a handle, and the handle: do not touch the members. */
+struct elltree_slot {
+    void *at;
+    bool is_open;
+};
+struct elltree_handle {
+    struct elltree_slot slot;
+    unsigned char in_call;
+};
+#define ELLTREE_EMPTY {{0, 0}, 0}
+
+struct elltree_pair {
+    uint64_t key, value;
+};
+
+#define ELLTREE_KEY_MAX UINT64_C(18446744073709551613)
+#define ELLTREE_CARDS_MAX 1000000
+#define ELLTREE_START_MAX 200000
+
+enum {
+    ELLTREE_NO = 0,
+    ELLTREE_YES = 1,
+    ELLTREE_BUSY = -1,        /* something was in the way of each try: call again */
+    ELLTREE_SPENT = -2,       /* all cards of the tree are given out: no change any more, finds and looks go on */
+    ELLTREE_FOREIGN = -3,     /* the handle does not own a key of the call */
+    ELLTREE_NO_TRIES = -4,    /* tries is 0 */
+    ELLTREE_BAD_CARDS = -5,   /* cards are not 1 to ELLTREE_CARDS_MAX */
+    ELLTREE_BAD_KEY = -6,     /* a key is above ELLTREE_KEY_MAX */
+    ELLTREE_BAD_START = -7,   /* start keys do not ascend strictly, or are more than ELLTREE_START_MAX */
+    ELLTREE_NO_ROOM = -8,     /* the array is too short for all pairs */
+    ELLTREE_NO_MEMORY = -9,   /* memory was refused */
+    ELLTREE_CLOSED = -10,     /* a handle holds nothing */
+    ELLTREE_OPEN = -11,       /* the handle that is to get something holds something */
+    ELLTREE_OTHER_TREE = -12, /* the two handles are of two trees */
+    ELLTREE_NULL = -13,       /* a pointer is null that must not be */
+    ELLTREE_SAME = -14,       /* the same handle is given twice */
+    ELLTREE_IN_CALL = -15     /* the handle is in another call */
+};
+
+/* The functions of the library, without the tests of the calls below them. */
+int32_t elltree_slot_open(struct elltree_slot *slot, const uint64_t *keys, size_t key_count,
+                          const struct elltree_pair *start, size_t start_count, uint64_t cards, uint64_t number);
+int32_t elltree_slot_split(struct elltree_slot *from, struct elltree_slot *into, const uint64_t *keys, size_t key_count);
+int32_t elltree_slot_join(struct elltree_slot *into, struct elltree_slot *from);
+int32_t elltree_slot_find(struct elltree_slot *slot, uint64_t key, uint64_t *value);
+int32_t elltree_slot_look(struct elltree_slot *slot, uint64_t key, uint64_t *value);
+int32_t elltree_slot_insert(struct elltree_slot *slot, uint64_t key, uint64_t value, uint32_t tries);
+int32_t elltree_slot_delete(struct elltree_slot *slot, uint64_t key, uint32_t tries);
+int32_t elltree_slot_owned(struct elltree_slot *slot, size_t *count);
+int32_t elltree_slot_pairs(struct elltree_slot *slot, struct elltree_pair *out, size_t room, size_t *count);
+int32_t elltree_slot_steps(struct elltree_slot *slot, uint64_t *steps);
+int32_t elltree_slot_free(struct elltree_slot *slot);
+
+/* How many trees the program has opened by this header. */
+__attribute__((weak)) uint64_t elltree_trees;
+
+/* Begins a call on a handle, and ends it. */
+static inline int32_t elltree_enter(struct elltree_handle *handle) {
+    if (!handle)
+        return ELLTREE_NULL;
+    return __atomic_exchange_n(&handle->in_call, 1, __ATOMIC_SEQ_CST) ? ELLTREE_IN_CALL : ELLTREE_YES;
+}
+static inline int32_t elltree_leave(struct elltree_handle *handle, int32_t code) {
+    __atomic_store_n(&handle->in_call, 0, __ATOMIC_SEQ_CST);
+    return code;
+}
+/* Begins a call on two handles. */
+static inline int32_t elltree_enter_both(struct elltree_handle *one, struct elltree_handle *other) {
+    int32_t code;
+    if (!one || !other)
+        return ELLTREE_NULL;
+    if (one == other)
+        return ELLTREE_SAME;
+    code = elltree_enter(one);
+    if (code != ELLTREE_YES)
+        return code;
+    code = elltree_enter(other);
+    return code == ELLTREE_YES ? code : elltree_leave(one, code);
+}
+
+/* Opens a tree over these keys and the start keys, in any order but that the start keys ascend strictly; the start keys are present with
+   their values, the others absent. Each insert or delete that changes the map takes one of the cards, a try that another thread hinders
+   may take one too, and no card is given back. An array without items may be null.
+   ELLTREE_NULL, ELLTREE_IN_CALL, ELLTREE_OPEN, ELLTREE_BAD_START, ELLTREE_BAD_KEY, ELLTREE_BAD_CARDS, ELLTREE_NO_MEMORY. */
+static inline int32_t elltree_open(struct elltree_handle *handle, const uint64_t *keys, size_t key_count,
+                                   const struct elltree_pair *start, size_t start_count, uint64_t cards) {
+    static const uint64_t no_key[1] = {0};
+    static const struct elltree_pair no_pair[1] = {{0, 0}};
+    int32_t code;
+    if ((!keys && key_count) || (!start && start_count))
+        return ELLTREE_NULL;
+    code = elltree_enter(handle);
+    if (code != ELLTREE_YES)
+        return code;
+    return elltree_leave(handle, elltree_slot_open(&handle->slot, keys ? keys : no_key, key_count, start ? start : no_pair, start_count,
+                                                   cards, __atomic_add_fetch(&elltree_trees, 1, __ATOMIC_SEQ_CST)));
+}
+
+/* Gives these keys of a handle to another, which holds nothing yet. Without keys the other is one that only looks.
+   ELLTREE_NULL, ELLTREE_SAME, ELLTREE_IN_CALL, ELLTREE_OPEN (into), ELLTREE_CLOSED (from), ELLTREE_FOREIGN, ELLTREE_NO_MEMORY. */
+static inline int32_t elltree_split(struct elltree_handle *from, struct elltree_handle *into, const uint64_t *keys, size_t key_count) {
+    static const uint64_t no_key[1] = {0};
+    int32_t code;
+    if (!keys && key_count)
+        return ELLTREE_NULL;
+    code = elltree_enter_both(from, into);
+    if (code != ELLTREE_YES)
+        return code;
+    code = elltree_slot_split(&from->slot, &into->slot, keys ? keys : no_key, key_count);
+    return elltree_leave(from, elltree_leave(into, code));
+}
+
+/* Gives all keys of a handle, which holds nothing then, to another of the same tree.
+   ELLTREE_NULL, ELLTREE_SAME, ELLTREE_IN_CALL, ELLTREE_CLOSED, ELLTREE_OTHER_TREE, ELLTREE_NO_MEMORY. */
+static inline int32_t elltree_join(struct elltree_handle *into, struct elltree_handle *from) {
+    int32_t code = elltree_enter_both(into, from);
+    if (code != ELLTREE_YES)
+        return code;
+    return elltree_leave(into, elltree_leave(from, elltree_slot_join(&into->slot, &from->slot)));
+}
+
+/* ELLTREE_YES with the value where a key of the handle's is present, else ELLTREE_NO.
+   ELLTREE_NULL, ELLTREE_IN_CALL, ELLTREE_CLOSED, ELLTREE_FOREIGN. */
+static inline int32_t elltree_find(struct elltree_handle *handle, uint64_t key, uint64_t *value) {
+    int32_t code = value ? elltree_enter(handle) : ELLTREE_NULL;
+    return code == ELLTREE_YES ? elltree_leave(handle, elltree_slot_find(&handle->slot, key, value)) : code;
+}
+
+/* As elltree_find, of any key of the tree, whoever owns it: as it was at one moment of the call.
+   ELLTREE_NULL, ELLTREE_IN_CALL, ELLTREE_CLOSED, ELLTREE_BAD_KEY. */
+static inline int32_t elltree_look(struct elltree_handle *handle, uint64_t key, uint64_t *value) {
+    int32_t code = value ? elltree_enter(handle) : ELLTREE_NULL;
+    return code == ELLTREE_YES ? elltree_leave(handle, elltree_slot_look(&handle->slot, key, value)) : code;
+}
+
+/* Adds a key of the handle's: ELLTREE_YES where it was absent, else ELLTREE_NO, and the key keeps its value.
+   ELLTREE_NULL, ELLTREE_IN_CALL, ELLTREE_CLOSED, ELLTREE_NO_TRIES, ELLTREE_FOREIGN, ELLTREE_BUSY, ELLTREE_SPENT. */
+static inline int32_t elltree_insert(struct elltree_handle *handle, uint64_t key, uint64_t value, uint32_t tries) {
+    int32_t code = elltree_enter(handle);
+    return code == ELLTREE_YES ? elltree_leave(handle, elltree_slot_insert(&handle->slot, key, value, tries)) : code;
+}
+
+/* Takes a key of the handle's away: ELLTREE_YES where it was present, else ELLTREE_NO. Refused as elltree_insert is. */
+static inline int32_t elltree_delete(struct elltree_handle *handle, uint64_t key, uint32_t tries) {
+    int32_t code = elltree_enter(handle);
+    return code == ELLTREE_YES ? elltree_leave(handle, elltree_slot_delete(&handle->slot, key, tries)) : code;
+}
+
+/* How many keys the handle owns. ELLTREE_NULL, ELLTREE_IN_CALL, ELLTREE_CLOSED. */
+static inline int32_t elltree_owned(struct elltree_handle *handle, size_t *count) {
+    int32_t code = count ? elltree_enter(handle) : ELLTREE_NULL;
+    return code == ELLTREE_YES ? elltree_leave(handle, elltree_slot_owned(&handle->slot, count)) : code;
+}
+
+/* The handle's keys that are present, ascending, with their values, and how many they are. elltree_owned tells for how many there must be
+   room at most; without room the array may be null. ELLTREE_NULL, ELLTREE_IN_CALL, ELLTREE_CLOSED, ELLTREE_NO_ROOM. */
+static inline int32_t elltree_pairs(struct elltree_handle *handle, struct elltree_pair *out, size_t room, size_t *count) {
+    struct elltree_pair none;
+    int32_t code = count && (out || !room) ? elltree_enter(handle) : ELLTREE_NULL;
+    return code == ELLTREE_YES ? elltree_leave(handle, elltree_slot_pairs(&handle->slot, out ? out : &none, room, count)) : code;
+}
+
+/* The atomic steps that were made through the handle, and through those that it came from. ELLTREE_NULL, ELLTREE_IN_CALL, ELLTREE_CLOSED. */
+static inline int32_t elltree_steps(struct elltree_handle *handle, uint64_t *steps) {
+    int32_t code = steps ? elltree_enter(handle) : ELLTREE_NULL;
+    return code == ELLTREE_YES ? elltree_leave(handle, elltree_slot_steps(&handle->slot, steps)) : code;
+}
+
+/* Ends a handle, and with the last handle the tree. What its keys have stays, and can be looked at, but not be changed any more.
+   ELLTREE_NULL, ELLTREE_IN_CALL, ELLTREE_CLOSED. */
+static inline int32_t elltree_free(struct elltree_handle *handle) {
+    int32_t code = elltree_enter(handle);
+    return code == ELLTREE_YES ? elltree_leave(handle, elltree_slot_free(&handle->slot)) : code;
+}
+
+/* What a code says. */
+static inline const char *elltree_text(int32_t code) {
+    switch (code) {
+    case ELLTREE_NO: return "no";
+    case ELLTREE_YES: return "yes";
+    case ELLTREE_BUSY: return "something was in the way of each try";
+    case ELLTREE_SPENT: return "all cards are given out";
+    case ELLTREE_FOREIGN: return "the handle does not own the key";
+    case ELLTREE_NO_TRIES: return "the call allows no try";
+    case ELLTREE_BAD_CARDS: return "cards are not 1 to 1,000,000";
+    case ELLTREE_BAD_KEY: return "a key is above 18446744073709551613";
+    case ELLTREE_BAD_START: return "start keys do not ascend strictly, or are more than 200,000";
+    case ELLTREE_NO_ROOM: return "no room for all pairs";
+    case ELLTREE_NO_MEMORY: return "out of memory";
+    case ELLTREE_CLOSED: return "the handle holds nothing";
+    case ELLTREE_OPEN: return "the handle holds something already";
+    case ELLTREE_OTHER_TREE: return "the handles are of two trees";
+    case ELLTREE_NULL: return "a pointer is null";
+    case ELLTREE_SAME: return "the same handle is given twice";
+    case ELLTREE_IN_CALL: return "the handle is in another call";
+    default: return "no code of elltree";
+    }
+}
+
+#ifdef __cplusplus
+}
+#endif
+#endif

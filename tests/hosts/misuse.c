@@ -1,0 +1,219 @@
+/* Every misuse that has a code: each call is answered by the code, and handles and map are as they were. */
+#include "elltree.h"
+#include <stdio.h>
+#include <string.h>
+
+static int faults;
+static int met[32];
+
+static void is(int line, int32_t said, int32_t code) {
+    if (said < 0)
+        met[-said] = 1;
+    if (said != code) {
+        faults++;
+        printf("line %d: %s, and not: %s\n", line, elltree_text(said), elltree_text(code));
+    }
+}
+#define IS(call, code) is(__LINE__, call, code)
+
+enum { ROOM = 16 };
+
+/* The handle owns so many keys, of which these are present. */
+static void has(int line, struct elltree_handle *handle, size_t owned, const struct elltree_pair *pairs, size_t count) {
+    struct elltree_pair out[ROOM];
+    size_t is_owned = 0, is_there = 0;
+    is(line, elltree_owned(handle, &is_owned), ELLTREE_YES);
+    is(line, elltree_pairs(handle, out, ROOM, &is_there), ELLTREE_YES);
+    if (is_owned != owned || is_there != count || memcmp(out, pairs, count * sizeof *pairs)) {
+        faults++;
+        printf("line %d: %zu keys owned, %zu present\n", line, is_owned, is_there);
+    }
+}
+#define HAS(handle, owned, pairs, count) has(__LINE__, handle, owned, pairs, count)
+
+static const uint64_t keys[6] = {6, 2, 3, 1, 2, 5};
+static const struct elltree_pair start[2] = {{2, 20}, {4, 40}};
+
+static void opening(void) {
+    static struct elltree_pair many[ELLTREE_START_MAX + 1];
+    struct elltree_handle h = ELLTREE_EMPTY;
+    uint64_t above = ELLTREE_KEY_MAX + 1, greatest = ELLTREE_KEY_MAX;
+    struct elltree_pair down[2] = {{4, 0}, {2, 0}}, twice[2] = {{2, 0}, {2, 0}}, high[1] = {{UINT64_MAX, 0}};
+    for (uint64_t i = 0; i <= ELLTREE_START_MAX; i++)
+        many[i].key = i;
+    IS(elltree_open(&h, keys, 6, start, 2, 0), ELLTREE_BAD_CARDS);
+    IS(elltree_open(&h, keys, 6, start, 2, ELLTREE_CARDS_MAX + 1), ELLTREE_BAD_CARDS);
+    IS(elltree_open(&h, keys, 6, down, 2, 9), ELLTREE_BAD_START);
+    IS(elltree_open(&h, keys, 6, twice, 2, 9), ELLTREE_BAD_START);
+    IS(elltree_open(&h, keys, 6, many, ELLTREE_START_MAX + 1, 9), ELLTREE_BAD_START);
+    IS(elltree_open(&h, keys, 6, high, 1, 9), ELLTREE_BAD_KEY);
+    IS(elltree_open(&h, &above, 1, start, 2, 9), ELLTREE_BAD_KEY);
+    IS(elltree_open(NULL, keys, 6, start, 2, 9), ELLTREE_NULL);
+    IS(elltree_open(&h, NULL, 6, start, 2, 9), ELLTREE_NULL);
+    IS(elltree_open(&h, keys, 6, NULL, 2, 9), ELLTREE_NULL);
+    IS(elltree_free(&h), ELLTREE_CLOSED);
+    IS(elltree_open(&h, NULL, 0, NULL, 0, 1), ELLTREE_YES);
+    HAS(&h, 0, start, 0);
+    IS(elltree_open(&h, keys, 6, start, 2, 9), ELLTREE_OPEN);
+    IS(elltree_free(&h), ELLTREE_YES);
+    IS(elltree_open(&h, &greatest, 1, NULL, 0, ELLTREE_CARDS_MAX), ELLTREE_YES);
+    IS(elltree_insert(&h, greatest, 7, 1), ELLTREE_YES);
+    IS(elltree_free(&h), ELLTREE_YES);
+    IS(elltree_open(&h, NULL, 0, many, ELLTREE_START_MAX, 1), ELLTREE_YES);
+    IS(elltree_free(&h), ELLTREE_YES);
+}
+
+static void closed(void) {
+    struct elltree_handle none = ELLTREE_EMPTY, other = ELLTREE_EMPTY;
+    struct elltree_pair pair;
+    uint64_t value = 77, steps = 0;
+    size_t count = 0;
+    IS(elltree_split(&none, &other, keys, 1), ELLTREE_CLOSED);
+    IS(elltree_join(&none, &other), ELLTREE_CLOSED);
+    IS(elltree_find(&none, 1, &value), ELLTREE_CLOSED);
+    IS(elltree_look(&none, 1, &value), ELLTREE_CLOSED);
+    IS(elltree_insert(&none, 1, 1, 1), ELLTREE_CLOSED);
+    IS(elltree_delete(&none, 1, 1), ELLTREE_CLOSED);
+    IS(elltree_owned(&none, &count), ELLTREE_CLOSED);
+    IS(elltree_pairs(&none, &pair, 1, &count), ELLTREE_CLOSED);
+    IS(elltree_steps(&none, &steps), ELLTREE_CLOSED);
+    IS(elltree_free(&none), ELLTREE_CLOSED);
+    faults += value != 77 || none.slot.is_open || other.slot.is_open;
+}
+
+static void nulls(struct elltree_handle *h) {
+    struct elltree_handle other = ELLTREE_EMPTY;
+    struct elltree_pair pair;
+    uint64_t value, steps;
+    size_t count;
+    IS(elltree_split(NULL, &other, keys, 1), ELLTREE_NULL);
+    IS(elltree_split(h, NULL, keys, 1), ELLTREE_NULL);
+    IS(elltree_split(h, &other, NULL, 1), ELLTREE_NULL);
+    IS(elltree_join(h, NULL), ELLTREE_NULL);
+    IS(elltree_join(NULL, h), ELLTREE_NULL);
+    IS(elltree_find(NULL, 1, &value), ELLTREE_NULL);
+    IS(elltree_find(h, 1, NULL), ELLTREE_NULL);
+    IS(elltree_look(NULL, 1, &value), ELLTREE_NULL);
+    IS(elltree_look(h, 1, NULL), ELLTREE_NULL);
+    IS(elltree_insert(NULL, 1, 1, 1), ELLTREE_NULL);
+    IS(elltree_delete(NULL, 1, 1), ELLTREE_NULL);
+    IS(elltree_owned(NULL, &count), ELLTREE_NULL);
+    IS(elltree_owned(h, NULL), ELLTREE_NULL);
+    IS(elltree_pairs(NULL, &pair, 1, &count), ELLTREE_NULL);
+    IS(elltree_pairs(h, NULL, 1, &count), ELLTREE_NULL);
+    IS(elltree_pairs(h, &pair, 1, NULL), ELLTREE_NULL);
+    IS(elltree_steps(NULL, &steps), ELLTREE_NULL);
+    IS(elltree_steps(h, NULL), ELLTREE_NULL);
+    IS(elltree_free(NULL), ELLTREE_NULL);
+}
+
+/* As if another thread were inside a call. */
+static void in_call(struct elltree_handle *h) {
+    struct elltree_handle other = ELLTREE_EMPTY;
+    struct elltree_pair pair;
+    uint64_t value, steps;
+    size_t count;
+    IS(elltree_enter(h), ELLTREE_YES);
+    IS(elltree_open(h, keys, 6, start, 2, 9), ELLTREE_IN_CALL);
+    IS(elltree_split(h, &other, keys, 1), ELLTREE_IN_CALL);
+    IS(elltree_split(&other, h, keys, 1), ELLTREE_IN_CALL);
+    IS(elltree_join(h, &other), ELLTREE_IN_CALL);
+    IS(elltree_join(&other, h), ELLTREE_IN_CALL);
+    IS(elltree_find(h, 1, &value), ELLTREE_IN_CALL);
+    IS(elltree_look(h, 1, &value), ELLTREE_IN_CALL);
+    IS(elltree_insert(h, 1, 1, 1), ELLTREE_IN_CALL);
+    IS(elltree_delete(h, 1, 1), ELLTREE_IN_CALL);
+    IS(elltree_owned(h, &count), ELLTREE_IN_CALL);
+    IS(elltree_pairs(h, &pair, 1, &count), ELLTREE_IN_CALL);
+    IS(elltree_steps(h, &steps), ELLTREE_IN_CALL);
+    IS(elltree_free(h), ELLTREE_IN_CALL);
+    IS(elltree_leave(h, ELLTREE_YES), ELLTREE_YES);
+    faults += other.in_call || other.slot.is_open;
+}
+
+static void keys_and_tries(struct elltree_handle *low, struct elltree_handle *high) {
+    struct elltree_pair pair[2];
+    uint64_t value = 77;
+    size_t count = 77;
+    IS(elltree_find(low, 4, &value), ELLTREE_FOREIGN);
+    IS(elltree_find(low, 99, &value), ELLTREE_FOREIGN);
+    IS(elltree_insert(low, 4, 1, 9), ELLTREE_FOREIGN);
+    IS(elltree_delete(low, 4, 9), ELLTREE_FOREIGN);
+    IS(elltree_insert(low, 1, 1, 0), ELLTREE_NO_TRIES);
+    IS(elltree_delete(low, 2, 0), ELLTREE_NO_TRIES);
+    IS(elltree_look(low, ELLTREE_KEY_MAX + 1, &value), ELLTREE_BAD_KEY);
+    faults += value != 77;
+    IS(elltree_look(low, ELLTREE_KEY_MAX, &value), ELLTREE_NO);
+    IS(elltree_look(low, 4, &value), ELLTREE_YES);
+    faults += value != 40;
+    IS(elltree_pairs(high, NULL, 0, &count), ELLTREE_NO_ROOM);
+    faults += count != 77;
+    IS(elltree_split(low, low, keys, 1), ELLTREE_SAME);
+    IS(elltree_join(low, low), ELLTREE_SAME);
+    IS(elltree_split(low, high, keys, 0), ELLTREE_OPEN);
+    IS(elltree_pairs(high, pair, 1, &count), ELLTREE_YES);
+}
+
+/* A tree of one card: the second change has none. */
+static void spent_and_other_tree(struct elltree_handle *low) {
+    struct elltree_handle small = ELLTREE_EMPTY;
+    struct elltree_pair nine = {2, 9};
+    uint64_t value = 0;
+    IS(elltree_open(&small, keys, 6, NULL, 0, 1), ELLTREE_YES);
+    IS(elltree_insert(&small, 2, 9, 9), ELLTREE_YES);
+    IS(elltree_insert(&small, 3, 9, 9), ELLTREE_SPENT);
+    IS(elltree_delete(&small, 2, 9), ELLTREE_SPENT);
+    IS(elltree_insert(&small, 2, 5, 9), ELLTREE_NO);
+    IS(elltree_delete(&small, 3, 9), ELLTREE_NO);
+    IS(elltree_find(&small, 2, &value), ELLTREE_YES);
+    faults += value != 9;
+    IS(elltree_join(low, &small), ELLTREE_OTHER_TREE);
+    IS(elltree_join(&small, low), ELLTREE_OTHER_TREE);
+    HAS(&small, 5, &nine, 1);
+    IS(elltree_free(&small), ELLTREE_YES);
+    IS(elltree_join(low, &small), ELLTREE_CLOSED);
+    IS(elltree_join(&small, low), ELLTREE_CLOSED);
+}
+
+/* Each code has a text of its own. */
+static void texts(void) {
+    for (int32_t code = ELLTREE_IN_CALL - 1; code <= ELLTREE_YES + 1; code++)
+        for (int32_t other = code + 1; other <= ELLTREE_YES + 1; other++)
+            faults += !strcmp(elltree_text(code), elltree_text(other)) && (code != ELLTREE_IN_CALL - 1 || other != ELLTREE_YES + 1);
+}
+
+int main(void) {
+    struct elltree_handle low = ELLTREE_EMPTY, high = ELLTREE_EMPTY, reader = ELLTREE_EMPTY;
+    const uint64_t given[3] = {4, 6, 5}, foreign[2] = {1, 99};
+    uint64_t value = 0;
+    opening();
+    closed();
+    IS(elltree_open(&low, keys, 6, start, 2, 100), ELLTREE_YES);
+    HAS(&low, 6, start, 2);
+    IS(elltree_split(&low, &high, foreign, 2), ELLTREE_FOREIGN);
+    HAS(&low, 6, start, 2);
+    IS(elltree_split(&low, &high, given, 3), ELLTREE_YES);
+    IS(elltree_split(&high, &reader, NULL, 0), ELLTREE_YES);
+    nulls(&low);
+    in_call(&low);
+    keys_and_tries(&low, &high);
+    spent_and_other_tree(&low);
+    texts();
+    HAS(&low, 3, start, 1);
+    HAS(&high, 3, start + 1, 1);
+    HAS(&reader, 0, start, 0);
+    IS(elltree_join(&low, &high), ELLTREE_YES);
+    HAS(&low, 6, start, 2);
+    IS(elltree_delete(&low, 2, 1), ELLTREE_YES);
+    IS(elltree_free(&low), ELLTREE_YES);
+    IS(elltree_look(&reader, 4, &value), ELLTREE_YES);
+    IS(elltree_look(&reader, 2, &value), ELLTREE_NO);
+    IS(elltree_free(&reader), ELLTREE_YES);
+    for (int code = 2; code <= 15; code++)
+        if (code != -ELLTREE_NO_MEMORY && !met[code]) {
+            faults++;
+            printf("no call was answered: %s\n", elltree_text(-code));
+        }
+    printf("%d faults\n", faults);
+    return faults != 0;
+}

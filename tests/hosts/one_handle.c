@@ -1,0 +1,71 @@
+/* Two threads call on one handle at once, which nobody ordered: each call is answered rightly, or by ELLTREE_IN_CALL. Then four threads
+   try each change once, on neighbouring keys: an answer is right, or ELLTREE_BUSY, after which the map is as it was. */
+#include "elltree.h"
+#include <pthread.h>
+#include <stdio.h>
+
+enum { CALLS = 300000, THREADS = 4, KEYS = 8, CHANGES = 20000 };
+static struct elltree_handle one = ELLTREE_EMPTY, parts[THREADS];
+static long in_call, busy, wrong;
+
+static void add(long *to, long count) { __atomic_add_fetch(to, count, __ATOMIC_SEQ_CST); }
+
+static void *find(void *given) {
+    long met = 0, faults = 0;
+    (void)given;
+    for (int i = 0; i < CALLS; i++) {
+        uint64_t value = 0;
+        int32_t said = elltree_find(&one, 1, &value);
+        met += said == ELLTREE_IN_CALL;
+        faults += said != ELLTREE_IN_CALL && (said != ELLTREE_YES || value != 5);
+    }
+    add(&in_call, met), add(&wrong, faults);
+    return NULL;
+}
+
+static void *change(void *given) {
+    long id = (long)given, met = 0, faults = 0;
+    int there[2] = {0, 0};
+    for (int i = 0; i < CHANGES; i++) {
+        int which = i >> 1 & 1;
+        uint64_t key = (uint64_t)(which * THREADS + id), value;
+        int32_t want = there[which] ? ELLTREE_YES : ELLTREE_NO;
+        int32_t said = i & 1 ? elltree_delete(&parts[id], key, 1) : elltree_insert(&parts[id], key, 1, 1);
+        if (said == ELLTREE_BUSY)
+            met++;
+        else
+            faults += said != (i & 1 ? want : ELLTREE_YES - want), there[which] = !(i & 1);
+        faults += elltree_find(&parts[id], key, &value) != (there[which] ? ELLTREE_YES : ELLTREE_NO);
+    }
+    add(&busy, met), add(&wrong, faults);
+    return NULL;
+}
+
+int main(void) {
+    uint64_t keys[KEYS];
+    struct elltree_pair start = {1, 5};
+    pthread_t threads[THREADS];
+    for (uint64_t i = 0; i < KEYS; i++)
+        keys[i] = i;
+    wrong += elltree_open(&one, keys, KEYS, &start, 1, 100) != ELLTREE_YES;
+    for (int t = 0; t < 2; t++)
+        pthread_create(&threads[t], NULL, find, NULL);
+    for (int t = 0; t < 2; t++)
+        pthread_join(threads[t], NULL);
+    wrong += elltree_free(&one) != ELLTREE_YES;
+    for (int round = 0; round < 20 && !busy; round++) {
+        wrong += elltree_open(&parts[0], keys, KEYS, NULL, 0, ELLTREE_CARDS_MAX) != ELLTREE_YES;
+        for (uint64_t t = 1; t < THREADS; t++) {
+            uint64_t own[2] = {t, t + THREADS};
+            wrong += elltree_split(&parts[0], &parts[t], own, 2) != ELLTREE_YES;
+        }
+        for (long t = 0; t < THREADS; t++)
+            pthread_create(&threads[t], NULL, change, (void *)t);
+        for (int t = 0; t < THREADS; t++)
+            pthread_join(threads[t], NULL);
+        for (int t = 0; t < THREADS; t++)
+            wrong += elltree_free(&parts[t]) != ELLTREE_YES;
+    }
+    printf("%ld calls met another on their handle, %ld changes were hindered, %ld wrong\n", in_call, busy, wrong);
+    return wrong != 0;
+}

@@ -1,0 +1,87 @@
+/* Each allocation of the library is refused in turn: the call is answered by ELLTREE_NO_MEMORY, and all handles are as they were. Linked with
+   --wrap=malloc and --wrap=realloc. Which calls ask for memory is tested too: open, split and join, and no other. */
+#include "elltree.h"
+#include <stdio.h>
+
+static long asked, refuse_at = -1;
+static int faults;
+
+void *__real_malloc(size_t size);
+void *__real_realloc(void *at, size_t size);
+void *__wrap_malloc(size_t size) { return ++asked == refuse_at ? NULL : __real_malloc(size); }
+void *__wrap_realloc(void *at, size_t size) { return ++asked == refuse_at ? NULL : __real_realloc(at, size); }
+
+enum { KEYS = 300, START = 100 };
+static uint64_t keys[KEYS];
+static struct elltree_pair start[START];
+static struct elltree_handle a = ELLTREE_EMPTY, b = ELLTREE_EMPTY;
+
+static int32_t open_a(void) { return elltree_open(&a, keys, KEYS, start, START, 1000); }
+static int32_t split(void) { return elltree_split(&a, &b, keys + 100, 100); }
+static int32_t join(void) { return elltree_join(&a, &b); }
+
+static long differs(struct elltree_handle *handle, size_t owned, size_t there) {
+    static struct elltree_pair out[KEYS];
+    size_t is_owned = 0, is_there = 0;
+    return elltree_owned(handle, &is_owned) != ELLTREE_YES || is_owned != owned || elltree_pairs(handle, out, KEYS, &is_there) != ELLTREE_YES || is_there != there;
+}
+
+static long closed(void) { return a.slot.is_open || b.slot.is_open; }
+static long whole(void) { return differs(&a, KEYS, START) || b.slot.is_open; }
+static long parted(void) { return differs(&a, KEYS - 100, START / 2) || differs(&b, 100, START / 2); }
+
+/* Refuses each allocation of a call in turn, and looks each time whether all is as it was. */
+static void refuse(const char *name, int32_t (*call)(void), long (*differs_before)(void)) {
+    for (refuse_at = 1;; refuse_at++) {
+        long at = refuse_at;
+        asked = 0;
+        int32_t said = call();
+        refuse_at = -1;
+        if (said == ELLTREE_YES) {
+            printf("%s: %ld allocations\n", name, asked);
+            faults += asked == 0;
+            return;
+        }
+        if (said != ELLTREE_NO_MEMORY || differs_before()) {
+            printf("%s: at allocation %ld: %s\n", name, at, elltree_text(said));
+            faults++;
+            return;
+        }
+        refuse_at = at;
+    }
+}
+
+/* Calls that ask for no memory. */
+static void frugal(void) {
+    uint64_t value, steps;
+    size_t count;
+    static struct elltree_pair out[KEYS];
+    asked = 0;
+    faults += elltree_find(&a, 4, &value) != ELLTREE_YES;
+    faults += elltree_look(&a, 201, &value) != ELLTREE_NO;
+    faults += elltree_insert(&a, 1, 1, 5) != ELLTREE_YES;
+    faults += elltree_delete(&a, 1, 5) != ELLTREE_YES;
+    faults += elltree_owned(&a, &count) != ELLTREE_YES;
+    faults += elltree_pairs(&a, out, KEYS, &count) != ELLTREE_YES;
+    faults += elltree_steps(&a, &steps) != ELLTREE_YES;
+    printf("find, look, insert, delete, owned, pairs, steps: %ld allocations\n", asked);
+    faults += asked != 0;
+}
+
+int main(void) {
+    for (uint64_t i = 0; i < KEYS; i++)
+        keys[i] = i;
+    for (uint64_t i = 0; i < START; i++)
+        start[i].key = 2 * i, start[i].value = i;
+    refuse("open", open_a, closed);
+    faults += whole() != 0;
+    refuse("split", split, whole);
+    faults += parted() != 0;
+    frugal();
+    refuse("join", join, parted);
+    faults += whole() != 0;
+    asked = 0;
+    faults += elltree_free(&a) != ELLTREE_YES || asked != 0;
+    printf("%d faults\n", faults);
+    return faults != 0;
+}
