@@ -6,7 +6,7 @@
    may run at once. A handle is in one call at a time, and may go from one thread to another.
 
    Each call answers with ELLTREE_YES, with ELLTREE_NO, or with a negative code that says why it was refused; elltree_text has a text for
-   each. A call that was refused has changed neither the handle nor the map, and has written nothing but, for ELLTREE_NO_ROOM, pairs.
+   each. A call that was refused has changed neither the map nor what a handle owns, and has written nothing but, for ELLTREE_NO_ROOM, pairs.
    elltree_open, elltree_split and elltree_join ask for memory. No other call does.
 
    What the caller owes, which nothing tests:
