@@ -1,11 +1,11 @@
-use Rattle.std.proofs.Common.{◌≡◌, ◌≢◌, ℕ, ◌+◌, ◌*◌, ◌/◌, ◌<◌, ◌≤◌, nat_le, Option, Some, None, refl, sym, ap, ◌∙◌, subst, arith}
+use Rattle.std.proofs.Common.{◌≡◌, ◌≢◌, ℕ, ◌+◌, ◌*◌, ◌/◌, ◌<◌, ◌≤◌, nat_le, Option, Some, None, List, refl, sym, ap, ◌∙◌, subst, arith}
 use Rattle.ell_word.specs.Node.{IsInternal}
 use Rattle.ell_core.specs.acts.Searching.{IsLeaf}
 use Rattle.ell_cards.specs.declared.view.Told.{Told}
 use Rattle.ell_cards.specs.declared.view.Told.TheVariants.{Met, Key, Value}
 use Rattle.ell_cards.specs.declared.view.Looking.{Looking}
 use Rattle.ell_cards.specs.declared.view.View.{View}
-use Rattle.ell_cards.specs.Models.{PassModel, Steps, latest, earlier, IsTold, InTable}
+use Rattle.ell_cards.specs.Models.{PassModel, Steps, Has, latest, earlier, IsTold, InTable}
 use Rattle.ell_cards.specs.Changes.{after_look_for, looked_down, after_look_down, after_key_of, after_value_of}
 use Rattle.ell_cards.specs.Guards.{MayLookDown}
 use Rattle.ell_cards.specs.Looking.{HasFound, ReadsItsOwn}
@@ -31,82 +31,36 @@ only_trans a b c m n k h h' le = record {
   steps = omega (arith, h.steps, h'.steps, le);
 }
 
--- with no more than so many steps
-pub only_within : (a b : PassModel) (m n : ℕ) → OnlyLooks a b m → m ≤ n → OnlyLooks a b n
-only_within a b m n h le = record {
-  table = h.table;
-  label = h.label;
-  worker = h.worker;
-  answers = h.answers;
-  hindrances = h.hindrances;
-  next = h.next;
-  knew_before = h.knew_before;
-  next_at_least = h.next_at_least;
-  won = h.won;
-  told = h.told;
-  steps = omega (arith, h.steps, le);
-}
+-- a step that tells more, and moves no more than the look
+only_step : (old new : PassModel) (told : List Told) (here : Option ℕ) (looking : Option Looking) (looks : ℕ)
+    → Steps old new (record (old.view) { told = told; here = here; looking = looking; looks = looks }) → ((e : Told) → IsTold old.view e → Has told e)
+    → OnlyLooks old new 1
+only_step old new told here looking looks s more = subst (λ (m : PassModel). OnlyLooks old m 1) (sym s) (record {
+  table = refl;
+  label = refl;
+  worker = refl;
+  answers = refl;
+  hindrances = refl;
+  next = refl;
+  knew_before = refl;
+  next_at_least = refl;
+  won = refl;
+  told = more;
+  steps = omega arith;
+})
 
 -- the steps of a look
 pub look_for_only : (old new : PassModel) (key child : ℕ) → Steps old new (after_look_for key child old.view) → OnlyLooks old new 1
-look_for_only old new key child s = subst (λ (m : PassModel). OnlyLooks old m 1) (sym s) (record {
-  table = refl;
-  label = refl;
-  worker = refl;
-  answers = refl;
-  hindrances = refl;
-  next = refl;
-  knew_before = refl;
-  next_at_least = refl;
-  won = refl;
-  told = λ e h. earlier e _ _ h;
-  steps = omega arith;
-})
+look_for_only old new key child s = only_step old new _ _ _ _ s (λ e h. earlier e _ _ h)
 
 pub look_down_only : (old new : PassModel) (child : ℕ) → Steps old new (after_look_down child old.view) → OnlyLooks old new 1
-look_down_only old new child s = subst (λ (m : PassModel). OnlyLooks old m 1) (sym s) (record {
-  table = refl;
-  label = refl;
-  worker = refl;
-  answers = refl;
-  hindrances = refl;
-  next = refl;
-  knew_before = refl;
-  next_at_least = refl;
-  won = refl;
-  told = λ e h. earlier e _ _ h;
-  steps = omega arith;
-})
+look_down_only old new child s = only_step old new _ _ _ _ s (λ e h. earlier e _ _ h)
 
 pub key_only : (old new : PassModel) (x key : ℕ) → Steps old new (after_key_of x key old.view) → OnlyLooks old new 1
-key_only old new x key s = subst (λ (m : PassModel). OnlyLooks old m 1) (sym s) (record {
-  table = refl;
-  label = refl;
-  worker = refl;
-  answers = refl;
-  hindrances = refl;
-  next = refl;
-  knew_before = refl;
-  next_at_least = refl;
-  won = refl;
-  told = λ e h. earlier e _ _ h;
-  steps = omega arith;
-})
+key_only old new x key s = only_step old new _ _ _ _ s (λ e h. earlier e _ _ h)
 
 pub value_only : (old new : PassModel) (x value : ℕ) → Steps old new (after_value_of x value old.view) → OnlyLooks old new 1
-value_only old new x value s = subst (λ (m : PassModel). OnlyLooks old m 1) (sym s) (record {
-  table = refl;
-  label = refl;
-  worker = refl;
-  answers = refl;
-  hindrances = refl;
-  next = refl;
-  knew_before = refl;
-  next_at_least = refl;
-  won = refl;
-  told = λ e h. earlier e _ _ h;
-  steps = omega arith;
-})
+value_only old new x value s = only_step old new _ _ _ _ s (λ e h. earlier e _ _ h)
 
 -- a look for a key has come to a node, in at most two steps for each internal node that there is down to it
 pub record Comes (cards : ℕ) (old new : PassModel) (key node : ℕ) : Type 0 where
