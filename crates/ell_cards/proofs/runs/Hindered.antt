@@ -103,10 +103,10 @@ module _ (w : Words) (stage : Stages) (now : Words) (after : Stages) where
   first_met [] b h g = g
   first_met (x ∷ a) b h g = h
 
-  way_met : (op : Option Op) (node : Option ℕ) (parent above : Option Seen) → ((seen : Seen) → parent ≡ Some seen → SeenSince w stage seen)
-      → ((seen : Seen) → above ≡ Some seen → SeenSince w stage seen) → AllMet w stage now after (in_the_way op node parent above)
-  way_met None node parent above h g = tt
-  way_met (Some (Find k)) node parent above h g = tt
+  way_met : (op : Option Op) (place : Option ℕ) (parent above : Option Seen) → ((seen : Seen) → parent ≡ Some seen → SeenSince w stage seen)
+      → ((seen : Seen) → above ≡ Some seen → SeenSince w stage seen) → AllMet w stage now after (in_the_way op place parent above)
+  way_met None place parent above h g = tt
+  way_met (Some (Find k)) place parent above h g = tt
   way_met (Some (Insert k value)) None parent above h g = tt
   way_met (Some (Insert k value)) (Some x) parent above h g = read_met parent h
   way_met (Some (Delete k)) None parent above h g = tt

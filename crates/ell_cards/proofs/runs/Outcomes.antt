@@ -138,6 +138,13 @@ known_holds : (keys : List ℕ) (cards : ℕ) (s : TableState) (r : HasMachine k
 known_holds keys cards s r id w there f knows =
     (r.invariant.workers.each id).facts f (ap (λ (u : Worker). u.knows f) (mine_is keys cards s r id w there) ∙ knows)
 
+-- two answers are alike that can't be apart
+alike_by : (a b : Bool) → (a ≡ false → b ≡ true → ⊥) → (a ≡ true → b ≡ false → ⊥) → a ≡ b
+alike_by true true h g = refl
+alike_by false false h g = refl
+alike_by false true h g = absurd (h refl refl)
+alike_by true false h g = absurd (g refl refl)
+
 -- an exchange that the pass in a seat may make, and its word told otherwise
 module _ (keys : List ℕ) (start : List (ℕ × ℕ)) (cards : ℕ) (s : TableState) (h : IsReached keys start cards s) (id : ℕ) (v : View) (here : get_elem? s.views id ≡ some v)
     (c : Call) (may : May cards c v) (n : ℕ) (on : IsReached keys start cards (told_of s id v c n)) where
@@ -239,9 +246,22 @@ module _ (keys : List ℕ) (start : List (ℕ × ℕ)) (cards : ℕ) (s : TableS
       let words : T.words ≡ s.words = ap (set s.words (word_of c)) same ∙ set-get_or s.words (word_of c) 0 in
       sym (r.settled d F calm) ∙ (ap (λ ws. listed ws d F) words ∙ (held.table F ∙ (filled F ∙ sym (held.machine F))))
 
-  -- the update word at that node before it
-  found_listed : get_or s.words (update_at x) 0 ≡ before.words.update x
-  found_listed = listed_update keys cards s before x passed.inner ((before.views id v here).entries (Met x) passed.met)
+  -- the node came into the tree before it
+  born_before : Born before.stages x
+  born_before = (before.views id v here).entries (Met x) passed.met
+
+  -- where the flag was lost and told as won, its card would have it at that node, which has it not
+  flag_before : (counts : Counts keys cards T) (F : Field) (flag : ℕ) → IsFilled v → left ≡ found_by s c → waits (counts.machine.stages d) ≡ false
+      → word before.words d F ≡ x → counts.machine.words.update (word counts.machine.words d F) ≡ flag → before.words.update x ≡ flag
+  flag_before counts F flag filled same calm goes stands =
+      sym (listed_update keys cards s before x passed.inner born_before) ∙ (sym (ap (λ i. get_or s.words i 0) at)
+      ∙ (sym same ∙ (flag_listed counts.machine ∙ (ap counts.machine.words.update (sym (goes_there counts.machine F filled same calm ∙ goes)) ∙ stands))))
+
+  -- what the pass knows after it holds of all stages that the machine may have
+  knows_then : (counts : Counts keys cards T) (stages : Stages) → Invariant (machine_of_table keys cards T counts.machine) stages → (f : Fact) → Knows w f
+      → allows f (stages (card_of_fact f)) ≡ true
+  knows_then counts stages invariant f knows =
+      (invariant.workers.each id).facts f (ap (λ (u : Worker). u.knows f) (mine_is keys cards T counts.machine id w there) ∙ knows)
 
 module _ (keys : List ℕ) (start : List (ℕ × ℕ)) (cards : ℕ) (s : TableState) (h : IsReached keys start cards s) (id : ℕ) (v : View) (here : get_elem? s.views id ≡ some v) where
   abbrev Alike : Call → Type 0
@@ -294,7 +314,7 @@ module _ (keys : List ℕ) (start : List (ℕ × ℕ)) (cards : ℕ) (s : TableS
       by false = subst (KnowsOf (after_mark false c p (unpacked n) v) c) (is_mark c n) (lost (is_mark_of c (unpacked n).state (unpacked n).card) (is_mark c n))
 
   mark_alike : (c p was : ℕ) → Alike (call.Mark c p was)
-  mark_alike c p was may n on = by (n == was) (found == was) refl refl
+  mark_alike c p was may n on = alike_by (n == was) (found == was) (won_lost (n == marked c) refl) (lost_won (found == marked c) refl)
     where
       found : ℕ
       found = found_by s (call.Mark c p was)
@@ -359,12 +379,6 @@ module _ (keys : List ℕ) (start : List (ℕ × ℕ)) (cards : ℕ) (s : TableS
           false≢true (sym f ∙ eq-eqb found (marked c)
           (sym (ap (λ (b : Bool). if b then marked c else found) g) ∙ (stands (marked-delete (r.stages c) is) ∙ (ap r.words.update (sym parent) ∙ mark))))
 
-      by : (a b : Bool) → (n == was) ≡ a → (found == was) ≡ b → (n == was) ≡ (found == was)
-      by true true e g = e ∙ sym g
-      by false false e g = e ∙ sym g
-      by false true e g = absurd (won_lost (n == marked c) refl e g)
-      by true false e g = absurd (lost_won (found == marked c) refl e g)
-
   flag_aside : (b : Bool) (new : Fact) (x : ℕ) (u : Update) → b ≡ false → (after_flag b new x u v).worker.card ≡ None
   flag_aside true new x u e = absurd (true≢false e)
   flag_aside false new x u e = refl
@@ -374,13 +388,10 @@ module _ (keys : List ℕ) (start : List (ℕ × ℕ)) (cards : ℕ) (s : TableS
   flag_known false new x u e = absurd (false≢true e)
 
   iflag_alike : (c p : ℕ) (from : Update) → Alike (call.IFlag c p from)
-  iflag_alike c p from may n on = by (n == packed from) (found == packed from) refl refl
+  iflag_alike c p from may n on = alike_by (n == packed from) (found_by s i == packed from) won_lost lost_won
     where
       i : Call
       i = call.IFlag c p from
-
-      found : ℕ
-      found = found_by s i
 
       passed : IsPassed v p
       passed = (searches_are_met keys start cards s h id v here).parent (record { node = p; word = packed from }) may.behind
@@ -388,72 +399,42 @@ module _ (keys : List ℕ) (start : List (ℕ × ℕ)) (cards : ℕ) (s : TableS
       r : HasMachine keys cards (told_of s id v i n)
       r = reached_kept keys start cards (told_of s id v i n) on
 
-      before_there : HasMachine keys cards s
-      before_there = reached_kept keys start cards s h
-
-      there_now : get_elem? (told_of s id v i n).views id ≡ some (after i n v)
-      there_now = told_there keys start cards s h id v here i may n on
-
-      -- won, told as lost
-      won_lost : (n == packed from) ≡ false → (found == packed from) ≡ true → ⊥
+      won_lost : (n == packed from) ≡ false → (found_by s i == packed from) ≡ true → ⊥
       won_lost e g =
-          let born = (r.views id (after i n v) there_now).entries (Met p) (after_told i n v (Met p) passed.met) in
+          let there = told_there keys start cards s h id v here i may n on in
+          let born = (r.views id (after i n v) there).entries (Met p) (after_told i n v (Met p) passed.met) in
           in_no_hand keys start cards s h id v here i may n on c may.may p passed refl r (flag_aside (n == packed from) (fact.IFlagged c) p (unpacked n) e)
           (r.invariant.workers.insert_in_hand c ((r.invariant.words.updates p passed.inner born).iflagged c
-          (sym (flag_listed keys start cards s h id v here i may n on c may.may p passed refl r) ∙ ap (λ (b : Bool). if b then iflag c else found) g)).0)
+          (sym (flag_listed keys start cards s h id v here i may n on c may.may p passed refl r) ∙ ap (λ (b : Bool). if b then iflag c else found_by s i) g)).0)
 
-      -- lost, told as won
-      lost_won : (n == packed from) ≡ true → (found == packed from) ≡ false → ⊥
-      lost_won e g = waits-no_insert (before_there.stages c)
-          (waits_there keys start cards s h id v here i may n on c may.may p passed refl before_there before_there.stages before_there.invariant)
-          ((before_there.invariant.words.updates p passed.inner ((before_there.views id v here).entries (Met p) passed.met)).iflagged c
-          (sym (found_listed keys start cards s h id v here i may n on c may.may p passed refl) ∙ flagged)).0
-        where
-          counts : Counts keys cards (told_of s id v i n)
-          counts = told_counts keys start cards s h id v here i may n on
+      -- by its search the card goes to that parent
+      goes : (q : HasMachine keys cards s) → q.words.p c ≡ p
+      goes q =
+          let same = mine_is keys cards s q id v here in
+          let says = (q.invariant.workers.each id).unflagged (Insert may.key may.value) c (ap (λ (u : Worker). u.operation) same ∙ may.busy)
+          (ap (λ (u : Worker). u.card) same ∙ may.may.holds) (ap (λ (u : Worker). u.flagged) same ∙ may.may.unflagged) in
+          sym says.node ∙ ap (λ (k : Seen). k.node) (some_same (sym says.behind ∙ (ap (λ (u : Worker). u.search.parent) same ∙ may.behind)))
 
-          left_is : (if found == packed from then iflag c else found) ≡ found
-          left_is = ap (λ (b : Bool). if b then iflag c else found) g
-
-          won : (q : Stages) → Invariant (machine_of_table keys cards (told_of s id v i n) counts.machine) q → insert_won (q c) ≡ true
-          won q invariant = (invariant.workers.each id).facts (fact.IFlagged c)
-              (ap (λ (u : Worker). u.knows (fact.IFlagged c)) (mine_is keys cards (told_of s id v i n) counts.machine id (after i n v) there_now)
-              ∙ flag_known (n == packed from) (fact.IFlagged c) p (unpacked n) e)
-
-          opens : insert_open (counts.stages c) ≡ true
-          opens = insert-opens (counts.stages c) (won counts.stages counts.invariant)
-              (sym (counts.counted kind.IUnflag (omega arith) c) ∙ none_told keys start cards s h id v here i may n on c may.may p passed refl (n == packed from) kind.IFlag kind.IUnflag (omega arith) refl refl)
-
-          insert_goes : (q : HasMachine keys cards s) → q.words.p c ≡ p
-          insert_goes q =
-              let same = mine_is keys cards s q id v here in
-              let says = (q.invariant.workers.each id).unflagged (Insert may.key may.value) c (ap (λ (u : Worker). u.operation) same ∙ may.busy)
-              (ap (λ (u : Worker). u.card) same ∙ may.may.holds) (ap (λ (u : Worker). u.flagged) same ∙ may.may.unflagged) in
-              sym says.node ∙ ap (λ (k : Seen). k.node) (some_same (sym says.behind ∙ (ap (λ (u : Worker). u.search.parent) same ∙ may.behind)))
-
-          goes : counts.machine.words.p c ≡ p
-          goes = goes_there keys start cards s h id v here i may n on c may.may p passed refl counts.machine field.P may.filled left_is
-              (insert_won-settled (counts.machine.stages c) (won counts.machine.stages counts.machine.invariant))
-              ∙ insert_goes before_there
-
-          flagged : found ≡ iflag c
-          flagged = sym left_is ∙ (flag_listed keys start cards s h id v here i may n on c may.may p passed refl counts.machine
-              ∙ (ap counts.machine.words.update (sym goes) ∙ (counts.invariant.words.inserts c).flag opens))
-
-      by : (a b : Bool) → (n == packed from) ≡ a → (found == packed from) ≡ b → (n == packed from) ≡ (found == packed from)
-      by true true e g = e ∙ sym g
-      by false false e g = e ∙ sym g
-      by false true e g = absurd (won_lost e g)
-      by true false e g = absurd (lost_won e g)
+      lost_won : (n == packed from) ≡ true → (found_by s i == packed from) ≡ false → ⊥
+      lost_won e g =
+          let q = reached_kept keys start cards s h in
+          let counts = told_counts keys start cards s h id v here i may n on in
+          let won : (stages : Stages) → Invariant (machine_of_table keys cards (told_of s id v i n) counts.machine) stages → insert_won (stages c) ≡ true =
+          λ stages invariant. knows_then keys start cards s h id v here i may n on c may.may p passed refl counts stages invariant
+          (fact.IFlagged c) (flag_known (n == packed from) (fact.IFlagged c) p (unpacked n) e) in
+          let opens = insert-opens (counts.stages c) (won counts.stages counts.invariant)
+          (sym (counts.counted kind.IUnflag (omega arith) c) ∙ none_told keys start cards s h id v here i may n on c may.may p passed refl (n == packed from) kind.IFlag kind.IUnflag (omega arith) refl refl) in
+          waits-no_insert (q.stages c) (waits_there keys start cards s h id v here i may n on c may.may p passed refl q q.stages q.invariant)
+          ((q.invariant.words.updates p passed.inner (born_before keys start cards s h id v here i may n on c may.may p passed refl)).iflagged c
+          (flag_before keys start cards s h id v here i may n on c may.may p passed refl counts field.P (iflag c) may.filled
+          (ap (λ (b : Bool). if b then iflag c else found_by s i) g) (insert_won-settled (counts.machine.stages c) (won counts.machine.stages counts.machine.invariant))
+          (goes q) ((counts.invariant.words.inserts c).flag opens))).0
 
   dflag_alike : (c gp : ℕ) (from : Update) → Alike (call.DFlag c gp from)
-  dflag_alike c gp from may n on = by (n == packed from) (found == packed from) refl refl
+  dflag_alike c gp from may n on = alike_by (n == packed from) (found_by s i == packed from) won_lost lost_won
     where
       i : Call
       i = call.DFlag c gp from
-
-      found : ℕ
-      found = found_by s i
 
       passed : IsPassed v gp
       passed = (searches_are_met keys start cards s h id v here).grandparent (record { node = gp; word = packed from }) may.above
@@ -461,64 +442,37 @@ module _ (keys : List ℕ) (start : List (ℕ × ℕ)) (cards : ℕ) (s : TableS
       r : HasMachine keys cards (told_of s id v i n)
       r = reached_kept keys start cards (told_of s id v i n) on
 
-      before_there : HasMachine keys cards s
-      before_there = reached_kept keys start cards s h
-
-      there_now : get_elem? (told_of s id v i n).views id ≡ some (after i n v)
-      there_now = told_there keys start cards s h id v here i may n on
-
-      -- won, told as lost
-      won_lost : (n == packed from) ≡ false → (found == packed from) ≡ true → ⊥
+      won_lost : (n == packed from) ≡ false → (found_by s i == packed from) ≡ true → ⊥
       won_lost e g =
-          let born = (r.views id (after i n v) there_now).entries (Met gp) (after_told i n v (Met gp) passed.met) in
+          let there = told_there keys start cards s h id v here i may n on in
+          let born = (r.views id (after i n v) there).entries (Met gp) (after_told i n v (Met gp) passed.met) in
           in_no_hand keys start cards s h id v here i may n on c may.may gp passed refl r (flag_aside (n == packed from) (fact.DFlagged c) gp (unpacked n) e)
           (r.invariant.workers.delete_in_hand c ((r.invariant.words.updates gp passed.inner born).dflagged c
-          (sym (flag_listed keys start cards s h id v here i may n on c may.may gp passed refl r) ∙ ap (λ (b : Bool). if b then dflag c else found) g)).0)
+          (sym (flag_listed keys start cards s h id v here i may n on c may.may gp passed refl r) ∙ ap (λ (b : Bool). if b then dflag c else found_by s i) g)).0)
 
-      -- lost, told as won
-      lost_won : (n == packed from) ≡ true → (found == packed from) ≡ false → ⊥
-      lost_won e g = waits-no_delete (before_there.stages c)
-          (waits_there keys start cards s h id v here i may n on c may.may gp passed refl before_there before_there.stages before_there.invariant)
-          ((before_there.invariant.words.updates gp passed.inner ((before_there.views id v here).entries (Met gp) passed.met)).dflagged c
-          (sym (found_listed keys start cards s h id v here i may n on c may.may gp passed refl) ∙ flagged)).0
-        where
-          counts : Counts keys cards (told_of s id v i n)
-          counts = told_counts keys start cards s h id v here i may n on
+      -- by its search the card goes to that grandparent
+      goes : (q : HasMachine keys cards s) → q.words.gp c ≡ gp
+      goes q =
+          let same = mine_is keys cards s q id v here in
+          let says = (q.invariant.workers.each id).unflagged (Delete may.key) c (ap (λ (u : Worker). u.operation) same ∙ may.busy)
+          (ap (λ (u : Worker). u.card) same ∙ may.may.holds) (ap (λ (u : Worker). u.flagged) same ∙ may.may.unflagged) in
+          sym says.top_node ∙ ap (λ (k : Seen). k.node) (some_same (sym says.above ∙ (ap (λ (u : Worker). u.search.grandparent) same ∙ may.above)))
 
-          left_is : (if found == packed from then dflag c else found) ≡ found
-          left_is = ap (λ (b : Bool). if b then dflag c else found) g
-
-          won : (q : Stages) → Invariant (machine_of_table keys cards (told_of s id v i n) counts.machine) q → delete_won (q c) ≡ true
-          won q invariant = (invariant.workers.each id).facts (fact.DFlagged c)
-              (ap (λ (u : Worker). u.knows (fact.DFlagged c)) (mine_is keys cards (told_of s id v i n) counts.machine id (after i n v) there_now)
-              ∙ flag_known (n == packed from) (fact.DFlagged c) gp (unpacked n) e)
-
-          opens : delete_open (counts.stages c) ≡ true
-          opens = delete-opens (counts.stages c) (won counts.stages counts.invariant)
-              (sym (counts.counted kind.DUnflag (omega arith) c) ∙ none_told keys start cards s h id v here i may n on c may.may gp passed refl (n == packed from) kind.DFlag kind.DUnflag (omega arith) refl refl)
-              (sym (counts.counted kind.Backtrack (omega arith) c) ∙ none_told keys start cards s h id v here i may n on c may.may gp passed refl (n == packed from) kind.DFlag kind.Backtrack (omega arith) refl refl)
-
-          delete_goes : (q : HasMachine keys cards s) → q.words.gp c ≡ gp
-          delete_goes q =
-              let same = mine_is keys cards s q id v here in
-              let says = (q.invariant.workers.each id).unflagged (Delete may.key) c (ap (λ (u : Worker). u.operation) same ∙ may.busy)
-              (ap (λ (u : Worker). u.card) same ∙ may.may.holds) (ap (λ (u : Worker). u.flagged) same ∙ may.may.unflagged) in
-              sym says.top_node ∙ ap (λ (k : Seen). k.node) (some_same (sym says.above ∙ (ap (λ (u : Worker). u.search.grandparent) same ∙ may.above)))
-
-          goes : counts.machine.words.gp c ≡ gp
-          goes = goes_there keys start cards s h id v here i may n on c may.may gp passed refl counts.machine field.Gp may.filled left_is
-              (delete_won-settled (counts.machine.stages c) (won counts.machine.stages counts.machine.invariant))
-              ∙ delete_goes before_there
-
-          flagged : found ≡ dflag c
-          flagged = sym left_is ∙ (flag_listed keys start cards s h id v here i may n on c may.may gp passed refl counts.machine
-              ∙ (ap counts.machine.words.update (sym goes) ∙ (counts.invariant.words.deletes c).flag opens))
-
-      by : (a b : Bool) → (n == packed from) ≡ a → (found == packed from) ≡ b → (n == packed from) ≡ (found == packed from)
-      by true true e g = e ∙ sym g
-      by false false e g = e ∙ sym g
-      by false true e g = absurd (won_lost e g)
-      by true false e g = absurd (lost_won e g)
+      lost_won : (n == packed from) ≡ true → (found_by s i == packed from) ≡ false → ⊥
+      lost_won e g =
+          let q = reached_kept keys start cards s h in
+          let counts = told_counts keys start cards s h id v here i may n on in
+          let won : (stages : Stages) → Invariant (machine_of_table keys cards (told_of s id v i n) counts.machine) stages → delete_won (stages c) ≡ true =
+          λ stages invariant. knows_then keys start cards s h id v here i may n on c may.may gp passed refl counts stages invariant
+          (fact.DFlagged c) (flag_known (n == packed from) (fact.DFlagged c) gp (unpacked n) e) in
+          let opens = delete-opens (counts.stages c) (won counts.stages counts.invariant)
+          (sym (counts.counted kind.DUnflag (omega arith) c) ∙ none_told keys start cards s h id v here i may n on c may.may gp passed refl (n == packed from) kind.DFlag kind.DUnflag (omega arith) refl refl)
+          (sym (counts.counted kind.Backtrack (omega arith) c) ∙ none_told keys start cards s h id v here i may n on c may.may gp passed refl (n == packed from) kind.DFlag kind.Backtrack (omega arith) refl refl) in
+          waits-no_delete (q.stages c) (waits_there keys start cards s h id v here i may n on c may.may gp passed refl q q.stages q.invariant)
+          ((q.invariant.words.updates gp passed.inner (born_before keys start cards s h id v here i may n on c may.may gp passed refl)).dflagged c
+          (flag_before keys start cards s h id v here i may n on c may.may gp passed refl counts field.Gp (dflag c) may.filled
+          (ap (λ (b : Bool). if b then dflag c else found_by s i) g) (delete_won-settled (counts.machine.stages c) (won counts.machine.stages counts.machine.invariant))
+          (goes q) ((counts.invariant.words.deletes c).flag opens))).0
 
   -- no call that is no exchange is won
   pub outcomes_alike : (c : Call) → Alike c
