@@ -1,9 +1,11 @@
 //! What a host sees, through the exported functions themselves.
 use crate::Pair;
-use crate::calls::{elltree_slot_find, elltree_slot_insert, elltree_slot_look};
+use crate::calls::{
+    elltree_slot_delete, elltree_slot_find, elltree_slot_insert, elltree_slot_look,
+};
 use crate::codes::{CLOSED, FOREIGN, NO, OPEN, YES};
 use crate::opening::{elltree_slot_free, elltree_slot_open, elltree_slot_split};
-use crate::reading::elltree_slot_owned;
+use crate::reading::{elltree_slot_owned, elltree_slot_pairs};
 use crate::slot::Slot;
 use std::alloc::Global;
 
@@ -26,8 +28,13 @@ fn two_slots_part_and_close(rt: HostRuntime) {
     assert!(rt; value == 20);
     assert!(rt; elltree_slot_insert(alloc, &mut high, 3, 30, 9) == YES);
     assert!(rt; elltree_slot_insert(alloc, &mut high, 3, 31, 9) == NO);
+    assert!(rt; elltree_slot_delete(alloc, &mut high, 3, 9) == YES);
+    assert!(rt; elltree_slot_insert(alloc, &mut high, 4, 40, 9) == YES);
     assert!(rt; elltree_slot_owned(alloc, &mut low, &mut count) == YES);
     assert!(rt; count == 2);
+    let mut pairs = [Pair { key: 0, value: 0 }; 2];
+    assert!(rt; elltree_slot_pairs(alloc, &mut high, &mut pairs, &mut count) == YES);
+    assert!(rt; count == 1 && pairs[0].key == 4 && pairs[0].value == 40);
     assert!(rt; elltree_slot_free(alloc, &mut low) == YES);
     assert!(rt; elltree_slot_free(alloc, &mut high) == YES);
     assert!(rt; elltree_slot_free(alloc, &mut high) == CLOSED);
