@@ -30,7 +30,7 @@ const ROUNDS: u64 = 3_000;
 // How often another looks.
 const LOOKS: u32 = 200_000;
 
-const TREES: u32 = 10;
+const TREES: u32 = 4;
 
 // The value of a key in a round.
 fn value_of(key: u64, round: u64) -> u64 {
