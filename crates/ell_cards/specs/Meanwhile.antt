@@ -51,6 +51,7 @@ pub record BeginsHere (s : TableState) (seat : ℕ) : Type 0 where
   pub root : view.worker.search ≡ at_root
   pub no_card : view.worker.card ≡ None
   pub unread : view.next ≡ None
+  pub unmet : view.met ≡ []
 
 -- a step call that begins a search
 abbrev pub IsBeginning : Call → Type 0
@@ -114,10 +115,13 @@ AreMeanwhile keys start cards r [] = Unit {0}
 AreMeanwhile keys start cards r (h ∷ hs) = IsMeanwhile keys start cards r h × AreMeanwhile keys start cards r hs
 
 -- so is all that came to be in the way since that search began, in as many tries as there were: what a lost claim, flag or mark has
--- found, and what the search of a try that was given up had read where it was to act. No lost claim is of the card in hand, or of a later one
+-- found, and what the search of a try that was given up had read where it was to act. What the try in hand met is the last of it. No lost
+-- claim is of the card in hand, or of a later one
 pub record MetMeanwhile (keys : List ℕ) (start : List (ℕ × ℕ)) (cards : ℕ) (r : SearchRun keys start cards) : Type 0 where
   pub met : List Hindrance
   pub list : r.view.hindrances ≡ met ++ r.begins.view.hindrances
+  pub earlier : List Hindrance
+  pub tries : met ≡ r.view.met ++ earlier
   pub each : AreMeanwhile keys start cards r met
   pub own : (c : ℕ) → r.view.worker.card ≡ Some c → AreBelow c met
 

@@ -116,6 +116,8 @@ module _ (w : Words) (stage : Stages) (now : Words) (after : Stages) where
 pub record HinderedSince (w : Words) (stage : Stages) (now : Words) (after : Stages) (old : List Hindrance) (v : View) : Type 0 where
   pub met : List Hindrance
   pub list : v.hindrances ≡ met ++ old
+  pub earlier : List Hindrance
+  pub tries : met ≡ v.met ++ earlier
   pub each : AllMet w stage now after met
   pub next : (n : ℕ) → v.next ≡ Some n → w.next ≤ n
   pub own : (c : ℕ) → v.worker.card ≡ Some c → AreBelow c met
@@ -161,11 +163,13 @@ module _ (keys : List ℕ) (cards : ℕ) (m0 : Machine) (stage : Stages) (first 
       subst (λ x. PlaceSince m0.words stage x (later_words.was c)) (sym info.p) (subst (λ n. PlaceSince m0.words stage (r.words.p c) n) (sym info.was) h)
 
   -- a step that meets nothing, and leaves what is in hand
-  quiet : (u : View) → u.hindrances ≡ v.hindrances → u.next ≡ v.next → u.worker.operation ≡ v.worker.operation → u.worker.card ≡ v.worker.card
+  quiet : (u : View) → u.hindrances ≡ v.hindrances → u.met ≡ v.met → u.next ≡ v.next → u.worker.operation ≡ v.worker.operation → u.worker.card ≡ v.worker.card
       → u.worker.flagged ≡ v.worker.flagged → HinderedSince m0.words stage later_words ends old u
-  quiet u hindrances read op holds_card flag = record {
+  quiet u hindrances in_try read op holds_card flag = record {
     met = hindered.met;
     list = hindrances ∙ hindered.list;
+    earlier = hindered.earlier;
+    tries = hindered.tries ∙ ap (λ hs. hs ++ hindered.earlier) (sym in_try);
     each = met_later m0.words stage r.words now later_words ends words' later' hindered.met hindered.each;
     next = λ n e. hindered.next n (sym read ∙ e);
     own = λ c has. hindered.own c (sym holds_card ∙ has);
@@ -176,16 +180,18 @@ module _ (keys : List ℕ) (cards : ℕ) (m0 : Machine) (stage : Stages) (first 
 
   -- a step of another
   pub hindered_rests : HinderedSince m0.words stage later_words ends old v
-  hindered_rests = quiet v refl refl refl refl refl
+  hindered_rests = quiet v refl refl refl refl refl refl
 
   -- a step that meets one thing
-  one_met : (u : View) (h : Hindrance) → u.hindrances ≡ h ∷ v.hindrances → Met m0.words stage later_words ends h → u.next ≡ v.next
+  one_met : (u : View) (h : Hindrance) → u.hindrances ≡ h ∷ v.hindrances → u.met ≡ h ∷ v.met → Met m0.words stage later_words ends h → u.next ≡ v.next
       → ((c : ℕ) → u.worker.card ≡ Some c → AreBelow c (h ∷ hindered.met))
       → ((k c : ℕ) → u.worker.operation ≡ Some (Delete k) → u.worker.card ≡ Some c → u.worker.flagged ≡ true → PlaceSince m0.words stage (later_words.p c) (later_words.was c))
       → HinderedSince m0.words stage later_words ends old u
-  one_met u h hindrances is_met read own in_hand = record {
+  one_met u h hindrances in_try is_met read own in_hand = record {
     met = h ∷ hindered.met;
     list = hindrances ∙ ap (λ hs. h ∷ hs) hindered.list;
+    earlier = hindered.earlier;
+    tries = ap (λ hs. h ∷ hs) hindered.tries ∙ ap (λ hs. hs ++ hindered.earlier) (sym in_try);
     each = (is_met, met_later m0.words stage r.words now later_words ends words' later' hindered.met hindered.each);
     next = λ n e. hindered.next n (sym read ∙ e);
     own = own;
@@ -218,6 +224,8 @@ module _ (keys : List ℕ) (cards : ℕ) (m0 : Machine) (stage : Stages) (first 
   claim_hindered c may true e = record {
     met = hindered.met;
     list = hindered.list;
+    earlier = hindered.earlier;
+    tries = hindered.tries;
     each = met_later m0.words stage r.words now later_words ends words' later' hindered.met hindered.each;
     next = hindered.next;
     own = λ d has.
@@ -232,7 +240,7 @@ module _ (keys : List ℕ) (cards : ℕ) (m0 : Machine) (stage : Stages) (first 
       let is = r.next in
       let more = words'.next in
       let other : found_by s (call.Claim c) ≢ c = (λ q. true≢false (sym (eq-eqb (found_by s (call.Claim c)) c q) ∙ e)) in
-      one_met (after_claim false c v) (Claim c) refl (hindered.next c may.0.read, omega arith) refl
+      one_met (after_claim false c v) (Claim c) refl refl (hindered.next c may.0.read, omega arith) refl
       (λ d has. absurd (some_not_none has may.0.no_card))
       (λ k d busy has flagged. absurd (some_not_none has may.0.no_card))
 
@@ -287,13 +295,15 @@ module _ (keys : List ℕ) (cards : ℕ) (m0 : Machine) (stage : Stages) (first 
   flag_hindered k c new x from n true e in_hand lost = record {
     met = hindered.met;
     list = hindered.list;
+    earlier = hindered.earlier;
+    tries = hindered.tries;
     each = met_later m0.words stage r.words now later_words ends words' later' hindered.met hindered.each;
     next = hindered.next;
     own = hindered.own;
     hand = λ key d busy has flagged. in_hand key d busy has;
   }
   flag_hindered k c new x from n false e in_hand lost =
-      one_met (exchanged [] n (after_flag false new x (unpacked n) v)) (Found (unpacked n)) refl
+      one_met (exchanged [] n (after_flag false new x (unpacked n) v)) (Found (unpacked n)) refl refl
       (lost (λ q. true≢false (sym (eq-eqb n from q) ∙ e))) refl (λ d has. absurd (some_not_none has refl)) (λ key d busy has flagged. absurd (true≢false (sym flagged)))
 
   iflag_hindered : (c p : ℕ) (from : Update) → May cards (call.IFlag c p from) v
@@ -368,26 +378,31 @@ module _ (keys : List ℕ) (cards : ℕ) (m0 : Machine) (stage : Stages) (first 
       is = mark_found c p was may
 
       held : (b : Bool) → is_held v.worker.card c ≡ b → n ≢ was → HinderedSince m0.words stage later_words ends old
-          (exchanged [] n (record (unmarking c p (unpacked n) v) { hindrances = if b then Found (unpacked n) ∷ v.hindrances else v.hindrances }))
-      held true e other = one_met _ (Found (unpacked n)) refl (mark_met c p was n may is other (held_is v.worker.card c e)) refl hindered.own
+          (exchanged [] n (record (unmarking c p (unpacked n) v) {
+            hindrances = if b then Found (unpacked n) ∷ v.hindrances else v.hindrances;
+            met = if b then Found (unpacked n) ∷ v.met else v.met;
+          }))
+      held true e other = one_met _ (Found (unpacked n)) refl refl (mark_met c p was n may is other (held_is v.worker.card c e)) refl hindered.own
           (λ k d busy has flagged. hand_later d (rely.hand d (ap (λ (z : Worker). z.card) me ∙ has)) (hindered.hand k d busy has flagged))
-      held false e other = quiet _ refl refl refl refl refl
+      held false e other = quiet _ refl refl refl refl refl refl
 
       lost : (b : Bool) → n ≢ was → HinderedSince m0.words stage later_words ends old (exchanged [] n (if b then learning (Marked c) v else unmarking c p (unpacked n) v))
-      lost true other = quiet _ refl refl refl refl refl
+      lost true other = quiet _ refl refl refl refl refl refl
       lost false other = held (is_held v.worker.card c) refl other
 
       by : (b : Bool) → (n == was) ≡ b → HinderedSince m0.words stage later_words ends old (exchanged (if_won b kind.Mark c) n (after_mark b c p (unpacked n) v))
-      by true e = quiet _ refl refl refl refl refl
+      by true e = quiet _ refl refl refl refl refl refl
       by false e = lost (is_mark_of c (unpacked n).state (unpacked n).card) (λ q. true≢false (sym (eq-eqb n was q) ∙ e))
 
   -- a try that is given up, with no card in hand then
-  gives_up : (u : View) → u.hindrances ≡ given_up v → ((n : ℕ) → u.next ≡ Some n → m0.words.next ≤ n) → u.worker.card ≡ None
+  gives_up : (u : View) → u.hindrances ≡ given_up v → u.met ≡ [] → ((n : ℕ) → u.next ≡ Some n → m0.words.next ≤ n) → u.worker.card ≡ None
       → HinderedSince m0.words stage later_words ends old u
-  gives_up u hindrances read no_card =
+  gives_up u hindrances none read no_card =
       let way = in_the_way v.worker.operation v.worker.search.node v.worker.search.parent v.worker.search.grandparent in record {
         met = way ++ hindered.met;
         list = hindrances ∙ (ap (λ hs. way ++ hs) hindered.list ∙ sym (append_assoc way hindered.met old));
+        earlier = way ++ hindered.met;
+        tries = ap (λ hs. hs ++ (way ++ hindered.met)) (sym none);
         each = all_append m0.words stage later_words ends way hindered.met
             (way_met m0.words stage later_words ends v.worker.operation v.worker.search.node v.worker.search.parent v.worker.search.grandparent
             (λ seen e. since.parent seen (ap (λ (z : Worker). z.search.parent) me ∙ e))
@@ -403,6 +418,8 @@ module _ (keys : List ℕ) (cards : ℕ) (m0 : Machine) (stage : Stages) (first 
   answers said = record {
     met = hindered.met;
     list = hindered.list;
+    earlier = hindered.met;
+    tries = refl;
     each = met_later m0.words stage r.words now later_words ends words' later' hindered.met hindered.each;
     next = hindered.next;
     own = λ c has. absurd (some_not_none has refl);
@@ -412,32 +429,34 @@ module _ (keys : List ℕ) (cards : ℕ) (m0 : Machine) (stage : Stages) (first 
   -- any call that keeps on
   pub call_hindered : (c : Call) → KeepsOn c → May cards c v → HinderedSince m0.words stage later_words ends old (after c (found_by s c) v)
   call_hindered (call.Begin op) keeps may = absurd keeps
-  call_hindered call.Again keeps may = gives_up (after_again v) refl (λ n e. absurd (some_not_none e refl)) refl
-  call_hindered call.Leave keeps may = gives_up (after_leave v) refl hindered.next refl
+  call_hindered call.Again keeps may = gives_up (after_again v) refl refl (λ n e. absurd (some_not_none e refl)) refl
+  call_hindered call.Leave keeps may = gives_up (after_leave v) refl refl hindered.next refl
   call_hindered (call.Answer said) keeps may = answers said
-  call_hindered (call.Upd x) keeps may = quiet _ refl refl refl refl refl
-  call_hindered (call.Down x right) keeps may = quiet _ refl refl refl refl refl
+  call_hindered (call.Upd x) keeps may = quiet _ refl refl refl refl refl refl
+  call_hindered (call.Down x right) keeps may = quiet _ refl refl refl refl refl refl
   call_hindered call.Next keeps may = record {
     met = hindered.met;
     list = hindered.list;
+    earlier = hindered.earlier;
+    tries = hindered.tries;
     each = met_later m0.words stage r.words now later_words ends words' later' hindered.met hindered.each;
     next = λ n e. (let same = same_Some (found_by s call.Next) n e in let is = r.next in let more = words.next in omega arith);
     own = hindered.own;
     hand = λ k c busy has flagged. hand_later c (rely.hand c (ap (λ (z : Worker). z.card) me ∙ has)) (hindered.hand k c busy has flagged);
   }
-  call_hindered (call.KeyOf x) keeps may = quiet _ refl refl refl refl refl
-  call_hindered (call.ValueOf x) keeps may = quiet _ refl refl refl refl refl
-  call_hindered (call.Info c f) keeps may = quiet _ refl refl refl refl refl
-  call_hindered (call.FrozenChild c p right) keeps may = quiet _ refl refl refl refl refl
-  call_hindered (call.LookFor key) keeps may = quiet _ refl refl refl refl refl
-  call_hindered (call.LookDown x right) keeps may = quiet _ refl refl refl refl refl
+  call_hindered (call.KeyOf x) keeps may = quiet _ refl refl refl refl refl refl
+  call_hindered (call.ValueOf x) keeps may = quiet _ refl refl refl refl refl refl
+  call_hindered (call.Info c f) keeps may = quiet _ refl refl refl refl refl refl
+  call_hindered (call.FrozenChild c p right) keeps may = quiet _ refl refl refl refl refl refl
+  call_hindered (call.LookFor key) keeps may = quiet _ refl refl refl refl refl refl
+  call_hindered (call.LookDown x right) keeps may = quiet _ refl refl refl refl refl refl
   call_hindered (call.Claim c) keeps may = claim_hindered c may (found_by s (call.Claim c) == c) refl
-  call_hindered (call.Fill c f value) keeps may = quiet _ refl refl refl refl refl
+  call_hindered (call.Fill c f value) keeps may = quiet _ refl refl refl refl refl refl
   call_hindered (call.IFlag c p from) keeps may = iflag_hindered c p from may
-  call_hindered (call.IChild c p l right) keeps may = quiet _ refl refl refl refl refl
-  call_hindered (call.IUnflag c p) keeps may = quiet _ refl refl refl refl refl
+  call_hindered (call.IChild c p l right) keeps may = quiet _ refl refl refl refl refl refl
+  call_hindered (call.IUnflag c p) keeps may = quiet _ refl refl refl refl refl refl
   call_hindered (call.DFlag c gp from) keeps may = dflag_hindered c gp from may
   call_hindered (call.Mark c p was) keeps may = mark_hindered c p was may
-  call_hindered (call.DChild c gp p y right) keeps may = quiet _ refl refl refl refl refl
-  call_hindered (call.DUnflag c gp) keeps may = quiet _ refl refl refl refl refl
-  call_hindered (call.Backtrack c gp) keeps may = quiet _ refl refl refl refl refl
+  call_hindered (call.DChild c gp p y right) keeps may = quiet _ refl refl refl refl refl refl
+  call_hindered (call.DUnflag c gp) keeps may = quiet _ refl refl refl refl refl refl
+  call_hindered (call.Backtrack c gp) keeps may = quiet _ refl refl refl refl refl refl

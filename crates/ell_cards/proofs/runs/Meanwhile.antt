@@ -321,6 +321,8 @@ module _ (keys : List ℕ) (start : List (ℕ × ℕ)) (cards : ℕ) (q : Search
     hindered = record {
       met = [];
       list = refl;
+      earlier = [];
+      tries = ap (λ hs. hs ++ []) (sym q.begins.unmet);
       each = tt;
       next = λ n e. absurd (some_not_none e q.begins.unread);
       own = λ c has. tt;
@@ -382,6 +384,8 @@ searches_meet_meanwhile keys start cards q =
     let same : l.view ≡ q.view = some-injective l.view q.view (sym l.there ∙ q.there) in record {
       met = l.hindered.met;
       list = subst (λ (u : View). u.hindrances ≡ l.hindered.met ++ q.begins.view.hindrances) same l.hindered.list;
+      earlier = l.hindered.earlier;
+      tries = l.hindered.tries ∙ ap (λ (u : View). u.met ++ l.hindered.earlier) same;
       each = met_in keys start cards q l.hindered.met l.hindered.each;
       own = λ c has. l.hindered.own c (ap (λ (u : View). u.worker.card) same ∙ has);
     }
@@ -406,6 +410,6 @@ pub searches_begin_there : SearchesBeginThere
 searches_begin_there cards s seat c s' h is = subst (λ (t : TableState). BeginsHere t seat) (sym h.gives) (by c is)
   where
     by : (c : Call) → IsBeginning c → BeginsHere (state_after s seat h.view c) seat
-    by (call.Begin op) is = record { view = view_after s h.view (call.Begin op); there = set_there s.views seat (view_after s h.view (call.Begin op)) h.view h.there; root = refl; no_card = refl; unread = refl }
-    by call.Again is = record { view = view_after s h.view call.Again; there = set_there s.views seat (view_after s h.view call.Again) h.view h.there; root = refl; no_card = refl; unread = refl }
+    by (call.Begin op) is = record { view = view_after s h.view (call.Begin op); there = set_there s.views seat (view_after s h.view (call.Begin op)) h.view h.there; root = refl; no_card = refl; unread = refl; unmet = refl }
+    by call.Again is = record { view = view_after s h.view call.Again; there = set_there s.views seat (view_after s h.view call.Again) h.view h.there; root = refl; no_card = refl; unread = refl; unmet = refl }
     by _ is = absurd is
