@@ -32,6 +32,8 @@ pub mod Won
 pub mod Counts
 -- exchanges that can't be told otherwise than they went
 pub mod Outcomes
+-- what a pass with a card in hand has read is not in its way
+pub mod InHand
 -- what has hindered a pass since its search began
 pub mod Hindered
 -- what comes to its end while a search goes on

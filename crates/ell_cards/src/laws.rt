@@ -106,8 +106,8 @@ pub fn readings_are_past()
 /// In every run from a start, from where a pass begins a search on, as long as it takes no other operation in hand, whatever turns of
 /// whatever passes come between: each flag and mark that its search has read and has with it, and each that was in its way in any of its tries, is of a card
 /// that had not come to its end at that beginning; once the pass knows that it has, it did so meanwhile. A card whose claim was lost was
-/// given out meanwhile, and a clean word that a lost flag or mark found is of a card that ended meanwhile. A search begins after each
-/// begin and each again. And what a pass knows of moves was made: the cards that its claims have shown to be given out are, and each
+/// given out meanwhile, and a clean word that a lost flag or mark found is of a card that ended meanwhile. While the pass has a card in
+/// hand, nothing that was in its way is of that card. A search begins after each begin and each again. And what a pass knows of moves was made: the cards that its claims have shown to be given out are, and each
 /// card that it knows to have come to its end did so in the run.
 pub fn searches_read_meanwhile()
     ensures begin { SearchesBeginThere }
