@@ -146,7 +146,7 @@ insert_is_no_delete : (k key value : ℕ) → Some (Delete k) ≡ Some (Insert k
 insert_is_no_delete k key value e = cc
 
 -- the card that is held
-held_is : (o : Option ℕ) (c : ℕ) → is_held o c ≡ true → o ≡ Some c
+pub held_is : (o : Option ℕ) (c : ℕ) → is_held o c ≡ true → o ≡ Some c
 held_is None c e = absurd (false≢true e)
 held_is (Some d) c e = ap Some (eqb-true d c e)
 
