@@ -91,6 +91,7 @@ pub extern "C" fn elltree_slot_split(
         map_of into.new.raw.inside k ≡ (if set_of keys.now k then map_of from.old.raw.inside k else None) }
     ensures rest { result ≡ said_yes → (k : ℕ) →
         map_of from.new.raw.inside k ≡ (if set_of keys.now k then None else map_of from.old.raw.inside k) }
+    ensures numbers { result ≡ said_yes → NumbersTell (handle_of from.new.raw.inside) (handle_of into.new.raw.inside) }
     ensures owned { result ≡ said_yes → All (OwnsIn (handle_of from.old.raw.inside)) keys.now }
     ensures foreign { result ≡ said_foreign → ¬ All (OwnsIn (handle_of from.old.raw.inside)) keys.now }
     ensures busy { into.old.is_open ≡ true → result ≡ said_open }
@@ -124,6 +125,7 @@ fn split(alloc: Global, place: &mut Place, keys: &[u64]) -> Result<Box<Place, Gl
         map_in part.value.handle k ≡ (if set_of keys.now k then map_in place.old.handle k else None)) }
     ensures rest { OnOk result ((k : ℕ) →
         map_in place.new.handle k ≡ (if set_of keys.now k then None else map_in place.old.handle k)) }
+    ensures numbers { IfOk result (λ part. NumbersTell place.new.handle part.value.handle) }
     ensures owned { OnOk result (All (OwnsIn place.old.handle) keys.now) }
     ensures foreign { result ≡ Err said_foreign → ¬ All (OwnsIn place.old.handle) keys.now }
     ensures closed { result ≡ Err said_closed → place.old.handle ≡ None }
