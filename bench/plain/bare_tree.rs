@@ -229,6 +229,16 @@ impl BareTree {
         (place.key == key).then_some(place.value)
     }
 
+    /// As a find, by the least loads that tell it: no update word, and no step that begins or ends an operation.
+    #[allow(dead_code)]
+    pub fn look(&self, key: u64) -> Option<u64> {
+        let mut node = self.child(0, false).load(SeqCst);
+        while is_internal(node) {
+            node = self.child(node, self.key(node) <= key).load(SeqCst);
+        }
+        (self.key(node) == key).then(|| self.value(node))
+    }
+
     /// The keys of the leaves with their values, the keys ascending, when no thread is at work.
     #[allow(dead_code)]
     pub fn pairs(&self) -> Vec<(u64, u64)> {

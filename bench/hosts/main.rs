@@ -1,0 +1,174 @@
+//! Measures elltree, as a program in Rust has it, beside the same tree over bare atomic words, `BTreeMap`s behind locks, one or 16 of
+//! them, and a private `BTreeMap` for each owner. Takes the seconds of an interval, the number of rounds, and a file, to which it writes
+//! all figures; the tables go to standard output.
+
+#[path = "../plain/bare_tree.rs"]
+mod bare_tree;
+mod peers;
+mod record;
+mod work;
+
+use peers::{Crew, Peer, Sizes};
+use record::{Figure, Record};
+use std::process::ExitCode;
+use std::time::Duration;
+use std::{env, fs};
+use work::{expect_stops, latencies, speeds, stops, Latencies, Random, Work};
+
+const KEYS: [u64; 3] = [64, 4_096, 262_144];
+
+/// How many times longer an interval is if latencies are measured.
+const LONGER: u32 = 3;
+
+/// What is measured.
+#[derive(Clone, Copy, PartialEq)]
+pub enum Kind {
+    /// The operations of owners, without readers.
+    Operations,
+    /// Looks of readers, and changes of owners.
+    Looks,
+    /// Latencies beside an owner without pause.
+    Running,
+    /// Latencies beside an owner that is stopped at times.
+    Stopped,
+}
+
+/// What is measured of each peer, one after the other.
+#[derive(Clone, Copy)]
+pub struct Case {
+    pub kind: Kind,
+    pub sizes: Sizes,
+}
+
+impl Kind {
+    pub fn peers(self) -> Vec<Peer> {
+        match self {
+            Kind::Looks => vec![Peer::Elltree, Peer::Bare, Peer::RwLock, Peer::RwLocks],
+            _ => Peer::ALL.to_vec(),
+        }
+    }
+
+    /// The numbers of owners and readers.
+    fn crews(self) -> Vec<(u64, u64)> {
+        match self {
+            Kind::Operations => vec![(1, 0), (2, 0), (4, 0)],
+            Kind::Looks => [1, 2, 4].into_iter().flat_map(|readers| [0, 1, 3].map(|owners| (owners, readers))).collect(),
+            Kind::Running | Kind::Stopped => vec![(2, 1)],
+        }
+    }
+}
+
+fn cases() -> Vec<Case> {
+    let all = |keys| {
+        [Kind::Operations, Kind::Looks, Kind::Running, Kind::Stopped].into_iter().flat_map(move |kind| {
+            let sizes = kind.crews().into_iter().map(move |(owners, readers)| Sizes { keys, owners, readers });
+            sizes.map(move |sizes| Case { kind, sizes })
+        })
+    };
+    KEYS.into_iter().flat_map(all).collect()
+}
+
+fn shuffle<T>(items: &mut [T], random: &mut Random) {
+    for last in (1..items.len()).rev() {
+        items.swap(last, (random.next() >> 32) as usize % (last + 1));
+    }
+}
+
+/// The median, 99 % and worst of latencies, if there are any.
+fn spread(mut latencies: Vec<u64>, figures: [Figure; 3]) -> Vec<(Figure, f64)> {
+    latencies.sort_unstable();
+    let Some(&worst) = latencies.last() else {
+        return Vec::new();
+    };
+    let at = |percent| latencies[(latencies.len() - 1) * percent / 100] as f64;
+    figures.into_iter().zip([at(50), at(99), worst as f64]).collect()
+}
+
+fn measure(case: Case, peer: Peer, interval: Duration) -> Vec<(Figure, f64)> {
+    let Case { kind, sizes } = case;
+    match kind {
+        Kind::Operations => {
+            let took = speeds(peer, sizes, Work::Mixed, interval);
+            took.owners.map(|it| (Figure::Operation, it)).into_iter().collect()
+        }
+        Kind::Looks => {
+            let took = speeds(peer, sizes, Work::Changes, interval);
+            let look = took.readers.map(|it| (Figure::Look, it));
+            look.into_iter().chain(took.owners.map(|it| (Figure::Change, it))).collect()
+        }
+        Kind::Running | Kind::Stopped => {
+            let Latencies { owners, readers } = latencies(peer, sizes, kind == Kind::Stopped, LONGER * interval);
+            [spread(readers, Figure::OF_LOOKS), spread(owners, Figure::OF_OPERATIONS)].concat()
+        }
+    }
+}
+
+/// What the owners of a map answer to a fixed sequence of operations, in turn, and what its readers say of a key after each.
+fn answers(peer: Peer, sizes: Sizes) -> [Vec<Option<u64>>; 2] {
+    let Crew { mut owners, mut readers } = peer.crew(sizes);
+    let stripes: Vec<_> = sizes.stripes().collect();
+    let mut random = Random::new(1);
+    let [mut operations, mut looks] = [Vec::new(), Vec::new()];
+    for turn in 0..100_000 {
+        let at = turn % owners.len();
+        operations.push(Work::Mixed.act(&mut *owners[at], stripes[at], random.next()));
+        let key = sizes.all().random_key(random.next());
+        looks.extend(readers.iter_mut().map(|reader| reader.look(key)));
+    }
+    [operations, looks]
+}
+
+/// Whether all peers answer alike. Private maps have no readers.
+fn agree() -> bool {
+    KEYS.into_iter().all(|keys| {
+        let sizes = Sizes { keys, owners: 4, readers: 2 };
+        let expected = answers(Peer::Elltree, sizes);
+        Peer::ALL.into_iter().all(|peer| {
+            let [operations, looks] = answers(peer, sizes);
+            operations == expected[0] && (looks == expected[1] || peer == Peer::Private)
+        })
+    })
+}
+
+/// Measures every case in each round, the peers of a case in turn, in another order each time.
+fn measure_all(interval: Duration, rounds: usize) -> Record {
+    let mut record = Record::new(cases());
+    let mut random = Random::new(2);
+    for _ in 0..rounds {
+        for (at, case) in cases().into_iter().enumerate() {
+            let mut peers = case.kind.peers();
+            shuffle(&mut peers, &mut random);
+            for peer in peers {
+                record.add(at, peer, measure(case, peer, interval));
+            }
+        }
+    }
+    record
+}
+
+fn main() -> ExitCode {
+    let words: Vec<String> = env::args().skip(1).collect();
+    let [seconds, rounds, file] = words.as_slice() else {
+        eprintln!("hosts: give seconds, rounds and a file");
+        return ExitCode::from(2);
+    };
+    let interval = seconds.parse().ok().and_then(|it| Duration::try_from_secs_f64(it).ok());
+    let (Some(interval), Ok(rounds @ 1..)) = (interval, rounds.parse()) else {
+        eprintln!("hosts: not seconds and a number of rounds: {seconds} {rounds}");
+        return ExitCode::from(2);
+    };
+    if !agree() {
+        eprintln!("hosts: the answers differ");
+        return ExitCode::FAILURE;
+    }
+    expect_stops();
+    let record = measure_all(interval, rounds);
+    println!("{}\nThreads were stopped {} times.", record.tables(), stops());
+    match fs::write(file, record.rows()) {
+        Ok(()) => ExitCode::SUCCESS,
+        Err(why) => {
+            eprintln!("hosts: {file}: {why}");
+            ExitCode::FAILURE
+        }
+    }
+}

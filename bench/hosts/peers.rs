@@ -1,0 +1,304 @@
+//! The maps that are measured. Each is parted among owners, which find, insert and delete keys of their own, and readers of any key.
+
+use crate::bare_tree::BareTree;
+use elltree::{Handle, Tree, CARDS_MAX};
+use std::array;
+use std::collections::btree_map::{BTreeMap, Entry};
+use std::sync::{Arc, Mutex, RwLock};
+
+type Map = BTreeMap<u64, u64>;
+
+const SHARDS: usize = 16;
+
+/// How many tries a change has: enough that something is never in the way of all.
+const TRIES: u32 = 1_000_000;
+
+/// How many keys a map has, the numbers below this, and how many owners and readers.
+#[derive(Clone, Copy)]
+pub struct Sizes {
+    pub keys: u64,
+    pub owners: u64,
+    pub readers: u64,
+}
+
+/// The keys of one owner: its neighbours have the keys next to them.
+#[derive(Clone, Copy)]
+pub struct Stripe {
+    first: u64,
+    step: u64,
+    count: u64,
+}
+
+impl Stripe {
+    fn keys(self) -> impl Iterator<Item = u64> {
+        (0..self.count).map(move |index| self.key(index))
+    }
+
+    fn key(self, index: u64) -> u64 {
+        self.first + index * self.step
+    }
+
+    /// The key that a random number stands for, by its upper half.
+    pub fn random_key(self, random: u64) -> u64 {
+        self.key(((random >> 32) * self.count) >> 32)
+    }
+}
+
+impl Sizes {
+    /// All keys.
+    pub fn all(self) -> Stripe {
+        Stripe { first: 0, step: 1, count: self.keys }
+    }
+
+    /// The keys of each owner.
+    pub fn stripes(self) -> impl Iterator<Item = Stripe> {
+        let step = self.owners;
+        (0..step).map(move |first| Stripe { first, step, count: (self.keys - first).div_ceil(step) })
+    }
+
+    /// The keys that are present at first, ascending, with their values: every other one of each owner.
+    fn start(self) -> impl Iterator<Item = (u64, u64)> {
+        let owners = self.owners.max(1);
+        (0..self.keys).filter(move |key| key / owners % 2 == 0).map(|key| (key, key + 7))
+    }
+}
+
+/// What one thread has of a map: it alone finds and changes keys of its own, and it looks at any key. A key that is present keeps its
+/// value.
+pub trait View: Send {
+    fn find(&mut self, key: u64) -> Option<u64>;
+
+    fn look(&mut self, key: u64) -> Option<u64> {
+        self.find(key)
+    }
+
+    /// Whether the key was absent.
+    fn insert(&mut self, key: u64, value: u64) -> bool;
+    /// Whether the key was present.
+    fn delete(&mut self, key: u64) -> bool;
+}
+
+impl View for Handle {
+    fn find(&mut self, key: u64) -> Option<u64> {
+        Handle::find(self, key).unwrap()
+    }
+
+    fn look(&mut self, key: u64) -> Option<u64> {
+        Handle::look(self, key).unwrap()
+    }
+
+    fn insert(&mut self, key: u64, value: u64) -> bool {
+        Handle::insert(self, key, value, TRIES).unwrap()
+    }
+
+    fn delete(&mut self, key: u64) -> bool {
+        Handle::delete(self, key, TRIES).unwrap()
+    }
+}
+
+impl View for Arc<BareTree> {
+    fn find(&mut self, key: u64) -> Option<u64> {
+        BareTree::find(self, key)
+    }
+
+    fn look(&mut self, key: u64) -> Option<u64> {
+        BareTree::look(self, key)
+    }
+
+    fn insert(&mut self, key: u64, value: u64) -> bool {
+        BareTree::insert(self, key, value).unwrap()
+    }
+
+    fn delete(&mut self, key: u64) -> bool {
+        BareTree::delete(self, key).unwrap()
+    }
+}
+
+fn insert(map: &mut Map, key: u64, value: u64) -> bool {
+    let Entry::Vacant(place) = map.entry(key) else {
+        return false;
+    };
+    place.insert(value);
+    true
+}
+
+impl View for Map {
+    fn find(&mut self, key: u64) -> Option<u64> {
+        self.get(&key).copied()
+    }
+
+    fn insert(&mut self, key: u64, value: u64) -> bool {
+        insert(self, key, value)
+    }
+
+    fn delete(&mut self, key: u64) -> bool {
+        self.remove(&key).is_some()
+    }
+}
+
+/// A lock around a map.
+trait Lock: Send + Sync {
+    fn around(map: Map) -> Self;
+    fn read<T>(&self, act: impl FnOnce(&Map) -> T) -> T;
+    fn write<T>(&self, act: impl FnOnce(&mut Map) -> T) -> T;
+}
+
+impl Lock for Mutex<Map> {
+    fn around(map: Map) -> Self {
+        Mutex::new(map)
+    }
+
+    fn read<T>(&self, act: impl FnOnce(&Map) -> T) -> T {
+        act(&self.lock().unwrap())
+    }
+
+    fn write<T>(&self, act: impl FnOnce(&mut Map) -> T) -> T {
+        act(&mut self.lock().unwrap())
+    }
+}
+
+impl Lock for RwLock<Map> {
+    fn around(map: Map) -> Self {
+        RwLock::new(map)
+    }
+
+    fn read<T>(&self, act: impl FnOnce(&Map) -> T) -> T {
+        act(&RwLock::read(self).unwrap())
+    }
+
+    fn write<T>(&self, act: impl FnOnce(&mut Map) -> T) -> T {
+        act(&mut RwLock::write(self).unwrap())
+    }
+}
+
+/// A part of a map with its lock, away from the words of the others.
+#[repr(align(128))]
+struct Shard<L>(L);
+
+/// A map in so many parts, each behind a lock of its own.
+struct Shards<L, const COUNT: usize>([Shard<L>; COUNT]);
+
+fn shard_of<const COUNT: usize>(key: u64) -> usize {
+    (key.wrapping_mul(0x9E37_79B9_7F4A_7C15) >> 32) as usize % COUNT
+}
+
+impl<L: Lock, const COUNT: usize> Shards<L, COUNT> {
+    fn start(sizes: Sizes) -> Self {
+        let part = |at| sizes.start().filter(|pair| shard_of::<COUNT>(pair.0) == at).collect();
+        Shards(array::from_fn(|at| Shard(L::around(part(at)))))
+    }
+
+    fn shard(&self, key: u64) -> &L {
+        &self.0[shard_of::<COUNT>(key)].0
+    }
+}
+
+impl<L: Lock, const COUNT: usize> View for Arc<Shards<L, COUNT>> {
+    fn find(&mut self, key: u64) -> Option<u64> {
+        self.shard(key).read(|map| map.get(&key).copied())
+    }
+
+    fn insert(&mut self, key: u64, value: u64) -> bool {
+        self.shard(key).write(|map| insert(map, key, value))
+    }
+
+    fn delete(&mut self, key: u64) -> bool {
+        self.shard(key).write(|map| map.remove(&key).is_some())
+    }
+}
+
+/// The owners of a map, in the order of their stripes, and its readers: one for each thread.
+pub struct Crew {
+    pub owners: Vec<Box<dyn View>>,
+    pub readers: Vec<Box<dyn View>>,
+}
+
+fn boxed<V: View + 'static>(views: impl IntoIterator<Item = V>) -> Vec<Box<dyn View>> {
+    views.into_iter().map(|it| Box::new(it) as Box<dyn View>).collect()
+}
+
+impl Crew {
+    /// The handles of a tree. Those of the readers own no key.
+    fn of_handles(sizes: Sizes) -> elltree::Result<Crew> {
+        let keys: Vec<u64> = sizes.all().keys().collect();
+        let mut tree = Tree::open(&keys, &sizes.start().collect::<Vec<_>>(), CARDS_MAX)?;
+        let mut handle = |keys: Vec<u64>| tree.handle(&keys);
+        let owners = sizes.stripes().map(|stripe| handle(stripe.keys().collect())).collect::<elltree::Result<Vec<_>>>()?;
+        let readers = (0..sizes.readers).map(|_| handle(Vec::new())).collect::<elltree::Result<Vec<_>>>()?;
+        Ok(Crew { owners: boxed(owners), readers: boxed(readers) })
+    }
+
+    /// The tree over bare atomic words. All its memory is there before it is used, as elltree's is.
+    fn of_bare_tree(sizes: Sizes) -> Crew {
+        let tree = BareTree::reserve(&sizes.start().collect::<Vec<_>>(), CARDS_MAX);
+        tree.take_memory();
+        Crew::sharing(Arc::new(tree), sizes)
+    }
+
+    fn of_locks<L: Lock + 'static, const COUNT: usize>(sizes: Sizes) -> Crew {
+        Crew::sharing(Arc::new(Shards::<L, COUNT>::start(sizes)), sizes)
+    }
+
+    fn sharing<V: View + Clone + 'static>(map: V, sizes: Sizes) -> Crew {
+        let views = |count| boxed((0..count).map(|_| map.clone()));
+        Crew { owners: views(sizes.owners), readers: views(sizes.readers) }
+    }
+
+    /// A map for each owner, and none for a reader.
+    fn of_private_maps(sizes: Sizes) -> Crew {
+        let own = |first| sizes.start().filter(move |pair| pair.0 % sizes.owners == first);
+        let owners = (0..sizes.owners).map(|first| own(first).collect::<Map>());
+        Crew { owners: boxed(owners), readers: Vec::new() }
+    }
+}
+
+/// What is measured.
+#[derive(Clone, Copy, PartialEq)]
+pub enum Peer {
+    Elltree,
+    Bare,
+    Mutex,
+    RwLock,
+    Mutexes,
+    RwLocks,
+    Private,
+}
+
+impl Peer {
+    pub const ALL: [Peer; 7] =
+        [Peer::Elltree, Peer::Bare, Peer::Mutex, Peer::RwLock, Peer::Mutexes, Peer::RwLocks, Peer::Private];
+
+    pub fn name(self) -> &'static str {
+        match self {
+            Peer::Elltree => "elltree",
+            Peer::Bare => "bare atomics",
+            Peer::Mutex => "Mutex",
+            Peer::RwLock => "RwLock",
+            Peer::Mutexes => "16 Mutex",
+            Peer::RwLocks => "16 RwLock",
+            Peer::Private => "private maps",
+        }
+    }
+
+    /// How many changes may be asked of a map in all: half of them change it, and take a card each if there are cards. The other cards
+    /// are for tries that fail.
+    pub fn most_changes(self) -> u64 {
+        match self {
+            Peer::Elltree | Peer::Bare => 1_400_000,
+            _ => u64::MAX / 2,
+        }
+    }
+
+    /// A new map of this kind, parted.
+    pub fn crew(self, sizes: Sizes) -> Crew {
+        match self {
+            Peer::Elltree => Crew::of_handles(sizes).expect("a tree"),
+            Peer::Bare => Crew::of_bare_tree(sizes),
+            Peer::Mutex => Crew::of_locks::<Mutex<Map>, 1>(sizes),
+            Peer::RwLock => Crew::of_locks::<RwLock<Map>, 1>(sizes),
+            Peer::Mutexes => Crew::of_locks::<Mutex<Map>, SHARDS>(sizes),
+            Peer::RwLocks => Crew::of_locks::<RwLock<Map>, SHARDS>(sizes),
+            Peer::Private => Crew::of_private_maps(sizes),
+        }
+    }
+}

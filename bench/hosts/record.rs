@@ -1,0 +1,161 @@
+//! What was measured, as tables in Markdown and as rows of a file.
+
+use crate::peers::Peer;
+use crate::{Case, Kind};
+use std::collections::BTreeMap;
+use std::fmt::Write;
+
+/// What a number of nanoseconds says.
+#[derive(Clone, Copy, PartialEq, Eq, PartialOrd, Ord)]
+pub enum Figure {
+    Operation,
+    Look,
+    Change,
+    LookMedian,
+    Look99,
+    LookWorst,
+    OperationMedian,
+    Operation99,
+    OperationWorst,
+}
+
+impl Figure {
+    pub const OF_LOOKS: [Figure; 3] = [Figure::LookMedian, Figure::Look99, Figure::LookWorst];
+    pub const OF_OPERATIONS: [Figure; 3] = [Figure::OperationMedian, Figure::Operation99, Figure::OperationWorst];
+
+    fn name(self) -> &'static str {
+        match self {
+            Figure::Operation => "operation",
+            Figure::Look => "look",
+            Figure::Change => "change",
+            Figure::LookMedian => "look: median",
+            Figure::Look99 => "look: 99 %",
+            Figure::LookWorst => "look: worst",
+            Figure::OperationMedian => "operation: median",
+            Figure::Operation99 => "operation: 99 %",
+            Figure::OperationWorst => "operation: worst",
+        }
+    }
+}
+
+/// A time as a reader wants it.
+fn shown(nanoseconds: f64) -> String {
+    match nanoseconds {
+        it if it >= 1e6 => format!("{:.1} ms", it / 1e6),
+        it if it >= 1e4 => format!("{:.0} µs", it / 1e3),
+        it => format!("{it:.0} ns"),
+    }
+}
+
+/// A number of keys as a reader wants it.
+fn counted(keys: u64) -> String {
+    match keys {
+        1_000.. => format!("{},{:03}", keys / 1_000, keys % 1_000),
+        _ => keys.to_string(),
+    }
+}
+
+/// The least and the median, or of two in the middle the greater.
+fn least_and_median(rounds: &[f64]) -> (f64, f64) {
+    let mut sorted = rounds.to_vec();
+    sorted.sort_by(f64::total_cmp);
+    (sorted[0], sorted[sorted.len() / 2])
+}
+
+/// The times of all rounds, of each case by its place, of each peer by its name.
+pub struct Record {
+    cases: Vec<Case>,
+    times: BTreeMap<(usize, Figure, &'static str), Vec<f64>>,
+}
+
+impl Record {
+    /// A record of these cases.
+    pub fn new(cases: Vec<Case>) -> Record {
+        Record { cases, times: BTreeMap::new() }
+    }
+
+    /// Adds what a round has of a peer in the case at a place.
+    pub fn add(&mut self, at: usize, peer: Peer, figures: Vec<(Figure, f64)>) {
+        for (figure, time) in figures {
+            self.times.entry((at, figure, peer.name())).or_default().push(time);
+        }
+    }
+
+    /// One row for each figure of each peer in each case.
+    pub fn rows(&self) -> String {
+        let mut rows = String::from("kind,keys,owners,readers,peer,figure,least,median,rounds\n");
+        for ((at, figure, peer), rounds) in &self.times {
+            let Case { kind, sizes } = self.cases[*at];
+            let kind = match kind {
+                Kind::Operations => "operations",
+                Kind::Looks => "looks",
+                Kind::Running => "running",
+                Kind::Stopped => "stopped",
+            };
+            let (least, median) = least_and_median(rounds);
+            let all = rounds.iter().map(|it| format!("{it:.0}")).collect::<Vec<_>>().join(" ");
+            let _ = writeln!(
+                rows,
+                "{kind},{},{},{},{peer},{},{least:.0},{median:.0},{all}",
+                sizes.keys,
+                sizes.owners,
+                sizes.readers,
+                figure.name()
+            );
+        }
+        rows
+    }
+
+    /// What a table shows of a peer: the median of the rounds and the least if there is one figure, else the medians.
+    fn cell(&self, at: usize, peer: Peer, figures: &[Figure]) -> Option<String> {
+        let times = figures.iter().map(|figure| self.times.get(&(at, *figure, peer.name())));
+        let times: Vec<(f64, f64)> = times.map(|it| it.map(|it| least_and_median(it))).collect::<Option<_>>()?;
+        Some(match times[..] {
+            [(least, median)] => format!("{} ({})", shown(median), shown(least)),
+            _ => times.iter().map(|it| shown(it.1)).collect::<Vec<_>>().join(", "),
+        })
+    }
+
+    /// The table of these kinds and figures.
+    fn table(&self, title: &str, kinds: &[Kind], figures: &[Figure]) -> String {
+        let peers = kinds[0].peers();
+        let names: Vec<&str> = peers.iter().map(|peer| peer.name()).collect();
+        let rule = "--:|".repeat(names.len());
+        let mut table = format!("\n{title}\n\n| keys | owners | readers | {} |\n|--:|--:|--:|{rule}\n", names.join(" | "));
+        for (at, case) in self.cases.iter().enumerate().filter(|(_, case)| kinds.contains(&case.kind)) {
+            let cells: Vec<_> = peers.iter().map(|peer| self.cell(at, *peer, figures)).collect();
+            if cells.iter().all(Option::is_none) {
+                continue;
+            }
+            let stop = if case.kind == Kind::Stopped { ", one stopped" } else { "" };
+            let cells: Vec<String> = cells.into_iter().map(|it| it.unwrap_or("–".into())).collect();
+            let sizes = case.sizes;
+            let _ = writeln!(
+                table,
+                "| {} | {}{stop} | {} | {} |",
+                counted(sizes.keys),
+                sizes.owners,
+                sizes.readers,
+                cells.join(" | ")
+            );
+        }
+        table
+    }
+
+    /// All tables.
+    pub fn tables(&self) -> String {
+        let latencies = [Kind::Running, Kind::Stopped];
+        [
+            self.table("An operation of an owner: median of the rounds, and least", &[Kind::Operations], &[Figure::Operation]),
+            self.table("A look at any key: median of the rounds, and least", &[Kind::Looks], &[Figure::Look]),
+            self.table(
+                "A change by an owner beside these readers: median of the rounds, and least",
+                &[Kind::Looks],
+                &[Figure::Change],
+            ),
+            self.table("Latency of a look: median, 99 %, worst", &latencies, &Figure::OF_LOOKS),
+            self.table("Latency of another owner's operation: median, 99 %, worst", &latencies, &Figure::OF_OPERATIONS),
+        ]
+        .concat()
+    }
+}
