@@ -2,7 +2,7 @@ use Rattle.std.proofs.Common.{◌++◌, Option, Some, [], refl, sym, ap, subst, 
 use Rattle.ell_ops.specs.declared.op.Op.{Op}
 use Rattle.ell_cards.specs.declared.view.View.{View}
 use Rattle.ell_cards.specs.Models.{PassModel, Steps, Does, latest}
-use Rattle.ell_cards.specs.Changes.{after_begin, after_again, after_leave, in_the_way}
+use Rattle.ell_cards.specs.Changes.{after_begin, after_again, after_leave, in_the_way, tries_hindered}
 use Rattle.ell_tree.specs.Hindrances.{way_of}
 use Rattle.ell_tree.specs.Tries.{Begins, Lays}
 
@@ -25,6 +25,7 @@ begins old new op s = subst (λ (m : PassModel). Begins op [] old m) (sym s) (re
 abbrev anew : Option Op → View → View
 anew o v = record (after_begin o v) {
   hindrances = in_the_way o v.worker.search.node v.worker.search.parent v.worker.search.grandparent ++ v.hindrances;
+  hindered = tries_hindered v;
 }
 
 pub begins_anew : (old new : PassModel) (op : Op) → Steps old new (after_again old.view) → Does old.view op → Begins op (way_of op old.view) old new

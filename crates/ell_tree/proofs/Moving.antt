@@ -7,9 +7,9 @@ use Rattle.ell_core.specs.declared.fact.Fact.{Fact}
 use Rattle.ell_core.specs.declared.fact.Fact.TheVariants as fact
 use Rattle.ell_core.specs.state.Facts.{known_of, same_fact}
 use Rattle.ell_cards.specs.declared.view.View.{View}
-use Rattle.ell_cards.specs.Models.{EndedBy, EndWasUnknown, Knows}
+use Rattle.ell_cards.specs.Models.{EndedBy, EndWasUnknown, Knows, knows_end}
 use Rattle.ell_tree.specs.Hindrances.{IsEnded}
-use Rattle.ell_tree.specs.Moves.{GivesOut, SeesMove, knows_end, ends_known, moves_known}
+use Rattle.ell_tree.specs.Moves.{GivesOut, SeesMove, ends_known, moves_known}
 
 -- that a card has ended, as a test of the facts
 ended_test : (facts : List Fact) (c : ℕ) → EndedBy facts c → knows_end facts c ≡ true
