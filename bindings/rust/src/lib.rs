@@ -4,6 +4,18 @@
 //! owns, and it never waits for another. Every handle, and every [`Reader`], looks at any key.
 //!
 //! ```
+//! let mut tree = elltree::Tree::open(&[1, 2, 3, 4], &[(2, 20)], 1_000)?; // keys, pairs to start with, cards
+//! let mut low = tree.handle(&[1, 2])?; // owns 1 and 2
+//! let mut high = tree.handle(&[3, 4])?; // may go to another thread
+//! high.insert(3, 30, 1_000)?; // in at most 1,000 tries
+//! assert_eq!(low.look(3)?, Some(30)); // any handle looks up any key
+//! assert_eq!(low.insert(3, 31, 1_000), Err(elltree::Refused::Foreign)); // only the owner changes it
+//! # Ok::<(), elltree::Refused>(())
+//! ```
+//!
+//! With threads, and a reader that owns no key:
+//!
+//! ```
 //! let mut tree = elltree::Tree::open(&[1, 2, 3, 4], &[(2, 20)], 1_000)?;
 //! let mut low = tree.handle(&[1, 2])?;
 //! let mut high = tree.handle(&[3, 4])?;
