@@ -30,11 +30,23 @@ pub mod Met
 pub mod Won
 -- how often, by the cards' stages and the claim word
 pub mod Counts
+-- cards in hands were claimed by their passes
+pub mod Hands
+-- cards that nobody has in hand any more do not end
+pub mod Abandoned
+-- how many numbers have what, and how many hands a card
+pub mod HowMany
+-- what others did while a pass tried
+pub mod Contended
 -- exchanges that can't be told otherwise than they went
 pub mod Outcomes
+-- what a pass with a card in hand has read is not in its way
+pub mod InHand
 -- what has hindered a pass since its search began
 pub mod Hindered
 -- what comes to its end while a search goes on
 pub mod Meanwhile
+-- how many tries of a pass others hindered
+pub mod Tries
 -- what no step can tell
 pub mod Tellings

@@ -1,4 +1,4 @@
-use Rattle.std.specs.Prelude.{ℕ, ◌+◌, ◌==◌, ◌++◌, if◌then◌else◌, Bool, true, false, Option, Some, None, List, [], ◌∷◌, unwrap_or, nat_lt, max, Result, Ok, Err}
+use Rattle.std.specs.Prelude.{ℕ, ◌+◌, ◌==◌, ◌++◌, ◌&&◌, if◌then◌else◌, Bool, true, false, Option, Some, None, List, [], ◌∷◌, unwrap_or, nat_lt, max, Result, Ok, Err}
 use Rattle.ell_ops.specs.KeySet.{set_of}
 use Rattle.ell_ops.specs.declared.op.Op.{Op}
 use Rattle.ell_ops.specs.declared.op.Op.TheVariants.{Insert, Delete}
@@ -25,6 +25,7 @@ use Rattle.ell_cards.specs.declared.view.Hindrance.{Hindrance}
 use Rattle.ell_cards.specs.declared.view.Hindrance.TheVariants.{Claim, Found}
 use Rattle.ell_cards.specs.declared.view.Looking.{Looking}
 use Rattle.ell_cards.specs.declared.view.View.{View}
+use Rattle.ell_cards.specs.Models.{knows_end}
 use Rattle.ell_core.specs.declared.view.Entry.{Entry}
 use Rattle.ell_core.specs.declared.view.Entry.TheVariants.{Present, Absent}
 use Rattle.ell_ops.specs.declared.reply.Reply.{Reply}
@@ -66,9 +67,41 @@ in_the_way (Some (Insert k value)) (Some x) parent above = read_in_way parent
 in_the_way (Some (Delete k)) (Some x) parent above = first_in_way (read_in_way above) (read_in_way parent)
 in_the_way _ _ parent above = []
 
+-- what the search of a pass has read in the way, where it stands
+abbrev pub way_now : View → List Hindrance
+way_now v = in_the_way v.worker.operation v.worker.search.node v.worker.search.parent v.worker.search.grandparent
+
 -- what was in the way, once a try is given up
 abbrev pub given_up : View → List Hindrance
-given_up v = in_the_way v.worker.operation v.worker.search.node v.worker.search.parent v.worker.search.grandparent ++ v.hindrances
+given_up v = way_now v ++ v.hindrances
+
+-- what was in the way of that try
+abbrev pub met_in_try : View → List Hindrance
+met_in_try v = way_now v ++ v.met
+
+-- whether what an update says was under way is over: a clean one says nothing, and of any other facts tell the end of its card
+abbrev pub update_over : List Fact → State → ℕ → Bool
+update_over facts state.Clean c = true
+update_over facts s c = knows_end facts c
+
+-- whether what was in the way is over, by facts: a lost claim always is
+abbrev pub is_over : List Fact → Hindrance → Bool
+is_over facts (Claim c) = true
+is_over facts (Found u) = update_over facts u.state u.card
+
+-- whether all of these are
+abbrev pub all_over : List Fact → List Hindrance → Bool
+all_over facts [] = true
+all_over facts (h ∷ hs) = is_over facts h && all_over facts hs
+
+-- whether something was in the way, and all of it is over
+abbrev pub was_hindered : List Fact → List Hindrance → Bool
+was_hindered facts [] = false
+was_hindered facts (h ∷ hs) = all_over facts (h ∷ hs)
+
+-- how many tries something hindered that was over by then, once a try is given up
+abbrev pub tries_hindered : View → ℕ
+tries_hindered v = v.hindered + (if was_hindered v.worker.facts (met_in_try v) then 1 else 0)
 
 -- the pass has found an update at a node
 abbrev pub finding : ℕ → Update → View → View
@@ -128,13 +161,15 @@ after_begin op v = record v {
   planned = [];
   stores = [];
   knew_before = v.worker.facts;
+  met = [];
 }
 
--- again: the operation in hand begins once more, and what its search read in the way was a hindrance
+-- again: the operation in hand begins once more, and what its search read in the way was a hindrance; the try before is counted, if
+-- something hindered it that is over
 abbrev pub after_again : View → View
-after_again v = record (after_begin v.worker.operation v) { hindrances = given_up v }
+after_again v = record (after_begin v.worker.operation v) { hindrances = given_up v; hindered = tries_hindered v }
 
--- leave: nothing is in hand any more, and what the search read in the way was a hindrance
+-- leave: nothing is in hand any more, and the last try is given up as by again
 abbrev pub after_leave : View → View
 after_leave v = record v {
   worker = idle_worker v.worker.ledger v.worker.facts;
@@ -142,6 +177,8 @@ after_leave v = record v {
   planned = [];
   stores = [];
   hindrances = given_up v;
+  met = [];
+  hindered = tries_hindered v;
 }
 
 -- the ledger where a key's entry is this one now
@@ -163,6 +200,7 @@ after_answer said v = record v {
   planned = [];
   stores = [];
   answers = v.answers + 1;
+  met = [];
 }
 
 -- upd: this update was read at the node where the pass stands
@@ -280,7 +318,7 @@ after_claim true c v = record v {
   won = (kind.Claim, c) ∷ v.won;
   next_at_least = c + 1;
 }
-after_claim false c v = record v { next_at_least = c + 1; hindrances = Claim c ∷ v.hindrances }
+after_claim false c v = record v { next_at_least = c + 1; hindrances = Claim c ∷ v.hindrances; met = Claim c ∷ v.met }
 
 -- fill: a word of the card in hand was stored
 abbrev pub after_fill : Field → ℕ → View → View
@@ -310,6 +348,7 @@ after_flag false new x u v = record v {
   told = places_by x u.state u.card v.told;
   here = None;
   hindrances = Found u ∷ v.hindrances;
+  met = Found u ∷ v.met;
 }
 
 -- whether an update is the mark of a card
@@ -328,6 +367,7 @@ unmarking c x u v = record v {
   worker = record (v.worker) { facts = facts_by u.state u.card (fact.Unmarkable c ∷ v.worker.facts) };
   told = places_by x u.state u.card v.told;
   hindrances = if is_held v.worker.card c then Found u ∷ v.hindrances else v.hindrances;
+  met = if is_held v.worker.card c then Found u ∷ v.met else v.met;
 }
 
 -- mark: the mark stands, set by this pass or found there; or another update was found
@@ -355,6 +395,8 @@ idle_view ledger = record {
   knew_before = [];
   next_at_least = 0;
   hindrances = [];
+  met = [];
+  hindered = 0;
   looking = None;
   looks = 0;
 }
@@ -386,6 +428,7 @@ part_view ledger v = record v {
   planned = [];
   stores = [];
   found = None;
+  met = [];
   looking = None;
 }
 
@@ -395,7 +438,7 @@ left_view keys v = part_view (part_on keys v.worker.ledger) v
 
 -- split, the right part: it gets the other keys
 abbrev pub right_view : List ℕ → View → View
-right_view keys v = record (part_view (part_off keys v.worker.ledger) v) { won = []; answers = 0; hindrances = []; looks = 0 }
+right_view keys v = record (part_view (part_off keys v.worker.ledger) v) { won = []; answers = 0; hindrances = []; hindered = 0; looks = 0 }
 
 -- an entry put into an ascending ledger at its place, or in place of that of its key
 abbrev pub put_entry : ℕ × Entry → List (ℕ × Entry) → List (ℕ × Entry)
@@ -428,6 +471,8 @@ joined_view v w = record {
   knew_before = [];
   next_at_least = max v.next_at_least w.next_at_least;
   hindrances = v.hindrances ++ w.hindrances;
+  met = [];
+  hindered = v.hindered + w.hindered;
   looking = None;
   looks = v.looks + w.looks;
 }

@@ -22,6 +22,8 @@ pub mod OwnWords
 pub mod Readings
 -- what comes to its end while a search goes on
 pub mod Meanwhile
+-- how many tries of a pass others may hinder
+pub mod Contention
 -- what a look for any key finds, and when it was so
 pub mod Looking
 -- what no step can tell

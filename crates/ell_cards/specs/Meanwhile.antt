@@ -14,11 +14,11 @@ use Rattle.ell_cards.specs.declared.view.Hindrance.{Hindrance}
 use Rattle.ell_cards.specs.declared.view.Hindrance.TheVariants.{Claim, Found}
 use Rattle.ell_cards.specs.declared.view.View.{View}
 use Rattle.ell_cards.specs.Models.{EndedBy}
+use Rattle.ell_cards.specs.Changes.{way_now}
 use Rattle.ell_cards.specs.States.{TableState}
 use Rattle.ell_cards.specs.Turns.{Turn, Makes, Splits, Joins, CallIsMade, TableRun}
 use Rattle.ell_cards.specs.TurnEffects.{own_words, run_wins}
 use Rattle.ell_cards.specs.Starts.{Starts}
-use Rattle.ell_cards.specs.Readings.{AreBelow}
 
 -- whether a win ends what its card was for: it takes the card's flag away
 abbrev pub is_end : Kind → Bool
@@ -51,6 +51,7 @@ pub record BeginsHere (s : TableState) (seat : ℕ) : Type 0 where
   pub root : view.worker.search ≡ at_root
   pub no_card : view.worker.card ≡ None
   pub unread : view.next ≡ None
+  pub unmet : view.met ≡ []
 
 -- a step call that begins a search
 abbrev pub IsBeginning : Call → Type 0
@@ -102,24 +103,34 @@ pub record ReadsMeanwhile (keys : List ℕ) (start : List (ℕ × ℕ)) (cards :
   pub parent : (seen : Seen) → r.view.worker.search.parent ≡ Some seen → WordEndsMeanwhile keys start cards r seen.word
   pub grandparent : (seen : Seen) → r.view.worker.search.grandparent ≡ Some seen → WordEndsMeanwhile keys start cards r seen.word
 
--- what was in the way is of this time: a claim was lost of a card that was given out since; or an update was found whose card had not
--- ended when the search began, and that has since, where the update is a clean one, or the pass knows now that it has
+-- what was in the way is of this time: a claim was lost of a card that was given out since; or an update was found of a card that is given
+-- out by now, had not ended when the search began, and has since, where the update is a clean one, or the pass knows now that it has
 abbrev pub IsMeanwhile : (keys : List ℕ) (start : List (ℕ × ℕ)) (cards : ℕ) → SearchRun keys start cards → Hindrance → Type 0
 IsMeanwhile keys start cards r (Claim c) = ((own_words r.begun).next ≤ c) × (c < (own_words r.now).next)
 IsMeanwhile keys start cards r (Found u) =
-    EndsMeanwhile keys start cards r u.card × (u.state ≡ state.Clean → ended_since keys start cards r u.card ≡ true)
+    EndsMeanwhile keys start cards r u.card × (u.state ≡ state.Clean → ended_since keys start cards r u.card ≡ true) × (u.card < (own_words r.now).next)
 
 abbrev pub AreMeanwhile : (keys : List ℕ) (start : List (ℕ × ℕ)) (cards : ℕ) → SearchRun keys start cards → List Hindrance → Type 0
 AreMeanwhile keys start cards r [] = Unit {0}
 AreMeanwhile keys start cards r (h ∷ hs) = IsMeanwhile keys start cards r h × AreMeanwhile keys start cards r hs
 
+-- each of these is of another card than this: a lost claim of an earlier one
+abbrev pub AreOfOthers : ℕ → List Hindrance → Type 0
+AreOfOthers c [] = Unit {0}
+AreOfOthers c (Claim d ∷ hs) = (d < c) × AreOfOthers c hs
+AreOfOthers c (Found u ∷ hs) = (u.card ≢ c) × AreOfOthers c hs
+
 -- so is all that came to be in the way since that search began, in as many tries as there were: what a lost claim, flag or mark has
--- found, and what the search of a try that was given up had read where it was to act. No lost claim is of the card in hand, or of a later one
+-- found, and what the search of a try that was given up had read where it was to act. What the try in hand met is the last of it. While
+-- a card is in hand, none of it is of that card, and what the search has read is not in the way
 pub record MetMeanwhile (keys : List ℕ) (start : List (ℕ × ℕ)) (cards : ℕ) (r : SearchRun keys start cards) : Type 0 where
   pub met : List Hindrance
   pub list : r.view.hindrances ≡ met ++ r.begins.view.hindrances
+  pub earlier : List Hindrance
+  pub tries : met ≡ r.view.met ++ earlier
   pub each : AreMeanwhile keys start cards r met
-  pub own : (c : ℕ) → r.view.worker.card ≡ Some c → AreBelow c met
+  pub own : (c : ℕ) → r.view.worker.card ≡ Some c → AreOfOthers c met
+  pub free : (c : ℕ) → r.view.worker.card ≡ Some c → way_now r.view ≡ []
 
 -- what a search has read since it began, in every run
 abbrev pub SearchesReadMeanwhile : Type 0

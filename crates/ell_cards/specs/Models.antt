@@ -1,4 +1,4 @@
-use Rattle.std.specs.Prelude.{◌≡◌, ◌≢◌, ℕ, ◌⊎◌, ◌+◌, ◌<◌, ◌≤◌, ◌*◌, ◌==◌, if◌then◌else◌, true, Some, None, List, [], ◌∷◌, min}
+use Rattle.std.specs.Prelude.{◌≡◌, ◌≢◌, ℕ, ◌⊎◌, ◌+◌, ◌<◌, ◌≤◌, ◌*◌, ◌==◌, ◌||◌, if◌then◌else◌, Bool, true, Some, None, List, [], ◌∷◌, min}
 use Rattle.atomic_table.specs.Seated.{TableId}
 use Rattle.ell_ops.specs.declared.op.Op.{Op}
 use Rattle.ell_word.specs.Node.{most_cards}
@@ -65,6 +65,10 @@ KnewBefore v fact = known_of v.knew_before fact ≡ true
 -- by these facts what a card was for has come to its end: the flag of its insert or delete was taken away
 abbrev pub EndedBy : List Fact → ℕ → Type 0
 EndedBy facts c = (known_of facts (IOver c) ≡ true) ⊎ ((known_of facts (DOver c) ≡ true) ⊎ (known_of facts (Backed c) ≡ true))
+
+-- whether facts tell that
+abbrev pub knows_end : List Fact → ℕ → Bool
+knows_end facts c = known_of facts (IOver c) || (known_of facts (DOver c) || known_of facts (Backed c))
 
 -- an update that is not clean is of a card beside card 0, whose end the pass did not know when its search began
 abbrev pub EndWasUnknown : View → State → ℕ → Type 0

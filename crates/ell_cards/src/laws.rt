@@ -7,6 +7,7 @@
 ghost use Rattle.ell_cards.specs.OwnWords.{OwnWordsAreSound, StepsStayInside, TablePairsChangeAtWins, TableChangesAreOperations, TableAnswersAreTheMaps, LedgersTellTheTree, TreeKeysAreOwned, TableNodesGoOn};
 ghost use Rattle.ell_cards.specs.Starts.{TablesStart, StartsHaveTheirKeys, FirstPassMayBegin, RunsFromStarts};
 ghost use Rattle.ell_cards.specs.Readings.{ReadingsArePast, ClaimsAreTold};
+ghost use Rattle.ell_cards.specs.Contention.{TriesAreHinderedByOthers};
 ghost use Rattle.ell_cards.specs.Meanwhile.{SearchesBeginThere, SearchesReadMeanwhile, SearchesMeetMeanwhile, KnownMovesWereMade};
 ghost use Rattle.ell_cards.specs.Looking.{LooksAreOfOneState, LooksAreInOrder, LooksReadTheirOwn};
 ghost use Rattle.ell_cards.specs.Tellings.{NoGreaterNext, NoGreaterUpdate, NoOtherOutcome, NoUntriedClaimLost};
@@ -104,16 +105,19 @@ pub fn readings_are_past()
 {}
 
 /// In every run from a start, from where a pass begins a search on, as long as it takes no other operation in hand, whatever turns of
-/// whatever passes come between: each flag and mark that its search has read and has with it, and each that was in its way in any of its tries, is of a card
-/// that had not come to its end at that beginning; once the pass knows that it has, it did so meanwhile. A card whose claim was lost was
-/// given out meanwhile, and a clean word that a lost flag or mark found is of a card that ended meanwhile. A search begins after each
-/// begin and each again. And what a pass knows of moves was made: the cards that its claims have shown to be given out are, and each
-/// card that it knows to have come to its end did so in the run.
+/// whatever passes come between: each flag and mark that its search has read and has with it, and each that was in its way in any of its
+/// tries, is of a card that had not come to its end at that beginning; once the pass knows that it has, it did so meanwhile. A card whose
+/// claim was lost was given out meanwhile, and a clean word that a lost flag or mark found is of a card that ended meanwhile. While the
+/// pass has a card in hand, nothing that was in its way is of that card. A search begins after each begin and each again. What a pass
+/// knows of moves was made: the cards that its claims have shown to be given out are, and each card that it knows to have come to its
+/// end did so in the run. And of its tries at one operation others can hinder two for each card that is given out to them meanwhile, and
+/// one for each card that was in a hand at the beginning.
 pub fn searches_read_meanwhile()
     ensures begin { SearchesBeginThere }
     ensures reads { SearchesReadMeanwhile }
     ensures meets { SearchesMeetMeanwhile }
     ensures moved { KnownMovesWereMade }
+    ensures few { TriesAreHinderedByOthers }
 {}
 
 /// What a pass finds by a look for any key, whoever owns it, was so in one state of the table since the look began, by the table's own

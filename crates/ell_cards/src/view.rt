@@ -63,6 +63,10 @@ pub struct View {
     pub next_at_least: u64,
     /// What was in its way, the last first.
     pub hindrances: LinkedList<Hindrance>,
+    /// What was in the way of the try in hand, the last first.
+    pub met: LinkedList<Hindrance>,
+    /// How many tries it gave up that something hindered which was over by then.
+    pub hindered: u64,
     /// The look that it began last, until an operation begins, or the pass is split or joined.
     pub looking: Option<Looking>,
     /// How many looks it began.

@@ -10,6 +10,8 @@ pub record OnlyLooks (old new : PassModel) (n : ℕ) : Type 0 where
   pub worker : new.view.worker ≡ old.view.worker
   pub answers : new.view.answers ≡ old.view.answers
   pub hindrances : new.view.hindrances ≡ old.view.hindrances
+  pub met : new.view.met ≡ old.view.met
+  pub hindered : new.view.hindered ≡ old.view.hindered
   pub next : new.view.next ≡ old.view.next
   pub knew_before : new.view.knew_before ≡ old.view.knew_before
   pub next_at_least : new.view.next_at_least ≡ old.view.next_at_least

@@ -1,9 +1,7 @@
-use Rattle.std.specs.Prelude.{ℕ, zero, suc, ◌+◌, ◌-◌, ◌<◌, ◌≤◌, ◌⊎◌, ◌||◌, if◌then◌else◌, Bool, List}
+use Rattle.std.specs.Prelude.{ℕ, zero, suc, ◌+◌, ◌-◌, ◌<◌, ◌≤◌, ◌⊎◌, if◌then◌else◌, List}
 use Rattle.ell_core.specs.declared.fact.Fact.{Fact}
-use Rattle.ell_core.specs.declared.fact.Fact.TheVariants.{IOver, DOver, Backed}
-use Rattle.ell_core.specs.state.Facts.{known_of}
 use Rattle.ell_cards.specs.declared.view.View.{View}
-use Rattle.ell_cards.specs.Models.{EndedBy}
+use Rattle.ell_cards.specs.Models.{EndedBy, knows_end}
 
 -- a pass saw a card given out, to itself or to another: it did not know so at the first view, and does at the second
 pub record GivesOut (cards : ℕ) (v w : View) : Type 0 where
@@ -26,11 +24,7 @@ pub record SeesEnd (cards : ℕ) (v w : View) : Type 0 where
 abbrev pub SeesMove : ℕ → View → View → Type 0
 SeesMove cards v w = GivesOut cards v w ⊎ SeesEnd cards v w
 
--- whether facts tell that what a card was for has come to its end
-abbrev pub knows_end : List Fact → ℕ → Bool
-knows_end facts c = known_of facts (IOver c) || (known_of facts (DOver c) || known_of facts (Backed c))
-
--- of how many of the first cards facts tell that
+-- of how many of the first cards facts tell that what they were for has come to its end
 abbrev pub ends_known : ℕ → List Fact → ℕ
 ends_known zero facts = 0
 ends_known (suc n) facts = (if knows_end facts (suc n) then 1 else 0) + ends_known n facts

@@ -25,7 +25,7 @@ use Rattle.ell_cards.proofs.runs.Claims.{first_set, leaves_next}
 use Rattle.ell_cards.proofs.runs.Won.{number, count, times, total, won_by, other_kind, turn_total, run_total}
 
 -- nothing was won at the start
-none_at_start : (keys : List ℕ) (start : List (ℕ × ℕ)) (cards : ℕ) (s : TableState) → Starts keys start cards s → (k : Kind) (c : ℕ) → total k c s ≡ 0
+pub none_at_start : (keys : List ℕ) (start : List (ℕ × ℕ)) (cards : ℕ) (s : TableState) → Starts keys start cards s → (k : Kind) (c : ℕ) → total k c s ≡ 0
 none_at_start keys start cards s starts k c = ap (total k c) starts.is
 
 -- a machine of a state, with stages of its cards by which each win of a card was told once, to one pass
@@ -64,7 +64,7 @@ pub record ClaimsCount (first : ℕ) (s : TableState) : Type 0 where
   pub high : (c : ℕ) → get_or s.words 0 0 ≤ c → total kind.Claim c s ≡ 0
 
 -- no other call adds a claim
-claims_none : (c : Call) (n d : ℕ) → ((e : ℕ) → c ≢ call.Claim e) → times kind.Claim d (won_by c n) ≡ 0
+pub claims_none : (c : Call) (n d : ℕ) → ((e : ℕ) → c ≢ call.Claim e) → times kind.Claim d (won_by c n) ≡ 0
 claims_none (call.Claim c) n d apart = absurd (apart c refl)
 claims_none (call.IFlag c p from) n d apart = other_kind (n == packed from) kind.IFlag kind.Claim c d refl
 claims_none (call.IChild c p l right) n d apart = other_kind (n == l) kind.IChild kind.Claim c d refl

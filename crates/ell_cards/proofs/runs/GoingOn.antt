@@ -2,7 +2,7 @@ use Rattle.std.proofs.Common.{◌≡◌, ℕ, ◌==◌, if◌then◌else◌, Boo
 use Rattle.std.proofs.lemmas.Bool.{cases_lt}
 use Rattle.ell_core.specs.statements.Since.{CleansSince}
 use Rattle.ell_core.proofs.stages.Ended.{ends_last, unended_before}
-use Rattle.ell_core.proofs.following.Cleans.{cleans_go_on}
+use Rattle.ell_core.proofs.following.Cleans.{cleans_go_on, below_later}
 use Rattle.std.proofs.lemmas.List.{append_assoc}
 use Rattle.ell_word.specs.Word.{packed}
 use Rattle.ell_word.specs.declared.gate.Kind.{Kind}
@@ -40,8 +40,9 @@ use Rattle.ell_core.proofs.stages.Advances.{stages_same}
 pub cleans_chain : (w : Words) (stage : Stages) (mid : Words) (between : Stages) (end : Words) (after : Stages) → StagesLater stage between → StagesLater between after
     → WordsLater mid end → CleansSince w stage mid between → CleansSince mid between end after → CleansSince w stage end after
 cleans_chain w stage mid between end after first second words one two x c rose now some = elim (cases_lt (mid.update x) (end.update x)) [
-  | inl less ↦ (let h = two x c less now some in (unended_before stage between first c h.0, h.1))
-  | inr most ↦ (let up = words.update x in let h = one x c (omega arith) (omega arith) some in (h.0, ends_last between after second c h.1))
+  | inl less ↦ (let h = two x c less now some in (unended_before stage between first c h.0, h.1, h.2))
+  | inr most ↦ (let up = words.update x in let h = one x c (omega arith) (omega arith) some in
+      (h.0, ends_last between after second c h.1, below_later mid end between after words second x c h.2))
 ]
 
 -- a machine that came from one with these words and stages, which won this since

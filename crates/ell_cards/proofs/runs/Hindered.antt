@@ -1,4 +1,4 @@
-use Rattle.std.proofs.Common.{◌≡◌, ◌≢◌, ℕ, ◌/◌, ◌%◌, ◌<◌, ◌≤◌, ◌==◌, if◌then◌else◌, Bool, true, false, Option, Some, None, List, [], ◌∷◌, ◌++◌, inl, inr, refl, sym, ap, ◌∙◌, subst, arith, eq-eqb, eqb-true, true≢false}
+use Rattle.std.proofs.Common.{◌≡◌, ◌≢◌, ℕ, ◌⊎◌, ◌/◌, ◌%◌, ◌<◌, ◌≤◌, ◌==◌, if◌then◌else◌, Bool, true, false, Option, Some, None, List, [], ◌∷◌, ◌++◌, inl, inr, refl, sym, ap, ◌∙◌, subst, arith, eq-eqb, eqb-true, true≢false}
 use Rattle.std.proofs.lemmas.Bool.{cases_eq, false≢true}
 use Rattle.std.proofs.lemmas.List.{append_assoc}
 use Rattle.std.proofs.lemmas.Option.{same_Some}
@@ -18,11 +18,12 @@ use Rattle.ell_core.specs.declared.fact.Fact.TheVariants.{IFlagged, DFlagged, Ma
 use Rattle.ell_core.specs.declared.fact.Fact.{Fact}
 use Rattle.ell_core.specs.declared.field.Field.TheVariants as field
 use Rattle.ell_core.specs.declared.view.Seen.{Seen}
+use Rattle.ell_core.specs.declared.view.Search.{Search}
 use Rattle.ell_core.specs.state.Words.{Words}
 use Rattle.ell_core.specs.state.Machine.{Worker, Machine, worker_of}
 use Rattle.ell_core.specs.state.Cards.{clean}
 use Rattle.ell_core.specs.acts.Searching.{IsClean}
-use Rattle.ell_core.specs.history.Stages.{Stage, Stages, Born, delete_won, is_cut, is_markable, waits}
+use Rattle.ell_core.specs.history.Stages.{Stage, Stages, Born, is_insert, is_delete, delete_won, is_cut, is_markable, waits}
 use Rattle.ell_core.specs.history.Invariant.{Invariant, WorkerIsSound}
 use Rattle.ell_core.specs.history.Later.{WordsLater, StagesLater}
 use Rattle.ell_core.specs.statements.StepLaws.{Reliance}
@@ -31,22 +32,22 @@ use Rattle.ell_core.proofs.outcomes.Decide.{some_not_none}
 use Rattle.ell_core.proofs.following.Reliance.{may_rely}
 use Rattle.ell_core.proofs.following.Since.{word_unended}
 use Rattle.ell_core.proofs.words.CleanWords.{clean_remainder}
+use Rattle.ell_core.proofs.words.Packed.{packed_again}
 use Rattle.ell_core.proofs.stages.Ended.{ends_last}
 use Rattle.ell_core.proofs.following.waiting.Cards.{hand_waits}
-use Rattle.ell_core.proofs.stages.Order.{delete_won-delete, insert_won-insert, one_kind, won_cases}
+use Rattle.ell_core.proofs.stages.Order.{delete_won-delete, insert_won-insert, insert_open-insert, one_kind, won_cases}
 use Rattle.ell_cards.specs.declared.call.Call.{Call}
 use Rattle.ell_cards.specs.declared.call.Call.TheVariants as call
 use Rattle.ell_cards.specs.declared.view.Hindrance.{Hindrance}
 use Rattle.ell_cards.specs.declared.view.Hindrance.TheVariants.{Claim, Found}
 use Rattle.ell_cards.specs.declared.view.View.{View}
-use Rattle.ell_cards.specs.Changes.{unless_clean, read_in_way, first_in_way, in_the_way, given_up, after_again, after_leave, after_answer, after_claim, after_flag, after_mark, if_won, exchanged, learning, unmarking, is_mark_of, is_held}
+use Rattle.ell_cards.specs.Changes.{seen_at, unless_clean, read_in_way, first_in_way, in_the_way, given_up, after_again, after_leave, after_answer, after_claim, after_flag, after_mark, if_won, exchanged, learning, unmarking, is_mark_of, is_held}
 use Rattle.ell_cards.specs.Calls.{after, May}
 use Rattle.ell_cards.specs.States.{TableState, seat_worker}
 use Rattle.ell_cards.specs.Machines.{HasMachine}
 use Rattle.ell_cards.specs.Turns.{found_by}
 use Rattle.ell_cards.specs.Laws.{machine_of_table}
-use Rattle.ell_cards.specs.Readings.{AreBelow}
-use Rattle.ell_cards.specs.Meanwhile.{KeepsOn}
+use Rattle.ell_cards.specs.Meanwhile.{KeepsOn, AreOfOthers}
 use Rattle.ell_cards.proofs.seats.Seats.{relies}
 use Rattle.ell_cards.proofs.stepping.Looks.{update_listed}
 use Rattle.ell_cards.proofs.stepping.Exchanges.{told_is}
@@ -60,7 +61,7 @@ pub record PlaceSince (w : Words) (stage : Stages) (x word : ℕ) : Type 0 where
 -- what was in the way since, by the words and the stages
 abbrev pub Met : Words → Stages → Words → Stages → Hindrance → Type 0
 Met w stage now after (Claim c) = (w.next ≤ c) × (c < now.next)
-Met w stage now after (Found u) = (has_ended (stage u.card) ≡ false) × (u.state ≡ state.Clean → has_ended (after u.card) ≡ true)
+Met w stage now after (Found u) = (has_ended (stage u.card) ≡ false) × (u.state ≡ state.Clean → has_ended (after u.card) ≡ true) × (u.card < now.next)
 
 abbrev pub AllMet : Words → Stages → Words → Stages → List Hindrance → Type 0
 AllMet w stage now after [] = Unit {0}
@@ -73,13 +74,14 @@ met_later w stage now after later_words ends words later [] h = tt
 met_later w stage now after later_words ends words later (Claim c ∷ hs) h =
     let more = words.next in let low = h.0.1 in ((h.0.0, omega arith), met_later w stage now after later_words ends words later hs h.1)
 met_later w stage now after later_words ends words later (Found u ∷ hs) h =
-    ((h.0.0, λ e. ends_last after ends later u.card (h.0.1 e)), met_later w stage now after later_words ends words later hs h.1)
+    let more = words.next in let low = h.0.2 in
+    ((h.0.0, λ e. ends_last after ends later u.card (h.0.1 e), omega arith), met_later w stage now after later_words ends words later hs h.1)
 
--- the claims that were lost are below the claim word
-all_below : (w : Words) (stage : Stages) (now : Words) (after : Stages) (n : ℕ) → now.next ≤ n → (hs : List Hindrance) → AllMet w stage now after hs → AreBelow n hs
-all_below w stage now after n most [] h = tt
-all_below w stage now after n most (Claim c ∷ hs) h = let low = h.0.1 in (omega arith, all_below w stage now after n most hs h.1)
-all_below w stage now after n most (Found u ∷ hs) h = all_below w stage now after n most hs h.1
+-- what was met is of cards below the claim word
+all_earlier : (w : Words) (stage : Stages) (now : Words) (after : Stages) (n : ℕ) → now.next ≤ n → (hs : List Hindrance) → AllMet w stage now after hs → AreOfOthers n hs
+all_earlier w stage now after n most [] h = tt
+all_earlier w stage now after n most (Claim c ∷ hs) h = let low = h.0.1 in (omega arith, all_earlier w stage now after n most hs h.1)
+all_earlier w stage now after n most (Found u ∷ hs) h = let low = h.0.2 in (omega arith, all_earlier w stage now after n most hs h.1)
 
 -- what two lists have was met, in one
 all_append : (w : Words) (stage : Stages) (now : Words) (after : Stages) (a b : List Hindrance) → AllMet w stage now after a → AllMet w stage now after b
@@ -89,22 +91,26 @@ all_append w stage now after (x ∷ a) b h g = (h.0, all_append w stage now afte
 
 -- so was what a search had read in the way
 module _ (w : Words) (stage : Stages) (now : Words) (after : Stages) where
-  unless_met : (st : State) (c : ℕ) → (st ≢ state.Clean → has_ended (stage c) ≡ false) → AllMet w stage now after (unless_clean st c)
-  unless_met state.IFlag c h = ((h (λ e. cc), λ e. absurd (cc)), tt)
-  unless_met state.DFlag c h = ((h (λ e. cc), λ e. absurd (cc)), tt)
-  unless_met state.Mark c h = ((h (λ e. cc), λ e. absurd (cc)), tt)
-  unless_met state.Clean c h = tt
+  unless_met : (st : State) (c : ℕ) → (st ≢ state.Clean → has_ended (stage c) ≡ false) → c < now.next → AllMet w stage now after (unless_clean st c)
+  unless_met state.IFlag c h low = ((h (λ e. cc), λ e. absurd (cc), low), tt)
+  unless_met state.DFlag c h low = ((h (λ e. cc), λ e. absurd (cc), low), tt)
+  unless_met state.Mark c h low = ((h (λ e. cc), λ e. absurd (cc), low), tt)
+  unless_met state.Clean c h low = tt
 
-  read_met : (o : Option Seen) → ((seen : Seen) → o ≡ Some seen → SeenSince w stage seen) → AllMet w stage now after (read_in_way o)
+  -- a word that was read at a node since names a card below the claim word
+  abbrev ReadSince : Seen → Type 0
+  ReadSince seen = SeenSince w stage seen × ((unpacked seen.word).card < now.next)
+
+  read_met : (o : Option Seen) → ((seen : Seen) → o ≡ Some seen → ReadSince seen) → AllMet w stage now after (read_in_way o)
   read_met None h = tt
-  read_met (Some seen) h = unless_met (unpacked seen.word).state (unpacked seen.word).card (h seen refl).unended
+  read_met (Some seen) h = unless_met (unpacked seen.word).state (unpacked seen.word).card (h seen refl).0.unended (h seen refl).1
 
   first_met : (a b : List Hindrance) → AllMet w stage now after a → AllMet w stage now after b → AllMet w stage now after (first_in_way a b)
   first_met [] b h g = g
   first_met (x ∷ a) b h g = h
 
-  way_met : (op : Option Op) (place : Option ℕ) (parent above : Option Seen) → ((seen : Seen) → parent ≡ Some seen → SeenSince w stage seen)
-      → ((seen : Seen) → above ≡ Some seen → SeenSince w stage seen) → AllMet w stage now after (in_the_way op place parent above)
+  way_met : (op : Option Op) (place : Option ℕ) (parent above : Option Seen) → ((seen : Seen) → parent ≡ Some seen → ReadSince seen)
+      → ((seen : Seen) → above ≡ Some seen → ReadSince seen) → AllMet w stage now after (in_the_way op place parent above)
   way_met None place parent above h g = tt
   way_met (Some (Find k)) place parent above h g = tt
   way_met (Some (Insert k value)) None parent above h g = tt
@@ -112,13 +118,20 @@ module _ (w : Words) (stage : Stages) (now : Words) (after : Stages) where
   way_met (Some (Delete k)) None parent above h g = tt
   way_met (Some (Delete k)) (Some x) parent above h g = first_met (read_in_way above) (read_in_way parent) (read_met above g) (read_met parent h)
 
--- what a pass has met since its search began, what it has read of the claim word, the card in its hand, and where that goes
+-- a search has this behind it
+abbrev IsBehind : Search → Seen → Type 0
+IsBehind q seen = (q.parent ≡ Some seen) ⊎ (q.grandparent ≡ Some seen)
+
+-- what a pass has met since its search began, what it has read of the claim word and behind it, the card in its hand, and where that goes
 pub record HinderedSince (w : Words) (stage : Stages) (now : Words) (after : Stages) (old : List Hindrance) (v : View) : Type 0 where
   pub met : List Hindrance
   pub list : v.hindrances ≡ met ++ old
+  pub earlier : List Hindrance
+  pub tries : met ≡ v.met ++ earlier
   pub each : AllMet w stage now after met
   pub next : (n : ℕ) → v.next ≡ Some n → w.next ≤ n
-  pub own : (c : ℕ) → v.worker.card ≡ Some c → AreBelow c met
+  pub named : (seen : Seen) → IsBehind v.worker.search seen → (unpacked seen.word).card < now.next
+  pub own : (c : ℕ) → v.worker.card ≡ Some c → AreOfOthers c met
   pub hand : (k c : ℕ) → v.worker.operation ≡ Some (Delete k) → v.worker.card ≡ Some c → v.worker.flagged ≡ true → PlaceSince w stage (now.p c) (now.was c)
 
 -- a card whose flag was won does not wait for it
@@ -133,7 +146,7 @@ insert_is_no_delete : (k key value : ℕ) → Some (Delete k) ≡ Some (Insert k
 insert_is_no_delete k key value e = cc
 
 -- the card that is held
-held_is : (o : Option ℕ) (c : ℕ) → is_held o c ≡ true → o ≡ Some c
+pub held_is : (o : Option ℕ) (c : ℕ) → is_held o c ≡ true → o ≡ Some c
 held_is None c e = absurd (false≢true e)
 held_is (Some d) c e = ap Some (eqb-true d c e)
 
@@ -160,14 +173,20 @@ module _ (keys : List ℕ) (cards : ℕ) (m0 : Machine) (stage : Stages) (first 
       let info = words'.info c low in
       subst (λ x. PlaceSince m0.words stage x (later_words.was c)) (sym info.p) (subst (λ n. PlaceSince m0.words stage (r.words.p c) n) (sym info.was) h)
 
+  named_later : (seen : Seen) → IsBehind v.worker.search seen → (unpacked seen.word).card < later_words.next
+  named_later seen h = let low = hindered.named seen h in let more = words'.next in omega arith
+
   -- a step that meets nothing, and leaves what is in hand
-  quiet : (u : View) → u.hindrances ≡ v.hindrances → u.next ≡ v.next → u.worker.operation ≡ v.worker.operation → u.worker.card ≡ v.worker.card
-      → u.worker.flagged ≡ v.worker.flagged → HinderedSince m0.words stage later_words ends old u
-  quiet u hindrances read op holds_card flag = record {
+  quiet : (u : View) → u.hindrances ≡ v.hindrances → u.met ≡ v.met → u.next ≡ v.next → u.worker.operation ≡ v.worker.operation → u.worker.card ≡ v.worker.card
+      → u.worker.flagged ≡ v.worker.flagged → ((seen : Seen) → IsBehind u.worker.search seen → IsBehind v.worker.search seen) → HinderedSince m0.words stage later_words ends old u
+  quiet u hindrances in_try read op holds_card flag behind = record {
     met = hindered.met;
     list = hindrances ∙ hindered.list;
+    earlier = hindered.earlier;
+    tries = hindered.tries ∙ ap (λ hs. hs ++ hindered.earlier) (sym in_try);
     each = met_later m0.words stage r.words now later_words ends words' later' hindered.met hindered.each;
     next = λ n e. hindered.next n (sym read ∙ e);
+    named = λ seen h. named_later seen (behind seen h);
     own = λ c has. hindered.own c (sym holds_card ∙ has);
     hand = λ k c busy has flagged.
         let mine = sym holds_card ∙ has in
@@ -176,34 +195,43 @@ module _ (keys : List ℕ) (cards : ℕ) (m0 : Machine) (stage : Stages) (first 
 
   -- a step of another
   pub hindered_rests : HinderedSince m0.words stage later_words ends old v
-  hindered_rests = quiet v refl refl refl refl refl
+  hindered_rests = quiet v refl refl refl refl refl refl (λ seen h. h)
 
   -- a step that meets one thing
-  one_met : (u : View) (h : Hindrance) → u.hindrances ≡ h ∷ v.hindrances → Met m0.words stage later_words ends h → u.next ≡ v.next
-      → ((c : ℕ) → u.worker.card ≡ Some c → AreBelow c (h ∷ hindered.met))
+  one_met : (u : View) (h : Hindrance) → u.hindrances ≡ h ∷ v.hindrances → u.met ≡ h ∷ v.met → Met m0.words stage later_words ends h → u.next ≡ v.next
+      → ((seen : Seen) → IsBehind u.worker.search seen → IsBehind v.worker.search seen)
+      → ((c : ℕ) → u.worker.card ≡ Some c → AreOfOthers c (h ∷ hindered.met))
       → ((k c : ℕ) → u.worker.operation ≡ Some (Delete k) → u.worker.card ≡ Some c → u.worker.flagged ≡ true → PlaceSince m0.words stage (later_words.p c) (later_words.was c))
       → HinderedSince m0.words stage later_words ends old u
-  one_met u h hindrances is_met read own in_hand = record {
+  one_met u h hindrances in_try is_met read behind own in_hand = record {
     met = h ∷ hindered.met;
     list = hindrances ∙ ap (λ hs. h ∷ hs) hindered.list;
+    earlier = hindered.earlier;
+    tries = ap (λ hs. h ∷ hs) hindered.tries ∙ ap (λ hs. hs ++ hindered.earlier) (sym in_try);
     each = (is_met, met_later m0.words stage r.words now later_words ends words' later' hindered.met hindered.each);
     next = λ n e. hindered.next n (sym read ∙ e);
+    named = λ seen h. named_later seen (behind seen h);
     own = own;
     hand = in_hand;
   }
 
+  -- a word that stands at a node names a card below the claim word
+  names : (x n : ℕ) → IsInternal x → Born now x → r.words.update x ≡ n → (unpacked n).card < later_words.next
+  names x n inner born is = let low = (holds.words.updates x inner born).named in let more = words'.next in omega (arith, low, more, is)
+
   -- what an exchange finds at a node in place of a word that was read there since
   finds : (x from n : ℕ) → IsInternal x → Born now x → PlaceSince m0.words stage x from → from ≤ r.words.update x → 3 ≤ from → r.words.update x ≡ n → n ≢ from
       → Met m0.words stage later_words ends (Found (unpacked n))
-  finds x from n inner born place low calm is other = elim (cases_eq (n % 4) 3) [
+  finds x from n inner born place low calm is other = let named = names x n inner born is in elim (cases_eq (n % 4) 3) [
     | inl e ↦
         let word : r.words.update x ≡ clean (n / 4) = omega (arith, is, e) in
         let rose : m0.words.update x < r.words.update x = (let a = place.least in omega (arith, a, low, is, other)) in
         let h = cleans x (n / 4) rose word (omega (arith, e, is, calm, low, other)) in
-        (h.0, λ c. ends_last now ends later' (n / 4) h.1)
+        (h.0, λ c. ends_last now ends later' (n / 4) h.1, named)
     | inr dirty ↦ (
       word_unended m0 stage (machine_of_table keys cards s r) now first holds words later x inner born place.there n is (λ c. dirty (clean_remainder n c)),
       λ c. absurd (dirty (clean_remainder n c)),
+      named,
     )
   ]
 
@@ -218,13 +246,16 @@ module _ (keys : List ℕ) (cards : ℕ) (m0 : Machine) (stage : Stages) (first 
   claim_hindered c may true e = record {
     met = hindered.met;
     list = hindered.list;
+    earlier = hindered.earlier;
+    tries = hindered.tries;
     each = met_later m0.words stage r.words now later_words ends words' later' hindered.met hindered.each;
     next = hindered.next;
+    named = named_later;
     own = λ d has.
         let same = same_Some c d has in
         let found = eqb-true (found_by s (call.Claim c)) c e in
         let is = r.next in
-        all_below m0.words stage r.words now d (omega arith) hindered.met hindered.each;
+        all_earlier m0.words stage r.words now d (omega arith) hindered.met hindered.each;
     hand = λ k d busy has flagged. absurd (true≢false (sym flagged));
   }
   claim_hindered c may false e =
@@ -232,7 +263,7 @@ module _ (keys : List ℕ) (cards : ℕ) (m0 : Machine) (stage : Stages) (first 
       let is = r.next in
       let more = words'.next in
       let other : found_by s (call.Claim c) ≢ c = (λ q. true≢false (sym (eq-eqb (found_by s (call.Claim c)) c q) ∙ e)) in
-      one_met (after_claim false c v) (Claim c) refl (hindered.next c may.0.read, omega arith) refl
+      one_met (after_claim false c v) (Claim c) refl refl (hindered.next c may.0.read, omega arith) refl (λ seen h. h)
       (λ d has. absurd (some_not_none has may.0.no_card))
       (λ k d busy has flagged. absurd (some_not_none has may.0.no_card))
 
@@ -287,14 +318,17 @@ module _ (keys : List ℕ) (cards : ℕ) (m0 : Machine) (stage : Stages) (first 
   flag_hindered k c new x from n true e in_hand lost = record {
     met = hindered.met;
     list = hindered.list;
+    earlier = hindered.earlier;
+    tries = hindered.tries;
     each = met_later m0.words stage r.words now later_words ends words' later' hindered.met hindered.each;
     next = hindered.next;
+    named = named_later;
     own = hindered.own;
     hand = λ key d busy has flagged. in_hand key d busy has;
   }
   flag_hindered k c new x from n false e in_hand lost =
-      one_met (exchanged [] n (after_flag false new x (unpacked n) v)) (Found (unpacked n)) refl
-      (lost (λ q. true≢false (sym (eq-eqb n from q) ∙ e))) refl (λ d has. absurd (some_not_none has refl)) (λ key d busy has flagged. absurd (true≢false (sym flagged)))
+      one_met (exchanged [] n (after_flag false new x (unpacked n) v)) (Found (unpacked n)) refl refl
+      (lost (λ q. true≢false (sym (eq-eqb n from q) ∙ e))) refl (λ seen h. h) (λ d has. absurd (some_not_none has refl)) (λ key d busy has flagged. absurd (true≢false (sym flagged)))
 
   iflag_hindered : (c p : ℕ) (from : Update) → May cards (call.IFlag c p from) v
       → HinderedSince m0.words stage later_words ends old (after (call.IFlag c p from) (found_by s (call.IFlag c p from)) v)
@@ -357,6 +391,50 @@ module _ (keys : List ℕ) (cards : ℕ) (m0 : Machine) (stage : Stages) (first 
       (subst (λ x. was ≤ r.words.update x) p_is (subst (λ m. m ≤ r.words.update (r.words.p c)) was_is low))
       (subst (λ m. 3 ≤ m) was_is (three (r.words.was c) said.calm)) is other
 
+  -- a delete's card is not card 0
+  first_card : (c : ℕ) → is_delete (now c) ≡ true → (d : ℕ) → d ≡ c → 0 < d
+  first_card c deletes d e = elim (cases_eq c 0) [
+    | inl q ↦ absurd (false≢true (ap is_delete (sym holds.words.opening) ∙ (ap (λ n. is_delete (now n)) (sym q) ∙ deletes)))
+    | inr n ↦ omega (arith, e, n)
+  ]
+
+  -- where its mark goes, no word names a delete's card but its mark
+  word_apart : (c p : ℕ) → is_delete (now c) ≡ true → r.words.p c ≡ p → IsInternal p → Born now p → m0.words.update p < r.words.update p → (st : State) (d : ℕ)
+      → r.words.update p ≡ packed (record { state = st; card = d }) → is_mark_of c st d ≡ false → d ≢ c
+  word_apart c p deletes place inner born rose state.IFlag d is apart e =
+      let insert = insert_open-insert (now d) ((holds.words.updates p inner born).iflagged d is).0 in
+      one_kind (now c) (ap (λ n. is_insert (now n)) (sym e) ∙ insert) deletes
+  word_apart c p deletes place inner born rose state.DFlag d is apart e =
+      let above = ((holds.words.updates p inner born).dflagged d is).1 in
+      let goes = ap r.words.gp (sym e) ∙ above in
+      let first = ((holds.words.cards c).delete deletes).first in
+      omega (arith, goes, place, first)
+  word_apart c p deletes place inner born rose state.Mark d is apart e = false≢true (sym apart ∙ eq-eqb d c e)
+  word_apart c p deletes place inner born rose state.Clean d is apart e =
+      let said = (holds.words.cards c).delete deletes in
+      let h = cleans p d rose is (first_card c deletes d e) in
+      elim h.2 [
+        | inl insert ↦ one_kind (now c) (ap (λ n. is_insert (now n)) (sym e) ∙ insert) deletes
+        | inr below ↦ (let goes = ap r.words.gp (sym e) ∙ below.1 in let first = said.first in omega (arith, goes, place, first))
+      ]
+
+  -- so the card in hand is none that its lost mark found
+  mark_apart : (c p was n : ℕ) → May cards (call.Mark c p was) v → r.words.update p ≡ n → n ≢ was → v.worker.card ≡ Some c
+      → is_mark_of c (unpacked n).state (unpacked n).card ≡ false → (unpacked n).card ≢ c
+  mark_apart c p was n may is other has apart =
+      let p_is : r.words.p c ≡ p = told_is keys cards s r seat v there c field.P p may.parent in
+      let was_is : r.words.was c ≡ was = told_is keys cards s r seat v there c field.Was was may.read in
+      let won = sound.facts (DFlagged c) may.knows in
+      let deletes = delete_won-delete (now c) won in
+      let said = (holds.words.cards c).delete deletes in
+      let busy = busy_hand c has in
+      let place = deletes_hand busy.0 c busy.1 has (flag_hand c has won) won in
+      let low = was_low c won in
+      let there = ap r.words.update p_is ∙ is in
+      let rose : m0.words.update (r.words.p c) < r.words.update (r.words.p c) = (let a = place.least in omega (arith, a, low, there, was_is, other)) in
+      word_apart c p deletes p_is (subst IsInternal p_is said.parent.inner) (subst (Born now) p_is said.parent.born)
+      (subst (λ x. m0.words.update x < r.words.update x) p_is rose) (unpacked n).state (unpacked n).card (is ∙ sym (packed_again n)) apart
+
   mark_hindered : (c p was : ℕ) → May cards (call.Mark c p was) v
       → HinderedSince m0.words stage later_words ends old (after (call.Mark c p was) (found_by s (call.Mark c p was)) v)
   mark_hindered c p was may = by (n == was) refl
@@ -367,33 +445,55 @@ module _ (keys : List ℕ) (cards : ℕ) (m0 : Machine) (stage : Stages) (first 
       is : r.words.update p ≡ n
       is = mark_found c p was may
 
-      held : (b : Bool) → is_held v.worker.card c ≡ b → n ≢ was → HinderedSince m0.words stage later_words ends old
-          (exchanged [] n (record (unmarking c p (unpacked n) v) { hindrances = if b then Found (unpacked n) ∷ v.hindrances else v.hindrances }))
-      held true e other = one_met _ (Found (unpacked n)) refl (mark_met c p was n may is other (held_is v.worker.card c e)) refl hindered.own
+      held : (b : Bool) → is_held v.worker.card c ≡ b → n ≢ was → is_mark_of c (unpacked n).state (unpacked n).card ≡ false → HinderedSince m0.words stage later_words ends old
+          (exchanged [] n (record (unmarking c p (unpacked n) v) {
+            hindrances = if b then Found (unpacked n) ∷ v.hindrances else v.hindrances;
+            met = if b then Found (unpacked n) ∷ v.met else v.met;
+          }))
+      held true e other apart = one_met _ (Found (unpacked n)) refl refl (mark_met c p was n may is other (held_is v.worker.card c e)) refl (λ seen h. h)
+          (λ d has.
+          let one : c ≡ d = same_Some c d (sym (held_is v.worker.card c e) ∙ has) in
+          (λ q. mark_apart c p was n may is other (held_is v.worker.card c e) apart (q ∙ sym one), hindered.own d has))
           (λ k d busy has flagged. hand_later d (rely.hand d (ap (λ (z : Worker). z.card) me ∙ has)) (hindered.hand k d busy has flagged))
-      held false e other = quiet _ refl refl refl refl refl
+      held false e other apart = quiet _ refl refl refl refl refl refl (λ seen h. h)
 
-      lost : (b : Bool) → n ≢ was → HinderedSince m0.words stage later_words ends old (exchanged [] n (if b then learning (Marked c) v else unmarking c p (unpacked n) v))
-      lost true other = quiet _ refl refl refl refl refl
-      lost false other = held (is_held v.worker.card c) refl other
+      lost : (b : Bool) → is_mark_of c (unpacked n).state (unpacked n).card ≡ b → n ≢ was → HinderedSince m0.words stage later_words ends old (exchanged [] n (if b then learning (Marked c) v else unmarking c p (unpacked n) v))
+      lost true e other = quiet _ refl refl refl refl refl refl (λ seen h. h)
+      lost false e other = held (is_held v.worker.card c) refl other e
 
       by : (b : Bool) → (n == was) ≡ b → HinderedSince m0.words stage later_words ends old (exchanged (if_won b kind.Mark c) n (after_mark b c p (unpacked n) v))
-      by true e = quiet _ refl refl refl refl refl
-      by false e = lost (is_mark_of c (unpacked n).state (unpacked n).card) (λ q. true≢false (sym (eq-eqb n was q) ∙ e))
+      by true e = quiet _ refl refl refl refl refl refl (λ seen h. h)
+      by false e = lost (is_mark_of c (unpacked n).state (unpacked n).card) refl (λ q. true≢false (sym (eq-eqb n was q) ∙ e))
+
+  -- a search that has gone down has the word behind it that it read
+  went_down : (x : ℕ) (right : Bool) → May cards (call.Down x right) v → (seen : Seen) → IsBehind (after (call.Down x right) (found_by s (call.Down x right)) v).worker.search seen
+      → (unpacked seen.word).card < later_words.next
+  went_down x right may seen (inl e) =
+      let read : Some (record { node = x; word = may.word }) ≡ Some seen = ap (seen_at x) (sym may.read) ∙ e in
+      let low = rely.has_read x may.word (ap (λ (z : Worker). z.search.node) me ∙ may.stands) may.inner (ap (λ (z : Worker). z.search.read) me ∙ may.read) in
+      let more = words'.next in
+      subst (λ (z : Seen). (unpacked z.word).card < later_words.next) (same_Some (record { node = x; word = may.word }) seen read) (omega arith)
+  went_down x right may seen (inr e) = named_later seen (inl e)
 
   -- a try that is given up, with no card in hand then
-  gives_up : (u : View) → u.hindrances ≡ given_up v → ((n : ℕ) → u.next ≡ Some n → m0.words.next ≤ n) → u.worker.card ≡ None
+  gives_up : (u : View) → u.hindrances ≡ given_up v → u.met ≡ [] → u.worker.search.parent ≡ None → u.worker.search.grandparent ≡ None → ((n : ℕ) → u.next ≡ Some n → m0.words.next ≤ n) → u.worker.card ≡ None
       → HinderedSince m0.words stage later_words ends old u
-  gives_up u hindrances read no_card =
+  gives_up u hindrances none behind above read no_card =
       let way = in_the_way v.worker.operation v.worker.search.node v.worker.search.parent v.worker.search.grandparent in record {
         met = way ++ hindered.met;
         list = hindrances ∙ (ap (λ hs. way ++ hs) hindered.list ∙ sym (append_assoc way hindered.met old));
+        earlier = way ++ hindered.met;
+        tries = ap (λ hs. hs ++ (way ++ hindered.met)) (sym none);
         each = all_append m0.words stage later_words ends way hindered.met
             (way_met m0.words stage later_words ends v.worker.operation v.worker.search.node v.worker.search.parent v.worker.search.grandparent
-            (λ seen e. since.parent seen (ap (λ (z : Worker). z.search.parent) me ∙ e))
-            (λ seen e. since.grandparent seen (ap (λ (z : Worker). z.search.grandparent) me ∙ e)))
+            (λ seen e. (since.parent seen (ap (λ (z : Worker). z.search.parent) me ∙ e), named_later seen (inl e)))
+            (λ seen e. (since.grandparent seen (ap (λ (z : Worker). z.search.grandparent) me ∙ e), named_later seen (inr e))))
             (met_later m0.words stage r.words now later_words ends words' later' hindered.met hindered.each);
         next = read;
+        named = λ seen h. elim h [
+          | inl e ↦ absurd (some_not_none e behind)
+          | inr e ↦ absurd (some_not_none e above)
+        ];
         own = λ c has. absurd (some_not_none has no_card);
         hand = λ k c busy has flagged. absurd (some_not_none has no_card);
       }
@@ -403,8 +503,14 @@ module _ (keys : List ℕ) (cards : ℕ) (m0 : Machine) (stage : Stages) (first 
   answers said = record {
     met = hindered.met;
     list = hindered.list;
+    earlier = hindered.met;
+    tries = refl;
     each = met_later m0.words stage r.words now later_words ends words' later' hindered.met hindered.each;
     next = hindered.next;
+    named = λ seen h. elim h [
+      | inl e ↦ absurd (some_not_none e refl)
+      | inr e ↦ absurd (some_not_none e refl)
+    ];
     own = λ c has. absurd (some_not_none has refl);
     hand = λ k c busy has flagged. absurd (some_not_none has refl);
   }
@@ -412,32 +518,45 @@ module _ (keys : List ℕ) (cards : ℕ) (m0 : Machine) (stage : Stages) (first 
   -- any call that keeps on
   pub call_hindered : (c : Call) → KeepsOn c → May cards c v → HinderedSince m0.words stage later_words ends old (after c (found_by s c) v)
   call_hindered (call.Begin op) keeps may = absurd keeps
-  call_hindered call.Again keeps may = gives_up (after_again v) refl (λ n e. absurd (some_not_none e refl)) refl
-  call_hindered call.Leave keeps may = gives_up (after_leave v) refl hindered.next refl
+  call_hindered call.Again keeps may = gives_up (after_again v) refl refl refl refl (λ n e. absurd (some_not_none e refl)) refl
+  call_hindered call.Leave keeps may = gives_up (after_leave v) refl refl refl refl hindered.next refl
   call_hindered (call.Answer said) keeps may = answers said
-  call_hindered (call.Upd x) keeps may = quiet _ refl refl refl refl refl
-  call_hindered (call.Down x right) keeps may = quiet _ refl refl refl refl refl
-  call_hindered call.Next keeps may = record {
+  call_hindered (call.Upd x) keeps may = quiet _ refl refl refl refl refl refl (λ seen h. h)
+  call_hindered (call.Down x right) keeps may = record {
     met = hindered.met;
     list = hindered.list;
+    earlier = hindered.earlier;
+    tries = hindered.tries;
     each = met_later m0.words stage r.words now later_words ends words' later' hindered.met hindered.each;
-    next = λ n e. (let same = same_Some (found_by s call.Next) n e in let is = r.next in let more = words.next in omega arith);
+    next = hindered.next;
+    named = went_down x right may;
     own = hindered.own;
     hand = λ k c busy has flagged. hand_later c (rely.hand c (ap (λ (z : Worker). z.card) me ∙ has)) (hindered.hand k c busy has flagged);
   }
-  call_hindered (call.KeyOf x) keeps may = quiet _ refl refl refl refl refl
-  call_hindered (call.ValueOf x) keeps may = quiet _ refl refl refl refl refl
-  call_hindered (call.Info c f) keeps may = quiet _ refl refl refl refl refl
-  call_hindered (call.FrozenChild c p right) keeps may = quiet _ refl refl refl refl refl
-  call_hindered (call.LookFor key) keeps may = quiet _ refl refl refl refl refl
-  call_hindered (call.LookDown x right) keeps may = quiet _ refl refl refl refl refl
+  call_hindered call.Next keeps may = record {
+    met = hindered.met;
+    list = hindered.list;
+    earlier = hindered.earlier;
+    tries = hindered.tries;
+    each = met_later m0.words stage r.words now later_words ends words' later' hindered.met hindered.each;
+    next = λ n e. (let same = same_Some (found_by s call.Next) n e in let is = r.next in let more = words.next in omega arith);
+    named = named_later;
+    own = hindered.own;
+    hand = λ k c busy has flagged. hand_later c (rely.hand c (ap (λ (z : Worker). z.card) me ∙ has)) (hindered.hand k c busy has flagged);
+  }
+  call_hindered (call.KeyOf x) keeps may = quiet _ refl refl refl refl refl refl (λ seen h. h)
+  call_hindered (call.ValueOf x) keeps may = quiet _ refl refl refl refl refl refl (λ seen h. h)
+  call_hindered (call.Info c f) keeps may = quiet _ refl refl refl refl refl refl (λ seen h. h)
+  call_hindered (call.FrozenChild c p right) keeps may = quiet _ refl refl refl refl refl refl (λ seen h. h)
+  call_hindered (call.LookFor key) keeps may = quiet _ refl refl refl refl refl refl (λ seen h. h)
+  call_hindered (call.LookDown x right) keeps may = quiet _ refl refl refl refl refl refl (λ seen h. h)
   call_hindered (call.Claim c) keeps may = claim_hindered c may (found_by s (call.Claim c) == c) refl
-  call_hindered (call.Fill c f value) keeps may = quiet _ refl refl refl refl refl
+  call_hindered (call.Fill c f value) keeps may = quiet _ refl refl refl refl refl refl (λ seen h. h)
   call_hindered (call.IFlag c p from) keeps may = iflag_hindered c p from may
-  call_hindered (call.IChild c p l right) keeps may = quiet _ refl refl refl refl refl
-  call_hindered (call.IUnflag c p) keeps may = quiet _ refl refl refl refl refl
+  call_hindered (call.IChild c p l right) keeps may = quiet _ refl refl refl refl refl refl (λ seen h. h)
+  call_hindered (call.IUnflag c p) keeps may = quiet _ refl refl refl refl refl refl (λ seen h. h)
   call_hindered (call.DFlag c gp from) keeps may = dflag_hindered c gp from may
   call_hindered (call.Mark c p was) keeps may = mark_hindered c p was may
-  call_hindered (call.DChild c gp p y right) keeps may = quiet _ refl refl refl refl refl
-  call_hindered (call.DUnflag c gp) keeps may = quiet _ refl refl refl refl refl
-  call_hindered (call.Backtrack c gp) keeps may = quiet _ refl refl refl refl refl
+  call_hindered (call.DChild c gp p y right) keeps may = quiet _ refl refl refl refl refl refl (λ seen h. h)
+  call_hindered (call.DUnflag c gp) keeps may = quiet _ refl refl refl refl refl refl (λ seen h. h)
+  call_hindered (call.Backtrack c gp) keeps may = quiet _ refl refl refl refl refl refl (λ seen h. h)

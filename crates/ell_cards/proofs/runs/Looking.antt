@@ -1,12 +1,10 @@
-use Rattle.std.proofs.Common.{◌≡◌, ◌≢◌, ℕ, suc, ◌<◌, ◌≤◌, ◌==◌, if◌then◌else◌, Bool, true, false, nat_le, Option, Some, None, List, [], ◌∷◌, ◌++◌, get_or, set, ◌+◌, length-set, inl, inr, ◌⊎◌, refl, sym, ap, ◌∙◌, subst, arith}
-use Rattle.std.proofs.lemmas.Bool.{cases_eq}
+use Rattle.std.proofs.Common.{◌≡◌, ℕ, suc, ◌<◌, ◌≤◌, ◌==◌, if◌then◌else◌, Bool, true, false, nat_le, Option, Some, None, List, [], ◌∷◌, ◌+◌, inl, inr, ◌⊎◌, refl, sym, ap, ◌∙◌, subst, arith}
 use Rattle.std.proofs.lemmas.Bool.Decides.{nat_tests}
 use Rattle.std.proofs.lemmas.Option.{same_Some}
 use mathlib.Core.Option.{some, some-injective}
 use lib.ListN.{get_elem?}
-use Rattle.atomic_table.proofs.Lists.{set_else}
 use Rattle.ell_ops.specs.Meaning.{greatest_key}
-use Rattle.ell_word.specs.Node.{IsInternal, card}
+use Rattle.ell_word.specs.Node.{card}
 use Rattle.ell_word.specs.Word.{packed, unpacked}
 use Rattle.ell_word.specs.declared.update.Update.{Update}
 use Rattle.ell_core.specs.declared.event.Act.{Act}
@@ -16,9 +14,8 @@ use Rattle.ell_core.specs.declared.fact.Fact.TheVariants as fact
 use Rattle.ell_core.specs.state.Words.{Words}
 use Rattle.ell_core.specs.state.Machine.{Machine}
 use Rattle.ell_core.specs.state.Cards.{child_for}
-use Rattle.ell_core.specs.acts.Searching.{IsLeaf}
-use Rattle.ell_core.specs.tree.Tree.{OnWalk, here, next, IsTreeKey, IsTreePair}
-use Rattle.ell_core.specs.history.Stages.{Stages, Born}
+use Rattle.ell_core.specs.tree.Tree.{OnWalk, here, next}
+use Rattle.ell_core.specs.history.Stages.{Stages}
 use Rattle.ell_core.specs.history.Invariant.{Invariant}
 use Rattle.ell_core.proofs.outcomes.Decide.{some_not_none}
 use Rattle.ell_core.proofs.tree.Reached.{OnWalk-below, tree_key_leads}
@@ -32,20 +29,20 @@ use Rattle.ell_cards.specs.declared.view.Looking.{Looking}
 use Rattle.ell_cards.specs.declared.view.Told.{Told}
 use Rattle.ell_cards.specs.declared.view.Told.TheVariants.{Met, Key, Value}
 use Rattle.ell_cards.specs.declared.view.View.{View}
-use Rattle.ell_cards.specs.Changes.{after_claim, after_flag, after_mark, is_mark_of, learning, unmarking, looked_down, left_view, right_view, joined_view, spent_view}
+use Rattle.ell_cards.specs.Changes.{after_claim, after_flag, after_mark, is_mark_of, learning, unmarking, looked_down}
 use Rattle.ell_cards.specs.Models.{IsTold, IsFree}
 use Rattle.ell_cards.specs.Guards.{MayLookDown, TellsOf}
-use Rattle.ell_cards.specs.Calls.{act_of, said_of, Becomes, May, after, child_at}
+use Rattle.ell_cards.specs.Calls.{act_of, said_of, Becomes, May}
 use Rattle.ell_cards.specs.States.{TableState}
 use Rattle.ell_cards.specs.Machines.{EntryHolds, HasMachine}
 use Rattle.ell_cards.specs.Laws.{machine_of_table}
 use Rattle.ell_cards.specs.TurnEffects.{own_words}
-use Rattle.ell_cards.specs.Turns.{Turn, Makes, Splits, Joins, CallIsMade, TableTurns, TableRun, found_by, view_after, state_after}
+use Rattle.ell_cards.specs.Turns.{Turn, Makes, Splits, Joins, CallIsMade, TableTurns, TableRun, found_by, view_after}
 use Rattle.ell_cards.specs.Looking.{IsAmid, HasThere, WasSo, HasFound, BeginsNothing, LooksOn}
 use Rattle.ell_cards.proofs.own_words.OwnTree.{same_keys}
 use Rattle.ell_cards.proofs.own_words.OwnWords.{own_pairs}
 use Rattle.ell_cards.proofs.seats.Seats.{set_there}
-use Rattle.ell_cards.proofs.runs.OwnSeat.{SeatGoesOn, turn_seat, turn_free, first_looks}
+use Rattle.ell_cards.proofs.runs.OwnSeat.{Only, SeatGoesOn, turn_seat, turn_free, first_looks}
 use Rattle.ell_cards.proofs.stepping.Looks.{child_listed}
 use Rattle.ell_cards.proofs.runs.TurnsOfRuns.{turn_lawful}
 use Rattle.ell_cards.proofs.runs.GoingOn.{run_goes}
@@ -168,8 +165,8 @@ module _ (keys : List ℕ) (cards : ℕ) (seat key : ℕ) (real : key ≤ greate
     look_goes (call.Backtrack c gp) keeps may = stays _ refl
 
     -- where the look is after a turn that begins nothing for its pass
-    seat_looks : (s' : TableState) (goes : SeatGoesOn cards s seat at.view s') → LookGoes s met goes.view
-    seat_looks s' goes = elim goes.made [
+    seat_looks : (t : Turn) (s' : TableState) (goes : SeatGoesOn BeginsNothing cards s seat at.view t s') → LookGoes s met goes.view
+    seat_looks t s' goes = elim goes.made [
       | inl same ↦ stays goes.view (ap (λ (u : View). u.looking) same)
       | inr c ↦ subst (LookGoes s met) (sym c.3) (look_goes c.0 c.1 c.2)
     ]
@@ -195,12 +192,12 @@ module _ (keys : List ℕ) (cards : ℕ) (seat key : ℕ) (real : key ≤ greate
         let join = turn.1.machine in
         (turn.0, still_met key real met m at.stages m' (joins_lawful m at.stages one other m' at.holds join) (ap (λ (n : Machine). n.words) join.gives) at.are)
 
-    turn_stands : (t : Turn) (s' : TableState) → TableTurns cards s t s' → LooksOn seat (t ∷ [])
+    turn_stands : (t : Turn) (s' : TableState) → TableTurns cards s t s' → Only BeginsNothing seat t
         → (kept : HasMachine keys cards s') × Stands s' (λ x. met x ⊎ OnWalk kept.words key 0 x)
     turn_stands t s' h on =
         let gone = turn_met t s' h in
-        let goes = turn_seat cards s seat at.view at.there t s' h on in
-        let look = seat_looks s' goes in (
+        let goes = turn_seat BeginsNothing cards s seat at.view at.there t s' h on in
+        let look = seat_looks t s' goes in (
           gone.0,
           record {
             kept = gone.0;
@@ -211,7 +208,7 @@ module _ (keys : List ℕ) (cards : ℕ) (seat key : ℕ) (real : key ≤ greate
             there = goes.there;
             node = look.node;
             looks = look.looks;
-            free = (turn_free cards s seat at.view s' goes at.free).free;
+            free = (turn_free cards s seat at.view t s' goes at.free).free;
             was = inl look.was;
           },
         )

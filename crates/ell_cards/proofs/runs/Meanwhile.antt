@@ -15,7 +15,7 @@ use Rattle.ell_core.specs.state.Words.{Words, put}
 use Rattle.ell_core.specs.state.Machine.{Worker, Machine, no_search, nobody, worker_of}
 use Rattle.ell_core.specs.state.Moves.{WorkerIsIdle}
 use Rattle.ell_core.specs.history.Stages.{Stage, Stages}
-use Rattle.ell_core.specs.history.Invariant.{Invariant}
+use Rattle.ell_core.specs.history.Invariant.{Invariant, WorkerIsSound}
 use Rattle.ell_core.specs.history.Later.{WordsLater, StagesLater, wins_of}
 use Rattle.ell_core.specs.statements.Since.{has_ended, cut_at, IsOfUnended, SearchSince, GoesOn}
 use Rattle.ell_core.proofs.outcomes.Decide.{some_not_none}
@@ -38,7 +38,7 @@ use Rattle.ell_cards.specs.declared.view.Hindrance.TheVariants.{Claim, Found}
 use Rattle.ell_cards.specs.declared.view.View.{View}
 use Rattle.ell_cards.specs.Models.{EndedBy}
 use Rattle.ell_cards.specs.Calls.{after, act_of, said_of, Becomes, May}
-use Rattle.ell_cards.specs.Changes.{left_view, right_view, joined_view, spent_view}
+use Rattle.ell_cards.specs.Changes.{way_now, left_view, right_view, joined_view, spent_view}
 use Rattle.ell_cards.specs.States.{TableState, seat_worker}
 use Rattle.ell_cards.specs.Machines.{HasMachine}
 use Rattle.ell_cards.specs.Laws.{machine_of_table}
@@ -51,6 +51,7 @@ use Rattle.ell_core.proofs.following.Lawful.{splits_lawful, joins_lawful}
 use Rattle.ell_core.proofs.words.Listed.{listed_next}
 use Rattle.ell_cards.proofs.seats.Seats.{inside, set_there}
 use Rattle.ell_cards.proofs.lifetimes.Splits.{before_last}
+use Rattle.ell_cards.proofs.runs.InHand.{hand_way}
 use Rattle.ell_cards.proofs.runs.Hindered.{HinderedSince, AllMet, call_hindered, hindered_rests}
 use Rattle.ell_cards.proofs.runs.GoingOn.{Went, went_nowhere, call_wins, cleans_chain, run_goes}
 use Rattle.ell_cards.proofs.runs.Starting.{starts_are_kept}
@@ -321,8 +322,14 @@ module _ (keys : List ℕ) (start : List (ℕ × ℕ)) (cards : ℕ) (q : Search
     hindered = record {
       met = [];
       list = refl;
+      earlier = [];
+      tries = ap (λ hs. hs ++ []) (sym q.begins.unmet);
       each = tt;
       next = λ n e. absurd (some_not_none e q.begins.unread);
+      named = λ seen h. elim h [
+        | inl e ↦ absurd (some_not_none e (ap (λ (k : Search). k.parent) q.begins.root))
+        | inr e ↦ absurd (some_not_none e (ap (λ (k : Search). k.grandparent) q.begins.root))
+      ];
       own = λ c has. tt;
       hand = λ k c busy has flagged. absurd (some_not_none has q.begins.no_card);
     };
@@ -362,7 +369,15 @@ module _ (keys : List ℕ) (start : List (ℕ × ℕ)) (cards : ℕ) (q : Search
       let low = h.0.0 in
       let high = h.0.1 in
       ((omega arith, omega arith), met_in hs h.1)
-  met_in (Found u ∷ hs) h = ((ends_by u.card h.0.0, λ calm. ended_in u.card h.0.0 (h.0.1 calm)), met_in hs h.1)
+  met_in (Found u ∷ hs) h =
+      let is = listed_next q.now.words ∙ led.kept.next in
+      let low = h.0.2 in
+      ((ends_by u.card h.0.0, λ calm. ended_in u.card h.0.0 (h.0.1 calm), omega arith), met_in hs h.1)
+
+  -- what its search has read is not in the way of a pass with a card in hand
+  hand_free : (c : ℕ) → q.view.worker.card ≡ Some c → way_now q.view ≡ []
+  hand_free c has = hand_way led.kept.words led.went.stages q.view led.went.invariant.words
+      (subst (WorkerIsSound led.kept.words led.went.stages) mine (led.went.invariant.workers.each q.seat)) c has
 
 -- what a search has read since it began ends meanwhile
 pub searches_read_meanwhile : SearchesReadMeanwhile
@@ -382,8 +397,11 @@ searches_meet_meanwhile keys start cards q =
     let same : l.view ≡ q.view = some-injective l.view q.view (sym l.there ∙ q.there) in record {
       met = l.hindered.met;
       list = subst (λ (u : View). u.hindrances ≡ l.hindered.met ++ q.begins.view.hindrances) same l.hindered.list;
+      earlier = l.hindered.earlier;
+      tries = l.hindered.tries ∙ ap (λ (u : View). u.met ++ l.hindered.earlier) same;
       each = met_in keys start cards q l.hindered.met l.hindered.each;
       own = λ c has. l.hindered.own c (ap (λ (u : View). u.worker.card) same ∙ has);
+      free = hand_free keys start cards q;
     }
 
 -- what a pass knows of moves was made
@@ -406,6 +424,6 @@ pub searches_begin_there : SearchesBeginThere
 searches_begin_there cards s seat c s' h is = subst (λ (t : TableState). BeginsHere t seat) (sym h.gives) (by c is)
   where
     by : (c : Call) → IsBeginning c → BeginsHere (state_after s seat h.view c) seat
-    by (call.Begin op) is = record { view = view_after s h.view (call.Begin op); there = set_there s.views seat (view_after s h.view (call.Begin op)) h.view h.there; root = refl; no_card = refl; unread = refl }
-    by call.Again is = record { view = view_after s h.view call.Again; there = set_there s.views seat (view_after s h.view call.Again) h.view h.there; root = refl; no_card = refl; unread = refl }
+    by (call.Begin op) is = record { view = view_after s h.view (call.Begin op); there = set_there s.views seat (view_after s h.view (call.Begin op)) h.view h.there; root = refl; no_card = refl; unread = refl; unmet = refl }
+    by call.Again is = record { view = view_after s h.view call.Again; there = set_there s.views seat (view_after s h.view call.Again) h.view h.there; root = refl; no_card = refl; unread = refl; unmet = refl }
     by _ is = absurd is

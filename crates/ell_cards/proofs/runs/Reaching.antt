@@ -32,7 +32,7 @@ use Rattle.ell_cards.proofs.runs.TurnsOfRuns.{runs_are_lawful}
 use Rattle.ell_cards.proofs.runs.OwnLooks.{looks_read_their_own}
 
 -- a run, and a turn after it
-one_more_turn : (last : ℕ) (s : TableState) (turns : List Turn) (s' : TableState) (t : Turn) (s'' : TableState) → TableRun last s turns s'
+pub one_more_turn : (last : ℕ) (s : TableState) (turns : List Turn) (s' : TableState) (t : Turn) (s'' : TableState) → TableRun last s turns s'
     → TableTurns last s' t s'' → TableRun last s (turns ++ t ∷ []) s''
 one_more_turn last s [] s' t s'' run turn = (s'', subst (λ x. TableTurns last x t s'') run turn, refl)
 one_more_turn last s (u ∷ us) s' t s'' run turn = (run.0, run.1, one_more_turn last run.0 us s' t s'' run.2 turn)

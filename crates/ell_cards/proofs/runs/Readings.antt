@@ -123,7 +123,7 @@ AllPast s = (j : ℕ) (v : View) → get_elem? s.views j ≡ some v → IsPast (
 
 module _ (keys : List ℕ) (last : ℕ) where
   -- the claim word rises
-  claim_word_rises : (s : TableState) → HasMachine keys last s → (t : Turn) (s' : TableState) → TableTurns last s t s' → get_or s.words 0 0 ≤ get_or s'.words 0 0
+  pub claim_word_rises : (s : TableState) → HasMachine keys last s → (t : Turn) (s' : TableState) → TableTurns last s t s' → get_or s.words 0 0 ≤ get_or s'.words 0 0
   claim_word_rises s r t s' turn =
       let goes = run_goes keys last s r r.stages r.invariant (t ∷ []) s' (s', turn, refl) in
       let rises = goes.1.words.next in

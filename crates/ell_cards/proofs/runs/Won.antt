@@ -88,14 +88,14 @@ mark_won false c x u v = by (is_mark_of c u.state u.card)
     by true = refl
     by false = refl
 
-after_won : (c : Call) (n : ℕ) (v : View) → (after c n v).won ≡ won_by c n ++ v.won
+pub after_won : (c : Call) (n : ℕ) (v : View) → (after c n v).won ≡ won_by c n ++ v.won
 after_won (call.Claim c) n v = claim_won (n == c) c v
 after_won (call.IFlag c p from) n v = ap (λ ws. if_won (n == packed from) kind.IFlag c ++ ws) (flag_won (n == packed from) (fact.IFlagged c) p (unpacked n) v)
 after_won (call.DFlag c gp from) n v = ap (λ ws. if_won (n == packed from) kind.DFlag c ++ ws) (flag_won (n == packed from) (fact.DFlagged c) gp (unpacked n) v)
 after_won (call.Mark c p was) n v = ap (λ ws. if_won (n == was) kind.Mark c ++ ws) (mark_won (n == was) c p (unpacked n) v)
 after_won _ n v = refl
 
-times_append : (k : Kind) (c : ℕ) (a b : List (Kind × ℕ)) → times k c (a ++ b) ≡ times k c a + times k c b
+pub times_append : (k : Kind) (c : ℕ) (a b : List (Kind × ℕ)) → times k c (a ++ b) ≡ times k c a + times k c b
 times_append k c [] b = omega arith
 times_append k c (e ∷ es) b = let h = times_append k c es b in omega arith
 

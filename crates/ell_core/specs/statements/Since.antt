@@ -1,4 +1,4 @@
-use Rattle.std.specs.Prelude.{◌≡◌, ◌≢◌, ℕ, ◌<◌, ◌≤◌, Bool, true, false, Some}
+use Rattle.std.specs.Prelude.{◌≡◌, ◌≢◌, ℕ, ◌<◌, ◌≤◌, ◌⊎◌, Bool, true, false, Some}
 use Rattle.ell_ops.specs.declared.op.Op.{Op}
 use Rattle.ell_ops.specs.Meaning.{key_of}
 use Rattle.ell_word.specs.Word.{unpacked}
@@ -13,7 +13,7 @@ use Rattle.ell_core.specs.state.Machine.{Worker, Machine}
 use Rattle.ell_core.specs.state.Cards.{clean}
 use Rattle.ell_core.specs.acts.Searching.{at_root}
 use Rattle.ell_core.specs.acts.Events.{Steps}
-use Rattle.ell_core.specs.history.Stages.{Stage, Stages, IOver, DOver, DBacked, is_cut}
+use Rattle.ell_core.specs.history.Stages.{Stage, Stages, IOver, DOver, DBacked, is_insert, is_cut}
 use Rattle.ell_core.specs.history.Invariant.{Invariant}
 use Rattle.ell_core.specs.history.Later.{WordsLater, StagesLater, Follows}
 use Rattle.ell_core.specs.statements.Walks.{Avoids}
@@ -66,10 +66,15 @@ SearchesGoOn = (m : Machine) (stage : Stages) (old : Machine) (before : Stages) 
     → Invariant m stage → Invariant old before → WordsLater m.words old.words → StagesLater stage before → Steps old e said new
     → (e.worker ≡ i → GoesOn e.act) → SearchSince m.words stage old.words (old.worker i) → SearchSince m.words stage new.words (new.worker i)
 
--- each update word that has risen since to a clean one, of a card that may have a flag, is of one that has ended since
+-- a card is an insert's, or it is a claimed one that goes to this grandparent
+abbrev pub IsInsertOrBelow : Words → Stages → ℕ → ℕ → Type 0
+IsInsertOrBelow now after x c = (is_insert (after c) ≡ true) ⊎ ((c < now.next) × (now.gp c ≡ x))
+
+-- each update word that has risen since to a clean one, of a card that may have a flag, is of one that has ended since; a delete's stands
+-- at its grandparent
 abbrev pub CleansSince : Words → Stages → Words → Stages → Type 0
 CleansSince w stage now after = (x c : ℕ) → w.update x < now.update x → now.update x ≡ clean c → 0 < c
-    → (has_ended (stage c) ≡ false) × (has_ended (after c) ≡ true)
+    → (has_ended (stage c) ≡ false) × (has_ended (after c) ≡ true) × IsInsertOrBelow now after x c
 
 -- and it goes on so, whatever event comes
 abbrev pub CleansGoOn : Type 0
