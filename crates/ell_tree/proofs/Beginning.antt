@@ -4,20 +4,24 @@ use Rattle.ell_cards.specs.declared.view.View.{View}
 use Rattle.ell_cards.specs.Models.{PassModel, Steps, Does, latest}
 use Rattle.ell_cards.specs.Changes.{after_begin, after_again, after_leave, in_the_way, tries_hindered}
 use Rattle.ell_tree.specs.Hindrances.{way_of}
+use Rattle.ell_tree.specs.Searches.{AtRoot}
 use Rattle.ell_tree.specs.Tries.{Begins, Lays}
+use Rattle.ell_tree.proofs.Meeting.{root_way}
+use Rattle.ell_tree.proofs.Hindering.{root_hindered}
 
 -- an operation that was taken in hand stands at the root
-pub begins : (old new : PassModel) (op : Op) → Steps old new (after_begin (Some op) old.view) → Begins op [] old new
-begins old new op s = subst (λ (m : PassModel). Begins op [] old m) (sym s) (record {
+pub begins : (old new : PassModel) (op : Op) → Steps old new (after_begin (Some op) old.view) → Begins op [] old.view.hindered old new
+begins old new op s = subst (λ (m : PassModel). Begins op [] old.view.hindered old m) (sym s) (record {
   table = refl;
   label = refl;
   ledger = refl;
   answers = refl;
   hindrances = refl;
+  hindered = refl;
   knows = λ f h. h;
   before = refl;
   least = refl;
-  root = record { busy = refl; root = refl; no_card = refl; met = latest _ _; before = refl };
+  root = record { busy = refl; root = refl; no_card = refl; met = latest _ _; before = refl; unmet = refl };
   steps = omega arith;
 })
 
@@ -28,21 +32,38 @@ anew o v = record (after_begin o v) {
   hindered = tries_hindered v;
 }
 
-pub begins_anew : (old new : PassModel) (op : Op) → Steps old new (after_again old.view) → Does old.view op → Begins op (way_of op old.view) old new
+pub begins_anew : (old new : PassModel) (op : Op) → Steps old new (after_again old.view) → Does old.view op → Begins op (way_of op old.view) (tries_hindered old.view) old new
 begins_anew old new op s busy =
     let again = subst (λ (o : Option Op). Steps old new (anew o old.view)) busy s in
-    subst (λ (m : PassModel). Begins op (way_of op old.view) old m) (sym again) (record {
+    subst (λ (m : PassModel). Begins op (way_of op old.view) (tries_hindered old.view) old m) (sym again) (record {
       table = refl;
       label = refl;
       ledger = refl;
       answers = refl;
       hindrances = refl;
+      hindered = refl;
       knows = λ f h. h;
       before = refl;
       least = refl;
-      root = record { busy = refl; root = refl; no_card = refl; met = latest _ _; before = refl };
+      root = record { busy = refl; root = refl; no_card = refl; met = latest _ _; before = refl; unmet = refl };
       steps = omega arith;
     })
+
+-- a first try stands at the root already, and has met nothing
+pub begins_first : (p : PassModel) (op : Op) → AtRoot op p.view → Begins op (way_of op p.view) (tries_hindered p.view) p p
+begins_first p op at = record {
+  table = refl;
+  label = refl;
+  ledger = refl;
+  answers = refl;
+  hindrances = ap (λ hs. hs ++ p.view.hindrances) (sym (root_way op p.view at.root));
+  hindered = sym (root_hindered op p.view at);
+  knows = λ f h. h;
+  before = at.before;
+  least = refl;
+  root = at;
+  steps = omega arith;
+}
 
 -- an operation that is laid down
 pub lays : (old new : PassModel) (op : Op) → Steps old new (after_leave old.view) → Does old.view op → Lays op old new
@@ -54,6 +75,7 @@ lays old new op s busy = subst (λ (m : PassModel). Lays op old m) (sym s) (reco
   hindrances = ap
       (λ (o : Option Op). in_the_way o old.view.worker.search.node old.view.worker.search.parent old.view.worker.search.grandparent ++ old.view.hindrances)
       busy;
+  hindered = refl;
   knows = λ f h. h;
   next = refl;
   facts = refl;

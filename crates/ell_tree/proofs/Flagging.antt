@@ -1,4 +1,4 @@
-use Rattle.std.proofs.Common.{◌≡◌, ℕ, ◌+◌, ◌≤◌, Some, Result, Ok, Err, IfErr, List, refl, sym, ◌∙◌, ap, subst, is_ok, arith}
+use Rattle.std.proofs.Common.{◌≡◌, ℕ, ◌+◌, ◌≤◌, Some, Result, Ok, Err, IfErr, List, ◌∷◌, refl, sym, ◌∙◌, ap, subst, is_ok, arith}
 use Rattle.ell_ops.specs.declared.op.Op.TheVariants.{Insert, Delete}
 use Rattle.ell_word.specs.declared.gate.Kind.{Kind}
 use Rattle.ell_word.specs.declared.update.Update.{Update}
@@ -7,6 +7,7 @@ use Rattle.ell_core.specs.declared.fact.Fact.{Fact}
 use Rattle.ell_core.specs.declared.field.Field.{Field}
 use Rattle.ell_core.specs.state.Cards.{insert_filling, delete_filling}
 use Rattle.ell_cards.specs.declared.view.Told.TheVariants.{Met}
+use Rattle.ell_cards.specs.declared.view.Hindrance.TheVariants.{Found}
 use Rattle.ell_cards.specs.declared.view.View.{View}
 use Rattle.ell_cards.specs.Models.{PassModel, Steps}
 use Rattle.ell_cards.specs.Changes.{after_flag, if_won, exchanged, found_word, found_update, with_stores}
@@ -72,6 +73,8 @@ module _ (k : Kind) (flag : ℕ → Fact) (c x : ℕ) (from : Update) where
     told = λ e h. h;
     before = refl;
     least = omega arith;
+    hindered = refl;
+    earlier = λ hs e. e;
   }
   flagging_keeps stores (Err u) v = record {
     ledger = refl;
@@ -81,6 +84,8 @@ module _ (k : Kind) (flag : ℕ → Fact) (c x : ℕ) (from : Update) where
     told = places_more x u.state u.card v.told;
     before = refl;
     least = omega arith;
+    hindered = refl;
+    earlier = λ hs e. ap (λ ks. Found u ∷ ks) e;
   }
 
   module _ (a b d : PassModel) (n : ℕ) (r : Result (Unit {0}) Update) (fills : Fills a b n) (step : Steps b d (flagging r b.view)) where

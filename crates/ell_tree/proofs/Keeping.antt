@@ -26,6 +26,8 @@ keeps_trans u v w a b = record {
   told = λ e h. b.told e (a.told e h);
   before = b.before ∙ a.before;
   least = omega (arith, a.least, b.least);
+  hindered = b.hindered ∙ a.hindered;
+  earlier = λ hs e. b.earlier hs (a.earlier hs e);
 }
 
 pub goes_trans : (a b c : PassModel) (m n k : ℕ) → Goes a b m → Goes b c n → m + n ≤ k → Goes a c k
@@ -82,7 +84,7 @@ walks_none a n = record {
   goes = record {
     table = refl;
     label = refl;
-    view = record { ledger = refl; operation = refl; answers = refl; knows = λ f h. h; told = λ e h. h; before = refl; least = omega arith };
+    view = record { ledger = refl; operation = refl; answers = refl; knows = λ f h. h; told = λ e h. h; before = refl; least = omega arith; hindered = refl; earlier = λ hs e. e };
     steps = omega arith;
   };
   card = refl;
@@ -172,22 +174,24 @@ upd_keeps x u v = record {
   told = places_more x u.state u.card v.told;
   before = refl;
   least = omega arith;
+  hindered = refl;
+  earlier = λ hs e. e;
 }
 
 pub key_of_keeps : (x key : ℕ) (v : View) → LosesNothing v (after_key_of x key v)
-key_of_keeps x key v = record { ledger = refl; operation = refl; answers = refl; knows = λ f h. h; told = λ e h. earlier e _ _ h; before = refl; least = omega arith }
+key_of_keeps x key v = record { ledger = refl; operation = refl; answers = refl; knows = λ f h. h; told = λ e h. earlier e _ _ h; before = refl; least = omega arith; hindered = refl; earlier = λ hs e. e }
 
 pub value_of_keeps : (x value : ℕ) (v : View) → LosesNothing v (after_value_of x value v)
-value_of_keeps x value v = record { ledger = refl; operation = refl; answers = refl; knows = λ f h. h; told = λ e h. earlier e _ _ h; before = refl; least = omega arith }
+value_of_keeps x value v = record { ledger = refl; operation = refl; answers = refl; knows = λ f h. h; told = λ e h. earlier e _ _ h; before = refl; least = omega arith; hindered = refl; earlier = λ hs e. e }
 
 pub down_keeps : (x child : ℕ) (v : View) → LosesNothing v (after_down x child v)
-down_keeps x child v = record { ledger = refl; operation = refl; answers = refl; knows = λ f h. h; told = λ e h. earlier e _ _ h; before = refl; least = omega arith }
+down_keeps x child v = record { ledger = refl; operation = refl; answers = refl; knows = λ f h. h; told = λ e h. earlier e _ _ h; before = refl; least = omega arith; hindered = refl; earlier = λ hs e. e }
 
 pub info_keeps : (c : ℕ) (f : Field) (x : ℕ) (v : View) → LosesNothing v (after_info c f x v)
-info_keeps c f x v = record { ledger = refl; operation = refl; answers = refl; knows = λ g h. h; told = info_more c f x v.told; before = refl; least = omega arith }
+info_keeps c f x v = record { ledger = refl; operation = refl; answers = refl; knows = λ g h. h; told = info_more c f x v.told; before = refl; least = omega arith; hindered = refl; earlier = λ hs e. e }
 
 pub frozen_keeps : (c : ℕ) (right : Bool) (x : ℕ) (v : View) → LosesNothing v (after_frozen_child c right x v)
-frozen_keeps c right x v = record { ledger = refl; operation = refl; answers = refl; knows = λ f h. h; told = λ e h. earlier e _ _ (earlier e _ _ h); before = refl; least = omega arith }
+frozen_keeps c right x v = record { ledger = refl; operation = refl; answers = refl; knows = λ f h. h; told = λ e h. earlier e _ _ (earlier e _ _ h); before = refl; least = omega arith; hindered = refl; earlier = λ hs e. e }
 
 pub learning_keeps : (wins : List (Kind × ℕ)) (n : ℕ) (f : Fact) (v : View) → LosesNothing v (exchanged wins n (learning f v))
 learning_keeps wins n f v = record {
@@ -198,7 +202,9 @@ learning_keeps wins n f v = record {
   told = λ e h. h;
   before = refl;
   least = omega arith;
+  hindered = refl;
+  earlier = λ hs e. e;
 }
 
 pub next_keeps : (n : ℕ) (v : View) → LosesNothing v (after_next n v)
-next_keeps n v = record { ledger = refl; operation = refl; answers = refl; knows = λ f h. h; told = λ e h. h; before = refl; least = omega arith }
+next_keeps n v = record { ledger = refl; operation = refl; answers = refl; knows = λ f h. h; told = λ e h. h; before = refl; least = omega arith; hindered = refl; earlier = λ hs e. e }

@@ -28,5 +28,7 @@ pub mod Splitting
 pub mod Closing
 -- what the steps of a look leave of a pass
 pub mod Glances
+-- a try that something hindered is counted once it is given up
+pub mod Hindering
 -- how many moves of cards a pass knows of, and why each try that is hindered shows it one more
 pub mod Moving

@@ -1,12 +1,14 @@
-use Rattle.std.proofs.Common.{◌≡◌, ℕ, ◌≤◌, if◌then◌else◌, Bool, true, false, Some, None, Result, Ok, Err, [], ◌∷◌, IfSome, IfErr, refl, sym, ap, subst, is_ok, arith}
+use Rattle.std.proofs.Common.{◌≡◌, ℕ, ◌≤◌, if◌then◌else◌, Bool, true, false, Some, None, Result, Ok, Err, List, [], ◌∷◌, ◌++◌, IfSome, IfErr, refl, sym, ap, subst, is_ok, arith}
 use Rattle.ell_word.specs.declared.update.Update.{Update}
 use Rattle.ell_word.specs.Word.{unpacked}
 use Rattle.ell_word.specs.declared.gate.Kind.TheVariants as kind
 use Rattle.ell_core.specs.declared.fact.Fact.TheVariants as fact
 use Rattle.ell_cards.specs.declared.view.Told.TheVariants.{Met}
+use Rattle.ell_cards.specs.declared.view.Hindrance.{Hindrance}
+use Rattle.ell_cards.specs.declared.view.Hindrance.TheVariants.{Found}
 use Rattle.ell_cards.specs.declared.view.View.{View}
 use Rattle.ell_cards.specs.Models.{PassModel, Steps, Knows}
-use Rattle.ell_cards.specs.Changes.{learning, if_won, exchanged, found_word, found_update, is_mark_of, unmarking, after_mark}
+use Rattle.ell_cards.specs.Changes.{learning, if_won, exchanged, found_word, found_update, is_mark_of, is_held, unmarking, after_mark}
 use Rattle.ell_cards.proofs.views.Facts.{knows_new, knows_more, facts_by_more}
 use Rattle.ell_cards.proofs.views.Entries.{places_more}
 use Rattle.ell_cards.proofs.views.Steps.{view_after}
@@ -18,6 +20,11 @@ use Rattle.ell_tree.proofs.Keeping.{works_step, learning_keeps, place_told}
 abbrev marking : ℕ → ℕ → ℕ → Result (Unit {0}) Update → View → View
 marking c p was r v = exchanged (if_won (is_ok r) kind.Mark c) (found_word was r) (after_mark (is_ok r) c p (found_update (unpacked was) r) v)
 
+-- what a lost mark found is of the try in hand, if it is in the way
+if_found : (b : Bool) (h : Hindrance) (old met hs : List Hindrance) → old ≡ met ++ hs → (if b then h ∷ old else old) ≡ (if b then h ∷ met else met) ++ hs
+if_found true h old met hs e = ap (λ ks. h ∷ ks) e
+if_found false h old met hs e = e
+
 unmarking_keeps : (n c p : ℕ) (u : Update) (v : View) → LosesNothing v (exchanged [] n (unmarking c p u v))
 unmarking_keeps n c p u v = record {
   ledger = refl;
@@ -27,6 +34,8 @@ unmarking_keeps n c p u v = record {
   told = places_more p u.state u.card v.told;
   before = refl;
   least = omega arith;
+  hindered = refl;
+  earlier = λ hs e. if_found (is_held v.worker.card c) (Found u) v.hindrances v.met hs e;
 }
 
 module _ (n c p : ℕ) (u : Update) (old new : PassModel) where

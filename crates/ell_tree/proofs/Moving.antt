@@ -12,7 +12,7 @@ use Rattle.ell_tree.specs.Hindrances.{IsEnded}
 use Rattle.ell_tree.specs.Moves.{GivesOut, SeesMove, ends_known, moves_known}
 
 -- that a card has ended, as a test of the facts
-ended_test : (facts : List Fact) (c : ℕ) → EndedBy facts c → knows_end facts c ≡ true
+pub ended_test : (facts : List Fact) (c : ℕ) → EndedBy facts c → knows_end facts c ≡ true
 ended_test facts c (inl h) = or_left (known_of facts (fact.IOver c)) (known_of facts (fact.DOver c) || known_of facts (fact.Backed c)) h
 ended_test facts c (inr (inl h)) =
     or_right (known_of facts (fact.IOver c)) (known_of facts (fact.DOver c) || known_of facts (fact.Backed c))

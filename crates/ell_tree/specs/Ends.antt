@@ -34,6 +34,11 @@ abbrev pub HeldFor : ℕ → ℕ → PassModel → PassModel → Held → Type 0
 HeldFor cards tries old new Busy = hindrances old + tries ≤ hindrances new
 HeldFor cards tries old new Spent = new.view.next ≡ Some (cards + 1)
 
+-- of so many tries at most, those that something hindered which was over by then are counted
+pub record CountsTries (tries : ℕ) (old new : PassModel) : Type 0 where
+  pub least : old.view.hindered ≤ new.view.hindered
+  pub most : new.view.hindered ≤ old.view.hindered + tries
+
 -- what an insert or a delete says, as a reply
 abbrev pub replied : Result Bool Held → Result Reply Held
 replied (Ok said) = Ok (yes_if said)

@@ -1,4 +1,4 @@
-use Rattle.std.specs.Prelude.{◌≡◌, ℕ, ◌+◌, ◌≤◌}
+use Rattle.std.specs.Prelude.{◌≡◌, ℕ, ◌+◌, ◌≤◌, ◌++◌, List}
 use Rattle.ell_word.specs.declared.update.Update.{Update}
 use Rattle.ell_word.specs.declared.update.State.{State}
 use Rattle.ell_word.specs.declared.update.State.TheVariants as state
@@ -8,10 +8,11 @@ use Rattle.ell_core.specs.declared.fact.Fact.TheVariants as fact
 use Rattle.ell_core.specs.declared.field.Field.TheVariants as field
 use Rattle.ell_cards.specs.declared.view.Told.{Told}
 use Rattle.ell_cards.specs.declared.view.Told.TheVariants.{Met, Info}
+use Rattle.ell_cards.specs.declared.view.Hindrance.{Hindrance}
 use Rattle.ell_cards.specs.declared.view.View.{View}
 use Rattle.ell_cards.specs.Models.{PassModel, InTable, IsTold, Knows}
 
--- ledger, operation and answers stay, and nothing is forgotten
+-- ledger, operation and answers stay, and nothing is forgotten; no try is given up, so what was in the way before the one in hand is the same
 pub record LosesNothing (v w : View) : Type 0 where
   pub ledger : w.worker.ledger ≡ v.worker.ledger
   pub operation : w.worker.operation ≡ v.worker.operation
@@ -20,6 +21,8 @@ pub record LosesNothing (v w : View) : Type 0 where
   pub told : (e : Told) → IsTold v e → IsTold w e
   pub before : w.knew_before ≡ v.knew_before
   pub least : v.next_at_least ≤ w.next_at_least
+  pub hindered : w.hindered ≡ v.hindered
+  pub earlier : (hs : List Hindrance) → v.hindrances ≡ v.met ++ hs → w.hindrances ≡ w.met ++ hs
 
 -- a pass made at most so many steps, and kept these
 pub record Goes (old new : PassModel) (n : ℕ) : Type 0 where

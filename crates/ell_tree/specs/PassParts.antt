@@ -16,6 +16,7 @@ pub record IsFirst (start : List (ℕ × ℕ)) (t : TreeModel) (p : PassModel) :
   pub present : present_in p ≡ contents_of start
   pub answers : answers p ≡ 0
   pub hindrances : hindrances p ≡ 0
+  pub hindered : p.view.hindered ≡ 0
   pub steps : p.steps ≡ 0
   pub label : p.label ≡ 0
   pub moves : (cards : ℕ) → moves_known cards p.view ≡ 0
@@ -27,6 +28,7 @@ pub record IsLeftPart (keys : List ℕ) (p part : PassModel) : Type 0 where
   pub ledger : (k : ℕ) → ledger part k ≡ (if set_of keys k then ledger p k else None)
   pub answers : answers part ≡ answers p
   pub hindrances : hindrances part ≡ hindrances p
+  pub hindered : part.view.hindered ≡ p.view.hindered
   pub steps : part.steps ≡ one_more p.steps
   pub label : part.label ≡ p.label
   pub moves : (cards : ℕ) → moves_known cards part.view ≡ moves_known cards p.view
@@ -38,6 +40,7 @@ pub record IsRightPart (keys : List ℕ) (p part : PassModel) : Type 0 where
   pub ledger : (k : ℕ) → ledger part k ≡ (if set_of keys k then None else ledger p k)
   pub answers : answers part ≡ 0
   pub hindrances : hindrances part ≡ 0
+  pub hindered : part.view.hindered ≡ 0
   pub steps : part.steps ≡ one_more p.steps
   pub label : part.label ≡ p.label
   pub moves : (cards : ℕ) → moves_known cards part.view ≡ moves_known cards p.view
@@ -54,6 +57,7 @@ pub record IsUnion (left right both : PassModel) : Type 0 where
   pub ledger : (k : ℕ) → ledger both k ≡ or_else (ledger left k) (ledger right k)
   pub answers : answers both ≡ answers left + answers right
   pub hindrances : hindrances both ≡ hindrances left + hindrances right
+  pub hindered : both.view.hindered ≡ left.view.hindered + right.view.hindered
   pub next : both.view.next ≡ later left.view.next right.view.next
   pub steps : both.steps ≡ one_more (max left.steps right.steps)
   pub label : both.label ≡ left.label

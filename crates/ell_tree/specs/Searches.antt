@@ -1,4 +1,4 @@
-use Rattle.std.specs.Prelude.{◌≡◌, ◌≢◌, ℕ, ◌==◌, if◌then◌else◌, IfSome, Option, Some, None}
+use Rattle.std.specs.Prelude.{◌≡◌, ◌≢◌, ℕ, ◌==◌, if◌then◌else◌, IfSome, Option, Some, None, []}
 use Rattle.ell_ops.specs.declared.op.Op.{Op}
 use Rattle.ell_ops.specs.Meaning.{key_of}
 use Rattle.ell_word.specs.Word.{packed}
@@ -15,13 +15,14 @@ use Rattle.ell_tree.specs.declared.searching.Passed.{Passed}
 use Rattle.ell_tree.specs.declared.searching.Place.{Place}
 use Rattle.ell_tree.specs.Keeping.{IsSeenAt}
 
--- an operation is in hand, and its search stands at the root
+-- an operation is in hand, its search stands at the root, and its try has met nothing yet
 pub record AtRoot (op : Op) (v : View) : Type 0 where
   pub busy : Does v op
   pub root : v.worker.search ≡ at_root
   pub no_card : v.worker.card ≡ None
   pub met : IsTold v (Met 0)
   pub before : v.knew_before ≡ v.worker.facts
+  pub unmet : v.met ≡ []
 
 -- a node that a search passed, as the view has it
 abbrev pub seen : Passed → Seen

@@ -11,7 +11,7 @@ use Rattle.ell_cards.specs.declared.view.Hindrance.{Hindrance}
 use Rattle.ell_cards.specs.declared.view.Hindrance.TheVariants.{Found}
 use Rattle.ell_cards.specs.declared.view.View.{View}
 use Rattle.ell_cards.specs.Models.{PassModel, Has, IsTold, Knows, Does, StandsAt}
-use Rattle.ell_cards.specs.Changes.{told_filling, filling_of, with_stores}
+use Rattle.ell_cards.specs.Changes.{told_filling, filling_of, with_stores, tries_hindered}
 use Rattle.ell_cards.specs.Guards.{IsFilled, MayFill}
 use Rattle.ell_tree.specs.declared.searching.Place.{Place}
 use Rattle.ell_tree.specs.declared.trying.Claimed.{Claimed}
@@ -32,13 +32,14 @@ IsChange (Find key) = ⊥
 IsChange (Insert key value) = Unit {0}
 IsChange (Delete key) = Unit {0}
 
--- an operation starts, or starts anew, at the root; what came to be in its way before
-pub record Begins (op : Op) (met : List Hindrance) (old new : PassModel) : Type 0 where
+-- an operation starts, or starts anew, at the root; what came to be in its way before, and how many tries were hindered
+pub record Begins (op : Op) (met : List Hindrance) (tries : ℕ) (old new : PassModel) : Type 0 where
   pub table : new.table ≡ old.table
   pub label : new.label ≡ old.label
   pub ledger : new.view.worker.ledger ≡ old.view.worker.ledger
   pub answers : new.view.answers ≡ old.view.answers
   pub hindrances : new.view.hindrances ≡ met ++ old.view.hindrances
+  pub hindered : new.view.hindered ≡ tries
   pub knows : StillKnows old.view new.view
   pub before : new.view.knew_before ≡ old.view.worker.facts
   pub least : new.view.next_at_least ≡ old.view.next_at_least
@@ -57,6 +58,7 @@ pub record Lays (op : Op) (old new : PassModel) : Type 0 where
   pub ledger : new.view.worker.ledger ≡ old.view.worker.ledger
   pub answers : new.view.answers ≡ old.view.answers
   pub hindrances : new.view.hindrances ≡ way_of op old.view ++ old.view.hindrances
+  pub hindered : new.view.hindered ≡ tries_hindered old.view
   pub knows : StillKnows old.view new.view
   pub next : new.view.next ≡ old.view.next
   pub facts : new.view.worker.facts ≡ old.view.worker.facts
@@ -66,13 +68,14 @@ pub record Lays (op : Op) (old new : PassModel) : Type 0 where
   pub steps : new.steps ≤ old.steps + 1
 
 -- a try ended without an answer, though the operation would change the map; nothing of it is under way, and whatever was in its
--- way is over, what its search has read too
+-- way is over, what its search has read too; it met all that came to be in the way meanwhile
 pub record Halts (op : Op) (old new : PassModel) : Type 0 where
   pub table : new.table ≡ old.table
   pub label : new.label ≡ old.label
   pub ledger : new.view.worker.ledger ≡ old.view.worker.ledger
   pub answers : new.view.answers ≡ old.view.answers
   pub meets : Meets old.view new.view
+  pub in_try : new.view.hindrances ≡ new.view.met ++ old.view.hindrances
   pub way : AreOver new.view (way_of op new.view)
   pub would : reply_of op (present_in old) ≡ Yes
   pub stops : Stops op new.view

@@ -38,6 +38,7 @@ pub(crate) fn try_delete<A: Allocator + Copy, G: StepGate>(
     ensures steps { pass.new.steps + 1 ≤ pass.old.steps + try_steps table.now.last_card }
     ensures ends { TryEnds table.now.last_card (Delete key) pass.old pass.new result }
     ensures least { pass.old.view.next_at_least ≤ pass.new.view.next_at_least }
+    ensures hindered { pass.new.view.hindered ≡ pass.old.view.hindered }
 {
     let op = Op::Delete(key);
     let place = search(table, pass, op, gate);

@@ -32,6 +32,7 @@ pub(crate) fn try_insert<A: Allocator + Copy, G: StepGate>(
     ensures steps { pass.new.steps + 1 ≤ pass.old.steps + try_steps table.now.last_card }
     ensures ends { TryEnds table.now.last_card (Insert key value) pass.old pass.new result }
     ensures least { pass.old.view.next_at_least ≤ pass.new.view.next_at_least }
+    ensures hindered { pass.new.view.hindered ≡ pass.old.view.hindered }
 {
     let op = Op::Insert(key, value);
     let place = search(table, pass, op, gate);

@@ -3,9 +3,10 @@ ghost use Rattle.std.specs.Prelude.{◌≡◌, ◌≢◌, ◌<◌, ◌≤◌, �
 ghost use Rattle.ell_ops.specs.declared.op.Op.{Op};
 ghost use Rattle.ell_ops.specs.declared.op.Op.TheVariants.{Find};
 ghost use Rattle.ell_ops.specs.Meaning.{key_of, found};
+ghost use Rattle.ell_cards.specs.Changes.{tries_hindered};
 ghost use Rattle.ell_cards.specs.Guards.{MayStop};
 ghost use Rattle.ell_cards.specs.Models.{Does};
-ghost use Rattle.ell_tree.specs.Ends.{Answers, Ends, change_steps, find_steps, replied, try_steps};
+ghost use Rattle.ell_tree.specs.Ends.{Answers, CountsTries, Ends, change_steps, find_steps, replied, try_steps};
 ghost use Rattle.ell_tree.specs.Hindrances.{Meets, way_of};
 ghost use Rattle.ell_tree.specs.declared.operations.Held.TheVariants.{Busy};
 ghost use Rattle.ell_tree.specs.Ledgers.{IsIdle, Owns};
@@ -51,6 +52,7 @@ pub(crate) fn find<A: Allocator + Copy, G: StepGate>(
     ensures steps { pass.new.steps ≤ pass.old.steps + find_steps table.now.last_card }
     ensures moved { moves_known table.now.last_card pass.old.view ≤ moves_known table.now.last_card pass.new.view }
     ensures bounded { moves_known table.now.last_card pass.new.view ≤ 2 * table.now.last_card }
+    ensures hindered { pass.new.view.hindered ≡ pass.old.view.hindered }
 {
     let label = pass.label();
     let op = Op::Find(key);
@@ -78,6 +80,8 @@ pub(crate) fn make_change<A: Allocator + Copy, G: StepGate>(
     requires tries { 1 ≤ tries }
     ensures ends { Ends table.now.last_card tries op pass.old pass.new (replied result) }
     ensures steps { pass.new.steps ≤ pass.old.steps + change_steps table.now.last_card tries }
+    ensures hindered { result ≡ Err Busy → pass.new.view.hindered ≡ pass.old.view.hindered + tries }
+    ensures counted { CountsTries tries pass.old pass.new }
     ensures moved { result ≡ Err Busy → moves_known table.now.last_card pass.old.view + tries ≤ moves_known table.now.last_card pass.new.view }
     ensures enough { 2 * table.now.last_card < tries → result ≢ Err Busy }
     ensures bounded { moves_known table.now.last_card pass.new.view ≤ 2 * table.now.last_card }
@@ -106,6 +110,8 @@ fn try_often<A: Allocator + Copy, G: StepGate>(
     requires tries { 1 ≤ tries }
     ensures ends { Ends table.now.last_card tries op pass.old pass.new (replied result) }
     ensures steps { pass.new.steps ≤ pass.old.steps + change_steps table.now.last_card tries }
+    ensures hindered { result ≡ Err Busy → pass.new.view.hindered ≡ pass.old.view.hindered + tries }
+    ensures counted { CountsTries tries pass.old pass.new }
     ensures moved { result ≡ Err Busy → moves_known table.now.last_card pass.old.view + tries ≤ moves_known table.now.last_card pass.new.view }
     ensures enough { 2 * table.now.last_card < tries → result ≢ Err Busy }
     ensures bounded { moves_known table.now.last_card pass.new.view ≤ 2 * table.now.last_card }
@@ -138,7 +144,7 @@ fn restart<A: Allocator + Copy, G: StepGate>(
     requires own { pass.old.table ≡ table.now.id }
     requires may { MayStop pass.old.view }
     ensures begins { (op : Op) → Does pass.old.view op → (first ≡ true → AtRoot op pass.old.view) →
-        Begins op (way_of op pass.old.view) pass.old pass.new }
+        Begins op (way_of op pass.old.view) (tries_hindered pass.old.view) pass.old pass.new }
     ensures first { first ≡ true → pass.new.steps ≡ pass.old.steps }
 {
     if !first {
@@ -159,6 +165,7 @@ fn try_once<A: Allocator + Copy, G: StepGate>(
     ensures steps { pass.new.steps + 1 ≤ pass.old.steps + try_steps table.now.last_card }
     ensures ends { TryEnds table.now.last_card op pass.old pass.new result }
     ensures least { pass.old.view.next_at_least ≤ pass.new.view.next_at_least }
+    ensures hindered { pass.new.view.hindered ≡ pass.old.view.hindered }
 {
     match op {
         Op::Insert(key, value) => try_insert(table, pass, key, value, gate),

@@ -7,7 +7,7 @@ ghost use Rattle.ell_core.specs.declared.field.Field.TheVariants as field;
 ghost use Rattle.ell_core.specs.state.Machine.{ledger_of};
 ghost use Rattle.ell_cards.specs.declared.view.Told.TheVariants as told;
 ghost use Rattle.ell_cards.specs.Models.{Does, IsFree, IsTold, Knows};
-ghost use Rattle.ell_cards.specs.Changes.{is_mark_of};
+ghost use Rattle.ell_cards.specs.Changes.{is_mark_of, tries_hindered};
 ghost use Rattle.ell_cards.specs.Guards.{MayAnswer, MayAsk, MaySee, MayStop, NamesNode};
 ghost use Rattle.ell_cards.specs.Calls.{TellsDepth, TellsNode};
 ghost use Rattle.ell_tree.specs.Ends.{Answers};
@@ -39,7 +39,7 @@ pub(crate) fn begin<A: Allocator + Copy, G: StepGate>(
     requires own { pass.old.table ≡ table.now.id }
     requires free { IsFree pass.old.view }
     requires owned { ledger_of pass.old.view.worker.ledger (key_of op) ≢ None }
-    ensures { Begins op [] pass.old pass.new }
+    ensures { Begins op [] pass.old.view.hindered pass.old pass.new }
 {
     gate.before(pass.label(), Kind::Note);
     table.begin(pass, op);
@@ -53,7 +53,7 @@ pub(crate) fn again<A: Allocator + Copy, G: StepGate>(
 )
     requires own { pass.old.table ≡ table.now.id }
     requires may { MayStop pass.old.view }
-    ensures { (op : Op) → Does pass.old.view op → Begins op (way_of op pass.old.view) pass.old pass.new }
+    ensures { (op : Op) → Does pass.old.view op → Begins op (way_of op pass.old.view) (tries_hindered pass.old.view) pass.old pass.new }
 {
     gate.before(pass.label(), Kind::Note);
     table.again(pass);
@@ -85,6 +85,7 @@ pub(crate) fn answer<A: Allocator + Copy, G: StepGate>(
     requires may { MayAnswer pass.old.view said }
     ensures answers { (op : Op) → Does pass.old.view op → Answers op said pass.old pass.new }
     ensures hindrances { pass.new.view.hindrances ≡ pass.old.view.hindrances }
+    ensures hindered { pass.new.view.hindered ≡ pass.old.view.hindered }
     ensures facts { pass.new.view.worker.facts ≡ pass.old.view.worker.facts }
     ensures least { pass.new.view.next_at_least ≡ pass.old.view.next_at_least }
     ensures room { pass.new.view.next_at_least ≤ table.now.last_card + 1 }

@@ -9,9 +9,10 @@ ghost use Rattle.ell_ops.specs.Meaning.{greatest_key, found};
 ghost use Rattle.ell_word.specs.Node.{most_start};
 ghost use Rattle.ell_core.specs.state.Opening.{last_card};
 ghost use Rattle.ell_cards.specs.Models.{IsCardCount, Refuses};
+ghost use Rattle.ell_cards.specs.Contention.{AreHinderedByOthers};
 ghost use Rattle.ell_cards.specs.Looking.{IsFoundInRuns};
 ghost use Rattle.ell_tree.specs.Closing.{ClosesTo};
-ghost use Rattle.ell_tree.specs.Ends.{Answers, Ends, change_steps, find_steps, replied, try_steps};
+ghost use Rattle.ell_tree.specs.Ends.{Answers, CountsTries, Ends, change_steps, find_steps, replied, try_steps};
 ghost use Rattle.ell_tree.specs.Hindrances.{Meets};
 ghost use Rattle.ell_tree.specs.Moves.{moves_known};
 ghost use Rattle.ell_tree.specs.declared.operations.Held.TheVariants.{Busy};
@@ -150,6 +151,7 @@ impl<A: Allocator + Copy> Tree<A> {
         ensures rounded { pass.new.steps ≤ pass.old.steps + 64 * (self.now.last_card + 2) }
         ensures moved { moves_known self.now.last_card pass.old.view ≤ moves_known self.now.last_card pass.new.view }
         ensures bounded { moves_known self.now.last_card pass.new.view ≤ 2 * self.now.last_card }
+        ensures hindered { pass.new.view.hindered ≡ pass.old.view.hindered }
     {
         find(&self.table, pass, key, gate)
     }
@@ -162,7 +164,10 @@ impl<A: Allocator + Copy> Tree<A> {
     /// then: a card that another pass took first, or a change of a neighbour, which was helped to its end where nobody else
     /// had ended it. Each try that ends without an answer shows the pass a card given out, or come to its end, that it did not
     /// know of (`moves_known`), and no card does either twice: so with more than `2 * cards` tries it is never `Busy`, and all calls of a
-    /// pass together make at most `7 * cards + 28` steps each, and `2 * cards * (7 * cards + 27)` more, in every schedule.
+    /// pass together make at most `7 * cards + 28` steps each, and `2 * cards * (7 * cards + 27)` more, in every schedule. Each such try is
+    /// counted (`hindered`): of a call that answers `Busy`, all its tries. And others did something for each (`by_others`): in every run of
+    /// the tree the tries of such a call are at most two for each card that was given out to another pass while it went on, and one for
+    /// each card that some pass had in hand when it began.
     pub fn insert<G: StepGate>(
         &self,
         pass: &mut Pass<A>,
@@ -177,6 +182,9 @@ impl<A: Allocator + Copy> Tree<A> {
         requires tries { 1 ≤ tries }
         ensures ends { Ends self.now.last_card tries (Insert key value) pass.old pass.new (replied result) }
         ensures steps { pass.new.steps ≤ pass.old.steps + change_steps self.now.last_card tries }
+        ensures hindered { result ≡ Err Busy → pass.new.view.hindered ≡ pass.old.view.hindered + tries }
+        ensures counted { CountsTries tries pass.old pass.new }
+        ensures by_others { result ≡ Err Busy → AreHinderedByOthers self.now.keys self.now.start self.now.last_card pass.old.view.hindered pass.new.view tries }
         ensures rounded { pass.new.steps ≤ pass.old.steps + 64 * (tries + 1) * (self.now.last_card + 2) }
         ensures moved { result ≡ Err Busy → moves_known self.now.last_card pass.old.view + tries ≤ moves_known self.now.last_card pass.new.view }
         ensures enough { 2 * self.now.last_card < tries → result ≢ Err Busy }
@@ -201,6 +209,9 @@ impl<A: Allocator + Copy> Tree<A> {
         requires tries { 1 ≤ tries }
         ensures ends { Ends self.now.last_card tries (Delete key) pass.old pass.new (replied result) }
         ensures steps { pass.new.steps ≤ pass.old.steps + change_steps self.now.last_card tries }
+        ensures hindered { result ≡ Err Busy → pass.new.view.hindered ≡ pass.old.view.hindered + tries }
+        ensures counted { CountsTries tries pass.old pass.new }
+        ensures by_others { result ≡ Err Busy → AreHinderedByOthers self.now.keys self.now.start self.now.last_card pass.old.view.hindered pass.new.view tries }
         ensures rounded { pass.new.steps ≤ pass.old.steps + 64 * (tries + 1) * (self.now.last_card + 2) }
         ensures moved { result ≡ Err Busy → moves_known self.now.last_card pass.old.view + tries ≤ moves_known self.now.last_card pass.new.view }
         ensures enough { 2 * self.now.last_card < tries → result ≢ Err Busy }

@@ -8,6 +8,7 @@ use Rattle.ell_tree.proofs.Keeping.{inner_kept}
 use Rattle.ell_tree.proofs.Meeting.{meets_trans, meets_more, above_way, parent_way, nowhere_way, way_over, way_free, no_way}
 use Rattle.ell_tree.proofs.Halting.{goes_meets, seek_meets, said_meets, flag_lost}
 use Rattle.ell_tree.proofs.Filling.{delete_wants, told_grandparent, told_parent, told_was}
+use Rattle.ell_tree.proofs.Hindering.{root_in_try}
 use Rattle.ell_tree.proofs.Moving.{sees_end, gives_out}
 use Rattle.ell_tree.proofs.Descending.{unknown_above, named_above}
 use Rattle.ell_tree.proofs.deleting.try_delete.Goals as goal
@@ -71,6 +72,7 @@ returns-then-ne-clause-ends g c =
         ledger = search rules;
         answers = search rules;
         meets = meets;
+        in_try = c.help.ensures.works.goes.view.earlier a.view.hindrances (s.ensures.seeks.goes.view.earlier a.view.hindrances (root_in_try (Delete c.args.key) a.view c.requires.root));
         way = way.0;
         would = search rules;
         stops = search rules;
@@ -106,6 +108,7 @@ returns-then-ne-2-clause-ends g c =
         ledger = search rules;
         answers = search rules;
         meets = meets;
+        in_try = help.ensures.works.goes.view.earlier a.view.hindrances (s.ensures.seeks.goes.view.earlier a.view.hindrances (root_in_try (Delete c.args.key) a.view c.requires.root));
         way = way.0;
         would = search rules;
         stops = search rules;
@@ -139,6 +142,7 @@ returns-in-NoneLeft-clause-ends g c =
         ledger = search rules;
         answers = search rules;
         meets = meets;
+        in_try = c.take_card.ensures.goes.view.earlier a.view.hindrances (s.ensures.seeks.goes.view.earlier a.view.hindrances (root_in_try (Delete c.args.key) a.view c.requires.root));
         way = way;
         would = search rules;
         stops = search rules;
@@ -169,6 +173,7 @@ returns-in-Lost-clause-ends g c =
         ledger = search rules;
         answers = search rules;
         meets = meets;
+        in_try = c.take_card.ensures.goes.view.earlier a.view.hindrances (s.ensures.seeks.goes.view.earlier a.view.hindrances (root_in_try (Delete c.args.key) a.view c.requires.root));
         way = way;
         would = search rules;
         stops = search rules;
@@ -194,6 +199,9 @@ returns-in-Err-clause-ends g c =
     let meets = meets_trans a.view t.view new.view taken lost.0 in
     let way = no_way new.view (way_of (Delete c.args.key) new.view)
     (nowhere_way (Delete c.args.key) new.view (ap (λ (r : Search). r.node) help.ensures.works.search ∙ flags.nowhere)) in
+    let searched = s.ensures.seeks.goes.view.earlier a.view.hindrances (root_in_try (Delete c.args.key) a.view c.requires.root) in
+    let in_try = help.ensures.works.goes.view.earlier a.view.hindrances (c.flag_delete.ensures.goes.view.earlier a.view.hindrances
+    (c.take_card.ensures.goes.view.earlier a.view.hindrances searched)) in
     let more = meets_more a.view t.view taken in (
       record {
         table = search rules;
@@ -201,6 +209,7 @@ returns-in-Err-clause-ends g c =
         ledger = search rules;
         answers = search rules;
         meets = meets;
+        in_try = in_try;
         way = way;
         would = search rules;
         stops = search rules;

@@ -12,6 +12,7 @@ use Rattle.ell_tree.proofs.Descending.{may_answer}
 use Rattle.ell_tree.proofs.Filling.{insert_fills, is_insert}
 use Rattle.ell_tree.proofs.Meeting.{meets_trans, meets_more, insert_way, nowhere_way, way_over, way_free, no_way}
 use Rattle.ell_tree.proofs.Halting.{goes_meets, seek_meets, walk_meets, said_meets, flag_lost}
+use Rattle.ell_tree.proofs.Hindering.{root_in_try}
 use Rattle.ell_tree.proofs.Moving.{sees_end, gives_out}
 use Rattle.ell_tree.proofs.inserting.try_insert.Goals as goal
 
@@ -75,6 +76,7 @@ returns-then-ne-clause-ends g c =
         ledger = search rules;
         answers = search rules;
         meets = meets;
+        in_try = c.help.ensures.works.goes.view.earlier a.view.hindrances (s.ensures.seeks.goes.view.earlier a.view.hindrances (root_in_try (Insert c.args.key c.args.value) a.view c.requires.root));
         way = way.0;
         would = search rules;
         stops = search rules;
@@ -105,6 +107,7 @@ returns-in-NoneLeft-clause-ends g c =
         ledger = search rules;
         answers = search rules;
         meets = meets;
+        in_try = c.take_card.ensures.goes.view.earlier a.view.hindrances (s.ensures.seeks.goes.view.earlier a.view.hindrances (root_in_try (Insert c.args.key c.args.value) a.view c.requires.root));
         way = way;
         would = search rules;
         stops = search rules;
@@ -132,6 +135,7 @@ returns-in-Lost-clause-ends g c =
         ledger = search rules;
         answers = search rules;
         meets = meets;
+        in_try = c.take_card.ensures.goes.view.earlier a.view.hindrances (s.ensures.seeks.goes.view.earlier a.view.hindrances (root_in_try (Insert c.args.key c.args.value) a.view c.requires.root));
         way = way;
         would = search rules;
         stops = search rules;
@@ -176,6 +180,9 @@ returns-in-Err-clause-ends g c =
     let meets = meets_trans a.view t.view new.view taken lost.0 in
     let way = no_way new.view (way_of (Insert c.args.key c.args.value) new.view)
     (nowhere_way (Insert c.args.key c.args.value) new.view (ap (λ (r : Search). r.node) help.ensures.works.search ∙ flags.nowhere)) in
+    let searched = s.ensures.seeks.goes.view.earlier a.view.hindrances (root_in_try (Insert c.args.key c.args.value) a.view c.requires.root) in
+    let in_try = help.ensures.works.goes.view.earlier a.view.hindrances (c.flag_insert.ensures.goes.view.earlier a.view.hindrances
+    (c.take_card.ensures.goes.view.earlier a.view.hindrances searched)) in
     let more = meets_more a.view t.view taken in (
       record {
         table = search rules;
@@ -183,6 +190,7 @@ returns-in-Err-clause-ends g c =
         ledger = search rules;
         answers = search rules;
         meets = meets;
+        in_try = in_try;
         way = way;
         would = search rules;
         stops = search rules;

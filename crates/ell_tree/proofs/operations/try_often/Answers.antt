@@ -4,6 +4,7 @@ use Rattle.ell_tree.specs.Hindrances.{way_of}
 use Rattle.ell_tree.specs.Moves.{moves_known}
 use Rattle.ell_tree.proofs.Counting.{round_steps, rounds_steps}
 use Rattle.ell_tree.proofs.Halting.{begun_meets, begun_count}
+use Rattle.ell_tree.proofs.Hindering.{root_hindered, one_hindered, halts_hindered}
 use Rattle.ell_tree.proofs.Meeting.{meets_trans}
 use Rattle.ell_tree.proofs.Moving.{moves_one, moves_still, moves_same, moves_most, moves_more, amortized_steps}
 use Rattle.ell_tree.proofs.operations.try_often.Goals as goal
@@ -62,6 +63,8 @@ loop-round-preserved g c =
       way = halts.way;
       hindrances = let n = begun_count (way_of op l.pass.view) l.pass.view c.restart.new.pass.view begins.hindrances in
           omega (arith, hindered, n, i.hindrances);
+      hindered = let counts = halts_hindered op c.restart.new.pass c.try_once.new.pass halts hindered in
+          omega (arith, counts, c.try_once.ensures.hindered, begins.hindered, i.hindered);
       moved = let one = moves_one c.args.table.now.last_card l.pass.view c.restart.new.pass.view c.try_once.new.pass.view begins.before begins.least
           (λ f h. halts.meets.knows f (begins.knows f h)) c.in-Hindered.ensures.ends.2 in
           omega (arith, one, i.moved);
@@ -86,9 +89,46 @@ loop-round-init g c =
       meets = search rules;
       way = search rules;
       hindrances = search rules;
+      hindered = let none = root_hindered c.args.op c.begin.new.pass.view start.root in omega (arith, none, start.hindered);
       moved = omega (arith, still);
       first = λ none. start.steps;
       later = λ some. absurd (omega (arith, some));
+    }
+
+pub returns-clause-hindered : goal.returns-clause-hindered
+returns-clause-hindered g c = λ held.
+    let l = c.loop-round in
+    let lays = c.leave-2.ensures.lays c.args.op l.invariant.stops.busy in
+    let all : l.round ≡ c.args.tries = omega (arith, c.loop-round-test.false, l.auto.round-end) in
+    omega (arith, lays.hindered, all, l.invariant.hindered)
+
+pub returns-clause-counted : goal.returns-clause-counted
+returns-clause-counted g c =
+    let l = c.loop-round in
+    let lays = c.leave-2.ensures.lays c.args.op l.invariant.stops.busy in
+    let all : l.round ≡ c.args.tries = omega (arith, c.loop-round-test.false, l.auto.round-end) in
+    record { least = omega (arith, lays.hindered, l.invariant.hindered); most = omega (arith, lays.hindered, all, l.invariant.hindered) }
+
+pub returns-in-Answered-clause-counted : goal.returns-in-Answered-clause-counted
+returns-in-Answered-clause-counted g c =
+    let l = c.loop-round in
+    let i = l.invariant in
+    let begins = c.restart.ensures.begins c.args.op i.stops.busy (λ none. i.root (eqb-true l.round 0 none)) in
+    record {
+      least = omega (arith, c.try_once.ensures.hindered, begins.hindered, i.hindered);
+      most = omega (arith, c.try_once.ensures.hindered, begins.hindered, i.hindered, c.loop-round-test.true);
+    }
+
+pub returns-in-Spent-clause-counted : goal.returns-in-Spent-clause-counted
+returns-in-Spent-clause-counted g c =
+    let l = c.loop-round in
+    let i = l.invariant in
+    let begins = c.restart.ensures.begins c.args.op i.stops.busy (λ none. i.root (eqb-true l.round 0 none)) in
+    let lays = c.leave.ensures.lays c.args.op c.in-Spent.ensures.ends.0.stops.busy in
+    let one = one_hindered c.try_once.new.pass.view in
+    record {
+      least = omega (arith, one.0, lays.hindered, c.try_once.ensures.hindered, begins.hindered, i.hindered);
+      most = omega (arith, one.1, lays.hindered, c.try_once.ensures.hindered, begins.hindered, i.hindered, c.loop-round-test.true);
     }
 
 pub returns-clause-moved : goal.returns-clause-moved

@@ -1,5 +1,6 @@
 use Rattle.std.proofs.Common.{◌≡◌, ◌+◌, ◌*◌, ◌≤◌, length}
 use Rattle.ell_ops.specs.Meaning.{reply_of}
+use Rattle.ell_cards.specs.Changes.{tries_hindered}
 use Rattle.ell_tree.specs.Ends.{try_steps}
 use Rattle.ell_tree.specs.Hindrances.{AreOver, Meets, way_of}
 use Rattle.ell_tree.specs.Ledgers.{present_in}
@@ -23,6 +24,7 @@ invariant-loop-round g l = record {
   meets : Meets l.fn.pass.view l.pass.view;
   way : AreOver l.pass.view (way_of l.op l.pass.view);
   hindrances : length l.fn.pass.view.hindrances + l.round ≤ length (way_of l.op l.pass.view) + length l.pass.view.hindrances;
+  hindered : tries_hindered l.pass.view ≡ l.fn.pass.view.hindered + l.round;
   moved : moves_known l.table.last_card l.fn.pass.view + l.round ≤ moves_known l.table.last_card l.pass.view;
   first : l.round ≡ 0 → l.pass.steps ≤ l.fn.pass.steps + 1;
   later : 1 ≤ l.round → l.pass.steps ≤ l.fn.pass.steps + l.round * try_steps l.table.last_card;
