@@ -9,12 +9,13 @@ use Rattle.ell_cards.specs.declared.view.View.{View}
 use Rattle.ell_cards.specs.Models.{PassModel, Does}
 use Rattle.ell_cards.specs.Changes.{in_the_way, met_in_try, update_over, all_over, was_hindered, tries_hindered}
 use Rattle.ell_cards.specs.Contention.{given_to_others, cards_in_hand, AreHinderedByOthers}
+use Rattle.ell_cards.proofs.views.Facts.{ended_test}
 use Rattle.ell_cards.proofs.runs.Tries.{tries_are_hindered_by_others}
 use Rattle.ell_tree.specs.Hindrances.{IsEnded, AreOver, way_of}
 use Rattle.ell_tree.specs.Searches.{AtRoot}
 use Rattle.ell_tree.specs.Tries.{Halts}
 use Rattle.ell_tree.proofs.Meeting.{over_together, root_way}
-use Rattle.ell_tree.proofs.Moving.{ended_test, help_ended}
+use Rattle.ell_tree.proofs.Moving.{help_ended}
 
 -- what was in the way of the try of an operation in hand
 try_way : (op : Op) (v : View) → Does v op → met_in_try v ≡ way_of op v ++ v.met

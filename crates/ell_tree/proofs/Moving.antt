@@ -1,5 +1,5 @@
 use Rattle.std.proofs.Math.Nat.{mul-le-mul_right}
-use Rattle.std.proofs.Common.{◌≡◌, ◌≢◌, ℕ, zero, suc, ◌+◌, ◌-◌, ◌*◌, ◌<◌, ◌≤◌, ◌⊎◌, ◌||◌, if◌then◌else◌, inl, inr, Bool, true, false, List, refl, sym, ap, ◌∙◌, subst, arith, [], ◌∷◌, ◌++◌}
+use Rattle.std.proofs.Common.{◌≡◌, ◌≢◌, ℕ, zero, suc, ◌+◌, ◌-◌, ◌*◌, ◌<◌, ◌≤◌, if◌then◌else◌, inl, inr, Bool, true, false, List, refl, sym, ap, ◌∙◌, subst, arith, [], ◌∷◌, ◌++◌}
 use Rattle.std.proofs.lemmas.Bool.{false≢true, or_left, or_right, cases_eq, or_cases}
 use Rattle.ell_word.specs.declared.update.State.{State}
 use Rattle.ell_word.specs.declared.update.State.TheVariants as state
@@ -8,27 +8,9 @@ use Rattle.ell_core.specs.declared.fact.Fact.TheVariants as fact
 use Rattle.ell_core.specs.state.Facts.{known_of, same_fact}
 use Rattle.ell_cards.specs.declared.view.View.{View}
 use Rattle.ell_cards.specs.Models.{EndedBy, EndWasUnknown, Knows, knows_end}
+use Rattle.ell_cards.proofs.views.Facts.{ended_test, test_ended}
 use Rattle.ell_tree.specs.Hindrances.{IsEnded}
 use Rattle.ell_tree.specs.Moves.{GivesOut, SeesMove, ends_known, moves_known}
-
--- that a card has ended, as a test of the facts
-pub ended_test : (facts : List Fact) (c : ℕ) → EndedBy facts c → knows_end facts c ≡ true
-ended_test facts c (inl h) = or_left (known_of facts (fact.IOver c)) (known_of facts (fact.DOver c) || known_of facts (fact.Backed c)) h
-ended_test facts c (inr (inl h)) =
-    or_right (known_of facts (fact.IOver c)) (known_of facts (fact.DOver c) || known_of facts (fact.Backed c))
-    (or_left (known_of facts (fact.DOver c)) (known_of facts (fact.Backed c)) h)
-ended_test facts c (inr (inr h)) =
-    or_right (known_of facts (fact.IOver c)) (known_of facts (fact.DOver c) || known_of facts (fact.Backed c))
-    (or_right (known_of facts (fact.DOver c)) (known_of facts (fact.Backed c)) h)
-
--- a test of three is met by one of them
-one_of : (a b c : Bool) → (a || (b || c)) ≡ true → (a ≡ true) ⊎ ((b ≡ true) ⊎ (c ≡ true))
-one_of true b c h = inl refl
-one_of false true c h = inr (inl refl)
-one_of false false c h = inr (inr h)
-
-test_ended : (facts : List Fact) (c : ℕ) → knows_end facts c ≡ true → EndedBy facts c
-test_ended facts c h = one_of (known_of facts (fact.IOver c)) (known_of facts (fact.DOver c)) (known_of facts (fact.Backed c)) h
 
 -- what was known stays known
 ended_still : (f g : List Fact) → ((x : Fact) → known_of f x ≡ true → known_of g x ≡ true) → (c : ℕ) → EndedBy f c → EndedBy g c

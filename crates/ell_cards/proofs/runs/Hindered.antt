@@ -6,7 +6,6 @@ use mathlib.Core.Option.{some}
 use lib.ListN.{get_elem?}
 use Rattle.ell_ops.specs.declared.op.Op.TheVariants.{Find, Insert, Delete}
 use Rattle.ell_ops.specs.declared.op.Op.{Op}
-use Rattle.ell_ops.specs.declared.reply.Reply.{Reply}
 use Rattle.ell_word.specs.declared.gate.Kind.{Kind}
 use Rattle.ell_word.specs.declared.gate.Kind.TheVariants as kind
 use Rattle.ell_word.specs.Node.{IsInternal}
@@ -41,7 +40,7 @@ use Rattle.ell_cards.specs.declared.call.Call.TheVariants as call
 use Rattle.ell_cards.specs.declared.view.Hindrance.{Hindrance}
 use Rattle.ell_cards.specs.declared.view.Hindrance.TheVariants.{Claim, Found}
 use Rattle.ell_cards.specs.declared.view.View.{View}
-use Rattle.ell_cards.specs.Changes.{seen_at, unless_clean, read_in_way, first_in_way, in_the_way, given_up, after_again, after_leave, after_answer, after_claim, after_flag, after_mark, if_won, exchanged, learning, unmarking, is_mark_of, is_held}
+use Rattle.ell_cards.specs.Changes.{seen_at, unless_clean, read_in_way, first_in_way, in_the_way, way_now, after_again, after_leave, after_answer, after_claim, after_flag, after_mark, if_won, exchanged, learning, unmarking, is_mark_of, is_held}
 use Rattle.ell_cards.specs.Calls.{after, May}
 use Rattle.ell_cards.specs.States.{TableState, seat_worker}
 use Rattle.ell_cards.specs.Machines.{HasMachine}
@@ -176,22 +175,34 @@ module _ (keys : List ℕ) (cards : ℕ) (m0 : Machine) (stage : Stages) (first 
   named_later : (seen : Seen) → IsBehind v.worker.search seen → (unpacked seen.word).card < later_words.next
   named_later seen h = let low = hindered.named seen h in let more = words'.next in omega arith
 
-  -- a step that meets nothing, and leaves what is in hand
-  quiet : (u : View) → u.hindrances ≡ v.hindrances → u.met ≡ v.met → u.next ≡ v.next → u.worker.operation ≡ v.worker.operation → u.worker.card ≡ v.worker.card
-      → u.worker.flagged ≡ v.worker.flagged → ((seen : Seen) → IsBehind u.worker.search seen → IsBehind v.worker.search seen) → HinderedSince m0.words stage later_words ends old u
-  quiet u hindrances in_try read op holds_card flag behind = record {
+  -- a step that meets nothing
+  calm : (u : View) → u.hindrances ≡ v.hindrances → u.met ≡ v.met → ((n : ℕ) → u.next ≡ Some n → m0.words.next ≤ n)
+      → ((seen : Seen) → IsBehind u.worker.search seen → (unpacked seen.word).card < later_words.next)
+      → ((c : ℕ) → u.worker.card ≡ Some c → AreOfOthers c hindered.met)
+      → ((k c : ℕ) → u.worker.operation ≡ Some (Delete k) → u.worker.card ≡ Some c → u.worker.flagged ≡ true → PlaceSince m0.words stage (later_words.p c) (later_words.was c))
+      → HinderedSince m0.words stage later_words ends old u
+  calm u hindrances in_try read named own in_hand = record {
     met = hindered.met;
     list = hindrances ∙ hindered.list;
     earlier = hindered.earlier;
     tries = hindered.tries ∙ ap (λ hs. hs ++ hindered.earlier) (sym in_try);
     each = met_later m0.words stage r.words now later_words ends words' later' hindered.met hindered.each;
-    next = λ n e. hindered.next n (sym read ∙ e);
-    named = λ seen h. named_later seen (behind seen h);
-    own = λ c has. hindered.own c (sym holds_card ∙ has);
-    hand = λ k c busy has flagged.
-        let mine = sym holds_card ∙ has in
-        hand_later c (rely.hand c (ap (λ (z : Worker). z.card) me ∙ mine)) (hindered.hand k c (sym op ∙ busy) mine (sym flag ∙ flagged));
+    next = read;
+    named = named;
+    own = own;
+    hand = in_hand;
   }
+
+  in_hand_still : (k c : ℕ) → v.worker.operation ≡ Some (Delete k) → v.worker.card ≡ Some c → v.worker.flagged ≡ true
+      → PlaceSince m0.words stage (later_words.p c) (later_words.was c)
+  in_hand_still k c busy has flagged = hand_later c (rely.hand c (ap (λ (z : Worker). z.card) me ∙ has)) (hindered.hand k c busy has flagged)
+
+  -- one that leaves what is in hand, too
+  quiet : (u : View) → u.hindrances ≡ v.hindrances → u.met ≡ v.met → u.next ≡ v.next → u.worker.operation ≡ v.worker.operation → u.worker.card ≡ v.worker.card
+      → u.worker.flagged ≡ v.worker.flagged → ((seen : Seen) → IsBehind u.worker.search seen → IsBehind v.worker.search seen) → HinderedSince m0.words stage later_words ends old u
+  quiet u hindrances in_try read op holds_card flag behind =
+      calm u hindrances in_try (λ n e. hindered.next n (sym read ∙ e)) (λ seen h. named_later seen (behind seen h)) (λ c has. hindered.own c (sym holds_card ∙ has))
+      (λ k c busy has flagged. in_hand_still k c (sym op ∙ busy) (sym holds_card ∙ has) (sym flag ∙ flagged))
 
   -- a step of another
   pub hindered_rests : HinderedSince m0.words stage later_words ends old v
@@ -243,21 +254,14 @@ module _ (keys : List ℕ) (cards : ℕ) (m0 : Machine) (stage : Stages) (first 
 
   -- a lost claim
   claim_hindered : (c : ℕ) → May cards (call.Claim c) v → (b : Bool) → (found_by s (call.Claim c) == c) ≡ b → HinderedSince m0.words stage later_words ends old (after_claim b c v)
-  claim_hindered c may true e = record {
-    met = hindered.met;
-    list = hindered.list;
-    earlier = hindered.earlier;
-    tries = hindered.tries;
-    each = met_later m0.words stage r.words now later_words ends words' later' hindered.met hindered.each;
-    next = hindered.next;
-    named = named_later;
-    own = λ d has.
-        let same = same_Some c d has in
-        let found = eqb-true (found_by s (call.Claim c)) c e in
-        let is = r.next in
-        all_earlier m0.words stage r.words now d (omega arith) hindered.met hindered.each;
-    hand = λ k d busy has flagged. absurd (true≢false (sym flagged));
-  }
+  claim_hindered c may true e =
+      calm (after_claim true c v) refl refl hindered.next named_later
+      (λ d has.
+      let same = same_Some c d has in
+      let found = eqb-true (found_by s (call.Claim c)) c e in
+      let is = r.next in
+      all_earlier m0.words stage r.words now d (omega arith) hindered.met hindered.each)
+      (λ k d busy has flagged. absurd (true≢false (sym flagged)))
   claim_hindered c may false e =
       let low = (r.views seat v there).read c may.0.read in
       let is = r.next in
@@ -315,17 +319,9 @@ module _ (keys : List ℕ) (cards : ℕ) (m0 : Machine) (stage : Stages) (first 
       → ((key d : ℕ) → v.worker.operation ≡ Some (Delete key) → v.worker.card ≡ Some d → PlaceSince m0.words stage (later_words.p d) (later_words.was d))
       → (n ≢ from → Met m0.words stage later_words ends (Found (unpacked n)))
       → HinderedSince m0.words stage later_words ends old (exchanged (if_won b k c) n (after_flag b new x (unpacked n) v))
-  flag_hindered k c new x from n true e in_hand lost = record {
-    met = hindered.met;
-    list = hindered.list;
-    earlier = hindered.earlier;
-    tries = hindered.tries;
-    each = met_later m0.words stage r.words now later_words ends words' later' hindered.met hindered.each;
-    next = hindered.next;
-    named = named_later;
-    own = hindered.own;
-    hand = λ key d busy has flagged. in_hand key d busy has;
-  }
+  flag_hindered k c new x from n true e in_hand lost =
+      calm (exchanged (if_won true k c) n (after_flag true new x (unpacked n) v)) refl refl hindered.next named_later hindered.own
+      (λ key d busy has flagged. in_hand key d busy has)
   flag_hindered k c new x from n false e in_hand lost =
       one_met (exchanged [] n (after_flag false new x (unpacked n) v)) (Found (unpacked n)) refl refl
       (lost (λ q. true≢false (sym (eq-eqb n from q) ∙ e))) refl (λ seen h. h) (λ d has. absurd (some_not_none has refl)) (λ key d busy has flagged. absurd (true≢false (sym flagged)))
@@ -475,75 +471,46 @@ module _ (keys : List ℕ) (cards : ℕ) (m0 : Machine) (stage : Stages) (first 
       subst (λ (z : Seen). (unpacked z.word).card < later_words.next) (same_Some (record { node = x; word = may.word }) seen read) (omega arith)
   went_down x right may seen (inr e) = named_later seen (inl e)
 
-  -- a try that is given up, with no card in hand then
-  gives_up : (u : View) → u.hindrances ≡ given_up v → u.met ≡ [] → u.worker.search.parent ≡ None → u.worker.search.grandparent ≡ None → ((n : ℕ) → u.next ≡ Some n → m0.words.next ≤ n) → u.worker.card ≡ None
+  -- the end of a try, with nothing in hand then, nor anything behind the search
+  tried : (u : View) (way : List Hindrance) → u.hindrances ≡ way ++ v.hindrances → AllMet m0.words stage later_words ends way → u.met ≡ []
+      → u.worker.search.parent ≡ None → u.worker.search.grandparent ≡ None → ((n : ℕ) → u.next ≡ Some n → m0.words.next ≤ n) → u.worker.card ≡ None
       → HinderedSince m0.words stage later_words ends old u
-  gives_up u hindrances none behind above read no_card =
-      let way = in_the_way v.worker.operation v.worker.search.node v.worker.search.parent v.worker.search.grandparent in record {
-        met = way ++ hindered.met;
-        list = hindrances ∙ (ap (λ hs. way ++ hs) hindered.list ∙ sym (append_assoc way hindered.met old));
-        earlier = way ++ hindered.met;
-        tries = ap (λ hs. hs ++ (way ++ hindered.met)) (sym none);
-        each = all_append m0.words stage later_words ends way hindered.met
-            (way_met m0.words stage later_words ends v.worker.operation v.worker.search.node v.worker.search.parent v.worker.search.grandparent
-            (λ seen e. (since.parent seen (ap (λ (z : Worker). z.search.parent) me ∙ e), named_later seen (inl e)))
-            (λ seen e. (since.grandparent seen (ap (λ (z : Worker). z.search.grandparent) me ∙ e), named_later seen (inr e))))
-            (met_later m0.words stage r.words now later_words ends words' later' hindered.met hindered.each);
-        next = read;
-        named = λ seen h. elim h [
-          | inl e ↦ absurd (some_not_none e behind)
-          | inr e ↦ absurd (some_not_none e above)
-        ];
-        own = λ c has. absurd (some_not_none has no_card);
-        hand = λ k c busy has flagged. absurd (some_not_none has no_card);
-      }
-
-  -- an answer
-  answers : (said : Reply) → HinderedSince m0.words stage later_words ends old (after_answer said v)
-  answers said = record {
-    met = hindered.met;
-    list = hindered.list;
-    earlier = hindered.met;
-    tries = refl;
-    each = met_later m0.words stage r.words now later_words ends words' later' hindered.met hindered.each;
-    next = hindered.next;
+  tried u way hindrances each none behind above read no_card = record {
+    met = way ++ hindered.met;
+    list = hindrances ∙ (ap (λ hs. way ++ hs) hindered.list ∙ sym (append_assoc way hindered.met old));
+    earlier = way ++ hindered.met;
+    tries = ap (λ hs. hs ++ (way ++ hindered.met)) (sym none);
+    each = all_append m0.words stage later_words ends way hindered.met each
+        (met_later m0.words stage r.words now later_words ends words' later' hindered.met hindered.each);
+    next = read;
     named = λ seen h. elim h [
-      | inl e ↦ absurd (some_not_none e refl)
-      | inr e ↦ absurd (some_not_none e refl)
+      | inl e ↦ absurd (some_not_none e behind)
+      | inr e ↦ absurd (some_not_none e above)
     ];
-    own = λ c has. absurd (some_not_none has refl);
-    hand = λ k c busy has flagged. absurd (some_not_none has refl);
+    own = λ c has. absurd (some_not_none has no_card);
+    hand = λ k c busy has flagged. absurd (some_not_none has no_card);
   }
+
+  -- what the search has read in the way of a try that is given up
+  way_was_met : AllMet m0.words stage later_words ends (way_now v)
+  way_was_met =
+      way_met m0.words stage later_words ends v.worker.operation v.worker.search.node v.worker.search.parent v.worker.search.grandparent
+      (λ seen e. (since.parent seen (ap (λ (z : Worker). z.search.parent) me ∙ e), named_later seen (inl e)))
+      (λ seen e. (since.grandparent seen (ap (λ (z : Worker). z.search.grandparent) me ∙ e), named_later seen (inr e)))
 
   -- any call that keeps on
   pub call_hindered : (c : Call) → KeepsOn c → May cards c v → HinderedSince m0.words stage later_words ends old (after c (found_by s c) v)
   call_hindered (call.Begin op) keeps may = absurd keeps
-  call_hindered call.Again keeps may = gives_up (after_again v) refl refl refl refl (λ n e. absurd (some_not_none e refl)) refl
-  call_hindered call.Leave keeps may = gives_up (after_leave v) refl refl refl refl hindered.next refl
-  call_hindered (call.Answer said) keeps may = answers said
+  call_hindered call.Again keeps may = tried (after_again v) (way_now v) refl way_was_met refl refl refl (λ n e. absurd (some_not_none e refl)) refl
+  call_hindered call.Leave keeps may = tried (after_leave v) (way_now v) refl way_was_met refl refl refl hindered.next refl
+  call_hindered (call.Answer said) keeps may = tried (after_answer said v) [] refl tt refl refl refl hindered.next refl
   call_hindered (call.Upd x) keeps may = quiet _ refl refl refl refl refl refl (λ seen h. h)
-  call_hindered (call.Down x right) keeps may = record {
-    met = hindered.met;
-    list = hindered.list;
-    earlier = hindered.earlier;
-    tries = hindered.tries;
-    each = met_later m0.words stage r.words now later_words ends words' later' hindered.met hindered.each;
-    next = hindered.next;
-    named = went_down x right may;
-    own = hindered.own;
-    hand = λ k c busy has flagged. hand_later c (rely.hand c (ap (λ (z : Worker). z.card) me ∙ has)) (hindered.hand k c busy has flagged);
-  }
-  call_hindered call.Next keeps may = record {
-    met = hindered.met;
-    list = hindered.list;
-    earlier = hindered.earlier;
-    tries = hindered.tries;
-    each = met_later m0.words stage r.words now later_words ends words' later' hindered.met hindered.each;
-    next = λ n e. (let same = same_Some (found_by s call.Next) n e in let is = r.next in let more = words.next in omega arith);
-    named = named_later;
-    own = hindered.own;
-    hand = λ k c busy has flagged. hand_later c (rely.hand c (ap (λ (z : Worker). z.card) me ∙ has)) (hindered.hand k c busy has flagged);
-  }
+  call_hindered (call.Down x right) keeps may =
+      calm (after (call.Down x right) (found_by s (call.Down x right)) v) refl refl hindered.next (went_down x right may) hindered.own in_hand_still
+  call_hindered call.Next keeps may =
+      calm (after call.Next (found_by s call.Next) v) refl refl
+      (λ n e. (let same = same_Some (found_by s call.Next) n e in let is = r.next in let more = words.next in omega arith))
+      named_later hindered.own in_hand_still
   call_hindered (call.KeyOf x) keeps may = quiet _ refl refl refl refl refl refl (λ seen h. h)
   call_hindered (call.ValueOf x) keeps may = quiet _ refl refl refl refl refl refl (λ seen h. h)
   call_hindered (call.Info c f) keeps may = quiet _ refl refl refl refl refl refl (λ seen h. h)

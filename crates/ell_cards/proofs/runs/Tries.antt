@@ -1,5 +1,5 @@
 use Rattle.std.proofs.Common.{◌≡◌, ◌≢◌, ◌⊎◌, ℕ, zero, suc, ◌+◌, ◌*◌, ◌<◌, ◌≤◌, ◌==◌, ◌&&◌, if◌then◌else◌, Bool, true, false, Option, Some, None, List, [], ◌∷◌, ◌++◌, get_or, inl, inr, refl, sym, ap, ◌∙◌, subst, eq-eqb, eqb-true, arith}
-use Rattle.std.proofs.lemmas.Bool.{cases_eq, cases_lt, false≢true, ne_eqb, or_cases}
+use Rattle.std.proofs.lemmas.Bool.{cases_eq, cases_lt, false≢true, ne_eqb}
 use mathlib.Core.Option.{some, some-injective}
 use lib.ListN.{get_elem?}
 use Rattle.ell_ops.specs.declared.op.Op.{Op}
@@ -25,13 +25,14 @@ use Rattle.ell_cards.specs.declared.view.View.{View}
 use Rattle.ell_cards.specs.Changes.{if_won, exchanged, after_claim, after_flag, after_mark, is_mark_of, is_held, learning, unmarking, unless_clean, read_in_way, first_in_way, in_the_way, way_now, met_in_try, update_over, is_over, all_over, was_hindered, tries_hindered}
 use Rattle.ell_cards.specs.Calls.{after, May}
 use Rattle.ell_cards.specs.Guards.{MayStop}
-use Rattle.ell_cards.specs.Models.{EndedBy, knows_end}
+use Rattle.ell_cards.specs.Models.{EndedBy}
 use Rattle.ell_cards.specs.Contention.{how_many, given_to_others, cards_in_hand, TriesAreHinderedByOthers, AreHinderedByOthers}
 use Rattle.ell_cards.specs.Meanwhile.{KeepsOn, KeepOn, BeginsHere, SearchRun, EndsMeanwhile, WordEndsMeanwhile, AreMeanwhile, AreOfOthers, ended_before, ended_since}
 use Rattle.ell_cards.specs.States.{TableState, seat_worker}
 use Rattle.ell_cards.specs.Starts.{Starts, IsReached}
 use Rattle.ell_cards.specs.Turns.{Turn, Makes, Splits, Joins, TableTurns, TableRun, found_by, view_after}
 use Rattle.ell_cards.specs.TurnEffects.{run_wins}
+use Rattle.ell_cards.proofs.views.Facts.{test_ended}
 use Rattle.ell_cards.proofs.runs.Reaching.{one_more_turn, reached_kept, reached_on}
 use Rattle.ell_cards.proofs.runs.Readings.{claim_word_rises}
 use Rattle.ell_cards.proofs.runs.OwnSeat.{Only, SeatGoesOn, turn_seat}
@@ -168,20 +169,11 @@ module _ (keys : List ℕ) (start : List (ℕ × ℕ)) (cards : ℕ) where
       (ends u.card b ≡ 0) × (update_over v.worker.facts u.state u.card ≡ true → 0 < ends u.card s)
       × ((c : ℕ) → v.worker.card ≡ Some c → v.worker.flagged ≡ true → u.card ≢ c)
 
-  end_known : (facts : List Fact) (c : ℕ) → knows_end facts c ≡ true → EndedBy facts c
-  end_known facts c h = elim (or_cases _ _ h) [
-    | inl a ↦ inl a
-    | inr b ↦ inr (elim (or_cases _ _ b) [
-      | inl x ↦ inl x
-      | inr y ↦ inr y
-    ])
-  ]
-
   over_cases : (facts : List Fact) (st : State) (c : ℕ) → update_over facts st c ≡ true → (st ≡ state.Clean) ⊎ EndedBy facts c
   over_cases facts state.Clean c h = inl refl
-  over_cases facts state.IFlag c h = inr (end_known facts c h)
-  over_cases facts state.DFlag c h = inr (end_known facts c h)
-  over_cases facts state.Mark c h = inr (end_known facts c h)
+  over_cases facts state.IFlag c h = inr (test_ended facts c h)
+  over_cases facts state.DFlag c h = inr (test_ended facts c h)
+  over_cases facts state.Mark c h = inr (test_ended facts c h)
 
   module _ (s0 : TableState) (v0 : View) (seat : ℕ) (s : TableState) (v : View) (h : Searches s0 v0 seat s v) (there : get_elem? s.views seat ≡ some v) where
     abbrev ran : SearchRun keys start cards

@@ -1,11 +1,12 @@
-use Rattle.std.proofs.Common.{◌≡◌, ℕ, true, List, ◌∷◌}
-use Rattle.std.proofs.lemmas.Bool.{or_left, or_right}
+use Rattle.std.proofs.Common.{◌≡◌, ℕ, ◌||◌, inl, inr, true, List, ◌∷◌}
+use Rattle.std.proofs.lemmas.Bool.{or_left, or_right, or_cases}
 use Rattle.ell_word.specs.declared.update.State.{State}
 use Rattle.ell_word.specs.declared.update.State.TheVariants as state
 use Rattle.ell_core.specs.declared.fact.Fact.{Fact}
 use Rattle.ell_core.specs.declared.fact.Fact.TheVariants as fact
 use Rattle.ell_core.specs.state.Facts.{known_of, same_fact}
 use Rattle.ell_core.proofs.words.SameFact.{same_fact-itself}
+use Rattle.ell_cards.specs.Models.{EndedBy, knows_end}
 use Rattle.ell_cards.specs.Changes.{facts_by}
 
 -- a fact is known once it is learnt, and the facts before it stay known
@@ -21,3 +22,20 @@ facts_by_more state.IFlag c fs g h = knows_more (fact.IFlagged c) g fs h
 facts_by_more state.DFlag c fs g h = knows_more (fact.DFlagged c) g fs h
 facts_by_more state.Mark c fs g h = knows_more (fact.Marked c) g fs h
 facts_by_more state.Clean c fs g h = h
+
+-- that a card has ended, as a test of the facts
+pub ended_test : (facts : List Fact) (c : ℕ) → EndedBy facts c → knows_end facts c ≡ true
+ended_test facts c (inl h) = or_left (known_of facts (fact.IOver c)) (known_of facts (fact.DOver c) || known_of facts (fact.Backed c)) h
+ended_test facts c (inr (inl h)) =
+    or_right (known_of facts (fact.IOver c)) (known_of facts (fact.DOver c) || known_of facts (fact.Backed c))
+    (or_left (known_of facts (fact.DOver c)) (known_of facts (fact.Backed c)) h)
+ended_test facts c (inr (inr h)) =
+    or_right (known_of facts (fact.IOver c)) (known_of facts (fact.DOver c) || known_of facts (fact.Backed c))
+    (or_right (known_of facts (fact.DOver c)) (known_of facts (fact.Backed c)) h)
+
+-- and a test that is met says it
+pub test_ended : (facts : List Fact) (c : ℕ) → knows_end facts c ≡ true → EndedBy facts c
+test_ended facts c h = elim (or_cases _ _ h) [
+  | inl over ↦ inl over
+  | inr rest ↦ inr (or_cases _ _ rest)
+]
