@@ -10,6 +10,7 @@ mod reservation;
 mod runs;
 mod settings;
 mod workers;
+mod zeros;
 
 pub use bytes::{RunFault, run_bytes, run_bytes_watched};
 pub use ell_ops::{KEY_MAX, WORKERS_MAX};

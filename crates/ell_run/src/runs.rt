@@ -69,7 +69,37 @@ pub fn run<R: Threads + Sync, A: Allocator + Copy + Send + Sync, G: StepGate + S
     ensures few { IfOk result (λ outcome. outcome.late ≤ length ops.now) }
     ensures late { IfOk result (λ outcome. IsLate (contents_of start.now) parts.now outcome.late) }
 {
-    let (pieces, pairs) = run_workers(rt, alloc, start, ops, parts, limits, gate)?;
+    run_with_zeros(rt, alloc, Vec::new(alloc), start, ops, parts, limits, gate)
+}
+
+// The same, of zero words that were made beforehand.
+pub(crate) fn run_with_zeros<
+    R: Threads + Sync,
+    A: Allocator + Copy + Send + Sync,
+    G: StepGate + Sync,
+>(
+    rt: &R,
+    alloc: A,
+    zeros: Vec<u64, A>,
+    start: &[(u64, u64)],
+    ops: &[Op],
+    parts: &Parts<'_, A>,
+    limits: Limits,
+    gate: &G,
+) -> Result<Outcome<A>, NoMemory>
+    requires zeros { All (λ word. word ≡ 0) zeros.items }
+    requires ascending { IsStrictlyIncreasing (keys_in start.now) }
+    requires real { All (λ key. key ≤ greatest_key) (keys_in start.now) }
+    requires few { length start.now ≤ most_start }
+    requires fits { All Fits ops.now }
+    requires parted { parts.now.ops ≡ ops.now }
+    requires limits { AreLimits limits }
+    ensures replies { IfOk result (λ outcome. outcome.replies.items ≡ replies (contents_of start.now) ops.now) }
+    ensures pairs { IfOk result (λ outcome. ListsPairs (final (contents_of start.now) ops.now) outcome.pairs.items) }
+    ensures few { IfOk result (λ outcome. outcome.late ≤ length ops.now) }
+    ensures late { IfOk result (λ outcome. IsLate (contents_of start.now) parts.now outcome.late) }
+{
+    let (pieces, pairs) = run_workers(rt, alloc, zeros, start, ops, parts, limits, gate)?;
     finish(alloc, ops, parts, pieces, pairs)
 }
 
@@ -77,12 +107,14 @@ pub fn run<R: Threads + Sync, A: Allocator + Copy + Send + Sync, G: StepGate + S
 fn run_workers<R: Threads + Sync, A: Allocator + Copy + Send + Sync, G: StepGate + Sync>(
     rt: &R,
     alloc: A,
+    zeros: Vec<u64, A>,
     start: &[(u64, u64)],
     ops: &[Op],
     parts: &Parts<'_, A>,
     limits: Limits,
     gate: &G,
 ) -> Result<(Vec<Piece<A>, A>, Vec<(u64, u64), A>), NoMemory>
+    requires zeros { All (λ word. word ≡ 0) zeros.items }
     requires ascending { IsStrictlyIncreasing (keys_in start.now) }
     requires real { All (λ key. key ≤ greatest_key) (keys_in start.now) }
     requires few { length start.now ≤ most_start }
@@ -93,7 +125,7 @@ fn run_workers<R: Threads + Sync, A: Allocator + Copy + Send + Sync, G: StepGate
     let workers = busy_workers(alloc, parts)?;
     let used = keys_for(alloc, parts, &workers)?;
     let cards = cards_to_reserve(ops, workers.len(), limits);
-    let (tree, pass) = reserve(alloc, start, &used, cards)?;
+    let (tree, pass) = reserve(alloc, zeros, start, &used, cards)?;
     let (pass, pieces) = work_apart(rt, alloc, &tree, pass, &used, parts, limits.tries, gate)?;
     match tree.close(pass) {
         Ok(pairs) => Ok((pieces, pairs)),
@@ -104,10 +136,12 @@ fn run_workers<R: Threads + Sync, A: Allocator + Copy + Send + Sync, G: StepGate
 // A tree that begins with the map of `start`, and a pass with its keys and these used ones.
 fn reserve<A: Allocator + Copy>(
     alloc: A,
+    zeros: Vec<u64, A>,
     start: &[(u64, u64)],
     used: &[u64],
     cards: u64,
 ) -> Result<(Tree<A>, Pass<A>), NoMemory>
+    requires zeros { All (λ word. word ≡ 0) zeros.items }
     requires ascending { IsStrictlyIncreasing (keys_in start.now) }
     requires real { All (λ key. key ≤ greatest_key) (keys_in start.now) }
     requires few { length start.now ≤ most_start }
@@ -118,14 +152,14 @@ fn reserve<A: Allocator + Copy>(
     ensures owned { IfOk result (λ made. All (λ key. Owns made.1 key) used.now) }
 {
     if start.is_empty() {
-        return match Tree::reserve(alloc, used, cards) {
+        return match Tree::reserve_with_zeros(alloc, zeros, &[], used, cards) {
             Ok(made) => Ok(made),
             Err(fault) => Err(no_cards(fault)),
         };
     }
     let there = start_keys(alloc, start)?;
     let keys = united_keys(alloc, &there, used)?;
-    match Tree::reserve_from(alloc, start, &keys, cards) {
+    match Tree::reserve_with_zeros(alloc, zeros, start, &keys, cards) {
         Ok(made) => Ok(made),
         Err(fault) => Err(no_cards(fault)),
     }

@@ -81,7 +81,32 @@ impl<A: Allocator + Copy> Tree<A> {
         ensures pass { IfOk result (λ made. IsFirst start.now made.0 made.1) }
         ensures refused { IfErr result (Refuses cards) }
     {
-        let (table, pass) = CardTable::reserve_from(alloc, start, keys, cards)?;
+        Tree::reserve_with_zeros(alloc, Vec::new(alloc), start, keys, cards)
+    }
+
+    /// The same, of zero words that the caller may have made beforehand, as in another thread: most of the time that `reserve_from`
+    /// takes is that of making them. A table of so many cards in all has `table_size` of them; where there are more here, they are
+    /// cut to these, and where there are fewer, more are made. Errors and conditions are as of `reserve_from`; the words are all 0.
+    pub fn reserve_with_zeros(
+        alloc: A,
+        zeros: Vec<u64, A>,
+        start: &[(u64, u64)],
+        keys: &[u64],
+        cards: u64,
+    ) -> Result<(Tree<A>, Pass<A>), CardFault>
+        requires zeros { All (λ word. word ≡ 0) zeros.items }
+        requires ascending { IsStrictlyIncreasing keys.now }
+        requires real { All (λ k. k ≤ greatest_key) keys.now }
+        requires start_ascending { IsStrictlyIncreasing (keys_of start.now) }
+        requires given { All (λ k. set_of keys.now k ≡ true) (keys_of start.now) }
+        requires few { length start.now ≤ most_start }
+        ensures cards { OnOk result (IsCardCount cards) }
+        ensures tree { IfOk result (λ made. (made.0.keys ≡ keys.now) × (made.0.last_card ≡ last_card start.now cards)) }
+        ensures start { IfOk result (λ made. made.0.start ≡ start.now) }
+        ensures pass { IfOk result (λ made. IsFirst start.now made.0 made.1) }
+        ensures refused { IfErr result (Refuses cards) }
+    {
+        let (table, pass) = CardTable::reserve_with_zeros(alloc, zeros, start, keys, cards)?;
         Ok((Tree { table, alloc }, pass))
     }
 

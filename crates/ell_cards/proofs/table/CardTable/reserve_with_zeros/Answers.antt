@@ -5,7 +5,7 @@ use Rattle.ell_cards.specs.declared.view.View.{View}
 use Rattle.ell_cards.specs.Inside.{PassFits}
 use Rattle.ell_cards.specs.Starts.{MayStart}
 use Rattle.ell_cards.proofs.lifetimes.Openings.{first_fits}
-use Rattle.ell_cards.proofs.table.CardTable.reserve_from.Goals as goal
+use Rattle.ell_cards.proofs.table.CardTable.reserve_with_zeros.Goals as goal
 
 pub invariant_of-pass : goal.invariant_of-pass
 invariant_of-pass g c =
