@@ -1,5 +1,5 @@
 //! How a table begins, and how its passes part and come together.
-ghost use Rattle.std.specs.Prelude.{◌≡◌, ◌≢◌, ◌≤◌, ◌<◌, [], filter, not, max, true, length, None, IfOk, IfErr, OnOk, replicate, vec_len};
+ghost use Rattle.std.specs.Prelude.{◌≡◌, ◌≢◌, ◌≤◌, ◌<◌, ◌↔◌, IsTrue, [], filter, not, max, true, length, None, IfOk, IfErr, OnOk, replicate, vec_len};
 ghost use Rattle.std.specs.List.{All};
 ghost use Rattle.std.specs.List.Sorted.{IsStrictlyIncreasing};
 ghost use Rattle.std.specs.Map.{keys_of};
@@ -64,40 +64,43 @@ impl<A: Allocator + Copy> CardTable<A> {
         ensures pass { IfOk result (λ made. made.1 ≡ record { table = made.0.id; view = first_view keys.now start.now; steps = 0; label = 0 }) }
         ensures refused { IfErr result (Refuses cards) }
     {
-        CardTable::reserve_with_zeros(alloc, Vec::new(alloc), start, keys, cards)
-    }
-
-    /// The same, of zero words that the caller may have made beforehand, as in another thread: as many as there are, they are
-    /// cut to the words of the table, which copies them, or more are put behind them. Errors and conditions are as of
-    /// `reserve_from`; the words are all 0.
-    pub fn reserve_with_zeros(
-        alloc: A,
-        zeros: Vec<u64, A>,
-        start: &[(u64, u64)],
-        keys: &[u64],
-        cards: u64,
-    ) -> Result<(CardTable<A>, Pass<A>), CardFault>
-        requires zeros { All (λ word. word ≡ 0) zeros.items }
-        requires ascending { IsStrictlyIncreasing keys.now }
-        requires real { All (λ k. k ≤ greatest_key) keys.now }
-        requires start_ascending { IsStrictlyIncreasing (keys_of start.now) }
-        requires given { All (λ k. set_of keys.now k ≡ true) (keys_of start.now) }
-        requires few { length start.now ≤ most_start }
-        ensures cards { OnOk result (IsCardCount cards) }
-        ensures table { IfOk result (λ made. (made.0.keys ≡ keys.now) × (made.0.last_card ≡ last_card start.now cards)) }
-        ensures start { IfOk result (λ made. made.0.start ≡ start.now) }
-        ensures pass { IfOk result (λ made. made.1 ≡ record { table = made.0.id; view = first_view keys.now start.now; steps = 0; label = 0 }) }
-        ensures refused { IfErr result (Refuses cards) }
-    {
-        if cards < 1 || cards > CARDS_MAX {
+        if !is_card_count(cards) {
             return Err(CardFault::BadCards);
         }
         let copy = copied(alloc, keys)?;
         let present = copied(alloc, start)?;
+        CardTable::reserve_with_zeros(alloc, Vec::new(alloc), present, copy, cards)
+    }
+
+    /// The same, of lists that the caller gives up: the start keys with their values, the keys, and zero words, which may have been
+    /// made beforehand, as in another thread. They are cut to the words of the table, which is a copy of them, or more are put
+    /// behind them; nothing else is asked of the allocator. Errors and conditions are as of `reserve_from`.
+    pub fn reserve_with_zeros(
+        alloc: A,
+        zeros: Vec<u64, A>,
+        start: Vec<(u64, u64), A>,
+        keys: Vec<u64, A>,
+        cards: u64,
+    ) -> Result<(CardTable<A>, Pass<A>), CardFault>
+        requires zeros { All (λ word. word ≡ 0) zeros.items }
+        requires ascending { IsStrictlyIncreasing keys.items }
+        requires real { All (λ k. k ≤ greatest_key) keys.items }
+        requires start_ascending { IsStrictlyIncreasing (keys_of start.items) }
+        requires given { All (λ k. set_of keys.items k ≡ true) (keys_of start.items) }
+        requires few { length start.items ≤ most_start }
+        ensures cards { OnOk result (IsCardCount cards) }
+        ensures table { IfOk result (λ made. (made.0.keys ≡ keys.items) × (made.0.last_card ≡ last_card start.items cards)) }
+        ensures start { IfOk result (λ made. made.0.start ≡ start.items) }
+        ensures pass { IfOk result (λ made. made.1 ≡ record { table = made.0.id; view = first_view keys.items start.items; steps = 0; label = 0 }) }
+        ensures refused { IfErr result (Refuses cards) }
+    {
+        if !is_card_count(cards) {
+            return Err(CardFault::BadCards);
+        }
         let plan = Plan {
-            keys: copy,
-            start: present,
             last_card: cards + start.len() as u64,
+            keys,
+            start,
         };
         let (table, seat) = opened(alloc, zeros, &plan)?;
         let Plan {
@@ -223,6 +226,13 @@ impl<A: Allocator + Copy> CardTable<A> {
             seat,
         })
     }
+}
+
+// Whether a table may have so many cards to be claimed.
+fn is_card_count(cards: u64) -> bool
+    ensures { IsTrue result ↔ IsCardCount cards }
+{
+    1 <= cards && cards <= CARDS_MAX
 }
 
 // The opening table. It copies the words, and their first list goes at once.

@@ -5,12 +5,12 @@
 mod bytes;
 mod late;
 mod laws;
+mod memory;
 mod pieces;
 mod reservation;
 mod runs;
 mod settings;
 mod workers;
-mod zeros;
 
 pub use bytes::{RunFault, run_bytes, run_bytes_watched};
 pub use ell_ops::{KEY_MAX, WORKERS_MAX};
