@@ -76,11 +76,11 @@ fn has_change(part: &[u8]) -> bool {
     }
 }
 
-// How many operations are inserts or deletes.
+// How many operations are inserts or deletes. A sum has no branch that the processor could guess wrong.
 fn count_changes(ops: &[Op]) -> u64
     ensures { result ≡ count_by is_change ops.now }
 {
-    ops.iter().filter(|op| is_change(**op)).count() as u64
+    ops.iter().map(|op| u64::from(is_change(*op))).sum()
 }
 
 fn is_change(op: Op) -> bool
