@@ -1,4 +1,4 @@
-use Rattle.std.proofs.Common.{◌≡◌, ◌≢◌, ℕ, suc, ◌==◌, Bool, Option, Some, None, List, [], ◌∷◌, ◌++◌, set, inl, inr, ◌⊎◌, refl, sym, ap, ap₂, ◌∙◌, subst}
+use Rattle.std.proofs.Common.{◌≡◌, ℕ, suc, ◌==◌, Option, Some, None, List, [], ◌∷◌, ◌++◌, set, inl, inr, ◌⊎◌, refl, sym, ap, ap₂, ◌∙◌, subst}
 use Rattle.std.proofs.lemmas.Option.{same_Some}
 use mathlib.Core.Option.{some, some-ne-none}
 use lib.ListN.{get_elem?}
@@ -17,7 +17,7 @@ use Rattle.ell_cards.specs.States.{TableState}
 use Rattle.ell_cards.specs.Machines.{HasMachine}
 use Rattle.ell_cards.specs.Starts.{Starts}
 use Rattle.ell_cards.specs.Turns.{Turn, Makes, Splits, Joins, TableTurns, TableRun, found_by, view_after}
-use Rattle.ell_cards.specs.Looking.{HasFound, BeginsNothing, LooksOn, Began, FoundInRun, LooksAreOfOneState, LooksAreInOrder}
+use Rattle.ell_cards.specs.Looking.{BeginsNothing, LooksOn, Began, LooksAreOfOneState, LooksAreInOrder}
 use Rattle.ell_cards.proofs.runs.Looking.{claim_look, flag_look, mark_look, looks_of_one_state}
 use Rattle.ell_cards.proofs.runs.Starting.{starts_are_kept}
 use Rattle.ell_cards.proofs.runs.TurnsOfRuns.{runs_are_lawful}

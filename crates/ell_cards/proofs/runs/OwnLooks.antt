@@ -11,8 +11,7 @@ use Rattle.ell_cards.specs.declared.view.View.{View}
 use Rattle.ell_cards.specs.States.{TableState}
 use Rattle.ell_cards.specs.Machines.{HasMachine}
 use Rattle.ell_cards.specs.TurnEffects.{own_words}
-use Rattle.ell_cards.specs.Turns.{Turn, Makes, Splits, Joins, TableRun, view_after}
-use Rattle.ell_cards.specs.Starts.{IsReached}
+use Rattle.ell_cards.specs.Turns.{Turn, Makes, Splits, Joins, view_after}
 use Rattle.ell_cards.specs.Looking.{HasThere, LooksOn, LooksReadTheirOwn}
 use Rattle.ell_cards.proofs.seats.Seats.{set_there}
 use Rattle.ell_cards.proofs.own_words.OwnLedgers.{ledgers_tell_the_tree}

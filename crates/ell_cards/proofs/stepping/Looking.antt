@@ -1,19 +1,18 @@
-use Rattle.std.proofs.Common.{◌≡◌, List, ◌∷◌, ℕ, ◌<◌, ◌≤◌, Bool, true, false, get_or, refl, subst, arith}
+use Rattle.std.proofs.Common.{◌≡◌, List, ℕ, ◌<◌, Bool, false, get_or, refl, subst}
 use mathlib.Core.Option.{some}
 use lib.ListN.{get_elem?}
-use Rattle.ell_ops.specs.Meaning.{greatest_key}
 use Rattle.ell_word.specs.Node.{IsInternal}
 use Rattle.ell_core.specs.history.Stages.{Born}
 use Rattle.ell_core.proofs.stages.LaterKeys.{root_born}
 use Rattle.ell_cards.specs.declared.call.Call.TheVariants as call
 use Rattle.ell_cards.specs.declared.view.Told.TheVariants.{Met, Key}
 use Rattle.ell_cards.specs.declared.view.View.{View}
-use Rattle.ell_cards.specs.Models.{earlier, InTable}
+use Rattle.ell_cards.specs.Models.{earlier}
 use Rattle.ell_cards.specs.Changes.{after_look_for, after_look_down}
 use Rattle.ell_cards.specs.Guards.{MayLookFor, MayLookDown}
 use Rattle.ell_cards.specs.Calls.{child_at}
 use Rattle.ell_cards.specs.States.{TableState}
-use Rattle.ell_cards.specs.Machines.{EntryHolds, ViewHolds, HasMachine}
+use Rattle.ell_cards.specs.Machines.{EntryHolds, HasMachine}
 use Rattle.ell_cards.specs.Laws.{IsEvent}
 use Rattle.ell_cards.proofs.seats.Entries.{with_entry}
 use Rattle.ell_cards.proofs.seats.Frames.{kept_told, is_no_event}

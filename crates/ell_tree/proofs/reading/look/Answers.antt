@@ -1,7 +1,6 @@
-use Rattle.std.proofs.Common.{◌≡◌, ◌≢◌, ◌+◌, ◌*◌, ◌-◌, ◌<◌, Some, None, sym, ◌∙◌, arith, rules}
+use Rattle.std.proofs.Common.{◌≡◌, ◌≢◌, Some, None, ◌∙◌, arith, rules}
 use Rattle.ell_word.specs.Node.{IsInternal}
 use Rattle.ell_core.specs.acts.Searching.{IsLeaf}
-use Rattle.ell_cards.specs.declared.view.Told.TheVariants.{Met}
 use Rattle.ell_tree.proofs.Glances.{comes_first, met_still, may_down, comes_down, found_none, only_none, found_some, only_some, one_none, one_some, key_only, reads_mine}
 use Rattle.ell_tree.proofs.reading.look.Goals as goal
 
