@@ -1,5 +1,5 @@
 //! How a table begins, and how its passes part and come together.
-ghost use Rattle.std.specs.Prelude.{◌≡◌, ◌≢◌, ◌≤◌, ◌<◌, [], filter, not, max, true, length, None, IfOk, IfErr, OnOk};
+ghost use Rattle.std.specs.Prelude.{◌≡◌, ◌≢◌, ◌≤◌, ◌<◌, ◌↔◌, IsTrue, [], filter, not, max, true, length, None, IfOk, IfErr, OnOk, replicate, vec_len};
 ghost use Rattle.std.specs.List.{All};
 ghost use Rattle.std.specs.List.Sorted.{IsStrictlyIncreasing};
 ghost use Rattle.std.specs.Map.{keys_of};
@@ -64,17 +64,45 @@ impl<A: Allocator + Copy> CardTable<A> {
         ensures pass { IfOk result (λ made. made.1 ≡ record { table = made.0.id; view = first_view keys.now start.now; steps = 0; label = 0 }) }
         ensures refused { IfErr result (Refuses cards) }
     {
-        if cards < 1 || cards > CARDS_MAX {
+        if !is_card_count(cards) {
             return Err(CardFault::BadCards);
         }
         let copy = copied(alloc, keys)?;
         let present = copied(alloc, start)?;
+        CardTable::reserve_with_zeros(alloc, Vec::new(alloc), present, copy, cards)
+    }
+
+    /// The same, of lists that the caller gives up: the start keys with their values, the keys, and zero words, which may have been
+    /// made beforehand, as in another thread. They are cut to the words of the table, which is a copy of them, or more are put
+    /// behind them; nothing else is asked of the allocator. Errors and conditions are as of `reserve_from`.
+    pub fn reserve_with_zeros(
+        alloc: A,
+        zeros: Vec<u64, A>,
+        start: Vec<(u64, u64), A>,
+        keys: Vec<u64, A>,
+        cards: u64,
+    ) -> Result<(CardTable<A>, Pass<A>), CardFault>
+        requires zeros { All (λ word. word ≡ 0) zeros.items }
+        requires ascending { IsStrictlyIncreasing keys.items }
+        requires real { All (λ k. k ≤ greatest_key) keys.items }
+        requires start_ascending { IsStrictlyIncreasing (keys_of start.items) }
+        requires given { All (λ k. set_of keys.items k ≡ true) (keys_of start.items) }
+        requires few { length start.items ≤ most_start }
+        ensures cards { OnOk result (IsCardCount cards) }
+        ensures table { IfOk result (λ made. (made.0.keys ≡ keys.items) × (made.0.last_card ≡ last_card start.items cards)) }
+        ensures start { IfOk result (λ made. made.0.start ≡ start.items) }
+        ensures pass { IfOk result (λ made. made.1 ≡ record { table = made.0.id; view = first_view keys.items start.items; steps = 0; label = 0 }) }
+        ensures refused { IfErr result (Refuses cards) }
+    {
+        if !is_card_count(cards) {
+            return Err(CardFault::BadCards);
+        }
         let plan = Plan {
-            keys: copy,
-            start: present,
             last_card: cards + start.len() as u64,
+            keys,
+            start,
         };
-        let (table, seat) = opened(alloc, &plan)?;
+        let (table, seat) = opened(alloc, zeros, &plan)?;
         let Plan {
             keys,
             start: _,
@@ -200,20 +228,39 @@ impl<A: Allocator + Copy> CardTable<A> {
     }
 }
 
+// Whether a table may have so many cards to be claimed.
+fn is_card_count(cards: u64) -> bool
+    ensures { IsTrue result ↔ IsCardCount cards }
+{
+    1 <= cards && cards <= CARDS_MAX
+}
+
 // The opening table. It copies the words, and their first list goes at once.
 fn opened<A: Allocator + Copy>(
     alloc: A,
+    zeros: Vec<u64, A>,
     plan: &Plan<A>,
 ) -> Result<(Table<(), View, Plan<A>, CardRule, A>, Seat<(), View>), AllocError>
+    requires zeros { All (λ word. word ≡ 0) zeros.items }
     requires cards { plan.now.last_card ≤ greatest_card }
     requires room { length plan.now.start.items ≤ plan.now.last_card }
     requires few { length plan.now.start.items < greatest_card }
     requires may { MayStart plan.now.keys.items plan.now.start.items }
     ensures { IfOk result (λ made. IsOpened plan.now.last_card made.0.shared.table_id made.1.table_id made.1.me (first_view plan.now.keys.items plan.now.start.items) × (made.0.shared.key ≡ plan.now)) }
 {
-    let mut words = vec![in alloc; 0; table_size(plan.last_card)]?;
+    let mut words = so_many(zeros, table_size(plan.last_card))?;
     write_opening(words.as_mut_slice(), plan.start.as_slice(), plan.last_card);
     Table::of_words(alloc, words.as_slice(), plan)
+}
+
+// Zeros, cut to so many, or filled up.
+fn so_many<A: Allocator>(mut zeros: Vec<u64, A>, count: usize) -> Result<Vec<u64, A>, AllocError>
+    requires { All (λ word. word ≡ 0) zeros.items }
+    ensures zeros { IfOk result (λ words. words.items ≡ replicate count 0) }
+    ensures len { IfOk result (λ words. vec_len words ≡ count) }
+{
+    zeros.resize(count, 0)?;
+    Ok(zeros)
 }
 
 // A copy of some items.

@@ -2,12 +2,15 @@
 ghost use Rattle.std.specs.Prelude.{◌≡◌, IfErr, IfOk, OnOk};
 ghost use Rattle.ell_run.specs.Answered.{FaultTells, IsAnswered, IsReported};
 ghost use Rattle.ell_run.specs.RunFault.{of_input, of_text, of_write};
-ghost use Rattle.ell_run.specs.Settings.{AreSettings};
+ghost use Rattle.ell_run.specs.Settings.{AreSettings, IsPartedAs};
 ghost use Rattle.ell_run.specs.declared.bytes.RunFault.TheVariants.{NoMemory as no_memory};
 
-use crate::runs::run;
+use crate::memory::{TreeMemory, fill_beside};
+use crate::reservation::{most_words, words_of_all, words_to_begin_with};
+use crate::runs::run_in;
 use crate::settings::{Report, Settings, limits_for, parts_for};
 use ell_ops::NoMemory;
+use ell_parts::Parts;
 use ell_text::{INPUT_MAX, InputFault, TextFault, WriteFault, read_all, read_bulk, write_answer};
 use ell_word::{NoGate, StepGate};
 use std::alloc::Allocator;
@@ -116,10 +119,28 @@ pub fn run_bytes_watched<
         FaultTells fault (I.remaining reader.old) (O.contents writer.old) (O.contents writer.new)) }
 {
     let bytes = read_all(alloc, reader)?;
-    let bulk = read_bulk(alloc, &bytes)?;
-    let parts = parts_for(alloc, &bulk.ops, settings)?;
+    let ahead = words_to_begin_with(&bytes, settings);
+    let memory = TreeMemory::to_be_filled(alloc, ahead, most_words(bytes.len(), settings));
+    let (memory, bulk) = fill_beside(rt, memory, ahead, || read_bulk(alloc, &bytes));
+    let bulk = bulk?;
     let limits = limits_for(&bulk.ops, settings);
-    let outcome = run(rt, alloc, &bulk.start, &bulk.ops, &parts, limits, gate)?;
+    let count = words_of_all(&bulk.ops, bulk.start.len(), settings.workers, limits);
+    let part = || -> Result<Parts<'_, A>, NoMemory>
+        requires { AreSettings settings }
+        ensures { IfOk result (IsPartedAs settings bulk.ops.items) }
+    { parts_for(alloc, &bulk.ops, settings) };
+    let (memory, parts) = fill_beside(rt, memory, count, part);
+    let parts = parts?;
+    let outcome = run_in(
+        rt,
+        alloc,
+        memory,
+        &bulk.start,
+        &bulk.ops,
+        &parts,
+        limits,
+        gate,
+    )?;
     write_answer(writer, bulk.version, &outcome.replies, &outcome.pairs)?;
     Ok(Report { late: outcome.late })
 }

@@ -5,6 +5,7 @@
 mod bytes;
 mod late;
 mod laws;
+mod memory;
 mod pieces;
 mod reservation;
 mod runs;

@@ -4,6 +4,7 @@ ghost use Rattle.std.specs.List.{flat_map};
 ghost use Rattle.std.specs.List.Sorted.{IsStrictlyIncreasing};
 ghost use Rattle.std.specs.Map.{keys_of as keys_in};
 ghost use Rattle.ell_ops.specs.Contents.{Contents, ListsPairs, contents_of};
+ghost use Rattle.ell_ops.specs.KeySet.{Lists, set_of, union};
 ghost use Rattle.ell_ops.specs.Meaning.{Fits, final, greatest_key, replies};
 ghost use Rattle.ell_tree.specs.Ledgers.{Owns};
 ghost use Rattle.ell_tree.specs.PassParts.{IsFirst};
@@ -13,6 +14,7 @@ ghost use Rattle.ell_run.specs.Limits.{AreLimits};
 ghost use Rattle.ell_run.specs.Settings.{IsAllowed};
 
 use crate::late::{do_late, late_ops};
+use crate::memory::TreeMemory;
 use crate::pieces::Piece;
 use crate::reservation::cards_to_reserve;
 use crate::workers::{busy_workers, keys_for, work_apart};
@@ -69,7 +71,41 @@ pub fn run<R: Threads + Sync, A: Allocator + Copy + Send + Sync, G: StepGate + S
     ensures few { IfOk result (λ outcome. outcome.late ≤ length ops.now) }
     ensures late { IfOk result (λ outcome. IsLate (contents_of start.now) parts.now outcome.late) }
 {
-    let (pieces, pairs) = run_workers(rt, alloc, start, ops, parts, limits, gate)?;
+    run_in(
+        rt,
+        alloc,
+        TreeMemory::none(alloc),
+        start,
+        ops,
+        parts,
+        limits,
+        gate,
+    )
+}
+
+// The same, of memory that was made ready for the tree.
+pub(crate) fn run_in<R: Threads + Sync, A: Allocator + Copy + Send + Sync, G: StepGate + Sync>(
+    rt: &R,
+    alloc: A,
+    memory: TreeMemory<A>,
+    start: &[(u64, u64)],
+    ops: &[Op],
+    parts: &Parts<'_, A>,
+    limits: Limits,
+    gate: &G,
+) -> Result<Outcome<A>, NoMemory>
+    requires ascending { IsStrictlyIncreasing (keys_in start.now) }
+    requires real { All (λ key. key ≤ greatest_key) (keys_in start.now) }
+    requires few { length start.now ≤ most_start }
+    requires fits { All Fits ops.now }
+    requires parted { parts.now.ops ≡ ops.now }
+    requires limits { AreLimits limits }
+    ensures replies { IfOk result (λ outcome. outcome.replies.items ≡ replies (contents_of start.now) ops.now) }
+    ensures pairs { IfOk result (λ outcome. ListsPairs (final (contents_of start.now) ops.now) outcome.pairs.items) }
+    ensures few { IfOk result (λ outcome. outcome.late ≤ length ops.now) }
+    ensures late { IfOk result (λ outcome. IsLate (contents_of start.now) parts.now outcome.late) }
+{
+    let (pieces, pairs) = run_workers(rt, alloc, memory, start, ops, parts, limits, gate)?;
     finish(alloc, ops, parts, pieces, pairs)
 }
 
@@ -77,6 +113,7 @@ pub fn run<R: Threads + Sync, A: Allocator + Copy + Send + Sync, G: StepGate + S
 fn run_workers<R: Threads + Sync, A: Allocator + Copy + Send + Sync, G: StepGate + Sync>(
     rt: &R,
     alloc: A,
+    memory: TreeMemory<A>,
     start: &[(u64, u64)],
     ops: &[Op],
     parts: &Parts<'_, A>,
@@ -93,7 +130,7 @@ fn run_workers<R: Threads + Sync, A: Allocator + Copy + Send + Sync, G: StepGate
     let workers = busy_workers(alloc, parts)?;
     let used = keys_for(alloc, parts, &workers)?;
     let cards = cards_to_reserve(ops, workers.len(), limits);
-    let (tree, pass) = reserve(alloc, start, &used, cards)?;
+    let (tree, pass) = reserve(alloc, memory, start, &used, cards)?;
     let (pass, pieces) = work_apart(rt, alloc, &tree, pass, &used, parts, limits.tries, gate)?;
     match tree.close(pass) {
         Ok(pairs) => Ok((pieces, pairs)),
@@ -104,6 +141,7 @@ fn run_workers<R: Threads + Sync, A: Allocator + Copy + Send + Sync, G: StepGate
 // A tree that begins with the map of `start`, and a pass with its keys and these used ones.
 fn reserve<A: Allocator + Copy>(
     alloc: A,
+    memory: TreeMemory<A>,
     start: &[(u64, u64)],
     used: &[u64],
     cards: u64,
@@ -117,18 +155,31 @@ fn reserve<A: Allocator + Copy>(
     ensures pass { IfOk result (λ made. IsFirst start.now made.0 made.1) }
     ensures owned { IfOk result (λ made. All (λ key. Owns made.1 key) used.now) }
 {
-    if start.is_empty() {
-        return match Tree::reserve(alloc, used, cards) {
-            Ok(made) => Ok(made),
-            Err(fault) => Err(no_cards(fault)),
-        };
-    }
-    let there = start_keys(alloc, start)?;
-    let keys = united_keys(alloc, &there, used)?;
-    match Tree::reserve_from(alloc, start, &keys, cards) {
+    let TreeMemory { zeros, spare } = memory;
+    let present = Vec::from_slice(alloc, start)?;
+    let keys = all_keys(alloc, start, used)?;
+    drop(spare);
+    match Tree::reserve_with_zeros(alloc, zeros, present, keys, cards) {
         Ok(made) => Ok(made),
         Err(fault) => Err(no_cards(fault)),
     }
+}
+
+// The keys of the map of `start` and these used ones, ascending.
+fn all_keys<A: Allocator + Copy>(
+    alloc: A,
+    start: &[(u64, u64)],
+    used: &[u64],
+) -> Result<Vec<u64, A>, NoMemory>
+    requires ascending { IsStrictlyIncreasing (keys_in start.now) }
+    requires used_ascending { IsStrictlyIncreasing used.now }
+    ensures { IfOk result (λ keys. Lists (union (set_of (keys_in start.now)) (set_of used.now)) keys.items) }
+{
+    if start.is_empty() {
+        return Ok(Vec::from_slice(alloc, used)?);
+    }
+    let there = start_keys(alloc, start)?;
+    Ok(united_keys(alloc, &there, used)?)
 }
 
 // The keys of pairs, in their order.

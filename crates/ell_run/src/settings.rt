@@ -2,7 +2,8 @@
 ghost use Rattle.std.specs.Prelude.{◌≡◌, ◌≤◌, ◌+◌, ◌*◌, IfOk, length, unwrap_or};
 ghost use Rattle.ell_text.specs.Limits.{most_operations};
 ghost use Rattle.ell_run.specs.Limits.{AreLimits};
-ghost use Rattle.ell_run.specs.Settings.{AreSettings, IsPartedAs};
+ghost use Rattle.ell_word.specs.Node.{most_cards};
+ghost use Rattle.ell_run.specs.Settings.{AreSettings, IsAllowed, IsPartedAs};
 
 use crate::runs::Limits;
 use ell_ops::{NoMemory, Op};
@@ -74,9 +75,18 @@ pub(crate) fn limits_for(ops: &[Op], settings: Settings) -> Limits
     ensures cards { result.cards ≡ unwrap_or settings.cards (4 * length ops.now + 64) }
     ensures tries { result.tries ≡ settings.tries }
 {
-    let cards = settings.cards.unwrap_or(4 * ops.len() as u64 + 64);
     Limits {
-        cards,
+        cards: cards_for(ops.len(), settings),
         tries: settings.tries,
     }
+}
+
+// The cards for so many operations.
+pub(crate) fn cards_for(count: usize, settings: Settings) -> u64
+    requires settings { AreSettings settings }
+    requires few { count ≤ most_operations }
+    ensures value { result ≡ unwrap_or settings.cards (4 * count + 64) }
+    ensures allowed { IsAllowed most_cards result }
+{
+    settings.cards.unwrap_or(4 * count as u64 + 64)
 }

@@ -13,6 +13,7 @@ mod tree;
 mod trying;
 
 pub use ell_cards::{CardFault, Pass};
+pub use ell_core::table_size;
 pub use ell_ops::{KEY_MAX, NoMemory, distinct_keys};
 pub use ell_word::{CARDS_MAX, Kind, NoGate, START_MAX, StepGate};
 pub use operations::Held;

@@ -86,6 +86,33 @@ impl<A: Allocator + Copy> Tree<A> {
         Ok((Tree { table, alloc }, pass))
     }
 
+    /// The same, of lists that the caller gives up: the start keys with their values, the keys, and zero words, which may have been made
+    /// beforehand, as in another thread. Most of the time that `reserve_from` takes is that of making these, `table_size` of the number
+    /// of the last card; if there are more here, they are cut to that, and if there are fewer, more are made. Nothing else than those
+    /// and the tree's own words is asked of the allocator. Errors and conditions are as of `reserve_from`.
+    pub fn reserve_with_zeros(
+        alloc: A,
+        zeros: Vec<u64, A>,
+        start: Vec<(u64, u64), A>,
+        keys: Vec<u64, A>,
+        cards: u64,
+    ) -> Result<(Tree<A>, Pass<A>), CardFault>
+        requires zeros { All (λ word. word ≡ 0) zeros.items }
+        requires ascending { IsStrictlyIncreasing keys.items }
+        requires real { All (λ k. k ≤ greatest_key) keys.items }
+        requires start_ascending { IsStrictlyIncreasing (keys_of start.items) }
+        requires given { All (λ k. set_of keys.items k ≡ true) (keys_of start.items) }
+        requires few { length start.items ≤ most_start }
+        ensures cards { OnOk result (IsCardCount cards) }
+        ensures tree { IfOk result (λ made. (made.0.keys ≡ keys.items) × (made.0.last_card ≡ last_card start.items cards)) }
+        ensures start { IfOk result (λ made. made.0.start ≡ start.items) }
+        ensures pass { IfOk result (λ made. IsFirst start.items made.0 made.1) }
+        ensures refused { IfErr result (Refuses cards) }
+    {
+        let (table, pass) = CardTable::reserve_with_zeros(alloc, zeros, start, keys, cards)?;
+        Ok((Tree { table, alloc }, pass))
+    }
+
     /// Parts a pass, so that two threads can work: the left part gets these keys of its own, strictly ascending, and the right part
     /// the rest. Both keep its label. Where memory is refused, the pass comes back as it was.
     pub fn split(
