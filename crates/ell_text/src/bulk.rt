@@ -144,7 +144,7 @@ impl<A: Allocator + Copy> Bulk<A> {
         ensures value { result ≡ fault_of_said number (bulk_value self.now) said }
         ensures fault { result ≢ Some TextFault.NoMemory }
     {
-        if said == Line::Version {
+        if matches!(said, Line::Version) {
             return None;
         }
         if let (Line::Start(key, _), Some((before, _))) = (said, self.start.last())

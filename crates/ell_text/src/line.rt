@@ -11,7 +11,7 @@ use crate::version::Version;
 use ell_ops::Op;
 
 /// Why a line of a bulk text is at fault by itself. The first of this list that holds counts.
-#[derive(Debug, Clone, Copy, PartialEq, Eq)]
+#[derive(Clone, Copy)]
 pub(crate) enum LineFault {
     /// Before the first space stands no name of a line that may stand there.
     BadOperation,
@@ -24,7 +24,7 @@ pub(crate) enum LineFault {
 }
 
 /// What an operation does, without its key.
-#[derive(Debug, Clone, Copy, PartialEq, Eq)]
+#[derive(Clone, Copy)]
 pub(crate) enum OpKind {
     Find,
     Insert,
@@ -60,7 +60,7 @@ impl OpKind {
 }
 
 /// A section of a bulk text, by the lines that may stand in it.
-#[derive(Debug, Clone, Copy, PartialEq, Eq)]
+#[derive(Clone, Copy, PartialEq, Eq)]
 pub(crate) enum Section {
     /// The first line that says something: it may say the version.
     Head,
@@ -71,7 +71,7 @@ pub(crate) enum Section {
 }
 
 /// What a line of a bulk text says.
-#[derive(Debug, Clone, Copy, PartialEq, Eq)]
+#[derive(Clone, Copy)]
 pub(crate) enum Line {
     /// The text has version 2.
     Version,
@@ -82,7 +82,7 @@ pub(crate) enum Line {
 }
 
 /// What a line says, without its key.
-#[derive(Debug, Clone, Copy, PartialEq, Eq)]
+#[derive(Clone, Copy)]
 pub(crate) enum LineKind {
     Start,
     Operation(OpKind),

@@ -12,7 +12,7 @@ use std::str;
 const MOST_BEFORE_A_DIGIT: u64 = u64::MAX / 10 - 1;
 
 /// Why some bytes are no number in range.
-#[derive(Debug, Clone, Copy, PartialEq, Eq)]
+#[derive(Clone, Copy)]
 pub(crate) enum NumberFault {
     /// There is no byte, a byte that is no digit, or a first 0 that other digits follow.
     NotANumber,

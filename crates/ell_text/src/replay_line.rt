@@ -12,7 +12,7 @@ use ell_ops::WORKERS_MAX;
 use ell_word::CARDS_MAX;
 
 /// Why a line of a replay text says nothing at its place. The first of this list that holds counts.
-#[derive(Debug, Clone, Copy, PartialEq, Eq)]
+#[derive(Clone, Copy)]
 pub(crate) enum ReplayLineFault {
     /// The line has no form that may stand there.
     BadLine,
@@ -23,7 +23,7 @@ pub(crate) enum ReplayLineFault {
 }
 
 /// A place in a replay text, by the lines that may stand there.
-#[derive(Debug, Clone, Copy, PartialEq, Eq)]
+#[derive(Clone, Copy)]
 pub(crate) enum Place {
     /// The line of the number of workers.
     Workers,
@@ -36,7 +36,7 @@ pub(crate) enum Place {
 }
 
 /// What a line of a replay text says.
-#[derive(Debug, Clone, Copy, PartialEq, Eq)]
+#[derive(Clone, Copy)]
 pub(crate) enum Said {
     /// The number of workers.
     Workers(u32),
@@ -59,7 +59,7 @@ enum Pieces<'a> {
 }
 
 // An act that names a card, without the card.
-#[derive(Debug, Clone, Copy, PartialEq, Eq)]
+#[derive(Clone, Copy)]
 enum CardAct {
     IChild,
     IUnflag,
