@@ -121,7 +121,7 @@ if_won false k c = []
 
 -- an exchange found this word, and won this
 abbrev pub exchanged : List (Kind × ℕ) → ℕ → View → View
-exchanged wins n v = record v { found = Some n; won = wins ++ v.won }
+exchanged wins n v = record v { found = Some n; won = wins ++ v.won; made = v.made + 1 }
 
 -- what an exchange of an update word that found this answers
 abbrev pub update_outcome : ℕ → ℕ → Result (Unit {0}) Update
@@ -162,6 +162,7 @@ after_begin op v = record v {
   stores = [];
   knew_before = v.worker.facts;
   met = [];
+  made = v.made + 1;
 }
 
 -- again: the operation in hand begins once more, and what its search read in the way was a hindrance; the try before is counted, if
@@ -179,6 +180,7 @@ after_leave v = record v {
   hindrances = given_up v;
   met = [];
   hindered = tries_hindered v;
+  made = v.made + 1;
 }
 
 -- the ledger where a key's entry is this one now
@@ -201,12 +203,14 @@ after_answer said v = record v {
   stores = [];
   answers = v.answers + 1;
   met = [];
+  made = v.made + 1;
 }
 
 -- upd: this update was read at the node where the pass stands
 abbrev pub after_upd : ℕ → Update → View → View
 after_upd x u v = record (finding x u v) {
   worker = record (v.worker) { search = with_read v.worker.search (packed u); facts = facts_by u.state u.card v.worker.facts };
+  made = v.made + 1;
 }
 
 -- a node with the word that was read there, if one was
@@ -227,11 +231,12 @@ after_down x child v = record v {
   };
   told = Met child ∷ v.told;
   here = None;
+  made = v.made + 1;
 }
 
 -- next: the claim word was read
 abbrev pub after_next : ℕ → View → View
-after_next n v = record v { next = Some n }
+after_next n v = record v { next = Some n; made = v.made + 1 }
 
 -- whether a place, if there is one, is this node
 abbrev pub is_at : Option ℕ → ℕ → Bool
@@ -243,11 +248,12 @@ abbrev pub after_key_of : ℕ → ℕ → View → View
 after_key_of x key v = record v {
   told = Key x key ∷ v.told;
   here = if is_at v.worker.search.node x then Some key else v.here;
+  made = v.made + 1;
 }
 
 -- value_of: the value of a leaf was told
 abbrev pub after_value_of : ℕ → ℕ → View → View
-after_value_of x value v = record v { told = Value x value ∷ v.told }
+after_value_of x value v = record v { told = Value x value ∷ v.told; made = v.made + 1 }
 
 -- what was told with a word of a card; a word that is a node is met
 abbrev pub told_info : ℕ → Field → ℕ → List Told → List Told
@@ -258,15 +264,20 @@ told_info c f x told = Info c f x ∷ told
 
 -- info: a word of a card was told
 abbrev pub after_info : ℕ → Field → ℕ → View → View
-after_info c f x v = record v { told = told_info c f x v.told }
+after_info c f x v = record v { told = told_info c f x v.told; made = v.made + 1 }
 
 -- frozen_child: a child of the parent that a card marked was told, and is met
 abbrev pub after_frozen_child : ℕ → Bool → ℕ → View → View
-after_frozen_child c right x v = record v { told = Frozen c right x ∷ Met x ∷ v.told }
+after_frozen_child c right x v = record v { told = Frozen c right x ∷ Met x ∷ v.told; made = v.made + 1 }
 
 -- look_for: a look for a key has come to the root's left child, which the pass has met
 abbrev pub after_look_for : ℕ → ℕ → View → View
-after_look_for key child v = record v { told = Met child ∷ v.told; looking = Some (record { key = key; node = child }); looks = v.looks + 1 }
+after_look_for key child v = record v {
+  told = Met child ∷ v.told;
+  looking = Some (record { key = key; node = child });
+  looks = v.looks + 1;
+  made = v.made + 1;
+}
 
 -- a look that has come to a child
 abbrev pub looked_down : ℕ → Option Looking → Option Looking
@@ -275,7 +286,7 @@ looked_down child (Some look) = Some (record { key = look.key; node = child })
 
 -- look_down: the look has come to this child, which the pass has met
 abbrev pub after_look_down : ℕ → View → View
-after_look_down child v = record v { told = Met child ∷ v.told; looking = looked_down child v.looking }
+after_look_down child v = record v { told = Met child ∷ v.told; looking = looked_down child v.looking; made = v.made + 1 }
 
 -- the value that was told of a leaf the last time, or 0
 abbrev pub told_value : List Told → ℕ → ℕ
@@ -317,16 +328,22 @@ after_claim true c v = record v {
   stores = [];
   won = (kind.Claim, c) ∷ v.won;
   next_at_least = c + 1;
+  made = v.made + 1;
 }
-after_claim false c v = record v { next_at_least = c + 1; hindrances = Claim c ∷ v.hindrances; met = Claim c ∷ v.met }
+after_claim false c v = record v { next_at_least = c + 1; hindrances = Claim c ∷ v.hindrances; met = Claim c ∷ v.met; made = v.made + 1 }
 
 -- fill: a word of the card in hand was stored
 abbrev pub after_fill : Field → ℕ → View → View
-after_fill f x v = record v { stores = (f, x) ∷ v.stores }
+after_fill f x v = record v { stores = (f, x) ∷ v.stores; made = v.made + 1 }
 
--- the view where these words of the card in hand were stored, the last first
+-- one step more for each of these stores
+abbrev pub steps_with : List (Field × ℕ) → ℕ → ℕ
+steps_with [] n = n
+steps_with (e ∷ es) n = steps_with es n + 1
+
+-- the view where these words of the card in hand were stored, the last first, in a step each
 abbrev pub with_stores : List (Field × ℕ) → View → View
-with_stores stores v = record v { stores = stores }
+with_stores stores v = record v { stores = stores; made = steps_with stores v.made }
 
 -- the search stands nowhere any more
 abbrev pub nowhere : Search → Search
@@ -399,6 +416,7 @@ idle_view ledger = record {
   hindered = 0;
   looking = None;
   looks = 0;
+  made = 0;
 }
 
 -- the first pass of a table: it owns all keys, of which the start keys are present with their values, and the others absent
@@ -432,13 +450,13 @@ part_view ledger v = record v {
   looking = None;
 }
 
--- split, the left part: it gets these keys, and keeps the counts and what the pass won
+-- split, the left part: it gets these keys, and keeps the counts and what the pass won; the split is its step
 abbrev pub left_view : List ℕ → View → View
-left_view keys v = part_view (part_on keys v.worker.ledger) v
+left_view keys v = record (part_view (part_on keys v.worker.ledger) v) { made = v.made + 1 }
 
 -- split, the right part: it gets the other keys
 abbrev pub right_view : List ℕ → View → View
-right_view keys v = record (part_view (part_off keys v.worker.ledger) v) { won = []; answers = 0; hindrances = []; hindered = 0; looks = 0 }
+right_view keys v = record (part_view (part_off keys v.worker.ledger) v) { won = []; answers = 0; hindrances = []; hindered = 0; looks = 0; made = 0 }
 
 -- an entry put into an ascending ledger at its place, or in place of that of its key
 abbrev pub put_entry : ℕ × Entry → List (ℕ × Entry) → List (ℕ × Entry)
@@ -475,4 +493,5 @@ joined_view v w = record {
   hindered = v.hindered + w.hindered;
   looking = None;
   looks = v.looks + w.looks;
+  made = v.made + w.made + 1;
 }

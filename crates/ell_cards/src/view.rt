@@ -71,6 +71,9 @@ pub struct View {
     pub looking: Option<Looking>,
     /// How many looks it began.
     pub looks: u64,
+    /// How many step calls it made. A split is a step of its left part, and the right part begins with none. A join is a step too: it
+    /// adds the counts of both passes.
+    pub made: u64,
 }
 
 /// What a table is made for. A table keeps the number of its last card; the keys go to its first pass, and the start keys into

@@ -1,45 +1,44 @@
 use Rattle.std.proofs.Common.{◌≡◌, ℕ, ◌+◌, ◌*◌, ◌<◌, ◌≤◌, List, [], ◌∷◌, ◌++◌, ◌/◌, ◌∙◌, length, get_or, take, drop, max, ap, arith}
 use Rattle.std.proofs.Math.Nat.{mul-le-mul_right}
 use Rattle.std.proofs.lemmas.List.{length-append, length-drop, length-take}
+use Rattle.std.proofs.lemmas.List.Sums.{sum_by-append}
 use Rattle.ell_ops.specs.declared.op.Op.{Op}
 use Rattle.ell_parts.specs.PartedOps.{PartedOps, part}
+use Rattle.ell_tree.specs.Counts.{Took}
 use Rattle.ell_tree.specs.Ends.{find_steps, try_steps}
 use Rattle.ell_tree.specs.Ledgers.{PassModel}
 use Rattle.ell_tree.specs.Moves.{moves_known}
-use Rattle.ell_run.specs.Steps.{IsPaid, longest, work_steps, worker_steps}
+use Rattle.ell_tree.specs.PassParts.{IsUnion}
+use Rattle.ell_run.specs.Steps.{AreWithin, IsPaid, longest, worker_steps}
+use Rattle.ell_run.specs.Work.{AreHalves}
 
 -- a find
-pub paid_find : (cards : ℕ) (before after : PassModel) → after.steps ≤ before.steps + find_steps cards →
+pub paid_find : (cards : ℕ) (before after : PassModel) → Took before after (find_steps cards) →
     moves_known cards before.view ≤ moves_known cards after.view → moves_known cards after.view ≤ 2 * cards → IsPaid cards 1 before after
 paid_find cards before after few more most =
     let all = mul-le-mul_right {m = moves_known cards before.view} {n = moves_known cards after.view} (try_steps cards) more in
-    record { steps = omega (arith, few, all); most = omega (arith, most) }
+    record { steps = omega (arith, few.steps, all); made = omega (arith, few.made, all); most = omega (arith, most) }
 
 -- one call more
 pub paid_more : (cards calls : ℕ) (before mid after : PassModel) → IsPaid cards calls before mid → IsPaid cards 1 mid after →
     IsPaid cards (calls + 1) before after
 paid_more cards calls before mid after h one =
-    let a = h.steps in
-    let b = one.steps in
     let c = h.most in
     let d = one.most in
-    record { steps = omega (arith, a, b); most = omega (arith, c, d) }
+    record { steps = omega (arith, h.steps, one.steps); made = omega (arith, h.made, one.made); most = omega (arith, c, d) }
 
 -- of more calls
 pub paid_within : (cards calls count : ℕ) (before after : PassModel) → calls ≤ count → IsPaid cards calls before after → IsPaid cards count before after
 paid_within cards calls count before after few h =
-    let a = h.steps in
     let all = mul-le-mul_right {m = moves_known cards after.view + calls} {n = moves_known cards after.view + count} (try_steps cards) (omega (arith, few)) in
-    record { steps = omega (arith, a, all, few); most = h.most }
+    record { steps = omega (arith, h.steps, all, few); made = omega (arith, h.made, all, few); most = h.most }
 
 -- the steps of a worker
-pub paid_steps : (cards calls : ℕ) (before after : PassModel) → IsPaid cards calls before after →
-    after.steps ≤ before.steps + worker_steps cards calls
+pub paid_steps : (cards calls : ℕ) (before after : PassModel) → IsPaid cards calls before after → Took before after (worker_steps cards calls)
 paid_steps cards calls before after h =
-    let a = h.steps in
     let b = h.most in
     let all = mul-le-mul_right {m = moves_known cards after.view} {n = moves_known cards before.view + 2 * cards} (try_steps cards) (omega (arith, b)) in
-    omega (arith, a, all)
+    record { steps = omega (arith, h.steps, all); made = omega (arith, h.made, all) }
 
 -- the longest part of two rows
 pub longest_both : (parting : PartedOps) (low high : List ℕ) → longest parting (low ++ high) ≡ max (longest parting low) (longest parting high)
@@ -53,27 +52,33 @@ worker_steps_within cards few many h =
     omega (arith, all)
 
 -- two rows of workers, of which each has one
-pub steps_both : (cards : ℕ) (parting : PartedOps) (low high : List ℕ) (pass left right first second both : ℕ) → 0 < length low → 0 < length high →
-    left ≤ pass + 1 → right ≤ pass + 1 → first ≤ left + work_steps cards parting low → second ≤ right + work_steps cards parting high →
-    both ≤ max first second + 1 → both ≤ pass + work_steps cards parting (low ++ high)
-steps_both cards parting low high pass left right first second both some_low some_high on_left on_right did other union =
+pub within_both : (cards : ℕ) (parting : PartedOps) (low high : List ℕ) (pass left right first second both : PassModel) → 0 < length low → 0 < length high →
+    AreHalves parting low pass left right → AreWithin cards parting low left first → AreWithin cards parting high right second → IsUnion first second both →
+    AreWithin cards parting (low ++ high) pass both
+within_both cards parting low high pass left right first second both some_low some_high halves did other union =
     let most = longest_both parting low high in
     let front = worker_steps_within cards (longest parting low) (longest parting (low ++ high)) (omega (arith, most)) in
     let back = worker_steps_within cards (longest parting high) (longest parting (low ++ high)) (omega (arith, most)) in
     let count = length-append low high in
-    omega (arith, front, back, count, did, other, union, on_left, on_right, some_low, some_high)
+    let sum = sum_by-append (λ worker. worker_steps cards (length (part parting worker))) low high in
+    record {
+      bounded = omega (arith, front, back, count, did.bounded, other.bounded, union.steps, halves.on_left.steps, halves.on_right.steps, some_low, some_high);
+      total = omega (arith, sum, count, did.total, other.total, union.made, halves.on_left.made, halves.on_right.made, some_low, some_high);
+    }
 
 -- one worker, by a pass that got another label
-pub steps_one : (cards : ℕ) (parting : PartedOps) (workers : List ℕ) (d : ℕ) (before told after : PassModel) (items : List (ℕ × Op)) →
+pub within_one : (cards : ℕ) (parting : PartedOps) (workers : List ℕ) (d : ℕ) (before told after : PassModel) (items : List (ℕ × Op)) →
     0 < length workers → length workers < 2 → (label : ℕ) → told ≡ record before { label = label } → items ≡ part parting (get_or workers 0 d) →
-    after.steps ≤ told.steps + worker_steps cards (length items) → after.steps ≤ before.steps + work_steps cards parting workers
-steps_one cards parting [] d before told after items some few label same own h = absurd (omega arith)
-steps_one cards parting (w ∷ v ∷ ws) d before told after items some few label same own h = absurd (omega arith)
-steps_one cards parting (w ∷ []) d before told after items some few label same own h =
+    Took told after (worker_steps cards (length items)) → AreWithin cards parting workers before after
+within_one cards parting [] d before told after items some few label same own h = absurd (omega arith)
+within_one cards parting (w ∷ v ∷ ws) d before told after items some few label same own h = absurd (omega arith)
+within_one cards parting (w ∷ []) d before told after items some few label same own h =
     let kept = ap (λ (p : PassModel). p.steps) same in
+    let still = ap (λ (p : PassModel). p.view.made) same in
     let count = ap length own in
     let within = worker_steps_within cards (length items) (longest parting (w ∷ [])) (omega (arith, count)) in
-    omega (arith, kept, within, h)
+    let alone = ap (worker_steps cards) count in
+    record { bounded = omega (arith, kept, within, h.steps); total = omega (arith, still, alone, h.made) }
 
 -- a row of two workers or more, parted in the middle
 pub some_each : (workers low high : List ℕ) → 2 ≤ length workers → low ≡ take (length workers / 2) workers → high ≡ drop (length workers / 2) workers →

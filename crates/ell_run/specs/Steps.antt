@@ -1,14 +1,18 @@
 use Rattle.std.specs.Prelude.{ℕ, ◌+◌, ◌-◌, ◌*◌, ◌≤◌, List, [], ◌∷◌, length, max}
+use Rattle.std.specs.List.{sum_by}
 use Rattle.ell_parts.specs.PartedOps.{PartedOps, part}
 use Rattle.ell_tree.specs.Ends.{try_steps}
 use Rattle.ell_tree.specs.Ledgers.{PassModel}
 use Rattle.ell_tree.specs.Moves.{moves_known}
 
 -- so many finds, inserts and deletes of a pass took the steps of one try each, and one step more, and those of another try only for
--- each move that the pass came to know of, of which there are two of each card
+-- each move that the pass came to know of, of which there are two of each card; so by both counts, that of the steps in a row and that of
+-- all steps
 pub record IsPaid (cards calls : ℕ) (before after : PassModel) : Type 0 where
   pub steps : after.steps + moves_known cards before.view * try_steps cards ≤
       before.steps + (moves_known cards after.view + calls) * try_steps cards + calls
+  pub made : after.view.made + moves_known cards before.view * try_steps cards ≤
+      before.view.made + (moves_known cards after.view + calls) * try_steps cards + calls
   pub most : moves_known cards after.view ≤ max (moves_known cards before.view) (2 * cards)
 
 -- the most steps of a worker with so many operations: a try of each, and a try more for each move of a card
@@ -24,3 +28,12 @@ longest parting (worker ∷ workers) = max (length (part parting worker)) (longe
 -- join for each worker beside the first
 abbrev pub work_steps : ℕ → PartedOps → List ℕ → ℕ
 work_steps cards parting workers = worker_steps cards (longest parting workers) + 2 * (length workers - 1)
+
+-- the most steps that these workers make together: of each, those of its operations, and a split and a join for each beside the first
+abbrev pub total_steps : ℕ → PartedOps → List ℕ → ℕ
+total_steps cards parting workers = sum_by (λ worker. worker_steps cards (length (part parting worker))) workers + 2 * (length workers - 1)
+
+-- workers that began with a pass made no more steps than they may, in a row and all together, as the pass counts that comes back from them
+pub record AreWithin (cards : ℕ) (parting : PartedOps) (workers : List ℕ) (before after : PassModel) : Type 0 where
+  pub bounded : after.steps ≤ before.steps + work_steps cards parting workers
+  pub total : after.view.made ≤ before.view.made + total_steps cards parting workers

@@ -8,7 +8,7 @@ use Rattle.ell_parts.specs.PartedOps.{PartedOps, IsLawful, part, keys_in}
 use Rattle.ell_tree.specs.Ledgers.{PassModel, TreeModel, Owns, IsIdle, answers, hindrances, present_in}
 use Rattle.ell_tree.specs.PassParts.{IsLeftPart, IsRightPart}
 use Rattle.ell_run.specs.ByParts.{ops_in}
-use Rattle.ell_run.specs.Steps.{work_steps}
+use Rattle.ell_run.specs.Steps.{AreWithin}
 use Rattle.ell_run.specs.Pieces.{ArePieces, IsPiece, all_held, front, one_held, ops_done}
 use Rattle.ell_ops.specs.declared.reply.Reply.{Reply}
 
@@ -68,7 +68,7 @@ pub record IsWorked (cards tries : ℕ) (parting : PartedOps) (workers : List �
   pub answers : answers after ≡ answers before + sum_by length pieces
   pub held : AreHeld cards tries (all_held parting workers pieces) before after
 
--- workers have worked with a pass, which has counted no more steps than they may make
+-- workers have worked with a pass, and made no more steps than they may
 pub record IsWorkedWithin (cards tries : ℕ) (parting : PartedOps) (workers : List ℕ) (before after : PassModel) (pieces : List (List (ℕ × Reply))) : Type 0 where
   pub worked : IsWorked cards tries parting workers before after pieces
-  pub bounded : after.steps ≤ before.steps + work_steps cards parting workers
+  pub within : AreWithin cards parting workers before after

@@ -1,6 +1,7 @@
 //! What one worker does on its part, with a pass of the shared tree, and the pieces that workers leave.
 ghost use Rattle.std.specs.Prelude.{◌≡◌, ◌≤◌, ◌+◌, ℕ, IfOk, length, map};
 ghost use Rattle.ell_ops.specs.Meaning.{key_of};
+ghost use Rattle.ell_tree.specs.Counts.{Took};
 ghost use Rattle.ell_tree.specs.Ends.{Ends};
 ghost use Rattle.ell_tree.specs.Ledgers.{IsIdle, Owns, PassModel};
 ghost use Rattle.ell_run.specs.Pieces.{all_workers, busy, numbered};
@@ -30,7 +31,7 @@ pub(crate) fn work_off<A: Allocator + Copy, G: StepGate>(
     requires owned { OwnsAll pass.old part.now }
     requires tries { 1 ≤ tries }
     ensures worked { IfOk result (λ piece. IsWorkedOff tree.now.last_card tries part.now pass.old pass.new piece.items) }
-    ensures bounded { IfOk result (λ piece. pass.new.steps ≤ pass.old.steps + worker_steps tree.now.last_card (length part.now)) }
+    ensures bounded { IfOk result (λ piece. Took pass.old pass.new (worker_steps tree.now.last_card (length part.now))) }
 {
     let mut piece = Vec::with_capacity(alloc, part.len())?;
     for (position, op) in part {

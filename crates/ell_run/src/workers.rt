@@ -6,7 +6,7 @@ ghost use Rattle.ell_ops.specs.Meaning.{key_of};
 ghost use Rattle.ell_parts.specs.PartedOps.{IsLawful, PartedOps, keys_of};
 ghost use Rattle.ell_tree.specs.Ledgers.{IsIdle, Owns, PassModel};
 ghost use Rattle.ell_run.specs.Pieces.{all_workers, busy};
-ghost use Rattle.ell_run.specs.Steps.{work_steps};
+ghost use Rattle.ell_run.specs.Steps.{total_steps, work_steps};
 ghost use Rattle.ell_run.specs.Work.{AreHalves, AreReady, IsWorked, IsWorkedWithin, keys_for};
 
 use crate::pieces::{Piece, with_empty_pieces, work_off};
@@ -22,7 +22,8 @@ use std::thread::{Threads, join};
 /// out. Answers the pass, with all its keys, and a piece for each worker, in their order: its replies, with their positions. After
 /// `NoMemory` the pass is gone. However many tries there are, and however the workers' steps fall, a worker with n operations makes
 /// at most `n * (7 * cards + 28) + 2 * cards * (7 * cards + 27)` steps, where `cards` is the number of the last card; the pass that
-/// comes back has counted no more than the worker with the most operations may, and two for each busy worker beside the first.
+/// comes back has counted no more than the worker with the most operations may, and two for each busy worker beside the first. All
+/// workers together make at most the sum of what each may, and two for each busy worker beside the first: its split and its join (`total`).
 pub fn work<R: Threads + Sync, A: Allocator + Copy + Send + Sync, G: StepGate + Sync>(
     rt: &R,
     alloc: A,
@@ -39,6 +40,7 @@ pub fn work<R: Threads + Sync, A: Allocator + Copy + Send + Sync, G: StepGate + 
     ensures worked { IfOk result (λ done.
         IsWorked tree.now.last_card tries parts.now (all_workers parts.now) pass done.0 (map (λ piece. piece.items) done.1.items)) }
     ensures bounded { IfOk result (λ done. done.0.steps ≤ pass.steps + work_steps tree.now.last_card parts.now (busy parts.now)) }
+    ensures total { IfOk result (λ done. done.0.view.made ≤ pass.view.made + total_steps tree.now.last_card parts.now (busy parts.now)) }
 {
     let workers = busy_workers(alloc, parts)?;
     let (pass, pieces) = do_workers(rt, alloc, tree, pass, parts, &workers, tries, gate)?;
@@ -66,6 +68,7 @@ pub(crate) fn work_apart<R: Threads + Sync, A: Allocator + Copy + Send + Sync, G
     ensures worked { IfOk result (λ done.
         IsWorked tree.now.last_card tries parts.now (all_workers parts.now) pass done.0 (map (λ piece. piece.items) done.1.items)) }
     ensures bounded { IfOk result (λ done. done.0.steps ≤ pass.steps + work_steps tree.now.last_card parts.now (busy parts.now) + 2) }
+    ensures total { IfOk result (λ done. done.0.view.made ≤ pass.view.made + total_steps tree.now.last_card parts.now (busy parts.now) + 2) }
 {
     if pass.keys().len() == keys.len() {
         return work(rt, alloc, tree, pass, parts, tries, gate);

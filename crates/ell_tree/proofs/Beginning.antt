@@ -1,4 +1,4 @@
-use Rattle.std.proofs.Common.{◌++◌, Option, Some, [], refl, sym, ap, subst, arith}
+use Rattle.std.proofs.Common.{◌++◌, Option, Some, [], refl, sym, ap, subst}
 use Rattle.ell_ops.specs.declared.op.Op.{Op}
 use Rattle.ell_cards.specs.declared.view.View.{View}
 use Rattle.ell_cards.specs.Models.{PassModel, Steps, Does, latest}
@@ -6,6 +6,7 @@ use Rattle.ell_cards.specs.Changes.{after_begin, after_again, after_leave, in_th
 use Rattle.ell_tree.specs.Hindrances.{way_of}
 use Rattle.ell_tree.specs.Searches.{AtRoot}
 use Rattle.ell_tree.specs.Tries.{Begins, Lays}
+use Rattle.ell_tree.proofs.Counting.{took_none, took_one}
 use Rattle.ell_tree.proofs.Meeting.{root_way}
 use Rattle.ell_tree.proofs.Hindering.{root_hindered}
 
@@ -22,7 +23,7 @@ begins old new op s = subst (λ (m : PassModel). Begins op [] old.view.hindered 
   before = refl;
   least = refl;
   root = record { busy = refl; root = refl; no_card = refl; met = latest _ _; before = refl; unmet = refl };
-  steps = omega arith;
+  took = took_one old (after_begin (Some op) old.view) refl;
 })
 
 -- so does one that starts anew
@@ -46,7 +47,7 @@ begins_anew old new op s busy =
       before = refl;
       least = refl;
       root = record { busy = refl; root = refl; no_card = refl; met = latest _ _; before = refl; unmet = refl };
-      steps = omega arith;
+      took = took_one old (anew (Some op) old.view) refl;
     })
 
 -- a first try stands at the root already, and has met nothing
@@ -62,7 +63,7 @@ begins_first p op at = record {
   before = at.before;
   least = refl;
   root = at;
-  steps = omega arith;
+  took = took_none p 1;
 }
 
 -- an operation that is laid down
@@ -82,5 +83,5 @@ lays old new op s busy = subst (λ (m : PassModel). Lays op old m) (sym s) (reco
   least = refl;
   idle = refl;
   no_card = refl;
-  steps = omega arith;
+  took = took_one old (after_leave old.view) refl;
 })

@@ -90,8 +90,8 @@ module _ (a b d : PassModel) (c : ℕ) (read : Steps a b (after_next c a.view)) 
 
   pub won_goes : Steps b d (after_claim true c b.view) → Goes a d 2
   won_goes s =
-      goes_trans a b d 1 1 2 (goes_step a b (after_next c a.view) read (next_keeps c a.view))
-      (goes_step b d (after_claim true c b.view) s (won_keeps c b.view low_there)) (omega arith)
+      goes_trans a b d 1 1 2 (goes_step a b (after_next c a.view) read (next_keeps c a.view) refl)
+      (goes_step b d (after_claim true c b.view) s (won_keeps c b.view low_there) refl) (omega arith)
 
   -- the card is in hand then
   pub has_card : (op : Op) (place : Place) → Steps b d (after_claim true c b.view) → Does a.view op → IsAt a.view place
@@ -112,8 +112,8 @@ module _ (a b d : PassModel) (c : ℕ) (read : Steps a b (after_next c a.view)) 
 
   pub lost_goes : Steps b d (after_claim false c b.view) → Goes a d 2
   lost_goes s =
-      goes_trans a b d 1 1 2 (goes_step a b (after_next c a.view) read (next_keeps c a.view))
-      (goes_step b d (after_claim false c b.view) s (lost_keeps c b.view low_there)) (omega arith)
+      goes_trans a b d 1 1 2 (goes_step a b (after_next c a.view) read (next_keeps c a.view) refl)
+      (goes_step b d (after_claim false c b.view) s (lost_keeps c b.view low_there) refl) (omega arith)
 
   -- and nothing was in the way
   pub won_calm : Steps b d (after_claim true c b.view) → d.view.hindrances ≡ a.view.hindrances

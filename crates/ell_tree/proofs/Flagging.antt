@@ -17,9 +17,11 @@ use Rattle.ell_cards.proofs.views.Entries.{places_more}
 use Rattle.ell_cards.proofs.views.Steps.{view_after}
 use Rattle.ell_tree.specs.declared.searching.Passed.{Passed}
 use Rattle.ell_tree.specs.declared.searching.Place.{Place}
+use Rattle.ell_tree.specs.Counts.{Took}
 use Rattle.ell_tree.specs.Keeping.{LosesNothing, Goes, IsInnerMet}
 use Rattle.ell_tree.specs.Searches.{seen, seen_any}
 use Rattle.ell_tree.specs.Tries.{HasCard, Fills, Flags, IsFlagged, IsUnflagged}
+use Rattle.ell_tree.proofs.Counting.{took_one, took_trans}
 use Rattle.ell_tree.proofs.Keeping.{place_told}
 
 -- a card that is filled is in hand, not flagged, as before
@@ -64,6 +66,11 @@ module _ (k : Kind) (flag : ℕ → Fact) (c x : ℕ) (from : Update) where
   abbrev flagging : Result (Unit {0}) Update → View → View
   flagging r v = exchanged (if_won (is_ok r) k c) (found_word (packed from) r) (after_flag (is_ok r) (flag c) x (found_update from r) v)
 
+  -- it is one step
+  flagging_made : (r : Result (Unit {0}) Update) (v : View) → (flagging r v).made ≡ v.made + 1
+  flagging_made (Ok won) v = refl
+  flagging_made (Err u) v = refl
+
   flagging_keeps : (stores : List (Field × ℕ)) (r : Result (Unit {0}) Update) (v : View) → LosesNothing v (flagging r (with_stores stores v))
   flagging_keeps stores (Ok won) v = record {
     ledger = refl;
@@ -97,7 +104,8 @@ module _ (k : Kind) (flag : ℕ → Fact) (c x : ℕ) (from : Update) where
       table = ap (λ (p : PassModel). p.table) step ∙ fills.table;
       label = ap (λ (p : PassModel). p.label) step ∙ fills.label;
       view = subst (LosesNothing a.view) (sym flagged_view) (flagging_keeps b.view.stores r a.view);
-      steps = let taken = ap (λ (p : PassModel). p.steps) step in omega (arith, taken, fills.steps);
+      took = took_trans a b d n 1 (n + 1) fills.took
+          (subst (λ (p : PassModel). Took b p 1) (sym step) (took_one b (flagging r b.view) (flagging_made r b.view))) (omega arith);
     }
 
     pub flag_ends : (cards : ℕ) → a.view.worker.card ≡ Some c → IsInnerMet cards a.view x → IfErr r (λ u. u.card ≤ cards) → Flags cards flag c x a d r

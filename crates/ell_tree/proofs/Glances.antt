@@ -31,11 +31,12 @@ only_trans a b c m n k h h' le = record {
   won = h'.won ∙ h.won;
   told = λ e t. h'.told e (h.told e t);
   steps = omega (arith, h.steps, h'.steps, le);
+  made = omega (arith, h.made, h'.made, le);
 }
 
 -- a step that tells more, and moves no more than the look
 only_step : (old new : PassModel) (told : List Told) (here : Option ℕ) (looking : Option Looking) (looks : ℕ)
-    → Steps old new (record (old.view) { told = told; here = here; looking = looking; looks = looks }) → ((e : Told) → IsTold old.view e → Has told e)
+    → Steps old new (record (old.view) { told = told; here = here; looking = looking; looks = looks; made = old.view.made + 1 }) → ((e : Told) → IsTold old.view e → Has told e)
     → OnlyLooks old new 1
 only_step old new told here looking looks s more = subst (λ (m : PassModel). OnlyLooks old m 1) (sym s) (record {
   table = refl;
@@ -51,6 +52,7 @@ only_step old new told here looking looks s more = subst (λ (m : PassModel). On
   won = refl;
   told = more;
   steps = omega arith;
+  made = omega arith;
 })
 
 -- the steps of a look

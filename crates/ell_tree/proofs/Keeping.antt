@@ -15,6 +15,7 @@ use Rattle.ell_cards.specs.Models.{PassModel, Steps, Has, latest, earlier, IsTol
 use Rattle.ell_cards.specs.Changes.{facts_by, places_by, learning, exchanged, after_upd, after_down, after_key_of, after_value_of, after_info, after_frozen_child, after_next}
 use Rattle.ell_cards.proofs.views.Facts.{knows_new, knows_more, facts_by_more}
 use Rattle.ell_cards.proofs.views.Entries.{places_more, info_more}
+use Rattle.ell_tree.proofs.Counting.{took_none, took_one, took_within, took_trans}
 use Rattle.ell_tree.specs.Keeping.{LosesNothing, Goes, Seeks, Works, Walks, IsInnerMet, TellsPlace, IsSeenAt}
 
 pub keeps_trans : (u v w : View) → LosesNothing u v → LosesNothing v w → LosesNothing u w
@@ -35,7 +36,7 @@ goes_trans a b c m n k h h' le = record {
   table = h'.table ∙ h.table;
   label = h'.label ∙ h.label;
   view = keeps_trans a.view b.view c.view h.view h'.view;
-  steps = omega (arith, h.steps, h'.steps, le);
+  took = took_trans a b c m n k h.took h'.took le;
 }
 
 pub seeks_trans : (a b c : PassModel) (m n k : ℕ) → Seeks a b m → Seeks b c n → m + n ≤ k → Seeks a c k
@@ -55,9 +56,12 @@ works_trans a b c m n k h h' le = record {
 }
 
 -- with no more than so many steps
+goes_within : (a b : PassModel) (m n : ℕ) → Goes a b m → m ≤ n → Goes a b n
+goes_within a b m n h le = record { table = h.table; label = h.label; view = h.view; took = took_within a b m n h.took le }
+
 pub works_within : (a b : PassModel) (m n : ℕ) → Works a b m → m ≤ n → Works a b n
 works_within a b m n h le = record {
-  goes = record { table = h.goes.table; label = h.goes.label; view = h.goes.view; steps = omega (arith, h.goes.steps, le) };
+  goes = goes_within a b m n h.goes le;
   card = h.card;
   flagged = h.flagged;
   search = h.search;
@@ -72,7 +76,7 @@ works_more a b c m n k h h' le = works_trans a b c m n k h (works_of b c n h') l
 
 pub walks_within : (a b : PassModel) (m n : ℕ) → Walks a b m → m ≤ n → Walks a b n
 walks_within a b m n h le = record {
-  goes = record { table = h.goes.table; label = h.goes.label; view = h.goes.view; steps = omega (arith, h.goes.steps, le) };
+  goes = goes_within a b m n h.goes le;
   card = h.card;
   flagged = h.flagged;
   search = h.search;
@@ -85,7 +89,7 @@ walks_none a n = record {
     table = refl;
     label = refl;
     view = record { ledger = refl; operation = refl; answers = refl; knows = λ f h. h; told = λ e h. h; before = refl; least = omega arith; hindered = refl; earlier = λ hs e. e };
-    steps = omega arith;
+    took = took_none a n;
   };
   card = refl;
   flagged = refl;
@@ -139,26 +143,26 @@ place_told x state.Mark c v w f t = (
 place_told x state.Clean c v w f t = tt
 
 -- a step to a view that keeps these
-pub goes_step : (old new : PassModel) (v : View) → Steps old new v → LosesNothing old.view v → Goes old new 1
-goes_step old new v s k = subst (λ (m : PassModel). Goes old m 1) (sym s) (record { table = refl; label = refl; view = k; steps = omega arith })
+pub goes_step : (old new : PassModel) (v : View) → Steps old new v → LosesNothing old.view v → v.made ≡ old.view.made + 1 → Goes old new 1
+goes_step old new v s k made = subst (λ (m : PassModel). Goes old m 1) (sym s) (record { table = refl; label = refl; view = k; took = took_one old v made })
 
-pub seeks_step : (old new : PassModel) (v : View) → Steps old new v → LosesNothing old.view v → v.worker.card ≡ old.view.worker.card
+pub seeks_step : (old new : PassModel) (v : View) → Steps old new v → LosesNothing old.view v → v.made ≡ old.view.made + 1 → v.worker.card ≡ old.view.worker.card
     → v.worker.flagged ≡ old.view.worker.flagged → v.hindrances ≡ old.view.hindrances → Seeks old new 1
-seeks_step old new v s k card flagged hindrances =
+seeks_step old new v s k made card flagged hindrances =
     subst (λ (m : PassModel). Seeks old m 1) (sym s)
-    (record { goes = record { table = refl; label = refl; view = k; steps = omega arith }; card = card; flagged = flagged; hindrances = hindrances })
+    (record { goes = record { table = refl; label = refl; view = k; took = took_one old v made }; card = card; flagged = flagged; hindrances = hindrances })
 
-pub works_step : (old new : PassModel) (v : View) → Steps old new v → LosesNothing old.view v → v.worker.card ≡ old.view.worker.card
+pub works_step : (old new : PassModel) (v : View) → Steps old new v → LosesNothing old.view v → v.made ≡ old.view.made + 1 → v.worker.card ≡ old.view.worker.card
     → v.worker.flagged ≡ old.view.worker.flagged → v.worker.search ≡ old.view.worker.search → Works old new 1
-works_step old new v s k card flagged search =
+works_step old new v s k made card flagged search =
     subst (λ (m : PassModel). Works old m 1) (sym s)
-    (record { goes = record { table = refl; label = refl; view = k; steps = omega arith }; card = card; flagged = flagged; search = search })
+    (record { goes = record { table = refl; label = refl; view = k; took = took_one old v made }; card = card; flagged = flagged; search = search })
 
-pub walks_step : (old new : PassModel) (v : View) → Steps old new v → LosesNothing old.view v → v.worker.card ≡ old.view.worker.card
+pub walks_step : (old new : PassModel) (v : View) → Steps old new v → LosesNothing old.view v → v.made ≡ old.view.made + 1 → v.worker.card ≡ old.view.worker.card
     → v.worker.flagged ≡ old.view.worker.flagged → v.worker.search ≡ old.view.worker.search → v.hindrances ≡ old.view.hindrances → Walks old new 1
-walks_step old new v s k card flagged search hindrances =
+walks_step old new v s k made card flagged search hindrances =
     subst (λ (m : PassModel). Walks old m 1) (sym s) (record {
-      goes = record { table = refl; label = refl; view = k; steps = omega arith };
+      goes = record { table = refl; label = refl; view = k; took = took_one old v made };
       card = card;
       flagged = flagged;
       search = search;

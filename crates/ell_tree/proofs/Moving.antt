@@ -7,8 +7,10 @@ use Rattle.ell_core.specs.declared.fact.Fact.{Fact}
 use Rattle.ell_core.specs.declared.fact.Fact.TheVariants as fact
 use Rattle.ell_core.specs.state.Facts.{known_of, same_fact}
 use Rattle.ell_cards.specs.declared.view.View.{View}
-use Rattle.ell_cards.specs.Models.{EndedBy, EndWasUnknown, Knows, knows_end}
+use Rattle.ell_cards.specs.Models.{PassModel, EndedBy, EndWasUnknown, Knows, knows_end}
 use Rattle.ell_cards.proofs.views.Facts.{ended_test, test_ended}
+use Rattle.ell_tree.specs.Counts.{IsAmortized, Took}
+use Rattle.ell_tree.specs.Ends.{try_steps}
 use Rattle.ell_tree.specs.Hindrances.{IsEnded}
 use Rattle.ell_tree.specs.Moves.{GivesOut, SeesMove, ends_known, moves_known}
 
@@ -125,10 +127,20 @@ pub moves_most : (cards : ℕ) (v : View) → v.next_at_least ≤ cards + 1 → 
 moves_most cards v room = let most = ends_most cards v.worker.facts in omega (arith, most, room)
 
 -- so many rounds of so many steps at most, each of which but the last saw a move
-pub amortized_steps : (a b r start after most : ℕ) → a + r ≤ b → after ≤ start + (r + 1) * most + 1 → after + a * most ≤ start + (b + 1) * most + 1
+amortized_steps : (a b r start after most : ℕ) → a + r ≤ b → after ≤ start + ((r + 1) * most + 1) → after + a * most ≤ start + (b + 1) * most + 1
 amortized_steps a b r start after most on steps =
     let all = mul-le-mul_right {m = a + r + 1} {n = b + 1} most (omega (arith, on)) in
     omega (arith, steps, all)
+
+pub amortized : (cards r : ℕ) (old new : PassModel) → moves_known cards old.view + r ≤ moves_known cards new.view → Took old new ((r + 1) * try_steps cards + 1)
+    → IsAmortized cards old new
+amortized cards r old new on took =
+    let a = moves_known cards old.view in
+    let b = moves_known cards new.view in
+    record {
+      steps = amortized_steps a b r old.steps new.steps (try_steps cards) on took.steps;
+      made = amortized_steps a b r old.view.made new.view.made (try_steps cards) on took.made;
+    }
 
 -- a pass that knows nothing
 ends_none : (n : ℕ) → ends_known n [] ≡ 0

@@ -1,4 +1,4 @@
-use Rattle.std.proofs.Common.{◌≡◌, ℕ, ◌+◌, ◌≤◌, if◌then◌else◌, nat_lt, min, max, List, [], ◌∷◌, refl, sym, ◌∙◌, ap, arith}
+use Rattle.std.proofs.Common.{◌≡◌, ℕ, ◌+◌, if◌then◌else◌, nat_lt, min, max, List, [], ◌∷◌, refl, sym, ◌∙◌, ap, subst, arith}
 use Rattle.ell_word.specs.Node.{left_leaf, right_leaf}
 use Rattle.ell_core.specs.declared.field.Field.{Field}
 use Rattle.ell_core.specs.declared.field.Field.TheVariants as field
@@ -7,13 +7,15 @@ use Rattle.ell_cards.specs.declared.view.View.{View}
 use Rattle.ell_cards.specs.Models.{PassModel, Steps, stored_at}
 use Rattle.ell_cards.specs.Changes.{after_fill, with_stores}
 use Rattle.ell_cards.proofs.views.Steps.{view_after}
+use Rattle.ell_tree.specs.Counts.{Took}
 use Rattle.ell_tree.specs.Tries.{Fills}
+use Rattle.ell_tree.proofs.Counting.{took_none, took_one, took_trans}
 
 -- these words of the card in hand were stored in so many steps, and nothing else was done
 pub record Stores (old new : PassModel) (stores : List (Field × ℕ)) (n : ℕ) : Type 0 where
   pub table : new.table ≡ old.table
   pub label : new.label ≡ old.label
-  pub steps : new.steps ≤ old.steps + n
+  pub took : Took old new n
   pub view : new.view ≡ with_stores stores old.view
 
 -- none at first
@@ -21,8 +23,8 @@ pub stores_none : (a : PassModel) → a.view.stores ≡ [] → Stores a a [] 0
 stores_none a empty = record {
   table = refl;
   label = refl;
-  steps = omega arith;
-  view = ap (λ es. with_stores es a.view) empty;
+  took = took_none a 0;
+  view = ap (λ es. record (a.view) { stores = es }) empty;
 }
 
 -- and one more with each step
@@ -31,7 +33,7 @@ pub stores_more : (a b d : PassModel) (stores : List (Field × ℕ)) (n : ℕ) (
 stores_more a b d stores n f x h s = record {
   table = ap (λ (p : PassModel). p.table) s ∙ h.table;
   label = ap (λ (p : PassModel). p.label) s ∙ h.label;
-  steps = let taken = ap (λ (p : PassModel). p.steps) s in omega (arith, taken, h.steps);
+  took = took_trans a b d n 1 (n + 1) h.took (subst (λ (p : PassModel). Took b p 1) (sym s) (took_one b (after_fill f x b.view) refl)) (omega arith);
   view = view_after b d (after_fill f x b.view) s ∙ ap (after_fill f x) h.view;
 }
 
@@ -71,7 +73,7 @@ fills_insert a b c k value parent leaf leaf_key leaf_value lesser greater left r
     let filling = ap (λ (v : View). v.planned) h.view ∙ says in record {
       table = h.table;
       label = h.label;
-      steps = h.steps;
+      took = h.took;
       view = h.view ∙ ap (λ es. with_stores es a.view) (sym filled);
       filled = λ f. ap (λ es. stored_at es f) filled
           ∙ ((λ t. stored_at (insert_stores parent leaf (low t) (high t) (l t) (r t) (u t) (lv t) (rv t)) f)

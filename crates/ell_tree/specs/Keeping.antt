@@ -1,4 +1,4 @@
-use Rattle.std.specs.Prelude.{◌≡◌, ℕ, ◌+◌, ◌≤◌, ◌++◌, List}
+use Rattle.std.specs.Prelude.{◌≡◌, ℕ, ◌≤◌, ◌++◌, List}
 use Rattle.ell_word.specs.declared.update.Update.{Update}
 use Rattle.ell_word.specs.declared.update.State.{State}
 use Rattle.ell_word.specs.declared.update.State.TheVariants as state
@@ -11,6 +11,7 @@ use Rattle.ell_cards.specs.declared.view.Told.TheVariants.{Met, Info}
 use Rattle.ell_cards.specs.declared.view.Hindrance.{Hindrance}
 use Rattle.ell_cards.specs.declared.view.View.{View}
 use Rattle.ell_cards.specs.Models.{PassModel, InTable, IsTold, Knows}
+use Rattle.ell_tree.specs.Counts.{Took}
 
 -- ledger, operation and answers stay, and nothing is forgotten; no try is given up, so what was in the way before the one in hand is the same
 pub record LosesNothing (v w : View) : Type 0 where
@@ -29,7 +30,7 @@ pub record Goes (old new : PassModel) (n : ℕ) : Type 0 where
   pub table : new.table ≡ old.table
   pub label : new.label ≡ old.label
   pub view : LosesNothing old.view new.view
-  pub steps : new.steps ≤ old.steps + n
+  pub took : Took old new n
 
 -- and has the same card in hand, and met nothing in its way
 pub record Seeks (old new : PassModel) (n : ℕ) : Type 0 where

@@ -10,6 +10,8 @@ pub mod Closing
 pub mod Hindrances
 -- cards that are given out and come to their end, as a pass knows
 pub mod Moves
+-- how many steps a pass made
+pub mod Counts
 -- what steps keep
 pub mod Keeping
 -- where a search ends

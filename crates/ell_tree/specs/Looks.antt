@@ -2,7 +2,7 @@ use Rattle.std.specs.Prelude.{◌≡◌, ℕ, ◌+◌, ◌*◌, ◌≤◌}
 use Rattle.ell_cards.specs.declared.view.Told.{Told}
 use Rattle.ell_cards.specs.Models.{PassModel, IsTold}
 
--- a pass has at most so many steps more, and was told more, and all else that it has and knows of operations is as it was: so it owns what
+-- a pass has at most so many steps more, by both its counts, and was told more, and all else that it has and knows of operations is as it was: so it owns what
 -- it owned, with the same values, and has nothing in hand if it had nothing
 pub record OnlyLooks (old new : PassModel) (n : ℕ) : Type 0 where
   pub table : new.table ≡ old.table
@@ -18,6 +18,7 @@ pub record OnlyLooks (old new : PassModel) (n : ℕ) : Type 0 where
   pub won : new.view.won ≡ old.view.won
   pub told : (e : Told) → IsTold old.view e → IsTold new.view e
   pub steps : new.steps ≤ old.steps + n
+  pub made : new.view.made ≤ old.view.made + n
 
 -- the most steps of a look in a tree of so many cards
 abbrev pub look_steps : ℕ → ℕ

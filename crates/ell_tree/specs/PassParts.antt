@@ -18,11 +18,12 @@ pub record IsFirst (start : List (ℕ × ℕ)) (t : TreeModel) (p : PassModel) :
   pub hindrances : hindrances p ≡ 0
   pub hindered : p.view.hindered ≡ 0
   pub steps : p.steps ≡ 0
+  pub made : p.view.made ≡ 0
   pub label : p.label ≡ 0
   pub moves : (cards : ℕ) → moves_known cards p.view ≡ 0
   pub idle : IsIdle p
 
--- the left part of a pass: it has these keys as the pass had them, and keeps the counts
+-- the left part of a pass: it has these keys as the pass had them, and keeps the counts; of the steps made, the split is its own
 pub record IsLeftPart (keys : List ℕ) (p part : PassModel) : Type 0 where
   pub own : part.table ≡ p.table
   pub ledger : (k : ℕ) → ledger part k ≡ (if set_of keys k then ledger p k else None)
@@ -30,6 +31,7 @@ pub record IsLeftPart (keys : List ℕ) (p part : PassModel) : Type 0 where
   pub hindrances : hindrances part ≡ hindrances p
   pub hindered : part.view.hindered ≡ p.view.hindered
   pub steps : part.steps ≡ one_more p.steps
+  pub made : part.view.made ≡ p.view.made + 1
   pub label : part.label ≡ p.label
   pub moves : (cards : ℕ) → moves_known cards part.view ≡ moves_known cards p.view
   pub idle : IsIdle part
@@ -42,6 +44,7 @@ pub record IsRightPart (keys : List ℕ) (p part : PassModel) : Type 0 where
   pub hindrances : hindrances part ≡ 0
   pub hindered : part.view.hindered ≡ 0
   pub steps : part.steps ≡ one_more p.steps
+  pub made : part.view.made ≡ 0
   pub label : part.label ≡ p.label
   pub moves : (cards : ℕ) → moves_known cards part.view ≡ moves_known cards p.view
   pub idle : IsIdle part
@@ -60,6 +63,7 @@ pub record IsUnion (left right both : PassModel) : Type 0 where
   pub hindered : both.view.hindered ≡ left.view.hindered + right.view.hindered
   pub next : both.view.next ≡ later left.view.next right.view.next
   pub steps : both.steps ≡ one_more (max left.steps right.steps)
+  pub made : both.view.made ≡ left.view.made + right.view.made + 1
   pub label : both.label ≡ left.label
   pub moves : (cards : ℕ) → (moves_known cards left.view ≤ moves_known cards both.view) × (moves_known cards right.view ≤ moves_known cards both.view)
   pub idle : IsIdle both

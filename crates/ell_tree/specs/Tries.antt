@@ -19,6 +19,7 @@ use Rattle.ell_tree.specs.declared.trying.Claimed.TheVariants as claimed
 use Rattle.ell_tree.specs.declared.trying.Tried.{Tried}
 use Rattle.ell_tree.specs.declared.trying.Tried.TheVariants as tried
 use Rattle.ell_tree.specs.Ledgers.{present_in, IsIdle}
+use Rattle.ell_tree.specs.Counts.{Took}
 use Rattle.ell_tree.specs.Ends.{Answers}
 use Rattle.ell_tree.specs.Hindrances.{AreOver, Meets, StillKnows, way_of}
 use Rattle.ell_tree.specs.Keeping.{IsSeenAt}
@@ -44,7 +45,7 @@ pub record Begins (op : Op) (met : List Hindrance) (tries : ℕ) (old new : Pass
   pub before : new.view.knew_before ≡ old.view.worker.facts
   pub least : new.view.next_at_least ≡ old.view.next_at_least
   pub root : AtRoot op new.view
-  pub steps : new.steps ≤ old.steps + 1
+  pub took : Took old new 1
 
 -- an operation may start anew, or be laid down: its card, if that is flagged, is known backed
 pub record Stops (op : Op) (v : View) : Type 0 where
@@ -65,7 +66,7 @@ pub record Lays (op : Op) (old new : PassModel) : Type 0 where
   pub least : new.view.next_at_least ≡ old.view.next_at_least
   pub idle : IsIdle new
   pub no_card : new.view.worker.card ≡ None
-  pub steps : new.steps ≤ old.steps + 1
+  pub took : Took old new 1
 
 -- a try ended without an answer, though the operation would change the map; nothing of it is under way, and whatever was in its
 -- way is over, what its search has read too; it met all that came to be in the way meanwhile
@@ -117,7 +118,7 @@ Claims cards op place old new claimed.Lost =
 pub record Fills (old new : PassModel) (n : ℕ) : Type 0 where
   pub table : new.table ≡ old.table
   pub label : new.label ≡ old.label
-  pub steps : new.steps ≤ old.steps + n
+  pub took : Took old new n
   pub view : new.view ≡ with_stores new.view.stores old.view
   pub filled : IsFilled new.view
 

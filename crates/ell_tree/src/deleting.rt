@@ -36,6 +36,7 @@ pub(crate) fn try_delete<A: Allocator + Copy, G: StepGate>(
     requires own { pass.old.table ≡ table.now.id }
     requires root { AtRoot (Delete key) pass.old.view }
     ensures steps { pass.new.steps + 1 ≤ pass.old.steps + try_steps table.now.last_card }
+    ensures made { pass.new.view.made + 1 ≤ pass.old.view.made + try_steps table.now.last_card }
     ensures ends { TryEnds table.now.last_card (Delete key) pass.old pass.new result }
     ensures least { pass.old.view.next_at_least ≤ pass.new.view.next_at_least }
     ensures hindered { pass.new.view.hindered ≡ pass.old.view.hindered }

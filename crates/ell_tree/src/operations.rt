@@ -6,6 +6,7 @@ ghost use Rattle.ell_ops.specs.Meaning.{key_of, found};
 ghost use Rattle.ell_cards.specs.Changes.{tries_hindered};
 ghost use Rattle.ell_cards.specs.Guards.{MayStop};
 ghost use Rattle.ell_cards.specs.Models.{Does};
+ghost use Rattle.ell_tree.specs.Counts.{IsAmortized, Took};
 ghost use Rattle.ell_tree.specs.Ends.{Answers, CountsTries, Ends, change_steps, find_steps, replied, try_steps};
 ghost use Rattle.ell_tree.specs.Hindrances.{Meets, way_of};
 ghost use Rattle.ell_tree.specs.declared.operations.Held.TheVariants.{Busy};
@@ -50,6 +51,7 @@ pub(crate) fn find<A: Allocator + Copy, G: StepGate>(
     ensures calm { pass.new.view.hindrances ≡ pass.old.view.hindrances }
     ensures meets { Meets pass.old.view pass.new.view }
     ensures steps { pass.new.steps ≤ pass.old.steps + find_steps table.now.last_card }
+    ensures made { pass.new.view.made ≤ pass.old.view.made + find_steps table.now.last_card }
     ensures moved { moves_known table.now.last_card pass.old.view ≤ moves_known table.now.last_card pass.new.view }
     ensures bounded { moves_known table.now.last_card pass.new.view ≤ 2 * table.now.last_card }
     ensures hindered { pass.new.view.hindered ≡ pass.old.view.hindered }
@@ -79,14 +81,13 @@ pub(crate) fn make_change<A: Allocator + Copy, G: StepGate>(
     requires owned { Owns pass.old (key_of op) }
     requires tries { 1 ≤ tries }
     ensures ends { Ends table.now.last_card tries op pass.old pass.new (replied result) }
-    ensures steps { pass.new.steps ≤ pass.old.steps + change_steps table.now.last_card tries }
+    ensures took { Took pass.old pass.new (change_steps table.now.last_card tries) }
     ensures hindered { result ≡ Err Busy → pass.new.view.hindered ≡ pass.old.view.hindered + tries }
     ensures counted { CountsTries tries pass.old pass.new }
     ensures moved { result ≡ Err Busy → moves_known table.now.last_card pass.old.view + tries ≤ moves_known table.now.last_card pass.new.view }
     ensures enough { 2 * table.now.last_card < tries → result ≢ Err Busy }
     ensures bounded { moves_known table.now.last_card pass.new.view ≤ 2 * table.now.last_card }
-    ensures amortized { pass.new.steps + moves_known table.now.last_card pass.old.view * try_steps table.now.last_card ≤
-        pass.old.steps + (moves_known table.now.last_card pass.new.view + 1) * try_steps table.now.last_card + 1 }
+    ensures amortized { IsAmortized table.now.last_card pass.old pass.new }
 {
     let label = pass.label();
     gate.before(label, Kind::Begin);
@@ -109,14 +110,13 @@ fn try_often<A: Allocator + Copy, G: StepGate>(
     requires owned { Owns pass.old (key_of op) }
     requires tries { 1 ≤ tries }
     ensures ends { Ends table.now.last_card tries op pass.old pass.new (replied result) }
-    ensures steps { pass.new.steps ≤ pass.old.steps + change_steps table.now.last_card tries }
+    ensures took { Took pass.old pass.new (change_steps table.now.last_card tries) }
     ensures hindered { result ≡ Err Busy → pass.new.view.hindered ≡ pass.old.view.hindered + tries }
     ensures counted { CountsTries tries pass.old pass.new }
     ensures moved { result ≡ Err Busy → moves_known table.now.last_card pass.old.view + tries ≤ moves_known table.now.last_card pass.new.view }
     ensures enough { 2 * table.now.last_card < tries → result ≢ Err Busy }
     ensures bounded { moves_known table.now.last_card pass.new.view ≤ 2 * table.now.last_card }
-    ensures amortized { pass.new.steps + moves_known table.now.last_card pass.old.view * try_steps table.now.last_card ≤
-        pass.old.steps + (moves_known table.now.last_card pass.new.view + 1) * try_steps table.now.last_card + 1 }
+    ensures amortized { IsAmortized table.now.last_card pass.old pass.new }
 {
     begin(table, pass, op, gate);
     for round in 0..tries {
@@ -145,7 +145,7 @@ fn restart<A: Allocator + Copy, G: StepGate>(
     requires may { MayStop pass.old.view }
     ensures begins { (op : Op) → Does pass.old.view op → (first ≡ true → AtRoot op pass.old.view) →
         Begins op (way_of op pass.old.view) (tries_hindered pass.old.view) pass.old pass.new }
-    ensures first { first ≡ true → pass.new.steps ≡ pass.old.steps }
+    ensures first { first ≡ true → pass.new ≡ pass.old }
 {
     if !first {
         again(table, pass, gate);
@@ -163,6 +163,7 @@ fn try_once<A: Allocator + Copy, G: StepGate>(
     requires change { IsChange op }
     requires root { AtRoot op pass.old.view }
     ensures steps { pass.new.steps + 1 ≤ pass.old.steps + try_steps table.now.last_card }
+    ensures made { pass.new.view.made + 1 ≤ pass.old.view.made + try_steps table.now.last_card }
     ensures ends { TryEnds table.now.last_card op pass.old pass.new result }
     ensures least { pass.old.view.next_at_least ≤ pass.new.view.next_at_least }
     ensures hindered { pass.new.view.hindered ≡ pass.old.view.hindered }

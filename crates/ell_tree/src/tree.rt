@@ -175,6 +175,7 @@ impl<A: Allocator + Copy> Tree<A> {
         ensures calm { pass.new.view.hindrances ≡ pass.old.view.hindrances }
         ensures meets { Meets pass.old.view pass.new.view }
         ensures steps { pass.new.steps ≤ pass.old.steps + find_steps self.now.last_card }
+        ensures made { pass.new.view.made ≤ pass.old.view.made + find_steps self.now.last_card }
         ensures rounded { pass.new.steps ≤ pass.old.steps + 64 * (self.now.last_card + 2) }
         ensures moved { moves_known self.now.last_card pass.old.view ≤ moves_known self.now.last_card pass.new.view }
         ensures bounded { moves_known self.now.last_card pass.new.view ≤ 2 * self.now.last_card }
@@ -191,7 +192,8 @@ impl<A: Allocator + Copy> Tree<A> {
     /// then: a card that another pass took first, or a change of a neighbour, which was helped to its end where nobody else
     /// had ended it. Each try that ends without an answer shows the pass a card given out, or come to its end, that it did not
     /// know of (`moves_known`), and no card does either twice: so with more than `2 * cards` tries it is never `Busy`, and all calls of a
-    /// pass together make at most `7 * cards + 28` steps each, and `2 * cards * (7 * cards + 27)` more, in every schedule. Each such try is
+    /// pass together make at most `7 * cards + 28` steps each, and `2 * cards * (7 * cards + 27)` more, in every schedule. The bounds are on
+    /// the steps in a row (`steps`), and on all steps of the pass and of those that it was joined with (`view.made`). Each such try is
     /// counted (`hindered`): of a call that answers `Busy`, all its tries. And others did something for each (`by_others`): in every run of
     /// the tree the tries of such a call are at most two for each card that was given out to another pass while it went on, and one for
     /// each card that some pass had in hand when it began.
@@ -209,6 +211,7 @@ impl<A: Allocator + Copy> Tree<A> {
         requires tries { 1 ≤ tries }
         ensures ends { Ends self.now.last_card tries (Insert key value) pass.old pass.new (replied result) }
         ensures steps { pass.new.steps ≤ pass.old.steps + change_steps self.now.last_card tries }
+        ensures made { pass.new.view.made ≤ pass.old.view.made + change_steps self.now.last_card tries }
         ensures hindered { result ≡ Err Busy → pass.new.view.hindered ≡ pass.old.view.hindered + tries }
         ensures counted { CountsTries tries pass.old pass.new }
         ensures by_others { result ≡ Err Busy → AreHinderedByOthers self.now.keys self.now.start self.now.last_card pass.old.view.hindered pass.new.view tries }
@@ -218,6 +221,8 @@ impl<A: Allocator + Copy> Tree<A> {
         ensures bounded { moves_known self.now.last_card pass.new.view ≤ 2 * self.now.last_card }
         ensures amortized { pass.new.steps + moves_known self.now.last_card pass.old.view * try_steps self.now.last_card ≤
             pass.old.steps + (moves_known self.now.last_card pass.new.view + 1) * try_steps self.now.last_card + 1 }
+        ensures made_amortized { pass.new.view.made + moves_known self.now.last_card pass.old.view * try_steps self.now.last_card ≤
+            pass.old.view.made + (moves_known self.now.last_card pass.new.view + 1) * try_steps self.now.last_card + 1 }
     {
         make_change(&self.table, pass, Op::Insert(key, value), tries, gate)
     }
@@ -236,6 +241,7 @@ impl<A: Allocator + Copy> Tree<A> {
         requires tries { 1 ≤ tries }
         ensures ends { Ends self.now.last_card tries (Delete key) pass.old pass.new (replied result) }
         ensures steps { pass.new.steps ≤ pass.old.steps + change_steps self.now.last_card tries }
+        ensures made { pass.new.view.made ≤ pass.old.view.made + change_steps self.now.last_card tries }
         ensures hindered { result ≡ Err Busy → pass.new.view.hindered ≡ pass.old.view.hindered + tries }
         ensures counted { CountsTries tries pass.old pass.new }
         ensures by_others { result ≡ Err Busy → AreHinderedByOthers self.now.keys self.now.start self.now.last_card pass.old.view.hindered pass.new.view tries }
@@ -245,6 +251,8 @@ impl<A: Allocator + Copy> Tree<A> {
         ensures bounded { moves_known self.now.last_card pass.new.view ≤ 2 * self.now.last_card }
         ensures amortized { pass.new.steps + moves_known self.now.last_card pass.old.view * try_steps self.now.last_card ≤
             pass.old.steps + (moves_known self.now.last_card pass.new.view + 1) * try_steps self.now.last_card + 1 }
+        ensures made_amortized { pass.new.view.made + moves_known self.now.last_card pass.old.view * try_steps self.now.last_card ≤
+            pass.old.view.made + (moves_known self.now.last_card pass.new.view + 1) * try_steps self.now.last_card + 1 }
     {
         make_change(&self.table, pass, Op::Delete(key), tries, gate)
     }

@@ -67,6 +67,7 @@ taking c es v = record v {
   stores = [];
   won = (kind.Claim, c) ∷ v.won;
   next_at_least = c + 1;
+  made = v.made + 1;
 }
 
 module _ (keys : List ℕ) (cards : ℕ) (s : TableState) (r : HasMachine keys cards s) (id : ℕ) (v : View) (here : get_elem? s.views id ≡ some v) where

@@ -1,8 +1,8 @@
-use Rattle.std.proofs.Common.{◌++◌, map, ap, sym, subst, arith, ◌∙◌}
+use Rattle.std.proofs.Common.{◌++◌, map, ap, sym, subst, ◌∙◌}
 use Rattle.std.proofs.lemmas.List.{map-append}
 use Rattle.ell_run.specs.Work.{IsWorked}
 use Rattle.ell_run.proofs.Halves.{worked_both}
-use Rattle.ell_run.proofs.Paid.{steps_both}
+use Rattle.ell_run.proofs.Paid.{within_both}
 use Rattle.ell_run.proofs.workers.both.Goals as goal
 
 pub returns-in-Ok : goal.returns-in-Ok
@@ -12,10 +12,7 @@ returns-in-Ok g c = λ cards tries parting low high pass left right some_low som
       (sym (ap (map (λ piece. piece.items)) c.in_ok-append.ensures.items ∙ map-append (λ piece. piece.items) c.args.first.1.items c.args.second.1.items))
       (worked_both c.args.tree.now parting low high pass left right ready halves cards tries c.args.first.0 c.args.second.0 c.in-Ok.pass
       (map (λ piece. piece.items) c.args.first.1.items) (map (λ piece. piece.items) c.args.second.1.items) first.worked second.worked c.in-Ok.ensures.joined);
-  bounded =
-      let on_left = halves.on_left.steps in
-      let on_right = halves.on_right.steps in
-      let union = c.in-Ok.ensures.joined.steps in
-      steps_both cards parting low high pass.steps left.steps right.steps c.args.first.0.steps c.args.second.0.steps c.in-Ok.pass.steps some_low some_high
-      (omega (arith, on_left)) (omega (arith, on_right)) first.bounded second.bounded (omega (arith, union));
+  within =
+      within_both cards parting low high pass left right c.args.first.0 c.args.second.0 c.in-Ok.pass some_low some_high halves first.within second.within
+      c.in-Ok.ensures.joined;
 }

@@ -1,6 +1,6 @@
 use Rattle.std.proofs.Common.{[], ◌∷◌, ◌++◌, map, arith, ap, ◌∙◌}
 use Rattle.ell_run.proofs.Fronts.{one_worked}
-use Rattle.ell_run.proofs.Paid.{steps_one}
+use Rattle.ell_run.proofs.Paid.{within_one}
 use Rattle.ell_run.proofs.workers.do_one.Goals as goal
 
 pub returns : goal.returns
@@ -11,7 +11,7 @@ returns g c =
           one_worked c.args.tree.now.last_card c.args.tries c.args.parts.now c.args.workers.now 0 _ c.args.pass c.relabel.new.self c.work_off.new.pass c.part.result.now c.in_ok-piece.piece.items
           (map (λ piece. piece.items) c.push.new.self.items) (omega (arith, c.in-len1.len_at_least)) (omega (arith, c.in-len1.len_below))
           c.relabel.ensures c.part.ensures c.in_ok-piece.ensures.worked (ap (map (λ piece. piece.items)) pushed);
-      bounded =
-          steps_one c.args.tree.now.last_card c.args.parts.now c.args.workers.now 0 c.args.pass c.relabel.new.self c.work_off.new.pass c.part.result.now
+      within =
+          within_one c.args.tree.now.last_card c.args.parts.now c.args.workers.now 0 c.args.pass c.relabel.new.self c.work_off.new.pass c.part.result.now
           (omega (arith, c.in-len1.len_at_least)) (omega (arith, c.in-len1.len_below)) _ c.relabel.ensures c.part.ensures c.in_ok-piece.ensures.bounded;
     }

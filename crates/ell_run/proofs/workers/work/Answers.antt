@@ -1,7 +1,7 @@
 use Rattle.std.proofs.Common.{◌≤◌, ◌+◌, map, length, ap, sym, subst, ◌∙◌}
 use Rattle.std.proofs.lemmas.List.{length-map}
 use Rattle.ell_tree.specs.Ledgers.{present_in}
-use Rattle.ell_run.specs.Steps.{work_steps}
+use Rattle.ell_run.specs.Steps.{total_steps, work_steps}
 use Rattle.ell_run.specs.Work.{AreReady, IsWorked}
 use Rattle.ell_run.proofs.Opened.{busy_ready}
 use Rattle.ell_run.proofs.Rows.{length-pieces}
@@ -27,4 +27,9 @@ returns-clause-worked g c =
 pub returns-clause-bounded : goal.returns-clause-bounded
 returns-clause-bounded g c =
     subst (λ workers. c.in_ok-pass.pass.steps ≤ c.args.pass.steps + work_steps c.args.tree.now.last_card c.args.parts.now workers)
-    (c.deref.ensures.value ∙ c.in_ok-workers.ensures.busy) c.in_ok-pass.ensures.bounded
+    (c.deref.ensures.value ∙ c.in_ok-workers.ensures.busy) c.in_ok-pass.ensures.within.bounded
+
+pub returns-clause-total : goal.returns-clause-total
+returns-clause-total g c =
+    subst (λ workers. c.in_ok-pass.pass.view.made ≤ c.args.pass.view.made + total_steps c.args.tree.now.last_card c.args.parts.now workers)
+    (c.deref.ensures.value ∙ c.in_ok-workers.ensures.busy) c.in_ok-pass.ensures.within.total

@@ -24,3 +24,7 @@ returns-in-Ok-join-clause-bounded g c =
     let did = c.in_ok-ours.ensures.bounded in
     let union = c.in-Ok-join.ensures.joined.steps in
     omega (arith, apart, others, did, union)
+
+pub returns-in-Ok-join-clause-total : goal.returns-in-Ok-join-clause-total
+returns-in-Ok-join-clause-total g c =
+    omega (arith, c.in-Ok.ensures.left.made, c.in-Ok.ensures.right.made, c.in_ok-ours.ensures.total, c.in-Ok-join.ensures.joined.made)

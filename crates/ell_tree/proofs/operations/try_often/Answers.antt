@@ -1,12 +1,11 @@
-use Rattle.std.proofs.Common.{◌≡◌, ◌*◌, ◌∙◌, ap, arith, rules, eq-eqb, eqb-true}
+use Rattle.std.proofs.Common.{◌≡◌, ◌+◌, ◌*◌, ◌∙◌, ap, arith, rules, eq-eqb, eqb-true}
 use Rattle.ell_tree.specs.Ends.{try_steps}
 use Rattle.ell_tree.specs.Hindrances.{way_of}
-use Rattle.ell_tree.specs.Moves.{moves_known}
-use Rattle.ell_tree.proofs.Counting.{round_steps, rounds_steps}
+use Rattle.ell_tree.proofs.Counting.{took_within, took_trans, rounds_first, rounds_later, round_steps, rounds_steps}
 use Rattle.ell_tree.proofs.Halting.{begun_meets, begun_count}
 use Rattle.ell_tree.proofs.Hindering.{root_hindered, one_hindered, halts_hindered}
 use Rattle.ell_tree.proofs.Meeting.{meets_trans}
-use Rattle.ell_tree.proofs.Moving.{moves_one, moves_still, moves_same, moves_most, moves_more, amortized_steps}
+use Rattle.ell_tree.proofs.Moving.{moves_one, moves_still, moves_same, moves_most, moves_more, amortized}
 use Rattle.ell_tree.proofs.operations.try_often.Goals as goal
 
 pub try_once-requires-clause-root : goal.try_once-requires-clause-root
@@ -15,28 +14,28 @@ try_once-requires-clause-root g c =
     let i = l.invariant in
     (c.restart.ensures.begins c.args.op i.stops.busy (λ none. i.root (eqb-true l.round 0 none))).root
 
-pub returns-in-Answered-clause-steps : goal.returns-in-Answered-clause-steps
-returns-in-Answered-clause-steps g c =
+pub returns-in-Answered-clause-took : goal.returns-in-Answered-clause-took
+returns-in-Answered-clause-took g c =
     let l = c.loop-round in
     let i = l.invariant in
     let begins = c.restart.ensures.begins c.args.op i.stops.busy (λ none. i.root (eqb-true l.round 0 none)) in
     let most = try_steps c.args.table.now.last_card in
-    let few = round_steps l.round most c.args.pass.now.steps l.pass.steps c.restart.new.pass.steps c.try_once.new.pass.steps i.first i.later
-    begins.steps (λ none. c.restart.ensures.first (eq-eqb l.round 0 none)) c.try_once.ensures.steps in
+    let few = round_steps l.round most c.args.pass.now l.pass c.restart.new.pass c.try_once.new.pass i.rounds
+    begins.took (λ none. c.restart.ensures.first (eq-eqb l.round 0 none)) c.try_once.ensures.steps c.try_once.ensures.made in
     let all = rounds_steps l.round c.args.tries most c.loop-round-test.true in
-    omega (arith, few, all)
+    took_within c.args.pass.now c.try_once.new.pass ((l.round + 1) * most) (c.args.tries * most + 1) few (omega (arith, all))
 
-pub returns-in-Spent-clause-steps : goal.returns-in-Spent-clause-steps
-returns-in-Spent-clause-steps g c =
+pub returns-in-Spent-clause-took : goal.returns-in-Spent-clause-took
+returns-in-Spent-clause-took g c =
     let l = c.loop-round in
     let i = l.invariant in
     let begins = c.restart.ensures.begins c.args.op i.stops.busy (λ none. i.root (eqb-true l.round 0 none)) in
     let most = try_steps c.args.table.now.last_card in
-    let few = round_steps l.round most c.args.pass.now.steps l.pass.steps c.restart.new.pass.steps c.try_once.new.pass.steps i.first i.later
-    begins.steps (λ none. c.restart.ensures.first (eq-eqb l.round 0 none)) c.try_once.ensures.steps in
+    let few = round_steps l.round most c.args.pass.now l.pass c.restart.new.pass c.try_once.new.pass i.rounds
+    begins.took (λ none. c.restart.ensures.first (eq-eqb l.round 0 none)) c.try_once.ensures.steps c.try_once.ensures.made in
     let all = rounds_steps l.round c.args.tries most c.loop-round-test.true in
     let lays = c.leave.ensures.lays c.args.op c.in-Spent.ensures.ends.0.stops.busy in
-    omega (arith, few, all, lays.steps)
+    took_trans c.args.pass.now c.try_once.new.pass c.leave.new.pass ((l.round + 1) * most) 1 (c.args.tries * most + 1) few lays.took (omega (arith, all))
 
 pub loop-round-preserved : goal.loop-round-preserved
 loop-round-preserved g c =
@@ -45,8 +44,8 @@ loop-round-preserved g c =
     let op = c.args.op in
     let begins = c.restart.ensures.begins op i.stops.busy (λ none. i.root (eqb-true l.round 0 none)) in
     let most = try_steps c.args.table.now.last_card in
-    let few = round_steps l.round most c.args.pass.now.steps l.pass.steps c.restart.new.pass.steps c.try_once.new.pass.steps i.first i.later
-    begins.steps (λ none. c.restart.ensures.first (eq-eqb l.round 0 none)) c.try_once.ensures.steps in
+    let few = round_steps l.round most c.args.pass.now l.pass c.restart.new.pass c.try_once.new.pass i.rounds
+    begins.took (λ none. c.restart.ensures.first (eq-eqb l.round 0 none)) c.try_once.ensures.steps c.try_once.ensures.made in
     let halts = c.in-Hindered.ensures.ends.0 in
     let hindered = c.in-Hindered.ensures.ends.1 in
     let begun = begun_meets (way_of op l.pass.view) c.args.pass.now.view l.pass.view c.restart.new.pass.view i.meets i.way begins.hindrances begins.knows in
@@ -68,8 +67,7 @@ loop-round-preserved g c =
       moved = let one = moves_one c.args.table.now.last_card l.pass.view c.restart.new.pass.view c.try_once.new.pass.view begins.before begins.least
           (λ f h. halts.meets.knows f (begins.knows f h)) c.in-Hindered.ensures.ends.2 in
           omega (arith, one, i.moved);
-      first = λ none. absurd (omega (arith, none));
-      later = λ some. few;
+      rounds = rounds_later l.round most c.args.pass.now c.try_once.new.pass few;
     }
 
 pub loop-round-init : goal.loop-round-init
@@ -91,8 +89,7 @@ loop-round-init g c =
       hindrances = search rules;
       hindered = let none = root_hindered c.args.op c.begin.new.pass.view start.root in omega (arith, none, start.hindered);
       moved = omega (arith, still);
-      first = λ none. start.steps;
-      later = λ some. absurd (omega (arith, some));
+      rounds = rounds_first (try_steps cards) c.args.pass.now c.begin.new.pass start.took;
     }
 
 pub returns-clause-hindered : goal.returns-clause-hindered
@@ -148,14 +145,16 @@ returns-clause-enough g c = λ many held.
     let all : l.round ≡ c.args.tries = omega (arith, c.loop-round-test.false, l.auto.round-end) in
     omega (arith, many, most, all, l.invariant.moved)
 
-pub returns-clause-steps : goal.returns-clause-steps
-returns-clause-steps g c =
-    let i = c.loop-round.invariant in
-    let few = i.later (omega (arith, c.requires.tries, c.loop-round-test.false)) in
-    let all : c.loop-round.round ≡ c.args.tries = omega (arith, c.loop-round-test.false, c.loop-round.auto.round-end) in
-    let same = ap (λ n. n * try_steps c.args.table.now.last_card) all in
+pub returns-clause-took : goal.returns-clause-took
+returns-clause-took g c =
+    let l = c.loop-round in
+    let i = l.invariant in
+    let most = try_steps c.args.table.now.last_card in
+    let few = i.rounds.later (omega (arith, c.requires.tries, c.loop-round-test.false)) in
+    let all : l.round ≡ c.args.tries = omega (arith, c.loop-round-test.false, l.auto.round-end) in
+    let same = ap (λ n. n * most) all in
     let lays = c.leave-2.ensures.lays c.args.op i.stops.busy in
-    omega (arith, few, same, lays.steps)
+    took_trans c.args.pass.now l.pass c.leave-2.new.pass (l.round * most) 1 (c.args.tries * most + 1) few lays.took (omega (arith, same))
 
 pub returns-in-Answered-clause-ends : goal.returns-in-Answered-clause-ends
 returns-in-Answered-clause-ends g c =
@@ -205,12 +204,12 @@ returns-in-Answered-clause-amortized g c =
     let cards = c.args.table.now.last_card in
     let begins = c.restart.ensures.begins op i.stops.busy (λ none. i.root (eqb-true l.round 0 none)) in
     let most = try_steps cards in
-    let few = round_steps l.round most c.args.pass.now.steps l.pass.steps c.restart.new.pass.steps c.try_once.new.pass.steps i.first i.later
-    begins.steps (λ none. c.restart.ensures.first (eq-eqb l.round 0 none)) c.try_once.ensures.steps in
+    let few = round_steps l.round most c.args.pass.now l.pass c.restart.new.pass c.try_once.new.pass i.rounds
+    begins.took (λ none. c.restart.ensures.first (eq-eqb l.round 0 none)) c.try_once.ensures.steps c.try_once.ensures.made in
     let on = moves_more cards l.pass.view c.try_once.new.pass.view
     (λ f h. c.in-Answered.ensures.ends.1.knows f (begins.knows f h)) (omega (arith, begins.least, c.try_once.ensures.least)) in
-    amortized_steps (moves_known cards c.args.pass.now.view) (moves_known cards c.try_once.new.pass.view) l.round c.args.pass.now.steps c.try_once.new.pass.steps most
-    (omega (arith, on, i.moved)) (omega (arith, few))
+    amortized cards l.round c.args.pass.now c.try_once.new.pass (omega (arith, on, i.moved))
+    (took_within c.args.pass.now c.try_once.new.pass ((l.round + 1) * most) ((l.round + 1) * most + 1) few (omega arith))
 
 pub returns-in-Spent-clause-amortized : goal.returns-in-Spent-clause-amortized
 returns-in-Spent-clause-amortized g c =
@@ -220,15 +219,15 @@ returns-in-Spent-clause-amortized g c =
     let cards = c.args.table.now.last_card in
     let begins = c.restart.ensures.begins op i.stops.busy (λ none. i.root (eqb-true l.round 0 none)) in
     let most = try_steps cards in
-    let few = round_steps l.round most c.args.pass.now.steps l.pass.steps c.restart.new.pass.steps c.try_once.new.pass.steps i.first i.later
-    begins.steps (λ none. c.restart.ensures.first (eq-eqb l.round 0 none)) c.try_once.ensures.steps in
+    let few = round_steps l.round most c.args.pass.now l.pass c.restart.new.pass c.try_once.new.pass i.rounds
+    begins.took (λ none. c.restart.ensures.first (eq-eqb l.round 0 none)) c.try_once.ensures.steps c.try_once.ensures.made in
     let halts = c.in-Spent.ensures.ends.0 in
     let lays = c.leave.ensures.lays op halts.stops.busy in
     let on = moves_more cards l.pass.view c.try_once.new.pass.view
     (λ f h. halts.meets.knows f (begins.knows f h)) (omega (arith, begins.least, c.try_once.ensures.least)) in
     let same = moves_same cards c.try_once.new.pass.view c.leave.new.pass.view lays.facts lays.least in
-    amortized_steps (moves_known cards c.args.pass.now.view) (moves_known cards c.leave.new.pass.view) l.round c.args.pass.now.steps c.leave.new.pass.steps most
-    (omega (arith, on, same, i.moved)) (omega (arith, few, lays.steps))
+    amortized cards l.round c.args.pass.now c.leave.new.pass (omega (arith, on, same, i.moved))
+    (took_trans c.args.pass.now c.try_once.new.pass c.leave.new.pass ((l.round + 1) * most) 1 ((l.round + 1) * most + 1) few lays.took (omega arith))
 
 pub returns-clause-amortized : goal.returns-clause-amortized
 returns-clause-amortized g c =
@@ -237,10 +236,10 @@ returns-clause-amortized g c =
     let cards = c.args.table.now.last_card in
     let most = try_steps cards in
     let lays = c.leave-2.ensures.lays c.args.op i.stops.busy in
-    let few = i.later (omega (arith, c.requires.tries, c.loop-round-test.false, l.auto.round-end)) in
+    let few = i.rounds.later (omega (arith, c.requires.tries, c.loop-round-test.false, l.auto.round-end)) in
     let same = moves_same cards l.pass.view c.leave-2.new.pass.view lays.facts lays.least in
-    amortized_steps (moves_known cards c.args.pass.now.view) (moves_known cards c.leave-2.new.pass.view) l.round c.args.pass.now.steps c.leave-2.new.pass.steps most
-    (omega (arith, same, i.moved)) (omega (arith, few, lays.steps))
+    amortized cards l.round c.args.pass.now c.leave-2.new.pass (omega (arith, same, i.moved))
+    (took_trans c.args.pass.now l.pass c.leave-2.new.pass (l.round * most) 1 ((l.round + 1) * most + 1) few lays.took (omega arith))
 
 pub returns-in-Answered-clause-bounded : goal.returns-in-Answered-clause-bounded
 returns-in-Answered-clause-bounded g c = moves_most c.args.table.now.last_card c.try_once.new.pass.view c.in-Answered.ensures.ends.2

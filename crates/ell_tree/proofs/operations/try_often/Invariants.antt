@@ -1,4 +1,4 @@
-use Rattle.std.proofs.Common.{◌≡◌, ◌+◌, ◌*◌, ◌≤◌, length}
+use Rattle.std.proofs.Common.{◌≡◌, ◌+◌, ◌≤◌, length}
 use Rattle.ell_ops.specs.Meaning.{reply_of}
 use Rattle.ell_cards.specs.Changes.{tries_hindered}
 use Rattle.ell_tree.specs.Ends.{try_steps}
@@ -7,6 +7,7 @@ use Rattle.ell_tree.specs.Ledgers.{present_in}
 use Rattle.ell_tree.specs.Searches.{AtRoot}
 use Rattle.ell_tree.specs.Tries.{Stops}
 use Rattle.ell_tree.specs.Moves.{moves_known}
+use Rattle.ell_tree.proofs.Counting.{TookRounds}
 use Rattle.ell_tree.proofs.operations.try_often.Given as goal
 use Rattle.ell_ops.specs.declared.reply.Reply.TheVariants.{Yes}
 
@@ -26,6 +27,5 @@ invariant-loop-round g l = record {
   hindrances : length l.fn.pass.view.hindrances + l.round ≤ length (way_of l.op l.pass.view) + length l.pass.view.hindrances;
   hindered : tries_hindered l.pass.view ≡ l.fn.pass.view.hindered + l.round;
   moved : moves_known l.table.last_card l.fn.pass.view + l.round ≤ moves_known l.table.last_card l.pass.view;
-  first : l.round ≡ 0 → l.pass.steps ≤ l.fn.pass.steps + 1;
-  later : 1 ≤ l.round → l.pass.steps ≤ l.fn.pass.steps + l.round * try_steps l.table.last_card;
+  rounds : TookRounds l.round (try_steps l.table.last_card) l.fn.pass l.pass;
 }

@@ -1,0 +1,16 @@
+use Rattle.std.specs.Prelude.{ℕ, ◌+◌, ◌*◌, ◌≤◌}
+use Rattle.ell_cards.specs.Models.{PassModel}
+use Rattle.ell_tree.specs.Ends.{try_steps}
+use Rattle.ell_tree.specs.Moves.{moves_known}
+
+-- a pass has at most so many steps more, by both its counts: the steps in a row that led to it, and all steps that were made, those of
+-- the passes that it was joined with too
+pub record Took (old new : PassModel) (n : ℕ) : Type 0 where
+  pub steps : new.steps ≤ old.steps + n
+  pub made : new.view.made ≤ old.view.made + n
+
+-- an insert or a delete took the steps of one try, and one step more, and those of another try only for each move that the pass came
+-- to know of
+pub record IsAmortized (cards : ℕ) (old new : PassModel) : Type 0 where
+  pub steps : new.steps + moves_known cards old.view * try_steps cards ≤ old.steps + (moves_known cards new.view + 1) * try_steps cards + 1
+  pub made : new.view.made + moves_known cards old.view * try_steps cards ≤ old.view.made + (moves_known cards new.view + 1) * try_steps cards + 1
