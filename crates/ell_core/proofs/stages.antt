@@ -12,6 +12,8 @@ pub mod Kinds
 pub mod LaterKeys
 -- What the stages say of each other.
 pub mod Order
+-- How much of a kind a card has won by its stage, and what an act adds.
+pub mod Sums
 -- What was told of a card stays so in later words.
 pub mod Told
 -- Which cards wait for their flag.
