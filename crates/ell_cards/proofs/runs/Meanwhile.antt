@@ -195,7 +195,7 @@ module _ (m0 : Machine) (stage0 : Stages) (first : Invariant m0 stage0) (seat : 
         let turn = turn_lawful keys cards s at.kept (Makes other c) s' h in
         let m = machine_of_table keys cards s at.kept in
         let m' = machine_of_table keys cards s' turn.0 in
-        let goes = call_wins m at.went.stages at.went.invariant other m' c (found_by s c) h.view cards (ap (λ o. (seat_worker o).card) h.there) h.may turn.1.machine in
+        let goes = (call_wins m at.went.stages at.went.invariant other m' c (found_by s c) h.view cards (ap (λ o. (seat_worker o).card) h.there) h.may turn.1.machine).went in
         let on = becomes_since m at.went.stages other (act_of c (found_by s c)) (said_of c (found_by s c)) m' at.went.invariant at.went.words at.went.later
         turn.1.machine in
         elim (cases_eq seat other) [

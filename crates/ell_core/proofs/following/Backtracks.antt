@@ -57,28 +57,28 @@ pub record Keeps (first : Stages) (w : Words) (stage : Stages) (worker : ℕ →
   pub from : (c : ℕ) → IsTakenBack first after c
       → (IsTakenBack first stage c × (backtracks.least c ≡ old.least c)) ⊎ ((backtracks.least c ≡ now.update (now.p c)) × (delete_waits (stage c) ≡ true))
 
-it_is : {A : Type 0} {x y : A} → Some x ≡ Some y → x ≡ y
+pub it_is : {A : Type 0} {x y : A} → Some x ≡ Some y → x ≡ y
 it_is {x = x} {y = y} e = same_Some x y e
 
 -- how an act moves a search
-data Moves (w : Words) (old new : Search) : Type 0 where
+pub data Moves (w : Words) (old new : Search) : Type 0 where
   stays : new ≡ old → Moves w old new
-  afresh : new.parent ≡ None → Moves w old new
+  afresh : new.parent ≡ None → new.read ≡ None → Moves w old new
   nowhere : new.node ≡ None → Moves w old new
   reads : (x : ℕ) → old.node ≡ Some x → new ≡ with_read old (w.update x) → Moves w old new
   goes : (seen : Seen) (child : ℕ) → old.node ≡ Some seen.node → old.read ≡ Some seen.word → new ≡ gone_down old seen child → Moves w old new
 
-flag_nowhere : (v : Worker) (b : Bool) (new : Fact) (found : ℕ) → (flagged_worker v b new found).search.node ≡ None
+pub flag_nowhere : (v : Worker) (b : Bool) (new : Fact) (found : ℕ) → (flagged_worker v b new found).search.node ≡ None
 flag_nowhere v true new found = refl
 flag_nowhere v false new found = refl
 
-moves : (a : Act) (s : Scene) (said : Stepped) (after : Scene) → Row a s said after → Moves s.words s.worker.search after.worker.search
-moves (act.Begin op) s said after row = afresh (ap (λ (z : Scene). z.worker.search.parent) row.gives)
+pub moves : (a : Act) (s : Scene) (said : Stepped) (after : Scene) → Row a s said after → Moves s.words s.worker.search after.worker.search
+moves (act.Begin op) s said after row = afresh (ap (λ (z : Scene). z.worker.search.parent) row.gives) (ap (λ (z : Scene). z.worker.search.read) row.gives)
 moves act.Upd s said after row = reads row.node row.stands (ap (λ (z : Scene). z.worker.search) row.gives)
 moves act.Down s said after row = goes row.seen (child_for s.words (key_of row.op) row.seen.node) row.stands row.read (ap (λ (z : Scene). z.worker.search) row.gives)
-moves act.Again s said after row = afresh (ap (λ (z : Scene). z.worker.search.parent) row.gives)
-moves act.Leave s said after row = afresh (ap (λ (z : Scene). z.worker.search.parent) row.gives)
-moves act.Answer s said after row = afresh (ap (λ (z : Scene). z.worker.search.parent) row.gives)
+moves act.Again s said after row = afresh (ap (λ (z : Scene). z.worker.search.parent) row.gives) (ap (λ (z : Scene). z.worker.search.read) row.gives)
+moves act.Leave s said after row = afresh (ap (λ (z : Scene). z.worker.search.parent) row.gives) (ap (λ (z : Scene). z.worker.search.read) row.gives)
+moves act.Answer s said after row = afresh (ap (λ (z : Scene). z.worker.search.parent) row.gives) (ap (λ (z : Scene). z.worker.search.read) row.gives)
 moves act.Claim s said after (inl row) = stays (ap (λ (z : Scene). z.worker.search) row.gives)
 moves act.Claim s said after (inr row) = stays (ap (λ (z : Scene). z.worker.search) row.gives)
 moves act.IFlag s said after row = nowhere (ap (λ (z : Scene). z.worker.search.node) row.gives
@@ -108,7 +108,7 @@ reads_nowhere least x y c search none = record {
 -- it reads the update word that stands, and goes down with what it has read
 reads_on : (w : Words) (least x y c : ℕ) (old new : Search) → least ≤ w.update y → Moves w old new → ReadsAfter least x y c old → ReadsAfter least x y c new
 reads_on w least x y c old new up (stays e) h = subst (ReadsAfter least x y c) (sym e) h
-reads_on w least x y c old new up (afresh none) h = reads_afresh least x y c new none
+reads_on w least x y c old new up (afresh none unread) h = reads_afresh least x y c new none
 reads_on w least x y c old new up (nowhere none) h = reads_nowhere least x y c new none
 reads_on w least x y c old new up (reads z at e) h = record {
   behind = λ n seen above node parent grandparent. h.behind n seen above (sym (ap (λ (s : Search). s.node) e) ∙ node) (sym (ap (λ (s : Search). s.parent) e) ∙ parent)
@@ -128,7 +128,7 @@ reads_on w least x y c old new up (goes from child at read e) h = record {
   here = λ above word node has parent is past. absurd (some_not_none has (ap (λ (s : Search). s.read) e));
 }
 
-backed-delete : (s : Stage) → is_backed s ≡ true → is_delete s ≡ true
+pub backed-delete : (s : Stage) → is_backed s ≡ true → is_delete s ≡ true
 backed-delete s h = grind arith
 
 backed-past : (s : Stage) → is_backed s ≡ true → delete_past s ≡ true
@@ -137,7 +137,7 @@ backed-past s h = grind arith
 backed-unmarkable : (s : Stage) → is_backed s ≡ true → is_unmarkable s ≡ true
 backed-unmarkable s h = grind arith
 
-backed-won : (s : Stage) → is_backed s ≡ true → delete_won s ≡ true
+pub backed-won : (s : Stage) → is_backed s ≡ true → delete_won s ≡ true
 backed-won s h = grind arith
 
 won-cases : (s : Stage) → delete_won s ≡ true → (delete_open s ≡ true) ⊎ (delete_past s ≡ true)
@@ -165,14 +165,14 @@ back_flags (act.Backtrack c) some = refl
 back_flags _ some = absurd (omega arith)
 
 -- a delete's flag that an act wins is of the card in hand, and the grandparent has the update word that its search read there
-record WinsFlag (s : Scene) (d : ℕ) : Type 0 where
-  key : ℕ
-  above : Seen
-  deletes : s.worker.operation ≡ Some (Delete key)
-  holds : s.worker.card ≡ Some d
-  unflagged : s.worker.flagged ≡ false
-  seen : s.worker.search.grandparent ≡ Some above
-  found : s.words.update above.node ≡ above.word
+pub record WinsFlag (s : Scene) (d : ℕ) : Type 0 where
+  pub key : ℕ
+  pub above : Seen
+  pub deletes : s.worker.operation ≡ Some (Delete key)
+  pub holds : s.worker.card ≡ Some d
+  pub unflagged : s.worker.flagged ≡ false
+  pub seen : s.worker.search.grandparent ≡ Some above
+  pub found : s.words.update above.node ≡ above.word
 
 said_won : (b : Bool) → Won ≡ won_or_lost b → b ≡ true
 said_won true e = refl
@@ -197,7 +197,7 @@ flag_won s Won after row d some =
     }
 flag_won s _ after row d some = absurd (omega arith)
 
-act_flag : (a : Act) (s : Scene) (said : Stepped) (after : Scene) → Row a s said after → (d : ℕ) → 0 < sum_by delete_flags (wins_by a s.worker.card said d) → WinsFlag s d
+pub act_flag : (a : Act) (s : Scene) (said : Stepped) (after : Scene) → Row a s said after → (d : ℕ) → 0 < sum_by delete_flags (wins_by a s.worker.card said d) → WinsFlag s d
 act_flag act.DFlag s said after row d some = flag_won s said after row d some
 act_flag a s said after row d some = (let none = none_won delete_flags a s.worker.card said d refl in absurd (omega arith))
 

@@ -1,4 +1,4 @@
-use Rattle.std.proofs.Common.{◌≡◌, ℕ, ◌+◌, ◌<◌, ◌==◌, ◌⊎◌, if◌then◌else◌, Bool, true, false, Option, Some, None, List, [], ◌∷◌, ◌++◌, refl, ap, ◌∙◌, arith}
+use Rattle.std.proofs.Common.{◌≡◌, ℕ, ◌+◌, ◌<◌, ◌≤◌, ◌==◌, ◌⊎◌, ◌||◌, if◌then◌else◌, Bool, true, false, Option, Some, None, List, [], ◌∷◌, ◌++◌, refl, ap, ◌∙◌, arith}
 use Rattle.ell_word.specs.declared.gate.Kind.{Kind}
 use Rattle.ell_word.specs.declared.gate.Kind.TheVariants as kind
 use Rattle.ell_core.specs.declared.event.Act.{Act}
@@ -6,7 +6,7 @@ use Rattle.ell_core.specs.declared.event.Act.TheVariants as act
 use Rattle.ell_core.specs.declared.event.Stepped.{Stepped}
 use Rattle.ell_core.specs.declared.event.Stepped.TheVariants.{Won}
 use Rattle.ell_core.specs.acts.Wins.{win_for, win_by, wins_by}
-use Rattle.ell_core.specs.history.Stages.{Stage, is_backed, delete_won, is_changed, is_cut}
+use Rattle.ell_core.specs.history.Stages.{Stage, is_claimed, is_backed, insert_won, delete_won, is_changed, is_cut}
 use Rattle.ell_core.specs.history.Later.{wins_of}
 
 -- 1 for a flag that a delete takes back, for its flag, and for an exchange of a child; 0 for what else a card wins
@@ -22,6 +22,11 @@ abbrev pub child_changes : Kind → ℕ
 child_changes kind.IChild = 1
 child_changes kind.DChild = 1
 child_changes _ = 0
+
+abbrev pub all_flags : Kind → ℕ
+all_flags kind.IFlag = 1
+all_flags kind.DFlag = 1
+all_flags _ = 0
 
 -- the sum over what was won
 abbrev pub sum_by : (Kind → ℕ) → List Kind → ℕ
@@ -44,7 +49,7 @@ kind_sum f (act.DUnflag c) = f kind.DUnflag
 kind_sum f (act.Backtrack c) = f kind.Backtrack
 kind_sum f _ = 0
 
-win_sum : (f : Kind → ℕ) (o : Option ℕ) (k : Kind) (c : ℕ) → f k ≡ 0 → sum_by f (win_for o k c) ≡ 0
+pub win_sum : (f : Kind → ℕ) (o : Option ℕ) (k : Kind) (c : ℕ) → f k ≡ 0 → sum_by f (win_for o k c) ≡ 0
 win_sum f None k c none = refl
 win_sum f (Some d) k c none = by (c == d)
   where
@@ -89,6 +94,25 @@ cut-sum s h = grind arith
 
 pub sum-changed : (s : Stage) → 0 < sum_by child_changes (wins_of s) → (is_changed s ≡ true) ⊎ (is_cut s ≡ true)
 sum-changed s h = grind arith
+
+-- whether the flag of a card was won
+abbrev pub was_flagged : Stage → Bool
+was_flagged s = insert_won s || delete_won s
+
+pub unflagged-sum : (s : Stage) → sum_by all_flags (wins_of s) ≡ 0 → was_flagged s ≡ false
+unflagged-sum s h = grind arith
+
+pub sum-flagged : (s : Stage) → 0 < sum_by all_flags (wins_of s) → was_flagged s ≡ true
+sum-flagged s h = grind arith
+
+pub flagged-sum : (s : Stage) → was_flagged s ≡ true → 0 < sum_by all_flags (wins_of s)
+flagged-sum s h = grind arith
+
+pub flags-once : (s : Stage) → sum_by all_flags (wins_of s) ≤ 1
+flags-once s = grind arith
+
+pub flagged_claimed : (s : Stage) → was_flagged s ≡ true → is_claimed s ≡ true
+flagged_claimed s h = grind arith
 
 -- where nothing of the kind was won, the sum is as it was
 pub sum_same : (f : Kind → ℕ) (before after : Stage) (won : List Kind) → wins_of after ≡ wins_of before ++ won → sum_by f won ≡ 0

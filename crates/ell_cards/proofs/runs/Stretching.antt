@@ -1,0 +1,312 @@
+use Rattle.std.proofs.Common.{◌≡◌, ◌⊎◌, ℕ, zero, suc, ◌+◌, ◌<◌, ◌≤◌, ◌&&◌, not, if◌then◌else◌, Bool, true, false, Some, List, [], ◌∷◌, ◌++◌, length, inl, inr, refl, sym, ap, ◌∙◌, subst, arith}
+use Rattle.std.proofs.lemmas.Bool.{false≢true, false_from_ne_true}
+use Rattle.std.proofs.lemmas.List.{append_assoc, append-nil}
+use Rattle.ell_word.specs.Node.{card}
+use Rattle.ell_word.specs.Word.{unpacked}
+use Rattle.ell_word.specs.declared.gate.Kind.{Kind}
+use Rattle.ell_core.specs.declared.fact.Fact.TheVariants.{IFlagged, DFlagged, Marked}
+use Rattle.ell_core.specs.state.Words.{Words}
+use Rattle.ell_core.specs.state.Machine.{Machine}
+use Rattle.ell_core.specs.history.Stages.{Stage, Stages, Born, is_start, is_born, is_insert, is_delete, is_changed, is_cut, insert_won, delete_won, is_backed, is_marked, is_claimed, delete_waits}
+use Rattle.ell_core.specs.history.Invariant.{Invariant, delete_side}
+use Rattle.ell_core.specs.history.Later.{WordsLater, StagesLater, wins_of}
+use Rattle.ell_core.proofs.runs.Chains.{words_later, stages_later}
+use Rattle.ell_core.proofs.words.Later.{words_same}
+use Rattle.ell_core.proofs.stages.Advances.{stages_same, wins_same}
+use Rattle.ell_core.proofs.stages.Order.{delete-claimed, insert-claimed, born-claimed, insert_won-insert, delete_won-delete, marked-delete}
+use Rattle.ell_core.proofs.stages.Sums.{child_changes, all_flags, sum_by, sum_append, sum_same, changed-sum, sum-changed, cut-sum, was_flagged, unflagged-sum, sum-flagged, flagged-sum, flags-once, flagged_claimed}
+use Rattle.ell_core.proofs.following.Backtracks.{Backtracks, IsTakenBack, Keeps, none_back, backed-delete, backed-won}
+use Rattle.ell_core.proofs.following.SetSince.{IsSetSince, insert_flag, delete_flag, mark, set_since}
+use Rattle.ell_cards.specs.Contention.{how_many}
+use Rattle.ell_cards.specs.States.{TableState}
+use Rattle.ell_cards.specs.Machines.{HasMachine}
+use Rattle.ell_cards.specs.Laws.{machine_of_table}
+use Rattle.ell_cards.specs.Turns.{Turn, TableTurns, TableRun}
+use Rattle.ell_cards.specs.TurnEffects.{turn_wins, run_wins}
+use Rattle.ell_cards.specs.Stretches.{is_flag, is_change, wins, won_in}
+use Rattle.ell_cards.proofs.runs.GoingOn.{Went, Turned, turn_turns, cleans_chain}
+use Rattle.ell_cards.proofs.runs.EarlySums.{early_sum}
+use Rattle.ell_cards.proofs.runs.HowMany.{many_where, many_most}
+use Rattle.ell_cards.proofs.runs.FlagTurns.{turn_unchanged, FlagWon, turn_flags}
+
+-- whether a card's flag was won since
+abbrev pub flag_since : Stages → Stages → ℕ → Bool
+flag_since first stage c = not (was_flagged (first c)) && was_flagged (stage c)
+
+insert_not_cut : (s : Stage) → is_insert s ≡ true → is_delete s ≡ true → ⊥
+insert_not_cut s h g = grind arith
+
+changed-insert : (s : Stage) → is_changed s ≡ true → is_insert s ≡ true
+changed-insert s h = grind arith
+
+cut-delete : (s : Stage) → is_cut s ≡ true → is_delete s ≡ true
+cut-delete s h = grind arith
+
+born_cases : (s : Stage) → is_born s ≡ true → (is_start s ≡ true) ⊎ (is_changed s ≡ true)
+born_cases s h = grind arith
+
+start-born : (s : Stage) → is_start s ≡ true → is_born s ≡ true
+start-born s h = grind arith
+
+changed-born : (s : Stage) → is_changed s ≡ true → is_born s ≡ true
+changed-born s h = grind arith
+
+waits-delete : (s : Stage) → delete_waits s ≡ true → is_delete s ≡ true
+waits-delete s h = grind arith
+
+flagged_cases : (s : Stage) → was_flagged s ≡ true → (insert_won s ≡ true) ⊎ (delete_won s ≡ true)
+flagged_cases s h = grind arith
+
+insert-flagged : (s : Stage) → insert_won s ≡ true → was_flagged s ≡ true
+insert-flagged s h = grind arith
+
+delete-flagged : (s : Stage) → delete_won s ≡ true → was_flagged s ≡ true
+delete-flagged s h = grind arith
+
+-- what was flagged is flagged later
+pub flagged_later : (stage after : Stages) → StagesLater stage after → (c : ℕ) → was_flagged (stage c) ≡ true → was_flagged (after c) ≡ true
+flagged_later stage after later c h = elim (flagged_cases (stage c) h) [
+  | inl i ↦ insert-flagged (after c) (later.told (IFlagged c) c i)
+  | inr d ↦ delete-flagged (after c) (later.told (DFlagged c) c d)
+]
+
+-- where no exchange of a child was won, what has changed had, and what came into the tree had
+pub unchanged_since : (first stage : Stages) → StagesLater first stage → (won : List Kind) (e : ℕ) → wins_of (stage e) ≡ wins_of (first e) ++ won
+    → sum_by child_changes won ≡ 0 → is_changed (stage e) ≡ true → is_changed (first e) ≡ true
+unchanged_since first stage later won e grows none changed =
+    let same = sum_same child_changes (first e) (stage e) won grows none in
+    let some = changed-sum (stage e) changed in
+    elim (sum-changed (first e) (omega arith)) [
+      | inl is ↦ is
+      | inr cut ↦ absurd (insert_not_cut (stage e) (changed-insert (stage e) changed) (later.delete e (cut-delete (first e) cut)))
+    ]
+
+-- a card has set what it has set
+set_later : (first : Stages) (w now : Words) (stage after : Stages) → WordsLater w now → StagesLater stage after → (e y : ℕ) → e < w.next
+    → IsSetSince first w stage e y → IsSetSince first now after e y
+set_later first w now stage after words later e y low (insert_flag a b at) = insert_flag a (later.told (IFlagged e) e b) ((words.info e low).p ∙ at)
+set_later first w now stage after words later e y low (delete_flag a b at) = delete_flag a (later.told (DFlagged e) e b) ((words.info e low).gp ∙ at)
+set_later first w now stage after words later e y low (mark a b at) = mark a (later.told (Marked e) e b) ((words.info e low).p ∙ at)
+
+set_low : (first : Stages) (m : Machine) (stage : Stages) → Invariant m stage → (e y : ℕ) → IsSetSince first m.words stage e y → e < m.words.next
+set_low first m stage inv e y (insert_flag a b at) = (inv.words.cards e).claimed.0 (insert-claimed (stage e) (insert_won-insert (stage e) b))
+set_low first m stage inv e y (delete_flag a b at) = (inv.words.cards e).claimed.0 (delete-claimed (stage e) (delete_won-delete (stage e) b))
+set_low first m stage inv e y (mark a b at) = (inv.words.cards e).claimed.0 (delete-claimed (stage e) (marked-delete (stage e) b))
+
+not_flagged : (b : Bool) → b ≡ false → not b ≡ true
+not_flagged b e = ap not e
+
+and_both : (a b : Bool) → a ≡ true → b ≡ true → (a && b) ≡ true
+and_both true b e f = f
+and_both false b e f = absurd (false≢true e)
+
+and_false : (a b : Bool) → b ≡ false → (a && b) ≡ false
+and_false true b e = e
+and_false false b e = refl
+
+module _ (keys : List ℕ) (cards : ℕ) (s0 : TableState) (r0 : HasMachine keys cards s0) (first : Stages)
+    (before : Invariant (machine_of_table keys cards s0 r0) first) where
+  abbrev pub m0 : Machine
+  m0 = machine_of_table keys cards s0 r0
+
+  -- where a run leads in which so far this was won, and so many flags
+  pub record Amid (s : TableState) (won : ℕ → List Kind) (flags : ℕ) : Type 0 where
+    pub kept : HasMachine keys cards s
+    pub went : Went m0.words first won (machine_of_table keys cards s kept)
+    pub children : (x : ℕ) (right : Bool) → card x < m0.words.next → kept.words.child x right ≡ m0.words.child x right
+    pub back : Backtracks first kept.words went.stages (machine_of_table keys cards s kept).worker
+    pub set : (c : ℕ) → IsTakenBack first went.stages c → m0.words.update (kept.words.p c) ≤ kept.words.was c
+        → IsSetSince first kept.words went.stages (unpacked (back.least c)).card (kept.words.p c)
+    pub placed : (c : ℕ) → IsTakenBack first went.stages c → (right : Bool) × (m0.words.child (kept.words.gp c) right ≡ kept.words.p c)
+    pub early : (n : ℕ) → early_sum n m0.words first kept.words went.stages (length s.views) (machine_of_table keys cards s kept).worker
+        ≤ early_sum n m0.words first m0.words first (length s0.views) m0.worker
+    pub flagged : flags ≤ how_many (cards + 1) (flag_since first went.stages)
+
+  module _ (s : TableState) (won : ℕ → List Kind) (flags : ℕ) (at : Amid s won flags) (t : Turn) (s' : TableState) (turn : TableTurns cards s t s')
+      (quiet : (d : ℕ) → sum_by child_changes (won d) ≡ 0) (quiet_turn : (d : ℕ) → sum_by child_changes (turn_wins s t d) ≡ 0) where
+    abbrev m : Machine
+    m = machine_of_table keys cards s at.kept
+
+    abbrev stage : Stages
+    stage = at.went.stages
+
+    turned : (k : HasMachine keys cards s') × Turned m stage (turn_wins s t) (machine_of_table keys cards s' k)
+    turned = turn_turns keys cards s at.kept stage at.went.invariant t s' turn
+
+    abbrev m' : Machine
+    m' = machine_of_table keys cards s' turned.0
+
+    abbrev stages : Stages
+    stages = turned.1.went.stages
+
+    abbrev both : ℕ → List Kind
+    both d = won d ++ turn_wins s t d
+
+    abbrev goes : Went m0.words first both m'
+    goes = record {
+      stages = stages;
+      invariant = turned.1.went.invariant;
+      words = words_later m0.words at.kept.words turned.0.words at.went.words turned.1.went.words;
+      later = stages_later first stage stages at.went.later turned.1.went.later;
+      wins = λ d. turned.1.went.wins d ∙ (ap (λ ks. ks ++ turn_wins s t d) (at.went.wins d) ∙ append_assoc (wins_of (first d)) (won d) (turn_wins s t d));
+      cleans = cleans_chain m0.words first at.kept.words stage turned.0.words stages at.went.later turned.1.went.later turned.1.went.words at.went.cleans turned.1.went.cleans;
+    }
+
+    quiet_both : (d : ℕ) → sum_by child_changes (both d) ≡ 0
+    quiet_both d = let parts = sum_append child_changes (won d) (turn_wins s t d) in let a = quiet d in let b = quiet_turn d in omega arith
+
+    keeps : Keeps first m.words stage m.worker at.back m'.words stages m'.worker
+    keeps = turned.1.keeps first at.back
+
+    unchanged_now : (e : ℕ) → is_changed (stages e) ≡ true → is_changed (first e) ≡ true
+    unchanged_now e = unchanged_since first stages goes.later (both e) e (goes.wins e) (quiet_both e)
+
+    low_delete : (c : ℕ) → is_delete (stage c) ≡ true → c < m.words.next
+    low_delete c deletes = (at.went.invariant.words.cards c).claimed.0 (delete-claimed (stage c) deletes)
+
+    -- what a card that was taken back before has
+    set_still : (c : ℕ) → IsTakenBack first stage c → keeps.backtracks.least c ≡ at.back.least c → m0.words.update (m'.words.p c) ≤ m'.words.was c
+        → IsSetSince first m'.words stages (unpacked (keeps.backtracks.least c)).card (m'.words.p c)
+    set_still c taken same late =
+        let info = turned.1.went.words.info c (low_delete c (backed-delete (stage c) taken.1)) in
+        let was = info.was in
+        let place = ap m0.words.update info.p in
+        let set = at.set c taken (omega arith) in
+        let e = (unpacked (at.back.least c)).card in
+        let on = set_later first m.words m'.words stage stages turned.1.went.words turned.1.went.later e (m.words.p c) (set_low first m stage at.went.invariant e (m.words.p c) set) set in
+        subst (λ y. IsSetSince first m'.words stages (unpacked (keeps.backtracks.least c)).card y) (sym info.p)
+        (subst (λ k. IsSetSince first m'.words stages (unpacked k).card (m.words.p c)) (sym same) on)
+
+    -- and one that is taken back now
+    set_now : (c : ℕ) → IsTakenBack first stages c → keeps.backtracks.least c ≡ m'.words.update (m'.words.p c) → m0.words.update (m'.words.p c) ≤ m'.words.was c
+        → IsSetSince first m'.words stages (unpacked (keeps.backtracks.least c)).card (m'.words.p c)
+    set_now c taken is late =
+        let says = (goes.invariant.words.cards c).delete (backed-delete (stages c) taken.1) in
+        let rose = (keeps.backtracks.rose c taken).0 in
+        let above = says.first in
+        subst (λ k. IsSetSince first m'.words stages (unpacked k).card (m'.words.p c)) (sym is)
+        (set_since m0 first before m' stages goes.invariant goes.words goes.later goes.cleans unchanged_now (m'.words.p c) (m'.words.was c)
+        says.parent.inner says.parent.born (omega arith) says.calm late (omega arith))
+
+    -- what came into the tree had come into it before
+    born_before : (x : ℕ) → Born stage x → card x < m0.words.next
+    born_before x born = (before.words.cards (card x)).claimed.0 (born-claimed (first (card x)) (elim (born_cases (stage (card x)) born) [
+      | inl start ↦ start-born (first (card x)) (sym (at.went.later.start (card x)) ∙ start)
+      | inr changed ↦ changed-born (first (card x)) (unchanged_since first stage at.went.later (won (card x)) (card x) (at.went.wins (card x)) (quiet (card x)) changed)
+    ]))
+
+    placed_now : (c : ℕ) → delete_waits (stage c) ≡ true → (right : Bool) × (m0.words.child (m'.words.gp c) right ≡ m'.words.p c)
+    placed_now c waits =
+        let deletes = waits-delete (stage c) waits in
+        let info = turned.1.went.words.info c (low_delete c deletes) in
+        let says = (at.went.invariant.words.cards c).delete deletes in
+        let side = delete_side m.words c in
+        (side, ap (λ x. m0.words.child x side) info.gp ∙ (sym (at.children (m.words.gp c) side (born_before (m.words.gp c) says.grandparent.born))
+        ∙ ((at.went.invariant.words.deletes c).waits waits ∙ sym info.p)))
+
+    placed_still : (c : ℕ) → IsTakenBack first stage c → (right : Bool) × (m0.words.child (m'.words.gp c) right ≡ m'.words.p c)
+    placed_still c taken =
+        let info = turned.1.went.words.info c (low_delete c (backed-delete (stage c) taken.1)) in
+        let was = at.placed c taken in
+        (was.0, ap (λ x. m0.words.child x was.0) info.gp ∙ (was.1 ∙ sym info.p))
+
+    -- flags
+    flag_still : (c : ℕ) → flag_since first stage c ≡ true → flag_since first stages c ≡ true
+    flag_still c h = by (was_flagged (first c)) h
+      where
+        by : (b : Bool) → (not b && was_flagged (stage c)) ≡ true → (not b && was_flagged (stages c)) ≡ true
+        by true h = h
+        by false h = flagged_later stage stages turned.1.went.later c h
+
+    flags_on : (b : Bool) → wins is_flag s t ≡ b → flags + (if b then 1 else 0) ≤ how_many (cards + 1) (flag_since first stages)
+    flags_on false e =
+        let more = many_where (cards + 1) (flag_since first stage) (flag_since first stages) (λ c low. flag_still c) in
+        let was = at.flagged in
+        omega arith
+    flags_on true e =
+        let flag = turn_flags s t e in
+        let c = flag.card in
+        let one = flag.one in
+        let parts = ap (sum_by all_flags) (turned.1.went.wins c) ∙ sum_append all_flags (wins_of (stage c)) (turn_wins s t c) in
+        let once = flags-once (stages c) in
+        let unflagged = unflagged-sum (stage c) (omega arith) in
+        let is = sum-flagged (stages c) (omega arith) in
+        let low = (goes.invariant.words.cards c).claimed.0 (flagged_claimed (stages c) is) in
+        let limit = goes.invariant.limit in
+        let fresh = false_from_ne_true (was_flagged (first c)) (λ old. false≢true (sym unflagged ∙ flagged_later first stage at.went.later c old)) in
+        let most = many_most (cards + 1) (cards + 1) (flag_since first stage) (flag_since first stages) (omega arith) (λ d less. flag_still d) c (omega arith)
+        (and_both (not (was_flagged (first c))) (was_flagged (stages c)) (not_flagged (was_flagged (first c)) fresh) is)
+        (λ less. and_false (not (was_flagged (first c))) (was_flagged (stage c)) unflagged) in
+        let was = at.flagged in
+        omega arith
+
+    pub turn_amid : Amid s' both (flags + (if wins is_flag s t then 1 else 0))
+    turn_amid = record {
+      kept = turned.0;
+      went = goes;
+      children = λ x right low.
+          let up = at.went.words.next in
+          turned.1.children quiet_turn x right (omega arith) ∙ at.children x right low;
+      back = keeps.backtracks;
+      set = λ c taken late. elim (keeps.from c taken) [
+        | inl was ↦ set_still c was.0 was.1 late
+        | inr now ↦ set_now c taken now.0 late
+      ];
+      placed = λ c taken. elim (keeps.from c taken) [
+        | inl was ↦ placed_still c was.0
+        | inr now ↦ placed_now c now.1
+      ];
+      early = λ n. let one = turned.1.early n m0.words first at.went.words.update in let was = at.early n in omega arith;
+      flagged = flags_on (wins is_flag s t) refl;
+    }
+
+  none_since : (c : ℕ) → flag_since first first c ≡ false
+  none_since c = by (was_flagged (first c))
+    where
+      by : (b : Bool) → (not b && b) ≡ false
+      by true = refl
+      by false = refl
+
+  -- where the stretch begins
+  pub amid_first : Amid s0 (λ d. []) 0
+  amid_first = record {
+    kept = r0;
+    went = record {
+      stages = first;
+      invariant = before;
+      words = words_same m0.words;
+      later = stages_same first;
+      wins = λ d. wins_same (first d);
+      cleans = λ x c rose now some. absurd (omega arith);
+    };
+    children = λ x right low. refl;
+    back = none_back first m0.words m0.worker;
+    set = λ c taken late. absurd (false≢true (sym taken.0 ∙ backed-won (first c) taken.1));
+    placed = λ c taken. absurd (false≢true (sym taken.0 ∙ backed-won (first c) taken.1));
+    early = λ n. omega arith;
+    flagged = omega arith;
+  }
+
+  -- and where it leads
+  pub run_amid : (s : TableState) (won : ℕ → List Kind) (flags : ℕ) → Amid s won flags → ((d : ℕ) → sum_by child_changes (won d) ≡ 0) → (turns : List Turn) (s' : TableState)
+      → (run : TableRun cards s turns s') → won_in is_change cards s turns s' run ≡ 0
+      → Amid s' (λ d. won d ++ run_wins cards s turns s' run d) (flags + won_in is_flag cards s turns s' run)
+  run_amid s won flags at quiet [] s' run none =
+      let same : flags ≡ flags + 0 = omega arith in
+      subst (λ x. Amid x (λ d. won d ++ []) (flags + 0)) (sym run)
+      (subst (Amid s (λ d. won d ++ [])) same (subst (λ (w : ℕ → List Kind). Amid s w flags) (λ i d. sym (append-nil (won d)) i) at))
+  run_amid s won flags at quiet (t ∷ ts) s' run none =
+      let still = unless (wins is_change s t) (won_in is_change cards run.0 ts s' run.2) none in
+      let quiet_turn = turn_unchanged s t still.0 in
+      let one = turn_amid s won flags at t run.0 run.1 quiet quiet_turn in
+      let sum : (flags + (if wins is_flag s t then 1 else 0)) + won_in is_flag cards run.0 ts s' run.2
+      ≡ flags + ((if wins is_flag s t then 1 else 0) + won_in is_flag cards run.0 ts s' run.2) = omega arith in
+      subst (Amid s' (λ d. won d ++ (turn_wins s t d ++ run_wins cards run.0 ts s' run.2 d))) sum
+      (subst (λ (w : ℕ → List Kind). Amid s' w ((flags + (if wins is_flag s t then 1 else 0)) + won_in is_flag cards run.0 ts s' run.2))
+      (λ i d. append_assoc (won d) (turn_wins s t d) (run_wins cards run.0 ts s' run.2 d) i)
+      (run_amid run.0 (λ d. won d ++ turn_wins s t d) (flags + (if wins is_flag s t then 1 else 0)) one
+      (quiet_both s won flags at t run.0 run.1 quiet quiet_turn) ts s' run.2 still.1))
+    where
+      unless : (b : Bool) (n : ℕ) → (if b then 1 else 0) + n ≡ 0 → (b ≡ false) × (n ≡ 0)
+      unless true n e = absurd (omega arith)
+      unless false n e = (refl, omega arith)
