@@ -56,3 +56,7 @@ pub mod EarlySums
 pub mod FlagTurns
 -- What a run in which no exchange of a child is won makes of cards, turn by turn.
 pub mod Stretching
+-- Counting: what is mapped one to one, and what is on levels.
+pub mod Counting
+-- In a stretch in which no exchange of a child is won, few flags are.
+pub mod FewFlags

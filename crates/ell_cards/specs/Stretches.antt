@@ -1,11 +1,13 @@
-use Rattle.std.specs.Prelude.{◌≡◌, ℕ, ◌+◌, ◌*◌, ◌≤◌, ◌&&◌, if◌then◌else◌, Bool, true, false, List, [], ◌∷◌, length}
+use Rattle.std.specs.Prelude.{◌≡◌, ℕ, ◌+◌, ◌*◌, ◌≤◌, ◌&&◌, if◌then◌else◌, Bool, true, false, List, [], ◌∷◌, is_some, length}
 use Rattle.ell_word.specs.Node.{IsInternal}
 use Rattle.ell_core.specs.state.Words.{Words}
 use Rattle.ell_core.specs.state.Opening.{last_card}
 use Rattle.ell_core.specs.tree.Tree.{Leads}
 use Rattle.ell_cards.specs.declared.call.Call.{Call}
 use Rattle.ell_cards.specs.declared.call.Call.TheVariants as call
+use Rattle.ell_cards.specs.declared.view.View.{View}
 use Rattle.ell_cards.specs.Calls.{atomic_of, is_won}
+use Rattle.ell_cards.specs.Contention.{cards_in_hand}
 use Rattle.ell_cards.specs.States.{TableState}
 use Rattle.ell_cards.specs.Turns.{Turn, Makes, TableRun, found_by}
 use Rattle.ell_cards.specs.TurnEffects.{own_words}
@@ -49,8 +51,14 @@ pub record Stretch (keys : List ℕ) (start : List (ℕ × ℕ)) (cards : ℕ) :
   pub run : TableRun (last_card start cards) begun turns now
   pub unchanged : won_in is_change (last_card start cards) begun turns now run ≡ 0
 
--- in such a stretch few flags are won: with so many passes, and a tree of this height, at most three for each pass on each level, and one more
--- for each pass
+-- how many passes have an operation in hand
+abbrev pub passes_at_work : List View → ℕ
+passes_at_work [] = 0
+passes_at_work (v ∷ vs) = (if is_some v.worker.operation then 1 else 0) + passes_at_work vs
+
+-- in such a stretch few flags are won: with a tree of this height, on each level at most one for each pass that was at work when it began and two
+-- for each card that is in a hand when it ends, and beside them one for each such card
 abbrev pub FewFlagsWithoutAChange : Type 0
 FewFlagsWithoutAChange = (keys : List ℕ) (start : List (ℕ × ℕ)) (cards : ℕ) (r : Stretch keys start cards) (h : ℕ) → HasHeight (own_words r.begun) h
-    → won_in is_flag (last_card start cards) r.begun r.turns r.now r.run ≤ 3 * length r.now.views * (h + 1) + length r.now.views
+    → won_in is_flag (last_card start cards) r.begun r.turns r.now r.run
+    ≤ (h + 1) * (passes_at_work r.begun.views + 2 * cards_in_hand r.now.views) + cards_in_hand r.now.views

@@ -106,7 +106,7 @@ one_hand : (n : ℕ) (o : Option ℕ) → sum_of n (λ c. one (is_held o c)) ≤
 one_hand n None = let none = no_hand n in omega arith
 one_hand n (Some d) = one_such n d
 
-sum_both : (n : ℕ) (f g : ℕ → ℕ) → sum_of n (λ c. f c + g c) ≡ sum_of n f + sum_of n g
+pub sum_both : (n : ℕ) (f g : ℕ → ℕ) → sum_of n (λ c. f c + g c) ≡ sum_of n f + sum_of n g
 sum_both zero f g = refl
 sum_both (suc n) f g = let rest = sum_both n f g in omega arith
 

@@ -7,8 +7,8 @@ use Rattle.ell_word.specs.declared.gate.Kind.{Kind}
 use Rattle.ell_core.specs.declared.fact.Fact.TheVariants.{IFlagged, DFlagged, Marked}
 use Rattle.ell_core.specs.state.Words.{Words}
 use Rattle.ell_core.specs.state.Machine.{Machine}
-use Rattle.ell_core.specs.history.Stages.{Stage, Stages, Born, is_start, is_born, is_insert, is_delete, is_changed, is_cut, insert_won, delete_won, is_backed, is_marked, is_claimed, delete_waits}
-use Rattle.ell_core.specs.history.Invariant.{Invariant, delete_side}
+use Rattle.ell_core.specs.history.Stages.{Stage, Stages, Born, is_start, is_born, is_insert, is_delete, is_changed, is_cut, insert_won, delete_won, is_backed, is_marked, is_claimed, delete_waits, delete_open}
+use Rattle.ell_core.specs.history.Invariant.{Invariant, IsIn, delete_side}
 use Rattle.ell_core.specs.history.Later.{WordsLater, StagesLater, wins_of}
 use Rattle.ell_core.proofs.runs.Chains.{words_later, stages_later}
 use Rattle.ell_core.proofs.words.Later.{words_same}
@@ -93,6 +93,18 @@ set_low first m stage inv e y (insert_flag a b at) = (inv.words.cards e).claimed
 set_low first m stage inv e y (delete_flag a b at) = (inv.words.cards e).claimed.0 (delete-claimed (stage e) (delete_won-delete (stage e) b))
 set_low first m stage inv e y (mark a b at) = (inv.words.cards e).claimed.0 (delete-claimed (stage e) (marked-delete (stage e) b))
 
+waits-open : (s : Stage) → delete_waits s ≡ true → delete_open s ≡ true
+waits-open s h = grind arith
+
+-- in the tree of these words y is a child of a node that is reached
+pub record Places (w : Words) (x y : ℕ) : Type 0 where
+  pub right : Bool
+  pub child : w.child x right ≡ y
+  pub there : IsIn w x
+
+moved : {w : Words} {x y a b : ℕ} → a ≡ x → b ≡ y → Places w x y → Places w a b
+moved {w = w} {x = x} {b = b} e f h = subst (λ a. Places w a b) (sym e) (subst (λ b. Places w x b) (sym f) h)
+
 not_flagged : (b : Bool) → b ≡ false → not b ≡ true
 not_flagged b e = ap not e
 
@@ -117,7 +129,7 @@ module _ (keys : List ℕ) (cards : ℕ) (s0 : TableState) (r0 : HasMachine keys
     pub back : Backtracks first kept.words went.stages (machine_of_table keys cards s kept).worker
     pub set : (c : ℕ) → IsTakenBack first went.stages c → m0.words.update (kept.words.p c) ≤ kept.words.was c
         → IsSetSince first kept.words went.stages (unpacked (back.least c)).card (kept.words.p c)
-    pub placed : (c : ℕ) → IsTakenBack first went.stages c → (right : Bool) × (m0.words.child (kept.words.gp c) right ≡ kept.words.p c)
+    pub placed : (c : ℕ) → IsTakenBack first went.stages c → Places m0.words (kept.words.gp c) (kept.words.p c)
     pub early : (n : ℕ) → early_sum n m0.words first kept.words went.stages (length s.views) (machine_of_table keys cards s kept).worker
         ≤ early_sum n m0.words first m0.words first (length s0.views) m0.worker
     pub flagged : flags ≤ how_many (cards + 1) (flag_since first went.stages)
@@ -189,26 +201,33 @@ module _ (keys : List ℕ) (cards : ℕ) (s0 : TableState) (r0 : HasMachine keys
         says.parent.inner says.parent.born (omega arith) says.calm late (omega arith))
 
     -- what came into the tree had come into it before
-    born_before : (x : ℕ) → Born stage x → card x < m0.words.next
-    born_before x born = (before.words.cards (card x)).claimed.0 (born-claimed (first (card x)) (elim (born_cases (stage (card x)) born) [
+    born_before : (x : ℕ) → Born stage x → Born first x
+    born_before x born = elim (born_cases (stage (card x)) born) [
       | inl start ↦ start-born (first (card x)) (sym (at.went.later.start (card x)) ∙ start)
       | inr changed ↦ changed-born (first (card x)) (unchanged_since first stage at.went.later (won (card x)) (card x) (at.went.wins (card x)) (quiet (card x)) changed)
-    ]))
+    ]
 
-    placed_now : (c : ℕ) → delete_waits (stage c) ≡ true → (right : Bool) × (m0.words.child (m'.words.gp c) right ≡ m'.words.p c)
+    placed_now : (c : ℕ) → delete_waits (stage c) ≡ true → Places m0.words (m'.words.gp c) (m'.words.p c)
     placed_now c waits =
         let deletes = waits-delete (stage c) waits in
         let info = turned.1.went.words.info c (low_delete c deletes) in
         let says = (at.went.invariant.words.cards c).delete deletes in
         let side = delete_side m.words c in
-        (side, ap (λ x. m0.words.child x side) info.gp ∙ (sym (at.children (m.words.gp c) side (born_before (m.words.gp c) says.grandparent.born))
-        ∙ ((at.went.invariant.words.deletes c).waits waits ∙ sym info.p)))
+        let born = born_before (m.words.gp c) says.grandparent.born in
+        let low = (before.words.cards (card (m.words.gp c))).claimed.0 (born-claimed (first (card (m.words.gp c))) born) in
+        let flag = (at.went.invariant.words.deletes c).flag (waits-open (stage c) waits) in
+        moved info.gp info.p (record {
+          right = side;
+          child = sym (at.children (m.words.gp c) side low) ∙ (at.went.invariant.words.deletes c).waits waits;
+          there = before.words.tree.there (m.words.gp c) says.grandparent.inner born (λ e is.
+              let same = (at.went.words.frozen (m.words.gp c) e is).update in
+              omega arith);
+        })
 
-    placed_still : (c : ℕ) → IsTakenBack first stage c → (right : Bool) × (m0.words.child (m'.words.gp c) right ≡ m'.words.p c)
+    placed_still : (c : ℕ) → IsTakenBack first stage c → Places m0.words (m'.words.gp c) (m'.words.p c)
     placed_still c taken =
         let info = turned.1.went.words.info c (low_delete c (backed-delete (stage c) taken.1)) in
-        let was = at.placed c taken in
-        (was.0, ap (λ x. m0.words.child x was.0) info.gp ∙ (was.1 ∙ sym info.p))
+        moved info.gp info.p (at.placed c taken)
 
     -- flags
     flag_still : (c : ℕ) → flag_since first stage c ≡ true → flag_since first stages c ≡ true
