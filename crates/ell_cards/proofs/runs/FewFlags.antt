@@ -6,7 +6,9 @@ use Rattle.ell_word.specs.Node.{IsInternal}
 use Rattle.ell_word.specs.Word.{unpacked}
 use Rattle.ell_word.specs.declared.gate.Kind.{Kind}
 use Rattle.ell_core.specs.state.Words.{Words}
-use Rattle.ell_core.specs.state.Machine.{Worker, Machine}
+use Rattle.ell_core.specs.declared.view.Search.{Search}
+use Rattle.ell_ops.specs.declared.op.Op.{Op}
+use Rattle.ell_core.specs.state.Machine.{Worker, Machine, worker_of}
 use Rattle.ell_core.specs.state.Opening.{last_card}
 use Rattle.ell_core.specs.tree.Tree.{Leads, Below, IsLawful}
 use Rattle.ell_core.specs.history.Stages.{Stage, Stages, is_insert, is_delete, is_claimed, is_changed, is_cut, insert_won, insert_open, insert_over, delete_won, delete_open, delete_over, is_backed, is_marked}
@@ -20,7 +22,7 @@ use Rattle.ell_core.proofs.stages.Sums.{child_changes, sum_by, sum_same, sum-cha
 use Rattle.ell_core.proofs.stages.Order.{delete-claimed}
 use Rattle.ell_core.proofs.following.Backtracks.{IsTakenBack, backed-delete, backed-won}
 use Rattle.ell_core.proofs.following.SetSince.{IsSetSince, insert_flag, delete_flag, mark}
-use Rattle.ell_core.proofs.following.Early.{is_early, search_early, card_early, and_parts, both_true, not_true}
+use Rattle.ell_core.proofs.following.Early.{is_early, stands_early, search_early, card_early, and_parts, both_true, not_true}
 use Rattle.ell_cards.specs.declared.view.View.{View}
 use Rattle.ell_cards.specs.Contention.{how_many, cards_in_hand}
 use Rattle.ell_cards.specs.States.{TableState, seat_worker}
@@ -35,7 +37,7 @@ use Rattle.ell_cards.proofs.runs.Reaching.{reached_kept}
 use Rattle.ell_cards.proofs.runs.Abandoned.{hand_there}
 use Rattle.ell_cards.proofs.runs.HowMany.{one, many_where, many_shared, held_by, held_there, hands_hold, sum_of, sum_both}
 use Rattle.ell_cards.proofs.runs.EarlySums.{early_sum}
-use Rattle.ell_cards.proofs.runs.Stretching.{m0, Amid, amid_first, run_amid, unchanged_since, flag_since, Places}
+use Rattle.ell_cards.proofs.runs.Stretching.{m0, Amid, amid_first, run_amid, quiet_run, unchanged_since, flag_since, Places}
 use Rattle.ell_cards.proofs.runs.Counting.{one_to_one, on_levels, sum_most, sum_is, none_so, before_last_same}
 
 insert_cases : (s : Stage) → insert_won s ≡ true → (insert_open s ≡ true) ⊎ (is_changed s ≡ true)
@@ -121,6 +123,31 @@ one_parent w lawful x z y inner inner' here there =
     let b = Leads-append w 0 z y second.path (there.right ∷ []) second.leads (inner', sym there.child) in
     let same = before_last_same first.path second.path here.right there.right (lawful.one_path y (first.path ++ here.right ∷ []) (second.path ++ there.right ∷ []) a b) in
     Leads-same w 0 x z first.path first.leads (subst (λ p. Leads w 0 p z) (sym same) second.leads)
+
+at_nowhere : (w0 : Words) (search : Search) → search.node ≡ None → search_early w0 search ≡ false
+at_nowhere w0 search none = ap (λ node. stands_early w0 node search.read search.parent) none
+
+-- a sum from its first number on
+sum_first : (n : ℕ) (f : ℕ → ℕ) → sum_of (suc n) f ≡ f 0 + sum_of n (λ j. f (suc j))
+sum_first zero f = refl
+sum_first (suc n) f = let rest = sum_first n f in omega arith
+
+-- only a pass with an operation in hand has read something
+work_early : (w0 : Words) (v : Worker) → (v.operation ≡ None → v.search.node ≡ None) → one (search_early w0 v.search) ≤ one (is_some v.operation)
+work_early w0 v free = by v.operation refl
+  where
+    by : (o : Option Op) → v.operation ≡ o → one (search_early w0 v.search) ≤ one (is_some v.operation)
+    by None e = let none = ap one (at_nowhere w0 v.search (free e)) in omega arith
+    by (Some op) e = let yes = ap (λ o. one (is_some o)) e in let most = one_most (search_early w0 v.search) in omega arith
+
+seats_early : (w0 : Words) (vs : List View) → ((j : ℕ) → (seat_worker (get_elem? vs j)).operation ≡ None → (seat_worker (get_elem? vs j)).search.node ≡ None)
+    → sum_of (length vs) (λ j. one (search_early w0 (seat_worker (get_elem? vs j)).search)) ≤ passes_at_work vs
+seats_early w0 [] free = omega arith
+seats_early w0 (v ∷ vs) free =
+    let shift = sum_first (length vs) (λ j. one (search_early w0 (seat_worker (get_elem? (v ∷ vs) j)).search)) in
+    let first = work_early w0 (worker_of v.worker) (free 0) in
+    let rest = seats_early w0 vs (λ j. free (suc j)) in
+    omega arith
 
 module _ (keys : List ℕ) (cards : ℕ) (s0 : TableState) (r0 : HasMachine keys cards s0) (first : Stages)
     (before : Invariant (machine_of_table keys cards s0 r0) first) (s : TableState) (won : ℕ → List Kind) (flags : ℕ)
@@ -442,10 +469,26 @@ module _ (keys : List ℕ) (cards : ℕ) (s0 : TableState) (r0 : HasMachine keys
           let up = found.1 in
           (suc found.0, omega arith, both_true (back c) (goes_on c && chain found.0 (hinders c)) is (both_true (goes_on c) (chain found.0 (hinders c)) e found.2))
 
-  back_few : how_many n back ≤ (h + 1) * (how_many n early_card + 2 * cards_in_hand s.views)
+  -- what was read before the stretch is of a pass that was at work when it began
+  early_few : how_many n early_card ≤ passes_at_work s0.views
+  early_few =
+      let all = at.early n in
+      let none = none_so n (card_early r0.words first r0.words first) none_yet in
+      let work = seats_early r0.words s0.views (λ j free. ap (λ (v : Worker). v.search.node) ((before.workers.each j).free free)) in
+      omega arith
+    where
+      none_yet : (c : ℕ) → card_early r0.words first r0.words first c ≡ false
+      none_yet c = by (delete_won (first c))
+        where
+          by : (b : Bool) → (not b && (b && is_early r0.words (r0.words.p c) (r0.words.was c))) ≡ false
+          by true = refl
+          by false = refl
+
+  back_few : how_many n back ≤ (h + 1) * (passes_at_work s0.views + 2 * cards_in_hand s.views)
   back_few =
       let levels = on_levels n (h + 1) back chain found in
-      let most = sum_most (h + 1) (how_many n early_card + 2 * cards_in_hand s.views) (λ k. how_many n (chain k)) level_few in
+      let most = sum_most (h + 1) (passes_at_work s0.views + 2 * cards_in_hand s.views) (λ k. how_many n (chain k))
+      (λ k. (let a = level_few k in let b = early_few in omega arith)) in
       omega arith
     where
       found : (c : ℕ) → back c ≡ true → (k : ℕ) × (k < h + 1) × (chain k c ≡ true)
@@ -454,3 +497,27 @@ module _ (keys : List ℕ) (cards : ℕ) (s0 : TableState) (r0 : HasMachine keys
           let level = on_level (h + 1) c there.path there.leads (omega arith) is in
           let up = level.1 in
           (level.0, omega arith, level.2)
+
+  pub few_flags : flags ≤ (h + 1) * (passes_at_work s0.views + 2 * cards_in_hand s.views) + cards_in_hand s.views
+  few_flags = let a = flags_few in let b = back_few in omega arith
+
+pub few_flags_without_a_change : FewFlagsWithoutAChange
+few_flags_without_a_change keys start cards r h height =
+    few_flags keys last r.begun r0 r0.stages r0.invariant r.now (λ d. run_wins last r.begun r.turns r.now r.run d) (won_in is_flag last r.begun r.turns r.now r.run)
+    at (quiet_run last r.begun r.turns r.now r.run r.unchanged) (machine_is_sound keys last r.begun r0).tree h
+    (λ path x leads inner. height path x
+    (leads_on r0.words (own_words r.begun) r0.stages r0.invariant.words (same_card keys last r.begun r0) 0
+    (root_born r0.words (own_words r.begun) r0.stages r0.invariant.words (same_card keys last r.begun r0)) path x leads) inner)
+  where
+    last : ℕ
+    last = last_card start cards
+
+    r0 : HasMachine keys last r.begun
+    r0 = reached_kept keys start last r.begun (record { cards = cards; all = refl; first = r.opened; starts = r.starts; turns = r.before; run = r.led })
+
+    at : Amid keys last r.begun r0 r0.stages r0.invariant r.now (λ d. run_wins last r.begun r.turns r.now r.run d) (won_in is_flag last r.begun r.turns r.now r.run)
+    at =
+        let same : 0 + won_in is_flag last r.begun r.turns r.now r.run ≡ won_in is_flag last r.begun r.turns r.now r.run = omega arith in
+        subst (Amid keys last r.begun r0 r0.stages r0.invariant r.now (λ d. run_wins last r.begun r.turns r.now r.run d)) same
+        (run_amid keys last r.begun r0 r0.stages r0.invariant r.begun (λ d. []) 0 (amid_first keys last r.begun r0 r0.stages r0.invariant) (λ d. refl)
+        r.turns r.now r.run r.unchanged)

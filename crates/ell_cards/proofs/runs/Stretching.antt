@@ -116,6 +116,21 @@ and_false : (a b : Bool) → b ≡ false → (a && b) ≡ false
 and_false true b e = e
 and_false false b e = refl
 
+unless_both : (b : Bool) (n : ℕ) → (if b then 1 else 0) + n ≡ 0 → (b ≡ false) × (n ≡ 0)
+unless_both true n e = absurd (omega arith)
+unless_both false n e = (refl, omega arith)
+
+-- in a run in which no exchange of a child is won, none is won for any card
+pub quiet_run : (cards : ℕ) (s : TableState) (turns : List Turn) (s' : TableState) (run : TableRun cards s turns s') → won_in is_change cards s turns s' run ≡ 0
+    → (d : ℕ) → sum_by child_changes (run_wins cards s turns s' run d) ≡ 0
+quiet_run cards s [] s' run none d = refl
+quiet_run cards s (t ∷ ts) s' run none d =
+    let still = unless_both (wins is_change s t) (won_in is_change cards run.0 ts s' run.2) none in
+    let first = turn_unchanged s t still.0 d in
+    let rest = quiet_run cards run.0 ts s' run.2 still.1 d in
+    let parts = sum_append child_changes (turn_wins s t d) (run_wins cards run.0 ts s' run.2 d) in
+    omega arith
+
 module _ (keys : List ℕ) (cards : ℕ) (s0 : TableState) (r0 : HasMachine keys cards s0) (first : Stages)
     (before : Invariant (machine_of_table keys cards s0 r0) first) where
   abbrev pub m0 : Machine
@@ -315,7 +330,7 @@ module _ (keys : List ℕ) (cards : ℕ) (s0 : TableState) (r0 : HasMachine keys
       subst (λ x. Amid x (λ d. won d ++ []) (flags + 0)) (sym run)
       (subst (Amid s (λ d. won d ++ [])) same (subst (λ (w : ℕ → List Kind). Amid s w flags) (λ i d. sym (append-nil (won d)) i) at))
   run_amid s won flags at quiet (t ∷ ts) s' run none =
-      let still = unless (wins is_change s t) (won_in is_change cards run.0 ts s' run.2) none in
+      let still = unless_both (wins is_change s t) (won_in is_change cards run.0 ts s' run.2) none in
       let quiet_turn = turn_unchanged s t still.0 in
       let one = turn_amid s won flags at t run.0 run.1 quiet quiet_turn in
       let sum : (flags + (if wins is_flag s t then 1 else 0)) + won_in is_flag cards run.0 ts s' run.2
@@ -325,7 +340,3 @@ module _ (keys : List ℕ) (cards : ℕ) (s0 : TableState) (r0 : HasMachine keys
       (λ i d. append_assoc (won d) (turn_wins s t d) (run_wins cards run.0 ts s' run.2 d) i)
       (run_amid run.0 (λ d. won d ++ turn_wins s t d) (flags + (if wins is_flag s t then 1 else 0)) one
       (quiet_both s won flags at t run.0 run.1 quiet quiet_turn) ts s' run.2 still.1))
-    where
-      unless : (b : Bool) (n : ℕ) → (if b then 1 else 0) + n ≡ 0 → (b ≡ false) × (n ≡ 0)
-      unless true n e = absurd (omega arith)
-      unless false n e = (refl, omega arith)
