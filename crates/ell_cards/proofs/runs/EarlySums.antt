@@ -1,10 +1,9 @@
 use Rattle.std.proofs.Common.{◌≡◌, ◌≢◌, ◌⊎◌, ℕ, zero, suc, ◌+◌, ◌<◌, ◌≤◌, ◌==◌, Bool, true, false, inl, inr, refl, sym, ap, ◌∙◌, subst, eq-eqb, arith}
-use Rattle.std.proofs.lemmas.Bool.{cases_eq, cases_lt, false≢true}
+use Rattle.std.proofs.lemmas.Bool.{cases_eq}
 use Rattle.ell_core.specs.declared.event.Event.{Event}
 use Rattle.ell_core.specs.declared.event.Stepped.{Stepped}
-use Rattle.ell_core.specs.declared.view.Search.{Search}
 use Rattle.ell_core.specs.state.Words.{Words, put}
-use Rattle.ell_core.specs.state.Machine.{Worker, Machine, no_search, with_scene}
+use Rattle.ell_core.specs.state.Machine.{Worker, Machine, no_search}
 use Rattle.ell_core.specs.acts.Events.{Steps}
 use Rattle.ell_core.specs.history.Stages.{Stages}
 use Rattle.ell_core.specs.history.Invariant.{Invariant}

@@ -1,6 +1,5 @@
-use Rattle.std.proofs.Common.{◌≡◌, ◌≢◌, ◌⊎◌, ℕ, zero, suc, ◌+◌, ◌*◌, ◌<◌, ◌≤◌, ◌==◌, ◌&&◌, ◌||◌, not, nat_lt, if◌then◌else◌, Bool, true, false, Option, Some, None, is_some, List, [], ◌∷◌, ◌++◌, length, length-append, inl, inr, refl, sym, ap, ◌∙◌, subst, eq-eqb, eqb-true, arith}
-use Rattle.std.proofs.lemmas.Bool.{cases_order, cases_lt, false≢true}
-use mathlib.Core.Option.{some}
+use Rattle.std.proofs.Common.{◌≡◌, ◌⊎◌, ℕ, zero, suc, ◌+◌, ◌*◌, ◌<◌, ◌≤◌, ◌==◌, ◌&&◌, ◌||◌, not, nat_lt, Bool, true, false, Option, Some, None, is_some, List, [], ◌∷◌, ◌++◌, length, length-append, inl, inr, refl, sym, ap, ◌∙◌, subst, eq-eqb, eqb-true, arith}
+use Rattle.std.proofs.lemmas.Bool.{cases_order, false≢true}
 use lib.ListN.{get_elem?}
 use Rattle.ell_word.specs.Node.{IsInternal}
 use Rattle.ell_word.specs.Word.{unpacked}
@@ -8,15 +7,13 @@ use Rattle.ell_word.specs.declared.gate.Kind.{Kind}
 use Rattle.ell_core.specs.state.Words.{Words}
 use Rattle.ell_core.specs.declared.view.Search.{Search}
 use Rattle.ell_ops.specs.declared.op.Op.{Op}
-use Rattle.ell_core.specs.state.Machine.{Worker, Machine, worker_of}
+use Rattle.ell_core.specs.state.Machine.{Worker, worker_of}
 use Rattle.ell_core.specs.state.Opening.{last_card}
-use Rattle.ell_core.specs.tree.Tree.{Leads, Below, IsLawful}
-use Rattle.ell_core.specs.history.Stages.{Stage, Stages, is_insert, is_delete, is_claimed, is_changed, is_cut, insert_won, insert_open, insert_over, delete_won, delete_open, delete_over, is_backed, is_marked}
+use Rattle.ell_core.specs.tree.Tree.{Leads, IsLawful}
+use Rattle.ell_core.specs.history.Stages.{Stage, Stages, is_insert, is_delete, is_claimed, is_changed, is_cut, insert_won, insert_open, delete_won, delete_open, is_backed, is_marked}
 use Rattle.ell_core.specs.history.Invariant.{Invariant, DeleteCard}
-use Rattle.ell_core.specs.history.Later.{StagesLater, wins_of}
-use Rattle.ell_core.proofs.outcomes.Decide.{some_not_none}
 use Rattle.ell_core.proofs.words.CleanWords.{clean_remainder}
-use Rattle.ell_core.proofs.tree.Paths.{Leads-append, Leads-same, Leads-split}
+use Rattle.ell_core.proofs.tree.Paths.{Leads-append, Leads-same}
 use Rattle.ell_core.proofs.tree.Reached.{Spans-reached}
 use Rattle.ell_core.proofs.stages.Sums.{child_changes, sum_by, sum_same, sum-changed, cut-sum, was_flagged}
 use Rattle.ell_core.proofs.stages.Order.{delete-claimed}
@@ -29,15 +26,13 @@ use Rattle.ell_cards.specs.States.{TableState, seat_worker}
 use Rattle.ell_cards.specs.Machines.{HasMachine}
 use Rattle.ell_cards.specs.Laws.{machine_of_table}
 use Rattle.ell_cards.specs.TurnEffects.{own_words, run_wins}
-use Rattle.ell_cards.specs.Starts.{IsReached}
-use Rattle.ell_cards.specs.Stretches.{is_flag, won_in, HasHeight, Stretch, passes_at_work, FewFlagsWithoutAChange}
+use Rattle.ell_cards.specs.Stretches.{is_flag, won_in, HasHeight, passes_at_work, FewFlagsWithoutAChange}
 use Rattle.ell_cards.proofs.own_words.OwnTree.{leads_on, root_born}
 use Rattle.ell_cards.proofs.own_words.OwnWords.{same_card, machine_is_sound}
 use Rattle.ell_cards.proofs.runs.Reaching.{reached_kept}
 use Rattle.ell_cards.proofs.runs.Abandoned.{hand_there}
-use Rattle.ell_cards.proofs.runs.HowMany.{one, many_where, many_shared, held_by, held_there, hands_hold, sum_of, sum_both}
-use Rattle.ell_cards.proofs.runs.EarlySums.{early_sum}
-use Rattle.ell_cards.proofs.runs.Stretching.{m0, Amid, amid_first, run_amid, quiet_run, unchanged_since, flag_since, Places}
+use Rattle.ell_cards.proofs.runs.HowMany.{one, many_shared, held_by, held_there, hands_hold, sum_of, sum_both}
+use Rattle.ell_cards.proofs.runs.Stretching.{Amid, amid_first, run_amid, quiet_run, unchanged_since, flag_since, Places}
 use Rattle.ell_cards.proofs.runs.Counting.{one_to_one, on_levels, sum_most, sum_is, none_so, before_last_same}
 
 insert_cases : (s : Stage) → insert_won s ≡ true → (insert_open s ≡ true) ⊎ (is_changed s ≡ true)

@@ -1,4 +1,4 @@
-use Rattle.std.proofs.Common.{◌≡◌, ◌⊎◌, ℕ, zero, suc, ◌+◌, ◌<◌, ◌≤◌, ◌&&◌, not, if◌then◌else◌, Bool, true, false, Some, List, [], ◌∷◌, ◌++◌, length, inl, inr, refl, sym, ap, ◌∙◌, subst, arith}
+use Rattle.std.proofs.Common.{◌≡◌, ◌⊎◌, ℕ, ◌+◌, ◌<◌, ◌≤◌, ◌&&◌, not, if◌then◌else◌, Bool, true, false, List, [], ◌∷◌, ◌++◌, length, inl, inr, refl, sym, ap, ◌∙◌, subst, arith}
 use Rattle.std.proofs.lemmas.Bool.{false≢true, false_from_ne_true}
 use Rattle.std.proofs.lemmas.List.{append_assoc, append-nil}
 use Rattle.ell_word.specs.Node.{card}
@@ -7,14 +7,14 @@ use Rattle.ell_word.specs.declared.gate.Kind.{Kind}
 use Rattle.ell_core.specs.declared.fact.Fact.TheVariants.{IFlagged, DFlagged, Marked}
 use Rattle.ell_core.specs.state.Words.{Words}
 use Rattle.ell_core.specs.state.Machine.{Machine}
-use Rattle.ell_core.specs.history.Stages.{Stage, Stages, Born, is_start, is_born, is_insert, is_delete, is_changed, is_cut, insert_won, delete_won, is_backed, is_marked, is_claimed, delete_waits, delete_open}
+use Rattle.ell_core.specs.history.Stages.{Stage, Stages, Born, is_start, is_born, is_insert, is_delete, is_changed, is_cut, insert_won, delete_won, delete_waits, delete_open}
 use Rattle.ell_core.specs.history.Invariant.{Invariant, IsIn, delete_side}
 use Rattle.ell_core.specs.history.Later.{WordsLater, StagesLater, wins_of}
 use Rattle.ell_core.proofs.runs.Chains.{words_later, stages_later}
 use Rattle.ell_core.proofs.words.Later.{words_same}
 use Rattle.ell_core.proofs.stages.Advances.{stages_same, wins_same}
 use Rattle.ell_core.proofs.stages.Order.{delete-claimed, insert-claimed, born-claimed, insert_won-insert, delete_won-delete, marked-delete}
-use Rattle.ell_core.proofs.stages.Sums.{child_changes, all_flags, sum_by, sum_append, sum_same, changed-sum, sum-changed, cut-sum, was_flagged, unflagged-sum, sum-flagged, flagged-sum, flags-once, flagged_claimed}
+use Rattle.ell_core.proofs.stages.Sums.{child_changes, all_flags, sum_by, sum_append, sum_same, changed-sum, sum-changed, was_flagged, unflagged-sum, sum-flagged, flags-once, flagged_claimed}
 use Rattle.ell_core.proofs.following.Backtracks.{Backtracks, IsTakenBack, Keeps, none_back, backed-delete, backed-won}
 use Rattle.ell_core.proofs.following.SetSince.{IsSetSince, insert_flag, delete_flag, mark, set_since}
 use Rattle.ell_cards.specs.Contention.{how_many}
@@ -27,7 +27,7 @@ use Rattle.ell_cards.specs.Stretches.{is_flag, is_change, wins, won_in}
 use Rattle.ell_cards.proofs.runs.GoingOn.{Went, Turned, turn_turns, cleans_chain}
 use Rattle.ell_cards.proofs.runs.EarlySums.{early_sum}
 use Rattle.ell_cards.proofs.runs.HowMany.{many_where, many_most}
-use Rattle.ell_cards.proofs.runs.FlagTurns.{turn_unchanged, FlagWon, turn_flags}
+use Rattle.ell_cards.proofs.runs.FlagTurns.{turn_unchanged, turn_flags}
 
 -- whether a card's flag was won since
 abbrev pub flag_since : Stages → Stages → ℕ → Bool

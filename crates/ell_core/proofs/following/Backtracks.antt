@@ -1,4 +1,4 @@
-use Rattle.std.proofs.Common.{◌≡◌, ◌≢◌, ◌⊎◌, ℕ, zero, suc, ◌+◌, ◌<◌, ◌≤◌, ◌==◌, if◌then◌else◌, Bool, true, false, Option, Some, None, List, ◌∷◌, [], inl, inr, refl, sym, ap, ◌∙◌, subst, eqb-true, arith}
+use Rattle.std.proofs.Common.{◌≡◌, ◌⊎◌, ℕ, zero, suc, ◌<◌, ◌≤◌, ◌==◌, if◌then◌else◌, Bool, true, false, Option, Some, None, ◌∷◌, [], inl, inr, refl, sym, ap, ◌∙◌, subst, eqb-true, arith}
 use Rattle.std.proofs.lemmas.Bool.{cases_eq, false≢true}
 use Rattle.std.proofs.lemmas.Option.{same_Some}
 use Rattle.ell_ops.specs.declared.op.Op.{Op}
@@ -9,15 +9,15 @@ use Rattle.ell_core.specs.declared.event.Act.{Act}
 use Rattle.ell_core.specs.declared.event.Act.TheVariants as act
 use Rattle.ell_core.specs.declared.event.Event.{Event}
 use Rattle.ell_core.specs.declared.event.Stepped.{Stepped}
-use Rattle.ell_core.specs.declared.event.Stepped.TheVariants.{Won, Lost}
+use Rattle.ell_core.specs.declared.event.Stepped.TheVariants.{Won}
 use Rattle.ell_core.specs.declared.fact.Fact.{Fact}
 use Rattle.ell_core.specs.declared.fact.Fact.TheVariants.{IFlagged, DFlagged, DOver, Cut}
 use Rattle.ell_core.specs.declared.view.Search.{Search}
 use Rattle.ell_core.specs.declared.view.Seen.{Seen}
 use Rattle.ell_core.specs.state.Words.{Words, put}
 use Rattle.ell_core.specs.state.Machine.{Worker, Machine, Scene, scene, with_scene}
-use Rattle.ell_core.specs.state.Cards.{iflag, dflag, clean, child_for}
-use Rattle.ell_core.specs.acts.Searching.{IsClean, with_read, gone_down}
+use Rattle.ell_core.specs.state.Cards.{dflag, clean, child_for}
+use Rattle.ell_core.specs.acts.Searching.{with_read, gone_down}
 use Rattle.ell_core.specs.acts.Exchanges.{flagged_worker, won_or_lost}
 use Rattle.ell_core.specs.acts.Events.{Row, Steps}
 use Rattle.ell_core.specs.acts.Wins.{win_for, wins_by}

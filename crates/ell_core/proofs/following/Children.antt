@@ -1,5 +1,5 @@
-use Rattle.std.proofs.Common.{◌≡◌, ◌⊎◌, ℕ, ◌+◌, ◌<◌, ◌==◌, if◌then◌else◌, Bool, true, false, Some, [], ◌∷◌, inl, inr, refl, sym, ap, ◌∙◌, subst, eq-eqb, arith}
-use Rattle.ell_word.specs.Node.{card, internal}
+use Rattle.std.proofs.Common.{◌≡◌, ℕ, ◌<◌, ◌==◌, if◌then◌else◌, Bool, true, false, [], ◌∷◌, inl, inr, refl, ap, ◌∙◌, subst, eq-eqb, arith}
+use Rattle.ell_word.specs.Node.{card}
 use Rattle.ell_word.specs.declared.gate.Kind.{Kind}
 use Rattle.ell_word.specs.declared.gate.Kind.TheVariants as kind
 use Rattle.ell_core.specs.declared.event.Act.{Act}

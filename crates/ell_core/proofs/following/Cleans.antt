@@ -155,11 +155,13 @@ pub below_later : (old new : Words) (before after : Stages) → WordsLater old n
     → IsFlaggedAt old before x c → IsFlaggedAt new after x c
 below_later old new before after words more x c h =
     let next = words.next in
-    let low = h.0 in
-    (omega arith, elim h.1 [
-      | inl insert ↦ inl (more.insert c insert.0, (words.info c h.0).p ∙ insert.1)
-      | inr at ↦ inr ((words.info c h.0).gp ∙ at)
-    ])
+    let low = h.0 in (
+      omega arith,
+      elim h.1 [
+        | inl insert ↦ inl (more.insert c insert.0, (words.info c h.0).p ∙ insert.1)
+        | inr at ↦ inr ((words.info c h.0).gp ∙ at)
+      ],
+    )
 
 -- a clean word that is new is of a card that has ended since
 clean_since : (w : Words) (stage : Stages) (old new : Words) (before after : Stages) → StagesLater stage before → WordsLater old new → StagesLater before after

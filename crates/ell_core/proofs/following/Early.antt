@@ -1,4 +1,4 @@
-use Rattle.std.proofs.Common.{◌≡◌, ◌⊎◌, ℕ, zero, suc, ◌+◌, ◌<◌, ◌≤◌, ◌==◌, ◌&&◌, ◌||◌, not, nat_lt, if◌then◌else◌, Bool, true, false, Option, Some, None, inl, inr, refl, sym, ap, ◌∙◌, subst, arith}
+use Rattle.std.proofs.Common.{◌≡◌, ◌⊎◌, ℕ, zero, suc, ◌<◌, ◌≤◌, ◌==◌, ◌&&◌, ◌||◌, not, nat_lt, Bool, true, false, Option, Some, None, inl, inr, refl, sym, ap, ◌∙◌, arith}
 use Rattle.std.proofs.lemmas.Bool.{false≢true}
 use Rattle.ell_ops.specs.declared.op.Op.TheVariants.{Delete}
 use Rattle.ell_core.specs.declared.event.Act.{Act}
@@ -11,11 +11,9 @@ use Rattle.ell_core.specs.state.Words.{Words}
 use Rattle.ell_core.specs.state.Machine.{Machine, Scene, scene, with_scene}
 use Rattle.ell_core.specs.acts.Events.{Row}
 use Rattle.ell_core.specs.acts.Wins.{wins_by}
-use Rattle.ell_core.specs.acts.Searching.{with_read, gone_down}
-use Rattle.ell_core.specs.history.Stages.{Stage, Stages, is_delete, delete_won}
+use Rattle.ell_core.specs.history.Stages.{Stages, is_delete, delete_won}
 use Rattle.ell_core.specs.history.Invariant.{Invariant, DeleteInHand}
 use Rattle.ell_core.specs.history.Later.{Follows}
-use Rattle.ell_core.proofs.outcomes.Decide.{some_not_none}
 use Rattle.ell_core.proofs.stages.Order.{delete-claimed, delete_won-delete}
 use Rattle.ell_core.proofs.stages.Sums.{delete_flags, kind_sum, sum_by, none_won, won-sum, sum-won, sum_same}
 use Rattle.ell_core.proofs.following.Backtracks.{Moves, stays, afresh, nowhere, reads, goes, moves, WinsFlag, act_flag, it_is, flag_nowhere}
@@ -127,8 +125,12 @@ pub data GoesEarly (w0 : Words) (first : Stages) (w : Words) (stage : Stages) (n
 -- an act that may set a delete's flag is of a card in hand, and leaves the search nowhere
 flags_by : (a : Act) (s : Scene) (said : Stepped) (after : Scene) → Row a s said after → 0 < kind_sum delete_flags a
     → (d : ℕ) × (s.worker.card ≡ Some d) × (after.worker.search.node ≡ None)
-flags_by act.DFlag s said after row some = (row.card, row.holds, ap (λ (z : Scene). z.worker.search.node) row.gives
-    ∙ flag_nowhere s.worker (s.words.update row.grandparent.node == row.grandparent.word) (DFlagged row.card) (s.words.update row.grandparent.node))
+flags_by act.DFlag s said after row some = (
+  row.card,
+  row.holds,
+  ap (λ (z : Scene). z.worker.search.node) row.gives
+      ∙ flag_nowhere s.worker (s.words.update row.grandparent.node == row.grandparent.word) (DFlagged row.card) (s.words.update row.grandparent.node),
+)
 flags_by _ s said after row some = absurd (omega arith)
 
 module _ (w0 : Words) (first : Stages) (m : Machine) (stage : Stages) (invariant : Invariant m stage) (up : (x : ℕ) → w0.update x ≤ m.words.update x)

@@ -1,5 +1,4 @@
-use Rattle.std.proofs.Common.{◌≡◌, ◌⊎◌, ℕ, ◌+◌, ◌<◌, ◌≤◌, Bool, true, false, inl, inr, refl, sym, ap, ◌∙◌, arith}
-use Rattle.std.proofs.lemmas.Bool.{false≢true}
+use Rattle.std.proofs.Common.{◌≡◌, ◌⊎◌, ℕ, ◌<◌, ◌≤◌, Bool, true, false, inl, inr, refl, sym, ap, ◌∙◌, arith}
 use Rattle.ell_word.specs.Node.{IsInternal}
 use Rattle.ell_word.specs.Word.{packed, unpacked}
 use Rattle.ell_word.specs.declared.update.State.{State}
@@ -15,7 +14,7 @@ use Rattle.ell_core.specs.history.Later.{WordsLater, StagesLater}
 use Rattle.ell_core.specs.statements.Since.{has_ended, CleansSince}
 use Rattle.ell_core.proofs.words.CleanWords.{clean_remainder}
 use Rattle.ell_core.proofs.words.Packed.{packed_again}
-use Rattle.ell_core.proofs.stages.Order.{insert-claimed, delete-claimed, insert_won-insert, delete_won-delete, marked-delete, changed-insert}
+use Rattle.ell_core.proofs.stages.Order.{insert-claimed, delete-claimed, insert_won-insert, delete_won-delete, marked-delete}
 use Rattle.ell_core.proofs.stages.Ended.{ended_cases}
 
 -- a card has set its flag or its mark at a node since these stages
