@@ -1,18 +1,11 @@
 use Rattle.std.proofs.Common.{◌≡◌, ◌≢◌, ℕ, zero, suc, ◌+◌, ◌*◌, ◌<◌, ◌≤◌, ◌==◌, ◌&&◌, not, Bool, true, false, List, [], ◌∷◌, ◌++◌, length, refl, ap, ◌∙◌, eq-eqb, length-append, inl, inr, arith}
-use Rattle.std.proofs.lemmas.Bool.{cases_eq, false≢true}
+use Rattle.std.proofs.lemmas.Bool.{cases_eq, and_parts, eqb-true}
 use Rattle.ell_cards.specs.Contention.{how_many}
 use Rattle.ell_cards.proofs.runs.HowMany.{one, many_most, sum_of, sum_both}
-
-and_parts : (a b : Bool) → (a && b) ≡ true → (a ≡ true) × (b ≡ true)
-and_parts true b h = (refl, h)
-and_parts false b h = absurd (false≢true h)
 
 -- the same without one number
 abbrev but_one : (ℕ → Bool) → ℕ → ℕ → Bool
 but_one so x e = so e && not (x == e)
-
-eqb-is : (a b : ℕ) → (a == b) ≡ true → a ≡ b
-eqb-is a b h = grind arith
 
 out : (so : ℕ → Bool) (x : ℕ) → but_one so x x ≡ false
 out so x = ap (λ b. so x && not b) (eq-eqb x x refl) ∙ none (so x)
@@ -25,7 +18,7 @@ still : (so : ℕ → Bool) (x e : ℕ) → so e ≡ true → x ≢ e → but_on
 still so x e is other = ap (λ b. b && not (x == e)) is ∙ apart (x == e) refl
   where
     apart : (b : Bool) → (x == e) ≡ b → not b ≡ true
-    apart true h = absurd (other (eqb-is x e h))
+    apart true h = absurd (other (eqb-true x e h))
     apart false h = refl
 
 -- one number more is mapped

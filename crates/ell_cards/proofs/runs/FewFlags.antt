@@ -1,5 +1,5 @@
 use Rattle.std.proofs.Common.{◌≡◌, ◌⊎◌, ℕ, zero, suc, ◌+◌, ◌*◌, ◌<◌, ◌≤◌, ◌==◌, ◌&&◌, ◌||◌, not, nat_lt, Bool, true, false, Option, Some, None, is_some, List, [], ◌∷◌, ◌++◌, length, length-append, inl, inr, refl, sym, ap, ◌∙◌, subst, eq-eqb, eqb-true, arith}
-use Rattle.std.proofs.lemmas.Bool.{cases_order, false≢true}
+use Rattle.std.proofs.lemmas.Bool.{cases_order, false≢true, or_cases, or_left, or_right, and_parts, and_from, not-true, ltb-false}
 use lib.ListN.{get_elem?}
 use Rattle.ell_word.specs.Node.{IsInternal}
 use Rattle.ell_word.specs.Word.{unpacked}
@@ -15,11 +15,12 @@ use Rattle.ell_core.specs.history.Invariant.{Invariant, DeleteCard}
 use Rattle.ell_core.proofs.words.CleanWords.{clean_remainder}
 use Rattle.ell_core.proofs.tree.Paths.{Leads-append, Leads-same}
 use Rattle.ell_core.proofs.tree.Reached.{Spans-reached}
-use Rattle.ell_core.proofs.stages.Sums.{child_changes, sum_by, sum_same, sum-changed, cut-sum, was_flagged}
-use Rattle.ell_core.proofs.stages.Order.{delete-claimed}
-use Rattle.ell_core.proofs.following.Backtracks.{IsTakenBack, backed-delete, backed-won}
+use Rattle.ell_core.proofs.stages.Sums.{child_changes, sum_by, sum_same, sum-changed, cut-sum}
+use Rattle.ell_core.proofs.stages.Flags.{was_flagged, flagged_cases, unflagged_insert, unflagged_delete, is_open, open_cases, open-claimed, insert_stands, delete_stands, marked_stands, backed-won}
+use Rattle.ell_core.proofs.stages.Order.{delete-claimed, insert_won-insert, delete_won-delete, changed-won, changed-insert, cut-marked, cut-delete, marked-won, backed-delete, one_kind}
+use Rattle.ell_core.proofs.following.Backtracks.{IsTakenBack}
 use Rattle.ell_core.proofs.following.SetSince.{IsSetSince, insert_flag, delete_flag, mark}
-use Rattle.ell_core.proofs.following.Early.{is_early, stands_early, search_early, card_early, and_parts, both_true, not_true}
+use Rattle.ell_core.proofs.following.Early.{is_early, stands_early, search_early, card_early}
 use Rattle.ell_cards.specs.declared.view.View.{View}
 use Rattle.ell_cards.specs.Contention.{how_many, cards_in_hand}
 use Rattle.ell_cards.specs.States.{TableState, seat_worker}
@@ -34,76 +35,6 @@ use Rattle.ell_cards.proofs.runs.Abandoned.{hand_there}
 use Rattle.ell_cards.proofs.runs.HowMany.{one, many_shared, held_by, held_there, hands_hold, sum_of, sum_both}
 use Rattle.ell_cards.proofs.runs.Stretching.{Amid, amid_first, run_amid, quiet_run, unchanged_since, flag_since, Places}
 use Rattle.ell_cards.proofs.runs.Counting.{one_to_one, on_levels, sum_most, sum_is, none_so, before_last_same}
-
-insert_cases : (s : Stage) → insert_won s ≡ true → (insert_open s ≡ true) ⊎ (is_changed s ≡ true)
-insert_cases s h = grind arith
-
-delete_cases : (s : Stage) → delete_won s ≡ true → (delete_open s ≡ true) ⊎ ((is_backed s ≡ true) ⊎ (is_cut s ≡ true))
-delete_cases s h = grind arith
-
-mark_cases : (s : Stage) → is_marked s ≡ true → (delete_open s ≡ true) ⊎ (is_cut s ≡ true)
-mark_cases s h = grind arith
-
-changed-won : (s : Stage) → is_changed s ≡ true → insert_won s ≡ true
-changed-won s h = grind arith
-
-cut-won : (s : Stage) → is_cut s ≡ true → delete_won s ≡ true
-cut-won s h = grind arith
-
-cut-marked : (s : Stage) → is_cut s ≡ true → is_marked s ≡ true
-cut-marked s h = grind arith
-
-cut_not_changed : (s after : Stage) → is_delete after ≡ true → is_insert after ≡ true → ⊥
-cut_not_changed s after h g = grind arith
-
-changed-insert : (s : Stage) → is_changed s ≡ true → is_insert s ≡ true
-changed-insert s h = grind arith
-
-cut-delete : (s : Stage) → is_cut s ≡ true → is_delete s ≡ true
-cut-delete s h = grind arith
-
-one_kind : (s : Stage) → insert_won s ≡ true → delete_won s ≡ true → ⊥
-one_kind s h g = grind arith
-
-flagged_cases : (s : Stage) → was_flagged s ≡ true → (insert_won s ≡ true) ⊎ (delete_won s ≡ true)
-flagged_cases s h = grind arith
-
-unflagged_insert : (s : Stage) → was_flagged s ≡ false → insert_won s ≡ false
-unflagged_insert s h = grind arith
-
-unflagged_delete : (s : Stage) → was_flagged s ≡ false → delete_won s ≡ false
-unflagged_delete s h = grind arith
-
--- whether a flag of the card stands
-abbrev is_open : Stage → Bool
-is_open s = insert_open s || delete_open s
-
-open_cases : (s : Stage) → is_open s ≡ true → (insert_open s ≡ true) ⊎ (delete_open s ≡ true)
-open_cases s h = grind arith
-
-insert-open : (s : Stage) → insert_open s ≡ true → is_open s ≡ true
-insert-open s h = grind arith
-
-delete-open : (s : Stage) → delete_open s ≡ true → is_open s ≡ true
-delete-open s h = grind arith
-
-open-claimed : (s : Stage) → is_open s ≡ true → is_claimed s ≡ true
-open-claimed s h = grind arith
-
-or_cases : (a b : Bool) → (a || b) ≡ true → (a ≡ true) ⊎ (b ≡ true)
-or_cases true b h = inl refl
-or_cases false b h = inr h
-
-or_left : (a b : Bool) → a ≡ true → (a || b) ≡ true
-or_left true b h = refl
-or_left false b h = absurd (false≢true h)
-
-or_right : (a b : Bool) → b ≡ true → (a || b) ≡ true
-or_right true b h = refl
-or_right false b h = h
-
-not_lt : (a b : ℕ) → nat_lt a b ≡ false → b ≤ a
-not_lt a b h = grind arith
 
 one_most : (b : Bool) → one b ≤ 1
 one_most true = omega arith
@@ -162,7 +93,7 @@ module _ (keys : List ℕ) (cards : ℕ) (s0 : TableState) (r0 : HasMachine keys
   back c = not (delete_won (first c)) && is_backed (stage c)
 
   taken : (c : ℕ) → back c ≡ true → IsTakenBack first stage c
-  taken c is = let parts = and_parts (not (delete_won (first c))) (is_backed (stage c)) is in (not_true (delete_won (first c)) parts.0, parts.1)
+  taken c is = let parts = and_parts (not (delete_won (first c))) (is_backed (stage c)) is in (not-true (delete_won (first c)) parts.0, parts.1)
 
   -- the card that had set a flag or a mark at its parent
   abbrev hinders : ℕ → ℕ
@@ -203,26 +134,26 @@ module _ (keys : List ℕ) (cards : ℕ) (s0 : TableState) (r0 : HasMachine keys
       let same = sum_same child_changes (first e) (stage e) (won e) (at.went.wins e) (quiet e) in
       let some = cut-sum (stage e) cut in
       elim (sum-changed (first e) (omega arith)) [
-        | inl changed ↦ absurd (cut_not_changed (first e) (stage e) (cut-delete (stage e) cut) (at.went.later.insert e (changed-insert (first e) changed)))
+        | inl changed ↦ absurd (one_kind (stage e) (at.went.later.insert e (changed-insert (first e) changed)) (cut-delete (stage e) cut))
         | inr is ↦ is
       ]
 
   insert_opens : (e : ℕ) → insert_won (first e) ≡ false → insert_won (stage e) ≡ true → is_open (stage e) ≡ true
-  insert_opens e old new = elim (insert_cases (stage e) new) [
-    | inl o ↦ insert-open (stage e) o
+  insert_opens e old new = elim (insert_stands (stage e) new) [
+    | inl stands ↦ stands
     | inr changed ↦ absurd (false≢true (sym old ∙ changed-won (first e) (changed_before e changed)))
   ]
 
   delete_opens : (e : ℕ) → delete_won (first e) ≡ false → delete_won (stage e) ≡ true → (is_open (stage e) ≡ true) ⊎ (back e ≡ true)
-  delete_opens e old new = elim (delete_cases (stage e) new) [
-    | inl o ↦ inl (delete-open (stage e) o)
-    | inr (inl backed) ↦ inr (both_true (not (delete_won (first e))) (is_backed (stage e)) (ap not old) backed)
-    | inr (inr cut) ↦ absurd (false≢true (sym old ∙ cut-won (first e) (cut_before e cut)))
+  delete_opens e old new = elim (delete_stands (stage e) new) [
+    | inl stands ↦ inl stands
+    | inr (inl backed) ↦ inr (and_from (not (delete_won (first e))) (is_backed (stage e)) (ap not old) backed)
+    | inr (inr cut) ↦ absurd (false≢true (sym old ∙ marked-won (first e) (cut-marked (first e) (cut_before e cut))))
   ]
 
   mark_opens : (e : ℕ) → is_marked (first e) ≡ false → is_marked (stage e) ≡ true → is_open (stage e) ≡ true
-  mark_opens e old new = elim (mark_cases (stage e) new) [
-    | inl o ↦ delete-open (stage e) o
+  mark_opens e old new = elim (marked_stands (stage e) new) [
+    | inl stands ↦ stands
     | inr cut ↦ absurd (false≢true (sym old ∙ cut-marked (first e) (cut_before e cut)))
   ]
 
@@ -245,7 +176,7 @@ module _ (keys : List ℕ) (cards : ℕ) (s0 : TableState) (r0 : HasMachine keys
       by c true e =
           let parts = and_parts (not (was_flagged (first c))) (was_flagged (stage c)) e in
           let yes = ap one e in
-          elim (is_there c (not_true (was_flagged (first c)) parts.0) parts.1) [
+          elim (is_there c (not-true (was_flagged (first c)) parts.0) parts.1) [
             | inl stands ↦ (let held = open_held c stands in omega arith)
             | inr is ↦ (let more = ap one is in omega arith)
           ]
@@ -315,8 +246,8 @@ module _ (keys : List ℕ) (cards : ℕ) (s0 : TableState) (r0 : HasMachine keys
 
   one_flag : (e x y : ℕ) → FlagsAt e x → FlagsAt e y → x ≡ y
   one_flag e x y (inl a) (inl b) = sym a.1 ∙ b.1
-  one_flag e x y (inl a) (inr b) = absurd (one_kind (stage e) a.0 b.0)
-  one_flag e x y (inr a) (inl b) = absurd (one_kind (stage e) b.0 a.0)
+  one_flag e x y (inl a) (inr b) = absurd (one_kind (stage e) (insert_won-insert (stage e) a.0) (delete_won-delete (stage e) b.0))
+  one_flag e x y (inr a) (inl b) = absurd (one_kind (stage e) (insert_won-insert (stage e) b.0) (delete_won-delete (stage e) a.0))
   one_flag e x y (inr a) (inr b) = sym a.1 ∙ b.1
 
   flagged_few : how_many n flagged_back ≤ how_many n (λ c. is_open (stage c))
@@ -385,22 +316,22 @@ module _ (keys : List ℕ) (cards : ℕ) (s0 : TableState) (r0 : HasMachine keys
   last_of c false true e f = by (at.set c (taken c parts.0) late)
     where
       parts : (back c ≡ true) × (goes_on c ≡ false)
-      parts = let a = and_parts (back c) (not (goes_on c)) f in (a.0, not_true (goes_on c) a.1)
+      parts = let a = and_parts (back c) (not (goes_on c)) f in (a.0, not-true (goes_on c) a.1)
 
       late : r0.words.update (w.p c) ≤ w.was c
-      late = not_lt (w.was c) (r0.words.update (w.p c)) (is (is_early r0.words (w.p c) (w.was c)) refl)
+      late = ltb-false (w.was c) (r0.words.update (w.p c)) (is (is_early r0.words (w.p c) (w.was c)) refl)
         where
           is : (b : Bool) → is_early r0.words (w.p c) (w.was c) ≡ b → is_early r0.words (w.p c) (w.was c) ≡ false
           is false q = q
           is true q =
               let old = taken c parts.0 in
-              let all = both_true (not (delete_won (first c))) (delete_won (stage c) && is_early r0.words (w.p c) (w.was c)) (ap not old.0)
-              (both_true (delete_won (stage c)) (is_early r0.words (w.p c) (w.was c)) (backed-won (stage c) old.1) q) in
+              let all = and_from (not (delete_won (first c))) (delete_won (stage c) && is_early r0.words (w.p c) (w.was c)) (ap not old.0)
+              (and_from (delete_won (stage c)) (is_early r0.words (w.p c) (w.was c)) (backed-won (stage c) old.1) q) in
               absurd (false≢true (sym e ∙ all))
 
       counts_mark : is_open (stage (hinders c)) ≡ true → w.p (hinders c) ≡ w.p c → one (chain zero c) ≤ one (early_card c) + (one (marked_back c) + one (flagged_back c))
       counts_mark stands place =
-          let is = both_true (back c) (marks_there c) parts.0 (both_true (is_open (stage (hinders c))) (w.p (hinders c) == w.p c) stands (eq-eqb (w.p (hinders c)) (w.p c) place)) in
+          let is = and_from (back c) (marks_there c) parts.0 (and_from (is_open (stage (hinders c))) (w.p (hinders c) == w.p c) stands (eq-eqb (w.p (hinders c)) (w.p c) place)) in
           let yes = ap one is in
           let most = one_most (chain zero c) in
           omega arith
@@ -409,7 +340,7 @@ module _ (keys : List ℕ) (cards : ℕ) (s0 : TableState) (r0 : HasMachine keys
           → ((insert_won (stage (hinders c)) && (w.p (hinders c) == w.p c)) || (delete_won (stage (hinders c)) && (w.gp (hinders c) == w.p c))) ≡ true
           → one (chain zero c) ≤ one (early_card c) + (one (marked_back c) + one (flagged_back c))
       counts_flag stands place =
-          let is = both_true (back c) (flags_there c) parts.0 (both_true (is_open (stage (hinders c)))
+          let is = and_from (back c) (flags_there c) parts.0 (and_from (is_open (stage (hinders c)))
           ((insert_won (stage (hinders c)) && (w.p (hinders c) == w.p c)) || (delete_won (stage (hinders c)) && (w.gp (hinders c) == w.p c))) stands place) in
           let yes = ap one is in
           let most = one_most (chain zero c) in
@@ -418,12 +349,12 @@ module _ (keys : List ℕ) (cards : ℕ) (s0 : TableState) (r0 : HasMachine keys
       by : IsSetSince first w stage (hinders c) (w.p c) → one (chain zero c) ≤ one (early_card c) + (one (marked_back c) + one (flagged_back c))
       by (insert_flag old new place) = counts_flag (insert_opens (hinders c) old new)
           (or_left (insert_won (stage (hinders c)) && (w.p (hinders c) == w.p c)) (delete_won (stage (hinders c)) && (w.gp (hinders c) == w.p c))
-          (both_true (insert_won (stage (hinders c))) (w.p (hinders c) == w.p c) new (eq-eqb (w.p (hinders c)) (w.p c) place)))
+          (and_from (insert_won (stage (hinders c))) (w.p (hinders c) == w.p c) new (eq-eqb (w.p (hinders c)) (w.p c) place)))
       by (delete_flag old new place) = elim (delete_opens (hinders c) old new) [
         | inl stands ↦ counts_flag stands
             (or_right (insert_won (stage (hinders c)) && (w.p (hinders c) == w.p c)) (delete_won (stage (hinders c)) && (w.gp (hinders c) == w.p c))
-            (both_true (delete_won (stage (hinders c))) (w.gp (hinders c) == w.p c) new (eq-eqb (w.gp (hinders c)) (w.p c) place)))
-        | inr is ↦ absurd (false≢true (sym parts.1 ∙ both_true (back (hinders c)) (w.gp (hinders c) == w.p c) is (eq-eqb (w.gp (hinders c)) (w.p c) place)))
+            (and_from (delete_won (stage (hinders c))) (w.gp (hinders c) == w.p c) new (eq-eqb (w.gp (hinders c)) (w.p c) place)))
+        | inr is ↦ absurd (false≢true (sym parts.1 ∙ and_from (back (hinders c)) (w.gp (hinders c) == w.p c) is (eq-eqb (w.gp (hinders c)) (w.p c) place)))
       ]
       by (mark old new place) = counts_mark (mark_opens (hinders c) old new) place
 
@@ -455,14 +386,14 @@ module _ (keys : List ℕ) (cards : ℕ) (s0 : TableState) (r0 : HasMachine keys
           → (k : ℕ) × (length more + k ≤ h) × (chain k (hinders c) ≡ true)) → (k : ℕ) × (length path + k ≤ h) × (chain k c ≡ true)
       by false e rest =
           let most = height path (w.gp c) leads (says c is).grandparent.inner in
-          (0, omega arith, both_true (back c) (not (goes_on c)) is (ap not e))
+          (0, omega arith, and_from (back c) (not (goes_on c)) is (ap not e))
       by true e rest =
           let a = goes_parts c e in
           let longer = length-append path (place.right ∷ []) in
           let down = Leads-append r0.words 0 (w.gp c) (w.p c) path (place.right ∷ []) leads ((says c is).grandparent.inner, sym place.child) in
           let found = rest (path ++ place.right ∷ []) (subst (Leads r0.words 0 (path ++ place.right ∷ [])) (sym a.1) down) (omega arith) a.0 in
           let up = found.1 in
-          (suc found.0, omega arith, both_true (back c) (goes_on c && chain found.0 (hinders c)) is (both_true (goes_on c) (chain found.0 (hinders c)) e found.2))
+          (suc found.0, omega arith, and_from (back c) (goes_on c && chain found.0 (hinders c)) is (and_from (goes_on c) (chain found.0 (hinders c)) e found.2))
 
   -- what was read before the stretch is of a pass that was at work when it began
   early_few : how_many n early_card ≤ passes_at_work s0.views

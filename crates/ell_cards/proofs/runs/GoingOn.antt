@@ -1,4 +1,4 @@
-use Rattle.std.proofs.Common.{◌≡◌, ◌⊎◌, ℕ, ◌<◌, ◌≤◌, ◌==◌, if◌then◌else◌, Bool, true, false, Option, Some, None, List, [], ◌∷◌, ◌++◌, refl, sym, ap, ◌∙◌, subst, inl, inr, arith}
+use Rattle.std.proofs.Common.{◌≡◌, ◌+◌, ◌⊎◌, ℕ, ◌<◌, ◌≤◌, ◌==◌, if◌then◌else◌, Bool, true, false, Option, Some, None, List, [], ◌∷◌, ◌++◌, refl, sym, ap, ◌∙◌, subst, inl, inr, arith}
 use Rattle.std.proofs.lemmas.Bool.{cases_eq, cases_lt}
 use Rattle.ell_core.specs.statements.Since.{CleansSince}
 use Rattle.ell_core.proofs.stages.Ended.{ends_last, unended_before}
@@ -62,7 +62,30 @@ pub record Went (w : Words) (stage : Stages) (won : ℕ → List Kind) (m' : Mac
   pub wins : (d : ℕ) → wins_of (stages d) ≡ wins_of (stage d) ++ won d
   pub cleans : CleansSince w stage m'.words stages
 
--- nothing was won where the words are the same
+-- nothing was won where the machine is the same
+abbrev pub went_still : (m : Machine) (stage : Stages) → Invariant m stage → Went m.words stage (λ d. []) m
+went_still m stage holds = record {
+  stages = stage;
+  invariant = holds;
+  words = words_same m.words;
+  later = stages_same stage;
+  wins = λ d. wins_same (stage d);
+  cleans = λ x c rose now some. absurd (omega arith);
+}
+
+-- what was won first, and then
+abbrev pub went_after : (w : Words) (stage : Stages) (won : ℕ → List Kind) (m : Machine) (more : ℕ → List Kind) (m' : Machine) → (at : Went w stage won m)
+    → Went m.words at.stages more m' → Went w stage (λ d. won d ++ more d) m'
+went_after w stage won m more m' at goes = record {
+  stages = goes.stages;
+  invariant = goes.invariant;
+  words = words_later w m.words m'.words at.words goes.words;
+  later = stages_later stage at.stages goes.stages at.later goes.later;
+  wins = λ d. goes.wins d ∙ (ap (λ ks. ks ++ more d) (at.wins d) ∙ append_assoc (wins_of (stage d)) (won d) (more d));
+  cleans = cleans_chain w stage m.words at.stages m'.words goes.stages at.later goes.later goes.words at.cleans goes.cleans;
+}
+
+-- nor where the words are the same
 pub went_nowhere : (m : Machine) (stage : Stages) (m' : Machine) → Invariant m' stage → m'.words ≡ m.words → Went m.words stage (λ d. []) m'
 went_nowhere m stage m' holds is = record {
   stages = stage;
@@ -102,14 +125,7 @@ module _ (m : Machine) (stage : Stages) (holds : Invariant m stage) (i : ℕ) (m
 
   rests : m' ≡ m → Turned m stage (λ d. []) m'
   rests is = subst (λ (n : Machine). Turned m stage (λ d. []) n) (sym is) (record {
-    went = record {
-      stages = stage;
-      invariant = holds;
-      words = words_same m.words;
-      later = stages_same stage;
-      wins = λ d. wins_same (stage d);
-      cleans = λ x c rose now some. absurd (omega arith);
-    };
+    went = went_still m stage holds;
     keeps = λ first old. rests_keep first m.words stage m.worker m.worker (λ j. inr refl) old;
     children = λ none x right low. refl;
     early = λ n w0 first up. rests_fall n w0 first m.words stage m.count m.worker m.worker (λ j. inr refl);
@@ -185,14 +201,7 @@ module _ (keys : List ℕ) (cards : ℕ) where
 
   splits : (m : Machine) (stage : Stages) (i : ℕ) (m' : Machine) → Invariant m stage → (split : Split m i m') → Turned m stage (λ d. []) m'
   splits m stage i m' holds split = subst (λ (n : Machine). Invariant n stage → Turned m stage (λ d. []) n) (sym split.gives) (λ after. record {
-    went = record {
-      stages = stage;
-      invariant = after;
-      words = words_same m.words;
-      later = stages_same stage;
-      wins = λ d. wins_same (stage d);
-      cleans = λ x c rose now some. absurd (omega arith);
-    };
+    went = went_still (record m { worker = put (put m.worker i split.left) m.count split.right; count = m.count + 1 }) stage after;
     keeps = λ first old. rests_keep first m.words stage m.worker (put (put m.worker i split.left) m.count split.right)
         (λ j. none_parent (put (put m.worker i split.left) m.count split.right j).search (split_rests m i m' split j)) old;
     children = λ none x right low. refl;
@@ -202,14 +211,7 @@ module _ (keys : List ℕ) (cards : ℕ) where
 
   joins : (m : Machine) (stage : Stages) (i k : ℕ) (m' : Machine) → Invariant m stage → (join : Join m i k m') → Turned m stage (λ d. []) m'
   joins m stage i k m' holds join = subst (λ (n : Machine). Invariant n stage → Turned m stage (λ d. []) n) (sym join.gives) (λ after. record {
-    went = record {
-      stages = stage;
-      invariant = after;
-      words = words_same m.words;
-      later = stages_same stage;
-      wins = λ d. wins_same (stage d);
-      cleans = λ x c rose now some. absurd (omega arith);
-    };
+    went = went_still (record m { worker = put (put m.worker i join.both) k nobody }) stage after;
     keeps = λ first old. rests_keep first m.words stage m.worker (put (put m.worker i join.both) k nobody)
         (λ j. none_parent (put (put m.worker i join.both) k nobody j).search (join_rests m i k m' join j)) old;
     children = λ none x right low. refl;
@@ -232,11 +234,6 @@ module _ (keys : List ℕ) (cards : ℕ) where
       let turn = turn_lawful keys cards s r (Joins seat other) s' h in
       (turn.0, joins (machine_of_table keys cards s r) stage seat other (machine_of_table keys cards s' turn.0) holds turn.1.machine)
 
-  -- the wins of a turn
-  turn_goes : (s : TableState) (r : HasMachine keys cards s) (stage : Stages) → Invariant (machine_of_table keys cards s r) stage → (t : Turn) (s' : TableState)
-      → TableTurns cards s t s' → (k : HasMachine keys cards s') × Went r.words stage (turn_wins s t) (machine_of_table keys cards s' k)
-  turn_goes s r stage holds t s' h = let turn = turn_turns s r stage holds t s' h in (turn.0, turn.1.went)
-
   -- what a run makes of the machine
   pub run_goes : (s : TableState) (r : HasMachine keys cards s) (stage : Stages) → Invariant (machine_of_table keys cards s r) stage → (turns : List Turn) (s' : TableState)
       → (run : TableRun cards s turns s')
@@ -245,17 +242,7 @@ module _ (keys : List ℕ) (cards : ℕ) where
       subst (λ x. (k : HasMachine keys cards x) × Went r.words stage (λ d. []) (machine_of_table keys cards x k)) (sym run)
       (r, went_nowhere (machine_of_table keys cards s r) stage (machine_of_table keys cards s r) holds refl)
   run_goes s r stage holds (t ∷ ts) s' run =
-      let first = turn_goes s r stage holds t run.0 run.1 in
-      let rest = run_goes run.0 first.0 first.1.stages first.1.invariant ts s' run.2 in (
-        rest.0,
-        record {
-          stages = rest.1.stages;
-          invariant = rest.1.invariant;
-          words = words_later r.words first.0.words rest.0.words first.1.words rest.1.words;
-          later = stages_later stage first.1.stages rest.1.stages first.1.later rest.1.later;
-          wins = λ d. rest.1.wins d
-              ∙ (ap (λ ks. ks ++ run_wins cards run.0 ts s' run.2 d) (first.1.wins d)
-              ∙ append_assoc (wins_of (stage d)) (turn_wins s t d) (run_wins cards run.0 ts s' run.2 d));
-          cleans = cleans_chain r.words stage first.0.words first.1.stages rest.0.words rest.1.stages first.1.later rest.1.later rest.1.words first.1.cleans rest.1.cleans;
-        },
-      )
+      let first = turn_turns s r stage holds t run.0 run.1 in
+      let rest = run_goes run.0 first.0 first.1.went.stages first.1.went.invariant ts s' run.2 in
+      (rest.0, went_after r.words stage (turn_wins s t) (machine_of_table keys cards run.0 first.0) (run_wins cards run.0 ts s' run.2)
+      (machine_of_table keys cards s' rest.0) first.1.went rest.1)

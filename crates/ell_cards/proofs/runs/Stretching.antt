@@ -1,5 +1,5 @@
 use Rattle.std.proofs.Common.{◌≡◌, ◌⊎◌, ℕ, ◌+◌, ◌<◌, ◌≤◌, ◌&&◌, not, if◌then◌else◌, Bool, true, false, List, [], ◌∷◌, ◌++◌, length, inl, inr, refl, sym, ap, ◌∙◌, subst, arith}
-use Rattle.std.proofs.lemmas.Bool.{false≢true, false_from_ne_true}
+use Rattle.std.proofs.lemmas.Bool.{false≢true, false_from_ne_true, and_from, and_right, not_from_false}
 use Rattle.std.proofs.lemmas.List.{append_assoc, append-nil}
 use Rattle.ell_word.specs.Node.{card}
 use Rattle.ell_word.specs.Word.{unpacked}
@@ -13,9 +13,11 @@ use Rattle.ell_core.specs.history.Later.{WordsLater, StagesLater, wins_of}
 use Rattle.ell_core.proofs.runs.Chains.{words_later, stages_later}
 use Rattle.ell_core.proofs.words.Later.{words_same}
 use Rattle.ell_core.proofs.stages.Advances.{stages_same, wins_same}
-use Rattle.ell_core.proofs.stages.Order.{delete-claimed, insert-claimed, born-claimed, insert_won-insert, delete_won-delete, marked-delete}
-use Rattle.ell_core.proofs.stages.Sums.{child_changes, all_flags, sum_by, sum_append, sum_same, changed-sum, sum-changed, was_flagged, unflagged-sum, sum-flagged, flags-once, flagged_claimed}
-use Rattle.ell_core.proofs.following.Backtracks.{Backtracks, IsTakenBack, Keeps, none_back, backed-delete, backed-won}
+use Rattle.ell_core.proofs.stages.Order.{delete-claimed, insert-claimed, born-claimed, insert_won-insert, delete_won-delete, delete_waits-delete, delete_waits-open, changed-insert, cut-delete, marked-delete, backed-delete, one_kind}
+use Rattle.ell_core.proofs.stages.Sums.{child_changes, all_flags, sum_by, sum_append, sum_same, changed-sum, sum-changed, unflagged-sum, sum-flagged, flags-once}
+use Rattle.ell_core.proofs.stages.Flags.{was_flagged, flagged_cases, insert-flagged, delete-flagged, flagged-claimed, born_cases, changed-born, backed-won}
+use Rattle.ell_core.proofs.stages.Waiting.{start-born}
+use Rattle.ell_core.proofs.following.Backtracks.{Backtracks, IsTakenBack, Keeps, none_back}
 use Rattle.ell_core.proofs.following.SetSince.{IsSetSince, insert_flag, delete_flag, mark, set_since}
 use Rattle.ell_cards.specs.Contention.{how_many}
 use Rattle.ell_cards.specs.States.{TableState}
@@ -24,7 +26,7 @@ use Rattle.ell_cards.specs.Laws.{machine_of_table}
 use Rattle.ell_cards.specs.Turns.{Turn, TableTurns, TableRun}
 use Rattle.ell_cards.specs.TurnEffects.{turn_wins, run_wins}
 use Rattle.ell_cards.specs.Stretches.{is_flag, is_change, wins, won_in}
-use Rattle.ell_cards.proofs.runs.GoingOn.{Went, Turned, turn_turns, cleans_chain}
+use Rattle.ell_cards.proofs.runs.GoingOn.{Went, went_still, went_after, Turned, turn_turns}
 use Rattle.ell_cards.proofs.runs.EarlySums.{early_sum}
 use Rattle.ell_cards.proofs.runs.HowMany.{many_where, many_most}
 use Rattle.ell_cards.proofs.runs.FlagTurns.{turn_unchanged, turn_flags}
@@ -32,36 +34,6 @@ use Rattle.ell_cards.proofs.runs.FlagTurns.{turn_unchanged, turn_flags}
 -- whether a card's flag was won since
 abbrev pub flag_since : Stages → Stages → ℕ → Bool
 flag_since first stage c = not (was_flagged (first c)) && was_flagged (stage c)
-
-insert_not_cut : (s : Stage) → is_insert s ≡ true → is_delete s ≡ true → ⊥
-insert_not_cut s h g = grind arith
-
-changed-insert : (s : Stage) → is_changed s ≡ true → is_insert s ≡ true
-changed-insert s h = grind arith
-
-cut-delete : (s : Stage) → is_cut s ≡ true → is_delete s ≡ true
-cut-delete s h = grind arith
-
-born_cases : (s : Stage) → is_born s ≡ true → (is_start s ≡ true) ⊎ (is_changed s ≡ true)
-born_cases s h = grind arith
-
-start-born : (s : Stage) → is_start s ≡ true → is_born s ≡ true
-start-born s h = grind arith
-
-changed-born : (s : Stage) → is_changed s ≡ true → is_born s ≡ true
-changed-born s h = grind arith
-
-waits-delete : (s : Stage) → delete_waits s ≡ true → is_delete s ≡ true
-waits-delete s h = grind arith
-
-flagged_cases : (s : Stage) → was_flagged s ≡ true → (insert_won s ≡ true) ⊎ (delete_won s ≡ true)
-flagged_cases s h = grind arith
-
-insert-flagged : (s : Stage) → insert_won s ≡ true → was_flagged s ≡ true
-insert-flagged s h = grind arith
-
-delete-flagged : (s : Stage) → delete_won s ≡ true → was_flagged s ≡ true
-delete-flagged s h = grind arith
 
 -- what was flagged is flagged later
 pub flagged_later : (stage after : Stages) → StagesLater stage after → (c : ℕ) → was_flagged (stage c) ≡ true → was_flagged (after c) ≡ true
@@ -78,7 +50,7 @@ unchanged_since first stage later won e grows none changed =
     let some = changed-sum (stage e) changed in
     elim (sum-changed (first e) (omega arith)) [
       | inl is ↦ is
-      | inr cut ↦ absurd (insert_not_cut (stage e) (changed-insert (stage e) changed) (later.delete e (cut-delete (first e) cut)))
+      | inr cut ↦ absurd (one_kind (stage e) (changed-insert (stage e) changed) (later.delete e (cut-delete (first e) cut)))
     ]
 
 -- a card has set what it has set
@@ -93,9 +65,6 @@ set_low first m stage inv e y (insert_flag a b at) = (inv.words.cards e).claimed
 set_low first m stage inv e y (delete_flag a b at) = (inv.words.cards e).claimed.0 (delete-claimed (stage e) (delete_won-delete (stage e) b))
 set_low first m stage inv e y (mark a b at) = (inv.words.cards e).claimed.0 (delete-claimed (stage e) (marked-delete (stage e) b))
 
-waits-open : (s : Stage) → delete_waits s ≡ true → delete_open s ≡ true
-waits-open s h = grind arith
-
 -- in the tree of these words y is a child of a node that is reached
 pub record Places (w : Words) (x y : ℕ) : Type 0 where
   pub right : Bool
@@ -104,17 +73,6 @@ pub record Places (w : Words) (x y : ℕ) : Type 0 where
 
 moved : {w : Words} {x y a b : ℕ} → a ≡ x → b ≡ y → Places w x y → Places w a b
 moved {w = w} {x = x} {b = b} e f h = subst (λ a. Places w a b) (sym e) (subst (λ b. Places w x b) (sym f) h)
-
-not_flagged : (b : Bool) → b ≡ false → not b ≡ true
-not_flagged b e = ap not e
-
-and_both : (a b : Bool) → a ≡ true → b ≡ true → (a && b) ≡ true
-and_both true b e f = f
-and_both false b e f = absurd (false≢true e)
-
-and_false : (a b : Bool) → b ≡ false → (a && b) ≡ false
-and_false true b e = e
-and_false false b e = refl
 
 unless_both : (b : Bool) (n : ℕ) → (if b then 1 else 0) + n ≡ 0 → (b ≡ false) × (n ≡ 0)
 unless_both true n e = absurd (omega arith)
@@ -170,14 +128,7 @@ module _ (keys : List ℕ) (cards : ℕ) (s0 : TableState) (r0 : HasMachine keys
     both d = won d ++ turn_wins s t d
 
     abbrev goes : Went m0.words first both m'
-    goes = record {
-      stages = stages;
-      invariant = turned.1.went.invariant;
-      words = words_later m0.words at.kept.words turned.0.words at.went.words turned.1.went.words;
-      later = stages_later first stage stages at.went.later turned.1.went.later;
-      wins = λ d. turned.1.went.wins d ∙ (ap (λ ks. ks ++ turn_wins s t d) (at.went.wins d) ∙ append_assoc (wins_of (first d)) (won d) (turn_wins s t d));
-      cleans = cleans_chain m0.words first at.kept.words stage turned.0.words stages at.went.later turned.1.went.later turned.1.went.words at.went.cleans turned.1.went.cleans;
-    }
+    goes = went_after m0.words first won m (turn_wins s t) m' at.went turned.1.went
 
     quiet_both : (d : ℕ) → sum_by child_changes (both d) ≡ 0
     quiet_both d = let parts = sum_append child_changes (won d) (turn_wins s t d) in let a = quiet d in let b = quiet_turn d in omega arith
@@ -224,13 +175,13 @@ module _ (keys : List ℕ) (cards : ℕ) (s0 : TableState) (r0 : HasMachine keys
 
     placed_now : (c : ℕ) → delete_waits (stage c) ≡ true → Places m0.words (m'.words.gp c) (m'.words.p c)
     placed_now c waits =
-        let deletes = waits-delete (stage c) waits in
+        let deletes = delete_waits-delete (stage c) waits in
         let info = turned.1.went.words.info c (low_delete c deletes) in
         let says = (at.went.invariant.words.cards c).delete deletes in
         let side = delete_side m.words c in
         let born = born_before (m.words.gp c) says.grandparent.born in
         let low = (before.words.cards (card (m.words.gp c))).claimed.0 (born-claimed (first (card (m.words.gp c))) born) in
-        let flag = (at.went.invariant.words.deletes c).flag (waits-open (stage c) waits) in
+        let flag = (at.went.invariant.words.deletes c).flag (delete_waits-open (stage c) waits) in
         moved info.gp info.p (record {
           right = side;
           child = sym (at.children (m.words.gp c) side low) ∙ (at.went.invariant.words.deletes c).waits waits;
@@ -265,12 +216,12 @@ module _ (keys : List ℕ) (cards : ℕ) (s0 : TableState) (r0 : HasMachine keys
         let once = flags-once (stages c) in
         let unflagged = unflagged-sum (stage c) (omega arith) in
         let is = sum-flagged (stages c) (omega arith) in
-        let low = (goes.invariant.words.cards c).claimed.0 (flagged_claimed (stages c) is) in
+        let low = (goes.invariant.words.cards c).claimed.0 (flagged-claimed (stages c) is) in
         let limit = goes.invariant.limit in
         let fresh = false_from_ne_true (was_flagged (first c)) (λ old. false≢true (sym unflagged ∙ flagged_later first stage at.went.later c old)) in
         let most = many_most (cards + 1) (cards + 1) (flag_since first stage) (flag_since first stages) (omega arith) (λ d less. flag_still d) c (omega arith)
-        (and_both (not (was_flagged (first c))) (was_flagged (stages c)) (not_flagged (was_flagged (first c)) fresh) is)
-        (λ less. and_false (not (was_flagged (first c))) (was_flagged (stage c)) unflagged) in
+        (and_from (not (was_flagged (first c))) (was_flagged (stages c)) (not_from_false (was_flagged (first c)) fresh) is)
+        (λ less. and_right (not (was_flagged (first c))) (was_flagged (stage c)) unflagged) in
         let was = at.flagged in
         omega arith
 
@@ -305,14 +256,7 @@ module _ (keys : List ℕ) (cards : ℕ) (s0 : TableState) (r0 : HasMachine keys
   pub amid_first : Amid s0 (λ d. []) 0
   amid_first = record {
     kept = r0;
-    went = record {
-      stages = first;
-      invariant = before;
-      words = words_same m0.words;
-      later = stages_same first;
-      wins = λ d. wins_same (first d);
-      cleans = λ x c rose now some. absurd (omega arith);
-    };
+    went = went_still m0 first before;
     children = λ x right low. refl;
     back = none_back first m0.words m0.worker;
     set = λ c taken late. absurd (false≢true (sym taken.0 ∙ backed-won (first c) taken.1));

@@ -27,7 +27,9 @@ use Rattle.ell_core.specs.history.Later.{Follows}
 use Rattle.ell_core.proofs.outcomes.Decide.{some_not_none, cases_option}
 use Rattle.ell_core.proofs.words.CleanWords.{clean_remainder}
 use Rattle.ell_core.proofs.words.Writes.{put_same, put_other}
-use Rattle.ell_core.proofs.stages.Order.{delete-claimed, delete_won-delete}
+use Rattle.ell_core.proofs.stages.Order.{delete-claimed, delete_won-delete, delete_waits-open, backed-delete}
+use Rattle.ell_core.proofs.stages.Holding.{delete_won-cases, backed-unmarkable}
+use Rattle.ell_core.proofs.stages.Flags.{unbacked_cases, cut_not_backed, backed-won}
 use Rattle.ell_core.proofs.stages.Sums.{backs, delete_flags, kind_sum, sum_by, none_won, backed-sum, sum-backed, won-sum, sum-won, sum_same}
 
 -- the flag of a delete's card was set since these stages, and taken back
@@ -128,33 +130,6 @@ reads_on w least x y c old new up (goes from child at read e) h = record {
   here = λ above word node has parent is past. absurd (some_not_none has (ap (λ (s : Search). s.read) e));
 }
 
-pub backed-delete : (s : Stage) → is_backed s ≡ true → is_delete s ≡ true
-backed-delete s h = grind arith
-
-backed-past : (s : Stage) → is_backed s ≡ true → delete_past s ≡ true
-backed-past s h = grind arith
-
-backed-unmarkable : (s : Stage) → is_backed s ≡ true → is_unmarkable s ≡ true
-backed-unmarkable s h = grind arith
-
-pub backed-won : (s : Stage) → is_backed s ≡ true → delete_won s ≡ true
-backed-won s h = grind arith
-
-won-cases : (s : Stage) → delete_won s ≡ true → (delete_open s ≡ true) ⊎ (delete_past s ≡ true)
-won-cases s h = grind arith
-
-unbacked-cases : (s : Stage) → delete_won s ≡ true → is_backed s ≡ false → (delete_open s ≡ true) ⊎ (delete_over s ≡ true)
-unbacked-cases s h g = grind arith
-
-open-waits : (s : Stage) → delete_open s ≡ true → (delete_waits s ≡ true) ⊎ (is_cut s ≡ true)
-open-waits s h = grind arith
-
-cut_not_backed : (s : Stage) → is_cut s ≡ true → is_backed s ≡ true → ⊥
-cut_not_backed s h g = grind arith
-
-over_not_backed : (s : Stage) → delete_over s ≡ true → is_backed s ≡ true → ⊥
-over_not_backed s h g = grind arith
-
 -- an act that takes a flag back moves no search, and sets no flag
 back_stays : (a : Act) (s : Scene) (said : Stepped) (after : Scene) → Row a s said after → 0 < kind_sum backs a → after.worker.search ≡ s.worker.search
 back_stays (act.Backtrack c) s said after row some = ap (λ (z : Scene). z.worker.search) row.does.gives
@@ -238,14 +213,14 @@ module _ (first : Stages) (m : Machine) (stage : Stages) (invariant : Invariant 
         let some = won-sum (f.stages d) won in
         sum-won (stage d) (omega arith)
 
-    was_open : delete_open (stage c) ≡ true
-    was_open = elim (unbacked-cases (stage c) (flags_same c (backed-won (f.stages c) backed)) unbacked) [
-      | inl o ↦ o
-      | inr over ↦ absurd (over_not_backed (f.stages c) (f.later.told (DOver c) c over) backed)
+    waited : delete_waits (stage c) ≡ true
+    waited = elim (unbacked_cases (stage c) (flags_same c (backed-won (f.stages c) backed)) unbacked) [
+      | inl waits ↦ waits
+      | inr cut ↦ absurd (cut_not_backed (f.stages c) (f.later.told (Cut c) c cut) backed)
     ]
 
     flag_stood : m.words.update (m.words.gp c) ≡ dflag c
-    flag_stood = (invariant.words.deletes c).flag was_open
+    flag_stood = (invariant.words.deletes c).flag (delete_waits-open (stage c) waited)
 
     was_low : c < m.words.next
     was_low = low c (delete_won-delete (stage c) (flags_same c (backed-won (f.stages c) backed)))
@@ -285,7 +260,7 @@ module _ (first : Stages) (m : Machine) (stage : Stages) (invariant : Invariant 
         let place = sym (f.words.info d (low d (delete_won-delete (stage d) was))).gp ∙ (at ∙ (f.words.info c was_low).gp) in
         let there = ap m.words.update place in
         let stood = flag_stood in
-        elim (won-cases (stage d) was) [
+        elim (delete_won-cases (stage d) was) [
           | inl o ↦ (let flag = (invariant.words.deletes d).flag o in omega arith)
           | inr o ↦ (let past = (invariant.words.deletes d).past o in omega arith)
         ]
@@ -314,7 +289,7 @@ module _ (first : Stages) (m : Machine) (stage : Stages) (invariant : Invariant 
     sets_flag d wins at below =
         let h : DeleteInHand m.words stage (m.worker i) wins.key d = (invariant.workers.each i).unflagged (Delete wins.key) d wins.deletes wins.holds wins.unflagged in
         let above = it_is (sym h.above ∙ wins.seen) in
-        let past = (invariant.words.deletes c).past (backed-past (stage c) taken.1) in
+        let past = (invariant.words.deletes c).past ((backed-unmarkable (stage c) taken.1).1) in
         let word = ap (λ (s : Seen). s.word) above in
         let found = wins.found in
         let there = ap m.words.update (sym (ap (λ (s : Seen). s.node) above) ∙ (h.top_node ∙ at)) in
@@ -337,7 +312,7 @@ module _ (first : Stages) (m : Machine) (stage : Stages) (invariant : Invariant 
       let one = was.0 in
       let two = was.1 in
       (omega arith, omega arith)
-  rose_on c false e taken = ((f.invariant.words.deletes c).unmarkable (backed-unmarkable (f.stages c) taken.1), omega arith)
+  rose_on c false e taken = ((f.invariant.words.deletes c).unmarkable (backed-unmarkable (f.stages c) taken.1).0, omega arith)
 
   reads_after : (j c : ℕ) (b : Bool) → is_backed (stage c) ≡ b → IsTakenBack first f.stages c
       → ReadsAfter (least_now b c) (new.words.gp c) (new.words.p c) c (new.worker j).search
@@ -383,10 +358,7 @@ module _ (first : Stages) (m : Machine) (stage : Stages) (invariant : Invariant 
   came_from : (c : ℕ) (b : Bool) → is_backed (stage c) ≡ b → IsTakenBack first f.stages c
       → (IsTakenBack first stage c × (least_now b c ≡ old.least c)) ⊎ ((least_now b c ≡ new.words.update (new.words.p c)) × (delete_waits (stage c) ≡ true))
   came_from c true e taken = inl ((taken.0, e), refl)
-  came_from c false e taken = elim (open-waits (stage c) (was_open c e taken.1)) [
-    | inl waits ↦ inr (refl, waits)
-    | inr cut ↦ absurd (cut_not_backed (f.stages c) (f.later.told (Cut c) c cut) taken.1)
-  ]
+  came_from c false e taken = inr (refl, waited c e taken.1)
 
   act_keeps : Keeps first m.words stage m.worker old new.words f.stages new.worker
   act_keeps = record {

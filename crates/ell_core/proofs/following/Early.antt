@@ -1,5 +1,5 @@
 use Rattle.std.proofs.Common.{◌≡◌, ◌⊎◌, ℕ, zero, suc, ◌<◌, ◌≤◌, ◌==◌, ◌&&◌, ◌||◌, not, nat_lt, Bool, true, false, Option, Some, None, inl, inr, refl, sym, ap, ◌∙◌, arith}
-use Rattle.std.proofs.lemmas.Bool.{false≢true}
+use Rattle.std.proofs.lemmas.Bool.{false≢true, ltb-true, or_cases, or_left, or_right, and_parts, and_from}
 use Rattle.ell_ops.specs.declared.op.Op.TheVariants.{Delete}
 use Rattle.ell_core.specs.declared.event.Act.{Act}
 use Rattle.ell_core.specs.declared.event.Act.TheVariants as act
@@ -42,38 +42,11 @@ search_early w0 search = stands_early w0 search.node search.read search.parent
 abbrev pub card_early : Words → Stages → Words → Stages → ℕ → Bool
 card_early w0 first w stage c = not (delete_won (first c)) && (delete_won (stage c) && is_early w0 (w.p c) (w.was c))
 
-lt_is : (a b : ℕ) → nat_lt a b ≡ true → a < b
-lt_is a b h = grind arith
-
-or_cases : (a b : Bool) → (a || b) ≡ true → (a ≡ true) ⊎ (b ≡ true)
-or_cases true b h = inl refl
-or_cases false b h = inr h
-
-or_left : (a b : Bool) → a ≡ true → (a || b) ≡ true
-or_left true b h = refl
-or_left false b h = absurd (false≢true h)
-
-or_right : (a b : Bool) → b ≡ true → (a || b) ≡ true
-or_right true b h = refl
-or_right false b h = h
-
-pub and_parts : (a b : Bool) → (a && b) ≡ true → (a ≡ true) × (b ≡ true)
-and_parts true b h = (refl, h)
-and_parts false b h = absurd (false≢true h)
-
-pub both_true : (a b : Bool) → a ≡ true → b ≡ true → (a && b) ≡ true
-both_true true b e f = f
-both_true false b e f = absurd (false≢true e)
-
-pub not_true : (b : Bool) → not b ≡ true → b ≡ false
-not_true true h = absurd (false≢true h)
-not_true false h = refl
-
 -- a search has such words only if it had
 module _ (w0 w : Words) (up : (x : ℕ) → w0.update x ≤ w.update x) where
-  search_is : (search : Search) (node read : Option ℕ) (parent : Option Seen) → search.node ≡ node → search.read ≡ read → search.parent ≡ parent
-      → search_early w0 search ≡ stands_early w0 node read parent
-  search_is search node read parent e f g = λ t. stands_early w0 (e t) (f t) (g t)
+  search_is : (search : Search) (place read : Option ℕ) (parent : Option Seen) → search.node ≡ place → search.read ≡ read → search.parent ≡ parent
+      → search_early w0 search ≡ stands_early w0 place read parent
+  search_is search place read parent e f g = λ t. stands_early w0 (e t) (f t) (g t)
 
   pub nowhere_late : (search : Search) → search.node ≡ None → search_early w0 search ≡ false
   nowhere_late search none = search_is search None search.read search.parent none refl refl
@@ -93,7 +66,7 @@ module _ (w0 w : Words) (up : (x : ℕ) → w0.update x ≤ w.update x) where
       search_is old (Some x) old.read old.parent at refl refl
       ∙ (elim (or_cases (seen_early w0 old.parent) (is_early w0 x (w.update x)) now) [
         | inl parent ↦ or_left (seen_early w0 old.parent) (read_early w0 x old.read) parent
-        | inr here ↦ (let less = lt_is (w.update x) (w0.update x) here in let more = up x in absurd (omega arith))
+        | inr here ↦ (let less = ltb-true (w.update x) (w0.update x) here in let more = up x in absurd (omega arith))
       ])
     where
       now : (seen_early w0 old.parent || is_early w0 x (w.update x)) ≡ true
@@ -161,8 +134,8 @@ module _ (w0 : Words) (first : Stages) (m : Machine) (stage : Stages) (invariant
 
       by : not (delete_won (first c)) ≡ true → delete_won (f.stages c) ≡ true → is_early w0 (becomes.words.p c) (becomes.words.was c) ≡ true
           → (b : Bool) → delete_won (stage c) ≡ b → (card_early w0 first m.words stage c ≡ true) ⊎ (0 < sum_by delete_flags (wins_by a hand said c))
-      by unwon won word true e = inl (both_true (not (delete_won (first c))) (delete_won (stage c) && is_early w0 (m.words.p c) (m.words.was c)) unwon
-          (both_true (delete_won (stage c)) (is_early w0 (m.words.p c) (m.words.was c)) e (sym (same_early c (low c (delete_won-delete (stage c) e))) ∙ word)))
+      by unwon won word true e = inl (and_from (not (delete_won (first c))) (delete_won (stage c) && is_early w0 (m.words.p c) (m.words.was c)) unwon
+          (and_from (delete_won (stage c)) (is_early w0 (m.words.p c) (m.words.was c)) e (sym (same_early c (low c (delete_won-delete (stage c) e))) ∙ word)))
       by unwon won word false e = inr (added (sum_by delete_flags (wins_by a hand said c)) refl won e)
 
   -- the card in hand

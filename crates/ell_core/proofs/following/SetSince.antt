@@ -14,56 +14,15 @@ use Rattle.ell_core.specs.history.Later.{WordsLater, StagesLater}
 use Rattle.ell_core.specs.statements.Since.{has_ended, CleansSince}
 use Rattle.ell_core.proofs.words.CleanWords.{clean_remainder}
 use Rattle.ell_core.proofs.words.Packed.{packed_again}
-use Rattle.ell_core.proofs.stages.Order.{insert-claimed, delete-claimed, insert_won-insert, delete_won-delete, marked-delete}
-use Rattle.ell_core.proofs.stages.Ended.{ended_cases}
+use Rattle.ell_core.proofs.stages.Order.{insert-claimed, delete-claimed, insert_open-won, delete_open-won, insert_won-insert, delete_won-delete, marked-delete, marked-won, over-marked, changed-won, insert_over-changed, insert_over-insert, one_kind}
+use Rattle.ell_core.proofs.stages.Flags.{insert-unended, delete-unended, backed-won}
+use Rattle.ell_core.proofs.stages.Ended.{ended_cases, insert_open-unended, delete_open-unended, unended_before}
 
 -- a card has set its flag or its mark at a node since these stages
 pub data IsSetSince (first : Stages) (w : Words) (stage : Stages) (e y : ℕ) : Type 0 where
   insert_flag : insert_won (first e) ≡ false → insert_won (stage e) ≡ true → w.p e ≡ y → IsSetSince first w stage e y
   delete_flag : delete_won (first e) ≡ false → delete_won (stage e) ≡ true → w.gp e ≡ y → IsSetSince first w stage e y
   mark : is_marked (first e) ≡ false → is_marked (stage e) ≡ true → w.p e ≡ y → IsSetSince first w stage e y
-
-open-won : (s : Stage) → insert_open s ≡ true → insert_won s ≡ true
-open-won s h = grind arith
-
-insert_cases : (s : Stage) → insert_won s ≡ true → (insert_open s ≡ true) ⊎ (insert_over s ≡ true)
-insert_cases s h = grind arith
-
-over_not_open : (s : Stage) → insert_over s ≡ true → insert_open s ≡ true → ⊥
-over_not_open s h g = grind arith
-
-delete_open-won : (s : Stage) → delete_open s ≡ true → delete_won s ≡ true
-delete_open-won s h = grind arith
-
-delete_cases : (s : Stage) → delete_won s ≡ true → (delete_open s ≡ true) ⊎ ((delete_over s ≡ true) ⊎ (is_backed s ≡ true))
-delete_cases s h = grind arith
-
-deleted_not_open : (s : Stage) → delete_over s ≡ true → delete_open s ≡ true → ⊥
-deleted_not_open s h g = grind arith
-
-backed_not_open : (s : Stage) → is_backed s ≡ true → delete_open s ≡ true → ⊥
-backed_not_open s h g = grind arith
-
-over-insert : (s : Stage) → insert_over s ≡ true → is_insert s ≡ true
-over-insert s h = grind arith
-
-over-changed : (s : Stage) → insert_over s ≡ true → is_changed s ≡ true
-over-changed s h = grind arith
-
-changed_open : (s : Stage) → is_changed s ≡ true → has_ended s ≡ false → insert_open s ≡ true
-changed_open s h g = grind arith
-
-won_open : (s : Stage) → delete_won s ≡ true → has_ended s ≡ false → delete_open s ≡ true
-won_open s h g = grind arith
-
-over-won : (s : Stage) → delete_over s ≡ true → delete_won s ≡ true
-over-won s h = grind arith
-
-backed-won : (s : Stage) → is_backed s ≡ true → delete_won s ≡ true
-backed-won s h = grind arith
-
-one_kind : (s : Stage) → is_insert s ≡ true → delete_won s ≡ true → ⊥
-one_kind s h g = grind arith
 
 -- an update word that has risen over a clean one that was no less than it is here
 module _ (m0 : Machine) (first : Stages) (before : Invariant m0 first) (m : Machine) (stage : Stages) (invariant : Invariant m stage)
@@ -82,7 +41,7 @@ module _ (m0 : Machine) (first : Stages) (before : Invariant m0 first) (m : Mach
   -- what stood there before was no flag of the card
   no_insert : (e : ℕ) → insert_open (first e) ≡ true → m.words.p e ≡ y → m0.words.update y ≡ iflag e
   no_insert e o at =
-      let goes = (words.info e (low_insert e (open-won (first e) o))).p in
+      let goes = (words.info e (low_insert e (insert_open-won (first e) o))).p in
       ap m0.words.update (sym at ∙ goes) ∙ (before.words.inserts e).flag o
 
   no_delete : (e : ℕ) → delete_open (first e) ≡ true → m.words.gp e ≡ y → m0.words.update y ≡ dflag e
@@ -97,11 +56,10 @@ module _ (m0 : Machine) (first : Stages) (before : Invariant m0 first) (m : Mach
       now = (invariant.words.updates y inner born).iflagged e is
 
       by : (b : Bool) → insert_won (first e) ≡ b → Set e
-      by false won = insert_flag won (open-won (stage e) now.0) now.1
-      by true won = elim (insert_cases (first e) won) [
-        | inl o ↦ (let stood = no_insert e o now.1 in absurd (omega arith))
-        | inr over ↦ absurd (over_not_open (stage e) (more.told (IOver e) e over) now.0)
-      ]
+      by false won = insert_flag won (insert_open-won (stage e) now.0) now.1
+      by true won =
+          let stood = no_insert e (insert-unended (first e) won (unended_before first stage more e (insert_open-unended (stage e) now.0))) now.1 in
+          absurd (omega arith)
 
   set_delete : (e : ℕ) → m.words.update y ≡ dflag e → Set e
   set_delete e is = by (delete_won (first e)) refl
@@ -111,13 +69,9 @@ module _ (m0 : Machine) (first : Stages) (before : Invariant m0 first) (m : Mach
 
       by : (b : Bool) → delete_won (first e) ≡ b → Set e
       by false won = delete_flag won (delete_open-won (stage e) now.0) now.1
-      by true won = elim (delete_cases (first e) won) [
-        | inl o ↦ (let stood = no_delete e o now.1 in absurd (omega arith))
-        | inr ended ↦ elim ended [
-          | inl over ↦ absurd (deleted_not_open (stage e) (more.told (DOver e) e over) now.0)
-          | inr back ↦ absurd (backed_not_open (stage e) (more.told (Backed e) e back) now.0)
-        ]
-      ]
+      by true won =
+          let stood = no_delete e (delete-unended (first e) won (unended_before first stage more e (delete_open-unended (stage e) now.0))) now.1 in
+          absurd (omega arith)
 
   set_mark : (e : ℕ) → m.words.update y ≡ marked e → Set e
   set_mark e is = by (is_marked (first e)) refl
@@ -134,24 +88,24 @@ module _ (m0 : Machine) (first : Stages) (before : Invariant m0 first) (m : Mach
 
   set_ended_delete : (e : ℕ) → m.words.update y ≡ clean e → has_ended (first e) ≡ false → delete_won (stage e) ≡ true
       → ((is_insert (stage e) ≡ true) × (m.words.p e ≡ y)) ⊎ (m.words.gp e ≡ y) → Set e
-  set_ended_delete e is un won (inl h) = absurd (one_kind (stage e) h.0 won)
+  set_ended_delete e is un won (inl h) = absurd (one_kind (stage e) h.0 (delete_won-delete (stage e) won))
   set_ended_delete e is un won (inr at) = by (delete_won (first e)) refl
     where
       by : (b : Bool) → delete_won (first e) ≡ b → Set e
       by false old = delete_flag old won at
       by true old =
-          let stood = no_delete e (won_open (first e) old un) at in
+          let stood = no_delete e (delete-unended (first e) old un) at in
           let rest = clean_remainder word calm in
           absurd (omega arith)
 
   set_ended_insert : (e : ℕ) → m.words.update y ≡ clean e → has_ended (first e) ≡ false → insert_over (stage e) ≡ true
       → ((is_insert (stage e) ≡ true) × (m.words.p e ≡ y)) ⊎ (m.words.gp e ≡ y) → Set e
   set_ended_insert e is un over (inl h) =
-      let stood = no_insert e (changed_open (first e) (unchanged e (over-changed (stage e) over)) un) h.1 in
+      let stood = no_insert e (insert-unended (first e) (changed-won (first e) (unchanged e (insert_over-changed (stage e) over))) un) h.1 in
       let rest = clean_remainder word calm in
       absurd (omega arith)
   set_ended_insert e is un over (inr at) =
-      let root = ((invariant.words.cards e).insert (over-insert (stage e) over)).gp in
+      let root = ((invariant.words.cards e).insert (insert_over-insert (stage e) over)).gp in
       absurd (omega arith)
 
   set_clean : (e : ℕ) → m.words.update y ≡ clean e → Set e
@@ -161,7 +115,7 @@ module _ (m0 : Machine) (first : Stages) (before : Invariant m0 first) (m : Mach
       elim (ended_cases (stage e) h.1) [
         | inl over ↦ set_ended_insert e is h.0 over h.2.1
         | inr ended ↦ elim ended [
-          | inl over ↦ set_ended_delete e is h.0 (over-won (stage e) over) h.2.1
+          | inl over ↦ set_ended_delete e is h.0 (marked-won (stage e) (over-marked (stage e) over)) h.2.1
           | inr back ↦ set_ended_delete e is h.0 (backed-won (stage e) back) h.2.1
         ]
       ]

@@ -8,6 +8,7 @@ use Rattle.ell_core.specs.declared.event.Stepped.TheVariants.{Won}
 use Rattle.ell_core.specs.acts.Wins.{win_for, win_by, wins_by}
 use Rattle.ell_core.specs.history.Stages.{Stage, is_claimed, is_backed, insert_won, delete_won, is_changed, is_cut}
 use Rattle.ell_core.specs.history.Later.{wins_of}
+use Rattle.ell_core.proofs.stages.Flags.{was_flagged}
 
 -- 1 for a flag that a delete takes back, for its flag, and for an exchange of a child; 0 for what else a card wins
 abbrev pub backs : Kind → ℕ
@@ -95,10 +96,6 @@ cut-sum s h = grind arith
 pub sum-changed : (s : Stage) → 0 < sum_by child_changes (wins_of s) → (is_changed s ≡ true) ⊎ (is_cut s ≡ true)
 sum-changed s h = grind arith
 
--- whether the flag of a card was won
-abbrev pub was_flagged : Stage → Bool
-was_flagged s = insert_won s || delete_won s
-
 pub unflagged-sum : (s : Stage) → sum_by all_flags (wins_of s) ≡ 0 → was_flagged s ≡ false
 unflagged-sum s h = grind arith
 
@@ -110,9 +107,6 @@ flagged-sum s h = grind arith
 
 pub flags-once : (s : Stage) → sum_by all_flags (wins_of s) ≤ 1
 flags-once s = grind arith
-
-pub flagged_claimed : (s : Stage) → was_flagged s ≡ true → is_claimed s ≡ true
-flagged_claimed s h = grind arith
 
 -- where nothing of the kind was won, the sum is as it was
 pub sum_same : (f : Kind → ℕ) (before after : Stage) (won : List Kind) → wins_of after ≡ wins_of before ++ won → sum_by f won ≡ 0
