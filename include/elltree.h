@@ -7,7 +7,7 @@
 
    Each call answers with ELLTREE_YES, with ELLTREE_NO, or with a negative code that says why it was refused; elltree_text has a text for
    each. A call that was refused has changed neither the map nor what a handle owns, and has written nothing but, for ELLTREE_NO_ROOM, pairs.
-   elltree_open, elltree_split and elltree_join ask for memory. No other call does.
+   elltree_open, elltree_split, elltree_join and elltree_renew ask for memory. No other call does.
 
    What the caller owes, which nothing tests:
    - A handle starts as all zeros. Only these functions write to it, and it is not copied while it holds something (it may be moved).
@@ -52,12 +52,12 @@ enum {
     ELLTREE_NO = 0,
     ELLTREE_YES = 1,
     ELLTREE_BUSY = -1,        /* something was in the way of each try: call again */
-    ELLTREE_SPENT = -2,       /* all cards of the tree are given out: no change any more, finds and looks go on */
+    ELLTREE_SPENT = -2,       /* all cards of the tree are given out: elltree_renew makes them fresh, and finds and looks go on without */
     ELLTREE_FOREIGN = -3,     /* the handle does not own a key of the call */
     ELLTREE_NO_TRIES = -4,    /* tries is 0 */
     ELLTREE_BAD_CARDS = -5,   /* cards are not 1 to ELLTREE_CARDS_MAX */
     ELLTREE_BAD_KEY = -6,     /* a key is above ELLTREE_KEY_MAX */
-    ELLTREE_BAD_START = -7,   /* start keys do not ascend strictly, or are more than ELLTREE_START_MAX */
+    ELLTREE_BAD_START = -7,   /* start keys do not ascend strictly, or they (or the keys present at a renewal) exceed ELLTREE_START_MAX */
     ELLTREE_NO_ROOM = -8,     /* the array is too short for all pairs */
     ELLTREE_NO_MEMORY = -9,   /* memory was refused */
     ELLTREE_CLOSED = -10,     /* a handle holds nothing */
@@ -80,6 +80,7 @@ int32_t elltree_slot_delete(struct elltree_slot *slot, uint64_t key, uint32_t tr
 int32_t elltree_slot_owned(struct elltree_slot *slot, size_t *count);
 int32_t elltree_slot_pairs(struct elltree_slot *slot, struct elltree_pair *out, size_t room, size_t *count);
 int32_t elltree_slot_steps(struct elltree_slot *slot, uint64_t *steps);
+int32_t elltree_slot_renew(struct elltree_slot *slot, uint64_t cards, uint64_t number);
 int32_t elltree_slot_free(struct elltree_slot *slot);
 
 /* How many trees the program has opened by this header. */
@@ -195,6 +196,18 @@ static inline int32_t elltree_pairs(struct elltree_handle *handle, struct elltre
 static inline int32_t elltree_steps(struct elltree_handle *handle, uint64_t *steps) {
     int32_t code = steps ? elltree_enter(handle) : ELLTREE_NULL;
     return code == ELLTREE_YES ? elltree_leave(handle, elltree_slot_steps(&handle->slot, steps)) : code;
+}
+
+/* Makes the cards fresh: the handle goes to a new tree with so many cards, and takes along the keys that it owns, which are present with
+   their values or absent as they were. Handles that are to stay with it are joined to it first, and split from it again; others, as readers,
+   stay behind in the old tree, which does not change any more but by them.
+   ELLTREE_NULL, ELLTREE_IN_CALL, ELLTREE_CLOSED, ELLTREE_BAD_START (more than ELLTREE_START_MAX keys are present), ELLTREE_BAD_CARDS,
+   ELLTREE_NO_MEMORY: then the handle is where it was. */
+static inline int32_t elltree_renew(struct elltree_handle *handle, uint64_t cards) {
+    int32_t code = elltree_enter(handle);
+    if (code != ELLTREE_YES)
+        return code;
+    return elltree_leave(handle, elltree_slot_renew(&handle->slot, cards, __atomic_add_fetch(&elltree_trees, 1, __ATOMIC_SEQ_CST)));
 }
 
 /* Ends a handle, and with the last handle the tree. What its keys have stays, and can be looked at, but not be changed any more.

@@ -74,6 +74,7 @@ def _load():
         "owned": [at(_Slot), at(size)],
         "pairs": [at(_Slot), at(_Pair), size, at(size)],
         "steps": [at(_Slot), at(u64)],
+        "renew": [at(_Slot), u64, u64],
         "free": [at(_Slot)],
     }.items():
         call = getattr(lib, f"elltree_slot_{name}")
@@ -187,6 +188,11 @@ class Handle:
         steps = ctypes.c_uint64()
         self._call("steps", steps)
         return steps.value
+
+    def renew(self, cards=1_000_000):
+        """Makes the cards fresh: the handle goes to a new tree with so many cards, and takes along the keys that it owns, which are present or
+        absent as they were. Join the handles that are to stay with it first, and split them from it again; others stay in the old tree."""
+        self._call("renew", _u64(cards), next(_numbers))
 
     def close(self):
         """Ends the handle, and with the last handle the tree."""

@@ -77,6 +77,7 @@ static void closed(void) {
     IS(elltree_owned(&none, &count), ELLTREE_CLOSED);
     IS(elltree_pairs(&none, &pair, 1, &count), ELLTREE_CLOSED);
     IS(elltree_steps(&none, &steps), ELLTREE_CLOSED);
+    IS(elltree_renew(&none, 9), ELLTREE_CLOSED);
     IS(elltree_free(&none), ELLTREE_CLOSED);
     faults += value != 77 || none.slot.is_open || other.slot.is_open;
 }
@@ -104,6 +105,7 @@ static void nulls(struct elltree_handle *h) {
     IS(elltree_pairs(h, &pair, 1, NULL), ELLTREE_NULL);
     IS(elltree_steps(NULL, &steps), ELLTREE_NULL);
     IS(elltree_steps(h, NULL), ELLTREE_NULL);
+    IS(elltree_renew(NULL, 9), ELLTREE_NULL);
     IS(elltree_free(NULL), ELLTREE_NULL);
 }
 
@@ -126,6 +128,7 @@ static void in_call(struct elltree_handle *h) {
     IS(elltree_owned(h, &count), ELLTREE_IN_CALL);
     IS(elltree_pairs(h, &pair, 1, &count), ELLTREE_IN_CALL);
     IS(elltree_steps(h, &steps), ELLTREE_IN_CALL);
+    IS(elltree_renew(h, 9), ELLTREE_IN_CALL);
     IS(elltree_free(h), ELLTREE_IN_CALL);
     IS(elltree_leave(h, ELLTREE_YES), ELLTREE_YES);
     faults += other.in_call || other.slot.is_open;
@@ -175,6 +178,44 @@ static void spent_and_other_tree(struct elltree_handle *low) {
     IS(elltree_join(&small, low), ELLTREE_CLOSED);
 }
 
+/* A tree of one card is renewed; one with more keys than a tree begins with is not. */
+static void renewal(void) {
+    static struct elltree_pair many[ELLTREE_START_MAX];
+    struct elltree_handle h = ELLTREE_EMPTY, old = ELLTREE_EMPTY;
+    struct elltree_pair three[3] = {{2, 20}, {3, 30}, {4, 40}};
+    uint64_t value = 0, most = ELLTREE_START_MAX;
+    size_t count = 0;
+    IS(elltree_open(&h, keys, 6, start, 2, 1), ELLTREE_YES);
+    IS(elltree_split(&h, &old, NULL, 0), ELLTREE_YES);
+    IS(elltree_insert(&h, 3, 30, 9), ELLTREE_YES);
+    IS(elltree_delete(&h, 4, 9), ELLTREE_SPENT);
+    IS(elltree_renew(&h, 0), ELLTREE_BAD_CARDS);
+    IS(elltree_renew(&h, ELLTREE_CARDS_MAX + 1), ELLTREE_BAD_CARDS);
+    IS(elltree_delete(&h, 4, 9), ELLTREE_SPENT);
+    HAS(&h, 6, three, 3);
+    IS(elltree_renew(&h, 2), ELLTREE_YES);
+    HAS(&h, 6, three, 3);
+    IS(elltree_join(&h, &old), ELLTREE_OTHER_TREE);
+    IS(elltree_delete(&h, 4, 9), ELLTREE_YES);
+    IS(elltree_delete(&h, 3, 9), ELLTREE_YES);
+    IS(elltree_insert(&h, 1, 1, 9), ELLTREE_SPENT);
+    HAS(&h, 6, three, 1);
+    IS(elltree_look(&old, 4, &value), ELLTREE_YES);
+    IS(elltree_free(&old), ELLTREE_YES);
+    IS(elltree_free(&h), ELLTREE_YES);
+    for (uint64_t i = 0; i < most; i++)
+        many[i].key = i;
+    IS(elltree_open(&h, &most, 1, many, most, 2), ELLTREE_YES);
+    IS(elltree_insert(&h, most, 7, 9), ELLTREE_YES);
+    IS(elltree_renew(&h, 2), ELLTREE_BAD_START);
+    IS(elltree_delete(&h, 0, 9), ELLTREE_YES);
+    IS(elltree_renew(&h, 2), ELLTREE_YES);
+    IS(elltree_find(&h, most, &value), ELLTREE_YES);
+    IS(elltree_owned(&h, &count), ELLTREE_YES);
+    faults += value != 7 || count != most + 1;
+    IS(elltree_free(&h), ELLTREE_YES);
+}
+
 /* Each code has a text of its own. */
 static void texts(void) {
     for (int32_t code = ELLTREE_IN_CALL - 1; code <= ELLTREE_YES + 1; code++)
@@ -198,6 +239,7 @@ int main(void) {
     in_call(&low);
     keys_and_tries(&low, &high);
     spent_and_other_tree(&low);
+    renewal();
     texts();
     HAS(&low, 3, start, 1);
     HAS(&high, 3, start + 1, 1);

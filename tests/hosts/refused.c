@@ -1,5 +1,5 @@
 /* Each allocation of the library is refused in turn: the call is answered by ELLTREE_NO_MEMORY, and all handles are as they were. Linked with
-   --wrap=malloc and --wrap=realloc. Which calls ask for memory is tested too: open, split and join, and no other. */
+   --wrap=malloc and --wrap=realloc. Which calls ask for memory is tested too: open, split, join and renew, and no other. */
 #include "elltree.h"
 #include <stdio.h>
 
@@ -19,6 +19,7 @@ static struct elltree_handle a = ELLTREE_EMPTY, b = ELLTREE_EMPTY;
 static int32_t open_a(void) { return elltree_open(&a, keys, KEYS, start, START, 1000); }
 static int32_t split(void) { return elltree_split(&a, &b, keys + 100, 100); }
 static int32_t join(void) { return elltree_join(&a, &b); }
+static int32_t renew(void) { return elltree_renew(&a, 1000); }
 
 static long differs(struct elltree_handle *handle, size_t owned, size_t there) {
     static struct elltree_pair out[KEYS];
@@ -79,6 +80,8 @@ int main(void) {
     faults += parted() != 0;
     frugal();
     refuse("join", join, parted);
+    faults += whole() != 0;
+    refuse("renew", renew, whole);
     faults += whole() != 0;
     asked = 0;
     faults += elltree_free(&a) != ELLTREE_YES || asked != 0;

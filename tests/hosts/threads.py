@@ -57,7 +57,10 @@ def misuse():
     with first._in_call:
         faults += refused(elltree.IN_CALL, first.find, 1) + refused(elltree.IN_CALL, second.join, first)
     first.join(second)
-    faults += refused(elltree.CLOSED, second.find, 3)
+    faults += refused(elltree.CLOSED, second.find, 3) + refused(elltree.CLOSED, second.renew, 5)
+    faults += refused(elltree.BAD_CARDS, first.renew, 0)
+    first.renew(5)
+    faults += first.insert(3, 30) is not True or first.delete(3) is not True
     faults += first.owned() != 3 or first.pairs() != [(1, 10), (2, 20)] or first.steps() < 1
     first.close()
     faults += refused(elltree.CLOSED, first.close)

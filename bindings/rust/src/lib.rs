@@ -84,6 +84,7 @@ unsafe extern "C" {
     fn elltree_slot_owned(slot: &mut Slot, count: &mut usize) -> i32;
     fn elltree_slot_pairs(slot: &mut Slot, out: *mut Pair, room: usize, count: &mut usize) -> i32;
     fn elltree_slot_steps(slot: &mut Slot, steps: &mut u64) -> i32;
+    fn elltree_slot_renew(slot: &mut Slot, cards: u64, number: u64) -> i32;
     fn elltree_slot_free(slot: &mut Slot) -> i32;
 }
 
@@ -93,7 +94,7 @@ unsafe extern "C" {
 pub enum Refused {
     /// Something was in the way of each try.
     Busy,
-    /// All cards of the tree are given out.
+    /// All cards of the tree are given out: [`Handle::renew`] makes them fresh.
     Spent,
     /// The handle does not own a key of the call.
     Foreign,
@@ -103,7 +104,7 @@ pub enum Refused {
     BadCards,
     /// A key is above [`KEY_MAX`].
     BadKey,
-    /// The start keys do not ascend strictly, or are more than [`START_MAX`].
+    /// The start keys do not ascend strictly, or they (or the keys present at a renewal) are more than [`START_MAX`].
     BadStart,
     /// Memory was refused.
     NoMemory,
@@ -156,8 +157,11 @@ fn answer(code: i32) -> Result<bool> {
 // A slot that holds nothing.
 const EMPTY: Slot = Slot { at: std::ptr::null_mut(), is_open: false };
 
-// The number of the next tree.
-static NEXT: AtomicU64 = AtomicU64::new(1);
+// A number for a new tree.
+fn next_number() -> u64 {
+    static NEXT: AtomicU64 = AtomicU64::new(1);
+    NEXT.fetch_add(1, Ordering::SeqCst)
+}
 
 /// Some of the keys of a tree: this handle alone finds, inserts and deletes them. It looks at any key.
 pub struct Handle(Slot);
@@ -179,7 +183,6 @@ impl Handle {
     /// ```
     pub fn open(keys: &[u64], start: &[(u64, u64)], cards: u64) -> Result<Handle> {
         let start: Vec<Pair> = start.iter().map(|&(key, value)| Pair { key, value }).collect();
-        let number = NEXT.fetch_add(1, Ordering::SeqCst);
         let mut handle = Handle(EMPTY);
         // SAFETY: the slot holds nothing, and the arrays are as long as said.
         answer(unsafe {
@@ -190,10 +193,34 @@ impl Handle {
                 start.as_ptr(),
                 start.len(),
                 cards,
-                number,
+                next_number(),
             )
         })?;
         Ok(handle)
+    }
+
+    /// Makes the cards fresh: the handle goes to a new tree with so many cards, and takes along the keys that it owns, which are present
+    /// with their values or absent as they were. Handles that are to stay with it are joined to it first, and split from it again; others,
+    /// as readers, stay behind in the old tree.
+    ///
+    /// `BadStart` if more than [`START_MAX`] keys are present, `BadCards` if the cards are not 1 to [`CARDS_MAX`]: then the handle is where
+    /// it was.
+    ///
+    /// ```
+    /// use elltree::{Handle, Refused};
+    /// let mut handle = Handle::open(&[1, 2], &[(1, 10)], 1)?;
+    /// handle.delete(1, 9)?;
+    /// assert_eq!(handle.insert(2, 20, 9), Err(Refused::Spent));
+    /// assert_eq!(handle.renew(0), Err(Refused::BadCards));
+    /// handle.renew(5)?;
+    /// handle.insert(2, 20, 9)?;
+    /// assert_eq!(handle.pairs()?, [(2, 20)]);
+    /// # Ok::<(), Refused>(())
+    /// ```
+    pub fn renew(&mut self, cards: u64) -> Result<()> {
+        // SAFETY: the slot is this handle's, and no other tree has the number.
+        answer(unsafe { elltree_slot_renew(&mut self.0, cards, next_number()) })?;
+        Ok(())
     }
 
     /// A handle with these keys of this one, which keeps the others. `Foreign` where a key is not its own.
@@ -230,7 +257,7 @@ impl Handle {
     /// # Ok::<(), elltree::Refused>(())
     /// ```
     pub fn join(&mut self, mut other: Handle) -> std::result::Result<(), (Handle, Refused)> {
-        // SAFETY: these are two slots, and equal numbers mean one tree, since all numbers come from `NEXT`.
+        // SAFETY: these are two slots, and equal numbers mean one tree, since all numbers come from `next_number`.
         match answer(unsafe { elltree_slot_join(&mut self.0, &mut other.0) }) {
             Ok(_) => Ok(()),
             Err(why) => Err((other, why)),
@@ -350,6 +377,23 @@ impl Tree {
     /// Takes the keys of a handle back.
     pub fn take_back(&mut self, handle: Handle) -> std::result::Result<(), (Handle, Refused)> {
         self.rest.join(handle)
+    }
+
+    /// Makes the cards fresh: the tree is a new one, with the keys that no handle has. Give the handles back first: a handle that is out
+    /// stays with the old tree, and so does a reader. Refused as [`Handle::renew`] is.
+    ///
+    /// ```
+    /// let mut tree = elltree::Tree::open(&[1, 2, 3, 4], &[], 100)?;
+    /// let mut high = tree.handle(&[3, 4])?;
+    /// high.insert(3, 30, 9)?;
+    /// tree.take_back(high).map_err(|(_, why)| why)?;
+    /// tree.renew(100)?;
+    /// let mut high = tree.handle(&[3, 4])?;
+    /// assert_eq!(high.find(3)?, Some(30));
+    /// # Ok::<(), elltree::Refused>(())
+    /// ```
+    pub fn renew(&mut self, cards: u64) -> Result<()> {
+        self.rest.renew(cards)
     }
 
     /// How many keys no handle has.

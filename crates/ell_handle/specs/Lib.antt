@@ -1,4 +1,8 @@
 -- what a refusal of the tree is as a handle's
 pub mod Refusals
--- the first handle of a tree
+-- when a tree is opened, and its first handle
 pub mod Opens
+-- a handle that comes to fresh cards
+pub mod Renewal
+-- when a handle is not parted, and two are not joined
+pub mod Parts

@@ -1,11 +1,42 @@
-use Rattle.std.specs.Prelude.{ℕ, List}
+use Rattle.std.specs.Prelude.{◌≤◌, ℕ, List, length}
+use Rattle.std.specs.List.{All}
+use Rattle.std.specs.List.Sorted.{IsStrictlyIncreasing}
 use Rattle.std.specs.Map.{keys_of}
 use Rattle.ell_ops.specs.KeySet.{Lists, set_of, union}
+use Rattle.ell_ops.specs.Meaning.{greatest_key}
+use Rattle.ell_tree.specs.Node.{most_start}
+use Rattle.ell_cards.specs.Models.{IsCardCount}
 use Rattle.ell_tree.specs.Ledgers.{PassModel, TreeModel}
 use Rattle.ell_tree.specs.PassParts.{IsFirst}
+use Rattle.ell_handle.specs.declared.refusal.Refusal.{Refusal}
+use Rattle.ell_handle.specs.declared.refusal.Refusal.TheVariants.{BadCards, BadKey, BadStart, NoMemory}
 
 -- the keys of a tree are these and the start keys, and a pass owns all of them: the start keys are present with their values, the others
 -- absent
 pub record OwnsAll (keys : List ℕ) (start : List (ℕ × ℕ)) (t : TreeModel) (p : PassModel) : Type 0 where
   pub all : Lists (union (set_of (keys_of start)) (set_of keys)) t.keys
   pub first : IsFirst start t p
+
+-- a tree may begin with these start keys
+pub record IsStart (start : List (ℕ × ℕ)) : Type 0 where
+  pub ascending : IsStrictlyIncreasing (keys_of start)
+  pub few : length start ≤ most_start
+
+-- a tree may have these keys and start keys
+pub record AreKeys (keys : List ℕ) (start : List (ℕ × ℕ)) : Type 0 where
+  pub real : All (λ k. k ≤ greatest_key) keys
+  pub real_start : All (λ e. e.0 ≤ greatest_key) start
+
+-- a tree may be opened over these keys and start keys with so many cards
+pub record MayOpen (keys : List ℕ) (start : List (ℕ × ℕ)) (cards : ℕ) : Type 0 where
+  pub begins : IsStart start
+  pub owns : AreKeys keys start
+  pub count : IsCardCount cards
+
+-- when a tree is refused, and why
+abbrev pub Refuses : List ℕ → List (ℕ × ℕ) → ℕ → Refusal → Type 0
+Refuses keys start cards BadStart = ¬ IsStart start
+Refuses keys start cards BadKey = IsStart start × (¬ AreKeys keys start)
+Refuses keys start cards BadCards = IsStart start × (AreKeys keys start × (¬ IsCardCount cards))
+Refuses keys start cards NoMemory = MayOpen keys start cards
+Refuses keys start cards _ = ⊥

@@ -1,6 +1,7 @@
 //! A tree and a pass of it.
 ghost use Rattle.std.specs.Prelude.{IsTrue, if◌then◌else◌, ◌≡◌, ◌≢◌, ◌≤◌, ◌<◌, ◌+◌, ◌↔◌, ◌⊎◌, ℕ, true, None, Some, Err, IfOk, IfErr, OnOk, OnErr};
 ghost use Rattle.std.specs.Arc.{arc_value};
+ghost use Rattle.std.specs.List.{All};
 ghost use Rattle.std.specs.List.Sorted.{IsStrictlyIncreasing};
 ghost use Rattle.ell_ops.specs.declared.op.Op.TheVariants.{Find, Insert, Delete};
 ghost use Rattle.ell_ops.specs.Contents.{contents_of};
@@ -13,12 +14,14 @@ ghost use Rattle.ell_tree.specs.Ends.{Answers};
 ghost use Rattle.ell_tree.specs.Ledgers.{IsIdle, Owns, hindrances, present_in};
 ghost use Rattle.ell_tree.specs.Looks.{OnlyLooks, look_steps};
 ghost use Rattle.ell_tree.specs.PassParts.{IsLeftPart, IsRightPart, IsUnion};
-ghost use Rattle.ell_handle.specs.Opens.{OwnsAll};
-ghost use Rattle.ell_handle.specs.declared.refusal.Refusal.TheVariants.{Foreign, NoTries, Busy, Spent, BadCards, BadKey, OtherTree};
+ghost use Rattle.ell_core.specs.state.Opening.{last_card};
+ghost use Rattle.ell_handle.specs.Opens.{MayOpen, OwnsAll, Refuses};
+ghost use Rattle.ell_handle.specs.Parts.{JoinRefuses, SplitRefuses};
+ghost use Rattle.ell_handle.specs.declared.refusal.Refusal.TheVariants.{Foreign, NoTries, Busy, Spent, BadKey, NoMemory};
 
-use crate::keys::{all_keys, each_once, keys_in};
+use crate::keys::{all_keys, are_keys, each_once, is_card_count, is_start, keys_in};
 use crate::refusal::Refusal;
-use ell_tree::{KEY_MAX, NoGate, Pass, START_MAX, Tree};
+use ell_tree::{KEY_MAX, NoGate, Pass, Tree};
 use std::alloc::Global;
 use std::sync::Arc;
 
@@ -45,12 +48,13 @@ pub struct Handle {
     pub pass: Pass<Global>,
     ghost own: { pass.table ≡ (arc_value shared).tree.id },
     ghost idle: { IsIdle pass },
+    ghost real: { (k : ℕ) → Owns pass k → k ≤ greatest_key },
 }
 
 impl Handle {
     /// A tree of so many cards that has the start keys with their values, and the handle that owns these keys and the start keys. Trees
-    /// that are open at once have different numbers. `BadStart` where the start keys do not ascend strictly or are more than `START_MAX`,
-    /// then `BadKey` where a key is above `KEY_MAX`, then `BadCards` where the cards are not 1 to 1,000,000.
+    /// that are open at once have different numbers. `BadStart` if the start keys do not ascend strictly or are more than `START_MAX`, then
+    /// `BadKey` if a key is above `KEY_MAX`, then `BadCards` if the cards are not 1 to 1,000,000, and only then `NoMemory`.
     pub fn open(
         alloc: Global,
         keys: &[u64],
@@ -61,41 +65,36 @@ impl Handle {
         ensures owns { IfOk result (λ made. OwnsAll keys.now start.now (arc_value made.shared).tree made.pass) }
         ensures present { IfOk result (λ made. present_in made.pass ≡ contents_of start.now) }
         ensures number { IfOk result (λ made. (arc_value made.shared).number ≡ number) }
-        ensures cards { OnOk result (IsCardCount cards) }
-        ensures bad_cards { result ≡ Err BadCards → ¬ IsCardCount cards }
+        ensures last { IfOk result (λ made. (arc_value made.shared).tree.last_card ≡ last_card start.now cards) }
+        ensures may { OnOk result (MayOpen keys.now start.now cards) }
+        ensures refused { IfErr result (Refuses keys.now start.now cards) }
     {
-        if start.len() > START_MAX {
-            return Err(Refusal::BadStart);
-        }
+        may_open(keys, start, cards)?;
         let first = keys_in(alloc, start)?;
-        if each_once(alloc, &first)? != first {
-            return Err(Refusal::BadStart);
-        }
         let keys = all_keys(alloc, &first, keys)?;
-        if !keys.iter().all(|key| *key <= KEY_MAX) {
-            return Err(Refusal::BadKey);
-        }
         let (tree, pass) = Tree::reserve_from(alloc, start, &keys, cards)?;
         let shared = Arc::new(alloc, SharedTree { tree, keys, number })?;
         Ok(Handle { shared, pass })
     }
 
-    /// Two handles of one: the first has these of its keys, and the second the others. `Foreign` where a key is not its own. A handle
-    /// without keys may look.
+    /// Two handles of one: the first has these of its keys, and the second the others. `Foreign` if a key is not its own, and else
+    /// `NoMemory` if memory is refused. A handle without keys may look.
     pub fn split(self, alloc: Global, wanted: &[u64]) -> Result<(Handle, Handle), (Handle, Refusal)>
         ensures left { IfOk result (λ parts. IsLeftPart wanted.now self.pass parts.0.pass) }
         ensures right { IfOk result (λ parts. IsRightPart wanted.now self.pass parts.1.pass) }
         ensures given { IfOk result (λ parts. (k : ℕ) → present_in parts.0.pass k ≡ (if set_of wanted.now k then present_in self.pass k else None)) }
         ensures rest { IfOk result (λ parts. (k : ℕ) → present_in parts.1.pass k ≡ (if set_of wanted.now k then None else present_in self.pass k)) }
         ensures trees { IfOk result (λ parts. (arc_value parts.0.shared ≡ arc_value self.shared) × (arc_value parts.1.shared ≡ arc_value self.shared)) }
+        ensures owned { OnOk result (All (λ k. Owns self.pass k) wanted.now) }
+        ensures why { IfErr result (λ refused. SplitRefuses wanted.now self.pass refused.1) }
         ensures refused { IfErr result (λ refused. refused.0 ≡ self) }
     {
+        if !self.owns_all(wanted) {
+            return Err((self, Refusal::Foreign));
+        }
         let Ok(keys) = each_once(alloc, wanted) else {
             return Err((self, Refusal::NoMemory));
         };
-        if !keys.iter().all(|key| self.pass.owns(*key)) {
-            return Err((self, Refusal::Foreign));
-        }
         let Ok(other) = Arc::try_clone(&self.shared) else {
             return Err((self, Refusal::NoMemory));
         };
@@ -113,13 +112,14 @@ impl Handle {
         }
     }
 
-    /// One handle of two, with the keys of both. `OtherTree` where their numbers differ. Condition: equal numbers mean one tree.
+    /// One handle of two, with the keys of both. `OtherTree` if their numbers differ, and else `NoMemory` if memory is refused. Condition:
+    /// equal numbers mean one tree.
     pub fn join(self, other: Handle) -> Result<Handle, (Handle, Handle, Refusal)>
         requires numbers { (arc_value other.shared).number ≡ (arc_value self.shared).number → other.pass.table ≡ self.pass.table }
         ensures union { IfOk result (λ both. IsUnion self.pass other.pass both.pass) }
         ensures tree { IfOk result (λ both. both.shared ≡ self.shared) }
         ensures numbers { OnOk result ((arc_value other.shared).number ≡ (arc_value self.shared).number) }
-        ensures other_tree { IfErr result (λ refused. refused.2 ≡ OtherTree → (arc_value other.shared).number ≢ (arc_value self.shared).number) }
+        ensures why { IfErr result (λ refused. JoinRefuses (arc_value other.shared).number (arc_value self.shared).number refused.2) }
         ensures refused { IfErr result (λ refused. (refused.0 ≡ self) × (refused.1 ≡ other)) }
     {
         if other.shared.number != self.shared.number {
@@ -147,6 +147,13 @@ impl Handle {
         ensures { IsTrue result ↔ Owns self.now.pass key }
     {
         self.pass.owns(key)
+    }
+
+    /// Whether the handle owns each of these keys.
+    pub fn owns_all(&self, keys: &[u64]) -> bool
+        ensures { IsTrue result ↔ All (λ k. Owns self.now.pass k) keys.now }
+    {
+        keys.iter().all(|key| self.pass.owns(*key))
     }
 
     /// The keys that the handle owns, strictly ascending.
@@ -249,6 +256,23 @@ impl Handle {
         }
         Ok(())
     }
+}
+
+// Whether a tree may be opened over these keys and start keys with so many cards, and else why not.
+fn may_open(keys: &[u64], start: &[(u64, u64)], cards: u64) -> Result<(), Refusal>
+    ensures may { OnOk result (MayOpen keys.now start.now cards) }
+    ensures refused { IfErr result (λ why. Refuses keys.now start.now cards why × (why ≢ NoMemory)) }
+{
+    if !is_start(start) {
+        return Err(Refusal::BadStart);
+    }
+    if !are_keys(keys, start) {
+        return Err(Refusal::BadKey);
+    }
+    if !is_card_count(cards) {
+        return Err(Refusal::BadCards);
+    }
+    Ok(())
 }
 
 // Only what may go to another thread.

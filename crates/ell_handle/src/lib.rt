@@ -5,6 +5,7 @@
 mod handle;
 mod keys;
 mod refusal;
+mod renewing;
 
 pub use handle::{Handle, Place, SharedTree, sent};
 pub use refusal::Refusal;

@@ -1,4 +1,4 @@
-use Rattle.std.specs.Prelude.{ℤ, pos, negsuc}
+use Rattle.std.specs.Prelude.{◌≡◌, ◌⊎◌, ℤ, pos, negsuc, List, [], ◌∷◌}
 use Rattle.ell_handle.specs.declared.refusal.Refusal.{Refusal}
 use Rattle.ell_handle.specs.declared.refusal.Refusal.TheVariants.{Foreign, NoTries, Busy, Spent, BadCards, BadKey, BadStart, OtherTree, NoMemory}
 
@@ -68,3 +68,8 @@ code_of BadKey = said_bad_key
 code_of BadStart = said_bad_start
 code_of OtherTree = said_other_tree
 code_of NoMemory = said_no_memory
+
+-- an answer is one of these
+abbrev pub IsOneOf : List ℤ → ℤ → Type 0
+IsOneOf [] said = ⊥
+IsOneOf (code ∷ codes) said = (said ≡ code) ⊎ IsOneOf codes said

@@ -1,12 +1,15 @@
-use Rattle.std.specs.Prelude.{◌≡◌, ◌≢◌, ℕ, Option, Some, None, List, length, map}
+use Rattle.std.specs.Prelude.{◌≡◌, ◌≢◌, ◌<◌, ◌≤◌, ℕ, Option, Some, None, List, length, map, take, drop}
 use Rattle.std.specs.Arc.{arc_value}
-use Rattle.ell_ops.specs.Contents.{Contents, nothing}
+use Rattle.ell_ops.specs.Contents.{Contents, ListsPairs, nothing}
 use Rattle.ell_cards.specs.Changes.{keys_of}
 use Rattle.ell_cards.specs.Looking.{IsFoundInRuns}
 use Rattle.ell_tree.specs.Ledgers.{Owns, hindrances, present_in}
 use Rattle.ell_tree.specs.PassParts.{IsUnion}
-use Rattle.ell_handle.specs.Opens.{OwnsAll}
+use Rattle.ell_handle.specs.Opens.{OwnsAll, Refuses}
+use Rattle.ell_handle.specs.Renewal.{IsRenewed}
 use Rattle.ell_handle.specs.declared.handle.Handle.{Handle}
+use Rattle.ell_handle.specs.declared.refusal.Refusal.{Refusal}
+use Rattle.ell_handle.specs.declared.refusal.Refusal.TheVariants.{NoMemory}
 use Rattle.elltree.specs.Owned.{Inside}
 use Rattle.elltree.specs.declared.Pair.{Pair}
 
@@ -91,3 +94,35 @@ NumbersDiffer None right = ⊥
 -- pairs of a host as the tree has them
 abbrev pub as_pairs : List Pair → List (ℕ × ℕ)
 as_pairs pairs = map (λ pair. (pair.key, pair.value)) pairs
+
+-- the first of an array are the pairs of a map, ascending, and the others are as they were
+pub record WritesPairs (there : Contents) (count : ℕ) (old new : List Pair) : Type 0 where
+  pub fits : count ≤ length new
+  pub pairs : ListsPairs there (as_pairs (take count new))
+  pub others : drop count new ≡ drop count old
+
+-- a map has more pairs than this
+abbrev pub NeedsMore : Contents → ℕ → Type 0
+NeedsMore there room = (pairs : List (ℕ × ℕ)) → ListsPairs there pairs → room < length pairs
+
+-- the handle of a slot is the first of a new tree, with so many cards and this map
+abbrev pub IsRenewedIn : Contents → ℕ → Option Handle → Type 0
+IsRenewedIn there cards (Some handle) = IsRenewed there cards (arc_value handle.shared).tree handle.pass
+IsRenewedIn there cards None = ⊥
+
+-- the number by which a handle's tree is told from others
+abbrev pub number_in : Option Handle → Option ℕ
+number_in (Some handle) = Some (arc_value handle.shared).number
+number_in None = None
+
+-- two handles are of one tree
+abbrev pub AreOfOneTree : Option Handle → Option Handle → Type 0
+AreOfOneTree (Some left) (Some right) = left.shared ≡ right.shared
+AreOfOneTree (Some left) None = ⊥
+AreOfOneTree None (Some right) = ⊥
+AreOfOneTree None None = Unit {0}
+
+-- when a slot is not opened, and why: memory may be refused first
+abbrev pub OpenRefuses : List ℕ → List (ℕ × ℕ) → ℕ → Refusal → Type 0
+OpenRefuses keys start cards NoMemory = Unit {0}
+OpenRefuses keys start cards why = Refuses keys start cards why

@@ -1,15 +1,16 @@
 //! Finds, looks, inserts and deletes.
-ghost use Rattle.std.specs.Prelude.{◌≡◌, ◌≢◌, ◌<◌, ◌≤◌, ◌+◌, ℕ, None, Some};
+ghost use Rattle.std.specs.Prelude.{◌≡◌, ◌≢◌, ◌<◌, ◌≤◌, ◌+◌, ℕ, None, Some, Ok, Err};
 ghost use Rattle.std.specs.Arc.{arc_value};
 ghost use Rattle.ell_ops.specs.declared.op.Op.TheVariants.{Insert, Delete};
 ghost use Rattle.ell_ops.specs.Meaning.{after, greatest_key};
 ghost use Rattle.ell_tree.specs.Ledgers.{Owns, hindrances, present_in};
+ghost use Rattle.ell_handle.specs.declared.refusal.Refusal.TheVariants.{BadKey, Foreign};
 ghost use Rattle.elltree.specs.Codes.{said_bad_key, said_busy, said_closed, said_foreign, said_no, said_no_tries, said_spent, said_yes};
 ghost use Rattle.elltree.specs.Maps.{IsFoundBy, OwnsIn, handle_of, hindrances_in, last_card_in, map_of, next_in};
 
 use crate::codes::{CLOSED, NO, YES, code_of_refusal};
 use crate::slot::Slot;
-use ell_handle::Handle;
+use ell_handle::{Handle, Refusal};
 use std::alloc::Global;
 
 /// Whether a key of the slot's is present, and its value.
@@ -48,14 +49,7 @@ fn find(handle: &mut Handle, key: u64, value: &mut u64) -> i32
     ensures same { (k : ℕ) → present_in handle.new.pass k ≡ present_in handle.old.pass k }
     ensures kept { result ≢ said_yes → value.new ≡ value.old }
 {
-    match handle.find(key) {
-        Ok(Some(found)) => {
-            *value = found;
-            YES
-        }
-        Ok(None) => NO,
-        Err(refusal) => code_of_refusal(refusal),
-    }
+    told(handle.find(key), value)
 }
 
 /// Whether any key of the slot's tree is present, whoever owns it, and its value: as it was in one state of the tree during the call.
@@ -98,7 +92,19 @@ fn look(handle: &mut Handle, key: u64, value: &mut u64) -> i32
     ensures same { (k : ℕ) → present_in handle.new.pass k ≡ present_in handle.old.pass k }
     ensures kept { result ≢ said_yes → value.new ≡ value.old }
 {
-    match handle.look(key) {
+    told(handle.look(key), value)
+}
+
+// What a find or a look has answered, as a code: a value that was found is written.
+fn told(answer: Result<Option<u64>, Refusal>, value: &mut u64) -> i32
+    ensures yes { result ≡ said_yes → answer ≡ Ok (Some value.new) }
+    ensures no { result ≡ said_no → answer ≡ Ok None }
+    ensures foreign { result ≡ said_foreign → answer ≡ Err Foreign }
+    ensures bad_key { result ≡ said_bad_key → answer ≡ Err BadKey }
+    ensures unclosed { result ≢ said_closed }
+    ensures kept { result ≢ said_yes → value.new ≡ value.old }
+{
+    match answer {
         Ok(Some(found)) => {
             *value = found;
             YES

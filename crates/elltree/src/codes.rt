@@ -1,7 +1,7 @@
 //! What the exported functions answer.
 ghost use Rattle.std.specs.Prelude.{◌≡◌, ◌≢◌};
-ghost use Rattle.ell_handle.specs.declared.refusal.Refusal.TheVariants.{Foreign, NoTries, Busy, Spent, BadCards, BadKey, OtherTree};
-ghost use Rattle.elltree.specs.Codes.{code_of, said_bad_cards, said_bad_key, said_busy, said_closed, said_foreign, said_no, said_no_tries, said_open, said_other_tree, said_spent, said_yes};
+ghost use Rattle.ell_handle.specs.declared.refusal.Refusal.TheVariants.{Foreign, NoTries, Busy, Spent, BadCards, BadKey, BadStart, NoMemory, OtherTree};
+ghost use Rattle.elltree.specs.Codes.{code_of, said_bad_cards, said_bad_key, said_bad_start, said_busy, said_closed, said_foreign, said_no, said_no_memory, said_no_room, said_no_tries, said_open, said_other_tree, said_spent, said_yes};
 
 use ell_handle::Refusal;
 
@@ -40,6 +40,7 @@ pub fn code_of_refusal(refusal: Refusal) -> i32
     ensures no { result ≢ said_no }
     ensures closed { result ≢ said_closed }
     ensures opened { result ≢ said_open }
+    ensures no_room { result ≢ said_no_room }
     ensures foreign { result ≡ said_foreign → refusal ≡ Foreign }
     ensures no_tries { result ≡ said_no_tries → refusal ≡ NoTries }
     ensures busy { result ≡ said_busy → refusal ≡ Busy }
@@ -47,6 +48,8 @@ pub fn code_of_refusal(refusal: Refusal) -> i32
     ensures bad_cards { result ≡ said_bad_cards → refusal ≡ BadCards }
     ensures other_tree { result ≡ said_other_tree → refusal ≡ OtherTree }
     ensures bad_key { result ≡ said_bad_key → refusal ≡ BadKey }
+    ensures bad_start { result ≡ said_bad_start → refusal ≡ BadStart }
+    ensures no_memory { result ≡ said_no_memory → refusal ≡ NoMemory }
 {
     match refusal {
         Refusal::Foreign => FOREIGN,

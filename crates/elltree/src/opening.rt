@@ -1,14 +1,15 @@
 //! How slots open, part, come together and close.
-ghost use Rattle.std.specs.Prelude.{◌≡◌, ◌≢◌, ℕ, if◌then◌else◌, true, None, Err, IfOk, OnOk, OnErr};
+ghost use Rattle.std.specs.Prelude.{◌≡◌, ◌≢◌, ◌⊎◌, ℕ, if◌then◌else◌, true, false, None, Err, IfOk, IfErr, OnOk, OnErr, [], ◌∷◌};
+ghost use Rattle.std.specs.List.{All};
 ghost use Rattle.ell_ops.specs.Contents.{contents_of};
 ghost use Rattle.ell_ops.specs.KeySet.{set_of};
-ghost use Rattle.ell_cards.specs.Models.{IsCardCount};
-ghost use Rattle.ell_handle.specs.declared.refusal.Refusal.TheVariants.{BadCards};
-ghost use Rattle.elltree.specs.Codes.{said_bad_cards, said_closed, said_open, said_other_tree, said_yes};
-ghost use Rattle.elltree.specs.Maps.{IsJoined, NumbersDiffer, NumbersTell, OwnsAllIn, as_pairs, handle_of, map_in, map_of};
+ghost use Rattle.ell_handle.specs.Opens.{MayOpen, Refuses};
+ghost use Rattle.ell_handle.specs.declared.refusal.Refusal.TheVariants.{BadCards, BadKey, BadStart};
+ghost use Rattle.elltree.specs.Codes.{IsOneOf, said_bad_cards, said_bad_key, said_bad_start, said_closed, said_foreign, said_no_memory, said_open, said_other_tree, said_yes};
+ghost use Rattle.elltree.specs.Maps.{IsJoined, NumbersDiffer, NumbersTell, OpenRefuses, OwnsAllIn, OwnsIn, as_pairs, handle_of, map_in, map_of};
 
 use crate::Pair;
-use crate::codes::{CLOSED, OPEN, YES, code_of_refusal};
+use crate::codes::{CLOSED, NO_MEMORY, OPEN, YES, code_of_refusal};
 use crate::slot::Slot;
 use ell_handle::{Handle, Place, Refusal};
 use std::alloc::{AllocError, Global};
@@ -26,10 +27,13 @@ pub extern "C" fn elltree_slot_open(
 ) -> i32
     ensures opened { result ≡ said_yes → (k : ℕ) → map_of slot.new.raw.inside k ≡ contents_of (as_pairs start.now) k }
     ensures owns { result ≡ said_yes → OwnsAllIn keys.now (as_pairs start.now) (handle_of slot.new.raw.inside) }
-    ensures cards { result ≡ said_yes → IsCardCount cards }
-    ensures bad_cards { result ≡ said_bad_cards → ¬ IsCardCount cards }
+    ensures may { result ≡ said_yes → MayOpen keys.now (as_pairs start.now) cards }
+    ensures bad_start { result ≡ said_bad_start → Refuses keys.now (as_pairs start.now) cards BadStart }
+    ensures bad_key { result ≡ said_bad_key → Refuses keys.now (as_pairs start.now) cards BadKey }
+    ensures bad_cards { result ≡ said_bad_cards → Refuses keys.now (as_pairs start.now) cards BadCards }
     ensures busy { slot.old.is_open ≡ true → result ≡ said_open }
     ensures free { result ≡ said_open → slot.old.is_open ≡ true }
+    ensures codes { IsOneOf (said_yes ∷ said_open ∷ said_bad_start ∷ said_bad_key ∷ said_bad_cards ∷ said_no_memory ∷ []) result }
     ensures refused { result ≢ said_yes → slot.new.raw.inside ≡ slot.old.raw.inside }
 {
     if slot.is_open {
@@ -54,8 +58,8 @@ fn open(
 ) -> Result<Box<Place, Global>, Refusal>
     ensures present { IfOk result (λ place. (k : ℕ) → map_in place.value.handle k ≡ contents_of (as_pairs start.now) k) }
     ensures owns { IfOk result (λ place. OwnsAllIn keys.now (as_pairs start.now) place.value.handle) }
-    ensures cards { OnOk result (IsCardCount cards) }
-    ensures bad_cards { result ≡ Err BadCards → ¬ IsCardCount cards }
+    ensures may { OnOk result (MayOpen keys.now (as_pairs start.now) cards) }
+    ensures refused { IfErr result (OpenRefuses keys.now (as_pairs start.now) cards) }
 {
     let start = pairs_of(alloc, start)?;
     let handle = Handle::open(alloc, keys, &start, cards, number)?;
@@ -87,8 +91,14 @@ pub extern "C" fn elltree_slot_split(
         map_of into.new.raw.inside k ≡ (if set_of keys.now k then map_of from.old.raw.inside k else None) }
     ensures rest { result ≡ said_yes → (k : ℕ) →
         map_of from.new.raw.inside k ≡ (if set_of keys.now k then None else map_of from.old.raw.inside k) }
+    ensures numbers { result ≡ said_yes → NumbersTell (handle_of from.new.raw.inside) (handle_of into.new.raw.inside) }
+    ensures owned { result ≡ said_yes → All (OwnsIn (handle_of from.old.raw.inside)) keys.now }
+    ensures foreign { result ≡ said_foreign → ¬ All (OwnsIn (handle_of from.old.raw.inside)) keys.now }
     ensures busy { into.old.is_open ≡ true → result ≡ said_open }
     ensures free { result ≡ said_open → into.old.is_open ≡ true }
+    ensures closed { result ≡ said_closed → handle_of from.old.raw.inside ≡ None }
+    ensures none { handle_of from.old.raw.inside ≡ None → into.old.is_open ≡ false → result ≡ said_closed }
+    ensures codes { IsOneOf (said_yes ∷ said_open ∷ said_closed ∷ said_foreign ∷ said_no_memory ∷ []) result }
     ensures refused { result ≢ said_yes → from.new.raw.inside ≡ from.old.raw.inside }
     ensures unopened { result ≢ said_yes → into.new.raw.inside ≡ into.old.raw.inside }
 {
@@ -103,23 +113,32 @@ pub extern "C" fn elltree_slot_split(
             into.put(part);
             YES
         }
-        Err(refusal) => code_of_refusal(refusal),
+        Err(code) => code,
     };
     from.put(place);
     code
 }
 
-// Parts the handle of a place: the part with these keys, in a box of its own.
-fn split(alloc: Global, place: &mut Place, keys: &[u64]) -> Result<Box<Place, Global>, Refusal>
+// Parts the handle of a place: the part with these keys, in a box of its own, or a code.
+fn split(alloc: Global, place: &mut Place, keys: &[u64]) -> Result<Box<Place, Global>, i32>
     ensures given { IfOk result (λ part. (k : ℕ) →
         map_in part.value.handle k ≡ (if set_of keys.now k then map_in place.old.handle k else None)) }
     ensures rest { OnOk result ((k : ℕ) →
         map_in place.new.handle k ≡ (if set_of keys.now k then None else map_in place.old.handle k)) }
+    ensures numbers { IfOk result (λ part. NumbersTell place.new.handle part.value.handle) }
+    ensures owned { OnOk result (All (OwnsIn place.old.handle) keys.now) }
+    ensures foreign { result ≡ Err said_foreign → ¬ All (OwnsIn place.old.handle) keys.now }
+    ensures closed { result ≡ Err said_closed → place.old.handle ≡ None }
+    ensures none { place.old.handle ≡ None → result ≡ Err said_closed }
+    ensures codes { IfErr result (IsOneOf (said_closed ∷ said_foreign ∷ said_no_memory ∷ [])) }
     ensures refused { OnErr result (place.new ≡ place.old) }
 {
-    let mut part = Box::new(alloc, Place { handle: None })?;
     let Some(handle) = place.handle.take() else {
-        return Err(Refusal::Foreign);
+        return Err(CLOSED);
+    };
+    let Ok(mut part) = Box::new(alloc, Place { handle: None }) else {
+        place.handle = Some(handle);
+        return Err(NO_MEMORY);
     };
     match handle.split(alloc, keys) {
         Ok((given, rest)) => {
@@ -129,7 +148,7 @@ fn split(alloc: Global, place: &mut Place, keys: &[u64]) -> Result<Box<Place, Gl
         }
         Err((whole, refusal)) => {
             place.handle = Some(whole);
-            Err(refusal)
+            Err(code_of_refusal(refusal))
         }
     }
 }
@@ -144,6 +163,12 @@ pub extern "C" fn elltree_slot_join(alloc: Global, into: &mut Slot, from: &mut S
     ensures given { result ≡ said_yes → from.new.raw.inside ≡ None }
     ensures other_tree { result ≡ said_other_tree →
         NumbersDiffer (handle_of into.old.raw.inside) (handle_of from.old.raw.inside) }
+    ensures numbers { result ≢ said_other_tree →
+        ¬ NumbersDiffer (handle_of into.old.raw.inside) (handle_of from.old.raw.inside) }
+    ensures closed { result ≡ said_closed → (handle_of into.old.raw.inside ≡ None) ⊎ (handle_of from.old.raw.inside ≡ None) }
+    ensures none_into { handle_of into.old.raw.inside ≡ None → result ≡ said_closed }
+    ensures none_from { handle_of from.old.raw.inside ≡ None → result ≡ said_closed }
+    ensures codes { IsOneOf (said_yes ∷ said_closed ∷ said_other_tree ∷ said_no_memory ∷ []) result }
     ensures refused { result ≢ said_yes → into.new.raw.inside ≡ into.old.raw.inside }
     ensures kept { result ≢ said_yes → from.new.raw.inside ≡ from.old.raw.inside }
 {
@@ -167,6 +192,11 @@ fn join(place: &mut Place, added: &mut Place) -> i32
     requires numbers { NumbersTell place.old.handle added.old.handle }
     ensures joined { result ≡ said_yes → IsJoined place.old.handle added.old.handle place.new.handle }
     ensures other_tree { result ≡ said_other_tree → NumbersDiffer place.old.handle added.old.handle }
+    ensures numbers { result ≢ said_other_tree → ¬ NumbersDiffer place.old.handle added.old.handle }
+    ensures closed { result ≡ said_closed → (place.old.handle ≡ None) ⊎ (added.old.handle ≡ None) }
+    ensures none_into { place.old.handle ≡ None → result ≡ said_closed }
+    ensures none_from { added.old.handle ≡ None → result ≡ said_closed }
+    ensures codes { IsOneOf (said_yes ∷ said_closed ∷ said_other_tree ∷ said_no_memory ∷ []) result }
     ensures refused { result ≢ said_yes → place.new ≡ place.old }
     ensures kept { result ≢ said_yes → added.new ≡ added.old }
 {
@@ -195,6 +225,8 @@ fn join(place: &mut Place, added: &mut Place) -> i32
 pub extern "C" fn elltree_slot_free(alloc: Global, slot: &mut Slot) -> i32
     ensures closed { slot.new.raw.inside ≡ None }
     ensures none { result ≡ said_closed → slot.old.raw.inside ≡ None }
+    ensures empty { slot.old.raw.inside ≡ None → result ≡ said_closed }
+    ensures codes { IsOneOf (said_yes ∷ said_closed ∷ []) result }
 {
     match slot.take(alloc) {
         Some(_) => YES,

@@ -1,8 +1,8 @@
 //! What a slot owns and has.
-ghost use Rattle.std.specs.Prelude.{◌≡◌, ◌≢◌, ℕ, None};
+ghost use Rattle.std.specs.Prelude.{◌≡◌, ◌≢◌, ℕ, None, length, [], ◌∷◌};
 ghost use Rattle.ell_tree.specs.Ledgers.{present_in};
-ghost use Rattle.elltree.specs.Codes.{said_closed, said_yes};
-ghost use Rattle.elltree.specs.Maps.{handle_of, map_of, owned_in, steps_in};
+ghost use Rattle.elltree.specs.Codes.{IsOneOf, said_closed, said_no_room, said_yes};
+ghost use Rattle.elltree.specs.Maps.{NeedsMore, WritesPairs, handle_of, map_of, owned_in, steps_in};
 
 use crate::Pair;
 use crate::codes::{CLOSED, NO_ROOM, YES};
@@ -10,7 +10,8 @@ use crate::slot::Slot;
 use ell_handle::Handle;
 use std::alloc::Global;
 
-/// Writes the pairs of the slot's keys that are present, ascending, and how many they are.
+/// Writes the pairs of the slot's keys that are present, ascending, and how many they are. Where there is no room for all, `count` is as it
+/// was, and the first of them are written.
 #[unsafe(no_mangle)]
 pub extern "C" fn elltree_slot_pairs(
     alloc: Global,
@@ -18,6 +19,12 @@ pub extern "C" fn elltree_slot_pairs(
     out: &mut [Pair],
     count: &mut usize,
 ) -> i32
+    ensures pairs { result ≡ said_yes → WritesPairs (map_of slot.old.raw.inside) count.new out.old out.new }
+    ensures no_room { result ≡ said_no_room → NeedsMore (map_of slot.old.raw.inside) (length out.old) }
+    ensures closed { result ≡ said_closed → handle_of slot.old.raw.inside ≡ None }
+    ensures none { handle_of slot.old.raw.inside ≡ None → result ≡ said_closed }
+    ensures codes { IsOneOf (said_yes ∷ said_no_room ∷ said_closed ∷ []) result }
+    ensures count { result ≢ said_yes → count.new ≡ count.old }
     ensures same { (k : ℕ) → map_of slot.new.raw.inside k ≡ map_of slot.old.raw.inside k }
 {
     let Some(mut place) = slot.take(alloc) else {
@@ -33,15 +40,19 @@ pub extern "C" fn elltree_slot_pairs(
 
 // The pairs of a handle.
 fn pairs(handle: &mut Handle, out: &mut [Pair], count: &mut usize) -> i32
+    ensures pairs { result ≡ said_yes → WritesPairs (present_in handle.old.pass) count.new out.old out.new }
+    ensures no_room { result ≡ said_no_room → NeedsMore (present_in handle.old.pass) (length out.old) }
+    ensures codes { IsOneOf (said_yes ∷ said_no_room ∷ []) result }
+    ensures count { result ≢ said_yes → count.new ≡ count.old }
     ensures same { (k : ℕ) → present_in handle.new.pass k ≡ present_in handle.old.pass k }
 {
     let mut written = 0;
     for place in 0..handle.keys().len() {
-        if let Some(pair) = pair_at(handle, place) {
-            let Some(room) = out.get_mut(written) else {
+        if let Some((key, value)) = handle.pair(place) {
+            if written == out.len() {
                 return NO_ROOM;
-            };
-            *room = pair;
+            }
+            out[written] = Pair { key, value };
             written += 1;
         }
     }
@@ -49,22 +60,12 @@ fn pairs(handle: &mut Handle, out: &mut [Pair], count: &mut usize) -> i32
     YES
 }
 
-// One of the keys of a handle, by its place among them, with its value, if it is present.
-fn pair_at(handle: &mut Handle, place: usize) -> Option<Pair>
-    ensures same { (k : ℕ) → present_in handle.new.pass k ≡ present_in handle.old.pass k }
-{
-    let key = handle.keys().get(place).copied()?;
-    match handle.find(key) {
-        Ok(Some(value)) => Some(Pair { key, value }),
-        _ => None,
-    }
-}
-
 /// How many keys the slot owns.
 #[unsafe(no_mangle)]
 pub extern "C" fn elltree_slot_owned(alloc: Global, slot: &mut Slot, count: &mut usize) -> i32
     ensures count { result ≡ said_yes → count.new ≡ owned_in (handle_of slot.old.raw.inside) }
     ensures closed { result ≡ said_closed → handle_of slot.old.raw.inside ≡ None }
+    ensures none { handle_of slot.old.raw.inside ≡ None → result ≡ said_closed }
     ensures same { slot.new.raw.inside ≡ slot.old.raw.inside }
 {
     let Some(place) = slot.take(alloc) else {
@@ -86,6 +87,7 @@ pub extern "C" fn elltree_slot_owned(alloc: Global, slot: &mut Slot, count: &mut
 pub extern "C" fn elltree_slot_steps(alloc: Global, slot: &mut Slot, steps: &mut u64) -> i32
     ensures steps { result ≡ said_yes → steps.new ≡ steps_in (handle_of slot.old.raw.inside) }
     ensures closed { result ≡ said_closed → handle_of slot.old.raw.inside ≡ None }
+    ensures none { handle_of slot.old.raw.inside ≡ None → result ≡ said_closed }
     ensures same { slot.new.raw.inside ≡ slot.old.raw.inside }
 {
     let Some(place) = slot.take(alloc) else {

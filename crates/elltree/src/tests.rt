@@ -4,8 +4,9 @@ use crate::calls::{
     elltree_slot_delete, elltree_slot_find, elltree_slot_insert, elltree_slot_look,
 };
 use crate::codes::{CLOSED, FOREIGN, NO, OPEN, YES};
-use crate::opening::{elltree_slot_free, elltree_slot_open, elltree_slot_split};
+use crate::opening::{elltree_slot_free, elltree_slot_join, elltree_slot_open, elltree_slot_split};
 use crate::reading::{elltree_slot_owned, elltree_slot_pairs};
+use crate::renewing::elltree_slot_renew;
 use crate::slot::Slot;
 use std::alloc::Global;
 
@@ -14,7 +15,7 @@ const KEYS: [u64; 4] = [4, 2, 3, 1];
 const START: [Pair; 1] = [Pair { key: 2, value: 20 }];
 
 #[test]
-fn two_slots_part_and_close(rt: HostRuntime) {
+fn two_slots_part_join_and_close(rt: HostRuntime) {
     let alloc: Global = rt.alloc();
     let mut low = Slot::empty(alloc);
     let mut high = Slot::empty(alloc);
@@ -22,6 +23,9 @@ fn two_slots_part_and_close(rt: HostRuntime) {
     assert!(rt; elltree_slot_find(alloc, &mut low, 2, &mut value) == CLOSED);
     assert!(rt; elltree_slot_open(alloc, &mut low, &KEYS, &START, 10, 1) == YES);
     assert!(rt; elltree_slot_open(alloc, &mut low, &KEYS, &START, 10, 1) == OPEN);
+    assert!(rt; elltree_slot_split(alloc, &mut low, &mut high, &[3, 4]) == YES);
+    assert!(rt; elltree_slot_join(alloc, &mut low, &mut high) == YES);
+    assert!(rt; elltree_slot_renew(alloc, &mut low, 10, 2) == YES);
     assert!(rt; elltree_slot_split(alloc, &mut low, &mut high, &[3, 4]) == YES);
     assert!(rt; elltree_slot_find(alloc, &mut high, 2, &mut value) == FOREIGN);
     assert!(rt; elltree_slot_look(alloc, &mut high, 2, &mut value) == YES);

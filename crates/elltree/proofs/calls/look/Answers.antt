@@ -1,19 +1,21 @@
-use Rattle.std.proofs.Common.{ℕ, Option, Some, None, ap, subst, sym}
+use Rattle.std.proofs.Common.{◌≡◌, ℕ, Option, Some, None, Ok, Result, IfOk, rules, ap, subst, sym}
 use Rattle.std.specs.Arc.{arc_value}
 use Rattle.ell_cards.specs.Looking.{IsFoundInRuns}
 use Rattle.ell_handle.specs.declared.handle.SharedTree.{SharedTree}
+use Rattle.ell_handle.specs.declared.refusal.Refusal.{Refusal}
+use Rattle.elltree.specs.Maps.{IsFoundBy}
 use Rattle.elltree.proofs.calls.look.Goals as goal
+use Rattle.elltree.proofs.calls.look.Goals.{After-told}
 
 -- what the look found, on the tree that the handle has still
-pub returns-in-Ok-Some-clause-yes : goal.returns-in-Ok-Some-clause-yes
-returns-in-Ok-Some-clause-yes c = λ _. record {
-  so = subst (λ (t : SharedTree). IsFoundInRuns t.tree.keys t.tree.start t.tree.last_card c.look.new.self.pass.view c.args.key (Some c.in-Ok-Some.found)) (ap arc_value (sym c.look.ensures.tree))
-      (subst (λ (there : Option ℕ). IsFoundInRuns (arc_value c.args.handle.now.shared).tree.keys (arc_value c.args.handle.now.shared).tree.start (arc_value c.args.handle.now.shared).tree.last_card c.look.new.self.pass.view c.args.key there) c.in-Ok-Some.field-0-is c.in-Ok-Some.ensures.so);
+finds : (c : After-told) (there : Option ℕ) → c.look.result ≡ Ok there → IsFoundBy (Some c.look.new.self) c.args.key there
+finds c there is = record {
+  so = subst (λ (t : SharedTree). IsFoundInRuns t.tree.keys t.tree.start t.tree.last_card c.look.new.self.pass.view c.args.key there) (ap arc_value (sym c.look.ensures.tree))
+      (subst (λ (r : Result (Option ℕ) Refusal). IfOk r (IsFoundInRuns (arc_value c.args.handle.now.shared).tree.keys (arc_value c.args.handle.now.shared).tree.start (arc_value c.args.handle.now.shared).tree.last_card c.look.new.self.pass.view c.args.key)) is c.look.ensures.so);
 }
 
--- and where it found nothing
-pub returns-in-Ok-None-clause-no : goal.returns-in-Ok-None-clause-no
-returns-in-Ok-None-clause-no c = λ _. record {
-  so = subst (λ (t : SharedTree). IsFoundInRuns t.tree.keys t.tree.start t.tree.last_card c.look.new.self.pass.view c.args.key None) (ap arc_value (sym c.look.ensures.tree))
-      (subst (λ (there : Option ℕ). IsFoundInRuns (arc_value c.args.handle.now.shared).tree.keys (arc_value c.args.handle.now.shared).tree.start (arc_value c.args.handle.now.shared).tree.last_card c.look.new.self.pass.view c.args.key there) c.in-Ok-None.field-0-is c.in-Ok-None.ensures.so);
-}
+pub returns-clause-yes : goal.returns-clause-yes
+returns-clause-yes c = λ said. let is : c.look.result ≡ Ok (Some c.told.new.value) = search rules in finds c (Some c.told.new.value) is
+
+pub returns-clause-no : goal.returns-clause-no
+returns-clause-no c = λ said. let is : c.look.result ≡ Ok None = search rules in finds c None is

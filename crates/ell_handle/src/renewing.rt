@@ -1,0 +1,60 @@
+//! How a handle comes to fresh cards.
+ghost use Rattle.std.specs.Prelude.{◌≡◌, ◌<◌, ◌↔◌, ℕ, length, slice_index, Err, IfOk, IfErr, OnOk, OnErr};
+ghost use Rattle.std.specs.Arc.{arc_value};
+ghost use Rattle.ell_ops.specs.Contents.{ListsPairs};
+ghost use Rattle.ell_cards.specs.Changes.{keys_of};
+ghost use Rattle.ell_tree.specs.Ledgers.{Owns, present_in};
+ghost use Rattle.ell_handle.specs.Renewal.{IsRenewed, RenewalRefuses, pair_at};
+
+use crate::handle::Handle;
+use crate::refusal::Refusal;
+use ell_tree::NoGate;
+use std::alloc::{AllocError, Global};
+
+impl Handle {
+    /// Makes the cards fresh: the handle gets a new tree of so many cards, with the keys that it owns, which are present or absent as they
+    /// were. The old tree stays with its other handles, if there are any. Trees that are open at once have different numbers. `BadStart` if
+    /// more keys than `START_MAX` are present, `BadCards` if the cards are not 1 to 1,000,000, and `NoMemory`: then the handle has its old
+    /// tree.
+    pub fn renew(&mut self, alloc: Global, cards: u64, number: u64) -> Result<(), Refusal>
+        ensures map { (k : ℕ) → present_in self.new.pass k ≡ present_in self.old.pass k }
+        ensures owned { (k : ℕ) → Owns self.new.pass k ↔ Owns self.old.pass k }
+        ensures renewed { OnOk result (IsRenewed (present_in self.old.pass) cards (arc_value self.new.shared).tree self.new.pass) }
+        ensures number { OnOk result ((arc_value self.new.shared).number ≡ number) }
+        ensures why { IfErr result (RenewalRefuses (present_in self.old.pass) cards) }
+        ensures refused { OnErr result (self.new.shared ≡ self.old.shared) }
+    {
+        let pairs = self.pairs(alloc)?;
+        *self = Handle::open(alloc, self.keys(), &pairs, cards, number)?;
+        Ok(())
+    }
+
+    /// The keys of the handle's that are present, ascending, with their values.
+    pub fn pairs(&mut self, alloc: Global) -> Result<Vec<(u64, u64)>, AllocError>
+        ensures pairs { IfOk result (λ pairs. ListsPairs (present_in self.old.pass) pairs.items) }
+        ensures map { (k : ℕ) → present_in self.new.pass k ≡ present_in self.old.pass k }
+        ensures owned { (k : ℕ) → Owns self.new.pass k ↔ Owns self.old.pass k }
+        ensures tree { self.new.shared ≡ self.old.shared }
+    {
+        let mut pairs = Vec::with_capacity(alloc, self.keys().len())?;
+        for place in 0..self.keys().len() {
+            if let Some(pair) = self.pair(place) {
+                pairs.push(pair)?;
+            }
+        }
+        Ok(pairs)
+    }
+
+    /// The key at a place among the handle's keys, with its value, if the key is present.
+    pub fn pair(&mut self, place: usize) -> Option<(u64, u64)>
+        requires place { place < length (keys_of self.old.pass.view.worker.ledger) }
+        ensures pair { result ≡ pair_at (present_in self.old.pass) (slice_index (keys_of self.old.pass.view.worker.ledger) place) }
+        ensures keys { keys_of self.new.pass.view.worker.ledger ≡ keys_of self.old.pass.view.worker.ledger }
+        ensures map { (k : ℕ) → present_in self.new.pass k ≡ present_in self.old.pass k }
+        ensures tree { self.new.shared ≡ self.old.shared }
+    {
+        let key = self.pass.keys()[place];
+        let value = self.shared.tree.look(&mut self.pass, key, &NoGate)?;
+        Some((key, value))
+    }
+}
