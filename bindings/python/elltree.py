@@ -105,7 +105,9 @@ def _tries(tries):
 
 
 def open(keys, start=(), cards=1_000_000):
-    """A handle that owns these keys and those of start, a dict or pairs, which are present with their values."""
+    """A handle that owns these keys and those of start, a dict or pairs, which are present with their values. Each change takes a card, until
+    Handle.renew makes the cards fresh. Up to 300,000 cards and start keys together that takes less than a third of the time for each that it
+    takes above, with glibc."""
     pairs = sorted(start.items()) if isinstance(start, dict) else list(start)
     listed = [_Pair(_u64(key), _u64(value)) for key, value in pairs]
     handle = Handle()

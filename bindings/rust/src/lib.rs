@@ -170,7 +170,9 @@ pub struct Handle(Slot);
 unsafe impl Send for Handle {}
 
 impl Handle {
-    /// A tree over these keys and the start keys, which are present with their values. The handle owns all of them.
+    /// A tree over these keys and the start keys, which are present with their values. The handle owns all of them. Each change takes a
+    /// card, until [`Handle::renew`] makes the cards fresh. Up to 300,000 cards and start keys together that takes less than a third of the
+    /// time for each that it takes above, with glibc.
     ///
     /// `BadStart` where the start keys do not ascend strictly or are more than [`START_MAX`], then `BadKey` where a key is above
     /// [`KEY_MAX`], then `BadCards` where the cards are not 1 to [`CARDS_MAX`].
