@@ -60,3 +60,5 @@ pub mod Stretching
 pub mod Counting
 -- In a stretch in which no exchange of a child is won, few flags are.
 pub mod FewFlags
+-- No tree is higher than its table has cards.
+pub mod Heights

@@ -11,7 +11,7 @@ use Rattle.ell_cards.specs.Contention.{cards_in_hand}
 use Rattle.ell_cards.specs.States.{TableState}
 use Rattle.ell_cards.specs.Turns.{Turn, Makes, TableRun, found_by}
 use Rattle.ell_cards.specs.TurnEffects.{own_words}
-use Rattle.ell_cards.specs.Starts.{Starts}
+use Rattle.ell_cards.specs.Starts.{Starts, IsReached}
 
 -- a step call that sets a flag
 abbrev pub is_flag : Call → Bool
@@ -39,6 +39,10 @@ won_in is_such cards s (t ∷ ts) s' run = (if wins is_such s t then 1 else 0) +
 abbrev pub HasHeight : Words → ℕ → Type 0
 HasHeight w h = (path : List Bool) (x : ℕ) → Leads w 0 path x → IsInternal x → length path ≤ h
 
+-- the tree of a table is no higher than the number of the table's last card
+abbrev pub TablesHaveHeights : Type 0
+TablesHaveHeights = (keys : List ℕ) (start : List (ℕ × ℕ)) (last : ℕ) (s : TableState) → IsReached keys start last s → HasHeight (own_words s) last
+
 -- a run of a table from its start, and after it a stretch of any turns of any passes in which no exchange of a child is won
 pub record Stretch (keys : List ℕ) (start : List (ℕ × ℕ)) (cards : ℕ) : Type 0 where
   pub opened : TableState
@@ -56,8 +60,8 @@ abbrev pub passes_at_work : List View → ℕ
 passes_at_work [] = 0
 passes_at_work (v ∷ vs) = (if is_some v.worker.operation then 1 else 0) + passes_at_work vs
 
--- in such a stretch few flags are won: with a tree of this height, on each level at most one for each pass that was at work when it began and two
--- for each card that is in a hand when it ends, and beside them one for each such card
+-- in such a stretch few flags are won, if the tree that it begins with, and keeps, has this height: on each level at most one for each pass that
+-- was at work when it began and two for each card that is in a hand when it ends, and beside them one for each such card
 abbrev pub FewFlagsWithoutAChange : Type 0
 FewFlagsWithoutAChange = (keys : List ℕ) (start : List (ℕ × ℕ)) (cards : ℕ) (r : Stretch keys start cards) (h : ℕ) → HasHeight (own_words r.begun) h
     → won_in is_flag (last_card start cards) r.begun r.turns r.now r.run

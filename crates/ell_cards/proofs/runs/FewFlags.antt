@@ -1,4 +1,4 @@
-use Rattle.std.proofs.Common.{◌≡◌, ◌⊎◌, ℕ, zero, suc, ◌+◌, ◌*◌, ◌<◌, ◌≤◌, ◌==◌, ◌&&◌, ◌||◌, not, nat_lt, Bool, true, false, Option, Some, None, is_some, List, [], ◌∷◌, ◌++◌, length, length-append, inl, inr, refl, sym, ap, ◌∙◌, subst, eq-eqb, eqb-true, arith}
+use Rattle.std.proofs.Common.{◌≡◌, ◌⊎◌, ℕ, zero, suc, ◌+◌, ◌*◌, ◌<◌, ◌≤◌, ◌==◌, ◌&&◌, ◌||◌, not, Bool, true, false, Option, Some, None, is_some, List, [], ◌∷◌, ◌++◌, length, length-append, inl, inr, refl, sym, ap, ◌∙◌, subst, eq-eqb, eqb-true, arith}
 use Rattle.std.proofs.lemmas.Bool.{cases_order, false≢true, or_cases, or_left, or_right, and_parts, and_from, not-true, ltb-false}
 use lib.ListN.{get_elem?}
 use Rattle.ell_word.specs.Node.{IsInternal}
@@ -10,7 +10,7 @@ use Rattle.ell_ops.specs.declared.op.Op.{Op}
 use Rattle.ell_core.specs.state.Machine.{Worker, worker_of}
 use Rattle.ell_core.specs.state.Opening.{last_card}
 use Rattle.ell_core.specs.tree.Tree.{Leads, IsLawful}
-use Rattle.ell_core.specs.history.Stages.{Stage, Stages, is_insert, is_delete, is_claimed, is_changed, is_cut, insert_won, insert_open, delete_won, delete_open, is_backed, is_marked}
+use Rattle.ell_core.specs.history.Stages.{Stages, is_claimed, is_changed, is_cut, insert_won, delete_won, is_backed, is_marked}
 use Rattle.ell_core.specs.history.Invariant.{Invariant, DeleteCard}
 use Rattle.ell_core.proofs.words.CleanWords.{clean_remainder}
 use Rattle.ell_core.proofs.tree.Paths.{Leads-append, Leads-same}

@@ -243,6 +243,8 @@ module _ (keys : List ℕ) (cards : ℕ) where
       (r, went_nowhere (machine_of_table keys cards s r) stage (machine_of_table keys cards s r) holds refl)
   run_goes s r stage holds (t ∷ ts) s' run =
       let first = turn_turns s r stage holds t run.0 run.1 in
-      let rest = run_goes run.0 first.0 first.1.went.stages first.1.went.invariant ts s' run.2 in
-      (rest.0, went_after r.words stage (turn_wins s t) (machine_of_table keys cards run.0 first.0) (run_wins cards run.0 ts s' run.2)
-      (machine_of_table keys cards s' rest.0) first.1.went rest.1)
+      let rest = run_goes run.0 first.0 first.1.went.stages first.1.went.invariant ts s' run.2 in (
+        rest.0,
+        went_after r.words stage (turn_wins s t) (machine_of_table keys cards run.0 first.0) (run_wins cards run.0 ts s' run.2)
+            (machine_of_table keys cards s' rest.0) first.1.went rest.1,
+      )

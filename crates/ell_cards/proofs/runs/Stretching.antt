@@ -1,4 +1,4 @@
-use Rattle.std.proofs.Common.{◌≡◌, ◌⊎◌, ℕ, ◌+◌, ◌<◌, ◌≤◌, ◌&&◌, not, if◌then◌else◌, Bool, true, false, List, [], ◌∷◌, ◌++◌, length, inl, inr, refl, sym, ap, ◌∙◌, subst, arith}
+use Rattle.std.proofs.Common.{◌≡◌, ℕ, ◌+◌, ◌<◌, ◌≤◌, ◌&&◌, not, if◌then◌else◌, Bool, true, false, List, [], ◌∷◌, ◌++◌, length, inl, inr, refl, sym, ap, ◌∙◌, subst, arith}
 use Rattle.std.proofs.lemmas.Bool.{false≢true, false_from_ne_true, and_from, and_right, not_from_false}
 use Rattle.std.proofs.lemmas.List.{append_assoc, append-nil}
 use Rattle.ell_word.specs.Node.{card}
@@ -7,12 +7,9 @@ use Rattle.ell_word.specs.declared.gate.Kind.{Kind}
 use Rattle.ell_core.specs.declared.fact.Fact.TheVariants.{IFlagged, DFlagged, Marked}
 use Rattle.ell_core.specs.state.Words.{Words}
 use Rattle.ell_core.specs.state.Machine.{Machine}
-use Rattle.ell_core.specs.history.Stages.{Stage, Stages, Born, is_start, is_born, is_insert, is_delete, is_changed, is_cut, insert_won, delete_won, delete_waits, delete_open}
+use Rattle.ell_core.specs.history.Stages.{Stages, Born, is_delete, is_changed, delete_waits}
 use Rattle.ell_core.specs.history.Invariant.{Invariant, IsIn, delete_side}
 use Rattle.ell_core.specs.history.Later.{WordsLater, StagesLater, wins_of}
-use Rattle.ell_core.proofs.runs.Chains.{words_later, stages_later}
-use Rattle.ell_core.proofs.words.Later.{words_same}
-use Rattle.ell_core.proofs.stages.Advances.{stages_same, wins_same}
 use Rattle.ell_core.proofs.stages.Order.{delete-claimed, insert-claimed, born-claimed, insert_won-insert, delete_won-delete, delete_waits-delete, delete_waits-open, changed-insert, cut-delete, marked-delete, backed-delete, one_kind}
 use Rattle.ell_core.proofs.stages.Sums.{child_changes, all_flags, sum_by, sum_append, sum_same, changed-sum, sum-changed, unflagged-sum, sum-flagged, flags-once}
 use Rattle.ell_core.proofs.stages.Flags.{was_flagged, flagged_cases, insert-flagged, delete-flagged, flagged-claimed, born_cases, changed-born, backed-won}

@@ -11,7 +11,7 @@ use Rattle.ell_core.specs.declared.event.Event.{Event}
 use Rattle.ell_core.specs.declared.event.Stepped.{Stepped}
 use Rattle.ell_core.specs.declared.event.Stepped.TheVariants.{Won}
 use Rattle.ell_core.specs.declared.fact.Fact.{Fact}
-use Rattle.ell_core.specs.declared.fact.Fact.TheVariants.{IFlagged, DFlagged, DOver, Cut}
+use Rattle.ell_core.specs.declared.fact.Fact.TheVariants.{IFlagged, DFlagged, Cut}
 use Rattle.ell_core.specs.declared.view.Search.{Search}
 use Rattle.ell_core.specs.declared.view.Seen.{Seen}
 use Rattle.ell_core.specs.state.Words.{Words, put}
@@ -21,7 +21,7 @@ use Rattle.ell_core.specs.acts.Searching.{with_read, gone_down}
 use Rattle.ell_core.specs.acts.Exchanges.{flagged_worker, won_or_lost}
 use Rattle.ell_core.specs.acts.Events.{Row, Steps}
 use Rattle.ell_core.specs.acts.Wins.{win_for, wins_by}
-use Rattle.ell_core.specs.history.Stages.{Stage, Stages, is_backed, is_unmarkable, is_delete, delete_won, delete_open, delete_past, delete_over, delete_waits, is_cut}
+use Rattle.ell_core.specs.history.Stages.{Stages, is_backed, is_delete, delete_won, delete_waits}
 use Rattle.ell_core.specs.history.Invariant.{Invariant, StandIsSound, DeleteInHand}
 use Rattle.ell_core.specs.history.Later.{Follows}
 use Rattle.ell_core.proofs.outcomes.Decide.{some_not_none, cases_option}

@@ -3,12 +3,11 @@ use Rattle.ell_word.specs.Node.{IsInternal}
 use Rattle.ell_word.specs.Word.{packed, unpacked}
 use Rattle.ell_word.specs.declared.update.State.{State}
 use Rattle.ell_word.specs.declared.update.State.TheVariants as state
-use Rattle.ell_core.specs.declared.fact.Fact.TheVariants.{IOver, DOver, Backed}
 use Rattle.ell_core.specs.state.Words.{Words}
 use Rattle.ell_core.specs.state.Machine.{Machine}
 use Rattle.ell_core.specs.state.Cards.{iflag, dflag, marked, clean}
 use Rattle.ell_core.specs.acts.Searching.{IsClean}
-use Rattle.ell_core.specs.history.Stages.{Stage, Stages, Born, is_insert, is_delete, insert_won, insert_open, insert_over, is_changed, delete_won, delete_open, delete_over, is_backed, is_marked}
+use Rattle.ell_core.specs.history.Stages.{Stages, Born, is_insert, is_delete, insert_won, insert_open, insert_over, is_changed, delete_won, delete_open, is_marked}
 use Rattle.ell_core.specs.history.Invariant.{Invariant}
 use Rattle.ell_core.specs.history.Later.{WordsLater, StagesLater}
 use Rattle.ell_core.specs.statements.Since.{has_ended, CleansSince}

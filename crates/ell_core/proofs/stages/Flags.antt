@@ -1,4 +1,4 @@
-use Rattle.std.proofs.Common.{◌≡◌, ◌⊎◌, ◌||◌, Bool, true, false, inl, inr, arith}
+use Rattle.std.proofs.Common.{◌≡◌, ◌⊎◌, ◌||◌, Bool, true, false, arith}
 use Rattle.ell_core.specs.history.Stages.{Stage, is_claimed, is_start, is_born, is_changed, insert_won, insert_open, delete_won, delete_open, delete_waits, is_marked, is_cut, is_backed}
 use Rattle.ell_core.specs.statements.Since.{has_ended}
 
