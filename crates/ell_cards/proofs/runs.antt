@@ -50,3 +50,15 @@ pub mod Meanwhile
 pub mod Tries
 -- what no step can tell
 pub mod Tellings
+-- How much was read before a stretch of a run.
+pub mod EarlySums
+-- Which turns win a flag or an exchange of a child, by what is won for each card.
+pub mod FlagTurns
+-- What a run in which no exchange of a child is won makes of cards, turn by turn.
+pub mod Stretching
+-- Counting: what is mapped one to one, and what is on levels.
+pub mod Counting
+-- In a stretch in which no exchange of a child is won, few flags are.
+pub mod FewFlags
+-- No tree is higher than its table has cards.
+pub mod Heights

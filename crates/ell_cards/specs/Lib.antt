@@ -24,6 +24,8 @@ pub mod Readings
 pub mod Meanwhile
 -- how many tries of a pass others may hinder
 pub mod Contention
+-- What can happen while no exchange of a child is won.
+pub mod Stretches
 -- what a look for any key finds, and when it was so
 pub mod Looking
 -- what no step can tell

@@ -8,6 +8,7 @@ ghost use Rattle.ell_cards.specs.OwnWords.{OwnWordsAreSound, StepsStayInside, Ta
 ghost use Rattle.ell_cards.specs.Starts.{TablesStart, StartsHaveTheirKeys, FirstPassMayBegin, RunsFromStarts};
 ghost use Rattle.ell_cards.specs.Readings.{ReadingsArePast, ClaimsAreTold};
 ghost use Rattle.ell_cards.specs.Contention.{TriesAreHinderedByOthers};
+ghost use Rattle.ell_cards.specs.Stretches.{FewFlagsWithoutAChange, TablesHaveHeights};
 ghost use Rattle.ell_cards.specs.Meanwhile.{SearchesBeginThere, SearchesReadMeanwhile, SearchesMeetMeanwhile, KnownMovesWereMade};
 ghost use Rattle.ell_cards.specs.Looking.{LooksAreOfOneState, LooksAreInOrder, LooksReadTheirOwn};
 ghost use Rattle.ell_cards.specs.Tellings.{NoGreaterNext, NoGreaterUpdate, NoOtherOutcome, NoUntriedClaimLost};
@@ -118,6 +119,17 @@ pub fn searches_read_meanwhile()
     ensures meets { SearchesMeetMeanwhile }
     ensures moved { KnownMovesWereMade }
     ensures few { TriesAreHinderedByOthers }
+{}
+
+/// Flags lead to changes of the tree. Take any run from a start, and in it a stretch of any turns of any passes in which no ichild and no dchild
+/// is won, so that the tree stays as it is. If no path from the root to an internal node is longer than `h`, then in the whole stretch,
+/// however long it is, at most `(h + 1) * (w + 2 * c) + c` flags are won: `w` passes had an operation in hand when it began, and `c` have a
+/// card in hand when it ends. So where no more than `p` passes have an operation in hand at a time, in each part of a run in which more than
+/// `p * (3 * h + 4)` flags are won, an ichild or a dchild is won too, by which some insert or delete takes effect. There is such an `h`: the
+/// number of the last card. The law counts won flags; how many steps and tries a call makes, other laws and contracts bound.
+pub fn changes_go_on()
+    ensures few { FewFlagsWithoutAChange }
+    ensures height { TablesHaveHeights }
 {}
 
 /// What a pass finds by a look for any key, whoever owns it, was so in one state of the table since the look began, by the table's own

@@ -31,5 +31,13 @@ pub mod Walks
 pub mod Since
 -- Which update words have become clean since.
 pub mod Cleans
+-- What a delete whose flag was taken back leaves to the later ones of the same nodes.
+pub mod Backtracks
+-- Which card has set a flag or a mark at a node since, where the update word has risen.
+pub mod SetSince
+-- Which searches, and which cards that were flagged since, are of words that were read before.
+pub mod Early
+-- Where no exchange of a child is won, the children of nodes stay.
+pub mod Children
 -- What is on course for a key stays so, and where its child on the key's side changes, it is on the walk from the root.
 pub mod Looks

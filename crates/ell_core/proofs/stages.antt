@@ -4,6 +4,8 @@ pub mod Advances
 pub mod Counts
 -- Which cards have come to their end: what has ended has ended later too.
 pub mod Ended
+-- When the flag of a card stands.
+pub mod Flags
 -- What a card's stage allows to be known holds of the words, and what the phase of its words has made, its stage has made.
 pub mod Holding
 -- Of what kind each card is after an event: what later words and stages keep.
@@ -12,6 +14,8 @@ pub mod Kinds
 pub mod LaterKeys
 -- What the stages say of each other.
 pub mod Order
+-- How much of a kind a card has won by its stage, and what an act adds.
+pub mod Sums
 -- What was told of a card stays so in later words.
 pub mod Told
 -- Which cards wait for their flag.

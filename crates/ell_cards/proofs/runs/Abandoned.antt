@@ -132,14 +132,14 @@ ends_rise c cards s t s' turn =
     omega arith
 
 -- some pass has a card in hand
-record IsHeldThere (vs : List View) (c : ℕ) : Type 0 where
-  seat : ℕ
-  view : View
-  there : get_elem? vs seat ≡ some view
-  holds : view.worker.card ≡ Some c
+pub record IsHeldThere (vs : List View) (c : ℕ) : Type 0 where
+  pub seat : ℕ
+  pub view : View
+  pub there : get_elem? vs seat ≡ some view
+  pub holds : view.worker.card ≡ Some c
 
 -- a worker that has a card in hand is a pass
-hand_there : (vs : List View) (i c : ℕ) → (seat_worker (get_elem? vs i)).card ≡ Some c → IsHeldThere vs c
+pub hand_there : (vs : List View) (i c : ℕ) → (seat_worker (get_elem? vs i)).card ≡ Some c → IsHeldThere vs c
 hand_there vs i c has = by (get_elem? vs i) refl has
   where
     by : (o : Item View) → get_elem? vs i ≡ o → (seat_worker o).card ≡ Some c → IsHeldThere vs c

@@ -409,9 +409,9 @@ module _ (keys : List ℕ) (cards : ℕ) (m0 : Machine) (stage : Stages) (first 
   word_apart c p deletes place inner born rose state.Clean d is apart e =
       let said = (holds.words.cards c).delete deletes in
       let h = cleans p d rose is (first_card c deletes d e) in
-      elim h.2 [
-        | inl insert ↦ one_kind (now c) (ap (λ n. is_insert (now n)) (sym e) ∙ insert) deletes
-        | inr below ↦ (let goes = ap r.words.gp (sym e) ∙ below.1 in let first = said.first in omega (arith, goes, place, first))
+      elim h.2.1 [
+        | inl insert ↦ one_kind (now c) (ap (λ n. is_insert (now n)) (sym e) ∙ insert.0) deletes
+        | inr above ↦ (let goes = ap r.words.gp (sym e) ∙ above in let first = said.first in omega (arith, goes, place, first))
       ]
 
   -- so the card in hand is none that its lost mark found

@@ -10,12 +10,12 @@ use Rattle.ell_cards.specs.Contention.{how_many, cards_in_hand}
 abbrev pub one : Bool → ℕ
 one b = if b then 1 else 0
 
-one_less : (b d : Bool) → (b ≡ true → d ≡ true) → one b ≤ one d
+pub one_less : (b d : Bool) → (b ≡ true → d ≡ true) → one b ≤ one d
 one_less false d h = omega arith
 one_less true d h = let is = ap one (h refl) in omega arith
 
 -- where it is so of each number of which it was so
-many_where : (n : ℕ) (was is : ℕ → Bool) → ((c : ℕ) → c < n → was c ≡ true → is c ≡ true) → how_many n was ≤ how_many n is
+pub many_where : (n : ℕ) (was is : ℕ → Bool) → ((c : ℕ) → c < n → was c ≡ true → is c ≡ true) → how_many n was ≤ how_many n is
 many_where zero was is h = omega arith
 many_where (suc n) was is h =
     let first = one_less (was n) (is n) (h n (omega arith)) in
@@ -91,7 +91,7 @@ no_such (suc n) d low =
     let rest = no_such n d (omega arith) in
     omega arith
 
-one_such : (n d : ℕ) → sum_of n (λ c. one (d == c)) ≤ 1
+pub one_such : (n d : ℕ) → sum_of n (λ c. one (d == c)) ≤ 1
 one_such zero d = omega arith
 one_such (suc n) d = elim (cases_eq d n) [
   | inl e ↦ (let yes = ap one (eq-eqb d n e) in let rest = no_such n d (omega arith) in omega arith)
@@ -106,7 +106,7 @@ one_hand : (n : ℕ) (o : Option ℕ) → sum_of n (λ c. one (is_held o c)) ≤
 one_hand n None = let none = no_hand n in omega arith
 one_hand n (Some d) = one_such n d
 
-sum_both : (n : ℕ) (f g : ℕ → ℕ) → sum_of n (λ c. f c + g c) ≡ sum_of n f + sum_of n g
+pub sum_both : (n : ℕ) (f g : ℕ → ℕ) → sum_of n (λ c. f c + g c) ≡ sum_of n f + sum_of n g
 sum_both zero f g = refl
 sum_both (suc n) f g = let rest = sum_both n f g in omega arith
 

@@ -21,7 +21,7 @@ use Rattle.ell_core.specs.statements.Since.{has_ended, cut_at, IsOfUnended, Sear
 use Rattle.ell_core.proofs.outcomes.Decide.{some_not_none}
 use Rattle.ell_core.proofs.words.Writes.{put_same, put_other}
 use Rattle.ell_core.proofs.words.Later.{words_same}
-use Rattle.ell_core.proofs.runs.Chains.{words_later, stages_later}
+use Rattle.ell_core.proofs.runs.Chains.{stages_later}
 use Rattle.ell_core.specs.state.Opening.{last_card}
 use Rattle.ell_core.proofs.stages.Advances.{stages_same}
 use Rattle.ell_core.proofs.stages.Ended.{insert_over-ended, delete_over-ended, backed-ended}
@@ -53,7 +53,7 @@ use Rattle.ell_cards.proofs.seats.Seats.{inside, set_there}
 use Rattle.ell_cards.proofs.lifetimes.Splits.{before_last}
 use Rattle.ell_cards.proofs.runs.InHand.{hand_way}
 use Rattle.ell_cards.proofs.runs.Hindered.{HinderedSince, AllMet, call_hindered, hindered_rests}
-use Rattle.ell_cards.proofs.runs.GoingOn.{Went, went_nowhere, call_wins, cleans_chain, run_goes}
+use Rattle.ell_cards.proofs.runs.GoingOn.{Went, went_nowhere, went_after, call_wins, run_goes}
 use Rattle.ell_cards.proofs.runs.Starting.{starts_are_kept}
 
 -- a stage tells an end where its wins have one
@@ -168,14 +168,7 @@ module _ (m0 : Machine) (stage0 : Stages) (first : Invariant m0 stage0) (seat : 
         → HinderedSince m0.words stage0 kept.words goes.stages old view → Leads s' (λ d. won d ++ more d)
     then_goes s won at s' kept more goes since view there hindered = record {
       kept = kept;
-      went = record {
-        stages = goes.stages;
-        invariant = goes.invariant;
-        words = words_later m0.words at.kept.words kept.words at.went.words goes.words;
-        later = stages_later stage0 at.went.stages goes.stages at.went.later goes.later;
-        wins = λ d. goes.wins d ∙ (ap (λ ks. ks ++ more d) (at.went.wins d) ∙ append_assoc (wins_of (stage0 d)) (won d) (more d));
-        cleans = cleans_chain m0.words stage0 at.kept.words at.went.stages kept.words goes.stages at.went.later goes.later goes.words at.went.cleans goes.cleans;
-      };
+      went = went_after m0.words stage0 won (machine_of_table keys cards s at.kept) more (machine_of_table keys cards s' kept) at.went goes;
       since = since;
       view = view;
       there = there;
@@ -195,7 +188,7 @@ module _ (m0 : Machine) (stage0 : Stages) (first : Invariant m0 stage0) (seat : 
         let turn = turn_lawful keys cards s at.kept (Makes other c) s' h in
         let m = machine_of_table keys cards s at.kept in
         let m' = machine_of_table keys cards s' turn.0 in
-        let goes = call_wins m at.went.stages at.went.invariant other m' c (found_by s c) h.view cards (ap (λ o. (seat_worker o).card) h.there) h.may turn.1.machine in
+        let goes = (call_wins m at.went.stages at.went.invariant other m' c (found_by s c) h.view cards (ap (λ o. (seat_worker o).card) h.there) h.may turn.1.machine).went in
         let on = becomes_since m at.went.stages other (act_of c (found_by s c)) (said_of c (found_by s c)) m' at.went.invariant at.went.words at.went.later
         turn.1.machine in
         elim (cases_eq seat other) [

@@ -13,7 +13,7 @@ use Rattle.ell_core.specs.acts.Events.{Row}
 use Rattle.ell_core.specs.history.Stages.{Stages, insert_open, delete_open}
 use Rattle.ell_core.specs.history.Invariant.{Invariant, IsInnerBorn}
 use Rattle.ell_core.specs.history.Later.{WordsLater, StagesLater, Follows}
-use Rattle.ell_core.specs.statements.Since.{has_ended, IsInsertOrBelow, CleansSince, CleansGoOn}
+use Rattle.ell_core.specs.statements.Since.{has_ended, IsFlaggedAt, CleansSince, CleansGoOn}
 use Rattle.ell_core.proofs.words.Writes.{put_same, put_other}
 use Rattle.ell_core.proofs.stages.Order.{changed-insert, cut-delete, unmarkable-delete, insert-claimed, delete-claimed}
 use Rattle.ell_core.proofs.stages.Ended.{changed-ended, cut-ended, unmarkable-ended, insert_open-unended, delete_open-unended, ends_last, unended_before}
@@ -22,7 +22,7 @@ use Rattle.ell_core.proofs.stages.Ended.{changed-ended, cut-ended, unmarkable-en
 data Change (old new : Words) (before after : Stages) (x : ℕ) : Type 0 where
   same : new.update x ≡ old.update x → Change old new before after x
   dirty : ((c : ℕ) → new.update x ≡ clean c → c ≡ 0) → Change old new before after x
-  ends : (d : ℕ) → new.update x ≡ clean d → has_ended (before d) ≡ false → has_ended (after d) ≡ true → IsInsertOrBelow new after x d
+  ends : (d : ℕ) → new.update x ≡ clean d → has_ended (before d) ≡ false → has_ended (after d) ≡ true → IsFlaggedAt new after x d
       → Change old new before after x
 
 -- an exchange of an update word at a node
@@ -82,7 +82,7 @@ module _ (old : Machine) (before : Stages) (i : ℕ) (said : Stepped) (becomes :
         let place = (follows.words.info c low).p in
         let there = ap becomes.words.update place ∙ (ap becomes.words.update (sym h.0) ∙ now) in
         omega arith)))
-        (inl (follows.later.insert c inserts))
+        (let more = follows.words.next in (omega arith, inl (follows.later.insert c inserts, (follows.words.info c low).p ∙ sym h.0)))
   ]
 
   -- the end of a delete
@@ -100,7 +100,7 @@ module _ (old : Machine) (before : Stages) (i : ℕ) (said : Stepped) (becomes :
         let place = (follows.words.info c low).gp in
         let there = ap becomes.words.update place ∙ (ap becomes.words.update (sym h.0) ∙ now) in
         omega arith)))
-        (let more = follows.words.next in inr (omega arith, (follows.words.info c low).gp ∙ sym h.0))
+        (let more = follows.words.next in (omega arith, inr ((follows.words.info c low).gp ∙ sym h.0)))
   ]
 
   ends_cut : (c : ℕ) → (old.worker i).knows (Cut c) ≡ true
@@ -152,15 +152,22 @@ changes (act.Backtrack c) old before i said becomes inv row f x =
 
 -- where a card of a clean word goes, it goes on
 pub below_later : (old new : Words) (before after : Stages) → WordsLater old new → StagesLater before after → (x c : ℕ)
-    → IsInsertOrBelow old before x c → IsInsertOrBelow new after x c
-below_later old new before after words more x c (inl insert) = inl (more.insert c insert)
-below_later old new before after words more x c (inr h) = let next = words.next in let low = h.0 in inr (omega arith, (words.info c h.0).gp ∙ h.1)
+    → IsFlaggedAt old before x c → IsFlaggedAt new after x c
+below_later old new before after words more x c h =
+    let next = words.next in
+    let low = h.0 in (
+      omega arith,
+      elim h.1 [
+        | inl insert ↦ inl (more.insert c insert.0, (words.info c h.0).p ∙ insert.1)
+        | inr at ↦ inr ((words.info c h.0).gp ∙ at)
+      ],
+    )
 
 -- a clean word that is new is of a card that has ended since
 clean_since : (w : Words) (stage : Stages) (old new : Words) (before after : Stages) → StagesLater stage before → WordsLater old new → StagesLater before after
     → CleansSince w stage old before → (x : ℕ) → Change old new before after x
     → (c : ℕ) → w.update x < new.update x → new.update x ≡ clean c → 0 < c
-    → (has_ended (stage c) ≡ false) × (has_ended (after c) ≡ true) × IsInsertOrBelow new after x c
+    → (has_ended (stage c) ≡ false) × (has_ended (after c) ≡ true) × IsFlaggedAt new after x c
 clean_since w stage old new before after later words more since x (same e) c rose is some =
     let was = since x c (omega arith) (sym e ∙ is) some in (was.0, ends_last before after more c was.1, below_later old new before after words more x c was.2)
 clean_since w stage old new before after later words more since x (dirty none) c rose is some = let zero_it = none c is in absurd (omega arith)
@@ -168,7 +175,7 @@ clean_since w stage old new before after later words more since x (ends d e un d
     let one : d ≡ c = omega arith in (
       unended_before stage before later c (ap (λ n. has_ended (before n)) (sym one) ∙ un),
       ap (λ n. has_ended (after n)) (sym one) ∙ done,
-      subst (IsInsertOrBelow new after x) one below,
+      subst (IsFlaggedAt new after x) one below,
     )
 
 -- so it goes on

@@ -25,7 +25,7 @@ insert_won-cases at.IChanged h = inl refl
 insert_won-cases at.IOver h = inr refl
 insert_won-cases _ h = absurd (false≢true h)
 
-delete_won-cases : (s : Stage) → delete_won s ≡ true → (delete_open s ≡ true) ⊎ (delete_past s ≡ true)
+pub delete_won-cases : (s : Stage) → delete_won s ≡ true → (delete_open s ≡ true) ⊎ (delete_past s ≡ true)
 delete_won-cases at.DFlagged h = inl refl
 delete_won-cases at.DUnmarkable h = inl refl
 delete_won-cases at.DMarked h = inl refl
@@ -40,7 +40,7 @@ delete_over-cut s h = (grind arith, grind arith)
 unmarkable-won : (s : Stage) → is_unmarkable s ≡ true → (delete_won s ≡ true) × (is_marked s ≡ false)
 unmarkable-won s h = (grind arith, grind arith)
 
-backed-unmarkable : (s : Stage) → is_backed s ≡ true → (is_unmarkable s ≡ true) × (delete_past s ≡ true)
+pub backed-unmarkable : (s : Stage) → is_backed s ≡ true → (is_unmarkable s ≡ true) × (delete_past s ≡ true)
 backed-unmarkable s h = (grind arith, grind arith)
 
 -- what is over is past, and what stands is the same: either is no less

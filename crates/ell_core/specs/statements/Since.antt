@@ -66,15 +66,15 @@ SearchesGoOn = (m : Machine) (stage : Stages) (old : Machine) (before : Stages) 
     → Invariant m stage → Invariant old before → WordsLater m.words old.words → StagesLater stage before → Steps old e said new
     → (e.worker ≡ i → GoesOn e.act) → SearchSince m.words stage old.words (old.worker i) → SearchSince m.words stage new.words (new.worker i)
 
--- a card is an insert's, or it is a claimed one that goes to this grandparent
-abbrev pub IsInsertOrBelow : Words → Stages → ℕ → ℕ → Type 0
-IsInsertOrBelow now after x c = (is_insert (after c) ≡ true) ⊎ ((c < now.next) × (now.gp c ≡ x))
+-- a card is an insert's, or another claimed one, and its flag is set at this node: an insert's at the parent, a delete's at the grandparent
+abbrev pub IsFlaggedAt : Words → Stages → ℕ → ℕ → Type 0
+IsFlaggedAt now after x c = (c < now.next) × (((is_insert (after c) ≡ true) × (now.p c ≡ x)) ⊎ (now.gp c ≡ x))
 
--- each update word that has risen since to a clean one, of a card that may have a flag, is of one that has ended since; a delete's stands
--- at its grandparent
+-- each update word that has risen since to a clean one, of a card that may have a flag, is of one that has ended since, whose flag
+-- was set there
 abbrev pub CleansSince : Words → Stages → Words → Stages → Type 0
 CleansSince w stage now after = (x c : ℕ) → w.update x < now.update x → now.update x ≡ clean c → 0 < c
-    → (has_ended (stage c) ≡ false) × (has_ended (after c) ≡ true) × IsInsertOrBelow now after x c
+    → (has_ended (stage c) ≡ false) × (has_ended (after c) ≡ true) × IsFlaggedAt now after x c
 
 -- and it goes on so, whatever event comes
 abbrev pub CleansGoOn : Type 0
