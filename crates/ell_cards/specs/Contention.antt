@@ -39,6 +39,6 @@ TriesAreHinderedByOthers = (keys : List ℕ) (start : List (ℕ × ℕ)) (cards 
 
 -- so many tries are no more than that, in every run of a table with these keys, start keys and this last card in which a pass now knows this
 -- and had given up so many before it took its operation in hand
-abbrev pub AreHinderedByOthers : List ℕ → List (ℕ × ℕ) → ℕ → ℕ → View → ℕ → Type 0
-AreHinderedByOthers keys start last before v tries = (cards : ℕ) → last_card start cards ≡ last → (r : SearchRun keys start cards) → r.view ≡ v
-    → r.begins.view.hindered ≡ before → tries ≤ 2 * given_to_others keys start cards r + cards_in_hand r.begun.views
+pub record AreHinderedByOthers (keys : List ℕ) (start : List (ℕ × ℕ)) (last before : ℕ) (v : View) (tries : ℕ) : Type 0 where
+  pub few : (cards : ℕ) → last_card start cards ≡ last → (r : SearchRun keys start cards) → r.view ≡ v → r.begins.view.hindered ≡ before
+      → tries ≤ 2 * given_to_others keys start cards r + cards_in_hand r.begun.views

@@ -1,4 +1,4 @@
-use Rattle.std.proofs.Common.{◌≡◌, ℕ, ◌+◌, ◌*◌, ◌≤◌, ◌++◌, ◌&&◌, if◌then◌else◌, Bool, true, false, Option, List, [], ◌∷◌, length, refl, sym, ap, ◌∙◌, subst, arith, length-append}
+use Rattle.std.proofs.Common.{◌≡◌, ℕ, ◌+◌, ◌≤◌, ◌++◌, ◌&&◌, if◌then◌else◌, Bool, true, false, Option, List, [], ◌∷◌, length, refl, sym, ap, ◌∙◌, subst, arith, length-append}
 use Rattle.std.proofs.lemmas.List.{append_cancel_right}
 use Rattle.ell_ops.specs.declared.op.Op.{Op}
 use Rattle.ell_word.specs.declared.update.State.{State}
@@ -8,9 +8,7 @@ use Rattle.ell_cards.specs.declared.view.Hindrance.TheVariants.{Claim, Found}
 use Rattle.ell_cards.specs.declared.view.View.{View}
 use Rattle.ell_cards.specs.Models.{PassModel, Does}
 use Rattle.ell_cards.specs.Changes.{in_the_way, met_in_try, update_over, all_over, was_hindered, tries_hindered}
-use Rattle.ell_cards.specs.Contention.{given_to_others, cards_in_hand, AreHinderedByOthers}
 use Rattle.ell_cards.proofs.views.Facts.{ended_test}
-use Rattle.ell_cards.proofs.runs.Tries.{tries_are_hindered_by_others}
 use Rattle.ell_tree.specs.Hindrances.{IsEnded, AreOver, way_of}
 use Rattle.ell_tree.specs.Searches.{AtRoot}
 use Rattle.ell_tree.specs.Tries.{Halts}
@@ -39,16 +37,6 @@ one_hindered v = by (was_hindered v.worker.facts (met_in_try v))
     by : (b : Bool) → (v.hindered ≤ v.hindered + (if b then 1 else 0)) × (v.hindered + (if b then 1 else 0) ≤ v.hindered + 1)
     by true = (omega arith, omega arith)
     by false = (omega arith, omega arith)
-
--- so many tries that were hindered were so by others, in every run
-pub tries_by_others : (keys : List ℕ) (start : List (ℕ × ℕ)) (last : ℕ) (old new : View) (tries : ℕ) → new.hindered ≡ old.hindered + tries
-    → AreHinderedByOthers keys start last old.hindered new tries
-tries_by_others keys start last old new tries counts cards same r is before =
-    more_than r.view.hindered r.begins.view.hindered (2 * given_to_others keys start cards r + cards_in_hand r.begun.views)
-    (tries_are_hindered_by_others keys start cards r) (ap (λ (v : View). v.hindered) is ∙ (counts ∙ ap (λ n. n + tries) (sym before)))
-  where
-    more_than : (now first most : ℕ) → now ≤ first + most → now ≡ first + tries → tries ≤ most
-    more_than now first most few e = omega (arith, few, e)
 
 -- what has ended, as a test of the facts
 update_test : (w : View) (s : State) (c : ℕ) → IsEnded w s c → update_over w.worker.facts s c ≡ true

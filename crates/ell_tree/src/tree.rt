@@ -197,6 +197,7 @@ impl<A: Allocator + Copy> Tree<A> {
     /// counted (`hindered`): of a call that answers `Busy`, all its tries. And others did something for each (`by_others`): in every run of
     /// the tree the tries of such a call are at most two for each card that was given out to another pass while it went on, and one for
     /// each card that some pass had in hand when it began.
+    #[tactic(auto, using(ell_cards::proofs::runs::Tries::more_tries))]
     pub fn insert<G: StepGate>(
         &self,
         pass: &mut Pass<A>,
@@ -228,6 +229,7 @@ impl<A: Allocator + Copy> Tree<A> {
     }
 
     /// Takes a key of the pass away, with its value: whether it was present. Tries, steps and errors are as of `insert`.
+    #[tactic(auto, using(ell_cards::proofs::runs::Tries::more_tries))]
     pub fn delete<G: StepGate>(
         &self,
         pass: &mut Pass<A>,

@@ -755,7 +755,9 @@ tries_are_hindered_by_others keys start cards q = few keys start cards q
 -- and so it is of so many tries as a view has given up more
 pub more_tries : (keys : List ℕ) (start : List (ℕ × ℕ)) (last before : ℕ) (v : View) (tries : ℕ) → v.hindered ≡ before + tries
     → AreHinderedByOthers keys start last before v tries
-more_tries keys start last before v tries more cards all r same was =
-    let few = tries_are_hindered_by_others keys start cards r in
-    let is = ap (λ (u : View). u.hindered) same in
-    omega arith
+more_tries keys start last before v tries more = record {
+  few = λ cards all r same was.
+      let few = tries_are_hindered_by_others keys start cards r in
+      let is = ap (λ (u : View). u.hindered) same in
+      omega arith;
+}
