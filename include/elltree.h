@@ -58,7 +58,7 @@ enum {
     ELLTREE_BAD_CARDS = -5,   /* cards are not 1 to ELLTREE_CARDS_MAX */
     ELLTREE_BAD_KEY = -6,     /* a key is above ELLTREE_KEY_MAX */
     ELLTREE_BAD_START = -7,   /* start keys do not ascend strictly, or they (or the keys present at a renewal) exceed ELLTREE_START_MAX */
-    ELLTREE_NO_ROOM = -8,     /* the array is too short for all pairs */
+    ELLTREE_NO_ROOM = -8,     /* the array is too short for all pairs, or all keys */
     ELLTREE_NO_MEMORY = -9,   /* memory was refused */
     ELLTREE_CLOSED = -10,     /* a handle holds nothing */
     ELLTREE_OPEN = -11,       /* the handle that is to get something holds something */
@@ -77,6 +77,7 @@ int32_t elltree_slot_find(struct elltree_slot *slot, uint64_t key, uint64_t *val
 int32_t elltree_slot_look(struct elltree_slot *slot, uint64_t key, uint64_t *value);
 int32_t elltree_slot_insert(struct elltree_slot *slot, uint64_t key, uint64_t value, uint32_t tries);
 int32_t elltree_slot_delete(struct elltree_slot *slot, uint64_t key, uint32_t tries);
+int32_t elltree_slot_keys(struct elltree_slot *slot, uint64_t *out, size_t room, size_t *count);
 int32_t elltree_slot_owned(struct elltree_slot *slot, size_t *count);
 int32_t elltree_slot_pairs(struct elltree_slot *slot, struct elltree_pair *out, size_t room, size_t *count);
 int32_t elltree_slot_steps(struct elltree_slot *slot, uint64_t *steps);
@@ -185,6 +186,14 @@ static inline int32_t elltree_owned(struct elltree_handle *handle, size_t *count
     return code == ELLTREE_YES ? elltree_leave(handle, elltree_slot_owned(&handle->slot, count)) : code;
 }
 
+/* The keys that the handle owns, ascending, and how many they are; without room for all, none is written. They are what a later split takes
+   to give the handle its keys again. ELLTREE_NULL, ELLTREE_IN_CALL, ELLTREE_CLOSED, ELLTREE_NO_ROOM. */
+static inline int32_t elltree_keys(struct elltree_handle *handle, uint64_t *out, size_t room, size_t *count) {
+    uint64_t none;
+    int32_t code = count && (out || !room) ? elltree_enter(handle) : ELLTREE_NULL;
+    return code == ELLTREE_YES ? elltree_leave(handle, elltree_slot_keys(&handle->slot, out ? out : &none, room, count)) : code;
+}
+
 /* The handle's keys that are present, ascending, with their values, and how many they are. elltree_owned tells for how many there must be
    room at most; without room the array may be null. ELLTREE_NULL, ELLTREE_IN_CALL, ELLTREE_CLOSED, ELLTREE_NO_ROOM. */
 static inline int32_t elltree_pairs(struct elltree_handle *handle, struct elltree_pair *out, size_t room, size_t *count) {
@@ -230,7 +239,7 @@ static inline const char *elltree_text(int32_t code) {
     case ELLTREE_BAD_CARDS: return "cards are not 1 to 1,000,000";
     case ELLTREE_BAD_KEY: return "a key is above 18446744073709551613";
     case ELLTREE_BAD_START: return "start keys do not ascend strictly, or are more than 200,000";
-    case ELLTREE_NO_ROOM: return "no room for all pairs";
+    case ELLTREE_NO_ROOM: return "no room for all pairs or keys";
     case ELLTREE_NO_MEMORY: return "out of memory";
     case ELLTREE_CLOSED: return "the handle holds nothing";
     case ELLTREE_OPEN: return "the handle holds something already";

@@ -30,7 +30,7 @@ TEXTS = {
     BAD_CARDS: "cards are not 1 to 1,000,000",
     BAD_KEY: "a key is above 18446744073709551613",
     BAD_START: "start keys do not ascend strictly, or are more than 200,000",
-    NO_ROOM: "no room for all pairs",
+    NO_ROOM: "no room for all pairs or keys",
     NO_MEMORY: "out of memory",
     CLOSED: "the handle holds nothing",
     OPEN: "the handle holds something already",
@@ -71,6 +71,7 @@ def _load():
         "look": [at(_Slot), u64, at(u64)],
         "insert": [at(_Slot), u64, u64, u32],
         "delete": [at(_Slot), u64, u32],
+        "keys": [at(_Slot), at(u64), size, at(size)],
         "owned": [at(_Slot), at(size)],
         "pairs": [at(_Slot), at(_Pair), size, at(size)],
         "steps": [at(_Slot), at(u64)],
@@ -177,6 +178,13 @@ class Handle:
         count = ctypes.c_size_t()
         self._call("owned", count)
         return count.value
+
+    def keys(self):
+        """The keys that the handle owns, ascending: what a later split takes to give the handle its keys again."""
+        room, count = self.owned(), ctypes.c_size_t()
+        out = (ctypes.c_uint64 * max(1, room))()
+        self._call("keys", out, room, count)
+        return out[: count.value]
 
     def pairs(self):
         """The handle's keys that are present, ascending, with their values."""

@@ -74,6 +74,7 @@ static void closed(void) {
     IS(elltree_look(&none, 1, &value), ELLTREE_CLOSED);
     IS(elltree_insert(&none, 1, 1, 1), ELLTREE_CLOSED);
     IS(elltree_delete(&none, 1, 1), ELLTREE_CLOSED);
+    IS(elltree_keys(&none, &steps, 1, &count), ELLTREE_CLOSED);
     IS(elltree_owned(&none, &count), ELLTREE_CLOSED);
     IS(elltree_pairs(&none, &pair, 1, &count), ELLTREE_CLOSED);
     IS(elltree_steps(&none, &steps), ELLTREE_CLOSED);
@@ -98,6 +99,9 @@ static void nulls(struct elltree_handle *h) {
     IS(elltree_look(h, 1, NULL), ELLTREE_NULL);
     IS(elltree_insert(NULL, 1, 1, 1), ELLTREE_NULL);
     IS(elltree_delete(NULL, 1, 1), ELLTREE_NULL);
+    IS(elltree_keys(NULL, &value, 1, &count), ELLTREE_NULL);
+    IS(elltree_keys(h, NULL, 1, &count), ELLTREE_NULL);
+    IS(elltree_keys(h, &value, 1, NULL), ELLTREE_NULL);
     IS(elltree_owned(NULL, &count), ELLTREE_NULL);
     IS(elltree_owned(h, NULL), ELLTREE_NULL);
     IS(elltree_pairs(NULL, &pair, 1, &count), ELLTREE_NULL);
@@ -125,6 +129,7 @@ static void in_call(struct elltree_handle *h) {
     IS(elltree_look(h, 1, &value), ELLTREE_IN_CALL);
     IS(elltree_insert(h, 1, 1, 1), ELLTREE_IN_CALL);
     IS(elltree_delete(h, 1, 1), ELLTREE_IN_CALL);
+    IS(elltree_keys(h, &value, 1, &count), ELLTREE_IN_CALL);
     IS(elltree_owned(h, &count), ELLTREE_IN_CALL);
     IS(elltree_pairs(h, &pair, 1, &count), ELLTREE_IN_CALL);
     IS(elltree_steps(h, &steps), ELLTREE_IN_CALL);
@@ -136,7 +141,7 @@ static void in_call(struct elltree_handle *h) {
 
 static void keys_and_tries(struct elltree_handle *low, struct elltree_handle *high) {
     struct elltree_pair pair[2];
-    uint64_t value = 77;
+    uint64_t value = 77, owned[4] = {0};
     size_t count = 77;
     IS(elltree_find(low, 4, &value), ELLTREE_FOREIGN);
     IS(elltree_find(low, 99, &value), ELLTREE_FOREIGN);
@@ -150,7 +155,10 @@ static void keys_and_tries(struct elltree_handle *low, struct elltree_handle *hi
     IS(elltree_look(low, 4, &value), ELLTREE_YES);
     faults += value != 40;
     IS(elltree_pairs(high, NULL, 0, &count), ELLTREE_NO_ROOM);
-    faults += count != 77;
+    IS(elltree_keys(high, owned, 2, &count), ELLTREE_NO_ROOM);
+    faults += count != 77 || owned[0] != 0;
+    IS(elltree_keys(high, owned, 4, &count), ELLTREE_YES);
+    faults += count != 3 || owned[0] != 4 || owned[1] != 5 || owned[2] != 6 || owned[3] != 0;
     IS(elltree_split(low, low, keys, 1), ELLTREE_SAME);
     IS(elltree_join(low, low), ELLTREE_SAME);
     IS(elltree_split(low, high, keys, 0), ELLTREE_OPEN);

@@ -57,15 +57,17 @@ static void frugal(void) {
     uint64_t value, steps;
     size_t count;
     static struct elltree_pair out[KEYS];
+    static uint64_t owned[KEYS];
     asked = 0;
     faults += elltree_find(&a, 4, &value) != ELLTREE_YES;
     faults += elltree_look(&a, 201, &value) != ELLTREE_NO;
     faults += elltree_insert(&a, 1, 1, 5) != ELLTREE_YES;
     faults += elltree_delete(&a, 1, 5) != ELLTREE_YES;
     faults += elltree_owned(&a, &count) != ELLTREE_YES;
+    faults += elltree_keys(&a, owned, KEYS, &count) != ELLTREE_YES;
     faults += elltree_pairs(&a, out, KEYS, &count) != ELLTREE_YES;
     faults += elltree_steps(&a, &steps) != ELLTREE_YES;
-    printf("find, look, insert, delete, owned, pairs, steps: %ld allocations\n", asked);
+    printf("find, look, insert, delete, owned, keys, pairs, steps: %ld allocations\n", asked);
     faults += asked != 0;
 }
 

@@ -61,6 +61,7 @@ def misuse():
     faults += refused(elltree.BAD_CARDS, first.renew, 0)
     first.renew(5)
     faults += first.insert(3, 30) is not True or first.delete(3) is not True
+    faults += first.keys() != [1, 2, 3]
     faults += first.owned() != 3 or first.pairs() != [(1, 10), (2, 20)] or first.steps() < 1
     first.close()
     faults += refused(elltree.CLOSED, first.close)

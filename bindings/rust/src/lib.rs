@@ -81,6 +81,7 @@ unsafe extern "C" {
     fn elltree_slot_look(slot: &mut Slot, key: u64, value: &mut u64) -> i32;
     fn elltree_slot_insert(slot: &mut Slot, key: u64, value: u64, tries: u32) -> i32;
     fn elltree_slot_delete(slot: &mut Slot, key: u64, tries: u32) -> i32;
+    fn elltree_slot_keys(slot: &mut Slot, out: *mut u64, room: usize, count: &mut usize) -> i32;
     fn elltree_slot_owned(slot: &mut Slot, count: &mut usize) -> i32;
     fn elltree_slot_pairs(slot: &mut Slot, out: *mut Pair, room: usize, count: &mut usize) -> i32;
     fn elltree_slot_steps(slot: &mut Slot, steps: &mut u64) -> i32;
@@ -304,6 +305,21 @@ impl Handle {
         // SAFETY: the slot is this handle's.
         unsafe { elltree_slot_owned(&mut self.0, &mut count) };
         count
+    }
+
+    /// The keys that the handle owns, ascending: what a later split takes to give the handle its keys again.
+    ///
+    /// ```
+    /// let mut handle = elltree::Handle::open(&[3, 1], &[(2, 20)], 10)?;
+    /// assert_eq!(handle.keys()?, [1, 2, 3]);
+    /// # Ok::<(), elltree::Refused>(())
+    /// ```
+    pub fn keys(&mut self) -> Result<Vec<u64>> {
+        let mut out = vec![0; self.owned()];
+        let mut count = 0;
+        // SAFETY: the array is as long as said.
+        answer(unsafe { elltree_slot_keys(&mut self.0, out.as_mut_ptr(), out.len(), &mut count) })?;
+        Ok(out)
     }
 
     /// The atomic steps that were made through the handle, and through those that it came from by a split or a join, in a row.

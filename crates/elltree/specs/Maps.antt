@@ -1,4 +1,4 @@
-use Rattle.std.specs.Prelude.{◌≡◌, ◌≢◌, ◌<◌, ◌≤◌, ℕ, Option, Some, None, List, length, map, take, drop}
+use Rattle.std.specs.Prelude.{◌≡◌, ◌≢◌, ◌<◌, ◌≤◌, ℕ, Option, Some, None, List, [], length, map, take, drop}
 use Rattle.std.specs.Arc.{arc_value}
 use Rattle.ell_ops.specs.Contents.{Contents, ListsPairs, nothing}
 use Rattle.ell_cards.specs.Changes.{keys_of}
@@ -32,6 +32,11 @@ map_of None = nothing
 abbrev pub OwnsIn : Option Handle → ℕ → Type 0
 OwnsIn (Some handle) key = Owns handle.pass key
 OwnsIn None key = ⊥
+
+-- the keys that a handle owns
+abbrev pub keys_in : Option Handle → List ℕ
+keys_in (Some handle) = keys_of handle.pass.view.worker.ledger
+keys_in None = []
 
 -- how many keys a handle owns
 abbrev pub owned_in : Option Handle → ℕ
@@ -100,6 +105,12 @@ pub record WritesPairs (there : Contents) (count : ℕ) (old new : List Pair) : 
   pub fits : count ≤ length new
   pub pairs : ListsPairs there (as_pairs (take count new))
   pub others : drop count new ≡ drop count old
+
+-- the first of an array are these keys, and the others are as they were
+pub record WritesKeys (keys : List ℕ) (count : ℕ) (old new : List ℕ) : Type 0 where
+  pub count_is : count ≡ length keys
+  pub first : take (length keys) new ≡ keys
+  pub others : drop (length keys) new ≡ drop (length keys) old
 
 -- a map has more pairs than this
 abbrev pub NeedsMore : Contents → ℕ → Type 0

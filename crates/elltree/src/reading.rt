@@ -1,8 +1,9 @@
 //! What a slot owns and has.
-ghost use Rattle.std.specs.Prelude.{◌≡◌, ◌≢◌, ℕ, None, length, [], ◌∷◌};
+ghost use Rattle.std.specs.Prelude.{◌≡◌, ◌≢◌, ◌<◌, ◌≤◌, ℕ, None, length, [], ◌∷◌};
+ghost use Rattle.ell_cards.specs.Changes.{keys_of};
 ghost use Rattle.ell_tree.specs.Ledgers.{present_in};
 ghost use Rattle.elltree.specs.Codes.{IsOneOf, said_closed, said_no_room, said_yes};
-ghost use Rattle.elltree.specs.Maps.{NeedsMore, WritesPairs, handle_of, map_of, owned_in, steps_in};
+ghost use Rattle.elltree.specs.Maps.{NeedsMore, WritesKeys, WritesPairs, handle_of, keys_in, map_of, owned_in, steps_in};
 
 use crate::Pair;
 use crate::codes::{CLOSED, NO_ROOM, YES};
@@ -58,6 +59,59 @@ fn pairs(handle: &mut Handle, out: &mut [Pair], count: &mut usize) -> i32
     }
     *count = written;
     YES
+}
+
+/// Writes the keys that the slot owns, ascending, and how many they are. Where there is no room for all, nothing is written.
+#[unsafe(no_mangle)]
+pub extern "C" fn elltree_slot_keys(
+    alloc: Global,
+    slot: &mut Slot,
+    out: &mut [u64],
+    count: &mut usize,
+) -> i32
+    ensures keys { result ≡ said_yes → WritesKeys (keys_in (handle_of slot.old.raw.inside)) count.new out.old out.new }
+    ensures no_room { result ≡ said_no_room → length out.old < owned_in (handle_of slot.old.raw.inside) }
+    ensures closed { result ≡ said_closed → handle_of slot.old.raw.inside ≡ None }
+    ensures none { handle_of slot.old.raw.inside ≡ None → result ≡ said_closed }
+    ensures codes { IsOneOf (said_yes ∷ said_no_room ∷ said_closed ∷ []) result }
+    ensures kept { result ≢ said_yes → (out.new ≡ out.old) × (count.new ≡ count.old) }
+    ensures same { slot.new.raw.inside ≡ slot.old.raw.inside }
+{
+    let Some(place) = slot.take(alloc) else {
+        return CLOSED;
+    };
+    let code = match &place.handle {
+        Some(handle) => keys(handle, out, count),
+        None => CLOSED,
+    };
+    slot.put(place);
+    code
+}
+
+// The keys of a handle.
+fn keys(handle: &Handle, out: &mut [u64], count: &mut usize) -> i32
+    ensures keys { result ≡ said_yes → WritesKeys (keys_of handle.now.pass.view.worker.ledger) count.new out.old out.new }
+    ensures no_room { result ≡ said_no_room → length out.old < length (keys_of handle.now.pass.view.worker.ledger) }
+    ensures codes { IsOneOf (said_yes ∷ said_no_room ∷ []) result }
+    ensures kept { result ≢ said_yes → (out.new ≡ out.old) × (count.new ≡ count.old) }
+{
+    let keys = handle.keys();
+    if out.len() < keys.len() {
+        return NO_ROOM;
+    }
+    write_keys(keys, out);
+    *count = keys.len();
+    YES
+}
+
+// Writes keys to the front of an array.
+fn write_keys(keys: &[u64], out: &mut [u64])
+    requires room { length keys.now ≤ length out.old }
+    ensures { WritesKeys keys.now (length keys.now) out.old out.new }
+{
+    for place in 0..keys.len() {
+        out[place] = keys[place];
+    }
 }
 
 /// How many keys the slot owns.
