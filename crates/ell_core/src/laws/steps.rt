@@ -53,7 +53,7 @@ pub fn walks_avoid_what_was_cut()
 {}
 
 /// What a search has read since it began, whatever comes between, is of no card whose flag was taken away when it began, at no node
-/// that was cut out then.
+/// that was cut out then. And an update word that has become clean since is of a card whose flag stood there and was taken away since.
 pub fn searches_see_what_stands()
     ensures begin { SearchesBegin }
     ensures go_on { SearchesGoOn }
