@@ -36,11 +36,11 @@ pub extern "C" fn elltree_slots_renew(
     let Ok(mut handles) = Vec::with_capacity(alloc, slots.len()) else {
         return NO_MEMORY;
     };
-    let code = if take_all(alloc, slots, &mut handles) {
-        renew(alloc, &mut handles, cards, number)
-    } else {
-        CLOSED
-    };
+    if !take_all(alloc, slots, &mut handles) {
+        put_all(alloc, slots, handles);
+        return CLOSED;
+    }
+    let code = renew(alloc, &mut handles, cards, number);
     put_all(alloc, slots, handles);
     code
 }
