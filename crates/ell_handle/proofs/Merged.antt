@@ -1,12 +1,12 @@
-use Rattle.std.proofs.Common.{◌≡◌, ◌⊎◌, inl, inr, ℕ, suc, ◌-◌, ◌<◌, length, get_or, take, drop, append_assoc, append-nil, ◌==◌, if◌then◌else◌, cond, ltb, eqb-true, eq-eqb, ne_eqb, Bool, true, false, List, [], ◌∷◌, ◌++◌, Option, Some, None, refl, sym, ap, ◌∙◌, subst, arith}
+use Rattle.std.proofs.Common.{◌≡◌, ◌⊎◌, inl, inr, ℕ, suc, ◌-◌, ◌<◌, length, get_or, take, drop, append_assoc, append-nil, ◌==◌, if◌then◌else◌, cond, ltb, eqb-true, Bool, true, false, List, [], ◌∷◌, ◌++◌, Option, Some, refl, sym, ap, ◌∙◌, subst, arith}
 use Rattle.std.specs.Option.{option_or}
 use Rattle.std.specs.Map.{keys_of}
 use Rattle.std.specs.List.Sorted.{IsStrictlyIncreasing}
 use Rattle.std.proofs.lemmas.List.{take_all}
 use Rattle.ell_ops.specs.Contents.{ListsPairs, contents_of}
-use Rattle.ell_ops.proofs.Rising.{Over, Rises, over_less, rises}
+use Rattle.ell_ops.proofs.Rising.{Over, Rises, over_less}
 use Rattle.ell_ops.specs.KeySet.{Lists, set_of, union}
-use Rattle.ell_ops.proofs.Merges.{Beside, above, below, beside, if_above, if_below, if_same, keys_united, lists_united, put_key, same}
+use Rattle.ell_ops.proofs.Merges.{above, below, beside, if_above, if_below, if_same, keys_united, lists_united, put_key, same}
 use Rattle.ell_handle.specs.Groups.{or_there}
 
 -- a pair put into ascending pairs at its place, or in place of that of its key

@@ -8,7 +8,7 @@ use Rattle.std.proofs.lemmas.List.{get_or-map, get_or_default, length-map, take_
 use Rattle.std.proofs.lemmas.List.Elements.{All-head, All-tail, AllZip-get_or, length_all_zip}
 use Rattle.std.proofs.lemmas.List.Folds.{list_any-append}
 use Rattle.std.proofs.lemmas.Map.Made.{is_some-lookup}
-use Rattle.ell_ops.specs.Contents.{Contents, ListsPairs, contents_of}
+use Rattle.ell_ops.specs.Contents.{ListsPairs, contents_of}
 use Rattle.ell_ops.specs.KeySet.{set_of}
 use Rattle.ell_ops.specs.Meaning.{greatest_key}
 use Rattle.ell_core.specs.declared.view.Entry.{Entry}
@@ -19,11 +19,10 @@ use Rattle.ell_cards.proofs.words.Keys.{among_owned, at_place, owned_among}
 use Rattle.ell_tree.specs.Ledgers.{Owns, PassModel, ledger, present_in}
 use Rattle.ell_tree.specs.Node.{most_start}
 use Rattle.ell_tree.specs.PassParts.{start_entry}
-use Rattle.ell_handle.specs.Groups.{AreApart, AreOfOne, AreRenewed, GroupRefuses, HasSame, HaveNumber, IsPart, OwnsKeysOf, PartRefuses, StaysPut, keys_of_all, or_there, present_in_all}
+use Rattle.ell_handle.specs.Groups.{AreApart, AreRenewed, GroupRefuses, HasSame, HaveNumber, IsPart, OwnsKeysOf, PartRefuses, StaysPut, keys_of_all, or_there, present_in_all}
 use Rattle.ell_handle.specs.Opens.{AreKeys, IsStart, MayOpen, OwnsAll, Refuses}
 use Rattle.ell_handle.specs.Renewal.{IsTooMuch}
 use Rattle.ell_handle.specs.declared.handle.Handle.{Handle}
-use Rattle.ell_handle.specs.declared.handle.SharedTree.{SharedTree}
 use Rattle.ell_handle.specs.declared.refusal.Refusal.{Refusal}
 use Rattle.ell_handle.specs.declared.refusal.Refusal.TheVariants.{BadCards, BadKey, BadStart, Busy, Foreign, NoMemory, NoTries, OtherTree, Spent}
 use Rattle.ell_handle.proofs.Anew.{owns_present, too_much}
@@ -113,6 +112,46 @@ real_present (h ∷ hs) k v is = by (present_in h.pass k) refl is (real_present 
     by (Some w) own is rest = h.real k (owns_present h.pass k w own)
     by None own is rest = rest is
 
+-- a key that is present is owned
+present_among : (hs : List Handle) (k v : ℕ) → present_in_all hs k ≡ Some v → set_of (keys_of_all hs) k ≡ true
+present_among [] k v is = absurd cc
+present_among (h ∷ hs) k v is =
+    list_any-append (λ x. k == x) (ledger_keys h.pass.view.worker.ledger) (keys_of_all hs) ∙ by (present_in h.pass k) refl is (present_among hs k v)
+  where
+    or_true : (b : Bool) → (b || true) ≡ true
+    or_true true = refl
+    or_true false = refl
+
+    by : (o : Option ℕ) → present_in h.pass k ≡ o → option_or o (present_in_all hs k) ≡ Some v → (present_in_all hs k ≡ Some v → set_of (keys_of_all hs) k ≡ true)
+        → (set_of (ledger_keys h.pass.view.worker.ledger) k || set_of (keys_of_all hs) k) ≡ true
+    by (Some w) own is rest = ap (λ b. b || set_of (keys_of_all hs) k) (owned_among h.pass.view.worker.ledger k (owns_present h.pass k w own))
+    by None own is rest = ap (λ b. set_of (ledger_keys h.pass.view.worker.ledger) k || b) (rest is) ∙ or_true (set_of (ledger_keys h.pass.view.worker.ledger) k)
+
+-- handles that own the same have the same keys
+same_among : (old new : Handle) (k : ℕ) → Owns new.pass k ↔ Owns old.pass k
+    → set_of (ledger_keys new.pass.view.worker.ledger) k ≡ set_of (ledger_keys old.pass.view.worker.ledger) k
+same_among old new k same = by (set_of (ledger_keys new.pass.view.worker.ledger) k) (set_of (ledger_keys old.pass.view.worker.ledger) k) refl refl
+  where
+    by : (b c : Bool) → set_of (ledger_keys new.pass.view.worker.ledger) k ≡ b → set_of (ledger_keys old.pass.view.worker.ledger) k ≡ c → b ≡ c
+    by true true here there = refl
+    by false false here there = refl
+    by true false here there =
+        let own = owned_among old.pass.view.worker.ledger k (same.0 (among_owned new.pass.view.worker.ledger k here)) in
+        absurd (true≢false (sym own ∙ there))
+    by false true here there =
+        let own = owned_among new.pass.view.worker.ledger k (same.1 (among_owned old.pass.view.worker.ledger k there)) in
+        absurd (true≢false (sym own ∙ here))
+
+keys_kept : (olds hs : List Handle) → AllZip StaysPut olds hs → (k : ℕ) → set_of (keys_of_all hs) k ≡ set_of (keys_of_all olds) k
+keys_kept [] [] stay k = refl
+keys_kept [] (h ∷ hs) stay k = absurd stay
+keys_kept (o ∷ olds) [] stay k = absurd stay
+keys_kept (o ∷ olds) (h ∷ hs) stay k =
+    list_any-append (λ x. k == x) (ledger_keys h.pass.view.worker.ledger) (keys_of_all hs)
+    ∙ (ap (λ b. b || set_of (keys_of_all hs) k) (same_among o h k (stay.0.same.owned k))
+    ∙ (ap (λ b. set_of (ledger_keys o.pass.view.worker.ledger) k || b) (keys_kept olds hs stay.1 k)
+    ∙ sym (list_any-append (λ x. k == x) (ledger_keys o.pass.view.worker.ledger) (keys_of_all olds))))
+
 module _ (olds hs : List Handle) (pairs : List (ℕ × ℕ)) (all : ListsPairs (present_in_all olds) pairs) where
   real_there : (k : ℕ) → set_of (keys_of pairs) k ≡ true → k ≤ greatest_key
   real_there k among = by (contents_of pairs k) refl (is_some-lookup (λ x. k == x) pairs ∙ among)
@@ -162,14 +201,27 @@ module _ (olds hs : List Handle) (pairs : List (ℕ × ℕ)) (all : ListsPairs (
         has k true is none = absurd cc
         has k false is none = true≢false (sym is)
 
+    -- the keys of the tree are theirs
+    tree_keys : AllZip StaysPut olds hs → (k : ℕ) → set_of (arc_value whole.shared).tree.keys k ≡ set_of (keys_of_all olds) k
+    tree_keys stay k = ap (λ s. s k) owns.all.each ∙ by (set_of (keys_of pairs) k) refl (keys_kept olds hs stay k)
+      where
+        there : (o : Option ℕ) → contents_of pairs k ≡ o → is_some o ≡ true → set_of (keys_of_all olds) k ≡ true
+        there None is some = absurd (true≢false (sym some))
+        there (Some v) is some = present_among olds k v (sym (ap (λ here. here k) all.each) ∙ is)
+
+        by : (b : Bool) → set_of (keys_of pairs) k ≡ b → set_of (keys_of_all hs) k ≡ set_of (keys_of_all olds) k → (b || set_of (keys_of_all hs) k) ≡ set_of (keys_of_all olds) k
+        by true is kept = sym (there (contents_of pairs k) refl (is_some-lookup (λ x. k == x) pairs ∙ is))
+        by false is kept = kept
+
     -- and its parts are of one tree
-    pub renewed : (cards number : ℕ) (parts : List Handle) → (arc_value whole.shared).number ≡ number
+    pub renewed : AllZip StaysPut olds hs → (cards number : ℕ) (parts : List Handle) → (arc_value whole.shared).number ≡ number
         → (arc_value whole.shared).tree.last_card ≡ last_card pairs cards → MayOpen (keys_of_all hs) pairs cards → AllZip (IsPart whole) hs parts
         → AreRenewed olds cards number parts
-    renewed cards number parts number_is last may zipped = record {
+    renewed stay cards number parts number_is last may zipped = record {
       tree = arc_value whole.shared;
       first = whole.pass;
       renewed = record { start = pairs; all = all; first = owns.first; last = last; few = may.begins.few; count = may.count };
+      keys = tree_keys stay;
       number_is = number_is;
       one = λ i d low.
           let inside : i < length hs = subst (λ n. i < n) (sym (length_all_zip (IsPart whole) hs parts zipped)) low in

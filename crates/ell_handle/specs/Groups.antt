@@ -3,6 +3,7 @@ use Rattle.std.specs.Arc.{arc_value}
 use Rattle.std.specs.List.{All, AllPairs, flat_map}
 use Rattle.std.specs.Option.{option_or}
 use Rattle.ell_ops.specs.Contents.{Contents, nothing}
+use Rattle.ell_ops.specs.KeySet.{set_of}
 use Rattle.ell_cards.specs.Changes.{keys_of}
 use Rattle.ell_cards.specs.Models.{IsCardCount}
 use Rattle.ell_tree.specs.Ledgers.{Owns, PassModel, present_in}
@@ -48,11 +49,13 @@ pub record AreOfOne (handles : List Handle) : Type 0 where
   pub numbers : AllPairs HaveNumber handles
   pub apart : AllPairs AreApart handles
 
--- handles are of one tree, which has the keys of others, and what is present of them, with so many cards besides, none of them given out
+-- handles are of one tree, which has the keys of others and no more, and what is present of them, with so many cards besides, none of them
+-- given out
 pub record AreRenewed (old : List Handle) (cards number : ℕ) (new : List Handle) : Type 0 where
   pub tree : SharedTree
   pub first : PassModel
   pub renewed : IsRenewed (present_in_all old) cards tree.tree first
+  pub keys : (k : ℕ) → set_of tree.tree.keys k ≡ set_of (keys_of_all old) k
   pub number_is : tree.number ≡ number
   pub one : All (λ (h : Handle). arc_value h.shared ≡ tree) new
 

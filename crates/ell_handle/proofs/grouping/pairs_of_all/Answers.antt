@@ -1,4 +1,4 @@
-use Rattle.std.proofs.Common.{arith, get_or, refl, rules, subst, sym, take, ◌<◌, length}
+use Rattle.std.proofs.Common.{arith, get_or, refl, subst, sym, take, ◌<◌, length}
 use Rattle.ell_ops.specs.Contents.{ListsPairs, nothing}
 use Rattle.ell_tree.specs.Ledgers.{present_in}
 use Rattle.std.proofs.lemmas.List.Elements.{length_all_zip}

@@ -57,7 +57,7 @@ returns-clause-renewed c =
     let keys : c.deref.result.now ≡ keys_of_all hs = c.deref.ensures.value ∙ c.in_ok-keys.ensures in
     let whole = c.in_ok-whole.whole in
     renewed olds hs pairs all whole (subst (λ (ks : List ℕ). OwnsAll ks pairs (arc_value whole.shared).tree whole.pass) keys c.in_ok-whole.ensures.owns)
-    c.args.cards c.args.number c.in_ok-parts.parts.items c.in_ok-whole.ensures.number c.in_ok-whole.ensures.last
+    c.pairs_of_all.ensures.kept c.args.cards c.args.number c.in_ok-parts.parts.items c.in_ok-whole.ensures.number c.in_ok-whole.ensures.last
     (subst (λ (ks : List ℕ). MayOpen ks pairs c.args.cards) keys c.in_ok-whole.ensures.may) c.in_ok-parts.ensures.parts
 
 pub returns-clause-one : goal.returns-clause-one
