@@ -1,4 +1,4 @@
-use Rattle.std.proofs.Common.{◌≡◌, ◌<◌, ◌≤◌, ◌++◌, ◌+◌, ℕ, zero, suc, List, [], ◌∷◌, length, length-append, get_or, set, drop, drop-cons, Option, Some, None, refl, ap, sym, subst, subst₂, ◌∙◌, arith, append_assoc, append-nil}
+use Rattle.std.proofs.Common.{◌≡◌, ◌<◌, ◌≤◌, ◌++◌, ◌+◌, ℕ, zero, suc, List, [], ◌∷◌, length, length-append, get_or, set, drop, drop-cons, Option, Some, None, refl, ap, sym, subst, ◌∙◌, arith, append_assoc, append-nil}
 use Rattle.std.proofs.lemmas.List.{drop-set, length-set}
 use Rattle.std.specs.List.{All, AllZip, cons_option}
 use Rattle.ell_handle.specs.Groups.{HasSame, StaysPut}

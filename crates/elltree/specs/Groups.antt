@@ -1,4 +1,4 @@
-use Rattle.std.specs.Prelude.{◌≡◌, ◌≢◌, ℕ, Option, Some, None, List, [], ◌∷◌}
+use Rattle.std.specs.Prelude.{◌≡◌, ◌≢◌, Option, Some, None, List, [], ◌∷◌}
 use Rattle.std.specs.List.{AllZip, filter_map}
 use Rattle.ell_handle.specs.Groups.{HasSame}
 use Rattle.ell_handle.specs.declared.handle.Handle.{Handle}

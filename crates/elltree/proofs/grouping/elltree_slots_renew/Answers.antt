@@ -1,11 +1,9 @@
 use Rattle.std.proofs.Common.{◌≡◌, ◌<◌, ◌∙◌, length, refl, rules, subst, subst₂, sym, w32}
-use Rattle.std.specs.List.{All, AllZip}
 use Rattle.std.proofs.lemmas.Int.{to_z-of_z}
 use Rattle.std.proofs.lemmas.List.Elements.{length_all_zip}
-use mir.Val.{SFits, of_z, to_z}
-use Rattle.ell_handle.specs.Groups.{AreOfOne, AreRenewed, HasSame, StaysPut, present_in_all}
+use mir.Val.{SFits}
+use Rattle.ell_handle.specs.Groups.{AreOfOne, AreRenewed, HasSame, present_in_all}
 use Rattle.ell_handle.specs.Renewal.{IsTooMuch}
-use Rattle.elltree.specs.Groups.{HasHandle, handles_in}
 use Rattle.elltree.proofs.Grouped.{again_maps, again_trees, all_have, filled_all, keep_maps, keep_trees, other_maps, other_trees, taken_all, taken_count, taken_emptied}
 use Rattle.elltree.proofs.grouping.elltree_slots_renew.Goals as goal
 

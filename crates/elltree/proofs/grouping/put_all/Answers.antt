@@ -1,6 +1,5 @@
-use Rattle.std.proofs.Common.{◌≡◌, ◌<◌, ◌+◌, ◌++◌, ◌∷◌, [], ◌∙◌, Some, ap, arith, length, length-append, rules, set, subst, sym}
+use Rattle.std.proofs.Common.{◌≡◌, ◌++◌, ◌∷◌, [], ◌∙◌, ap, arith, length, length-append, rules, set, subst, sym}
 use Rattle.std.specs.Option.{option_to_list}
-use Rattle.elltree.specs.Groups.{IsEmptied}
 use Rattle.elltree.proofs.Grouped.{AreFilling, emptied_at, emptied_count, filling_all, filling_more, filling_none}
 use Rattle.elltree.proofs.grouping.put_all.Goals as goal
 

@@ -1,6 +1,5 @@
-use Rattle.std.proofs.Common.{◌≡◌, ◌<◌, ◌≤◌, ◌+◌, ◌++◌, ◌∙◌, [], List, Some, ap, arith, get_or, length, length-append, refl, rules, set, subst, sym, ◌∷◌}
-use Rattle.std.specs.Prelude.{None, Option, vec_capacity}
-use Rattle.ell_handle.specs.declared.handle.Handle.{Handle}
+use Rattle.std.proofs.Common.{◌≡◌, ◌<◌, ◌≤◌, ◌+◌, ◌++◌, ◌∙◌, [], Some, ap, arith, get_or, length, length-append, refl, set, subst, sym, ◌∷◌}
+use Rattle.std.specs.Prelude.{None}
 use Rattle.elltree.specs.Groups.{AreTaken}
 use Rattle.elltree.specs.Maps.{handle_of}
 use Rattle.elltree.proofs.Grouped.{not_all, taken_count, taken_more, taken_next, taken_none, taken_stop}
