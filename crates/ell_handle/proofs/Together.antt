@@ -4,19 +4,19 @@ use Rattle.std.specs.Prelude.{is_some}
 use Rattle.std.specs.List.{All, AllPairs, AllZip}
 use Rattle.std.specs.Map.{keys_of}
 use Rattle.std.specs.Option.{option_or}
-use Rattle.std.proofs.lemmas.List.{get_or-map, get_or_default, length-map, take_more}
+use Rattle.std.proofs.lemmas.List.{get_or-map, flat_map_more, get_or_default, length-map, take_more}
 use Rattle.std.proofs.lemmas.List.Elements.{All-head, All-tail, AllZip-get_or, length_all_zip}
 use Rattle.std.proofs.lemmas.List.Folds.{list_any-append}
 use Rattle.std.proofs.lemmas.Map.Made.{is_some-lookup}
 use Rattle.ell_ops.specs.Contents.{ListsPairs, contents_of}
-use Rattle.ell_ops.specs.KeySet.{set_of}
+use Rattle.ell_ops.specs.KeySet.{Lists, set_of, union}
 use Rattle.ell_ops.specs.Meaning.{greatest_key}
 use Rattle.ell_core.specs.declared.view.Entry.{Entry}
 use Rattle.ell_core.specs.state.Opening.{last_card}
 use Rattle.ell_core.specs.statements.Effects.{value_in}
 use Rattle.ell_cards.specs.Changes.{keys_of as ledger_keys}
 use Rattle.ell_cards.proofs.words.Keys.{among_owned, at_place, owned_among}
-use Rattle.ell_tree.specs.Ledgers.{Owns, PassModel, ledger, present_in}
+use Rattle.ell_tree.specs.Ledgers.{Owns, PassModel, TreeModel, ledger, present_in}
 use Rattle.ell_tree.specs.Node.{most_start}
 use Rattle.ell_tree.specs.PassParts.{start_entry}
 use Rattle.ell_handle.specs.Groups.{AreApart, AreRenewed, GroupRefuses, HasSame, HaveNumber, IsPart, OwnsKeysOf, PartRefuses, StaysPut, keys_of_all, or_there, present_in_all}
@@ -50,6 +50,13 @@ lists_more hs i d left right both low first next lists =
     ∙ (sym (present_more (take i hs) (get_or hs i d)) ∙ ap present_in_all (sym (take_more hs i d low)))))
     lists
 
+-- the first handle of a tree of some keys is that of a tree of the same keys in another list
+pub owns_same : (keys others : List ℕ) (pairs : List (ℕ × ℕ)) (t : TreeModel) (p : PassModel) → set_of keys ≡ set_of others → OwnsAll keys pairs t p → OwnsAll others pairs t p
+owns_same keys others pairs t p same owns = record {
+  all = subst (λ s. Lists (union (set_of (keys_of pairs)) s) t.keys) same owns.all;
+  first = owns.first;
+}
+
 -- nothing is present of a key that is not owned
 pub unowned : (p : PassModel) (k : ℕ) → (¬ Owns p k) → present_in p k ≡ None
 unowned p k not = by (ledger p k) refl
@@ -77,6 +84,17 @@ owner_has (h ∷ hs) zero d k apart low own = by (present_in h.pass k) refl
 owner_has (h ∷ hs) (suc i) d k apart low own =
     ap (λ o. option_or o (present_in_all hs k)) (unowned h.pass k (λ mine. apart 0 (suc i) d (omega arith) (omega arith) k mine own))
     ∙ owner_has hs i d k (λ a b e less below. apart (suc a) (suc b) e (omega arith) (omega arith)) (omega arith) own
+
+-- the keys of the first handles, and those of the next
+pub keys_next : (hs : List Handle) (i : ℕ) (h : Handle) (left right both : List ℕ) → i < length hs → h ≡ get_or hs i h → Lists (set_of (keys_of_all (take i hs))) left
+    → right ≡ ledger_keys h.pass.view.worker.ledger → Lists (union (set_of left) (set_of right)) both → Lists (set_of (keys_of_all (take (i + 1) hs))) both
+keys_next hs i h left right both low at first next united = record {
+  ascending = united.ascending;
+  each = united.each ∙ (ap (λ s. union s (set_of right)) first.each ∙ (ap (λ keys. union (set_of (keys_of_all (take i hs))) (set_of keys)) next
+      ∙ ((λ t q. sym (list_any-append (λ x. q == x) (keys_of_all (take i hs)) (ledger_keys h.pass.view.worker.ledger)) t)
+      ∙ ap set_of (flat_map_more (λ (g : Handle). ledger_keys g.pass.view.worker.ledger) [] (take i hs) h
+      ∙ ap keys_of_all (ap (λ x. take i hs ++ x ∷ []) at ∙ sym (take_more hs i h low))))));
+}
 
 -- the keys of each are among those of all
 pub among_all : (hs : List Handle) (i : ℕ) (d : Handle) (k : ℕ) → i < length hs → Owns (get_or hs i d).pass k → set_of (keys_of_all hs) k ≡ true
@@ -160,9 +178,9 @@ module _ (olds hs : List Handle) (pairs : List (ℕ × ℕ)) (all : ListsPairs (
       by None is some = absurd (true≢false (sym some))
       by (Some v) is some = real_present olds k v (sym (ap (λ there. there k) all.each) ∙ is)
 
-  are_keys : AreKeys (keys_of_all hs) pairs
-  are_keys = record {
-    real = λ i d low. real_all hs (get_or (keys_of_all hs) i d) (at_place (keys_of_all hs) i d low);
+  are_keys : (keys : List ℕ) → set_of keys ≡ set_of (keys_of_all hs) → AreKeys keys pairs
+  are_keys keys same = record {
+    real = λ i d low. real_all hs (get_or keys i d) (sym (ap (λ s. s (get_or keys i d)) same) ∙ at_place keys i d low);
     real_start = λ i d low.
         let inside : i < length (keys_of pairs) = subst (λ n. i < n) (sym (length-map pairs (λ e. e.0))) low in
         let key = get_or-map (λ e. e.0) pairs i d 0 low in
@@ -173,16 +191,17 @@ module _ (olds hs : List Handle) (pairs : List (ℕ × ℕ)) (all : ListsPairs (
   not_too_much start much = let more : most_start < length pairs = much pairs all in let few = start.few in absurd (omega arith)
 
   -- why there is no tree of them
-  pub refuses_group : (cards : ℕ) (why : Refusal) → AllPairs HaveNumber olds → Refuses (keys_of_all hs) pairs cards why → GroupRefuses olds cards why
-  refuses_group cards BadStart numbers refused = (numbers, too_much (present_in_all olds) pairs all refused)
-  refuses_group cards BadKey numbers refused = refused.1 are_keys
-  refuses_group cards BadCards numbers refused = (numbers, (not_too_much refused.0, refused.1.1))
-  refuses_group cards NoMemory numbers refused = numbers
-  refuses_group cards Foreign numbers refused = refused
-  refuses_group cards NoTries numbers refused = refused
-  refuses_group cards Busy numbers refused = refused
-  refuses_group cards Spent numbers refused = refused
-  refuses_group cards OtherTree numbers refused = absurd refused
+  pub refuses_group : (keys : List ℕ) → set_of keys ≡ set_of (keys_of_all hs) → (cards : ℕ) (why : Refusal) → AllPairs HaveNumber olds → Refuses keys pairs cards why
+      → GroupRefuses olds cards why
+  refuses_group keys same cards BadStart numbers refused = (numbers, too_much (present_in_all olds) pairs all refused)
+  refuses_group keys same cards BadKey numbers refused = refused.1 (are_keys keys same)
+  refuses_group keys same cards BadCards numbers refused = (numbers, (not_too_much refused.0, refused.1.1))
+  refuses_group keys same cards NoMemory numbers refused = numbers
+  refuses_group keys same cards Foreign numbers refused = refused
+  refuses_group keys same cards NoTries numbers refused = refused
+  refuses_group keys same cards Busy numbers refused = refused
+  refuses_group keys same cards Spent numbers refused = refused
+  refuses_group keys same cards OtherTree numbers refused = absurd refused
 
   module _ (whole : Handle) (owns : OwnsAll (keys_of_all hs) pairs (arc_value whole.shared).tree whole.pass) where
     -- the first handle of a tree of them owns the keys of each
@@ -214,10 +233,10 @@ module _ (olds hs : List Handle) (pairs : List (ℕ × ℕ)) (all : ListsPairs (
         by false is kept = kept
 
     -- and its parts are of one tree
-    pub renewed : AllZip StaysPut olds hs → (cards number : ℕ) (parts : List Handle) → (arc_value whole.shared).number ≡ number
-        → (arc_value whole.shared).tree.last_card ≡ last_card pairs cards → MayOpen (keys_of_all hs) pairs cards → AllZip (IsPart whole) hs parts
+    pub renewed : AllZip StaysPut olds hs → (keys : List ℕ) (cards number : ℕ) (parts : List Handle) → (arc_value whole.shared).number ≡ number
+        → (arc_value whole.shared).tree.last_card ≡ last_card pairs cards → MayOpen keys pairs cards → AllZip (IsPart whole) hs parts
         → AreRenewed olds cards number parts
-    renewed stay cards number parts number_is last may zipped = record {
+    renewed stay keys cards number parts number_is last may zipped = record {
       tree = arc_value whole.shared;
       first = whole.pass;
       renewed = record { start = pairs; all = all; first = owns.first; last = last; few = may.begins.few; count = may.count };
@@ -227,6 +246,10 @@ module _ (olds hs : List Handle) (pairs : List (ℕ × ℕ)) (all : ListsPairs (
           let inside : i < length hs = subst (λ n. i < n) (sym (length_all_zip (IsPart whole) hs parts zipped)) low in
           let part = AllZip-get_or (IsPart whole) hs parts i d d zipped inside in
           part.tree;
+      fresh = λ i d low most.
+          let inside : i < length hs = subst (λ n. i < n) (sym (length_all_zip (IsPart whole) hs parts zipped)) low in
+          let part = AllZip-get_or (IsPart whole) hs parts i d d zipped inside in
+          part.moves most ∙ owns.first.moves most;
     }
 
 -- two lists of one length have to do with each other if the places have

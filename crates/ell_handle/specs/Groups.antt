@@ -7,6 +7,7 @@ use Rattle.ell_ops.specs.KeySet.{set_of}
 use Rattle.ell_cards.specs.Changes.{keys_of}
 use Rattle.ell_cards.specs.Models.{IsCardCount}
 use Rattle.ell_tree.specs.Ledgers.{Owns, PassModel, present_in}
+use Rattle.ell_tree.specs.Moves.{moves_known}
 use Rattle.ell_handle.specs.Renewal.{IsRenewed, IsTooMuch}
 use Rattle.ell_handle.specs.declared.handle.Handle.{Handle}
 use Rattle.ell_handle.specs.declared.handle.SharedTree.{SharedTree}
@@ -49,8 +50,8 @@ pub record AreOfOne (handles : List Handle) : Type 0 where
   pub numbers : AllPairs HaveNumber handles
   pub apart : AllPairs AreApart handles
 
--- handles are of one tree, which has the keys of others and no more, and what is present of them, with so many cards besides, none of them
--- given out
+-- handles are of one tree, which has the keys of others and no more, and what is present of them, with so many cards besides; none of them
+-- knows of a card that is given out
 pub record AreRenewed (old : List Handle) (cards number : ℕ) (new : List Handle) : Type 0 where
   pub tree : SharedTree
   pub first : PassModel
@@ -58,6 +59,7 @@ pub record AreRenewed (old : List Handle) (cards number : ℕ) (new : List Handl
   pub keys : (k : ℕ) → set_of tree.tree.keys k ≡ set_of (keys_of_all old) k
   pub number_is : tree.number ≡ number
   pub one : All (λ (h : Handle). arc_value h.shared ≡ tree) new
+  pub fresh : All (λ (h : Handle). (most : ℕ) → moves_known most h.pass.view ≡ 0) new
 
 -- why there is no such tree
 abbrev pub GroupRefuses : List Handle → ℕ → Refusal → Type 0
@@ -76,12 +78,14 @@ pub record IsPart (whole handle part : Handle) : Type 0 where
   pub tree : arc_value part.shared ≡ arc_value whole.shared
   pub owned : (k : ℕ) → Owns part.pass k ↔ Owns handle.pass k
   pub map : (k : ℕ) → Owns handle.pass k → present_in part.pass k ≡ present_in whole.pass k
+  pub moves : (cards : ℕ) → moves_known cards part.pass.view ≡ moves_known cards whole.pass.view
 
 -- the rest has the other keys, as the whole had them
 pub record IsRest (whole handle rest : Handle) : Type 0 where
   pub tree : arc_value rest.shared ≡ arc_value whole.shared
   pub owned : (k : ℕ) → Owns rest.pass k ↔ (Owns whole.pass k × (¬ Owns handle.pass k))
   pub map : (k : ℕ) → Owns rest.pass k → present_in rest.pass k ≡ present_in whole.pass k
+  pub moves : (cards : ℕ) → moves_known cards rest.pass.view ≡ moves_known cards whole.pass.view
 
 -- why there is no such part, where there is one on this condition
 abbrev pub PartRefuses : Type 0 → Refusal → Type 0

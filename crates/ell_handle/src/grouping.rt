@@ -3,12 +3,14 @@ ghost use Rattle.std.specs.Prelude.{◌≡◌, ◌<◌, ◌↔◌, ◌⊎◌, �
 ghost use Rattle.std.specs.Arc.{arc_value};
 ghost use Rattle.std.specs.List.{All, AllPairs, AllZip};
 ghost use Rattle.ell_ops.specs.Contents.{ListsPairs};
+ghost use Rattle.ell_ops.specs.KeySet.{Lists, set_of};
 ghost use Rattle.ell_tree.specs.Ledgers.{Owns, present_in};
 ghost use Rattle.ell_handle.specs.Groups.{AreApart, AreOfOne, AreRenewed, GroupRefuses, HasSame, HaveNumber, IsPart, IsRest, OwnsKeysOf, PartRefuses, StaysPut, keys_of_all, present_in_all};
 
 use crate::handle::Handle;
 use crate::merging::united_pairs;
 use crate::refusal::Refusal;
+use ell_ops::united_keys;
 use std::alloc::{AllocError, Global};
 
 /// Makes the cards of handles of one tree fresh: all of them go to one new tree of so many cards, each with the keys that it owns, which are
@@ -85,13 +87,13 @@ fn pairs_of_all(handles: &mut [Handle], alloc: Global) -> Result<Vec<(u64, u64)>
     Ok(all)
 }
 
-// The keys of handles, those of each ascending.
+// The keys of handles, ascending.
 fn all_keys_of(handles: &[Handle], alloc: Global) -> Result<Vec<u64>, AllocError>
-    ensures { IfOk result (λ keys. keys.items ≡ keys_of_all handles.now) }
+    ensures { IfOk result (λ keys. Lists (set_of (keys_of_all handles.now)) keys.items) }
 {
     let mut keys = Vec::new(alloc);
     for handle in handles {
-        keys.extend_from_slice(handle.keys())?;
+        keys = united_keys(alloc, &keys, handle.keys())?;
     }
     Ok(keys)
 }

@@ -1,9 +1,9 @@
-use Rattle.std.proofs.Common.{◌≡◌, ◌∙◌, List, ℕ, rules, subst, sym}
+use Rattle.std.proofs.Common.{◌≡◌, ◌∙◌, ap, rules, subst, sym}
 use Rattle.std.specs.Arc.{arc_value}
 use Rattle.ell_ops.specs.Contents.{ListsPairs}
+use Rattle.ell_ops.specs.KeySet.{set_of}
 use Rattle.ell_handle.specs.Groups.{GroupRefuses, keys_of_all, present_in_all}
-use Rattle.ell_handle.specs.Opens.{MayOpen, OwnsAll, Refuses}
-use Rattle.ell_handle.proofs.Together.{apart_then, parts_same, refuses_group, refuses_parts, renewed, whole_owns}
+use Rattle.ell_handle.proofs.Together.{apart_then, owns_same, parts_same, refuses_group, refuses_parts, renewed, whole_owns}
 use Rattle.ell_handle.proofs.grouping.renewed.Goals as goal
 
 -- why no tree was opened
@@ -13,10 +13,9 @@ returns-in_err-whole-clause-why c =
     let hs = c.pairs_of_all.new.handles in
     let pairs = c.deref-2.result.now in
     let all : ListsPairs (present_in_all olds) pairs = subst (ListsPairs (present_in_all olds)) (sym c.deref-2.ensures.value) c.in_ok-pairs.ensures.pairs in
-    let keys : c.deref.result.now ≡ keys_of_all hs = c.deref.ensures.value ∙ c.in_ok-keys.ensures in
+    let keys : set_of c.deref.result.now ≡ set_of (keys_of_all hs) = ap set_of c.deref.ensures.value ∙ c.in_ok-keys.ensures.each in
     let why : GroupRefuses olds c.args.cards c.in_err-whole.field-0.0 =
-    refuses_group olds hs pairs all c.args.cards c.in_err-whole.field-0.0 c.requires.numbers
-    (subst (λ (ks : List ℕ). Refuses ks pairs c.args.cards c.in_err-whole.field-0.0) keys c.in_err-whole.ensures.refused) in
+    refuses_group olds hs pairs all c.deref.result.now keys c.args.cards c.in_err-whole.field-0.0 c.requires.numbers c.in_err-whole.ensures.refused in
     search rules
 
 -- the whole owns the keys of each
@@ -27,9 +26,9 @@ parts_of-requires c = record {
       let hs = c.pairs_of_all.new.handles in
       let pairs = c.deref-2.result.now in
       let all : ListsPairs (present_in_all olds) pairs = subst (ListsPairs (present_in_all olds)) (sym c.deref-2.ensures.value) c.in_ok-pairs.ensures.pairs in
-      let keys : c.deref.result.now ≡ keys_of_all hs = c.deref.ensures.value ∙ c.in_ok-keys.ensures in
+      let keys : set_of c.deref.result.now ≡ set_of (keys_of_all hs) = ap set_of c.deref.ensures.value ∙ c.in_ok-keys.ensures.each in
       let whole = c.in_ok-whole.whole in
-      whole_owns olds hs pairs all whole (subst (λ (ks : List ℕ). OwnsAll ks pairs (arc_value whole.shared).tree whole.pass) keys c.in_ok-whole.ensures.owns);
+      whole_owns olds hs pairs all whole (owns_same c.deref.result.now (keys_of_all hs) pairs (arc_value whole.shared).tree whole.pass keys c.in_ok-whole.ensures.owns);
 }
 
 -- why there are no parts of it
@@ -54,11 +53,11 @@ returns-clause-renewed c =
     let hs = c.pairs_of_all.new.handles in
     let pairs = c.deref-2.result.now in
     let all : ListsPairs (present_in_all olds) pairs = subst (ListsPairs (present_in_all olds)) (sym c.deref-2.ensures.value) c.in_ok-pairs.ensures.pairs in
-    let keys : c.deref.result.now ≡ keys_of_all hs = c.deref.ensures.value ∙ c.in_ok-keys.ensures in
+    let keys : set_of c.deref.result.now ≡ set_of (keys_of_all hs) = ap set_of c.deref.ensures.value ∙ c.in_ok-keys.ensures.each in
     let whole = c.in_ok-whole.whole in
-    renewed olds hs pairs all whole (subst (λ (ks : List ℕ). OwnsAll ks pairs (arc_value whole.shared).tree whole.pass) keys c.in_ok-whole.ensures.owns)
-    c.pairs_of_all.ensures.kept c.args.cards c.args.number c.in_ok-parts.parts.items c.in_ok-whole.ensures.number c.in_ok-whole.ensures.last
-    (subst (λ (ks : List ℕ). MayOpen ks pairs c.args.cards) keys c.in_ok-whole.ensures.may) c.in_ok-parts.ensures.parts
+    renewed olds hs pairs all whole (owns_same c.deref.result.now (keys_of_all hs) pairs (arc_value whole.shared).tree whole.pass keys c.in_ok-whole.ensures.owns)
+    c.pairs_of_all.ensures.kept c.deref.result.now c.args.cards c.args.number c.in_ok-parts.parts.items c.in_ok-whole.ensures.number c.in_ok-whole.ensures.last
+    c.in_ok-whole.ensures.may c.in_ok-parts.ensures.parts
 
 pub returns-clause-one : goal.returns-clause-one
 returns-clause-one c = record {
