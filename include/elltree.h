@@ -7,7 +7,7 @@
 
    Each call answers with ELLTREE_YES, with ELLTREE_NO, or with a negative code that says why it was refused; elltree_text has a text for
    each. A call that was refused has changed neither the map nor what a handle owns, and has written nothing but, for ELLTREE_NO_ROOM, pairs.
-   elltree_open, elltree_split, elltree_join and elltree_renew ask for memory. No other call does.
+   elltree_open, elltree_split, elltree_join, elltree_renew and elltree_renew_all ask for memory. No other call does.
 
    What the caller owes, which nothing tests:
    - A handle starts as all zeros. Only these functions write to it, and it is not copied while it holds something (it may be moved).
@@ -25,6 +25,7 @@
 #include <stdbool.h>
 #include <stddef.h>
 #include <stdint.h>
+#include <stdlib.h>
 #ifdef __cplusplus
 extern "C" {
 #endif
@@ -52,7 +53,7 @@ enum {
     ELLTREE_NO = 0,
     ELLTREE_YES = 1,
     ELLTREE_BUSY = -1,        /* something was in the way of each try: call again */
-    ELLTREE_SPENT = -2,       /* all cards of the tree are given out: elltree_renew makes them fresh, and finds and looks go on without */
+    ELLTREE_SPENT = -2,       /* all cards of the tree are given out: elltree_renew_all makes them fresh, and finds and looks go on without */
     ELLTREE_FOREIGN = -3,     /* the handle does not own a key of the call */
     ELLTREE_NO_TRIES = -4,    /* tries is 0 */
     ELLTREE_BAD_CARDS = -5,   /* cards are not 1 to ELLTREE_CARDS_MAX */
@@ -62,7 +63,7 @@ enum {
     ELLTREE_NO_MEMORY = -9,   /* memory was refused */
     ELLTREE_CLOSED = -10,     /* a handle holds nothing */
     ELLTREE_OPEN = -11,       /* the handle that is to get something holds something */
-    ELLTREE_OTHER_TREE = -12, /* the two handles are of two trees */
+    ELLTREE_OTHER_TREE = -12, /* the handles are of two trees */
     ELLTREE_NULL = -13,       /* a pointer is null that must not be */
     ELLTREE_SAME = -14,       /* the same handle is given twice */
     ELLTREE_IN_CALL = -15     /* the handle is in another call */
@@ -82,6 +83,7 @@ int32_t elltree_slot_owned(struct elltree_slot *slot, size_t *count);
 int32_t elltree_slot_pairs(struct elltree_slot *slot, struct elltree_pair *out, size_t room, size_t *count);
 int32_t elltree_slot_steps(struct elltree_slot *slot, uint64_t *steps);
 int32_t elltree_slot_renew(struct elltree_slot *slot, uint64_t cards, uint64_t number);
+int32_t elltree_slots_renew(struct elltree_slot *slots, size_t count, uint64_t cards, uint64_t number);
 int32_t elltree_slot_free(struct elltree_slot *slot);
 
 /* How many trees the program has opened by this header. */
@@ -109,6 +111,21 @@ static inline int32_t elltree_enter_both(struct elltree_handle *one, struct ellt
         return code;
     code = elltree_enter(other);
     return code == ELLTREE_YES ? code : elltree_leave(one, code);
+}
+/* Begins a call on handles: where one is refused, on none of them. */
+static inline int32_t elltree_enter_all(struct elltree_handle *const *handles, size_t count) {
+    int32_t code = ELLTREE_YES;
+    size_t entered = 0, i;
+    while (entered < count && (code = elltree_enter(handles[entered])) == ELLTREE_YES)
+        entered++;
+    if (code == ELLTREE_YES)
+        return code;
+    for (i = 0; i < entered; i++) {
+        if (handles[i] == handles[entered])
+            code = ELLTREE_SAME;
+        elltree_leave(handles[i], code);
+    }
+    return code;
 }
 
 /* Opens a tree over these keys and the start keys, in any order but that the start keys ascend strictly; the start keys are present with
@@ -209,8 +226,8 @@ static inline int32_t elltree_steps(struct elltree_handle *handle, uint64_t *ste
 }
 
 /* Makes the cards fresh: the handle goes to a new tree with so many cards, and takes along the keys that it owns, which are present with
-   their values or absent as they were. Handles that are to stay with it are joined to it first, and split from it again; others, as readers,
-   stay behind in the old tree, which does not change any more but by them.
+   their values or absent as they were. Other handles of the tree stay behind in the old tree, which does not change any more but by them:
+   elltree_renew_all takes handles along that are to stay together.
    ELLTREE_NULL, ELLTREE_IN_CALL, ELLTREE_CLOSED, ELLTREE_BAD_START (more than ELLTREE_START_MAX keys are present), ELLTREE_BAD_CARDS,
    ELLTREE_NO_MEMORY: then the handle is where it was. */
 static inline int32_t elltree_renew(struct elltree_handle *handle, uint64_t cards) {
@@ -218,6 +235,33 @@ static inline int32_t elltree_renew(struct elltree_handle *handle, uint64_t card
     if (code != ELLTREE_YES)
         return code;
     return elltree_leave(handle, elltree_slot_renew(&handle->slot, cards, __atomic_add_fetch(&elltree_trees, 1, __ATOMIC_SEQ_CST)));
+}
+
+/* Makes the cards of handles of one tree fresh, also of handles without keys, which only look: all of them go to one new tree with so many
+   cards, each with the keys that it owns, which are present with their values or absent as they were. Other handles stay behind in the old
+   tree. Without handles nothing happens. The first handle in the array that is null, stands there twice, or is in another call is refused.
+   ELLTREE_NULL, ELLTREE_SAME, ELLTREE_IN_CALL, ELLTREE_CLOSED, ELLTREE_OTHER_TREE, ELLTREE_BAD_START (more than ELLTREE_START_MAX keys are
+   present in all), ELLTREE_BAD_CARDS, ELLTREE_NO_MEMORY: then each handle is where it was. */
+static inline int32_t elltree_renew_all(struct elltree_handle *const *handles, size_t count, uint64_t cards) {
+    struct elltree_slot *slots;
+    int32_t code;
+    size_t i;
+    if (!count)
+        return ELLTREE_YES;
+    code = handles ? elltree_enter_all(handles, count) : ELLTREE_NULL;
+    if (code != ELLTREE_YES)
+        return code;
+    slots = count <= SIZE_MAX / sizeof *slots ? (struct elltree_slot *)malloc(count * sizeof *slots) : NULL;
+    for (i = 0; slots && i < count; i++)
+        slots[i] = handles[i]->slot;
+    code = slots ? elltree_slots_renew(slots, count, cards, __atomic_add_fetch(&elltree_trees, 1, __ATOMIC_SEQ_CST)) : ELLTREE_NO_MEMORY;
+    for (i = 0; i < count; i++) {
+        if (slots)
+            handles[i]->slot = slots[i];
+        elltree_leave(handles[i], code);
+    }
+    free(slots);
+    return code;
 }
 
 /* Ends a handle, and with the last handle the tree. What its keys have stays, and can be looked at, but not be changed any more.

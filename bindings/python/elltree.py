@@ -80,6 +80,7 @@ def _load():
     }.items():
         call = getattr(lib, f"elltree_slot_{name}")
         call.argtypes, call.restype = types, ctypes.c_int32
+    lib.elltree_slots_renew.argtypes, lib.elltree_slots_renew.restype = [at(_Slot), size, u64, u64], ctypes.c_int32
     return lib
 
 
@@ -107,7 +108,7 @@ def _tries(tries):
 
 def open(keys, start=(), cards=1_000_000):
     """A handle that owns these keys and those of start, a dict or pairs, which are present with their values. Each change takes a card, until
-    Handle.renew makes the cards fresh. Up to 300,000 cards and start keys together that takes less than a third of the time for each that it
+    renew_all makes the cards fresh. Up to 300,000 cards and start keys together that takes less than a third of the time for each that it
     takes above, with glibc."""
     pairs = sorted(start.items()) if isinstance(start, dict) else list(start)
     listed = [_Pair(_u64(key), _u64(value)) for key, value in pairs]
@@ -201,7 +202,7 @@ class Handle:
 
     def renew(self, cards=1_000_000):
         """Makes the cards fresh: the handle goes to a new tree with so many cards, and takes along the keys that it owns, which are present or
-        absent as they were. Join the handles that are to stay with it first, and split them from it again; others stay in the old tree."""
+        absent as they were. Others stay in the old tree: renew_all takes handles along that are to stay together."""
         self._call("renew", _u64(cards), next(_numbers))
 
     def close(self):
@@ -217,3 +218,25 @@ class Handle:
     def __del__(self):
         if self._slot.is_open:
             _lib.elltree_slot_free(self._slot)
+
+
+def renew_all(handles, cards=1_000_000):
+    """Makes the cards of handles of one tree fresh, also of handles without keys: all of them go to one new tree with so many cards, each with
+    the keys that it owns, which are present or absent as they were. Others stay in the old tree. Where it is refused, each is where it was."""
+    handles, entered = list(handles), []
+    try:
+        for handle in handles:
+            if any(handle is other for other in entered):
+                raise Refused(SAME)
+            if not handle._in_call.acquire(blocking=False):
+                raise Refused(IN_CALL)
+            entered.append(handle)
+        slots = (_Slot * max(1, len(handles)))(*(handle._slot for handle in handles))
+        code = _lib.elltree_slots_renew(slots, len(handles), _u64(cards), next(_numbers))
+        for handle, slot in zip(handles, slots):
+            handle._slot.at, handle._slot.is_open = slot.at, slot.is_open
+    finally:
+        for handle in entered:
+            handle._in_call.release()
+    if code < 0:
+        raise Refused(code)

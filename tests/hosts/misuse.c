@@ -64,7 +64,7 @@ static void opening(void) {
 }
 
 static void closed(void) {
-    struct elltree_handle none = ELLTREE_EMPTY, other = ELLTREE_EMPTY;
+    struct elltree_handle none = ELLTREE_EMPTY, other = ELLTREE_EMPTY, *at = &none;
     struct elltree_pair pair;
     uint64_t value = 77, steps = 0;
     size_t count = 0;
@@ -79,6 +79,7 @@ static void closed(void) {
     IS(elltree_pairs(&none, &pair, 1, &count), ELLTREE_CLOSED);
     IS(elltree_steps(&none, &steps), ELLTREE_CLOSED);
     IS(elltree_renew(&none, 9), ELLTREE_CLOSED);
+    IS(elltree_renew_all(&at, 1, 9), ELLTREE_CLOSED);
     IS(elltree_free(&none), ELLTREE_CLOSED);
     faults += value != 77 || none.slot.is_open || other.slot.is_open;
 }
@@ -110,6 +111,7 @@ static void nulls(struct elltree_handle *h) {
     IS(elltree_steps(NULL, &steps), ELLTREE_NULL);
     IS(elltree_steps(h, NULL), ELLTREE_NULL);
     IS(elltree_renew(NULL, 9), ELLTREE_NULL);
+    IS(elltree_renew_all(NULL, 1, 9), ELLTREE_NULL);
     IS(elltree_free(NULL), ELLTREE_NULL);
 }
 
@@ -224,6 +226,101 @@ static void renewal(void) {
     IS(elltree_free(&h), ELLTREE_YES);
 }
 
+/* Handles of one tree, and one of another: what each owns, and what is present, is as the table says. */
+struct group {
+    struct elltree_handle low, high, reader, small;
+};
+static void grouped(int line, struct group *g, const struct elltree_pair *low, size_t lows, const struct elltree_pair *high, size_t highs) {
+    const struct elltree_pair seven = {7, 70};
+    has(line, &g->low, 2, low, lows);
+    has(line, &g->high, 4, high, highs);
+    has(line, &g->reader, 0, low, 0);
+    has(line, &g->small, 1, &seven, 1);
+    faults += g->low.in_call || g->high.in_call || g->reader.in_call || g->small.in_call;
+}
+#define GROUPED(...) grouped(__LINE__, __VA_ARGS__)
+
+/* Handles are renewed together, or stay where they are, which is where no card is left. */
+static void group_renewal(void) {
+    struct group g = {ELLTREE_EMPTY, ELLTREE_EMPTY, ELLTREE_EMPTY, ELLTREE_EMPTY};
+    struct elltree_handle none = ELLTREE_EMPTY, *all[4] = {&g.low, &g.high, &g.reader, &g.small};
+    const struct elltree_pair low[2] = {{1, 10}, {2, 20}}, high[2] = {{3, 30}, {4, 40}};
+    const uint64_t lows[2] = {1, 2}, seven = 7;
+    uint64_t value = 0;
+    IS(elltree_open(&g.high, keys, 6, start, 2, 1), ELLTREE_YES);
+    IS(elltree_split(&g.high, &g.low, lows, 2), ELLTREE_YES);
+    IS(elltree_split(&g.high, &g.reader, NULL, 0), ELLTREE_YES);
+    IS(elltree_open(&g.small, &seven, 1, NULL, 0, 1), ELLTREE_YES);
+    IS(elltree_insert(&g.small, 7, 70, 9), ELLTREE_YES);
+    IS(elltree_insert(&g.high, 3, 30, 9), ELLTREE_YES);
+    IS(elltree_renew_all(all, 0, 9), ELLTREE_YES);
+    IS(elltree_renew_all(NULL, 0, 0), ELLTREE_YES);
+    IS(elltree_renew_all(all, 4, 9), ELLTREE_OTHER_TREE);
+    IS(elltree_renew_all(all + 2, 2, 9), ELLTREE_OTHER_TREE);
+    IS(elltree_renew_all(all, 3, 0), ELLTREE_BAD_CARDS);
+    IS(elltree_renew_all(all, 3, ELLTREE_CARDS_MAX + 1), ELLTREE_BAD_CARDS);
+    all[3] = &g.high;
+    IS(elltree_renew_all(all, 4, 9), ELLTREE_SAME);
+    all[3] = NULL;
+    IS(elltree_renew_all(all, 4, 9), ELLTREE_NULL);
+    all[3] = &none;
+    IS(elltree_renew_all(all, 4, 9), ELLTREE_CLOSED);
+    all[3] = &g.small;
+    IS(elltree_enter(&g.reader), ELLTREE_YES);
+    IS(elltree_renew_all(all, 4, 9), ELLTREE_IN_CALL);
+    faults += g.reader.in_call != 1;
+    IS(elltree_leave(&g.reader, ELLTREE_YES), ELLTREE_YES);
+    GROUPED(&g, low + 1, 1, high, 2);
+    IS(elltree_insert(&g.low, 1, 10, 9), ELLTREE_SPENT);
+    IS(elltree_delete(&g.high, 4, 9), ELLTREE_SPENT);
+    IS(elltree_renew_all(all, 3, 2), ELLTREE_YES);
+    GROUPED(&g, low + 1, 1, high, 2);
+    IS(elltree_insert(&g.low, 1, 10, 9), ELLTREE_YES);
+    IS(elltree_look(&g.reader, 1, &value), ELLTREE_YES);
+    faults += value != 10;
+    IS(elltree_delete(&g.high, 4, 9), ELLTREE_YES);
+    IS(elltree_look(&g.low, 4, &value), ELLTREE_NO);
+    GROUPED(&g, low, 2, high, 1);
+    IS(elltree_insert(&g.high, 5, 50, 9), ELLTREE_SPENT);
+    IS(elltree_renew_all(all + 1, 1, 1), ELLTREE_YES);
+    IS(elltree_insert(&g.high, 4, 40, 9), ELLTREE_YES);
+    IS(elltree_delete(&g.low, 1, 9), ELLTREE_SPENT);
+    GROUPED(&g, low, 2, high, 2);
+    IS(elltree_renew_all(all, 2, 9), ELLTREE_OTHER_TREE);
+    GROUPED(&g, low, 2, high, 2);
+    for (int i = 0; i < 4; i++)
+        IS(elltree_free(all[i]), ELLTREE_YES);
+}
+
+/* A group with more keys present than a tree begins with is not renewed. */
+static void big_group_renewal(void) {
+    static struct elltree_pair many[ELLTREE_START_MAX], out[ELLTREE_START_MAX + 1];
+    static uint64_t odd[ELLTREE_START_MAX / 2];
+    struct elltree_handle h = ELLTREE_EMPTY, other = ELLTREE_EMPTY, *both[2] = {&h, &other};
+    uint64_t most = ELLTREE_START_MAX;
+    size_t count = 0;
+    for (uint64_t i = 0; i < most; i++)
+        many[i].key = i, many[i].value = i + 7;
+    for (uint64_t i = 0; i < most / 2; i++)
+        odd[i] = 2 * i + 1;
+    IS(elltree_open(&h, &most, 1, many, most, 2), ELLTREE_YES);
+    IS(elltree_split(&h, &other, odd, most / 2), ELLTREE_YES);
+    IS(elltree_insert(&h, most, most + 7, 9), ELLTREE_YES);
+    for (int refused = 1; refused >= 0; refused--) {
+        IS(elltree_renew_all(both, 2, 2), refused ? ELLTREE_BAD_START : ELLTREE_YES);
+        for (uint64_t part = 0; part < 2; part++) {
+            IS(elltree_pairs(both[part], out, most + 1, &count), ELLTREE_YES);
+            faults += count != most / 2 + (part == 0 ? 1 : 0) - (part == 1 && !refused ? 1 : 0);
+            for (uint64_t i = 0; i < count; i++)
+                faults += out[i].key != 2 * i + part || out[i].value != 2 * i + part + 7;
+        }
+        if (refused)
+            IS(elltree_delete(&other, most - 1, 9), ELLTREE_YES);
+    }
+    IS(elltree_free(&h), ELLTREE_YES);
+    IS(elltree_free(&other), ELLTREE_YES);
+}
+
 /* Each code has a text of its own. */
 static void texts(void) {
     for (int32_t code = ELLTREE_IN_CALL - 1; code <= ELLTREE_YES + 1; code++)
@@ -248,6 +345,8 @@ int main(void) {
     keys_and_tries(&low, &high);
     spent_and_other_tree(&low);
     renewal();
+    group_renewal();
+    big_group_renewal();
     texts();
     HAS(&low, 3, start, 1);
     HAS(&high, 3, start + 1, 1);

@@ -1,5 +1,6 @@
 /* Each allocation of the library is refused in turn: the call is answered by ELLTREE_NO_MEMORY, and all handles are as they were. Linked with
-   --wrap=malloc and --wrap=realloc. Which calls ask for memory is tested too: open, split, join and renew, and no other. */
+   --wrap=malloc and --wrap=realloc. Which calls ask for memory is tested too: open, split, join, renew and
+   renew_all, and no other. */
 #include "elltree.h"
 #include <stdio.h>
 
@@ -20,16 +21,33 @@ static int32_t open_a(void) { return elltree_open(&a, keys, KEYS, start, START, 
 static int32_t split(void) { return elltree_split(&a, &b, keys + 100, 100); }
 static int32_t join(void) { return elltree_join(&a, &b); }
 static int32_t renew(void) { return elltree_renew(&a, 1000); }
+static int32_t renew_all(void) {
+    struct elltree_handle *both[2] = {&a, &b};
+    return elltree_renew_all(both, 2, 1000);
+}
 
-static long differs(struct elltree_handle *handle, size_t owned, size_t there) {
+/* The handle owns all keys from 0 but those from `low` to `high`, or only these; the start keys among its keys are present. */
+static long differs(struct elltree_handle *handle, uint64_t low, uint64_t high, int only) {
     static struct elltree_pair out[KEYS];
-    size_t is_owned = 0, is_there = 0;
-    return elltree_owned(handle, &is_owned) != ELLTREE_YES || is_owned != owned || elltree_pairs(handle, out, KEYS, &is_there) != ELLTREE_YES || is_there != there;
+    static uint64_t owned[KEYS];
+    size_t is_owned = 0, is_there = 0, key_at = 0, pair_at = 0;
+    long wrong = elltree_keys(handle, owned, KEYS, &is_owned) != ELLTREE_YES || elltree_pairs(handle, out, KEYS, &is_there) != ELLTREE_YES;
+    for (uint64_t key = 0; key < KEYS; key++) {
+        if ((low <= key && key < high) != only)
+            continue;
+        wrong += key_at >= is_owned || owned[key_at] != key;
+        key_at++;
+        if (key >= 2 * START || key % 2)
+            continue;
+        wrong += pair_at >= is_there || out[pair_at].key != key || out[pair_at].value != key / 2;
+        pair_at++;
+    }
+    return wrong + (key_at != is_owned) + (pair_at != is_there) + handle->in_call;
 }
 
 static long closed(void) { return a.slot.is_open || b.slot.is_open; }
-static long whole(void) { return differs(&a, KEYS, START) || b.slot.is_open; }
-static long parted(void) { return differs(&a, KEYS - 100, START / 2) || differs(&b, 100, START / 2); }
+static long whole(void) { return differs(&a, 0, 0, 0) || b.slot.is_open; }
+static long parted(void) { return differs(&a, 100, 200, 0) || differs(&b, 100, 200, 1); }
 
 /* Refuses each allocation of a call in turn, and looks each time whether all is as it was. */
 static void refuse(const char *name, int32_t (*call)(void), long (*differs_before)(void)) {
@@ -81,6 +99,8 @@ int main(void) {
     refuse("split", split, whole);
     faults += parted() != 0;
     frugal();
+    refuse("renew_all", renew_all, parted);
+    faults += parted() != 0;
     refuse("join", join, parted);
     faults += whole() != 0;
     refuse("renew", renew, whole);

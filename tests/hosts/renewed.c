@@ -1,8 +1,9 @@
-/* Four threads change neighbouring keys of a tree until its cards are gone; then their handles are joined, the cards made fresh, and the
-   handles split again, many times over. Each answer is compared with a plain table. */
+/* Four threads change neighbouring keys of a tree until its cards are gone; then their handles and one that only looks go to fresh cards by
+   one call, many times over. Each answer is compared with a plain table. */
 #include "elltree.h"
 #include <pthread.h>
 #include <stdio.h>
+#include <string.h>
 
 enum { THREADS = 4, EACH = 64, KEYS = THREADS * EACH, CARDS = 20000, TREES = 40 };
 
@@ -32,18 +33,19 @@ static void *work(void *at) {
     }
 }
 
-/* The handle has the keys of its table that are present, and looks at them too. */
+/* The handle has its keys, and those of its table that are present; another handle looks at them too. */
 static long differs(struct worker *me, struct elltree_handle *any) {
     struct elltree_pair out[EACH];
-    uint64_t value;
+    uint64_t owned[EACH], value;
     size_t count, at = 0;
-    long wrong = elltree_pairs(&me->handle, out, EACH, &count) != ELLTREE_YES;
+    long wrong = elltree_keys(&me->handle, owned, EACH, &count) != ELLTREE_YES || count != EACH || memcmp(owned, me->keys, sizeof owned);
+    wrong += elltree_pairs(&me->handle, out, EACH, &count) != ELLTREE_YES;
     for (unsigned i = 0; i < EACH; i++) {
         if (me->there[i]) {
             wrong += at >= count || out[at].key != me->keys[i] || out[at].value != me->value[i];
             at++;
         }
-        wrong += elltree_look(any, me->keys[i], &value) != (me->there[i] ? ELLTREE_YES : ELLTREE_NO);
+        wrong += elltree_look(any, me->keys[i], &value) != (me->there[i] ? ELLTREE_YES : ELLTREE_NO) || (me->there[i] && value != me->value[i]);
     }
     return wrong + (at != count);
 }
@@ -52,6 +54,7 @@ static long refusals;
 static void must(int32_t said) { refusals += said != ELLTREE_YES; }
 
 int main(void) {
+    struct elltree_handle reader = ELLTREE_EMPTY, *group[THREADS + 1];
     uint64_t keys[KEYS];
     pthread_t threads[THREADS];
     long wrong = 0, changes = 0;
@@ -61,20 +64,25 @@ int main(void) {
         workers[i % THREADS].chance = i;
     }
     must(elltree_open(&workers[0].handle, keys, KEYS, NULL, 0, CARDS));
+    for (int i = 1; i < THREADS; i++)
+        must(elltree_split(&workers[0].handle, &workers[i].handle, workers[i].keys, EACH));
+    must(elltree_split(&workers[0].handle, &reader, NULL, 0));
+    for (int i = 0; i < THREADS; i++)
+        group[i] = &workers[i].handle;
+    group[THREADS] = &reader;
     for (int tree = 0; tree < TREES; tree++) {
-        for (int i = 1; i < THREADS; i++)
-            must(elltree_split(&workers[0].handle, &workers[i].handle, workers[i].keys, EACH));
         for (int i = 0; i < THREADS; i++)
             pthread_create(&threads[i], NULL, work, &workers[i]);
         for (int i = 0; i < THREADS; i++)
             pthread_join(threads[i], NULL);
         for (int i = 0; i < THREADS; i++)
-            wrong += differs(&workers[i], &workers[(i + 1) % THREADS].handle);
-        for (int i = 1; i < THREADS; i++)
-            must(elltree_join(&workers[0].handle, &workers[i].handle));
-        must(elltree_renew(&workers[0].handle, CARDS));
+            wrong += differs(&workers[i], &reader);
+        must(elltree_renew_all(group, THREADS + 1, CARDS));
+        for (int i = 0; i < THREADS; i++)
+            wrong += differs(&workers[i], &reader);
     }
-    must(elltree_free(&workers[0].handle));
+    for (int i = 0; i <= THREADS; i++)
+        must(elltree_free(group[i]));
     for (int i = 0; i < THREADS; i++)
         wrong += workers[i].wrong, changes += workers[i].changes;
     printf("%d trees, %ld changes, %ld wrong, %ld refusals\n", TREES, changes, wrong, refusals);

@@ -1,5 +1,5 @@
-"""Four threads of Python on neighbouring keys, each answer compared with a dict of the thread's own; then each misuse that the binding
-answers. The binding is found by PYTHONPATH."""
+"""Four threads of Python on neighbouring keys, each answer compared with a dict of the thread's own; then four that spend all cards, go to
+fresh cards together, and go on; then each misuse that the binding answers. The binding is found by PYTHONPATH."""
 
 import random
 import sys
@@ -38,6 +38,53 @@ def refused(code, call, *args, **named):
         return 1
     print(f"{call}: not refused")
     return 1
+
+
+def spend(handle, own, plain, chance, wrong, number):
+    """Changes keys until all cards are given out."""
+    while True:
+        key, value = chance.choice(own), chance.getrandbits(64)
+        try:
+            wrong[number] += (handle.delete(key) if key in plain else handle.insert(key, value)) is not True
+        except elltree.Refused as why:
+            wrong[number] += why.code != elltree.SPENT
+            return
+        if plain.pop(key, None) is None:
+            plain[key] = value
+
+
+def renewals():
+    handles = [elltree.open(range(KEYS), cards=2000)]
+    owned = [range(number, KEYS, THREADS) for number in range(THREADS)]
+    handles += [handles[0].split(own) for own in owned[1:]]
+    reader, other, closed = handles[0].split(), elltree.open([1]), elltree.Handle()
+    plain, chances, wrong = [{} for _ in owned], [random.Random(number) for number in range(THREADS)], [0] * THREADS
+    refusals = [(elltree.BAD_CARDS, [], 0), (elltree.OTHER_TREE, [other], 9), (elltree.CLOSED, [closed], 9), (elltree.SAME, handles[1:2], 9)]
+    faults = 0
+    for tree in range(8):
+        threads = [threading.Thread(target=spend, args=(handles[n], owned[n], plain[n], chances[n], wrong, n)) for n in range(THREADS)]
+        for thread in threads:
+            thread.start()
+        for thread in threads:
+            thread.join()
+        for code, more, cards in refusals:
+            faults += refused(code, elltree.renew_all, [*handles, reader, *more], cards)
+        with other._in_call:
+            faults += refused(elltree.IN_CALL, elltree.renew_all, [*handles, other])
+        faults += refused(elltree.SPENT, spend_one, handles[0], plain[0])
+        for renewed in range(2):
+            for handle, own, has in zip(handles, owned, plain):
+                faults += handle.keys() != list(own) or handle.pairs() != sorted(has.items())
+                faults += any(reader.look(key) != has.get(key) for key in own)
+            if not renewed:
+                elltree.renew_all([*handles, reader], cards=2000)
+    elltree.renew_all([], 0)
+    return sum(wrong) + faults
+
+
+def spend_one(handle, plain):
+    """One change of a handle's first key."""
+    return handle.delete(0) if 0 in plain else handle.insert(0, 1)
 
 
 def misuse():
@@ -80,7 +127,7 @@ def main():
         thread.start()
     for thread in threads:
         thread.join()
-    faults = misuse()
+    faults = renewals() + misuse()
     print(f"{sum(wrong)} wrong, {faults} faults")
     sys.exit(sum(wrong) + faults != 0)
 

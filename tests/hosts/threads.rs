@@ -1,5 +1,6 @@
-//! Four threads of Rust on neighbouring keys, each answer compared with a `BTreeMap` of the thread's own, while a reader looks at all keys.
-use elltree::{Handle, Refused, Tree};
+//! Four threads of Rust on neighbouring keys, each answer compared with a `BTreeMap` of the thread's own, while a reader looks at all keys;
+//! then four that spend all cards, go to fresh cards together, and go on.
+use elltree::{renew_all, Handle, Member, Refused, Tree};
 use std::collections::BTreeMap;
 use std::sync::atomic::{AtomicBool, Ordering};
 
@@ -40,7 +41,70 @@ fn work(handle: &mut Handle, id: u64, mut plain: BTreeMap<u64, u64>) -> Result<u
     Ok(wrong + usize::from(handle.pairs()? != plain.into_iter().collect::<Vec<_>>()))
 }
 
+// Changes keys until all cards are given out.
+fn spend(handle: &mut Handle, id: u64, plain: &mut BTreeMap<u64, u64>, seed: &mut u64) -> Refused {
+    loop {
+        let random = next(seed);
+        let key = (random >> 20) % (KEYS / THREADS) * THREADS + id;
+        let value = value_of(key, random);
+        let changed = if plain.contains_key(&key) { handle.delete(key, 1000) } else { handle.insert(key, value, 1000) };
+        match changed {
+            Ok(changed) => assert!(changed),
+            Err(why) => return why,
+        }
+        if plain.remove(&key).is_none() {
+            plain.insert(key, value);
+        }
+    }
+}
+
+// The handles have these maps, and a reader finds them.
+fn have(handles: &mut [Handle], plain: &[BTreeMap<u64, u64>], reader: &mut elltree::Reader) -> Result<(), Refused> {
+    for (handle, plain) in handles.iter_mut().zip(plain) {
+        let pairs = handle.pairs()?;
+        assert!(pairs.iter().all(|(key, value)| reader.look(*key) == Ok(Some(*value))));
+        assert_eq!((handle.owned(), pairs), ((KEYS / THREADS) as usize, plain.clone().into_iter().collect()));
+    }
+    Ok(())
+}
+
+fn renewals() -> Result<(), Refused> {
+    let keys: Vec<u64> = (0..KEYS).collect();
+    let mut tree = Tree::open(&keys, &[], 10_000)?;
+    let mut handles = (0..THREADS)
+        .map(|id| tree.handle(&keys[id as usize..].iter().copied().step_by(THREADS as usize).collect::<Vec<_>>()))
+        .collect::<Result<Vec<_>, _>>()?;
+    let mut reader = tree.reader()?;
+    let mut other = Handle::open(&[1], &[], 1)?;
+    let mut plain = vec![BTreeMap::new(); THREADS as usize];
+    let mut seeds: Vec<u64> = (1..=THREADS).collect();
+    for _ in 0..10 {
+        std::thread::scope(|threads| {
+            for (((handle, id), plain), seed) in handles.iter_mut().zip(0..).zip(&mut plain).zip(&mut seeds) {
+                threads.spawn(move || assert_eq!(spend(handle, id, plain, seed), Refused::Spent));
+            }
+        });
+        let mut group: Vec<&mut dyn Member> = vec![&mut tree, &mut reader];
+        group.extend(handles.iter_mut().map(|handle| handle as &mut dyn Member));
+        assert_eq!(renew_all(&mut group, 0), Err(Refused::BadCards));
+        group.push(&mut other);
+        assert_eq!(renew_all(&mut group, 10_000), Err(Refused::OtherTree));
+        group.pop();
+        have(&mut handles, &plain, &mut reader)?;
+        let mut group: Vec<&mut dyn Member> = vec![&mut tree, &mut reader];
+        group.extend(handles.iter_mut().map(|handle| handle as &mut dyn Member));
+        renew_all(&mut group, 10_000)?;
+        have(&mut handles, &plain, &mut reader)?;
+    }
+    renew_all(&mut [], 0)?;
+    for handle in handles {
+        tree.take_back(handle).map_err(|(_, why)| why)?;
+    }
+    Ok(())
+}
+
 fn main() -> Result<(), Refused> {
+    renewals()?;
     let keys: Vec<u64> = (0..KEYS).collect();
     let start: Vec<(u64, u64)> = (0..KEYS).step_by(2).map(|key| (key, value_of(key, key))).collect();
     let mut tree = Tree::open(&keys, &start, 400_000)?;

@@ -86,6 +86,7 @@ unsafe extern "C" {
     fn elltree_slot_pairs(slot: &mut Slot, out: *mut Pair, room: usize, count: &mut usize) -> i32;
     fn elltree_slot_steps(slot: &mut Slot, steps: &mut u64) -> i32;
     fn elltree_slot_renew(slot: &mut Slot, cards: u64, number: u64) -> i32;
+    fn elltree_slots_renew(slots: *mut Slot, count: usize, cards: u64, number: u64) -> i32;
     fn elltree_slot_free(slot: &mut Slot) -> i32;
 }
 
@@ -95,7 +96,7 @@ unsafe extern "C" {
 pub enum Refused {
     /// Something was in the way of each try.
     Busy,
-    /// All cards of the tree are given out: [`Handle::renew`] makes them fresh.
+    /// All cards of the tree are given out: [`renew_all`] makes them fresh.
     Spent,
     /// The handle does not own a key of the call.
     Foreign,
@@ -203,8 +204,8 @@ impl Handle {
     }
 
     /// Makes the cards fresh: the handle goes to a new tree with so many cards, and takes along the keys that it owns, which are present
-    /// with their values or absent as they were. Handles that are to stay with it are joined to it first, and split from it again; others,
-    /// as readers, stay behind in the old tree.
+    /// with their values or absent as they were. Other handles stay behind in the old tree: [`renew_all`] takes handles along that are to
+    /// stay together.
     ///
     /// `BadStart` if more than [`START_MAX`] keys are present, `BadCards` if the cards are not 1 to [`CARDS_MAX`]: then the handle is where
     /// it was.
@@ -397,8 +398,8 @@ impl Tree {
         self.rest.join(handle)
     }
 
-    /// Makes the cards fresh: the tree is a new one, with the keys that no handle has. Give the handles back first: a handle that is out
-    /// stays with the old tree, and so does a reader. Refused as [`Handle::renew`] is.
+    /// Makes the cards fresh: the tree is a new one, with the keys that no handle has. A handle that is out stays with the old tree, and so
+    /// does a reader: give the handles back first, or call [`renew_all`]. Refused as [`Handle::renew`] is.
     ///
     /// ```
     /// let mut tree = elltree::Tree::open(&[1, 2, 3, 4], &[], 100)?;
@@ -423,4 +424,72 @@ impl Tree {
     pub fn pairs(&mut self) -> Result<Vec<(u64, u64)>> {
         self.rest.pairs()
     }
+}
+
+mod member {
+    /// A handle, or what is made of one.
+    pub trait HasHandle {
+        fn handle(&mut self) -> &mut super::Handle;
+    }
+}
+
+/// What [`renew_all`] takes along: a [`Handle`], a [`Reader`], or a [`Tree`] with the keys that no handle has.
+pub trait Member: member::HasHandle {}
+
+impl<T: member::HasHandle> Member for T {}
+
+impl member::HasHandle for Handle {
+    fn handle(&mut self) -> &mut Handle {
+        self
+    }
+}
+
+impl member::HasHandle for Reader {
+    fn handle(&mut self) -> &mut Handle {
+        &mut self.0
+    }
+}
+
+impl member::HasHandle for Tree {
+    fn handle(&mut self) -> &mut Handle {
+        &mut self.rest
+    }
+}
+
+/// Makes the cards of handles of one tree fresh: all of them go to one new tree with so many cards, each with the keys that it owns, which
+/// are present with their values or absent as they were. Other handles stay behind in the old tree. Without members nothing happens.
+///
+/// `OtherTree` if the members are of two trees, `BadStart` if more than [`START_MAX`] keys are present in all, `BadCards` if the cards are
+/// not 1 to [`CARDS_MAX`]: then each member is where it was.
+///
+/// ```
+/// use elltree::{renew_all, Member, Refused, Tree};
+/// let mut tree = Tree::open(&[1, 2, 3, 4], &[(2, 20)], 1)?;
+/// let mut low = tree.handle(&[1, 2])?;
+/// let mut high = tree.handle(&[3, 4])?;
+/// let mut reader = tree.reader()?;
+/// low.delete(2, 9)?;
+/// assert_eq!(high.insert(3, 30, 9), Err(Refused::Spent));
+/// assert_eq!(renew_all(&mut [&mut tree, &mut low, &mut high, &mut reader], 0), Err(Refused::BadCards));
+/// renew_all(&mut [&mut tree, &mut low, &mut high, &mut reader], 2)?;
+/// high.insert(3, 30, 9)?;
+/// low.insert(2, 21, 9)?;
+/// assert_eq!((reader.look(2)?, reader.look(3)?), (Some(21), Some(30)));
+///
+/// let mut handles = vec![low, high];
+/// let mut group: Vec<&mut dyn Member> = handles.iter_mut().map(|handle| handle as _).collect();
+/// renew_all(&mut group, 1_000)?; // the tree and the reader stay behind
+/// assert_eq!(renew_all(&mut [&mut tree, &mut handles[0]], 1_000), Err(Refused::OtherTree));
+/// # Ok::<(), Refused>(())
+/// ```
+pub fn renew_all(members: &mut [&mut dyn Member], cards: u64) -> Result<()> {
+    let take = |member: &mut &mut dyn Member| std::mem::replace(&mut member.handle().0, EMPTY);
+    let mut slots: Vec<Slot> = members.iter_mut().map(take).collect();
+    // SAFETY: the slots are those of the members, the array is as long as said, and no other tree has the number.
+    let code = unsafe { elltree_slots_renew(slots.as_mut_ptr(), slots.len(), cards, next_number()) };
+    for (member, slot) in members.iter_mut().zip(slots) {
+        member.handle().0 = slot;
+    }
+    answer(code)?;
+    Ok(())
 }

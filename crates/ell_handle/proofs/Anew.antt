@@ -6,7 +6,7 @@ use Rattle.std.proofs.lemmas.Bool.{cases_lt}
 use Rattle.std.proofs.lemmas.List.{get_or-map, length-map}
 use Rattle.std.proofs.lemmas.List.Elements.{All-contains}
 use Rattle.std.proofs.lemmas.Map.Made.{is_some-lookup}
-use Rattle.ell_ops.specs.Contents.{ListsPairs, contents_of}
+use Rattle.ell_ops.specs.Contents.{Contents, ListsPairs, contents_of}
 use Rattle.ell_ops.specs.KeySet.{Lists, set_of, union}
 use Rattle.ell_ops.specs.Meaning.{greatest_key}
 use Rattle.ell_ops.proofs.Pairs.{one_list_of_pairs}
@@ -49,8 +49,14 @@ pub owns_listed : (p : PassModel) (i d : ℕ) → i < length (ledger_keys p.view
 owns_listed p i d low = let keys = ledger_keys p.view.worker.ledger in among_owned p.view.worker.ledger (get_or keys i d) (at_place keys i d low)
 
 -- and each that it has present
-owns_present : (p : PassModel) (k v : ℕ) → present_in p k ≡ Some v → Owns p k
+pub owns_present : (p : PassModel) (k v : ℕ) → present_in p k ≡ Some v → Owns p k
 owns_present p k v is none = let clash : None ≡ Some v = sym (ap value_in none) ∙ is in absurd cc
+
+-- pairs begin no tree, though they are those of a map, only if they are too many
+pub too_much : (there : Contents) (pairs : List (ℕ × ℕ)) → ListsPairs there pairs → (¬ IsStart pairs) → IsTooMuch there
+too_much there pairs all not_start others lists =
+    subst (λ l. most_start < length l) (one_list_of_pairs there pairs others all lists)
+    (⊎_elim (λ less. less) (λ few. absurd (not_start (record { ascending = all.ascending; few = few }))) (cases_lt most_start (length pairs)))
 
 module _ (p : PassModel) (pairs : List (ℕ × ℕ)) (all : ListsPairs (present_in p) pairs) where
   -- so it owns the keys of its pairs
@@ -71,16 +77,10 @@ module _ (p : PassModel) (pairs : List (ℕ × ℕ)) (all : ListsPairs (present_
         real (get_or pairs i d).0 (owns_pair (get_or pairs i d).0 (subst (λ k. set_of (keys_of pairs) k ≡ true) key (at_place (keys_of pairs) i 0 inside)));
   }
 
-  -- it begins no tree only if it is too much
-  too_much : (¬ IsStart pairs) → IsTooMuch (present_in p)
-  too_much not_start others lists =
-      subst (λ l. most_start < length l) (one_list_of_pairs (present_in p) pairs others all lists)
-      (⊎_elim (λ less. less) (λ few. absurd (not_start (record { ascending = all.ascending; few = few }))) (cases_lt most_start (length pairs)))
-
   -- why there is no tree of it
   pub refuses_renewal : (cards : ℕ) (why : Refusal) → ((k : ℕ) → Owns p k → k ≤ greatest_key) → Refuses (ledger_keys p.view.worker.ledger) pairs cards why
       → RenewalRefuses (present_in p) cards why
-  refuses_renewal cards BadStart real refused = too_much refused
+  refuses_renewal cards BadStart real refused = too_much (present_in p) pairs all refused
   refuses_renewal cards BadKey real refused = refused.1 (are_keys real)
   refuses_renewal cards BadCards real refused = refused.1.1
   refuses_renewal cards NoMemory real refused = tt

@@ -6,3 +6,5 @@ pub mod Opens
 pub mod Renewal
 -- when a handle is not parted, and two are not joined
 pub mod Parts
+-- handles that come to fresh cards together
+pub mod Groups

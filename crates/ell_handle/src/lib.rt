@@ -2,10 +2,13 @@
 //! tree's calls, and answers a call that does not meet one with a named refusal, so that its callers owe nothing.
 #![tactic(auto)]
 
+mod grouping;
 mod handle;
 mod keys;
+mod merging;
 mod refusal;
 mod renewing;
 
+pub use grouping::renew_all;
 pub use handle::{Handle, Place, SharedTree, sent};
 pub use refusal::Refusal;

@@ -1,3 +1,4 @@
 pub mod Owned
 pub mod Maps
 pub mod Codes
+pub mod Groups

@@ -7,6 +7,7 @@
 
 pub mod calls;
 mod codes;
+pub mod grouping;
 pub mod opening;
 mod parts;
 pub mod reading;

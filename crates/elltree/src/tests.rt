@@ -3,7 +3,8 @@ use crate::Pair;
 use crate::calls::{
     elltree_slot_delete, elltree_slot_find, elltree_slot_insert, elltree_slot_look,
 };
-use crate::codes::{CLOSED, FOREIGN, NO, OPEN, YES};
+use crate::codes::{BAD_CARDS, CLOSED, FOREIGN, NO, OPEN, SPENT, YES};
+use crate::grouping::elltree_slots_renew;
 use crate::opening::{elltree_slot_free, elltree_slot_join, elltree_slot_open, elltree_slot_split};
 use crate::reading::{elltree_slot_owned, elltree_slot_pairs};
 use crate::renewing::elltree_slot_renew;
@@ -42,4 +43,37 @@ fn two_slots_part_join_and_close(rt: HostRuntime) {
     assert!(rt; elltree_slot_free(alloc, &mut low) == YES);
     assert!(rt; elltree_slot_free(alloc, &mut high) == YES);
     assert!(rt; elltree_slot_free(alloc, &mut high) == CLOSED);
+}
+
+#[test]
+fn slots_renew_together(rt: HostRuntime) {
+    let alloc: Global = rt.alloc();
+    let mut low = Slot::empty(alloc);
+    let mut high = Slot::empty(alloc);
+    let mut reader = Slot::empty(alloc);
+    let (mut value, mut count) = (0, 0);
+    assert!(rt; elltree_slot_open(alloc, &mut low, &KEYS, &START, 1, 1) == YES);
+    assert!(rt; elltree_slot_split(alloc, &mut low, &mut high, &[3, 4]) == YES);
+    assert!(rt; elltree_slot_split(alloc, &mut low, &mut reader, &[]) == YES);
+    assert!(rt; elltree_slot_insert(alloc, &mut high, 3, 30, 9) == YES);
+    let mut slots = [low, high, reader];
+    assert!(rt; elltree_slots_renew(alloc, &mut slots, 0, 2) == BAD_CARDS);
+    assert!(rt; elltree_slot_insert(alloc, &mut slots[1], 4, 40, 9) == SPENT);
+    assert!(rt; elltree_slots_renew(alloc, &mut slots, 1, 2) == YES);
+    assert!(rt; elltree_slot_find(alloc, &mut slots[1], 3, &mut value) == YES);
+    assert!(rt; value == 30);
+    assert!(rt; elltree_slot_look(alloc, &mut slots[2], 2, &mut value) == YES);
+    assert!(rt; value == 20);
+    assert!(rt; elltree_slot_insert(alloc, &mut slots[1], 4, 40, 9) == YES);
+    assert!(rt; elltree_slot_look(alloc, &mut slots[2], 4, &mut value) == YES);
+    assert!(rt; value == 40);
+    assert!(rt; elltree_slot_insert(alloc, &mut slots[0], 1, 10, 9) == SPENT);
+    assert!(rt; elltree_slot_find(alloc, &mut slots[0], 4, &mut value) == FOREIGN);
+    assert!(rt; elltree_slot_owned(alloc, &mut slots[2], &mut count) == YES);
+    assert!(rt; count == 0);
+    assert!(rt; elltree_slot_free(alloc, &mut slots[2]) == YES);
+    assert!(rt; elltree_slots_renew(alloc, &mut slots, 1, 3) == CLOSED);
+    assert!(rt; elltree_slot_insert(alloc, &mut slots[0], 1, 10, 9) == SPENT);
+    assert!(rt; elltree_slot_free(alloc, &mut slots[0]) == YES);
+    assert!(rt; elltree_slot_free(alloc, &mut slots[1]) == YES);
 }
