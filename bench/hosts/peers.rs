@@ -21,7 +21,7 @@ pub struct Sizes {
     pub readers: u64,
 }
 
-/// The keys of one owner: its neighbours have the keys next to them.
+/// The keys of one owner: its neighbors have the keys next to them.
 #[derive(Clone, Copy)]
 pub struct Stripe {
     first: u64,

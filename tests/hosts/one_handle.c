@@ -1,5 +1,5 @@
 /* Two threads call on one handle at once, which nobody ordered: each call is answered rightly, or by ELLTREE_IN_CALL. Then four threads
-   try each change once, on neighbouring keys: an answer is right, or ELLTREE_BUSY, after which the map is as it was. */
+   try each change once, on neighboring keys: an answer is right, or ELLTREE_BUSY, after which the map is as it was. */
 #include "elltree.h"
 #include <pthread.h>
 #include <stdio.h>

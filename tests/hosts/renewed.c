@@ -1,4 +1,4 @@
-/* Four threads change neighbouring keys of a tree until its cards are gone; then their handles and one that only looks go to fresh cards by
+/* Four threads change neighboring keys of a tree until its cards are gone; then their handles and one that only looks go to fresh cards by
    one call, many times over. Each answer is compared with a plain table. */
 #include "elltree.h"
 #include <pthread.h>

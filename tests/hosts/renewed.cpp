@@ -1,4 +1,4 @@
-// Four threads of C++ change neighbouring keys until all cards are given out; then their handles go to fresh cards together, and they go on.
+// Four threads of C++ change neighboring keys until all cards are given out; then their handles go to fresh cards together, and they go on.
 // What each handle has is compared with a std::map of its own, before and after.
 #include "elltree.h"
 #include <cstdio>

@@ -1,5 +1,5 @@
 /* A thread is stopped in the middle of inserts and of deletes, by a signal whose handler waits. Meanwhile two threads change keys that
-   are its neighbours, and one looks at all keys: each has so many calls to make before the stopped one goes on, and all are to be
+   are its neighbors, and one looks at all keys: each has so many calls to make before the stopped one goes on, and all are to be
    right. The signal comes at any moment; stops between two calls are not counted. */
 #include "elltree.h"
 #include <pthread.h>

@@ -1,5 +1,5 @@
 /* Four threads of a host on one map, each with the keys of its own remainder: each answer is compared with a plain table of the thread's,
-   and each look at a neighbour's key has to find a value that was made for that key. */
+   and each look at a neighbor's key has to find a value that was made for that key. */
 #include "elltree.h"
 #include <pthread.h>
 #include <stdio.h>

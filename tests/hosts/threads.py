@@ -1,4 +1,4 @@
-"""Four threads of Python on neighbouring keys, each answer compared with a dict of the thread's own; then four that spend all cards, go to
+"""Four threads of Python on neighboring keys, each answer compared with a dict of the thread's own; then four that spend all cards, go to
 fresh cards together, and go on; then each misuse that the binding answers. The binding is found by PYTHONPATH."""
 
 import random

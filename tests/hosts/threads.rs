@@ -1,4 +1,4 @@
-//! Four threads of Rust on neighbouring keys, each answer compared with a `BTreeMap` of the thread's own, while a reader looks at all keys;
+//! Four threads of Rust on neighboring keys, each answer compared with a `BTreeMap` of the thread's own, while a reader looks at all keys;
 //! then four that spend all cards, go to fresh cards together, and go on.
 use elltree::{renew_all, Handle, Member, Refused, Tree};
 use std::collections::BTreeMap;

@@ -1,7 +1,7 @@
 //! Four threads share one map from the players of a game to their scores, and add up the points that were made.
 //!
 //! Each thread owns a quarter of the players, and reads and writes the scores of those alone. No thread waits for another: where a
-//! neighbour has stalled half-way through a change, a thread finishes that change and goes on.
+//! neighbor has stalled half-way through a change, a thread finishes that change and goes on.
 #![tactic(auto)]
 
 ghost use Rattle.std.specs.Prelude.{◌≡◌, IfOk};
@@ -30,7 +30,7 @@ const POINTS: [(u64, u64); 12] = [
     (2, 7),
 ];
 
-// An insert that adds its key takes a card, and so does a delete that takes one away; a try that meets a neighbour may cost one.
+// An insert that adds its key takes a card, and so does a delete that takes one away; a try that meets a neighbor may cost one.
 const CARDS: u64 = 10_000;
 
 // How often a change is tried before it is `Busy`.
