@@ -1,4 +1,4 @@
-// Four threads of C++ on neighbouring keys, each answer compared with a std::map of the thread's own.
+// Four threads of C++ on neighboring keys, each answer compared with a std::map of the thread's own.
 #include "elltree.h"
 #include <cstdio>
 #include <map>
