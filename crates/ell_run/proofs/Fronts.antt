@@ -15,7 +15,7 @@ use Rattle.ell_tree.specs.Ledgers.{PassModel, Owns, IsIdle, answers, hindrances,
 use Rattle.ell_parts.specs.PartedOps.{PartedOps, part}
 use Rattle.ell_run.specs.ByParts.{ops_in}
 use Rattle.ell_run.specs.Pieces.{front, one_held, piece_from}
-use Rattle.ell_run.specs.Work.{AreHeld, IsWorked, IsWorkedOff}
+use Rattle.ell_run.specs.Work.{AreHeld, IsWorked, IsWorkedOff, label_after}
 use Rattle.ell_run.proofs.Held.{hindrances_grow, none_held, once_held}
 use Rattle.ell_run.proofs.OnKey.{final-append}
 use Rattle.ell_ops.specs.declared.reply.Reply.{Reply}
@@ -23,6 +23,7 @@ use Rattle.ell_ops.specs.declared.reply.Reply.{Reply}
 -- so many operations of a part were done with a pass
 pub record IsFrontDone (items : List (ℕ × Op)) (i : ℕ) (before after : PassModel) (piece : List (ℕ × Reply)) : Type 0 where
   pub table : after.table ≡ before.table
+  pub label : after.label ≡ before.label
   pub idle : IsIdle after
   pub few : i ≤ length items
   pub count : length piece ≡ i
@@ -53,6 +54,7 @@ front_more items i d before mid after piece reply below h a meets =
     let same : present_in after ≡ after_op item.1 (present_in mid) = λ j key. a.map key j in
     record {
       table = a.table ∙ h.table;
+      label = a.label ∙ h.label;
       idle = a.idle;
       few = omega arith;
       count = length_push piece (item.0, reply) ∙ ap (λ n. n + 1) h.count;
@@ -76,6 +78,7 @@ front_all cards tries items i before after piece all h =
     let same : take i items ≡ take (length piece) items = ap (λ n. take n items) (sym count) in
     record {
       table = h.table;
+      label = h.label;
       idle = h.idle;
       told = record {
         few = omega arith;
@@ -104,6 +107,7 @@ front_held cards tries items i d before mid after piece why below h l held_for =
     let kept : present_in after ≡ present_in mid = rw l.ledger refl in
     record {
       table = l.table ∙ h.table;
+      label = l.label ∙ h.label;
       idle = l.idle;
       told = record {
         few = omega arith;
@@ -143,3 +147,13 @@ one_worked cards tries parting (w ∷ []) d label before told after items piece 
       answers = let counted = off.answers in omega arith;
       held = subst (λ n. AreHeld cards tries n before after) (sym (add-zero (one_held (part parting w) piece))) off.held;
     })
+
+-- the label after workers, of whom there are some, is the first one's number
+pub first_label : (before : PassModel) (workers : List ℕ) (d : ℕ) → 0 < length workers → get_or workers 0 d ≡ label_after before workers
+first_label before [] d some = absurd (omega arith)
+first_label before (worker ∷ workers) d some = refl
+
+-- and so it is if others come after these
+pub label_both : (before left : PassModel) (low high : List ℕ) → 0 < length low → label_after left low ≡ label_after before (low ++ high)
+label_both before left [] high some = absurd (omega arith)
+label_both before left (worker ∷ low) high some = refl

@@ -1,4 +1,4 @@
-use Rattle.std.specs.Prelude.{◌≡◌, ◌⊎◌, ℕ, ◌+◌, ◌*◌, ◌<◌, ◌≤◌, ◌↔◌, Some, List, length, All}
+use Rattle.std.specs.Prelude.{◌≡◌, ◌⊎◌, ℕ, ◌+◌, ◌*◌, ◌<◌, ◌≤◌, ◌↔◌, Some, List, [], ◌∷◌, length, All}
 use Rattle.std.specs.List.{list_any, sum_by}
 use Rattle.std.specs.List.Sorted.{IsStrictlyIncreasing}
 use Rattle.ell_ops.specs.declared.op.Op.{Op}
@@ -50,6 +50,7 @@ AreHeld cards tries count before after = HasNoCards cards after ⊎ (hindrances 
 -- a front of numbered operations was done with a pass, and this piece answers it; the operation behind it, if there is one, was held
 pub record IsWorkedOff (cards tries : ℕ) (items : List (ℕ × Op)) (before after : PassModel) (piece : List (ℕ × Reply)) : Type 0 where
   pub table : after.table ≡ before.table
+  pub label : after.label ≡ before.label
   pub idle : IsIdle after
   pub told : IsPiece (present_in before) items piece
   pub map : present_in after ≡ final (present_in before) (ops_in (front items piece))
@@ -68,7 +69,13 @@ pub record IsWorked (cards tries : ℕ) (parting : PartedOps) (workers : List �
   pub answers : answers after ≡ answers before + sum_by length pieces
   pub held : AreHeld cards tries (all_held parting workers pieces) before after
 
+-- the label of a pass that workers have worked with, each under its number: the first one's, or what it was if there is none
+abbrev pub label_after : PassModel → List ℕ → ℕ
+label_after before [] = before.label
+label_after before (worker ∷ workers) = worker
+
 -- workers have worked with a pass, and made no more steps than they may
 pub record IsWorkedWithin (cards tries : ℕ) (parting : PartedOps) (workers : List ℕ) (before after : PassModel) (pieces : List (List (ℕ × Reply))) : Type 0 where
   pub worked : IsWorked cards tries parting workers before after pieces
   pub within : AreWithin cards parting workers before after
+  pub label : after.label ≡ label_after before workers

@@ -7,7 +7,7 @@ ghost use Rattle.ell_parts.specs.PartedOps.{IsLawful, PartedOps, keys_of};
 ghost use Rattle.ell_tree.specs.Ledgers.{IsIdle, Owns, PassModel};
 ghost use Rattle.ell_run.specs.Pieces.{all_workers, busy};
 ghost use Rattle.ell_run.specs.Steps.{total_steps, work_steps};
-ghost use Rattle.ell_run.specs.Work.{AreHalves, AreReady, IsWorked, IsWorkedWithin, keys_for};
+ghost use Rattle.ell_run.specs.Work.{AreHalves, AreReady, IsWorked, IsWorkedWithin, keys_for, label_after};
 
 use crate::pieces::{Piece, with_empty_pieces, work_off};
 use ell_ops::{NoMemory, Op, united_keys};
@@ -17,13 +17,14 @@ use ell_word::StepGate;
 use std::alloc::Allocator;
 use std::thread::{Threads, join};
 
-/// Has each worker work its part off with a pass of the tree, in a thread of its own where one can be made. A worker leaves the
-/// rest of its part from the first operation on that is held: something was in its way at each of its tries, or all cards are given
-/// out. Answers the pass, with all its keys, and a piece for each worker, in their order: its replies, with their positions. After
-/// `NoMemory` the pass is gone. However many tries there are, and however the workers' steps fall, a worker with n operations makes
-/// at most `n * (7 * cards + 28) + 2 * cards * (7 * cards + 27)` steps, where `cards` is the number of the last card; the pass that
-/// comes back has counted no more than the worker with the most operations may, and two for each busy worker beside the first. All
-/// workers together make at most the sum of what each may, and two for each busy worker beside the first: its split and its join (`total`).
+/// Has each worker work its part off with a pass of the tree, in a thread of its own where one can be made. A worker leaves the rest
+/// of its part from the first operation on that is held: something was in its way at each of its tries, or all cards are given out.
+/// Answers the pass, with all its keys, and a piece for each worker, in their order: its replies, with their positions. The pass then
+/// has the number of the first worker with operations as its label, or its own label if there is none. After `NoMemory` the pass is
+/// gone. However many tries there are, and however the workers' steps fall, a worker with n operations makes at most
+/// `n * (7 * cards + 28) + 2 * cards * (7 * cards + 27)` steps, where `cards` is the number of the last card; the pass that comes
+/// back has counted no more than the worker with the most operations may, and two for each busy worker beside the first. All workers
+/// together make at most the sum of what each may, and two for each busy worker beside the first: its split and its join (`total`).
 pub fn work<R: Threads + Sync, A: Allocator + Copy + Send + Sync, G: StepGate + Sync>(
     rt: &R,
     alloc: A,
@@ -39,6 +40,7 @@ pub fn work<R: Threads + Sync, A: Allocator + Copy + Send + Sync, G: StepGate + 
     requires tries { 1 ≤ tries }
     ensures worked { IfOk result (λ done.
         IsWorked tree.now.last_card tries parts.now (all_workers parts.now) pass done.0 (map (λ piece. piece.items) done.1.items)) }
+    ensures label { IfOk result (λ done. done.0.label ≡ label_after pass (busy parts.now)) }
     ensures bounded { IfOk result (λ done. done.0.steps ≤ pass.steps + work_steps tree.now.last_card parts.now (busy parts.now)) }
     ensures total { IfOk result (λ done. done.0.view.made ≤ pass.view.made + total_steps tree.now.last_card parts.now (busy parts.now)) }
 {

@@ -1,6 +1,7 @@
 use Rattle.std.proofs.Common.{◌++◌, map, ap, sym, subst, ◌∙◌}
 use Rattle.std.proofs.lemmas.List.{map-append}
 use Rattle.ell_run.specs.Work.{IsWorked}
+use Rattle.ell_run.proofs.Fronts.{label_both}
 use Rattle.ell_run.proofs.Halves.{worked_both}
 use Rattle.ell_run.proofs.Paid.{within_both}
 use Rattle.ell_run.proofs.workers.both.Goals as goal
@@ -15,4 +16,5 @@ returns-in-Ok g c = λ cards tries parting low high pass left right some_low som
   within =
       within_both cards parting low high pass left right c.args.first.0 c.args.second.0 c.in-Ok.pass some_low some_high halves first.within second.within
       c.in-Ok.ensures.joined;
+  label = c.in-Ok.ensures.joined.label ∙ first.label ∙ label_both pass left low high some_low;
 }

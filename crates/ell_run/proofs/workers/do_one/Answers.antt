@@ -1,5 +1,5 @@
 use Rattle.std.proofs.Common.{[], ◌∷◌, ◌++◌, map, arith, ap, ◌∙◌}
-use Rattle.ell_run.proofs.Fronts.{one_worked}
+use Rattle.ell_run.proofs.Fronts.{first_label, one_worked}
 use Rattle.ell_run.proofs.Paid.{within_one}
 use Rattle.ell_run.proofs.workers.do_one.Goals as goal
 
@@ -14,4 +14,7 @@ returns g c =
       within =
           within_one c.args.tree.now.last_card c.args.parts.now c.args.workers.now 0 c.args.pass c.relabel.new.self c.work_off.new.pass c.part.result.now
           (omega (arith, c.in-len1.len_at_least)) (omega (arith, c.in-len1.len_below)) _ c.relabel.ensures c.part.ensures c.in_ok-piece.ensures.bounded;
+      label =
+          c.in_ok-piece.ensures.worked.label ∙ ap (λ pass. pass.label) c.relabel.ensures
+          ∙ first_label c.args.pass c.args.workers.now 0 (omega (arith, c.in-len1.len_at_least));
     }

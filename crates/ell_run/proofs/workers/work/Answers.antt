@@ -1,8 +1,8 @@
-use Rattle.std.proofs.Common.{◌≤◌, ◌+◌, map, length, ap, sym, subst, ◌∙◌}
+use Rattle.std.proofs.Common.{◌≡◌, ◌≤◌, ◌+◌, map, length, ap, sym, subst, ◌∙◌}
 use Rattle.std.proofs.lemmas.List.{length-map}
 use Rattle.ell_tree.specs.Ledgers.{present_in}
 use Rattle.ell_run.specs.Steps.{total_steps, work_steps}
-use Rattle.ell_run.specs.Work.{AreReady, IsWorked}
+use Rattle.ell_run.specs.Work.{AreReady, IsWorked, label_after}
 use Rattle.ell_run.proofs.Opened.{busy_ready}
 use Rattle.ell_run.proofs.Rows.{length-pieces}
 use Rattle.ell_run.proofs.workers.work.Goals as goal
@@ -33,3 +33,7 @@ pub returns-clause-total : goal.returns-clause-total
 returns-clause-total g c =
     subst (λ workers. c.in_ok-pass.pass.view.made ≤ c.args.pass.view.made + total_steps c.args.tree.now.last_card c.args.parts.now workers)
     (c.deref.ensures.value ∙ c.in_ok-workers.ensures.busy) c.in_ok-pass.ensures.within.total
+
+pub returns-clause-label : goal.returns-clause-label
+returns-clause-label g c =
+    subst (λ workers. c.in_ok-pass.pass.label ≡ label_after c.args.pass workers) (c.deref.ensures.value ∙ c.in_ok-workers.ensures.busy) c.in_ok-pass.ensures.label
