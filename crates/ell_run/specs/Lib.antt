@@ -23,6 +23,7 @@ pub use Rattle.ell_ops.specs.Meaning
 pub use Rattle.ell_word.specs.Node
 pub use Rattle.ell_text.specs.Answer
 pub use Rattle.ell_text.specs.Bulk
+pub use Rattle.ell_text.specs.Input
 pub use Rattle.ell_parts.specs.PartedOps
 pub use Rattle.ell_tree.specs.Ends
 pub use Rattle.ell_tree.specs.Ledgers

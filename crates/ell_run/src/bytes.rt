@@ -1,5 +1,7 @@
 //! A bulk text, run from bytes to bytes.
 ghost use Rattle.std.specs.Prelude.{◌≡◌, IfErr, IfOk, OnOk};
+ghost use Rattle.std.specs.Io.KnownBytes.{IsAtEnd};
+ghost use Rattle.ell_text.specs.Input.{GivesFront};
 ghost use Rattle.ell_run.specs.Answered.{FaultTells, IsAnswered, IsReported};
 ghost use Rattle.ell_run.specs.RunFault.{of_input, of_text, of_write};
 ghost use Rattle.ell_run.specs.Settings.{AreSettings, IsPartedAs};
@@ -80,7 +82,8 @@ impl From<WriteFault> for RunFault {
 }
 
 /// Runs a bulk text: reads all of it, runs its operations from the map of its start keys as the settings say, and writes the
-/// answer, as the text's version has it. Nothing is written before the run has ended.
+/// answer, as the text's version has it. Nothing is written before the run has ended. The reader is then at its end; after an error
+/// it has given some of its bytes, from the first on.
 pub fn run_bytes<R: Threads + Sync, A: Allocator + Copy + Send + Sync, I: Read, O: Write>(
     rt: &R,
     alloc: A,
@@ -93,6 +96,8 @@ pub fn run_bytes<R: Threads + Sync, A: Allocator + Copy + Send + Sync, I: Read, 
     ensures late { IfOk result (λ report. IsReported settings (I.remaining reader.old) report.late) }
     ensures fault { IfErr result (λ fault.
         FaultTells fault (I.remaining reader.old) (O.contents writer.old) (O.contents writer.new)) }
+    ensures end { OnOk result (IsAtEnd (I.remaining reader.new)) }
+    ensures given { GivesFront (I.remaining reader.old) (I.remaining reader.new) }
 {
     run_bytes_watched(rt, alloc, reader, writer, settings, &NoGate)
 }
@@ -117,6 +122,8 @@ pub fn run_bytes_watched<
     ensures late { IfOk result (λ report. IsReported settings (I.remaining reader.old) report.late) }
     ensures fault { IfErr result (λ fault.
         FaultTells fault (I.remaining reader.old) (O.contents writer.old) (O.contents writer.new)) }
+    ensures end { OnOk result (IsAtEnd (I.remaining reader.new)) }
+    ensures given { GivesFront (I.remaining reader.old) (I.remaining reader.new) }
 {
     let bytes = read_all(alloc, reader)?;
     let ahead = words_to_begin_with(&bytes, settings);

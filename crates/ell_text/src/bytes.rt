@@ -1,5 +1,7 @@
 //! A replay text, run from bytes to bytes.
 ghost use Rattle.std.specs.Prelude.{◌≡◌, IfErr, OnOk};
+ghost use Rattle.std.specs.Io.KnownBytes.{IsAtEnd};
+ghost use Rattle.ell_text.specs.Input.{GivesFront};
 ghost use Rattle.ell_text.specs.replays.Replayed.{IsReplayed, ScriptFaultTells};
 ghost use Rattle.ell_text.specs.replays.ScriptFault.{of_input, of_start, of_text, of_write};
 ghost use Rattle.ell_text.specs.declared.bytes.ScriptFault.TheVariants.{NoMemory as no_memory};
@@ -100,7 +102,8 @@ impl From<WriteFault> for ScriptFault {
 }
 
 /// Replays a script: reads all of the text, tries the script's events in turn from its opening state, and writes the
-/// trace, with the keys that the tree has in the end. Nothing is written before the replay has ended.
+/// trace, with the keys that the tree has in the end. Nothing is written before the replay has ended. The reader is then at its end;
+/// after an error it has given some of its bytes, from the first on.
 pub fn replay_bytes<A: Allocator + Copy, I: Read, O: Write>(
     alloc: A,
     reader: &mut I,
@@ -109,6 +112,8 @@ pub fn replay_bytes<A: Allocator + Copy, I: Read, O: Write>(
     ensures ok { OnOk result (IsReplayed (I.remaining reader.old) (O.contents writer.old) (O.contents writer.new)) }
     ensures fault { IfErr result (λ fault.
         ScriptFaultTells fault (I.remaining reader.old) (O.contents writer.old) (O.contents writer.new)) }
+    ensures end { OnOk result (IsAtEnd (I.remaining reader.new)) }
+    ensures given { GivesFront (I.remaining reader.old) (I.remaining reader.new) }
 {
     let bytes = read_all(alloc, reader)?;
     let script = read_replay(alloc, &bytes)?;
