@@ -11,25 +11,9 @@ use Rattle.ell_parts.specs.PartedOps.{PartedOps, IsLawful, part}
 use Rattle.ell_run.specs.ByParts.{ops_in, WorkerHasKey, done, IsRest, AreDone, ReplyAlike, PartsServe}
 use Rattle.ell_ops.proofs.Places.{slice_get-drop, slice_get_from_take, slice_get_within_take}
 use Rattle.ell_ops.proofs.Presence.{reply_at}
-use Rattle.ell_run.proofs.OnKey.{on_key, final_alike, final-append, reply_alike}
-
--- an element that passes the test stands in the filtered list behind those before it that pass
-module _ {X : Type 0} (test : X → Bool) where
-  first_kept : (b : Bool) (y x : X) (zs : List X) → b ≡ true → y ≡ x → (slice_get (cond b (y ∷ zs) zs) 0 ≡ Some x) × (take 0 (cond b (y ∷ zs) zs) ≡ [])
-  first_kept true y x zs t same = (ap Some same, refl)
-  first_kept false y x zs t same = let no : ⊥ = cc in absurd no
-
-  one_more : (b : Bool) (y x : X) (zs ws : List X) → (slice_get zs (length ws) ≡ Some x) × (take (length ws) zs ≡ ws) →
-      (slice_get (cond b (y ∷ zs) zs) (length (cond b (y ∷ ws) ws)) ≡ Some x) × (take (length (cond b (y ∷ ws) ws)) (cond b (y ∷ zs) zs) ≡ cond b (y ∷ ws) ws)
-  one_more true y x zs ws h = (h.0, ap (λ l. y ∷ l) h.1)
-  one_more false y x zs ws h = h
-
-  pub filter_at : (xs : List X) (m : ℕ) (x : X) → slice_get xs m ≡ Some x → test x ≡ true →
-      (slice_get (filter test xs) (length (filter test (take m xs))) ≡ Some x)
-      × (take (length (filter test (take m xs))) (filter test xs) ≡ filter test (take m xs))
-  filter_at [] m x e t = let no : ⊥ = cc in absurd no
-  filter_at (y ∷ ys) zero x e t = let same : y ≡ x = cc in first_kept (test y) y x (filter test ys) (ap test same ∙ t) same
-  filter_at (y ∷ ys) (suc m) x e t = one_more (test y) y x (filter test ys) (filter test (take m ys)) (filter_at ys m x e t)
+use Rattle.ell_order.proofs.Numbered.{filter_at, front_numbered, numbered_at, passes_at}
+use Rattle.ell_order.proofs.OnKey.{on_key, final_alike, final-append}
+use Rattle.ell_order.proofs.Reordered.{op_at, same_reply}
 
 -- the part of a worker, where the list begins at position s
 abbrev pub part_from : (ℕ → ℕ) → ℕ → List Op → ℕ → List (ℕ × Op)
@@ -43,56 +27,20 @@ pub record StandsAt (owner : ℕ → ℕ) (s : ℕ) (ops : List Op) (worker j i 
   pub owned : owner i ≡ worker
   pub before : take j (part_from owner s ops worker) ≡ part_from owner s (take behind ops) worker
 
--- at an operation of the worker, which is the first of the part
-stands_first : (owner : ℕ → ℕ) (s : ℕ) (o : Op) (ops : List Op) (worker j i : ℕ) (op : Op) → eqb (owner s) worker ≡ true →
-    slice_get ((s, o) ∷ part_from owner (s + 1) ops worker) j ≡ Some (i, op) →
-    ((k : ℕ) → slice_get (part_from owner (s + 1) ops worker) k ≡ Some (i, op) → StandsAt owner (s + 1) ops worker k i op) →
-    StandsAt owner s (o ∷ ops) worker j i op
-stands_first owner s o ops worker zero i op own e on =
-    let pair : (s, o) ≡ (i, op) = cc in
-    let here : s ≡ i = ap (λ p. p.0) pair in
-    record {
-      behind = 0;
-      place = omega arith;
-      there = ap (λ (p : ℕ × Op). Some p.1) pair;
-      owned = ap owner (sym here) ∙ eqb-true (owner s) worker own;
-      before = refl;
-    }
-stands_first owner s o ops worker (suc j) i op own e on =
-    let h = on j e in
-    let place = h.place in
-    record {
-      behind = suc h.behind;
-      place = omega arith;
-      there = h.there;
-      owned = h.owned;
-      before = ap (take (suc j)) (cond-true (eqb (owner s) worker) ((s, o) ∷ part_from owner (s + 1) ops worker) _ own)
-          ∙ ap (λ l. (s, o) ∷ l) h.before
-          ∙ sym (cond-true (eqb (owner s) worker) ((s, o) ∷ part_from owner (s + 1) (take h.behind ops) worker) _ own);
-    }
-
 pub stands_at : (owner : ℕ → ℕ) (s : ℕ) (ops : List Op) (worker j i : ℕ) (op : Op) →
     slice_get (part_from owner s ops worker) j ≡ Some (i, op) → StandsAt owner s ops worker j i op
-stands_at owner s [] worker j i op e = let no : ⊥ = cc in absurd no
-stands_at owner s (o ∷ ops) worker j i op e =
-    ⊎_elim
-    (λ own. stands_first owner s o ops worker j i op own
-    (sym (ap (λ l. slice_get l j) (cond-true (eqb (owner s) worker) ((s, o) ∷ part_from owner (s + 1) ops worker) _ own)) ∙ e)
-    (λ k found. stands_at owner (s + 1) ops worker k i op found))
-    (λ not_own.
-    let h = stands_at owner (s + 1) ops worker j i op
-    (sym (ap (λ l. slice_get l j) (cond-false (eqb (owner s) worker) ((s, o) ∷ part_from owner (s + 1) ops worker) _ not_own)) ∙ e) in
-    let place = h.place in
+stands_at owner s ops worker j i op e =
+    let test : ℕ × Op → Bool = λ item. owner item.0 == worker in
+    let found = passes_at test (enumerate_from s ops) j (i, op) e in
+    let at = numbered_at s ops found.place i op found.there in
+    let front = filter_at test (enumerate_from s ops) found.place (i, op) found.there found.passes in
     record {
-      behind = suc h.behind;
-      place = omega arith;
-      there = h.there;
-      owned = h.owned;
-      before = ap (take j) (cond-false (eqb (owner s) worker) ((s, o) ∷ part_from owner (s + 1) ops worker) _ not_own)
-          ∙ h.before
-          ∙ sym (cond-false (eqb (owner s) worker) ((s, o) ∷ part_from owner (s + 1) (take h.behind ops) worker) _ not_own);
-    })
-    (cases_Bool (eqb (owner s) worker))
+      behind = found.place;
+      place = at.0;
+      there = at.1;
+      owned = eqb-true (owner i) worker found.passes;
+      before = ap (λ n. take n (part_from owner s ops worker)) found.before ∙ front.1 ∙ ap (filter test) (front_numbered found.place s ops);
+    }
 
 -- the owner of a position
 abbrev pub owner_in : PartedOps → ℕ → ℕ
@@ -145,12 +93,6 @@ others_off_key owner (item ∷ items) worker key owned =
     ∙ sym (ap (λ l. on_key key (ops_in l)) (cond-false (eqb (owner item.0) worker) (item ∷ filter (λ item. owner item.0 == worker) items) _ not_own)))
     (cases_Bool (eqb (owner item.0) worker))
 
--- an item of a part has the operation of its place
-pub op_at : (items : List (ℕ × Op)) (j i : ℕ) (op : Op) → slice_get items j ≡ Some (i, op) → slice_get (ops_in items) j ≡ Some op
-op_at [] j i op e = let no : ⊥ = cc in absurd no
-op_at (item ∷ items) zero i op e = let same : item ≡ (i, op) = cc in ap (λ (p : ℕ × Op). Some p.1) same
-op_at (item ∷ items) (suc j) i op e = op_at items j i op e
-
 -- some operation is on the key, or none is
 pub find_key : (ops : List Op) (key : ℕ) →
     ((d : ℕ) × (op : Op) × (slice_get ops d ≡ Some op) × (key_of op ≡ key)) ⊎ ((d : ℕ) (op : Op) → slice_get ops d ≡ Some op → key_of op ≡ key → ⊥)
@@ -199,12 +141,6 @@ whole_alike set parting worker key owns =
     final_alike (ops_in (part parting worker)) parting.ops set set key refl
     (part_on_key (λ i. slice_index parting.owners i) 0 parting.ops worker key
     (λ k other e on. subst (λ n. slice_index parting.owners n ≡ worker) (omega arith) (owns k other e on)))
-
--- replies to one operation are alike where the sets before it agree on its key
-same_reply : (s t : Contents) (xs ys : List Op) (j d : ℕ) (op : Op) → slice_get xs j ≡ Some op → slice_get ys d ≡ Some op →
-    final s (take j xs) (key_of op) ≡ final t (take d ys) (key_of op) → slice_get (replies s xs) j ≡ slice_get (replies t ys) d
-same_reply s t xs ys j d op x y same =
-    reply_at s xs j op x ∙ ap Some (reply_alike op (final s (take j xs)) (final t (take d ys)) same) ∙ sym (reply_at t ys d op y)
 
 -- a reply in a part is that in the list
 pub part_reply : (set : Contents) (parting : PartedOps) → IsLawful parting → (worker n : ℕ) → ReplyAlike set (take n (part parting worker)) set parting.ops

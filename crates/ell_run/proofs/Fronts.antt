@@ -17,7 +17,7 @@ use Rattle.ell_run.specs.ByParts.{ops_in}
 use Rattle.ell_run.specs.Pieces.{front, one_held, piece_from}
 use Rattle.ell_run.specs.Work.{AreHeld, IsWorked, IsWorkedOff, label_after}
 use Rattle.ell_run.proofs.Held.{hindrances_grow, none_held, once_held}
-use Rattle.ell_run.proofs.OnKey.{final-append}
+use Rattle.ell_order.proofs.OnKey.{final-append}
 use Rattle.ell_ops.specs.declared.reply.Reply.{Reply}
 
 -- so many operations of a part were done with a pass

@@ -14,7 +14,8 @@ use Rattle.ell_ops.proofs.Presence.{reply_at}
 use Rattle.ell_run.specs.ByParts.{done, ops_in}
 use Rattle.ell_run.specs.Pieces.{numbered, piece_from}
 use Rattle.ell_run.proofs.Busy.{counted}
-use Rattle.ell_run.proofs.ByParts.{op_at, owner_in, part_from, part_item, part_reply, stands_at}
+use Rattle.ell_run.proofs.ByParts.{owner_in, part_from, part_item, part_reply, stands_at}
+use Rattle.ell_order.proofs.Reordered.{op_at}
 use Rattle.ell_ops.specs.declared.reply.Reply.{Reply}
 
 -- an item of a piece is an operation of the part with its reply

@@ -20,7 +20,7 @@ use Rattle.ell_run.specs.Pieces.{all_held, ops_done}
 use Rattle.ell_run.specs.Work.{AreHalves, AreHeld, AreReady, IsWorked, OwnsAll, keys_for}
 use Rattle.ell_run.proofs.ByParts.{part_item}
 use Rattle.ell_run.proofs.Held.{all_held-append, held_both}
-use Rattle.ell_run.proofs.OnKey.{on_key, on_key-append, final_alike}
+use Rattle.ell_order.proofs.OnKey.{on_key, on_key-append, final_alike}
 use Rattle.ell_run.proofs.Rows.{IsOffKey, all_at, done-append, done_off_key, pieces-append, pieces_alike}
 use Rattle.ell_ops.specs.declared.reply.Reply.{Reply}
 

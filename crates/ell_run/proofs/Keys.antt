@@ -13,7 +13,8 @@ use Rattle.ell_parts.specs.PartedOps.{PartedOps, IsLawful, part, keys_in, keys_o
 use Rattle.ell_run.specs.Pieces.{all_workers, busy}
 use Rattle.ell_run.specs.Work.{keys_for}
 use Rattle.ell_run.proofs.Busy.{is_busy}
-use Rattle.ell_run.proofs.ByParts.{filter_at, owner_in, part_item}
+use Rattle.ell_run.proofs.ByParts.{owner_in, part_item}
+use Rattle.ell_order.proofs.Numbered.{filter_at}
 use Rattle.ell_run.proofs.Gathering.{part_has}
 use Rattle.ell_run.proofs.Halves.{has_key}
 

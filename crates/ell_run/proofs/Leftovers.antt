@@ -21,9 +21,10 @@ use Rattle.ell_parts.specs.PartedOps.{PartedOps, IsLawful, part}
 use Rattle.ell_run.specs.ByParts.{AreDone, IsAsOneThread, IsRest, WorkerHasKey, done, ops_in}
 use Rattle.ell_run.specs.Late.{is_answered, late_ops}
 use Rattle.ell_run.specs.Pieces.{ArePieces, IsPiece, all_workers, count_of, front, ops_done, piece_from}
-use Rattle.ell_run.proofs.ByParts.{op_at, owner_in, part_from, part_item, parts_serve, stands_at}
+use Rattle.ell_run.proofs.ByParts.{owner_in, part_from, part_item, parts_serve, stands_at}
+use Rattle.ell_order.proofs.Reordered.{op_at}
 use Rattle.ell_run.proofs.Gathering.{any_tells, done_has, part_ascends, part_has, pieces_of, pieces_sound, tagged, together_sound, untagged}
-use Rattle.ell_run.proofs.OnKey.{final_alike, on_key, on_key-append}
+use Rattle.ell_order.proofs.OnKey.{final_alike, on_key, on_key-append}
 use Rattle.ell_run.proofs.Replies.{AreAnswers}
 use Rattle.ell_run.proofs.Rows.{IsOffKey, done_off_key, front_off_key, length-pieces}
 use Rattle.ell_ops.specs.declared.reply.Reply.{Reply}

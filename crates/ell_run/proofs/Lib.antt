@@ -22,8 +22,6 @@ pub mod Keys
 pub mod Leftovers
 -- Marks of the positions that are answered.
 pub mod Marks
--- What a list does to one key comes from its operations on that key alone.
-pub mod OnKey
 -- A tree as it opens: the keys that its first pass owns, which of them are present, and who can set to work with it.
 pub mod Opened
 -- How many steps workers make.

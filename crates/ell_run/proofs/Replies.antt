@@ -7,6 +7,7 @@ use Rattle.ell_ops.specs.Meaning.{after, replies}
 use Rattle.ell_parts.specs.declared.gathering.GatherFault.{GatherFault}
 use Rattle.ell_parts.specs.declared.gathering.GatherFault.TheVariants.{Stranger, Doubled, Missing, NoMemory}
 use Rattle.ell_parts.specs.Gathering.{AreSound, IsFault, IsFor, IsGathered}
+use Rattle.ell_order.proofs.Reordered.{length-replies, lists_alike}
 use Rattle.ell_ops.specs.declared.reply.Reply.{Reply}
 
 -- items have just one reply for each position of a list, that of one thread from a set
@@ -29,19 +30,6 @@ only_memory start ops items a (Missing at) f =
     let has = a.cover at f.1 in
     absurd (f.2 has.0 (slice_get_within items has.0 (at, has.1.0) has.1.1) has.1)
 only_memory start ops items a NoMemory f = refl
-
--- lists of one length that agree wherever the first has an element are equal
-lists_alike : {X : Type 0} (xs ys : List X) → length xs ≡ length ys → ((i : ℕ) (x : X) → slice_get xs i ≡ Some x → slice_get ys i ≡ Some x) → xs ≡ ys
-lists_alike [] [] same agree = refl
-lists_alike [] (y ∷ ys) same agree = absurd (omega arith)
-lists_alike (x ∷ xs) [] same agree = absurd (omega arith)
-lists_alike (x ∷ xs) (y ∷ ys) same agree =
-    let first : y ≡ x = (let e = agree 0 x refl in cc) in
-    ap (λ z. z ∷ xs) (sym first) ∙ ap (λ l. y ∷ l) (lists_alike xs ys (omega arith) (λ i z e. agree (suc i) z e))
-
-length-replies : (set : Contents) (ops : List Op) → length (replies set ops) ≡ length ops
-length-replies set [] = refl
-length-replies set (op ∷ ops) = let rest = length-replies (after op set) ops in omega arith
 
 -- gathered replies are those of one thread
 pub gathered : (start : Contents) (ops : List Op) (items : List (ℕ × Reply)) → AreAnswers start ops items → (said : List Reply) → IsGathered (length ops) items said → said ≡ replies start ops

@@ -9,7 +9,7 @@ use Rattle.ell_ops.specs.Meaning.{key_of, final}
 use Rattle.ell_parts.specs.PartedOps.{PartedOps, part}
 use Rattle.ell_run.specs.ByParts.{ops_in}
 use Rattle.ell_run.specs.Pieces.{ArePieces, IsPiece, front, numbered, ops_done}
-use Rattle.ell_run.proofs.OnKey.{on_key, on_key-append, none_on_key, final_agree, replies_alike, reply_alike}
+use Rattle.ell_order.proofs.OnKey.{on_key, on_key-append, none_on_key, final_agree, replies_alike, reply_alike}
 use Rattle.ell_ops.specs.declared.reply.Reply.{Reply}
 
 -- what holds of all elements holds of one

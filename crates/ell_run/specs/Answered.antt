@@ -1,10 +1,12 @@
 use Rattle.std.specs.Prelude.{◌≡◌, ℕ, ◌<◌, ◌≤◌, List, length, take, Option, IfSome, Ok, Err, ⊤}
 use Rattle.std.specs.Io.KnownBytes.{Appends, Keeps}
+use Rattle.ell_ops.specs.declared.op.Op.{Op}
 use Rattle.ell_ops.specs.Contents.{ListsPairs, contents_of}
 use Rattle.ell_ops.specs.Meaning.{replies, final}
 use Rattle.ell_text.specs.Limits.{most_bytes}
 use Rattle.ell_text.specs.Bulk.{BulkValue, bulk}
 use Rattle.ell_text.specs.Answer.{answer}
+use Rattle.ell_order.specs.Orders.{IsRunOrder, ops_in}
 use Rattle.ell_parts.specs.PartedOps.{PartedOps}
 use Rattle.ell_run.specs.Late.{IsLate}
 use Rattle.ell_run.specs.Settings.{IsPartedAs}
@@ -24,10 +26,12 @@ pub record IsAnswer (bytes text : List ℕ) : Type 0 where
 abbrev pub IsAnswered : Option (List ℕ) → Option (List ℕ) → Option (List ℕ) → Type 0
 IsAnswered input before after = IfSome input (λ bytes. (text : List ℕ) × IsAnswer bytes text × Appends before after text)
 
--- so many operations of a bulk text are late, parted as the settings ask
+-- so many operations of a bulk text are late, in the order in which they are run and parted as the settings ask
 pub record IsLateOf (settings : Settings) (given : BulkValue) (count : ℕ) : Type 0 where
+  pub order : List (ℕ × Op)
+  pub ordered : IsRunOrder given.ops order
   pub parting : PartedOps
-  pub parted : IsPartedAs settings given.ops parting
+  pub parted : IsPartedAs settings (ops_in order) parting
   pub few : count ≤ length given.ops
   pub late : IsLate (contents_of given.start) parting count
 

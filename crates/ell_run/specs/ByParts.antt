@@ -1,12 +1,9 @@
-use Rattle.std.specs.Prelude.{◌≡◌, ℕ, List, Some, map, filter, take, drop, slice_get, slice_index, ◌==◌}
+use Rattle.std.specs.Prelude.{◌≡◌, ℕ, List, Some, filter, take, drop, slice_get, slice_index, ◌==◌}
 use Rattle.ell_ops.specs.declared.Op.{Op}
 use Rattle.ell_ops.specs.Contents.{Contents}
-use Rattle.ell_ops.specs.Meaning.{key_of, replies, final}
+use Rattle.ell_ops.specs.Meaning.{key_of, final}
+pub use Rattle.ell_order.specs.Orders.{ops_in, ReplyAlike}
 use Rattle.ell_parts.specs.PartedOps.{PartedOps, IsLawful, part}
-
--- the operations of numbered ones
-abbrev pub ops_in : List (ℕ × Op) → List Op
-ops_in items = map (λ item. item.1) items
 
 -- each operation on the key is the worker's
 abbrev pub WorkerHasKey : PartedOps → ℕ → ℕ → Type 0
@@ -25,11 +22,6 @@ IsRest parting counts rest = (worker : ℕ) →
 abbrev pub AreDone : Contents → PartedOps → (ℕ → ℕ) → Contents → Type 0
 AreDone set parting counts after = (worker key : ℕ) → WorkerHasKey parting worker key →
     after key ≡ final set (ops_in (done parting counts worker)) key
-
--- the replies of a list of numbered operations, from a map, are those of their positions in the whole list
-abbrev pub ReplyAlike : Contents → List (ℕ × Op) → Contents → List Op → Type 0
-ReplyAlike start items set ops = (j i : ℕ) (op : Op) → slice_get items j ≡ Some (i, op) →
-    slice_get (replies start (ops_in items)) j ≡ slice_get (replies set ops) i
 
 -- what comes out of it
 pub record IsAsOneThread (set : Contents) (parting : PartedOps) (counts : ℕ → ℕ) (after : Contents) (rest : List (ℕ × Op)) : Type 0 where

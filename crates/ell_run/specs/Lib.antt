@@ -21,6 +21,7 @@ pub use Rattle.ell_ops.specs.Contents
 pub use Rattle.ell_ops.specs.KeySet
 pub use Rattle.ell_ops.specs.Meaning
 pub use Rattle.ell_word.specs.Node
+pub use Rattle.ell_order.specs.Orders
 pub use Rattle.ell_text.specs.Answer
 pub use Rattle.ell_text.specs.Bulk
 pub use Rattle.ell_text.specs.Input

@@ -4,7 +4,8 @@ ghost use Rattle.std.specs.Io.KnownBytes.{IsAtEnd};
 ghost use Rattle.ell_text.specs.Input.{GivesFront};
 ghost use Rattle.ell_run.specs.Answered.{FaultTells, IsAnswered, IsReported};
 ghost use Rattle.ell_run.specs.RunFault.{of_input, of_text, of_write};
-ghost use Rattle.ell_run.specs.Settings.{AreSettings, IsPartedAs};
+ghost use Rattle.ell_order.specs.Orders.{IsRunOrder};
+ghost use Rattle.ell_run.specs.Settings.{AreSettings};
 ghost use Rattle.ell_run.specs.declared.bytes.RunFault.TheVariants.{NoMemory as no_memory};
 
 use crate::memory::{TreeMemory, fill_beside};
@@ -12,7 +13,7 @@ use crate::reservation::{most_words, words_of_all, words_to_begin_with};
 use crate::runs::run_in;
 use crate::settings::{Report, Settings, limits_for, parts_for};
 use ell_ops::NoMemory;
-use ell_parts::Parts;
+use ell_order::RunOrder;
 use ell_text::{INPUT_MAX, InputFault, TextFault, WriteFault, read_all, read_bulk, write_answer};
 use ell_word::{NoGate, StepGate};
 use std::alloc::Allocator;
@@ -82,8 +83,9 @@ impl From<WriteFault> for RunFault {
 }
 
 /// Runs a bulk text: reads all of it, runs its operations from the map of its start keys as the settings say, and writes the
-/// answer, as the text's version has it. Nothing is written before the run has ended. The reader is then at its end; after an error
-/// it has given some of its bytes, from the first on.
+/// answer, as the text's version has it. Operations of 1,000 or more are run in the order of their keys, mixed (`ell_order`), since a
+/// tree that keys enter in ascending order would become a list; replies are written in the order of the text. Nothing is written before
+/// the run has ended. The reader is then at its end; after an error it has given some of its bytes, from the first on.
 pub fn run_bytes<R: Threads + Sync, A: Allocator + Copy + Send + Sync, I: Read, O: Write>(
     rt: &R,
     alloc: A,
@@ -132,22 +134,16 @@ pub fn run_bytes_watched<
     let bulk = bulk?;
     let limits = limits_for(&bulk.ops, settings);
     let count = words_of_all(&bulk.ops, bulk.start.len(), settings.workers, limits);
-    let part = || -> Result<Parts<'_, A>, NoMemory>
-        requires { AreSettings settings }
-        ensures { IfOk result (IsPartedAs settings bulk.ops.items) }
-    { parts_for(alloc, &bulk.ops, settings) };
-    let (memory, parts) = fill_beside(rt, memory, count, part);
-    let parts = parts?;
-    let outcome = run_in(
-        rt,
-        alloc,
-        memory,
-        &bulk.start,
-        &bulk.ops,
-        &parts,
-        limits,
-        gate,
-    )?;
-    write_answer(writer, bulk.version, &outcome.replies, &outcome.pairs)?;
+    let in_order = || -> Result<RunOrder<'_, A>, NoMemory>
+        ensures given { IfOk result (λ order. order.given ≡ bulk.ops.items) }
+        ensures order { IfOk result (λ order. IsRunOrder bulk.ops.items order.items) }
+    { RunOrder::of(alloc, &bulk.ops) };
+    let (memory, order) = fill_beside(rt, memory, count, in_order);
+    let order = order?;
+    let ops = order.ops();
+    let parts = parts_for(alloc, ops, settings)?;
+    let outcome = run_in(rt, alloc, memory, &bulk.start, ops, &parts, limits, gate)?;
+    let replies = order.put_back(alloc, &outcome.replies)?;
+    write_answer(writer, bulk.version, &replies, &outcome.pairs)?;
     Ok(Report { late: outcome.late })
 }

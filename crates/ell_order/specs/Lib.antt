@@ -1,0 +1,9 @@
+-- A key scrambled: the finalizer of MurmurHash3.
+pub mod Mixing
+-- A list of operations in another order that keeps each key's, and replies put back.
+pub mod Orders
+-- Where the operations of a list stand, in the order in which it is run.
+pub mod Places
+-- what its public clauses cite of the crate below
+pub use Rattle.ell_ops.specs.Contents
+pub use Rattle.ell_ops.specs.Meaning
