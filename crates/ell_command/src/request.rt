@@ -83,8 +83,8 @@ const RUN_AFTER_HELP: &str = "Example:
     keys 1
     5 50
 
-The tree is not rebalanced: where keys come sorted, it is deep, and a run slow.
-Shuffled files, `--workers 64` or `--cards 1` (one thread's run) are fast.
+A file may have any order: 1,000 operations or more are done by scrambled keys, and
+answered in the order of the file.
 
 Exit status:
   0  success, or help was asked for

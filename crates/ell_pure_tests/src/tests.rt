@@ -2,6 +2,7 @@
 mod answering;
 mod machine;
 mod operations;
+mod orders;
 mod parts;
 mod reading;
 mod replaying;

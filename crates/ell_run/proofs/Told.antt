@@ -1,43 +1,15 @@
-use Rattle.std.proofs.Common.{◌≡◌, ℕ, ◌<◌, ◌≤◌, All, List, Option, None, Some, Ok, length, take, arith, ap, subst, sym, ◌∙◌}
+use Rattle.std.proofs.Common.{◌≡◌, ℕ, ◌<◌, List, Option, None, Some, Ok, length, take, ap, sym, ◌∙◌}
 use Rattle.std.specs.Prelude.{IfSome}
 use Rattle.std.specs.Io.KnownBytes.{Appends}
-use Rattle.std.proofs.lemmas.List.{length-map}
-use Rattle.ell_ops.specs.declared.op.Op.{Op}
-use Rattle.ell_ops.specs.Contents.{Contents, ListsPairs, contents_of}
-use Rattle.ell_ops.specs.Meaning.{Fits, replies, final}
-use Rattle.ell_order.specs.Orders.{ArePutBack, IsRunOrder, KeepsEachKey, ops_in}
-use Rattle.ell_order.proofs.Reordered.{all_reordered, length-replies, orders_serve}
-use Rattle.ell_parts.specs.PartedOps.{PartedOps}
+use Rattle.ell_ops.specs.Contents.{ListsPairs, contents_of}
+use Rattle.ell_ops.specs.Meaning.{replies, final}
 use Rattle.ell_text.specs.declared.output.WriteFault.{WriteFault}
 use Rattle.ell_text.specs.Bulk.{BulkValue, bulk}
 use Rattle.ell_text.specs.Answer.{answer}
 use Rattle.ell_run.specs.declared.settings.Settings.{Settings}
-use Rattle.ell_run.specs.Answered.{IsAnswer, IsAnswered, IsReported, FaultTells}
-use Rattle.ell_run.specs.Late.{IsLate}
+use Rattle.ell_run.specs.Answered.{IsAnswer, IsAnswered, IsLateOf, IsReported, FaultTells}
 use Rattle.ell_run.specs.RunFault.{of_write}
-use Rattle.ell_run.specs.Settings.{IsPartedAs}
 use Rattle.ell_ops.specs.declared.reply.Reply.{Reply}
-
--- a list that was run in another order which keeps each key's operations in theirs
-module _ (ops : List Op) (order : List (ℕ × Op)) (keeps : KeepsEachKey ops order) (ran : List Op) (is : ran ≡ ops_in order) where
-  pub length_ran : length ran ≡ length ops
-  length_ran = ap length is ∙ length-map order (λ (item : ℕ × Op). item.1) ∙ keeps.count
-
-  pub fits_ran : All Fits ops → All Fits ran
-  fits_ran all = subst (All Fits) (sym is) (all_reordered ops order keeps Fits all)
-
-  -- as many replies
-  pub length_said : (start : Contents) (said : List Reply) → said ≡ replies start ran → length said ≡ length ops
-  length_said start said told = ap length told ∙ length-replies start ran ∙ length_ran
-
-  -- they are put back where one thread has them
-  pub told_back : (start : Contents) (said back : List Reply) → said ≡ replies start ran → ArePutBack order said back → back ≡ replies start ops
-  told_back start said back told put =
-      (orders_serve start ops order keeps).replies back (subst (λ l. ArePutBack order l back) (told ∙ ap (replies start) is) put)
-
-  -- and the last map is one thread's
-  pub listed_back : (start : Contents) (pairs : List (ℕ × ℕ)) → ListsPairs (final start ran) pairs → ListsPairs (final start ops) pairs
-  listed_back start pairs listed = subst (λ there. ListsPairs there pairs) (ap (final start) is ∙ (orders_serve start ops order keeps).final) listed
 
 module _ (read : List ℕ) (given : BulkValue) (meant : bulk read ≡ Ok given) where
   -- replies and pairs of one thread are the answer
@@ -63,16 +35,7 @@ module _ (read : List ℕ) (given : BulkValue) (meant : bulk read ≡ Ok given) 
       (answer given.version said pairs, is_answer bytes said pairs whole told listed, missing, out)
 
   -- how many operations are late
-  pub reported : (settings : Settings) (input : Option (List ℕ)) (order : List (ℕ × Op)) (ran : List Op) (parting : PartedOps) (count : ℕ) →
-      IfSome input (λ bytes. read ≡ bytes) → IsRunOrder given.ops order → ran ≡ ops_in order → IsPartedAs settings ran parting → count ≤ length ran →
-      IsLate (contents_of given.start) parting count → IsReported settings input count
-  reported settings None order ran parting count whole ordered is parted few late = tt
-  reported settings (Some bytes) order ran parting count whole ordered is parted few late =
-      (given, ap bulk (sym whole) ∙ meant, record {
-        order = order;
-        ordered = ordered;
-        parting = parting;
-        parted = subst (λ ops. IsPartedAs settings ops parting) is parted;
-        few = let same = length_ran given.ops order ordered.keeps ran is in omega arith;
-        late = late;
-      })
+  pub reported : (settings : Settings) (input : Option (List ℕ)) (count : ℕ) → IfSome input (λ bytes. read ≡ bytes) →
+      IsLateOf settings (contents_of given.start) given.ops count → IsReported settings input count
+  reported settings None count whole late = tt
+  reported settings (Some bytes) count whole late = (given, ap bulk (sym whole) ∙ meant, late)

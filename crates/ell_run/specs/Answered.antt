@@ -1,7 +1,7 @@
 use Rattle.std.specs.Prelude.{◌≡◌, ℕ, ◌<◌, ◌≤◌, List, length, take, Option, IfSome, Ok, Err, ⊤}
 use Rattle.std.specs.Io.KnownBytes.{Appends, Keeps}
 use Rattle.ell_ops.specs.declared.op.Op.{Op}
-use Rattle.ell_ops.specs.Contents.{ListsPairs, contents_of}
+use Rattle.ell_ops.specs.Contents.{Contents, ListsPairs, contents_of}
 use Rattle.ell_ops.specs.Meaning.{replies, final}
 use Rattle.ell_text.specs.Limits.{most_bytes}
 use Rattle.ell_text.specs.Bulk.{BulkValue, bulk}
@@ -26,18 +26,19 @@ pub record IsAnswer (bytes text : List ℕ) : Type 0 where
 abbrev pub IsAnswered : Option (List ℕ) → Option (List ℕ) → Option (List ℕ) → Type 0
 IsAnswered input before after = IfSome input (λ bytes. (text : List ℕ) × IsAnswer bytes text × Appends before after text)
 
--- so many operations of a bulk text are late, in the order in which they are run and parted as the settings ask
-pub record IsLateOf (settings : Settings) (given : BulkValue) (count : ℕ) : Type 0 where
+-- so many operations of a list are late, from a map, in the order in which the list is run and parted as the settings ask
+pub record IsLateOf (settings : Settings) (start : Contents) (ops : List Op) (count : ℕ) : Type 0 where
   pub order : List (ℕ × Op)
-  pub ordered : IsRunOrder given.ops order
+  pub ordered : IsRunOrder ops order
   pub parting : PartedOps
   pub parted : IsPartedAs settings (ops_in order) parting
-  pub few : count ≤ length given.ops
-  pub late : IsLate (contents_of given.start) parting count
+  pub few : count ≤ length ops
+  pub late : IsLate start parting count
 
 -- so many operations of the bytes that were read are late
 abbrev pub IsReported : Settings → Option (List ℕ) → ℕ → Type 0
-IsReported settings input count = IfSome input (λ bytes. (given : BulkValue) × (bulk bytes ≡ Ok given) × IsLateOf settings given count)
+IsReported settings input count =
+    IfSome input (λ bytes. (given : BulkValue) × (bulk bytes ≡ Ok given) × IsLateOf settings (contents_of given.start) given.ops count)
 
 -- the run ended before it wrote anything
 abbrev pub IsBeforeWriting : RunFault → Type 0

@@ -4,16 +4,14 @@ ghost use Rattle.std.specs.Io.KnownBytes.{IsAtEnd};
 ghost use Rattle.ell_text.specs.Input.{GivesFront};
 ghost use Rattle.ell_run.specs.Answered.{FaultTells, IsAnswered, IsReported};
 ghost use Rattle.ell_run.specs.RunFault.{of_input, of_text, of_write};
-ghost use Rattle.ell_order.specs.Orders.{IsRunOrder};
 ghost use Rattle.ell_run.specs.Settings.{AreSettings};
 ghost use Rattle.ell_run.specs.declared.bytes.RunFault.TheVariants.{NoMemory as no_memory};
 
 use crate::memory::{TreeMemory, fill_beside};
-use crate::reservation::{most_words, words_of_all, words_to_begin_with};
-use crate::runs::run_in;
-use crate::settings::{Report, Settings, limits_for, parts_for};
+use crate::ordered::run_in_order;
+use crate::reservation::{most_words, words_to_begin_with};
+use crate::settings::{Report, Settings};
 use ell_ops::NoMemory;
-use ell_order::RunOrder;
 use ell_text::{INPUT_MAX, InputFault, TextFault, WriteFault, read_all, read_bulk, write_answer};
 use ell_word::{NoGate, StepGate};
 use std::alloc::Allocator;
@@ -132,18 +130,7 @@ pub fn run_bytes_watched<
     let memory = TreeMemory::to_be_filled(alloc, ahead, most_words(bytes.len(), settings));
     let (memory, bulk) = fill_beside(rt, memory, ahead, || read_bulk(alloc, &bytes));
     let bulk = bulk?;
-    let limits = limits_for(&bulk.ops, settings);
-    let count = words_of_all(&bulk.ops, bulk.start.len(), settings.workers, limits);
-    let in_order = || -> Result<RunOrder<'_, A>, NoMemory>
-        ensures given { IfOk result (λ order. order.given ≡ bulk.ops.items) }
-        ensures order { IfOk result (λ order. IsRunOrder bulk.ops.items order.items) }
-    { RunOrder::of(alloc, &bulk.ops) };
-    let (memory, order) = fill_beside(rt, memory, count, in_order);
-    let order = order?;
-    let ops = order.ops();
-    let parts = parts_for(alloc, ops, settings)?;
-    let outcome = run_in(rt, alloc, memory, &bulk.start, ops, &parts, limits, gate)?;
-    let replies = order.put_back(alloc, &outcome.replies)?;
-    write_answer(writer, bulk.version, &replies, &outcome.pairs)?;
+    let outcome = run_in_order(rt, alloc, memory, &bulk.start, &bulk.ops, settings, gate)?;
+    write_answer(writer, bulk.version, &outcome.replies, &outcome.pairs)?;
     Ok(Report { late: outcome.late })
 }

@@ -6,6 +6,7 @@ mod bytes;
 mod late;
 mod laws;
 mod memory;
+mod ordered;
 mod pieces;
 mod reservation;
 mod runs;

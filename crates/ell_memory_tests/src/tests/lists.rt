@@ -1,8 +1,11 @@
-//! Lists of operations, their parts and their replies.
+//! Lists of operations, their order, their parts and their replies.
+ghost use Rattle.std.specs.Prelude.{◌≡◌, length};
+
 use super::refusing::{Heap, Refusal};
 use super::sweeping::{Ended, sweep};
 use ell_ops::Reply::{self, Found, No, Yes};
 use ell_ops::{KEY_MAX, NoMemory, Op, apply_all, apply_from};
+use ell_order::RunOrder;
 use ell_parts::{GatherFault, PartFault, Parts, gather};
 use ell_word::{INF1, INF2};
 use std::alloc::Allocator;
@@ -134,6 +137,36 @@ fn part_ranged(heap: &Heap, refusal: Refusal) -> Ended {
     are_parts(heap, &Parts::ranged(heap, &ops, 2), 5, RANGED)
 }
 
+// How many operations are run in another order than their list's.
+const MANY: usize = 1_000;
+
+// Has finds of key 1, but for the last one, of key 2, run in their order, in which that comes first, and puts numbered replies back.
+fn run_in_order(heap: &Heap, refusal: Refusal, list: &[Op], replies: &[Reply]) -> Ended
+    requires { length replies.now ≡ length list.now }
+{
+    heap.refuse(refusal);
+    let back = put_back(heap, list, replies);
+    heap.stop();
+    match back {
+        Ok(back) => {
+            let first = back.iter().zip(&replies[1..]).all(|(one, other)| *one == *other);
+            Ended::answered(back.len() == MANY && first && back.last() == replies.first())
+        }
+        Err(NoMemory) => Ended::NoMemory,
+    }
+}
+
+fn put_back<'a>(
+    heap: &'a Heap,
+    list: &[Op],
+    replies: &[Reply],
+) -> Result<Vec<Reply, &'a Heap>, NoMemory>
+    requires { length replies.now ≡ length list.now }
+{
+    let order = RunOrder::of(heap, list)?;
+    order.put_back(heap, replies)
+}
+
 // Gathers pieces.
 fn gather_all<A: Allocator>(
     heap: &Heap,
@@ -164,6 +197,16 @@ fn operations_are_parted_or_there_is_no_memory(rt: HostRuntime) {
     sweep(&rt, part_split_key);
     sweep(&rt, part_striped);
     sweep(&rt, part_ranged);
+}
+
+#[test]
+fn operations_are_put_in_order_and_replies_back_or_there_is_no_memory(rt: HostRuntime) {
+    let mut list = vec![in rt.alloc(); Op::Find(1); MANY - 1].expect(&rt, "no memory");
+    list.push(Op::Find(2)).expect(&rt, "no memory");
+    let replies = (0..MANY as u64).map(Reply::Found).collect::<Vec<_>>(rt.alloc());
+    let replies = replies.expect(&rt, "no memory");
+    assert!(rt; replies.len() == list.len() && list.len() == MANY);
+    sweep(&rt, |heap, refusal| run_in_order(heap, refusal, &list, &replies));
 }
 
 #[test]

@@ -6,6 +6,7 @@ mod deletes_held;
 mod few_keys;
 mod lists;
 mod many_keys;
+mod orders;
 mod pieces;
 mod running;
 mod scenes;

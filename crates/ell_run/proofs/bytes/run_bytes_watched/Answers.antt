@@ -11,8 +11,8 @@ returns-clause-ok g c =
 
 pub returns-clause-late : goal.returns-clause-late
 returns-clause-late g c =
-    reported c.in_ok-bytes.bytes.items (bulk_value c.in_ok-bulk.bulk) (search rules) c.args.settings _ c.in_ok-parts.parts c.in_ok-outcome.outcome.late
-    c.in_ok-bytes.ensures.bytes (search rules) (search rules) (search rules)
+    reported c.in_ok-bytes.bytes.items (bulk_value c.in_ok-bulk.bulk) (search rules) c.args.settings _ c.in_ok-outcome.outcome.late
+    c.in_ok-bytes.ensures.bytes (search rules)
 
 pub returns-in_err-write_answer-clause-fault : goal.returns-in_err-write_answer-clause-fault
 returns-in_err-write_answer-clause-fault g c =

@@ -1,0 +1,65 @@
+//! A list run in the order of its keys, mixed, and answered in its own.
+ghost use Rattle.std.specs.Prelude.{◌≡◌, ◌≤◌, All, IfOk, length};
+ghost use Rattle.std.specs.List.Sorted.{IsStrictlyIncreasing};
+ghost use Rattle.std.specs.Map.{keys_of as keys_in};
+ghost use Rattle.ell_ops.specs.Contents.{ListsPairs, contents_of};
+ghost use Rattle.ell_ops.specs.Meaning.{Fits, final, greatest_key, replies};
+ghost use Rattle.ell_order.specs.Orders.{IsRunOrder};
+ghost use Rattle.ell_text.specs.Limits.{most_operations};
+ghost use Rattle.ell_word.specs.Node.{most_start};
+ghost use Rattle.ell_run.specs.Answered.{IsLateOf};
+ghost use Rattle.ell_run.specs.Settings.{AreSettings};
+
+use crate::memory::{TreeMemory, fill_beside};
+use crate::reservation::words_of_all;
+use crate::runs::{Outcome, run_in};
+use crate::settings::{Settings, limits_for, parts_for};
+use ell_ops::{NoMemory, Op};
+use ell_order::RunOrder;
+use ell_word::StepGate;
+use std::alloc::Allocator;
+use std::thread::Threads;
+
+// Runs a list from the map of `start` as the settings say, in the order that `RunOrder` gives it: its replies, put back into the order
+// of the list, and the final keys with their values. Memory for the tree is made ready beside.
+pub(crate) fn run_in_order<
+    R: Threads + Sync,
+    A: Allocator + Copy + Send + Sync,
+    G: StepGate + Sync,
+>(
+    rt: &R,
+    alloc: A,
+    memory: TreeMemory<A>,
+    start: &[(u64, u64)],
+    ops: &[Op],
+    settings: Settings,
+    gate: &G,
+) -> Result<Outcome<A>, NoMemory>
+    requires ascending { IsStrictlyIncreasing (keys_in start.now) }
+    requires real { All (λ key. key ≤ greatest_key) (keys_in start.now) }
+    requires few_keys { length start.now ≤ most_start }
+    requires fits { All Fits ops.now }
+    requires few { length ops.now ≤ most_operations }
+    requires settings { AreSettings settings }
+    ensures replies { IfOk result (λ outcome. outcome.replies.items ≡ replies (contents_of start.now) ops.now) }
+    ensures pairs { IfOk result (λ outcome. ListsPairs (final (contents_of start.now) ops.now) outcome.pairs.items) }
+    ensures late { IfOk result (λ outcome. IsLateOf settings (contents_of start.now) ops.now outcome.late) }
+{
+    let limits = limits_for(ops, settings);
+    let count = words_of_all(ops, start.len(), settings.workers, limits);
+    let put_in_order = || -> Result<RunOrder<'_, A>, NoMemory>
+        ensures given { IfOk result (λ order. order.given ≡ ops.entry.now) }
+        ensures order { IfOk result (λ order. IsRunOrder ops.entry.now order.items) }
+    { RunOrder::of(alloc, ops) };
+    let (memory, order) = fill_beside(rt, memory, count, put_in_order);
+    let order = order?;
+    let ordered = order.ops();
+    let parts = parts_for(alloc, ordered, settings)?;
+    let outcome = run_in(rt, alloc, memory, start, ordered, &parts, limits, gate)?;
+    let replies = order.put_back(alloc, &outcome.replies)?;
+    Ok(Outcome {
+        replies,
+        pairs: outcome.pairs,
+        late: outcome.late,
+    })
+}
