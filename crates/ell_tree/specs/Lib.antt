@@ -12,6 +12,8 @@ pub mod Hindrances
 pub mod Moves
 -- how many steps a pass made
 pub mod Counts
+-- how many cards a pass took
+pub mod CardsTaken
 -- what steps keep
 pub mod Keeping
 -- where a search ends

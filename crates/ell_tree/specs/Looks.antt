@@ -16,6 +16,9 @@ pub record OnlyLooks (old new : PassModel) (n : ℕ) : Type 0 where
   pub knew_before : new.view.knew_before ≡ old.view.knew_before
   pub next_at_least : new.view.next_at_least ≡ old.view.next_at_least
   pub won : new.view.won ≡ old.view.won
+  pub found : new.view.found ≡ old.view.found
+  pub planned : new.view.planned ≡ old.view.planned
+  pub stores : new.view.stores ≡ old.view.stores
   pub told : (e : Told) → IsTold old.view e → IsTold new.view e
   pub steps : new.steps ≤ old.steps + n
   pub made : new.view.made ≤ old.view.made + n

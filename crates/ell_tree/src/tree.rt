@@ -11,6 +11,7 @@ ghost use Rattle.ell_core.specs.state.Opening.{last_card};
 ghost use Rattle.ell_cards.specs.Models.{IsCardCount, Refuses};
 ghost use Rattle.ell_cards.specs.Contention.{AreHinderedByOthers};
 ghost use Rattle.ell_cards.specs.Looking.{IsFoundInRuns};
+ghost use Rattle.ell_tree.specs.CardsTaken.{TakesAtMost, TakesCards, TakesNoCard};
 ghost use Rattle.ell_tree.specs.Closing.{ClosesTo};
 ghost use Rattle.ell_tree.specs.Ends.{Answers, CountsTries, Ends, change_steps, find_steps, replied, try_steps};
 ghost use Rattle.ell_tree.specs.Hindrances.{Meets};
@@ -160,6 +161,7 @@ impl<A: Allocator + Copy> Tree<A> {
         ensures one { pass.new.view.looks ≡ pass.old.view.looks + 1 }
         ensures mine { Owns pass.old key → result ≡ present_in pass.old key }
         ensures only { OnlyLooks pass.old pass.new (look_steps self.now.last_card) }
+        ensures taken { TakesNoCard pass.old pass.new }
     {
         look(&self.table, pass, key, gate)
     }
@@ -180,6 +182,7 @@ impl<A: Allocator + Copy> Tree<A> {
         ensures moved { moves_known self.now.last_card pass.old.view ≤ moves_known self.now.last_card pass.new.view }
         ensures bounded { moves_known self.now.last_card pass.new.view ≤ 2 * self.now.last_card }
         ensures hindered { pass.new.view.hindered ≡ pass.old.view.hindered }
+        ensures taken { TakesNoCard pass.old pass.new }
     {
         find(&self.table, pass, key, gate)
     }
@@ -215,6 +218,8 @@ impl<A: Allocator + Copy> Tree<A> {
         ensures made { pass.new.view.made ≤ pass.old.view.made + change_steps self.now.last_card tries }
         ensures hindered { result ≡ Err Busy → pass.new.view.hindered ≡ pass.old.view.hindered + tries }
         ensures counted { CountsTries tries pass.old pass.new }
+        ensures taken { TakesAtMost tries pass.old pass.new }
+        ensures cards { TakesCards pass.old pass.new result }
         ensures by_others { result ≡ Err Busy → AreHinderedByOthers self.now.keys self.now.start self.now.last_card pass.old.view.hindered pass.new.view tries }
         ensures rounded { pass.new.steps ≤ pass.old.steps + 64 * (tries + 1) * (self.now.last_card + 2) }
         ensures moved { result ≡ Err Busy → moves_known self.now.last_card pass.old.view + tries ≤ moves_known self.now.last_card pass.new.view }
@@ -246,6 +251,8 @@ impl<A: Allocator + Copy> Tree<A> {
         ensures made { pass.new.view.made ≤ pass.old.view.made + change_steps self.now.last_card tries }
         ensures hindered { result ≡ Err Busy → pass.new.view.hindered ≡ pass.old.view.hindered + tries }
         ensures counted { CountsTries tries pass.old pass.new }
+        ensures taken { TakesAtMost tries pass.old pass.new }
+        ensures cards { TakesCards pass.old pass.new result }
         ensures by_others { result ≡ Err Busy → AreHinderedByOthers self.now.keys self.now.start self.now.last_card pass.old.view.hindered pass.new.view tries }
         ensures rounded { pass.new.steps ≤ pass.old.steps + 64 * (tries + 1) * (self.now.last_card + 2) }
         ensures moved { result ≡ Err Busy → moves_known self.now.last_card pass.old.view + tries ≤ moves_known self.now.last_card pass.new.view }
