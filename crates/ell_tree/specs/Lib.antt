@@ -14,6 +14,8 @@ pub mod Moves
 pub mod Counts
 -- how many cards a pass took
 pub mod CardsTaken
+-- how many cards are left
+pub mod CardsLeft
 -- what steps keep
 pub mod Keeping
 -- where a search ends

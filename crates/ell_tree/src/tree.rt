@@ -11,6 +11,7 @@ ghost use Rattle.ell_core.specs.state.Opening.{last_card};
 ghost use Rattle.ell_cards.specs.Models.{IsCardCount, Refuses};
 ghost use Rattle.ell_cards.specs.Contention.{AreHinderedByOthers};
 ghost use Rattle.ell_cards.specs.Looking.{IsFoundInRuns};
+ghost use Rattle.ell_tree.specs.CardsLeft.{AreLeftAtMost, ReadsCardsLeft};
 ghost use Rattle.ell_tree.specs.CardsTaken.{TakesAtMost, TakesCards, TakesNoCard};
 ghost use Rattle.ell_tree.specs.Closing.{ClosesTo};
 ghost use Rattle.ell_tree.specs.Ends.{Answers, CountsTries, Ends, change_steps, find_steps, replied, try_steps};
@@ -22,7 +23,7 @@ ghost use Rattle.ell_tree.specs.Looks.{OnlyLooks, look_steps};
 ghost use Rattle.ell_tree.specs.PassParts.{IsFirst, IsLeftPart, IsRightPart, IsUnion};
 
 use crate::operations::{Held, find, make_change};
-use crate::reading::look;
+use crate::reading::{cards_left, look};
 use ell_cards::{CardFault, CardTable, Pass};
 use ell_core::pairs_of_tree;
 use ell_ops::{NoMemory, Op};
@@ -164,6 +165,21 @@ impl<A: Allocator + Copy> Tree<A> {
         ensures taken { TakesNoCard pass.old pass.new }
     {
         look(&self.table, pass, key, gate)
+    }
+
+    /// How many cards are not given out yet, 0 if all are, in one step: as it was at that step, while other passes went on. No more are left
+    /// ever after. An insert or a delete that changes the map takes one, and one more at most for each try that something hinders; with none
+    /// left it is `Spent`. The gate is told the step, as `Look`.
+    pub fn cards_left<G: StepGate>(&self, pass: &mut Pass<A>, gate: &G) -> u64
+        requires own { pass.old.table ≡ self.now.id }
+        ensures reads { ReadsCardsLeft self.now.last_card pass.old pass.new result }
+        ensures most { AreLeftAtMost self.now.keys self.now.start self.now.last_card pass.new.view result }
+        ensures limit { result ≤ self.now.last_card }
+        ensures table { pass.new.table ≡ pass.old.table }
+        ensures worker { pass.new.view.worker ≡ pass.old.view.worker }
+        ensures taken { TakesNoCard pass.old pass.new }
+    {
+        cards_left(&self.table, pass, gate)
     }
 
     /// The value of a key of the pass, if the key is present. It helps nobody, nothing is in its way, and it takes at most
