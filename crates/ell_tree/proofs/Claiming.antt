@@ -16,7 +16,7 @@ use Rattle.ell_cards.proofs.views.Entries.{filling_more}
 use Rattle.ell_cards.proofs.views.Steps.{view_after}
 use Rattle.ell_cards.proofs.views.Searches.{may_claim}
 use Rattle.ell_tree.specs.declared.searching.Place.{Place}
-use Rattle.ell_tree.specs.CardsTaken.{claims_in, cards_taken, TakesNoCard, TakesOneCard}
+use Rattle.ell_tree.specs.CardsTaken.{claims_in, TakesNoCard, TakesOneCard}
 use Rattle.ell_tree.specs.Hindrances.{Meets}
 use Rattle.ell_tree.specs.Keeping.{LosesNothing, Goes}
 use Rattle.ell_tree.specs.Searches.{seen, IsAt}

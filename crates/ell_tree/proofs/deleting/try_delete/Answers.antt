@@ -258,7 +258,7 @@ returns-in-Lost-clause-taken g c =
 pub returns-in-Err-clause-taken : goal.returns-in-Err-clause-taken
 returns-in-Err-clause-taken g c =
     let taken : cards_taken c.help-in-Err.new.pass ≡ cards_taken c.args.pass.now + 1 =
-        omega (arith, c.help-in-Err.ensures.works.taken, c.flag_delete.ensures.taken, c.in-Card.ensures.taken, c.search-place.ensures.seeks.taken) in
+    omega (arith, c.help-in-Err.ensures.works.taken, c.flag_delete.ensures.taken, c.in-Card.ensures.taken, c.search-place.ensures.seeks.taken) in
     record { least = omega (arith, taken); most = omega (arith, taken) }
 
 pub returns-clause-taken : goal.returns-clause-taken

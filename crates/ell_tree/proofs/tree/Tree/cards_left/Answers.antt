@@ -1,5 +1,5 @@
 -- What was read of the claim word is past in every run.
-use Rattle.std.proofs.Common.{◌≡◌, ℕ, ◌+◌, ◌≤◌, Option, slice_index, ap, subst, arith}
+use Rattle.std.proofs.Common.{ℕ, Option, slice_index, ap, subst, arith}
 use Rattle.ell_cards.specs.Readings.{IsRead}
 use Rattle.ell_cards.specs.Models.{PassModel}
 use Rattle.ell_cards.proofs.runs.Readings.{readings_are_past}
