@@ -1,4 +1,4 @@
-use Rattle.std.proofs.Common.{◌≡◌, ◌≢◌, ℕ, ◌<◌, ◌≤◌, zero, suc, min, max, true, false, Some, None, List, [], ◌∷◌, ◌++◌, inl, inr, refl, sym, ap, subst, arith}
+use Rattle.std.proofs.Common.{◌≡◌, ◌≢◌, ℕ, ◌≤◌, zero, suc, true, Some, List, [], ◌∷◌, ◌++◌, inl, inr, refl, subst, arith}
 use Rattle.std.specs.List.{All}
 use Rattle.std.specs.List.Sorted.{IsStrictlyIncreasing}
 use Rattle.std.specs.Map.{keys_of}
@@ -23,7 +23,7 @@ use Rattle.ell_cards.specs.States.{TableState}
 use Rattle.ell_cards.specs.Starts.{Starts, StartWords}
 use Rattle.ell_cards.specs.Turns.{Turn, Makes, Splits, Joins, TableTurns, TableRun, state_after, state_split, state_joined}
 use Rattle.ell_cards.specs.SmallRun.{small_keys, small_start, small_run, SmallRunIsMade, parting, delete_flags, insert_claims, insert_flags, mark_is_lost, insert_ends, delete_begins_anew, delete_ends, look, ending}
-use Rattle.ell_cards.proofs.lifetimes.StartLists.{start_list, start_list_starts, small_list}
+use Rattle.ell_cards.proofs.lifetimes.StartLists.{start_list_starts, small_list}
 
 -- what the pass in a seat knows
 abbrev view_or : Option View → View
@@ -66,6 +66,11 @@ run_leads s (t ∷ ts) = run_leads (turn_leads s t) ts
 abbrev run_made : (cards : ℕ) (s : TableState) (ts : List Turn) → RunAsks cards s ts → TableRun cards s ts (run_leads s ts)
 run_made cards s [] h = refl
 run_made cards s (t ∷ ts) h = (turn_leads s t, turn_made cards s t h.0, run_made cards (turn_leads s t) ts h.1)
+
+-- what one turn asks, and what the turns after it do
+infixr 5 ◌▸◌
+◌▸◌ : {A B : Type 0} → A → B → A × B
+h ▸ more = (h, more)
 
 -- and then more turns
 asks_more : (cards : ℕ) (s : TableState) (ts us : List Turn) → RunAsks cards s ts → RunAsks cards (run_leads s ts) us → RunAsks cards s (ts ++ us)
@@ -162,168 +167,158 @@ starts_there = record {
 
 -- the first pass is split: seat 0 has key 5 then, and seat 1 key 7
 parting_asks : RunAsks 4 at_0 parting
-parting_asks = (
-  (refl, refl),
-  tt
-)
+parting_asks =
+    (refl, refl)
+    ▸ tt
 
 abbrev at_1 : TableState
 at_1 = run_leads at_0 parting
 
 -- seat 0 begins to delete key 5: it searches, takes card 2, fills it, and flags the root
 delete_flags_asks : RunAsks 4 at_1 delete_flags
-delete_flags_asks = (
-  (refl, record { free = refl; owned = some_not_none refl }), (
-  (refl, record { stands = refl; inner = refl; unread = refl }), (
-  (refl, told_at 0 _ _ refl), (
-  (refl, record { op = Delete 5; word = 3; key = infinity2; busy = refl; stands = refl; inner = refl; read = refl; told = refl; side = refl }), (
-  (refl, record { stands = refl; inner = refl; unread = refl }), (
-  (refl, told_at 0 _ _ refl), (
-  (refl, record { op = Delete 5; word = 3; key = infinity1; busy = refl; stands = refl; inner = refl; read = refl; told = refl; side = refl }), (
-  (refl, told_at 0 _ _ refl), (
-  (refl, tt), (
-  (refl, (record { op = Delete 5; leaf = 4; key = 5; parent = record { node = 3; word = 3 }; read = refl; no_card = refl; busy = refl; stands = refl; outer = leaf_4; told = refl; behind = refl; calm = refl; wants = (refl, (record { node = 0; word = 3 }, refl, refl)) }, omega arith)), (
-  (refl, record { holds = refl; unflagged = refl }), (
-  (refl, record { holds = refl; unflagged = refl }), (
-  (refl, record { holds = refl; unflagged = refl }), (
-  (refl, record { holds = refl; unflagged = refl }), (
-  (refl, record { key = 5; leaf = 4; parent = record { node = 3; word = 3 }; busy = refl; may = record { holds = refl; unflagged = refl }; stands = refl; behind = refl; above = refl; filled = filled_delete 0 3 4 3 }),
-  tt
-)))))))))))))))
+delete_flags_asks =
+    (refl, record { free = refl; owned = some_not_none refl })
+    ▸ (refl, record { stands = refl; inner = refl; unread = refl })
+    ▸ (refl, told_at 0 _ _ refl)
+    ▸ (refl, record { op = Delete 5; word = 3; key = infinity2; busy = refl; stands = refl; inner = refl; read = refl; told = refl; side = refl })
+    ▸ (refl, record { stands = refl; inner = refl; unread = refl })
+    ▸ (refl, told_at 0 _ _ refl)
+    ▸ (refl, record { op = Delete 5; word = 3; key = infinity1; busy = refl; stands = refl; inner = refl; read = refl; told = refl; side = refl })
+    ▸ (refl, told_at 0 _ _ refl)
+    ▸ (refl, tt)
+    ▸ (refl, (record { op = Delete 5; leaf = 4; key = 5; parent = record { node = 3; word = 3 }; read = refl; no_card = refl; busy = refl; stands = refl; outer = leaf_4; told = refl; behind = refl; calm = refl; wants = (refl, (record { node = 0; word = 3 }, refl, refl)) }, omega arith))
+    ▸ (refl, record { holds = refl; unflagged = refl })
+    ▸ (refl, record { holds = refl; unflagged = refl })
+    ▸ (refl, record { holds = refl; unflagged = refl })
+    ▸ (refl, record { holds = refl; unflagged = refl })
+    ▸ (refl, record { key = 5; leaf = 4; parent = record { node = 3; word = 3 }; busy = refl; may = record { holds = refl; unflagged = refl }; stands = refl; behind = refl; above = refl; filled = filled_delete 0 3 4 3 })
+    ▸ tt
 
 abbrev at_2 : TableState
 at_2 = run_leads at_1 delete_flags
 
 -- seat 1 begins to insert key 7: it goes past the flag, and takes card 3
 insert_claims_asks : RunAsks 4 at_2 insert_claims
-insert_claims_asks = (
-  (refl, record { free = refl; owned = some_not_none refl }), (
-  (refl, record { stands = refl; inner = refl; unread = refl }), (
-  (refl, told_at 1 _ _ refl), (
-  (refl, record { op = Insert 7 70; word = 9; key = infinity2; busy = refl; stands = refl; inner = refl; read = refl; told = refl; side = refl }), (
-  (refl, record { stands = refl; inner = refl; unread = refl }), (
-  (refl, told_at 0 _ _ refl), (
-  (refl, record { op = Insert 7 70; word = 3; key = infinity1; busy = refl; stands = refl; inner = refl; read = refl; told = refl; side = refl }), (
-  (refl, told_at 0 _ _ refl), (
-  (refl, (told_at 1 _ _ refl, leaf_4)), (
-  (refl, tt), (
-  (refl, (record { op = Insert 7 70; leaf = 4; key = 5; parent = record { node = 3; word = 3 }; read = refl; no_card = refl; busy = refl; stands = refl; outer = leaf_4; told = refl; behind = refl; calm = refl; wants = ((λ e. let h : ◌≡◌ {A = ℕ} 5 7 = e in omega arith), (50, told_at 0 _ _ refl)) }, omega arith)),
-  tt
-)))))))))))
+insert_claims_asks =
+    (refl, record { free = refl; owned = some_not_none refl })
+    ▸ (refl, record { stands = refl; inner = refl; unread = refl })
+    ▸ (refl, told_at 1 _ _ refl)
+    ▸ (refl, record { op = Insert 7 70; word = 9; key = infinity2; busy = refl; stands = refl; inner = refl; read = refl; told = refl; side = refl })
+    ▸ (refl, record { stands = refl; inner = refl; unread = refl })
+    ▸ (refl, told_at 0 _ _ refl)
+    ▸ (refl, record { op = Insert 7 70; word = 3; key = infinity1; busy = refl; stands = refl; inner = refl; read = refl; told = refl; side = refl })
+    ▸ (refl, told_at 0 _ _ refl)
+    ▸ (refl, (told_at 1 _ _ refl, leaf_4))
+    ▸ (refl, tt)
+    ▸ (refl, (record { op = Insert 7 70; leaf = 4; key = 5; parent = record { node = 3; word = 3 }; read = refl; no_card = refl; busy = refl; stands = refl; outer = leaf_4; told = refl; behind = refl; calm = refl; wants = ((λ e. let h : ◌≡◌ {A = ℕ} 5 7 = e in omega arith), (50, told_at 0 _ _ refl)) }, omega arith))
+    ▸ tt
 
 abbrev at_3 : TableState
 at_3 = run_leads at_2 insert_claims
 
 -- it fills card 3, and flags the node that seat 0 is about to mark
 insert_flags_asks : RunAsks 4 at_3 insert_flags
-insert_flags_asks = (
-  (refl, record { holds = refl; unflagged = refl }), (
-  (refl, record { holds = refl; unflagged = refl }), (
-  (refl, record { holds = refl; unflagged = refl }), (
-  (refl, record { holds = refl; unflagged = refl }), (
-  (refl, record { holds = refl; unflagged = refl }), (
-  (refl, record { holds = refl; unflagged = refl }), (
-  (refl, record { holds = refl; unflagged = refl }), (
-  (refl, record { holds = refl; unflagged = refl }), (
-  (refl, record { holds = refl; unflagged = refl }), (
-  (refl, record { holds = refl; unflagged = refl }), (
-  (refl, record { key = 7; value = 70; leaf = 4; busy = refl; may = record { holds = refl; unflagged = refl }; stands = refl; behind = refl; filled = filled_insert }),
-  tt
-)))))))))))
+insert_flags_asks =
+    (refl, record { holds = refl; unflagged = refl })
+    ▸ (refl, record { holds = refl; unflagged = refl })
+    ▸ (refl, record { holds = refl; unflagged = refl })
+    ▸ (refl, record { holds = refl; unflagged = refl })
+    ▸ (refl, record { holds = refl; unflagged = refl })
+    ▸ (refl, record { holds = refl; unflagged = refl })
+    ▸ (refl, record { holds = refl; unflagged = refl })
+    ▸ (refl, record { holds = refl; unflagged = refl })
+    ▸ (refl, record { holds = refl; unflagged = refl })
+    ▸ (refl, record { holds = refl; unflagged = refl })
+    ▸ (refl, record { key = 7; value = 70; leaf = 4; busy = refl; may = record { holds = refl; unflagged = refl }; stands = refl; behind = refl; filled = filled_insert })
+    ▸ tt
 
 abbrev at_4 : TableState
 at_4 = run_leads at_3 insert_flags
 
 -- seat 0 loses the mark, helps the insert to its end, and takes its own flag away
 mark_is_lost_asks : RunAsks 4 at_4 mark_is_lost
-mark_is_lost_asks = (
-  (refl, record { knows = refl; parent = told_at 1 _ _ refl; read = told_at 3 _ _ refl }), (
-  (refl, record { knows = inl refl; asked = tt }), (
-  (refl, record { knows = inl refl; asked = tt }), (
-  (refl, record { parent_key = infinity1; card_key = 7; knows = refl; parent = told_at 3 _ _ refl; leaf = told_at 1 _ _ refl; told_parent = told_at 10 _ _ refl; told_card = told_at 0 _ _ refl; side = refl }), (
-  (refl, record { knows = refl; parent = told_at 3 _ _ refl }), (
-  (refl, record { knows = refl; grandparent = told_at 4 _ _ refl }),
-  tt
-))))))
+mark_is_lost_asks =
+    (refl, record { knows = refl; parent = told_at 1 _ _ refl; read = told_at 3 _ _ refl })
+    ▸ (refl, record { knows = inl refl; asked = tt })
+    ▸ (refl, record { knows = inl refl; asked = tt })
+    ▸ (refl, record { parent_key = infinity1; card_key = 7; knows = refl; parent = told_at 3 _ _ refl; leaf = told_at 1 _ _ refl; told_parent = told_at 10 _ _ refl; told_card = told_at 0 _ _ refl; side = refl })
+    ▸ (refl, record { knows = refl; parent = told_at 3 _ _ refl })
+    ▸ (refl, record { knows = refl; grandparent = told_at 4 _ _ refl })
+    ▸ tt
 
 abbrev at_5 : TableState
 at_5 = run_leads at_4 mark_is_lost
 
 -- seat 1 finds that its insert was made, and answers
 insert_ends_asks : RunAsks 4 at_5 insert_ends
-insert_ends_asks = (
-  (refl, record { parent_key = infinity1; card_key = 7; knows = refl; parent = told_at 0 _ _ refl; leaf = told_at 1 _ _ refl; told_parent = told_at 10 _ _ refl; told_card = told_at 2 _ _ refl; side = refl }), (
-  (refl, record { knows = refl; parent = told_at 0 _ _ refl }), (
-  (refl, record { op = Insert 7 70; busy = refl; answers = inr (record { card = 3; holds = refl; flagged = refl; over = refl; yes = refl }) }),
-  tt
-)))
+insert_ends_asks =
+    (refl, record { parent_key = infinity1; card_key = 7; knows = refl; parent = told_at 0 _ _ refl; leaf = told_at 1 _ _ refl; told_parent = told_at 10 _ _ refl; told_card = told_at 2 _ _ refl; side = refl })
+    ▸ (refl, record { knows = refl; parent = told_at 0 _ _ refl })
+    ▸ (refl, record { op = Insert 7 70; busy = refl; answers = inr (record { card = 3; holds = refl; flagged = refl; over = refl; yes = refl }) })
+    ▸ tt
 
 abbrev at_6 : TableState
 at_6 = run_leads at_5 insert_ends
 
 -- seat 0 tries again: it searches, and takes card 4
 delete_begins_anew_asks : RunAsks 4 at_6 delete_begins_anew
-delete_begins_anew_asks = (
-  (refl, record { op = Delete 5; busy = refl; backed = λ c is flagged. of_card (λ d. Knows (view_at at_6 0) (Backed d)) 2 c is refl }), (
-  (refl, record { stands = refl; inner = refl; unread = refl }), (
-  (refl, told_at 0 _ _ refl), (
-  (refl, record { op = Delete 5; word = 11; key = infinity2; busy = refl; stands = refl; inner = refl; read = refl; told = refl; side = refl }), (
-  (refl, record { stands = refl; inner = refl; unread = refl }), (
-  (refl, told_at 0 _ _ refl), (
-  (refl, record { op = Delete 5; word = 15; key = infinity1; busy = refl; stands = refl; inner = refl; read = refl; told = refl; side = refl }), (
-  (refl, record { stands = refl; inner = refl; unread = refl }), (
-  (refl, told_at 0 _ _ refl), (
-  (refl, record { op = Delete 5; word = 3; key = 7; busy = refl; stands = refl; inner = refl; read = refl; told = refl; side = refl }), (
-  (refl, told_at 0 _ _ refl), (
-  (refl, tt), (
-  (refl, (record { op = Delete 5; leaf = 10; key = 5; parent = record { node = 9; word = 3 }; read = refl; no_card = refl; busy = refl; stands = refl; outer = leaf_10; told = refl; behind = refl; calm = refl; wants = (refl, (record { node = 3; word = 15 }, refl, refl)) }, omega arith)),
-  tt
-)))))))))))))
+delete_begins_anew_asks =
+    (refl, record { op = Delete 5; busy = refl; backed = λ c is flagged. of_card (λ d. Knows (view_at at_6 0) (Backed d)) 2 c is refl })
+    ▸ (refl, record { stands = refl; inner = refl; unread = refl })
+    ▸ (refl, told_at 0 _ _ refl)
+    ▸ (refl, record { op = Delete 5; word = 11; key = infinity2; busy = refl; stands = refl; inner = refl; read = refl; told = refl; side = refl })
+    ▸ (refl, record { stands = refl; inner = refl; unread = refl })
+    ▸ (refl, told_at 0 _ _ refl)
+    ▸ (refl, record { op = Delete 5; word = 15; key = infinity1; busy = refl; stands = refl; inner = refl; read = refl; told = refl; side = refl })
+    ▸ (refl, record { stands = refl; inner = refl; unread = refl })
+    ▸ (refl, told_at 0 _ _ refl)
+    ▸ (refl, record { op = Delete 5; word = 3; key = 7; busy = refl; stands = refl; inner = refl; read = refl; told = refl; side = refl })
+    ▸ (refl, told_at 0 _ _ refl)
+    ▸ (refl, tt)
+    ▸ (refl, (record { op = Delete 5; leaf = 10; key = 5; parent = record { node = 9; word = 3 }; read = refl; no_card = refl; busy = refl; stands = refl; outer = leaf_10; told = refl; behind = refl; calm = refl; wants = (refl, (record { node = 3; word = 15 }, refl, refl)) }, omega arith))
+    ▸ tt
 
 abbrev at_7 : TableState
 at_7 = run_leads at_6 delete_begins_anew
 
 -- it flags, marks, cuts the node out, and answers
 delete_ends_asks : RunAsks 4 at_7 delete_ends
-delete_ends_asks = (
-  (refl, record { holds = refl; unflagged = refl }), (
-  (refl, record { holds = refl; unflagged = refl }), (
-  (refl, record { holds = refl; unflagged = refl }), (
-  (refl, record { holds = refl; unflagged = refl }), (
-  (refl, record { key = 5; leaf = 10; parent = record { node = 9; word = 3 }; busy = refl; may = record { holds = refl; unflagged = refl }; stands = refl; behind = refl; above = refl; filled = filled_delete 3 9 10 3 }), (
-  (refl, record { knows = refl; parent = told_at 1 _ _ refl; read = told_at 3 _ _ refl }), (
-  (refl, record { knows = refl; parent = told_at 1 _ _ refl }), (
-  (refl, told_at 1 _ _ refl), (
-  (refl, record { leaf = 10; grandparent_key = infinity1; sibling_key = 7; knows = refl; grandparent = told_at 3 _ _ refl; parent = told_at 4 _ _ refl; below = told_at 5 _ _ refl; sibling = inl (told_at 1 _ _ refl, λ e. let h : ◌≡◌ {A = ℕ} 11 10 = e in omega arith); told_grandparent = told_at 11 _ _ refl; told_sibling = told_at 0 _ _ refl; side = refl }), (
-  (refl, record { knows = refl; grandparent = told_at 3 _ _ refl }), (
-  (refl, record { op = Delete 5; busy = refl; answers = inr (record { card = 4; holds = refl; flagged = refl; over = refl; yes = refl }) }),
-  tt
-)))))))))))
+delete_ends_asks =
+    (refl, record { holds = refl; unflagged = refl })
+    ▸ (refl, record { holds = refl; unflagged = refl })
+    ▸ (refl, record { holds = refl; unflagged = refl })
+    ▸ (refl, record { holds = refl; unflagged = refl })
+    ▸ (refl, record { key = 5; leaf = 10; parent = record { node = 9; word = 3 }; busy = refl; may = record { holds = refl; unflagged = refl }; stands = refl; behind = refl; above = refl; filled = filled_delete 3 9 10 3 })
+    ▸ (refl, record { knows = refl; parent = told_at 1 _ _ refl; read = told_at 3 _ _ refl })
+    ▸ (refl, record { knows = refl; parent = told_at 1 _ _ refl })
+    ▸ (refl, told_at 1 _ _ refl)
+    ▸ (refl, record { leaf = 10; grandparent_key = infinity1; sibling_key = 7; knows = refl; grandparent = told_at 3 _ _ refl; parent = told_at 4 _ _ refl; below = told_at 5 _ _ refl; sibling = inl (told_at 1 _ _ refl, λ e. let h : ◌≡◌ {A = ℕ} 11 10 = e in omega arith); told_grandparent = told_at 11 _ _ refl; told_sibling = told_at 0 _ _ refl; side = refl })
+    ▸ (refl, record { knows = refl; grandparent = told_at 3 _ _ refl })
+    ▸ (refl, record { op = Delete 5; busy = refl; answers = inr (record { card = 4; holds = refl; flagged = refl; over = refl; yes = refl }) })
+    ▸ tt
 
 abbrev at_8 : TableState
 at_8 = run_leads at_7 delete_ends
 
 -- seat 1 looks for key 7, and finds its value
 look_asks : RunAsks 4 at_8 look
-look_asks = (
-  (refl, record { free = refl; real = omega arith }), (
-  (refl, record { look = record { key = 7; node = 3 }; key = infinity1; looks = refl; there = refl; met = told_at 0 _ _ refl; inner = refl; told = told_at 11 _ _ refl; side = refl }), (
-  (refl, told_at 0 _ _ refl), (
-  (refl, (told_at 1 _ _ refl, leaf_11)),
-  tt
-))))
+look_asks =
+    (refl, record { free = refl; real = omega arith })
+    ▸ (refl, record { look = record { key = 7; node = 3 }; key = infinity1; looks = refl; there = refl; met = told_at 0 _ _ refl; inner = refl; told = told_at 11 _ _ refl; side = refl })
+    ▸ (refl, told_at 0 _ _ refl)
+    ▸ (refl, (told_at 1 _ _ refl, leaf_11))
+    ▸ tt
 
 abbrev at_9 : TableState
 at_9 = run_leads at_8 look
 
 -- it lays a find down, and both passes become one
 ending_asks : RunAsks 4 at_9 ending
-ending_asks = (
-  (refl, record { free = refl; owned = some_not_none refl }), (
-  (refl, record { op = Find 7; busy = refl; backed = λ c is flagged. absurd (some_not_none is refl) }), (
-  (refl, refl, (λ e. let h : ◌≡◌ {A = ℕ} 0 1 = e in omega arith), refl, refl),
-  tt
-)))
+ending_asks =
+    (refl, record { free = refl; owned = some_not_none refl })
+    ▸ (refl, record { op = Find 7; busy = refl; backed = λ c is flagged. absurd (some_not_none is refl) })
+    ▸ (refl, refl, (λ e. let h : ◌≡◌ {A = ℕ} 0 1 = e in omega arith), refl, refl)
+    ▸ tt
 
 abbrev at_10 : TableState
 at_10 = run_leads at_9 ending
