@@ -62,3 +62,5 @@ pub mod Counting
 pub mod FewFlags
 -- No tree is higher than its table has cards.
 pub mod Heights
+-- a small run, in which each step call is made
+pub mod SmallRun

@@ -14,6 +14,8 @@ pub mod Turns
 pub mod TurnEffects
 -- tables as they start, and where runs lead from there
 pub mod Starts
+-- a small run, in which each step call is made
+pub mod SmallRun
 -- how a table ends
 pub mod Closed
 -- laws of each table that turns have led to, by its own words

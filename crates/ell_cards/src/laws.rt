@@ -6,6 +6,7 @@
 //! of `ell_core` that the invariant holds of. `runs_from_starts_are_lawful` is the law of all such runs, and says nothing of machines.
 ghost use Rattle.ell_cards.specs.OwnWords.{OwnWordsAreSound, StepsStayInside, TablePairsChangeAtWins, TableChangesAreOperations, TableAnswersAreTheMaps, LedgersTellTheTree, TreeKeysAreOwned, TableNodesGoOn};
 ghost use Rattle.ell_cards.specs.Starts.{TablesStart, StartsHaveTheirKeys, FirstPassMayBegin, RunsFromStarts};
+ghost use Rattle.ell_cards.specs.SmallRun.{SmallRunIsMade};
 ghost use Rattle.ell_cards.specs.Readings.{ReadingsArePast, ClaimsAreTold};
 ghost use Rattle.ell_cards.specs.Contention.{TriesAreHinderedByOthers};
 ghost use Rattle.ell_cards.specs.Stretches.{FewFlagsWithoutAChange, TablesHaveHeights};
@@ -87,6 +88,15 @@ pub fn tables_start()
     ensures kept { StartsAreKept }
     ensures keys { StartsHaveTheirKeys }
     ensures begin { FirstPassMayBegin }
+{}
+
+/// No law is empty: each step call can be made in some run from a start, and a split and a join. A table of two keys and three cards to
+/// give out, of which one key is there at the start, has this run of two passes: a delete flags the root; an insert flags the node that
+/// the delete is about to mark, which loses its mark to that, helps the insert to its end, and takes its own flag away; the insert
+/// finds itself made; the delete is tried again, marks, cuts its node out and answers; the other pass looks for the key that was inserted,
+/// and finds it; and it begins a find, which it lays down.
+pub fn each_call_can_be_made()
+    ensures { SmallRunIsMade }
 {}
 
 /// The law of every run from a table as it starts, by any passes in any order. The tree that the table's own words make has the

@@ -23,6 +23,7 @@ begins old new op s = subst (λ (m : PassModel). Begins op [] old.view.hindered 
   before = refl;
   least = refl;
   root = record { busy = refl; root = refl; no_card = refl; met = latest _ _; before = refl; unmet = refl };
+  taken = refl;
   took = took_one old (after_begin (Some op) old.view) refl;
 })
 
@@ -47,6 +48,7 @@ begins_anew old new op s busy =
       before = refl;
       least = refl;
       root = record { busy = refl; root = refl; no_card = refl; met = latest _ _; before = refl; unmet = refl };
+      taken = refl;
       took = took_one old (anew (Some op) old.view) refl;
     })
 
@@ -63,6 +65,7 @@ begins_first p op at = record {
   before = at.before;
   least = refl;
   root = at;
+  taken = refl;
   took = took_none p 1;
 }
 
@@ -83,5 +86,6 @@ lays old new op s busy = subst (λ (m : PassModel). Lays op old m) (sym s) (reco
   least = refl;
   idle = refl;
   no_card = refl;
+  taken = refl;
   took = took_one old (after_leave old.view) refl;
 })

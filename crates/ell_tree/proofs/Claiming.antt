@@ -16,6 +16,7 @@ use Rattle.ell_cards.proofs.views.Entries.{filling_more}
 use Rattle.ell_cards.proofs.views.Steps.{view_after}
 use Rattle.ell_cards.proofs.views.Searches.{may_claim}
 use Rattle.ell_tree.specs.declared.searching.Place.{Place}
+use Rattle.ell_tree.specs.CardsTaken.{claims_in, TakesNoCard, TakesOneCard}
 use Rattle.ell_tree.specs.Hindrances.{Meets}
 use Rattle.ell_tree.specs.Keeping.{LosesNothing, Goes}
 use Rattle.ell_tree.specs.Searches.{seen, IsAt}
@@ -109,6 +110,17 @@ module _ (a b d : PassModel) (c : ℕ) (read : Steps a b (after_next c a.view)) 
         empty = refl;
         told = told_filling_over c (filling_of c a.view) a.view.told;
       })
+
+  -- and the pass took it
+  pub won_takes : Steps b d (after_claim true c b.view) → TakesOneCard a d
+  won_takes s =
+      ap (λ (w : View). claims_in w.won)
+      (view_after b d (after_claim true c b.view) s ∙ ap (after_claim true c) (view_after a b (after_next c a.view) read))
+
+  pub lost_takes : Steps b d (after_claim false c b.view) → TakesNoCard a d
+  lost_takes s =
+      ap (λ (w : View). claims_in w.won)
+      (view_after b d (after_claim false c b.view) s ∙ ap (after_claim false c) (view_after a b (after_next c a.view) read))
 
   pub lost_goes : Steps b d (after_claim false c b.view) → Goes a d 2
   lost_goes s =

@@ -27,13 +27,13 @@ use Rattle.ell_tree.proofs.Keeping.{seeks_step, seeks_trans, upd_keeps, key_of_k
 
 -- an update is read in a step, and so are a key and a value
 pub upd_seeks : (old new : PassModel) (x : ℕ) (u : Update) → Steps old new (after_upd x u old.view) → Seeks old new 1
-upd_seeks old new x u s = seeks_step old new (after_upd x u old.view) s (upd_keeps x u old.view) refl refl refl refl
+upd_seeks old new x u s = seeks_step old new (after_upd x u old.view) s (upd_keeps x u old.view) refl refl refl refl refl
 
 pub key_seeks : (old new : PassModel) (x key : ℕ) → Steps old new (after_key_of x key old.view) → Seeks old new 1
-key_seeks old new x key s = seeks_step old new (after_key_of x key old.view) s (key_of_keeps x key old.view) refl refl refl refl
+key_seeks old new x key s = seeks_step old new (after_key_of x key old.view) s (key_of_keeps x key old.view) refl refl refl refl refl
 
 pub value_seeks : (old new : PassModel) (x value : ℕ) → Steps old new (after_value_of x value old.view) → Seeks old new 1
-value_seeks old new x value s = seeks_step old new (after_value_of x value old.view) s (value_of_keeps x value old.view) refl refl refl refl
+value_seeks old new x value s = seeks_step old new (after_value_of x value old.view) s (value_of_keeps x value old.view) refl refl refl refl refl
 
 -- a node goes by in three steps: its update, its key, its child
 module _ (a b d e : PassModel) (x : ℕ) (u : Update) (key child : ℕ)
@@ -51,7 +51,7 @@ module _ (a b d e : PassModel) (x : ℕ) (u : Update) (key child : ℕ)
   descend_seeks =
       seeks_trans a d e 2 1 3
       (seeks_trans a b d 1 1 2 (upd_seeks a b x u read) (key_seeks b d x key asked) (omega arith))
-      (seeks_step d e (after_down x child d.view) gone (down_keeps x child d.view) refl refl refl refl) (omega arith)
+      (seeks_step d e (after_down x child d.view) gone (down_keeps x child d.view) refl refl refl refl refl) (omega arith)
 
   pub descend_search : e.view.worker.search ≡ below child (record { node = x; update = u }) a.view.worker.search.parent
   descend_search = ap (λ (v : View). v.worker.search) gone_view

@@ -1,4 +1,4 @@
-use Rattle.std.proofs.Common.{◌≡◌, ℕ, ◌+◌, ◌≤◌, Some, Result, Ok, Err, IfErr, List, ◌∷◌, refl, sym, ◌∙◌, ap, subst, is_ok, arith}
+use Rattle.std.proofs.Common.{◌≡◌, ℕ, ◌+◌, ◌≤◌, true, false, Some, Result, Ok, Err, IfErr, List, ◌∷◌, refl, sym, ◌∙◌, ap, subst, is_ok, arith}
 use Rattle.ell_ops.specs.declared.op.Op.TheVariants.{Insert, Delete}
 use Rattle.ell_word.specs.declared.gate.Kind.{Kind}
 use Rattle.ell_word.specs.declared.update.Update.{Update}
@@ -17,12 +17,14 @@ use Rattle.ell_cards.proofs.views.Entries.{places_more}
 use Rattle.ell_cards.proofs.views.Steps.{view_after}
 use Rattle.ell_tree.specs.declared.searching.Passed.{Passed}
 use Rattle.ell_tree.specs.declared.searching.Place.{Place}
+use Rattle.ell_tree.specs.CardsTaken.{is_claim, claims_in, TakesNoCard}
 use Rattle.ell_tree.specs.Counts.{Took}
 use Rattle.ell_tree.specs.Keeping.{LosesNothing, Goes, IsInnerMet}
 use Rattle.ell_tree.specs.Searches.{seen, seen_any}
 use Rattle.ell_tree.specs.Tries.{HasCard, Fills, Flags, IsFlagged, IsUnflagged}
 use Rattle.ell_tree.proofs.Counting.{took_one, took_trans}
 use Rattle.ell_tree.proofs.Keeping.{place_told}
+use Rattle.ell_tree.proofs.Taking.{no_claims}
 
 -- a card that is filled is in hand, not flagged, as before
 may_fill_still : (a b : PassModel) (n c : ℕ) → Fills a b n → MayFill a.view c → MayFill b.view c
@@ -107,6 +109,14 @@ module _ (k : Kind) (flag : ℕ → Fact) (c x : ℕ) (from : Update) where
       took = took_trans a b d n 1 (n + 1) fills.took
           (subst (λ (p : PassModel). Took b p 1) (sym step) (took_one b (flagging r b.view) (flagging_made r b.view))) (omega arith);
     }
+
+    -- and takes no card
+    pub flag_takes : is_claim k ≡ false → TakesNoCard a d
+    flag_takes other = ap (λ (v : View). claims_in v.won) flagged_view ∙ by r
+      where
+        by : (q : Result (Unit {0}) Update) → claims_in (flagging q (with_stores b.view.stores a.view)).won ≡ claims_in a.view.won
+        by (Ok won) = no_claims true k c a.view.won other
+        by (Err u) = refl
 
     pub flag_ends : (cards : ℕ) → a.view.worker.card ≡ Some c → IsInnerMet cards a.view x → IfErr r (λ u. u.card ≤ cards) → Flags cards flag c x a d r
     flag_ends cards holds node named = by r flagged_view named

@@ -16,6 +16,7 @@ use Rattle.ell_cards.specs.Changes.{facts_by, places_by, learning, exchanged, af
 use Rattle.ell_cards.proofs.views.Facts.{knows_new, knows_more, facts_by_more}
 use Rattle.ell_cards.proofs.views.Entries.{places_more, info_more}
 use Rattle.ell_tree.proofs.Counting.{took_none, took_one, took_within, took_trans}
+use Rattle.ell_tree.specs.CardsTaken.{claims_in}
 use Rattle.ell_tree.specs.Keeping.{LosesNothing, Goes, Seeks, Works, Walks, IsInnerMet, TellsPlace, IsSeenAt}
 
 pub keeps_trans : (u v w : View) → LosesNothing u v → LosesNothing v w → LosesNothing u w
@@ -42,6 +43,7 @@ goes_trans a b c m n k h h' le = record {
 pub seeks_trans : (a b c : PassModel) (m n k : ℕ) → Seeks a b m → Seeks b c n → m + n ≤ k → Seeks a c k
 seeks_trans a b c m n k h h' le = record {
   goes = goes_trans a b c m n k h.goes h'.goes le;
+  taken = h'.taken ∙ h.taken;
   card = h'.card ∙ h.card;
   flagged = h'.flagged ∙ h.flagged;
   hindrances = h'.hindrances ∙ h.hindrances;
@@ -50,6 +52,7 @@ seeks_trans a b c m n k h h' le = record {
 pub works_trans : (a b c : PassModel) (m n k : ℕ) → Works a b m → Works b c n → m + n ≤ k → Works a c k
 works_trans a b c m n k h h' le = record {
   goes = goes_trans a b c m n k h.goes h'.goes le;
+  taken = h'.taken ∙ h.taken;
   card = h'.card ∙ h.card;
   flagged = h'.flagged ∙ h.flagged;
   search = h'.search ∙ h.search;
@@ -62,13 +65,14 @@ goes_within a b m n h le = record { table = h.table; label = h.label; view = h.v
 pub works_within : (a b : PassModel) (m n : ℕ) → Works a b m → m ≤ n → Works a b n
 works_within a b m n h le = record {
   goes = goes_within a b m n h.goes le;
+  taken = h.taken;
   card = h.card;
   flagged = h.flagged;
   search = h.search;
 }
 
 pub works_of : (a b : PassModel) (n : ℕ) → Walks a b n → Works a b n
-works_of a b n h = record { goes = h.goes; card = h.card; flagged = h.flagged; search = h.search }
+works_of a b n h = record { goes = h.goes; taken = h.taken; card = h.card; flagged = h.flagged; search = h.search }
 
 -- where it was quiet at first, and then made other steps
 pub works_more : (a b c : PassModel) (m n k : ℕ) → Works a b m → Walks b c n → m + n ≤ k → Works a c k
@@ -77,6 +81,7 @@ works_more a b c m n k h h' le = works_trans a b c m n k h (works_of b c n h') l
 pub walks_within : (a b : PassModel) (m n : ℕ) → Walks a b m → m ≤ n → Walks a b n
 walks_within a b m n h le = record {
   goes = goes_within a b m n h.goes le;
+  taken = h.taken;
   card = h.card;
   flagged = h.flagged;
   search = h.search;
@@ -91,6 +96,7 @@ walks_none a n = record {
     view = record { ledger = refl; operation = refl; answers = refl; knows = λ f h. h; told = λ e h. h; before = refl; least = omega arith; hindered = refl; earlier = λ hs e. e };
     took = took_none a n;
   };
+  taken = refl;
   card = refl;
   flagged = refl;
   search = refl;
@@ -146,23 +152,24 @@ place_told x state.Clean c v w f t = tt
 pub goes_step : (old new : PassModel) (v : View) → Steps old new v → LosesNothing old.view v → v.made ≡ old.view.made + 1 → Goes old new 1
 goes_step old new v s k made = subst (λ (m : PassModel). Goes old m 1) (sym s) (record { table = refl; label = refl; view = k; took = took_one old v made })
 
-pub seeks_step : (old new : PassModel) (v : View) → Steps old new v → LosesNothing old.view v → v.made ≡ old.view.made + 1 → v.worker.card ≡ old.view.worker.card
+pub seeks_step : (old new : PassModel) (v : View) → Steps old new v → LosesNothing old.view v → v.made ≡ old.view.made + 1 → claims_in v.won ≡ claims_in old.view.won → v.worker.card ≡ old.view.worker.card
     → v.worker.flagged ≡ old.view.worker.flagged → v.hindrances ≡ old.view.hindrances → Seeks old new 1
-seeks_step old new v s k made card flagged hindrances =
+seeks_step old new v s k made taken card flagged hindrances =
     subst (λ (m : PassModel). Seeks old m 1) (sym s)
-    (record { goes = record { table = refl; label = refl; view = k; took = took_one old v made }; card = card; flagged = flagged; hindrances = hindrances })
+    (record { goes = record { table = refl; label = refl; view = k; took = took_one old v made }; taken = taken; card = card; flagged = flagged; hindrances = hindrances })
 
-pub works_step : (old new : PassModel) (v : View) → Steps old new v → LosesNothing old.view v → v.made ≡ old.view.made + 1 → v.worker.card ≡ old.view.worker.card
+pub works_step : (old new : PassModel) (v : View) → Steps old new v → LosesNothing old.view v → v.made ≡ old.view.made + 1 → claims_in v.won ≡ claims_in old.view.won → v.worker.card ≡ old.view.worker.card
     → v.worker.flagged ≡ old.view.worker.flagged → v.worker.search ≡ old.view.worker.search → Works old new 1
-works_step old new v s k made card flagged search =
+works_step old new v s k made taken card flagged search =
     subst (λ (m : PassModel). Works old m 1) (sym s)
-    (record { goes = record { table = refl; label = refl; view = k; took = took_one old v made }; card = card; flagged = flagged; search = search })
+    (record { goes = record { table = refl; label = refl; view = k; took = took_one old v made }; taken = taken; card = card; flagged = flagged; search = search })
 
-pub walks_step : (old new : PassModel) (v : View) → Steps old new v → LosesNothing old.view v → v.made ≡ old.view.made + 1 → v.worker.card ≡ old.view.worker.card
+pub walks_step : (old new : PassModel) (v : View) → Steps old new v → LosesNothing old.view v → v.made ≡ old.view.made + 1 → claims_in v.won ≡ claims_in old.view.won → v.worker.card ≡ old.view.worker.card
     → v.worker.flagged ≡ old.view.worker.flagged → v.worker.search ≡ old.view.worker.search → v.hindrances ≡ old.view.hindrances → Walks old new 1
-walks_step old new v s k made card flagged search hindrances =
+walks_step old new v s k made taken card flagged search hindrances =
     subst (λ (m : PassModel). Walks old m 1) (sym s) (record {
       goes = record { table = refl; label = refl; view = k; took = took_one old v made };
+      taken = taken;
       card = card;
       flagged = flagged;
       search = search;

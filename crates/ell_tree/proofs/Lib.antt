@@ -12,6 +12,8 @@ pub mod Descending
 pub mod Marking
 -- the start of a search
 pub mod Beginning
+-- which cards steps take
+pub mod Taking
 -- a card that is claimed
 pub mod Claiming
 -- what a card says

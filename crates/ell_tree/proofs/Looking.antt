@@ -7,10 +7,10 @@ use Rattle.ell_tree.proofs.Keeping.{walks_step, key_of_keeps, info_keeps, frozen
 
 -- a key is asked in a step, and so are a word of a card and a child of a marked parent
 pub key_walks : (old new : PassModel) (x key : ℕ) → Steps old new (after_key_of x key old.view) → Walks old new 1
-key_walks old new x key s = walks_step old new (after_key_of x key old.view) s (key_of_keeps x key old.view) refl refl refl refl refl
+key_walks old new x key s = walks_step old new (after_key_of x key old.view) s (key_of_keeps x key old.view) refl refl refl refl refl refl
 
 pub info_walks : (old new : PassModel) (c : ℕ) (f : Field) (x : ℕ) → Steps old new (after_info c f x old.view) → Walks old new 1
-info_walks old new c f x s = walks_step old new (after_info c f x old.view) s (info_keeps c f x old.view) refl refl refl refl refl
+info_walks old new c f x s = walks_step old new (after_info c f x old.view) s (info_keeps c f x old.view) refl refl refl refl refl refl
 
 pub child_walks : (old new : PassModel) (c : ℕ) (right : Bool) (x : ℕ) → Steps old new (after_frozen_child c right x old.view) → Walks old new 1
-child_walks old new c right x s = walks_step old new (after_frozen_child c right x old.view) s (frozen_keeps c right x old.view) refl refl refl refl refl
+child_walks old new c right x s = walks_step old new (after_frozen_child c right x old.view) s (frozen_keeps c right x old.view) refl refl refl refl refl refl

@@ -44,8 +44,8 @@ module _ (n c p : ℕ) (u : Update) (old new : PassModel) where
   either b = exchanged [] n (if b then learning (fact.Marked c) old.view else unmarking c p u old.view)
 
   either_works : (b : Bool) → Steps old new (either b) → Works old new 1
-  either_works true s = works_step old new (either true) s (learning_keeps [] n (fact.Marked c) old.view) refl refl refl refl
-  either_works false s = works_step old new (either false) s (unmarking_keeps n c p u old.view) refl refl refl refl
+  either_works true s = works_step old new (either true) s (learning_keeps [] n (fact.Marked c) old.view) refl refl refl refl refl
+  either_works false s = works_step old new (either false) s (unmarking_keeps n c p u old.view) refl refl refl refl refl
 
   either_met : (b : Bool) → Steps old new (either b) → new.view.hindrances ≡ met_by_mark c (if b then None else Some u) old.view
   either_met true s = ap (λ (w : View). w.hindrances) (view_after old new (either true) s)
@@ -69,7 +69,7 @@ module _ (n c p : ℕ) (u : Update) (old new : PassModel) where
 
 module _ (c p was : ℕ) (old new : PassModel) where
   pub mark_works : (r : Result (Unit {0}) Update) → Steps old new (marking c p was r old.view) → Works old new 1
-  mark_works (Ok won) s = works_step old new (marking c p was (Ok won) old.view) s (learning_keeps (if_won true kind.Mark c) was (fact.Marked c) old.view) refl refl refl refl
+  mark_works (Ok won) s = works_step old new (marking c p was (Ok won) old.view) s (learning_keeps (if_won true kind.Mark c) was (fact.Marked c) old.view) refl refl refl refl refl
   mark_works (Err u) s = either_works (found_word was (Err u)) c p u old new (is_mark_of c u.state u.card) s
 
   pub mark_met : (r : Result (Unit {0}) Update) → Steps old new (marking c p was r old.view)

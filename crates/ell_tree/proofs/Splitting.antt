@@ -9,6 +9,7 @@ use Rattle.ell_cards.specs.Changes.{first_view, part_on, part_off, left_view, ri
 use Rattle.ell_cards.proofs.words.Keys.{ledger_at_start, present_at_start}
 use Rattle.ell_cards.proofs.lifetimes.Parts.{parts_on, parts_off}
 use Rattle.ell_cards.proofs.lifetimes.Unions.{ledger_united}
+use Rattle.ell_tree.proofs.Taking.{claims_append}
 use Rattle.ell_tree.specs.PassParts.{IsFirst, IsLeftPart, IsRightPart, IsUnion, or_else}
 use Rattle.ell_core.specs.declared.view.Entry.{Entry}
 use Rattle.ell_core.specs.declared.view.Entry.TheVariants.{Present, Absent}
@@ -40,6 +41,7 @@ first_pass t keys start p given same e = subst (IsFirst start t) (sym e) (record
   answers = refl;
   hindrances = refl;
   hindered = refl;
+  taken = refl;
   steps = refl;
   made = refl;
   label = refl;
@@ -69,6 +71,7 @@ left_part keys p part s = subst (IsLeftPart keys p) (sym s) (record {
   answers = refl;
   hindrances = refl;
   hindered = refl;
+  taken = refl;
   steps = refl;
   made = refl;
   label = refl;
@@ -83,6 +86,7 @@ right_part keys p part s = subst (IsRightPart keys p) (sym s) (record {
   answers = refl;
   hindrances = refl;
   hindered = refl;
+  taken = refl;
   steps = refl;
   made = refl;
   label = refl;
@@ -110,6 +114,7 @@ union left right both e = subst (IsUnion left right) (sym e) (record {
   answers = refl;
   hindrances = length-append left.view.hindrances right.view.hindrances;
   hindered = refl;
+  taken = claims_append left.view.won right.view.won;
   next = refl;
   steps = refl;
   made = refl;

@@ -12,6 +12,7 @@ use Rattle.ell_cards.specs.declared.view.Hindrance.{Hindrance}
 use Rattle.ell_cards.specs.declared.view.View.{View}
 use Rattle.ell_cards.specs.Models.{PassModel, InTable, IsTold, Knows}
 use Rattle.ell_tree.specs.Counts.{Took}
+use Rattle.ell_tree.specs.CardsTaken.{TakesNoCard}
 
 -- ledger, operation and answers stay, and nothing is forgotten; no try is given up, so what was in the way before the one in hand is the same
 pub record LosesNothing (v w : View) : Type 0 where
@@ -32,16 +33,18 @@ pub record Goes (old new : PassModel) (n : ℕ) : Type 0 where
   pub view : LosesNothing old.view new.view
   pub took : Took old new n
 
--- and has the same card in hand, and met nothing in its way
+-- and took no card, has the same card in hand, and met nothing in its way
 pub record Seeks (old new : PassModel) (n : ℕ) : Type 0 where
   pub goes : Goes old new n
+  pub taken : TakesNoCard old new
   pub card : new.view.worker.card ≡ old.view.worker.card
   pub flagged : new.view.worker.flagged ≡ old.view.worker.flagged
   pub hindrances : new.view.hindrances ≡ old.view.hindrances
 
--- or has the same card in hand, and its search stands where it stood
+-- or took no card, has the same card in hand, and its search stands where it stood
 pub record Works (old new : PassModel) (n : ℕ) : Type 0 where
   pub goes : Goes old new n
+  pub taken : TakesNoCard old new
   pub card : new.view.worker.card ≡ old.view.worker.card
   pub flagged : new.view.worker.flagged ≡ old.view.worker.flagged
   pub search : new.view.worker.search ≡ old.view.worker.search
@@ -49,6 +52,7 @@ pub record Works (old new : PassModel) (n : ℕ) : Type 0 where
 -- and met nothing in its way either
 pub record Walks (old new : PassModel) (n : ℕ) : Type 0 where
   pub goes : Goes old new n
+  pub taken : TakesNoCard old new
   pub card : new.view.worker.card ≡ old.view.worker.card
   pub flagged : new.view.worker.flagged ≡ old.view.worker.flagged
   pub search : new.view.worker.search ≡ old.view.worker.search

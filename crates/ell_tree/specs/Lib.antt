@@ -12,6 +12,10 @@ pub mod Hindrances
 pub mod Moves
 -- how many steps a pass made
 pub mod Counts
+-- how many cards a pass took
+pub mod CardsTaken
+-- how many cards are left
+pub mod CardsLeft
 -- what steps keep
 pub mod Keeping
 -- where a search ends

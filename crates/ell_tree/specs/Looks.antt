@@ -2,7 +2,8 @@ use Rattle.std.specs.Prelude.{◌≡◌, ℕ, ◌+◌, ◌*◌, ◌≤◌}
 use Rattle.ell_cards.specs.declared.view.Told.{Told}
 use Rattle.ell_cards.specs.Models.{PassModel, IsTold}
 
--- a pass has at most so many steps more, by both its counts, and was told more, and all else that it has and knows of operations is as it was: so it owns what
+-- a pass has at most so many steps more, by both its counts, and was told more, and all else that it has and knows of operations is as it was, what it
+-- won, found and stored too: so it made no store and no exchange, won or lost, each of which would add to one of these. And it owns what
 -- it owned, with the same values, and has nothing in hand if it had nothing
 pub record OnlyLooks (old new : PassModel) (n : ℕ) : Type 0 where
   pub table : new.table ≡ old.table
@@ -16,6 +17,9 @@ pub record OnlyLooks (old new : PassModel) (n : ℕ) : Type 0 where
   pub knew_before : new.view.knew_before ≡ old.view.knew_before
   pub next_at_least : new.view.next_at_least ≡ old.view.next_at_least
   pub won : new.view.won ≡ old.view.won
+  pub found : new.view.found ≡ old.view.found
+  pub planned : new.view.planned ≡ old.view.planned
+  pub stores : new.view.stores ≡ old.view.stores
   pub told : (e : Told) → IsTold old.view e → IsTold new.view e
   pub steps : new.steps ≤ old.steps + n
   pub made : new.view.made ≤ old.view.made + n

@@ -3,6 +3,7 @@ use Rattle.ell_ops.specs.KeySet.{set_of}
 use Rattle.ell_ops.specs.Contents.{contents_of}
 use Rattle.ell_cards.specs.Models.{PassModel, one_more}
 pub use Rattle.ell_cards.specs.Changes.{later}
+use Rattle.ell_tree.specs.CardsTaken.{cards_taken}
 use Rattle.ell_tree.specs.Moves.{moves_known}
 use Rattle.ell_tree.specs.Ledgers.{TreeModel, ledger, present_in, answers, hindrances, IsIdle}
 pub use Rattle.ell_core.specs.state.Opening.{start_entry}
@@ -17,6 +18,7 @@ pub record IsFirst (start : List (ℕ × ℕ)) (t : TreeModel) (p : PassModel) :
   pub answers : answers p ≡ 0
   pub hindrances : hindrances p ≡ 0
   pub hindered : p.view.hindered ≡ 0
+  pub taken : cards_taken p ≡ 0
   pub steps : p.steps ≡ 0
   pub made : p.view.made ≡ 0
   pub label : p.label ≡ 0
@@ -30,6 +32,7 @@ pub record IsLeftPart (keys : List ℕ) (p part : PassModel) : Type 0 where
   pub answers : answers part ≡ answers p
   pub hindrances : hindrances part ≡ hindrances p
   pub hindered : part.view.hindered ≡ p.view.hindered
+  pub taken : cards_taken part ≡ cards_taken p
   pub steps : part.steps ≡ one_more p.steps
   pub made : part.view.made ≡ p.view.made + 1
   pub label : part.label ≡ p.label
@@ -43,6 +46,7 @@ pub record IsRightPart (keys : List ℕ) (p part : PassModel) : Type 0 where
   pub answers : answers part ≡ 0
   pub hindrances : hindrances part ≡ 0
   pub hindered : part.view.hindered ≡ 0
+  pub taken : cards_taken part ≡ 0
   pub steps : part.steps ≡ one_more p.steps
   pub made : part.view.made ≡ 0
   pub label : part.label ≡ p.label
@@ -61,6 +65,7 @@ pub record IsUnion (left right both : PassModel) : Type 0 where
   pub answers : answers both ≡ answers left + answers right
   pub hindrances : hindrances both ≡ hindrances left + hindrances right
   pub hindered : both.view.hindered ≡ left.view.hindered + right.view.hindered
+  pub taken : cards_taken both ≡ cards_taken left + cards_taken right
   pub next : both.view.next ≡ later left.view.next right.view.next
   pub steps : both.steps ≡ one_more (max left.steps right.steps)
   pub made : both.view.made ≡ left.view.made + right.view.made + 1

@@ -20,6 +20,7 @@ use Rattle.ell_tree.specs.declared.trying.Tried.{Tried}
 use Rattle.ell_tree.specs.declared.trying.Tried.TheVariants as tried
 use Rattle.ell_tree.specs.Ledgers.{present_in, IsIdle}
 use Rattle.ell_tree.specs.Counts.{Took}
+use Rattle.ell_tree.specs.CardsTaken.{TakesNoCard}
 use Rattle.ell_tree.specs.Ends.{Answers}
 use Rattle.ell_tree.specs.Hindrances.{AreOver, Meets, StillKnows, way_of}
 use Rattle.ell_tree.specs.Keeping.{IsSeenAt}
@@ -45,6 +46,7 @@ pub record Begins (op : Op) (met : List Hindrance) (tries : ℕ) (old new : Pass
   pub before : new.view.knew_before ≡ old.view.worker.facts
   pub least : new.view.next_at_least ≡ old.view.next_at_least
   pub root : AtRoot op new.view
+  pub taken : TakesNoCard old new
   pub took : Took old new 1
 
 -- an operation may start anew, or be laid down: its card, if that is flagged, is known backed
@@ -66,6 +68,7 @@ pub record Lays (op : Op) (old new : PassModel) : Type 0 where
   pub least : new.view.next_at_least ≡ old.view.next_at_least
   pub idle : IsIdle new
   pub no_card : new.view.worker.card ≡ None
+  pub taken : TakesNoCard old new
   pub took : Took old new 1
 
 -- a try ended without an answer, though the operation would change the map; nothing of it is under way, and whatever was in its

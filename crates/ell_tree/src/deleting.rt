@@ -9,6 +9,7 @@ ghost use Rattle.ell_core.specs.declared.field.Field.TheVariants as field;
 ghost use Rattle.ell_core.specs.state.Cards.{delete_filling};
 ghost use Rattle.ell_cards.specs.declared.view.Told.TheVariants.{Info};
 ghost use Rattle.ell_cards.specs.Models.{IsTold, Knows};
+ghost use Rattle.ell_tree.specs.CardsTaken.{TakesNoCard, TryTakes};
 ghost use Rattle.ell_tree.specs.Ends.{try_steps};
 ghost use Rattle.ell_tree.specs.Helps.{IsBacked, IsParent, help_steps};
 ghost use Rattle.ell_tree.specs.Hindrances.{Meets};
@@ -38,6 +39,7 @@ pub(crate) fn try_delete<A: Allocator + Copy, G: StepGate>(
     ensures steps { pass.new.steps + 1 ≤ pass.old.steps + try_steps table.now.last_card }
     ensures made { pass.new.view.made + 1 ≤ pass.old.view.made + try_steps table.now.last_card }
     ensures ends { TryEnds table.now.last_card (Delete key) pass.old pass.new result }
+    ensures taken { TryTakes pass.old pass.new result }
     ensures least { pass.old.view.next_at_least ≤ pass.new.view.next_at_least }
     ensures hindered { pass.new.view.hindered ≡ pass.old.view.hindered }
 {
@@ -91,6 +93,7 @@ fn flag_delete<A: Allocator + Copy, G: StepGate>(
     requires card { (key : ℕ) × HasCard (Delete key) place (delete_filling above.node place.parent.node place.leaf (packed place.parent.update)) pass.old.view card }
     requires node { IsInnerMet table.now.last_card pass.old.view above.node }
     ensures goes { Goes pass.old pass.new 5 }
+    ensures taken { TakesNoCard pass.old pass.new }
     ensures flags { Flags table.now.last_card DFlagged card above.node pass.old pass.new result }
 {
     fill_delete(table, pass, card, above.node, place, gate);

@@ -4,6 +4,7 @@ ghost use Rattle.ell_ops.specs.declared.op.Op.TheVariants.{Insert};
 ghost use Rattle.ell_word.specs.Node.{greatest_card};
 ghost use Rattle.ell_core.specs.declared.fact.Fact.TheVariants.{IFlagged};
 ghost use Rattle.ell_core.specs.state.Cards.{insert_filling};
+ghost use Rattle.ell_tree.specs.CardsTaken.{TakesNoCard, TryTakes};
 ghost use Rattle.ell_tree.specs.Ends.{try_steps};
 ghost use Rattle.ell_tree.specs.Keeping.{Goes, IsInnerMet};
 ghost use Rattle.ell_tree.specs.Searches.{AtRoot};
@@ -32,6 +33,7 @@ pub(crate) fn try_insert<A: Allocator + Copy, G: StepGate>(
     ensures steps { pass.new.steps + 1 ≤ pass.old.steps + try_steps table.now.last_card }
     ensures made { pass.new.view.made + 1 ≤ pass.old.view.made + try_steps table.now.last_card }
     ensures ends { TryEnds table.now.last_card (Insert key value) pass.old pass.new result }
+    ensures taken { TryTakes pass.old pass.new result }
     ensures least { pass.old.view.next_at_least ≤ pass.new.view.next_at_least }
     ensures hindered { pass.new.view.hindered ≡ pass.old.view.hindered }
 {
@@ -83,6 +85,7 @@ fn flag_insert<A: Allocator + Copy, G: StepGate>(
     requires card { HasCard (Insert key value) place (insert_filling card key value place.parent.node place.leaf place.key place.value) pass.old.view card }
     requires node { IsInnerMet table.now.last_card pass.old.view place.parent.node }
     ensures goes { Goes pass.old pass.new 11 }
+    ensures taken { TakesNoCard pass.old pass.new }
     ensures flags { Flags table.now.last_card IFlagged card place.parent.node pass.old pass.new result }
 {
     fill_insert(table, pass, card, key, value, place, gate);

@@ -6,6 +6,7 @@ ghost use Rattle.ell_ops.specs.Meaning.{key_of, found};
 ghost use Rattle.ell_cards.specs.Changes.{tries_hindered};
 ghost use Rattle.ell_cards.specs.Guards.{MayStop};
 ghost use Rattle.ell_cards.specs.Models.{Does};
+ghost use Rattle.ell_tree.specs.CardsTaken.{TakesAtMost, TakesCards, TakesNoCard, TryTakes};
 ghost use Rattle.ell_tree.specs.Counts.{IsAmortized, Took};
 ghost use Rattle.ell_tree.specs.Ends.{Answers, CountsTries, Ends, change_steps, find_steps, replied, try_steps};
 ghost use Rattle.ell_tree.specs.Hindrances.{Meets, way_of};
@@ -55,6 +56,7 @@ pub(crate) fn find<A: Allocator + Copy, G: StepGate>(
     ensures moved { moves_known table.now.last_card pass.old.view ≤ moves_known table.now.last_card pass.new.view }
     ensures bounded { moves_known table.now.last_card pass.new.view ≤ 2 * table.now.last_card }
     ensures hindered { pass.new.view.hindered ≡ pass.old.view.hindered }
+    ensures taken { TakesNoCard pass.old pass.new }
 {
     let label = pass.label();
     let op = Op::Find(key);
@@ -88,6 +90,8 @@ pub(crate) fn make_change<A: Allocator + Copy, G: StepGate>(
     ensures enough { 2 * table.now.last_card < tries → result ≢ Err Busy }
     ensures bounded { moves_known table.now.last_card pass.new.view ≤ 2 * table.now.last_card }
     ensures amortized { IsAmortized table.now.last_card pass.old pass.new }
+    ensures taken { TakesAtMost tries pass.old pass.new }
+    ensures cards { TakesCards pass.old pass.new result }
 {
     let label = pass.label();
     gate.before(label, Kind::Begin);
@@ -117,6 +121,8 @@ fn try_often<A: Allocator + Copy, G: StepGate>(
     ensures enough { 2 * table.now.last_card < tries → result ≢ Err Busy }
     ensures bounded { moves_known table.now.last_card pass.new.view ≤ 2 * table.now.last_card }
     ensures amortized { IsAmortized table.now.last_card pass.old pass.new }
+    ensures taken { TakesAtMost tries pass.old pass.new }
+    ensures cards { TakesCards pass.old pass.new result }
 {
     begin(table, pass, op, gate);
     for round in 0..tries {
@@ -165,6 +171,7 @@ fn try_once<A: Allocator + Copy, G: StepGate>(
     ensures steps { pass.new.steps + 1 ≤ pass.old.steps + try_steps table.now.last_card }
     ensures made { pass.new.view.made + 1 ≤ pass.old.view.made + try_steps table.now.last_card }
     ensures ends { TryEnds table.now.last_card op pass.old pass.new result }
+    ensures taken { TryTakes pass.old pass.new result }
     ensures least { pass.old.view.next_at_least ≤ pass.new.view.next_at_least }
     ensures hindered { pass.new.view.hindered ≡ pass.old.view.hindered }
 {

@@ -1,7 +1,8 @@
-//! The look: a read of any key, whoever owns it. It changes nothing and helps nobody.
+//! Calls that only read: the look for any key, whoever owns it, and how many cards are left. They change nothing and help nobody.
 ghost use Rattle.std.specs.Prelude.{◌≡◌, ◌≤◌, ◌+◌};
 ghost use Rattle.ell_ops.specs.Meaning.{greatest_key};
 ghost use Rattle.ell_cards.specs.Looking.{HasFound};
+ghost use Rattle.ell_tree.specs.CardsLeft.{ReadsCardsLeft};
 ghost use Rattle.ell_tree.specs.Ledgers.{IsIdle, Owns, present_in};
 ghost use Rattle.ell_tree.specs.Looks.{OnlyLooks, look_steps};
 
@@ -41,4 +42,17 @@ pub(crate) fn look<A: Allocator + Copy, G: StepGate>(
     }
     gate.before(label, Kind::Look);
     Some(table.value_of(pass, node))
+}
+
+/// How many cards are not given out yet: those from the claim word on.
+pub(crate) fn cards_left<A: Allocator + Copy, G: StepGate>(
+    table: &CardTable<A>,
+    pass: &mut Pass<A>,
+    gate: &G,
+) -> u64
+    requires own { pass.old.table ≡ table.now.id }
+    ensures { ReadsCardsLeft table.now.last_card pass.old pass.new result }
+{
+    gate.before(pass.label(), Kind::Look);
+    table.last_card() + 1 - table.next(pass)
 }

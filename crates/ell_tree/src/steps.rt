@@ -10,6 +10,7 @@ ghost use Rattle.ell_cards.specs.Models.{Does, IsFree, IsTold, Knows};
 ghost use Rattle.ell_cards.specs.Changes.{is_mark_of, tries_hindered};
 ghost use Rattle.ell_cards.specs.Guards.{MayAnswer, MayAsk, MaySee, MayStop, NamesNode};
 ghost use Rattle.ell_cards.specs.Calls.{TellsDepth, TellsNode};
+ghost use Rattle.ell_tree.specs.CardsTaken.{TakesNoCard};
 ghost use Rattle.ell_tree.specs.Counts.{Took};
 ghost use Rattle.ell_tree.specs.Ends.{Answers};
 ghost use Rattle.ell_tree.specs.Helps.{HasSibling, IsLost, IsMarked, IsParent, found_instead, met_by_mark};
@@ -90,6 +91,7 @@ pub(crate) fn answer<A: Allocator + Copy, G: StepGate>(
     ensures facts { pass.new.view.worker.facts ≡ pass.old.view.worker.facts }
     ensures least { pass.new.view.next_at_least ≡ pass.old.view.next_at_least }
     ensures room { pass.new.view.next_at_least ≤ table.now.last_card + 1 }
+    ensures taken { TakesNoCard pass.old pass.new }
     ensures took { Took pass.old pass.new 1 }
 {
     gate.before(pass.label(), Kind::Note);

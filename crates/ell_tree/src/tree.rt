@@ -11,6 +11,8 @@ ghost use Rattle.ell_core.specs.state.Opening.{last_card};
 ghost use Rattle.ell_cards.specs.Models.{IsCardCount, Refuses};
 ghost use Rattle.ell_cards.specs.Contention.{AreHinderedByOthers};
 ghost use Rattle.ell_cards.specs.Looking.{IsFoundInRuns};
+ghost use Rattle.ell_tree.specs.CardsLeft.{AreLeftAtMost, ReadsCardsLeft};
+ghost use Rattle.ell_tree.specs.CardsTaken.{TakesAtMost, TakesCards, TakesNoCard};
 ghost use Rattle.ell_tree.specs.Closing.{ClosesTo};
 ghost use Rattle.ell_tree.specs.Ends.{Answers, CountsTries, Ends, change_steps, find_steps, replied, try_steps};
 ghost use Rattle.ell_tree.specs.Hindrances.{Meets};
@@ -21,7 +23,7 @@ ghost use Rattle.ell_tree.specs.Looks.{OnlyLooks, look_steps};
 ghost use Rattle.ell_tree.specs.PassParts.{IsFirst, IsLeftPart, IsRightPart, IsUnion};
 
 use crate::operations::{Held, find, make_change};
-use crate::reading::look;
+use crate::reading::{cards_left, look};
 use ell_cards::{CardFault, CardTable, Pass};
 use ell_core::pairs_of_tree;
 use ell_ops::{NoMemory, Op};
@@ -45,7 +47,7 @@ impl<A: Allocator + Copy> Model for Tree<A> {
 
 impl<A: Allocator + Copy> Tree<A> {
     /// An empty tree of so many cards, and one pass that owns all these keys, each absent. Each try of an insert or a delete that
-    /// finds its way free takes a card, and no card is given back. `BadCards` comes exactly where the cards are not 1 to 1,000,000,
+    /// finds its way free takes a card, and no card is given back; `cards_left` tells how many there are. `BadCards` comes exactly where the cards are not 1 to 1,000,000,
     /// and `NoMemory` where memory is refused. Conditions: the keys are strictly ascending, and at most `KEY_MAX`.
     pub fn reserve(alloc: A, keys: &[u64], cards: u64) -> Result<(Tree<A>, Pass<A>), CardFault>
         requires ascending { IsStrictlyIncreasing keys.now }
@@ -150,8 +152,8 @@ impl<A: Allocator + Copy> Tree<A> {
     /// The value of any key up to `KEY_MAX`, whoever owns it, if it is present: as it was in one state of the tree between the first step of
     /// the look and its last, whatever other passes did meanwhile (`so`). A pass without keys may look too. It writes nothing, helps
     /// nobody, waits for nobody, and takes at most `2 * cards + 3` steps, where `cards` is the number of the last card. A key of the pass's
-    /// own is answered as `find` answers it. Two looks at two keys are of two states. The gate is told each step, as `Look`, and neither a
-    /// begin nor an end.
+    /// own is answered as `find` answers it. Two looks at two keys are of two states. It takes no card. The gate is told each step, as `Look`,
+    /// and neither a begin nor an end.
     pub fn look<G: StepGate>(&self, pass: &mut Pass<A>, key: u64, gate: &G) -> Option<u64>
         requires own { pass.old.table ≡ self.now.id }
         requires idle { IsIdle pass.old }
@@ -160,11 +162,27 @@ impl<A: Allocator + Copy> Tree<A> {
         ensures one { pass.new.view.looks ≡ pass.old.view.looks + 1 }
         ensures mine { Owns pass.old key → result ≡ present_in pass.old key }
         ensures only { OnlyLooks pass.old pass.new (look_steps self.now.last_card) }
+        ensures taken { TakesNoCard pass.old pass.new }
     {
         look(&self.table, pass, key, gate)
     }
 
-    /// The value of a key of the pass, if the key is present. It helps nobody, nothing is in its way, and it takes at most
+    /// How many cards are not given out yet, 0 if all are, in one step: as it was at that step, while other passes went on. No more are left
+    /// ever after. An insert or a delete that changes the map takes one, and one more at most for each try that something hinders; with none
+    /// left it is `Spent`. The gate is told the step, as `Look`.
+    pub fn cards_left<G: StepGate>(&self, pass: &mut Pass<A>, gate: &G) -> u64
+        requires own { pass.old.table ≡ self.now.id }
+        ensures reads { ReadsCardsLeft self.now.last_card pass.old pass.new result }
+        ensures most { AreLeftAtMost self.now.keys self.now.start self.now.last_card pass.new.view result }
+        ensures limit { result ≤ self.now.last_card }
+        ensures table { pass.new.table ≡ pass.old.table }
+        ensures worker { pass.new.view.worker ≡ pass.old.view.worker }
+        ensures taken { TakesNoCard pass.old pass.new }
+    {
+        cards_left(&self.table, pass, gate)
+    }
+
+    /// The value of a key of the pass, if the key is present. It helps nobody, nothing is in its way, it takes no card, and at most
     /// `3 * cards + 7` steps, where `cards` is the number of the last card: how many cards the tree was asked for, and one more
     /// for each of its start keys.
     pub fn find<G: StepGate>(&self, pass: &mut Pass<A>, key: u64, gate: &G) -> Option<u64>
@@ -180,6 +198,7 @@ impl<A: Allocator + Copy> Tree<A> {
         ensures moved { moves_known self.now.last_card pass.old.view ≤ moves_known self.now.last_card pass.new.view }
         ensures bounded { moves_known self.now.last_card pass.new.view ≤ 2 * self.now.last_card }
         ensures hindered { pass.new.view.hindered ≡ pass.old.view.hindered }
+        ensures taken { TakesNoCard pass.old pass.new }
     {
         find(&self.table, pass, key, gate)
     }
@@ -196,7 +215,9 @@ impl<A: Allocator + Copy> Tree<A> {
     /// the steps in a row (`steps`), and on all steps of the pass and of those that it was joined with (`view.made`). Each such try is
     /// counted (`hindered`): of a call that answers `Busy`, all its tries. And others did something for each (`by_others`): in every run of
     /// the tree the tries of such a call are at most two for each card that was given out to another pass while it went on, and one for
-    /// each card that some pass had in hand when it began.
+    /// each card that some pass had in hand when it began. No try takes more than one card (`taken`). A call that changes nothing takes none;
+    /// one that changes the map takes one, and at most one more for each try that something hindered; and one that is held, at most one for
+    /// each of those (`cards`).
     #[tactic(auto, using(ell_cards::proofs::runs::Tries::more_tries))]
     pub fn insert<G: StepGate>(
         &self,
@@ -215,6 +236,8 @@ impl<A: Allocator + Copy> Tree<A> {
         ensures made { pass.new.view.made ≤ pass.old.view.made + change_steps self.now.last_card tries }
         ensures hindered { result ≡ Err Busy → pass.new.view.hindered ≡ pass.old.view.hindered + tries }
         ensures counted { CountsTries tries pass.old pass.new }
+        ensures taken { TakesAtMost tries pass.old pass.new }
+        ensures cards { TakesCards pass.old pass.new result }
         ensures by_others { result ≡ Err Busy → AreHinderedByOthers self.now.keys self.now.start self.now.last_card pass.old.view.hindered pass.new.view tries }
         ensures rounded { pass.new.steps ≤ pass.old.steps + 64 * (tries + 1) * (self.now.last_card + 2) }
         ensures moved { result ≡ Err Busy → moves_known self.now.last_card pass.old.view + tries ≤ moves_known self.now.last_card pass.new.view }
@@ -228,7 +251,7 @@ impl<A: Allocator + Copy> Tree<A> {
         make_change(&self.table, pass, Op::Insert(key, value), tries, gate)
     }
 
-    /// Takes a key of the pass away, with its value: whether it was present. Tries, steps and errors are as of `insert`.
+    /// Takes a key of the pass away, with its value: whether it was present. Tries, steps, cards and errors are as of `insert`.
     #[tactic(auto, using(ell_cards::proofs::runs::Tries::more_tries))]
     pub fn delete<G: StepGate>(
         &self,
@@ -246,6 +269,8 @@ impl<A: Allocator + Copy> Tree<A> {
         ensures made { pass.new.view.made ≤ pass.old.view.made + change_steps self.now.last_card tries }
         ensures hindered { result ≡ Err Busy → pass.new.view.hindered ≡ pass.old.view.hindered + tries }
         ensures counted { CountsTries tries pass.old pass.new }
+        ensures taken { TakesAtMost tries pass.old pass.new }
+        ensures cards { TakesCards pass.old pass.new result }
         ensures by_others { result ≡ Err Busy → AreHinderedByOthers self.now.keys self.now.start self.now.last_card pass.old.view.hindered pass.new.view tries }
         ensures rounded { pass.new.steps ≤ pass.old.steps + 64 * (tries + 1) * (self.now.last_card + 2) }
         ensures moved { result ≡ Err Busy → moves_known self.now.last_card pass.old.view + tries ≤ moves_known self.now.last_card pass.new.view }

@@ -5,6 +5,7 @@ ghost use Rattle.ell_word.specs.Node.{greatest_card};
 ghost use Rattle.ell_cards.specs.Models.{Does, Steps};
 ghost use Rattle.ell_cards.specs.Guards.{MayFill, Wants};
 ghost use Rattle.ell_cards.specs.Changes.{after_fill};
+ghost use Rattle.ell_tree.specs.CardsTaken.{AskTakes};
 ghost use Rattle.ell_tree.specs.Keeping.{Goes};
 ghost use Rattle.ell_tree.specs.Searches.{IsAt};
 ghost use Rattle.ell_tree.specs.Tries.{Claims};
@@ -53,6 +54,7 @@ pub(crate) fn take_card<A: Allocator + Copy, G: StepGate>(
     requires wants { Wants pass.old.view op place.leaf place.key }
     ensures goes { Goes pass.old pass.new 2 }
     ensures claims { Claims table.now.last_card op place pass.old pass.new result }
+    ensures taken { AskTakes pass.old pass.new result }
     ensures limit { table.now.last_card ≤ greatest_card }
 {
     let label = pass.label();

@@ -1,9 +1,10 @@
-use Rattle.std.proofs.Common.{◌≡◌, ℕ, zero, suc, ◌+◌, ◌≤◌, List, length, replicate, slice_set, length-set, refl, ap, ◌∙◌, arith}
+use Rattle.std.proofs.Common.{◌≡◌, ℕ, zero, suc, ◌+◌, ◌≤◌, List, [], ◌∷◌, length, replicate, slice_set, length-set, refl, ap, ◌∙◌, arith}
 use Rattle.std.proofs.lemmas.List.{length-replicate}
+use Rattle.ell_word.specs.Node.{infinity1, infinity2}
 use Rattle.ell_core.specs.state.Layout.{table_size}
 use Rattle.ell_core.specs.state.Words.{words_of}
 use Rattle.ell_core.specs.state.Cards.{filled_list}
-use Rattle.ell_core.specs.state.Branches.{branch_of}
+use Rattle.ell_core.specs.state.Branches.{branch_of, descend}
 use Rattle.ell_core.specs.state.Opening.{start_leaf, start_value, root_filling, branch_filling, last_card}
 use Rattle.ell_core.proofs.words.Listed.{length_after_fields, words_after_fields}
 use Rattle.ell_core.proofs.opening.Growing.{growing, rooted_words, grows, grown_up}
@@ -46,3 +47,9 @@ start_list_starts start cards = record {
   size = size_stays start (table_size (last_card start cards)) (length start);
   are = words_grow start (last_card start cards) (length start) (omega arith) ∙ grown_up start (length start + 1) refl;
 }
+
+-- the words of a table with one start key and three cards to give out
+pub small_list : start_list ((5, 50) ∷ []) 3
+    ≡ 2 ∷ 0 ∷ 0 ∷ 0 ∷ 0 ∷ infinity2 ∷ 3 ∷ 2 ∷ 3 ∷ infinity1 ∷ infinity2 ∷ 0 ∷ 0 ∷ 0 ∷ 0 ∷ 0 ∷ 0 ∷ infinity1 ∷ 4 ∷ 5 ∷ 3 ∷ 5 ∷ infinity1 ∷ 50 ∷ 0 ∷ 0 ∷ 0 ∷ 0 ∷ 0 ∷ 0 ∷ 0 ∷ 0 ∷ 0 ∷ 0 ∷ 0 ∷ 0 ∷ 0 ∷ 0 ∷ 0 ∷ 0 ∷ 0 ∷ 0 ∷ 0 ∷ 0 ∷ 0 ∷ 0 ∷ 0 ∷ 0 ∷ 0 ∷ 0 ∷ 0 ∷ 0 ∷ 0 ∷ 0 ∷ 0 ∷ 0 ∷ 0 ∷ 0 ∷ 0 ∷ 0 ∷ 0 ∷ []
+unfolding start_list listed_up_to descend
+small_list = refl

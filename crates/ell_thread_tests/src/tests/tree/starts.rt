@@ -5,7 +5,8 @@ ghost use Rattle.std.specs.List.Sorted.{IsStrictlyIncreasing};
 ghost use Rattle.ell_tree.specs.Ledgers.{IsIdle, IsIdlePassOf, present_in};
 ghost use Rattle.ell_tree.specs.Meaning.{greatest_key};
 
-use super::asking::{Row, close, play};
+use super::asking::{Row, ask, close, play};
+use ell_ops::Op;
 use ell_ops::Op::{Delete, Find, Insert};
 use ell_ops::Reply::{Found, No, Yes};
 use ell_tree::{CardFault, Held, NoGate, Pass, START_MAX, Tree};
@@ -69,6 +70,37 @@ const TWO_CHANGES: [Row; 10] = [
 fn as_many_cards_as_were_asked_for_can_be_taken(rt: HostRuntime) {
     let left = [(2, 200), (5, 50), (6, 600)];
     assert!(rt; played(&rt, 2, &TWO_CHANGES).as_slice() == left.as_slice());
+}
+
+// Does an operation: how many cards are left then.
+fn left_after(
+    rt: &impl Abort,
+    tree: &Tree<Global>,
+    pass: &mut Pass<Global>,
+    op: Op,
+) -> u64
+    requires own { pass.old.table ≡ tree.now.id }
+    requires idle { IsIdle pass.old }
+    ensures own { pass.new.table ≡ tree.now.id }
+    ensures idle { IsIdle pass.new }
+{
+    let _ = ask(rt, tree, pass, op, 1, &NoGate);
+    tree.cards_left(pass, &NoGate)
+}
+
+#[test]
+fn a_change_takes_a_card_and_nothing_else_does(rt: HostRuntime) {
+    let made = Tree::reserve_from(rt.alloc(), &START, &KEYS, 2);
+    let (tree, mut pass) = made.expect(&rt, "tree");
+    assert!(rt; tree.cards_left(&mut pass, &NoGate) == 2);
+    assert!(rt; left_after(&rt, &tree, &mut pass, Find(4)) == 2);
+    assert!(rt; left_after(&rt, &tree, &mut pass, Insert(2, 20)) == 2);
+    assert!(rt; left_after(&rt, &tree, &mut pass, Insert(5, 50)) == 1);
+    assert!(rt; left_after(&rt, &tree, &mut pass, Delete(1)) == 1);
+    assert!(rt; left_after(&rt, &tree, &mut pass, Delete(4)) == 0);
+    assert!(rt; left_after(&rt, &tree, &mut pass, Delete(2)) == 0);
+    assert!(rt; tree.look(&mut pass, 5, &NoGate) == Some(50));
+    assert!(rt; tree.cards_left(&mut pass, &NoGate) == 0);
 }
 
 // All start keys go and come again, with other values, and the others do too, until no card is left.

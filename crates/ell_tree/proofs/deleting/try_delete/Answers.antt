@@ -1,7 +1,8 @@
-use Rattle.std.proofs.Common.{◌≡◌, ◌≢◌, length, ap, ◌∙◌, rules, arith}
+use Rattle.std.proofs.Common.{◌+◌, ◌≡◌, ◌≢◌, length, ap, ◌∙◌, rules, arith}
 use Rattle.ell_ops.specs.declared.op.Op.TheVariants.{Delete}
 use Rattle.ell_word.specs.declared.update.State.TheVariants.{Clean}
 use Rattle.ell_core.specs.declared.view.Search.{Search}
+use Rattle.ell_tree.specs.CardsTaken.{cards_taken}
 use Rattle.ell_tree.specs.Hindrances.{way_of}
 use Rattle.ell_tree.specs.Searches.{seen_any, below}
 use Rattle.ell_tree.proofs.Keeping.{inner_kept}
@@ -237,3 +238,29 @@ returns-clause-ends g c =
       meets_trans a.view m.view said.new.pass.view finished (said_meets m.view said.new.pass.view said.ensures.hindrances said.ensures.facts),
       said.ensures.room,
     )
+
+-- the cards of each
+pub returns-then-ne-clause-taken : goal.returns-then-ne-clause-taken
+returns-then-ne-clause-taken g c =
+    let taken = c.help.ensures.works.taken ∙ c.search-place.ensures.seeks.taken in
+    record { least = omega (arith, taken); most = omega (arith, taken) }
+
+pub returns-then-ne-2-clause-taken : goal.returns-then-ne-2-clause-taken
+returns-then-ne-2-clause-taken g c =
+    let taken = c.help-then-ne-2.ensures.works.taken ∙ c.search-place.ensures.seeks.taken in
+    record { least = omega (arith, taken); most = omega (arith, taken) }
+
+pub returns-in-Lost-clause-taken : goal.returns-in-Lost-clause-taken
+returns-in-Lost-clause-taken g c =
+    let taken = c.in-Lost.ensures.taken ∙ c.search-place.ensures.seeks.taken in
+    record { least = omega (arith, taken); most = omega (arith, taken) }
+
+pub returns-in-Err-clause-taken : goal.returns-in-Err-clause-taken
+returns-in-Err-clause-taken g c =
+    let taken : cards_taken c.help-in-Err.new.pass ≡ cards_taken c.args.pass.now + 1 =
+    omega (arith, c.help-in-Err.ensures.works.taken, c.flag_delete.ensures.taken, c.in-Card.ensures.taken, c.search-place.ensures.seeks.taken) in
+    record { least = omega (arith, taken); most = omega (arith, taken) }
+
+pub returns-clause-taken : goal.returns-clause-taken
+returns-clause-taken g c =
+    omega (arith, c.answer-2.ensures.taken, c.finish_own.ensures.works.taken, c.flag_delete.ensures.taken, c.in-Card.ensures.taken, c.search-place.ensures.seeks.taken)

@@ -1,4 +1,4 @@
-use Rattle.std.proofs.Common.{◌≡◌, ◌≢◌, ℕ, if◌then◌else◌, Some, None, List, length, eq-eqb, ap, ◌∙◌, subst, rules, arith}
+use Rattle.std.proofs.Common.{◌+◌, ◌≡◌, ◌≢◌, ℕ, if◌then◌else◌, Some, None, List, length, eq-eqb, ap, ◌∙◌, subst, rules, arith}
 use Rattle.ell_ops.specs.declared.op.Op.TheVariants.{Insert}
 use Rattle.ell_ops.specs.declared.reply.Reply.TheVariants.{No}
 use Rattle.ell_core.specs.acts.Searching.{leaf_answer}
@@ -6,6 +6,7 @@ use Rattle.ell_word.specs.declared.update.State.TheVariants.{Clean}
 use Rattle.ell_core.specs.declared.view.Search.{Search}
 use Rattle.ell_cards.specs.declared.view.Told.TheVariants.{Met}
 use Rattle.ell_core.specs.declared.field.Field.{Field}
+use Rattle.ell_tree.specs.CardsTaken.{cards_taken}
 use Rattle.ell_tree.specs.Hindrances.{way_of}
 use Rattle.ell_tree.specs.Tries.{HasCard}
 use Rattle.ell_tree.proofs.Descending.{may_answer}
@@ -199,3 +200,24 @@ returns-in-Err-clause-ends g c =
       gives_out c.args.table.now.last_card a.view s.new.pass.view t.view new.view s.ensures.seeks.goes.view.least c.in-Card.ensures.claims.3
           (omega (arith, c.flag_insert.ensures.goes.view.least, help.ensures.works.goes.view.least)),
     )
+
+-- the cards of each
+pub returns-then-ne-clause-taken : goal.returns-then-ne-clause-taken
+returns-then-ne-clause-taken g c =
+    let taken = c.help.ensures.works.taken ∙ c.search-place.ensures.seeks.taken in
+    record { least = omega (arith, taken); most = omega (arith, taken) }
+
+pub returns-in-Lost-clause-taken : goal.returns-in-Lost-clause-taken
+returns-in-Lost-clause-taken g c =
+    let taken = c.in-Lost.ensures.taken ∙ c.search-place.ensures.seeks.taken in
+    record { least = omega (arith, taken); most = omega (arith, taken) }
+
+pub returns-in-Ok-clause-taken : goal.returns-in-Ok-clause-taken
+returns-in-Ok-clause-taken g c =
+    omega (arith, c.answer-in-Ok.ensures.taken, c.finish_insert.ensures.walks.taken, c.flag_insert.ensures.taken, c.in-Card.ensures.taken, c.search-place.ensures.seeks.taken)
+
+pub returns-in-Err-clause-taken : goal.returns-in-Err-clause-taken
+returns-in-Err-clause-taken g c =
+    let taken : cards_taken c.help-in-Err.new.pass ≡ cards_taken c.args.pass.now + 1 =
+    omega (arith, c.help-in-Err.ensures.works.taken, c.flag_insert.ensures.taken, c.in-Card.ensures.taken, c.search-place.ensures.seeks.taken) in
+    record { least = omega (arith, taken); most = omega (arith, taken) }

@@ -6,6 +6,7 @@ use Rattle.ell_tree.proofs.Halting.{begun_meets, begun_count}
 use Rattle.ell_tree.proofs.Hindering.{root_hindered, one_hindered, halts_hindered}
 use Rattle.ell_tree.proofs.Meeting.{meets_trans}
 use Rattle.ell_tree.proofs.Moving.{moves_one, moves_still, moves_same, moves_most, moves_more, amortized}
+use Rattle.ell_tree.proofs.Taking.{answers_first, answered_most, answered_cards}
 use Rattle.ell_tree.proofs.operations.try_often.Goals as goal
 
 pub try_once-requires-clause-root : goal.try_once-requires-clause-root
@@ -67,6 +68,10 @@ loop-round-preserved g c =
       moved = let one = moves_one c.args.table.now.last_card l.pass.view c.restart.new.pass.view c.try_once.new.pass.view begins.before begins.least
           (λ f h. halts.meets.knows f (begins.knows f h)) c.in-Hindered.ensures.ends.2 in
           omega (arith, one, i.moved);
+      taken = record {
+        least = omega (arith, c.in-Hindered.ensures.taken.least, begins.taken, i.taken.least);
+        most = omega (arith, c.in-Hindered.ensures.taken.most, begins.taken, i.taken.most);
+      };
       rounds = rounds_later l.round most c.args.pass.now c.try_once.new.pass few;
     }
 
@@ -89,6 +94,7 @@ loop-round-init g c =
       hindrances = search rules;
       hindered = let none = root_hindered c.args.op c.begin.new.pass.view start.root in omega (arith, none, start.hindered);
       moved = omega (arith, still);
+      taken = record { least = omega (arith, start.taken); most = omega (arith, start.taken) };
       rounds = rounds_first (try_steps cards) c.args.pass.now c.begin.new.pass start.took;
     }
 
@@ -260,3 +266,62 @@ returns-clause-bounded g c =
     let same = moves_same cards l.pass.view c.leave-2.new.pass.view lays.facts lays.least in
     let most = moves_most cards l.pass.view c.leave-2.ensures.least in
     omega (arith, same, most)
+
+pub returns-in-Answered-clause-taken : goal.returns-in-Answered-clause-taken
+returns-in-Answered-clause-taken g c =
+    let l = c.loop-round in
+    let i = l.invariant in
+    let begins = c.restart.ensures.begins c.args.op i.stops.busy (λ none. i.root (eqb-true l.round 0 none)) in
+    let one = answered_most c.in-Answered.said c.restart.new.pass c.try_once.new.pass c.in-Answered.ensures.taken in
+    record {
+      least = omega (arith, one.least, begins.taken, i.taken.least);
+      most = omega (arith, one.most, begins.taken, i.taken.most, c.loop-round-test.true);
+    }
+
+pub returns-in-Spent-clause-taken : goal.returns-in-Spent-clause-taken
+returns-in-Spent-clause-taken g c =
+    let l = c.loop-round in
+    let i = l.invariant in
+    let begins = c.restart.ensures.begins c.args.op i.stops.busy (λ none. i.root (eqb-true l.round 0 none)) in
+    let lays = c.leave.ensures.lays c.args.op c.in-Spent.ensures.ends.0.stops.busy in
+    record {
+      least = omega (arith, lays.taken, c.in-Spent.ensures.taken, begins.taken, i.taken.least);
+      most = omega (arith, lays.taken, c.in-Spent.ensures.taken, begins.taken, i.taken.most, c.loop-round-test.true);
+    }
+
+pub returns-clause-taken : goal.returns-clause-taken
+returns-clause-taken g c =
+    let l = c.loop-round in
+    let i = l.invariant in
+    let lays = c.leave-2.ensures.lays c.args.op i.stops.busy in
+    let all : l.round ≡ c.args.tries = omega (arith, c.loop-round-test.false, l.auto.round-end) in
+    record { least = omega (arith, lays.taken, i.taken.least); most = omega (arith, lays.taken, i.taken.most, all) }
+
+pub returns-in-Answered-clause-cards : goal.returns-in-Answered-clause-cards
+returns-in-Answered-clause-cards g c =
+    let l = c.loop-round in
+    let i = l.invariant in
+    let op = c.args.op in
+    let said = c.in-Answered.said in
+    let begun = c.restart.new.pass in
+    let after = c.try_once.new.pass in
+    let begins = c.restart.ensures.begins op i.stops.busy (λ none. i.root (eqb-true l.round 0 none)) in
+    answered_cards said l.round c.args.pass.now l.pass begun after i.taken begins.taken c.in-Answered.ensures.taken
+    (answers_first said op l.round c.args.pass.now begun after c.in-Answered.ensures.ends.0 (begins.ledger ∙ i.ledger) i.would)
+    (omega (arith, c.try_once.ensures.hindered, begins.hindered, i.hindered))
+
+pub returns-in-Spent-clause-cards : goal.returns-in-Spent-clause-cards
+returns-in-Spent-clause-cards g c =
+    let l = c.loop-round in
+    let i = l.invariant in
+    let begins = c.restart.ensures.begins c.args.op i.stops.busy (λ none. i.root (eqb-true l.round 0 none)) in
+    let lays = c.leave.ensures.lays c.args.op c.in-Spent.ensures.ends.0.stops.busy in
+    let one = one_hindered c.try_once.new.pass.view in
+    omega (arith, lays.taken, c.in-Spent.ensures.taken, begins.taken, i.taken.most, one.0, lays.hindered, c.try_once.ensures.hindered, begins.hindered, i.hindered)
+
+pub returns-clause-cards : goal.returns-clause-cards
+returns-clause-cards g c =
+    let l = c.loop-round in
+    let i = l.invariant in
+    let lays = c.leave-2.ensures.lays c.args.op i.stops.busy in
+    omega (arith, lays.taken, i.taken.most, lays.hindered, i.hindered)

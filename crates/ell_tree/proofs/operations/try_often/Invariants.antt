@@ -1,6 +1,7 @@
 use Rattle.std.proofs.Common.{◌≡◌, ◌+◌, ◌≤◌, length}
 use Rattle.ell_ops.specs.Meaning.{reply_of}
 use Rattle.ell_cards.specs.Changes.{tries_hindered}
+use Rattle.ell_tree.specs.CardsTaken.{TakesAtMost}
 use Rattle.ell_tree.specs.Ends.{try_steps}
 use Rattle.ell_tree.specs.Hindrances.{AreOver, Meets, way_of}
 use Rattle.ell_tree.specs.Ledgers.{present_in}
@@ -27,5 +28,6 @@ invariant-loop-round g l = record {
   hindrances : length l.fn.pass.view.hindrances + l.round ≤ length (way_of l.op l.pass.view) + length l.pass.view.hindrances;
   hindered : tries_hindered l.pass.view ≡ l.fn.pass.view.hindered + l.round;
   moved : moves_known l.table.last_card l.fn.pass.view + l.round ≤ moves_known l.table.last_card l.pass.view;
+  taken : TakesAtMost l.round l.fn.pass l.pass;
   rounds : TookRounds l.round (try_steps l.table.last_card) l.fn.pass l.pass;
 }

@@ -1,7 +1,7 @@
 use Rattle.std.proofs.Common.{Bool, true, false, subst, arith}
 use Rattle.ell_cards.specs.Models.{Steps}
 use Rattle.ell_cards.specs.Changes.{after_claim}
-use Rattle.ell_tree.proofs.Claiming.{may_claim_at, won_goes, won_calm, given_out, has_card, lost_goes, lost_claims}
+use Rattle.ell_tree.proofs.Claiming.{may_claim_at, won_goes, won_calm, won_takes, given_out, has_card, lost_goes, lost_takes, lost_claims}
 use Rattle.ell_tree.proofs.trying.take_card.Goals as goal
 
 pub claim-requires-clause-may : goal.claim-requires-clause-may
@@ -23,6 +23,7 @@ returns-then-claim g c =
         won_calm a b c.claim.new.pass card c.next-card.ensures.step c.next-card.ensures.least won,
         given_out a b c.claim.new.pass card c.next-card.ensures.step c.next-card.ensures.least true c.args.table.now.last_card won c.next-card.ensures.some (omega (arith, c.last_card.ensures.cards)),
       );
+      taken = won_takes a b c.claim.new.pass card c.next-card.ensures.step c.next-card.ensures.least won;
       limit = omega (arith, c.last_card.ensures.cards, c.last_card.ensures.limit);
     }
 
@@ -40,5 +41,6 @@ returns-else-claim g c =
         claims.2,
         given_out a b c.claim.new.pass card c.next-card.ensures.step c.next-card.ensures.least false c.args.table.now.last_card lost c.next-card.ensures.some (omega (arith, c.last_card.ensures.cards)),
       );
+      taken = lost_takes a b c.claim.new.pass card c.next-card.ensures.step c.next-card.ensures.least lost;
       limit = omega (arith, c.last_card.ensures.cards, c.last_card.ensures.limit);
     }

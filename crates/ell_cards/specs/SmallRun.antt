@@ -1,0 +1,106 @@
+use Rattle.std.specs.Prelude.{◌≡◌, ℕ, ◌++◌, true, false, List, [], ◌∷◌}
+use mathlib.Core.Option.{some}
+use lib.ListN.{get_elem?}
+use Rattle.ell_ops.specs.declared.op.Op.TheVariants.{Find, Insert, Delete}
+use Rattle.ell_ops.specs.declared.reply.Reply.TheVariants.{Yes}
+use Rattle.ell_word.specs.declared.update.State.TheVariants as state
+use Rattle.ell_word.specs.declared.gate.Kind.TheVariants as kind
+use Rattle.ell_core.specs.declared.field.Field.TheVariants as field
+use Rattle.ell_core.specs.declared.view.Entry.TheVariants.{Absent, Present}
+use Rattle.ell_core.specs.state.Opening.{last_card}
+use Rattle.ell_cards.specs.declared.call.Call.TheVariants as call
+use Rattle.ell_cards.specs.declared.view.View.{View}
+use Rattle.ell_cards.specs.States.{TableState}
+use Rattle.ell_cards.specs.Starts.{Starts}
+use Rattle.ell_cards.specs.Turns.{Turn, Makes, Splits, Joins, TableRun}
+use Rattle.ell_cards.specs.TurnEffects.{run_wins}
+
+-- the keys of a small run
+abbrev pub small_keys : List ℕ
+small_keys = 5 ∷ 7 ∷ []
+
+-- key 5 is there at its start
+abbrev pub small_start : List (ℕ × ℕ)
+small_start = (5, 50) ∷ []
+
+-- the first pass is split: seat 0 has key 5 then, and seat 1 key 7
+abbrev pub parting : List Turn
+parting =
+    Splits 0 (5 ∷ []) ∷ []
+
+-- seat 0 begins to delete key 5: it searches, takes card 2, fills it, and flags the root
+abbrev pub delete_flags : List Turn
+delete_flags =
+    Makes 0 (call.Begin (Delete 5)) ∷ Makes 0 (call.Upd 0) ∷ Makes 0 (call.KeyOf 0) ∷ Makes 0 (call.Down 0 false) ∷ Makes 0 (call.Upd 3) ∷
+    Makes 0 (call.KeyOf 3) ∷ Makes 0 (call.Down 3 false) ∷ Makes 0 (call.KeyOf 4) ∷ Makes 0 call.Next ∷ Makes 0 (call.Claim 2) ∷
+    Makes 0 (call.Fill 2 field.Gp 0) ∷ Makes 0 (call.Fill 2 field.P 3) ∷ Makes 0 (call.Fill 2 field.L 4) ∷ Makes 0 (call.Fill 2 field.Was 3) ∷
+    Makes 0 (call.DFlag 2 0 (record { state = state.Clean; card = 0 })) ∷ []
+
+-- seat 1 begins to insert key 7: it goes past the flag, and takes card 3
+abbrev pub insert_claims : List Turn
+insert_claims =
+    Makes 1 (call.Begin (Insert 7 70)) ∷ Makes 1 (call.Upd 0) ∷ Makes 1 (call.KeyOf 0) ∷ Makes 1 (call.Down 0 false) ∷ Makes 1 (call.Upd 3) ∷
+    Makes 1 (call.KeyOf 3) ∷ Makes 1 (call.Down 3 false) ∷ Makes 1 (call.KeyOf 4) ∷ Makes 1 (call.ValueOf 4) ∷ Makes 1 call.Next ∷
+    Makes 1 (call.Claim 3) ∷ []
+
+-- it fills card 3, and flags the node that seat 0 is about to mark
+abbrev pub insert_flags : List Turn
+insert_flags =
+    Makes 1 (call.Fill 3 field.P 3) ∷ Makes 1 (call.Fill 3 field.L 4) ∷ Makes 1 (call.Fill 3 field.Key 7) ∷ Makes 1 (call.Fill 3 field.Left 10) ∷
+    Makes 1 (call.Fill 3 field.Right 11) ∷ Makes 1 (call.Fill 3 field.Update 3) ∷ Makes 1 (call.Fill 3 field.LeftLeafKey 5) ∷
+    Makes 1 (call.Fill 3 field.RightLeafKey 7) ∷ Makes 1 (call.Fill 3 field.LeftValue 50) ∷ Makes 1 (call.Fill 3 field.RightValue 70) ∷
+    Makes 1 (call.IFlag 3 3 (record { state = state.Clean; card = 0 })) ∷ []
+
+-- seat 0 loses the mark, helps the insert to its end, and takes its own flag away
+abbrev pub mark_is_lost : List Turn
+mark_is_lost =
+    Makes 0 (call.Mark 2 3 3) ∷ Makes 0 (call.Info 3 field.L) ∷ Makes 0 (call.Info 3 field.Key) ∷ Makes 0 (call.IChild 3 3 4 false) ∷
+    Makes 0 (call.IUnflag 3 3) ∷ Makes 0 (call.Backtrack 2 0) ∷ []
+
+-- seat 1 finds that its insert was made, and answers
+abbrev pub insert_ends : List Turn
+insert_ends =
+    Makes 1 (call.IChild 3 3 4 false) ∷ Makes 1 (call.IUnflag 3 3) ∷ Makes 1 (call.Answer Yes) ∷ []
+
+-- seat 0 tries again: it searches, and takes card 4
+abbrev pub delete_begins_anew : List Turn
+delete_begins_anew =
+    Makes 0 call.Again ∷ Makes 0 (call.Upd 0) ∷ Makes 0 (call.KeyOf 0) ∷ Makes 0 (call.Down 0 false) ∷ Makes 0 (call.Upd 3) ∷ Makes 0 (call.KeyOf 3) ∷
+    Makes 0 (call.Down 3 false) ∷ Makes 0 (call.Upd 9) ∷ Makes 0 (call.KeyOf 9) ∷ Makes 0 (call.Down 9 false) ∷ Makes 0 (call.KeyOf 10) ∷
+    Makes 0 call.Next ∷ Makes 0 (call.Claim 4) ∷ []
+
+-- it flags, marks, cuts the node out, and answers
+abbrev pub delete_ends : List Turn
+delete_ends =
+    Makes 0 (call.Fill 4 field.Gp 3) ∷ Makes 0 (call.Fill 4 field.P 9) ∷ Makes 0 (call.Fill 4 field.L 10) ∷ Makes 0 (call.Fill 4 field.Was 3) ∷
+    Makes 0 (call.DFlag 4 3 (record { state = state.Clean; card = 3 })) ∷ Makes 0 (call.Mark 4 9 3) ∷ Makes 0 (call.FrozenChild 4 9 true) ∷
+    Makes 0 (call.KeyOf 11) ∷ Makes 0 (call.DChild 4 3 9 11 false) ∷ Makes 0 (call.DUnflag 4 3) ∷ Makes 0 (call.Answer Yes) ∷ []
+
+-- seat 1 looks for key 7, and finds its value
+abbrev pub look : List Turn
+look =
+    Makes 1 (call.LookFor 7) ∷ Makes 1 (call.LookDown 3 false) ∷ Makes 1 (call.KeyOf 11) ∷ Makes 1 (call.ValueOf 11) ∷ []
+
+-- it lays a find down, and both passes become one
+abbrev pub ending : List Turn
+ending =
+    Makes 1 (call.Begin (Find 7)) ∷ Makes 1 call.Leave ∷ Joins 0 1 ∷ []
+
+-- a small run, in which each step call is made, and a split and a join
+abbrev pub small_run : List Turn
+small_run =
+    parting ++ delete_flags ++ insert_claims ++ insert_flags ++ mark_is_lost ++ insert_ends ++ delete_begins_anew ++ delete_ends ++ look ++ ending
+
+-- a table that starts with these keys, and three cards to give out, has such a run: card 2 is that of the delete whose mark is lost, card 3
+-- that of the insert, and card 4 that of the delete that is made; in the end the one pass has key 7 present with its value, and key 5 not
+pub record SmallRunIsMade : Type 0 where
+  pub first : TableState
+  pub starts : Starts small_keys small_start 3 first
+  pub last : TableState
+  pub run : TableRun (last_card small_start 3) first small_run last
+  pub delete_lost : run_wins (last_card small_start 3) first small_run last run 2 ≡ kind.DFlag ∷ kind.Backtrack ∷ []
+  pub insert_made : run_wins (last_card small_start 3) first small_run last run 3 ≡ kind.IFlag ∷ kind.IChild ∷ kind.IUnflag ∷ []
+  pub delete_made : run_wins (last_card small_start 3) first small_run last run 4 ≡ kind.DFlag ∷ kind.Mark ∷ kind.DChild ∷ kind.DUnflag ∷ []
+  pub view : View
+  pub there : get_elem? last.views 0 ≡ some view
+  pub ledger : view.worker.ledger ≡ (5, Absent) ∷ (7, Present 70) ∷ []

@@ -1,0 +1,16 @@
+-- What was read of the claim word is past in every run.
+use Rattle.std.proofs.Common.{ℕ, Option, slice_index, ap, subst, arith}
+use Rattle.ell_cards.specs.Readings.{IsRead}
+use Rattle.ell_cards.specs.Models.{PassModel}
+use Rattle.ell_cards.proofs.runs.Readings.{readings_are_past}
+use Rattle.ell_tree.specs.Ledgers.{TreeModel}
+use Rattle.ell_tree.proofs.tree.Tree.cards_left.Goals as goal
+
+pub returns-clause-most : goal.returns-clause-most
+returns-clause-most g c = λ s reached seat there.
+    let t = c.args.self.now in
+    let reads = c.cards_left.ensures in
+    let past = (readings_are_past t.keys t.start t.last_card s reached seat c.cards_left.new.pass.view there).next in
+    let least = subst (λ (o : Option ℕ). IsRead (slice_index s.words 0) o) (ap (λ (p : PassModel). p.view.next) reads.step) past in
+    let same = ap (λ (t : TreeModel). t.last_card) c.self.view_is in
+    omega (arith, least, reads.all, same)

@@ -1,0 +1,22 @@
+use Rattle.std.specs.Prelude.{◌≡◌, ℕ, ◌+◌, ◌≤◌, List, slice_index}
+use mathlib.Core.Option.{some}
+use lib.ListN.{get_elem?}
+use Rattle.ell_cards.specs.declared.view.View.{View}
+use Rattle.ell_cards.specs.Models.{PassModel, Steps}
+use Rattle.ell_cards.specs.Changes.{after_next}
+use Rattle.ell_cards.specs.States.{TableState}
+use Rattle.ell_cards.specs.Starts.{IsReached}
+
+-- a pass read the claim word, which is the number of the card that is given out next, and did nothing else: so many cards were not given
+-- out then, those from that number to the last one
+pub record ReadsCardsLeft (cards : ℕ) (old new : PassModel) (left : ℕ) : Type 0 where
+  pub next : ℕ
+  pub step : Steps old new (after_next next old.view)
+  pub first : 1 ≤ next
+  pub all : next + left ≡ cards + 1
+
+-- in every run, wherever turns have led the tree while a pass knows just this, so many cards at most are left, from the claim word to the
+-- last one
+abbrev pub AreLeftAtMost : List ℕ → List (ℕ × ℕ) → ℕ → View → ℕ → Type 0
+AreLeftAtMost keys start cards v left =
+    (s : TableState) → IsReached keys start cards s → (seat : ℕ) → get_elem? s.views seat ≡ some v → cards + 1 ≤ slice_index s.words 0 + left

@@ -1,0 +1,65 @@
+use Rattle.std.specs.Prelude.{◌≡◌, ℕ, ◌+◌, ◌≤◌, if◌then◌else◌, Bool, true, false, List, [], ◌∷◌, Result, Ok, Err}
+use Rattle.ell_word.specs.declared.gate.Kind.{Kind}
+use Rattle.ell_word.specs.declared.gate.Kind.TheVariants.{Claim}
+use Rattle.ell_cards.specs.Models.{PassModel}
+use Rattle.ell_tree.specs.declared.operations.Held.{Held}
+use Rattle.ell_tree.specs.declared.trying.Claimed.{Claimed}
+use Rattle.ell_tree.specs.declared.trying.Claimed.TheVariants as claimed
+use Rattle.ell_tree.specs.declared.trying.Tried.{Tried}
+use Rattle.ell_tree.specs.declared.trying.Tried.TheVariants as tried
+
+-- whether an exchange is a claim, which takes a card
+abbrev pub is_claim : Kind → Bool
+is_claim Claim = true
+is_claim _ = false
+
+-- how many claims there are among these exchanges
+abbrev pub claims_in : List (Kind × ℕ) → ℕ
+claims_in [] = 0
+claims_in (e ∷ es) = if is_claim e.0 then claims_in es + 1 else claims_in es
+
+-- how many cards a pass took: the claims that it won
+abbrev pub cards_taken : PassModel → ℕ
+cards_taken p = claims_in p.view.won
+
+-- it took no card between these
+abbrev pub TakesNoCard : PassModel → PassModel → Type 0
+TakesNoCard old new = cards_taken new ≡ cards_taken old
+
+-- it took one card
+abbrev pub TakesOneCard : PassModel → PassModel → Type 0
+TakesOneCard old new = cards_taken new ≡ cards_taken old + 1
+
+-- it took so many cards at most
+pub record TakesAtMost (n : ℕ) (old new : PassModel) : Type 0 where
+  pub least : cards_taken old ≤ cards_taken new
+  pub most : cards_taken new ≤ cards_taken old + n
+
+-- it took at most one card for each try that something hindered
+abbrev pub TakesByHindered : PassModel → PassModel → Type 0
+TakesByHindered old new = cards_taken new + old.view.hindered ≤ cards_taken old + new.view.hindered
+
+-- it took a card, and beside it at most one for each try that something hindered: just one, if nothing hindered any
+pub record TakesOneAndByHindered (old new : PassModel) : Type 0 where
+  pub one : cards_taken old + 1 ≤ cards_taken new
+  pub more : cards_taken new + old.view.hindered ≤ cards_taken old + 1 + new.view.hindered
+
+-- which cards an insert or a delete takes: none, if it changes nothing; one, and more only for hindered tries, if it changes the map; and
+-- if it has no answer, only those for hindered tries
+abbrev pub TakesCards : PassModel → PassModel → Result Bool Held → Type 0
+TakesCards old new (Ok false) = TakesNoCard old new
+TakesCards old new (Ok true) = TakesOneAndByHindered old new
+TakesCards old new (Err why) = TakesByHindered old new
+
+-- which cards a try takes
+abbrev pub TryTakes : PassModel → PassModel → Tried → Type 0
+TryTakes old new (tried.Answered false) = TakesNoCard old new
+TryTakes old new (tried.Answered true) = TakesOneCard old new
+TryTakes old new tried.Spent = TakesNoCard old new
+TryTakes old new tried.Hindered = TakesAtMost 1 old new
+
+-- which cards it takes to ask for one
+abbrev pub AskTakes : PassModel → PassModel → Claimed → Type 0
+AskTakes old new (claimed.Card c) = TakesOneCard old new
+AskTakes old new claimed.NoneLeft = TakesNoCard old new
+AskTakes old new claimed.Lost = TakesNoCard old new
