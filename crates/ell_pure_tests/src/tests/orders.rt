@@ -45,9 +45,9 @@ fn a_long_list_is_run_by_mixed_keys(rt: HostRuntime) -> Result<(), Fail> {
     assert!(rt; replies.len() == list.len());
     let back = order.put_back(rt.alloc(), &replies)?;
     assert!(rt; back.len() == 1_000 && back.get(500) == Some(&Reply::Found(0)));
-    let before = back.iter().take(500).enumerate();
+    let mut before = back.iter().take(500).enumerate();
     assert!(rt; before.all(|(at, reply)| *reply == Reply::Found(at as u64 + 1)));
-    let behind = back.iter().enumerate().skip(501);
+    let mut behind = back.iter().enumerate().skip(501);
     assert!(rt; behind.all(|(at, reply)| *reply == Reply::Found(at as u64)));
     Ok(())
 }
