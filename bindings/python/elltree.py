@@ -261,7 +261,8 @@ class Handle:
         return self._call("insert", _key(key), _value(value), _tries(tries))
 
     def delete(self, key, tries=1000):
-        """Takes a key of the handle's away: whether it was present."""
+        """Takes a key of the handle's away: whether it was present. A value changes by a delete and an insert, two cards: where the insert is
+        Spent, keep the value, renew, and insert it."""
         return self._call("delete", _key(key), _tries(tries))
 
     def owned(self):
@@ -296,7 +297,8 @@ class Handle:
         self._call("renew", _cards(cards), next(_numbers))
 
     def close(self):
-        """Ends the handle, and with the last handle the tree. Nothing happens to a handle that holds nothing."""
+        """Ends the handle, and with the last handle the tree. Nobody changes its keys any more, nor takes them along at a renewal: join it into
+        another where they are to stay in use. Nothing happens to a handle that holds nothing."""
         try:
             self._call("free")
         except Refused as why:
@@ -327,7 +329,9 @@ class Handle:
 
 def renew_all(handles, cards=1_000_000):
     """Makes the cards of handles of one tree fresh, also of handles without keys: all of them go to one new tree with so many cards, each with
-    the keys that it owns, which are present or absent as they were. Others stay in the old tree. Where it is refused, each is where it was."""
+    the keys that it owns, which are present or absent as they were. Others stay in the old tree, and the new one has none of their keys. It
+    takes about 0.7 microseconds for each key that they own, beside the time for cards and present keys. Where it is refused, each handle is
+    where it was."""
     handles, cards = list(handles), _cards(cards)
 
     def call_library():
