@@ -19,7 +19,8 @@
    - Trees are told apart by a number, which this header counts in one variable of the program. Where a program has two such variables
      (two shared objects that hide their symbols, or this header beside another binding), their handles are never joined.
 
-   Link with -lelltree (pkg-config elltree). */
+   Link with -lelltree (pkg-config elltree); docs/GUIDE.md has the line for a folder where the system does not look for libraries.
+   clang 14 has no warning of this header by -Weverything, in C and in C++; later ones have -Wunsafe-buffer-usage, of any array. */
 #ifndef ELLTREE_H
 #define ELLTREE_H
 #include <stdbool.h>
@@ -30,16 +31,24 @@
 extern "C" {
 #endif
 
+#define ELLTREE_VERSION "0.1.0"
+
 /* What the library keeps of a handle, and the handle: do not touch the members. */
 struct elltree_slot {
     void *at;
     bool is_open;
+    unsigned char unused[7];
 };
 struct elltree_handle {
     struct elltree_slot slot;
     unsigned char in_call;
+    unsigned char unused[7];
 };
-#define ELLTREE_EMPTY {{0, 0}, 0}
+#ifdef __cplusplus
+#define ELLTREE_EMPTY {}
+#else
+#define ELLTREE_EMPTY {{0, 0, {0}}, 0, {0}}
+#endif
 
 struct elltree_pair {
     uint64_t key, value;
@@ -69,24 +78,28 @@ enum {
     ELLTREE_IN_CALL = -15     /* the handle is in another call */
 };
 
+/* A call that may be refused: whoever goes on without a look at its code is warned. */
+#define ELLTREE_MUST_USE __attribute__((warn_unused_result))
+
 /* The functions of the library, without the tests of the calls below them. */
-int32_t elltree_slot_open(struct elltree_slot *slot, const uint64_t *keys, size_t key_count,
-                          const struct elltree_pair *start, size_t start_count, uint64_t cards, uint64_t number);
-int32_t elltree_slot_split(struct elltree_slot *from, struct elltree_slot *into, const uint64_t *keys, size_t key_count);
-int32_t elltree_slot_join(struct elltree_slot *into, struct elltree_slot *from);
-int32_t elltree_slot_find(struct elltree_slot *slot, uint64_t key, uint64_t *value);
-int32_t elltree_slot_look(struct elltree_slot *slot, uint64_t key, uint64_t *value);
-int32_t elltree_slot_insert(struct elltree_slot *slot, uint64_t key, uint64_t value, uint32_t tries);
-int32_t elltree_slot_delete(struct elltree_slot *slot, uint64_t key, uint32_t tries);
-int32_t elltree_slot_keys(struct elltree_slot *slot, uint64_t *out, size_t room, size_t *count);
-int32_t elltree_slot_owned(struct elltree_slot *slot, size_t *count);
-int32_t elltree_slot_pairs(struct elltree_slot *slot, struct elltree_pair *out, size_t room, size_t *count);
-int32_t elltree_slot_steps(struct elltree_slot *slot, uint64_t *steps);
-int32_t elltree_slot_renew(struct elltree_slot *slot, uint64_t cards, uint64_t number);
-int32_t elltree_slots_renew(struct elltree_slot *slots, size_t count, uint64_t cards, uint64_t number);
+ELLTREE_MUST_USE int32_t elltree_slot_open(struct elltree_slot *slot, const uint64_t *keys, size_t key_count,
+                                           const struct elltree_pair *start, size_t start_count, uint64_t cards, uint64_t number);
+ELLTREE_MUST_USE int32_t elltree_slot_split(struct elltree_slot *from, struct elltree_slot *into, const uint64_t *keys, size_t key_count);
+ELLTREE_MUST_USE int32_t elltree_slot_join(struct elltree_slot *into, struct elltree_slot *from);
+ELLTREE_MUST_USE int32_t elltree_slot_find(struct elltree_slot *slot, uint64_t key, uint64_t *value);
+ELLTREE_MUST_USE int32_t elltree_slot_look(struct elltree_slot *slot, uint64_t key, uint64_t *value);
+ELLTREE_MUST_USE int32_t elltree_slot_insert(struct elltree_slot *slot, uint64_t key, uint64_t value, uint32_t tries);
+ELLTREE_MUST_USE int32_t elltree_slot_delete(struct elltree_slot *slot, uint64_t key, uint32_t tries);
+ELLTREE_MUST_USE int32_t elltree_slot_keys(struct elltree_slot *slot, uint64_t *out, size_t room, size_t *count);
+ELLTREE_MUST_USE int32_t elltree_slot_owned(struct elltree_slot *slot, size_t *count);
+ELLTREE_MUST_USE int32_t elltree_slot_pairs(struct elltree_slot *slot, struct elltree_pair *out, size_t room, size_t *count);
+ELLTREE_MUST_USE int32_t elltree_slot_steps(struct elltree_slot *slot, uint64_t *steps);
+ELLTREE_MUST_USE int32_t elltree_slot_renew(struct elltree_slot *slot, uint64_t cards, uint64_t number);
+ELLTREE_MUST_USE int32_t elltree_slots_renew(struct elltree_slot *slots, size_t count, uint64_t cards, uint64_t number);
 int32_t elltree_slot_free(struct elltree_slot *slot);
 
 /* How many trees the program has opened by this header. */
+extern uint64_t elltree_trees;
 __attribute__((weak)) uint64_t elltree_trees;
 
 /* Begins a call on a handle, and ends it. */
@@ -128,13 +141,21 @@ static inline int32_t elltree_enter_all(struct elltree_handle *const *handles, s
     return code;
 }
 
+/* Ends a call on handles. */
+static inline int32_t elltree_leave_all(struct elltree_handle *const *handles, size_t count, int32_t code) {
+    size_t i;
+    for (i = 0; i < count; i++)
+        elltree_leave(handles[i], code);
+    return code;
+}
+
 /* Opens a tree over these keys and the start keys, in any order but that the start keys ascend strictly; the start keys are present with
    their values, the others absent. Each insert or delete that changes the map takes one of the cards, a try that another thread hinders
    may take one too, and no card is given back: elltree_renew makes them fresh. A card and a start key take 96 bytes each. Up to 300,000 of
    both together a renewal takes less than a third of the time for each that it takes above, with glibc. An array without items may be null.
    ELLTREE_NULL, ELLTREE_IN_CALL, ELLTREE_OPEN, ELLTREE_BAD_START, ELLTREE_BAD_KEY, ELLTREE_BAD_CARDS, ELLTREE_NO_MEMORY. */
-static inline int32_t elltree_open(struct elltree_handle *handle, const uint64_t *keys, size_t key_count,
-                                   const struct elltree_pair *start, size_t start_count, uint64_t cards) {
+ELLTREE_MUST_USE static inline int32_t elltree_open(struct elltree_handle *handle, const uint64_t *keys, size_t key_count,
+                                                    const struct elltree_pair *start, size_t start_count, uint64_t cards) {
     static const uint64_t no_key[1] = {0};
     static const struct elltree_pair no_pair[1] = {{0, 0}};
     int32_t code;
@@ -149,7 +170,8 @@ static inline int32_t elltree_open(struct elltree_handle *handle, const uint64_t
 
 /* Gives these keys of a handle to another, which holds nothing yet. Without keys the other is one that only looks.
    ELLTREE_NULL, ELLTREE_SAME, ELLTREE_IN_CALL, ELLTREE_OPEN (into), ELLTREE_CLOSED (from), ELLTREE_FOREIGN, ELLTREE_NO_MEMORY. */
-static inline int32_t elltree_split(struct elltree_handle *from, struct elltree_handle *into, const uint64_t *keys, size_t key_count) {
+ELLTREE_MUST_USE static inline int32_t elltree_split(struct elltree_handle *from, struct elltree_handle *into, const uint64_t *keys,
+                                                     size_t key_count) {
     static const uint64_t no_key[1] = {0};
     int32_t code;
     if (!keys && key_count)
@@ -163,7 +185,7 @@ static inline int32_t elltree_split(struct elltree_handle *from, struct elltree_
 
 /* Gives all keys of a handle, which holds nothing then, to another of the same tree.
    ELLTREE_NULL, ELLTREE_SAME, ELLTREE_IN_CALL, ELLTREE_CLOSED, ELLTREE_OTHER_TREE, ELLTREE_NO_MEMORY. */
-static inline int32_t elltree_join(struct elltree_handle *into, struct elltree_handle *from) {
+ELLTREE_MUST_USE static inline int32_t elltree_join(struct elltree_handle *into, struct elltree_handle *from) {
     int32_t code = elltree_enter_both(into, from);
     if (code != ELLTREE_YES)
         return code;
@@ -172,40 +194,42 @@ static inline int32_t elltree_join(struct elltree_handle *into, struct elltree_h
 
 /* ELLTREE_YES with the value where a key of the handle's is present, else ELLTREE_NO.
    ELLTREE_NULL, ELLTREE_IN_CALL, ELLTREE_CLOSED, ELLTREE_FOREIGN. */
-static inline int32_t elltree_find(struct elltree_handle *handle, uint64_t key, uint64_t *value) {
+ELLTREE_MUST_USE static inline int32_t elltree_find(struct elltree_handle *handle, uint64_t key, uint64_t *value) {
     int32_t code = value ? elltree_enter(handle) : ELLTREE_NULL;
     return code == ELLTREE_YES ? elltree_leave(handle, elltree_slot_find(&handle->slot, key, value)) : code;
 }
 
 /* As elltree_find, of any key of the tree, whoever owns it: as it was at one moment of the call.
    ELLTREE_NULL, ELLTREE_IN_CALL, ELLTREE_CLOSED, ELLTREE_BAD_KEY. */
-static inline int32_t elltree_look(struct elltree_handle *handle, uint64_t key, uint64_t *value) {
+ELLTREE_MUST_USE static inline int32_t elltree_look(struct elltree_handle *handle, uint64_t key, uint64_t *value) {
     int32_t code = value ? elltree_enter(handle) : ELLTREE_NULL;
     return code == ELLTREE_YES ? elltree_leave(handle, elltree_slot_look(&handle->slot, key, value)) : code;
 }
 
 /* Adds a key of the handle's: ELLTREE_YES where it was absent, else ELLTREE_NO, and the key keeps its value.
    ELLTREE_NULL, ELLTREE_IN_CALL, ELLTREE_CLOSED, ELLTREE_NO_TRIES, ELLTREE_FOREIGN, ELLTREE_BUSY, ELLTREE_SPENT. */
-static inline int32_t elltree_insert(struct elltree_handle *handle, uint64_t key, uint64_t value, uint32_t tries) {
+ELLTREE_MUST_USE static inline int32_t elltree_insert(struct elltree_handle *handle, uint64_t key, uint64_t value, uint32_t tries) {
     int32_t code = elltree_enter(handle);
     return code == ELLTREE_YES ? elltree_leave(handle, elltree_slot_insert(&handle->slot, key, value, tries)) : code;
 }
 
-/* Takes a key of the handle's away: ELLTREE_YES where it was present, else ELLTREE_NO. Refused as elltree_insert is. */
-static inline int32_t elltree_delete(struct elltree_handle *handle, uint64_t key, uint32_t tries) {
+/* Takes a key of the handle's away: ELLTREE_YES where it was present, else ELLTREE_NO. Refused as elltree_insert is.
+   A value changes by a delete and an insert, two cards. Where the insert is refused by ELLTREE_BUSY, make it again: until then the key is
+   absent. Where it is refused by ELLTREE_SPENT, no card is left, not even to put the old value back: keep the value for fresh cards. */
+ELLTREE_MUST_USE static inline int32_t elltree_delete(struct elltree_handle *handle, uint64_t key, uint32_t tries) {
     int32_t code = elltree_enter(handle);
     return code == ELLTREE_YES ? elltree_leave(handle, elltree_slot_delete(&handle->slot, key, tries)) : code;
 }
 
 /* How many keys the handle owns. ELLTREE_NULL, ELLTREE_IN_CALL, ELLTREE_CLOSED. */
-static inline int32_t elltree_owned(struct elltree_handle *handle, size_t *count) {
+ELLTREE_MUST_USE static inline int32_t elltree_owned(struct elltree_handle *handle, size_t *count) {
     int32_t code = count ? elltree_enter(handle) : ELLTREE_NULL;
     return code == ELLTREE_YES ? elltree_leave(handle, elltree_slot_owned(&handle->slot, count)) : code;
 }
 
 /* The keys that the handle owns, ascending, and how many they are; without room for all, none is written. They are what a later split takes
    to give the handle its keys again. ELLTREE_NULL, ELLTREE_IN_CALL, ELLTREE_CLOSED, ELLTREE_NO_ROOM. */
-static inline int32_t elltree_keys(struct elltree_handle *handle, uint64_t *out, size_t room, size_t *count) {
+ELLTREE_MUST_USE static inline int32_t elltree_keys(struct elltree_handle *handle, uint64_t *out, size_t room, size_t *count) {
     uint64_t none;
     int32_t code = count && (out || !room) ? elltree_enter(handle) : ELLTREE_NULL;
     return code == ELLTREE_YES ? elltree_leave(handle, elltree_slot_keys(&handle->slot, out ? out : &none, room, count)) : code;
@@ -213,14 +237,14 @@ static inline int32_t elltree_keys(struct elltree_handle *handle, uint64_t *out,
 
 /* The handle's keys that are present, ascending, with their values, and how many they are. elltree_owned tells for how many there must be
    room at most; without room the array may be null. ELLTREE_NULL, ELLTREE_IN_CALL, ELLTREE_CLOSED, ELLTREE_NO_ROOM. */
-static inline int32_t elltree_pairs(struct elltree_handle *handle, struct elltree_pair *out, size_t room, size_t *count) {
+ELLTREE_MUST_USE static inline int32_t elltree_pairs(struct elltree_handle *handle, struct elltree_pair *out, size_t room, size_t *count) {
     struct elltree_pair none;
     int32_t code = count && (out || !room) ? elltree_enter(handle) : ELLTREE_NULL;
     return code == ELLTREE_YES ? elltree_leave(handle, elltree_slot_pairs(&handle->slot, out ? out : &none, room, count)) : code;
 }
 
 /* The atomic steps that were made through the handle, and through those that it came from. ELLTREE_NULL, ELLTREE_IN_CALL, ELLTREE_CLOSED. */
-static inline int32_t elltree_steps(struct elltree_handle *handle, uint64_t *steps) {
+ELLTREE_MUST_USE static inline int32_t elltree_steps(struct elltree_handle *handle, uint64_t *steps) {
     int32_t code = steps ? elltree_enter(handle) : ELLTREE_NULL;
     return code == ELLTREE_YES ? elltree_leave(handle, elltree_slot_steps(&handle->slot, steps)) : code;
 }
@@ -230,19 +254,27 @@ static inline int32_t elltree_steps(struct elltree_handle *handle, uint64_t *ste
    elltree_renew_all takes handles along that are to stay together.
    ELLTREE_NULL, ELLTREE_IN_CALL, ELLTREE_CLOSED, ELLTREE_BAD_START (more than ELLTREE_START_MAX keys are present), ELLTREE_BAD_CARDS,
    ELLTREE_NO_MEMORY: then the handle is where it was. */
-static inline int32_t elltree_renew(struct elltree_handle *handle, uint64_t cards) {
+ELLTREE_MUST_USE static inline int32_t elltree_renew(struct elltree_handle *handle, uint64_t cards) {
     int32_t code = elltree_enter(handle);
     if (code != ELLTREE_YES)
         return code;
     return elltree_leave(handle, elltree_slot_renew(&handle->slot, cards, __atomic_add_fetch(&elltree_trees, 1, __ATOMIC_SEQ_CST)));
 }
 
+#ifdef __cplusplus
+#define ELLTREE_AS_SLOTS(memory) static_cast<struct elltree_slot *>(memory)
+#else
+#define ELLTREE_AS_SLOTS(memory) (memory)
+#endif
+
 /* Makes the cards of handles of one tree fresh, also of handles without keys, which only look: all of them go to one new tree with so many
    cards, each with the keys that it owns, which are present with their values or absent as they were. Other handles stay behind in the old
-   tree. Without handles nothing happens. The first handle in the array that is null, stands there twice, or is in another call is refused.
+   tree, with their keys: the new one has those of the handles in the array alone. It takes time for each card, for each key that is present,
+   and about 0.7 microseconds for each key that a handle owns, also an absent one. Without handles nothing happens. The first handle in the
+   array that is null, stands there twice, or is in another call is refused.
    ELLTREE_NULL, ELLTREE_SAME, ELLTREE_IN_CALL, ELLTREE_CLOSED, ELLTREE_OTHER_TREE, ELLTREE_BAD_START (more than ELLTREE_START_MAX keys are
    present in all), ELLTREE_BAD_CARDS, ELLTREE_NO_MEMORY: then each handle is where it was. */
-static inline int32_t elltree_renew_all(struct elltree_handle *const *handles, size_t count, uint64_t cards) {
+ELLTREE_MUST_USE static inline int32_t elltree_renew_all(struct elltree_handle *const *handles, size_t count, uint64_t cards) {
     struct elltree_slot *slots;
     int32_t code;
     size_t i;
@@ -251,20 +283,22 @@ static inline int32_t elltree_renew_all(struct elltree_handle *const *handles, s
     code = handles ? elltree_enter_all(handles, count) : ELLTREE_NULL;
     if (code != ELLTREE_YES)
         return code;
-    slots = count <= SIZE_MAX / sizeof *slots ? (struct elltree_slot *)malloc(count * sizeof *slots) : NULL;
-    for (i = 0; slots && i < count; i++)
+    if (count > SIZE_MAX / sizeof *slots)
+        return elltree_leave_all(handles, count, ELLTREE_NO_MEMORY);
+    slots = ELLTREE_AS_SLOTS(malloc(count * sizeof *slots));
+    if (!slots)
+        return elltree_leave_all(handles, count, ELLTREE_NO_MEMORY);
+    for (i = 0; i < count; i++)
         slots[i] = handles[i]->slot;
-    code = slots ? elltree_slots_renew(slots, count, cards, __atomic_add_fetch(&elltree_trees, 1, __ATOMIC_SEQ_CST)) : ELLTREE_NO_MEMORY;
-    for (i = 0; i < count; i++) {
-        if (slots)
-            handles[i]->slot = slots[i];
-        elltree_leave(handles[i], code);
-    }
+    code = elltree_slots_renew(slots, count, cards, __atomic_add_fetch(&elltree_trees, 1, __ATOMIC_SEQ_CST));
+    for (i = 0; i < count; i++)
+        handles[i]->slot = slots[i];
     free(slots);
-    return code;
+    return elltree_leave_all(handles, count, code);
 }
 
-/* Ends a handle, and with the last handle the tree. What its keys have stays, and can be looked at, but not be changed any more.
+/* Ends a handle, and with the last handle the tree. What its keys have stays, and can be looked at, but not be changed any more, and does
+   not come along at a renewal: join the handle into another where its keys are to stay in use.
    ELLTREE_NULL, ELLTREE_IN_CALL, ELLTREE_CLOSED. */
 static inline int32_t elltree_free(struct elltree_handle *handle) {
     int32_t code = elltree_enter(handle);

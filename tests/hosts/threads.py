@@ -1,6 +1,7 @@
 """Four threads of Python on neighboring keys, each answer compared with a dict of the thread's own; then four that spend all cards, go to
 fresh cards together, and go on; then each misuse that the binding answers. The binding is found by PYTHONPATH."""
 
+import contextlib
 import random
 import sys
 import threading
@@ -40,14 +41,22 @@ def refused(code, call, *args, **named):
     return 1
 
 
+@contextlib.contextmanager
+def in_another_call(handle):
+    """Has a handle be in a call."""
+    call = object()
+    handle._enter(call)
+    yield
+    del handle._calls[call]
+
+
 def spend(handle, own, plain, chance, wrong, number):
     """Changes keys until all cards are given out."""
     while True:
         key, value = chance.choice(own), chance.getrandbits(64)
         try:
             wrong[number] += (handle.delete(key) if key in plain else handle.insert(key, value)) is not True
-        except elltree.Refused as why:
-            wrong[number] += why.code != elltree.SPENT
+        except elltree.Spent:
             return
         if plain.pop(key, None) is None:
             plain[key] = value
@@ -69,7 +78,7 @@ def renewals():
             thread.join()
         for code, more, cards in refusals:
             faults += refused(code, elltree.renew_all, [*handles, reader, *more], cards)
-        with other._in_call:
+        with in_another_call(other):
             faults += refused(elltree.IN_CALL, elltree.renew_all, [*handles, other])
         faults += refused(elltree.SPENT, spend_one, handles[0], plain[0])
         for renewed in range(2):
@@ -101,7 +110,7 @@ def misuse():
     faults += first.look(2) != 20 or second.look(2) != 20
     first.insert(1, 10)
     faults += refused(elltree.SPENT, second.insert, 3, 30)
-    with first._in_call:
+    with in_another_call(first):
         faults += refused(elltree.IN_CALL, first.find, 1) + refused(elltree.IN_CALL, second.join, first)
     first.join(second)
     faults += refused(elltree.CLOSED, second.find, 3) + refused(elltree.CLOSED, second.renew, 5)
@@ -111,8 +120,7 @@ def misuse():
     faults += first.keys() != [1, 2, 3]
     faults += first.owned() != 3 or first.pairs() != [(1, 10), (2, 20)] or first.steps() < 1
     first.close()
-    faults += refused(elltree.CLOSED, first.close)
-    return faults
+    return faults + refused(elltree.CLOSED, first.find, 1)
 
 
 def main():

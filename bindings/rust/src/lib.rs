@@ -295,6 +295,22 @@ impl Handle {
     }
 
     /// Takes a key of the handle's away: whether it was present. Refused as an insert is.
+    ///
+    /// A value changes by a delete and an insert, two cards. Until the insert is made the key is absent, so a `?` that returns by its `Spent`
+    /// loses the value: keep it, renew, and insert it.
+    ///
+    /// ```
+    /// use elltree::{Handle, Refused};
+    /// let mut handle = Handle::open(&[], &[(1, 10)], 1)?; // one card too few
+    /// handle.delete(1, 9)?;
+    /// if let Err(why) = handle.insert(1, 11, 9) {
+    ///     assert_eq!((why, handle.find(1)?), (Refused::Spent, None));
+    ///     handle.renew(1_000)?;
+    ///     handle.insert(1, 11, 9)?;
+    /// }
+    /// assert_eq!(handle.find(1)?, Some(11));
+    /// # Ok::<(), Refused>(())
+    /// ```
     pub fn delete(&mut self, key: u64, tries: u32) -> Result<bool> {
         // SAFETY: the slot is this handle's.
         answer(unsafe { elltree_slot_delete(&mut self.0, key, tries) })
@@ -342,7 +358,8 @@ impl Handle {
 }
 
 impl Drop for Handle {
-    /// The last handle of a tree ends it. What the handle's keys have stays, and is not changed any more.
+    /// The last handle of a tree ends it. What the handle's keys have stays, is not changed any more, and does not come along at a renewal:
+    /// join the handle into another where its keys are to stay in use.
     fn drop(&mut self) {
         // SAFETY: the slot is this handle's; where it holds nothing, nothing happens.
         unsafe { elltree_slot_free(&mut self.0) };
@@ -457,7 +474,9 @@ impl member::HasHandle for Tree {
 }
 
 /// Makes the cards of handles of one tree fresh: all of them go to one new tree with so many cards, each with the keys that it owns, which
-/// are present with their values or absent as they were. Other handles stay behind in the old tree. Without members nothing happens.
+/// are present with their values or absent as they were. Other handles stay behind in the old tree, and the new tree has none of their keys.
+/// It takes time for each card and each present key, and about 0.7 microseconds for each key that a member owns. Without members nothing
+/// happens.
 ///
 /// `OtherTree` if the members are of two trees, `BadStart` if more than [`START_MAX`] keys are present in all, `BadCards` if the cards are
 /// not 1 to [`CARDS_MAX`]: then each member is where it was.

@@ -11,9 +11,9 @@ use Rattle.clap.specs.declared.parser.matches.ArgMatches.{ArgMatches}
 use Rattle.clap.specs.declared.parser.matches.ArgMatches.TheViews.{out-ArgMatches}
 use Rattle.clap.specs.declared.error.Error.{Error}
 use Rattle.clap.specs.declared.error.kind.ErrorKind.{ErrorKind}
-use Rattle.clap.specs.declared.error.kind.ErrorKind.TheVariants.{DisplayHelp, MissingSubcommand, OutOfMemory}
-use Rattle.ell_command.specs.CommandLine.{AreOptions, AreRefused, AreShownHelp, AreTaken, AsksForHelp, AsksForHelpAfter, AsksToReplay, AsksToRun, IsElltree, IsMistakeOrMemory, app_at, elltree_app, faults_of, is_mistake, name_in, options_of, rows_in, subcommand_in}
-use Rattle.ell_command.proofs.WrittenOut.{app_is_ready, app_is_simple, help_is_shown, nothing_is_refused, replay_help_is_shown, replay_is_taken, replay_short_help_is_shown, run_help_is_shown, run_is_taken, run_short_help_is_shown, short_help_is_shown}
+use Rattle.clap.specs.declared.error.kind.ErrorKind.TheVariants.{DisplayHelp, DisplayVersion, MissingSubcommand, OutOfMemory}
+use Rattle.ell_command.specs.CommandLine.{AreOptions, AreRefused, AreShownHelp, AreTaken, AsksForHelp, AsksForHelpAfter, AsksForVersion, AsksToReplay, AsksToRun, IsElltree, IsMistakeOrMemory, app_at, elltree_app, faults_of, is_mistake, name_in, options_of, rows_in, subcommand_in}
+use Rattle.ell_command.proofs.WrittenOut.{app_is_ready, app_is_simple, help_is_shown, nothing_is_refused, replay_help_is_shown, replay_is_taken, replay_short_help_is_shown, run_help_is_shown, run_is_taken, run_short_help_is_shown, short_help_is_shown, short_version_is_shown, version_is_shown}
 use Rattle.ell_command.proofs.Subcommands.{one_is_named}
 use Rattle.ell_command.proofs.PartingNames.{same_faults, same_rows}
 use Rattle.ell_command.proofs.OptionsTaken.{options_taken}
@@ -66,6 +66,15 @@ help_shown words = fails_with (faults_of words) DisplayHelp
 -- a parse of a request for help answers with help, or fails for want of memory
 pub help_fails : {T : Type 0} (words : List Text) (r : Result T Error) → FailsBy (faults_of words) r → AsksForHelp words → IsErrAnd r (HasKind (DisplayHelp ∷ []))
 help_fails words r fails asks = fails_with (faults_of words) DisplayHelp r fails (help_is_asked words asks)
+
+-- the two requests for the version come to it
+version_is_asked : (words : List Text) → AsksForVersion words → faults_of words ≡ DisplayVersion ∷ []
+version_is_asked words (inl is) = ap faults_of is ∙ version_is_shown
+version_is_asked words (inr is) = ap faults_of is ∙ short_version_is_shown
+
+-- a parse of a request for the version answers with it, or fails for want of memory
+pub version_fails : {T : Type 0} (words : List Text) (r : Result T Error) → FailsBy (faults_of words) r → AsksForVersion words → IsErrAnd r (HasKind (DisplayVersion ∷ []))
+version_fails words r fails asks = fails_with (faults_of words) DisplayVersion r fails (version_is_asked words asks)
 
 -- a parse of no words wants a subcommand, or fails for want of memory
 pub nothing_fails : {T : Type 0} (words : List Text) (r : Result T Error) → FailsBy (faults_of words) r → words ≡ [] → IsErrAnd r (HasKind (MissingSubcommand ∷ []))

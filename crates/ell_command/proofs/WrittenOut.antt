@@ -1,7 +1,7 @@
 use Rattle.std.proofs.Common.{◌≡◌, Some, [], ◌∷◌, refl, true, codes}
 use Rattle.clap.proofs.OnLiterals.{clap_on_literals}
 use Rattle.clap.specs.Words.{is_simple, is_simple_and_free}
-use Rattle.clap.specs.declared.error.kind.ErrorKind.TheVariants.{DisplayHelp, MissingSubcommand}
+use Rattle.clap.specs.declared.error.kind.ErrorKind.TheVariants.{DisplayHelp, DisplayVersion, MissingSubcommand}
 use Rattle.ell_command.specs.CommandLine.{BorrowedNames, app_at, faults_of, subcommand_in}
 
 -- clap says of the command which words it takes
@@ -53,6 +53,14 @@ replay_help_is_shown = refl
 pub replay_short_help_is_shown : faults_of (codes "replay" ∷ codes "-h" ∷ []) ≡ DisplayHelp ∷ []
 unfolding clap_on_literals app_at
 replay_short_help_is_shown = refl
+
+pub version_is_shown : faults_of (codes "--version" ∷ []) ≡ DisplayVersion ∷ []
+unfolding clap_on_literals app_at
+version_is_shown = refl
+
+pub short_version_is_shown : faults_of (codes "-V" ∷ []) ≡ DisplayVersion ∷ []
+unfolding clap_on_literals app_at
+short_version_is_shown = refl
 
 pub nothing_is_refused : faults_of [] ≡ MissingSubcommand ∷ []
 unfolding clap_on_literals app_at

@@ -93,12 +93,13 @@ run_shape names = record (new_shape (codes "run")) { rules = run_rules names }
 abbrev pub replay_shape : Shape
 replay_shape = new_shape (codes "replay")
 
--- what a parse reads of the command `elltree`, whose words have to name a subcommand, where the names
--- of the partings lie here
+-- what a parse reads of the command `elltree`, which has a version and whose words have to name a
+-- subcommand, where the names of the partings lie here
 unfoldable pub app_at : BorrowedNames → App
 app_at names = with_subcommand (with_subcommand (on_top (λ s. record s {
   no_binary_name = true;
   subcommand_required = true;
+  has_version = true;
 }) (new_app (codes "elltree"))) (run_shape names)) replay_shape
 
 -- what a parse reads of the command `elltree`: it finds the same wherever those names lie
@@ -155,7 +156,11 @@ AsksForHelp words = AsksForHelpAfter [] words
 abbrev pub AreShownHelp : List Text → Type 0
 AreShownHelp words = faults_of words ≡ kind.DisplayHelp ∷ []
 
--- a kind of error that is a mistake in the words: no help, and no want of memory
+-- the words are `--version` or `-V`, alone
+abbrev pub AsksForVersion : List Text → Type 0
+AsksForVersion words = (words ≡ codes "--version" ∷ []) ⊎ (words ≡ codes "-V" ∷ [])
+
+-- a kind of error that is a mistake in the words: no help, no version, and no want of memory
 abbrev pub is_mistake : ErrorKind → Bool
 is_mistake kind.DisplayHelp = false
 is_mistake kind.DisplayVersion = false

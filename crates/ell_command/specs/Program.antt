@@ -10,7 +10,7 @@ use Rattle.ell_text.specs.replays.Replayed.{IsReplayed, ScriptFaultTells}
 use Rattle.ell_text.specs.declared.bytes.ScriptFault.{ScriptFault}
 use Rattle.ell_text.specs.declared.bytes.ScriptFault.TheVariants as script_fault
 
--- the program succeeded, or showed its help
+-- the program succeeded, or showed its help or its version
 abbrev pub Succeeded : ℕ → Type 0
 Succeeded status = status ≡ 0
 

@@ -3,7 +3,8 @@ ghost use Rattle.std.specs.Prelude.{◌≡◌, ◌⊎◌, IsTrue, IfErr, IsErrAn
 ghost use Rattle.std.specs.Io.KnownBytes.{Keeps};
 ghost use Rattle.clap.specs.Words.{kind_of};
 ghost use Rattle.ell_command.specs.CommandLine.{AreRefused, AreShownHelp, AreTaken, AreTakenToReplay, AreTakenToRun};
-ghost use Rattle.ell_command.specs.CommandLine.{AsksForHelp, AsksForReport, AsksToReplay, AsksToRun};
+ghost use Rattle.ell_command.specs.CommandLine.{AsksForHelp, AsksForReport, AsksForVersion, AsksToReplay};
+ghost use Rattle.ell_command.specs.CommandLine.{AsksToRun};
 ghost use Rattle.ell_command.specs.CommandLine.{is_mistake};
 ghost use Rattle.ell_command.specs.Program.{IsBeforeOutput, IsRefusal, IsSilent, IsStatus, ReplayEndsBy};
 ghost use Rattle.ell_command.specs.Program.{ReplayFailureTells, RunEndsBy, RunFailureTells, Succeeded, status_of};
@@ -22,7 +23,7 @@ use std::fmt;
 use std::io::{self, Cursor, Read, Write};
 use std::thread::Threads;
 
-// Success, or help was asked for.
+// Success, or help or the version was asked for.
 const SUCCEEDED: u8 = 0;
 
 // A fault in the text, too long an input, or arguments that are refused.
@@ -50,7 +51,7 @@ pub enum Failure {
     Run(RunFault),
     /// A replay ended early.
     Replay(ScriptFault),
-    /// `out` did not take the help, or could not be flushed.
+    /// `out` did not take the help or the version, or could not be flushed.
     Write,
 }
 
@@ -90,7 +91,7 @@ impl Failure {
 }
 
 /// The whole program over a reader and two writers: answers its exit status, which `run --help`
-/// explains. Answers, traces and help go to `out`, which is flushed last. The text of a failure goes to
+/// explains. Answers, traces, help and the version go to `out`, which is flushed last. The text of a failure goes to
 /// `err`, and so does the report of a run that succeeded, before that flush, where the words ask for it:
 /// the line `late N`. Where `err` fails, the status is the same.
 pub fn elltree<R: Threads + Sync, S: AsStr, I: Read, O: Write, E: Write>(
@@ -133,6 +134,7 @@ pub fn elltree<R: Threads + Sync, S: AsStr, I: Read, O: Write, E: Write>(
         → ReplayEndsBy result (I.remaining input.old) (O.contents out.old) (O.contents out.new) }
 
     ensures help { AsksForHelp (map S.text words.now) → ¬ IsRefusal result }
+    ensures version { AsksForVersion (map S.text words.now) → ¬ IsRefusal result }
     ensures shown { AreShownHelp (map S.text words.now) → ¬ IsRefusal result }
     ensures refused { AreRefused (map S.text words.now) → IsSilent result }
     ensures unread { ¬ AreTaken (map S.text words.now) → input.new ≡ input.old }
@@ -176,6 +178,8 @@ pub fn carry_out<R: Threads + Sync, S: AsStr, I: Read, O: Write, E: Write, G: St
         ReplayFailureTells failure (I.remaining input.old) (O.contents out.old) (O.contents out.new)) }
     ensures help { AsksForHelp (map S.text words.now)
         → IfErr result (λ failure. ¬ IsRefusal (status_of failure)) }
+    ensures version { AsksForVersion (map S.text words.now)
+        → IfErr result (λ failure. ¬ IsRefusal (status_of failure)) }
     ensures shown { AreShownHelp (map S.text words.now)
         → IfErr result (λ failure. ¬ IsRefusal (status_of failure)) }
     ensures refused { AreRefused (map S.text words.now)
@@ -210,9 +214,11 @@ fn tell<D: fmt::Display, E: Write>(text: &D, err: &mut E) -> io::Result<()> {
     }
 }
 
-// Writes the help that the words asked for; any other error is a failure.
+// Writes the help or the version that the words asked for; any other error is a failure.
 fn show_help<O: Write>(error: clap::Error, out: &mut O) -> Result<(), Failure>
     ensures help { kind_of error ≡ ErrorKind.DisplayHelp
+        → IfErr result (λ failure. failure ≡ Failure.Write) }
+    ensures version { kind_of error ≡ ErrorKind.DisplayVersion
         → IfErr result (λ failure. failure ≡ Failure.Write) }
     ensures memory { kind_of error ≡ ErrorKind.OutOfMemory
         → (result ≡ Err Failure.NoMemory) × (out.new ≡ out.old) }

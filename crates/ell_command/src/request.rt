@@ -7,7 +7,7 @@ ghost use Rattle.clap.specs.Words.{rows_of, rule_of, shape_of, subcommand_name_o
 ghost use Rattle.clap.specs.Words.{subcommand_rows_of};
 ghost use Rattle.clap.specs.declared.builder.command.Command.TheViews.{out-Command as fields_of};
 ghost use Rattle.ell_command.specs.CommandLine.{AreOptions, AreRefused, AreSaid, AreShownHelp, AreTaken, AreTakenToReplay};
-ghost use Rattle.ell_command.specs.CommandLine.{AreTakenToRun, AsksForHelp};
+ghost use Rattle.ell_command.specs.CommandLine.{AreTakenToRun, AsksForHelp, AsksForVersion};
 ghost use Rattle.ell_command.specs.CommandLine.{AsksToReplay, AsksToRun, BorrowedNames, IsElltree};
 ghost use Rattle.ell_command.specs.CommandLine.{IsMistakeOrMemory, IsNumberUpTo, IsPlainRun};
 ghost use Rattle.ell_command.specs.CommandLine.{IsRequestOf, NamesPartings};
@@ -36,9 +36,15 @@ pub enum Request {
 // The names of the partings of keys.
 static PARTINGS: [&str; 2] = ["stripe", "range"];
 
+// The version of elltree, as the file VERSION at the top says it: `tests/copies` compares them.
+const VERSION: &str = "0.1.0";
+
 const ABOUT: &str = "Finds, inserts and deletes on a map of keys and values, in bulk";
 
 const RUN_ABOUT: &str = "Run a text of finds, inserts and deletes on a map";
+
+// Refusals show it too, as that of `elltree run FILE`.
+const RUN_USAGE: &str = "elltree run [OPTIONS] < FILE";
 
 const RUN_LONG_ABOUT: &str = "Run a text of finds, inserts and deletes on a map
 
@@ -87,12 +93,14 @@ A file may have any order: 1,000 operations or more are done by scrambled keys, 
 answered in the order of the file.
 
 Exit status:
-  0  success, or help was asked for
+  0  success, or help or the version was asked for
   2  a fault in the text, too long an input, or arguments that are refused
   3  out of memory, or the arguments could not be taken
   4  reading or writing failed";
 
 const REPLAY_ABOUT: &str = "Replay a schedule of events on the machine of the tree";
+
+const REPLAY_USAGE: &str = "elltree replay < FILE";
 
 const REPLAY_LONG_ABOUT: &str = "Replay a schedule of events on the machine of the tree
 
@@ -105,8 +113,9 @@ N keys of the tree at the end, ascending, one a line. The exit statuses are thos
 of `elltree run`.";
 
 /// What the words after the program's name ask for. An `Err` has the text for the user. Its kind is
-/// `DisplayHelp` where the words ask for help, `OutOfMemory` where memory ran out, and another where
-/// the words are refused, as `MissingSubcommand` where there are none.
+/// `DisplayHelp` where the words ask for help, `DisplayVersion` where they ask for the version,
+/// `OutOfMemory` where memory ran out, and another where the words are refused, as
+/// `MissingSubcommand` where there are none.
 pub fn request_of<S: AsStr>(alloc: Global, words: &[S]) -> Result<Request, Error>
     ensures kinds { FailsBy (faults_of (map S.text words.now)) result }
 
@@ -130,6 +139,8 @@ pub fn request_of<S: AsStr>(alloc: Global, words: &[S]) -> Result<Request, Error
         (λ e. kind_of e ≡ ErrorKind.OutOfMemory) }
     ensures help { AsksForHelp (map S.text words.now)
         → IsErrAnd result (HasKind (ErrorKind.DisplayHelp ∷ [])) }
+    ensures version { AsksForVersion (map S.text words.now)
+        → IsErrAnd result (HasKind (ErrorKind.DisplayVersion ∷ [])) }
     ensures shown { AreShownHelp (map S.text words.now)
         → IsErrAnd result (HasKind (ErrorKind.DisplayHelp ∷ [])) }
     ensures refused { AreRefused (map S.text words.now)
@@ -225,6 +236,7 @@ fn elltree_command<'a>(alloc: Global, texts: &'a OptionTexts) -> Result<Command<
 {
     Command::new(alloc, "elltree")
         .about(ABOUT)
+        .version(VERSION)
         .no_binary_name(true)
         .subcommand_required(true)
         .bin_name("elltree")?
@@ -240,6 +252,7 @@ fn run_command<'a>(alloc: Global, texts: &'a OptionTexts) -> Result<Command<'a>,
 {
     Command::new(alloc, "run")
         .about(RUN_ABOUT)
+        .override_usage(RUN_USAGE)
         .long_about(RUN_LONG_ABOUT)
         .after_long_help(RUN_AFTER_HELP)
         .arg(workers_option(alloc, texts))?
@@ -256,6 +269,7 @@ fn replay_command<'a>(alloc: Global) -> Command<'a>
 {
     Command::new(alloc, "replay")
         .about(REPLAY_ABOUT)
+        .override_usage(REPLAY_USAGE)
         .long_about(REPLAY_LONG_ABOUT)
 }
 

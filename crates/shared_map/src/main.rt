@@ -54,7 +54,10 @@ fn add_up(scores: &Tree<Global>, pass: Pass<Global>) -> Result<Pass<Global>>
         };
         // A key that is present keeps its value, so it is taken away first.
         scores.delete(&mut pass, player, TRIES, &NoGate)?;
-        scores.insert(&mut pass, player, sum, TRIES, &NoGate)?;
+        if let Err(held) = scores.insert(&mut pass, player, sum, TRIES, &NoGate) {
+            // No score of the player is in the map now: the error has it.
+            bail!("player {player} has {sum} points, which did not go in: {held}");
+        }
     }
     Ok(pass)
 }

@@ -10,13 +10,18 @@ use std::process::Abort;
 use std::test::Fail;
 use std::thread::Threads;
 
-static REFUSED: [&[&str]; 16] = [
+// What `--version` writes; `tests/copies` compares it with the file VERSION.
+const VERSION: &str = "elltree 0.1.0\n";
+
+static REFUSED: [&[&str]; 18] = [
     &[],
     &["walk"],
     &["run", "x"],
     &["replay", "x"],
     &["replay", "--report"],
-    &["--version"],
+    &["run", "--version"],
+    &["replay", "-V"],
+    &["--version=1"],
     &["help", "walk"],
     &["run", "--workers", "0"],
     &["run", "--workers", "65"],
@@ -39,6 +44,28 @@ fn tells_of_refused_words(rt: HostRuntime) {
             "row {row}"
         );
     }
+}
+
+// Whether the words are refused, with this in the parser's text.
+fn refuses_with<R: Threads + Sync + AllocGlobal>(rt: &R, words: &[&str], part: &str) -> bool {
+    let ended = run_into(rt, words, &mut empty(), WIDE);
+    let Ok(text) = String::from_utf8(ended.err.held) else {
+        return false;
+    };
+    ended.status == 2 && text.as_str().contains(part)
+}
+
+#[test]
+fn tells_of_a_file_that_it_reads_standard_input(rt: HostRuntime) {
+    assert!(rt; refuses_with(&rt, &["run", "bulk.txt"], "Usage: elltree run [OPTIONS] < FILE"));
+    assert!(rt; refuses_with(&rt, &["replay", "steps.txt"], "Usage: elltree replay < FILE"));
+}
+
+#[test]
+fn shows_its_version(rt: HostRuntime) {
+    assert!(rt; ends_into(&rt, &["--version"], "insert", WIDE, (0, VERSION, "")));
+    assert!(rt; ends_into(&rt, &["-V"], "insert", WIDE, (0, VERSION, "")));
+    assert!(rt; ends_into(&rt, &["-V"], "insert", FIVE_BYTES, (4, "elltr", WRITE_FAILED)));
 }
 
 // Words, and the request that they come to.

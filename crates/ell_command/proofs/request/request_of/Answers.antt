@@ -5,7 +5,7 @@ use Rattle.clap.specs.declared.error.kind.ErrorKind.TheVariants.{OutOfMemory}
 use Rattle.clap.specs.declared.parser.matches.ArgMatches.{ArgMatches}
 use Rattle.ell_command.specs.CommandLine.{IsRequestOf, subcommand_for, subcommand_in}
 use Rattle.ell_command.proofs.Subcommands.{one_is_taken}
-use Rattle.ell_command.proofs.Parses.{fails_by_words, fails_up, help_fails, help_shown, memory_fails, nothing_fails, refused_fails, replay_taken, run_taken, taken_fails, name_is, name_met, options_are, options_met}
+use Rattle.ell_command.proofs.Parses.{fails_by_words, fails_up, help_fails, help_shown, memory_fails, nothing_fails, refused_fails, replay_taken, run_taken, taken_fails, version_fails, name_is, name_met, options_are, options_met}
 use Rattle.ell_command.proofs.PlainRuns.{plain_replay, plain_run}
 use Rattle.ell_command.proofs.request.request_of.Goals as goal
 
@@ -34,6 +34,7 @@ returns-in_err-texts g c =
       run = λ asks. taken_fails words result kinds (run_taken words asks);
       replay = λ asks. error_met _ _ _ result memory (taken_fails words result kinds (replay_taken words asks));
       help = help_fails words result kinds;
+      version = version_fails words result kinds;
       shown = help_shown words result kinds;
       refused = refused_fails words result kinds;
       nothing = nothing_fails words result kinds;
@@ -55,6 +56,7 @@ returns-in_err-elltree_command g c =
       run = λ asks. taken_fails words result kinds (run_taken words asks);
       replay = λ asks. error_met _ _ _ result memory (taken_fails words result kinds (replay_taken words asks));
       help = help_fails words result kinds;
+      version = version_fails words result kinds;
       shown = help_shown words result kinds;
       refused = refused_fails words result kinds;
       nothing = nothing_fails words result kinds;
@@ -77,6 +79,7 @@ returns-in_err-matches g c =
       run = λ asks. taken_fails words _ kinds (run_taken words asks);
       replay = λ asks. error_met _ _ _ c.from_residual-in_err-matches.result passed (taken_fails words _ kinds (replay_taken words asks));
       help = help_fails words _ kinds;
+      version = version_fails words _ kinds;
       shown = help_shown words _ kinds;
       refused = refused_fails words _ kinds;
       nothing = nothing_fails words _ kinds;
@@ -109,6 +112,7 @@ returns g c =
       run = λ asks. tt;
       replay = λ asks. plain_replay words c.request_in.result asks command;
       help = help_fails {T = ArgMatches} words (Ok c.in_ok-matches.matches) kinds;
+      version = version_fails {T = ArgMatches} words (Ok c.in_ok-matches.matches) kinds;
       shown = help_shown {T = ArgMatches} words (Ok c.in_ok-matches.matches) kinds;
       refused = refused_fails {T = ArgMatches} words (Ok c.in_ok-matches.matches) kinds;
       nothing = nothing_fails {T = ArgMatches} words (Ok c.in_ok-matches.matches) kinds;

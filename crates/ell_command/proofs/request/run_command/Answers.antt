@@ -14,7 +14,7 @@ pub returns-clause-shape : goal.returns-clause-shape
 returns-clause-shape c =
     let named = c.parting_option.ensures.rule in
     let start : app_of c.after_long_help.result ≡ new_app (codes "run") =
-    ap app_of_fields c.after_long_help.ensures ∙ (ap app_of_fields c.long_about.ensures ∙ (ap app_of_fields c.about.ensures ∙ c.new.ensures.app)) in
+    ap app_of_fields c.after_long_help.ensures ∙ (ap app_of_fields c.long_about.ensures ∙ (ap app_of_fields c.override_usage.ensures ∙ (ap app_of_fields c.about.ensures ∙ c.new.ensures.app))) in
     let workers : app_of c.in_ok-arg.field-0 ≡ with_rule (new_app (codes "run")) workers_rule =
     c.in_ok-arg.ensures.shape c.workers_option.ensures.local ∙ ap₂ with_rule start c.workers_option.ensures.rule in
     let parting : app_of c.in_ok-arg-2.field-0 ≡ with_rule (with_rule (new_app (codes "run")) workers_rule) (parting_rule named.0) =
@@ -29,7 +29,7 @@ returns-clause-shape c =
 pub returns-clause-local : goal.returns-clause-local
 returns-clause-local c =
     let start : (fields_of c.after_long_help.result).has_globals ≡ false =
-    ap (λ f. f.has_globals) c.after_long_help.ensures ∙ (ap (λ f. f.has_globals) c.long_about.ensures ∙ (ap (λ f. f.has_globals) c.about.ensures ∙ c.new.ensures.local)) in
+    ap (λ f. f.has_globals) c.after_long_help.ensures ∙ (ap (λ f. f.has_globals) c.long_about.ensures ∙ (ap (λ f. f.has_globals) c.override_usage.ensures ∙ (ap (λ f. f.has_globals) c.about.ensures ∙ c.new.ensures.local))) in
     let workers = still_local _ _ _ c.in_ok-arg.ensures.globals start c.workers_option.ensures.local in
     let parting = still_local _ _ _ c.in_ok-arg-2.ensures.globals workers c.parting_option.ensures.local in
     let cards = still_local _ _ _ c.in_ok-arg-3.ensures.globals parting c.cards_option.ensures.local in
