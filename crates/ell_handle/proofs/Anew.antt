@@ -1,4 +1,4 @@
-use Rattle.std.proofs.Common.{◌==◌, ◌≡◌, ◌↔◌, ◌<◌, ◌≤◌, ℕ, Bool, true, false, ◌||◌, if◌then◌else◌, List, length, get_or, Option, Some, None, refl, ap, sym, subst, ◌∙◌, true≢false, ⊎_elim}
+use Rattle.std.proofs.Common.{arith, ◌==◌, ◌≡◌, ◌↔◌, ◌<◌, ◌≤◌, ℕ, Bool, true, false, ◌||◌, if◌then◌else◌, List, length, get_or, Option, Some, None, refl, ap, sym, subst, ◌∙◌, true≢false, ⊎_elim}
 use Rattle.std.specs.Prelude.{is_some}
 use Rattle.std.specs.List.{All}
 use Rattle.std.specs.Map.{keys_of}
@@ -77,13 +77,17 @@ module _ (p : PassModel) (pairs : List (ℕ × ℕ)) (all : ListsPairs (present_
         real (get_or pairs i d).0 (owns_pair (get_or pairs i d).0 (subst (λ k. set_of (keys_of pairs) k ≡ true) key (at_place (keys_of pairs) i 0 inside)));
   }
 
+  -- if they begin a tree, they are not too many
+  not_too_much : IsStart pairs → ¬ IsTooMuch (present_in p)
+  not_too_much start much = let more : most_start < length pairs = much pairs all in let few = start.few in absurd (omega arith)
+
   -- why there is no tree of it
   pub refuses_renewal : (cards : ℕ) (why : Refusal) → ((k : ℕ) → Owns p k → k ≤ greatest_key) → Refuses (ledger_keys p.view.worker.ledger) pairs cards why
       → RenewalRefuses (present_in p) cards why
   refuses_renewal cards BadStart real refused = too_much (present_in p) pairs all refused
   refuses_renewal cards BadKey real refused = refused.1 (are_keys real)
-  refuses_renewal cards BadCards real refused = refused.1.1
-  refuses_renewal cards NoMemory real refused = tt
+  refuses_renewal cards BadCards real refused = (not_too_much refused.0, refused.1.1)
+  refuses_renewal cards NoMemory real refused = record { few = not_too_much refused.begins; count = refused.count }
   refuses_renewal cards Foreign real refused = refused
   refuses_renewal cards NoTries real refused = refused
   refuses_renewal cards Busy real refused = refused
@@ -117,9 +121,9 @@ module _ (p : PassModel) (pairs : List (ℕ × ℕ)) (all : ListsPairs (present_
         has true is none = cc
         has false is none = true≢false (sym is)
 
-    pub renewed : (cards : ℕ) → t.last_card ≡ last_card pairs cards → MayOpen (ledger_keys p.view.worker.ledger) pairs cards
+    pub renewed : (cards : ℕ) → t.start ≡ pairs → t.last_card ≡ last_card pairs cards → MayOpen (ledger_keys p.view.worker.ledger) pairs cards
         → IsRenewed (present_in p) cards t new
-    renewed cards last may = record { start = pairs; all = all; first = owns.first; last = last; few = may.begins.few; count = may.count }
+    renewed cards begins last may = record { start = pairs; all = all; first = owns.first; begins = begins; last = last; few = may.begins.few; count = may.count }
 
 -- passes of the same keys own the same
 pub same_owned : (new old : PassModel) → ledger_keys new.view.worker.ledger ≡ ledger_keys old.view.worker.ledger → (k : ℕ) → Owns new k ↔ Owns old k

@@ -105,3 +105,29 @@ listed_less there now keys these i pair listed pairs low same map is so_far all 
     let count = ap length whole ∙ length-append (pairs_at there (take (i + 1) keys)) (pairs_at there (drop (i + 1) keys)) in
     let front = ap length (sym next) ∙ length-append listed (pair ∷ []) in
     omega arith
+
+-- so it is with their count
+pub counted_more : (there now : Contents) (keys these : List ℕ) (i : ℕ) (found : Option (ℕ × ℕ)) (count : ℕ) → i < length keys → these ≡ keys
+    → ((k : ℕ) → now k ≡ there k) → found ≡ pair_at now (get_or these i 0) → count ≡ length (pairs_at there (take i keys))
+    → count + length (cons_option found []) ≡ length (pairs_at there (take (i + 1) keys))
+counted_more there now keys these i found count low same map is counted =
+    let old = pairs_at there (take i keys) in
+    ap (λ n. n + length (cons_option found [])) counted
+    ∙ (sym (length-append old (cons_option found []))
+    ∙ ap length (listed_more there now keys these i found old (old ++ cons_option found []) low same map is refl refl))
+
+-- all keys that a pass has present, by their count
+pub pairs_count : (p : PassModel) (pairs : List (ℕ × ℕ)) → IsStrictlyIncreasing (ledger_keys p.view.worker.ledger) → ListsPairs (present_in p) pairs
+    → length pairs ≡ length (pairs_at (present_in p) (ledger_keys p.view.worker.ledger))
+pairs_count p pairs ascending lists =
+    let keys = ledger_keys p.view.worker.ledger in
+    ap length (one_list_of_pairs (present_in p) pairs (pairs_at (present_in p) keys) lists (lists_pairs (present_in p) keys ascending (none_else p)))
+
+-- a pair that is found is one
+pub found_one : (found : Option (ℕ × ℕ)) → is_some found ≡ true → length (cons_option found []) ≡ 1
+found_one (Some pair) is = refl
+found_one None is = absurd (true≢false (sym is))
+
+pub found_none : (found : Option (ℕ × ℕ)) → is_some found ≡ false → length (cons_option found []) ≡ 0
+found_none (Some pair) is = absurd (true≢false is)
+found_none None is = refl

@@ -20,7 +20,7 @@ use Rattle.ell_tree.specs.Ledgers.{Owns, PassModel, TreeModel, ledger, present_i
 use Rattle.ell_tree.specs.Node.{most_start}
 use Rattle.ell_tree.specs.PassParts.{start_entry}
 use Rattle.ell_handle.specs.Groups.{AreApart, AreRenewed, GroupRefuses, HasSame, HaveNumber, IsPart, OwnsKeysOf, PartRefuses, StaysPut, keys_of_all, or_there, present_in_all}
-use Rattle.ell_handle.specs.Opens.{AreKeys, IsStart, MayOpen, OwnsAll, Refuses}
+use Rattle.ell_handle.specs.Opens.{AreKeys, IsOpened, IsStart, MayOpen, OwnsAll, Refuses}
 use Rattle.ell_handle.specs.Renewal.{IsTooMuch}
 use Rattle.ell_handle.specs.declared.handle.Handle.{Handle}
 use Rattle.ell_handle.specs.declared.refusal.Refusal.{Refusal}
@@ -233,15 +233,14 @@ module _ (olds hs : List Handle) (pairs : List (ℕ × ℕ)) (all : ListsPairs (
         by false is kept = kept
 
     -- and its parts are of one tree
-    pub renewed : AllZip StaysPut olds hs → (keys : List ℕ) (cards number : ℕ) (parts : List Handle) → (arc_value whole.shared).number ≡ number
-        → (arc_value whole.shared).tree.last_card ≡ last_card pairs cards → MayOpen keys pairs cards → AllZip (IsPart whole) hs parts
-        → AreRenewed olds cards number parts
-    renewed stay keys cards number parts number_is last may zipped = record {
+    pub renewed : AllZip StaysPut olds hs → (keys : List ℕ) (cards number : ℕ) (parts : List Handle) → IsOpened keys pairs cards number whole
+        → MayOpen keys pairs cards → AllZip (IsPart whole) hs parts → AreRenewed olds cards number parts
+    renewed stay keys cards number parts opened may zipped = record {
       tree = arc_value whole.shared;
       first = whole.pass;
-      renewed = record { start = pairs; all = all; first = owns.first; last = last; few = may.begins.few; count = may.count };
+      renewed = record { start = pairs; all = all; first = owns.first; begins = opened.begins; last = opened.last; few = may.begins.few; count = may.count };
       keys = tree_keys stay;
-      number_is = number_is;
+      number_is = opened.number_is;
       one = λ i d low.
           let inside : i < length hs = subst (λ n. i < n) (sym (length_all_zip (IsPart whole) hs parts zipped)) low in
           let part = AllZip-get_or (IsPart whole) hs parts i d d zipped inside in

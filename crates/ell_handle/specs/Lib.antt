@@ -8,3 +8,7 @@ pub mod Renewal
 pub mod Parts
 -- handles that come to fresh cards together
 pub mod Groups
+-- what a call that only reads leaves of a handle
+pub mod Reads
+-- when a change is tried, how it ends without an answer, and what it takes
+pub mod Tries

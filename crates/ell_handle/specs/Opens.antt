@@ -1,13 +1,16 @@
-use Rattle.std.specs.Prelude.{◌≤◌, ℕ, List, length}
+use Rattle.std.specs.Prelude.{◌≡◌, ◌≤◌, ℕ, List, length}
+use Rattle.std.specs.Arc.{arc_value}
 use Rattle.std.specs.List.{All}
 use Rattle.std.specs.List.Sorted.{IsStrictlyIncreasing}
 use Rattle.std.specs.Map.{keys_of}
 use Rattle.ell_ops.specs.KeySet.{Lists, set_of, union}
 use Rattle.ell_ops.specs.Meaning.{greatest_key}
+use Rattle.ell_core.specs.state.Opening.{last_card}
 use Rattle.ell_tree.specs.Node.{most_start}
 use Rattle.ell_cards.specs.Models.{IsCardCount}
 use Rattle.ell_tree.specs.Ledgers.{PassModel, TreeModel}
 use Rattle.ell_tree.specs.PassParts.{IsFirst}
+use Rattle.ell_handle.specs.declared.handle.Handle.{Handle}
 use Rattle.ell_handle.specs.declared.refusal.Refusal.{Refusal}
 use Rattle.ell_handle.specs.declared.refusal.Refusal.TheVariants.{BadCards, BadKey, BadStart, NoMemory}
 
@@ -16,6 +19,13 @@ use Rattle.ell_handle.specs.declared.refusal.Refusal.TheVariants.{BadCards, BadK
 pub record OwnsAll (keys : List ℕ) (start : List (ℕ × ℕ)) (t : TreeModel) (p : PassModel) : Type 0 where
   pub all : Lists (union (set_of (keys_of start)) (set_of keys)) t.keys
   pub first : IsFirst start t p
+
+-- a handle is the first of a new tree that has these keys and start keys, so many cards besides, and this number
+pub record IsOpened (keys : List ℕ) (start : List (ℕ × ℕ)) (cards number : ℕ) (h : Handle) : Type 0 where
+  pub owns : OwnsAll keys start (arc_value h.shared).tree h.pass
+  pub begins : (arc_value h.shared).tree.start ≡ start
+  pub last : (arc_value h.shared).tree.last_card ≡ last_card start cards
+  pub number_is : (arc_value h.shared).number ≡ number
 
 -- a tree may begin with these start keys
 pub record IsStart (start : List (ℕ × ℕ)) : Type 0 where

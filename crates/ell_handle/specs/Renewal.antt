@@ -18,6 +18,7 @@ pub record IsRenewed (there : Contents) (cards : ℕ) (t : TreeModel) (p : PassM
   pub start : List (ℕ × ℕ)
   pub all : ListsPairs there start
   pub first : IsFirst start t p
+  pub begins : t.start ≡ start
   pub last : t.last_card ≡ last_card start cards
   pub few : length start ≤ most_start
   pub count : IsCardCount cards
@@ -26,9 +27,14 @@ pub record IsRenewed (there : Contents) (cards : ℕ) (t : TreeModel) (p : PassM
 abbrev pub IsTooMuch : Contents → Type 0
 IsTooMuch there = (pairs : List (ℕ × ℕ)) → ListsPairs there pairs → most_start < length pairs
 
--- why there is no such tree
+-- there may be such a tree
+pub record MayRenew (there : Contents) (cards : ℕ) : Type 0 where
+  pub few : ¬ IsTooMuch there
+  pub count : IsCardCount cards
+
+-- why there is none: memory is refused only where nothing else is wrong
 abbrev pub RenewalRefuses : Contents → ℕ → Refusal → Type 0
 RenewalRefuses there cards BadStart = IsTooMuch there
-RenewalRefuses there cards BadCards = ¬ IsCardCount cards
-RenewalRefuses there cards NoMemory = Unit {0}
+RenewalRefuses there cards BadCards = (¬ IsTooMuch there) × (¬ IsCardCount cards)
+RenewalRefuses there cards NoMemory = MayRenew there cards
 RenewalRefuses there cards _ = ⊥

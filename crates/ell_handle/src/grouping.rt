@@ -29,6 +29,7 @@ pub fn renew_all(
     ensures one { OnOk result (AreOfOne handles.old) }
     ensures why { IfErr result (GroupRefuses handles.old cards) }
     ensures refused { OnErr result (AllZip StaysPut handles.old handles.new) }
+    ensures some { OnErr result (0 < length handles.old) }
 {
     if handles.is_empty() {
         return Ok(());

@@ -2,10 +2,12 @@
 //! tree's calls, and answers a call that does not meet one with a named refusal, so that its callers owe nothing.
 #![tactic(auto)]
 
+mod calls;
 mod grouping;
 mod handle;
 mod keys;
 mod merging;
+mod opening;
 mod refusal;
 mod renewing;
 

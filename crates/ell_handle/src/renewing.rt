@@ -1,21 +1,23 @@
 //! How a handle comes to fresh cards.
-ghost use Rattle.std.specs.Prelude.{◌≡◌, ◌<◌, ◌↔◌, ℕ, length, slice_index, Err, IfOk, IfErr, OnOk, OnErr};
+ghost use Rattle.std.specs.Prelude.{◌≡◌, ◌<◌, ◌↔◌, ℕ, length, slice_index, Err, IsTrue, IfOk, IfErr, OnOk, OnErr};
 ghost use Rattle.std.specs.Arc.{arc_value};
 ghost use Rattle.ell_ops.specs.Contents.{ListsPairs};
 ghost use Rattle.ell_cards.specs.Changes.{keys_of};
 ghost use Rattle.ell_tree.specs.Ledgers.{Owns, present_in};
-ghost use Rattle.ell_handle.specs.Renewal.{IsRenewed, RenewalRefuses, pair_at};
+ghost use Rattle.ell_handle.specs.Groups.{StaysPut};
+ghost use Rattle.ell_handle.specs.Renewal.{IsRenewed, IsTooMuch, RenewalRefuses, pair_at};
 
 use crate::handle::Handle;
+use crate::keys::is_card_count;
 use crate::refusal::Refusal;
-use ell_tree::NoGate;
+use ell_tree::{NoGate, START_MAX};
 use std::alloc::{AllocError, Global};
 
 impl Handle {
     /// Makes the cards fresh: the handle gets a new tree of so many cards, with the keys that it owns, which are present or absent as they
     /// were. The old tree stays with its other handles, if there are any. Trees that are open at once have different numbers. `BadStart` if
-    /// more keys than `START_MAX` are present, `BadCards` if the cards are not 1 to 1,000,000, and `NoMemory`: then the handle has its old
-    /// tree.
+    /// more keys than `START_MAX` are present, then `BadCards` if the cards are not 1 to 1,000,000, and only then `NoMemory`: then the handle
+    /// has its old tree.
     pub fn renew(&mut self, alloc: Global, cards: u64, number: u64) -> Result<(), Refusal>
         ensures map { (k : ℕ) → present_in self.new.pass k ≡ present_in self.old.pass k }
         ensures owned { (k : ℕ) → Owns self.new.pass k ↔ Owns self.old.pass k }
@@ -24,9 +26,39 @@ impl Handle {
         ensures why { IfErr result (RenewalRefuses (present_in self.old.pass) cards) }
         ensures refused { OnErr result (self.new.shared ≡ self.old.shared) }
     {
-        let pairs = self.pairs(alloc)?;
+        let Ok(pairs) = self.pairs(alloc) else {
+            return Err(self.why_refused(cards));
+        };
         *self = Handle::open(alloc, self.keys(), &pairs, cards, number)?;
         Ok(())
+    }
+
+    // Why a renewal is refused for which there was no memory: want of it is named only where nothing else is wrong.
+    fn why_refused(&mut self, cards: u64) -> Refusal
+        ensures why { RenewalRefuses (present_in self.old.pass) cards result }
+        ensures stays { StaysPut self.old self.new }
+    {
+        if self.has_too_much() {
+            return Refusal::BadStart;
+        }
+        if !is_card_count(cards) {
+            return Refusal::BadCards;
+        }
+        Refusal::NoMemory
+    }
+
+    // Whether more keys are present than a tree may begin with.
+    fn has_too_much(&mut self) -> bool
+        ensures many { IsTrue result ↔ IsTooMuch (present_in self.old.pass) }
+        ensures stays { StaysPut self.old self.new }
+    {
+        let mut count = 0;
+        for place in 0..self.keys().len() {
+            if self.pair(place).is_some() {
+                count += 1;
+            }
+        }
+        count > START_MAX
     }
 
     /// The keys of the handle's that are present, ascending, with their values.

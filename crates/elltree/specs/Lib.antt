@@ -2,3 +2,4 @@ pub mod Owned
 pub mod Maps
 pub mod Codes
 pub mod Groups
+pub mod Slots

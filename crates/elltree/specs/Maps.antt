@@ -3,13 +3,10 @@ use Rattle.std.specs.Arc.{arc_value}
 use Rattle.ell_ops.specs.Contents.{Contents, ListsPairs, nothing}
 use Rattle.ell_cards.specs.Changes.{keys_of}
 use Rattle.ell_cards.specs.Looking.{IsFoundInRuns}
-use Rattle.ell_tree.specs.Ledgers.{Owns, hindrances, present_in}
+use Rattle.ell_tree.specs.Ledgers.{Owns, present_in}
 use Rattle.ell_tree.specs.PassParts.{IsUnion}
-use Rattle.ell_handle.specs.Opens.{OwnsAll, Refuses}
 use Rattle.ell_handle.specs.Renewal.{IsRenewed}
 use Rattle.ell_handle.specs.declared.handle.Handle.{Handle}
-use Rattle.ell_handle.specs.declared.refusal.Refusal.{Refusal}
-use Rattle.ell_handle.specs.declared.refusal.Refusal.TheVariants.{NoMemory}
 use Rattle.elltree.specs.Owned.{Inside}
 use Rattle.elltree.specs.declared.Pair.{Pair}
 
@@ -56,26 +53,6 @@ pub record Finds (handle : Handle) (key : ℕ) (there : Option ℕ) : Type 0 whe
 abbrev pub IsFoundBy : Option Handle → ℕ → Option ℕ → Type 0
 IsFoundBy (Some handle) key there = Finds handle key there
 IsFoundBy None key there = ⊥
-
--- a handle of a new tree owns all its keys: these, and those of these pairs, which are present with their values
-abbrev pub OwnsAllIn : List ℕ → List (ℕ × ℕ) → Option Handle → Type 0
-OwnsAllIn keys start (Some handle) = OwnsAll keys start (arc_value handle.shared).tree handle.pass
-OwnsAllIn keys start None = ⊥
-
--- how often something was in the way of a handle
-abbrev pub hindrances_in : Option Handle → ℕ
-hindrances_in (Some handle) = hindrances handle.pass
-hindrances_in None = 0
-
--- the next card to be given out, as a handle has read it last
-abbrev pub next_in : Option Handle → Option ℕ
-next_in (Some handle) = handle.pass.view.next
-next_in None = None
-
--- the number of the last card of a handle's tree
-abbrev pub last_card_in : Option Handle → ℕ
-last_card_in (Some handle) = (arc_value handle.shared).tree.last_card
-last_card_in None = 0
 
 -- one handle has the keys of two, as they had them
 abbrev pub IsJoined : Option Handle → Option Handle → Option Handle → Type 0
@@ -132,8 +109,3 @@ AreOfOneTree (Some left) (Some right) = left.shared ≡ right.shared
 AreOfOneTree (Some left) None = ⊥
 AreOfOneTree None (Some right) = ⊥
 AreOfOneTree None None = Unit {0}
-
--- when a slot is not opened, and why: memory may be refused first
-abbrev pub OpenRefuses : List ℕ → List (ℕ × ℕ) → ℕ → Refusal → Type 0
-OpenRefuses keys start cards NoMemory = Unit {0}
-OpenRefuses keys start cards why = Refuses keys start cards why

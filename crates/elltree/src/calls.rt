@@ -1,12 +1,15 @@
 //! Finds, looks, inserts and deletes.
-ghost use Rattle.std.specs.Prelude.{◌≡◌, ◌≢◌, ◌<◌, ◌≤◌, ◌+◌, ℕ, None, Some, Ok, Err};
-ghost use Rattle.std.specs.Arc.{arc_value};
+ghost use Rattle.std.specs.Prelude.{◌≡◌, ◌≢◌, ◌<◌, ◌≤◌, ◌↔◌, ℕ, [], ◌∷◌, None, Some, Ok, Err, IfErr, OnOk};
 ghost use Rattle.ell_ops.specs.declared.op.Op.TheVariants.{Insert, Delete};
 ghost use Rattle.ell_ops.specs.Meaning.{after, greatest_key};
-ghost use Rattle.ell_tree.specs.Ledgers.{Owns, hindrances, present_in};
+ghost use Rattle.ell_tree.specs.Ledgers.{Owns, present_in};
+ghost use Rattle.ell_handle.specs.Groups.{StaysPut};
+ghost use Rattle.ell_handle.specs.Reads.{KeepsKeys, OnlyFinds, OnlyLooksUp};
+ghost use Rattle.ell_handle.specs.Tries.{IsHindered, IsSpent, TookTries};
 ghost use Rattle.ell_handle.specs.declared.refusal.Refusal.TheVariants.{BadKey, Foreign};
-ghost use Rattle.elltree.specs.Codes.{said_bad_key, said_busy, said_closed, said_foreign, said_no, said_no_tries, said_spent, said_yes};
-ghost use Rattle.elltree.specs.Maps.{IsFoundBy, OwnsIn, handle_of, hindrances_in, last_card_in, map_of, next_in};
+ghost use Rattle.elltree.specs.Codes.{IsOneOf, code_of, said_bad_key, said_busy, said_closed, said_foreign, said_no, said_no_tries, said_spent, said_yes};
+ghost use Rattle.elltree.specs.Maps.{IsFoundBy, OwnsIn, handle_of, map_of};
+ghost use Rattle.elltree.specs.Slots.{OfHandles, OfHandlesIfAny};
 
 use crate::codes::{CLOSED, NO, YES, code_of_refusal};
 use crate::slot::Slot;
@@ -24,9 +27,10 @@ pub extern "C" fn elltree_slot_find(
     ensures yes { result ≡ said_yes → map_of slot.old.raw.inside key ≡ Some value.new }
     ensures no { result ≡ said_no → map_of slot.old.raw.inside key ≡ None }
     ensures foreign { result ≡ said_foreign → ¬ OwnsIn (handle_of slot.old.raw.inside) key }
-    ensures closed { result ≡ said_closed → handle_of slot.old.raw.inside ≡ None }
-    ensures none { handle_of slot.old.raw.inside ≡ None → result ≡ said_closed }
-    ensures same { (k : ℕ) → map_of slot.new.raw.inside k ≡ map_of slot.old.raw.inside k }
+    ensures owned { result ≢ said_foreign → result ≢ said_closed → OwnsIn (handle_of slot.old.raw.inside) key }
+    ensures closed { (result ≡ said_closed) ↔ (handle_of slot.old.raw.inside ≡ None) }
+    ensures codes { IsOneOf (said_yes ∷ said_no ∷ said_foreign ∷ said_closed ∷ []) result }
+    ensures reads { OfHandlesIfAny OnlyFinds (handle_of slot.old.raw.inside) (handle_of slot.new.raw.inside) }
     ensures kept { result ≢ said_yes → value.new ≡ value.old }
 {
     let Some(mut place) = slot.take(alloc) else {
@@ -45,8 +49,9 @@ fn find(handle: &mut Handle, key: u64, value: &mut u64) -> i32
     ensures yes { result ≡ said_yes → present_in handle.old.pass key ≡ Some value.new }
     ensures no { result ≡ said_no → present_in handle.old.pass key ≡ None }
     ensures foreign { result ≡ said_foreign → ¬ Owns handle.old.pass key }
-    ensures unclosed { result ≢ said_closed }
-    ensures same { (k : ℕ) → present_in handle.new.pass k ≡ present_in handle.old.pass k }
+    ensures owned { result ≢ said_foreign → Owns handle.old.pass key }
+    ensures codes { IsOneOf (said_yes ∷ said_no ∷ said_foreign ∷ []) result }
+    ensures reads { OnlyFinds handle.old handle.new }
     ensures kept { result ≢ said_yes → value.new ≡ value.old }
 {
     told(handle.find(key), value)
@@ -65,9 +70,10 @@ pub extern "C" fn elltree_slot_look(
     ensures own { result ≡ said_yes → OwnsIn (handle_of slot.old.raw.inside) key → map_of slot.old.raw.inside key ≡ Some value.new }
     ensures absent { result ≡ said_no → OwnsIn (handle_of slot.old.raw.inside) key → map_of slot.old.raw.inside key ≡ None }
     ensures bad_key { result ≡ said_bad_key → greatest_key < key }
-    ensures closed { result ≡ said_closed → handle_of slot.old.raw.inside ≡ None }
-    ensures none { handle_of slot.old.raw.inside ≡ None → result ≡ said_closed }
-    ensures same { (k : ℕ) → map_of slot.new.raw.inside k ≡ map_of slot.old.raw.inside k }
+    ensures real { result ≢ said_bad_key → result ≢ said_closed → key ≤ greatest_key }
+    ensures closed { (result ≡ said_closed) ↔ (handle_of slot.old.raw.inside ≡ None) }
+    ensures codes { IsOneOf (said_yes ∷ said_no ∷ said_bad_key ∷ said_closed ∷ []) result }
+    ensures reads { OfHandlesIfAny OnlyLooksUp (handle_of slot.old.raw.inside) (handle_of slot.new.raw.inside) }
     ensures kept { result ≢ said_yes → value.new ≡ value.old }
 {
     let Some(mut place) = slot.take(alloc) else {
@@ -88,8 +94,9 @@ fn look(handle: &mut Handle, key: u64, value: &mut u64) -> i32
     ensures own { result ≡ said_yes → Owns handle.old.pass key → present_in handle.old.pass key ≡ Some value.new }
     ensures absent { result ≡ said_no → Owns handle.old.pass key → present_in handle.old.pass key ≡ None }
     ensures bad_key { result ≡ said_bad_key → greatest_key < key }
-    ensures unclosed { result ≢ said_closed }
-    ensures same { (k : ℕ) → present_in handle.new.pass k ≡ present_in handle.old.pass k }
+    ensures real { result ≢ said_bad_key → key ≤ greatest_key }
+    ensures codes { IsOneOf (said_yes ∷ said_no ∷ said_bad_key ∷ []) result }
+    ensures reads { OnlyLooksUp handle.old handle.new }
     ensures kept { result ≢ said_yes → value.new ≡ value.old }
 {
     told(handle.look(key), value)
@@ -101,7 +108,8 @@ fn told(answer: Result<Option<u64>, Refusal>, value: &mut u64) -> i32
     ensures no { result ≡ said_no → answer ≡ Ok None }
     ensures foreign { result ≡ said_foreign → answer ≡ Err Foreign }
     ensures bad_key { result ≡ said_bad_key → answer ≡ Err BadKey }
-    ensures unclosed { result ≢ said_closed }
+    ensures answered { OnOk answer (IsOneOf (said_yes ∷ said_no ∷ []) result) }
+    ensures refused { IfErr answer (λ why. result ≡ code_of why) }
     ensures kept { result ≢ said_yes → value.new ≡ value.old }
 {
     match answer {
@@ -127,13 +135,17 @@ pub extern "C" fn elltree_slot_insert(
     ensures no { result ≡ said_no → map_of slot.old.raw.inside key ≢ None }
     ensures changed { result ≡ said_yes → (k : ℕ) → map_of slot.new.raw.inside k ≡ after (Insert key value) (map_of slot.old.raw.inside) k }
     ensures kept { result ≡ said_no → (k : ℕ) → map_of slot.new.raw.inside k ≡ after (Insert key value) (map_of slot.old.raw.inside) k }
-    ensures foreign { result ≡ said_foreign → ¬ OwnsIn (handle_of slot.old.raw.inside) key }
     ensures no_tries { result ≡ said_no_tries → tries ≡ 0 }
-    ensures busy { result ≡ said_busy → hindrances_in (handle_of slot.old.raw.inside) + tries ≤ hindrances_in (handle_of slot.new.raw.inside) }
-    ensures spent { result ≡ said_spent → next_in (handle_of slot.new.raw.inside) ≡ Some (last_card_in (handle_of slot.old.raw.inside) + 1) }
-    ensures closed { result ≡ said_closed → handle_of slot.old.raw.inside ≡ None }
-    ensures none { handle_of slot.old.raw.inside ≡ None → result ≡ said_closed }
-    ensures refused { result ≢ said_yes → result ≢ said_no → (k : ℕ) → map_of slot.new.raw.inside k ≡ map_of slot.old.raw.inside k }
+    ensures tried { result ≢ said_no_tries → result ≢ said_closed → 1 ≤ tries }
+    ensures foreign { result ≡ said_foreign → ¬ OwnsIn (handle_of slot.old.raw.inside) key }
+    ensures owned { result ≢ said_no_tries → result ≢ said_foreign → result ≢ said_closed → OwnsIn (handle_of slot.old.raw.inside) key }
+    ensures busy { result ≡ said_busy → OfHandles (IsHindered (Insert key value) tries) (handle_of slot.old.raw.inside) (handle_of slot.new.raw.inside) }
+    ensures spent { result ≡ said_spent → OfHandles (IsSpent (Insert key value) tries) (handle_of slot.old.raw.inside) (handle_of slot.new.raw.inside) }
+    ensures closed { (result ≡ said_closed) ↔ (handle_of slot.old.raw.inside ≡ None) }
+    ensures codes { IsOneOf (said_yes ∷ said_no ∷ said_no_tries ∷ said_foreign ∷ said_busy ∷ said_spent ∷ said_closed ∷ []) result }
+    ensures refused { result ≢ said_yes → result ≢ said_no → OfHandlesIfAny StaysPut (handle_of slot.old.raw.inside) (handle_of slot.new.raw.inside) }
+    ensures keeps { OfHandlesIfAny KeepsKeys (handle_of slot.old.raw.inside) (handle_of slot.new.raw.inside) }
+    ensures took { OfHandlesIfAny (TookTries tries) (handle_of slot.old.raw.inside) (handle_of slot.new.raw.inside) }
 {
     let Some(mut place) = slot.take(alloc) else {
         return CLOSED;
@@ -153,13 +165,17 @@ pub extern "C" fn elltree_slot_delete(alloc: Global, slot: &mut Slot, key: u64, 
     ensures no { result ≡ said_no → map_of slot.old.raw.inside key ≡ None }
     ensures changed { result ≡ said_yes → (k : ℕ) → map_of slot.new.raw.inside k ≡ after (Delete key) (map_of slot.old.raw.inside) k }
     ensures kept { result ≡ said_no → (k : ℕ) → map_of slot.new.raw.inside k ≡ after (Delete key) (map_of slot.old.raw.inside) k }
-    ensures foreign { result ≡ said_foreign → ¬ OwnsIn (handle_of slot.old.raw.inside) key }
     ensures no_tries { result ≡ said_no_tries → tries ≡ 0 }
-    ensures busy { result ≡ said_busy → hindrances_in (handle_of slot.old.raw.inside) + tries ≤ hindrances_in (handle_of slot.new.raw.inside) }
-    ensures spent { result ≡ said_spent → next_in (handle_of slot.new.raw.inside) ≡ Some (last_card_in (handle_of slot.old.raw.inside) + 1) }
-    ensures closed { result ≡ said_closed → handle_of slot.old.raw.inside ≡ None }
-    ensures none { handle_of slot.old.raw.inside ≡ None → result ≡ said_closed }
-    ensures refused { result ≢ said_yes → result ≢ said_no → (k : ℕ) → map_of slot.new.raw.inside k ≡ map_of slot.old.raw.inside k }
+    ensures tried { result ≢ said_no_tries → result ≢ said_closed → 1 ≤ tries }
+    ensures foreign { result ≡ said_foreign → ¬ OwnsIn (handle_of slot.old.raw.inside) key }
+    ensures owned { result ≢ said_no_tries → result ≢ said_foreign → result ≢ said_closed → OwnsIn (handle_of slot.old.raw.inside) key }
+    ensures busy { result ≡ said_busy → OfHandles (IsHindered (Delete key) tries) (handle_of slot.old.raw.inside) (handle_of slot.new.raw.inside) }
+    ensures spent { result ≡ said_spent → OfHandles (IsSpent (Delete key) tries) (handle_of slot.old.raw.inside) (handle_of slot.new.raw.inside) }
+    ensures closed { (result ≡ said_closed) ↔ (handle_of slot.old.raw.inside ≡ None) }
+    ensures codes { IsOneOf (said_yes ∷ said_no ∷ said_no_tries ∷ said_foreign ∷ said_busy ∷ said_spent ∷ said_closed ∷ []) result }
+    ensures refused { result ≢ said_yes → result ≢ said_no → OfHandlesIfAny StaysPut (handle_of slot.old.raw.inside) (handle_of slot.new.raw.inside) }
+    ensures keeps { OfHandlesIfAny KeepsKeys (handle_of slot.old.raw.inside) (handle_of slot.new.raw.inside) }
+    ensures took { OfHandlesIfAny (TookTries tries) (handle_of slot.old.raw.inside) (handle_of slot.new.raw.inside) }
 {
     let Some(mut place) = slot.take(alloc) else {
         return CLOSED;
@@ -178,12 +194,16 @@ fn insert(handle: &mut Handle, key: u64, value: u64, tries: u32) -> i32
     ensures no { result ≡ said_no → present_in handle.old.pass key ≢ None }
     ensures changed { result ≡ said_yes → (k : ℕ) → present_in handle.new.pass k ≡ after (Insert key value) (present_in handle.old.pass) k }
     ensures kept { result ≡ said_no → (k : ℕ) → present_in handle.new.pass k ≡ after (Insert key value) (present_in handle.old.pass) k }
-    ensures foreign { result ≡ said_foreign → ¬ Owns handle.old.pass key }
     ensures no_tries { result ≡ said_no_tries → tries ≡ 0 }
-    ensures busy { result ≡ said_busy → hindrances handle.old.pass + tries ≤ hindrances handle.new.pass }
-    ensures spent { result ≡ said_spent → handle.new.pass.view.next ≡ Some ((arc_value handle.old.shared).tree.last_card + 1) }
-    ensures unclosed { result ≢ said_closed }
-    ensures refused { result ≢ said_yes → result ≢ said_no → (k : ℕ) → present_in handle.new.pass k ≡ present_in handle.old.pass k }
+    ensures tried { result ≢ said_no_tries → 1 ≤ tries }
+    ensures foreign { result ≡ said_foreign → ¬ Owns handle.old.pass key }
+    ensures owned { result ≢ said_no_tries → result ≢ said_foreign → Owns handle.old.pass key }
+    ensures busy { result ≡ said_busy → IsHindered (Insert key value) tries handle.old handle.new }
+    ensures spent { result ≡ said_spent → IsSpent (Insert key value) tries handle.old handle.new }
+    ensures codes { IsOneOf (said_yes ∷ said_no ∷ said_no_tries ∷ said_foreign ∷ said_busy ∷ said_spent ∷ []) result }
+    ensures refused { result ≢ said_yes → result ≢ said_no → StaysPut handle.old handle.new }
+    ensures keeps { KeepsKeys handle.old handle.new }
+    ensures took { TookTries tries handle.old handle.new }
 {
     match handle.insert(key, value, tries) {
         Ok(true) => YES,
@@ -198,12 +218,16 @@ fn delete(handle: &mut Handle, key: u64, tries: u32) -> i32
     ensures no { result ≡ said_no → present_in handle.old.pass key ≡ None }
     ensures changed { result ≡ said_yes → (k : ℕ) → present_in handle.new.pass k ≡ after (Delete key) (present_in handle.old.pass) k }
     ensures kept { result ≡ said_no → (k : ℕ) → present_in handle.new.pass k ≡ after (Delete key) (present_in handle.old.pass) k }
-    ensures foreign { result ≡ said_foreign → ¬ Owns handle.old.pass key }
     ensures no_tries { result ≡ said_no_tries → tries ≡ 0 }
-    ensures busy { result ≡ said_busy → hindrances handle.old.pass + tries ≤ hindrances handle.new.pass }
-    ensures spent { result ≡ said_spent → handle.new.pass.view.next ≡ Some ((arc_value handle.old.shared).tree.last_card + 1) }
-    ensures unclosed { result ≢ said_closed }
-    ensures refused { result ≢ said_yes → result ≢ said_no → (k : ℕ) → present_in handle.new.pass k ≡ present_in handle.old.pass k }
+    ensures tried { result ≢ said_no_tries → 1 ≤ tries }
+    ensures foreign { result ≡ said_foreign → ¬ Owns handle.old.pass key }
+    ensures owned { result ≢ said_no_tries → result ≢ said_foreign → Owns handle.old.pass key }
+    ensures busy { result ≡ said_busy → IsHindered (Delete key) tries handle.old handle.new }
+    ensures spent { result ≡ said_spent → IsSpent (Delete key) tries handle.old handle.new }
+    ensures codes { IsOneOf (said_yes ∷ said_no ∷ said_no_tries ∷ said_foreign ∷ said_busy ∷ said_spent ∷ []) result }
+    ensures refused { result ≢ said_yes → result ≢ said_no → StaysPut handle.old handle.new }
+    ensures keeps { KeepsKeys handle.old handle.new }
+    ensures took { TookTries tries handle.old handle.new }
 {
     match handle.delete(key, tries) {
         Ok(true) => YES,

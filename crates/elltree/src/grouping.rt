@@ -27,12 +27,16 @@ pub extern "C" fn elltree_slots_renew(
     ensures one { result ≡ said_yes → AreOfOne (handles_in slots.old) }
     ensures other_tree { result ≡ said_other_tree → ¬ AreOfOne (handles_in slots.old) }
     ensures bad_start { result ≡ said_bad_start → IsTooMuch (present_in_all (handles_in slots.old)) }
-    ensures bad_cards { result ≡ said_bad_cards → ¬ IsCardCount cards }
+    ensures bad_cards { result ≡ said_bad_cards → (¬ IsTooMuch (present_in_all (handles_in slots.old))) × (¬ IsCardCount cards) }
     ensures closed { result ≡ said_closed → ¬ All HasHandle slots.old }
     ensures held { result ≢ said_closed → result ≢ said_no_memory → All HasHandle slots.old }
     ensures codes { IsOneOf (said_yes ∷ said_closed ∷ said_other_tree ∷ said_bad_start ∷ said_bad_cards ∷ said_no_memory ∷ []) result }
     ensures refused { result ≢ said_yes → AllZip KeepsTree slots.old slots.new }
+    ensures some { result ≢ said_yes → 0 < length slots.old }
 {
+    if slots.is_empty() {
+        return YES;
+    }
     let Ok(mut handles) = Vec::with_capacity(alloc, slots.len()) else {
         return NO_MEMORY;
     };
@@ -82,7 +86,7 @@ fn renew(alloc: Global, handles: &mut Vec<Handle>, cards: u64, number: u64) -> i
     ensures one { result ≡ said_yes → AreOfOne handles.old.items }
     ensures other_tree { result ≡ said_other_tree → ¬ AreOfOne handles.old.items }
     ensures bad_start { result ≡ said_bad_start → IsTooMuch (present_in_all handles.old.items) }
-    ensures bad_cards { result ≡ said_bad_cards → ¬ IsCardCount cards }
+    ensures bad_cards { result ≡ said_bad_cards → (¬ IsTooMuch (present_in_all handles.old.items)) × (¬ IsCardCount cards) }
     ensures codes { IsOneOf (said_yes ∷ said_other_tree ∷ said_bad_start ∷ said_bad_cards ∷ said_no_memory ∷ []) result }
     ensures refused { result ≢ said_yes → AllZip StaysPut handles.old.items handles.new.items }
 {

@@ -13,6 +13,7 @@ mod parts;
 pub mod reading;
 pub mod renewing;
 mod slot;
+mod starting;
 #[cfg(test)]
 mod tests;
 

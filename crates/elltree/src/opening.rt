@@ -1,16 +1,19 @@
 //! How slots open, part, come together and close.
-ghost use Rattle.std.specs.Prelude.{◌≡◌, ◌≢◌, ◌⊎◌, ℕ, if◌then◌else◌, true, false, None, Err, IfOk, IfErr, OnOk, OnErr, [], ◌∷◌};
+ghost use Rattle.std.specs.Prelude.{◌≡◌, ◌≢◌, ◌⊎◌, ◌↔◌, ℕ, if◌then◌else◌, true, false, None, Err, IfOk, IfErr, OnOk, OnErr, [], ◌∷◌};
 ghost use Rattle.std.specs.List.{All};
 ghost use Rattle.ell_ops.specs.Contents.{contents_of};
 ghost use Rattle.ell_ops.specs.KeySet.{set_of};
-ghost use Rattle.ell_handle.specs.Opens.{MayOpen, Refuses};
+ghost use Rattle.ell_handle.specs.Opens.{IsOpened, MayOpen, Refuses};
 ghost use Rattle.ell_handle.specs.declared.refusal.Refusal.TheVariants.{BadCards, BadKey, BadStart};
 ghost use Rattle.elltree.specs.Codes.{IsOneOf, said_bad_cards, said_bad_key, said_bad_start, said_closed, said_foreign, said_no_memory, said_open, said_other_tree, said_yes};
-ghost use Rattle.elltree.specs.Maps.{IsJoined, NumbersDiffer, NumbersTell, OpenRefuses, OwnsAllIn, OwnsIn, as_pairs, handle_of, map_in, map_of};
+ghost use Rattle.elltree.specs.Groups.{KeepsTree};
+ghost use Rattle.elltree.specs.Maps.{AreOfOneTree, IsJoined, NumbersDiffer, NumbersTell, OwnsIn, as_pairs, handle_of, map_in, map_of};
+ghost use Rattle.elltree.specs.Slots.{ArePartsIn, OfHandle};
 
 use crate::Pair;
-use crate::codes::{CLOSED, NO_MEMORY, OPEN, YES, code_of_refusal};
+use crate::codes::{CLOSED, FOREIGN, NO_MEMORY, OPEN, YES, code_of_refusal};
 use crate::slot::Slot;
+use crate::starting::why_refused;
 use ell_handle::{Handle, Place, Refusal};
 use std::alloc::{AllocError, Global};
 
@@ -25,14 +28,14 @@ pub extern "C" fn elltree_slot_open(
     cards: u64,
     number: u64,
 ) -> i32
-    ensures opened { result ≡ said_yes → (k : ℕ) → map_of slot.new.raw.inside k ≡ contents_of (as_pairs start.now) k }
-    ensures owns { result ≡ said_yes → OwnsAllIn keys.now (as_pairs start.now) (handle_of slot.new.raw.inside) }
+    ensures opened { result ≡ said_yes → OfHandle (IsOpened keys.now (as_pairs start.now) cards number) (handle_of slot.new.raw.inside) }
+    ensures map { result ≡ said_yes → (k : ℕ) → map_of slot.new.raw.inside k ≡ contents_of (as_pairs start.now) k }
     ensures may { result ≡ said_yes → MayOpen keys.now (as_pairs start.now) cards }
     ensures bad_start { result ≡ said_bad_start → Refuses keys.now (as_pairs start.now) cards BadStart }
     ensures bad_key { result ≡ said_bad_key → Refuses keys.now (as_pairs start.now) cards BadKey }
     ensures bad_cards { result ≡ said_bad_cards → Refuses keys.now (as_pairs start.now) cards BadCards }
-    ensures busy { slot.old.is_open ≡ true → result ≡ said_open }
-    ensures free { result ≡ said_open → slot.old.is_open ≡ true }
+    ensures no_memory { result ≡ said_no_memory → MayOpen keys.now (as_pairs start.now) cards }
+    ensures busy { (result ≡ said_open) ↔ (slot.old.is_open ≡ true) }
     ensures codes { IsOneOf (said_yes ∷ said_open ∷ said_bad_start ∷ said_bad_key ∷ said_bad_cards ∷ said_no_memory ∷ []) result }
     ensures refused { result ≢ said_yes → slot.new.raw.inside ≡ slot.old.raw.inside }
 {
@@ -56,13 +59,15 @@ fn open(
     cards: u64,
     number: u64,
 ) -> Result<Box<Place, Global>, Refusal>
-    ensures present { IfOk result (λ place. (k : ℕ) → map_in place.value.handle k ≡ contents_of (as_pairs start.now) k) }
-    ensures owns { IfOk result (λ place. OwnsAllIn keys.now (as_pairs start.now) place.value.handle) }
+    ensures opened { IfOk result (λ place. OfHandle (IsOpened keys.now (as_pairs start.now) cards number) place.value.handle) }
+    ensures map { IfOk result (λ place. (k : ℕ) → map_in place.value.handle k ≡ contents_of (as_pairs start.now) k) }
     ensures may { OnOk result (MayOpen keys.now (as_pairs start.now) cards) }
-    ensures refused { IfErr result (OpenRefuses keys.now (as_pairs start.now) cards) }
+    ensures refused { IfErr result (Refuses keys.now (as_pairs start.now) cards) }
 {
-    let start = pairs_of(alloc, start)?;
-    let handle = Handle::open(alloc, keys, &start, cards, number)?;
+    let Ok(pairs) = pairs_of(alloc, start) else {
+        return Err(why_refused(keys, start, cards));
+    };
+    let handle = Handle::open(alloc, keys, &pairs, cards, number)?;
     let place = Place {
         handle: Some(handle),
     };
@@ -91,11 +96,12 @@ pub extern "C" fn elltree_slot_split(
         map_of into.new.raw.inside k ≡ (if set_of keys.now k then map_of from.old.raw.inside k else None) }
     ensures rest { result ≡ said_yes → (k : ℕ) →
         map_of from.new.raw.inside k ≡ (if set_of keys.now k then None else map_of from.old.raw.inside k) }
+    ensures parts { result ≡ said_yes →
+        ArePartsIn keys.now (handle_of from.old.raw.inside) (handle_of into.new.raw.inside) (handle_of from.new.raw.inside) }
     ensures numbers { result ≡ said_yes → NumbersTell (handle_of from.new.raw.inside) (handle_of into.new.raw.inside) }
-    ensures owned { result ≡ said_yes → All (OwnsIn (handle_of from.old.raw.inside)) keys.now }
     ensures foreign { result ≡ said_foreign → ¬ All (OwnsIn (handle_of from.old.raw.inside)) keys.now }
-    ensures busy { into.old.is_open ≡ true → result ≡ said_open }
-    ensures free { result ≡ said_open → into.old.is_open ≡ true }
+    ensures owned { result ≢ said_foreign → result ≢ said_closed → result ≢ said_open → All (OwnsIn (handle_of from.old.raw.inside)) keys.now }
+    ensures busy { (result ≡ said_open) ↔ (into.old.is_open ≡ true) }
     ensures closed { result ≡ said_closed → handle_of from.old.raw.inside ≡ None }
     ensures none { handle_of from.old.raw.inside ≡ None → into.old.is_open ≡ false → result ≡ said_closed }
     ensures codes { IsOneOf (said_yes ∷ said_open ∷ said_closed ∷ said_foreign ∷ said_no_memory ∷ []) result }
@@ -125,9 +131,11 @@ fn split(alloc: Global, place: &mut Place, keys: &[u64]) -> Result<Box<Place, Gl
         map_in part.value.handle k ≡ (if set_of keys.now k then map_in place.old.handle k else None)) }
     ensures rest { OnOk result ((k : ℕ) →
         map_in place.new.handle k ≡ (if set_of keys.now k then None else map_in place.old.handle k)) }
+    ensures parts { IfOk result (λ part. ArePartsIn keys.now place.old.handle part.value.handle place.new.handle) }
     ensures numbers { IfOk result (λ part. NumbersTell place.new.handle part.value.handle) }
     ensures owned { OnOk result (All (OwnsIn place.old.handle) keys.now) }
     ensures foreign { result ≡ Err said_foreign → ¬ All (OwnsIn place.old.handle) keys.now }
+    ensures no_memory { result ≡ Err said_no_memory → All (OwnsIn place.old.handle) keys.now }
     ensures closed { result ≡ Err said_closed → place.old.handle ≡ None }
     ensures none { place.old.handle ≡ None → result ≡ Err said_closed }
     ensures codes { IfErr result (IsOneOf (said_closed ∷ said_foreign ∷ said_no_memory ∷ [])) }
@@ -137,8 +145,13 @@ fn split(alloc: Global, place: &mut Place, keys: &[u64]) -> Result<Box<Place, Gl
         return Err(CLOSED);
     };
     let Ok(mut part) = Box::new(alloc, Place { handle: None }) else {
+        let code = if handle.owns_all(keys) {
+            NO_MEMORY
+        } else {
+            FOREIGN
+        };
         place.handle = Some(handle);
-        return Err(NO_MEMORY);
+        return Err(code);
     };
     match handle.split(alloc, keys) {
         Ok((given, rest)) => {
@@ -160,6 +173,7 @@ pub extern "C" fn elltree_slot_join(alloc: Global, into: &mut Slot, from: &mut S
     requires numbers { NumbersTell (handle_of into.old.raw.inside) (handle_of from.old.raw.inside) }
     ensures joined { result ≡ said_yes →
         IsJoined (handle_of into.old.raw.inside) (handle_of from.old.raw.inside) (handle_of into.new.raw.inside) }
+    ensures tree { KeepsTree into.old into.new }
     ensures given { result ≡ said_yes → from.new.raw.inside ≡ None }
     ensures other_tree { result ≡ said_other_tree →
         NumbersDiffer (handle_of into.old.raw.inside) (handle_of from.old.raw.inside) }
@@ -191,6 +205,7 @@ pub extern "C" fn elltree_slot_join(alloc: Global, into: &mut Slot, from: &mut S
 fn join(place: &mut Place, added: &mut Place) -> i32
     requires numbers { NumbersTell place.old.handle added.old.handle }
     ensures joined { result ≡ said_yes → IsJoined place.old.handle added.old.handle place.new.handle }
+    ensures tree { AreOfOneTree place.new.handle place.old.handle }
     ensures other_tree { result ≡ said_other_tree → NumbersDiffer place.old.handle added.old.handle }
     ensures numbers { result ≢ said_other_tree → ¬ NumbersDiffer place.old.handle added.old.handle }
     ensures closed { result ≡ said_closed → (place.old.handle ≡ None) ⊎ (added.old.handle ≡ None) }
@@ -224,8 +239,7 @@ fn join(place: &mut Place, added: &mut Place) -> i32
 #[unsafe(no_mangle)]
 pub extern "C" fn elltree_slot_free(alloc: Global, slot: &mut Slot) -> i32
     ensures closed { slot.new.raw.inside ≡ None }
-    ensures none { result ≡ said_closed → slot.old.raw.inside ≡ None }
-    ensures empty { slot.old.raw.inside ≡ None → result ≡ said_closed }
+    ensures none { (result ≡ said_closed) ↔ (slot.old.raw.inside ≡ None) }
     ensures codes { IsOneOf (said_yes ∷ said_closed ∷ []) result }
 {
     match slot.take(alloc) {

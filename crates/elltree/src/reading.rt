@@ -1,9 +1,11 @@
 //! What a slot owns and has.
-ghost use Rattle.std.specs.Prelude.{◌≡◌, ◌≢◌, ◌<◌, ◌≤◌, ℕ, None, length, [], ◌∷◌};
+ghost use Rattle.std.specs.Prelude.{◌≡◌, ◌≢◌, ◌<◌, ◌≤◌, ◌↔◌, None, length, [], ◌∷◌};
 ghost use Rattle.ell_cards.specs.Changes.{keys_of};
 ghost use Rattle.ell_tree.specs.Ledgers.{present_in};
+ghost use Rattle.ell_handle.specs.Groups.{StaysPut};
 ghost use Rattle.elltree.specs.Codes.{IsOneOf, said_closed, said_no_room, said_yes};
 ghost use Rattle.elltree.specs.Maps.{NeedsMore, WritesKeys, WritesPairs, handle_of, keys_in, map_of, owned_in, steps_in};
+ghost use Rattle.elltree.specs.Slots.{OfHandlesIfAny};
 
 use crate::Pair;
 use crate::codes::{CLOSED, NO_ROOM, YES};
@@ -22,11 +24,10 @@ pub extern "C" fn elltree_slot_pairs(
 ) -> i32
     ensures pairs { result ≡ said_yes → WritesPairs (map_of slot.old.raw.inside) count.new out.old out.new }
     ensures no_room { result ≡ said_no_room → NeedsMore (map_of slot.old.raw.inside) (length out.old) }
-    ensures closed { result ≡ said_closed → handle_of slot.old.raw.inside ≡ None }
-    ensures none { handle_of slot.old.raw.inside ≡ None → result ≡ said_closed }
+    ensures closed { (result ≡ said_closed) ↔ (handle_of slot.old.raw.inside ≡ None) }
     ensures codes { IsOneOf (said_yes ∷ said_no_room ∷ said_closed ∷ []) result }
     ensures count { result ≢ said_yes → count.new ≡ count.old }
-    ensures same { (k : ℕ) → map_of slot.new.raw.inside k ≡ map_of slot.old.raw.inside k }
+    ensures stays { OfHandlesIfAny StaysPut (handle_of slot.old.raw.inside) (handle_of slot.new.raw.inside) }
 {
     let Some(mut place) = slot.take(alloc) else {
         return CLOSED;
@@ -45,7 +46,7 @@ fn pairs(handle: &mut Handle, out: &mut [Pair], count: &mut usize) -> i32
     ensures no_room { result ≡ said_no_room → NeedsMore (present_in handle.old.pass) (length out.old) }
     ensures codes { IsOneOf (said_yes ∷ said_no_room ∷ []) result }
     ensures count { result ≢ said_yes → count.new ≡ count.old }
-    ensures same { (k : ℕ) → present_in handle.new.pass k ≡ present_in handle.old.pass k }
+    ensures stays { StaysPut handle.old handle.new }
 {
     let mut written = 0;
     for place in 0..handle.keys().len() {
@@ -71,8 +72,7 @@ pub extern "C" fn elltree_slot_keys(
 ) -> i32
     ensures keys { result ≡ said_yes → WritesKeys (keys_in (handle_of slot.old.raw.inside)) count.new out.old out.new }
     ensures no_room { result ≡ said_no_room → length out.old < owned_in (handle_of slot.old.raw.inside) }
-    ensures closed { result ≡ said_closed → handle_of slot.old.raw.inside ≡ None }
-    ensures none { handle_of slot.old.raw.inside ≡ None → result ≡ said_closed }
+    ensures closed { (result ≡ said_closed) ↔ (handle_of slot.old.raw.inside ≡ None) }
     ensures codes { IsOneOf (said_yes ∷ said_no_room ∷ said_closed ∷ []) result }
     ensures kept { result ≢ said_yes → (out.new ≡ out.old) × (count.new ≡ count.old) }
     ensures same { slot.new.raw.inside ≡ slot.old.raw.inside }
@@ -118,8 +118,9 @@ fn write_keys(keys: &[u64], out: &mut [u64])
 #[unsafe(no_mangle)]
 pub extern "C" fn elltree_slot_owned(alloc: Global, slot: &mut Slot, count: &mut usize) -> i32
     ensures count { result ≡ said_yes → count.new ≡ owned_in (handle_of slot.old.raw.inside) }
-    ensures closed { result ≡ said_closed → handle_of slot.old.raw.inside ≡ None }
-    ensures none { handle_of slot.old.raw.inside ≡ None → result ≡ said_closed }
+    ensures closed { (result ≡ said_closed) ↔ (handle_of slot.old.raw.inside ≡ None) }
+    ensures codes { IsOneOf (said_yes ∷ said_closed ∷ []) result }
+    ensures kept { result ≢ said_yes → count.new ≡ count.old }
     ensures same { slot.new.raw.inside ≡ slot.old.raw.inside }
 {
     let Some(place) = slot.take(alloc) else {
@@ -140,8 +141,9 @@ pub extern "C" fn elltree_slot_owned(alloc: Global, slot: &mut Slot, count: &mut
 #[unsafe(no_mangle)]
 pub extern "C" fn elltree_slot_steps(alloc: Global, slot: &mut Slot, steps: &mut u64) -> i32
     ensures steps { result ≡ said_yes → steps.new ≡ steps_in (handle_of slot.old.raw.inside) }
-    ensures closed { result ≡ said_closed → handle_of slot.old.raw.inside ≡ None }
-    ensures none { handle_of slot.old.raw.inside ≡ None → result ≡ said_closed }
+    ensures closed { (result ≡ said_closed) ↔ (handle_of slot.old.raw.inside ≡ None) }
+    ensures codes { IsOneOf (said_yes ∷ said_closed ∷ []) result }
+    ensures kept { result ≢ said_yes → steps.new ≡ steps.old }
     ensures same { slot.new.raw.inside ≡ slot.old.raw.inside }
 {
     let Some(place) = slot.take(alloc) else {

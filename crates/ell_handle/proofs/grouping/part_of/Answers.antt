@@ -3,11 +3,11 @@ use Rattle.ell_handle.proofs.grouping.part_of.Goals as goal
 
 pub returns-in-Ok-clause-part : goal.returns-in-Ok-clause-part
 returns-in-Ok-clause-part c =
-    is_part c.args.whole c.args.handle.now c.keys.result.now c.keys.ensures.keys c.in-Ok.parts.0 c.in-Ok.ensures.owned c.in-Ok.ensures.trees.0 c.in-Ok.ensures.left
+    is_part c.args.whole c.args.handle.now c.keys.result.now c.keys.ensures.keys c.in-Ok.parts.0 c.in-Ok.ensures.owned c.in-Ok.ensures.parts.part_tree c.in-Ok.ensures.parts.left
 
 pub returns-in-Ok-clause-rest : goal.returns-in-Ok-clause-rest
 returns-in-Ok-clause-rest c =
-    is_rest c.args.whole c.args.handle.now c.keys.result.now c.keys.ensures.keys c.in-Ok.parts.1 c.in-Ok.ensures.trees.1 c.in-Ok.ensures.right
+    is_rest c.args.whole c.args.handle.now c.keys.result.now c.keys.ensures.keys c.in-Ok.parts.1 c.in-Ok.ensures.parts.rest_tree c.in-Ok.ensures.parts.right
 
 pub returns-in-Ok-clause-owned : goal.returns-in-Ok-clause-owned
 returns-in-Ok-clause-owned c = owns_keys c.args.whole c.args.handle.now c.keys.result.now c.keys.ensures.keys c.in-Ok.ensures.owned

@@ -28,7 +28,7 @@ parts_of-requires c = record {
       let all : ListsPairs (present_in_all olds) pairs = subst (ListsPairs (present_in_all olds)) (sym c.deref-2.ensures.value) c.in_ok-pairs.ensures.pairs in
       let keys : set_of c.deref.result.now ≡ set_of (keys_of_all hs) = ap set_of c.deref.ensures.value ∙ c.in_ok-keys.ensures.each in
       let whole = c.in_ok-whole.whole in
-      whole_owns olds hs pairs all whole (owns_same c.deref.result.now (keys_of_all hs) pairs (arc_value whole.shared).tree whole.pass keys c.in_ok-whole.ensures.owns);
+      whole_owns olds hs pairs all whole (owns_same c.deref.result.now (keys_of_all hs) pairs (arc_value whole.shared).tree whole.pass keys c.in_ok-whole.ensures.opened.owns);
 }
 
 -- why there are no parts of it
@@ -55,8 +55,8 @@ returns-clause-renewed c =
     let all : ListsPairs (present_in_all olds) pairs = subst (ListsPairs (present_in_all olds)) (sym c.deref-2.ensures.value) c.in_ok-pairs.ensures.pairs in
     let keys : set_of c.deref.result.now ≡ set_of (keys_of_all hs) = ap set_of c.deref.ensures.value ∙ c.in_ok-keys.ensures.each in
     let whole = c.in_ok-whole.whole in
-    renewed olds hs pairs all whole (owns_same c.deref.result.now (keys_of_all hs) pairs (arc_value whole.shared).tree whole.pass keys c.in_ok-whole.ensures.owns)
-    c.pairs_of_all.ensures.kept c.deref.result.now c.args.cards c.args.number c.in_ok-parts.parts.items c.in_ok-whole.ensures.number c.in_ok-whole.ensures.last
+    renewed olds hs pairs all whole (owns_same c.deref.result.now (keys_of_all hs) pairs (arc_value whole.shared).tree whole.pass keys c.in_ok-whole.ensures.opened.owns)
+    c.pairs_of_all.ensures.kept c.deref.result.now c.args.cards c.args.number c.in_ok-parts.parts.items c.in_ok-whole.ensures.opened
     c.in_ok-whole.ensures.may c.in_ok-parts.ensures.parts
 
 pub returns-clause-one : goal.returns-clause-one

@@ -10,7 +10,7 @@ use Rattle.elltree.proofs.calls.look.Goals.{After-told}
 -- what the look found, on the tree that the handle has still
 finds : (c : After-told) (there : Option ℕ) → c.look.result ≡ Ok there → IsFoundBy (Some c.look.new.self) c.args.key there
 finds c there is = record {
-  so = subst (λ (t : SharedTree). IsFoundInRuns t.tree.keys t.tree.start t.tree.last_card c.look.new.self.pass.view c.args.key there) (ap arc_value (sym c.look.ensures.tree))
+  so = subst (λ (t : SharedTree). IsFoundInRuns t.tree.keys t.tree.start t.tree.last_card c.look.new.self.pass.view c.args.key there) (ap arc_value (sym c.look.ensures.reads.stays.tree))
       (subst (λ (r : Result (Option ℕ) Refusal). IfOk r (IsFoundInRuns (arc_value c.args.handle.now.shared).tree.keys (arc_value c.args.handle.now.shared).tree.start (arc_value c.args.handle.now.shared).tree.last_card c.look.new.self.pass.view c.args.key)) is c.look.ensures.so);
 }
 

@@ -5,6 +5,7 @@ use Rattle.std.specs.List.Sorted.{IsStrictlyIncreasing}
 use Rattle.ell_ops.specs.Contents.{ListsPairs}
 use Rattle.ell_cards.specs.Changes.{keys_of}
 use Rattle.ell_tree.specs.Ledgers.{present_in}
+use Rattle.ell_handle.proofs.Anew.{same_owned}
 use Rattle.ell_handle.proofs.Listing.{listed_less, listed_more, lists_pairs, none_else, pairs_at}
 use Rattle.elltree.specs.declared.Pair.{Pair}
 use Rattle.elltree.specs.Maps.{as_pairs}
@@ -28,6 +29,22 @@ returns-then-written-out-clause-no_room c = λ _ pairs lists.
     let count : length (as_pairs written) ≡ c.loop-place.written =
     length-map written (λ (q : Pair). (q.key, q.value)) ∙ length-take-le c.loop-place.written c.loop-place.out c.loop-place.invariant.fits in
     omega arith
+
+-- keys, map and tree stay
+pub returns-then-written-out-clause-stays : goal.returns-then-written-out-clause-stays
+returns-then-written-out-clause-stays c = record {
+  same = record {
+    map = λ k. c.pair.ensures.map k ∙ c.loop-place.invariant.map k;
+    owned = same_owned c.pair.new.self.pass c.args.handle.now.pass (c.pair.ensures.keys ∙ c.loop-place.invariant.keys);
+  };
+  tree = c.pair.ensures.tree ∙ c.loop-place.invariant.tree;
+}
+
+pub returns-clause-stays : goal.returns-clause-stays
+returns-clause-stays c = record {
+  same = record { map = c.loop-place.invariant.map; owned = same_owned c.loop-place.handle.pass c.args.handle.now.pass c.loop-place.invariant.keys };
+  tree = c.loop-place.invariant.tree;
+}
 
 -- one pair more, or none
 pub loop-place-preserved : goal.loop-place-preserved
@@ -62,6 +79,7 @@ loop-place-preserved c =
       ];
       keys = c.pair.ensures.keys ∙ c.loop-place.invariant.keys;
       map = λ k. c.pair.ensures.map k ∙ c.loop-place.invariant.map k;
+      tree = c.pair.ensures.tree ∙ c.loop-place.invariant.tree;
     }
 
 -- all pairs

@@ -13,4 +13,5 @@ invariant-loop-place l = record {
   others : drop l.written l.out ≡ drop l.written l.fn.out;
   keys : keys_of l.handle.pass.view.worker.ledger ≡ keys_of l.fn.handle.pass.view.worker.ledger;
   map : (k : ℕ) → present_in l.handle.pass k ≡ present_in l.fn.handle.pass k;
+  tree : l.handle.shared ≡ l.fn.handle.shared;
 }

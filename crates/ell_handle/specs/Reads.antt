@@ -1,0 +1,31 @@
+use Rattle.std.specs.Prelude.{◌≡◌, ◌↔◌, ℕ}
+use Rattle.std.specs.Arc.{arc_value}
+use Rattle.ell_tree.specs.Counts.{Took}
+use Rattle.ell_tree.specs.Ends.{find_steps}
+use Rattle.ell_tree.specs.Ledgers.{Owns}
+use Rattle.ell_tree.specs.Looks.{look_steps}
+use Rattle.ell_handle.specs.Groups.{StaysPut}
+use Rattle.ell_handle.specs.declared.handle.Handle.{Handle}
+
+-- the number of the last card of a handle's tree
+abbrev pub last_card_of : Handle → ℕ
+last_card_of h = (arc_value h.shared).tree.last_card
+
+-- a handle owns the keys that it owned, in its tree
+pub record KeepsKeys (old new : Handle) : Type 0 where
+  pub owned : (k : ℕ) → Owns new.pass k ↔ Owns old.pass k
+  pub tree : new.shared ≡ old.shared
+
+-- a call left a handle its keys, its map and its tree; it took so many steps at most, and nothing was in its way
+pub record OnlyReads (steps : ℕ) (old new : Handle) : Type 0 where
+  pub stays : StaysPut old new
+  pub took : Took old.pass new.pass steps
+  pub calm : new.pass.view.hindrances ≡ old.pass.view.hindrances
+
+-- and no more than a find takes
+abbrev pub OnlyFinds : Handle → Handle → Type 0
+OnlyFinds old new = OnlyReads (find_steps (last_card_of old)) old new
+
+-- no more than a look takes
+abbrev pub OnlyLooksUp : Handle → Handle → Type 0
+OnlyLooksUp old new = OnlyReads (look_steps (last_card_of old)) old new

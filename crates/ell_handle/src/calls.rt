@@ -1,0 +1,101 @@
+//! Finds, looks, inserts and deletes.
+ghost use Rattle.std.specs.Prelude.{◌≡◌, ◌<◌, ◌≤◌, IfOk, IfErr, OnOk, OnErr};
+ghost use Rattle.std.specs.Arc.{arc_value};
+ghost use Rattle.ell_ops.specs.declared.op.Op.TheVariants.{Find, Insert, Delete};
+ghost use Rattle.ell_ops.specs.Meaning.{found, greatest_key, yes_if};
+ghost use Rattle.ell_cards.specs.Looking.{IsFoundInRuns};
+ghost use Rattle.ell_tree.specs.Ends.{Answers};
+ghost use Rattle.ell_tree.specs.Ledgers.{Owns, present_in};
+ghost use Rattle.ell_tree.specs.Looks.{OnlyLooks, look_steps};
+ghost use Rattle.ell_handle.specs.Groups.{StaysPut};
+ghost use Rattle.ell_handle.specs.Reads.{KeepsKeys, OnlyFinds, OnlyLooksUp, last_card_of};
+ghost use Rattle.ell_handle.specs.Tries.{ChangeRefuses, MayChange, TookTries, TryRefuses};
+ghost use Rattle.ell_handle.specs.declared.refusal.Refusal.TheVariants.{BadKey, Foreign};
+
+use crate::handle::Handle;
+use crate::refusal::Refusal;
+use ell_tree::{KEY_MAX, NoGate};
+
+impl Handle {
+    /// The value of a key of the handle's, if the key is present. `Foreign` where the handle does not own the key.
+    pub fn find(&mut self, key: u64) -> Result<Option<u64>, Refusal>
+        ensures answers { IfOk result (λ there. Answers (Find key) (found there) self.old.pass self.new.pass) }
+        ensures owned { OnOk result (Owns self.old.pass key) }
+        ensures foreign { IfErr result (λ why. (why ≡ Foreign) × (¬ Owns self.old.pass key)) }
+        ensures reads { OnlyFinds self.old self.new }
+        ensures refused { OnErr result (self.new ≡ self.old) }
+    {
+        if !self.pass.owns(key) {
+            return Err(Refusal::Foreign);
+        }
+        Ok(self.shared.tree.find(&mut self.pass, key, &NoGate))
+    }
+
+    /// The value of any key of the tree, whoever owns it, if it is present: as it was in one state of the tree between the first step of the
+    /// look and its last. It waits for nobody. `BadKey` where the key is above `KEY_MAX`.
+    pub fn look(&mut self, key: u64) -> Result<Option<u64>, Refusal>
+        ensures so { IfOk result (IsFoundInRuns (arc_value self.old.shared).tree.keys (arc_value self.old.shared).tree.start
+            (arc_value self.old.shared).tree.last_card self.new.pass.view key) }
+        ensures mine { IfOk result (λ there. Owns self.old.pass key → there ≡ present_in self.old.pass key) }
+        ensures only { OnOk result (OnlyLooks self.old.pass self.new.pass (look_steps (last_card_of self.old))) }
+        ensures real { OnOk result (key ≤ greatest_key) }
+        ensures bad_key { IfErr result (λ why. (why ≡ BadKey) × (greatest_key < key)) }
+        ensures reads { OnlyLooksUp self.old self.new }
+        ensures refused { OnErr result (self.new ≡ self.old) }
+    {
+        if key > KEY_MAX {
+            return Err(Refusal::BadKey);
+        }
+        Ok(self.shared.tree.look(&mut self.pass, key, &NoGate))
+    }
+
+    /// Adds a key of the handle's with its value: whether the key was absent. A key that is present keeps its value. `NoTries` where no try
+    /// is allowed, then `Foreign` where the handle does not own the key; `Busy` where something was in the way of each try, and `Spent`
+    /// where all cards are given out.
+    pub fn insert(&mut self, key: u64, value: u64, tries: u32) -> Result<bool, Refusal>
+        ensures answers { IfOk result (λ said. Answers (Insert key value) (yes_if said) self.old.pass self.new.pass) }
+        ensures may { OnOk result (MayChange key tries self.old) }
+        ensures why { IfErr result (ChangeRefuses (Insert key value) tries self.old self.new) }
+        ensures refused { OnErr result (StaysPut self.old self.new) }
+        ensures keeps { KeepsKeys self.old self.new }
+        ensures took { TookTries tries self.old self.new }
+    {
+        self.may_change(key, tries)?;
+        Ok(
+            self.shared
+                .tree
+                .insert(&mut self.pass, key, value, tries, &NoGate)?,
+        )
+    }
+
+    /// Takes a key of the handle's away, with its value: whether it was present. Refusals are as of `insert`.
+    pub fn delete(&mut self, key: u64, tries: u32) -> Result<bool, Refusal>
+        ensures answers { IfOk result (λ said. Answers (Delete key) (yes_if said) self.old.pass self.new.pass) }
+        ensures may { OnOk result (MayChange key tries self.old) }
+        ensures why { IfErr result (ChangeRefuses (Delete key) tries self.old self.new) }
+        ensures refused { OnErr result (StaysPut self.old self.new) }
+        ensures keeps { KeepsKeys self.old self.new }
+        ensures took { TookTries tries self.old self.new }
+    {
+        self.may_change(key, tries)?;
+        Ok(
+            self.shared
+                .tree
+                .delete(&mut self.pass, key, tries, &NoGate)?,
+        )
+    }
+
+    // Whether a change of a key may be tried.
+    fn may_change(&self, key: u64, tries: u32) -> Result<(), Refusal>
+        ensures may { OnOk result (MayChange key tries self.now) }
+        ensures why { IfErr result (TryRefuses key tries self.now) }
+    {
+        if tries == 0 {
+            return Err(Refusal::NoTries);
+        }
+        if !self.pass.owns(key) {
+            return Err(Refusal::Foreign);
+        }
+        Ok(())
+    }
+}

@@ -1,0 +1,123 @@
+//! How handles begin, part and come together.
+ghost use Rattle.std.specs.Prelude.{if◌then◌else◌, ◌≡◌, ◌≢◌, ℕ, None, IfOk, IfErr, OnOk};
+ghost use Rattle.std.specs.Arc.{arc_value};
+ghost use Rattle.std.specs.List.{All};
+ghost use Rattle.ell_ops.specs.Contents.{contents_of};
+ghost use Rattle.ell_ops.specs.KeySet.{set_of};
+ghost use Rattle.ell_tree.specs.Ledgers.{Owns, present_in};
+ghost use Rattle.ell_tree.specs.PassParts.{IsUnion};
+ghost use Rattle.ell_handle.specs.Opens.{IsOpened, MayOpen, Refuses};
+ghost use Rattle.ell_handle.specs.Parts.{AreParts, JoinRefuses, SplitRefuses};
+ghost use Rattle.ell_handle.specs.declared.refusal.Refusal.TheVariants.{NoMemory};
+
+use crate::handle::{Handle, SharedTree};
+use crate::keys::{all_keys, are_keys, each_once, is_card_count, is_start, keys_in};
+use crate::refusal::Refusal;
+use ell_tree::Tree;
+use std::alloc::Global;
+use std::sync::Arc;
+
+impl Handle {
+    /// A tree of so many cards that has the start keys with their values, and the handle that owns these keys and the start keys. Trees
+    /// that are open at once have different numbers. `BadStart` if the start keys do not ascend strictly or are more than `START_MAX`, then
+    /// `BadKey` if a key is above `KEY_MAX`, then `BadCards` if the cards are not 1 to 1,000,000, and only then `NoMemory`.
+    pub fn open(
+        alloc: Global,
+        keys: &[u64],
+        start: &[(u64, u64)],
+        cards: u64,
+        number: u64,
+    ) -> Result<Handle, Refusal>
+        ensures opened { IfOk result (IsOpened keys.now start.now cards number) }
+        ensures present { IfOk result (λ made. present_in made.pass ≡ contents_of start.now) }
+        ensures may { OnOk result (MayOpen keys.now start.now cards) }
+        ensures refused { IfErr result (Refuses keys.now start.now cards) }
+    {
+        may_open(keys, start, cards)?;
+        let first = keys_in(alloc, start)?;
+        let keys = all_keys(alloc, &first, keys)?;
+        let (tree, pass) = Tree::reserve_from(alloc, start, &keys, cards)?;
+        let shared = Arc::new(alloc, SharedTree { tree, keys, number })?;
+        Ok(Handle { shared, pass })
+    }
+
+    /// Two handles of one: the first has these of its keys, and the second the others. `Foreign` if a key is not its own, and else
+    /// `NoMemory` if memory is refused. A handle without keys may look.
+    pub fn split(self, alloc: Global, wanted: &[u64]) -> Result<(Handle, Handle), (Handle, Refusal)>
+        ensures parts { IfOk result (λ parts. AreParts wanted.now self parts.0 parts.1) }
+        ensures given { IfOk result (λ parts. (k : ℕ) → present_in parts.0.pass k ≡ (if set_of wanted.now k then present_in self.pass k else None)) }
+        ensures rest { IfOk result (λ parts. (k : ℕ) → present_in parts.1.pass k ≡ (if set_of wanted.now k then None else present_in self.pass k)) }
+        ensures owned { OnOk result (All (λ k. Owns self.pass k) wanted.now) }
+        ensures why { IfErr result (λ refused. SplitRefuses wanted.now self.pass refused.1) }
+        ensures refused { IfErr result (λ refused. refused.0 ≡ self) }
+    {
+        if !self.owns_all(wanted) {
+            return Err((self, Refusal::Foreign));
+        }
+        let Ok(keys) = each_once(alloc, wanted) else {
+            return Err((self, Refusal::NoMemory));
+        };
+        let Ok(other) = Arc::try_clone(&self.shared) else {
+            return Err((self, Refusal::NoMemory));
+        };
+        let Handle { shared, pass } = self;
+        match shared.tree.split(pass, &keys) {
+            Ok((left, right)) => {
+                let left = Handle { shared, pass: left };
+                let right = Handle {
+                    shared: other,
+                    pass: right,
+                };
+                Ok((left, right))
+            }
+            Err((pass, _)) => Err((Handle { shared, pass }, Refusal::NoMemory)),
+        }
+    }
+
+    /// One handle of two, with the keys of both. `OtherTree` if their numbers differ, and else `NoMemory` if memory is refused. Condition:
+    /// equal numbers mean one tree.
+    pub fn join(self, other: Handle) -> Result<Handle, (Handle, Handle, Refusal)>
+        requires numbers { (arc_value other.shared).number ≡ (arc_value self.shared).number → other.pass.table ≡ self.pass.table }
+        ensures union { IfOk result (λ both. IsUnion self.pass other.pass both.pass) }
+        ensures tree { IfOk result (λ both. both.shared ≡ self.shared) }
+        ensures numbers { OnOk result ((arc_value other.shared).number ≡ (arc_value self.shared).number) }
+        ensures why { IfErr result (λ refused. JoinRefuses (arc_value other.shared).number (arc_value self.shared).number refused.2) }
+        ensures refused { IfErr result (λ refused. (refused.0 ≡ self) × (refused.1 ≡ other)) }
+    {
+        if other.shared.number != self.shared.number {
+            return Err((self, other, Refusal::OtherTree));
+        }
+        let Handle { shared, pass } = self;
+        let Handle {
+            shared: also,
+            pass: added,
+        } = other;
+        match shared.tree.join(pass, added) {
+            Ok(pass) => Ok(Handle { shared, pass }),
+            Err((pass, added, _)) => {
+                let other = Handle {
+                    shared: also,
+                    pass: added,
+                };
+                Err((Handle { shared, pass }, other, Refusal::NoMemory))
+            }
+        }
+    }
+}
+
+// Whether a tree may be opened over these keys and start keys with so many cards, and else why not.
+fn may_open(keys: &[u64], start: &[(u64, u64)], cards: u64) -> Result<(), Refusal>
+    ensures may { OnOk result (MayOpen keys.now start.now cards) }
+    ensures refused { IfErr result (λ why. Refuses keys.now start.now cards why × (why ≢ NoMemory)) }
+{
+    if !is_start(start) {
+        return Err(Refusal::BadStart);
+    }
+    if !are_keys(keys, start) {
+        return Err(Refusal::BadKey);
+    }
+    if !is_card_count(cards) {
+        return Err(Refusal::BadCards);
+    }
+    Ok(())
+}
