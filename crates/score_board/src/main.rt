@@ -69,7 +69,10 @@ fn add(board: &Tree<Global>, pass: Pass<Global>, player: u64, points: u64) -> Re
         bail!("player {player} has too many points");
     };
     board.delete(&mut pass, player, TRIES, &NoGate)?;
-    board.insert(&mut pass, player, sum, TRIES, &NoGate)?;
+    if let Err(held) = board.insert(&mut pass, player, sum, TRIES, &NoGate) {
+        // No score of the player is in the map now: the error has it.
+        bail!("player {player} has {sum} points, which did not go in: {held}");
+    }
     Ok(pass)
 }
 

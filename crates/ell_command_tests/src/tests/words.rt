@@ -57,15 +57,35 @@ fn refuses_with<R: Threads + Sync + AllocGlobal>(rt: &R, words: &[&str], part: &
 
 #[test]
 fn tells_of_a_file_that_it_reads_standard_input(rt: HostRuntime) {
-    assert!(rt; refuses_with(&rt, &["run", "bulk.txt"], "Usage: elltree run [OPTIONS] < FILE"));
-    assert!(rt; refuses_with(&rt, &["replay", "steps.txt"], "Usage: elltree replay < FILE"));
+    assert!(rt;
+        refuses_with(
+            &rt,
+            &["run", "bulk.txt"],
+            "Usage: elltree run [OPTIONS] < FILE"
+        )
+    );
+    assert!(rt;
+        refuses_with(
+            &rt,
+            &["replay", "steps.txt"],
+            "Usage: elltree replay < FILE"
+        )
+    );
 }
 
 #[test]
 fn shows_its_version(rt: HostRuntime) {
     assert!(rt; ends_into(&rt, &["--version"], "insert", WIDE, (0, VERSION, "")));
     assert!(rt; ends_into(&rt, &["-V"], "insert", WIDE, (0, VERSION, "")));
-    assert!(rt; ends_into(&rt, &["-V"], "insert", FIVE_BYTES, (4, "elltr", WRITE_FAILED)));
+    assert!(rt;
+        ends_into(
+            &rt,
+            &["-V"],
+            "insert",
+            FIVE_BYTES,
+            (4, "elltr", WRITE_FAILED)
+        )
+    );
 }
 
 // Words, and the request that they come to.

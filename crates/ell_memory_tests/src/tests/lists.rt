@@ -149,7 +149,10 @@ fn run_in_order(heap: &Heap, refusal: Refusal, list: &[Op], replies: &[Reply]) -
     heap.stop();
     match back {
         Ok(back) => {
-            let first = back.iter().zip(&replies[1..]).all(|(one, other)| *one == *other);
+            let first = back
+                .iter()
+                .zip(&replies[1..])
+                .all(|(one, other)| *one == *other);
             Ended::answered(back.len() == MANY && first && back.last() == replies.first())
         }
         Err(NoMemory) => Ended::NoMemory,
@@ -203,10 +206,15 @@ fn operations_are_parted_or_there_is_no_memory(rt: HostRuntime) {
 fn operations_are_put_in_order_and_replies_back_or_there_is_no_memory(rt: HostRuntime) {
     let mut list = vec![in rt.alloc(); Op::Find(1); MANY - 1].expect(&rt, "no memory");
     list.push(Op::Find(2)).expect(&rt, "no memory");
-    let replies = (0..MANY as u64).map(Reply::Found).collect::<Vec<_>>(rt.alloc());
+    let replies = (0..MANY as u64)
+        .map(Reply::Found)
+        .collect::<Vec<_>>(rt.alloc());
     let replies = replies.expect(&rt, "no memory");
     assert!(rt; replies.len() == list.len() && list.len() == MANY);
-    sweep(&rt, |heap, refusal| run_in_order(heap, refusal, &list, &replies));
+    sweep(
+        &rt,
+        |heap, refusal| run_in_order(heap, refusal, &list, &replies),
+    );
 }
 
 #[test]

@@ -27,7 +27,10 @@ fn words_read<R: Threads + Abort + AllocGlobal + Sync>(rt: &R, count: u64) -> u6
     let gate = Counting::new(rt.alloc(), 1, NoGate).expect(rt, "memory");
     let (mut reader, mut out) = (text.as_slice(), Vec::new(rt.alloc()));
     let ran = run_bytes_watched(rt, rt.alloc(), &mut reader, &mut out, ALONE, &gate);
-    assert!(rt; ran.is_ok() && out.as_slice() == answer.as_slice(), "of {count}");
+    assert!(rt;
+        ran.is_ok() && out.as_slice() == answer.as_slice(),
+        "of {count}"
+    );
     gate.count(0, Kind::Look)
 }
 

@@ -73,12 +73,7 @@ fn as_many_cards_as_were_asked_for_can_be_taken(rt: HostRuntime) {
 }
 
 // Does an operation: how many cards are left then.
-fn left_after(
-    rt: &impl Abort,
-    tree: &Tree<Global>,
-    pass: &mut Pass<Global>,
-    op: Op,
-) -> u64
+fn left_after(rt: &impl Abort, tree: &Tree<Global>, pass: &mut Pass<Global>, op: Op) -> u64
     requires own { pass.old.table ≡ tree.now.id }
     requires idle { IsIdle pass.old }
     ensures own { pass.new.table ≡ tree.now.id }

@@ -84,8 +84,8 @@ returns-clause-bad_cards c = λ said.
     let fits : SFits w32 c.renew-code.result = search rules in
     let bad = c.renew-code.ensures.bad_cards (sym (to_z-of_z w32 c.renew-code.result fits) ∙ said) in (
       subst (λ hs. ¬ IsTooMuch (present_in_all hs))
-      (sym (taken_all c.args.slots.now c.take_all.new.slots c.take_all.new.handles.items c.take_all.ensures.taken (c.take_all.ensures.all c.if-not-take_all.false)))
-      bad.0,
+          (sym (taken_all c.args.slots.now c.take_all.new.slots c.take_all.new.handles.items c.take_all.ensures.taken (c.take_all.ensures.all c.if-not-take_all.false)))
+          bad.0,
       bad.1,
     )
 
