@@ -148,13 +148,9 @@ fn run_in_order(heap: &Heap, refusal: Refusal, list: &[Op], replies: &[Reply]) -
     let back = put_back(heap, list, replies);
     heap.stop();
     match back {
-        Ok(back) => {
-            let first = back
-                .iter()
-                .zip(&replies[1..])
-                .all(|(one, other)| *one == *other);
-            Ended::answered(back.len() == MANY && first && back.last() == replies.first())
-        }
+        Ok(back) => Ended::answered(
+            back.len() == MANY && back.first() == replies.get(1) && back.last() == replies.first(),
+        ),
         Err(NoMemory) => Ended::NoMemory,
     }
 }
