@@ -8,6 +8,8 @@ pub mod Numbered
 pub mod Reordered
 -- The keys that a list leaves, and their ranks, one operation after the other.
 pub mod Leaving
+-- Operations dealt to hands.
+pub mod Dealing
 -- The turns of operations, one operation after the other.
 pub mod Turning
 -- Places sorted by their keys, and turns by their rounds.

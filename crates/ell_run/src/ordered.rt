@@ -1,5 +1,6 @@
-//! A list run in rounds, and answered in its own order.
+//! A list run in hands and rounds, and answered in its own order.
 ghost use Rattle.std.specs.Prelude.{◌≡◌, ◌≤◌, All, IfOk, length};
+ghost use denote.Param.Send.{Frees, IsSend, IsSync};
 ghost use Rattle.std.specs.List.Sorted.{IsStrictlyIncreasing};
 ghost use Rattle.std.specs.Map.{keys_of as keys_in};
 ghost use Rattle.ell_ops.specs.Contents.{ListsPairs, contents_of};
@@ -48,9 +49,10 @@ pub(crate) fn run_in_order<
     let limits = limits_for(ops, settings);
     let count = words_of_all(ops, start.len(), settings.workers, limits);
     let put_in_order = || -> Result<RunOrder<'_, A>, NoMemory>
+        requires { IsSync R.row × IsSend A.row × IsSync A.row × Frees A.Allocator A.dealloc_token }
         ensures given { IfOk result (λ order. order.given ≡ ops.entry.now) }
         ensures order { IfOk result (λ order. IsRunOrder ops.entry.now order.items) }
-    { RunOrder::of(alloc, ops) };
+    { RunOrder::of(rt, alloc, ops) };
     let (memory, order) = fill_beside(rt, memory, count, put_in_order);
     let order = order?;
     let ordered = order.ops();
