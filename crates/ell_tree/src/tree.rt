@@ -9,7 +9,6 @@ ghost use Rattle.ell_ops.specs.Meaning.{greatest_key, found};
 ghost use Rattle.ell_word.specs.Node.{most_start};
 ghost use Rattle.ell_core.specs.state.Opening.{last_card};
 ghost use Rattle.ell_cards.specs.Models.{IsCardCount, Refuses};
-ghost use Rattle.ell_cards.specs.Looking.{IsFoundInRuns};
 ghost use Rattle.ell_tree.specs.CardsLeft.{AreLeftAtMost, ReadsCardsLeft};
 ghost use Rattle.ell_tree.specs.CardsTaken.{TakesNoCard};
 ghost use Rattle.ell_tree.specs.Closing.{ClosesTo};
@@ -17,8 +16,8 @@ ghost use Rattle.ell_tree.specs.Counts.{Took};
 ghost use Rattle.ell_tree.specs.Ends.{Answers, Ends, find_steps, replied};
 ghost use Rattle.ell_tree.specs.Moves.{moves_known};
 ghost use Rattle.ell_tree.specs.declared.operations.Held.TheVariants.{Busy};
-ghost use Rattle.ell_tree.specs.Ledgers.{IsIdle, IsIdlePassOf, Owns, TreeModel, present_in};
-ghost use Rattle.ell_tree.specs.Looks.{OnlyLooks, look_steps};
+ghost use Rattle.ell_tree.specs.Ledgers.{IsIdlePassOf, Owns, TreeModel, present_in};
+ghost use Rattle.ell_tree.specs.Looks.{IsFoundIn, OnlyLooks, look_steps};
 ghost use Rattle.ell_tree.specs.PassParts.{IsFirst, IsLeftPart, IsRightPart, IsUnion};
 ghost use Rattle.ell_tree.specs.Promises.{IsOthersDoing, IsQuiet, IsWithin, MayDo, SpendsCards};
 
@@ -122,8 +121,7 @@ impl<A: Allocator + Copy> Tree<A> {
         pass: Pass<A>,
         left_keys: &[u64],
     ) -> Result<(Pass<A>, Pass<A>), (Pass<A>, NoMemory)>
-        requires own { pass.table ≡ self.now.id }
-        requires idle { IsIdle pass }
+        requires may { IsIdlePassOf self.now pass }
         requires ascending { IsStrictlyIncreasing left_keys.now }
         requires owned { All (λ k. Owns pass k) left_keys.now }
         ensures left { IfOk result (λ parts. IsLeftPart left_keys.now pass parts.0) }
@@ -139,10 +137,8 @@ impl<A: Allocator + Copy> Tree<A> {
         left: Pass<A>,
         right: Pass<A>,
     ) -> Result<Pass<A>, (Pass<A>, Pass<A>, NoMemory)>
-        requires left { left.table ≡ self.now.id }
-        requires right { right.table ≡ self.now.id }
-        requires left_idle { IsIdle left }
-        requires right_idle { IsIdle right }
+        requires left { IsIdlePassOf self.now left }
+        requires right { IsIdlePassOf self.now right }
         ensures joined { IfOk result (IsUnion left right) }
         ensures refused { IfErr result (λ refused. (refused.0 ≡ left) × (refused.1 ≡ right)) }
     {
@@ -157,7 +153,7 @@ impl<A: Allocator + Copy> Tree<A> {
     pub fn look<G: StepGate>(&self, pass: &mut Pass<A>, key: u64, gate: &G) -> Option<u64>
         requires may { IsIdlePassOf self.now pass.old }
         requires real { key ≤ greatest_key }
-        ensures so { IsFoundInRuns self.now.keys self.now.start self.now.last_card pass.new.view key result }
+        ensures so { IsFoundIn self.now pass.new.view key result }
         ensures one { pass.new.view.looks ≡ pass.old.view.looks + 1 }
         ensures mine { Owns pass.old key → result ≡ present_in pass.old key }
         ensures only { OnlyLooks pass.old pass.new (look_steps self.now.last_card) }
@@ -257,8 +253,7 @@ impl<A: Allocator + Copy> Tree<A> {
     /// Ends the tree, by a pass that owns all its keys: those that are present with their values, the keys strictly ascending. Where
     /// memory is refused, tree and pass come back as they were.
     pub fn close(self, pass: Pass<A>) -> Result<Vec<(u64, u64), A>, (Tree<A>, Pass<A>, NoMemory)>
-        requires own { pass.table ≡ self.id }
-        requires idle { IsIdle pass }
+        requires may { IsIdlePassOf self pass }
         requires all { All (λ k. Owns pass k) self.keys }
         ensures pairs { IfOk result (λ pairs. ClosesTo self pass pairs.items) }
         ensures refused { IfErr result (λ refused. (refused.0 ≡ self) × (refused.1 ≡ pass)) }
