@@ -1,6 +1,5 @@
 use Rattle.std.specs.Prelude.{◌≡◌, ℕ, ◌+◌, ◌≤◌, Bool, Result}
 use Rattle.ell_cards.specs.Contention.{AreHinderedByOthers}
-use Rattle.ell_tree.specs.declared.operations.Held.{Held}
 use Rattle.ell_tree.specs.CardsTaken.{TakesAtMost, TakesCards}
 use Rattle.ell_tree.specs.Counts.{IsAmortized, Took}
 use Rattle.ell_tree.specs.Ends.{CountsTries, change_steps}
@@ -29,7 +28,7 @@ pub record IsOthersDoing (t : TreeModel) (tries : ℕ) (old new : PassModel) : T
   pub by_others : AreHinderedByOthers t.keys t.start t.last_card old.view.hindered new.view tries
 
 -- the cards that an insert or a delete took: one a try at most; and by how it ended
-pub record SpendsCards (tries : ℕ) (old new : PassModel) (result : Result Bool Held) : Type 0 where
+pub record SpendsCards {E : Type 0} (tries : ℕ) (old new : PassModel) (result : Result Bool E) : Type 0 where
   pub most : TakesAtMost tries old new
   pub each : TakesCards old new result
 

@@ -157,7 +157,7 @@ impl<A: Allocator + Copy> Tree<A> {
         ensures one { pass.new.view.looks ≡ pass.old.view.looks + 1 }
         ensures mine { Owns pass.old key → result ≡ present_in pass.old key }
         ensures only { OnlyLooks pass.old pass.new (look_steps self.now.last_card) }
-        ensures taken { TakesNoCard pass.old pass.new }
+        ensures cards { TakesNoCard pass.old pass.new }
     {
         look(&self.table, pass, key, gate)
     }
