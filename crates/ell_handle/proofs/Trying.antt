@@ -1,6 +1,4 @@
-use Rattle.std.proofs.Common.{◌≡◌, ℕ, ◌+◌, ◌*◌, Bool, Result, Err, refl, arith}
-use Rattle.ell_tree.specs.CardsTaken.{TakesByHindered}
-use Rattle.ell_tree.specs.Ends.{try_steps}
+use Rattle.std.proofs.Common.{ℕ, Err, refl, arith}
 use Rattle.ell_tree.specs.Ledgers.{PassModel, TreeModel}
 use Rattle.ell_tree.specs.Promises.{IsQuiet, IsWithin, SpendsCards}
 use Rattle.ell_tree.proofs.Counting.{took_none}
