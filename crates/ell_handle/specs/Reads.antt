@@ -1,11 +1,17 @@
 use Rattle.std.specs.Prelude.{◌≡◌, ◌↔◌, ℕ}
 use Rattle.std.specs.Arc.{arc_value}
+use Rattle.ell_tree.specs.CardsTaken.{TakesNoCard}
 use Rattle.ell_tree.specs.Counts.{Took}
 use Rattle.ell_tree.specs.Ends.{find_steps}
-use Rattle.ell_tree.specs.Ledgers.{Owns}
+use Rattle.ell_tree.specs.Ledgers.{Owns, TreeModel}
 use Rattle.ell_tree.specs.Looks.{look_steps}
+use Rattle.ell_tree.specs.Promises.{IsQuiet}
 use Rattle.ell_handle.specs.Groups.{StaysPut}
 use Rattle.ell_handle.specs.declared.handle.Handle.{Handle}
+
+-- a handle's tree
+abbrev pub tree_of : Handle → TreeModel
+tree_of h = (arc_value h.shared).tree
 
 -- the number of the last card of a handle's tree
 abbrev pub last_card_of : Handle → ℕ
@@ -22,9 +28,11 @@ pub record OnlyReads (steps : ℕ) (old new : Handle) : Type 0 where
   pub took : Took old.pass new.pass steps
   pub calm : new.pass.view.hindrances ≡ old.pass.view.hindrances
 
--- and no more than a find takes
-abbrev pub OnlyFinds : Handle → Handle → Type 0
-OnlyFinds old new = OnlyReads (find_steps (last_card_of old)) old new
+-- and no more than a find takes, which nothing hinders, and which takes no card
+pub record OnlyFinds (old new : Handle) : Type 0 where
+  pub reads : OnlyReads (find_steps (last_card_of old)) old new
+  pub quiet : IsQuiet (tree_of old) old.pass new.pass
+  pub cards : TakesNoCard old.pass new.pass
 
 -- no more than a look takes
 abbrev pub OnlyLooksUp : Handle → Handle → Type 0

@@ -2,9 +2,10 @@ use Rattle.std.specs.Prelude.{◌≡◌, ◌≢◌, ◌<◌, ◌≤◌, ℕ, Opt
 use Rattle.std.specs.Arc.{arc_value}
 use Rattle.ell_ops.specs.Contents.{Contents, ListsPairs, nothing}
 use Rattle.ell_cards.specs.Changes.{keys_of}
-use Rattle.ell_cards.specs.Looking.{IsFoundInRuns}
 use Rattle.ell_tree.specs.Ledgers.{Owns, present_in}
+use Rattle.ell_tree.specs.Looks.{IsFoundIn}
 use Rattle.ell_tree.specs.PassParts.{IsUnion}
+use Rattle.ell_handle.specs.Reads.{tree_of}
 use Rattle.ell_handle.specs.Renewal.{IsRenewed}
 use Rattle.ell_handle.specs.declared.handle.Handle.{Handle}
 use Rattle.elltree.specs.Owned.{Inside}
@@ -47,7 +48,7 @@ steps_in None = 0
 
 -- what a handle has found by its last look for a key of its tree: it was so in one state of the tree since the look began
 pub record Finds (handle : Handle) (key : ℕ) (there : Option ℕ) : Type 0 where
-  pub so : IsFoundInRuns (arc_value handle.shared).tree.keys (arc_value handle.shared).tree.start (arc_value handle.shared).tree.last_card handle.pass.view key there
+  pub so : IsFoundIn (tree_of handle) handle.pass.view key there
 
 -- what the handle of a slot has
 abbrev pub IsFoundBy : Option Handle → ℕ → Option ℕ → Type 0
