@@ -1,4 +1,4 @@
-//! Finds, looks, inserts and deletes.
+//! Finds, looks, inserts and deletes, and how many cards are left.
 ghost use Rattle.std.specs.Prelude.{◌≡◌, ◌<◌, ◌≤◌, IfOk, IfErr, OnOk, OnErr};
 ghost use Rattle.std.specs.Arc.{arc_value};
 ghost use Rattle.ell_ops.specs.declared.op.Op.TheVariants.{Find, Insert, Delete};
@@ -8,7 +8,7 @@ ghost use Rattle.ell_tree.specs.Ends.{Answers};
 ghost use Rattle.ell_tree.specs.Ledgers.{Owns, present_in};
 ghost use Rattle.ell_tree.specs.Looks.{OnlyLooks, look_steps};
 ghost use Rattle.ell_handle.specs.Groups.{StaysPut};
-ghost use Rattle.ell_handle.specs.Reads.{KeepsKeys, OnlyFinds, OnlyLooksUp, last_card_of};
+ghost use Rattle.ell_handle.specs.Reads.{KeepsKeys, OnlyAsks, OnlyFinds, OnlyLooksUp, TellsCardsLeft, last_card_of};
 ghost use Rattle.ell_handle.specs.Tries.{ChangeRefuses, MayChange, TookTries, TryRefuses};
 ghost use Rattle.ell_handle.specs.declared.refusal.Refusal.TheVariants.{BadKey, Foreign};
 
@@ -83,6 +83,16 @@ impl Handle {
                 .tree
                 .delete(&mut self.pass, key, tries, &NoGate)?,
         )
+    }
+
+    /// How many cards of the tree are not given out yet, 0 if all are: as it was at one step of the call, while other handles went on. No more
+    /// are left in this tree ever after. An insert or a delete that changes the map takes one, and one more at most for each try that
+    /// something hinders; with none left it is `Spent`.
+    pub fn cards_left(&mut self) -> u64
+        ensures left { TellsCardsLeft result self.old self.new }
+        ensures reads { OnlyAsks self.old self.new }
+    {
+        self.shared.tree.cards_left(&mut self.pass, &NoGate)
     }
 
     // Whether a change of a key may be tried.
