@@ -51,7 +51,7 @@ impl Handle {
 
     /// Adds a key of the handle's with its value: whether the key was absent. A key that is present keeps its value. `NoTries` where no try
     /// is allowed, then `Foreign` where the handle does not own the key; `Busy` where something was in the way of each try, and `Spent`
-    /// where all cards are given out.
+    /// where all cards are given out: `cards_left` tells how many are left.
     pub fn insert(&mut self, key: u64, value: u64, tries: u32) -> Result<bool, Refusal>
         ensures answers { IfOk result (λ said. Answers (Insert key value) (yes_if said) self.old.pass self.new.pass) }
         ensures may { OnOk result (MayChange key tries self.old) }
