@@ -94,6 +94,7 @@ ELLTREE_MUST_USE int32_t elltree_slot_keys(struct elltree_slot *slot, uint64_t *
 ELLTREE_MUST_USE int32_t elltree_slot_owned(struct elltree_slot *slot, size_t *count);
 ELLTREE_MUST_USE int32_t elltree_slot_pairs(struct elltree_slot *slot, struct elltree_pair *out, size_t room, size_t *count);
 ELLTREE_MUST_USE int32_t elltree_slot_steps(struct elltree_slot *slot, uint64_t *steps);
+ELLTREE_MUST_USE int32_t elltree_slot_cards_left(struct elltree_slot *slot, uint64_t *left);
 ELLTREE_MUST_USE int32_t elltree_slot_renew(struct elltree_slot *slot, uint64_t cards, uint64_t number);
 ELLTREE_MUST_USE int32_t elltree_slots_renew(struct elltree_slot *slots, size_t count, uint64_t cards, uint64_t number);
 int32_t elltree_slot_free(struct elltree_slot *slot);
@@ -151,8 +152,9 @@ static inline int32_t elltree_leave_all(struct elltree_handle *const *handles, s
 
 /* Opens a tree over these keys and the start keys, in any order but that the start keys ascend strictly; the start keys are present with
    their values, the others absent. Each insert or delete that changes the map takes one of the cards, a try that another thread hinders
-   may take one too, and no card is given back: elltree_renew makes them fresh. A card and a start key take 96 bytes each. Up to 300,000 of
-   both together a renewal takes less than a third of the time for each that it takes above, with glibc. An array without items may be null.
+   may take one too, and no card is given back: elltree_cards_left tells how many are left, and elltree_renew makes them fresh. A card and a
+   start key take 96 bytes each. Up to 300,000 of both together a renewal takes less than a third of the time for each that it takes above,
+   with glibc. An array without items may be null.
    ELLTREE_NULL, ELLTREE_IN_CALL, ELLTREE_OPEN, ELLTREE_BAD_START, ELLTREE_BAD_KEY, ELLTREE_BAD_CARDS, ELLTREE_NO_MEMORY. */
 ELLTREE_MUST_USE static inline int32_t elltree_open(struct elltree_handle *handle, const uint64_t *keys, size_t key_count,
                                                     const struct elltree_pair *start, size_t start_count, uint64_t cards) {
@@ -206,7 +208,8 @@ ELLTREE_MUST_USE static inline int32_t elltree_look(struct elltree_handle *handl
     return code == ELLTREE_YES ? elltree_leave(handle, elltree_slot_look(&handle->slot, key, value)) : code;
 }
 
-/* Adds a key of the handle's: ELLTREE_YES where it was absent, else ELLTREE_NO, and the key keeps its value.
+/* Adds a key of the handle's: ELLTREE_YES where it was absent, else ELLTREE_NO, and the key keeps its value. Before ELLTREE_SPENT comes,
+   elltree_cards_left tells how many cards are left.
    ELLTREE_NULL, ELLTREE_IN_CALL, ELLTREE_CLOSED, ELLTREE_NO_TRIES, ELLTREE_FOREIGN, ELLTREE_BUSY, ELLTREE_SPENT. */
 ELLTREE_MUST_USE static inline int32_t elltree_insert(struct elltree_handle *handle, uint64_t key, uint64_t value, uint32_t tries) {
     int32_t code = elltree_enter(handle);
@@ -214,8 +217,9 @@ ELLTREE_MUST_USE static inline int32_t elltree_insert(struct elltree_handle *han
 }
 
 /* Takes a key of the handle's away: ELLTREE_YES where it was present, else ELLTREE_NO. Refused as elltree_insert is.
-   A value changes by a delete and an insert, two cards. Where the insert is refused by ELLTREE_BUSY, make it again: until then the key is
-   absent. Where it is refused by ELLTREE_SPENT, no card is left, not even to put the old value back: keep the value for fresh cards. */
+   A value changes by a delete and an insert, two cards: ask elltree_cards_left before the delete. Where the insert is refused by
+   ELLTREE_BUSY, make it again: until then the key is absent. Where it is refused by ELLTREE_SPENT, no card is left, not even to put the old
+   value back: keep the value for fresh cards. */
 ELLTREE_MUST_USE static inline int32_t elltree_delete(struct elltree_handle *handle, uint64_t key, uint32_t tries) {
     int32_t code = elltree_enter(handle);
     return code == ELLTREE_YES ? elltree_leave(handle, elltree_slot_delete(&handle->slot, key, tries)) : code;
@@ -247,6 +251,14 @@ ELLTREE_MUST_USE static inline int32_t elltree_pairs(struct elltree_handle *hand
 ELLTREE_MUST_USE static inline int32_t elltree_steps(struct elltree_handle *handle, uint64_t *steps) {
     int32_t code = steps ? elltree_enter(handle) : ELLTREE_NULL;
     return code == ELLTREE_YES ? elltree_leave(handle, elltree_slot_steps(&handle->slot, steps)) : code;
+}
+
+/* How many cards of the handle's tree are not given out yet, 0 if all are: as it was at one moment of the call. Calls on other handles of
+   the tree may take some meanwhile. No more are left later, until a renewal makes fresh ones. It takes one step and no card.
+   ELLTREE_NULL, ELLTREE_IN_CALL, ELLTREE_CLOSED. */
+ELLTREE_MUST_USE static inline int32_t elltree_cards_left(struct elltree_handle *handle, uint64_t *left) {
+    int32_t code = left ? elltree_enter(handle) : ELLTREE_NULL;
+    return code == ELLTREE_YES ? elltree_leave(handle, elltree_slot_cards_left(&handle->slot, left)) : code;
 }
 
 /* Makes the cards fresh: the handle goes to a new tree with so many cards, and takes along the keys that it owns, which are present with

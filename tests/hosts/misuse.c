@@ -78,6 +78,7 @@ static void closed(void) {
     IS(elltree_owned(&none, &count), ELLTREE_CLOSED);
     IS(elltree_pairs(&none, &pair, 1, &count), ELLTREE_CLOSED);
     IS(elltree_steps(&none, &steps), ELLTREE_CLOSED);
+    IS(elltree_cards_left(&none, &value), ELLTREE_CLOSED);
     IS(elltree_renew(&none, 9), ELLTREE_CLOSED);
     IS(elltree_renew_all(&at, 1, 9), ELLTREE_CLOSED);
     IS(elltree_free(&none), ELLTREE_CLOSED);
@@ -110,6 +111,8 @@ static void nulls(struct elltree_handle *h) {
     IS(elltree_pairs(h, &pair, 1, NULL), ELLTREE_NULL);
     IS(elltree_steps(NULL, &steps), ELLTREE_NULL);
     IS(elltree_steps(h, NULL), ELLTREE_NULL);
+    IS(elltree_cards_left(NULL, &value), ELLTREE_NULL);
+    IS(elltree_cards_left(h, NULL), ELLTREE_NULL);
     IS(elltree_renew(NULL, 9), ELLTREE_NULL);
     IS(elltree_renew_all(NULL, 1, 9), ELLTREE_NULL);
     IS(elltree_free(NULL), ELLTREE_NULL);
@@ -135,6 +138,7 @@ static void in_call(struct elltree_handle *h) {
     IS(elltree_owned(h, &count), ELLTREE_IN_CALL);
     IS(elltree_pairs(h, &pair, 1, &count), ELLTREE_IN_CALL);
     IS(elltree_steps(h, &steps), ELLTREE_IN_CALL);
+    IS(elltree_cards_left(h, &value), ELLTREE_IN_CALL);
     IS(elltree_renew(h, 9), ELLTREE_IN_CALL);
     IS(elltree_free(h), ELLTREE_IN_CALL);
     IS(elltree_leave(h, ELLTREE_YES), ELLTREE_YES);
@@ -167,13 +171,26 @@ static void keys_and_tries(struct elltree_handle *low, struct elltree_handle *hi
     IS(elltree_pairs(high, pair, 1, &count), ELLTREE_YES);
 }
 
+/* So many cards are left in the handle's tree. */
+static void left(int line, struct elltree_handle *handle, uint64_t cards) {
+    uint64_t is_left = 77;
+    is(line, elltree_cards_left(handle, &is_left), ELLTREE_YES);
+    if (is_left != cards) {
+        faults++;
+        printf("line %d: %llu cards left\n", line, (unsigned long long)is_left);
+    }
+}
+#define LEFT(handle, cards) left(__LINE__, handle, cards)
+
 /* A tree of one card: the second change has none. */
 static void spent_and_other_tree(struct elltree_handle *low) {
     struct elltree_handle small = ELLTREE_EMPTY;
     struct elltree_pair nine = {2, 9};
     uint64_t value = 0;
     IS(elltree_open(&small, keys, 6, NULL, 0, 1), ELLTREE_YES);
+    LEFT(&small, 1);
     IS(elltree_insert(&small, 2, 9, 9), ELLTREE_YES);
+    LEFT(&small, 0);
     IS(elltree_insert(&small, 3, 9, 9), ELLTREE_SPENT);
     IS(elltree_delete(&small, 2, 9), ELLTREE_SPENT);
     IS(elltree_insert(&small, 2, 5, 9), ELLTREE_NO);
@@ -206,8 +223,12 @@ static void renewal(void) {
     IS(elltree_renew(&h, 2), ELLTREE_YES);
     HAS(&h, 6, three, 3);
     IS(elltree_join(&h, &old), ELLTREE_OTHER_TREE);
+    LEFT(&h, 2);
     IS(elltree_delete(&h, 4, 9), ELLTREE_YES);
+    LEFT(&h, 1);
     IS(elltree_delete(&h, 3, 9), ELLTREE_YES);
+    LEFT(&h, 0);
+    LEFT(&old, 0);
     IS(elltree_insert(&h, 1, 1, 9), ELLTREE_SPENT);
     HAS(&h, 6, three, 1);
     IS(elltree_look(&old, 4, &value), ELLTREE_YES);
@@ -276,6 +297,7 @@ static void group_renewal(void) {
     IS(elltree_renew_all(all, 3, 2), ELLTREE_YES);
     GROUPED(&g, low + 1, 1, high, 2);
     IS(elltree_insert(&g.low, 1, 10, 9), ELLTREE_YES);
+    LEFT(&g.reader, 1);
     IS(elltree_look(&g.reader, 1, &value), ELLTREE_YES);
     faults += value != 10;
     IS(elltree_delete(&g.high, 4, 9), ELLTREE_YES);

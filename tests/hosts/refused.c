@@ -72,7 +72,7 @@ static void refuse(const char *name, int32_t (*call)(void), long (*differs_befor
 
 /* Calls that ask for no memory. */
 static void frugal(void) {
-    uint64_t value, steps;
+    uint64_t value, steps, left;
     size_t count;
     static struct elltree_pair out[KEYS];
     static uint64_t owned[KEYS];
@@ -85,7 +85,8 @@ static void frugal(void) {
     faults += elltree_keys(&a, owned, KEYS, &count) != ELLTREE_YES;
     faults += elltree_pairs(&a, out, KEYS, &count) != ELLTREE_YES;
     faults += elltree_steps(&a, &steps) != ELLTREE_YES;
-    printf("find, look, insert, delete, owned, keys, pairs, steps: %ld allocations\n", asked);
+    faults += elltree_cards_left(&a, &left) != ELLTREE_YES;
+    printf("find, look, insert, delete, owned, keys, pairs, steps, cards_left: %ld allocations\n", asked);
     faults += asked != 0;
 }
 

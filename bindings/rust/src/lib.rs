@@ -85,6 +85,7 @@ unsafe extern "C" {
     fn elltree_slot_owned(slot: &mut Slot, count: &mut usize) -> i32;
     fn elltree_slot_pairs(slot: &mut Slot, out: *mut Pair, room: usize, count: &mut usize) -> i32;
     fn elltree_slot_steps(slot: &mut Slot, steps: &mut u64) -> i32;
+    fn elltree_slot_cards_left(slot: &mut Slot, left: &mut u64) -> i32;
     fn elltree_slot_renew(slot: &mut Slot, cards: u64, number: u64) -> i32;
     fn elltree_slots_renew(slots: *mut Slot, count: usize, cards: u64, number: u64) -> i32;
     fn elltree_slot_free(slot: &mut Slot) -> i32;
@@ -96,7 +97,7 @@ unsafe extern "C" {
 pub enum Refused {
     /// Something was in the way of each try.
     Busy,
-    /// All cards of the tree are given out: [`renew_all`] makes them fresh.
+    /// All cards of the tree are given out: [`renew_all`] makes them fresh, and [`Handle::cards_left`] tells beforehand.
     Spent,
     /// The handle does not own a key of the call.
     Foreign,
@@ -173,8 +174,8 @@ unsafe impl Send for Handle {}
 
 impl Handle {
     /// A tree over these keys and the start keys, which are present with their values. The handle owns all of them. Each change takes a
-    /// card, until [`Handle::renew`] makes the cards fresh. Up to 300,000 cards and start keys together that takes less than a third of the
-    /// time for each that it takes above, with glibc.
+    /// card, until [`Handle::renew`] makes the cards fresh; [`Handle::cards_left`] tells how many are left. Up to 300,000 cards and start keys
+    /// together that takes less than a third of the time for each that it takes above, with glibc.
     ///
     /// `BadStart` where the start keys do not ascend strictly or are more than [`START_MAX`], then `BadKey` where a key is above
     /// [`KEY_MAX`], then `BadCards` where the cards are not 1 to [`CARDS_MAX`].
@@ -288,7 +289,7 @@ impl Handle {
     /// Adds a key of the handle's with its value: whether the key was absent. A key that is present keeps its value.
     ///
     /// `NoTries` where no try is allowed, then `Foreign` where the handle does not own the key; `Busy` where something was in the way of each
-    /// try, and `Spent` where all cards are given out.
+    /// try, and `Spent` where all cards are given out: [`Handle::cards_left`] tells how many are left.
     pub fn insert(&mut self, key: u64, value: u64, tries: u32) -> Result<bool> {
         // SAFETY: the slot is this handle's.
         answer(unsafe { elltree_slot_insert(&mut self.0, key, value, tries) })
@@ -296,19 +297,19 @@ impl Handle {
 
     /// Takes a key of the handle's away: whether it was present. Refused as an insert is.
     ///
-    /// A value changes by a delete and an insert, two cards. Until the insert is made the key is absent, so a `?` that returns by its `Spent`
-    /// loses the value: keep it, renew, and insert it.
+    /// A value changes by a delete and an insert, two cards: ask [`Handle::cards_left`] before the delete. Until the insert is made the key is
+    /// absent, so a `?` that returns by its `Spent` loses the value. Where other handles of the tree may have taken the cards meanwhile, keep
+    /// the value, renew, and insert it.
     ///
     /// ```
     /// use elltree::{Handle, Refused};
     /// let mut handle = Handle::open(&[], &[(1, 10)], 1)?; // one card too few
-    /// handle.delete(1, 9)?;
-    /// if let Err(why) = handle.insert(1, 11, 9) {
-    ///     assert_eq!((why, handle.find(1)?), (Refused::Spent, None));
-    ///     handle.renew(1_000)?;
-    ///     handle.insert(1, 11, 9)?;
+    /// if handle.cards_left() < 2 {
+    ///     handle.renew(2)?;
     /// }
-    /// assert_eq!(handle.find(1)?, Some(11));
+    /// handle.delete(1, 9)?;
+    /// handle.insert(1, 11, 9)?;
+    /// assert_eq!((handle.find(1)?, handle.cards_left()), (Some(11), 0));
     /// # Ok::<(), Refused>(())
     /// ```
     pub fn delete(&mut self, key: u64, tries: u32) -> Result<bool> {
@@ -347,6 +348,24 @@ impl Handle {
         steps
     }
 
+    /// How many cards of the handle's tree are not given out yet, 0 if all are: as it was at one moment of the call. Other handles of the tree
+    /// may take some meanwhile. No more are left later, until a renewal makes fresh ones. It takes one step and no card.
+    ///
+    /// ```
+    /// let mut low = elltree::Handle::open(&[1, 2], &[(2, 20)], 10)?;
+    /// let mut high = low.split(&[2])?;
+    /// high.delete(2, 9)?;
+    /// assert_eq!((low.insert(1, 10, 9), low.insert(1, 11, 9)), (Ok(true), Ok(false)));
+    /// assert_eq!((low.cards_left(), high.cards_left()), (8, 8));
+    /// # Ok::<(), elltree::Refused>(())
+    /// ```
+    pub fn cards_left(&mut self) -> u64 {
+        let mut left = 0;
+        // SAFETY: the slot is this handle's.
+        unsafe { elltree_slot_cards_left(&mut self.0, &mut left) };
+        left
+    }
+
     /// The handle's keys that are present, ascending, with their values.
     pub fn pairs(&mut self) -> Result<Vec<(u64, u64)>> {
         let mut out = vec![Pair { key: 0, value: 0 }; self.owned()];
@@ -380,6 +399,11 @@ impl Reader {
     /// The value of any key of the tree, if it is present: as it was at one moment of the call. `BadKey` where the key is above [`KEY_MAX`].
     pub fn look(&mut self, key: u64) -> Result<Option<u64>> {
         self.0.look(key)
+    }
+
+    /// How many cards of the tree are not given out yet, as [`Handle::cards_left`] tells it.
+    pub fn cards_left(&mut self) -> u64 {
+        self.0.cards_left()
     }
 
     /// Another reader of the same tree.
@@ -430,6 +454,11 @@ impl Tree {
     /// ```
     pub fn renew(&mut self, cards: u64) -> Result<()> {
         self.rest.renew(cards)
+    }
+
+    /// How many cards are not given out yet, as [`Handle::cards_left`] tells it.
+    pub fn cards_left(&mut self) -> u64 {
+        self.rest.cards_left()
     }
 
     /// How many keys no handle has.

@@ -1,5 +1,6 @@
-use Rattle.std.specs.Prelude.{◌≡◌, ◌↔◌, ℕ}
+use Rattle.std.specs.Prelude.{◌≡◌, ◌≤◌, ◌↔◌, ℕ}
 use Rattle.std.specs.Arc.{arc_value}
+use Rattle.ell_tree.specs.CardsLeft.{AreLeftAtMost, ReadsCardsLeft}
 use Rattle.ell_tree.specs.CardsTaken.{TakesNoCard}
 use Rattle.ell_tree.specs.Counts.{Took}
 use Rattle.ell_tree.specs.Ends.{find_steps}
@@ -37,3 +38,15 @@ pub record OnlyFinds (old new : Handle) : Type 0 where
 -- no more than a look takes
 abbrev pub OnlyLooksUp : Handle → Handle → Type 0
 OnlyLooksUp old new = OnlyReads (look_steps (last_card_of old)) old new
+
+-- it took one step, as it takes to ask how many cards are left
+abbrev pub OnlyAsks : Handle → Handle → Type 0
+OnlyAsks old new = OnlyReads 1 old new
+
+-- a handle has read the claim word of its tree, by which so many cards were not given out then, and took none; in every run no more are left
+-- ever after
+pub record TellsCardsLeft (left : ℕ) (old new : Handle) : Type 0 where
+  pub reads : ReadsCardsLeft (last_card_of old) old.pass new.pass left
+  pub most : AreLeftAtMost (arc_value old.shared).tree.keys (arc_value old.shared).tree.start (last_card_of old) new.pass.view left
+  pub limit : left ≤ last_card_of old
+  pub taken : TakesNoCard old.pass new.pass

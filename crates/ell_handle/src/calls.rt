@@ -1,4 +1,4 @@
-//! Finds, looks, inserts and deletes.
+//! Finds, looks, inserts and deletes, and how many cards are left.
 ghost use Rattle.std.specs.Prelude.{◌≡◌, ◌<◌, ◌≤◌, IfOk, IfErr, OnOk, OnErr};
 ghost use Rattle.ell_ops.specs.declared.op.Op.TheVariants.{Find, Insert, Delete};
 ghost use Rattle.ell_ops.specs.Meaning.{found, greatest_key, yes_if};
@@ -7,7 +7,7 @@ ghost use Rattle.ell_tree.specs.Ledgers.{Owns, present_in};
 ghost use Rattle.ell_tree.specs.Looks.{IsFoundIn, OnlyLooks, look_steps};
 ghost use Rattle.ell_tree.specs.Promises.{SpendsCards};
 ghost use Rattle.ell_handle.specs.Groups.{StaysPut};
-ghost use Rattle.ell_handle.specs.Reads.{KeepsKeys, OnlyFinds, OnlyLooksUp, last_card_of, tree_of};
+ghost use Rattle.ell_handle.specs.Reads.{KeepsKeys, OnlyAsks, OnlyFinds, OnlyLooksUp, TellsCardsLeft, last_card_of, tree_of};
 ghost use Rattle.ell_handle.specs.Tries.{ChangeRefuses, MayChange, TookTries, TryRefuses};
 ghost use Rattle.ell_handle.specs.declared.refusal.Refusal.TheVariants.{BadKey, Foreign};
 
@@ -50,7 +50,7 @@ impl Handle {
 
     /// Adds a key of the handle's with its value: whether the key was absent. A key that is present keeps its value. `NoTries` where no try
     /// is allowed, then `Foreign` where the handle does not own the key; `Busy` where something was in the way of each try, and `Spent`
-    /// where all cards are given out.
+    /// where all cards are given out: `cards_left` tells how many are left.
     #[tactic(auto, using(crate::proofs::Trying::within_same, crate::proofs::Trying::spends_none))]
     pub fn insert(&mut self, key: u64, value: u64, tries: u32) -> Result<bool, Refusal>
         ensures answers { IfOk result (λ said. Answers (Insert key value) (yes_if said) self.old.pass self.new.pass) }
@@ -86,6 +86,16 @@ impl Handle {
                 .tree
                 .delete(&mut self.pass, key, tries, &NoGate)?,
         )
+    }
+
+    /// How many cards of the tree are not given out yet, 0 if all are: as it was at one step of the call, while other handles went on. No more
+    /// are left in this tree ever after. An insert or a delete that changes the map takes one, and one more at most for each try that
+    /// something hinders; with none left it is `Spent`.
+    pub fn cards_left(&mut self) -> u64
+        ensures left { TellsCardsLeft result self.old self.new }
+        ensures reads { OnlyAsks self.old self.new }
+    {
+        self.shared.tree.cards_left(&mut self.pass, &NoGate)
     }
 
     // Whether a change of a key may be tried.
