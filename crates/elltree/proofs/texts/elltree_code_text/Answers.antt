@@ -1,4 +1,4 @@
-use Rattle.std.proofs.Common.{◌≡◌, length, ap, subst, w32}
+use Rattle.std.proofs.Common.{length, ap, subst, w32}
 use Rattle.std.proofs.lemmas.Int.{to_z-of_z}
 use Rattle.elltree.specs.Texts.{WritesText}
 use Rattle.elltree.proofs.texts.elltree_code_text.Goals as goal
