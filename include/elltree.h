@@ -5,7 +5,7 @@
    of its keys; elltree_split gives some of them to another handle, also none, for a handle that only looks. Calls on different handles
    may run at once. A handle is in one call at a time, and may go from one thread to another.
 
-   Each call answers with ELLTREE_YES, with ELLTREE_NO, or with a negative code that says why it was refused; elltree_text has a text for
+   Each call answers with ELLTREE_YES, with ELLTREE_NO, or with a negative code that says why it was refused; elltree_text writes a text for
    each. A call that was refused has changed neither the map nor what a handle owns, and has written nothing but, for ELLTREE_NO_ROOM, pairs.
    elltree_open, elltree_split, elltree_join, elltree_renew and elltree_renew_all ask for memory. No other call does.
 
@@ -78,6 +78,9 @@ enum {
     ELLTREE_IN_CALL = -15     /* the handle is in another call */
 };
 
+/* Room for the text of each code, and the 0 behind it. */
+#define ELLTREE_TEXT_ROOM 64
+
 /* A call that may be refused: whoever goes on without a look at its code is warned. */
 #define ELLTREE_MUST_USE __attribute__((warn_unused_result))
 
@@ -98,6 +101,7 @@ ELLTREE_MUST_USE int32_t elltree_slot_cards_left(struct elltree_slot *slot, uint
 ELLTREE_MUST_USE int32_t elltree_slot_renew(struct elltree_slot *slot, uint64_t cards, uint64_t number);
 ELLTREE_MUST_USE int32_t elltree_slots_renew(struct elltree_slot *slots, size_t count, uint64_t cards, uint64_t number);
 int32_t elltree_slot_free(struct elltree_slot *slot);
+size_t elltree_code_text(int32_t code, char *out, size_t room);
 
 /* How many trees the program has opened by this header. */
 extern uint64_t elltree_trees;
@@ -317,28 +321,14 @@ static inline int32_t elltree_free(struct elltree_handle *handle) {
     return code == ELLTREE_YES ? elltree_leave(handle, elltree_slot_free(&handle->slot)) : code;
 }
 
-/* What a code says. */
-static inline const char *elltree_text(int32_t code) {
-    switch (code) {
-    case ELLTREE_NO: return "no";
-    case ELLTREE_YES: return "yes";
-    case ELLTREE_BUSY: return "something was in the way of each try";
-    case ELLTREE_SPENT: return "all cards are given out";
-    case ELLTREE_FOREIGN: return "the handle does not own the key";
-    case ELLTREE_NO_TRIES: return "the call allows no try";
-    case ELLTREE_BAD_CARDS: return "cards are not 1 to 1,000,000";
-    case ELLTREE_BAD_KEY: return "a key is above 18446744073709551613";
-    case ELLTREE_BAD_START: return "start keys do not ascend strictly, or are more than 200,000";
-    case ELLTREE_NO_ROOM: return "no room for all pairs or keys";
-    case ELLTREE_NO_MEMORY: return "out of memory";
-    case ELLTREE_CLOSED: return "the handle holds nothing";
-    case ELLTREE_OPEN: return "the handle holds something already";
-    case ELLTREE_OTHER_TREE: return "the handles are of two trees";
-    case ELLTREE_NULL: return "a pointer is null";
-    case ELLTREE_SAME: return "the same handle is given twice";
-    case ELLTREE_IN_CALL: return "the handle is in another call";
-    default: return "no code of elltree";
-    }
+/* Writes what a code says, also of a number that is none, and returns the array, or an empty text where the array is null or has no room.
+   The text is always ended by a 0, and cut off where there is room for less than ELLTREE_TEXT_ROOM. elltree_code_text, of an array that is
+   not null, returns the length of the whole text instead, as snprintf. */
+static inline const char *elltree_text(int32_t code, char *out, size_t room) {
+    if (!out || !room)
+        return "";
+    elltree_code_text(code, out, room);
+    return out;
 }
 
 #ifdef __cplusplus

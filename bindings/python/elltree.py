@@ -26,25 +26,8 @@ BAD_START, NO_ROOM, NO_MEMORY, CLOSED, OPEN, OTHER_TREE, NULL, SAME, IN_CALL = -
 
 KEY_MAX = 2**64 - 3
 
-TEXTS = {
-    NO: "no",
-    YES: "yes",
-    BUSY: "something was in the way of each try",
-    SPENT: "all cards are given out",
-    FOREIGN: "the handle does not own the key",
-    NO_TRIES: "the call allows no try",
-    BAD_CARDS: "cards are not 1 to 1,000,000",
-    BAD_KEY: "a key is above 18446744073709551613",
-    BAD_START: "start keys do not ascend strictly, or are more than 200,000",
-    NO_ROOM: "no room for all pairs or keys",
-    NO_MEMORY: "out of memory",
-    CLOSED: "the handle holds nothing",
-    OPEN: "the handle holds something already",
-    OTHER_TREE: "the handles are of two trees",
-    NULL: "a pointer is null",
-    SAME: "the same handle is given twice",
-    IN_CALL: "the handle is in another call",
-}
+# Room for the text of each code, and the 0 behind it.
+_TEXT_ROOM = 64
 
 
 class Refused(Exception):
@@ -55,7 +38,7 @@ class Refused(Exception):
         self.code = code
 
     def __str__(self):
-        return TEXTS.get(self.code, f"code {self.code}")
+        return text(self.code)
 
 
 class Busy(Refused):
@@ -110,10 +93,11 @@ def _load():
     }.items():
         call = calls[name] = getattr(lib, f"elltree_slot_{name}" if name != "renew_all" else "elltree_slots_renew")
         call.argtypes, call.restype = types, ctypes.c_int32
-    return calls
+    lib.elltree_code_text.argtypes, lib.elltree_code_text.restype = [ctypes.c_int32, ctypes.c_char_p, size], size
+    return calls, lib.elltree_code_text
 
 
-_library = _load()
+_library, _write_text = _load()
 _numbers = itertools.count(1)
 
 # Takes all items of an iterator, in one call of C.
@@ -170,6 +154,13 @@ def open(keys, start=(), cards=1_000_000):
     pairs = (_Pair * max(1, len(listed)))(*listed)
     handle._call("open", *_keys(keys), pairs, len(listed), _cards(cards), next(_numbers))
     return handle
+
+
+def text(code):
+    """What a code says."""
+    out = ctypes.create_string_buffer(_TEXT_ROOM)
+    _write_text(code, out, _TEXT_ROOM)
+    return out.value.decode()
 
 
 def _answer(code):

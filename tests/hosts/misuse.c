@@ -10,8 +10,9 @@ static void is(int line, int32_t said, int32_t code) {
     if (said < 0)
         met[-said] = 1;
     if (said != code) {
+        char one[ELLTREE_TEXT_ROOM], other[ELLTREE_TEXT_ROOM];
         faults++;
-        printf("line %d: %s, and not: %s\n", line, elltree_text(said), elltree_text(code));
+        printf("line %d: %s, and not: %s\n", line, elltree_text(said, one, sizeof one), elltree_text(code, other, sizeof other));
     }
 }
 #define IS(call, code) is(__LINE__, call, code)
@@ -343,11 +344,17 @@ static void big_group_renewal(void) {
     IS(elltree_free(&other), ELLTREE_YES);
 }
 
-/* Each code has a text of its own. */
+/* Each code has a text of its own. It is cut off and ended by a 0 where there is no room for all, and what is behind the 0 stays. */
 static void texts(void) {
+    char one[ELLTREE_TEXT_ROOM], two[ELLTREE_TEXT_ROOM], cut[] = ".....";
     for (int32_t code = ELLTREE_IN_CALL - 1; code <= ELLTREE_YES + 1; code++)
         for (int32_t other = code + 1; other <= ELLTREE_YES + 1; other++)
-            faults += !strcmp(elltree_text(code), elltree_text(other)) && (code != ELLTREE_IN_CALL - 1 || other != ELLTREE_YES + 1);
+            faults += !strcmp(elltree_text(code, one, sizeof one), elltree_text(other, two, sizeof two)) &&
+                      (code != ELLTREE_IN_CALL - 1 || other != ELLTREE_YES + 1);
+    faults += strcmp(elltree_text(ELLTREE_SPENT, one, sizeof one), "all cards are given out") != 0;
+    faults += strcmp(elltree_text(ELLTREE_YES + 1, two, sizeof two), "no code of elltree") != 0;
+    faults += elltree_code_text(ELLTREE_SPENT, cut, 4) != strlen(one) || memcmp(cut, "all\0.", sizeof cut);
+    faults += *elltree_text(ELLTREE_SPENT, cut, 0) || *elltree_text(ELLTREE_SPENT, NULL, 4) || memcmp(cut, "all\0.", sizeof cut);
 }
 
 int main(void) {
@@ -382,8 +389,9 @@ int main(void) {
     IS(elltree_free(&reader), ELLTREE_YES);
     for (int code = 2; code <= 15; code++)
         if (code != -ELLTREE_NO_MEMORY && !met[code]) {
+            char text[ELLTREE_TEXT_ROOM];
             faults++;
-            printf("no call was answered: %s\n", elltree_text(-code));
+            printf("no call was answered: %s\n", elltree_text(-code, text, sizeof text));
         }
     printf("%d faults\n", faults);
     return faults != 0;

@@ -99,9 +99,14 @@ class Handles(unittest.TestCase):
         with self.assertRaises(elltree.Spent) as raised:
             spent.delete(1)
         self.assertIsInstance(raised.exception, elltree.Refused)
-        for why in (raised.exception, elltree.Busy(), elltree.Refused(elltree.FOREIGN)):
+        for why, text in (
+            (raised.exception, "all cards are given out"),
+            (elltree.Busy(), "something was in the way of each try"),
+            (elltree.Refused(elltree.FOREIGN), "the handle does not own the key"),
+            (elltree.Refused(7), "no code of elltree"),
+        ):
             again = pickle.loads(pickle.dumps(why))
-            self.assertEqual((type(again), again.code, str(again)), (type(why), why.code, elltree.TEXTS[why.code]))
+            self.assertEqual((type(again), again.code, str(again), elltree.text(why.code)), (type(why), why.code, text, text))
         self.assertEqual((elltree.Busy().code, elltree.Spent().code), (elltree.BUSY, elltree.SPENT))
 
     def test_tells_how_many_cards_are_left(self):

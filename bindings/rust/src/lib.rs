@@ -89,6 +89,7 @@ unsafe extern "C" {
     fn elltree_slot_renew(slot: &mut Slot, cards: u64, number: u64) -> i32;
     fn elltree_slots_renew(slots: *mut Slot, count: usize, cards: u64, number: u64) -> i32;
     fn elltree_slot_free(slot: &mut Slot) -> i32;
+    fn elltree_code_text(code: i32, out: *mut u8, room: usize) -> usize;
 }
 
 /// Why a call was refused. It has changed nothing.
@@ -120,20 +121,56 @@ pub enum Refused {
 /// What a call gives, or why it was refused.
 pub type Result<T> = std::result::Result<T, Refused>;
 
+// The refusals that have names of their own.
+const NAMED: [Refused; 9] = [
+    Refused::Busy,
+    Refused::Spent,
+    Refused::Foreign,
+    Refused::NoTries,
+    Refused::BadCards,
+    Refused::BadKey,
+    Refused::BadStart,
+    Refused::NoMemory,
+    Refused::OtherTree,
+];
+
+impl Refused {
+    /// The library's code of the refusal.
+    ///
+    /// ```
+    /// assert_eq!(elltree::Refused::OtherTree.code(), -12);
+    /// ```
+    pub fn code(self) -> i32 {
+        match self {
+            Refused::Busy => -1,
+            Refused::Spent => -2,
+            Refused::Foreign => -3,
+            Refused::NoTries => -4,
+            Refused::BadCards => -5,
+            Refused::BadKey => -6,
+            Refused::BadStart => -7,
+            Refused::NoMemory => -9,
+            Refused::OtherTree => -12,
+            Refused::Other(code) => code,
+        }
+    }
+}
+
+// Room for the text of each code, and the 0 behind it.
+const TEXT_ROOM: usize = 64;
+
+/// The library's text of the code.
+///
+/// ```
+/// assert_eq!(elltree::Refused::Spent.to_string(), "all cards are given out");
+/// assert_eq!(elltree::Refused::Other(7).to_string(), "no code of elltree");
+/// ```
 impl std::fmt::Display for Refused {
     fn fmt(&self, f: &mut std::fmt::Formatter<'_>) -> std::fmt::Result {
-        f.write_str(match self {
-            Refused::Busy => "something was in the way of each try",
-            Refused::Spent => "all cards are given out",
-            Refused::Foreign => "the handle does not own the key",
-            Refused::NoTries => "the call allows no try",
-            Refused::BadCards => "cards are not 1 to 1,000,000",
-            Refused::BadKey => "a key is above 18446744073709551613",
-            Refused::BadStart => "start keys do not ascend strictly, or are more than 200,000",
-            Refused::NoMemory => "out of memory",
-            Refused::OtherTree => "the handles are of two trees",
-            Refused::Other(code) => return write!(f, "code {code}"),
-        })
+        let mut text = [0; TEXT_ROOM];
+        // SAFETY: the array is as long as said.
+        let length = unsafe { elltree_code_text(self.code(), text.as_mut_ptr(), text.len()) };
+        f.write_str(&String::from_utf8_lossy(&text[..length]))
     }
 }
 
@@ -141,20 +178,11 @@ impl std::error::Error for Refused {}
 
 // Yes or no, or why not.
 fn answer(code: i32) -> Result<bool> {
-    Err(match code {
-        0 => return Ok(false),
-        1 => return Ok(true),
-        -1 => Refused::Busy,
-        -2 => Refused::Spent,
-        -3 => Refused::Foreign,
-        -4 => Refused::NoTries,
-        -5 => Refused::BadCards,
-        -6 => Refused::BadKey,
-        -7 => Refused::BadStart,
-        -9 => Refused::NoMemory,
-        -12 => Refused::OtherTree,
-        _ => Refused::Other(code),
-    })
+    match code {
+        0 => Ok(false),
+        1 => Ok(true),
+        _ => Err(NAMED.into_iter().find(|why| why.code() == code).unwrap_or(Refused::Other(code))),
+    }
 }
 
 // A slot that holds nothing.
