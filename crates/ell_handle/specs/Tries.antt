@@ -1,8 +1,9 @@
-use Rattle.std.specs.Prelude.{◌≡◌, ◌≤◌, ◌+◌, ◌*◌, ℕ, Err}
+use Rattle.std.specs.Prelude.{◌≡◌, ◌≤◌, ◌+◌, ◌*◌, ℕ, Bool, true, false, Err}
 use Rattle.std.specs.Arc.{arc_value}
 use Rattle.ell_ops.specs.declared.op.Op.{Op}
 use Rattle.ell_ops.specs.Meaning.{key_of}
 use Rattle.ell_cards.specs.Contention.{AreHinderedByOthers}
+use Rattle.ell_tree.specs.CardsTaken.{TakesAtMost, TakesByHindered, TakesNoCard, TakesOneAndByHindered}
 use Rattle.ell_tree.specs.Counts.{Took}
 use Rattle.ell_tree.specs.Ends.{CountsTries, Ends, change_steps}
 use Rattle.ell_tree.specs.Ledgers.{Owns}
@@ -24,13 +25,28 @@ TryRefuses key tries h NoTries = tries ≡ 0
 TryRefuses key tries h Foreign = (1 ≤ tries) × (¬ Owns h.pass key)
 TryRefuses key tries h _ = ⊥
 
--- a call took the steps of so many tries at most, and counted those of them that were hindered
+-- a call took the steps of so many tries at most, and one card for each at most, and counted those of them that were hindered
 pub record TookTries (tries : ℕ) (old new : Handle) : Type 0 where
   pub took : Took old.pass new.pass (change_steps (last_card_of old) tries)
+  pub cards : TakesAtMost tries old.pass new.pass
   pub counted : CountsTries tries old.pass new.pass
 
+-- a call that left the map as it was took no card
+abbrev pub TookNoCard : Handle → Handle → Type 0
+TookNoCard old new = TakesNoCard old.pass new.pass
+
+-- a call that changed the map took a card, and one more at most for each try that something hindered
+abbrev pub TookOneCard : Handle → Handle → Type 0
+TookOneCard old new = TakesOneAndByHindered old.pass new.pass
+
+-- which cards an answered insert or delete took
+abbrev pub AnswerTook : Bool → Handle → Handle → Type 0
+AnswerTook false old new = TookNoCard old new
+AnswerTook true old new = TookOneCard old new
+
 -- a change, which would have changed the map, was laid down after so many tries: something was in the way of each, which is over; others
--- did something for each; each showed the handle a card that was given out or came to its end, so they are no more than twice the cards
+-- did something for each; each showed the handle a card that was given out or came to its end, so they are no more than twice the cards;
+-- it took one card at most for each
 pub record IsHindered (op : Op) (tries : ℕ) (old new : Handle) : Type 0 where
   pub ends : Ends (last_card_of old) tries op old.pass new.pass (Err held.Busy)
   pub counted : new.pass.view.hindered ≡ old.pass.view.hindered + tries
@@ -38,10 +54,13 @@ pub record IsHindered (op : Op) (tries : ℕ) (old new : Handle) : Type 0 where
       old.pass.view.hindered new.pass.view tries
   pub moved : moves_known (last_card_of old) old.pass.view + tries ≤ moves_known (last_card_of old) new.pass.view
   pub few : tries ≤ 2 * last_card_of old
+  pub cards : TakesByHindered old.pass new.pass
 
--- a change, which would have changed the map, was laid down, as its last try has read that all cards of the tree are given out
+-- a change, which would have changed the map, was laid down, as its last try has read that all cards of the tree are given out; it took one
+-- card at most for each try that something hindered before
 pub record IsSpent (op : Op) (tries : ℕ) (old new : Handle) : Type 0 where
   pub ends : Ends (last_card_of old) tries op old.pass new.pass (Err held.Spent)
+  pub cards : TakesByHindered old.pass new.pass
 
 -- why a change has no answer: the first two leave the handle untouched
 abbrev pub ChangeRefuses : Op → ℕ → Handle → Handle → Refusal → Type 0

@@ -9,7 +9,7 @@ ghost use Rattle.ell_tree.specs.Ledgers.{Owns, present_in};
 ghost use Rattle.ell_tree.specs.Looks.{OnlyLooks, look_steps};
 ghost use Rattle.ell_handle.specs.Groups.{StaysPut};
 ghost use Rattle.ell_handle.specs.Reads.{KeepsKeys, OnlyAsks, OnlyFinds, OnlyLooksUp, TellsCardsLeft, last_card_of};
-ghost use Rattle.ell_handle.specs.Tries.{ChangeRefuses, MayChange, TookTries, TryRefuses};
+ghost use Rattle.ell_handle.specs.Tries.{AnswerTook, ChangeRefuses, MayChange, TookTries, TryRefuses};
 ghost use Rattle.ell_handle.specs.declared.refusal.Refusal.TheVariants.{BadKey, Foreign};
 
 use crate::handle::Handle;
@@ -51,7 +51,8 @@ impl Handle {
 
     /// Adds a key of the handle's with its value: whether the key was absent. A key that is present keeps its value. `NoTries` where no try
     /// is allowed, then `Foreign` where the handle does not own the key; `Busy` where something was in the way of each try, and `Spent`
-    /// where all cards are given out: `cards_left` tells how many are left.
+    /// where all cards are given out: `cards_left` tells how many are left. An insert of a present key takes no card; one that adds its key
+    /// takes one, and at most one more for each try that something hindered; and a refused one takes only those.
     pub fn insert(&mut self, key: u64, value: u64, tries: u32) -> Result<bool, Refusal>
         ensures answers { IfOk result (λ said. Answers (Insert key value) (yes_if said) self.old.pass self.new.pass) }
         ensures may { OnOk result (MayChange key tries self.old) }
@@ -59,6 +60,7 @@ impl Handle {
         ensures refused { OnErr result (StaysPut self.old self.new) }
         ensures keeps { KeepsKeys self.old self.new }
         ensures took { TookTries tries self.old self.new }
+        ensures cards { IfOk result (λ said. AnswerTook said self.old self.new) }
     {
         self.may_change(key, tries)?;
         Ok(
@@ -76,6 +78,7 @@ impl Handle {
         ensures refused { OnErr result (StaysPut self.old self.new) }
         ensures keeps { KeepsKeys self.old self.new }
         ensures took { TookTries tries self.old self.new }
+        ensures cards { IfOk result (λ said. AnswerTook said self.old self.new) }
     {
         self.may_change(key, tries)?;
         Ok(
