@@ -30,11 +30,10 @@ pub record OnlyReads (steps : ℕ) (old new : Handle) : Type 0 where
   pub taken : TakesNoCard old.pass new.pass
   pub calm : new.pass.view.hindrances ≡ old.pass.view.hindrances
 
--- and no more than a find takes, which nothing hinders, and which takes no card
+-- and no more than a find takes, which nothing hinders
 pub record OnlyFinds (old new : Handle) : Type 0 where
   pub reads : OnlyReads (find_steps (last_card_of old)) old new
   pub quiet : IsQuiet (tree_of old) old.pass new.pass
-  pub cards : TakesNoCard old.pass new.pass
 
 -- no more than a look takes
 abbrev pub OnlyLooksUp : Handle → Handle → Type 0
