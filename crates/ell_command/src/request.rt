@@ -89,8 +89,8 @@ const RUN_AFTER_HELP: &str = "Example:
     keys 1
     5 50
 
-A file may have any order: 1,000 operations or more are done by scrambled keys, and
-answered in the order of the file.
+A file may have any order: 1,000 operations or more are done in rounds of ascending
+keys, so that the tree stays flat, and answered in the order of the file.
 
 Exit status:
   0  success, or help or the version was asked for

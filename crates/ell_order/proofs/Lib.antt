@@ -6,5 +6,9 @@ pub mod OnKey
 pub mod Numbered
 -- Orders that keep each key's operations change no answer.
 pub mod Reordered
--- Places sorted by their mixed keys.
+-- The keys that a list leaves, and their ranks, one operation after the other.
+pub mod Leaving
+-- The turns of operations, one operation after the other.
+pub mod Turning
+-- Places sorted by their keys, and turns by their rounds.
 pub mod Sorting

@@ -1,5 +1,7 @@
--- A key scrambled: the finalizer of MurmurHash3.
+-- A number scrambled: the finalizer of MurmurHash3.
 pub mod Mixing
+-- The rounds in which the keys of a list are run.
+pub mod Rounds
 -- A list of operations in another order that keeps each key's, and replies put back.
 pub mod Orders
 -- Where the operations of a list stand, in the order in which it is run.

@@ -21,10 +21,10 @@ first_inverse = 0x4f74_430c_22a5_4005
 abbrev pub second_inverse : ℕ
 second_inverse = 0x9cb4_b2f8_1293_37db
 
--- a key scrambled, by the finalizer of MurmurHash3 (Austin Appleby's `fmix64`)
+-- a number scrambled, by the finalizer of MurmurHash3 (Austin Appleby's `fmix64`)
 unfoldable pub mixed : ℕ → ℕ
-mixed key = folded (scaled second_factor (folded (scaled first_factor (folded key))))
+mixed number = folded (scaled second_factor (folded (scaled first_factor (folded number))))
 
--- the key that was scrambled
+-- the number that was scrambled
 unfoldable pub unmixed : ℕ → ℕ
 unmixed number = folded (scaled first_inverse (folded (scaled second_inverse (folded number))))

@@ -1,11 +1,17 @@
 //! The order in which the operations of a list are run. A reply depends on the operations on its own key alone, so any order that
-//! keeps each key's gives the same answers; by scrambled keys a text of any order makes the tree that a shuffled one makes.
+//! keeps each key's gives the same answers. A long list is run in rounds, as the keys of a zip tree enter it: few keys first, then about
+//! as many again, and so on, in each round ascending. So a list of any order makes a tree as flat as a shuffled one makes, and the path
+//! to a key is mostly that to the one before.
 #![tactic(auto)]
 
 mod laws;
 mod mixing;
 mod order;
+mod places;
+mod rounds;
+mod turns;
 
 pub use laws::{constants_are_as_defined, mixing_can_be_undone, orders_serve};
 pub use mixing::mixed;
-pub use order::{RunOrder, SCRAMBLED_MIN};
+pub use order::{REORDERED_MIN, RunOrder};
+pub use rounds::round_of;

@@ -81,8 +81,8 @@ impl From<WriteFault> for RunFault {
 }
 
 /// Runs a bulk text: reads all of it, runs its operations from the map of its start keys as the settings say, and writes the
-/// answer, as the text's version has it. Operations of 1,000 or more are run in the order of their keys, mixed (`ell_order`), since a
-/// tree that keys enter in ascending order would become a list; replies are written in the order of the text. Nothing is written before
+/// answer, as the text's version has it. 1,000 operations or more are run in rounds of ascending keys (`ell_order`), since a tree
+/// that keys enter in ascending order would become a list; replies are written in the order of the text. Nothing is written before
 /// the run has ended. The reader is then at its end; after an error it has given some of its bytes, from the first on.
 pub fn run_bytes<R: Threads + Sync, A: Allocator + Copy + Send + Sync, I: Read, O: Write>(
     rt: &R,

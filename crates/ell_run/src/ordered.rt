@@ -1,4 +1,4 @@
-//! A list run in the order of its keys, mixed, and answered in its own.
+//! A list run in rounds, and answered in its own order.
 ghost use Rattle.std.specs.Prelude.{◌≡◌, ◌≤◌, All, IfOk, length};
 ghost use Rattle.std.specs.List.Sorted.{IsStrictlyIncreasing};
 ghost use Rattle.std.specs.Map.{keys_of as keys_in};

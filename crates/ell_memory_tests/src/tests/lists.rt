@@ -140,7 +140,7 @@ fn part_ranged(heap: &Heap, refusal: Refusal) -> Ended {
 // How many operations are run in another order than their list's.
 const MANY: usize = 1_000;
 
-// Has finds of key 1, but for the last one, of key 2, run in their order, in which that comes first, and puts numbered replies back.
+// Has an insert and finds of key 1, but for the last one, of key 0, run in rounds, in which that comes first, and puts numbered replies back.
 fn run_in_order(heap: &Heap, refusal: Refusal, list: &[Op], replies: &[Reply]) -> Ended
     requires { length replies.now ≡ length list.now }
 {
@@ -201,7 +201,8 @@ fn operations_are_parted_or_there_is_no_memory(rt: HostRuntime) {
 #[test]
 fn operations_are_put_in_order_and_replies_back_or_there_is_no_memory(rt: HostRuntime) {
     let mut list = vec![in rt.alloc(); Op::Find(1); MANY - 1].expect(&rt, "no memory");
-    list.push(Op::Find(2)).expect(&rt, "no memory");
+    list[0] = Op::Insert(1, 5);
+    list.push(Op::Find(0)).expect(&rt, "no memory");
     let replies = (0..MANY as u64)
         .map(Reply::Found)
         .collect::<Vec<_>>(rt.alloc());
