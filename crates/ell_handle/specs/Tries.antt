@@ -1,7 +1,6 @@
 use Rattle.std.specs.Prelude.{◌≡◌, ◌≤◌, ◌*◌, ℕ, Err}
 use Rattle.ell_ops.specs.declared.op.Op.{Op}
 use Rattle.ell_ops.specs.Meaning.{key_of}
-use Rattle.ell_tree.specs.CardsTaken.{TakesByHindered, TakesNoCard, TakesOneAndByHindered}
 use Rattle.ell_tree.specs.Ends.{Ends}
 use Rattle.ell_tree.specs.Ledgers.{Owns}
 use Rattle.ell_tree.specs.Promises.{IsOthersDoing, IsWithin}
@@ -26,27 +25,16 @@ TryRefuses key tries h _ = ⊥
 abbrev pub TookTries : ℕ → Handle → Handle → Type 0
 TookTries tries old new = IsWithin (tree_of old) tries old.pass new.pass
 
--- a call that left the map as it was took no card
-abbrev pub TookNoCard : Handle → Handle → Type 0
-TookNoCard old new = TakesNoCard old.pass new.pass
-
--- a call that changed the map took a card, and one more at most for each try that something hindered
-abbrev pub TookOneCard : Handle → Handle → Type 0
-TookOneCard old new = TakesOneAndByHindered old.pass new.pass
-
 -- a change, which would have changed the map, was laid down after so many tries: something was in the way of each, which is over; that is
--- others' doing; they are no more than twice the cards; and it took one card at most for each
+-- others' doing; and they are no more than twice the cards
 pub record IsHindered (op : Op) (tries : ℕ) (old new : Handle) : Type 0 where
   pub ends : Ends (last_card_of old) tries op old.pass new.pass (Err held.Busy)
   pub others : IsOthersDoing (tree_of old) tries old.pass new.pass
   pub few : tries ≤ 2 * last_card_of old
-  pub cards : TakesByHindered old.pass new.pass
 
--- a change, which would have changed the map, was laid down, as its last try has read that all cards of the tree are given out; it took one
--- card at most for each try that something hindered before
+-- a change, which would have changed the map, was laid down, as its last try has read that all cards of the tree are given out
 pub record IsSpent (op : Op) (tries : ℕ) (old new : Handle) : Type 0 where
   pub ends : Ends (last_card_of old) tries op old.pass new.pass (Err held.Spent)
-  pub cards : TakesByHindered old.pass new.pass
 
 -- why a change has no answer: the first two leave the handle untouched
 abbrev pub ChangeRefuses : Op → ℕ → Handle → Handle → Refusal → Type 0

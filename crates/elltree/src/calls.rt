@@ -5,10 +5,10 @@ ghost use Rattle.ell_ops.specs.Meaning.{after, greatest_key};
 ghost use Rattle.ell_tree.specs.Ledgers.{Owns, present_in};
 ghost use Rattle.ell_handle.specs.Groups.{StaysPut};
 ghost use Rattle.ell_handle.specs.Reads.{KeepsKeys, OnlyFinds, OnlyLooksUp};
-ghost use Rattle.ell_handle.specs.Tries.{IsHindered, IsSpent, TookNoCard, TookOneCard, TookTries};
+ghost use Rattle.ell_handle.specs.Tries.{IsHindered, IsSpent, TookTries};
 ghost use Rattle.ell_handle.specs.declared.refusal.Refusal.TheVariants.{BadKey, Foreign};
 ghost use Rattle.elltree.specs.Codes.{IsOneOf, code_of, said_bad_key, said_busy, said_closed, said_foreign, said_no, said_no_tries, said_spent, said_yes};
-ghost use Rattle.elltree.specs.Maps.{IsFoundBy, OwnsIn, handle_of, map_of};
+ghost use Rattle.elltree.specs.Maps.{IsFoundBy, OwnsIn, SpendsBy, handle_of, map_of};
 ghost use Rattle.elltree.specs.Slots.{OfHandles, OfHandlesIfAny};
 
 use crate::codes::{CLOSED, NO, YES, code_of_refusal};
@@ -146,8 +146,7 @@ pub extern "C" fn elltree_slot_insert(
     ensures refused { result ≢ said_yes → result ≢ said_no → OfHandlesIfAny StaysPut (handle_of slot.old.raw.inside) (handle_of slot.new.raw.inside) }
     ensures keeps { OfHandlesIfAny KeepsKeys (handle_of slot.old.raw.inside) (handle_of slot.new.raw.inside) }
     ensures took { OfHandlesIfAny (TookTries tries) (handle_of slot.old.raw.inside) (handle_of slot.new.raw.inside) }
-    ensures card { result ≡ said_yes → OfHandles TookOneCard (handle_of slot.old.raw.inside) (handle_of slot.new.raw.inside) }
-    ensures no_card { result ≡ said_no → OfHandles TookNoCard (handle_of slot.old.raw.inside) (handle_of slot.new.raw.inside) }
+    ensures cards { OfHandlesIfAny (SpendsBy tries result) (handle_of slot.old.raw.inside) (handle_of slot.new.raw.inside) }
 {
     let Some(mut place) = slot.take(alloc) else {
         return CLOSED;
@@ -178,8 +177,7 @@ pub extern "C" fn elltree_slot_delete(alloc: Global, slot: &mut Slot, key: u64, 
     ensures refused { result ≢ said_yes → result ≢ said_no → OfHandlesIfAny StaysPut (handle_of slot.old.raw.inside) (handle_of slot.new.raw.inside) }
     ensures keeps { OfHandlesIfAny KeepsKeys (handle_of slot.old.raw.inside) (handle_of slot.new.raw.inside) }
     ensures took { OfHandlesIfAny (TookTries tries) (handle_of slot.old.raw.inside) (handle_of slot.new.raw.inside) }
-    ensures card { result ≡ said_yes → OfHandles TookOneCard (handle_of slot.old.raw.inside) (handle_of slot.new.raw.inside) }
-    ensures no_card { result ≡ said_no → OfHandles TookNoCard (handle_of slot.old.raw.inside) (handle_of slot.new.raw.inside) }
+    ensures cards { OfHandlesIfAny (SpendsBy tries result) (handle_of slot.old.raw.inside) (handle_of slot.new.raw.inside) }
 {
     let Some(mut place) = slot.take(alloc) else {
         return CLOSED;
@@ -208,8 +206,7 @@ fn insert(handle: &mut Handle, key: u64, value: u64, tries: u32) -> i32
     ensures refused { result ≢ said_yes → result ≢ said_no → StaysPut handle.old handle.new }
     ensures keeps { KeepsKeys handle.old handle.new }
     ensures took { TookTries tries handle.old handle.new }
-    ensures card { result ≡ said_yes → TookOneCard handle.old handle.new }
-    ensures no_card { result ≡ said_no → TookNoCard handle.old handle.new }
+    ensures cards { SpendsBy tries result handle.old handle.new }
 {
     match handle.insert(key, value, tries) {
         Ok(true) => YES,
@@ -234,8 +231,7 @@ fn delete(handle: &mut Handle, key: u64, tries: u32) -> i32
     ensures refused { result ≢ said_yes → result ≢ said_no → StaysPut handle.old handle.new }
     ensures keeps { KeepsKeys handle.old handle.new }
     ensures took { TookTries tries handle.old handle.new }
-    ensures card { result ≡ said_yes → TookOneCard handle.old handle.new }
-    ensures no_card { result ≡ said_no → TookNoCard handle.old handle.new }
+    ensures cards { SpendsBy tries result handle.old handle.new }
 {
     match handle.delete(key, tries) {
         Ok(true) => YES,
