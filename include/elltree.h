@@ -5,7 +5,7 @@
    of its keys; elltree_split gives some of them to another handle, also none, for a handle that only looks. Calls on different handles
    may run at once. A handle is in one call at a time, and may go from one thread to another.
 
-   Each call answers with ELLTREE_YES, with ELLTREE_NO, or with a negative code that says why it was refused; elltree_text has a text for
+   Each call answers with ELLTREE_YES, with ELLTREE_NO, or with a negative code that says why it was refused; elltree_text writes a text for
    each. A call that was refused has changed neither the map nor what a handle owns, and has written nothing but, for ELLTREE_NO_ROOM, pairs.
    elltree_open, elltree_split, elltree_join, elltree_renew and elltree_renew_all ask for memory. No other call does.
 
@@ -78,6 +78,9 @@ enum {
     ELLTREE_IN_CALL = -15     /* the handle is in another call */
 };
 
+/* Room for the text of each code, and the 0 behind it. */
+#define ELLTREE_TEXT_ROOM 64
+
 /* A call that may be refused: whoever goes on without a look at its code is warned. */
 #define ELLTREE_MUST_USE __attribute__((warn_unused_result))
 
@@ -94,9 +97,11 @@ ELLTREE_MUST_USE int32_t elltree_slot_keys(struct elltree_slot *slot, uint64_t *
 ELLTREE_MUST_USE int32_t elltree_slot_owned(struct elltree_slot *slot, size_t *count);
 ELLTREE_MUST_USE int32_t elltree_slot_pairs(struct elltree_slot *slot, struct elltree_pair *out, size_t room, size_t *count);
 ELLTREE_MUST_USE int32_t elltree_slot_steps(struct elltree_slot *slot, uint64_t *steps);
+ELLTREE_MUST_USE int32_t elltree_slot_cards_left(struct elltree_slot *slot, uint64_t *left);
 ELLTREE_MUST_USE int32_t elltree_slot_renew(struct elltree_slot *slot, uint64_t cards, uint64_t number);
 ELLTREE_MUST_USE int32_t elltree_slots_renew(struct elltree_slot *slots, size_t count, uint64_t cards, uint64_t number);
 int32_t elltree_slot_free(struct elltree_slot *slot);
+size_t elltree_code_text(int32_t code, char *out, size_t room);
 
 /* How many trees the program has opened by this header. */
 extern uint64_t elltree_trees;
@@ -151,8 +156,9 @@ static inline int32_t elltree_leave_all(struct elltree_handle *const *handles, s
 
 /* Opens a tree over these keys and the start keys, in any order but that the start keys ascend strictly; the start keys are present with
    their values, the others absent. Each insert or delete that changes the map takes one of the cards, a try that another thread hinders
-   may take one too, and no card is given back: elltree_renew makes them fresh. A card and a start key take 96 bytes each. Up to 300,000 of
-   both together a renewal takes less than a third of the time for each that it takes above, with glibc. An array without items may be null.
+   may take one too, and no card is given back: elltree_cards_left tells how many are left, and elltree_renew makes them fresh. A card and a
+   start key take 96 bytes each. Up to 300,000 of both together a renewal takes less than a third of the time for each that it takes above,
+   with glibc. An array without items may be null.
    ELLTREE_NULL, ELLTREE_IN_CALL, ELLTREE_OPEN, ELLTREE_BAD_START, ELLTREE_BAD_KEY, ELLTREE_BAD_CARDS, ELLTREE_NO_MEMORY. */
 ELLTREE_MUST_USE static inline int32_t elltree_open(struct elltree_handle *handle, const uint64_t *keys, size_t key_count,
                                                     const struct elltree_pair *start, size_t start_count, uint64_t cards) {
@@ -206,7 +212,8 @@ ELLTREE_MUST_USE static inline int32_t elltree_look(struct elltree_handle *handl
     return code == ELLTREE_YES ? elltree_leave(handle, elltree_slot_look(&handle->slot, key, value)) : code;
 }
 
-/* Adds a key of the handle's: ELLTREE_YES where it was absent, else ELLTREE_NO, and the key keeps its value.
+/* Adds a key of the handle's: ELLTREE_YES where it was absent, else ELLTREE_NO, and the key keeps its value. Before ELLTREE_SPENT comes,
+   elltree_cards_left tells how many cards are left.
    ELLTREE_NULL, ELLTREE_IN_CALL, ELLTREE_CLOSED, ELLTREE_NO_TRIES, ELLTREE_FOREIGN, ELLTREE_BUSY, ELLTREE_SPENT. */
 ELLTREE_MUST_USE static inline int32_t elltree_insert(struct elltree_handle *handle, uint64_t key, uint64_t value, uint32_t tries) {
     int32_t code = elltree_enter(handle);
@@ -214,8 +221,9 @@ ELLTREE_MUST_USE static inline int32_t elltree_insert(struct elltree_handle *han
 }
 
 /* Takes a key of the handle's away: ELLTREE_YES where it was present, else ELLTREE_NO. Refused as elltree_insert is.
-   A value changes by a delete and an insert, two cards. Where the insert is refused by ELLTREE_BUSY, make it again: until then the key is
-   absent. Where it is refused by ELLTREE_SPENT, no card is left, not even to put the old value back: keep the value for fresh cards. */
+   A value changes by a delete and an insert, two cards: ask elltree_cards_left before the delete. Where the insert is refused by
+   ELLTREE_BUSY, make it again: until then the key is absent. Where it is refused by ELLTREE_SPENT, no card is left, not even to put the old
+   value back: keep the value for fresh cards. */
 ELLTREE_MUST_USE static inline int32_t elltree_delete(struct elltree_handle *handle, uint64_t key, uint32_t tries) {
     int32_t code = elltree_enter(handle);
     return code == ELLTREE_YES ? elltree_leave(handle, elltree_slot_delete(&handle->slot, key, tries)) : code;
@@ -247,6 +255,14 @@ ELLTREE_MUST_USE static inline int32_t elltree_pairs(struct elltree_handle *hand
 ELLTREE_MUST_USE static inline int32_t elltree_steps(struct elltree_handle *handle, uint64_t *steps) {
     int32_t code = steps ? elltree_enter(handle) : ELLTREE_NULL;
     return code == ELLTREE_YES ? elltree_leave(handle, elltree_slot_steps(&handle->slot, steps)) : code;
+}
+
+/* How many cards of the handle's tree are not given out yet, 0 if all are: as it was at one moment of the call. Calls on other handles of
+   the tree may take some meanwhile. No more are left later, until a renewal makes fresh ones. It takes one step and no card.
+   ELLTREE_NULL, ELLTREE_IN_CALL, ELLTREE_CLOSED. */
+ELLTREE_MUST_USE static inline int32_t elltree_cards_left(struct elltree_handle *handle, uint64_t *left) {
+    int32_t code = left ? elltree_enter(handle) : ELLTREE_NULL;
+    return code == ELLTREE_YES ? elltree_leave(handle, elltree_slot_cards_left(&handle->slot, left)) : code;
 }
 
 /* Makes the cards fresh: the handle goes to a new tree with so many cards, and takes along the keys that it owns, which are present with
@@ -305,28 +321,14 @@ static inline int32_t elltree_free(struct elltree_handle *handle) {
     return code == ELLTREE_YES ? elltree_leave(handle, elltree_slot_free(&handle->slot)) : code;
 }
 
-/* What a code says. */
-static inline const char *elltree_text(int32_t code) {
-    switch (code) {
-    case ELLTREE_NO: return "no";
-    case ELLTREE_YES: return "yes";
-    case ELLTREE_BUSY: return "something was in the way of each try";
-    case ELLTREE_SPENT: return "all cards are given out";
-    case ELLTREE_FOREIGN: return "the handle does not own the key";
-    case ELLTREE_NO_TRIES: return "the call allows no try";
-    case ELLTREE_BAD_CARDS: return "cards are not 1 to 1,000,000";
-    case ELLTREE_BAD_KEY: return "a key is above 18446744073709551613";
-    case ELLTREE_BAD_START: return "start keys do not ascend strictly, or are more than 200,000";
-    case ELLTREE_NO_ROOM: return "no room for all pairs or keys";
-    case ELLTREE_NO_MEMORY: return "out of memory";
-    case ELLTREE_CLOSED: return "the handle holds nothing";
-    case ELLTREE_OPEN: return "the handle holds something already";
-    case ELLTREE_OTHER_TREE: return "the handles are of two trees";
-    case ELLTREE_NULL: return "a pointer is null";
-    case ELLTREE_SAME: return "the same handle is given twice";
-    case ELLTREE_IN_CALL: return "the handle is in another call";
-    default: return "no code of elltree";
-    }
+/* Writes what a code says, also of a number that is none, and returns the array, or an empty text where the array is null or has no room.
+   The text is always ended by a 0, and cut off where there is room for less than ELLTREE_TEXT_ROOM. elltree_code_text, of an array that is
+   not null, returns the length of the whole text instead, as snprintf. */
+static inline const char *elltree_text(int32_t code, char *out, size_t room) {
+    if (!out || !room)
+        return "";
+    elltree_code_text(code, out, room);
+    return out;
 }
 
 #ifdef __cplusplus

@@ -26,25 +26,8 @@ BAD_START, NO_ROOM, NO_MEMORY, CLOSED, OPEN, OTHER_TREE, NULL, SAME, IN_CALL = -
 
 KEY_MAX = 2**64 - 3
 
-TEXTS = {
-    NO: "no",
-    YES: "yes",
-    BUSY: "something was in the way of each try",
-    SPENT: "all cards are given out",
-    FOREIGN: "the handle does not own the key",
-    NO_TRIES: "the call allows no try",
-    BAD_CARDS: "cards are not 1 to 1,000,000",
-    BAD_KEY: "a key is above 18446744073709551613",
-    BAD_START: "start keys do not ascend strictly, or are more than 200,000",
-    NO_ROOM: "no room for all pairs or keys",
-    NO_MEMORY: "out of memory",
-    CLOSED: "the handle holds nothing",
-    OPEN: "the handle holds something already",
-    OTHER_TREE: "the handles are of two trees",
-    NULL: "a pointer is null",
-    SAME: "the same handle is given twice",
-    IN_CALL: "the handle is in another call",
-}
+# Room for the text of each code, and the 0 behind it.
+_TEXT_ROOM = 64
 
 
 class Refused(Exception):
@@ -55,7 +38,7 @@ class Refused(Exception):
         self.code = code
 
     def __str__(self):
-        return TEXTS.get(self.code, f"code {self.code}")
+        return text(self.code)
 
 
 class Busy(Refused):
@@ -66,7 +49,7 @@ class Busy(Refused):
 
 
 class Spent(Refused):
-    """All cards are given out, and the insert or the delete needs one: renew_all makes fresh ones."""
+    """All cards are given out, and the insert or the delete needs one: renew_all makes fresh ones. cards_left tells beforehand."""
 
     def __init__(self, code=SPENT):
         super().__init__(code)
@@ -103,16 +86,18 @@ def _load():
         "owned": [at(_Slot), at(size)],
         "pairs": [at(_Slot), at(_Pair), size, at(size)],
         "steps": [at(_Slot), at(u64)],
+        "cards_left": [at(_Slot), at(u64)],
         "renew": [at(_Slot), u64, u64],
         "renew_all": [at(_Slot), size, u64, u64],
         "free": [at(_Slot)],
     }.items():
         call = calls[name] = getattr(lib, f"elltree_slot_{name}" if name != "renew_all" else "elltree_slots_renew")
         call.argtypes, call.restype = types, ctypes.c_int32
-    return calls
+    lib.elltree_code_text.argtypes, lib.elltree_code_text.restype = [ctypes.c_int32, ctypes.c_char_p, size], size
+    return calls, lib.elltree_code_text
 
 
-_library = _load()
+_library, _write_text = _load()
 _numbers = itertools.count(1)
 
 # Takes all items of an iterator, in one call of C.
@@ -161,14 +146,21 @@ def _keys(keys):
 
 def open(keys, start=(), cards=1_000_000):
     """A handle that owns these keys and those of start, a dict or pairs, which are present with their values. Each change takes a card, until
-    renew_all makes the cards fresh. Up to 300,000 cards and start keys together that takes less than a third of the time for each that it
-    takes above, with glibc."""
+    renew_all makes the cards fresh; cards_left tells how many are left. Up to 300,000 cards and start keys together that takes less than a
+    third of the time for each that it takes above, with glibc."""
     pairs = sorted(start.items()) if isinstance(start, dict) else list(start)
     listed = [_Pair(_key(key), _value(value)) for key, value in pairs]
     handle = Handle()
     pairs = (_Pair * max(1, len(listed)))(*listed)
     handle._call("open", *_keys(keys), pairs, len(listed), _cards(cards), next(_numbers))
     return handle
+
+
+def text(code):
+    """What a code says."""
+    out = ctypes.create_string_buffer(_TEXT_ROOM)
+    _write_text(code, out, _TEXT_ROOM)
+    return out.value.decode()
 
 
 def _answer(code):
@@ -257,12 +249,13 @@ class Handle:
         return value.value if self._call("look", _key(key), value) else None
 
     def insert(self, key, value, tries=1000):
-        """Adds a key of the handle's with its value: whether it was absent. A key that is present keeps its value."""
+        """Adds a key of the handle's with its value: whether it was absent. A key that is present keeps its value. It is Spent where it needs a
+        card and none is left: cards_left tells how many are."""
         return self._call("insert", _key(key), _value(value), _tries(tries))
 
     def delete(self, key, tries=1000):
-        """Takes a key of the handle's away: whether it was present. A value changes by a delete and an insert, two cards: where the insert is
-        Spent, keep the value, renew, and insert it."""
+        """Takes a key of the handle's away: whether it was present. A value changes by a delete and an insert, two cards: ask cards_left before
+        the delete. Where the insert is Spent all the same, as others have taken the cards, keep the value, renew, and insert it."""
         return self._call("delete", _key(key), _tries(tries))
 
     def owned(self):
@@ -290,6 +283,13 @@ class Handle:
         steps = ctypes.c_uint64()
         self._call("steps", steps)
         return steps.value
+
+    def cards_left(self):
+        """How many cards of the handle's tree are not given out yet, 0 if all are: as it was at one moment of the call. Other handles of the
+        tree may take some meanwhile. No more are left later, until a renewal makes fresh ones."""
+        left = ctypes.c_uint64()
+        self._call("cards_left", left)
+        return left.value
 
     def renew(self, cards=1_000_000):
         """Makes the cards fresh: the handle goes to a new tree with so many cards, and takes along the keys that it owns, which are present or

@@ -5,6 +5,7 @@
 int main(void) {
     struct elltree_handle low = ELLTREE_EMPTY, high = ELLTREE_EMPTY;
     const uint64_t keys[] = {1, 2, 3, 4};
+    char text[ELLTREE_TEXT_ROOM];
     uint64_t value;
     int32_t code = elltree_open(&low, keys, 4, NULL, 0, 1000);  /* 1,000 cards */
     if (code == ELLTREE_YES)
@@ -16,7 +17,7 @@ int main(void) {
     if (code == ELLTREE_YES)
         printf("%llu\n", (unsigned long long)value);
     else
-        fprintf(stderr, "%s\n", elltree_text(code));
+        fprintf(stderr, "%s\n", elltree_text(code, text, sizeof text));
     elltree_free(&high);
     elltree_free(&low);
     return code != ELLTREE_YES;

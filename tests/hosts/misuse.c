@@ -10,8 +10,9 @@ static void is(int line, int32_t said, int32_t code) {
     if (said < 0)
         met[-said] = 1;
     if (said != code) {
+        char one[ELLTREE_TEXT_ROOM], other[ELLTREE_TEXT_ROOM];
         faults++;
-        printf("line %d: %s, and not: %s\n", line, elltree_text(said), elltree_text(code));
+        printf("line %d: %s, and not: %s\n", line, elltree_text(said, one, sizeof one), elltree_text(code, other, sizeof other));
     }
 }
 #define IS(call, code) is(__LINE__, call, code)
@@ -78,6 +79,7 @@ static void closed(void) {
     IS(elltree_owned(&none, &count), ELLTREE_CLOSED);
     IS(elltree_pairs(&none, &pair, 1, &count), ELLTREE_CLOSED);
     IS(elltree_steps(&none, &steps), ELLTREE_CLOSED);
+    IS(elltree_cards_left(&none, &value), ELLTREE_CLOSED);
     IS(elltree_renew(&none, 9), ELLTREE_CLOSED);
     IS(elltree_renew_all(&at, 1, 9), ELLTREE_CLOSED);
     IS(elltree_free(&none), ELLTREE_CLOSED);
@@ -110,6 +112,8 @@ static void nulls(struct elltree_handle *h) {
     IS(elltree_pairs(h, &pair, 1, NULL), ELLTREE_NULL);
     IS(elltree_steps(NULL, &steps), ELLTREE_NULL);
     IS(elltree_steps(h, NULL), ELLTREE_NULL);
+    IS(elltree_cards_left(NULL, &value), ELLTREE_NULL);
+    IS(elltree_cards_left(h, NULL), ELLTREE_NULL);
     IS(elltree_renew(NULL, 9), ELLTREE_NULL);
     IS(elltree_renew_all(NULL, 1, 9), ELLTREE_NULL);
     IS(elltree_free(NULL), ELLTREE_NULL);
@@ -135,6 +139,7 @@ static void in_call(struct elltree_handle *h) {
     IS(elltree_owned(h, &count), ELLTREE_IN_CALL);
     IS(elltree_pairs(h, &pair, 1, &count), ELLTREE_IN_CALL);
     IS(elltree_steps(h, &steps), ELLTREE_IN_CALL);
+    IS(elltree_cards_left(h, &value), ELLTREE_IN_CALL);
     IS(elltree_renew(h, 9), ELLTREE_IN_CALL);
     IS(elltree_free(h), ELLTREE_IN_CALL);
     IS(elltree_leave(h, ELLTREE_YES), ELLTREE_YES);
@@ -167,13 +172,26 @@ static void keys_and_tries(struct elltree_handle *low, struct elltree_handle *hi
     IS(elltree_pairs(high, pair, 1, &count), ELLTREE_YES);
 }
 
+/* So many cards are left in the handle's tree. */
+static void left(int line, struct elltree_handle *handle, uint64_t cards) {
+    uint64_t is_left = 77;
+    is(line, elltree_cards_left(handle, &is_left), ELLTREE_YES);
+    if (is_left != cards) {
+        faults++;
+        printf("line %d: %llu cards left\n", line, (unsigned long long)is_left);
+    }
+}
+#define LEFT(handle, cards) left(__LINE__, handle, cards)
+
 /* A tree of one card: the second change has none. */
 static void spent_and_other_tree(struct elltree_handle *low) {
     struct elltree_handle small = ELLTREE_EMPTY;
     struct elltree_pair nine = {2, 9};
     uint64_t value = 0;
     IS(elltree_open(&small, keys, 6, NULL, 0, 1), ELLTREE_YES);
+    LEFT(&small, 1);
     IS(elltree_insert(&small, 2, 9, 9), ELLTREE_YES);
+    LEFT(&small, 0);
     IS(elltree_insert(&small, 3, 9, 9), ELLTREE_SPENT);
     IS(elltree_delete(&small, 2, 9), ELLTREE_SPENT);
     IS(elltree_insert(&small, 2, 5, 9), ELLTREE_NO);
@@ -206,8 +224,12 @@ static void renewal(void) {
     IS(elltree_renew(&h, 2), ELLTREE_YES);
     HAS(&h, 6, three, 3);
     IS(elltree_join(&h, &old), ELLTREE_OTHER_TREE);
+    LEFT(&h, 2);
     IS(elltree_delete(&h, 4, 9), ELLTREE_YES);
+    LEFT(&h, 1);
     IS(elltree_delete(&h, 3, 9), ELLTREE_YES);
+    LEFT(&h, 0);
+    LEFT(&old, 0);
     IS(elltree_insert(&h, 1, 1, 9), ELLTREE_SPENT);
     HAS(&h, 6, three, 1);
     IS(elltree_look(&old, 4, &value), ELLTREE_YES);
@@ -276,6 +298,7 @@ static void group_renewal(void) {
     IS(elltree_renew_all(all, 3, 2), ELLTREE_YES);
     GROUPED(&g, low + 1, 1, high, 2);
     IS(elltree_insert(&g.low, 1, 10, 9), ELLTREE_YES);
+    LEFT(&g.reader, 1);
     IS(elltree_look(&g.reader, 1, &value), ELLTREE_YES);
     faults += value != 10;
     IS(elltree_delete(&g.high, 4, 9), ELLTREE_YES);
@@ -321,11 +344,17 @@ static void big_group_renewal(void) {
     IS(elltree_free(&other), ELLTREE_YES);
 }
 
-/* Each code has a text of its own. */
+/* Each code has a text of its own. It is cut off and ended by a 0 where there is no room for all, and what is behind the 0 stays. */
 static void texts(void) {
+    char one[ELLTREE_TEXT_ROOM], two[ELLTREE_TEXT_ROOM], cut[] = ".....";
     for (int32_t code = ELLTREE_IN_CALL - 1; code <= ELLTREE_YES + 1; code++)
         for (int32_t other = code + 1; other <= ELLTREE_YES + 1; other++)
-            faults += !strcmp(elltree_text(code), elltree_text(other)) && (code != ELLTREE_IN_CALL - 1 || other != ELLTREE_YES + 1);
+            faults += !strcmp(elltree_text(code, one, sizeof one), elltree_text(other, two, sizeof two)) &&
+                      (code != ELLTREE_IN_CALL - 1 || other != ELLTREE_YES + 1);
+    faults += strcmp(elltree_text(ELLTREE_SPENT, one, sizeof one), "all cards are given out") != 0;
+    faults += strcmp(elltree_text(ELLTREE_YES + 1, two, sizeof two), "no code of elltree") != 0;
+    faults += elltree_code_text(ELLTREE_SPENT, cut, 4) != strlen(one) || memcmp(cut, "all\0.", sizeof cut);
+    faults += *elltree_text(ELLTREE_SPENT, cut, 0) || *elltree_text(ELLTREE_SPENT, NULL, 4) || memcmp(cut, "all\0.", sizeof cut);
 }
 
 int main(void) {
@@ -360,8 +389,9 @@ int main(void) {
     IS(elltree_free(&reader), ELLTREE_YES);
     for (int code = 2; code <= 15; code++)
         if (code != -ELLTREE_NO_MEMORY && !met[code]) {
+            char text[ELLTREE_TEXT_ROOM];
             faults++;
-            printf("no call was answered: %s\n", elltree_text(-code));
+            printf("no call was answered: %s\n", elltree_text(-code, text, sizeof text));
         }
     printf("%d faults\n", faults);
     return faults != 0;

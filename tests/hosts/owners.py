@@ -99,10 +99,29 @@ class Handles(unittest.TestCase):
         with self.assertRaises(elltree.Spent) as raised:
             spent.delete(1)
         self.assertIsInstance(raised.exception, elltree.Refused)
-        for why in (raised.exception, elltree.Busy(), elltree.Refused(elltree.FOREIGN)):
+        for why, text in (
+            (raised.exception, "all cards are given out"),
+            (elltree.Busy(), "something was in the way of each try"),
+            (elltree.Refused(elltree.FOREIGN), "the handle does not own the key"),
+            (elltree.Refused(7), "no code of elltree"),
+        ):
             again = pickle.loads(pickle.dumps(why))
-            self.assertEqual((type(again), again.code, str(again)), (type(why), why.code, elltree.TEXTS[why.code]))
+            self.assertEqual((type(again), again.code, str(again), elltree.text(why.code)), (type(why), why.code, text, text))
         self.assertEqual((elltree.Busy().code, elltree.Spent().code), (elltree.BUSY, elltree.SPENT))
+
+    def test_tells_how_many_cards_are_left(self):
+        part = self.handle.split([3])
+        self.assertEqual((self.handle.cards_left(), part.cards_left()), (9, 9))
+        self.assertEqual([part.insert(3, 30), part.insert(3, 31), self.handle.delete(2), self.handle.insert(2, 21)], [True, False, True, True])
+        self.assertEqual((self.handle.cards_left(), part.cards_left()), (6, 6))
+        elltree.renew_all([self.handle, part], cards=2)
+        self.assertEqual(self.handle.cards_left(), 2)
+        self.assertEqual((part.delete(3), part.insert(3, 32)), (True, True))
+        self.assertEqual((self.handle.cards_left(), part.cards_left()), (0, 0))
+        with self.assertRaises(elltree.Spent):
+            self.handle.delete(2)
+        part.close()
+        self.assertEqual(text_of(part.cards_left), (elltree.Refused, "the handle holds nothing"))
 
     def test_tells_what_is_no_number(self):
         handle, told = self.handle, "a key has to be an int, not float"

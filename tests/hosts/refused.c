@@ -62,7 +62,8 @@ static void refuse(const char *name, int32_t (*call)(void), long (*differs_befor
             return;
         }
         if (said != ELLTREE_NO_MEMORY || differs_before()) {
-            printf("%s: at allocation %ld: %s\n", name, at, elltree_text(said));
+            char text[ELLTREE_TEXT_ROOM];
+            printf("%s: at allocation %ld: %s\n", name, at, elltree_text(said, text, sizeof text));
             faults++;
             return;
         }
@@ -72,8 +73,9 @@ static void refuse(const char *name, int32_t (*call)(void), long (*differs_befor
 
 /* Calls that ask for no memory. */
 static void frugal(void) {
-    uint64_t value, steps;
+    uint64_t value, steps, left;
     size_t count;
+    char text[ELLTREE_TEXT_ROOM];
     static struct elltree_pair out[KEYS];
     static uint64_t owned[KEYS];
     asked = 0;
@@ -85,7 +87,9 @@ static void frugal(void) {
     faults += elltree_keys(&a, owned, KEYS, &count) != ELLTREE_YES;
     faults += elltree_pairs(&a, out, KEYS, &count) != ELLTREE_YES;
     faults += elltree_steps(&a, &steps) != ELLTREE_YES;
-    printf("find, look, insert, delete, owned, keys, pairs, steps: %ld allocations\n", asked);
+    faults += elltree_cards_left(&a, &left) != ELLTREE_YES;
+    faults += elltree_text(ELLTREE_NO_MEMORY, text, sizeof text) != text;
+    printf("find, look, insert, delete, owned, keys, pairs, steps, cards_left, text: %ld allocations\n", asked);
     faults += asked != 0;
 }
 

@@ -3,6 +3,7 @@
 #include <cstdio>
 #include <map>
 #include <random>
+#include <string>
 #include <thread>
 #include <vector>
 
@@ -84,6 +85,8 @@ int main() {
         thread.join();
     for (const long it : wrong)
         sum += it;
+    char text[ELLTREE_TEXT_ROOM];
+    sum += std::string(elltree_text(ELLTREE_BUSY, text, sizeof text)) != "something was in the way of each try";
     std::printf("%ld wrong\n", sum);
     return sum != 0;
 }

@@ -33,7 +33,7 @@ def refused(code, call, *args, **named):
     try:
         call(*args, **named)
     except elltree.Refused as why:
-        if why.code == code and str(why) == elltree.TEXTS[code]:
+        if why.code == code and str(why) == elltree.text(code):
             return 0
         print(f"{call}: {why}")
         return 1

@@ -84,6 +84,7 @@ fn renewals() -> Result<(), Refused> {
                 threads.spawn(move || assert_eq!(spend(handle, id, plain, seed), Refused::Spent));
             }
         });
+        assert_eq!((tree.cards_left(), reader.cards_left()), (0, 0));
         let mut group: Vec<&mut dyn Member> = vec![&mut tree, &mut reader];
         group.extend(handles.iter_mut().map(|handle| handle as &mut dyn Member));
         assert_eq!(renew_all(&mut group, 0), Err(Refused::BadCards));
@@ -94,6 +95,7 @@ fn renewals() -> Result<(), Refused> {
         let mut group: Vec<&mut dyn Member> = vec![&mut tree, &mut reader];
         group.extend(handles.iter_mut().map(|handle| handle as &mut dyn Member));
         renew_all(&mut group, 10_000)?;
+        assert_eq!((tree.cards_left(), reader.cards_left()), (10_000, 10_000));
         have(&mut handles, &plain, &mut reader)?;
     }
     renew_all(&mut [], 0)?;

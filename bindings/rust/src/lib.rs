@@ -85,9 +85,11 @@ unsafe extern "C" {
     fn elltree_slot_owned(slot: &mut Slot, count: &mut usize) -> i32;
     fn elltree_slot_pairs(slot: &mut Slot, out: *mut Pair, room: usize, count: &mut usize) -> i32;
     fn elltree_slot_steps(slot: &mut Slot, steps: &mut u64) -> i32;
+    fn elltree_slot_cards_left(slot: &mut Slot, left: &mut u64) -> i32;
     fn elltree_slot_renew(slot: &mut Slot, cards: u64, number: u64) -> i32;
     fn elltree_slots_renew(slots: *mut Slot, count: usize, cards: u64, number: u64) -> i32;
     fn elltree_slot_free(slot: &mut Slot) -> i32;
+    fn elltree_code_text(code: i32, out: *mut u8, room: usize) -> usize;
 }
 
 /// Why a call was refused. It has changed nothing.
@@ -96,7 +98,7 @@ unsafe extern "C" {
 pub enum Refused {
     /// Something was in the way of each try.
     Busy,
-    /// All cards of the tree are given out: [`renew_all`] makes them fresh.
+    /// All cards of the tree are given out: [`renew_all`] makes them fresh, and [`Handle::cards_left`] tells beforehand.
     Spent,
     /// The handle does not own a key of the call.
     Foreign,
@@ -119,20 +121,56 @@ pub enum Refused {
 /// What a call gives, or why it was refused.
 pub type Result<T> = std::result::Result<T, Refused>;
 
+// The refusals that have names of their own.
+const NAMED: [Refused; 9] = [
+    Refused::Busy,
+    Refused::Spent,
+    Refused::Foreign,
+    Refused::NoTries,
+    Refused::BadCards,
+    Refused::BadKey,
+    Refused::BadStart,
+    Refused::NoMemory,
+    Refused::OtherTree,
+];
+
+impl Refused {
+    /// The library's code of the refusal.
+    ///
+    /// ```
+    /// assert_eq!(elltree::Refused::OtherTree.code(), -12);
+    /// ```
+    pub fn code(self) -> i32 {
+        match self {
+            Refused::Busy => -1,
+            Refused::Spent => -2,
+            Refused::Foreign => -3,
+            Refused::NoTries => -4,
+            Refused::BadCards => -5,
+            Refused::BadKey => -6,
+            Refused::BadStart => -7,
+            Refused::NoMemory => -9,
+            Refused::OtherTree => -12,
+            Refused::Other(code) => code,
+        }
+    }
+}
+
+// Room for the text of each code, and the 0 behind it.
+const TEXT_ROOM: usize = 64;
+
+/// The library's text of the code.
+///
+/// ```
+/// assert_eq!(elltree::Refused::Spent.to_string(), "all cards are given out");
+/// assert_eq!(elltree::Refused::Other(7).to_string(), "no code of elltree");
+/// ```
 impl std::fmt::Display for Refused {
     fn fmt(&self, f: &mut std::fmt::Formatter<'_>) -> std::fmt::Result {
-        f.write_str(match self {
-            Refused::Busy => "something was in the way of each try",
-            Refused::Spent => "all cards are given out",
-            Refused::Foreign => "the handle does not own the key",
-            Refused::NoTries => "the call allows no try",
-            Refused::BadCards => "cards are not 1 to 1,000,000",
-            Refused::BadKey => "a key is above 18446744073709551613",
-            Refused::BadStart => "start keys do not ascend strictly, or are more than 200,000",
-            Refused::NoMemory => "out of memory",
-            Refused::OtherTree => "the handles are of two trees",
-            Refused::Other(code) => return write!(f, "code {code}"),
-        })
+        let mut text = [0; TEXT_ROOM];
+        // SAFETY: the array is as long as said.
+        let length = unsafe { elltree_code_text(self.code(), text.as_mut_ptr(), text.len()) };
+        f.write_str(&String::from_utf8_lossy(&text[..length]))
     }
 }
 
@@ -140,20 +178,11 @@ impl std::error::Error for Refused {}
 
 // Yes or no, or why not.
 fn answer(code: i32) -> Result<bool> {
-    Err(match code {
-        0 => return Ok(false),
-        1 => return Ok(true),
-        -1 => Refused::Busy,
-        -2 => Refused::Spent,
-        -3 => Refused::Foreign,
-        -4 => Refused::NoTries,
-        -5 => Refused::BadCards,
-        -6 => Refused::BadKey,
-        -7 => Refused::BadStart,
-        -9 => Refused::NoMemory,
-        -12 => Refused::OtherTree,
-        _ => Refused::Other(code),
-    })
+    match code {
+        0 => Ok(false),
+        1 => Ok(true),
+        _ => Err(NAMED.into_iter().find(|why| why.code() == code).unwrap_or(Refused::Other(code))),
+    }
 }
 
 // A slot that holds nothing.
@@ -173,8 +202,8 @@ unsafe impl Send for Handle {}
 
 impl Handle {
     /// A tree over these keys and the start keys, which are present with their values. The handle owns all of them. Each change takes a
-    /// card, until [`Handle::renew`] makes the cards fresh. Up to 300,000 cards and start keys together that takes less than a third of the
-    /// time for each that it takes above, with glibc.
+    /// card, until [`Handle::renew`] makes the cards fresh; [`Handle::cards_left`] tells how many are left. Up to 300,000 cards and start keys
+    /// together that takes less than a third of the time for each that it takes above, with glibc.
     ///
     /// `BadStart` where the start keys do not ascend strictly or are more than [`START_MAX`], then `BadKey` where a key is above
     /// [`KEY_MAX`], then `BadCards` where the cards are not 1 to [`CARDS_MAX`].
@@ -288,7 +317,7 @@ impl Handle {
     /// Adds a key of the handle's with its value: whether the key was absent. A key that is present keeps its value.
     ///
     /// `NoTries` where no try is allowed, then `Foreign` where the handle does not own the key; `Busy` where something was in the way of each
-    /// try, and `Spent` where all cards are given out.
+    /// try, and `Spent` where all cards are given out: [`Handle::cards_left`] tells how many are left.
     pub fn insert(&mut self, key: u64, value: u64, tries: u32) -> Result<bool> {
         // SAFETY: the slot is this handle's.
         answer(unsafe { elltree_slot_insert(&mut self.0, key, value, tries) })
@@ -296,19 +325,19 @@ impl Handle {
 
     /// Takes a key of the handle's away: whether it was present. Refused as an insert is.
     ///
-    /// A value changes by a delete and an insert, two cards. Until the insert is made the key is absent, so a `?` that returns by its `Spent`
-    /// loses the value: keep it, renew, and insert it.
+    /// A value changes by a delete and an insert, two cards: ask [`Handle::cards_left`] before the delete. Until the insert is made the key is
+    /// absent, so a `?` that returns by its `Spent` loses the value. Where other handles of the tree may have taken the cards meanwhile, keep
+    /// the value, renew, and insert it.
     ///
     /// ```
     /// use elltree::{Handle, Refused};
     /// let mut handle = Handle::open(&[], &[(1, 10)], 1)?; // one card too few
-    /// handle.delete(1, 9)?;
-    /// if let Err(why) = handle.insert(1, 11, 9) {
-    ///     assert_eq!((why, handle.find(1)?), (Refused::Spent, None));
-    ///     handle.renew(1_000)?;
-    ///     handle.insert(1, 11, 9)?;
+    /// if handle.cards_left() < 2 {
+    ///     handle.renew(2)?;
     /// }
-    /// assert_eq!(handle.find(1)?, Some(11));
+    /// handle.delete(1, 9)?;
+    /// handle.insert(1, 11, 9)?;
+    /// assert_eq!((handle.find(1)?, handle.cards_left()), (Some(11), 0));
     /// # Ok::<(), Refused>(())
     /// ```
     pub fn delete(&mut self, key: u64, tries: u32) -> Result<bool> {
@@ -347,6 +376,24 @@ impl Handle {
         steps
     }
 
+    /// How many cards of the handle's tree are not given out yet, 0 if all are: as it was at one moment of the call. Other handles of the tree
+    /// may take some meanwhile. No more are left later, until a renewal makes fresh ones. It takes one step and no card.
+    ///
+    /// ```
+    /// let mut low = elltree::Handle::open(&[1, 2], &[(2, 20)], 10)?;
+    /// let mut high = low.split(&[2])?;
+    /// high.delete(2, 9)?;
+    /// assert_eq!((low.insert(1, 10, 9), low.insert(1, 11, 9)), (Ok(true), Ok(false)));
+    /// assert_eq!((low.cards_left(), high.cards_left()), (8, 8));
+    /// # Ok::<(), elltree::Refused>(())
+    /// ```
+    pub fn cards_left(&mut self) -> u64 {
+        let mut left = 0;
+        // SAFETY: the slot is this handle's.
+        unsafe { elltree_slot_cards_left(&mut self.0, &mut left) };
+        left
+    }
+
     /// The handle's keys that are present, ascending, with their values.
     pub fn pairs(&mut self) -> Result<Vec<(u64, u64)>> {
         let mut out = vec![Pair { key: 0, value: 0 }; self.owned()];
@@ -380,6 +427,11 @@ impl Reader {
     /// The value of any key of the tree, if it is present: as it was at one moment of the call. `BadKey` where the key is above [`KEY_MAX`].
     pub fn look(&mut self, key: u64) -> Result<Option<u64>> {
         self.0.look(key)
+    }
+
+    /// How many cards of the tree are not given out yet, as [`Handle::cards_left`] tells it.
+    pub fn cards_left(&mut self) -> u64 {
+        self.0.cards_left()
     }
 
     /// Another reader of the same tree.
@@ -430,6 +482,11 @@ impl Tree {
     /// ```
     pub fn renew(&mut self, cards: u64) -> Result<()> {
         self.rest.renew(cards)
+    }
+
+    /// How many cards are not given out yet, as [`Handle::cards_left`] tells it.
+    pub fn cards_left(&mut self) -> u64 {
+        self.rest.cards_left()
     }
 
     /// How many keys no handle has.

@@ -1,4 +1,4 @@
-use Rattle.std.specs.Prelude.{◌≡◌, ℕ, ◌≤◌, Some}
+use Rattle.std.specs.Prelude.{◌≡◌, ℕ, ◌+◌, ◌≤◌, Some}
 use Rattle.ell_word.specs.Node.{card}
 use Rattle.ell_word.specs.Word.{unpacked}
 use Rattle.ell_core.specs.declared.fact.Fact.{Fact}
@@ -31,7 +31,7 @@ pub record SeenIsNamed (cards : ℕ) (seen : Seen) : Type 0 where
   pub node : card seen.node ≤ cards
   pub word : (unpacked seen.word).card ≤ cards
 
--- all that a pass names is in a table of so many cards
+-- all that a pass names is in a table of so many cards, and so is each card that its claims have shown to be given out
 pub record IsNamed (cards : ℕ) (v : View) : Type 0 where
   pub node : (x : ℕ) → v.worker.search.node ≡ Some x → card x ≤ cards
   pub parent : (x : ℕ) (seen : Seen) → v.worker.search.node ≡ Some x → v.worker.search.parent ≡ Some seen → SeenIsNamed cards seen
@@ -40,3 +40,4 @@ pub record IsNamed (cards : ℕ) (v : View) : Type 0 where
   pub hand : (c : ℕ) → v.worker.card ≡ Some c → c ≤ cards
   pub facts : (fact : Fact) → Knows v fact → card_of_fact fact ≤ cards
   pub entries : (e : Told) → IsTold v e → EntryIsNamed cards e
+  pub next : v.next_at_least ≤ cards + 1

@@ -1,5 +1,5 @@
 //! The table, and its one atomic step of each kind.
-ghost use Rattle.std.specs.Prelude.{◌≡◌, ℕ, ◌<◌, ◌≤◌, ◌==◌, [], OnOk};
+ghost use Rattle.std.specs.Prelude.{◌≡◌, ℕ, ◌<◌, ◌≤◌, ◌+◌, ◌==◌, [], OnOk};
 ghost use prog.Atomic.{either};
 ghost use Rattle.atomic_table.specs.Table.{Allows};
 ghost use Rattle.ell_word.specs.Node.{greatest_card};
@@ -38,6 +38,16 @@ impl<A: Allocator + Copy> Model for CardTable<A> {
 }
 
 impl<A: Allocator + Copy> CardTable<A> {
+    /// A law, the contract of a function that does nothing: whatever a pass did, each card that its claims have shown to be given out is
+    /// one of the table.
+    #[inline(always)]
+    pub fn claims_stay_inside(&self, pass: &Pass<A>)
+        requires own { pass.now.table ≡ self.now.id }
+        ensures { pass.now.view.next_at_least ≤ self.now.last_card + 1 }
+    {
+        self.names(pass);
+    }
+
     // What the pass names is in the table.
     #[inline(always)]
     pub(crate) fn names(&self, pass: &Pass<A>)

@@ -105,7 +105,7 @@ pub fn elltree<R: Threads + Sync, S: AsStr, I: Read, O: Write, E: Write>(
     ensures status { IsStatus result }
     ensures silent { IsSilent result → Keeps (O.contents out.old) (O.contents out.new) }
 
-    // Success writes to `err` only a report that was asked for.
+    // Success leaves `err` as it was, unless a report was asked for.
     ensures quiet { Succeeded result → ¬ AsksForReport (map S.text words.now) → err.new ≡ err.old }
 
     // Words that are taken name `run` or `replay`.

@@ -1,14 +1,11 @@
-use Rattle.std.specs.Prelude.{◌≡◌, ◌≤◌, ◌+◌, ◌*◌, ℕ, Err}
-use Rattle.std.specs.Arc.{arc_value}
+use Rattle.std.specs.Prelude.{◌≡◌, ◌≤◌, ◌*◌, ℕ, Err}
 use Rattle.ell_ops.specs.declared.op.Op.{Op}
 use Rattle.ell_ops.specs.Meaning.{key_of}
-use Rattle.ell_cards.specs.Contention.{AreHinderedByOthers}
-use Rattle.ell_tree.specs.Counts.{Took}
-use Rattle.ell_tree.specs.Ends.{CountsTries, Ends, change_steps}
+use Rattle.ell_tree.specs.Ends.{Ends}
 use Rattle.ell_tree.specs.Ledgers.{Owns}
-use Rattle.ell_tree.specs.Moves.{moves_known}
+use Rattle.ell_tree.specs.Promises.{IsOthersDoing, IsWithin}
 use Rattle.ell_tree.specs.declared.operations.Held.TheVariants as held
-use Rattle.ell_handle.specs.Reads.{last_card_of}
+use Rattle.ell_handle.specs.Reads.{last_card_of, tree_of}
 use Rattle.ell_handle.specs.declared.handle.Handle.{Handle}
 use Rattle.ell_handle.specs.declared.refusal.Refusal.{Refusal}
 use Rattle.ell_handle.specs.declared.refusal.Refusal.TheVariants.{Busy, Foreign, NoTries, Spent}
@@ -24,19 +21,15 @@ TryRefuses key tries h NoTries = tries ≡ 0
 TryRefuses key tries h Foreign = (1 ≤ tries) × (¬ Owns h.pass key)
 TryRefuses key tries h _ = ⊥
 
--- a call took the steps of so many tries at most, and counted those of them that were hindered
-pub record TookTries (tries : ℕ) (old new : Handle) : Type 0 where
-  pub took : Took old.pass new.pass (change_steps (last_card_of old) tries)
-  pub counted : CountsTries tries old.pass new.pass
+-- a call with so many tries kept to the bounds of the tree's calls, on its steps and on the tries that it counts as hindered
+abbrev pub TookTries : ℕ → Handle → Handle → Type 0
+TookTries tries old new = IsWithin (tree_of old) tries old.pass new.pass
 
--- a change, which would have changed the map, was laid down after so many tries: something was in the way of each, which is over; others
--- did something for each; each showed the handle a card that was given out or came to its end, so they are no more than twice the cards
+-- a change, which would have changed the map, was laid down after so many tries: something was in the way of each, which is over; that is
+-- others' doing; and they are no more than twice the cards
 pub record IsHindered (op : Op) (tries : ℕ) (old new : Handle) : Type 0 where
   pub ends : Ends (last_card_of old) tries op old.pass new.pass (Err held.Busy)
-  pub counted : new.pass.view.hindered ≡ old.pass.view.hindered + tries
-  pub by_others : AreHinderedByOthers (arc_value old.shared).tree.keys (arc_value old.shared).tree.start (last_card_of old)
-      old.pass.view.hindered new.pass.view tries
-  pub moved : moves_known (last_card_of old) old.pass.view + tries ≤ moves_known (last_card_of old) new.pass.view
+  pub others : IsOthersDoing (tree_of old) tries old.pass new.pass
   pub few : tries ≤ 2 * last_card_of old
 
 -- a change, which would have changed the map, was laid down, as its last try has read that all cards of the tree are given out

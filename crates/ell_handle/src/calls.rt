@@ -1,14 +1,13 @@
-//! Finds, looks, inserts and deletes.
+//! Finds, looks, inserts and deletes, and how many cards are left.
 ghost use Rattle.std.specs.Prelude.{◌≡◌, ◌<◌, ◌≤◌, IfOk, IfErr, OnOk, OnErr};
-ghost use Rattle.std.specs.Arc.{arc_value};
 ghost use Rattle.ell_ops.specs.declared.op.Op.TheVariants.{Find, Insert, Delete};
 ghost use Rattle.ell_ops.specs.Meaning.{found, greatest_key, yes_if};
-ghost use Rattle.ell_cards.specs.Looking.{IsFoundInRuns};
 ghost use Rattle.ell_tree.specs.Ends.{Answers};
 ghost use Rattle.ell_tree.specs.Ledgers.{Owns, present_in};
-ghost use Rattle.ell_tree.specs.Looks.{OnlyLooks, look_steps};
+ghost use Rattle.ell_tree.specs.Looks.{IsFoundIn, OnlyLooks, look_steps};
+ghost use Rattle.ell_tree.specs.Promises.{SpendsCards};
 ghost use Rattle.ell_handle.specs.Groups.{StaysPut};
-ghost use Rattle.ell_handle.specs.Reads.{KeepsKeys, OnlyFinds, OnlyLooksUp, last_card_of};
+ghost use Rattle.ell_handle.specs.Reads.{KeepsKeys, OnlyAsks, OnlyFinds, OnlyLooksUp, TellsCardsLeft, last_card_of, tree_of};
 ghost use Rattle.ell_handle.specs.Tries.{ChangeRefuses, MayChange, TookTries, TryRefuses};
 ghost use Rattle.ell_handle.specs.declared.refusal.Refusal.TheVariants.{BadKey, Foreign};
 
@@ -18,6 +17,7 @@ use ell_tree::{KEY_MAX, NoGate};
 
 impl Handle {
     /// The value of a key of the handle's, if the key is present. `Foreign` where the handle does not own the key.
+    #[tactic(auto, using(crate::proofs::Trying::quiet_same))]
     pub fn find(&mut self, key: u64) -> Result<Option<u64>, Refusal>
         ensures answers { IfOk result (λ there. Answers (Find key) (found there) self.old.pass self.new.pass) }
         ensures owned { OnOk result (Owns self.old.pass key) }
@@ -34,8 +34,7 @@ impl Handle {
     /// The value of any key of the tree, whoever owns it, if it is present: as it was in one state of the tree between the first step of the
     /// look and its last. It waits for nobody. `BadKey` where the key is above `KEY_MAX`.
     pub fn look(&mut self, key: u64) -> Result<Option<u64>, Refusal>
-        ensures so { IfOk result (IsFoundInRuns (arc_value self.old.shared).tree.keys (arc_value self.old.shared).tree.start
-            (arc_value self.old.shared).tree.last_card self.new.pass.view key) }
+        ensures so { IfOk result (IsFoundIn (tree_of self.old) self.new.pass.view key) }
         ensures mine { IfOk result (λ there. Owns self.old.pass key → there ≡ present_in self.old.pass key) }
         ensures only { OnOk result (OnlyLooks self.old.pass self.new.pass (look_steps (last_card_of self.old))) }
         ensures real { OnOk result (key ≤ greatest_key) }
@@ -51,7 +50,9 @@ impl Handle {
 
     /// Adds a key of the handle's with its value: whether the key was absent. A key that is present keeps its value. `NoTries` where no try
     /// is allowed, then `Foreign` where the handle does not own the key; `Busy` where something was in the way of each try, and `Spent`
-    /// where all cards are given out.
+    /// where all cards are given out: `cards_left` tells how many are left. An insert of a present key takes no card; one that adds its key
+    /// takes one, and at most one more for each try that something hindered; and a refused one takes only those.
+    #[tactic(auto, using(crate::proofs::Trying::within_same, crate::proofs::Trying::spends_none))]
     pub fn insert(&mut self, key: u64, value: u64, tries: u32) -> Result<bool, Refusal>
         ensures answers { IfOk result (λ said. Answers (Insert key value) (yes_if said) self.old.pass self.new.pass) }
         ensures may { OnOk result (MayChange key tries self.old) }
@@ -59,6 +60,7 @@ impl Handle {
         ensures refused { OnErr result (StaysPut self.old self.new) }
         ensures keeps { KeepsKeys self.old self.new }
         ensures took { TookTries tries self.old self.new }
+        ensures cards { SpendsCards tries self.old.pass self.new.pass result }
     {
         self.may_change(key, tries)?;
         Ok(
@@ -69,6 +71,7 @@ impl Handle {
     }
 
     /// Takes a key of the handle's away, with its value: whether it was present. Refusals are as of `insert`.
+    #[tactic(auto, using(crate::proofs::Trying::within_same, crate::proofs::Trying::spends_none))]
     pub fn delete(&mut self, key: u64, tries: u32) -> Result<bool, Refusal>
         ensures answers { IfOk result (λ said. Answers (Delete key) (yes_if said) self.old.pass self.new.pass) }
         ensures may { OnOk result (MayChange key tries self.old) }
@@ -76,6 +79,7 @@ impl Handle {
         ensures refused { OnErr result (StaysPut self.old self.new) }
         ensures keeps { KeepsKeys self.old self.new }
         ensures took { TookTries tries self.old self.new }
+        ensures cards { SpendsCards tries self.old.pass self.new.pass result }
     {
         self.may_change(key, tries)?;
         Ok(
@@ -83,6 +87,16 @@ impl Handle {
                 .tree
                 .delete(&mut self.pass, key, tries, &NoGate)?,
         )
+    }
+
+    /// How many cards of the tree are not given out yet, 0 if all are: as it was at one step of the call, while other handles went on. No more
+    /// are left in this tree ever after. An insert or a delete that changes the map takes one, and one more at most for each try that
+    /// something hinders; with none left it is `Spent`.
+    pub fn cards_left(&mut self) -> u64
+        ensures left { TellsCardsLeft result self.old self.new }
+        ensures reads { OnlyAsks self.old self.new }
+    {
+        self.shared.tree.cards_left(&mut self.pass, &NoGate)
     }
 
     // Whether a change of a key may be tried.

@@ -19,7 +19,7 @@ pub enum Refusal {
     /// Something was in the way of each try.
     #[error("something was in the way of each try")]
     Busy,
-    /// All cards of the tree are given out.
+    /// All cards of the tree are given out, as `cards_left` tells.
     #[error("all cards are given out")]
     Spent,
     /// The cards are not 1 to 1,000,000.

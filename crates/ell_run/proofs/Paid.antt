@@ -14,30 +14,28 @@ use Rattle.ell_run.specs.Work.{AreHalves}
 
 -- a find
 pub paid_find : (cards : ℕ) (before after : PassModel) → Took before after (find_steps cards) →
-    moves_known cards before.view ≤ moves_known cards after.view → moves_known cards after.view ≤ 2 * cards → IsPaid cards 1 before after
-paid_find cards before after few more most =
+    moves_known cards before.view ≤ moves_known cards after.view → IsPaid cards 1 before after
+paid_find cards before after few more =
     let all = mul-le-mul_right {m = moves_known cards before.view} {n = moves_known cards after.view} (try_steps cards) more in
-    record { steps = omega (arith, few.steps, all); made = omega (arith, few.made, all); most = omega (arith, most) }
+    record { steps = omega (arith, few.steps, all); made = omega (arith, few.made, all) }
 
 -- one call more
 pub paid_more : (cards calls : ℕ) (before mid after : PassModel) → IsPaid cards calls before mid → IsPaid cards 1 mid after →
     IsPaid cards (calls + 1) before after
 paid_more cards calls before mid after h one =
-    let c = h.most in
-    let d = one.most in
-    record { steps = omega (arith, h.steps, one.steps); made = omega (arith, h.made, one.made); most = omega (arith, c, d) }
+    record { steps = omega (arith, h.steps, one.steps); made = omega (arith, h.made, one.made) }
 
 -- of more calls
 pub paid_within : (cards calls count : ℕ) (before after : PassModel) → calls ≤ count → IsPaid cards calls before after → IsPaid cards count before after
 paid_within cards calls count before after few h =
     let all = mul-le-mul_right {m = moves_known cards after.view + calls} {n = moves_known cards after.view + count} (try_steps cards) (omega (arith, few)) in
-    record { steps = omega (arith, h.steps, all, few); made = omega (arith, h.made, all, few); most = h.most }
+    record { steps = omega (arith, h.steps, all, few); made = omega (arith, h.made, all, few) }
 
--- the steps of a worker
-pub paid_steps : (cards calls : ℕ) (before after : PassModel) → IsPaid cards calls before after → Took before after (worker_steps cards calls)
-paid_steps cards calls before after h =
-    let b = h.most in
-    let all = mul-le-mul_right {m = moves_known cards after.view} {n = moves_known cards before.view + 2 * cards} (try_steps cards) (omega (arith, b)) in
+-- the steps of a worker, whose pass knows of two moves of each card at most
+pub paid_steps : (cards calls : ℕ) (before after : PassModel) → IsPaid cards calls before after → moves_known cards after.view ≤ 2 * cards →
+    Took before after (worker_steps cards calls)
+paid_steps cards calls before after h few =
+    let all = mul-le-mul_right {m = moves_known cards after.view} {n = 2 * cards} (try_steps cards) few in
     record { steps = omega (arith, h.steps, all); made = omega (arith, h.made, all) }
 
 -- the longest part of two rows

@@ -6,14 +6,12 @@ use Rattle.ell_tree.specs.Ledgers.{PassModel}
 use Rattle.ell_tree.specs.Moves.{moves_known}
 
 -- so many finds, inserts and deletes of a pass took the steps of one try each, and one step more, and those of another try only for
--- each move that the pass came to know of, of which there are two of each card; so by both counts, that of the steps in a row and that of
--- all steps
+-- each move that the pass came to know of; so by both counts, that of the steps in a row and that of all steps
 pub record IsPaid (cards calls : ℕ) (before after : PassModel) : Type 0 where
   pub steps : after.steps + moves_known cards before.view * try_steps cards ≤
       before.steps + (moves_known cards after.view + calls) * try_steps cards + calls
   pub made : after.view.made + moves_known cards before.view * try_steps cards ≤
       before.view.made + (moves_known cards after.view + calls) * try_steps cards + calls
-  pub most : moves_known cards after.view ≤ max (moves_known cards before.view) (2 * cards)
 
 -- the most steps of a worker with so many operations: a try of each, and a try more for each move of a card
 abbrev pub worker_steps : ℕ → ℕ → ℕ

@@ -3,7 +3,8 @@ ghost use Rattle.std.specs.Prelude.{◌≡◌, ◌≤◌, ◌+◌, ℕ, IfOk, le
 ghost use Rattle.ell_ops.specs.Meaning.{key_of};
 ghost use Rattle.ell_tree.specs.Counts.{Took};
 ghost use Rattle.ell_tree.specs.Ends.{Ends};
-ghost use Rattle.ell_tree.specs.Ledgers.{IsIdle, Owns, PassModel};
+ghost use Rattle.ell_tree.specs.Ledgers.{IsIdlePassOf, PassModel};
+ghost use Rattle.ell_tree.specs.Promises.{MayDo};
 ghost use Rattle.ell_run.specs.Pieces.{all_workers, busy, numbered};
 ghost use Rattle.ell_run.specs.Steps.{IsPaid, worker_steps};
 ghost use Rattle.ell_run.specs.Work.{IsWorked, IsWorkedOff, OwnsAll};
@@ -17,7 +18,8 @@ use std::alloc::{Allocator, Global};
 /// The replies of a worker, with their positions in the whole list.
 pub type Piece<A = Global> = Vec<(usize, Reply), A>;
 
-// Works a part off, operation by operation, and leaves the rest of it from the first operation on that is held.
+// Works a part off, operation by operation, and leaves the rest of it from the first operation on that is held. The bound on the steps
+// rests on the law of the moves that a pass knows of, whose function does nothing.
 pub(crate) fn work_off<A: Allocator + Copy, G: StepGate>(
     alloc: A,
     tree: &Tree<A>,
@@ -26,8 +28,7 @@ pub(crate) fn work_off<A: Allocator + Copy, G: StepGate>(
     tries: u32,
     gate: &G,
 ) -> Result<Piece<A>, NoMemory>
-    requires own { pass.old.table ≡ tree.now.id }
-    requires idle { IsIdle pass.old }
+    requires may { IsIdlePassOf tree.now pass.old }
     requires owned { OwnsAll pass.old part.now }
     requires tries { 1 ≤ tries }
     ensures worked { IfOk result (λ piece. IsWorkedOff tree.now.last_card tries part.now pass.old pass.new piece.items) }
@@ -36,10 +37,12 @@ pub(crate) fn work_off<A: Allocator + Copy, G: StepGate>(
     let mut piece = Vec::with_capacity(alloc, part.len())?;
     for (position, op) in part {
         let Ok(reply) = do_op(tree, pass, *op, tries, gate) else {
+            tree.known_moves_are_few(pass);
             return Ok(piece);
         };
         piece.push((*position, reply))?;
     }
+    tree.known_moves_are_few(pass);
     Ok(piece)
 }
 
@@ -51,9 +54,7 @@ fn do_op<A: Allocator + Copy, G: StepGate>(
     tries: u32,
     gate: &G,
 ) -> Result<Reply, Held>
-    requires own { pass.old.table ≡ tree.now.id }
-    requires idle { IsIdle pass.old }
-    requires owned { Owns pass.old (key_of op) }
+    requires may { MayDo tree.now (key_of op) pass.old }
     requires tries { 1 ≤ tries }
     ensures ends { Ends tree.now.last_card tries op pass.old pass.new result }
     ensures paid { IsPaid tree.now.last_card 1 pass.old pass.new }

@@ -10,6 +10,7 @@ use Rattle.ell_core.specs.statements.Effects.{contents_in}
 use Rattle.ell_cards.specs.declared.view.View.{View}
 use Rattle.ell_cards.specs.Models.{PassModel, Steps}
 use Rattle.ell_cards.specs.Changes.{learning, if_won, exchanged}
+use Rattle.ell_tree.specs.declared.operations.Held.{Held}
 use Rattle.ell_tree.specs.declared.trying.Tried.TheVariants.{Answered}
 use Rattle.ell_tree.specs.CardsTaken.{is_claim, claims_in, cards_taken, TakesNoCard, TakesAtMost, TakesCards, TryTakes}
 use Rattle.ell_tree.specs.Ends.{Answers}
@@ -60,7 +61,7 @@ answered_most false begun after h = record { least = omega (arith, h); most = om
 
 pub answered_cards : (said : Bool) (round : ℕ) (first before begun after : PassModel) → TakesAtMost round first before → TakesNoCard before begun
     → TryTakes begun after (Answered said) → (said ≡ false → round ≡ 0) → after.view.hindered ≡ first.view.hindered + round
-    → TakesCards first after (Ok said)
+    → TakesCards {E = Held} first after (Ok said)
 answered_cards true round first before begun after many same one only hindered =
     record { one = omega (arith, many.least, same, one); more = omega (arith, many.most, same, one, hindered) }
 answered_cards false round first before begun after many same none only hindered =

@@ -2,7 +2,6 @@ use Rattle.std.specs.Prelude.{◌≡◌, ℕ, ◌+◌, ◌≤◌, if◌then◌el
 use Rattle.ell_word.specs.declared.gate.Kind.{Kind}
 use Rattle.ell_word.specs.declared.gate.Kind.TheVariants.{Claim}
 use Rattle.ell_cards.specs.Models.{PassModel}
-use Rattle.ell_tree.specs.declared.operations.Held.{Held}
 use Rattle.ell_tree.specs.declared.trying.Claimed.{Claimed}
 use Rattle.ell_tree.specs.declared.trying.Claimed.TheVariants as claimed
 use Rattle.ell_tree.specs.declared.trying.Tried.{Tried}
@@ -46,7 +45,7 @@ pub record TakesOneAndByHindered (old new : PassModel) : Type 0 where
 
 -- which cards an insert or a delete takes: none, if it changes nothing; one, and more only for hindered tries, if it changes the map; and
 -- if it has no answer, only those for hindered tries
-abbrev pub TakesCards : PassModel → PassModel → Result Bool Held → Type 0
+abbrev pub TakesCards : {E : Type 0} → PassModel → PassModel → Result Bool E → Type 0
 TakesCards old new (Ok false) = TakesNoCard old new
 TakesCards old new (Ok true) = TakesOneAndByHindered old new
 TakesCards old new (Err why) = TakesByHindered old new

@@ -60,3 +60,10 @@ try_steps cards = 7 * cards + 27
 -- the most steps of so many tries
 abbrev pub change_steps : ℕ → ℕ → ℕ
 change_steps cards tries = tries * try_steps cards + 1
+
+-- these bounds in short: a constant, times one more than the tries, if there are any, times two more than the number of the last card
+abbrev pub FindsAreShort : Type 0
+FindsAreShort = (cards : ℕ) → find_steps cards ≤ 64 * (cards + 2)
+
+abbrev pub ChangesAreShort : Type 0
+ChangesAreShort = (cards tries : ℕ) → change_steps cards tries ≤ 64 * (tries + 1) * (cards + 2)

@@ -16,6 +16,8 @@ pub mod Counts
 pub mod CardsTaken
 -- how many cards are left
 pub mod CardsLeft
+-- what the tree's calls ask and promise, a record for each kind of promise
+pub mod Promises
 -- what steps keep
 pub mod Keeping
 -- where a search ends

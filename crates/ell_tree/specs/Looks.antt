@@ -1,6 +1,9 @@
-use Rattle.std.specs.Prelude.{◌≡◌, ℕ, ◌+◌, ◌*◌, ◌≤◌}
+use Rattle.std.specs.Prelude.{◌≡◌, ℕ, ◌+◌, ◌*◌, ◌≤◌, Option}
 use Rattle.ell_cards.specs.declared.view.Told.{Told}
+use Rattle.ell_cards.specs.declared.view.View.{View}
+use Rattle.ell_cards.specs.Looking.{IsFoundInRuns}
 use Rattle.ell_cards.specs.Models.{PassModel, IsTold}
+use Rattle.ell_tree.specs.Ledgers.{TreeModel}
 
 -- a pass has at most so many steps more, by both its counts, and was told more, and all else that it has and knows of operations is as it was, what it
 -- won, found and stored too: so it made no store and no exchange, won or lost, each of which would add to one of these. And it owns what
@@ -27,3 +30,7 @@ pub record OnlyLooks (old new : PassModel) (n : ℕ) : Type 0 where
 -- the most steps of a look in a tree of so many cards
 abbrev pub look_steps : ℕ → ℕ
 look_steps cards = 2 * cards + 3
+
+-- what a look found of a key was so in one state of the tree since it began, in every run in which its pass now knows this
+abbrev pub IsFoundIn : TreeModel → View → ℕ → Option ℕ → Type 0
+IsFoundIn t v key there = IsFoundInRuns t.keys t.start t.last_card v key there

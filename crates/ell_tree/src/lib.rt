@@ -5,6 +5,7 @@
 mod deleting;
 mod helping;
 mod inserting;
+mod laws;
 mod operations;
 mod reading;
 mod searching;
@@ -16,5 +17,6 @@ pub use ell_cards::{CardFault, Pass};
 pub use ell_core::table_size;
 pub use ell_ops::{KEY_MAX, NoMemory, distinct_keys};
 pub use ell_word::{CARDS_MAX, Kind, NoGate, START_MAX, StepGate};
+pub use laws::bounds_in_short;
 pub use operations::Held;
 pub use tree::Tree;

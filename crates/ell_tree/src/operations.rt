@@ -6,13 +6,12 @@ ghost use Rattle.ell_ops.specs.Meaning.{key_of, found};
 ghost use Rattle.ell_cards.specs.Changes.{tries_hindered};
 ghost use Rattle.ell_cards.specs.Guards.{MayStop};
 ghost use Rattle.ell_cards.specs.Models.{Does};
-ghost use Rattle.ell_tree.specs.CardsTaken.{TakesAtMost, TakesCards, TakesNoCard, TryTakes};
-ghost use Rattle.ell_tree.specs.Counts.{IsAmortized, Took};
-ghost use Rattle.ell_tree.specs.Ends.{Answers, CountsTries, Ends, change_steps, find_steps, replied, try_steps};
-ghost use Rattle.ell_tree.specs.Hindrances.{Meets, way_of};
+ghost use Rattle.ell_tree.specs.CardsTaken.{TakesNoCard, TryTakes};
+ghost use Rattle.ell_tree.specs.Counts.{Took};
+ghost use Rattle.ell_tree.specs.Ends.{Answers, Ends, find_steps, replied, try_steps};
+ghost use Rattle.ell_tree.specs.Hindrances.{way_of};
 ghost use Rattle.ell_tree.specs.declared.operations.Held.TheVariants.{Busy};
-ghost use Rattle.ell_tree.specs.Ledgers.{IsIdle, Owns};
-ghost use Rattle.ell_tree.specs.Moves.{moves_known};
+ghost use Rattle.ell_tree.specs.Promises.{IsOthersDoing, IsQuiet, IsWithin, MayDo, SpendsCards};
 ghost use Rattle.ell_tree.specs.Searches.{AtRoot};
 ghost use Rattle.ell_tree.specs.Tries.{Begins, IsChange, TryEnds};
 
@@ -45,18 +44,11 @@ pub(crate) fn find<A: Allocator + Copy, G: StepGate>(
     key: u64,
     gate: &G,
 ) -> Option<u64>
-    requires own { pass.old.table ≡ table.now.id }
-    requires idle { IsIdle pass.old }
-    requires owned { Owns pass.old key }
+    requires may { MayDo table.now key pass.old }
     ensures answers { Answers (Find key) (found result) pass.old pass.new }
-    ensures calm { pass.new.view.hindrances ≡ pass.old.view.hindrances }
-    ensures meets { Meets pass.old.view pass.new.view }
-    ensures steps { pass.new.steps ≤ pass.old.steps + find_steps table.now.last_card }
-    ensures made { pass.new.view.made ≤ pass.old.view.made + find_steps table.now.last_card }
-    ensures moved { moves_known table.now.last_card pass.old.view ≤ moves_known table.now.last_card pass.new.view }
-    ensures bounded { moves_known table.now.last_card pass.new.view ≤ 2 * table.now.last_card }
-    ensures hindered { pass.new.view.hindered ≡ pass.old.view.hindered }
-    ensures taken { TakesNoCard pass.old pass.new }
+    ensures quiet { IsQuiet table.now pass.old pass.new }
+    ensures steps { Took pass.old pass.new (find_steps table.now.last_card) }
+    ensures cards { TakesNoCard pass.old pass.new }
 {
     let label = pass.label();
     let op = Op::Find(key);
@@ -77,21 +69,14 @@ pub(crate) fn make_change<A: Allocator + Copy, G: StepGate>(
     tries: u32,
     gate: &G,
 ) -> Result<bool, Held>
-    requires own { pass.old.table ≡ table.now.id }
-    requires idle { IsIdle pass.old }
+    requires may { MayDo table.now (key_of op) pass.old }
     requires change { IsChange op }
-    requires owned { Owns pass.old (key_of op) }
     requires tries { 1 ≤ tries }
     ensures ends { Ends table.now.last_card tries op pass.old pass.new (replied result) }
-    ensures took { Took pass.old pass.new (change_steps table.now.last_card tries) }
-    ensures hindered { result ≡ Err Busy → pass.new.view.hindered ≡ pass.old.view.hindered + tries }
-    ensures counted { CountsTries tries pass.old pass.new }
-    ensures moved { result ≡ Err Busy → moves_known table.now.last_card pass.old.view + tries ≤ moves_known table.now.last_card pass.new.view }
+    ensures others { result ≡ Err Busy → IsOthersDoing table.now tries pass.old pass.new }
+    ensures steps { IsWithin table.now tries pass.old pass.new }
+    ensures cards { SpendsCards tries pass.old pass.new result }
     ensures enough { 2 * table.now.last_card < tries → result ≢ Err Busy }
-    ensures bounded { moves_known table.now.last_card pass.new.view ≤ 2 * table.now.last_card }
-    ensures amortized { IsAmortized table.now.last_card pass.old pass.new }
-    ensures taken { TakesAtMost tries pass.old pass.new }
-    ensures cards { TakesCards pass.old pass.new result }
 {
     let label = pass.label();
     gate.before(label, Kind::Begin);
@@ -108,21 +93,14 @@ fn try_often<A: Allocator + Copy, G: StepGate>(
     tries: u32,
     gate: &G,
 ) -> Result<bool, Held>
-    requires own { pass.old.table ≡ table.now.id }
-    requires idle { IsIdle pass.old }
+    requires may { MayDo table.now (key_of op) pass.old }
     requires change { IsChange op }
-    requires owned { Owns pass.old (key_of op) }
     requires tries { 1 ≤ tries }
     ensures ends { Ends table.now.last_card tries op pass.old pass.new (replied result) }
-    ensures took { Took pass.old pass.new (change_steps table.now.last_card tries) }
-    ensures hindered { result ≡ Err Busy → pass.new.view.hindered ≡ pass.old.view.hindered + tries }
-    ensures counted { CountsTries tries pass.old pass.new }
-    ensures moved { result ≡ Err Busy → moves_known table.now.last_card pass.old.view + tries ≤ moves_known table.now.last_card pass.new.view }
+    ensures others { result ≡ Err Busy → IsOthersDoing table.now tries pass.old pass.new }
+    ensures steps { IsWithin table.now tries pass.old pass.new }
+    ensures cards { SpendsCards tries pass.old pass.new result }
     ensures enough { 2 * table.now.last_card < tries → result ≢ Err Busy }
-    ensures bounded { moves_known table.now.last_card pass.new.view ≤ 2 * table.now.last_card }
-    ensures amortized { IsAmortized table.now.last_card pass.old pass.new }
-    ensures taken { TakesAtMost tries pass.old pass.new }
-    ensures cards { TakesCards pass.old pass.new result }
 {
     begin(table, pass, op, gate);
     for round in 0..tries {

@@ -3,7 +3,7 @@ ghost use Rattle.std.specs.Prelude.{◌≡◌, ◌≤◌, ◌+◌};
 ghost use Rattle.ell_ops.specs.Meaning.{greatest_key};
 ghost use Rattle.ell_cards.specs.Looking.{HasFound};
 ghost use Rattle.ell_tree.specs.CardsLeft.{ReadsCardsLeft};
-ghost use Rattle.ell_tree.specs.Ledgers.{IsIdle, Owns, present_in};
+ghost use Rattle.ell_tree.specs.Ledgers.{IsIdlePassOf, Owns, present_in};
 ghost use Rattle.ell_tree.specs.Looks.{OnlyLooks, look_steps};
 
 use ell_cards::{CardTable, Pass};
@@ -18,8 +18,7 @@ pub(crate) fn look<A: Allocator + Copy, G: StepGate>(
     key: u64,
     gate: &G,
 ) -> Option<u64>
-    requires own { pass.old.table ≡ table.now.id }
-    requires idle { IsIdle pass.old }
+    requires may { IsIdlePassOf table.now pass.old }
     requires real { key ≤ greatest_key }
     ensures found { HasFound pass.new.view key result }
     ensures one { pass.new.view.looks ≡ pass.old.view.looks + 1 }

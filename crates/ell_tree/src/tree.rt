@@ -9,18 +9,17 @@ ghost use Rattle.ell_ops.specs.Meaning.{greatest_key, found};
 ghost use Rattle.ell_word.specs.Node.{most_start};
 ghost use Rattle.ell_core.specs.state.Opening.{last_card};
 ghost use Rattle.ell_cards.specs.Models.{IsCardCount, Refuses};
-ghost use Rattle.ell_cards.specs.Contention.{AreHinderedByOthers};
-ghost use Rattle.ell_cards.specs.Looking.{IsFoundInRuns};
 ghost use Rattle.ell_tree.specs.CardsLeft.{AreLeftAtMost, ReadsCardsLeft};
-ghost use Rattle.ell_tree.specs.CardsTaken.{TakesAtMost, TakesCards, TakesNoCard};
+ghost use Rattle.ell_tree.specs.CardsTaken.{TakesNoCard};
 ghost use Rattle.ell_tree.specs.Closing.{ClosesTo};
-ghost use Rattle.ell_tree.specs.Ends.{Answers, CountsTries, Ends, change_steps, find_steps, replied, try_steps};
-ghost use Rattle.ell_tree.specs.Hindrances.{Meets};
+ghost use Rattle.ell_tree.specs.Counts.{Took};
+ghost use Rattle.ell_tree.specs.Ends.{Answers, Ends, find_steps, replied};
 ghost use Rattle.ell_tree.specs.Moves.{moves_known};
 ghost use Rattle.ell_tree.specs.declared.operations.Held.TheVariants.{Busy};
-ghost use Rattle.ell_tree.specs.Ledgers.{IsIdle, Owns, TreeModel, present_in};
-ghost use Rattle.ell_tree.specs.Looks.{OnlyLooks, look_steps};
+ghost use Rattle.ell_tree.specs.Ledgers.{IsIdlePassOf, Owns, TreeModel, present_in};
+ghost use Rattle.ell_tree.specs.Looks.{IsFoundIn, OnlyLooks, look_steps};
 ghost use Rattle.ell_tree.specs.PassParts.{IsFirst, IsLeftPart, IsRightPart, IsUnion};
+ghost use Rattle.ell_tree.specs.Promises.{IsOthersDoing, IsQuiet, IsWithin, MayDo, SpendsCards};
 
 use crate::operations::{Held, find, make_change};
 use crate::reading::{cards_left, look};
@@ -122,8 +121,7 @@ impl<A: Allocator + Copy> Tree<A> {
         pass: Pass<A>,
         left_keys: &[u64],
     ) -> Result<(Pass<A>, Pass<A>), (Pass<A>, NoMemory)>
-        requires own { pass.table ≡ self.now.id }
-        requires idle { IsIdle pass }
+        requires may { IsIdlePassOf self.now pass }
         requires ascending { IsStrictlyIncreasing left_keys.now }
         requires owned { All (λ k. Owns pass k) left_keys.now }
         ensures left { IfOk result (λ parts. IsLeftPart left_keys.now pass parts.0) }
@@ -139,10 +137,8 @@ impl<A: Allocator + Copy> Tree<A> {
         left: Pass<A>,
         right: Pass<A>,
     ) -> Result<Pass<A>, (Pass<A>, Pass<A>, NoMemory)>
-        requires left { left.table ≡ self.now.id }
-        requires right { right.table ≡ self.now.id }
-        requires left_idle { IsIdle left }
-        requires right_idle { IsIdle right }
+        requires left { IsIdlePassOf self.now left }
+        requires right { IsIdlePassOf self.now right }
         ensures joined { IfOk result (IsUnion left right) }
         ensures refused { IfErr result (λ refused. (refused.0 ≡ left) × (refused.1 ≡ right)) }
     {
@@ -155,14 +151,13 @@ impl<A: Allocator + Copy> Tree<A> {
     /// own is answered as `find` answers it. Two looks at two keys are of two states. It takes no card. The gate is told each step, as `Look`,
     /// and neither a begin nor an end.
     pub fn look<G: StepGate>(&self, pass: &mut Pass<A>, key: u64, gate: &G) -> Option<u64>
-        requires own { pass.old.table ≡ self.now.id }
-        requires idle { IsIdle pass.old }
+        requires may { IsIdlePassOf self.now pass.old }
         requires real { key ≤ greatest_key }
-        ensures so { IsFoundInRuns self.now.keys self.now.start self.now.last_card pass.new.view key result }
+        ensures so { IsFoundIn self.now pass.new.view key result }
         ensures one { pass.new.view.looks ≡ pass.old.view.looks + 1 }
         ensures mine { Owns pass.old key → result ≡ present_in pass.old key }
         ensures only { OnlyLooks pass.old pass.new (look_steps self.now.last_card) }
-        ensures taken { TakesNoCard pass.old pass.new }
+        ensures cards { TakesNoCard pass.old pass.new }
     {
         look(&self.table, pass, key, gate)
     }
@@ -186,39 +181,29 @@ impl<A: Allocator + Copy> Tree<A> {
     /// `3 * cards + 7` steps, where `cards` is the number of the last card: how many cards the tree was asked for, and one more
     /// for each of its start keys.
     pub fn find<G: StepGate>(&self, pass: &mut Pass<A>, key: u64, gate: &G) -> Option<u64>
-        requires own { pass.old.table ≡ self.now.id }
-        requires idle { IsIdle pass.old }
-        requires owned { Owns pass.old key }
+        requires may { MayDo self.now key pass.old }
         ensures answers { Answers (Find key) (found result) pass.old pass.new }
-        ensures calm { pass.new.view.hindrances ≡ pass.old.view.hindrances }
-        ensures meets { Meets pass.old.view pass.new.view }
-        ensures steps { pass.new.steps ≤ pass.old.steps + find_steps self.now.last_card }
-        ensures made { pass.new.view.made ≤ pass.old.view.made + find_steps self.now.last_card }
-        ensures rounded { pass.new.steps ≤ pass.old.steps + 64 * (self.now.last_card + 2) }
-        ensures moved { moves_known self.now.last_card pass.old.view ≤ moves_known self.now.last_card pass.new.view }
-        ensures bounded { moves_known self.now.last_card pass.new.view ≤ 2 * self.now.last_card }
-        ensures hindered { pass.new.view.hindered ≡ pass.old.view.hindered }
-        ensures taken { TakesNoCard pass.old pass.new }
+        ensures quiet { IsQuiet self.now pass.old pass.new }
+        ensures steps { Took pass.old pass.new (find_steps self.now.last_card) }
+        ensures cards { TakesNoCard pass.old pass.new }
     {
         find(&self.table, pass, key, gate)
     }
 
-    /// Adds a key of the pass with its value: whether the key was absent. A key that is present keeps its value. It is tried
-    /// so often at most, at least once, in at most `tries * (7 * cards + 27) + 1` steps, where `cards` is the number of the
-    /// last card: how many cards the tree was asked for, and one more for each of its start keys. `Busy` comes where something
-    /// was in the way of every try, and `Spent` where a try that would add the key finds all cards given out. After either the
-    /// map is as it was, and nothing of the call is under way. However it ends, whatever was in the way of a try is over by
-    /// then: a card that another pass took first, or a change of a neighbour, which was helped to its end where nobody else
-    /// had ended it. Each try that ends without an answer shows the pass a card given out, or come to its end, that it did not
-    /// know of (`moves_known`), and no card does either twice: so with more than `2 * cards` tries it is never `Busy`, and all calls of a
-    /// pass together make at most `7 * cards + 28` steps each, and `2 * cards * (7 * cards + 27)` more, in every schedule. The bounds are on
-    /// the steps in a row (`steps`), and on all steps of the pass and of those that it was joined with (`view.made`). Each such try is
-    /// counted (`hindered`): of a call that answers `Busy`, all its tries. And others did something for each (`by_others`): in every run of
-    /// the tree the tries of such a call are at most two for each card that was given out to another pass while it went on, and one for
-    /// each card that some pass had in hand when it began. No try takes more than one card (`taken`). A call that changes nothing takes none;
-    /// one that changes the map takes one, and at most one more for each try that something hindered; and one that is held, at most one for
-    /// each of those (`cards`).
-    #[tactic(auto, using(ell_cards::proofs::runs::Tries::more_tries))]
+    /// Adds a key of the pass with its value: whether the key was absent. A key that is present keeps its value. It makes at least one try
+    /// and at most `tries`. `Busy` comes if something was in the way of every try, and `Spent` if a try that would add the key finds all
+    /// cards given out: after either the map is as it was, and nothing of the call is under way. However it ends, whatever was in the way
+    /// of a try is over by then: a card that another pass took first, or a change of a neighbor, which was helped to its end if nobody else
+    /// had ended it.
+    ///
+    /// The bounds, where `cards` is the number of the last card: how many cards the tree was asked for, and one more for each of its start
+    /// keys. A call takes at most `tries * (7 * cards + 27) + 1` steps. Each try that ends without an answer shows the pass a card given out,
+    /// or come to its end, that it did not know of, and no card does either twice: so with more than `2 * cards` tries it is never `Busy`,
+    /// and all calls of a pass together take at most `7 * cards + 28` steps each, and `2 * cards * (7 * cards + 27)` more, in every schedule.
+    /// A call that is `Busy` counts all its tries as hindered, and in every run of the tree they are at most two for each card that was given
+    /// out to another pass while it went on, and one for each card that some pass had in hand when it began. A call that changes nothing
+    /// takes no card; one that changes the map takes one, and at most one more for each try that something hindered; and one that is held, at
+    /// most one for each of those.
     pub fn insert<G: StepGate>(
         &self,
         pass: &mut Pass<A>,
@@ -227,32 +212,18 @@ impl<A: Allocator + Copy> Tree<A> {
         tries: u32,
         gate: &G,
     ) -> Result<bool, Held>
-        requires own { pass.old.table ≡ self.now.id }
-        requires idle { IsIdle pass.old }
-        requires owned { Owns pass.old key }
+        requires may { MayDo self.now key pass.old }
         requires tries { 1 ≤ tries }
         ensures ends { Ends self.now.last_card tries (Insert key value) pass.old pass.new (replied result) }
-        ensures steps { pass.new.steps ≤ pass.old.steps + change_steps self.now.last_card tries }
-        ensures made { pass.new.view.made ≤ pass.old.view.made + change_steps self.now.last_card tries }
-        ensures hindered { result ≡ Err Busy → pass.new.view.hindered ≡ pass.old.view.hindered + tries }
-        ensures counted { CountsTries tries pass.old pass.new }
-        ensures taken { TakesAtMost tries pass.old pass.new }
-        ensures cards { TakesCards pass.old pass.new result }
-        ensures by_others { result ≡ Err Busy → AreHinderedByOthers self.now.keys self.now.start self.now.last_card pass.old.view.hindered pass.new.view tries }
-        ensures rounded { pass.new.steps ≤ pass.old.steps + 64 * (tries + 1) * (self.now.last_card + 2) }
-        ensures moved { result ≡ Err Busy → moves_known self.now.last_card pass.old.view + tries ≤ moves_known self.now.last_card pass.new.view }
+        ensures others { result ≡ Err Busy → IsOthersDoing self.now tries pass.old pass.new }
+        ensures steps { IsWithin self.now tries pass.old pass.new }
+        ensures cards { SpendsCards tries pass.old pass.new result }
         ensures enough { 2 * self.now.last_card < tries → result ≢ Err Busy }
-        ensures bounded { moves_known self.now.last_card pass.new.view ≤ 2 * self.now.last_card }
-        ensures amortized { pass.new.steps + moves_known self.now.last_card pass.old.view * try_steps self.now.last_card ≤
-            pass.old.steps + (moves_known self.now.last_card pass.new.view + 1) * try_steps self.now.last_card + 1 }
-        ensures made_amortized { pass.new.view.made + moves_known self.now.last_card pass.old.view * try_steps self.now.last_card ≤
-            pass.old.view.made + (moves_known self.now.last_card pass.new.view + 1) * try_steps self.now.last_card + 1 }
     {
         make_change(&self.table, pass, Op::Insert(key, value), tries, gate)
     }
 
     /// Takes a key of the pass away, with its value: whether it was present. Tries, steps, cards and errors are as of `insert`.
-    #[tactic(auto, using(ell_cards::proofs::runs::Tries::more_tries))]
     pub fn delete<G: StepGate>(
         &self,
         pass: &mut Pass<A>,
@@ -260,35 +231,29 @@ impl<A: Allocator + Copy> Tree<A> {
         tries: u32,
         gate: &G,
     ) -> Result<bool, Held>
-        requires own { pass.old.table ≡ self.now.id }
-        requires idle { IsIdle pass.old }
-        requires owned { Owns pass.old key }
+        requires may { MayDo self.now key pass.old }
         requires tries { 1 ≤ tries }
         ensures ends { Ends self.now.last_card tries (Delete key) pass.old pass.new (replied result) }
-        ensures steps { pass.new.steps ≤ pass.old.steps + change_steps self.now.last_card tries }
-        ensures made { pass.new.view.made ≤ pass.old.view.made + change_steps self.now.last_card tries }
-        ensures hindered { result ≡ Err Busy → pass.new.view.hindered ≡ pass.old.view.hindered + tries }
-        ensures counted { CountsTries tries pass.old pass.new }
-        ensures taken { TakesAtMost tries pass.old pass.new }
-        ensures cards { TakesCards pass.old pass.new result }
-        ensures by_others { result ≡ Err Busy → AreHinderedByOthers self.now.keys self.now.start self.now.last_card pass.old.view.hindered pass.new.view tries }
-        ensures rounded { pass.new.steps ≤ pass.old.steps + 64 * (tries + 1) * (self.now.last_card + 2) }
-        ensures moved { result ≡ Err Busy → moves_known self.now.last_card pass.old.view + tries ≤ moves_known self.now.last_card pass.new.view }
+        ensures others { result ≡ Err Busy → IsOthersDoing self.now tries pass.old pass.new }
+        ensures steps { IsWithin self.now tries pass.old pass.new }
+        ensures cards { SpendsCards tries pass.old pass.new result }
         ensures enough { 2 * self.now.last_card < tries → result ≢ Err Busy }
-        ensures bounded { moves_known self.now.last_card pass.new.view ≤ 2 * self.now.last_card }
-        ensures amortized { pass.new.steps + moves_known self.now.last_card pass.old.view * try_steps self.now.last_card ≤
-            pass.old.steps + (moves_known self.now.last_card pass.new.view + 1) * try_steps self.now.last_card + 1 }
-        ensures made_amortized { pass.new.view.made + moves_known self.now.last_card pass.old.view * try_steps self.now.last_card ≤
-            pass.old.view.made + (moves_known self.now.last_card pass.new.view + 1) * try_steps self.now.last_card + 1 }
     {
         make_change(&self.table, pass, Op::Delete(key), tries, gate)
+    }
+
+    /// A law, the contract of a function that does nothing: a pass of the tree knows of two moves of each card at most, whatever it did.
+    pub fn known_moves_are_few(&self, pass: &Pass<A>)
+        requires own { pass.now.table ≡ self.now.id }
+        ensures { moves_known self.now.last_card pass.now.view ≤ 2 * self.now.last_card }
+    {
+        self.table.claims_stay_inside(pass);
     }
 
     /// Ends the tree, by a pass that owns all its keys: those that are present with their values, the keys strictly ascending. Where
     /// memory is refused, tree and pass come back as they were.
     pub fn close(self, pass: Pass<A>) -> Result<Vec<(u64, u64), A>, (Tree<A>, Pass<A>, NoMemory)>
-        requires own { pass.table ≡ self.id }
-        requires idle { IsIdle pass }
+        requires may { IsIdlePassOf self pass }
         requires all { All (λ k. Owns pass k) self.keys }
         ensures pairs { IfOk result (λ pairs. ClosesTo self pass pairs.items) }
         ensures refused { IfErr result (λ refused. (refused.0 ≡ self) × (refused.1 ≡ pass)) }

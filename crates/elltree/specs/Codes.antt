@@ -57,6 +57,18 @@ said_open = negsuc 10
 abbrev pub said_other_tree : ℤ
 said_other_tree = negsuc 11
 
+-- a pointer is null that must not be: this and the codes below it come from the header and the bindings, and not from a call
+abbrev pub said_null : ℤ
+said_null = negsuc 12
+
+-- a handle is given twice
+abbrev pub said_same : ℤ
+said_same = negsuc 13
+
+-- a handle is in another call
+abbrev pub said_in_call : ℤ
+said_in_call = negsuc 14
+
 -- the code of a refusal
 abbrev pub code_of : Refusal → ℤ
 code_of Foreign = said_foreign

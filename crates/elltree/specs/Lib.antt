@@ -1,5 +1,6 @@
 pub mod Owned
 pub mod Maps
 pub mod Codes
+pub mod Texts
 pub mod Groups
 pub mod Slots

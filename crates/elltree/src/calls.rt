@@ -8,7 +8,7 @@ ghost use Rattle.ell_handle.specs.Reads.{KeepsKeys, OnlyFinds, OnlyLooksUp};
 ghost use Rattle.ell_handle.specs.Tries.{IsHindered, IsSpent, TookTries};
 ghost use Rattle.ell_handle.specs.declared.refusal.Refusal.TheVariants.{BadKey, Foreign};
 ghost use Rattle.elltree.specs.Codes.{IsOneOf, code_of, said_bad_key, said_busy, said_closed, said_foreign, said_no, said_no_tries, said_spent, said_yes};
-ghost use Rattle.elltree.specs.Maps.{IsFoundBy, OwnsIn, handle_of, map_of};
+ghost use Rattle.elltree.specs.Maps.{IsFoundBy, OwnsIn, SpendsBy, handle_of, map_of};
 ghost use Rattle.elltree.specs.Slots.{OfHandles, OfHandlesIfAny};
 
 use crate::codes::{CLOSED, NO, YES, code_of_refusal};
@@ -146,6 +146,7 @@ pub extern "C" fn elltree_slot_insert(
     ensures refused { result ≢ said_yes → result ≢ said_no → OfHandlesIfAny StaysPut (handle_of slot.old.raw.inside) (handle_of slot.new.raw.inside) }
     ensures keeps { OfHandlesIfAny KeepsKeys (handle_of slot.old.raw.inside) (handle_of slot.new.raw.inside) }
     ensures took { OfHandlesIfAny (TookTries tries) (handle_of slot.old.raw.inside) (handle_of slot.new.raw.inside) }
+    ensures cards { OfHandlesIfAny (SpendsBy tries result) (handle_of slot.old.raw.inside) (handle_of slot.new.raw.inside) }
 {
     let Some(mut place) = slot.take(alloc) else {
         return CLOSED;
@@ -176,6 +177,7 @@ pub extern "C" fn elltree_slot_delete(alloc: Global, slot: &mut Slot, key: u64, 
     ensures refused { result ≢ said_yes → result ≢ said_no → OfHandlesIfAny StaysPut (handle_of slot.old.raw.inside) (handle_of slot.new.raw.inside) }
     ensures keeps { OfHandlesIfAny KeepsKeys (handle_of slot.old.raw.inside) (handle_of slot.new.raw.inside) }
     ensures took { OfHandlesIfAny (TookTries tries) (handle_of slot.old.raw.inside) (handle_of slot.new.raw.inside) }
+    ensures cards { OfHandlesIfAny (SpendsBy tries result) (handle_of slot.old.raw.inside) (handle_of slot.new.raw.inside) }
 {
     let Some(mut place) = slot.take(alloc) else {
         return CLOSED;
@@ -204,6 +206,7 @@ fn insert(handle: &mut Handle, key: u64, value: u64, tries: u32) -> i32
     ensures refused { result ≢ said_yes → result ≢ said_no → StaysPut handle.old handle.new }
     ensures keeps { KeepsKeys handle.old handle.new }
     ensures took { TookTries tries handle.old handle.new }
+    ensures cards { SpendsBy tries result handle.old handle.new }
 {
     match handle.insert(key, value, tries) {
         Ok(true) => YES,
@@ -228,6 +231,7 @@ fn delete(handle: &mut Handle, key: u64, tries: u32) -> i32
     ensures refused { result ≢ said_yes → result ≢ said_no → StaysPut handle.old handle.new }
     ensures keeps { KeepsKeys handle.old handle.new }
     ensures took { TookTries tries handle.old handle.new }
+    ensures cards { SpendsBy tries result handle.old handle.new }
 {
     match handle.delete(key, tries) {
         Ok(true) => YES,

@@ -33,6 +33,13 @@ pub const OPEN: i32 = -11;
 
 pub const OTHER_TREE: i32 = -12;
 
+// What header and bindings answer before a call: no exported function does.
+pub const NULL: i32 = -13;
+
+pub const SAME: i32 = -14;
+
+pub const IN_CALL: i32 = -15;
+
 /// The code of a refusal.
 pub fn code_of_refusal(refusal: Refusal) -> i32
     ensures code { result ≡ code_of refusal }

@@ -16,6 +16,7 @@ mod slot;
 mod starting;
 #[cfg(test)]
 mod tests;
+pub mod texts;
 
 /// A key with its value.
 #[repr(C)]

@@ -3,9 +3,10 @@ ghost use Rattle.std.specs.Prelude.{◌≡◌, ◌≢◌, ◌<◌, ◌≤◌, �
 ghost use Rattle.ell_cards.specs.Changes.{keys_of};
 ghost use Rattle.ell_tree.specs.Ledgers.{present_in};
 ghost use Rattle.ell_handle.specs.Groups.{StaysPut};
+ghost use Rattle.ell_handle.specs.Reads.{OnlyAsks, TellsCardsLeft};
 ghost use Rattle.elltree.specs.Codes.{IsOneOf, said_closed, said_no_room, said_yes};
 ghost use Rattle.elltree.specs.Maps.{NeedsMore, WritesKeys, WritesPairs, handle_of, keys_in, map_of, owned_in, steps_in};
-ghost use Rattle.elltree.specs.Slots.{OfHandlesIfAny};
+ghost use Rattle.elltree.specs.Slots.{OfHandles, OfHandlesIfAny};
 
 use crate::Pair;
 use crate::codes::{CLOSED, NO_ROOM, YES};
@@ -152,6 +153,30 @@ pub extern "C" fn elltree_slot_steps(alloc: Global, slot: &mut Slot, steps: &mut
     let code = match &place.handle {
         Some(handle) => {
             *steps = handle.steps();
+            YES
+        }
+        None => CLOSED,
+    };
+    slot.put(place);
+    code
+}
+
+/// How many cards of the slot's tree are not given out yet, 0 if all are: as it was at one step of the call. No more are left in this tree ever
+/// after.
+#[unsafe(no_mangle)]
+pub extern "C" fn elltree_slot_cards_left(alloc: Global, slot: &mut Slot, left: &mut u64) -> i32
+    ensures left { result ≡ said_yes → OfHandles (TellsCardsLeft left.new) (handle_of slot.old.raw.inside) (handle_of slot.new.raw.inside) }
+    ensures closed { (result ≡ said_closed) ↔ (handle_of slot.old.raw.inside ≡ None) }
+    ensures codes { IsOneOf (said_yes ∷ said_closed ∷ []) result }
+    ensures kept { result ≢ said_yes → left.new ≡ left.old }
+    ensures reads { OfHandlesIfAny OnlyAsks (handle_of slot.old.raw.inside) (handle_of slot.new.raw.inside) }
+{
+    let Some(mut place) = slot.take(alloc) else {
+        return CLOSED;
+    };
+    let code = match &mut place.handle {
+        Some(handle) => {
+            *left = handle.cards_left();
             YES
         }
         None => CLOSED,

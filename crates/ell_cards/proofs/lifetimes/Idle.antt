@@ -1,4 +1,4 @@
-use Rattle.std.proofs.Common.{◌≡◌, ℕ, ◌≤◌, List, [], ◌∷◌, Some, None, sym, ap, ◌∙◌, subst, arith, true≢false}
+use Rattle.std.proofs.Common.{◌≡◌, ℕ, ◌+◌, ◌≤◌, List, [], ◌∷◌, Some, None, sym, ap, ◌∙◌, subst, arith, true≢false}
 use Rattle.ell_core.specs.declared.fact.Fact.{Fact}
 use Rattle.ell_core.specs.state.Words.{Words}
 use Rattle.ell_core.specs.state.Facts.{known_of, card_of_fact}
@@ -26,14 +26,15 @@ rest_holds words w stage v entries card here nowhere read least knew = record {
 
 -- where its entries and its facts are in a table, all that it names is
 pub rest_named : (cards : ℕ) (v : View) → ((e : Told) → IsTold v e → EntryIsNamed cards e) → ((f : Fact) → Knows v f → card_of_fact f ≤ cards)
-    → v.worker.search.node ≡ None → v.worker.card ≡ None → IsNamed cards v
-rest_named cards v entries facts node card = record {
+    → v.worker.search.node ≡ None → v.worker.card ≡ None → v.next_at_least ≤ cards + 1 → IsNamed cards v
+rest_named cards v entries facts node card next = record {
   node = λ x at. absurd (some_not_none at node);
   parent = λ x seen at behind. absurd (some_not_none at node);
   grandparent = λ x seen above at behind up. absurd (some_not_none at node);
   hand = λ c has. absurd (some_not_none has card);
   facts = facts;
   entries = entries;
+  next = next;
 }
 
 -- a pass that has met the root alone was told nothing else
@@ -42,8 +43,9 @@ met_root P root e (latest _ _) = root
 met_root P root e (earlier _ _ _ h) = elim h [ ]
 
 -- so it names what is in any table
-pub root_named : (cards : ℕ) (v : View) → v.told ≡ Met 0 ∷ [] → v.worker.facts ≡ [] → v.worker.search.node ≡ None → v.worker.card ≡ None → IsNamed cards v
-root_named cards v told facts node card = rest_named cards v
+pub root_named : (cards : ℕ) (v : View) → v.told ≡ Met 0 ∷ [] → v.worker.facts ≡ [] → v.worker.search.node ≡ None → v.worker.card ≡ None
+    → v.next_at_least ≡ 0 → IsNamed cards v
+root_named cards v told facts node card next = rest_named cards v
     (λ e h. met_root (EntryIsNamed cards) (omega arith) e (subst (λ (es : List Told). Has es e) told h))
     (λ f k. absurd (true≢false (sym (sym (ap (λ (fs : List Fact). known_of fs f) facts) ∙ k))))
-    node card
+    node card (omega (arith, next))

@@ -150,7 +150,7 @@ joined_named : (cards : ℕ) (v w : View) → IsNamed cards v → IsNamed cards 
 joined_named cards v w h g = rest_named cards (joined_view v w)
     (λ e told. elim (told_either v.told w.told e told) [ inl a ↦ h.entries e a | inr b ↦ g.entries e b ])
     (λ f k. elim (known_either v.worker.facts w.worker.facts f k) [ inl a ↦ h.facts f a | inr b ↦ g.facts f b ])
-    refl refl
+    refl refl (let a = h.next in let b = g.next in omega arith)
 
 -- it has the keys of both
 pub joined_fits : (words left right : ℕ) (ours theirs one other keys : List ℕ) (v w : View) → PassFits ours left v → PassFits theirs right w

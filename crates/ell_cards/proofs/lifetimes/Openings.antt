@@ -82,5 +82,5 @@ pub first_fits : (keys : List ℕ) (start : List (ℕ × ℕ)) (words : ℕ) →
 first_fits keys start words rising = record {
   owned = sym (keys_start keys start);
   ascending = rising;
-  named = λ cards size. root_named cards (first_view keys start) refl refl refl refl;
+  named = λ cards size. root_named cards (first_view keys start) refl refl refl refl refl;
 }

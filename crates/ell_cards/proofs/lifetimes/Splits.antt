@@ -121,7 +121,7 @@ module _ (cards : ℕ) (v : View) (keys chosen : List ℕ) (are : keys ≡ keys_
     owned = sym (keys_on chosen v.worker.ledger ∙ (ap (filter (set_of chosen)) (sym are)
         ∙ (ascending_parts keys chosen rising rise (owned_all v.worker.ledger keys chosen are all)).taken));
     ascending = rise;
-    named = λ named. rest_named cards (left_view chosen v) named.entries named.facts refl refl;
+    named = λ named. rest_named cards (left_view chosen v) named.entries named.facts refl refl named.next;
   }
 
   -- the right part has the rest
@@ -129,5 +129,5 @@ module _ (cards : ℕ) (v : View) (keys chosen : List ℕ) (are : keys ≡ keys_
   right_has rest is = record {
     owned = is ∙ (ap (filter (λ k. not (set_of chosen k))) are ∙ sym (keys_off chosen v.worker.ledger));
     ascending = subst IsStrictlyIncreasing (sym is) (IsStrictlyIncreasing-filter (λ k. not (set_of chosen k)) keys rising);
-    named = λ named. rest_named cards (right_view chosen v) named.entries named.facts refl refl;
+    named = λ named. rest_named cards (right_view chosen v) named.entries named.facts refl refl named.next;
   }

@@ -61,4 +61,5 @@ module _ (keys : List ℕ) (cards : ℕ) (s : TableState) (r : HasMachine keys c
         hand = λ c has. claimed_fits c (rely.hand c (ap (λ (u : Worker). u.card) same ∙ has));
         facts = λ f knows. claimed_fits (card_of_fact f) (rely.known f (ap (λ (u : Worker). u.knows f) same ∙ knows));
         entries = λ e told. entry_fits e ((r.views id v here).entries e told);
+        next = let room = r.invariant.limit in let least = (r.views id v here).least in omega arith;
       }

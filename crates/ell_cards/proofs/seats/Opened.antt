@@ -47,6 +47,12 @@ module _ (t u : TableModel) (p q : PassModel) (same_table : t ≡ u) (same_pass 
   pub own_size : p.table.words ≡ table_size t.last_card
   own_size = ap (λ i. i.words) of_table ∙ size
 
+  -- what the pass names, as callers see the two
+  pub named_there : (keys : List ℕ) → PassFits keys p.table.words p.view → IsNamed u.last_card q.view
+  named_there keys fits =
+      subst (λ (m : TableModel). IsNamed m.last_card q.view) same_table
+      (subst (λ (m : PassModel). IsNamed t.last_card m.view) same_pass (fits.named t.last_card own_size))
+
   -- what a step owes, by what its caller says of the table and the pass
   pub owed : (seat : ℕ) (held : List (ℕ × Unit {0})) (keys : List ℕ) (word : ℕ) (f : ℕ → ℕ) (told : ℕ → View → Type 0) → t.id.slots ≡ 0 → held ≡ []
       → PassFits keys p.table.words p.view → (IsNamed u.last_card q.view → word < table_size u.last_card)

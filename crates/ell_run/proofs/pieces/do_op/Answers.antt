@@ -3,5 +3,4 @@ use Rattle.ell_run.proofs.pieces.do_op.Goals as goal
 
 pub returns-in-Find-clause-paid : goal.returns-in-Find-clause-paid
 returns-in-Find-clause-paid g c =
-    paid_find c.args.tree.now.last_card c.args.pass.now c.find.new.pass (record { steps = c.find.ensures.steps; made = c.find.ensures.made }) c.find.ensures.moved
-    c.find.ensures.bounded
+    paid_find c.args.tree.now.last_card c.args.pass.now c.find.new.pass c.find.ensures.steps c.find.ensures.quiet.moved

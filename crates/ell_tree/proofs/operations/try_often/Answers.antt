@@ -1,4 +1,5 @@
 use Rattle.std.proofs.Common.{◌≡◌, ◌+◌, ◌*◌, ◌∙◌, ap, arith, rules, eq-eqb, eqb-true}
+use Rattle.ell_cards.proofs.runs.Tries.{more_tries}
 use Rattle.ell_tree.specs.Ends.{try_steps}
 use Rattle.ell_tree.specs.Hindrances.{way_of}
 use Rattle.ell_tree.proofs.Counting.{took_within, took_trans, rounds_first, rounds_later, round_steps, rounds_steps}
@@ -14,29 +15,6 @@ try_once-requires-clause-root g c =
     let l = c.loop-round in
     let i = l.invariant in
     (c.restart.ensures.begins c.args.op i.stops.busy (λ none. i.root (eqb-true l.round 0 none))).root
-
-pub returns-in-Answered-clause-took : goal.returns-in-Answered-clause-took
-returns-in-Answered-clause-took g c =
-    let l = c.loop-round in
-    let i = l.invariant in
-    let begins = c.restart.ensures.begins c.args.op i.stops.busy (λ none. i.root (eqb-true l.round 0 none)) in
-    let most = try_steps c.args.table.now.last_card in
-    let few = round_steps l.round most c.args.pass.now l.pass c.restart.new.pass c.try_once.new.pass i.rounds
-    begins.took (λ none. c.restart.ensures.first (eq-eqb l.round 0 none)) c.try_once.ensures.steps c.try_once.ensures.made in
-    let all = rounds_steps l.round c.args.tries most c.loop-round-test.true in
-    took_within c.args.pass.now c.try_once.new.pass ((l.round + 1) * most) (c.args.tries * most + 1) few (omega (arith, all))
-
-pub returns-in-Spent-clause-took : goal.returns-in-Spent-clause-took
-returns-in-Spent-clause-took g c =
-    let l = c.loop-round in
-    let i = l.invariant in
-    let begins = c.restart.ensures.begins c.args.op i.stops.busy (λ none. i.root (eqb-true l.round 0 none)) in
-    let most = try_steps c.args.table.now.last_card in
-    let few = round_steps l.round most c.args.pass.now l.pass c.restart.new.pass c.try_once.new.pass i.rounds
-    begins.took (λ none. c.restart.ensures.first (eq-eqb l.round 0 none)) c.try_once.ensures.steps c.try_once.ensures.made in
-    let all = rounds_steps l.round c.args.tries most c.loop-round-test.true in
-    let lays = c.leave.ensures.lays c.args.op c.in-Spent.ensures.ends.0.stops.busy in
-    took_trans c.args.pass.now c.try_once.new.pass c.leave.new.pass ((l.round + 1) * most) 1 (c.args.tries * most + 1) few lays.took (omega (arith, all))
 
 pub loop-round-preserved : goal.loop-round-preserved
 loop-round-preserved g c =
@@ -98,50 +76,94 @@ loop-round-init g c =
       rounds = rounds_first (try_steps cards) c.args.pass.now c.begin.new.pass start.took;
     }
 
-pub returns-clause-hindered : goal.returns-clause-hindered
-returns-clause-hindered g c = λ held.
-    let l = c.loop-round in
-    let lays = c.leave-2.ensures.lays c.args.op l.invariant.stops.busy in
-    let all : l.round ≡ c.args.tries = omega (arith, c.loop-round-test.false, l.auto.round-end) in
-    omega (arith, lays.hindered, all, l.invariant.hindered)
-
-pub returns-clause-counted : goal.returns-clause-counted
-returns-clause-counted g c =
-    let l = c.loop-round in
-    let lays = c.leave-2.ensures.lays c.args.op l.invariant.stops.busy in
-    let all : l.round ≡ c.args.tries = omega (arith, c.loop-round-test.false, l.auto.round-end) in
-    record { least = omega (arith, lays.hindered, l.invariant.hindered); most = omega (arith, lays.hindered, all, l.invariant.hindered) }
-
-pub returns-in-Answered-clause-counted : goal.returns-in-Answered-clause-counted
-returns-in-Answered-clause-counted g c =
+pub returns-in-Answered-clause-steps : goal.returns-in-Answered-clause-steps
+returns-in-Answered-clause-steps g c =
     let l = c.loop-round in
     let i = l.invariant in
+    let start = c.args.pass.now in
+    let tried = c.try_once.new.pass in
     let begins = c.restart.ensures.begins c.args.op i.stops.busy (λ none. i.root (eqb-true l.round 0 none)) in
-    record {
-      least = omega (arith, c.try_once.ensures.hindered, begins.hindered, i.hindered);
-      most = omega (arith, c.try_once.ensures.hindered, begins.hindered, i.hindered, c.loop-round-test.true);
-    }
-
-pub returns-in-Spent-clause-counted : goal.returns-in-Spent-clause-counted
-returns-in-Spent-clause-counted g c =
-    let l = c.loop-round in
-    let i = l.invariant in
-    let begins = c.restart.ensures.begins c.args.op i.stops.busy (λ none. i.root (eqb-true l.round 0 none)) in
-    let lays = c.leave.ensures.lays c.args.op c.in-Spent.ensures.ends.0.stops.busy in
-    let one = one_hindered c.try_once.new.pass.view in
-    record {
-      least = omega (arith, one.0, lays.hindered, c.try_once.ensures.hindered, begins.hindered, i.hindered);
-      most = omega (arith, one.1, lays.hindered, c.try_once.ensures.hindered, begins.hindered, i.hindered, c.loop-round-test.true);
-    }
-
-pub returns-clause-moved : goal.returns-clause-moved
-returns-clause-moved g c = λ held.
-    let l = c.loop-round in
     let cards = c.args.table.now.last_card in
-    let lays = c.leave-2.ensures.lays c.args.op l.invariant.stops.busy in
-    let same = moves_same cards l.pass.view c.leave-2.new.pass.view lays.facts lays.least in
+    let most = try_steps cards in
+    let few = round_steps l.round most start l.pass c.restart.new.pass tried i.rounds
+    begins.took (λ none. c.restart.ensures.first (eq-eqb l.round 0 none)) c.try_once.ensures.steps c.try_once.ensures.made in
+    let all = rounds_steps l.round c.args.tries most c.loop-round-test.true in
+    let on = moves_more cards l.pass.view tried.view
+    (λ f h. c.in-Answered.ensures.ends.1.knows f (begins.knows f h)) (omega (arith, begins.least, c.try_once.ensures.least)) in
+    record {
+      most = took_within start tried ((l.round + 1) * most) (c.args.tries * most + 1) few (omega (arith, all));
+      amortized = amortized cards l.round start tried (omega (arith, on, i.moved))
+          (took_within start tried ((l.round + 1) * most) ((l.round + 1) * most + 1) few (omega arith));
+      counted = record {
+        least = omega (arith, c.try_once.ensures.hindered, begins.hindered, i.hindered);
+        most = omega (arith, c.try_once.ensures.hindered, begins.hindered, i.hindered, c.loop-round-test.true);
+      };
+    }
+
+pub returns-in-Spent-clause-steps : goal.returns-in-Spent-clause-steps
+returns-in-Spent-clause-steps g c =
+    let l = c.loop-round in
+    let i = l.invariant in
+    let op = c.args.op in
+    let start = c.args.pass.now in
+    let tried = c.try_once.new.pass in
+    let left = c.leave.new.pass in
+    let begins = c.restart.ensures.begins op i.stops.busy (λ none. i.root (eqb-true l.round 0 none)) in
+    let cards = c.args.table.now.last_card in
+    let most = try_steps cards in
+    let few = round_steps l.round most start l.pass c.restart.new.pass tried i.rounds
+    begins.took (λ none. c.restart.ensures.first (eq-eqb l.round 0 none)) c.try_once.ensures.steps c.try_once.ensures.made in
+    let all = rounds_steps l.round c.args.tries most c.loop-round-test.true in
+    let halts = c.in-Spent.ensures.ends.0 in
+    let lays = c.leave.ensures.lays op halts.stops.busy in
+    let on = moves_more cards l.pass.view tried.view
+    (λ f h. halts.meets.knows f (begins.knows f h)) (omega (arith, begins.least, c.try_once.ensures.least)) in
+    let same = moves_same cards tried.view left.view lays.facts lays.least in
+    let one = one_hindered tried.view in
+    record {
+      most = took_trans start tried left ((l.round + 1) * most) 1 (c.args.tries * most + 1) few lays.took (omega (arith, all));
+      amortized = amortized cards l.round start left (omega (arith, on, same, i.moved))
+          (took_trans start tried left ((l.round + 1) * most) 1 ((l.round + 1) * most + 1) few lays.took (omega arith));
+      counted = record {
+        least = omega (arith, one.0, lays.hindered, c.try_once.ensures.hindered, begins.hindered, i.hindered);
+        most = omega (arith, one.1, lays.hindered, c.try_once.ensures.hindered, begins.hindered, i.hindered, c.loop-round-test.true);
+      };
+    }
+
+pub returns-clause-steps : goal.returns-clause-steps
+returns-clause-steps g c =
+    let l = c.loop-round in
+    let i = l.invariant in
+    let start = c.args.pass.now in
+    let left = c.leave-2.new.pass in
+    let cards = c.args.table.now.last_card in
+    let most = try_steps cards in
+    let few = i.rounds.later (omega (arith, c.requires.tries, c.loop-round-test.false, l.auto.round-end)) in
     let all : l.round ≡ c.args.tries = omega (arith, c.loop-round-test.false, l.auto.round-end) in
-    omega (arith, same, all, l.invariant.moved)
+    let rounds = ap (λ n. n * most) all in
+    let lays = c.leave-2.ensures.lays c.args.op i.stops.busy in
+    let same = moves_same cards l.pass.view left.view lays.facts lays.least in
+    record {
+      most = took_trans start l.pass left (l.round * most) 1 (c.args.tries * most + 1) few lays.took (omega (arith, rounds));
+      amortized = amortized cards l.round start left (omega (arith, same, i.moved))
+          (took_trans start l.pass left (l.round * most) 1 ((l.round + 1) * most + 1) few lays.took (omega arith));
+      counted = record { least = omega (arith, lays.hindered, i.hindered); most = omega (arith, lays.hindered, all, i.hindered) };
+    }
+
+pub returns-clause-others : goal.returns-clause-others
+returns-clause-others g c = λ held.
+    let t = c.args.table.now in
+    let l = c.loop-round in
+    let left = c.leave-2.new.pass.view in
+    let lays = c.leave-2.ensures.lays c.args.op l.invariant.stops.busy in
+    let same = moves_same t.last_card l.pass.view left lays.facts lays.least in
+    let all : l.round ≡ c.args.tries = omega (arith, c.loop-round-test.false, l.auto.round-end) in
+    let each : left.hindered ≡ c.args.pass.now.view.hindered + c.args.tries = omega (arith, lays.hindered, all, l.invariant.hindered) in
+    record {
+      each = each;
+      moved = omega (arith, same, all, l.invariant.moved);
+      by_others = more_tries t.keys t.start t.last_card c.args.pass.now.view.hindered left c.args.tries each;
+    }
 
 pub returns-clause-enough : goal.returns-clause-enough
 returns-clause-enough g c = λ many held.
@@ -150,17 +172,6 @@ returns-clause-enough g c = λ many held.
     let most = moves_most cards l.pass.view c.leave-2.ensures.least in
     let all : l.round ≡ c.args.tries = omega (arith, c.loop-round-test.false, l.auto.round-end) in
     omega (arith, many, most, all, l.invariant.moved)
-
-pub returns-clause-took : goal.returns-clause-took
-returns-clause-took g c =
-    let l = c.loop-round in
-    let i = l.invariant in
-    let most = try_steps c.args.table.now.last_card in
-    let few = i.rounds.later (omega (arith, c.requires.tries, c.loop-round-test.false)) in
-    let all : l.round ≡ c.args.tries = omega (arith, c.loop-round-test.false, l.auto.round-end) in
-    let same = ap (λ n. n * most) all in
-    let lays = c.leave-2.ensures.lays c.args.op i.stops.busy in
-    took_trans c.args.pass.now l.pass c.leave-2.new.pass (l.round * most) 1 (c.args.tries * most + 1) few lays.took (omega (arith, same))
 
 pub returns-in-Answered-clause-ends : goal.returns-in-Answered-clause-ends
 returns-in-Answered-clause-ends g c =
@@ -202,101 +213,6 @@ returns-clause-ends g c =
       begun_meets (way_of op l.pass.view) a l.pass.view c.leave-2.new.pass.view i.meets i.way lays.hindrances lays.knows,
     )
 
-pub returns-in-Answered-clause-amortized : goal.returns-in-Answered-clause-amortized
-returns-in-Answered-clause-amortized g c =
-    let l = c.loop-round in
-    let i = l.invariant in
-    let op = c.args.op in
-    let cards = c.args.table.now.last_card in
-    let begins = c.restart.ensures.begins op i.stops.busy (λ none. i.root (eqb-true l.round 0 none)) in
-    let most = try_steps cards in
-    let few = round_steps l.round most c.args.pass.now l.pass c.restart.new.pass c.try_once.new.pass i.rounds
-    begins.took (λ none. c.restart.ensures.first (eq-eqb l.round 0 none)) c.try_once.ensures.steps c.try_once.ensures.made in
-    let on = moves_more cards l.pass.view c.try_once.new.pass.view
-    (λ f h. c.in-Answered.ensures.ends.1.knows f (begins.knows f h)) (omega (arith, begins.least, c.try_once.ensures.least)) in
-    amortized cards l.round c.args.pass.now c.try_once.new.pass (omega (arith, on, i.moved))
-    (took_within c.args.pass.now c.try_once.new.pass ((l.round + 1) * most) ((l.round + 1) * most + 1) few (omega arith))
-
-pub returns-in-Spent-clause-amortized : goal.returns-in-Spent-clause-amortized
-returns-in-Spent-clause-amortized g c =
-    let l = c.loop-round in
-    let i = l.invariant in
-    let op = c.args.op in
-    let cards = c.args.table.now.last_card in
-    let begins = c.restart.ensures.begins op i.stops.busy (λ none. i.root (eqb-true l.round 0 none)) in
-    let most = try_steps cards in
-    let few = round_steps l.round most c.args.pass.now l.pass c.restart.new.pass c.try_once.new.pass i.rounds
-    begins.took (λ none. c.restart.ensures.first (eq-eqb l.round 0 none)) c.try_once.ensures.steps c.try_once.ensures.made in
-    let halts = c.in-Spent.ensures.ends.0 in
-    let lays = c.leave.ensures.lays op halts.stops.busy in
-    let on = moves_more cards l.pass.view c.try_once.new.pass.view
-    (λ f h. halts.meets.knows f (begins.knows f h)) (omega (arith, begins.least, c.try_once.ensures.least)) in
-    let same = moves_same cards c.try_once.new.pass.view c.leave.new.pass.view lays.facts lays.least in
-    amortized cards l.round c.args.pass.now c.leave.new.pass (omega (arith, on, same, i.moved))
-    (took_trans c.args.pass.now c.try_once.new.pass c.leave.new.pass ((l.round + 1) * most) 1 ((l.round + 1) * most + 1) few lays.took (omega arith))
-
-pub returns-clause-amortized : goal.returns-clause-amortized
-returns-clause-amortized g c =
-    let l = c.loop-round in
-    let i = l.invariant in
-    let cards = c.args.table.now.last_card in
-    let most = try_steps cards in
-    let lays = c.leave-2.ensures.lays c.args.op i.stops.busy in
-    let few = i.rounds.later (omega (arith, c.requires.tries, c.loop-round-test.false, l.auto.round-end)) in
-    let same = moves_same cards l.pass.view c.leave-2.new.pass.view lays.facts lays.least in
-    amortized cards l.round c.args.pass.now c.leave-2.new.pass (omega (arith, same, i.moved))
-    (took_trans c.args.pass.now l.pass c.leave-2.new.pass (l.round * most) 1 ((l.round + 1) * most + 1) few lays.took (omega arith))
-
-pub returns-in-Answered-clause-bounded : goal.returns-in-Answered-clause-bounded
-returns-in-Answered-clause-bounded g c = moves_most c.args.table.now.last_card c.try_once.new.pass.view c.in-Answered.ensures.ends.2
-
-pub returns-in-Spent-clause-bounded : goal.returns-in-Spent-clause-bounded
-returns-in-Spent-clause-bounded g c =
-    let cards = c.args.table.now.last_card in
-    let lays = c.leave.ensures.lays c.args.op c.in-Spent.ensures.ends.0.stops.busy in
-    let same = moves_same cards c.try_once.new.pass.view c.leave.new.pass.view lays.facts lays.least in
-    let most = moves_most cards c.try_once.new.pass.view c.leave.ensures.least in
-    omega (arith, same, most)
-
-pub returns-clause-bounded : goal.returns-clause-bounded
-returns-clause-bounded g c =
-    let l = c.loop-round in
-    let cards = c.args.table.now.last_card in
-    let lays = c.leave-2.ensures.lays c.args.op l.invariant.stops.busy in
-    let same = moves_same cards l.pass.view c.leave-2.new.pass.view lays.facts lays.least in
-    let most = moves_most cards l.pass.view c.leave-2.ensures.least in
-    omega (arith, same, most)
-
-pub returns-in-Answered-clause-taken : goal.returns-in-Answered-clause-taken
-returns-in-Answered-clause-taken g c =
-    let l = c.loop-round in
-    let i = l.invariant in
-    let begins = c.restart.ensures.begins c.args.op i.stops.busy (λ none. i.root (eqb-true l.round 0 none)) in
-    let one = answered_most c.in-Answered.said c.restart.new.pass c.try_once.new.pass c.in-Answered.ensures.taken in
-    record {
-      least = omega (arith, one.least, begins.taken, i.taken.least);
-      most = omega (arith, one.most, begins.taken, i.taken.most, c.loop-round-test.true);
-    }
-
-pub returns-in-Spent-clause-taken : goal.returns-in-Spent-clause-taken
-returns-in-Spent-clause-taken g c =
-    let l = c.loop-round in
-    let i = l.invariant in
-    let begins = c.restart.ensures.begins c.args.op i.stops.busy (λ none. i.root (eqb-true l.round 0 none)) in
-    let lays = c.leave.ensures.lays c.args.op c.in-Spent.ensures.ends.0.stops.busy in
-    record {
-      least = omega (arith, lays.taken, c.in-Spent.ensures.taken, begins.taken, i.taken.least);
-      most = omega (arith, lays.taken, c.in-Spent.ensures.taken, begins.taken, i.taken.most, c.loop-round-test.true);
-    }
-
-pub returns-clause-taken : goal.returns-clause-taken
-returns-clause-taken g c =
-    let l = c.loop-round in
-    let i = l.invariant in
-    let lays = c.leave-2.ensures.lays c.args.op i.stops.busy in
-    let all : l.round ≡ c.args.tries = omega (arith, c.loop-round-test.false, l.auto.round-end) in
-    record { least = omega (arith, lays.taken, i.taken.least); most = omega (arith, lays.taken, i.taken.most, all) }
-
 pub returns-in-Answered-clause-cards : goal.returns-in-Answered-clause-cards
 returns-in-Answered-clause-cards g c =
     let l = c.loop-round in
@@ -306,9 +222,16 @@ returns-in-Answered-clause-cards g c =
     let begun = c.restart.new.pass in
     let after = c.try_once.new.pass in
     let begins = c.restart.ensures.begins op i.stops.busy (λ none. i.root (eqb-true l.round 0 none)) in
-    answered_cards said l.round c.args.pass.now l.pass begun after i.taken begins.taken c.in-Answered.ensures.taken
-    (answers_first said op l.round c.args.pass.now begun after c.in-Answered.ensures.ends.0 (begins.ledger ∙ i.ledger) i.would)
-    (omega (arith, c.try_once.ensures.hindered, begins.hindered, i.hindered))
+    let one = answered_most said begun after c.in-Answered.ensures.taken in
+    record {
+      most = record {
+        least = omega (arith, one.least, begins.taken, i.taken.least);
+        most = omega (arith, one.most, begins.taken, i.taken.most, c.loop-round-test.true);
+      };
+      each = answered_cards said l.round c.args.pass.now l.pass begun after i.taken begins.taken c.in-Answered.ensures.taken
+          (answers_first said op l.round c.args.pass.now begun after c.in-Answered.ensures.ends.0 (begins.ledger ∙ i.ledger) i.would)
+          (omega (arith, c.try_once.ensures.hindered, begins.hindered, i.hindered));
+    }
 
 pub returns-in-Spent-clause-cards : goal.returns-in-Spent-clause-cards
 returns-in-Spent-clause-cards g c =
@@ -317,11 +240,22 @@ returns-in-Spent-clause-cards g c =
     let begins = c.restart.ensures.begins c.args.op i.stops.busy (λ none. i.root (eqb-true l.round 0 none)) in
     let lays = c.leave.ensures.lays c.args.op c.in-Spent.ensures.ends.0.stops.busy in
     let one = one_hindered c.try_once.new.pass.view in
-    omega (arith, lays.taken, c.in-Spent.ensures.taken, begins.taken, i.taken.most, one.0, lays.hindered, c.try_once.ensures.hindered, begins.hindered, i.hindered)
+    let none = c.in-Spent.ensures.taken in
+    record {
+      most = record {
+        least = omega (arith, lays.taken, none, begins.taken, i.taken.least);
+        most = omega (arith, lays.taken, none, begins.taken, i.taken.most, c.loop-round-test.true);
+      };
+      each = omega (arith, lays.taken, none, begins.taken, i.taken.most, one.0, lays.hindered, c.try_once.ensures.hindered, begins.hindered, i.hindered);
+    }
 
 pub returns-clause-cards : goal.returns-clause-cards
 returns-clause-cards g c =
     let l = c.loop-round in
     let i = l.invariant in
     let lays = c.leave-2.ensures.lays c.args.op i.stops.busy in
-    omega (arith, lays.taken, i.taken.most, lays.hindered, i.hindered)
+    let all : l.round ≡ c.args.tries = omega (arith, c.loop-round-test.false, l.auto.round-end) in
+    record {
+      most = record { least = omega (arith, lays.taken, i.taken.least); most = omega (arith, lays.taken, i.taken.most, all) };
+      each = omega (arith, lays.taken, i.taken.most, lays.hindered, i.hindered);
+    }

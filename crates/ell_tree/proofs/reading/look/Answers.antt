@@ -10,7 +10,7 @@ loop-pass-init g c =
     comes_first c.args.table.now.last_card c.args.pass.now f.new.pass c.args.key f.result f.ensures.step f.ensures.greater f.ensures.there
 
 pub key_of-node_key-requires-clause-own : goal.key_of-node_key-requires-clause-own
-key_of-node_key-requires-clause-own g c = c.loop-pass.invariant.only.table ∙ c.requires.own
+key_of-node_key-requires-clause-own g c = c.loop-pass.invariant.only.table ∙ c.requires.may.0
 
 pub key_of-node_key-requires-clause-met : goal.key_of-node_key-requires-clause-met
 key_of-node_key-requires-clause-met g c = c.loop-pass.invariant.met
@@ -19,7 +19,7 @@ pub look_down-node-requires-clause-own : goal.look_down-node-requires-clause-own
 look_down-node-requires-clause-own g c =
     let l = c.loop-pass in
     let k = c.key_of-node_key in
-    (key_only l.pass k.new.pass l.node k.result k.ensures.step).table ∙ (l.invariant.only.table ∙ c.requires.own)
+    (key_only l.pass k.new.pass l.node k.result k.ensures.step).table ∙ (l.invariant.only.table ∙ c.requires.may.0)
 
 pub look_down-node-requires-clause-may : goal.look_down-node-requires-clause-may
 look_down-node-requires-clause-may g c =
@@ -45,7 +45,7 @@ loop-pass-preserved g c =
     d.new.pass d.result d.ensures.step inner d.ensures.greater d.ensures.there
 
 pub key_of-leaf_key-requires-clause-own : goal.key_of-leaf_key-requires-clause-own
-key_of-leaf_key-requires-clause-own g c = c.loop-pass.invariant.only.table ∙ c.requires.own
+key_of-leaf_key-requires-clause-own g c = c.loop-pass.invariant.only.table ∙ c.requires.may.0
 
 pub key_of-leaf_key-requires-clause-met : goal.key_of-leaf_key-requires-clause-met
 key_of-leaf_key-requires-clause-met g c = c.loop-pass.invariant.met
@@ -68,7 +68,7 @@ pub value_of-requires-clause-own : goal.value_of-requires-clause-own
 value_of-requires-clause-own g c =
     let l = c.loop-pass in
     let k = c.key_of-leaf_key in
-    (key_only l.pass k.new.pass l.node k.result k.ensures.step).table ∙ (l.invariant.only.table ∙ c.requires.own)
+    (key_only l.pass k.new.pass l.node k.result k.ensures.step).table ∙ (l.invariant.only.table ∙ c.requires.may.0)
 
 pub value_of-requires-clause-met : goal.value_of-requires-clause-met
 value_of-requires-clause-met g c =

@@ -1,6 +1,7 @@
 use Rattle.std.proofs.Common.{◌≡◌, ℕ, Option, Some, None, Ok, Result, IfOk, rules, ap, subst, sym}
 use Rattle.std.specs.Arc.{arc_value}
-use Rattle.ell_cards.specs.Looking.{IsFoundInRuns}
+use Rattle.ell_tree.specs.Looks.{IsFoundIn}
+use Rattle.ell_handle.specs.Reads.{tree_of}
 use Rattle.ell_handle.specs.declared.handle.SharedTree.{SharedTree}
 use Rattle.ell_handle.specs.declared.refusal.Refusal.{Refusal}
 use Rattle.elltree.specs.Maps.{IsFoundBy}
@@ -10,8 +11,8 @@ use Rattle.elltree.proofs.calls.look.Goals.{After-told}
 -- what the look found, on the tree that the handle has still
 finds : (c : After-told) (there : Option ℕ) → c.look.result ≡ Ok there → IsFoundBy (Some c.look.new.self) c.args.key there
 finds c there is = record {
-  so = subst (λ (t : SharedTree). IsFoundInRuns t.tree.keys t.tree.start t.tree.last_card c.look.new.self.pass.view c.args.key there) (ap arc_value (sym c.look.ensures.reads.stays.tree))
-      (subst (λ (r : Result (Option ℕ) Refusal). IfOk r (IsFoundInRuns (arc_value c.args.handle.now.shared).tree.keys (arc_value c.args.handle.now.shared).tree.start (arc_value c.args.handle.now.shared).tree.last_card c.look.new.self.pass.view c.args.key)) is c.look.ensures.so);
+  so = subst (λ (t : SharedTree). IsFoundIn t.tree c.look.new.self.pass.view c.args.key there) (ap arc_value (sym c.look.ensures.reads.stays.tree))
+      (subst (λ (r : Result (Option ℕ) Refusal). IfOk r (IsFoundIn (tree_of c.args.handle.now) c.look.new.self.pass.view c.args.key)) is c.look.ensures.so);
 }
 
 pub returns-clause-yes : goal.returns-clause-yes

@@ -1,0 +1,40 @@
+use Rattle.std.specs.Prelude.{◌≡◌, ℕ, ◌+◌, ◌≤◌, Bool, Result}
+use Rattle.ell_cards.specs.Contention.{AreHinderedByOthers}
+use Rattle.ell_tree.specs.CardsTaken.{TakesAtMost, TakesCards}
+use Rattle.ell_tree.specs.Counts.{IsAmortized, Took}
+use Rattle.ell_tree.specs.Ends.{CountsTries, change_steps}
+use Rattle.ell_tree.specs.Hindrances.{Meets}
+use Rattle.ell_tree.specs.Ledgers.{IsIdle, Owns, PassModel, TreeModel}
+use Rattle.ell_tree.specs.Moves.{moves_known}
+
+-- a pass may find or change a key of this tree: it is a pass of the tree, with nothing in hand, and owns the key
+pub record MayDo (t : TreeModel) (key : ℕ) (p : PassModel) : Type 0 where
+  pub own : p.table ≡ t.id
+  pub idle : IsIdle p
+  pub owned : Owns p key
+
+-- an insert or a delete kept to its bounds: on its steps, with so many tries; on its steps, if only tries that showed its pass a move
+-- are charged; and on the tries that it counts as hindered
+pub record IsWithin (t : TreeModel) (tries : ℕ) (old new : PassModel) : Type 0 where
+  pub most : Took old new (change_steps t.last_card tries)
+  pub amortized : IsAmortized t.last_card old new
+  pub counted : CountsTries tries old new
+
+-- that each of so many tries ended without an answer is others' doing: each is counted as hindered; each showed the pass a card that was
+-- given out, or came to its end, that it did not know of; and in every run of the tree others did something for each
+pub record IsOthersDoing (t : TreeModel) (tries : ℕ) (old new : PassModel) : Type 0 where
+  pub each : new.view.hindered ≡ old.view.hindered + tries
+  pub moved : moves_known t.last_card old.view + tries ≤ moves_known t.last_card new.view
+  pub by_others : AreHinderedByOthers t.keys t.start t.last_card old.view.hindered new.view tries
+
+-- the cards that an insert or a delete took: one a try at most; and by how it ended
+pub record SpendsCards {E : Type 0} (tries : ℕ) (old new : PassModel) (result : Result Bool E) : Type 0 where
+  pub most : TakesAtMost tries old new
+  pub each : TakesCards old new result
+
+-- nothing was in the way between two states of a pass, no try was counted as hindered, and it knows what it knew
+pub record IsQuiet (t : TreeModel) (old new : PassModel) : Type 0 where
+  pub calm : new.view.hindrances ≡ old.view.hindrances
+  pub meets : Meets old.view new.view
+  pub hindered : new.view.hindered ≡ old.view.hindered
+  pub moved : moves_known t.last_card old.view ≤ moves_known t.last_card new.view

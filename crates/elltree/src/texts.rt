@@ -1,0 +1,60 @@
+//! What each code says, for a reader. The texts stand here alone: header and bindings ask for them.
+ghost use Rattle.std.specs.Prelude.{◌≡◌, ◌<◌, length};
+ghost use Rattle.elltree.specs.Texts.{WritesText, text_of};
+
+use crate::codes::{
+    BAD_CARDS, BAD_KEY, BAD_START, BUSY, CLOSED, FOREIGN, IN_CALL, NO, NO_MEMORY, NO_ROOM,
+    NO_TRIES, NULL, OPEN, OTHER_TREE, SAME, SPENT, YES,
+};
+
+/// Writes what a code says to the front of an array, with a 0 behind it, and returns how many bytes the whole text has, without the 0. As
+/// `snprintf`, it cuts the text off where the array has no room for all, and still puts the 0; an array without room stays as it was. A
+/// text is of ASCII alone, and 64 bytes are room for each. A number that is no code has a text too, which says so.
+#[unsafe(no_mangle)]
+pub extern "C" fn elltree_code_text(code: i32, out: &mut [u8]) -> usize
+    ensures length { result ≡ length (text_of code) }
+    ensures short { result < 64 }
+    ensures text { WritesText (text_of code) out.old out.new }
+{
+    let text = text_of(code);
+    write_text(text, out);
+    text.len()
+}
+
+// Writes a text to the front of an array, as much of it as there is room for, and a 0 behind it.
+fn write_text(text: &[u8], out: &mut [u8])
+    ensures { WritesText text.now out.old out.new }
+{
+    if let Some(room) = out.len().checked_sub(1) {
+        let fits = text.len().min(room);
+        out[..fits].copy_from_slice(&text[..fits]);
+        out[fits] = 0;
+    }
+}
+
+// The text of a code.
+fn text_of(code: i32) -> &'static [u8]
+    ensures text { result.now ≡ text_of code }
+    ensures short { length result.now < 64 }
+{
+    match code {
+        NO => b"no",
+        YES => b"yes",
+        BUSY => b"something was in the way of each try",
+        SPENT => b"all cards are given out",
+        FOREIGN => b"the handle does not own the key",
+        NO_TRIES => b"the call allows no try",
+        BAD_CARDS => b"cards are not 1 to 1,000,000",
+        BAD_KEY => b"a key is above 18446744073709551613",
+        BAD_START => b"start keys do not ascend strictly, or are more than 200,000",
+        NO_ROOM => b"no room for all pairs or keys",
+        NO_MEMORY => b"out of memory",
+        CLOSED => b"the handle holds nothing",
+        OPEN => b"the handle holds something already",
+        OTHER_TREE => b"the handles are of two trees",
+        NULL => b"a pointer is null",
+        SAME => b"the same handle is given twice",
+        IN_CALL => b"the handle is in another call",
+        _ => b"no code of elltree",
+    }
+}
