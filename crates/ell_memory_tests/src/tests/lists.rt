@@ -9,6 +9,7 @@ use ell_order::RunOrder;
 use ell_parts::{GatherFault, PartFault, Parts, gather};
 use ell_word::{INF1, INF2};
 use std::alloc::Allocator;
+use std::thread::Threads;
 
 // Eight keys come, and four of them go.
 const OPS: [Op; 12] = [
@@ -140,12 +141,19 @@ fn part_ranged(heap: &Heap, refusal: Refusal) -> Ended {
 // How many operations are run in another order than their list's.
 const MANY: usize = 1_000;
 
-// Has an insert and finds of key 1, but for the last one, of key 0, run in rounds, in which that comes first, and puts numbered replies back.
-fn run_in_order(heap: &Heap, refusal: Refusal, list: &[Op], replies: &[Reply]) -> Ended
+// Has an insert and finds of key 1, but for the last one, of key 0, run in hands and rounds, in which that comes first, and puts numbered
+// replies back.
+fn run_in_order<R: Threads + Sync>(
+    rt: &R,
+    heap: &Heap,
+    refusal: Refusal,
+    list: &[Op],
+    replies: &[Reply],
+) -> Ended
     requires { length replies.now ≡ length list.now }
 {
     heap.refuse(refusal);
-    let back = put_back(heap, list, replies);
+    let back = put_back(rt, heap, list, replies);
     heap.stop();
     match back {
         Ok(back) => Ended::answered(
@@ -155,14 +163,15 @@ fn run_in_order(heap: &Heap, refusal: Refusal, list: &[Op], replies: &[Reply]) -
     }
 }
 
-fn put_back<'a>(
+fn put_back<'a, R: Threads + Sync>(
+    rt: &R,
     heap: &'a Heap,
     list: &[Op],
     replies: &[Reply],
 ) -> Result<Vec<Reply, &'a Heap>, NoMemory>
     requires { length replies.now ≡ length list.now }
 {
-    let order = RunOrder::of(heap, list)?;
+    let order = RunOrder::of(rt, heap, list)?;
     order.put_back(heap, replies)
 }
 
@@ -210,7 +219,7 @@ fn operations_are_put_in_order_and_replies_back_or_there_is_no_memory(rt: HostRu
     assert!(rt; replies.len() == list.len() && list.len() == MANY);
     sweep(
         &rt,
-        |heap, refusal| run_in_order(heap, refusal, &list, &replies),
+        |heap, refusal| run_in_order(&rt, heap, refusal, &list, &replies),
     );
 }
 

@@ -1,7 +1,5 @@
-//! The order in which lists are run, and replies put back, as a person worked them out.
-use ell_ops::{Op, Reply};
-use ell_order::{REORDERED_MIN, RunOrder, mixed, round_of};
-use std::test::Fail;
+//! Numbers mixed, and their rounds, as another program has them.
+use ell_order::{mixed, round_of};
 
 #[test]
 fn numbers_are_mixed_as_another_program_mixes_them(rt: HostRuntime) {
@@ -23,74 +21,4 @@ fn the_round_of_a_number_is_how_many_digits_it_has_scrambled(rt: HostRuntime) {
     for (number, round) in rows {
         assert!(rt; round_of(number) == round, "number {number}");
     }
-}
-
-// These operations, and finds of key 20 behind them, so many in all.
-fn with_finds(first: &[Op], count: usize, rt: &impl AllocGlobal) -> Result<Vec<Op>, Fail> {
-    let mut ops = Vec::from_slice(rt.alloc(), first)?;
-    while ops.len() < count {
-        ops.push(Op::Find(20))?;
-    }
-    Ok(ops)
-}
-
-// The replies `Found(0)`, `Found(1)` and so on.
-fn numbers(count: u64, rt: &impl AllocGlobal) -> Result<Vec<Reply>, Fail> {
-    let mut replies = Vec::new(rt.alloc());
-    for number in 0..count {
-        replies.push(Reply::Found(number))?;
-    }
-    Ok(replies)
-}
-
-#[test]
-fn a_long_list_is_run_in_rounds(rt: HostRuntime) -> Result<(), Fail> {
-    // Of the keys that are left, 10 is the first, of round 0, 20 the next, of round 64, and 30 is of round 62.
-    let first = [Op::Insert(20, 0), Op::Insert(30, 0), Op::Insert(10, 0)];
-    let list = with_finds(&first, 1_000, &rt)?;
-    let order = RunOrder::of(rt.alloc(), &list)?;
-    let begun = [Op::Insert(10, 0), Op::Insert(30, 0), Op::Insert(20, 0)];
-    assert!(rt; order.ops().iter().take(3).eq(begun.iter()));
-    assert!(rt;
-        order.ops().len() == 1_000 && order.ops().iter().skip(3).all(|op| *op == Op::Find(20))
-    );
-    let replies = numbers(1_000, &rt)?;
-    assert!(rt; replies.len() == list.len());
-    let back = order.put_back(rt.alloc(), &replies)?;
-    let begun = [Reply::Found(2), Reply::Found(1), Reply::Found(0)];
-    assert!(rt; back.len() == 1_000 && back.iter().take(3).eq(begun.iter()));
-    let mut behind = back.iter().enumerate().skip(3);
-    assert!(rt; behind.all(|(at, reply)| *reply == Reply::Found(at as u64)));
-    Ok(())
-}
-
-#[test]
-fn keys_that_are_deleted_are_not_counted(rt: HostRuntime) -> Result<(), Fail> {
-    // Only 20 and 30 are left: 10 and 20 are of round 0, and 30 is of round 64.
-    let first = [
-        Op::Insert(30, 0),
-        Op::Insert(20, 0),
-        Op::Insert(10, 0),
-        Op::Delete(10),
-    ];
-    let list = with_finds(&first, 1_000, &rt)?;
-    let order = RunOrder::of(rt.alloc(), &list)?;
-    let begun = [Op::Insert(10, 0), Op::Delete(10), Op::Insert(20, 0)];
-    assert!(rt; order.ops().iter().take(3).eq(begun.iter()));
-    assert!(rt; order.ops().last() == Some(&Op::Insert(30, 0)));
-    Ok(())
-}
-
-#[test]
-fn a_short_list_is_run_as_it_stands(rt: HostRuntime) -> Result<(), Fail> {
-    assert!(rt; REORDERED_MIN == 1_000);
-    let first = [Op::Insert(20, 0), Op::Insert(30, 0), Op::Insert(10, 0)];
-    let list = with_finds(&first, 999, &rt)?;
-    let order = RunOrder::of(rt.alloc(), &list)?;
-    assert!(rt; order.ops() == list.as_slice());
-    let replies = numbers(999, &rt)?;
-    assert!(rt; replies.len() == list.len());
-    let back = order.put_back(rt.alloc(), &replies)?;
-    assert!(rt; back.as_slice() == replies.as_slice());
-    Ok(())
 }

@@ -8,6 +8,7 @@ mod lists;
 mod many_keys;
 mod orders;
 mod pieces;
+mod rounds;
 mod running;
 mod scenes;
 mod stalling;
