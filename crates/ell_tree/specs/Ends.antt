@@ -61,7 +61,7 @@ try_steps cards = 7 * cards + 27
 abbrev pub change_steps : ℕ → ℕ → ℕ
 change_steps cards tries = tries * try_steps cards + 1
 
--- these bounds in short: a constant, times one more than the tries, if there are any, times two more than the number of the last card
+-- these bounds are at most 64 (c + 2), and with t tries 64 (t + 1) (c + 2), where c is the number of the last card
 abbrev pub FindsAreShort : Type 0
 FindsAreShort = (cards : ℕ) → find_steps cards ≤ 64 * (cards + 2)
 

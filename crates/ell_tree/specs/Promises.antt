@@ -13,15 +13,15 @@ pub record MayDo (t : TreeModel) (key : ℕ) (p : PassModel) : Type 0 where
   pub idle : IsIdle p
   pub owned : Owns p key
 
--- an insert or a delete kept to its bounds: on its steps, with so many tries; on its steps, if only tries that showed its pass a move
--- are charged; and on the tries that it counts as hindered
+-- an insert or a delete kept to its bounds: it took no more steps than so many tries take; no more than one try takes, and another for each
+-- move that its pass came to know of; and it counted no more tries as hindered than these
 pub record IsWithin (t : TreeModel) (tries : ℕ) (old new : PassModel) : Type 0 where
   pub most : Took old new (change_steps t.last_card tries)
   pub amortized : IsAmortized t.last_card old new
   pub counted : CountsTries tries old new
 
--- that each of so many tries ended without an answer is others' doing: each is counted as hindered; each showed the pass a card that was
--- given out, or came to its end, that it did not know of; and in every run of the tree others did something for each
+-- so many tries of a pass ended without an answer, and that is others' doing: each is counted as hindered; each showed the pass a card that
+-- was given out, or came to its end, of which it did not know that; and in every run of the tree others did something for each
 pub record IsOthersDoing (t : TreeModel) (tries : ℕ) (old new : PassModel) : Type 0 where
   pub each : new.view.hindered ≡ old.view.hindered + tries
   pub moved : moves_known t.last_card old.view + tries ≤ moves_known t.last_card new.view

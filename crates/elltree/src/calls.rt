@@ -146,7 +146,8 @@ pub extern "C" fn elltree_slot_insert(
     ensures refused { result ≢ said_yes → result ≢ said_no → OfHandlesIfAny StaysPut (handle_of slot.old.raw.inside) (handle_of slot.new.raw.inside) }
     ensures keeps { OfHandlesIfAny KeepsKeys (handle_of slot.old.raw.inside) (handle_of slot.new.raw.inside) }
     ensures took { OfHandlesIfAny (TookTries tries) (handle_of slot.old.raw.inside) (handle_of slot.new.raw.inside) }
-    ensures cards { OfHandlesIfAny (SpendsBy tries result) (handle_of slot.old.raw.inside) (handle_of slot.new.raw.inside) }
+    ensures cards { OfHandlesIfAny (SpendsBy tries result) (handle_of slot.old.raw.inside)
+        (handle_of slot.new.raw.inside) }
 {
     let Some(mut place) = slot.take(alloc) else {
         return CLOSED;
@@ -177,7 +178,8 @@ pub extern "C" fn elltree_slot_delete(alloc: Global, slot: &mut Slot, key: u64, 
     ensures refused { result ≢ said_yes → result ≢ said_no → OfHandlesIfAny StaysPut (handle_of slot.old.raw.inside) (handle_of slot.new.raw.inside) }
     ensures keeps { OfHandlesIfAny KeepsKeys (handle_of slot.old.raw.inside) (handle_of slot.new.raw.inside) }
     ensures took { OfHandlesIfAny (TookTries tries) (handle_of slot.old.raw.inside) (handle_of slot.new.raw.inside) }
-    ensures cards { OfHandlesIfAny (SpendsBy tries result) (handle_of slot.old.raw.inside) (handle_of slot.new.raw.inside) }
+    ensures cards { OfHandlesIfAny (SpendsBy tries result) (handle_of slot.old.raw.inside)
+        (handle_of slot.new.raw.inside) }
 {
     let Some(mut place) = slot.take(alloc) else {
         return CLOSED;
