@@ -38,6 +38,15 @@ impl<A: Allocator + Copy> TreeMemory<A> {
         }
     }
 
+    /// Room for so many words, if enough are missing to be worth threads.
+    pub(crate) fn with_room_to_fill(self, count: usize) -> TreeMemory<A> {
+        if count < self.zeros.len().saturating_add(THREAD_MIN) {
+            self
+        } else {
+            self.with_room(count)
+        }
+    }
+
     // Has room for so many words, unless memory is refused, which is no fault yet.
     fn with_room(self, count: usize) -> TreeMemory<A> {
         let TreeMemory {

@@ -9,7 +9,7 @@ ghost use Rattle.ell_order.specs.Orders.{IsRunOrder};
 ghost use Rattle.ell_text.specs.Limits.{most_operations};
 ghost use Rattle.ell_word.specs.Node.{most_start};
 ghost use Rattle.ell_run.specs.Answered.{IsLateOf};
-ghost use Rattle.ell_run.specs.Settings.{AreSettings};
+ghost use Rattle.ell_run.specs.Settings.{AreSettings, IsPartedAs};
 
 use crate::memory::{TreeMemory, fill_beside};
 use crate::reservation::words_of_all;
@@ -17,6 +17,7 @@ use crate::runs::{Outcome, run_in};
 use crate::settings::{Settings, limits_for, parts_for};
 use ell_ops::{NoMemory, Op};
 use ell_order::RunOrder;
+use ell_parts::Parts;
 use ell_word::StepGate;
 use std::alloc::Allocator;
 use std::thread::Threads;
@@ -53,10 +54,16 @@ pub(crate) fn run_in_order<
         ensures given { IfOk result (λ order. order.given ≡ ops.entry.now) }
         ensures order { IfOk result (λ order. IsRunOrder ops.entry.now order.items) }
     { RunOrder::of(rt, alloc, ops) };
-    let (memory, order) = fill_beside(rt, memory, count, put_in_order);
+    let memory = memory.with_room_to_fill(count);
+    let (memory, order) = fill_beside(rt, memory, count / 2, put_in_order);
     let order = order?;
     let ordered = order.ops();
-    let parts = parts_for(alloc, ordered, settings)?;
+    let part = || -> Result<Parts<'_, A>, NoMemory>
+        requires { AreSettings settings }
+        ensures { IfOk result (IsPartedAs settings ordered.entry.now) }
+    { parts_for(alloc, ordered, settings) };
+    let (memory, parts) = fill_beside(rt, memory, count, part);
+    let parts = parts?;
     let outcome = run_in(rt, alloc, memory, start, ordered, &parts, limits, gate)?;
     let replies = order.put_back(alloc, &outcome.replies)?;
     Ok(Outcome {

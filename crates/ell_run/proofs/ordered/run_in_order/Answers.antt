@@ -41,5 +41,6 @@ pub returns-clause-late : goal.returns-clause-late
 returns-clause-late g c =
     let order = c.in_ok-order.order in
     let ordered : IsRunOrder c.args.ops.now order.items = search rules in
+    let parted : IsPartedAs c.args.settings c.ops-ordered.result.now c.in_ok-parts.parts = search rules in
     late_of c.args.ops.now order.items ordered c.ops-ordered.result.now c.ops-ordered.ensures.ops c.args.settings (contents_of c.args.start.now) c.in_ok-parts.parts
-    c.in_ok-outcome.outcome.late c.in_ok-parts.ensures c.in_ok-outcome.ensures.few c.in_ok-outcome.ensures.late
+    c.in_ok-outcome.outcome.late parted c.in_ok-outcome.ensures.few c.in_ok-outcome.ensures.late
