@@ -1,4 +1,4 @@
-use Rattle.std.proofs.Common.{◌≡◌, ℕ, zero, suc, ◌+◌, Bool, true, false, cond, List, [], ◌∷◌, ◌++◌, Some, eqb, take, drop, length, arith, refl, ap, sym, subst, ◌∙◌, ◌⊎◌, inl, inr, ⊎_elim}
+use Rattle.std.proofs.Common.{◌≡◌, ℕ, zero, suc, ◌+◌, Bool, true, cond, List, [], ◌∷◌, ◌++◌, Some, eqb, take, drop, length, arith, refl, ap, sym, subst, ◌∙◌, ◌⊎◌, inl, inr, ⊎_elim}
 use Rattle.std.specs.Prelude.{filter, slice_get, slice_index, ◌==◌}
 use Rattle.std.specs.List.{enumerate_from}
 use Rattle.std.proofs.Math.Seq.{take-add}
@@ -10,7 +10,6 @@ use Rattle.ell_ops.specs.Meaning.{key_of, after, replies, final}
 use Rattle.ell_parts.specs.PartedOps.{PartedOps, IsLawful, part}
 use Rattle.ell_run.specs.ByParts.{ops_in, WorkerHasKey, done, IsRest, AreDone, ReplyAlike, PartsServe}
 use Rattle.ell_ops.proofs.Places.{slice_get-drop, slice_get_from_take, slice_get_within_take}
-use Rattle.ell_ops.proofs.Presence.{reply_at}
 use Rattle.ell_order.proofs.Numbered.{filter_at, front_numbered, numbered_at, passes_at}
 use Rattle.ell_order.proofs.OnKey.{on_key, final_alike, final-append}
 use Rattle.ell_order.proofs.Reordered.{op_at, same_reply}

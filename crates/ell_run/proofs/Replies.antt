@@ -1,9 +1,9 @@
-use Rattle.std.proofs.Common.{◌≡◌, ℕ, suc, ◌<◌, List, [], ◌∷◌, Some, length, arith, refl, ap, sym, ◌∙◌}
+use Rattle.std.proofs.Common.{◌≡◌, ℕ, ◌<◌, List, Some, length, arith, refl, ap, sym, ◌∙◌}
 use Rattle.std.specs.Prelude.{slice_get}
 use Rattle.std.proofs.lemmas.Option.{slice_get-get_or, slice_get_within}
 use Rattle.ell_ops.specs.declared.op.Op.{Op}
 use Rattle.ell_ops.specs.Contents.{Contents}
-use Rattle.ell_ops.specs.Meaning.{after, replies}
+use Rattle.ell_ops.specs.Meaning.{replies}
 use Rattle.ell_parts.specs.declared.gathering.GatherFault.{GatherFault}
 use Rattle.ell_parts.specs.declared.gathering.GatherFault.TheVariants.{Stranger, Doubled, Missing, NoMemory}
 use Rattle.ell_parts.specs.Gathering.{AreSound, IsFault, IsFor, IsGathered}

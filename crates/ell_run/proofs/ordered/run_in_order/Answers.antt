@@ -1,6 +1,5 @@
-use Rattle.std.proofs.Common.{◌≡◌, List, rules, ap, sym, ◌∙◌, length, subst}
+use Rattle.std.proofs.Common.{◌≡◌, rules, ap, sym, ◌∙◌, length, subst}
 use Rattle.ell_ops.specs.Contents.{contents_of}
-use Rattle.ell_ops.specs.Meaning.{replies}
 use Rattle.ell_order.specs.Orders.{ArePutBack, IsRunOrder}
 use Rattle.ell_run.specs.Settings.{IsPartedAs}
 use Rattle.ell_run.proofs.Reordering.{fits_ran, late_of, length_said, listed_back, told_back}
