@@ -1,15 +1,13 @@
-use Rattle.std.specs.Prelude.{◌≡◌, ◌≢◌, ◌<◌, ◌≤◌, ℕ, ℤ, Option, Some, None, List, [], length, map, take, drop}
+use Rattle.std.specs.Prelude.{◌≡◌, ◌≢◌, ◌<◌, ◌≤◌, ℕ, Option, Some, None, List, [], length, map, take, drop}
 use Rattle.std.specs.Arc.{arc_value}
 use Rattle.ell_ops.specs.Contents.{Contents, ListsPairs, nothing}
 use Rattle.ell_cards.specs.Changes.{keys_of}
-use Rattle.ell_tree.specs.CardsTaken.{TakesAtMost, TakesByHindered, TakesNoCard, TakesOneAndByHindered}
 use Rattle.ell_tree.specs.Ledgers.{Owns, present_in}
 use Rattle.ell_tree.specs.Looks.{IsFoundIn}
 use Rattle.ell_tree.specs.PassParts.{IsUnion}
 use Rattle.ell_handle.specs.Reads.{tree_of}
 use Rattle.ell_handle.specs.Renewal.{IsRenewed}
 use Rattle.ell_handle.specs.declared.handle.Handle.{Handle}
-use Rattle.elltree.specs.Codes.{said_no, said_yes}
 use Rattle.elltree.specs.Owned.{Inside}
 use Rattle.elltree.specs.declared.Pair.{Pair}
 
@@ -112,11 +110,3 @@ AreOfOneTree (Some left) (Some right) = left.shared ≡ right.shared
 AreOfOneTree (Some left) None = ⊥
 AreOfOneTree None (Some right) = ⊥
 AreOfOneTree None None = Unit {0}
-
--- the cards that an insert or a delete took, by its code: one a try at most; if the map has changed, one, and more only for tries that
--- something hindered; none, if the answer is no; and else only those for hindered tries
-pub record SpendsBy (tries : ℕ) (said : ℤ) (old new : Handle) : Type 0 where
-  pub most : TakesAtMost tries old.pass new.pass
-  pub changed : said ≡ said_yes → TakesOneAndByHindered old.pass new.pass
-  pub kept : said ≡ said_no → TakesNoCard old.pass new.pass
-  pub refused : said ≢ said_yes → said ≢ said_no → TakesByHindered old.pass new.pass

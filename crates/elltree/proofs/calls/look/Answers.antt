@@ -15,8 +15,14 @@ finds c there is = record {
       (subst (λ (r : Result (Option ℕ) Refusal). IfOk r (IsFoundIn (tree_of c.args.handle.now) c.look.new.self.pass.view c.args.key)) is c.look.ensures.so);
 }
 
-pub returns-clause-yes : goal.returns-clause-yes
-returns-clause-yes c = λ said. let is : c.look.result ≡ Ok (Some c.told.new.value) = search rules in finds c (Some c.told.new.value) is
-
-pub returns-clause-no : goal.returns-clause-no
-returns-clause-no c = λ said. let is : c.look.result ≡ Ok None = search rules in finds c None is
+pub returns-clause-tells : goal.returns-clause-tells
+returns-clause-tells c = record {
+  codes = search rules;
+  yes = λ said. let is : c.look.result ≡ Ok (Some c.told.new.value) = search rules in finds c (Some c.told.new.value) is;
+  no = λ said. let is : c.look.result ≡ Ok None = search rules in finds c None is;
+  own = search rules;
+  absent = search rules;
+  bad_key = search rules;
+  real = search rules;
+  reads = search rules;
+}
