@@ -149,9 +149,10 @@ fn run_in_order<R: Threads + Sync>(
     refusal: Refusal,
     list: &[Op],
     replies: &[Reply],
-) -> Ended
-    requires { length replies.now ≡ length list.now }
-{
+) -> Ended {
+    if replies.len() != list.len() {
+        return Ended::answered(false);
+    }
     heap.refuse(refusal);
     let back = put_back(rt, heap, list, replies);
     heap.stop();
