@@ -7,7 +7,7 @@ use std::test::Fail;
 // These operations, and finds of key 14 behind them, so many in all.
 fn with_finds(first: &[Op], count: usize, rt: &impl AllocGlobal) -> Result<Vec<Op>, Fail> {
     let mut ops = Vec::from_slice(rt.alloc(), first)?;
-    while ops.len() < count {
+    for _ in first.len()..count {
         ops.push(Op::Find(14))?;
     }
     Ok(ops)
@@ -48,8 +48,7 @@ fn a_long_list_is_run_in_hands_and_rounds(rt: HostRuntime) -> Result<(), Fail> {
         Reply::Found(0),
     ];
     assert!(rt; back.len() == 1_000 && back.iter().take(4).eq(begun.iter()));
-    let mut behind = back.iter().enumerate().skip(4);
-    assert!(rt; behind.all(|(at, reply)| *reply == Reply::Found(at as u64 - 1)));
+    assert!(rt; back.iter().skip(4).eq(replies.iter().skip(3).take(996)));
     Ok(())
 }
 
