@@ -25,6 +25,8 @@ const LONGER: u32 = 3;
 pub enum Kind {
     /// The operations of owners, without readers.
     Operations,
+    /// The operations of threads that share all keys.
+    Shared,
     /// Looks of readers, and changes of owners.
     Looks,
     /// Latencies beside an owner without pause.
@@ -44,6 +46,7 @@ impl Kind {
     pub fn peers(self) -> Vec<Peer> {
         match self {
             Kind::Looks => vec![Peer::Elltree, Peer::Bare, Peer::RwLock, Peer::RwLocks],
+            Kind::Shared => Peer::ALL.into_iter().filter(|it| *it != Peer::Private).collect(),
             _ => Peer::ALL.to_vec(),
         }
     }
@@ -51,7 +54,7 @@ impl Kind {
     /// The numbers of owners and readers.
     fn crews(self) -> Vec<(u64, u64)> {
         match self {
-            Kind::Operations => vec![(1, 0), (2, 0), (4, 0)],
+            Kind::Operations | Kind::Shared => vec![(1, 0), (2, 0), (4, 0)],
             Kind::Looks => [1, 2, 4].into_iter().flat_map(|readers| [0, 1, 3].map(|owners| (owners, readers))).collect(),
             Kind::Running | Kind::Stopped => vec![(2, 1)],
         }
@@ -60,8 +63,9 @@ impl Kind {
 
 fn cases() -> Vec<Case> {
     let all = |keys| {
-        [Kind::Operations, Kind::Looks, Kind::Running, Kind::Stopped].into_iter().flat_map(move |kind| {
-            let sizes = kind.crews().into_iter().map(move |(owners, readers)| Sizes { keys, owners, readers });
+        [Kind::Operations, Kind::Shared, Kind::Looks, Kind::Running, Kind::Stopped].into_iter().flat_map(move |kind| {
+            let shared = kind == Kind::Shared;
+            let sizes = kind.crews().into_iter().map(move |(owners, readers)| Sizes { keys, owners, readers, shared });
             sizes.map(move |sizes| Case { kind, sizes })
         })
     };
@@ -87,7 +91,7 @@ fn spread(mut latencies: Vec<u64>, figures: [Figure; 3]) -> Vec<(Figure, f64)> {
 fn measure(case: Case, peer: Peer, interval: Duration) -> Vec<(Figure, f64)> {
     let Case { kind, sizes } = case;
     match kind {
-        Kind::Operations => {
+        Kind::Operations | Kind::Shared => {
             let took = speeds(peer, sizes, Work::Mixed, interval);
             took.owners.map(|it| (Figure::Operation, it)).into_iter().collect()
         }
@@ -118,12 +122,12 @@ fn answers(peer: Peer, sizes: Sizes) -> [Vec<Option<u64>>; 2] {
     [operations, looks]
 }
 
-/// Whether all peers answer alike. Private maps have no readers.
+/// Whether all peers answer alike. Private maps have no readers, and share no key.
 fn agree() -> bool {
-    KEYS.into_iter().all(|keys| {
-        let sizes = Sizes { keys, owners: 4, readers: 2 };
+    let cases = KEYS.into_iter().flat_map(|keys| [false, true].map(|shared| Sizes { keys, owners: 4, readers: 2, shared }));
+    cases.into_iter().all(|sizes| {
         let expected = answers(Peer::Elltree, sizes);
-        Peer::ALL.into_iter().all(|peer| {
+        Peer::ALL.into_iter().filter(|peer| !sizes.shared || *peer != Peer::Private).all(|peer| {
             let [operations, looks] = answers(peer, sizes);
             operations == expected[0] && (looks == expected[1] || peer == Peer::Private)
         })

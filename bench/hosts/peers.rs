@@ -1,4 +1,5 @@
-//! The maps that are measured. Each is parted among owners, which find, insert and delete keys of their own, and readers of any key.
+//! The maps that are measured. Each is parted among owners, which find, insert and delete keys of their own, or all keys if these are
+//! shared, and readers of any key.
 
 use crate::bare_tree::BareTree;
 use elltree::{Handle, Tree, CARDS_MAX};
@@ -13,12 +14,13 @@ const SHARDS: usize = 16;
 /// How many tries a change has: enough that something is never in the way of all.
 const TRIES: u32 = 1_000_000;
 
-/// How many keys a map has, the numbers below this, and how many owners and readers.
+/// How many keys a map has, the numbers below this, how many owners and readers, and whether all owners share all keys.
 #[derive(Clone, Copy)]
 pub struct Sizes {
     pub keys: u64,
     pub owners: u64,
     pub readers: u64,
+    pub shared: bool,
 }
 
 /// The keys of one owner: its neighbors have the keys next to them.
@@ -53,7 +55,8 @@ impl Sizes {
     /// The keys of each owner.
     pub fn stripes(self) -> impl Iterator<Item = Stripe> {
         let step = self.owners;
-        (0..step).map(move |first| Stripe { first, step, count: (self.keys - first).div_ceil(step) })
+        let own = move |first| Stripe { first, step, count: (self.keys - first).div_ceil(step) };
+        (0..step).map(move |first| if self.shared { self.all() } else { own(first) })
     }
 
     /// The keys that are present at first, ascending, with their values: every other one of each owner.
@@ -228,6 +231,13 @@ impl Crew {
         Ok(Crew { owners: boxed(owners), readers: boxed(readers) })
     }
 
+    /// Handles of a tree of shared keys.
+    fn of_sharing_handles(sizes: Sizes) -> elltree::Result<Crew> {
+        let mut first = Handle::open_shared(&sizes.start().collect::<Vec<_>>(), CARDS_MAX)?;
+        let mut others = |count| (0..count).map(|_| first.another()).collect::<elltree::Result<Vec<_>>>();
+        Ok(Crew { owners: boxed(others(sizes.owners)?), readers: boxed(others(sizes.readers)?) })
+    }
+
     /// The tree over bare atomic words. All its memory is there before it is used, as elltree's is.
     fn of_bare_tree(sizes: Sizes) -> Crew {
         let tree = BareTree::reserve(&sizes.start().collect::<Vec<_>>(), CARDS_MAX);
@@ -292,6 +302,7 @@ impl Peer {
     /// A new map of this kind, parted.
     pub fn crew(self, sizes: Sizes) -> Crew {
         match self {
+            Peer::Elltree if sizes.shared => Crew::of_sharing_handles(sizes).expect("a tree"),
             Peer::Elltree => Crew::of_handles(sizes).expect("a tree"),
             Peer::Bare => Crew::of_bare_tree(sizes),
             Peer::Mutex => Crew::of_locks::<Mutex<Map>, 1>(sizes),

@@ -88,6 +88,7 @@ impl Record {
             let Case { kind, sizes } = self.cases[*at];
             let kind = match kind {
                 Kind::Operations => "operations",
+                Kind::Shared => "shared",
                 Kind::Looks => "looks",
                 Kind::Running => "running",
                 Kind::Stopped => "stopped",
@@ -147,6 +148,7 @@ impl Record {
         let latencies = [Kind::Running, Kind::Stopped];
         [
             self.table("An operation of an owner: median of the rounds, and least", &[Kind::Operations], &[Figure::Operation]),
+            self.table("An operation on any key, all keys shared: median of the rounds, and least", &[Kind::Shared], &[Figure::Operation]),
             self.table("A look at any key: median of the rounds, and least", &[Kind::Looks], &[Figure::Look]),
             self.table(
                 "A change by an owner beside these readers: median of the rounds, and least",

@@ -1,6 +1,12 @@
 """A map from 64-bit keys to 64-bit values that threads share without locks, over libelltree.so by ctypes.
 
-    first = elltree.open(range(1000), {2: 20}, cards=100_000)
+    first = elltree.open_shared({2: 20}, cards=100_000)   # every key is shared
+    second = first.another()                              # for another thread
+    first.insert(3, 30)   # True
+    second.insert(3, 31)  # False: the key is there
+    second.delete(2)      # True: any handle changes any key
+
+    first = elltree.open(range(1000), {2: 20}, cards=100_000)   # keys that have owners
     second = first.split(range(500, 1000))
     first.insert(3, 30)
     second.look(3)        # 30: any handle looks at any key
@@ -23,6 +29,7 @@ __version__ = "0.1.0"
 
 NO, YES, BUSY, SPENT, FOREIGN, NO_TRIES, BAD_CARDS, BAD_KEY = 0, 1, -1, -2, -3, -4, -5, -6
 BAD_START, NO_ROOM, NO_MEMORY, CLOSED, OPEN, OTHER_TREE, NULL, SAME, IN_CALL = -7, -8, -9, -10, -11, -12, -13, -14, -15
+TOO_MANY_HANDLES, SHARED_KEYS = -16, -17
 
 KEY_MAX = 2**64 - 3
 
@@ -76,6 +83,8 @@ def _load():
     calls = {}
     for name, types in {
         "open": [at(_Slot), at(u64), size, at(_Pair), size, u64, u64],
+        "open_shared": [at(_Slot), at(_Pair), size, u64, u64],
+        "another": [at(_Slot), at(_Slot)],
         "split": [at(_Slot), at(_Slot), at(u64), size],
         "join": [at(_Slot), at(_Slot)],
         "find": [at(_Slot), u64, at(u64)],
@@ -144,15 +153,27 @@ def _keys(keys):
     return (ctypes.c_uint64 * len(listed)).from_buffer(listed), len(keys)
 
 
+def _pairs(start):
+    """An array of the pairs of a dict or a list, and how many they are."""
+    pairs = sorted(start.items()) if isinstance(start, dict) else list(start)
+    listed = [_Pair(_key(key), _value(value)) for key, value in pairs]
+    return (_Pair * max(1, len(listed)))(*listed), len(listed)
+
+
 def open(keys, start=(), cards=1_000_000):
     """A handle that owns these keys and those of start, a dict or pairs, which are present with their values. Each change takes a card, until
     renew_all makes the cards fresh; cards_left tells how many are left. Up to 300,000 cards and start keys together that takes less than a
     third of the time for each that it takes above, with glibc."""
-    pairs = sorted(start.items()) if isinstance(start, dict) else list(start)
-    listed = [_Pair(_key(key), _value(value)) for key, value in pairs]
     handle = Handle()
-    pairs = (_Pair * max(1, len(listed)))(*listed)
-    handle._call("open", *_keys(keys), pairs, len(listed), _cards(cards), next(_numbers))
+    handle._call("open", *_keys(keys), *_pairs(start), _cards(cards), next(_numbers))
+    return handle
+
+
+def open_shared(start=(), cards=1_000_000):
+    """A handle of a tree in which every key up to KEY_MAX is shared, and which has the keys of start, a dict or pairs, with their values. Its
+    method another gives more handles of it, one for each thread. Each change takes a card; cards_left tells how many are left."""
+    handle = Handle()
+    handle._call("open_shared", *_pairs(start), _cards(cards), next(_numbers))
     return handle
 
 
@@ -191,8 +212,9 @@ def _call_on(handles, call_library):
 
 
 class Handle:
-    """Some of the keys of a tree: this handle alone finds, inserts and deletes them. It looks at any key. It is not copied or pickled. A
-    handle that is dropped while it owns keys warns (ResourceWarning), since nobody changes them any more: close it, or join it into another."""
+    """One thread's way to a tree: it finds, inserts and deletes shared keys, or those of its own, which no other handle changes. It looks at any
+    key. It is not copied or pickled. A handle that is dropped while it owns keys warns (ResourceWarning), since nobody changes them any more:
+    close it, or join it into another."""
 
     __slots__ = ("_slot", "_calls", "__weakref__")
 
@@ -221,16 +243,26 @@ class Handle:
             self._calls.pop(call, None)
         return _answer(code)
 
-    def split(self, keys=()):
-        """A handle with these keys of this one, which keeps the others; without keys one that only looks."""
-        part, (listed, count) = Handle(), _keys(keys)
+    def _part(self, call_library):
+        """A handle that a call of the library makes of this one."""
+        part = Handle()
         try:
-            _call_on([self, part], lambda: _library["split"](self._slot, part._slot, listed, count))
+            _call_on([self, part], lambda: call_library(self._slot, part._slot))
         except BaseException:
             if part._slot.is_open:  # A signal cut this off once the keys had gone over.
                 self.join(part)
             raise
         return part
+
+    def another(self):
+        """Another handle of the same tree, for another thread: it changes shared keys, if the tree has them, and looks at any key. This one keeps
+        the keys that it owns."""
+        return self._part(_library["another"])
+
+    def split(self, keys=()):
+        """A handle with these keys of this one, which keeps the others; without keys one that only looks."""
+        listed, count = _keys(keys)
+        return self._part(lambda whole, part: _library["split"](whole, part, listed, count))
 
     def join(self, other):
         """Takes over all keys of another handle of the same tree, which holds nothing then."""
@@ -239,7 +271,7 @@ class Handle:
         _call_on([self, other], lambda: _library["join"](self._slot, other._slot))
 
     def find(self, key):
-        """The value of a key of the handle's, or None."""
+        """The value of a key of the handle's own, or of a shared one, or None."""
         value = ctypes.c_uint64()
         return value.value if self._call("find", _key(key), value) else None
 
@@ -249,13 +281,14 @@ class Handle:
         return value.value if self._call("look", _key(key), value) else None
 
     def insert(self, key, value, tries=1000):
-        """Adds a key of the handle's with its value: whether it was absent. A key that is present keeps its value. It is Spent where it needs a
-        card and none is left: cards_left tells how many are."""
+        """Adds a key of the handle's own, or a shared one, with its value: whether it was absent. A key that is present keeps its value. It is
+        Spent where it needs a card and none is left: cards_left tells how many are."""
         return self._call("insert", _key(key), _value(value), _tries(tries))
 
     def delete(self, key, tries=1000):
-        """Takes a key of the handle's away: whether it was present. A value changes by a delete and an insert, two cards: ask cards_left before
-        the delete. Where the insert is Spent all the same, as others have taken the cards, keep the value, renew, and insert it."""
+        """Takes a key of the handle's own, or a shared one, away: whether it was present. A value changes by a delete and an insert, two cards:
+        ask cards_left before the delete. Where the insert is Spent all the same, as others have taken the cards, keep the value, renew, and
+        insert it."""
         return self._call("delete", _key(key), _tries(tries))
 
     def owned(self):
@@ -272,7 +305,7 @@ class Handle:
         return out[: count.value]
 
     def pairs(self):
-        """The handle's keys that are present, ascending, with their values."""
+        """The keys of the handle's own that are present, ascending, with their values: shared keys are not among them."""
         room, count = self.owned(), ctypes.c_size_t()
         out = (_Pair * max(1, room))()
         self._call("pairs", out, room, count)
@@ -293,7 +326,8 @@ class Handle:
 
     def renew(self, cards=1_000_000):
         """Makes the cards fresh: the handle goes to a new tree with so many cards, and takes along the keys that it owns, which are present or
-        absent as they were. Others stay in the old tree: renew_all takes handles along that are to stay together."""
+        absent as they were. Others stay in the old tree: renew_all takes handles along that are to stay together. A handle of a tree of shared
+        keys is refused."""
         self._call("renew", _cards(cards), next(_numbers))
 
     def close(self):
@@ -330,8 +364,8 @@ class Handle:
 def renew_all(handles, cards=1_000_000):
     """Makes the cards of handles of one tree fresh, also of handles without keys: all of them go to one new tree with so many cards, each with
     the keys that it owns, which are present or absent as they were. Others stay in the old tree, and the new one has none of their keys. It
-    takes about 0.7 microseconds for each key that they own, beside the time for cards and present keys. Where it is refused, each handle is
-    where it was."""
+    takes about 0.7 microseconds for each key that they own, beside the time for cards and present keys. Handles of a tree of shared keys are
+    refused. Where it is refused, each handle is where it was."""
     handles, cards = list(handles), _cards(cards)
 
     def call_library():

@@ -344,13 +344,96 @@ static void big_group_renewal(void) {
     IS(elltree_free(&other), ELLTREE_YES);
 }
 
+/* What is refused where a tree of shared keys is opened, and where it gives another handle. */
+static void sharing_handle(void) {
+    const struct elltree_pair down[2] = {{2, 0}, {1, 0}}, high[1] = {{ELLTREE_KEY_MAX + 1, 0}};
+    struct elltree_handle h = ELLTREE_EMPTY, other = ELLTREE_EMPTY;
+    IS(elltree_open_shared(&h, down, 2, 9), ELLTREE_BAD_START);
+    IS(elltree_open_shared(&h, high, 1, 9), ELLTREE_BAD_KEY);
+    IS(elltree_open_shared(&h, start, 2, 0), ELLTREE_BAD_CARDS);
+    IS(elltree_open_shared(&h, NULL, 1, 9), ELLTREE_NULL);
+    IS(elltree_open_shared(NULL, start, 2, 9), ELLTREE_NULL);
+    IS(elltree_another(&h, &other), ELLTREE_CLOSED);
+    IS(elltree_open_shared(&h, start, 2, 9), ELLTREE_YES);
+    IS(elltree_open_shared(&h, start, 2, 9), ELLTREE_OPEN);
+    IS(elltree_another(&h, &h), ELLTREE_SAME);
+    IS(elltree_another(&h, NULL), ELLTREE_NULL);
+    h.in_call = 1;
+    IS(elltree_another(&h, &other), ELLTREE_IN_CALL);
+    IS(elltree_another(&other, &h), ELLTREE_IN_CALL);
+    IS(elltree_open_shared(&h, start, 2, 9), ELLTREE_IN_CALL);
+    h.in_call = 0;
+    IS(elltree_another(&h, &other), ELLTREE_YES);
+    IS(elltree_another(&h, &other), ELLTREE_OPEN);
+    IS(elltree_free(&h), ELLTREE_YES);
+    IS(elltree_free(&other), ELLTREE_YES);
+}
+
+/* Handles of a tree of shared keys own none, and change any that a tree may have. One without keys beside an owner changes none. */
+static void sharing(void) {
+    struct elltree_handle one = ELLTREE_EMPTY, two = ELLTREE_EMPTY, owner = ELLTREE_EMPTY, *both[2] = {&one, &two};
+    uint64_t value = 0;
+    IS(elltree_open_shared(&one, start, 2, 9), ELLTREE_YES);
+    IS(elltree_another(&one, &two), ELLTREE_YES);
+    IS(elltree_insert(&two, ELLTREE_KEY_MAX, 7, 9), ELLTREE_YES);
+    IS(elltree_find(&one, ELLTREE_KEY_MAX, &value), ELLTREE_YES);
+    IS(elltree_insert(&one, 4, 41, 9), ELLTREE_NO);
+    IS(elltree_insert(&one, 5, 50, 0), ELLTREE_NO_TRIES);
+    IS(elltree_delete(&two, 4, 9), ELLTREE_YES);
+    IS(elltree_look(&one, 4, &value), ELLTREE_NO);
+    IS(elltree_insert(&two, ELLTREE_KEY_MAX + 1, 1, 9), ELLTREE_FOREIGN);
+    IS(elltree_find(&two, ELLTREE_KEY_MAX + 1, &value), ELLTREE_FOREIGN);
+    IS(elltree_look(&two, ELLTREE_KEY_MAX + 1, &value), ELLTREE_BAD_KEY);
+    IS(elltree_split(&one, &owner, keys, 1), ELLTREE_FOREIGN);
+    IS(elltree_renew(&one, 9), ELLTREE_SHARED_KEYS);
+    IS(elltree_renew_all(both, 2, 9), ELLTREE_SHARED_KEYS);
+    HAS(&one, 0, start, 0);
+    IS(elltree_open(&owner, keys, 6, start, 2, 9), ELLTREE_YES);
+    IS(elltree_join(&owner, &two), ELLTREE_OTHER_TREE);
+    IS(elltree_join(&one, &two), ELLTREE_YES);
+    IS(elltree_another(&owner, &two), ELLTREE_YES);
+    HAS(&owner, 6, start, 2);
+    HAS(&two, 0, start, 0);
+    IS(elltree_insert(&two, 6, 60, 9), ELLTREE_FOREIGN);
+    IS(elltree_look(&two, 4, &value), ELLTREE_YES);
+    IS(elltree_renew_all(both + 1, 1, 9), ELLTREE_YES);
+    IS(elltree_free(&one), ELLTREE_YES);
+    IS(elltree_free(&two), ELLTREE_YES);
+    IS(elltree_free(&owner), ELLTREE_YES);
+}
+
+/* Each handle gives the next one, which gets a part of its share, until one has the least; joined again, they may give others. */
+static void least_share(void) {
+    const struct elltree_handle nothing = ELLTREE_EMPTY;
+    struct elltree_handle first = nothing, last = nothing, next = nothing;
+    int32_t said = ELLTREE_YES;
+    int given = 0;
+    IS(elltree_open_shared(&last, NULL, 0, 9), ELLTREE_YES);
+    while (given < 1000 && (said = elltree_another(&last, &next)) == ELLTREE_YES) {
+        if (given++ == 0)
+            first = last;
+        else
+            IS(elltree_join(&first, &last), ELLTREE_YES);
+        last = next;
+        next = nothing;
+    }
+    IS(said, ELLTREE_TOO_MANY_HANDLES);
+    IS(elltree_split(&last, &next, NULL, 0), ELLTREE_TOO_MANY_HANDLES);
+    IS(elltree_insert(&last, 5, 50, 9), ELLTREE_YES);
+    IS(elltree_delete(&first, 5, 9), ELLTREE_YES);
+    IS(elltree_join(&last, &first), ELLTREE_YES);
+    IS(elltree_another(&last, &next), ELLTREE_YES);
+    IS(elltree_free(&last), ELLTREE_YES);
+    IS(elltree_free(&next), ELLTREE_YES);
+}
+
 /* Each code has a text of its own. It is cut off and ended by a 0 where there is no room for all, and what is behind the 0 stays. */
 static void texts(void) {
     char one[ELLTREE_TEXT_ROOM], two[ELLTREE_TEXT_ROOM], cut[] = ".....";
-    for (int32_t code = ELLTREE_IN_CALL - 1; code <= ELLTREE_YES + 1; code++)
+    for (int32_t code = ELLTREE_SHARED_KEYS - 1; code <= ELLTREE_YES + 1; code++)
         for (int32_t other = code + 1; other <= ELLTREE_YES + 1; other++)
             faults += !strcmp(elltree_text(code, one, sizeof one), elltree_text(other, two, sizeof two)) &&
-                      (code != ELLTREE_IN_CALL - 1 || other != ELLTREE_YES + 1);
+                      (code != ELLTREE_SHARED_KEYS - 1 || other != ELLTREE_YES + 1);
     faults += strcmp(elltree_text(ELLTREE_SPENT, one, sizeof one), "all cards are given out") != 0;
     faults += strcmp(elltree_text(ELLTREE_YES + 1, two, sizeof two), "no code of elltree") != 0;
     faults += elltree_code_text(ELLTREE_SPENT, cut, 4) != strlen(one) || memcmp(cut, "all\0.", sizeof cut);
@@ -376,6 +459,9 @@ int main(void) {
     renewal();
     group_renewal();
     big_group_renewal();
+    sharing_handle();
+    sharing();
+    least_share();
     texts();
     HAS(&low, 3, start, 1);
     HAS(&high, 3, start + 1, 1);
@@ -387,7 +473,7 @@ int main(void) {
     IS(elltree_look(&reader, 4, &value), ELLTREE_YES);
     IS(elltree_look(&reader, 2, &value), ELLTREE_NO);
     IS(elltree_free(&reader), ELLTREE_YES);
-    for (int code = 2; code <= 15; code++)
+    for (int code = 2; code <= 17; code++)
         if (code != -ELLTREE_NO_MEMORY && !met[code]) {
             char text[ELLTREE_TEXT_ROOM];
             faults++;

@@ -1,6 +1,6 @@
 /* Each allocation of the library is refused in turn: the call is answered by ELLTREE_NO_MEMORY, and all handles are as they were. Linked with
-   --wrap=malloc and --wrap=realloc. Which calls ask for memory is tested too: open, split, join, renew and
-   renew_all, and no other. */
+   --wrap=malloc and --wrap=realloc. Which calls ask for memory is tested too: open, open_shared, another,
+   split, join, renew and renew_all, and no other. */
 #include "elltree.h"
 #include <stdio.h>
 
@@ -15,9 +15,12 @@ void *__wrap_realloc(void *at, size_t size) { return ++asked == refuse_at ? NULL
 enum { KEYS = 300, START = 100 };
 static uint64_t keys[KEYS];
 static struct elltree_pair start[START];
-static struct elltree_handle a = ELLTREE_EMPTY, b = ELLTREE_EMPTY;
+static struct elltree_handle a = ELLTREE_EMPTY, b = ELLTREE_EMPTY, c = ELLTREE_EMPTY, d = ELLTREE_EMPTY;
 
 static int32_t open_a(void) { return elltree_open(&a, keys, KEYS, start, START, 1000); }
+static int32_t open_c(void) { return elltree_open_shared(&c, start, START, 1000); }
+static int32_t another(void) { return elltree_another(&c, &d); }
+static int32_t join_c(void) { return elltree_join(&c, &d); }
 static int32_t split(void) { return elltree_split(&a, &b, keys + 100, 100); }
 static int32_t join(void) { return elltree_join(&a, &b); }
 static int32_t renew(void) { return elltree_renew(&a, 1000); }
@@ -45,7 +48,21 @@ static long differs(struct elltree_handle *handle, uint64_t low, uint64_t high, 
     return wrong + (key_at != is_owned) + (pair_at != is_there) + handle->in_call;
 }
 
+/* A handle of the tree of shared keys finds the start keys there, if it is open. */
+static long lacks(struct elltree_handle *handle) {
+    long wrong = handle->in_call;
+    uint64_t value = 0;
+    for (uint64_t key = 0; handle->slot.is_open && key < KEYS; key++) {
+        int32_t said = elltree_find(handle, key, &value);
+        wrong += said != (key < 2 * START && key % 2 == 0 ? ELLTREE_YES : ELLTREE_NO) || (said == ELLTREE_YES && value != key / 2);
+    }
+    return wrong;
+}
+
 static long closed(void) { return a.slot.is_open || b.slot.is_open; }
+static long none_shared(void) { return c.slot.is_open || d.slot.is_open; }
+static long one_shares(void) { return !c.slot.is_open || d.slot.is_open || lacks(&c); }
+static long two_share(void) { return !c.slot.is_open || !d.slot.is_open || lacks(&c) || lacks(&d); }
 static long whole(void) { return differs(&a, 0, 0, 0) || b.slot.is_open; }
 static long parted(void) { return differs(&a, 100, 200, 0) || differs(&b, 100, 200, 1); }
 
@@ -109,6 +126,12 @@ int main(void) {
     faults += whole() != 0;
     refuse("renew", renew, whole);
     faults += whole() != 0;
+    refuse("open_shared", open_c, none_shared);
+    faults += one_shares() != 0;
+    refuse("another", another, one_shares);
+    faults += two_share() != 0;
+    refuse("join of shared keys", join_c, two_share);
+    faults += one_shares() != 0 || elltree_free(&c) != ELLTREE_YES;
     asked = 0;
     faults += elltree_free(&a) != ELLTREE_YES || asked != 0;
     printf("%d faults\n", faults);

@@ -1,7 +1,24 @@
 //! A map from `u64` to `u64` that threads share without locks, over `libelltree.a`.
 //!
-//! A [`Tree`] is opened over a fixed set of keys, which it gives to [`Handle`]s. A handle alone finds, inserts and deletes the keys that it
-//! owns, and it never waits for another. Every handle, and every [`Reader`], looks at any key.
+//! [`Handle::open_shared`] makes a tree in which every key is shared, and [`Handle::another`] gives a handle of it for each thread: each finds,
+//! inserts and deletes any key, never waits for another, and all calls together answer as if they were made one after the other.
+//!
+//! ```
+//! let mut first = elltree::Handle::open_shared(&[(2, 20)], 1_000)?; // pairs to start with, cards
+//! let mut second = first.another()?; // may go to another thread
+//! std::thread::scope(|threads| {
+//!     threads.spawn(|| second.insert(3, 30, 1_000).unwrap()); // in at most 1,000 tries
+//!     threads.spawn(|| first.insert(3, 31, 1_000).unwrap()); // one of the two adds the key
+//! });
+//! assert!(matches!(first.find(3)?, Some(30 | 31)));
+//! assert!(second.delete(2, 1_000)?);
+//! assert_eq!(first.find(2)?, None);
+//! # Ok::<(), elltree::Refused>(())
+//! ```
+//!
+//! Where each key belongs to one thread, a [`Tree`] is opened over a fixed set of keys, which it gives to [`Handle`]s. A handle alone finds,
+//! inserts and deletes the keys that it owns, so that its answers are those of a map of its own. Every handle, and every [`Reader`], looks at
+//! any key.
 //!
 //! ```
 //! let mut tree = elltree::Tree::open(&[1, 2, 3, 4], &[(2, 20)], 1_000)?; // keys, pairs to start with, cards
@@ -75,6 +92,14 @@ unsafe extern "C" {
         cards: u64,
         number: u64,
     ) -> i32;
+    fn elltree_slot_open_shared(
+        slot: &mut Slot,
+        start: *const Pair,
+        start_count: usize,
+        cards: u64,
+        number: u64,
+    ) -> i32;
+    fn elltree_slot_another(from: &mut Slot, into: &mut Slot) -> i32;
     fn elltree_slot_split(from: &mut Slot, into: &mut Slot, keys: *const u64, count: usize) -> i32;
     fn elltree_slot_join(into: &mut Slot, from: &mut Slot) -> i32;
     fn elltree_slot_find(slot: &mut Slot, key: u64, value: &mut u64) -> i32;
@@ -100,7 +125,7 @@ pub enum Refused {
     Busy,
     /// All cards of the tree are given out: [`renew_all`] makes them fresh, and [`Handle::cards_left`] tells beforehand.
     Spent,
-    /// The handle does not own a key of the call.
+    /// A key of the call is neither the handle's own nor shared.
     Foreign,
     /// The call allows no try.
     NoTries,
@@ -114,6 +139,10 @@ pub enum Refused {
     NoMemory,
     /// The handles are of two trees.
     OtherTree,
+    /// The handle may not give another any more.
+    TooManyHandles,
+    /// The call is not for a tree of shared keys.
+    SharedKeys,
     /// Another code of the library.
     Other(i32),
 }
@@ -122,7 +151,7 @@ pub enum Refused {
 pub type Result<T> = std::result::Result<T, Refused>;
 
 // The refusals that have names of their own.
-const NAMED: [Refused; 9] = [
+const NAMED: [Refused; 11] = [
     Refused::Busy,
     Refused::Spent,
     Refused::Foreign,
@@ -132,6 +161,8 @@ const NAMED: [Refused; 9] = [
     Refused::BadStart,
     Refused::NoMemory,
     Refused::OtherTree,
+    Refused::TooManyHandles,
+    Refused::SharedKeys,
 ];
 
 impl Refused {
@@ -151,6 +182,8 @@ impl Refused {
             Refused::BadStart => -7,
             Refused::NoMemory => -9,
             Refused::OtherTree => -12,
+            Refused::TooManyHandles => -16,
+            Refused::SharedKeys => -17,
             Refused::Other(code) => code,
         }
     }
@@ -194,13 +227,57 @@ fn next_number() -> u64 {
     NEXT.fetch_add(1, Ordering::SeqCst)
 }
 
-/// Some of the keys of a tree: this handle alone finds, inserts and deletes them. It looks at any key.
+// Pairs as the library takes them.
+fn host_pairs(pairs: &[(u64, u64)]) -> Vec<Pair> {
+    pairs.iter().map(|&(key, value)| Pair { key, value }).collect()
+}
+
+/// One thread's way to a tree: it finds, inserts and deletes shared keys, or those of its own, which no other handle changes. It looks at any
+/// key.
 pub struct Handle(Slot);
 
 // SAFETY: the library proves `Send` of what lies behind the pointer, and `&mut` gives a handle to one call at a time.
 unsafe impl Send for Handle {}
 
 impl Handle {
+    /// A tree in which every key up to [`KEY_MAX`] is shared, and which has the start keys with their values. [`Handle::another`] gives more
+    /// handles of it. Each change takes a card, and [`Handle::cards_left`] tells how many are left. Refused as [`Handle::open`] is.
+    ///
+    /// ```
+    /// use elltree::{Handle, Refused};
+    /// let mut one = Handle::open_shared(&[(2, 20)], 1_000)?;
+    /// let mut two = one.another()?;
+    /// assert_eq!((one.insert(5, 50, 9), two.insert(5, 51, 9)), (Ok(true), Ok(false)));
+    /// assert_eq!((two.delete(2, 9), one.find(2), one.look(5)), (Ok(true), Ok(None), Ok(Some(50))));
+    /// assert_eq!((one.renew(9), one.owned()), (Err(Refused::SharedKeys), 0));
+    /// # Ok::<(), Refused>(())
+    /// ```
+    pub fn open_shared(start: &[(u64, u64)], cards: u64) -> Result<Handle> {
+        let start = host_pairs(start);
+        let mut handle = Handle(EMPTY);
+        // SAFETY: the slot holds nothing, and the array is as long as said.
+        answer(unsafe { elltree_slot_open_shared(&mut handle.0, start.as_ptr(), start.len(), cards, next_number()) })?;
+        Ok(handle)
+    }
+
+    /// Another handle of the same tree, for another thread: it changes shared keys, if the tree has them, and looks at any key. This one keeps
+    /// the keys that it owns. `TooManyHandles` where a handle of a tree of shared keys may not give another any more: the first one gives more
+    /// than a million, and each of those fewer.
+    ///
+    /// ```
+    /// let mut owner = elltree::Handle::open(&[1, 2], &[], 10)?;
+    /// let mut other = owner.another()?;
+    /// assert_eq!((owner.owned(), other.owned()), (2, 0));
+    /// assert_eq!(other.insert(1, 10, 9), Err(elltree::Refused::Foreign));
+    /// # Ok::<(), elltree::Refused>(())
+    /// ```
+    pub fn another(&mut self) -> Result<Handle> {
+        let mut other = Handle(EMPTY);
+        // SAFETY: these are two slots.
+        answer(unsafe { elltree_slot_another(&mut self.0, &mut other.0) })?;
+        Ok(other)
+    }
+
     /// A tree over these keys and the start keys, which are present with their values. The handle owns all of them. Each change takes a
     /// card, until [`Handle::renew`] makes the cards fresh; [`Handle::cards_left`] tells how many are left. Up to 300,000 cards and start keys
     /// together that takes less than a third of the time for each that it takes above, with glibc.
@@ -215,7 +292,7 @@ impl Handle {
     /// assert_eq!(Handle::open(&[], &[(2, 0), (1, 0)], 1).err(), Some(Refused::BadStart));
     /// ```
     pub fn open(keys: &[u64], start: &[(u64, u64)], cards: u64) -> Result<Handle> {
-        let start: Vec<Pair> = start.iter().map(|&(key, value)| Pair { key, value }).collect();
+        let start = host_pairs(start);
         let mut handle = Handle(EMPTY);
         // SAFETY: the slot holds nothing, and the arrays are as long as said.
         answer(unsafe {
@@ -236,7 +313,7 @@ impl Handle {
     /// with their values or absent as they were. Other handles stay behind in the old tree: [`renew_all`] takes handles along that are to
     /// stay together.
     ///
-    /// `BadStart` if more than [`START_MAX`] keys are present, `BadCards` if the cards are not 1 to [`CARDS_MAX`]: then the handle is where
+    /// `SharedKeys` in a tree of shared keys, `BadStart` if more than [`START_MAX`] keys are present, `BadCards` if the cards are not 1 to [`CARDS_MAX`]: then the handle is where
     /// it was.
     ///
     /// ```
@@ -297,7 +374,7 @@ impl Handle {
         }
     }
 
-    /// The value of a key of the handle's, if the key is present. `Foreign` where the handle does not own the key.
+    /// The value of a key of the handle's own, or of a shared one, if the key is present. `Foreign` where it is neither.
     pub fn find(&mut self, key: u64) -> Result<Option<u64>> {
         let mut value = 0;
         // SAFETY: the slot is this handle's.
@@ -314,16 +391,16 @@ impl Handle {
         Ok(there.then_some(value))
     }
 
-    /// Adds a key of the handle's with its value: whether the key was absent. A key that is present keeps its value.
+    /// Adds a key of the handle's own, or a shared one, with its value: whether the key was absent. A key that is present keeps its value.
     ///
-    /// `NoTries` where no try is allowed, then `Foreign` where the handle does not own the key; `Busy` where something was in the way of each
+    /// `NoTries` where no try is allowed, then `Foreign` where the key is neither; `Busy` where something was in the way of each
     /// try, and `Spent` where all cards are given out: [`Handle::cards_left`] tells how many are left.
     pub fn insert(&mut self, key: u64, value: u64, tries: u32) -> Result<bool> {
         // SAFETY: the slot is this handle's.
         answer(unsafe { elltree_slot_insert(&mut self.0, key, value, tries) })
     }
 
-    /// Takes a key of the handle's away: whether it was present. Refused as an insert is.
+    /// Takes a key of the handle's own, or a shared one, away: whether it was present. Refused as an insert is.
     ///
     /// A value changes by a delete and an insert, two cards: ask [`Handle::cards_left`] before the delete. Until the insert is made the key is
     /// absent, so a `?` that returns by its `Spent` loses the value. Where other handles of the tree may have taken the cards meanwhile, keep
@@ -394,7 +471,7 @@ impl Handle {
         left
     }
 
-    /// The handle's keys that are present, ascending, with their values.
+    /// The keys of the handle's own that are present, ascending, with their values: shared keys are not among them.
     pub fn pairs(&mut self) -> Result<Vec<(u64, u64)>> {
         let mut out = vec![Pair { key: 0, value: 0 }; self.owned()];
         let mut count = 0;
@@ -535,7 +612,7 @@ impl member::HasHandle for Tree {
 /// It takes time for each card and each present key, and about 0.7 microseconds for each key that a member owns. Without members nothing
 /// happens.
 ///
-/// `OtherTree` if the members are of two trees, `BadStart` if more than [`START_MAX`] keys are present in all, `BadCards` if the cards are
+/// `OtherTree` if the members are of two trees, `SharedKeys` if the keys of one are shared, `BadStart` if more than [`START_MAX`] keys are present in all, `BadCards` if the cards are
 /// not 1 to [`CARDS_MAX`]: then each member is where it was.
 ///
 /// ```

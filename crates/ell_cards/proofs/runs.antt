@@ -12,10 +12,26 @@ pub mod Starting
 pub mod OwnSeat
 -- a look goes by nodes that have been on its walk since it began
 pub mod Looking
+-- where the searches of operations come to in runs
+pub mod Searched
+-- the point of each call
+pub mod Points
+-- calls as those of a map
+pub mod AsMap
 -- where looks begin in runs from a start
 pub mod Beginnings
 -- a pass that looks owns what it owned, and reads its own changes
 pub mod OwnLooks
+-- the call that a pass answered last, and its point
+pub mod Answering
+-- the value that a delete took
+pub mod Taking
+-- the keys that passes take for shared
+pub mod Sharing
+-- the shares that the passes of a table have
+pub mod Shares
+-- how a table ends
+pub mod Ending
 -- where turns lead a table, and what they make its steps, splits and joins owe
 pub mod Reaching
 -- laws of each table that turns have led to
@@ -64,3 +80,19 @@ pub mod FewFlags
 pub mod Heights
 -- a small run, in which each step call is made
 pub mod SmallRun
+-- lists of calls with their points, and what one thread that makes them replies
+pub mod LinearizingLists
+-- the states of a run, one after the other
+pub mod LinearizingStates
+-- what a pass has in hand while its call goes on
+pub mod LinearizingCalls
+-- turns by which the tree changes
+pub mod LinearizingTurns
+-- the points of the calls of a run from a start
+pub mod LinearizingPoints
+-- one sequence of the calls of a run
+pub mod Linearizing
+-- what a pass answered last among the calls of a run
+pub mod LinearizingAnswers
+-- calls that were laid down
+pub mod LayingDown

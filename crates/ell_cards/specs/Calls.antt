@@ -13,7 +13,7 @@ use Rattle.ell_core.specs.declared.field.Field.{Field}
 use Rattle.ell_core.specs.declared.field.Field.TheVariants as field
 use Rattle.ell_core.specs.state.Layout.{address}
 use Rattle.ell_core.specs.state.Words.{key_field, value_field, child_field}
-use Rattle.ell_core.specs.state.Machine.{Machine, ledger_of}
+use Rattle.ell_core.specs.state.Machine.{Machine, ledger_of, worker_of}
 use Rattle.ell_core.specs.state.Cards.{iflag, dflag, marked, clean}
 use Rattle.ell_core.specs.acts.Searching.{IsLeaf}
 use Rattle.ell_core.specs.acts.Exchanges.{won_or_lost}
@@ -187,16 +187,16 @@ abbrev pub Becomes : ℕ → Option Act → Stepped → Machine → Machine → 
 Becomes i (Some a) said m m' = Steps m (record { worker = i; act = a }) said m'
 Becomes i None said m m' = m' ≡ m
 
--- the key of a leaf where the pass stands is the operation's exactly where its ledger has that present, and then the leaf has a
--- grandparent
+-- the key of a leaf where the pass stands is the operation's exactly where its ledger has that present, if it has the key, and then the
+-- leaf has a grandparent
 pub record TellsLeaf (v : View) (x key : ℕ) : Type 0 where
-  pub present : (op : Op) → Does v op → StandsAt v x → IsLeaf x
+  pub present : (op : Op) → Does v op → StandsAt v x → IsLeaf x → ledger_of v.worker.ledger (key_of op) ≢ None
       → is_some (contents_in (ledger_of v.worker.ledger) (key_of op)) ≡ (key == key_of op)
   pub deep : (op : Op) → Does v op → StandsAt v x → IsLeaf x → key ≡ key_of op → v.worker.search.grandparent ≢ None
 
--- the value of a leaf where the pass stands, whose key it was told to be the operation's, is that of its ledger
+-- the value of a leaf where the pass stands, whose key it was told to be the operation's, is that of its ledger, if it has the key
 abbrev pub TellsValue : View → ℕ → ℕ → Type 0
-TellsValue v x value = (op : Op) → Does v op → StandsAt v x → v.here ≡ Some (key_of op)
+TellsValue v x value = (op : Op) → Does v op → StandsAt v x → v.here ≡ Some (key_of op) → ledger_of v.worker.ledger (key_of op) ≢ None
     → contents_in (ledger_of v.worker.ledger) (key_of op) ≡ Some value
 
 -- where a card goes is ever deeper: a delete's parent below its grandparent, and a leaf below the parent
@@ -217,7 +217,7 @@ TellsNode cards _ x = Unit {0}
 -- what a call tells of the word that it found
 abbrev pub Tells : ℕ → Call → View → ℕ → Type 0
 Tells cards (call.Answer said) v n =
-    AnswersAsMap (ledger_of v.worker.ledger) (ledger_of (after (call.Answer said) n v).worker.ledger) v.worker.operation said
+    AnswersAsMap (worker_of v.worker) (ledger_of (after (call.Answer said) n v).worker.ledger) said
     × (v.next_at_least ≤ cards + 1)
 Tells cards call.Leave v n = v.next_at_least ≤ cards + 1
 Tells cards (call.Upd x) v n = ((unpacked n).card ≤ cards) × EndWasUnknown v (unpacked n).state (unpacked n).card

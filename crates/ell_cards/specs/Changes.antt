@@ -1,4 +1,4 @@
-use Rattle.std.specs.Prelude.{ℕ, ◌+◌, ◌==◌, ◌++◌, ◌&&◌, if◌then◌else◌, Bool, true, false, Option, Some, None, List, [], ◌∷◌, unwrap_or, nat_lt, max, Result, Ok, Err}
+use Rattle.std.specs.Prelude.{ℕ, ◌+◌, ◌==◌, ◌++◌, ◌&&◌, if◌then◌else◌, Bool, true, false, Option, Some, None, List, [], ◌∷◌, unwrap_or, nat_lt, max, Result, Ok, Err, ◌-◌, ◌%◌, ◌^◌}
 use Rattle.ell_ops.specs.KeySet.{set_of}
 use Rattle.ell_ops.specs.declared.op.Op.{Op}
 use Rattle.ell_ops.specs.declared.op.Op.TheVariants.{Insert, Delete}
@@ -25,11 +25,12 @@ use Rattle.ell_cards.specs.declared.view.Hindrance.{Hindrance}
 use Rattle.ell_cards.specs.declared.view.Hindrance.TheVariants.{Claim, Found}
 use Rattle.ell_cards.specs.declared.view.Looking.{Looking}
 use Rattle.ell_cards.specs.declared.view.View.{View}
-use Rattle.ell_cards.specs.Models.{knows_end}
+use Rattle.ell_cards.specs.Models.{TablePlan, knows_end, whole_share, given_share}
 use Rattle.ell_core.specs.declared.view.Entry.{Entry}
 use Rattle.ell_core.specs.declared.view.Entry.TheVariants.{Present, Absent}
 use Rattle.ell_ops.specs.declared.reply.Reply.{Reply}
 use Rattle.ell_ops.specs.declared.reply.Reply.TheVariants.{Yes}
+use Rattle.ell_cards.specs.declared.view.Answered.{Answered}
 
 -- the facts with the one that an update tells: a flag or a mark that of its card, a clean update none
 abbrev pub facts_by : State → ℕ → List Fact → List Fact
@@ -147,15 +148,18 @@ found_child expected (Ok won) = expected
 found_child expected (Err found) = found
 
 -- a worker with nothing in hand
-abbrev pub idle_worker : List (ℕ × Entry) → List Fact → WorkerView
-idle_worker ledger facts = record { ledger = ledger; operation = None; search = no_search; card = None; flagged = false; facts = facts }
+abbrev pub idle_worker : List (ℕ × Entry) → Option (List ℕ) → List Fact → WorkerView
+idle_worker ledger ownable facts = record { ledger = ledger; ownable = ownable; operation = None; search = no_search; card = None; flagged = false; facts = facts }
 
--- begin: this operation is in hand, and the search stands at the root, which the pass has met; a look is at its end
+-- begin: this operation is in hand, and the search stands at the root, which the pass has met; a look is at its end, and so is what was
+-- answered before
 abbrev pub after_begin : Option Op → View → View
 after_begin op v = record v {
   worker = record (v.worker) { operation = op; search = at_root; card = None; flagged = false };
   told = Met 0 ∷ v.told;
   looking = None;
+  answered = None;
+  laid_down = None;
   here = None;
   next = None;
   planned = [];
@@ -170,16 +174,17 @@ after_begin op v = record v {
 abbrev pub after_again : View → View
 after_again v = record (after_begin v.worker.operation v) { hindrances = given_up v; hindered = tries_hindered v }
 
--- leave: nothing is in hand any more, and the last try is given up as by again
+-- leave: nothing is in hand any more, the operation was laid down, and the last try is given up as by again
 abbrev pub after_leave : View → View
 after_leave v = record v {
-  worker = idle_worker v.worker.ledger v.worker.facts;
+  worker = idle_worker v.worker.ledger v.worker.ownable v.worker.facts;
   here = None;
   planned = [];
   stores = [];
   hindrances = given_up v;
   met = [];
   hindered = tries_hindered v;
+  laid_down = v.worker.operation;
   made = v.made + 1;
 }
 
@@ -194,14 +199,20 @@ answered_ledger (Some (Insert k value)) Yes ledger = with_entry k (Present value
 answered_ledger (Some (Delete k)) Yes ledger = with_entry k Absent ledger
 answered_ledger _ _ ledger = ledger
 
--- answer: nothing is in hand any more, and the ledger goes by the answer
+-- the operation that was in hand, with what is answered to it, and the card that was in hand for it
+abbrev pub answered_so : Option Op → Option ℕ → Reply → Option Answered
+answered_so None card said = None
+answered_so (Some op) card said = Some (record { op = op; said = said; card = card })
+
+-- answer: nothing is in hand any more, the ledger goes by the answer, and the pass has it for its last
 abbrev pub after_answer : Reply → View → View
 after_answer said v = record v {
-  worker = idle_worker (answered_ledger v.worker.operation said v.worker.ledger) v.worker.facts;
+  worker = idle_worker (answered_ledger v.worker.operation said v.worker.ledger) v.worker.ownable v.worker.facts;
   here = None;
   planned = [];
   stores = [];
   answers = v.answers + 1;
+  answered = answered_so v.worker.operation v.worker.card said;
   met = [];
   made = v.made + 1;
 }
@@ -397,10 +408,10 @@ abbrev pub keys_of : List (ℕ × Entry) → List ℕ
 keys_of [] = []
 keys_of (e ∷ es) = e.0 ∷ keys_of es
 
--- a pass with nothing in hand, which has met the root alone
-abbrev pub idle_view : List (ℕ × Entry) → View
-idle_view ledger = record {
-  worker = idle_worker ledger [];
+-- a pass with nothing in hand and this share, which has met the root alone
+abbrev pub idle_view : ℕ → Option (List ℕ) → List (ℕ × Entry) → View
+idle_view share ownable ledger = record {
+  worker = idle_worker ledger ownable [];
   told = Met 0 ∷ [];
   here = None;
   next = None;
@@ -409,6 +420,9 @@ idle_view ledger = record {
   found = None;
   won = [];
   answers = 0;
+  answered = None;
+  laid_down = None;
+  share = share;
   knew_before = [];
   next_at_least = 0;
   hindrances = [];
@@ -421,11 +435,20 @@ idle_view ledger = record {
 
 -- the first pass of a table: it owns all keys, of which the start keys are present with their values, and the others absent
 abbrev pub first_view : List ℕ → List (ℕ × ℕ) → View
-first_view keys start = idle_view (keys_at_start keys start)
+first_view keys start = idle_view whole_share None (keys_at_start keys start)
 
--- what is left of a pass that was joined to another
+-- the keys that may have an owner, if every other key is shared
+abbrev pub ownable_if : Bool → List ℕ → Option (List ℕ)
+ownable_if true keys = Some keys
+ownable_if false keys = None
+
+-- the first pass of a table: it owns the keys of its plan, of which the start keys are present with their values, and the others absent
+abbrev pub first_of : TablePlan → View
+first_of plan = idle_view whole_share (ownable_if plan.shared plan.keys) (keys_at_start plan.keys plan.start)
+
+-- what is left of a pass that was joined to another: it has no share
 abbrev pub spent_view : View
-spent_view = idle_view []
+spent_view = idle_view 0 None []
 
 -- the part of a ledger on these keys
 abbrev pub part_on : List ℕ → List (ℕ × Entry) → List (ℕ × Entry)
@@ -437,10 +460,10 @@ abbrev pub part_off : List ℕ → List (ℕ × Entry) → List (ℕ × Entry)
 part_off keys [] = []
 part_off keys (e ∷ es) = if set_of keys e.0 then part_off keys es else e ∷ part_off keys es
 
--- a part of a pass: these entries of its ledger, nothing in hand, and the facts, what was told and the counts of the pass
-abbrev pub part_view : List (ℕ × Entry) → View → View
-part_view ledger v = record v {
-  worker = idle_worker ledger v.worker.facts;
+-- a part of a pass with this share: these entries of its ledger, nothing in hand, and the facts, what was told and the counts of the pass
+abbrev pub part_view : ℕ → List (ℕ × Entry) → View → View
+part_view share ledger v = record v {
+  worker = idle_worker ledger v.worker.ownable v.worker.facts;
   here = None;
   next = None;
   planned = [];
@@ -448,15 +471,18 @@ part_view ledger v = record v {
   found = None;
   met = [];
   looking = None;
+  answered = None;
+  laid_down = None;
+  share = share;
 }
 
 -- split, the left part: it gets these keys, and keeps the counts and what the pass won; the split is its step
 abbrev pub left_view : List ℕ → View → View
-left_view keys v = record (part_view (part_on keys v.worker.ledger) v) { made = v.made + 1 }
+left_view keys v = record (part_view (v.share - given_share v.share) (part_on keys v.worker.ledger) v) { made = v.made + 1 }
 
--- split, the right part: it gets the other keys
+-- split, the right part: it gets the other keys, and a part of the share
 abbrev pub right_view : List ℕ → View → View
-right_view keys v = record (part_view (part_off keys v.worker.ledger) v) { won = []; answers = 0; hindrances = []; hindered = 0; looks = 0; made = 0 }
+right_view keys v = record (part_view (given_share v.share) (part_off keys v.worker.ledger) v) { won = []; answers = 0; hindrances = []; hindered = 0; looks = 0; made = 0 }
 
 -- an entry put into an ascending ledger at its place, or in place of that of its key
 abbrev pub put_entry : ℕ × Entry → List (ℕ × Entry) → List (ℕ × Entry)
@@ -468,16 +494,21 @@ abbrev pub united : List (ℕ × Entry) → List (ℕ × Entry) → List (ℕ ×
 united [] ds = ds
 united (e ∷ es) ds = put_entry e (united es ds)
 
+-- the first of two lists, if there is one
+abbrev pub first_known : Option (List ℕ) → Option (List ℕ) → Option (List ℕ)
+first_known None other = other
+first_known (Some keys) other = Some keys
+
 -- the later of two readings of the claim word, which only grows
 abbrev pub later : Option ℕ → Option ℕ → Option ℕ
 later None m = m
 later (Some n) None = Some n
 later (Some n) (Some m) = Some (max n m)
 
--- join: one pass with the keys, the facts and the counts of two, what both were told and won, and the later reading of the claim word
+-- join: one pass with the keys, the facts, the shares and the counts of two, what both were told and won, and the later reading of the claim word
 abbrev pub joined_view : View → View → View
 joined_view v w = record {
-  worker = idle_worker (united v.worker.ledger w.worker.ledger) (v.worker.facts ++ w.worker.facts);
+  worker = idle_worker (united v.worker.ledger w.worker.ledger) (first_known v.worker.ownable w.worker.ownable) (v.worker.facts ++ w.worker.facts);
   told = v.told ++ w.told;
   here = None;
   next = later v.next w.next;
@@ -486,6 +517,9 @@ joined_view v w = record {
   found = None;
   won = v.won ++ w.won;
   answers = v.answers + w.answers;
+  answered = None;
+  laid_down = None;
+  share = (v.share + w.share) % 2 ^ 64;
   knew_before = [];
   next_at_least = max v.next_at_least w.next_at_least;
   hindrances = v.hindrances ++ w.hindrances;

@@ -1,4 +1,4 @@
-use Rattle.std.specs.Prelude.{◌≡◌, ◌≢◌, ◌↔◌, ℕ, ◌≤◌, List, length, Some, None, Contains}
+use Rattle.std.specs.Prelude.{◌≡◌, ◌≢◌, ◌↔◌, ℕ, ◌≤◌, ◌⊎◌, List, length, Some, None, Contains}
 use mathlib.Core.Option.{some}
 use lib.ListN.{get_elem?}
 use Rattle.ell_word.specs.Node.{card, IsInternal}
@@ -9,39 +9,40 @@ use Rattle.ell_core.specs.acts.Searching.{IsClean}
 use Rattle.ell_core.specs.tree.Tree.{Reached, IsTreeKey, IsTreePair, IsLawful}
 use Rattle.ell_cards.specs.declared.view.View.{View}
 use Rattle.ell_cards.specs.States.{TableState}
-use Rattle.ell_cards.specs.Starts.{IsReached, RunFromStart}
+use Rattle.ell_cards.specs.Starts.{IsReached, IsSharedIn, RunFromStart}
 use Rattle.ell_core.specs.declared.view.Entry.{Entry}
 use Rattle.ell_core.specs.declared.view.Entry.TheVariants.{Present}
+use Rattle.ell_cards.specs.Models.{TablePlan}
 
 -- the words of a table that has ended, and how many cards it has beside card 0
 pub record ClosedModel : Type 0 where
   pub words : List ℕ
   pub last_card : ℕ
 
--- the tree of the words of a closed table, which a pass closed that owned all keys with this ledger: it is lawful, its nodes are
--- of the table, its update words are clean, and its keys with their values are those of the ledger that are present; the ledger has
--- keys of the table alone
-pub record ShowsMap (keys : List ℕ) (ledger : List (ℕ × Entry)) (t : ClosedModel) : Type 0 where
+-- the tree of the words of a closed table, which a pass closed that owned all keys of the plan with this ledger: it is lawful, its nodes are
+-- of the table, its update words are clean, and its keys are of the plan or shared; of the plan's keys those are there, with their values, that
+-- the ledger has present; the ledger has keys of the plan alone
+pub record ShowsMap (plan : TablePlan) (ledger : List (ℕ × Entry)) (t : ClosedModel) : Type 0 where
   pub size : length t.words ≡ table_size t.last_card
   pub tree : IsLawful (words_of t.words)
   pub nodes : (x : ℕ) → Reached (words_of t.words) x → card x ≤ t.last_card
   pub clean : (x : ℕ) → Reached (words_of t.words) x → IsInternal x → IsClean ((words_of t.words).update x)
-  pub owned : (key : ℕ) → IsTreeKey (words_of t.words) key → Contains keys key
-  pub listed : (key : ℕ) → ledger_of ledger key ≢ None → Contains keys key
-  pub present : (key value : ℕ) → Contains keys key
+  pub owned : (key : ℕ) → IsTreeKey (words_of t.words) key → Contains plan.keys key ⊎ IsSharedIn plan key
+  pub listed : (key : ℕ) → ledger_of ledger key ≢ None → Contains plan.keys key
+  pub present : (key value : ℕ) → Contains plan.keys key
       → IsTreePair (words_of t.words) key value ↔ (ledger_of ledger key ≡ Some (Present value))
 
 -- the words of a table that has ended are those of a last state, to which turns of its passes have led from its start, and in which a
 -- seat has this view; what such a run does, that run did
-pub record TableRan (keys : List ℕ) (start : List (ℕ × ℕ)) (v : View) (t : ClosedModel) : Type 0 where
+pub record TableRan (plan : TablePlan) (v : View) (t : ClosedModel) : Type 0 where
   pub state : TableState
   pub seat : ℕ
   pub same : state.words ≡ t.words
   pub seen : get_elem? state.views seat ≡ some v
-  pub reached : IsReached keys start t.last_card state
-  pub did : RunFromStart start t.last_card reached.first reached.turns state reached.run
+  pub reached : IsReached plan state
+  pub did : RunFromStart plan reached.first reached.turns state reached.run
 
 -- how a table ends, by a pass that knows this: by a run from its start, with a tree that shows the pass's ledger
-pub record TableEnds (keys : List ℕ) (start : List (ℕ × ℕ)) (v : View) (t : ClosedModel) : Type 0 where
-  pub ran : TableRan keys start v t
-  pub shows : ShowsMap keys v.worker.ledger t
+pub record TableEnds (plan : TablePlan) (v : View) (t : ClosedModel) : Type 0 where
+  pub ran : TableRan plan v t
+  pub shows : ShowsMap plan v.worker.ledger t

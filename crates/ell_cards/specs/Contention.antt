@@ -5,6 +5,7 @@ use Rattle.ell_cards.specs.declared.view.View.{View}
 use Rattle.ell_cards.specs.TurnEffects.{own_words}
 use Rattle.ell_core.specs.state.Opening.{last_card}
 use Rattle.ell_cards.specs.Meanwhile.{SearchRun}
+use Rattle.ell_cards.specs.Models.{TablePlan}
 
 -- of how many of the numbers below one this is so
 abbrev pub how_many : ℕ → (ℕ → Bool) → ℕ
@@ -22,8 +23,8 @@ has_claimed (win ∷ wins) c = (is_claim win.0 && (c == win.1)) || has_claimed w
 
 -- how many cards were given out in a run to others than the pass that searches: those that were below the claim word only at the end, and
 -- that it has not claimed itself
-abbrev pub given_to_others : (keys : List ℕ) (start : List (ℕ × ℕ)) (cards : ℕ) → SearchRun keys start cards → ℕ
-given_to_others keys start cards r =
+abbrev pub given_to_others : (plan : TablePlan) → SearchRun plan → ℕ
+given_to_others plan r =
     how_many (own_words r.now).next (λ c. nat_le (own_words r.begun).next c && not (has_claimed r.view.won c))
 
 -- how many passes have a card in hand
@@ -34,11 +35,11 @@ cards_in_hand (v ∷ vs) = (if is_some v.worker.card then 1 else 0) + cards_in_h
 -- of the tries that a pass has given up since it took its operation in hand, because of something that was in the way and is over, there are
 -- at most so many: two for each card that was given out to another pass meanwhile, and one for each that some pass had in hand at the beginning
 abbrev pub TriesAreHinderedByOthers : Type 0
-TriesAreHinderedByOthers = (keys : List ℕ) (start : List (ℕ × ℕ)) (cards : ℕ) (r : SearchRun keys start cards)
-    → r.view.hindered ≤ r.begins.view.hindered + (2 * given_to_others keys start cards r + cards_in_hand r.begun.views)
+TriesAreHinderedByOthers = (plan : TablePlan) (r : SearchRun plan)
+    → r.view.hindered ≤ r.begins.view.hindered + (2 * given_to_others plan r + cards_in_hand r.begun.views)
 
 -- so many tries are no more than that, in every run of a table with these keys, start keys and this last card in which a pass now knows this
 -- and had given up so many before it took its operation in hand
-pub record AreHinderedByOthers (keys : List ℕ) (start : List (ℕ × ℕ)) (last before : ℕ) (v : View) (tries : ℕ) : Type 0 where
-  pub few : (cards : ℕ) → last_card start cards ≡ last → (r : SearchRun keys start cards) → r.view ≡ v → r.begins.view.hindered ≡ before
-      → tries ≤ 2 * given_to_others keys start cards r + cards_in_hand r.begun.views
+pub record AreHinderedByOthers (plan : TablePlan) (before : ℕ) (v : View) (tries : ℕ) : Type 0 where
+  pub few : (r : SearchRun plan) → r.view ≡ v → r.begins.view.hindered ≡ before
+      → tries ≤ 2 * given_to_others plan r + cards_in_hand r.begun.views

@@ -9,7 +9,7 @@ use Rattle.ell_core.specs.declared.fact.Fact.TheVariants.{IFlagged, IChanged, IO
 use Rattle.ell_core.specs.declared.field.Field.{Field}
 use Rattle.ell_core.specs.declared.field.Field.TheVariants as field
 use Rattle.ell_core.specs.declared.view.Seen.{Seen}
-use Rattle.ell_core.specs.state.Machine.{ledger_of}
+use Rattle.ell_core.specs.state.Machine.{worker_of}
 use Rattle.ell_core.specs.state.Cards.{stored}
 use Rattle.ell_core.specs.acts.Searching.{IsLeaf, IsClean, leaf_answer}
 use Rattle.ell_cards.specs.declared.view.Told.TheVariants.{Met, Key, Value, Info, Frozen}
@@ -18,11 +18,12 @@ use Rattle.ell_cards.specs.declared.view.View.{View}
 use Rattle.ell_cards.specs.Models.{IsTold, Knows, KnowsCard, Does, StandsAt, IsFree, stored_at}
 use Rattle.ell_ops.specs.declared.reply.Reply.{Reply}
 use Rattle.ell_ops.specs.declared.reply.Reply.TheVariants.{Yes}
+use Rattle.ell_core.specs.soundness.Sound.{MayChange}
 
--- begin: nothing is in hand, and the key is owned
+-- begin: nothing is in hand, and the key is owned, or shared
 pub record MayBegin (v : View) (op : Op) : Type 0 where
   pub free : IsFree v
-  pub owned : ledger_of v.worker.ledger (key_of op) ≢ None
+  pub owned : MayChange (worker_of v.worker) (key_of op)
 
 -- again and leave: an operation is in hand, and its card, if that is flagged, is known backed
 pub record MayStop (v : View) : Type 0 where

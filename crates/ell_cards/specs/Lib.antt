@@ -46,6 +46,18 @@ pub mod Laws
 pub mod Runs
 -- what runs of a table win for each card, after what its machine won
 pub mod RunLaws
+-- the shares that the passes of a table have
+pub mod Sharing
+-- calls, and the point at which each takes effect
+pub mod Changing
+-- one sequence of the calls of a run, which replies as they do
+pub mod Linearizing
+-- the point of the call that a pass answered last
+pub mod Answering
+-- the value that a delete took
+pub mod Taking
+-- calls that were laid down
+pub mod LayingDown
 -- what its public clauses cite of the crates below
 pub use Rattle.ell_ops.specs.KeySet
 pub use Rattle.ell_ops.specs.Meaning

@@ -11,7 +11,7 @@ use Rattle.ell_cards.specs.declared.call.Call.{Call}
 use Rattle.ell_cards.specs.declared.call.Call.TheVariants as call
 use Rattle.ell_cards.specs.declared.view.Told.TheVariants.{Key}
 use Rattle.ell_cards.specs.declared.view.View.{View}
-use Rattle.ell_cards.specs.Models.{IsTold}
+use Rattle.ell_cards.specs.Models.{TablePlan, IsTold}
 use Rattle.ell_cards.specs.Guards.{TellsOf}
 use Rattle.ell_cards.specs.States.{TableState}
 use Rattle.ell_cards.specs.Turns.{Turn, Makes, Splits, Joins, CallIsMade, TableRun}
@@ -73,27 +73,27 @@ pub record FoundInRun (cards : ℕ) (s : TableState) (turns : List Turn) (s' : T
   pub began : Began cards s turns s' seat key
   pub so : WasSo cards began.to (drop (suc began.first) turns) s' key there
 
--- so it is in every run of a table with these keys, start keys and this last card, from its start to a state in which a pass knows this
-abbrev pub IsFoundInRuns : List ℕ → List (ℕ × ℕ) → ℕ → View → ℕ → Option ℕ → Type 0
-IsFoundInRuns keys start last v key there = (cards : ℕ) (s : TableState) → last_card start cards ≡ last → Starts keys start cards s
-    → (turns : List Turn) (s' : TableState) → TableRun last s turns s' → (seat : ℕ) → get_elem? s'.views seat ≡ some v
-    → FoundInRun last s turns s' seat key there
+-- so it is in every run of a table with this plan, from its start to a state in which a pass knows this
+abbrev pub IsFoundInRuns : TablePlan → View → ℕ → Option ℕ → Type 0
+IsFoundInRuns plan v key there = (s : TableState) → Starts plan s
+    → (turns : List Turn) (s' : TableState) → TableRun plan.last_card s turns s' → (seat : ℕ) → get_elem? s'.views seat ≡ some v
+    → FoundInRun plan.last_card s turns s' seat key there
 
 -- what any pass has found by its last look for any key, whoever owns it, whatever turns of whatever passes came meanwhile
 abbrev pub LooksAreOfOneState : Type 0
-LooksAreOfOneState = (keys : List ℕ) (start : List (ℕ × ℕ)) (last : ℕ) (v : View) (key : ℕ) (there : Option ℕ) → HasFound v key there
-    → IsFoundInRuns keys start last v key there
+LooksAreOfOneState = (plan : TablePlan) (v : View) (key : ℕ) (there : Option ℕ) → HasFound v key there
+    → IsFoundInRuns plan v key there
 
 -- two looks, by one pass or by two, of one key or of two, of which the second began after the first had come to its end: the first
 -- found what was so before the second began, and the second what was so since
 abbrev pub LooksAreInOrder : Type 0
-LooksAreInOrder = (keys : List ℕ) (start : List (ℕ × ℕ)) (cards : ℕ) (s : TableState) → Starts keys start cards s
-    → (turns : List Turn) (ended : TableState) → TableRun (last_card start cards) s turns ended
+LooksAreInOrder = (plan : TablePlan) (s : TableState) → Starts plan s
+    → (turns : List Turn) (ended : TableState) → TableRun plan.last_card s turns ended
     → (seat : ℕ) (v : View) → get_elem? ended.views seat ≡ some v → (key : ℕ) (there : Option ℕ) → HasFound v key there
-    → (other next : ℕ) (begun : TableState) → CallIsMade (last_card start cards) ended other (call.LookFor next) begun
-    → (more : List Turn) (s' : TableState) → TableRun (last_card start cards) begun more s' → LooksOn other more
+    → (other next : ℕ) (begun : TableState) → CallIsMade plan.last_card ended other (call.LookFor next) begun
+    → (more : List Turn) (s' : TableState) → TableRun plan.last_card begun more s' → LooksOn other more
     → (w : View) → get_elem? s'.views other ≡ some w → (there' : Option ℕ) → HasFound w next there'
-    → FoundInRun (last_card start cards) s turns ended seat key there × WasSo (last_card start cards) begun more s' next there'
+    → FoundInRun plan.last_card s turns ended seat key there × WasSo plan.last_card begun more s' next there'
 
 -- what a pass has found by a look for a key of its own is what its ledger has: it reads its own changes
 abbrev pub ReadsItsOwn : View → Type 0
@@ -102,5 +102,5 @@ ReadsItsOwn v = (key : ℕ) (there : Option ℕ) → HasFound v key there → le
 
 -- so does each pass, wherever turns have led a table
 abbrev pub LooksReadTheirOwn : Type 0
-LooksReadTheirOwn = (keys : List ℕ) (start : List (ℕ × ℕ)) (last : ℕ) (s : TableState) → IsReached keys start last s → (seat : ℕ) (v : View)
+LooksReadTheirOwn = (plan : TablePlan) (s : TableState) → IsReached plan s → (seat : ℕ) (v : View)
     → get_elem? s.views seat ≡ some v → ReadsItsOwn v

@@ -1,4 +1,4 @@
-use Rattle.std.specs.Prelude.{◌≡◌, ℕ, ◌<◌, ◌≤◌, Bool, true, false, List, length, slice_index, Some, Contains}
+use Rattle.std.specs.Prelude.{◌≡◌, ℕ, ◌<◌, ◌≤◌, Bool, true, false, List, length, slice_index, Some, Contains, None}
 use mathlib.Core.Option.{some}
 use lib.ListN.{get_elem?}
 use Rattle.ell_ops.specs.declared.op.Op.{Op}
@@ -61,10 +61,14 @@ pub record ViewHolds (words : List ℕ) (w : Words) (stage : Stages) (v : View) 
   pub knew : (f : Fact) → KnewBefore v f → Knows v f
   pub walk : (op : Op) (x : ℕ) → v.worker.operation ≡ Some op → v.worker.search.node ≡ Some x → Avoids w (over_before v) (key_of op) x
 
--- a state of a table with these keys and so many cards has a machine that the invariant holds of: its workers are the passes; the
--- table has its claim word, and its words at every card that does not wait for its flag; what passes know holds; and every key that
--- a pass owns is one of the table's. So while a pass fills card 3, the machine has card 3 whole and the table what
--- was stored of it, and at every other card that won its flag the two are alike
+-- no pass of a table takes any key for shared
+abbrev pub NobodyShares : TableState → Type 0
+NobodyShares s = (j : ℕ) (v : View) → get_elem? s.views j ≡ some v → v.worker.ownable ≡ None
+
+-- a state of a table with these keys and so many cards has a machine that the invariant holds of: its workers are the passes; the table has its claim
+-- word, and its words at every card that does not wait for its flag; what passes know holds; and every key that a pass owns is one of the table's,
+-- and so is each that it knows may have an owner. So while a pass fills card 3, the machine has card 3 whole and the table what was stored of it, and
+-- at every other card that won its flag the two are alike
 pub record HasMachine (keys : List ℕ) (cards : ℕ) (s : TableState) : Type 0 where
   pub words : Words
   pub stages : Stages
@@ -74,3 +78,4 @@ pub record HasMachine (keys : List ℕ) (cards : ℕ) (s : TableState) : Type 0 
   pub settled : (c : ℕ) (f : Field) → waits (stages c) ≡ false → listed s.words c f ≡ word words c f
   pub views : (j : ℕ) (v : View) → get_elem? s.views j ≡ some v → ViewHolds s.words words stages v
   pub owned : (j k : ℕ) (v : View) → get_elem? s.views j ≡ some v → WorkerOwns (worker_of v.worker) k → Contains keys k
+  pub listed : (j : ℕ) (v : View) (list : List ℕ) → get_elem? s.views j ≡ some v → v.worker.ownable ≡ Some list → list ≡ keys

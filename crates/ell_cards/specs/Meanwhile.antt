@@ -13,7 +13,7 @@ use Rattle.ell_cards.specs.declared.call.Call.TheVariants as call
 use Rattle.ell_cards.specs.declared.view.Hindrance.{Hindrance}
 use Rattle.ell_cards.specs.declared.view.Hindrance.TheVariants.{Claim, Found}
 use Rattle.ell_cards.specs.declared.view.View.{View}
-use Rattle.ell_cards.specs.Models.{EndedBy}
+use Rattle.ell_cards.specs.Models.{TablePlan, EndedBy}
 use Rattle.ell_cards.specs.Changes.{way_now}
 use Rattle.ell_cards.specs.States.{TableState}
 use Rattle.ell_cards.specs.Turns.{Turn, Makes, Splits, Joins, CallIsMade, TableRun}
@@ -65,54 +65,54 @@ SearchesBeginThere = (cards : ℕ) (s : TableState) (seat : ℕ) (c : Call) (s' 
 
 -- a run of a table from its start: it leads to a state where the pass in a seat begins a search, and then goes on by any turns of any
 -- passes, while that pass takes no other operation in hand: it may begin its search anew, again and again, and lay its operation down
-pub record SearchRun (keys : List ℕ) (start : List (ℕ × ℕ)) (cards : ℕ) : Type 0 where
+pub record SearchRun (plan : TablePlan) : Type 0 where
   pub opened : TableState
-  pub starts : Starts keys start cards opened
+  pub starts : Starts plan opened
   pub before : List Turn
   pub begun : TableState
-  pub led : TableRun (last_card start cards) opened before begun
+  pub led : TableRun plan.last_card opened before begun
   pub seat : ℕ
   pub begins : BeginsHere begun seat
   pub meanwhile : List Turn
   pub now : TableState
-  pub run : TableRun (last_card start cards) begun meanwhile now
+  pub run : TableRun plan.last_card begun meanwhile now
   pub keeps : KeepOn seat meanwhile
   pub view : View
   pub there : get_elem? now.views seat ≡ some view
 
 -- whether what a card was for had come to its end when the search began
-abbrev pub ended_before : (keys : List ℕ) (start : List (ℕ × ℕ)) (cards : ℕ) → SearchRun keys start cards → ℕ → Bool
-ended_before keys start cards r c = has_end (run_wins (last_card start cards) r.opened r.before r.begun r.led c)
+abbrev pub ended_before : (plan : TablePlan) → SearchRun plan → ℕ → Bool
+ended_before plan r c = has_end (run_wins plan.last_card r.opened r.before r.begun r.led c)
 
 -- whether it has come to its end since
-abbrev pub ended_since : (keys : List ℕ) (start : List (ℕ × ℕ)) (cards : ℕ) → SearchRun keys start cards → ℕ → Bool
-ended_since keys start cards r c = has_end (run_wins (last_card start cards) r.begun r.meanwhile r.now r.run c)
+abbrev pub ended_since : (plan : TablePlan) → SearchRun plan → ℕ → Bool
+ended_since plan r c = has_end (run_wins plan.last_card r.begun r.meanwhile r.now r.run c)
 
 -- a card had not ended when the search began; and if the pass knows now that it has, then that was since
-pub record EndsMeanwhile (keys : List ℕ) (start : List (ℕ × ℕ)) (cards : ℕ) (r : SearchRun keys start cards) (c : ℕ) : Type 0 where
-  pub before : ended_before keys start cards r c ≡ false
-  pub since : EndedBy r.view.worker.facts c → ended_since keys start cards r c ≡ true
+pub record EndsMeanwhile (plan : TablePlan) (r : SearchRun plan) (c : ℕ) : Type 0 where
+  pub before : ended_before plan r c ≡ false
+  pub since : EndedBy r.view.worker.facts c → ended_since plan r c ≡ true
 
 -- an update word is clean, or of such a card
-abbrev pub WordEndsMeanwhile : (keys : List ℕ) (start : List (ℕ × ℕ)) (cards : ℕ) → SearchRun keys start cards → ℕ → Type 0
-WordEndsMeanwhile keys start cards r word = (unpacked word).state ≢ state.Clean → EndsMeanwhile keys start cards r (unpacked word).card
+abbrev pub WordEndsMeanwhile : (plan : TablePlan) → SearchRun plan → ℕ → Type 0
+WordEndsMeanwhile plan r word = (unpacked word).state ≢ state.Clean → EndsMeanwhile plan r (unpacked word).card
 
 -- so is each update word that its search has read and has with it: where it stands, at the parent, at the grandparent
-pub record ReadsMeanwhile (keys : List ℕ) (start : List (ℕ × ℕ)) (cards : ℕ) (r : SearchRun keys start cards) : Type 0 where
-  pub here : (x word : ℕ) → r.view.worker.search.node ≡ Some x → r.view.worker.search.read ≡ Some word → WordEndsMeanwhile keys start cards r word
-  pub parent : (seen : Seen) → r.view.worker.search.parent ≡ Some seen → WordEndsMeanwhile keys start cards r seen.word
-  pub grandparent : (seen : Seen) → r.view.worker.search.grandparent ≡ Some seen → WordEndsMeanwhile keys start cards r seen.word
+pub record ReadsMeanwhile (plan : TablePlan) (r : SearchRun plan) : Type 0 where
+  pub here : (x word : ℕ) → r.view.worker.search.node ≡ Some x → r.view.worker.search.read ≡ Some word → WordEndsMeanwhile plan r word
+  pub parent : (seen : Seen) → r.view.worker.search.parent ≡ Some seen → WordEndsMeanwhile plan r seen.word
+  pub grandparent : (seen : Seen) → r.view.worker.search.grandparent ≡ Some seen → WordEndsMeanwhile plan r seen.word
 
 -- what was in the way is of this time: a claim was lost of a card that was given out since; or an update was found of a card that is given
 -- out by now, had not ended when the search began, and has since, where the update is a clean one, or the pass knows now that it has
-abbrev pub IsMeanwhile : (keys : List ℕ) (start : List (ℕ × ℕ)) (cards : ℕ) → SearchRun keys start cards → Hindrance → Type 0
-IsMeanwhile keys start cards r (Claim c) = ((own_words r.begun).next ≤ c) × (c < (own_words r.now).next)
-IsMeanwhile keys start cards r (Found u) =
-    EndsMeanwhile keys start cards r u.card × (u.state ≡ state.Clean → ended_since keys start cards r u.card ≡ true) × (u.card < (own_words r.now).next)
+abbrev pub IsMeanwhile : (plan : TablePlan) → SearchRun plan → Hindrance → Type 0
+IsMeanwhile plan r (Claim c) = ((own_words r.begun).next ≤ c) × (c < (own_words r.now).next)
+IsMeanwhile plan r (Found u) =
+    EndsMeanwhile plan r u.card × (u.state ≡ state.Clean → ended_since plan r u.card ≡ true) × (u.card < (own_words r.now).next)
 
-abbrev pub AreMeanwhile : (keys : List ℕ) (start : List (ℕ × ℕ)) (cards : ℕ) → SearchRun keys start cards → List Hindrance → Type 0
-AreMeanwhile keys start cards r [] = Unit {0}
-AreMeanwhile keys start cards r (h ∷ hs) = IsMeanwhile keys start cards r h × AreMeanwhile keys start cards r hs
+abbrev pub AreMeanwhile : (plan : TablePlan) → SearchRun plan → List Hindrance → Type 0
+AreMeanwhile plan r [] = Unit {0}
+AreMeanwhile plan r (h ∷ hs) = IsMeanwhile plan r h × AreMeanwhile plan r hs
 
 -- each of these is of another card than this: a lost claim of an earlier one
 abbrev pub AreOfOthers : ℕ → List Hindrance → Type 0
@@ -123,22 +123,22 @@ AreOfOthers c (Found u ∷ hs) = (u.card ≢ c) × AreOfOthers c hs
 -- so is all that came to be in the way since that search began, in as many tries as there were: what a lost claim, flag or mark has
 -- found, and what the search of a try that was given up had read where it was to act. What the try in hand met is the last of it. While
 -- a card is in hand, none of it is of that card, and what the search has read is not in the way
-pub record MetMeanwhile (keys : List ℕ) (start : List (ℕ × ℕ)) (cards : ℕ) (r : SearchRun keys start cards) : Type 0 where
+pub record MetMeanwhile (plan : TablePlan) (r : SearchRun plan) : Type 0 where
   pub met : List Hindrance
   pub list : r.view.hindrances ≡ met ++ r.begins.view.hindrances
   pub earlier : List Hindrance
   pub tries : met ≡ r.view.met ++ earlier
-  pub each : AreMeanwhile keys start cards r met
+  pub each : AreMeanwhile plan r met
   pub own : (c : ℕ) → r.view.worker.card ≡ Some c → AreOfOthers c met
   pub free : (c : ℕ) → r.view.worker.card ≡ Some c → way_now r.view ≡ []
 
 -- what a search has read since it began, in every run
 abbrev pub SearchesReadMeanwhile : Type 0
-SearchesReadMeanwhile = (keys : List ℕ) (start : List (ℕ × ℕ)) (cards : ℕ) (r : SearchRun keys start cards) → ReadsMeanwhile keys start cards r
+SearchesReadMeanwhile = (plan : TablePlan) (r : SearchRun plan) → ReadsMeanwhile plan r
 
 -- and what came to be in its way
 abbrev pub SearchesMeetMeanwhile : Type 0
-SearchesMeetMeanwhile = (keys : List ℕ) (start : List (ℕ × ℕ)) (cards : ℕ) (r : SearchRun keys start cards) → MetMeanwhile keys start cards r
+SearchesMeetMeanwhile = (plan : TablePlan) (r : SearchRun plan) → MetMeanwhile plan r
 
 -- what a pass knows of moves was made in a run: the cards that its claims have shown to be given out are, and each card that it knows to
 -- have come to its end did so
@@ -148,6 +148,6 @@ pub record KnowsWhatMoved (cards : ℕ) (first : TableState) (turns : List Turn)
 
 -- so it is of each pass after every run from a start
 abbrev pub KnownMovesWereMade : Type 0
-KnownMovesWereMade = (keys : List ℕ) (start : List (ℕ × ℕ)) (cards : ℕ) (first : TableState) → Starts keys start cards first → (turns : List Turn) (s : TableState)
-    (run : TableRun (last_card start cards) first turns s) (seat : ℕ) (v : View) → get_elem? s.views seat ≡ some v
-    → KnowsWhatMoved (last_card start cards) first turns s run v
+KnownMovesWereMade = (plan : TablePlan) (first : TableState) → Starts plan first → (turns : List Turn) (s : TableState)
+    (run : TableRun plan.last_card first turns s) (seat : ℕ) (v : View) → get_elem? s.views seat ≡ some v
+    → KnowsWhatMoved plan.last_card first turns s run v

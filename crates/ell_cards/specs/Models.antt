@@ -1,4 +1,4 @@
-use Rattle.std.specs.Prelude.{◌≡◌, ◌≢◌, ℕ, ◌⊎◌, ◌+◌, ◌<◌, ◌≤◌, ◌*◌, ◌==◌, ◌||◌, if◌then◌else◌, Bool, true, Some, None, List, [], ◌∷◌, min}
+use Rattle.std.specs.Prelude.{◌≡◌, ◌≢◌, ℕ, ◌⊎◌, ◌+◌, ◌<◌, ◌≤◌, ◌*◌, ◌==◌, ◌||◌, ◌/◌, nat_le, if◌then◌else◌, Bool, true, Some, None, List, [], ◌∷◌, min}
 use Rattle.atomic_table.specs.Seated.{TableId}
 use Rattle.ell_ops.specs.declared.op.Op.{Op}
 use Rattle.ell_word.specs.Node.{most_cards}
@@ -12,15 +12,24 @@ use Rattle.ell_core.specs.state.Facts.{known_of}
 use Rattle.ell_core.specs.state.Machine.{Ledger, ledger_of}
 use Rattle.ell_cards.specs.declared.fault.CardFault.{CardFault}
 use Rattle.ell_cards.specs.declared.fault.CardFault.TheVariants.{BadCards, NoMemory}
+use Rattle.ell_cards.specs.declared.fault.SplitFault.{SplitFault}
+use Rattle.ell_cards.specs.declared.fault.SplitFault.TheVariants.{TooManyPasses}
+use Rattle.ell_cards.specs.declared.fault.SplitFault.TheVariants as split_fault
 use Rattle.ell_cards.specs.declared.view.Told.{Told}
 use Rattle.ell_cards.specs.declared.view.View.{View}
 
--- which table it is, the keys that its passes own, the start keys with their values, and the number of its last card
-pub record TableModel : Type 0 where
-  pub id : TableId
+-- what a table is opened with: the keys that may have owners, the start keys with their values, the number of the last card, and whether
+-- every other key is shared
+pub record TablePlan : Type 0 where
   pub keys : List ℕ
   pub start : List (ℕ × ℕ)
   pub last_card : ℕ
+  pub shared : Bool
+
+-- which table it is, and what it was opened with
+pub record TableModel : Type 0 where
+  pub id : TableId
+  pub plan : TablePlan
 
 -- the table that a pass belongs to, what it knows, the atomic steps made through it, and its label
 pub record PassModel : Type 0 where
@@ -36,6 +45,18 @@ ledger p = ledger_of p.view.worker.ledger
 -- a pass owns a key
 abbrev pub Owns : PassModel → ℕ → Type 0
 Owns p key = ledger p key ≢ None
+
+-- the whole share of a table, which its first pass has
+abbrev pub whole_share : ℕ
+whole_share = 4611686018427387904
+
+-- the part of a share that a split gives away: of a great one little, so that one pass may part often; else half
+abbrev pub given_share : ℕ → ℕ
+given_share n = if nat_le 4294967296 n then n / 65536 else n / 2
+
+-- a pass may be parted: where some keys are shared, each part gets a share
+abbrev pub MayPart : View → Type 0
+MayPart v = v.worker.ownable ≢ None → 2 ≤ v.share
 
 -- one step more, but no more than 64 bits hold
 abbrev pub one_more : ℕ → ℕ
@@ -102,6 +123,11 @@ InTable cards x = x ≤ 3 * cards + 2
 abbrev pub stored_at : List (Field × ℕ) → Field → ℕ
 stored_at [] f = 0
 stored_at (e ∷ es) f = if place e.0 == place f then e.1 else stored_at es f
+
+-- when a pass is not parted: for its share exactly where that may not be
+abbrev pub SplitRefuses : View → SplitFault → Type 0
+SplitRefuses v TooManyPasses = ¬ MayPart v
+SplitRefuses v split_fault.NoMemory = MayPart v
 
 -- so many cards may be asked for
 abbrev pub IsCardCount : ℕ → Type 0

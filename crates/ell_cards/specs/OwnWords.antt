@@ -12,41 +12,41 @@ use Rattle.ell_core.specs.tree.Tree.{Reached, IsTreeKey, IsTreePair}
 use Rattle.ell_core.specs.history.Later.{SameNode}
 use Rattle.ell_cards.specs.declared.call.Call.{Call}
 use Rattle.ell_cards.specs.declared.view.View.{View}
-use Rattle.ell_cards.specs.Models.{IsFree}
+use Rattle.ell_cards.specs.Models.{TablePlan, IsFree}
 use Rattle.ell_cards.specs.Calls.{word_of, atomic_of, is_won, May}
 use Rattle.ell_cards.specs.States.{TableState}
 use Rattle.ell_cards.specs.Turns.{Turn, TableRun, found_by, view_after, state_after}
 use Rattle.ell_cards.specs.TurnEffects.{own_words, own_machine, PairsChangeBy, LedgerChangesBy, ChangeIsOf}
-use Rattle.ell_cards.specs.Starts.{IsReached}
+use Rattle.ell_cards.specs.Starts.{IsReached, IsSharedIn}
 
 -- wherever turns have led a table, its own words, with what its passes know, are a sound state
 abbrev pub OwnWordsAreSound : Type 0
-OwnWordsAreSound = (keys : List ℕ) (start : List (ℕ × ℕ)) (cards : ℕ) (s : TableState) → IsReached keys start cards s → IsSound (own_machine cards s)
+OwnWordsAreSound = (plan : TablePlan) (s : TableState) → IsReached plan s → IsSound (own_machine plan.last_card s)
 
 -- the word that a step call touches is one of the table
 abbrev pub StepsStayInside : Type 0
-StepsStayInside = (keys : List ℕ) (start : List (ℕ × ℕ)) (cards : ℕ) (s : TableState) → IsReached keys start cards s → (id : ℕ) (v : View) (c : Call)
-    → get_elem? s.views id ≡ some v → May cards c v → word_of c < length s.words
+StepsStayInside = (plan : TablePlan) (s : TableState) → IsReached plan s → (id : ℕ) (v : View) (c : Call)
+    → get_elem? s.views id ≡ some v → May plan.last_card c v → word_of c < length s.words
 
 -- each step call of each pass changes the pairs of the tree that the table's own words make as that call does
 abbrev pub TablePairsChangeAtWins : Type 0
-TablePairsChangeAtWins = (keys : List ℕ) (start : List (ℕ × ℕ)) (cards : ℕ) (s : TableState) → IsReached keys start cards s → (id : ℕ) (v : View) (c : Call)
-    → get_elem? s.views id ≡ some v → May cards c v
+TablePairsChangeAtWins = (plan : TablePlan) (s : TableState) → IsReached plan s → (id : ℕ) (v : View) (c : Call)
+    → get_elem? s.views id ≡ some v → May plan.last_card c v
     → PairsChangeBy c (is_won (atomic_of c) (found_by s c)) (own_words s) (own_words (state_after s id v c))
 
 -- a won child exchange of each pass, which may be another's helper, is of an operation that some pass has in hand
 abbrev pub TableChangesAreOperations : Type 0
-TableChangesAreOperations = (keys : List ℕ) (start : List (ℕ × ℕ)) (cards : ℕ) (s : TableState) → IsReached keys start cards s → (id : ℕ) (v : View) (c : Call)
-    → get_elem? s.views id ≡ some v → May cards c v → ChangeIsOf c (is_won (atomic_of c) (found_by s c)) s
+TableChangesAreOperations = (plan : TablePlan) (s : TableState) → IsReached plan s → (id : ℕ) (v : View) (c : Call)
+    → get_elem? s.views id ≡ some v → May plan.last_card c v → ChangeIsOf c (is_won (atomic_of c) (found_by s c)) s
 
 -- each step call of each pass changes its ledger as that call does
 abbrev pub TableAnswersAreTheMaps : Type 0
-TableAnswersAreTheMaps = (keys : List ℕ) (start : List (ℕ × ℕ)) (cards : ℕ) (s : TableState) → IsReached keys start cards s → (id : ℕ) (v : View) (c : Call)
-    → get_elem? s.views id ≡ some v → May cards c v → LedgerChangesBy c v (view_after s v c)
+TableAnswersAreTheMaps = (plan : TablePlan) (s : TableState) → IsReached plan s → (id : ℕ) (v : View) (c : Call)
+    → get_elem? s.views id ≡ some v → May plan.last_card c v → LedgerChangesBy c v (view_after s v c)
 
 -- a pass with nothing in hand has each of its keys in its ledger as the tree has it that the table's own words make, with its value
 abbrev pub LedgersTellTheTree : Type 0
-LedgersTellTheTree = (keys : List ℕ) (start : List (ℕ × ℕ)) (cards : ℕ) (s : TableState) → IsReached keys start cards s → (id : ℕ) (v : View)
+LedgersTellTheTree = (plan : TablePlan) (s : TableState) → IsReached plan s → (id : ℕ) (v : View)
     → get_elem? s.views id ≡ some v → IsFree v → (key value : ℕ) → ledger_of v.worker.ledger key ≢ None
     → IsTreePair (own_words s) key value ↔ (ledger_of v.worker.ledger key ≡ Some (Present value))
 
@@ -57,10 +57,10 @@ pub record IsOwnedKey (s : TableState) (key : ℕ) : Type 0 where
   pub there : get_elem? s.views seat ≡ some view
   pub owns : ledger_of view.worker.ledger key ≢ None
 
--- each key of that tree is
+-- each key of that tree that is not shared is
 abbrev pub TreeKeysAreOwned : Type 0
-TreeKeysAreOwned = (keys : List ℕ) (start : List (ℕ × ℕ)) (cards : ℕ) (s : TableState) → IsReached keys start cards s → (key : ℕ)
-    → IsTreeKey (own_words s) key → IsOwnedKey s key
+TreeKeysAreOwned = (plan : TablePlan) (s : TableState) → IsReached plan s → (key : ℕ)
+    → IsTreeKey (own_words s) key → ¬ IsSharedIn plan key → IsOwnedKey s key
 
 -- a node goes on: it has its key; an internal one has no lesser children and no lesser update word, and once that is a mark,
 -- neither it nor the children change
@@ -72,6 +72,6 @@ pub record NodeGoesOn (old new : Words) (x : ℕ) : Type 0 where
 
 -- so does each node that was reached once, in every run, by the table's own words
 abbrev pub TableNodesGoOn : Type 0
-TableNodesGoOn = (keys : List ℕ) (start : List (ℕ × ℕ)) (cards : ℕ) (s : TableState) → IsReached keys start cards s
-    → (turns : List Turn) (s' : TableState) → TableRun cards s turns s' → (x : ℕ) → Reached (own_words s) x
+TableNodesGoOn = (plan : TablePlan) (s : TableState) → IsReached plan s
+    → (turns : List Turn) (s' : TableState) → TableRun plan.last_card s turns s' → (x : ℕ) → Reached (own_words s) x
     → NodeGoesOn (own_words s) (own_words s') x

@@ -6,7 +6,7 @@ use Rattle.ell_cards.specs.declared.view.Hindrance.{Hindrance}
 use Rattle.ell_cards.specs.declared.view.Hindrance.TheVariants.{Claim, Found}
 use Rattle.ell_cards.specs.declared.view.Told.TheVariants.{Info}
 use Rattle.ell_cards.specs.declared.view.View.{View}
-use Rattle.ell_cards.specs.Models.{IsTold}
+use Rattle.ell_cards.specs.Models.{TablePlan, IsTold}
 use Rattle.ell_cards.specs.States.{TableState}
 use Rattle.ell_cards.specs.Starts.{IsReached}
 
@@ -28,7 +28,7 @@ pub record IsPast (n : ℕ) (v : View) : Type 0 where
 
 -- so it is of each pass, wherever turns have led a table
 abbrev pub ReadingsArePast : Type 0
-ReadingsArePast = (keys : List ℕ) (start : List (ℕ × ℕ)) (last : ℕ) (s : TableState) → IsReached keys start last s → (id : ℕ) (v : View)
+ReadingsArePast = (plan : TablePlan) (s : TableState) → IsReached plan s → (id : ℕ) (v : View)
     → get_elem? s.views id ≡ some v → IsPast (slice_index s.words 0) v
 
 -- some pass was told of a card, by its parent
@@ -41,5 +41,5 @@ pub record IsToldOf (s : TableState) (c : ℕ) : Type 0 where
 
 -- so is some pass of each card that was claimed, wherever turns have led a table: the cards of the opening tree are not claimed
 abbrev pub ClaimsAreTold : Type 0
-ClaimsAreTold = (keys : List ℕ) (start : List (ℕ × ℕ)) (cards : ℕ) (s : TableState) → IsReached keys start cards s → (c : ℕ) → length start < c
+ClaimsAreTold = (plan : TablePlan) (s : TableState) → IsReached plan s → (c : ℕ) → length plan.start < c
     → c < slice_index s.words 0 → IsToldOf s c

@@ -10,6 +10,7 @@ use Rattle.ell_cards.specs.TurnEffects.{own_words, run_wins}
 use Rattle.ell_cards.specs.Starts.{Starts, IsReached}
 use Rattle.ell_cards.specs.Machines.{HasMachine}
 use Rattle.ell_cards.specs.Laws.{machine_of_table}
+use Rattle.ell_cards.specs.Models.{TablePlan}
 
 -- what was won for a card up to a state that has a machine, by its stage there
 abbrev pub won_before : (keys : List ℕ) (cards : ℕ) (s : TableState) → HasMachine keys cards s → ℕ → List Kind
@@ -27,15 +28,15 @@ abbrev pub TableWinsAreInOrder : Type 0
 TableWinsAreInOrder = (keys : List ℕ) (cards : ℕ) (s : TableState) (r : HasMachine keys cards s) → WinsGoOn keys cards s r
 
 -- a table as it starts has a machine that is an opening, and nothing was won yet
-pub record StartIsKept (keys : List ℕ) (start : List (ℕ × ℕ)) (cards : ℕ) (s : TableState) : Type 0 where
-  pub kept : HasMachine keys (last_card start cards) s
-  pub opening : IsOpening (machine_of_table keys (last_card start cards) s kept)
-  pub unwon : (c : ℕ) → won_before keys (last_card start cards) s kept c ≡ []
+pub record StartIsKept (plan : TablePlan) (s : TableState) : Type 0 where
+  pub kept : HasMachine plan.keys plan.last_card s
+  pub opening : IsOpening (machine_of_table plan.keys plan.last_card s kept)
+  pub unwon : (c : ℕ) → won_before plan.keys plan.last_card s kept c ≡ []
 
 -- so it is of every table as it starts
 abbrev pub StartsAreKept : Type 0
-StartsAreKept = (keys : List ℕ) (start : List (ℕ × ℕ)) (cards : ℕ) (s : TableState) → Starts keys start cards s → StartIsKept keys start cards s
+StartsAreKept = (plan : TablePlan) (s : TableState) → Starts plan s → StartIsKept plan s
 
 -- wherever turns have led a table, it has a machine
 abbrev pub ReachedHasMachine : Type 0
-ReachedHasMachine = (keys : List ℕ) (start : List (ℕ × ℕ)) (last : ℕ) (s : TableState) → IsReached keys start last s → HasMachine keys last s
+ReachedHasMachine = (plan : TablePlan) (s : TableState) → IsReached plan s → HasMachine plan.keys plan.last_card s

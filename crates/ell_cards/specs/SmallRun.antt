@@ -7,21 +7,17 @@ use Rattle.ell_word.specs.declared.update.State.TheVariants as state
 use Rattle.ell_word.specs.declared.gate.Kind.TheVariants as kind
 use Rattle.ell_core.specs.declared.field.Field.TheVariants as field
 use Rattle.ell_core.specs.declared.view.Entry.TheVariants.{Absent, Present}
-use Rattle.ell_core.specs.state.Opening.{last_card}
 use Rattle.ell_cards.specs.declared.call.Call.TheVariants as call
 use Rattle.ell_cards.specs.declared.view.View.{View}
+use Rattle.ell_cards.specs.Models.{TablePlan}
 use Rattle.ell_cards.specs.States.{TableState}
 use Rattle.ell_cards.specs.Starts.{Starts}
 use Rattle.ell_cards.specs.Turns.{Turn, Makes, Splits, Joins, TableRun}
 use Rattle.ell_cards.specs.TurnEffects.{run_wins}
 
--- the keys of a small run
-abbrev pub small_keys : List ℕ
-small_keys = 5 ∷ 7 ∷ []
-
--- key 5 is there at its start
-abbrev pub small_start : List (ℕ × ℕ)
-small_start = (5, 50) ∷ []
+-- a small table: keys 5 and 7, of which key 5 is there at its start, and three cards to give out beside those of the start
+abbrev pub small_plan : TablePlan
+small_plan = record { keys = 5 ∷ 7 ∷ []; start = (5, 50) ∷ []; last_card = 4; shared = false }
 
 -- the first pass is split: seat 0 has key 5 then, and seat 1 key 7
 abbrev pub parting : List Turn
@@ -91,16 +87,16 @@ abbrev pub small_run : List Turn
 small_run =
     parting ++ delete_flags ++ insert_claims ++ insert_flags ++ mark_is_lost ++ insert_ends ++ delete_begins_anew ++ delete_ends ++ look ++ ending
 
--- a table that starts with these keys, and three cards to give out, has such a run: card 2 is that of the delete whose mark is lost, card 3
+-- the small table has such a run: card 2 is that of the delete whose mark is lost, card 3
 -- that of the insert, and card 4 that of the delete that is made; in the end the one pass has key 7 present with its value, and key 5 not
 pub record SmallRunIsMade : Type 0 where
   pub first : TableState
-  pub starts : Starts small_keys small_start 3 first
+  pub starts : Starts small_plan first
   pub last : TableState
-  pub run : TableRun (last_card small_start 3) first small_run last
-  pub delete_lost : run_wins (last_card small_start 3) first small_run last run 2 ≡ kind.DFlag ∷ kind.Backtrack ∷ []
-  pub insert_made : run_wins (last_card small_start 3) first small_run last run 3 ≡ kind.IFlag ∷ kind.IChild ∷ kind.IUnflag ∷ []
-  pub delete_made : run_wins (last_card small_start 3) first small_run last run 4 ≡ kind.DFlag ∷ kind.Mark ∷ kind.DChild ∷ kind.DUnflag ∷ []
+  pub run : TableRun small_plan.last_card first small_run last
+  pub delete_lost : run_wins small_plan.last_card first small_run last run 2 ≡ kind.DFlag ∷ kind.Backtrack ∷ []
+  pub insert_made : run_wins small_plan.last_card first small_run last run 3 ≡ kind.IFlag ∷ kind.IChild ∷ kind.IUnflag ∷ []
+  pub delete_made : run_wins small_plan.last_card first small_run last run 4 ≡ kind.DFlag ∷ kind.Mark ∷ kind.DChild ∷ kind.DUnflag ∷ []
   pub view : View
   pub there : get_elem? last.views 0 ≡ some view
   pub ledger : view.worker.ledger ≡ (5, Absent) ∷ (7, Present 70) ∷ []

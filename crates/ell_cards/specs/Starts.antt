@@ -1,4 +1,4 @@
-use Rattle.std.specs.Prelude.{◌≡◌, ◌↔◌, ℕ, ◌≤◌, true, Some, List, [], length, Contains}
+use Rattle.std.specs.Prelude.{◌≡◌, ◌↔◌, ℕ, ◌≤◌, ◌⊎◌, true, false, Some, List, [], length, Contains}
 use Rattle.std.specs.List.{All}
 use Rattle.std.specs.List.Sorted.{IsStrictlyIncreasing}
 use Rattle.std.specs.Map.{keys_of}
@@ -9,75 +9,87 @@ use Rattle.ell_ops.specs.Contents.{contents_of}
 use Rattle.ell_ops.specs.Meaning.{greatest_key, key_of}
 use Rattle.ell_core.specs.state.Layout.{table_size}
 use Rattle.ell_core.specs.state.Words.{words_of}
-use Rattle.ell_core.specs.state.Opening.{start_words, last_card}
+use Rattle.ell_core.specs.state.Opening.{start_words}
 use Rattle.ell_core.specs.tree.Tree.{IsTreePair}
 use Rattle.ell_core.specs.soundness.Sound.{IsSound}
 use Rattle.ell_core.specs.acts.Wins.{InOrder}
 use Rattle.ell_cards.specs.declared.call.Call.TheVariants as call
-use Rattle.ell_cards.specs.Changes.{first_view}
+use Rattle.ell_cards.specs.Models.{TablePlan, TableModel, PassModel}
+use Rattle.ell_cards.specs.Changes.{first_of}
 use Rattle.ell_cards.specs.States.{TableState}
 use Rattle.ell_cards.specs.Turns.{Turn, Makes, TableTurns, TableRun}
 use Rattle.ell_cards.specs.TurnEffects.{own_words, own_machine, TurnsDo, run_wins}
 
--- what a table starts with: keys that are real ones, ascending, and start keys among them, ascending too, with their values
-pub record MayStart (keys : List ℕ) (start : List (ℕ × ℕ)) : Type 0 where
-  pub ascending : IsStrictlyIncreasing keys
-  pub real : All (λ k. k ≤ greatest_key) keys
-  pub start_ascending : IsStrictlyIncreasing (keys_of start)
-  pub given : All (λ k. set_of keys k ≡ true) (keys_of start)
+-- a key is shared in a table: it is a real one and not among the keys that may have owners, where the plan shares every other key
+pub record IsSharedIn (plan : TablePlan) (key : ℕ) : Type 0 where
+  pub mode : plan.shared ≡ true
+  pub real : key ≤ greatest_key
+  pub other : set_of plan.keys key ≡ false
 
--- the words of a table are at its start those of the opening tree over the start keys, where so many cards follow that tree's
-pub record StartWords (start : List (ℕ × ℕ)) (cards : ℕ) (words : List ℕ) : Type 0 where
-  pub size : length words ≡ table_size (last_card start cards)
-  pub are : words_of words ≡ start_words start
+-- what a table may be opened with: real keys, ascending; start keys, ascending too, each among them or shared; and cards for these at least
+pub record MayStart (plan : TablePlan) : Type 0 where
+  pub ascending : IsStrictlyIncreasing plan.keys
+  pub real : All (λ k. k ≤ greatest_key) plan.keys
+  pub start_ascending : IsStrictlyIncreasing (keys_of plan.start)
+  pub given : All (λ k. (set_of plan.keys k ≡ true) ⊎ IsSharedIn plan k) (keys_of plan.start)
+  pub room : length plan.start ≤ plan.last_card
 
--- a table as it starts: its words are those of the opening tree over the start keys, and its one pass owns all keys, of which the
+-- the words of a table are at its start those of the opening tree over the start keys
+pub record StartWords (plan : TablePlan) (words : List ℕ) : Type 0 where
+  pub size : length words ≡ table_size plan.last_card
+  pub are : words_of words ≡ start_words plan.start
+
+-- a table as it starts: its words are those of the opening tree over the start keys, and its one pass owns the keys of the plan, of which the
 -- start keys are present
-pub record Starts (keys : List ℕ) (start : List (ℕ × ℕ)) (cards : ℕ) (s : TableState) : Type 0 where
-  pub may : MayStart keys start
-  pub words : StartWords start cards s.words
-  pub is : s ≡ opening s.words [] (first_view keys start)
+pub record Starts (plan : TablePlan) (s : TableState) : Type 0 where
+  pub may : MayStart plan
+  pub words : StartWords plan s.words
+  pub is : s ≡ opening s.words [] (first_of plan)
 
--- all such keys and each number of cards have such a table
-pub record StartsSome (keys : List ℕ) (start : List (ℕ × ℕ)) (cards : ℕ) : Type 0 where
+-- a table is opened by a plan: it has the plan, and its one pass knows what a first pass does, and has made no step
+pub record OpensBy (plan : TablePlan) (made : TableModel × PassModel) : Type 0 where
+  pub table : made.0.plan ≡ plan
+  pub pass : made.1 ≡ record { table = made.0.id; view = first_of plan; steps = 0; label = 0 }
+
+-- every such plan has a table
+pub record StartsSome (plan : TablePlan) : Type 0 where
   pub table : TableState
-  pub starts : Starts keys start cards table
+  pub starts : Starts plan table
 
 abbrev pub TablesStart : Type 0
-TablesStart = (keys : List ℕ) (start : List (ℕ × ℕ)) (cards : ℕ) → MayStart keys start → StartsSome keys start cards
+TablesStart = (plan : TablePlan) → MayStart plan → StartsSome plan
 
 -- the keys of its tree are the start keys, with their values
 abbrev pub StartsHaveTheirKeys : Type 0
-StartsHaveTheirKeys = (keys : List ℕ) (start : List (ℕ × ℕ)) (cards : ℕ) (s : TableState) → Starts keys start cards s → (k value : ℕ)
-    → IsTreePair (own_words s) k value ↔ (contents_of start k ≡ Some value)
+StartsHaveTheirKeys = (plan : TablePlan) (s : TableState) → Starts plan s → (k value : ℕ)
+    → IsTreePair (own_words s) k value ↔ (contents_of plan.start k ≡ Some value)
 
--- its pass may begin every operation on a key of its own
+-- its pass may begin an operation
 pub record MayBeginThere (cards : ℕ) (s : TableState) (op : Op) : Type 0 where
   pub after : TableState
   pub turn : TableTurns cards s (Makes 0 (call.Begin op)) after
 
+-- so it may begin every operation on a key of its own, and on a shared one
 abbrev pub FirstPassMayBegin : Type 0
-FirstPassMayBegin = (keys : List ℕ) (start : List (ℕ × ℕ)) (cards : ℕ) (s : TableState) → Starts keys start cards s → (op : Op) → Contains keys (key_of op)
-    → MayBeginThere (last_card start cards) s op
+FirstPassMayBegin = (plan : TablePlan) (s : TableState) → Starts plan s → (op : Op) → Contains plan.keys (key_of op) ⊎ IsSharedIn plan (key_of op)
+    → MayBeginThere plan.last_card s op
 
 -- what a run from a start does: the tree that the table's own words make has the start keys first, with their values, and each turn
 -- does to it as turns do; each card wins in order; and where it leads, those words, with what the passes know, are a sound state
-pub record RunFromStart (start : List (ℕ × ℕ)) (cards : ℕ) (s : TableState) (turns : List Turn) (s' : TableState) (run : TableRun cards s turns s') : Type 0 where
-  pub opens : (k value : ℕ) → IsTreePair (own_words s) k value ↔ (contents_of start k ≡ Some value)
-  pub turns_do : TurnsDo cards s turns s' run
-  pub wins : (c : ℕ) → InOrder (run_wins cards s turns s' run c)
-  pub sound : IsSound (own_machine cards s')
+pub record RunFromStart (plan : TablePlan) (s : TableState) (turns : List Turn) (s' : TableState) (run : TableRun plan.last_card s turns s') : Type 0 where
+  pub opens : (k value : ℕ) → IsTreePair (own_words s) k value ↔ (contents_of plan.start k ≡ Some value)
+  pub turns_do : TurnsDo plan.last_card s turns s' run
+  pub wins : (c : ℕ) → InOrder (run_wins plan.last_card s turns s' run c)
+  pub sound : IsSound (own_machine plan.last_card s')
 
 -- so does every run from a start, by any passes in any order
 abbrev pub RunsFromStarts : Type 0
-RunsFromStarts = (keys : List ℕ) (start : List (ℕ × ℕ)) (cards : ℕ) (s : TableState) → Starts keys start cards s → (turns : List Turn) (s' : TableState)
-    (run : TableRun (last_card start cards) s turns s') → RunFromStart start (last_card start cards) s turns s' run
+RunsFromStarts = (plan : TablePlan) (s : TableState) → Starts plan s → (turns : List Turn) (s' : TableState)
+    (run : TableRun plan.last_card s turns s') → RunFromStart plan s turns s' run
 
--- the rule of a table with these keys, start keys and last card: it is where turns of its passes have led from its start
-pub record IsReached (keys : List ℕ) (start : List (ℕ × ℕ)) (last : ℕ) (s : TableState) : Type 0 where
-  pub cards : ℕ
-  pub all : last_card start cards ≡ last
+-- the rule of a table with this plan: it is where turns of its passes have led from its start
+pub record IsReached (plan : TablePlan) (s : TableState) : Type 0 where
   pub first : TableState
-  pub starts : Starts keys start cards first
+  pub starts : Starts plan first
   pub turns : List Turn
-  pub run : TableRun last first turns s
+  pub run : TableRun plan.last_card first turns s

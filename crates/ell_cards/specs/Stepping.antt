@@ -1,38 +1,45 @@
-use Rattle.std.specs.Prelude.{◌≡◌, ℕ, ◌==◌, List, []}
+use Rattle.std.specs.Prelude.{◌≡◌, ℕ, ◌==◌, List, [], ◌-◌}
 use prog.Atomic.{either}
 use Rattle.std.specs.List.Sorted.{IsStrictlyIncreasing}
 use Rattle.atomic_table.specs.Table.{Allows, Splits, Joins}
 use Rattle.ell_cards.specs.declared.call.Call.{Call}
 use Rattle.ell_cards.specs.declared.view.View.{View}
-use Rattle.ell_cards.specs.Models.{PassModel, one_more}
+use Rattle.ell_cards.specs.Models.{TablePlan, PassModel, one_more, given_share}
 use Rattle.ell_cards.specs.Changes.{keys_of}
 use Rattle.ell_cards.specs.Naming.{IsNamed}
 use Rattle.ell_cards.specs.Calls.{after, Tells}
 use Rattle.ell_cards.specs.Starts.{IsReached}
 use Rattle.ell_cards.specs.Looking.{ReadsItsOwn}
+use Rattle.ell_cards.specs.declared.share.Share.{Share}
+use Rattle.ell_cards.specs.Inside.{HasShare}
 
 -- wherever turns have led the table, a load of a word is a turn again, and this holds of the word found and of what the pass knows after
-abbrev pub MayLoad : List ℕ → List (ℕ × ℕ) → ℕ → View → ℕ → (ℕ → View → Type 0) → Type 0
-MayLoad keys start cards v i then =
-    (id : ℕ) → Allows (IsReached keys start cards) 0 id (v, []) i (λ n. n) (λ n me. then n me.0 × (me.1 ≡ []))
+abbrev pub MayLoad : TablePlan → View → ℕ → (ℕ → View → Type 0) → Type 0
+MayLoad plan v i then =
+    (id : ℕ) → Allows (IsReached plan) 0 id (v, []) i (λ n. n) (λ n me. then n me.0 × (me.1 ≡ []))
 
 -- so does a store of a value
-abbrev pub MayStore : List ℕ → List (ℕ × ℕ) → ℕ → View → ℕ → ℕ → (ℕ → View → Type 0) → Type 0
-MayStore keys start cards v i value then =
-    (id : ℕ) → Allows (IsReached keys start cards) 0 id (v, []) i (λ n. value) (λ n me. then value me.0 × (me.1 ≡ []))
+abbrev pub MayStore : TablePlan → View → ℕ → ℕ → (ℕ → View → Type 0) → Type 0
+MayStore plan v i value then =
+    (id : ℕ) → Allows (IsReached plan) 0 id (v, []) i (λ n. value) (λ n me. then value me.0 × (me.1 ≡ []))
 
 -- and an exchange of an expected value for another
-abbrev pub MayExchange : List ℕ → List (ℕ × ℕ) → ℕ → View → ℕ → ℕ → ℕ → (ℕ → View → Type 0) → Type 0
-MayExchange keys start cards v i expected value then =
-    (id : ℕ) → Allows (IsReached keys start cards) 0 id (v, []) i (λ n. either (n == expected) value n) (λ n me. then n me.0 × (me.1 ≡ []))
+abbrev pub MayExchange : TablePlan → View → ℕ → ℕ → ℕ → (ℕ → View → Type 0) → Type 0
+MayExchange plan v i expected value then =
+    (id : ℕ) → Allows (IsReached plan) 0 id (v, []) i (λ n. either (n == expected) value n) (λ n me. then n me.0 × (me.1 ≡ []))
 
 -- whatever the table is, the view of a seat may be cut in these two
-abbrev pub MaySplit : List ℕ → List (ℕ × ℕ) → ℕ → View → View → View → Type 0
-MaySplit keys start cards v left right = (id : ℕ) → Splits (IsReached keys start cards) id v left right
+abbrev pub MaySplit : TablePlan → View → View → View → Type 0
+MaySplit plan v left right = (id : ℕ) → Splits (IsReached plan) id v left right
 
 -- and the views of two seats may become one, and this
-abbrev pub MayJoin : List ℕ → List (ℕ × ℕ) → ℕ → View → View → View → View → Type 0
-MayJoin keys start cards v w both spent = (id other : ℕ) → Joins (IsReached keys start cards) id v other w both spent
+abbrev pub MayJoin : TablePlan → View → View → View → View → Type 0
+MayJoin plan v w both spent = (id other : ℕ) → Joins (IsReached plan) id v other w both spent
+
+-- a pass has the share that it had
+pub record SameShare (old new : View) : Type 0 where
+  pub share : new.share ≡ old.share
+  pub ownable : new.worker.ownable ≡ old.worker.ownable
 
 -- a pass with these keys may know this, where a pass of its table knew that
 pub record MayHave (cards : ℕ) (old : View) (keys : List ℕ) (v : View) : Type 0 where
@@ -40,10 +47,16 @@ pub record MayHave (cards : ℕ) (old : View) (keys : List ℕ) (v : View) : Typ
   pub ascending : IsStrictlyIncreasing keys
   pub named : IsNamed cards old → IsNamed cards v
 
--- what a step tells says that the pass owns the keys that it owned, and names what is in the table
+-- the shares of two parts are those that the code of a pass has after a split, whatever it has before
+abbrev pub PartsShare : View → View → View → Type 0
+PartsShare old left right = (share : Share) → HasShare share old
+    → HasShare (record { units = share.units - given_share share.units; counts = share.counts }) left
+    × HasShare (record { units = given_share share.units; counts = share.counts }) right
+
+-- what a step tells says that the pass owns the keys and has the share that it did, and names what is in the table
 abbrev pub KeepsPass : ℕ → View → (ℕ → View → Type 0) → Type 0
 KeepsPass cards v then =
-    (n : ℕ) (w : View) → then n w → (keys_of w.worker.ledger ≡ keys_of v.worker.ledger) × IsNamed cards w
+    (n : ℕ) (w : View) → then n w → (keys_of w.worker.ledger ≡ keys_of v.worker.ledger) × SameShare v w × IsNamed cards w
 
 -- a pass made one step: its table and its label are as they were
 pub record StepsBy (old new : PassModel) : Type 0 where
@@ -52,10 +65,11 @@ pub record StepsBy (old new : PassModel) : Type 0 where
   pub label : new.label ≡ old.label
 
 -- what a step call that found this word leaves of a pass: what it knows is as the call says, and what the call tells is so; what a
--- look has found of its own keys is what its ledger has; the pass owns the keys that it owned, and names what is in its table
+-- look has found of its own keys is what its ledger has; the pass owns the keys and has the share that it did, and names what is in its table
 pub record IsTaken (cards : ℕ) (c : Call) (v : View) (n : ℕ) (w : View) : Type 0 where
   pub view : w ≡ after c n v
   pub tells : Tells cards c v n
   pub own : ReadsItsOwn w
   pub keys : keys_of w.worker.ledger ≡ keys_of v.worker.ledger
+  pub share : SameShare v w
   pub named : IsNamed cards w

@@ -12,6 +12,7 @@ use Rattle.ell_cards.specs.States.{TableState}
 use Rattle.ell_cards.specs.Turns.{Turn, Makes, TableRun, found_by}
 use Rattle.ell_cards.specs.TurnEffects.{own_words}
 use Rattle.ell_cards.specs.Starts.{Starts, IsReached}
+use Rattle.ell_cards.specs.Models.{TablePlan}
 
 -- a step call that sets a flag
 abbrev pub is_flag : Call → Bool
@@ -41,19 +42,19 @@ HasHeight w h = (path : List Bool) (x : ℕ) → Leads w 0 path x → IsInternal
 
 -- the tree of a table is no higher than the number of the table's last card
 abbrev pub TablesHaveHeights : Type 0
-TablesHaveHeights = (keys : List ℕ) (start : List (ℕ × ℕ)) (last : ℕ) (s : TableState) → IsReached keys start last s → HasHeight (own_words s) last
+TablesHaveHeights = (plan : TablePlan) (s : TableState) → IsReached plan s → HasHeight (own_words s) plan.last_card
 
 -- a run of a table from its start, and after it a stretch of any turns of any passes in which no exchange of a child is won
-pub record Stretch (keys : List ℕ) (start : List (ℕ × ℕ)) (cards : ℕ) : Type 0 where
+pub record Stretch (plan : TablePlan) : Type 0 where
   pub opened : TableState
-  pub starts : Starts keys start cards opened
+  pub starts : Starts plan opened
   pub before : List Turn
   pub begun : TableState
-  pub led : TableRun (last_card start cards) opened before begun
+  pub led : TableRun plan.last_card opened before begun
   pub turns : List Turn
   pub now : TableState
-  pub run : TableRun (last_card start cards) begun turns now
-  pub unchanged : won_in is_change (last_card start cards) begun turns now run ≡ 0
+  pub run : TableRun plan.last_card begun turns now
+  pub unchanged : won_in is_change plan.last_card begun turns now run ≡ 0
 
 -- how many passes have an operation in hand
 abbrev pub passes_at_work : List View → ℕ
@@ -63,6 +64,6 @@ passes_at_work (v ∷ vs) = (if is_some v.worker.operation then 1 else 0) + pass
 -- in such a stretch few flags are won, if the tree that it begins with, and keeps, has this height: on each level at most one for each pass that
 -- was at work when it began and two for each card that is in a hand when it ends, and beside them one for each such card
 abbrev pub FewFlagsWithoutAChange : Type 0
-FewFlagsWithoutAChange = (keys : List ℕ) (start : List (ℕ × ℕ)) (cards : ℕ) (r : Stretch keys start cards) (h : ℕ) → HasHeight (own_words r.begun) h
-    → won_in is_flag (last_card start cards) r.begun r.turns r.now r.run
+FewFlagsWithoutAChange = (plan : TablePlan) (r : Stretch plan) (h : ℕ) → HasHeight (own_words r.begun) h
+    → won_in is_flag plan.last_card r.begun r.turns r.now r.run
     ≤ (h + 1) * (passes_at_work r.begun.views + 2 * cards_in_hand r.now.views) + cards_in_hand r.now.views

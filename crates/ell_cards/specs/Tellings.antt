@@ -9,6 +9,7 @@ use Rattle.ell_cards.specs.Calls.{word_of, atomic_of, left_by, is_won, after, Ma
 use Rattle.ell_cards.specs.States.{TableState}
 use Rattle.ell_cards.specs.Turns.{found_by}
 use Rattle.ell_cards.specs.Starts.{IsReached}
+use Rattle.ell_cards.specs.Models.{TablePlan}
 
 -- the state after the atomic step of a call of the pass in a seat, which tells that its word was this one, whatever the word was
 abbrev pub told_of : TableState → ℕ → View → Call → ℕ → TableState
@@ -20,26 +21,26 @@ told_of s id v c n = record {
 
 -- no step can tell that the claim word was greater than it is: nowhere do turns lead to the state after it
 abbrev pub NoGreaterNext : Type 0
-NoGreaterNext = (keys : List ℕ) (start : List (ℕ × ℕ)) (cards : ℕ) (s : TableState) → IsReached keys start cards s → (id : ℕ) (v : View)
-    → get_elem? s.views id ≡ some v → (n : ℕ) → found_by s call.Next < n → ¬ IsReached keys start cards (told_of s id v call.Next n)
+NoGreaterNext = (plan : TablePlan) (s : TableState) → IsReached plan s → (id : ℕ) (v : View)
+    → get_elem? s.views id ≡ some v → (n : ℕ) → found_by s call.Next < n → ¬ IsReached plan (told_of s id v call.Next n)
 
 -- nor that a node where the pass stands has a greater update word than it has: no flag that is still to come, and none taken away that
 -- stands
 abbrev pub NoGreaterUpdate : Type 0
-NoGreaterUpdate = (keys : List ℕ) (start : List (ℕ × ℕ)) (cards : ℕ) (s : TableState) → IsReached keys start cards s → (id : ℕ) (v : View)
-    → get_elem? s.views id ≡ some v → (x : ℕ) → May cards (call.Upd x) v → (n : ℕ) → found_by s (call.Upd x) < n
-    → ¬ IsReached keys start cards (told_of s id v (call.Upd x) n)
+NoGreaterUpdate = (plan : TablePlan) (s : TableState) → IsReached plan s → (id : ℕ) (v : View)
+    → get_elem? s.views id ≡ some v → (x : ℕ) → May plan.last_card (call.Upd x) v → (n : ℕ) → found_by s (call.Upd x) < n
+    → ¬ IsReached plan (told_of s id v (call.Upd x) n)
 
 -- nor of an exchange that the pass may make, whichever it is, that it was lost where it was won, nor that it was won where it was lost
 abbrev pub NoOtherOutcome : Type 0
-NoOtherOutcome = (keys : List ℕ) (start : List (ℕ × ℕ)) (cards : ℕ) (s : TableState) → IsReached keys start cards s → (id : ℕ) (v : View)
-    → get_elem? s.views id ≡ some v → (c : Call) → May cards c v → (n : ℕ) → is_won (atomic_of c) n ≢ is_won (atomic_of c) (found_by s c)
-    → ¬ IsReached keys start cards (told_of s id v c n)
+NoOtherOutcome = (plan : TablePlan) (s : TableState) → IsReached plan s → (id : ℕ) (v : View)
+    → get_elem? s.views id ≡ some v → (c : Call) → May plan.last_card c v → (n : ℕ) → is_won (atomic_of c) n ≢ is_won (atomic_of c) (found_by s c)
+    → ¬ IsReached plan (told_of s id v c n)
 
 -- nor can the claim of the next card be lost that was not tried
 abbrev pub NoUntriedClaimLost : Type 0
-NoUntriedClaimLost = (keys : List ℕ) (start : List (ℕ × ℕ)) (cards : ℕ) (s : TableState) → IsReached keys start cards s → (id : ℕ) (v : View)
-    → get_elem? s.views id ≡ some v → ¬ IsReached keys start cards (record {
+NoUntriedClaimLost = (plan : TablePlan) (s : TableState) → IsReached plan s → (id : ℕ) (v : View)
+    → get_elem? s.views id ≡ some v → ¬ IsReached plan (record {
       words = s.words;
       homes = s.homes;
       views = slice_set s.views id (after_claim false (slice_index s.words 0) v);

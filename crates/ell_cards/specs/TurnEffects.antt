@@ -6,7 +6,7 @@ use Rattle.ell_ops.specs.declared.op.Op.TheVariants.{Insert, Delete}
 use Rattle.ell_word.specs.declared.gate.Kind.{Kind}
 use Rattle.ell_word.specs.declared.gate.Kind.TheVariants as kind
 use Rattle.ell_core.specs.state.Words.{Words, words_of}
-use Rattle.ell_core.specs.state.Machine.{Machine, ledger_of}
+use Rattle.ell_core.specs.state.Machine.{Machine, ledger_of, worker_of}
 use Rattle.ell_core.specs.state.Cards.{card_key, card_value}
 use Rattle.ell_core.specs.soundness.Sound.{IsSound}
 use Rattle.ell_core.specs.acts.Wins.{win_for}
@@ -39,11 +39,11 @@ PairsChangeBy (call.IChild c p l right) true old new = AddsPair old new (card_ke
 PairsChangeBy (call.DChild c gp p s right) true old new = TakesPair old new (card_key old c) (card_value old c)
 PairsChangeBy _ _ old new = SamePairs old new
 
--- what a call does to the ledger of its pass: an answer is the map's, by the ledger, which becomes the map after it; no other call
--- changes it
+-- what a call does to the ledger of its pass: an answer on a key of its own is the map's, by the ledger, which becomes the map after it; no other
+-- call changes it, nor does an answer on a shared key
 abbrev pub LedgerChangesBy : Call → View → View → Type 0
 LedgerChangesBy (call.Answer said) v w =
-    AnswersAsMap (ledger_of v.worker.ledger) (ledger_of w.worker.ledger) v.worker.operation said
+    AnswersAsMap (worker_of v.worker) (ledger_of w.worker.ledger) said
 LedgerChangesBy _ v w = w.worker.ledger ≡ v.worker.ledger
 
 -- a pass has this operation in hand, and for it this card, flagged

@@ -3,7 +3,7 @@ use mathlib.Core.Option.{some}
 use lib.ListN.{get_elem?}
 use Rattle.ell_cards.specs.declared.call.Call.{Call}
 use Rattle.ell_cards.specs.declared.view.View.{View}
-use Rattle.ell_cards.specs.Models.{IsFree}
+use Rattle.ell_cards.specs.Models.{IsFree, MayPart}
 use Rattle.ell_cards.specs.Changes.{left_view, right_view, joined_view, spent_view}
 use Rattle.ell_cards.specs.Calls.{word_of, atomic_of, left_by, after, May}
 use Rattle.ell_cards.specs.States.{TableState}
@@ -55,11 +55,12 @@ pub record CallIsMade (cards : ℕ) (s : TableState) (seat : ℕ) (c : Call) (s'
   pub may : May cards c view
   pub gives : s' ≡ state_after s seat view c
 
--- the pass in a seat has nothing in hand, and the table is this after its split
+-- the pass in a seat has nothing in hand and may be parted, and the table is this after its split
 pub record SplitIsMade (s : TableState) (seat : ℕ) (left : List ℕ) (s' : TableState) : Type 0 where
   pub view : View
   pub there : get_elem? s.views seat ≡ some view
   pub free : IsFree view
+  pub may : MayPart view
   pub gives : s' ≡ state_split s seat view left
 
 -- the passes in two seats have nothing in hand, and the table is this after their join

@@ -1,12 +1,12 @@
 //! The end of a table.
-ghost use Rattle.std.specs.Prelude.{◌≡◌, ◌≢◌, ◌≤◌, length, None};
+ghost use Rattle.std.specs.Prelude.{◌≡◌, ◌≢◌, ◌≤◌, length, None, false, true};
 ghost use Rattle.std.specs.List.{All};
 ghost use Rattle.std.specs.Slots.{slots_items, slots_len, IsFull};
 ghost use Rattle.ell_word.specs.Node.{card, greatest_card};
 ghost use Rattle.ell_core.specs.state.Layout.{listed, table_size};
 ghost use Rattle.ell_core.specs.state.Words.{words_of};
 ghost use Rattle.ell_core.specs.state.Machine.{ledger_of};
-ghost use Rattle.ell_cards.specs.Models.{IsFree};
+ghost use Rattle.ell_cards.specs.Models.{IsFree, whole_share};
 ghost use Rattle.ell_cards.specs.Closed.{ClosedModel, TableEnds};
 
 use crate::pass::Pass;
@@ -31,23 +31,27 @@ impl<A: Allocator + Copy> Model for Closed<A> {
 }
 
 impl<A: Allocator + Copy> CardTable<A> {
-    /// Ends the table, by a pass with nothing in hand that owns each of its keys.
+    /// Ends the table, by a pass with nothing in hand that owns each of the keys that may have owners, and, if the other keys are shared, has
+    /// the whole share.
     pub fn close(self, pass: Pass<A>) -> Closed<A>
         requires own { pass.table ≡ self.id }
         requires free { IsFree pass.view }
-        requires all { All (λ k. ledger_of pass.view.worker.ledger k ≢ None) self.keys }
-        ensures ends { TableEnds self.keys self.start pass.view result }
-        ensures cards { result.last_card ≡ self.last_card }
+        requires whole { self.plan.shared ≡ true → pass.view.share ≡ whole_share }
+        requires all { All (λ k. ledger_of pass.view.worker.ledger k ≢ None) self.plan.keys }
+        ensures ends { TableEnds self.plan pass.view result }
+        ensures cards { result.last_card ≡ self.plan.last_card }
     {
         let CardTable {
             table,
             alloc: _,
             last_card,
+            shared: _,
         } = self;
         let Pass {
             keys: _,
             label: _,
             steps: _,
+            share: _,
             seat,
         } = pass;
         Closed {

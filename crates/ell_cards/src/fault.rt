@@ -25,3 +25,24 @@ impl From<AllocError> for CardFault {
         CardFault::NoMemory
     }
 }
+
+/// Why a pass is not parted. The refusals are tested in this order.
+#[derive(Clone, Copy, Debug, PartialEq, Eq, Error)]
+pub enum SplitFault {
+    /// Some keys are shared, and the pass has no more than the least share of its table: it was parted too often.
+    #[error("too many passes")]
+    TooManyPasses,
+    /// There was no memory.
+    #[error("out of memory")]
+    NoMemory,
+}
+
+impl From<AllocError> for SplitFault {
+    ghost use Rattle.ell_cards.specs.declared.fault.SplitFault.TheVariants as fault;
+
+    ghost from_gives = { λ _ r. r ≡ fault.NoMemory };
+
+    fn from(_: AllocError) -> SplitFault {
+        SplitFault::NoMemory
+    }
+}

@@ -27,7 +27,7 @@ impl<A: Allocator + Copy> CardTable<A> {
         requires own { pass.old.table ≡ self.now.id }
         requires may { MayAsk pass.old.view card field }
         ensures step { Steps pass.old pass.new (after_info card field result pass.old.view) }
-        ensures node { TellsNode self.now.last_card field result }
+        ensures node { TellsNode self.now.plan.last_card field result }
         ensures depth { TellsDepth pass.old.view card field result }
     {
         self.names(pass);
@@ -41,7 +41,7 @@ impl<A: Allocator + Copy> CardTable<A> {
         requires may { MaySee pass.old.view card parent }
         ensures step { Steps pass.old pass.new (after_frozen_child card right result pass.old.view) }
         ensures greater { parent < result }
-        ensures there { InTable self.now.last_card result }
+        ensures there { InTable self.now.plan.last_card result }
     {
         self.names(pass);
         let call = Call::FrozenChild(card, parent, right);
@@ -61,7 +61,8 @@ impl<A: Allocator + Copy> CardTable<A> {
     ) -> Result<(), u64>
         requires own { pass.old.table ≡ self.now.id }
         requires may { MayIChild pass.old.view card parent leaf right }
-        ensures step { Steps pass.old pass.new (exchanged (if_won (is_ok result) kind.IChild card) (found_child leaf result) (learning (IChanged card) pass.old.view)) }
+        ensures step { Steps pass.old pass.new (exchanged (if_won (is_ok result) kind.IChild card)
+            (found_child leaf result) (learning (IChanged card) pass.old.view)) }
         ensures lost { IfErr result (λ found. found ≢ leaf) }
     {
         self.names(pass);
@@ -75,7 +76,8 @@ impl<A: Allocator + Copy> CardTable<A> {
     pub fn iunflag(&self, pass: &mut Pass<A>, card: u64, parent: u64) -> Result<(), Update>
         requires own { pass.old.table ≡ self.now.id }
         requires may { MayIUnflag pass.old.view card parent }
-        ensures step { Steps pass.old pass.new (exchanged (if_won (is_ok result) kind.IUnflag card) (found_word (iflag card) result) (learning (IOver card) pass.old.view)) }
+        ensures step { Steps pass.old pass.new (exchanged (if_won (is_ok result) kind.IUnflag card)
+            (found_word (iflag card) result) (learning (IOver card) pass.old.view)) }
         ensures lost { IfErr result (λ found. packed found ≢ iflag card) }
     {
         self.names(pass);
@@ -92,9 +94,11 @@ impl<A: Allocator + Copy> CardTable<A> {
     pub fn mark(&self, pass: &mut Pass<A>, card: u64, parent: u64, was: u64) -> Result<(), Update>
         requires own { pass.old.table ≡ self.now.id }
         requires may { MayMark pass.old.view card parent was }
-        ensures step { Steps pass.old pass.new (exchanged (if_won (is_ok result) kind.Mark card) (found_word was result) (after_mark (is_ok result) card parent (found_update (unpacked was) result) pass.old.view)) }
+        ensures step { Steps pass.old pass.new (exchanged (if_won (is_ok result) kind.Mark card)
+            (found_word was result) (after_mark (is_ok result) card parent (found_update (unpacked was) result)
+            pass.old.view)) }
         ensures lost { IfErr result (λ found. packed found ≢ was) }
-        ensures card { IfErr result (λ found. found.card ≤ self.now.last_card) }
+        ensures card { IfErr result (λ found. found.card ≤ self.now.plan.last_card) }
     {
         self.names(pass);
         let call = Call::Mark(card, parent, was);
@@ -117,7 +121,8 @@ impl<A: Allocator + Copy> CardTable<A> {
     ) -> Result<(), u64>
         requires own { pass.old.table ≡ self.now.id }
         requires may { MayDChild pass.old.view card grandparent parent sibling right }
-        ensures step { Steps pass.old pass.new (exchanged (if_won (is_ok result) kind.DChild card) (found_child parent result) (learning (Cut card) pass.old.view)) }
+        ensures step { Steps pass.old pass.new (exchanged (if_won (is_ok result) kind.DChild card)
+            (found_child parent result) (learning (Cut card) pass.old.view)) }
         ensures lost { IfErr result (λ found. found ≢ parent) }
     {
         self.names(pass);
@@ -132,7 +137,8 @@ impl<A: Allocator + Copy> CardTable<A> {
     pub fn dunflag(&self, pass: &mut Pass<A>, card: u64, grandparent: u64) -> Result<(), Update>
         requires own { pass.old.table ≡ self.now.id }
         requires may { MayDUnflag pass.old.view card grandparent }
-        ensures step { Steps pass.old pass.new (exchanged (if_won (is_ok result) kind.DUnflag card) (found_word (dflag card) result) (learning (DOver card) pass.old.view)) }
+        ensures step { Steps pass.old pass.new (exchanged (if_won (is_ok result) kind.DUnflag card)
+            (found_word (dflag card) result) (learning (DOver card) pass.old.view)) }
         ensures lost { IfErr result (λ found. packed found ≢ dflag card) }
     {
         self.names(pass);
@@ -149,7 +155,8 @@ impl<A: Allocator + Copy> CardTable<A> {
     pub fn backtrack(&self, pass: &mut Pass<A>, card: u64, grandparent: u64) -> Result<(), Update>
         requires own { pass.old.table ≡ self.now.id }
         requires may { MayBacktrack pass.old.view card grandparent }
-        ensures step { Steps pass.old pass.new (exchanged (if_won (is_ok result) kind.Backtrack card) (found_word (dflag card) result) (learning (Backed card) pass.old.view)) }
+        ensures step { Steps pass.old pass.new (exchanged (if_won (is_ok result) kind.Backtrack card)
+            (found_word (dflag card) result) (learning (Backed card) pass.old.view)) }
         ensures lost { IfErr result (λ found. packed found ≢ dflag card) }
     {
         self.names(pass);

@@ -12,6 +12,12 @@ ghost use Rattle.ell_cards.specs.Contention.{TriesAreHinderedByOthers};
 ghost use Rattle.ell_cards.specs.Stretches.{FewFlagsWithoutAChange, TablesHaveHeights};
 ghost use Rattle.ell_cards.specs.Meanwhile.{SearchesBeginThere, SearchesReadMeanwhile, SearchesMeetMeanwhile, KnownMovesWereMade};
 ghost use Rattle.ell_cards.specs.Looking.{LooksAreOfOneState, LooksAreInOrder, LooksReadTheirOwn};
+ghost use Rattle.ell_cards.specs.Changing.{CallsHaveTheirPoint, CallsAnswerAsAMap, CallsHaveTheirOwnCards, TreesAreMaps, TreesAreOfOneThread, CallsReplyAsOneThread};
+ghost use Rattle.ell_cards.specs.Linearizing.{RunsAreLinearizable, LastAnswersAreOfCalls};
+ghost use Rattle.ell_cards.specs.LayingDown.{LaidDownCallsChangeNothing, LaidDownLastChangesNothing};
+ghost use Rattle.ell_cards.specs.Answering.{AnswersHaveTheirPoints};
+ghost use Rattle.ell_cards.specs.Taking.{DeletesTakeTheToldValue};
+ghost use Rattle.ell_cards.specs.Sharing.{SharesAddUp};
 ghost use Rattle.ell_cards.specs.Tellings.{NoGreaterNext, NoGreaterUpdate, NoOtherOutcome, NoUntriedClaimLost};
 ghost use Rattle.ell_cards.specs.Laws.{StepsAreEvents, SplitsAreMoves, JoinsAreMoves, MachineIsSound, MachineHasOwnWords};
 ghost use Rattle.ell_cards.specs.Runs.{RunsAreLawful, RunsAreSchedules};
@@ -150,6 +156,43 @@ pub fn looks_are_of_one_state()
     ensures each { LooksAreOfOneState }
     ensures order { LooksAreInOrder }
     ensures own { LooksReadTheirOwn }
+{}
+
+/// A call of any pass, on a key of its own or on a shared one, has one point within its span, whatever turns of whatever passes
+/// come meanwhile: a state of which its answer is the map's, by the table's own words; or, where it answers yes by its card, the turn in
+/// which that card's child exchange was won, by whichever pass, at which the tree changed just as the operation says. A delete that says yes
+/// took the value that its pass was told of the leaf of its card.
+pub fn calls_have_their_point()
+    ensures point { CallsHaveTheirPoint }
+    ensures map { CallsAnswerAsAMap }
+    ensures apart { CallsHaveTheirOwnCards }
+    ensures maps { TreesAreMaps }
+    ensures thread { TreesAreOfOneThread }
+    ensures replies { CallsReplyAsOneThread }
+    ensures answered { AnswersHaveTheirPoints }
+    ensures taken { DeletesTakeTheToldValue }
+{}
+
+/// A call that was laid down without an answer changes nothing: no turn of any run does that changes the tree, neither before it was laid down
+/// nor after it. And what a pass laid down last is such a call of each run that leads there.
+pub fn laid_down_calls_change_nothing()
+    ensures nothing { LaidDownCallsChangeNothing }
+    ensures last { LaidDownLastChangesNothing }
+{}
+
+/// The passes of a table have the whole share together, and each that may change a shared key has some of it.
+pub fn shares_add_up()
+    ensures { SharesAddUp }
+{}
+
+/// Every run from a start, by any passes in any order, is linearizable. There is one sequence of its calls, as if one thread made one after
+/// the other: of each call that has ended, with its answer, and of each that has not ended but has changed the tree, as if it had answered yes.
+/// A call that ended before another began stands before it, the replies are those of the map that has the start keys first, and the tree is
+/// what they leave. It does not matter whose keys they are: a key may be one pass's or shared. And what a pass answered last is a call of
+/// each run that leads there.
+pub fn runs_are_linearizable()
+    ensures runs { RunsAreLinearizable }
+    ensures last { LastAnswersAreOfCalls }
 {}
 
 /// The table's rule has force: there are things that no step can tell, since nowhere do turns lead to the state after it. None can

@@ -1,5 +1,5 @@
 //! How a table begins, and how its passes part and come together.
-ghost use Rattle.std.specs.Prelude.{◌≡◌, ◌≢◌, ◌≤◌, ◌<◌, ◌↔◌, IsTrue, [], filter, not, max, true, length, None, IfOk, IfErr, OnOk, replicate, vec_len};
+ghost use Rattle.std.specs.Prelude.{◌≡◌, ◌≢◌, ◌≤◌, ◌<◌, ◌+◌, ◌*◌, ◌↔◌, if◌then◌else◌, IsTrue, [], filter, not, max, true, false, length, None, IfOk, IfErr, OnOk, replicate, vec_len};
 ghost use Rattle.std.specs.List.{All};
 ghost use Rattle.std.specs.List.Sorted.{IsStrictlyIncreasing};
 ghost use Rattle.std.specs.Map.{keys_of};
@@ -8,15 +8,16 @@ ghost use Rattle.ell_ops.specs.KeySet.{set_of};
 ghost use Rattle.ell_word.specs.Node.{greatest_card, most_start};
 ghost use Rattle.ell_core.specs.state.Opening.{last_card};
 ghost use Rattle.ell_core.specs.state.Machine.{ledger_of};
-ghost use Rattle.ell_cards.specs.Models.{Steps, IsFree, IsCardCount, Refuses, one_more};
-ghost use Rattle.ell_cards.specs.Changes.{first_view, left_view, right_view, joined_view};
+ghost use Rattle.ell_cards.specs.Models.{Steps, IsFree, IsCardCount, Refuses, SplitRefuses, one_more};
+ghost use Rattle.ell_cards.specs.Changes.{first_of, left_view, right_view, joined_view};
 ghost use Rattle.ell_cards.specs.Inside.{IsOpened};
-ghost use Rattle.ell_cards.specs.Stepping.{MaySplit, MayHave};
-ghost use Rattle.ell_cards.specs.Starts.{MayStart};
+ghost use Rattle.ell_cards.specs.Stepping.{MaySplit, MayHave, PartsShare};
+ghost use Rattle.ell_cards.specs.Starts.{MayStart, OpensBy};
 
-use crate::fault::CardFault;
+use crate::fault::{CardFault, SplitFault};
 use crate::pass::Pass;
 use crate::rule::{CardRule, Joined, PartedBy, SplitInto};
+use crate::share::{Share, WHOLE_SHARE};
 use crate::table::CardTable;
 use crate::view::{Plan, View};
 use atomic_table::{Seat, Table};
@@ -34,9 +35,8 @@ impl<A: Allocator + Copy> CardTable<A> {
         requires ascending { IsStrictlyIncreasing keys.now }
         requires real { All (λ k. k ≤ greatest_key) keys.now }
         ensures cards { OnOk result (IsCardCount cards) }
-        ensures table { IfOk result (λ made. (made.0.keys ≡ keys.now) × (made.0.last_card ≡ cards)) }
-        ensures start { IfOk result (λ made. made.0.start ≡ []) }
-        ensures pass { IfOk result (λ made. made.1 ≡ record { table = made.0.id; view = first_view keys.now []; steps = 0; label = 0 }) }
+        ensures opened { IfOk result (OpensBy
+            (record { keys = keys.now; start = []; last_card = cards; shared = false })) }
         ensures refused { IfErr result (Refuses cards) }
     {
         CardTable::reserve_from(alloc, &[], keys, cards)
@@ -59,9 +59,8 @@ impl<A: Allocator + Copy> CardTable<A> {
         requires given { All (λ k. set_of keys.now k ≡ true) (keys_of start.now) }
         requires few { length start.now ≤ most_start }
         ensures cards { OnOk result (IsCardCount cards) }
-        ensures table { IfOk result (λ made. (made.0.keys ≡ keys.now) × (made.0.last_card ≡ last_card start.now cards)) }
-        ensures start { IfOk result (λ made. made.0.start ≡ start.now) }
-        ensures pass { IfOk result (λ made. made.1 ≡ record { table = made.0.id; view = first_view keys.now start.now; steps = 0; label = 0 }) }
+        ensures opened { IfOk result (OpensBy
+            (record { keys = keys.now; start = start.now; last_card = last_card start.now cards; shared = false })) }
         ensures refused { IfErr result (Refuses cards) }
     {
         if !is_card_count(cards) {
@@ -89,9 +88,12 @@ impl<A: Allocator + Copy> CardTable<A> {
         requires given { All (λ k. set_of keys.items k ≡ true) (keys_of start.items) }
         requires few { length start.items ≤ most_start }
         ensures cards { OnOk result (IsCardCount cards) }
-        ensures table { IfOk result (λ made. (made.0.keys ≡ keys.items) × (made.0.last_card ≡ last_card start.items cards)) }
-        ensures start { IfOk result (λ made. made.0.start ≡ start.items) }
-        ensures pass { IfOk result (λ made. made.1 ≡ record { table = made.0.id; view = first_view keys.items start.items; steps = 0; label = 0 }) }
+        ensures opened { IfOk result (OpensBy (record {
+          keys = keys.items;
+          start = start.items;
+          last_card = last_card start.items cards;
+          shared = false;
+        })) }
         ensures refused { IfErr result (Refuses cards) }
     {
         if !is_card_count(cards) {
@@ -101,42 +103,110 @@ impl<A: Allocator + Copy> CardTable<A> {
             last_card: cards + start.len() as u64,
             keys,
             start,
+            shared: false,
         };
+        Ok(CardTable::open(alloc, zeros, plan)?)
+    }
+
+    /// A table of a tree that has these start keys with their values, balanced, with so many cards to be claimed, in which every key up to
+    /// `KEY_MAX` that is not among these keys is shared, and one pass, which owns these keys: of them the start keys are present, the others
+    /// absent. Any pass may change a shared key. Errors are as of `reserve`, and the number of the last card is as of `reserve_from`.
+    /// Conditions: the keys are strictly ascending, and at most `KEY_MAX`; so are the start keys, which need not be among the keys; there are
+    /// at most `START_MAX` of these.
+    pub fn reserve_shared(
+        alloc: A,
+        start: &[(u64, u64)],
+        keys: &[u64],
+        cards: u64,
+    ) -> Result<(CardTable<A>, Pass<A>), CardFault>
+        requires ascending { IsStrictlyIncreasing keys.now }
+        requires real { All (λ k. k ≤ greatest_key) keys.now }
+        requires start_ascending { IsStrictlyIncreasing (keys_of start.now) }
+        requires start_real { All (λ k. k ≤ greatest_key) (keys_of start.now) }
+        requires few { length start.now ≤ most_start }
+        ensures cards { OnOk result (IsCardCount cards) }
+        ensures opened { IfOk result (OpensBy
+            (record { keys = keys.now; start = start.now; last_card = last_card start.now cards; shared = true })) }
+        ensures refused { IfErr result (Refuses cards) }
+    {
+        if !is_card_count(cards) {
+            return Err(CardFault::BadCards);
+        }
+        let plan = Plan {
+            last_card: cards + start.len() as u64,
+            keys: copied(alloc, keys)?,
+            start: copied(alloc, start)?,
+            shared: true,
+        };
+        Ok(CardTable::open(alloc, Vec::new(alloc), plan)?)
+    }
+
+    // A table with this plan, and its first pass. The zeros are cut to the words of the table, or more are put behind them.
+    fn open(
+        alloc: A,
+        zeros: Vec<u64, A>,
+        plan: Plan<A>,
+    ) -> Result<(CardTable<A>, Pass<A>), AllocError>
+        requires zeros { All (λ word. word ≡ 0) zeros.items }
+        requires cards { plan.last_card ≤ greatest_card }
+        requires few { length plan.start < greatest_card }
+        requires may { MayStart plan }
+        ensures opened { IfOk result (OpensBy plan) }
+    {
         let (table, seat) = opened(alloc, zeros, &plan)?;
         let Plan {
             keys,
             start: _,
             last_card,
+            shared,
         } = plan;
         let pass = Pass {
             keys,
             label: 0,
             steps: 0,
+            share: Share {
+                units: WHOLE_SHARE,
+                counts: shared,
+            },
             seat,
         };
         let table = CardTable {
             table,
             alloc,
             last_card,
+            shared,
         };
         Ok((table, pass))
     }
 
     /// The number of the last card, at most `CARD_MAX`: how many cards there are beside card 0, those of the start keys included.
     pub fn last_card(&self) -> u64
-        ensures cards { result ≡ self.now.last_card }
+        ensures cards { result ≡ self.now.plan.last_card }
         ensures limit { result ≤ greatest_card }
     {
         self.last_card
     }
 
-    /// Parts a pass with nothing in hand: the left part gets these keys of its own, ascending, and the right part the rest.
-    /// Where memory is refused, the pass is as it was.
+    /// Room for the pairs of the tree, of which a pass owns so many keys: these are enough where no key is shared, and two of each card,
+    /// card 0 too, always.
+    pub fn most_pairs(&self, owned: usize) -> usize
+        ensures { result ≡ (if self.now.plan.shared then 2 * self.now.plan.last_card + 2 else owned) }
+    {
+        if self.shared {
+            2 * self.last_card as usize + 2
+        } else {
+            owned
+        }
+    }
+
+    /// Parts a pass with nothing in hand: the left part gets these keys of its own, ascending, and the right part the rest, and a part of the
+    /// share. `TooManyPasses` comes exactly where the pass may not be parted, `NoMemory` where memory is refused; either way the pass is as it
+    /// was.
     pub fn split(
         &self,
         pass: Pass<A>,
         left_keys: &[u64],
-    ) -> Result<(Pass<A>, Pass<A>), (Pass<A>, NoMemory)>
+    ) -> Result<(Pass<A>, Pass<A>), (Pass<A>, SplitFault)>
         requires own { pass.table ≡ self.now.id }
         requires free { IsFree pass.view }
         requires ascending { IsStrictlyIncreasing left_keys.now }
@@ -144,9 +214,13 @@ impl<A: Allocator + Copy> CardTable<A> {
         ensures left { IfOk result (λ parts. Steps pass parts.0 (left_view left_keys.now pass.view)) }
         ensures right { IfOk result (λ parts. Steps pass parts.1 (right_view left_keys.now pass.view)) }
         ensures refused { IfErr result (λ refused. refused.0 ≡ pass) }
+        ensures why { IfErr result (λ refused. SplitRefuses pass.view refused.1) }
     {
+        if !pass.may_part() {
+            return Err((pass, SplitFault::TooManyPasses));
+        }
         let Ok((left, right)) = parted(self.alloc, pass.keys.as_slice(), left_keys) else {
-            return Err((pass, NoMemory));
+            return Err((pass, SplitFault::NoMemory));
         };
         Ok(self.split_as::<Brand>(pass, left, right))
     }
@@ -159,9 +233,10 @@ impl<A: Allocator + Copy> CardTable<A> {
         right: Vec<u64, A>,
     ) -> (Pass<A>, Pass<A>)
         requires own { pass.table ≡ self.now.id }
-        requires rule { MaySplit self.now.keys self.now.start self.now.last_card pass.view J.left J.right }
-        requires left { MayHave self.now.last_card pass.view left.items J.left }
-        requires right { MayHave self.now.last_card pass.view right.items J.right }
+        requires rule { MaySplit self.now.plan pass.view J.left J.right }
+        requires left { MayHave self.now.plan.last_card pass.view left.items J.left }
+        requires right { MayHave self.now.plan.last_card pass.view right.items J.right }
+        requires shares { PartsShare pass.view J.left J.right }
         ensures left { Steps pass result.0 J.left }
         ensures right { Steps pass result.1 J.right }
     {
@@ -169,20 +244,24 @@ impl<A: Allocator + Copy> CardTable<A> {
             keys: _,
             label,
             steps,
+            share,
             mut seat,
         } = pass;
         let other = self.table.shared.split_seat::<PartedBy<J>>(&mut seat);
         let steps = steps.saturating_add(1);
+        let (kept, given) = share.parted();
         let left = Pass {
             keys: left,
             label,
             steps,
+            share: kept,
             seat,
         };
         let right = Pass {
             keys: right,
             label,
             steps,
+            share: given,
             seat: other,
         };
         (left, right)
@@ -199,7 +278,12 @@ impl<A: Allocator + Copy> CardTable<A> {
         requires right { right.table ≡ self.now.id }
         requires left_free { IsFree left.view }
         requires right_free { IsFree right.view }
-        ensures joined { IfOk result (λ both. both ≡ record { table = left.table; view = joined_view left.view right.view; steps = one_more (max left.steps right.steps); label = left.label }) }
+        ensures joined { IfOk result (λ both. both ≡ record {
+          table = left.table;
+          view = joined_view left.view right.view;
+          steps = one_more (max left.steps right.steps);
+          label = left.label;
+        }) }
         ensures refused { IfErr result (λ refused. (refused.0 ≡ left) × (refused.1 ≡ right)) }
     {
         let Ok(keys) = united_keys(self.alloc, left.keys.as_slice(), right.keys.as_slice()) else {
@@ -209,12 +293,14 @@ impl<A: Allocator + Copy> CardTable<A> {
             keys: _,
             label,
             steps,
+            share,
             mut seat,
         } = left;
         let Pass {
             keys: _,
             label: _,
             steps: others,
+            share: added,
             seat: other,
         } = right;
         self.table.shared.join_seat::<Joined>(&mut seat, other);
@@ -223,13 +309,14 @@ impl<A: Allocator + Copy> CardTable<A> {
             keys,
             label,
             steps,
+            share: share.joined(added),
             seat,
         })
     }
 }
 
-// Whether a table may have so many cards to be claimed.
-fn is_card_count(cards: u64) -> bool
+/// Whether a table may have so many cards to be claimed.
+pub fn is_card_count(cards: u64) -> bool
     ensures { IsTrue result ↔ IsCardCount cards }
 {
     1 <= cards && cards <= CARDS_MAX
@@ -243,10 +330,10 @@ fn opened<A: Allocator + Copy>(
 ) -> Result<(Table<(), View, Plan<A>, CardRule, A>, Seat<(), View>), AllocError>
     requires zeros { All (λ word. word ≡ 0) zeros.items }
     requires cards { plan.now.last_card ≤ greatest_card }
-    requires room { length plan.now.start.items ≤ plan.now.last_card }
-    requires few { length plan.now.start.items < greatest_card }
-    requires may { MayStart plan.now.keys.items plan.now.start.items }
-    ensures { IfOk result (λ made. IsOpened plan.now.last_card made.0.shared.table_id made.1.table_id made.1.me (first_view plan.now.keys.items plan.now.start.items) × (made.0.shared.key ≡ plan.now)) }
+    requires few { length plan.now.start < greatest_card }
+    requires may { MayStart plan.now }
+    ensures { IfOk result (λ made. IsOpened plan.now.last_card made.0.shared.table_id made.1.table_id made.1.me
+        (first_of plan.now) × (made.0.shared.key ≡ plan.now)) }
 {
     let mut words = so_many(zeros, table_size(plan.last_card))?;
     write_opening(words.as_mut_slice(), plan.start.as_slice(), plan.last_card);

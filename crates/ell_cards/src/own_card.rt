@@ -22,7 +22,7 @@ impl<A: Allocator + Copy> CardTable<A> {
     pub fn claim(&self, pass: &mut Pass<A>, card: u64) -> bool
         requires own { pass.old.table ≡ self.now.id }
         requires may { MayClaim pass.old.view card }
-        requires room { card ≤ self.now.last_card }
+        requires room { card ≤ self.now.plan.last_card }
         ensures step { Steps pass.old pass.new (after_claim result card pass.old.view) }
     {
         self.names(pass);
@@ -52,9 +52,11 @@ impl<A: Allocator + Copy> CardTable<A> {
     ) -> Result<(), Update>
         requires own { pass.old.table ≡ self.now.id }
         requires may { MayIFlag pass.old.view card parent from }
-        ensures step { Steps pass.old pass.new (exchanged (if_won (is_ok result) kind.IFlag card) (found_word (packed from) result) (after_flag (is_ok result) (IFlagged card) parent (found_update from result) pass.old.view)) }
+        ensures step { Steps pass.old pass.new (exchanged (if_won (is_ok result) kind.IFlag card)
+            (found_word (packed from) result) (after_flag (is_ok result) (IFlagged card) parent
+            (found_update from result) pass.old.view)) }
         ensures lost { IfErr result (λ found. found ≢ from) }
-        ensures card { IfErr result (λ found. found.card ≤ self.now.last_card) }
+        ensures card { IfErr result (λ found. found.card ≤ self.now.plan.last_card) }
     {
         self.names(pass);
         let expected = pack(from);
@@ -76,9 +78,11 @@ impl<A: Allocator + Copy> CardTable<A> {
     ) -> Result<(), Update>
         requires own { pass.old.table ≡ self.now.id }
         requires may { MayDFlag pass.old.view card grandparent from }
-        ensures step { Steps pass.old pass.new (exchanged (if_won (is_ok result) kind.DFlag card) (found_word (packed from) result) (after_flag (is_ok result) (DFlagged card) grandparent (found_update from result) pass.old.view)) }
+        ensures step { Steps pass.old pass.new (exchanged (if_won (is_ok result) kind.DFlag card)
+            (found_word (packed from) result) (after_flag (is_ok result) (DFlagged card) grandparent
+            (found_update from result) pass.old.view)) }
         ensures lost { IfErr result (λ found. found ≢ from) }
-        ensures card { IfErr result (λ found. found.card ≤ self.now.last_card) }
+        ensures card { IfErr result (λ found. found.card ≤ self.now.plan.last_card) }
     {
         self.names(pass);
         let expected = pack(from);

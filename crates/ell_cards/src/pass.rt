@@ -2,10 +2,11 @@
 ghost use Rattle.std.specs.Prelude.{◌≡◌, ◌↔◌, ℕ, IsTrue, []};
 ghost use Rattle.std.specs.List.Sorted.{IsStrictlyIncreasing};
 ghost use Rattle.ell_core.specs.state.Layout.{table_size};
-ghost use Rattle.ell_cards.specs.Models.{Owns, PassModel, one_more};
+ghost use Rattle.ell_cards.specs.Models.{MayPart, Owns, PassModel, one_more, whole_share};
 ghost use Rattle.ell_cards.specs.Changes.{keys_of};
 ghost use Rattle.ell_cards.specs.Naming.{IsNamed};
 
+use crate::share::{Share, WHOLE_SHARE};
 use crate::view::View;
 use atomic_table::Seat;
 use std::alloc::Allocator;
@@ -18,6 +19,7 @@ pub struct Pass<A: Allocator + Copy> {
     pub(crate) keys: Vec<u64, A>,
     pub(crate) label: u32,
     pub(crate) steps: u64,
+    pub(crate) share: Share,
     pub(crate) seat: Seat<(), View>,
 }
 
@@ -54,6 +56,21 @@ impl<A: Allocator + Copy> Pass<A> {
         ensures ascending { IsStrictlyIncreasing result.now }
     {
         self.keys.as_slice()
+    }
+
+    /// Whether it is the only pass of its table that has a share: all passes of a table together have the whole.
+    pub fn has_whole_share(&self) -> bool
+        ensures { IsTrue result ↔ (self.now.view.share ≡ whole_share) }
+    {
+        self.share.units == WHOLE_SHARE
+    }
+
+    /// Whether the pass may be parted: where some keys of its table are shared, each part gets a share, so a pass that has no more than the
+    /// least one may not.
+    pub fn may_part(&self) -> bool
+        ensures { IsTrue result ↔ MayPart self.now.view }
+    {
+        self.share.may_part()
     }
 
     /// The label, which a gate is told: 0 until another is set.

@@ -9,11 +9,11 @@ pub(crate) struct CardRule;
 
 impl<A: Allocator + Copy> TableRule<(), View, Plan<A>> for CardRule {
     ghost use Rattle.ell_cards.specs.Starts.{IsReached};
-    ghost use Rattle.ell_cards.specs.Changes.{first_view};
+    ghost use Rattle.ell_cards.specs.Changes.{first_of};
 
-    ghost holds = { λ plan. IsReached plan.keys.items plan.start.items plan.last_card };
+    ghost holds = { IsReached };
 
-    ghost first = { λ plan. first_view plan.keys.items plan.start.items };
+    ghost first = { first_of };
 }
 
 /// What a step tells of the word that it found and of what the pass knows after it. The caller of the step picks it.

@@ -27,14 +27,15 @@ pub struct CardTable<A: Allocator + Copy> {
     pub(crate) table: Table<(), View, Plan<A>, CardRule, A>,
     pub(crate) alloc: A,
     pub(crate) last_card: u64,
+    pub(crate) shared: bool,
 }
 
 impl<A: Allocator + Copy> Model for CardTable<A> {
     ghost Value = { TableModel };
 
-    ghost view = { λ t. record { id = t.table.shared.table_id; keys = t.table.shared.key.keys.items; start = t.table.shared.key.start.items; last_card = t.table.shared.key.last_card } };
+    ghost view = { λ t. record { id = t.table.shared.table_id; plan = t.table.shared.key } };
 
-    ghost invariant = { λ t. (t.table.shared.table_id.words ≡ table_size t.table.shared.key.last_card) × (t.table.shared.table_id.slots ≡ 0) × (t.table.shared.key.last_card ≤ greatest_card) × (t.last_card ≡ t.table.shared.key.last_card) };
+    ghost invariant = { λ t. (t.table.shared.table_id.words ≡ table_size t.table.shared.key.last_card) × (t.table.shared.table_id.slots ≡ 0) × (t.table.shared.key.last_card ≤ greatest_card) × (t.last_card ≡ t.table.shared.key.last_card) × (t.shared ≡ t.table.shared.key.shared) };
 }
 
 impl<A: Allocator + Copy> CardTable<A> {
@@ -43,7 +44,7 @@ impl<A: Allocator + Copy> CardTable<A> {
     #[inline(always)]
     pub fn claims_stay_inside(&self, pass: &Pass<A>)
         requires own { pass.now.table ≡ self.now.id }
-        ensures { pass.now.view.next_at_least ≤ self.now.last_card + 1 }
+        ensures { pass.now.view.next_at_least ≤ self.now.plan.last_card + 1 }
     {
         self.names(pass);
     }
@@ -52,8 +53,8 @@ impl<A: Allocator + Copy> CardTable<A> {
     #[inline(always)]
     pub(crate) fn names(&self, pass: &Pass<A>)
         requires own { pass.now.table ≡ self.now.id }
-        ensures named { IsNamed self.now.last_card pass.now.view }
-        ensures room { self.now.last_card ≤ greatest_card }
+        ensures named { IsNamed self.now.plan.last_card pass.now.view }
+        ensures room { self.now.plan.last_card ≤ greatest_card }
     {
         let _ = &self.table;
         let _ = &pass.seat;
@@ -63,9 +64,9 @@ impl<A: Allocator + Copy> CardTable<A> {
     #[inline(always)]
     fn load_as<J: Telling>(&self, pass: &mut Pass<A>, call: Call, word: usize) -> u64
         requires own { pass.old.table ≡ self.now.id }
-        requires word { IsNamed self.now.last_card pass.old.view → word < table_size self.now.last_card }
-        requires rule { MayLoad self.now.keys self.now.start self.now.last_card pass.old.view word J.then }
-        requires keeps { KeepsPass self.now.last_card pass.old.view J.then }
+        requires word { IsNamed self.now.plan.last_card pass.old.view → word < table_size self.now.plan.last_card }
+        requires rule { MayLoad self.now.plan pass.old.view word J.then }
+        requires keeps { KeepsPass self.now.plan.last_card pass.old.view J.then }
         ensures told { J.then result pass.new.view }
         ensures step { StepsBy pass.old pass.new }
     {
@@ -79,11 +80,11 @@ impl<A: Allocator + Copy> CardTable<A> {
     #[inline(always)]
     pub(crate) fn load(&self, pass: &mut Pass<A>, call: Call, word: usize) -> u64
         requires own { pass.old.table ≡ self.now.id }
-        requires may { May self.now.last_card call pass.old.view }
+        requires may { May self.now.plan.last_card call pass.old.view }
         requires word { word ≡ word_of call }
         requires atomic { atomic_of call ≡ Load }
         ensures step { Steps pass.old pass.new (after call result pass.old.view) }
-        ensures tells { Tells self.now.last_card call pass.old.view result }
+        ensures tells { Tells self.now.plan.last_card call pass.old.view result }
         ensures looked { ReadsItsOwn pass.new.view }
     {
         self.load_as::<Brand>(pass, call, word)
@@ -93,9 +94,9 @@ impl<A: Allocator + Copy> CardTable<A> {
     #[inline(always)]
     fn store_as<J: Telling>(&self, pass: &mut Pass<A>, call: Call, word: usize, value: u64)
         requires own { pass.old.table ≡ self.now.id }
-        requires word { IsNamed self.now.last_card pass.old.view → word < table_size self.now.last_card }
-        requires rule { MayStore self.now.keys self.now.start self.now.last_card pass.old.view word value J.then }
-        requires keeps { KeepsPass self.now.last_card pass.old.view J.then }
+        requires word { IsNamed self.now.plan.last_card pass.old.view → word < table_size self.now.plan.last_card }
+        requires rule { MayStore self.now.plan pass.old.view word value J.then }
+        requires keeps { KeepsPass self.now.plan.last_card pass.old.view J.then }
         ensures told { J.then value pass.new.view }
         ensures step { StepsBy pass.old pass.new }
     {
@@ -128,9 +129,9 @@ impl<A: Allocator + Copy> CardTable<A> {
         value: u64,
     ) -> u64
         requires own { pass.old.table ≡ self.now.id }
-        requires word { IsNamed self.now.last_card pass.old.view → word < table_size self.now.last_card }
-        requires rule { MayExchange self.now.keys self.now.start self.now.last_card pass.old.view word expected value J.then }
-        requires keeps { KeepsPass self.now.last_card pass.old.view J.then }
+        requires word { IsNamed self.now.plan.last_card pass.old.view → word < table_size self.now.plan.last_card }
+        requires rule { MayExchange self.now.plan pass.old.view word expected value J.then }
+        requires keeps { KeepsPass self.now.plan.last_card pass.old.view J.then }
         ensures told { J.then result pass.new.view }
         ensures step { StepsBy pass.old pass.new }
     {
@@ -154,11 +155,11 @@ impl<A: Allocator + Copy> CardTable<A> {
         value: u64,
     ) -> u64
         requires own { pass.old.table ≡ self.now.id }
-        requires may { May self.now.last_card call pass.old.view }
+        requires may { May self.now.plan.last_card call pass.old.view }
         requires word { word ≡ word_of call }
         requires atomic { atomic_of call ≡ Exchange expected value }
         ensures step { Steps pass.old pass.new (after call result pass.old.view) }
-        ensures tells { Tells self.now.last_card call pass.old.view result }
+        ensures tells { Tells self.now.plan.last_card call pass.old.view result }
     {
         self.exchange_as::<Brand>(pass, call, word, expected, value)
     }

@@ -1,8 +1,10 @@
 //! What a pass knows, as contracts see it.
 use ell_core::{Fact, Field, WorkerView};
+use ell_ops::{Op, Reply};
 use ell_word::{Kind, Update};
 use std::alloc::Allocator;
 use std::collections::LinkedList;
+use std::marker::Model;
 
 /// What a pass was told, and what never changes.
 #[derive(Clone, Copy)]
@@ -35,6 +37,15 @@ pub struct Looking {
     pub node: u64,
 }
 
+/// An operation and what was answered to it.
+#[derive(Clone, Copy)]
+pub struct Answered {
+    pub op: Op,
+    pub said: Reply,
+    /// The card that the pass had in hand for it then.
+    pub card: Option<u64>,
+}
+
 /// What a pass knows. No value of this type is made.
 #[derive(Drop)]
 pub struct View {
@@ -57,6 +68,13 @@ pub struct View {
     pub won: LinkedList<(Kind, u64)>,
     /// How many operations it has answered.
     pub answers: u64,
+    /// The operation that it answered last, until another begins, or the pass is split or joined.
+    pub answered: Option<Answered>,
+    /// The operation that it laid down last without an answer, until another begins, or the pass is split or joined.
+    pub laid_down: Option<Op>,
+    /// The share that it has of its table. The first pass has the whole; a split gives a part of the share to the right part, and a join adds
+    /// the shares.
+    pub share: u64,
     /// What it knew when its search began, the last first.
     pub knew_before: LinkedList<Fact>,
     /// The claim word is this at least, by the claims that it tried: one more than the last card that it won or lost.
@@ -76,14 +94,24 @@ pub struct View {
     pub made: u64,
 }
 
-/// What a table is made for. A table keeps the number of its last card; the keys go to its first pass, and the start keys into
+/// What a table is opened with. A table keeps the number of its last card; the keys go to its first pass, and the start keys into
 /// its words.
 #[derive(Drop)]
 pub struct Plan<A: Allocator + Copy> {
-    /// The keys that passes own, strictly ascending.
+    /// The keys that may have owners, strictly ascending.
     pub keys: Vec<u64, A>,
     /// The start keys, those of them that are present before the first operation, strictly ascending, with their values.
     pub start: Vec<(u64, u64), A>,
     /// The number of the last card: how many there are beside card 0.
     pub last_card: u64,
+    /// Whether every other key up to `KEY_MAX` is shared: any pass may change it.
+    pub shared: bool,
+}
+
+impl<A: Allocator + Copy> Model for Plan<A> {
+    ghost use Rattle.ell_cards.specs.Models.{TablePlan};
+
+    ghost Value = { TablePlan };
+
+    ghost view = { λ p. record { keys = p.keys.items; start = p.start.items; last_card = p.last_card; shared = p.shared } };
 }

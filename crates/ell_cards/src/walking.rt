@@ -1,6 +1,6 @@
 //! The step calls by which a pass begins, searches and ends its operation. Each is one atomic step.
 ghost use Rattle.std.specs.Prelude.{◌≡◌, ◌≤◌, ◌<◌, ◌+◌, Some};
-ghost use Rattle.ell_core.specs.state.Machine.{ledger_of};
+ghost use Rattle.ell_core.specs.state.Machine.{ledger_of, worker_of};
 ghost use Rattle.ell_core.specs.acts.Searching.{IsLeaf};
 ghost use Rattle.ell_core.specs.statements.Effects.{AnswersAsMap};
 ghost use Rattle.ell_cards.specs.declared.view.Told.TheVariants.{Met};
@@ -46,7 +46,7 @@ impl<A: Allocator + Copy> CardTable<A> {
         requires own { pass.old.table ≡ self.now.id }
         requires may { MayStop pass.old.view }
         ensures step { Steps pass.old pass.new (after_leave pass.old.view) }
-        ensures least { pass.old.view.next_at_least ≤ self.now.last_card + 1 }
+        ensures least { pass.old.view.next_at_least ≤ self.now.plan.last_card + 1 }
     {
         self.load(pass, Call::Leave, 0);
     }
@@ -57,8 +57,8 @@ impl<A: Allocator + Copy> CardTable<A> {
         requires own { pass.old.table ≡ self.now.id }
         requires may { MayAnswer pass.old.view said }
         ensures step { Steps pass.old pass.new (after_answer said pass.old.view) }
-        ensures least { pass.old.view.next_at_least ≤ self.now.last_card + 1 }
-        ensures reply { AnswersAsMap (ledger_of pass.old.view.worker.ledger) (ledger_of pass.new.view.worker.ledger) pass.old.view.worker.operation said }
+        ensures least { pass.old.view.next_at_least ≤ self.now.plan.last_card + 1 }
+        ensures reply { AnswersAsMap (worker_of pass.old.view.worker) (ledger_of pass.new.view.worker.ledger) said }
     {
         self.load(pass, Call::Answer(said), 0);
     }
@@ -69,7 +69,7 @@ impl<A: Allocator + Copy> CardTable<A> {
         requires own { pass.old.table ≡ self.now.id }
         requires may { MayRead pass.old.view node }
         ensures step { Steps pass.old pass.new (after_upd node result pass.old.view) }
-        ensures card { result.card ≤ self.now.last_card }
+        ensures card { result.card ≤ self.now.plan.last_card }
         ensures unknown { EndWasUnknown pass.old.view result.state result.card }
     {
         self.names(pass);
@@ -83,7 +83,7 @@ impl<A: Allocator + Copy> CardTable<A> {
         requires may { MayGoDown pass.old.view node right }
         ensures step { Steps pass.old pass.new (after_down node result pass.old.view) }
         ensures greater { node < result }
-        ensures there { InTable self.now.last_card result }
+        ensures there { InTable self.now.plan.last_card result }
     {
         self.names(pass);
         self.load(pass, Call::Down(node, right), child_at(node, right))
@@ -95,7 +95,7 @@ impl<A: Allocator + Copy> CardTable<A> {
         requires own { pass.old.table ≡ self.now.id }
         ensures step { Steps pass.old pass.new (after_next result pass.old.view) }
         ensures some { 1 ≤ result }
-        ensures room { result ≤ self.now.last_card + 1 }
+        ensures room { result ≤ self.now.plan.last_card + 1 }
         ensures least { pass.old.view.next_at_least ≤ result }
     {
         self.load(pass, Call::Next, 0)
@@ -108,7 +108,7 @@ impl<A: Allocator + Copy> CardTable<A> {
         requires may { MayLookFor pass.old.view key }
         ensures step { Steps pass.old pass.new (after_look_for key result pass.old.view) }
         ensures greater { 0 < result }
-        ensures there { InTable self.now.last_card result }
+        ensures there { InTable self.now.plan.last_card result }
     {
         self.names(pass);
         self.load(pass, Call::LookFor(key), child_at(0, false))
@@ -121,7 +121,7 @@ impl<A: Allocator + Copy> CardTable<A> {
         requires may { MayLookDown pass.old.view node right }
         ensures step { Steps pass.old pass.new (after_look_down result pass.old.view) }
         ensures greater { node < result }
-        ensures there { InTable self.now.last_card result }
+        ensures there { InTable self.now.plan.last_card result }
     {
         self.names(pass);
         self.load(pass, Call::LookDown(node, right), child_at(node, right))

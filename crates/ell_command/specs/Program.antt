@@ -1,6 +1,9 @@
-use Rattle.std.specs.Prelude.{◌≡◌, ◌⊎◌, ℕ, List, Option, ⊤}
+use Rattle.std.specs.Prelude.{◌≡◌, ◌⊎◌, ℕ, List, Option, Result, Ok, Err, ⊤}
 use Rattle.std.specs.Io.KnownBytes.{Keeps}
 use Rattle.ell_run.specs.Answered.{FaultTells, IsAnswered, IsBeforeWriting}
+use Rattle.clap.specs.Walk.{Text}
+use Rattle.ell_command.specs.CommandLine.{AreRefused, AreShownHelp, AreTaken, AreTakenToReplay, AreTakenToRun}
+use Rattle.ell_command.specs.CommandLine.{AsksForHelp, AsksForVersion, AsksToReplay, AsksToRun}
 use Rattle.ell_command.specs.declared.program.Failure.{Failure}
 use Rattle.ell_command.specs.declared.program.Failure.TheVariants as failure
 use Rattle.ell_run.specs.declared.bytes.RunFault.{RunFault}
@@ -58,6 +61,29 @@ status_of failure.NoMemory = 3
 status_of (failure.Run fault) = status_of_fault fault
 status_of (failure.Replay fault) = status_of_script_fault fault
 status_of failure.Write = 4
+
+-- the exit status that an outcome has: success, or what tells of its failure
+abbrev pub status_after : {X : Type 0} → Result X Failure → ℕ
+status_after (Ok done) = 0
+status_after (Err failed) = status_of failed
+
+-- words that are taken name `run` or `replay`; where help or the version is shown, nothing is refused; words that are refused end silently
+pub record GoesByWords (words : List Text) (status : ℕ) : Type 0 where
+  pub named : AreTaken words → AreTakenToRun words ⊎ AreTakenToReplay words
+  pub help : AsksForHelp words → ¬ IsRefusal status
+  pub version : AsksForVersion words → ¬ IsRefusal status
+  pub shown : AreShownHelp words → ¬ IsRefusal status
+  pub refused : AreRefused words → IsSilent status
+
+-- success means that the run ended well, where the words are taken to run, as the one word `run` is
+pub record AnswersRun (words : List Text) (status : ℕ) (input before after : Option (List ℕ)) : Type 0 where
+  pub taken : AreTakenToRun words → Succeeded status → IsAnswered input before after
+  pub run : AsksToRun words → Succeeded status → IsAnswered input before after
+
+-- success means that the replay ended well, where the words are taken to replay, as the one word `replay` is
+pub record AnswersReplay (words : List Text) (status : ℕ) (input before after : Option (List ℕ)) : Type 0 where
+  pub taken : AreTakenToReplay words → Succeeded status → IsReplayed input before after
+  pub replay : AsksToReplay words → Succeeded status → IsReplayed input before after
 
 -- the failure came before anything was written
 abbrev pub IsBeforeOutput : Failure → Type 0

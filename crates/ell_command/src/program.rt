@@ -1,19 +1,15 @@
 //! The whole program, over the words of its command line, a reader and two writers.
-ghost use Rattle.std.specs.Prelude.{◌≡◌, ◌⊎◌, IsTrue, IfErr, IsErrAnd, OnOk, Err, map};
+ghost use Rattle.std.specs.Prelude.{◌≡◌, IsTrue, IfErr, Err, map};
 ghost use Rattle.std.specs.Io.KnownBytes.{Keeps};
 ghost use Rattle.clap.specs.Words.{kind_of};
-ghost use Rattle.ell_command.specs.CommandLine.{AreRefused, AreShownHelp, AreTaken, AreTakenToReplay, AreTakenToRun};
-ghost use Rattle.ell_command.specs.CommandLine.{AsksForHelp, AsksForReport, AsksForVersion, AsksToReplay};
-ghost use Rattle.ell_command.specs.CommandLine.{AsksToRun};
-ghost use Rattle.ell_command.specs.CommandLine.{is_mistake};
-ghost use Rattle.ell_command.specs.Program.{IsBeforeOutput, IsRefusal, IsSilent, IsStatus, ReplayEndsBy};
-ghost use Rattle.ell_command.specs.Program.{ReplayFailureTells, RunEndsBy, RunFailureTells, Succeeded, status_of};
-ghost use Rattle.ell_run.specs.Answered.{IsAnswered};
-ghost use Rattle.ell_text.specs.replays.Replayed.{IsReplayed};
+ghost use Rattle.ell_command.specs.CommandLine.{AreTaken, AreTakenToReplay, AreTakenToRun, AsksForReport, is_mistake};
+ghost use Rattle.ell_command.specs.Program.{AnswersReplay, AnswersRun, GoesByWords, IsBeforeOutput, IsSilent, IsStatus};
+ghost use Rattle.ell_command.specs.Program.{ReplayEndsBy, ReplayFailureTells, RunEndsBy, RunFailureTells, Succeeded};
+ghost use Rattle.ell_command.specs.Program.{status_after, status_of};
 
 use crate::request::{Request, request_of};
 use clap::error::ErrorKind;
-use ell_run::{RunFault, run_bytes_watched};
+use ell_run::{RunFault, run_bytes};
 use ell_text::{ScriptFault, replay_bytes};
 use ell_word::{NoGate, StepGate};
 use std::alloc::Global;
@@ -108,22 +104,13 @@ pub fn elltree<R: Threads + Sync, S: AsStr, I: Read, O: Write, E: Write>(
     // Success leaves `err` as it was, unless a report was asked for.
     ensures quiet { Succeeded result → ¬ AsksForReport (map S.text words.now) → err.new ≡ err.old }
 
-    // Words that are taken name `run` or `replay`.
-    ensures named { AreTaken (map S.text words.now)
-        → AreTakenToRun (map S.text words.now) ⊎ AreTakenToReplay (map S.text words.now) }
+    ensures words { GoesByWords (map S.text words.now) result }
+    ensures run { AnswersRun (map S.text words.now) result
+        (I.remaining input.old) (O.contents out.old) (O.contents out.new) }
 
-    // Success means that the run ended well, where the words are taken to run, as the one word `run` is.
-    ensures taken { AreTakenToRun (map S.text words.now) → Succeeded result
-        → IsAnswered (I.remaining input.old) (O.contents out.old) (O.contents out.new) }
-    ensures run { AsksToRun (map S.text words.now) → Succeeded result
-        → IsAnswered (I.remaining input.old) (O.contents out.old) (O.contents out.new) }
-
-    // Success means that the replay ended well, where the words are taken to replay, as the one word
-    // `replay` is. A replay has no report.
-    ensures replayed { AreTakenToReplay (map S.text words.now) → Succeeded result
-        → IsReplayed (I.remaining input.old) (O.contents out.old) (O.contents out.new) }
-    ensures replay { AsksToReplay (map S.text words.now) → Succeeded result
-        → IsReplayed (I.remaining input.old) (O.contents out.old) (O.contents out.new) }
+    // A replay has no report.
+    ensures replay { AnswersReplay (map S.text words.now) result
+        (I.remaining input.old) (O.contents out.old) (O.contents out.new) }
     ensures unreported { AreTakenToReplay (map S.text words.now) → Succeeded result → err.new ≡ err.old }
 
     // Any other status is that of a failure that tells why: 2 only where the text is at fault or too long, or an entry of a
@@ -133,10 +120,6 @@ pub fn elltree<R: Threads + Sync, S: AsStr, I: Read, O: Write, E: Write>(
     ensures replay_failed { AreTakenToReplay (map S.text words.now) → ¬ Succeeded result
         → ReplayEndsBy result (I.remaining input.old) (O.contents out.old) (O.contents out.new) }
 
-    ensures help { AsksForHelp (map S.text words.now) → ¬ IsRefusal result }
-    ensures version { AsksForVersion (map S.text words.now) → ¬ IsRefusal result }
-    ensures shown { AreShownHelp (map S.text words.now) → ¬ IsRefusal result }
-    ensures refused { AreRefused (map S.text words.now) → IsSilent result }
     ensures unread { ¬ AreTaken (map S.text words.now) → input.new ≡ input.old }
 {
     match carry_out(rt, alloc, words, input, out, err, &NoGate) {
@@ -161,37 +144,22 @@ pub fn carry_out<R: Threads + Sync, S: AsStr, I: Read, O: Write, E: Write, G: St
 ) -> Result<(), Failure>
     ensures silent { IfErr result (λ failure.
         IsBeforeOutput failure → Keeps (O.contents out.old) (O.contents out.new)) }
-    ensures named { AreTaken (map S.text words.now)
-        → AreTakenToRun (map S.text words.now) ⊎ AreTakenToReplay (map S.text words.now) }
-    ensures taken { AreTakenToRun (map S.text words.now)
-        → OnOk result (IsAnswered (I.remaining input.old) (O.contents out.old) (O.contents out.new)) }
-    ensures run { AsksToRun (map S.text words.now)
-        → OnOk result (IsAnswered (I.remaining input.old) (O.contents out.old) (O.contents out.new)) }
-    ensures replayed { AreTakenToReplay (map S.text words.now)
-        → OnOk result (IsReplayed (I.remaining input.old) (O.contents out.old) (O.contents out.new)) }
-    ensures replay { AsksToReplay (map S.text words.now)
-        → OnOk result (IsReplayed (I.remaining input.old) (O.contents out.old) (O.contents out.new)) }
+    ensures words { GoesByWords (map S.text words.now) (status_after result) }
+    ensures run { AnswersRun (map S.text words.now) (status_after result)
+        (I.remaining input.old) (O.contents out.old) (O.contents out.new) }
+    ensures replay { AnswersReplay (map S.text words.now) (status_after result)
+        (I.remaining input.old) (O.contents out.old) (O.contents out.new) }
     ensures unreported { AreTakenToReplay (map S.text words.now) → err.new ≡ err.old }
     ensures failed { AreTakenToRun (map S.text words.now) → IfErr result (λ failure.
         RunFailureTells failure (I.remaining input.old) (O.contents out.old) (O.contents out.new)) }
     ensures replay_failed { AreTakenToReplay (map S.text words.now) → IfErr result (λ failure.
         ReplayFailureTells failure (I.remaining input.old) (O.contents out.old) (O.contents out.new)) }
-    ensures help { AsksForHelp (map S.text words.now)
-        → IfErr result (λ failure. ¬ IsRefusal (status_of failure)) }
-    ensures version { AsksForVersion (map S.text words.now)
-        → IfErr result (λ failure. ¬ IsRefusal (status_of failure)) }
-    ensures shown { AreShownHelp (map S.text words.now)
-        → IfErr result (λ failure. ¬ IsRefusal (status_of failure)) }
-    ensures refused { AreRefused (map S.text words.now)
-        → IsErrAnd result (λ failure. IsSilent (status_of failure)) }
     ensures unread { ¬ AreTaken (map S.text words.now) → input.new ≡ input.old }
     ensures quiet { ¬ AsksForReport (map S.text words.now) → err.new ≡ err.old }
 {
     match request_of(alloc, words) {
         Ok(Request::Run { settings, report }) => {
-            let told = run_bytes_watched(rt, alloc, input, out, settings, gate).map_err(
-                Failure::Run,
-            )?;
+            let told = run_bytes(rt, alloc, input, out, settings, gate).map_err(Failure::Run)?;
             if report {
                 let _ = tell(&format_args!("late {}\n", told.late), err);
             }

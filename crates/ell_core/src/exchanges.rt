@@ -79,7 +79,8 @@ fn flag<A: Allocator + Copy>(
     requires node { IsInner memory.old.last_card seen.node }
     requires unflagged { worker.old.flagged ≡ false }
     ensures says { IfOk result (λ said. said ≡ won_or_lost ((words_in memory.old).update seen.node == seen.word)) }
-    ensures flags { OnOk result (scene_in memory.new worker.new ≡ flags (scene_in memory.old worker.old) seen new fact) }
+    ensures flags { OnOk result (scene_in memory.new worker.new ≡ flags (scene_in memory.old worker.old) seen new
+        fact) }
     ensures refused { IfErr result (λ fault. fault ≡ NoMemory) }
     ensures lacks { OnErr result (LacksAny (worker_in worker.old).knows (flag_tells seen (words_in memory.old) fact)) }
     ensures unchanged { OnErr result (view_of worker.new ≡ view_of worker.old) }
@@ -241,7 +242,8 @@ fn take_dflag_away<A: Allocator + Copy>(memory: &mut Memory<A>, card: u64) -> St
     requires fits { WordsFit memory.old.last_card (words_in memory.old) }
     requires card { card ≤ memory.old.last_card }
     ensures says { result ≡ won_or_lost ((words_in memory.old).update ((words_in memory.old).gp card) == dflag card) }
-    ensures words { words_in memory.new ≡ exchanged_update (words_in memory.old) ((words_in memory.old).gp card) (dflag card) (clean card) }
+    ensures words { words_in memory.new ≡ exchanged_update (words_in memory.old) ((words_in memory.old).gp card)
+        (dflag card) (clean card) }
     ensures same { SameSize memory.old memory.new }
 {
     let grandparent = memory.read(card, Field::Gp);

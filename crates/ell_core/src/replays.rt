@@ -18,7 +18,8 @@ pub fn replay<A: Allocator + Copy>(
     events: &[Event],
 ) -> Result<Vec<Shown, A>, NoMemory>
     ensures run { IfOk result (λ shown. Run (machine_of world.old) events.now shown.items (machine_of world.new)) }
-    ensures order { IfOk result (λ shown. IsOpening (machine_of world.old) → WinsInOrder (machine_of world.old) events.now shown.items (machine_of world.new)) }
+    ensures order { IfOk result (λ shown. IsOpening (machine_of world.old) → WinsInOrder (machine_of world.old)
+        events.now shown.items (machine_of world.new)) }
     ensures passes { OnErr result (Passes (machine_of world.old) events.now (machine_of world.new)) }
     ensures cards { world.new.last_card ≡ world.old.last_card }
 {

@@ -50,7 +50,8 @@ fn write_branch(words: &mut [u64], start: &[(u64, u64)], branch: Branch)
     requires leaves { branch.first + branch.left ≤ length start.now + 1 }
     requires most { branch.card + branch.left ≤ greatest_card }
     requires card { branch.card < greatest_card }
-    ensures { words_of words.new ≡ filled (words_of words.old) branch.card (branch_filling (start_leaf start.now) (start_value start.now) branch) }
+    ensures { words_of words.new ≡ filled (words_of words.old) branch.card (branch_filling (start_leaf start.now)
+        (start_value start.now) branch) }
 {
     let middle = leaf_of(start, branch.first + branch.left);
     let left = if branch.left == 1 {

@@ -49,6 +49,8 @@ impl Entry {
 pub struct WorkerView {
     /// The keys that it owns, strictly ascending, and what is said of each.
     pub ledger: LinkedList<(u64, Entry)>,
+    /// The keys that may have an owner, where every other key is shared, or nothing, where no key is shared.
+    pub ownable: Option<LinkedList<u64>>,
     /// The operation in hand.
     pub operation: Option<Op>,
     pub search: Search,

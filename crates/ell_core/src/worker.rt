@@ -48,7 +48,8 @@ impl<A: Allocator + Copy> Worker<A> {
 
     /// Gives the worker a key, present or absent.
     pub fn own(&mut self, key: u64, entry: Entry) -> Result<(), NoMemory>
-        ensures { OnOk result (worker_in self.new ≡ record (worker_in self.old) { ledger = put (worker_in self.old).ledger key (Some entry) }) }
+        ensures { OnOk result (worker_in self.new ≡ record (worker_in self.old)
+            { ledger = put (worker_in self.old).ledger key (Some entry) }) }
     {
         self.ledger.insert(key, entry)?;
         Ok(())
@@ -64,7 +65,9 @@ impl<A: Allocator + Copy> Worker<A> {
     /// Writes whether a key that the worker owns is present.
     pub fn settle(&mut self, key: u64, entry: Entry)
         requires { (worker_in self.old).ledger key ≢ None }
-        ensures { worker_in self.new ≡ record (worker_in self.old) { ledger = put (worker_in self.old).ledger key (Some entry) } }
+        ensures { worker_in self.new ≡ record (worker_in self.old) {
+          ledger = put (worker_in self.old).ledger key (Some entry);
+        } }
     {
         if let Some(old) = self.ledger.get_mut(&key) {
             *old = entry;
@@ -80,7 +83,8 @@ impl<A: Allocator + Copy> Worker<A> {
 
     /// Learns a fact. It wants memory only for a fact that it lacks.
     pub fn learn(&mut self, fact: Fact) -> Result<(), NoMemory>
-        ensures learned { OnOk result (worker_in self.new ≡ knowing (worker_in self.old) (learned (worker_in self.old).knows fact)) }
+        ensures learned { OnOk result (worker_in self.new ≡ knowing (worker_in self.old)
+            (learned (worker_in self.old).knows fact)) }
         ensures lacks { OnErr result ((worker_in self.old).knows fact ≡ false) }
         ensures unchanged { OnErr result (view_of self.new ≡ view_of self.old) }
     {
@@ -90,7 +94,8 @@ impl<A: Allocator + Copy> Worker<A> {
 
     /// Learns a fact, if there is one.
     pub fn learn_any(&mut self, fact: Option<Fact>) -> Result<(), NoMemory>
-        ensures learned { OnOk result (worker_in self.new ≡ knowing (worker_in self.old) (learned_any (worker_in self.old).knows fact)) }
+        ensures learned { OnOk result (worker_in self.new ≡ knowing (worker_in self.old)
+            (learned_any (worker_in self.old).knows fact)) }
         ensures lacks { OnErr result (LacksAny (worker_in self.old).knows fact) }
         ensures unchanged { OnErr result (view_of self.new ≡ view_of self.old) }
     {
@@ -102,7 +107,8 @@ impl<A: Allocator + Copy> Worker<A> {
 
     /// Learns a fact, and another one if there is one: both or none.
     pub fn learn_both(&mut self, fact: Fact, other: Option<Fact>) -> Result<(), NoMemory>
-        ensures learned { OnOk result (worker_in self.new ≡ knowing (worker_in self.old) (learned_any (learned (worker_in self.old).knows fact) other)) }
+        ensures learned { OnOk result (worker_in self.new ≡ knowing (worker_in self.old)
+            (learned_any (learned (worker_in self.old).knows fact) other)) }
         ensures lacks { OnErr result (LacksEither (worker_in self.old).knows fact other) }
         ensures unchanged { OnErr result (view_of self.new ≡ view_of self.old) }
     {

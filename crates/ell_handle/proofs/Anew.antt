@@ -18,31 +18,32 @@ use Rattle.ell_tree.specs.Ledgers.{Owns, PassModel, TreeModel, present_in}
 use Rattle.ell_tree.specs.Node.{most_start}
 use Rattle.ell_tree.specs.PassParts.{IsFirst, start_entry}
 use Rattle.ell_handle.specs.declared.refusal.Refusal.{Refusal}
-use Rattle.ell_handle.specs.declared.refusal.Refusal.TheVariants.{BadCards, BadKey, BadStart, Busy, Foreign, NoMemory, NoTries, OtherTree, Spent}
+use Rattle.ell_handle.specs.declared.refusal.Refusal.TheVariants.{BadCards, BadKey, BadStart, Busy, Foreign, NoMemory, NoTries, OtherTree, SharedKeys, Spent, TooManyHandles}
 use Rattle.ell_handle.specs.Opens.{AreKeys, IsStart, MayOpen, OwnsAll, Refuses}
 use Rattle.ell_handle.specs.Renewal.{IsRenewed, IsTooMuch, RenewalRefuses}
+
+-- start keys of a tree are real
+pub real_start : (start : List (ℕ × ℕ)) (keys : List ℕ) → AreKeys keys start → All (λ k. k ≤ greatest_key) (keys_of start)
+real_start start keys are i d low =
+    let inside : i < length start = subst (λ n. i < n) (length-map start (λ e. e.0)) low in
+    subst (λ k. k ≤ greatest_key) (sym (get_or-map (λ e. e.0) start i (0, 0) d inside)) (are.real_start i (0, 0) inside)
 
 -- the keys of two lists in one are real, if those of both are
 pub real_united : (start : List (ℕ × ℕ)) (keys all : List ℕ) → Lists (union (set_of (keys_of start)) (set_of keys)) all → AreKeys keys start
     → (k : ℕ) → set_of all k ≡ true → k ≤ greatest_key
 real_united start keys all lists are k among = by (set_of (keys_of start) k) refl (sym (ap (λ s. s k) lists.each) ∙ among)
   where
-    first : All (λ k. k ≤ greatest_key) (keys_of start)
-    first i d low =
-        let inside : i < length start = subst (λ n. i < n) (length-map start (λ e. e.0)) low in
-        subst (λ k. k ≤ greatest_key) (sym (get_or-map (λ e. e.0) start i (0, 0) d inside)) (are.real_start i (0, 0) inside)
-
     by : (b : Bool) → set_of (keys_of start) k ≡ b → (b || set_of keys k) ≡ true → k ≤ greatest_key
-    by true is either = All-contains (λ k. k ≤ greatest_key) (keys_of start) k first (among_contains (keys_of start) k is)
+    by true is either = All-contains (λ k. k ≤ greatest_key) (keys_of start) k (real_start start keys are) (among_contains (keys_of start) k is)
     by false is either = All-contains (λ k. k ≤ greatest_key) keys k are.real (among_contains keys k either)
 
 -- the first pass of a tree owns no key but the tree's
-pub first_owns : (start : List (ℕ × ℕ)) (t : TreeModel) (p : PassModel) (k : ℕ) → IsFirst start t p → Owns p k → set_of t.keys k ≡ true
-first_owns start t p k first own = by (set_of t.keys k) refl
+pub first_owns : (t : TreeModel) (p : PassModel) (k : ℕ) → IsFirst t p → Owns p k → set_of t.plan.keys k ≡ true
+first_owns t p k first own = by (set_of t.plan.keys k) refl
   where
-    by : (b : Bool) → set_of t.keys k ≡ b → b ≡ true
+    by : (b : Bool) → set_of t.plan.keys k ≡ b → b ≡ true
     by true is = refl
-    by false is = absurd (own (first.ledger k ∙ ap (λ b. if b then Some (start_entry start k) else None) is))
+    by false is = absurd (own (first.ledger k ∙ ap (λ b. if b then Some (start_entry t.plan.start k) else None) is))
 
 -- a pass owns each key of its list
 pub owns_listed : (p : PassModel) (i d : ℕ) → i < length (ledger_keys p.view.worker.ledger) → Owns p (get_or (ledger_keys p.view.worker.ledger) i d)
@@ -93,20 +94,22 @@ module _ (p : PassModel) (pairs : List (ℕ × ℕ)) (all : ListsPairs (present_
   refuses_renewal cards Busy real refused = refused
   refuses_renewal cards Spent real refused = refused
   refuses_renewal cards OtherTree real refused = refused
+  refuses_renewal cards TooManyHandles real refused = refused
+  refuses_renewal cards SharedKeys real refused = refused
 
   module _ (t : TreeModel) (new : PassModel) (owns : OwnsAll (ledger_keys p.view.worker.ledger) pairs t new) where
     -- the map of the first pass of a tree of it
     pub same_map : (k : ℕ) → present_in new k ≡ present_in p k
-    same_map k = ap (λ there. there k) (owns.first.present ∙ all.each)
+    same_map k = ap (λ there. there k) (owns.first.present owns.owned ∙ (ap contents_of owns.begins ∙ all.each))
 
     -- and what that pass owns
     pub same_keys : (k : ℕ) → Owns new k ↔ Owns p k
     same_keys k = (
-      λ own. either (set_of (keys_of pairs) k) refl (sym both ∙ first_owns pairs t new k owns.first own),
-      λ own none. has (set_of t.keys k) (both ∙ right (set_of (keys_of pairs) k) (owned_among p.view.worker.ledger k own)) (sym (owns.first.ledger k) ∙ none),
+      λ own. either (set_of (keys_of pairs) k) refl (sym both ∙ first_owns t new k owns.first own),
+      λ own none. has (set_of t.plan.keys k) (both ∙ right (set_of (keys_of pairs) k) (owned_among p.view.worker.ledger k own)) (sym (owns.first.ledger k) ∙ none),
     )
       where
-        both : set_of t.keys k ≡ (set_of (keys_of pairs) k || set_of (ledger_keys p.view.worker.ledger) k)
+        both : set_of t.plan.keys k ≡ (set_of (keys_of pairs) k || set_of (ledger_keys p.view.worker.ledger) k)
         both = ap (λ s. s k) owns.all.each
 
         either : (b : Bool) → set_of (keys_of pairs) k ≡ b → (b || set_of (ledger_keys p.view.worker.ledger) k) ≡ true → Owns p k
@@ -117,13 +120,13 @@ module _ (p : PassModel) (pairs : List (ℕ × ℕ)) (all : ListsPairs (present_
         right true is = refl
         right false is = is
 
-        has : (b : Bool) → b ≡ true → (if b then Some (start_entry pairs k) else None) ≡ None → ⊥
+        has : (b : Bool) → b ≡ true → (if b then Some (start_entry t.plan.start k) else None) ≡ None → ⊥
         has true is none = cc
         has false is none = true≢false (sym is)
 
-    pub renewed : (cards : ℕ) → t.start ≡ pairs → t.last_card ≡ last_card pairs cards → MayOpen (ledger_keys p.view.worker.ledger) pairs cards
+    pub renewed : (cards : ℕ) → t.plan.last_card ≡ last_card pairs cards → MayOpen (ledger_keys p.view.worker.ledger) pairs cards
         → IsRenewed (present_in p) cards t new
-    renewed cards begins last may = record { start = pairs; all = all; first = owns.first; begins = begins; last = last; few = may.begins.few; count = may.count }
+    renewed cards last may = record { start = pairs; all = all; first = owns.first; begins = owns.begins; owned = owns.owned; last = last; few = may.begins.few; count = may.count }
 
 -- passes of the same keys own the same
 pub same_owned : (new old : PassModel) → ledger_keys new.view.worker.ledger ≡ ledger_keys old.view.worker.ledger → (k : ℕ) → Owns new k ↔ Owns old k

@@ -15,7 +15,7 @@ use Rattle.ell_tree.specs.PassParts.{IsLeftPart, IsRightPart}
 use Rattle.ell_handle.specs.Groups.{AreApart, IsPart, IsRest, OwnsKeysOf, PartRefuses}
 use Rattle.ell_handle.specs.declared.handle.Handle.{Handle}
 use Rattle.ell_handle.specs.declared.refusal.Refusal.{Refusal}
-use Rattle.ell_handle.specs.declared.refusal.Refusal.TheVariants.{BadCards, BadKey, BadStart, Busy, Foreign, NoMemory, NoTries, OtherTree, Spent}
+use Rattle.ell_handle.specs.declared.refusal.Refusal.TheVariants.{BadCards, BadKey, BadStart, Busy, Foreign, NoMemory, NoTries, OtherTree, SharedKeys, Spent, TooManyHandles}
 
 if_among : (b : Bool) (e : Option Entry) → (if b then e else None) ≢ None → b ≡ true
 if_among true e some = refl
@@ -171,6 +171,8 @@ refuses_more whole all i rest parts h Foreign low at so has refused = refused
 refuses_more whole all i rest parts h NoTries low at so has refused = refused
 refuses_more whole all i rest parts h Busy low at so has refused = refused
 refuses_more whole all i rest parts h Spent low at so has refused = refused
+refuses_more whole all i rest parts h TooManyHandles low at so has refused = refused
+refuses_more whole all i rest parts h SharedKeys low at so has refused = refused
 
 -- all parts
 pub shared_all : (whole : Handle) (all : List Handle) (i : ℕ) (rest : Handle) (parts : List Handle) → length all ≡ i → IsShared whole (take i all) rest parts

@@ -12,7 +12,6 @@ use Rattle.ell_ops.specs.Contents.{ListsPairs, contents_of}
 use Rattle.ell_ops.specs.KeySet.{Lists, set_of, union}
 use Rattle.ell_ops.specs.Meaning.{greatest_key}
 use Rattle.ell_core.specs.declared.view.Entry.{Entry}
-use Rattle.ell_core.specs.state.Opening.{last_card}
 use Rattle.ell_core.specs.statements.Effects.{value_in}
 use Rattle.ell_cards.specs.Changes.{keys_of as ledger_keys}
 use Rattle.ell_cards.proofs.words.Keys.{among_owned, at_place, owned_among}
@@ -24,7 +23,7 @@ use Rattle.ell_handle.specs.Opens.{AreKeys, IsOpened, IsStart, MayOpen, OwnsAll,
 use Rattle.ell_handle.specs.Renewal.{IsTooMuch}
 use Rattle.ell_handle.specs.declared.handle.Handle.{Handle}
 use Rattle.ell_handle.specs.declared.refusal.Refusal.{Refusal}
-use Rattle.ell_handle.specs.declared.refusal.Refusal.TheVariants.{BadCards, BadKey, BadStart, Busy, Foreign, NoMemory, NoTries, OtherTree, Spent}
+use Rattle.ell_handle.specs.declared.refusal.Refusal.TheVariants.{BadCards, BadKey, BadStart, Busy, Foreign, NoMemory, NoTries, OtherTree, SharedKeys, Spent, TooManyHandles}
 use Rattle.ell_handle.proofs.Anew.{owns_present, too_much}
 
 -- what is present with one handle more
@@ -53,7 +52,9 @@ lists_more hs i d left right both low first next lists =
 -- the first handle of a tree of some keys is that of a tree of the same keys in another list
 pub owns_same : (keys others : List ℕ) (pairs : List (ℕ × ℕ)) (t : TreeModel) (p : PassModel) → set_of keys ≡ set_of others → OwnsAll keys pairs t p → OwnsAll others pairs t p
 owns_same keys others pairs t p same owns = record {
-  all = subst (λ s. Lists (union (set_of (keys_of pairs)) s) t.keys) same owns.all;
+  all = subst (λ s. Lists (union (set_of (keys_of pairs)) s) t.plan.keys) same owns.all;
+  begins = owns.begins;
+  owned = owns.owned;
   first = owns.first;
 }
 
@@ -202,12 +203,14 @@ module _ (olds hs : List Handle) (pairs : List (ℕ × ℕ)) (all : ListsPairs (
   refuses_group keys same cards Busy numbers refused = refused
   refuses_group keys same cards Spent numbers refused = refused
   refuses_group keys same cards OtherTree numbers refused = absurd refused
+  refuses_group keys same cards TooManyHandles numbers refused = refused
+  refuses_group keys same cards SharedKeys numbers refused = absurd refused
 
   module _ (whole : Handle) (owns : OwnsAll (keys_of_all hs) pairs (arc_value whole.shared).tree whole.pass) where
     -- the first handle of a tree of them owns the keys of each
     pub whole_owns : All (OwnsKeysOf whole) hs
     whole_owns i d low = record {
-      owns = λ k own none. has k (set_of (arc_value whole.shared).tree.keys k)
+      owns = λ k own none. has k (set_of (arc_value whole.shared).tree.plan.keys k)
           (ap (λ s. s k) owns.all.each ∙ (ap (λ b. set_of (keys_of pairs) k || b) (among_all hs i d k low own) ∙ or_true (set_of (keys_of pairs) k)))
           (sym (owns.first.ledger k) ∙ none);
     }
@@ -216,12 +219,12 @@ module _ (olds hs : List Handle) (pairs : List (ℕ × ℕ)) (all : ListsPairs (
         or_true true = refl
         or_true false = refl
 
-        has : (k : ℕ) (b : Bool) → b ≡ true → (if b then Some (start_entry pairs k) else None) ≡ None → ⊥
+        has : (k : ℕ) (b : Bool) → b ≡ true → (if b then Some (start_entry (arc_value whole.shared).tree.plan.start k) else None) ≡ None → ⊥
         has k true is none = absurd cc
         has k false is none = true≢false (sym is)
 
     -- the keys of the tree are theirs
-    tree_keys : AllZip StaysPut olds hs → (k : ℕ) → set_of (arc_value whole.shared).tree.keys k ≡ set_of (keys_of_all olds) k
+    tree_keys : AllZip StaysPut olds hs → (k : ℕ) → set_of (arc_value whole.shared).tree.plan.keys k ≡ set_of (keys_of_all olds) k
     tree_keys stay k = ap (λ s. s k) owns.all.each ∙ by (set_of (keys_of pairs) k) refl (keys_kept olds hs stay k)
       where
         there : (o : Option ℕ) → contents_of pairs k ≡ o → is_some o ≡ true → set_of (keys_of_all olds) k ≡ true
@@ -238,7 +241,7 @@ module _ (olds hs : List Handle) (pairs : List (ℕ × ℕ)) (all : ListsPairs (
     renewed stay keys cards number parts opened may zipped = record {
       tree = arc_value whole.shared;
       first = whole.pass;
-      renewed = record { start = pairs; all = all; first = owns.first; begins = opened.begins; last = opened.last; few = may.begins.few; count = may.count };
+      renewed = record { start = pairs; all = all; first = owns.first; begins = opened.owns.begins; owned = opened.owns.owned; last = opened.last; few = may.begins.few; count = may.count };
       keys = tree_keys stay;
       number_is = opened.number_is;
       one = λ i d low.
@@ -343,6 +346,8 @@ module _ (olds hs : List Handle) (stay : AllZip StaysPut olds hs) where
   refuses_parts cards NoTries numbers refused = refused
   refuses_parts cards Busy numbers refused = refused
   refuses_parts cards Spent numbers refused = refused
+  refuses_parts cards TooManyHandles numbers refused = refused
+  refuses_parts cards SharedKeys numbers refused = absurd refused
 
   -- each part is as the handle in its place
   pub parts_same : (whole : Handle) (parts : List Handle) → present_in whole.pass ≡ present_in_all olds → AllPairs AreApart hs → AllZip (IsPart whole) hs parts

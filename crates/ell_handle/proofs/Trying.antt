@@ -9,15 +9,16 @@ use Rattle.ell_tree.proofs.Moving.{amortized}
 pub within_same : (t : TreeModel) (tries : ℕ) (p : PassModel) → IsWithin t tries p p
 within_same t tries p = record {
   most = took_none p _;
-  amortized = amortized t.last_card 0 p p (omega arith) (took_none p _);
+  amortized = amortized t.plan.last_card 0 p p (omega arith) (took_none p _);
   counted = record { least = omega arith; most = omega arith };
 }
 
 -- it takes no card
-pub spends_none : {E : Type 0} (tries : ℕ) (p : PassModel) (why : E) → SpendsCards tries p p (Err why)
-spends_none tries p why = record {
+pub spends_none : {E : Type 0} (key tries : ℕ) (p : PassModel) (why : E) → SpendsCards key tries p p (Err why)
+spends_none key tries p why = record {
   most = record { least = omega arith; most = omega arith };
   each = omega arith;
+  unchanged = λ own is. refl;
 }
 
 -- and nothing is in its way

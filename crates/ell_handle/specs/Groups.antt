@@ -1,4 +1,4 @@
-use Rattle.std.specs.Prelude.{◌≡◌, ◌↔◌, ℕ, List, [], ◌∷◌}
+use Rattle.std.specs.Prelude.{◌≡◌, true, ◌↔◌, ℕ, List, [], ◌∷◌}
 use Rattle.std.specs.Arc.{arc_value}
 use Rattle.std.specs.List.{All, AllPairs, flat_map}
 use Rattle.std.specs.Option.{option_or}
@@ -12,7 +12,7 @@ use Rattle.ell_handle.specs.Renewal.{IsRenewed, IsTooMuch}
 use Rattle.ell_handle.specs.declared.handle.Handle.{Handle}
 use Rattle.ell_handle.specs.declared.handle.SharedTree.{SharedTree}
 use Rattle.ell_handle.specs.declared.refusal.Refusal.{Refusal}
-use Rattle.ell_handle.specs.declared.refusal.Refusal.TheVariants.{BadCards, BadStart, NoMemory, OtherTree}
+use Rattle.ell_handle.specs.declared.refusal.Refusal.TheVariants.{BadCards, BadStart, NoMemory, OtherTree, SharedKeys}
 
 -- what is there, and else what is there in another map
 abbrev pub or_there : Contents → Contents → Contents
@@ -56,14 +56,19 @@ pub record AreRenewed (old : List Handle) (cards number : ℕ) (new : List Handl
   pub tree : SharedTree
   pub first : PassModel
   pub renewed : IsRenewed (present_in_all old) cards tree.tree first
-  pub keys : (k : ℕ) → set_of tree.tree.keys k ≡ set_of (keys_of_all old) k
+  pub keys : (k : ℕ) → set_of tree.tree.plan.keys k ≡ set_of (keys_of_all old) k
   pub number_is : tree.number ≡ number
   pub one : All (λ (h : Handle). arc_value h.shared ≡ tree) new
   pub fresh : All (λ (h : Handle). (most : ℕ) → moves_known most h.pass.view ≡ 0) new
 
+-- the keys of a handle's tree are not shared
+abbrev pub HasOwnedKeys : Handle → Type 0
+HasOwnedKeys h = ¬ ((arc_value h.shared).tree.plan.shared ≡ true)
+
 -- why there is no such tree
 abbrev pub GroupRefuses : List Handle → ℕ → Refusal → Type 0
 GroupRefuses old cards OtherTree = ¬ AreOfOne old
+GroupRefuses old cards SharedKeys = AllPairs HaveNumber old × (¬ All HasOwnedKeys old)
 GroupRefuses old cards BadStart = AllPairs HaveNumber old × IsTooMuch (present_in_all old)
 GroupRefuses old cards BadCards = AllPairs HaveNumber old × (¬ IsTooMuch (present_in_all old) × (¬ IsCardCount cards))
 GroupRefuses old cards NoMemory = AllPairs HaveNumber old

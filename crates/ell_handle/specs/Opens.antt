@@ -1,4 +1,4 @@
-use Rattle.std.specs.Prelude.{◌≡◌, ◌≤◌, ℕ, List, length}
+use Rattle.std.specs.Prelude.{◌≡◌, ◌≤◌, true, false, ℕ, [], List, length}
 use Rattle.std.specs.Arc.{arc_value}
 use Rattle.std.specs.List.{All}
 use Rattle.std.specs.List.Sorted.{IsStrictlyIncreasing}
@@ -14,17 +14,25 @@ use Rattle.ell_handle.specs.declared.handle.Handle.{Handle}
 use Rattle.ell_handle.specs.declared.refusal.Refusal.{Refusal}
 use Rattle.ell_handle.specs.declared.refusal.Refusal.TheVariants.{BadCards, BadKey, BadStart, NoMemory}
 
--- the keys of a tree are these and the start keys, and a pass owns all of them: the start keys are present with their values, the others
--- absent
+-- the keys of a tree are these and the start keys, and no other key is shared; a pass owns all of them: the start keys are present with their
+-- values, the others absent
 pub record OwnsAll (keys : List ℕ) (start : List (ℕ × ℕ)) (t : TreeModel) (p : PassModel) : Type 0 where
-  pub all : Lists (union (set_of (keys_of start)) (set_of keys)) t.keys
-  pub first : IsFirst start t p
+  pub all : Lists (union (set_of (keys_of start)) (set_of keys)) t.plan.keys
+  pub begins : t.plan.start ≡ start
+  pub owned : t.plan.shared ≡ false
+  pub first : IsFirst t p
 
 -- a handle is the first of a new tree that has these keys and start keys, so many cards besides, and this number
 pub record IsOpened (keys : List ℕ) (start : List (ℕ × ℕ)) (cards number : ℕ) (h : Handle) : Type 0 where
   pub owns : OwnsAll keys start (arc_value h.shared).tree h.pass
-  pub begins : (arc_value h.shared).tree.start ≡ start
-  pub last : (arc_value h.shared).tree.last_card ≡ last_card start cards
+  pub last : (arc_value h.shared).tree.plan.last_card ≡ last_card start cards
+  pub number_is : (arc_value h.shared).number ≡ number
+
+-- a handle is the first of a new tree in which every key is shared, with these start keys, so many cards besides, and this number; it has the
+-- whole share of the tree
+pub record IsOpenedShared (start : List (ℕ × ℕ)) (cards number : ℕ) (h : Handle) : Type 0 where
+  pub plan : (arc_value h.shared).tree.plan ≡ record { keys = []; start = start; last_card = last_card start cards; shared = true }
+  pub first : IsFirst (arc_value h.shared).tree h.pass
   pub number_is : (arc_value h.shared).number ≡ number
 
 -- a tree may begin with these start keys

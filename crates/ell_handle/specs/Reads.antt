@@ -1,5 +1,6 @@
-use Rattle.std.specs.Prelude.{◌≡◌, ◌≤◌, ◌↔◌, ℕ}
+use Rattle.std.specs.Prelude.{◌≡◌, ◌≤◌, ◌↔◌, ◌⊎◌, ℕ, true}
 use Rattle.std.specs.Arc.{arc_value}
+use Rattle.ell_cards.specs.Starts.{IsSharedIn}
 use Rattle.ell_tree.specs.CardsLeft.{AreLeftAtMost, ReadsCardsLeft}
 use Rattle.ell_tree.specs.CardsTaken.{TakesNoCard}
 use Rattle.ell_tree.specs.Counts.{Took}
@@ -16,7 +17,15 @@ tree_of h = (arc_value h.shared).tree
 
 -- the number of the last card of a handle's tree
 abbrev pub last_card_of : Handle → ℕ
-last_card_of h = (arc_value h.shared).tree.last_card
+last_card_of h = (arc_value h.shared).tree.plan.last_card
+
+-- the keys of a handle's tree are shared
+abbrev pub HasSharedKeys : Handle → Type 0
+HasSharedKeys h = (tree_of h).plan.shared ≡ true
+
+-- a handle may find, insert and delete a key: it owns the key, or the key is shared in its tree
+abbrev pub MayUse : Handle → ℕ → Type 0
+MayUse h key = Owns h.pass key ⊎ IsSharedIn (tree_of h).plan key
 
 -- a handle owns the keys that it owned, in its tree
 pub record KeepsKeys (old new : Handle) : Type 0 where
@@ -46,5 +55,5 @@ OnlyAsks old new = OnlyReads 1 old new
 -- a handle has read the claim word of its tree, by which so many cards were not given out then; in every run no more are left ever after
 pub record TellsCardsLeft (left : ℕ) (old new : Handle) : Type 0 where
   pub reads : ReadsCardsLeft (last_card_of old) old.pass new.pass left
-  pub most : AreLeftAtMost (arc_value old.shared).tree.keys (arc_value old.shared).tree.start (last_card_of old) new.pass.view left
+  pub most : AreLeftAtMost (tree_of old) new.pass.view left
   pub limit : left ≤ last_card_of old

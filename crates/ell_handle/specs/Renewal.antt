@@ -1,4 +1,4 @@
-use Rattle.std.specs.Prelude.{◌≡◌, ◌<◌, ◌≤◌, ℕ, List, Option, length}
+use Rattle.std.specs.Prelude.{◌≡◌, ◌<◌, ◌≤◌, false, ℕ, List, Option, length}
 use Rattle.std.specs.Option.{option_map}
 use Rattle.ell_ops.specs.Contents.{Contents, ListsPairs}
 use Rattle.ell_core.specs.state.Opening.{last_card}
@@ -13,13 +13,14 @@ use Rattle.ell_handle.specs.declared.refusal.Refusal.TheVariants.{BadCards, BadS
 abbrev pub pair_at : Contents → ℕ → Option (ℕ × ℕ)
 pair_at there key = option_map (λ value. (key, value)) (there key)
 
--- a tree begins with all that is there, and has so many cards besides, none of them given out; the pass is its first
+-- a tree without shared keys begins with all that is there, and has so many cards besides, none of them given out; the pass is its first
 pub record IsRenewed (there : Contents) (cards : ℕ) (t : TreeModel) (p : PassModel) : Type 0 where
   pub start : List (ℕ × ℕ)
   pub all : ListsPairs there start
-  pub first : IsFirst start t p
-  pub begins : t.start ≡ start
-  pub last : t.last_card ≡ last_card start cards
+  pub first : IsFirst t p
+  pub begins : t.plan.start ≡ start
+  pub owned : t.plan.shared ≡ false
+  pub last : t.plan.last_card ≡ last_card start cards
   pub few : length start ≤ most_start
   pub count : IsCardCount cards
 

@@ -7,7 +7,7 @@ ghost use Rattle.ell_tree.specs.Ledgers.{Owns, present_in};
 ghost use Rattle.ell_tree.specs.Looks.{IsFoundIn, OnlyLooks, look_steps};
 ghost use Rattle.ell_tree.specs.Promises.{SpendsCards};
 ghost use Rattle.ell_handle.specs.Groups.{StaysPut};
-ghost use Rattle.ell_handle.specs.Reads.{KeepsKeys, OnlyAsks, OnlyFinds, OnlyLooksUp, TellsCardsLeft, last_card_of, tree_of};
+ghost use Rattle.ell_handle.specs.Reads.{KeepsKeys, MayUse, OnlyAsks, OnlyFinds, OnlyLooksUp, TellsCardsLeft, last_card_of, tree_of};
 ghost use Rattle.ell_handle.specs.Tries.{ChangeRefuses, MayChange, TookTries, TryRefuses};
 ghost use Rattle.ell_handle.specs.declared.refusal.Refusal.TheVariants.{BadKey, Foreign};
 
@@ -16,16 +16,16 @@ use crate::refusal::Refusal;
 use ell_tree::{KEY_MAX, NoGate};
 
 impl Handle {
-    /// The value of a key of the handle's, if the key is present. `Foreign` where the handle does not own the key.
-    #[tactic(auto, using(crate::proofs::Trying::quiet_same))]
+    /// The value of a key of the handle's own, or of a shared one, if the key is present. `Foreign` where it is neither.
+    #[tactic(auto, using(crate::proofs::Trying::quiet_same, crate::proofs::May::may_do, crate::proofs::May::find_keeps))]
     pub fn find(&mut self, key: u64) -> Result<Option<u64>, Refusal>
-        ensures answers { IfOk result (λ there. Answers (Find key) (found there) self.old.pass self.new.pass) }
-        ensures owned { OnOk result (Owns self.old.pass key) }
-        ensures foreign { IfErr result (λ why. (why ≡ Foreign) × (¬ Owns self.old.pass key)) }
+        ensures answers { IfOk result (λ there. Answers (tree_of self.old) (Find key) (found there) self.old.pass self.new.pass) }
+        ensures may { OnOk result (MayUse self.old key) }
+        ensures foreign { IfErr result (λ why. (why ≡ Foreign) × (¬ MayUse self.old key)) }
         ensures reads { OnlyFinds self.old self.new }
         ensures refused { OnErr result (self.new ≡ self.old) }
     {
-        if !self.pass.owns(key) {
+        if !self.may_use(key) {
             return Err(Refusal::Foreign);
         }
         Ok(self.shared.tree.find(&mut self.pass, key, &NoGate))
@@ -48,19 +48,19 @@ impl Handle {
         Ok(self.shared.tree.look(&mut self.pass, key, &NoGate))
     }
 
-    /// Adds a key of the handle's with its value: whether the key was absent. A key that is present keeps its value. `NoTries` where no try
-    /// is allowed, then `Foreign` where the handle does not own the key; `Busy` where something was in the way of each try, and `Spent`
+    /// Adds a key of the handle's own, or a shared one, with its value: whether the key was absent. A key that is present keeps its value.
+    /// `NoTries` where no try is allowed, then `Foreign` where the key is neither; `Busy` where something was in the way of each try, and `Spent`
     /// where all cards are given out: `cards_left` tells how many are left. An insert of a present key takes no card; one that adds its key
     /// takes one, and at most one more for each try that something hindered; and a refused one takes only those.
-    #[tactic(auto, using(crate::proofs::Trying::within_same, crate::proofs::Trying::spends_none))]
+    #[tactic(auto, using(crate::proofs::Trying::within_same, crate::proofs::Trying::spends_none, crate::proofs::May::may_do))]
     pub fn insert(&mut self, key: u64, value: u64, tries: u32) -> Result<bool, Refusal>
-        ensures answers { IfOk result (λ said. Answers (Insert key value) (yes_if said) self.old.pass self.new.pass) }
+        ensures answers { IfOk result (λ said. Answers (tree_of self.old) (Insert key value) (yes_if said) self.old.pass self.new.pass) }
         ensures may { OnOk result (MayChange key tries self.old) }
         ensures why { IfErr result (ChangeRefuses (Insert key value) tries self.old self.new) }
         ensures refused { OnErr result (StaysPut self.old self.new) }
         ensures keeps { KeepsKeys self.old self.new }
         ensures took { TookTries tries self.old self.new }
-        ensures cards { SpendsCards tries self.old.pass self.new.pass result }
+        ensures cards { SpendsCards key tries self.old.pass self.new.pass result }
     {
         self.may_change(key, tries)?;
         Ok(
@@ -70,16 +70,16 @@ impl Handle {
         )
     }
 
-    /// Takes a key of the handle's away, with its value: whether it was present. Refusals are as of `insert`.
-    #[tactic(auto, using(crate::proofs::Trying::within_same, crate::proofs::Trying::spends_none))]
+    /// Takes a key of the handle's own, or a shared one, away, with its value: whether it was present. Refusals are as of `insert`.
+    #[tactic(auto, using(crate::proofs::Trying::within_same, crate::proofs::Trying::spends_none, crate::proofs::May::may_do))]
     pub fn delete(&mut self, key: u64, tries: u32) -> Result<bool, Refusal>
-        ensures answers { IfOk result (λ said. Answers (Delete key) (yes_if said) self.old.pass self.new.pass) }
+        ensures answers { IfOk result (λ said. Answers (tree_of self.old) (Delete key) (yes_if said) self.old.pass self.new.pass) }
         ensures may { OnOk result (MayChange key tries self.old) }
         ensures why { IfErr result (ChangeRefuses (Delete key) tries self.old self.new) }
         ensures refused { OnErr result (StaysPut self.old self.new) }
         ensures keeps { KeepsKeys self.old self.new }
         ensures took { TookTries tries self.old self.new }
-        ensures cards { SpendsCards tries self.old.pass self.new.pass result }
+        ensures cards { SpendsCards key tries self.old.pass self.new.pass result }
     {
         self.may_change(key, tries)?;
         Ok(
@@ -107,7 +107,7 @@ impl Handle {
         if tries == 0 {
             return Err(Refusal::NoTries);
         }
-        if !self.pass.owns(key) {
+        if !self.may_use(key) {
             return Err(Refusal::Foreign);
         }
         Ok(())

@@ -5,7 +5,7 @@ ghost use Rattle.std.specs.List.{All, AllPairs, AllZip};
 ghost use Rattle.ell_ops.specs.Contents.{ListsPairs};
 ghost use Rattle.ell_ops.specs.KeySet.{Lists, set_of};
 ghost use Rattle.ell_tree.specs.Ledgers.{Owns, present_in};
-ghost use Rattle.ell_handle.specs.Groups.{AreApart, AreOfOne, AreRenewed, GroupRefuses, HasSame, HaveNumber, IsPart, IsRest, OwnsKeysOf, PartRefuses, StaysPut, keys_of_all, present_in_all};
+ghost use Rattle.ell_handle.specs.Groups.{AreApart, AreOfOne, AreRenewed, GroupRefuses, HasOwnedKeys, HasSame, HaveNumber, IsPart, IsRest, OwnsKeysOf, PartRefuses, StaysPut, keys_of_all, present_in_all};
 
 use crate::handle::Handle;
 use crate::merging::united_pairs;
@@ -15,9 +15,9 @@ use std::alloc::{AllocError, Global};
 
 /// Makes the cards of handles of one tree fresh: all of them go to one new tree of so many cards, each with the keys that it owns, which are
 /// present or absent as they were. Handles that are not among them stay with the old tree. Trees that are open at once have different
-/// numbers. `OtherTree` if the numbers of their trees differ, or two of them own one key, `BadStart` if more keys than `START_MAX` are
-/// present in all, `BadCards` if the cards are not 1 to 1,000,000, and `NoMemory`: then each handle has its old tree. Without handles
-/// nothing happens.
+/// numbers. `OtherTree` if the numbers of their trees differ, or two of them own one key, `SharedKeys` if the keys of one's tree are shared,
+/// `BadStart` if more keys than `START_MAX` are present in all, `BadCards` if the cards are not 1 to 1,000,000, and `NoMemory`: then each
+/// handle has its old tree. Without handles nothing happens.
 pub fn renew_all(
     handles: &mut [Handle],
     alloc: Global,
@@ -27,6 +27,7 @@ pub fn renew_all(
     ensures kept { AllZip HasSame handles.old handles.new }
     ensures renewed { OnOk result (0 < length handles.old → AreRenewed handles.old cards number handles.new) }
     ensures one { OnOk result (AreOfOne handles.old) }
+    ensures owned { OnOk result (All HasOwnedKeys handles.old) }
     ensures why { IfErr result (GroupRefuses handles.old cards) }
     ensures refused { OnErr result (AllZip StaysPut handles.old handles.new) }
     ensures some { OnErr result (0 < length handles.old) }
@@ -36,6 +37,9 @@ pub fn renew_all(
     }
     if !have_one_number(handles) {
         return Err(Refusal::OtherTree);
+    }
+    if handles.iter().any(|handle| handle.has_shared_keys()) {
+        return Err(Refusal::SharedKeys);
     }
     let parts = renewed(handles, alloc, cards, number)?;
     put_all(handles, parts);

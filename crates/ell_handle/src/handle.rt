@@ -1,24 +1,28 @@
 //! A tree and a pass of it.
-ghost use Rattle.std.specs.Prelude.{IsTrue, ◌≡◌, ◌≤◌, ◌↔◌, ℕ};
+ghost use Rattle.std.specs.Prelude.{IsTrue, ◌≡◌, ◌≤◌, ◌↔◌, ℕ, true, []};
 ghost use Rattle.std.specs.Arc.{arc_value};
 ghost use Rattle.std.specs.List.{All};
 ghost use Rattle.std.specs.List.Sorted.{IsStrictlyIncreasing};
 ghost use Rattle.ell_ops.specs.Meaning.{greatest_key};
-ghost use Rattle.ell_cards.specs.Changes.{keys_of};
+ghost use Rattle.ell_cards.specs.Changes.{keys_of, ownable_if};
 ghost use Rattle.ell_tree.specs.Ledgers.{IsIdle, Owns};
 
 use ell_tree::{Pass, Tree};
 use std::alloc::Global;
 use std::sync::Arc;
 
-/// A tree that handles share, with its keys, strictly ascending.
+/// A tree that handles share, with the keys that have owners, strictly ascending.
 #[derive(Drop)]
 pub struct SharedTree {
     pub tree: Tree<Global>,
     pub keys: Vec<u64>,
+    /// Whether every key up to `KEY_MAX` is shared: then none has an owner.
+    pub is_shared: bool,
     /// By which handles of two trees are told apart.
     pub number: u64,
-    ghost whole: { tree.keys ≡ keys.items },
+    ghost whole: { tree.plan.keys ≡ keys.items },
+    ghost mode: { tree.plan.shared ≡ is_shared },
+    ghost alone: { is_shared ≡ true → tree.plan.keys ≡ [] },
 }
 
 /// A place for a handle, on which a handle can be put back without asking for memory.
@@ -35,6 +39,8 @@ pub struct Handle {
     ghost own: { pass.table ≡ (arc_value shared).tree.id },
     ghost idle: { IsIdle pass },
     ghost real: { (k : ℕ) → Owns pass k → k ≤ greatest_key },
+    ghost knows: { pass.view.worker.ownable ≡
+        ownable_if (arc_value shared).tree.plan.shared (arc_value shared).tree.plan.keys },
 }
 
 impl Handle {

@@ -10,6 +10,7 @@ mod merging;
 mod opening;
 mod refusal;
 mod renewing;
+mod using;
 
 pub use grouping::renew_all;
 pub use handle::{Handle, Place, SharedTree, sent};

@@ -5,8 +5,8 @@ ghost use Rattle.std.specs.Map.{keys_of};
 ghost use Rattle.ell_ops.specs.Contents.{ListsPairs, contents_of};
 ghost use Rattle.ell_handle.specs.Groups.{or_there};
 
+use ell_ops::united;
 use std::alloc::{AllocError, Global};
-use std::cmp::Ordering;
 
 /// The pairs of two lists, whose keys ascend strictly, ascending: of a key that both have, the pair of the first.
 pub(crate) fn united_pairs(
@@ -18,26 +18,5 @@ pub(crate) fn united_pairs(
     requires right { IsStrictlyIncreasing (keys_of right.now) }
     ensures { IfOk result (λ both. ListsPairs (or_there (contents_of left.now) (contents_of right.now)) both.items) }
 {
-    let mut both = Vec::with_capacity(alloc, left.len() + right.len())?;
-    let (mut ours, mut theirs) = (left, right);
-    while let ([first, rest @ ..], [other, others @ ..]) = (ours, theirs) {
-        match first.0.cmp(&other.0) {
-            Ordering::Less => {
-                both.push(*first)?;
-                ours = rest;
-            }
-            Ordering::Equal => {
-                both.push(*first)?;
-                ours = rest;
-                theirs = others;
-            }
-            Ordering::Greater => {
-                both.push(*other)?;
-                theirs = others;
-            }
-        }
-    }
-    both.extend_from_slice(ours)?;
-    both.extend_from_slice(theirs)?;
-    Ok(both)
+    united(alloc, left, right)
 }

@@ -1,18 +1,22 @@
 //! How handles begin, part and come together.
-ghost use Rattle.std.specs.Prelude.{if◌then◌else◌, ◌≡◌, ◌≢◌, ℕ, None, IfOk, IfErr, OnOk};
+ghost use Rattle.std.specs.Prelude.{if◌then◌else◌, ◌≡◌, ◌≢◌, ℕ, [], None, IfOk, IfErr, OnOk};
 ghost use Rattle.std.specs.Arc.{arc_value};
 ghost use Rattle.std.specs.List.{All};
 ghost use Rattle.ell_ops.specs.Contents.{contents_of};
 ghost use Rattle.ell_ops.specs.KeySet.{set_of};
+ghost use Rattle.ell_cards.specs.Changes.{keys_of as ledger_keys};
 ghost use Rattle.ell_tree.specs.Ledgers.{Owns, present_in};
 ghost use Rattle.ell_tree.specs.PassParts.{IsUnion};
-ghost use Rattle.ell_handle.specs.Opens.{IsOpened, MayOpen, Refuses};
-ghost use Rattle.ell_handle.specs.Parts.{AreParts, JoinRefuses, SplitRefuses};
+ghost use Rattle.ell_handle.specs.Groups.{HasSame, HaveNumber};
+ghost use Rattle.ell_handle.specs.Opens.{IsOpened, IsOpenedShared, MayOpen, Refuses};
+ghost use Rattle.ell_handle.specs.Parts.{AnotherRefuses, AreParts, JoinRefuses, MayJoin, SplitRefuses};
 ghost use Rattle.ell_handle.specs.declared.refusal.Refusal.TheVariants.{NoMemory};
 
 use crate::handle::{Handle, SharedTree};
-use crate::keys::{all_keys, are_keys, each_once, is_card_count, is_start, keys_in};
+use crate::keys::{all_keys, are_keys, each_once, is_start};
 use crate::refusal::Refusal;
+use ell_cards::is_card_count;
+use ell_ops::keys_of;
 use ell_tree::Tree;
 use std::alloc::Global;
 use std::sync::Arc;
@@ -34,25 +38,79 @@ impl Handle {
         ensures refused { IfErr result (Refuses keys.now start.now cards) }
     {
         may_open(keys, start, cards)?;
-        let first = keys_in(alloc, start)?;
+        let first = keys_of(alloc, start)?;
         let keys = all_keys(alloc, &first, keys)?;
         let (tree, pass) = Tree::reserve_from(alloc, start, &keys, cards)?;
-        let shared = Arc::new(alloc, SharedTree { tree, keys, number })?;
+        let shared = SharedTree {
+            tree,
+            keys,
+            is_shared: false,
+            number,
+        };
+        let shared = Arc::new(alloc, shared)?;
         Ok(Handle { shared, pass })
     }
 
-    /// Two handles of one: the first has these of its keys, and the second the others. `Foreign` if a key is not its own, and else
-    /// `NoMemory` if memory is refused. A handle without keys may look.
+    /// A tree of so many cards in which every key up to `KEY_MAX` is shared, and which has the start keys with their values, and its first
+    /// handle: `another` makes more of it. Any of them finds, inserts and deletes any key, and no handle owns one. Refusals are as of `open`.
+    pub fn open_shared(
+        alloc: Global,
+        start: &[(u64, u64)],
+        cards: u64,
+        number: u64,
+    ) -> Result<Handle, Refusal>
+        ensures opened { IfOk result (IsOpenedShared start.now cards number) }
+        ensures may { OnOk result (MayOpen [] start.now cards) }
+        ensures refused { IfErr result (Refuses [] start.now cards) }
+    {
+        may_open(&[], start, cards)?;
+        let (tree, pass) = Tree::reserve_shared(alloc, start, &[], cards)?;
+        let shared = SharedTree {
+            tree,
+            keys: Vec::new(alloc),
+            is_shared: true,
+            number,
+        };
+        let shared = Arc::new(alloc, shared)?;
+        Ok(Handle { shared, pass })
+    }
+
+    /// This handle, with all its keys, and another of its tree, which has none: it changes shared keys, if the tree has them, and looks at any
+    /// key. `TooManyHandles` if the keys are shared and the handle has the least share of them: the first handle of a tree gives more than
+    /// a million others, and each of those fewer. Else `NoMemory` if memory is refused.
+    pub fn another(self, alloc: Global) -> Result<(Handle, Handle), (Handle, Refusal)>
+        ensures parts { IfOk result (λ both. AreParts (ledger_keys self.pass.view.worker.ledger) self both.0 both.1) }
+        ensures kept { IfOk result (λ both. HasSame self both.0) }
+        ensures bare { IfOk result (λ both. (k : ℕ) → ¬ Owns both.1.pass k) }
+        ensures why { IfErr result (λ refused. AnotherRefuses self refused.1) }
+        ensures refused { IfErr result (λ refused. refused.0 ≡ self) }
+    {
+        if self.has_least_share() {
+            return Err((self, Refusal::TooManyHandles));
+        }
+        let Ok(keys) = Vec::from_slice(alloc, self.keys()) else {
+            return Err((self, Refusal::NoMemory));
+        };
+        self.split(alloc, &keys)
+    }
+
+    /// Two handles of one: the first has these of its keys, and the second the others. `Foreign` if a key is not its own, then
+    /// `TooManyHandles` as of `another`, and else `NoMemory` if memory is refused. A handle without keys may look.
     pub fn split(self, alloc: Global, wanted: &[u64]) -> Result<(Handle, Handle), (Handle, Refusal)>
         ensures parts { IfOk result (λ parts. AreParts wanted.now self parts.0 parts.1) }
-        ensures given { IfOk result (λ parts. (k : ℕ) → present_in parts.0.pass k ≡ (if set_of wanted.now k then present_in self.pass k else None)) }
-        ensures rest { IfOk result (λ parts. (k : ℕ) → present_in parts.1.pass k ≡ (if set_of wanted.now k then None else present_in self.pass k)) }
+        ensures given { IfOk result (λ parts. (k : ℕ) →
+            present_in parts.0.pass k ≡ (if set_of wanted.now k then present_in self.pass k else None)) }
+        ensures rest { IfOk result (λ parts. (k : ℕ) →
+            present_in parts.1.pass k ≡ (if set_of wanted.now k then None else present_in self.pass k)) }
         ensures owned { OnOk result (All (λ k. Owns self.pass k) wanted.now) }
-        ensures why { IfErr result (λ refused. SplitRefuses wanted.now self.pass refused.1) }
+        ensures why { IfErr result (λ refused. SplitRefuses wanted.now self refused.1) }
         ensures refused { IfErr result (λ refused. refused.0 ≡ self) }
     {
         if !self.owns_all(wanted) {
             return Err((self, Refusal::Foreign));
+        }
+        if self.has_least_share() {
+            return Err((self, Refusal::TooManyHandles));
         }
         let Ok(keys) = each_once(alloc, wanted) else {
             return Err((self, Refusal::NoMemory));
@@ -74,17 +132,19 @@ impl Handle {
         }
     }
 
-    /// One handle of two, with the keys of both. `OtherTree` if their numbers differ, and else `NoMemory` if memory is refused. Condition:
-    /// equal numbers mean one tree.
+    /// One handle of two, with the keys of both. `OtherTree` if their numbers differ, or the keys of one's tree alone are shared, and else
+    /// `NoMemory` if memory is refused. Condition: equal numbers mean one tree.
     pub fn join(self, other: Handle) -> Result<Handle, (Handle, Handle, Refusal)>
-        requires numbers { (arc_value other.shared).number ≡ (arc_value self.shared).number → other.pass.table ≡ self.pass.table }
+        requires numbers { HaveNumber self other → other.pass.table ≡ self.pass.table }
         ensures union { IfOk result (λ both. IsUnion self.pass other.pass both.pass) }
         ensures tree { IfOk result (λ both. both.shared ≡ self.shared) }
-        ensures numbers { OnOk result ((arc_value other.shared).number ≡ (arc_value self.shared).number) }
-        ensures why { IfErr result (λ refused. JoinRefuses (arc_value other.shared).number (arc_value self.shared).number refused.2) }
+        ensures one { OnOk result (MayJoin self other) }
+        ensures why { IfErr result (λ refused. JoinRefuses (MayJoin self other) refused.2) }
         ensures refused { IfErr result (λ refused. (refused.0 ≡ self) × (refused.1 ≡ other)) }
     {
-        if other.shared.number != self.shared.number {
+        if other.shared.number != self.shared.number
+            || other.shared.is_shared != self.shared.is_shared
+        {
             return Err((self, other, Refusal::OtherTree));
         }
         let Handle { shared, pass } = self;

@@ -34,6 +34,12 @@ pub enum Refusal {
     /// The handles are of two trees.
     #[error("the handles are of two trees")]
     OtherTree,
+    /// The tree has as many handles as it may.
+    #[error("the tree has too many handles")]
+    TooManyHandles,
+    /// The call is not for a tree of shared keys.
+    #[error("the keys of the tree are shared")]
+    SharedKeys,
     /// Memory was refused.
     #[error("out of memory")]
     NoMemory,

@@ -1,31 +1,36 @@
 //! How a handle comes to fresh cards.
-ghost use Rattle.std.specs.Prelude.{◌≡◌, ◌<◌, ◌↔◌, ℕ, length, slice_index, Err, IsTrue, IfOk, IfErr, OnOk, OnErr};
+ghost use Rattle.std.specs.Prelude.{◌≡◌, ◌≢◌, ◌<◌, ◌↔◌, ℕ, length, slice_index, Err, IsTrue, IfOk, IfErr, OnOk, OnErr};
 ghost use Rattle.std.specs.Arc.{arc_value};
 ghost use Rattle.ell_ops.specs.Contents.{ListsPairs};
 ghost use Rattle.ell_cards.specs.Changes.{keys_of};
 ghost use Rattle.ell_tree.specs.Ledgers.{Owns, present_in};
-ghost use Rattle.ell_handle.specs.Groups.{StaysPut};
+ghost use Rattle.ell_handle.specs.Groups.{HasSame, StaysPut};
+ghost use Rattle.ell_handle.specs.Reads.{HasSharedKeys, tree_of};
 ghost use Rattle.ell_handle.specs.Renewal.{IsRenewed, IsTooMuch, RenewalRefuses, pair_at};
+ghost use Rattle.ell_handle.specs.declared.refusal.Refusal.TheVariants.{SharedKeys};
 
 use crate::handle::Handle;
-use crate::keys::is_card_count;
 use crate::refusal::Refusal;
+use ell_cards::is_card_count;
 use ell_tree::{NoGate, START_MAX};
 use std::alloc::{AllocError, Global};
 
 impl Handle {
     /// Makes the cards fresh: the handle gets a new tree of so many cards, with the keys that it owns, which are present or absent as they
-    /// were. The old tree stays with its other handles, if there are any. Trees that are open at once have different numbers. `BadStart` if
-    /// more keys than `START_MAX` are present, then `BadCards` if the cards are not 1 to 1,000,000, and only then `NoMemory`: then the handle
-    /// has its old tree.
+    /// were. The old tree stays with its other handles, if there are any. Trees that are open at once have different numbers. `SharedKeys` if
+    /// the keys of the tree are shared, `BadStart` if more keys than `START_MAX` are present, then `BadCards` if the cards are not 1 to
+    /// 1,000,000, and only then `NoMemory`: then the handle has its old tree.
     pub fn renew(&mut self, alloc: Global, cards: u64, number: u64) -> Result<(), Refusal>
-        ensures map { (k : ℕ) → present_in self.new.pass k ≡ present_in self.old.pass k }
-        ensures owned { (k : ℕ) → Owns self.new.pass k ↔ Owns self.old.pass k }
-        ensures renewed { OnOk result (IsRenewed (present_in self.old.pass) cards (arc_value self.new.shared).tree self.new.pass) }
+        ensures kept { HasSame self.old self.new }
+        ensures renewed { OnOk result (IsRenewed (present_in self.old.pass) cards (tree_of self.new) self.new.pass) }
         ensures number { OnOk result ((arc_value self.new.shared).number ≡ number) }
-        ensures why { IfErr result (RenewalRefuses (present_in self.old.pass) cards) }
+        ensures shared { (result ≡ Err SharedKeys) ↔ HasSharedKeys self.old }
+        ensures why { IfErr result (λ why. why ≢ SharedKeys → RenewalRefuses (present_in self.old.pass) cards why) }
         ensures refused { OnErr result (self.new.shared ≡ self.old.shared) }
     {
+        if self.has_shared_keys() {
+            return Err(Refusal::SharedKeys);
+        }
         let Ok(pairs) = self.pairs(alloc) else {
             return Err(self.why_refused(cards));
         };
@@ -61,12 +66,10 @@ impl Handle {
         count > START_MAX
     }
 
-    /// The keys of the handle's that are present, ascending, with their values.
+    /// The keys of the handle's own that are present, ascending, with their values.
     pub fn pairs(&mut self, alloc: Global) -> Result<Vec<(u64, u64)>, AllocError>
         ensures pairs { IfOk result (λ pairs. ListsPairs (present_in self.old.pass) pairs.items) }
-        ensures map { (k : ℕ) → present_in self.new.pass k ≡ present_in self.old.pass k }
-        ensures owned { (k : ℕ) → Owns self.new.pass k ↔ Owns self.old.pass k }
-        ensures tree { self.new.shared ≡ self.old.shared }
+        ensures stays { StaysPut self.old self.new }
     {
         let mut pairs = Vec::with_capacity(alloc, self.keys().len())?;
         for place in 0..self.keys().len() {
@@ -80,7 +83,8 @@ impl Handle {
     /// The key at a place among the handle's keys, with its value, if the key is present.
     pub fn pair(&mut self, place: usize) -> Option<(u64, u64)>
         requires place { place < length (keys_of self.old.pass.view.worker.ledger) }
-        ensures pair { result ≡ pair_at (present_in self.old.pass) (slice_index (keys_of self.old.pass.view.worker.ledger) place) }
+        ensures pair { result ≡
+            pair_at (present_in self.old.pass) (slice_index (keys_of self.old.pass.view.worker.ledger) place) }
         ensures keys { keys_of self.new.pass.view.worker.ledger ≡ keys_of self.old.pass.view.worker.ledger }
         ensures map { (k : ℕ) → present_in self.new.pass k ≡ present_in self.old.pass k }
         ensures tree { self.new.shared ≡ self.old.shared }

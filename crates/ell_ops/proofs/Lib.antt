@@ -1,7 +1,9 @@
 -- A sort and a dedup give the keys of a list, each once, ascending.
 pub mod DistinctKeys
--- Two ascending lists in one.
+-- Two ascending lists of keys in one.
 pub mod Merges
+-- Two ascending lists in one, by the keys of their items.
+pub mod ByKey
 -- Keys with their values against std's ordered maps.
 pub mod Pairs
 -- The element at a place of a list that grows, is cut or is written.

@@ -1,5 +1,4 @@
-use Rattle.std.proofs.Common.{◌≡◌, ◌≢◌, ◌⊎◌, inl, inr, ℕ, suc, ◌-◌, ◌<◌, length, get_or, take, drop, append_assoc, append-nil, ◌==◌, ◌||◌, if◌then◌else◌, ltb, lt-ltb, ltb-true, eqb-true, eq-eqb, ne_eqb, Bool, true, false, List, [], ◌∷◌, ◌++◌, refl, sym, ap, ◌∙◌, subst, arith, true≢false}
-use Rattle.std.proofs.lemmas.List.{take_all}
+use Rattle.std.proofs.Common.{◌≡◌, ◌≢◌, ℕ, ◌<◌, ◌==◌, ◌||◌, if◌then◌else◌, ltb, lt-ltb, ltb-true, eqb-true, eq-eqb, ne_eqb, Bool, true, false, List, [], ◌∷◌, refl, sym, ap, ◌∙◌, subst, arith, true≢false}
 use Rattle.std.proofs.Math.Bool.{or_self_left}
 use Rattle.std.specs.List.Sorted.{IsStrictlyIncreasing}
 use Rattle.ell_ops.specs.KeySet.{Lists, set_of, union}
@@ -49,11 +48,6 @@ module _ {A : Type 0} (k x : ℕ) (a b c : A) where
   if_above more = ap (λ t. if t then a else if k == x then b else c) (not_less k x (λ less. omega arith))
       ∙ ap (λ t. if t then b else c) (ne_eqb k x (λ e. omega arith))
 
--- a key before all others
-put_first : (k : ℕ) (xs : List ℕ) → Over k xs → put_key k xs ≡ k ∷ xs
-put_first k [] h = refl
-put_first k (x ∷ xs) h = if_below k x (k ∷ x ∷ xs) (k ∷ xs) (x ∷ put_key k xs) h.0
-
 -- a number below all keys is below them with one more
 over_put : (j k : ℕ) (xs : List ℕ) → j < k → Over j xs → Over j (put_key k xs)
 over_put j k [] less h = (less, tt)
@@ -76,99 +70,6 @@ rises_put k (x ∷ xs) h = elim (beside k x) [
 rises_united : (xs ys : List ℕ) → Rises ys → Rises (keys_united xs ys)
 rises_united [] ys h = h
 rises_united (x ∷ xs) ys h = rises_put x (keys_united xs ys) (rises_united xs ys h)
-
--- a number below both is below them in one
-over_united : (k : ℕ) (xs ys : List ℕ) → Over k xs → Over k ys → Over k (keys_united xs ys)
-over_united k [] ys h g = g
-over_united k (x ∷ xs) ys h g = over_put k x (keys_united xs ys) h.0 (over_united k xs ys h.1 g)
-
--- nothing more
-united_nil : (xs : List ℕ) → Rises xs → keys_united xs [] ≡ xs
-united_nil [] h = refl
-united_nil (x ∷ xs) h = ap (put_key x) (united_nil xs h.1) ∙ put_first x xs h.0
-
--- the least key first: it is on the right
-right_first : (y : ℕ) (xs ys : List ℕ) → Over y xs → keys_united xs (y ∷ ys) ≡ y ∷ keys_united xs ys
-right_first y [] ys h = refl
-right_first y (x ∷ xs) ys h =
-    let us = keys_united xs ys in
-    ap (put_key x) (right_first y xs ys h.1) ∙ if_above x y (x ∷ y ∷ us) (x ∷ us) (y ∷ put_key x us) h.0
-
--- it is on the left
-left_first : (x : ℕ) (xs ys : List ℕ) → Over x xs → Over x ys → keys_united (x ∷ xs) ys ≡ x ∷ keys_united xs ys
-left_first x xs ys h g = put_first x (keys_united xs ys) (over_united x xs ys h g)
-
--- it is on both sides
-both_first : (x y : ℕ) (xs ys : List ℕ) → x ≡ y → Over x xs → keys_united (x ∷ xs) (y ∷ ys) ≡ x ∷ keys_united xs ys
-both_first x y xs ys e h =
-    let us = keys_united xs ys in
-    ap (put_key x) (right_first y xs ys (subst (λ z. Over z xs) e h)) ∙ if_same x y (x ∷ y ∷ us) (x ∷ us) (y ∷ put_key x us) e
-
--- all but the first, as a pattern of a slice has it
-abbrev pub tail : List ℕ → List ℕ
-tail xs = take (length xs - 1) (drop 1 xs)
-
-tail_is : (x : ℕ) (xs : List ℕ) → tail (x ∷ xs) ≡ xs
-tail_is x xs = take_all (suc (length xs) - 1) xs (omega arith)
-
--- a merge as far as it came: what is done, and what is left on both sides
-pub record IsMerged (whole done xs ys : List ℕ) : Type 0 where
-  pub is : done ++ keys_united xs ys ≡ whole
-  pub left : Rises xs
-  pub right : Rises ys
-
--- the first of what is left goes over
-goes_over : (whole done now xs ys us vs : List ℕ) (k : ℕ) → now ≡ done ++ k ∷ [] → keys_united xs ys ≡ k ∷ keys_united us vs → IsMerged whole done xs ys
-    → now ++ keys_united us vs ≡ whole
-goes_over whole done now xs ys us vs k is first merged =
-    ap (λ l. l ++ keys_united us vs) is ∙ (append_assoc done (k ∷ []) (keys_united us vs) ∙ (ap (λ l. done ++ l) (sym first) ∙ merged.is))
-
--- that on the left
-pub merged_left : (whole done now xs ys : List ℕ) → 0 < length xs → 0 < length ys → get_or xs 0 0 < get_or ys 0 0
-    → now ≡ done ++ get_or xs 0 0 ∷ [] → IsMerged whole done xs ys → IsMerged whole now (tail xs) ys
-merged_left whole done now [] ys more others less is merged = absurd (omega arith)
-merged_left whole done now (x ∷ xs) [] more others less is merged = absurd (omega arith)
-merged_left whole done now (x ∷ xs) (y ∷ ys) more others less is merged =
-    subst (λ l. IsMerged whole now l (y ∷ ys)) (sym (tail_is x xs)) (record {
-      is = goes_over whole done now (x ∷ xs) (y ∷ ys) xs (y ∷ ys) x is
-          (left_first x xs (y ∷ ys) merged.left.0 (less, over_less x y ys less merged.right.0)) merged;
-      left = merged.left.1;
-      right = merged.right;
-    })
-
--- that on the right
-pub merged_right : (whole done now xs ys : List ℕ) → 0 < length xs → 0 < length ys → get_or ys 0 0 < get_or xs 0 0
-    → now ≡ done ++ get_or ys 0 0 ∷ [] → IsMerged whole done xs ys → IsMerged whole now xs (tail ys)
-merged_right whole done now [] ys more others less is merged = absurd (omega arith)
-merged_right whole done now (x ∷ xs) [] more others less is merged = absurd (omega arith)
-merged_right whole done now (x ∷ xs) (y ∷ ys) more others less is merged =
-    subst (λ l. IsMerged whole now (x ∷ xs) l) (sym (tail_is y ys)) (record {
-      is = goes_over whole done now (x ∷ xs) (y ∷ ys) (x ∷ xs) ys y is
-          (right_first y (x ∷ xs) ys (less, over_less y x xs less merged.left.0)) merged;
-      left = merged.left;
-      right = merged.right.1;
-    })
-
--- that on both sides, once
-pub merged_both : (whole done now xs ys : List ℕ) → 0 < length xs → 0 < length ys → get_or xs 0 0 ≡ get_or ys 0 0
-    → now ≡ done ++ get_or xs 0 0 ∷ [] → IsMerged whole done xs ys → IsMerged whole now (tail xs) (tail ys)
-merged_both whole done now [] ys more others e is merged = absurd (omega arith)
-merged_both whole done now (x ∷ xs) [] more others e is merged = absurd (omega arith)
-merged_both whole done now (x ∷ xs) (y ∷ ys) more others e is merged =
-    subst (λ l. IsMerged whole now (tail (x ∷ xs)) l) (sym (tail_is y ys))
-    (subst (λ l. IsMerged whole now l ys) (sym (tail_is x xs)) (record {
-      is = goes_over whole done now (x ∷ xs) (y ∷ ys) xs ys x is (both_first x y xs ys e merged.left.0) merged;
-      left = merged.left.1;
-      right = merged.right.1;
-    }))
-
--- the end: one side is done, and the other goes over as it is
-pub merged_all : (whole done half all xs ys : List ℕ) → (length xs < 1) ⊎ (length ys < 1) → half ≡ done ++ xs → all ≡ half ++ ys
-    → IsMerged whole done xs ys → all ≡ whole
-merged_all whole done half all [] ys e is now merged = now ∙ (ap (λ l. l ++ ys) (is ∙ append-nil done) ∙ merged.is)
-merged_all whole done half all (x ∷ xs) [] e is now merged =
-    now ∙ (append-nil half ∙ (is ∙ (ap (λ l. done ++ l) (sym (united_nil (x ∷ xs) merged.left)) ∙ merged.is)))
-merged_all whole done half all (x ∷ xs) (y ∷ ys) e is now merged = absurd (elim e [ inl a ↦ omega arith | inr b ↦ omega arith ])
 
 -- a set with one key more
 set_put : (k : ℕ) (xs : List ℕ) (q : ℕ) → set_of (put_key k xs) q ≡ ((q == k) || set_of xs q)

@@ -7,3 +7,5 @@ pub mod Meaning
 -- Which keys are present, read off the list without applying it: the last insert or delete of a key decides, and whose
 -- value a present key has: that of the insert that found it absent.
 pub mod LastWriter
+-- Two lists in one, by the keys of their items.
+pub mod ByKey

@@ -3,8 +3,8 @@ ghost use Rattle.std.specs.Prelude.{IfOk};
 ghost use Rattle.std.specs.List.Sorted.{IsStrictlyIncreasing};
 ghost use Rattle.ell_ops.specs.KeySet.{set_of, union, Lists};
 
+use crate::keyed::united;
 use std::alloc::{AllocError, Allocator};
-use std::cmp::Ordering;
 
 /// The keys of a list, each once, ascending. Allocates nothing.
 pub fn distinct_keys<A: Allocator>(mut keys: Vec<u64, A>) -> Vec<u64, A>
@@ -25,26 +25,5 @@ pub fn united_keys<A: Allocator>(
     requires right { IsStrictlyIncreasing right.now }
     ensures { IfOk result (λ both. Lists (union (set_of left.now) (set_of right.now)) both.items) }
 {
-    let mut both = Vec::with_capacity(alloc, left.len() + right.len())?;
-    let (mut ours, mut theirs) = (left, right);
-    while let ([first, rest @ ..], [other, others @ ..]) = (ours, theirs) {
-        match first.cmp(other) {
-            Ordering::Less => {
-                both.push(*first)?;
-                ours = rest;
-            }
-            Ordering::Equal => {
-                both.push(*first)?;
-                ours = rest;
-                theirs = others;
-            }
-            Ordering::Greater => {
-                both.push(*other)?;
-                theirs = others;
-            }
-        }
-    }
-    both.extend_from_slice(ours)?;
-    both.extend_from_slice(theirs)?;
-    Ok(both)
+    united(alloc, left, right)
 }

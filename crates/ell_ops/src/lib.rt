@@ -3,6 +3,7 @@
 //! This is the plain meaning that every other way of running a list is measured by.
 #![tactic(auto)]
 
+mod keyed;
 mod keys;
 mod laws;
 mod limits;
@@ -11,6 +12,7 @@ mod one_thread;
 mod op;
 mod reply;
 
+pub use keyed::{Keyed, all_fit, ascend, keys_of, united};
 pub use keys::{distinct_keys, united_keys};
 pub use laws::{last_writer, one_listing};
 pub use limits::{WORKERS_MAX, limits_are_as_defined};

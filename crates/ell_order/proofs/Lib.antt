@@ -6,6 +6,8 @@ pub mod OnKey
 pub mod Numbered
 -- Orders that keep each key's operations change no answer.
 pub mod Reordered
+-- The rank of a key, one key after the other, or one list.
+pub mod Ranks
 -- The keys that a list leaves, and their ranks, one operation after the other.
 pub mod Leaving
 -- Operations dealt to hands.

@@ -10,7 +10,8 @@ use Rattle.std.specs.List.{enumerate_from, filter}
 use Rattle.ell_ops.specs.declared.op.Op.{Op}
 use Rattle.ell_ops.specs.KeySet.{set_of, Lists}
 use Rattle.ell_ops.specs.Meaning.{key_of}
-use Rattle.ell_parts.specs.PartedOps.{PartedOps, IsWorkerCount, IsLawful, part, keys_of, keys_in, striped, rank, ranged, AreParts, AreKeys, AreListsOf}
+use Rattle.ell_parts.specs.PartedOps.{PartedOps, IsWorkerCount, IsLawful, part, keys_of, keys_in, striped, ranged, AreParts, AreKeys, AreListsOf}
+use Rattle.ell_order.specs.Rounds.{rank}
 use Rattle.ell_parts.proofs.Ranks.{key_is_listed, rank-lt-length, share-lt}
 use Rattle.ell_ops.proofs.Places.{slice_get-push_cases, slice_get-set_same, slice_get-set_other}
 use Rattle.ell_parts.specs.Faults.{IsCounted, AreKnown, AreTogether}

@@ -10,7 +10,7 @@ use Rattle.std.specs.List.{AllWithin}
 use Rattle.std.specs.List.Sorted.{IsPartitionedBy, IsStrictlyIncreasing}
 use Rattle.std.proofs.lemmas.List.Sorted.{IsPartitionedBy-leb}
 use Rattle.ell_ops.specs.KeySet.{set_of}
-use Rattle.ell_parts.specs.PartedOps.{rank}
+use Rattle.ell_order.specs.Rounds.{rank}
 use Rattle.ell_parts.specs.Ranges.{AreStarts}
 use Rattle.ell_parts.proofs.Ranks.{rank_at_point}
 

@@ -1,9 +1,9 @@
-use Rattle.std.proofs.Common.{◌≡◌, ℕ, zero, suc, ◌+◌, ◌*◌, ◌/◌, ◌<◌, ◌≤◌, Bool, true, false, cond, List, [], ◌∷◌, ◌++◌, ◌||◌, eqb, ltb, length, get_or, take, arith, ap, sym, ◌∙◌, ⊎_elim}
+use Rattle.std.proofs.Common.{◌≡◌, ℕ, zero, suc, ◌+◌, ◌*◌, ◌/◌, ◌<◌, ◌≤◌, Bool, true, false, List, [], ◌∷◌, ◌++◌, ◌||◌, eqb, ltb, length, get_or, take, arith, ap, sym, ◌∙◌, ⊎_elim}
 use Rattle.std.proofs.Math.Nat.{div-lt_iff_lt-mul}
 use Rattle.std.proofs.lemmas.Bool.{cases_eq, eq-eqb, ne_eqb}
 use Rattle.std.proofs.lemmas.Bool.Decides.{nat_tests}
 use Rattle.std.proofs.lemmas.Grind.{div_ceil_times}
-use Rattle.std.proofs.lemmas.List.Sums.{count_by-le-length, sum_by-cons}
+use Rattle.std.proofs.lemmas.List.Sums.{count_by-le-length}
 use Rattle.std.proofs.lemmas.List.{take_more, map-append, length-map, get_or-map}
 use Rattle.std.proofs.lemmas.List.Folds.{list_any_at}
 use Rattle.std.specs.Prelude.{map}
@@ -12,14 +12,9 @@ use Rattle.ell_ops.specs.Meaning.{key_of}
 use Rattle.std.specs.Int.{div_ceil}
 use Rattle.std.specs.List.{AllWithin}
 use Rattle.ell_ops.specs.KeySet.{set_of, Lists}
-use Rattle.ell_parts.specs.PartedOps.{keys_of, rank, ranged}
-
--- one more key counts if it is below
-abbrev one_if : Bool → ℕ
-one_if b = cond b 1 0
-
-rank-cons : (other : ℕ) (keys : List ℕ) (key : ℕ) → rank (other ∷ keys) key ≡ one_if (ltb other key) + rank keys key
-rank-cons other keys key = sum_by-cons (λ k. one_if (ltb k key)) other keys
+use Rattle.ell_order.specs.Rounds.{rank}
+use Rattle.ell_order.proofs.Ranks.{one_if, rank-cons}
+use Rattle.ell_parts.specs.PartedOps.{keys_of, ranged}
 
 count_above : (other key : ℕ) → ltb other key ≡ false → one_if (ltb other key) ≡ 0
 count_above other key e = ap one_if e

@@ -1,4 +1,4 @@
-use Rattle.std.specs.Prelude.{◌≡◌, ◌≢◌, ℕ, ◌<◌, ◌≤◌, List, Some, length, slice_get, slice_index}
+use Rattle.std.specs.Prelude.{◌≡◌, ◌≢◌, ◌↔◌, ℕ, ◌<◌, ◌≤◌, Result, IfErr, IsErrOf, List, Some, length, slice_get, slice_index}
 use Rattle.ell_ops.specs.declared.op.Op.{Op}
 use Rattle.ell_ops.specs.Meaning.{key_of}
 use Rattle.ell_parts.specs.PartedOps.{IsWorkerCount}
@@ -45,6 +45,11 @@ IsCountFault workers OwnerCount = ⊥
 IsCountFault workers (StrangerOwner at) = ⊥
 IsCountFault workers (KeySplit first second) = ⊥
 IsCountFault workers NoMemory = IsWorkerCount workers
+
+-- a parting that goes by the number of workers alone is refused where that may not be, and else for want of memory only
+pub record IsRefusedByCount {Z : Type 0} (workers : ℕ) (result : Result Z PartFault) : Type 0 where
+  pub bad : IsErrOf result BadWorkers ↔ (¬ IsWorkerCount workers)
+  pub fault : IfErr result (IsCountFault workers)
 
 -- what each fault says
 abbrev pub IsFault : List Op → List ℕ → ℕ → PartFault → Type 0

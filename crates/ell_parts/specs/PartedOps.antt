@@ -1,15 +1,20 @@
-use Rattle.std.specs.Prelude.{◌≡◌, ℕ, ◌/◌, ◌%◌, ◌<◌, ◌≤◌, ◌==◌, nat_lt, List, Some, length, map, filter, count_by, slice_get, slice_index}
+use Rattle.std.specs.Prelude.{◌≡◌, ℕ, ◌/◌, ◌%◌, ◌<◌, ◌≤◌, ◌==◌, List, Some, length, map, filter, slice_get, slice_index}
 use Rattle.std.specs.Int.{div_ceil}
 use Rattle.std.specs.List.{enumerate_from}
 use Rattle.ell_ops.specs.declared.op.Op.{Op}
 use Rattle.ell_ops.specs.KeySet.{KeySet, set_of, Lists}
 use Rattle.ell_ops.specs.Meaning.{key_of, most_workers}
+use Rattle.ell_order.specs.Rounds.{rank}
 
 -- a list, the worker of each of its positions, and how many workers there are
 pub record PartedOps : Type 0 where
   pub ops : List Op
   pub owners : List ℕ
   pub workers : ℕ
+
+-- a list parted by the owners of its positions among so many workers
+abbrev pub parted : List Op → List ℕ → ℕ → PartedOps
+parted ops owners workers = record { ops = ops; owners = owners; workers = workers }
 
 -- the number of workers is one that may be
 pub record IsWorkerCount (workers : ℕ) : Type 0 where
@@ -28,6 +33,10 @@ pub record IsLawful (parting : PartedOps) : Type 0 where
   pub known : (i : ℕ) → i < length parting.owners → slice_index parting.owners i < parting.workers
   pub together : KeepsKeysTogether parting.ops parting.owners
 
+-- the parting by these owners, which is lawful
+abbrev pub IsPartedBy : List Op → List ℕ → ℕ → PartedOps → Type 0
+IsPartedBy ops owners workers parting = (parting ≡ parted ops owners workers) × IsLawful parting
+
 -- the part of a worker: its operations with their positions, in the order of the list
 abbrev pub part : PartedOps → ℕ → List (ℕ × Op)
 part parting worker = filter (λ item. slice_index parting.owners item.0 == worker) (enumerate_from 0 parting.ops)
@@ -43,10 +52,6 @@ keys_in items = set_of (map (λ item. key_of item.1) items)
 -- in stripes: a key goes to the worker whose number is its remainder by the number of workers
 abbrev pub striped : List Op → ℕ → List ℕ
 striped ops workers = map (λ op. key_of op % workers) ops
-
--- how many of the keys are below a key
-abbrev pub rank : List ℕ → ℕ → ℕ
-rank keys key = count_by (λ other. nat_lt other key) keys
 
 -- in ranges: of n keys in ascending order each worker has the next n / workers, rounded up
 abbrev pub ranged : List ℕ → List Op → ℕ → List ℕ

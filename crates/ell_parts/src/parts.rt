@@ -1,8 +1,8 @@
 //! A list of operations, parted among workers.
-ghost use Rattle.std.specs.Prelude.{◌≡◌, ◌<◌, ◌↔◌, length, IfOk, IfErr, IsErrOf, IsTrue, All, []};
+ghost use Rattle.std.specs.Prelude.{◌≡◌, ◌<◌, ◌↔◌, length, IfOk, IfErr, IsTrue, All, []};
 ghost use Rattle.ell_ops.specs.KeySet.{Lists};
-ghost use Rattle.ell_parts.specs.PartedOps.{PartedOps, IsWorkerCount, IsLawful, IsRanged, part, striped, keys_in, AreParts, AreKeys};
-ghost use Rattle.ell_parts.specs.Faults.{IsFault, IsCountFault};
+ghost use Rattle.ell_parts.specs.PartedOps.{PartedOps, IsLawful, IsPartedBy, IsRanged, part, parted, striped, keys_in, AreParts, AreKeys};
+ghost use Rattle.ell_parts.specs.Faults.{IsFault, IsRefusedByCount};
 
 use crate::fault::PartFault;
 use crate::keys::{keys_of_list, keys_of_part};
@@ -82,8 +82,7 @@ impl<'a, A: Allocator + Copy> Parts<'a, A> {
         owners: &[u32],
         workers: u32,
     ) -> Result<Parts<'a, A>, PartFault>
-        ensures ok { IfOk result (λ parts.
-            (parts ≡ record { ops = ops.now; owners = owners.now; workers = workers }) × IsLawful parts) }
+        ensures ok { IfOk result (IsPartedBy ops.now owners.now workers) }
         ensures fault { IfErr result (IsFault ops.now owners.now workers) }
     {
         if !is_worker_count(workers) {
@@ -103,10 +102,8 @@ impl<'a, A: Allocator + Copy> Parts<'a, A> {
     /// Gives each key to the worker whose number is the key's remainder by the number of workers. The faults are
     /// `BadWorkers` and want of memory.
     pub fn striped(alloc: A, ops: &'a [Op], workers: u32) -> Result<Parts<'a, A>, PartFault>
-        ensures ok { IfOk result (λ parts.
-            (parts ≡ record { ops = ops.now; owners = striped ops.now workers; workers = workers }) × IsLawful parts) }
-        ensures bad_workers { IsErrOf result PartFault.BadWorkers ↔ (¬ IsWorkerCount workers) }
-        ensures fault { IfErr result (IsCountFault workers) }
+        ensures ok { IfOk result (IsPartedBy ops.now (striped ops.now workers) workers) }
+        ensures refused { IsRefusedByCount workers result }
     {
         if !is_worker_count(workers) {
             return Err(PartFault::BadWorkers);
@@ -121,8 +118,7 @@ impl<'a, A: Allocator + Copy> Parts<'a, A> {
     pub fn ranged(alloc: A, ops: &'a [Op], workers: u32) -> Result<Parts<'a, A>, PartFault>
         ensures ok { IfOk result (λ parts. (parts.ops ≡ ops.now) × (parts.workers ≡ workers) × IsLawful parts) }
         ensures ranged { IfOk result IsRanged }
-        ensures bad_workers { IsErrOf result PartFault.BadWorkers ↔ (¬ IsWorkerCount workers) }
-        ensures fault { IfErr result (IsCountFault workers) }
+        ensures refused { IsRefusedByCount workers result }
     {
         if !is_worker_count(workers) {
             return Err(PartFault::BadWorkers);
@@ -139,8 +135,8 @@ impl<'a, A: Allocator + Copy> Parts<'a, A> {
         owners: Vec<u32, A>,
         workers: u32,
     ) -> Result<Parts<'a, A>, AllocError>
-        requires { IsLawful (record { ops = ops.now; owners = owners.items; workers = workers }) }
-        ensures { IfOk result (λ parts. parts ≡ record { ops = ops.now; owners = owners.items; workers = workers }) }
+        requires { IsLawful (parted ops.now owners.items workers) }
+        ensures { IfOk result (λ parts. parts ≡ parted ops.now owners.items workers) }
     {
         let parts = parts_of(alloc, ops, &owners, workers)?;
         let keys = keys_of_parts(alloc, &parts)?;
@@ -160,10 +156,10 @@ fn parts_of<A: Allocator + Copy>(
     owners: &[u32],
     workers: u32,
 ) -> Result<Vec<Vec<(usize, Op), A>, A>, AllocError>
-    requires { IsLawful (record { ops = ops.now; owners = owners.now; workers = workers }) }
+    requires { IsLawful (parted ops.now owners.now workers) }
     ensures count { IfOk result (λ parts. length parts.items ≡ workers) }
     ensures parts { IfOk result (λ parts.
-        AreParts (λ list. list.items) (record { ops = ops.now; owners = owners.now; workers = workers }) parts.items) }
+        AreParts (λ list. list.items) (parted ops.now owners.now workers) parts.items) }
 {
     let sizes = part_sizes(alloc, owners, workers)?;
     let mut parts = empty_parts(alloc, &sizes)?;

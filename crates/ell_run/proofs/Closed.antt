@@ -1,4 +1,4 @@
-use Rattle.std.proofs.Common.{◌≡◌, ℕ, List, ap, subst, ◌∙◌}
+use Rattle.std.proofs.Common.{◌≡◌, ℕ, false, List, ap, subst, ◌∙◌}
 use Rattle.ell_ops.specs.Contents.{Contents}
 use Rattle.ell_ops.specs.Meaning.{final}
 use Rattle.ell_parts.specs.PartedOps.{PartedOps}
@@ -11,11 +11,12 @@ use Rattle.ell_ops.specs.declared.reply.Reply.{Reply}
 
 -- what workers leave on a tree that is closed behind them
 pub left_behind : (start : Contents) (tree : TreeModel) (tries : ℕ) (parting : PartedOps) (first last : PassModel) (pieces : List (List (ℕ × Reply))) (pairs : List (ℕ × ℕ)) →
-    present_in first ≡ start → IsWorked tree.last_card tries parting (all_workers parting) first last pieces → ClosesTo tree last pairs → AreLeft start parting pieces pairs
-left_behind start tree tries parting first last pieces pairs same did closes = record {
-  told = subst (λ s. ArePieces s parting (all_workers parting) pieces) same did.told;
-  listed = record {
-    ascending = closes.present.ascending;
-    each = closes.present.each ∙ did.map ∙ ap (λ s. final s (ops_done parting (all_workers parting) pieces)) same;
-  };
-}
+    tree.plan.shared ≡ false → present_in first ≡ start → IsWorked tree.plan.last_card tries parting (all_workers parting) first last pieces → ClosesTo tree last pairs → AreLeft start parting pieces pairs
+left_behind start tree tries parting first last pieces pairs unshared same did closes =
+    let listed = closes.all unshared in record {
+      told = subst (λ s. ArePieces s parting (all_workers parting) pieces) same did.told;
+      listed = record {
+        ascending = listed.ascending;
+        each = listed.each ∙ did.map ∙ ap (λ s. final s (ops_done parting (all_workers parting) pieces)) same;
+      };
+    }

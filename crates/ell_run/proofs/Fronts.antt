@@ -6,16 +6,16 @@ use Rattle.std.proofs.lemmas.List.{append-nil, length_push, map-append, take_mor
 use Rattle.std.proofs.lemmas.Option.{slice_get_within, get_or_from_slice_get}
 use Rattle.ell_ops.specs.declared.op.Op.{Op}
 use Rattle.ell_ops.specs.Contents.{Contents}
-use Rattle.ell_ops.specs.Meaning.{reply_of, final}
+use Rattle.ell_ops.specs.Meaning.{key_of, reply_of, final}
 use Rattle.ell_ops.specs.Meaning.{after as after_op}
 use Rattle.ell_tree.specs.declared.operations.Held.{Held}
 use Rattle.ell_tree.specs.Ends.{Answers, HeldFor, LaidDown}
 use Rattle.ell_tree.specs.Hindrances.{Meets}
-use Rattle.ell_tree.specs.Ledgers.{PassModel, Owns, IsIdle, answers, hindrances, present_in}
+use Rattle.ell_tree.specs.Ledgers.{PassModel, TreeModel, Owns, IsIdle, answers, hindrances, present_in}
 use Rattle.ell_parts.specs.PartedOps.{PartedOps, part}
 use Rattle.ell_run.specs.ByParts.{ops_in}
 use Rattle.ell_run.specs.Pieces.{front, one_held, piece_from}
-use Rattle.ell_run.specs.Work.{AreHeld, IsWorked, IsWorkedOff, label_after}
+use Rattle.ell_run.specs.Work.{AreHeld, IsWorked, IsWorkedOff, OwnsAll, label_after}
 use Rattle.ell_run.proofs.Held.{hindrances_grow, none_held, once_held}
 use Rattle.ell_order.proofs.OnKey.{final-append}
 use Rattle.ell_ops.specs.declared.reply.Reply.{Reply}
@@ -40,18 +40,19 @@ piece_from-push s [] item = refl
 piece_from-push s (x ∷ items) item = ap (λ l. (x.0, reply_of x.1 s) ∷ l) (piece_from-push (after_op x.1 s) items item)
 
 -- one operation further
-pub front_more : (items : List (ℕ × Op)) (i : ℕ) (d : ℕ × Op) (before mid after : PassModel) (piece : List (ℕ × Reply)) (reply : Reply) → i < length items →
-    IsFrontDone items i before mid piece → Answers (get_or items i d).1 reply mid after → Meets mid.view after.view →
+pub front_more : (tree : TreeModel) (items : List (ℕ × Op)) (i : ℕ) (d : ℕ × Op) (before mid after : PassModel) (piece : List (ℕ × Reply)) (reply : Reply) → i < length items →
+    OwnsAll before items → IsFrontDone items i before mid piece → Answers tree (get_or items i d).1 reply mid after → Meets mid.view after.view →
     IsFrontDone items (i + 1) before after (piece ++ ((get_or items i d).0, reply) ∷ [])
-front_more items i d before mid after piece reply below h a meets =
+front_more tree items i d before mid after piece reply below owned h a meets =
     let item = get_or items i d in
     let s = present_in before in
     let more : take (i + 1) items ≡ take i items ++ item ∷ [] = take_more items i d below in
-    let says : reply ≡ reply_of item.1 (final s (ops_in (take i items))) = a.says ∙ ap (reply_of item.1) h.map in
+    let own = (h.owned (key_of item.1)).1 (owned i d below) in
+    let says : reply ≡ reply_of item.1 (final s (ops_in (take i items))) = a.says own ∙ ap (reply_of item.1) h.map in
     let few = h.few in
     let one = a.answered in
     let others = h.answered in
-    let same : present_in after ≡ after_op item.1 (present_in mid) = λ j key. a.map key j in
+    let same : present_in after ≡ after_op item.1 (present_in mid) = λ j key. a.map own key j in
     record {
       table = a.table ∙ h.table;
       label = a.label ∙ h.label;
@@ -95,10 +96,10 @@ front_all cards tries items i before after piece all h =
     }
 
 -- the next operation is held
-pub front_held : (cards tries : ℕ) (items : List (ℕ × Op)) (i : ℕ) (d : ℕ × Op) (before mid after : PassModel) (piece : List (ℕ × Reply)) (why : Held) →
-    i < length items → IsFrontDone items i before mid piece → LaidDown (get_or items i d).1 mid after → HeldFor cards tries mid after why →
+pub front_held : (tree : TreeModel) (cards tries : ℕ) (items : List (ℕ × Op)) (i : ℕ) (d : ℕ × Op) (before mid after : PassModel) (piece : List (ℕ × Reply)) (why : Held) →
+    i < length items → OwnsAll before items → IsFrontDone items i before mid piece → LaidDown tree (get_or items i d).1 mid after → HeldFor cards tries mid after why →
     IsWorkedOff cards tries items before after piece
-front_held cards tries items i d before mid after piece why below h l held_for =
+front_held tree cards tries items i d before mid after piece why below owned h l held_for =
     let few = h.few in
     let count = h.count in
     let answered = h.answered in
@@ -116,7 +117,8 @@ front_held cards tries items i d before mid after piece why below h l held_for =
             let here : get_or items i d ≡ (position, op) =
             ap (λ n. get_or items n d) (sym count) ∙ get_or_from_slice_get items (length piece) (position, op) d e in
             ap (λ l. reply_of op (final (present_in before) (ops_in l))) (sym same) ∙ ap (reply_of op) (sym h.map)
-            ∙ ap (λ (x : ℕ × Op). reply_of x.1 (present_in mid)) (sym here) ∙ l.would;
+            ∙ ap (λ (x : ℕ × Op). reply_of x.1 (present_in mid)) (sym here)
+            ∙ l.would ((h.owned (key_of (get_or items i d).1)).1 (owned i d below));
       };
       map = kept ∙ h.map ∙ ap (λ l. final (present_in before) (ops_in l)) same;
       owned = λ key. let old = h.owned key in rw l.ledger old;

@@ -15,9 +15,12 @@ use Rattle.ell_ops.specs.KeySet.{Lists, set_of, union}
 use Rattle.ell_ops.specs.Meaning.{Fits, greatest_key, key_of}
 use Rattle.ell_parts.specs.PartedOps.{PartedOps, IsLawful, keys_of, part}
 use Rattle.ell_tree.specs.Ledgers.{PassModel, TreeModel, Owns, IsIdle, ledger, Entry}
-use Rattle.ell_tree.specs.PassParts.{IsFirst, start_entry}
+use Rattle.ell_tree.specs.PassParts.{IsFirst, ownable_if, start_entry}
 use Rattle.ell_run.specs.Pieces.{all_workers, busy}
 use Rattle.ell_run.specs.Work.{AreReady}
+use Rattle.ell_run.specs.WorkFault.{StopsWork}
+use Rattle.ell_run.specs.declared.faults.WorkFault.{WorkFault}
+use Rattle.ell_run.specs.declared.faults.WorkFault.TheVariants.{TooManyPasses, NoMemory}
 use Rattle.ell_run.proofs.Busy.{all_ascend, all_known, busy_known, is_busy}
 use Rattle.ell_run.proofs.ByParts.{part_item}
 use Rattle.ell_run.proofs.Rows.{all_at}
@@ -119,8 +122,13 @@ module _ (keys : List ℕ) (entry : ℕ → Entry) (pass : PassModel) (fresh : (
 
 -- the first pass of a tree that has the keys of some pairs and those of a list, and begins with the pairs, owns those of the list
 pub owns_used : (start : List (ℕ × ℕ)) (used keys : List ℕ) (tree : TreeModel) (pass : PassModel) →
-    Lists (union (set_of (keys_in start)) (set_of used)) keys → tree.keys ≡ keys →
-    IsFirst start tree pass → All (λ key. Owns pass key) used
+    Lists (union (set_of (keys_in start)) (set_of used)) keys → tree.plan.keys ≡ keys →
+    IsFirst tree pass → All (λ key. Owns pass key) used
 owns_used start used keys tree pass united same first =
-    owns_those tree.keys (start_entry start) pass first.ledger used
+    owns_those tree.plan.keys (start_entry tree.plan.start) pass first.ledger used
     (λ key there. ap (λ keys. set_of keys key) same ∙ second_among (keys_in start) used keys united key there)
+
+-- where no key is shared, want of memory alone stops workers
+pub unshared_stops : (tree : TreeModel) (pass : PassModel) (fault : WorkFault) → IsFirst tree pass → tree.plan.shared ≡ false → StopsWork pass fault → fault ≡ NoMemory
+unshared_stops tree pass TooManyPasses first unshared stops = absurd (stops (first.ownable ∙ ap (λ shared. ownable_if shared tree.plan.keys) unshared))
+unshared_stops tree pass NoMemory first unshared stops = refl

@@ -1,9 +1,10 @@
-use Rattle.std.specs.Prelude.{◌≡◌, ℕ, ◌<◌, Bool, not, List, Some, length, filter, slice_get, ◌==◌}
+use Rattle.std.specs.Prelude.{◌≡◌, ℕ, ◌<◌, ◌≤◌, Bool, not, List, Some, length, filter, slice_get, ◌==◌}
 use Rattle.std.specs.List.{enumerate_from, flat_map, list_any}
 use Rattle.ell_ops.specs.declared.op.Op.{Op}
 use Rattle.ell_ops.specs.Contents.{Contents, ListsPairs}
 use Rattle.ell_ops.specs.Meaning.{replies, final}
 use Rattle.ell_parts.specs.PartedOps.{PartedOps}
+use Rattle.ell_run.specs.declared.runs.Outcome.{Outcome}
 use Rattle.ell_run.specs.Pieces.{ArePieces, all_workers, ops_done}
 use Rattle.ell_ops.specs.declared.reply.Reply.{Reply}
 
@@ -30,8 +31,13 @@ pub record IsLate (start : Contents) (parting : PartedOps) (late : ℕ) : Type 0
   pub told : ArePieces start parting (all_workers parting) pieces
   pub count : late ≡ length (late_ops parting.ops (flat_map (λ piece. piece) pieces))
 
--- what a run of a list from a map comes to: its replies, its keys with their values, and how many operations are late
-pub record IsOutcome (start : Contents) (ops : List Op) (parting : PartedOps) (said : List Reply) (pairs : List (ℕ × ℕ)) (count : ℕ) : Type 0 where
-  pub told : said ≡ replies start ops
-  pub listed : ListsPairs (final start ops) pairs
-  pub late : IsLate start parting count
+-- replies and keys with their values are those of one thread that runs a list from a map
+pub record IsOneThreads {Z : Type 0} (start : Contents) (ops : List Op) (outcome : Outcome Z) : Type 0 where
+  pub told : outcome.replies.items ≡ replies start ops
+  pub listed : ListsPairs (final start ops) outcome.pairs.items
+
+-- what comes of a run of a list from a map: what comes of one thread, and how many operations are late, no more than there are
+pub record IsOutcome {Z : Type 0} (start : Contents) (ops : List Op) (parting : PartedOps) (outcome : Outcome Z) : Type 0 where
+  pub answer : IsOneThreads start ops outcome
+  pub few : outcome.late ≤ length ops
+  pub late : IsLate start parting outcome.late

@@ -4,8 +4,10 @@ pub mod Answered
 pub mod ByParts
 -- What the workers leave undone.
 pub mod Late
--- What a run is told beside its list.
+-- What a run is told beside its list, and when it may be.
 pub mod Limits
+-- Memory for a tree.
+pub mod Memory
 -- The pieces of workers: the replies of each to a front of its part.
 pub mod Pieces
 -- Which fault of a run each fault of a call within it is.
@@ -14,6 +16,8 @@ pub mod RunFault
 pub mod Settings
 -- How many steps workers make at most.
 pub mod Steps
+-- Why workers do not come to their end.
+pub mod WorkFault
 -- Workers with passes of one tree.
 pub mod Work
 -- what its public clauses cite of the crates below

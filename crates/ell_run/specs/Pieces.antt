@@ -1,4 +1,4 @@
-use Rattle.std.specs.Prelude.{◌≡◌, ℕ, ◌+◌, ◌≤◌, nat_lt, if◌then◌else◌, List, [], ◌∷◌, ◌++◌, Some, length, map, filter, take, slice_get, slice_index_or}
+use Rattle.std.specs.Prelude.{◌≡◌, ℕ, ◌+◌, ◌≤◌, nat_lt, if◌then◌else◌, List, [], ◌∷◌, ◌++◌, Some, length, map, filter, take, slice_get, slice_index_or, Vec}
 use Rattle.std.specs.List.{range_with_len, zip}
 use Rattle.ell_ops.specs.declared.op.Op.{Op}
 use Rattle.ell_ops.specs.Contents.{Contents}
@@ -34,6 +34,10 @@ ArePieces set parting [] (piece ∷ pieces) = ⊥
 ArePieces set parting (worker ∷ workers) [] = ⊥
 ArePieces set parting (worker ∷ workers) (piece ∷ pieces) =
     IsPiece set (part parting worker) piece × ArePieces set parting workers pieces
+
+-- pieces as lists of what each says
+abbrev pub lists_of : {Z : Type 0} → List (Vec (ℕ × Reply) Z) → List (List (ℕ × Reply))
+lists_of pieces = map (λ piece. piece.items) pieces
 
 -- how many operations of its part a worker's piece answers
 abbrev pub count_of : List (List (ℕ × Reply)) → ℕ → ℕ

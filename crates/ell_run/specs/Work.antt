@@ -1,4 +1,4 @@
-use Rattle.std.specs.Prelude.{◌≡◌, ◌⊎◌, ℕ, ◌+◌, ◌*◌, ◌<◌, ◌≤◌, ◌↔◌, Some, List, [], ◌∷◌, length, All}
+use Rattle.std.specs.Prelude.{◌≡◌, ◌⊎◌, ℕ, ◌+◌, ◌*◌, ◌<◌, ◌≤◌, ◌↔◌, false, Some, List, [], ◌∷◌, length, All, Vec}
 use Rattle.std.specs.List.{list_any, sum_by}
 use Rattle.std.specs.List.Sorted.{IsStrictlyIncreasing}
 use Rattle.ell_ops.specs.declared.op.Op.{Op}
@@ -8,8 +8,8 @@ use Rattle.ell_parts.specs.PartedOps.{PartedOps, IsLawful, part, keys_in}
 use Rattle.ell_tree.specs.Ledgers.{PassModel, TreeModel, Owns, IsIdle, answers, hindrances, present_in}
 use Rattle.ell_tree.specs.PassParts.{IsLeftPart, IsRightPart}
 use Rattle.ell_run.specs.ByParts.{ops_in}
-use Rattle.ell_run.specs.Steps.{AreWithin}
-use Rattle.ell_run.specs.Pieces.{ArePieces, IsPiece, all_held, front, one_held, ops_done}
+use Rattle.ell_run.specs.Steps.{AreWithin, total_steps, work_steps}
+use Rattle.ell_run.specs.Pieces.{ArePieces, IsPiece, all_held, all_workers, busy, front, lists_of, one_held, ops_done}
 use Rattle.ell_ops.specs.declared.reply.Reply.{Reply}
 
 -- the pass owns the keys of numbered operations
@@ -19,6 +19,11 @@ OwnsAll pass items = All (λ item. Owns pass (key_of item.1)) items
 -- the keys of the parts of workers
 abbrev pub keys_for : PartedOps → List ℕ → KeySet
 keys_for parting workers = λ key. list_any (λ worker. keys_in (part parting worker) key) workers
+
+-- the tree begins with these pairs, and shares no key
+pub record IsUnsharedFrom (start : List (ℕ × ℕ)) (tree : TreeModel) : Type 0 where
+  pub begins : tree.plan.start ≡ start
+  pub unshared : tree.plan.shared ≡ false
 
 -- workers can set to work on their parts with a pass
 pub record AreReady (tree : TreeModel) (parting : PartedOps) (workers : List ℕ) (pass : PassModel) : Type 0 where
@@ -79,3 +84,14 @@ pub record IsWorkedWithin (cards tries : ℕ) (parting : PartedOps) (workers : L
   pub worked : IsWorked cards tries parting workers before after pieces
   pub within : AreWithin cards parting workers before after
   pub label : after.label ≡ label_after before workers
+
+-- the same of a tree, where the pass that comes back and the pieces stand together
+abbrev pub HaveWorked : {Z : Type 0} → TreeModel → ℕ → PartedOps → List ℕ → PassModel → PassModel × Vec (Vec (ℕ × Reply) Z) Z → Type 0
+HaveWorked tree tries parting workers before done = IsWorkedWithin tree.plan.last_card tries parting workers before done.0 (lists_of done.1.items)
+
+-- all workers of a parting have worked with a pass, and made at most `more` steps above those that the ones with something to do may make
+pub record AllHaveWorked {Z : Type 0} (tree : TreeModel) (tries more : ℕ) (parting : PartedOps) (before : PassModel)
+    (done : PassModel × Vec (Vec (ℕ × Reply) Z) Z) : Type 0 where
+  pub worked : IsWorked tree.plan.last_card tries parting (all_workers parting) before done.0 (lists_of done.1.items)
+  pub bounded : done.0.steps ≤ before.steps + work_steps tree.plan.last_card parting (busy parting) + more
+  pub total : done.0.view.made ≤ before.view.made + total_steps tree.plan.last_card parting (busy parting) + more

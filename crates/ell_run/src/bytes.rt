@@ -13,7 +13,7 @@ use crate::reservation::{most_words, words_to_begin_with};
 use crate::settings::{Report, Settings};
 use ell_ops::NoMemory;
 use ell_text::{INPUT_MAX, InputFault, TextFault, WriteFault, read_all, read_bulk, write_answer};
-use ell_word::{NoGate, StepGate};
+use ell_word::StepGate;
 use std::alloc::Allocator;
 use std::io::{Read, Write};
 use std::thread::Threads;
@@ -83,27 +83,9 @@ impl From<WriteFault> for RunFault {
 /// Runs a bulk text: reads all of it, runs its operations from the map of its start keys as the settings say, and writes the
 /// answer, as the text's version has it. 1,000 operations or more are run in rounds of ascending keys (`ell_order`), since a tree
 /// that keys enter in ascending order would become a list; replies are written in the order of the text. Nothing is written before
-/// the run has ended. The reader is then at its end; after an error it has given some of its bytes, from the first on.
-pub fn run_bytes<R: Threads + Sync, A: Allocator + Copy + Send + Sync, I: Read, O: Write>(
-    rt: &R,
-    alloc: A,
-    reader: &mut I,
-    writer: &mut O,
-    settings: Settings,
-) -> Result<Report, RunFault>
-    requires { AreSettings settings }
-    ensures ok { OnOk result (IsAnswered (I.remaining reader.old) (O.contents writer.old) (O.contents writer.new)) }
-    ensures late { IfOk result (λ report. IsReported settings (I.remaining reader.old) report.late) }
-    ensures fault { IfErr result (λ fault.
-        FaultTells fault (I.remaining reader.old) (O.contents writer.old) (O.contents writer.new)) }
-    ensures end { OnOk result (IsAtEnd (I.remaining reader.new)) }
-    ensures given { GivesFront (I.remaining reader.old) (I.remaining reader.new) }
-{
-    run_bytes_watched(rt, alloc, reader, writer, settings, &NoGate)
-}
-
-/// The same, and a gate sees each call of the tree, under the number of its worker.
-pub fn run_bytes_watched<
+/// the run has ended. The reader is then at its end; after an error it has given some of its bytes, from the first on. The gate sees
+/// each call of the tree, under the number of its worker; `NoGate` sees none.
+pub fn run_bytes<
     R: Threads + Sync,
     A: Allocator + Copy + Send + Sync,
     I: Read,

@@ -1,5 +1,5 @@
 //! What the workers left undone, done by one thread after they have ended.
-ghost use Rattle.std.specs.Prelude.{◌≡◌, ◌≤◌, ◌<◌, ◌++◌, ℕ, List, All, IfOk, IsTrue, length, map};
+ghost use Rattle.std.specs.Prelude.{◌≡◌, ◌≤◌, ◌<◌, ◌++◌, ℕ, List, All, IfOk, IsTrue, length};
 ghost use Rattle.std.specs.List.{flat_map};
 ghost use Rattle.std.specs.List.Sorted.{IsStrictlyIncreasing};
 ghost use Rattle.ell_ops.specs.declared.reply.Reply.{Reply};
@@ -9,7 +9,7 @@ ghost use Rattle.ell_ops.specs.Meaning.{final};
 ghost use Rattle.ell_parts.specs.PartedOps.{IsLawful, part};
 ghost use Rattle.ell_run.specs.ByParts.{ops_in};
 ghost use Rattle.ell_run.specs.Late.{AreMarks, late_ops};
-ghost use Rattle.ell_run.specs.Pieces.{ArePieces, all_workers, count_of, piece_from};
+ghost use Rattle.ell_run.specs.Pieces.{ArePieces, all_workers, count_of, lists_of, piece_from};
 
 use crate::pieces::{Piece, with_positions};
 use ell_ops::{NoMemory, Op, Reply, apply_from};
@@ -24,7 +24,7 @@ pub(crate) fn late_ops<A: Allocator + Copy>(
     pieces: &[Piece<A>],
 ) -> Result<Vec<(usize, Op), A>, NoMemory>
     requires parted { parts.now.ops ≡ ops.now }
-    requires pieces { (start : Contents) × ArePieces start parts.now (all_workers parts.now) (map (λ piece. piece.items) pieces.now) }
+    requires pieces { (start : Contents) × ArePieces start parts.now (all_workers parts.now) (lists_of pieces.now) }
     ensures { IfOk result (λ late. late.items ≡ late_ops ops.now (flat_map (λ piece. piece.items) pieces.now)) }
 {
     let mut late = Vec::new(alloc);
@@ -45,7 +45,7 @@ fn is_all_done<A: Allocator + Copy>(parts: &Parts<'_, A>, pieces: &[Piece<A>]) -
     requires { length pieces.now ≡ parts.now.workers }
     ensures lawful { IsLawful parts.now }
     ensures done { IsTrue result → (worker : ℕ) → worker < parts.now.workers →
-        length (part parts.now worker) ≤ count_of (map (λ piece. piece.items) pieces.now) worker }
+        length (part parts.now worker) ≤ count_of (lists_of pieces.now) worker }
 {
     for worker in 0..parts.workers() {
         if pieces[worker as usize].len() < parts.part(worker).len() {
@@ -75,7 +75,8 @@ fn answered<A: Allocator + Copy>(
 // Marks the positions of the items of a piece.
 fn mark(answered: &mut [bool], piece: &[(usize, Reply)])
     requires { All (λ item. item.0 < length answered.old) piece.now }
-    ensures { (items : List (ℕ × Reply)) → AreMarks items answered.old → AreMarks (items ++ piece.now) answered.new }
+    ensures { (items : List (ℕ × Reply)) →
+        AreMarks items answered.old → AreMarks (items ++ piece.now) answered.new }
 {
     for (position, _) in piece {
         answered[*position] = true;

@@ -3,6 +3,7 @@
 #![tactic(auto)]
 
 mod bytes;
+mod faults;
 mod late;
 mod laws;
 mod memory;
@@ -13,10 +14,11 @@ mod runs;
 mod settings;
 mod workers;
 
-pub use bytes::{RunFault, run_bytes, run_bytes_watched};
+pub use bytes::{RunFault, run_bytes};
 pub use ell_ops::{KEY_MAX, WORKERS_MAX};
 pub use ell_tree::{Pass, Tree};
 pub use ell_word::{CARDS_MAX, START_MAX};
+pub use faults::WorkFault;
 pub use laws::{by_parts, limits_are_as_defined};
 pub use pieces::Piece;
 pub use runs::{Limits, Outcome, run};

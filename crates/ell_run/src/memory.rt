@@ -1,6 +1,6 @@
 //! Memory for the tree of a run, written to by other threads beside the work that comes before.
-ghost use Rattle.std.specs.Prelude.{All, ◌≡◌};
 ghost use denote.Param.Send.{Frees, IsSend, IsSync};
+ghost use Rattle.ell_run.specs.Memory.{AreZeros};
 
 use std::alloc::Allocator;
 use std::thread::{Threads, join};
@@ -16,7 +16,7 @@ pub(crate) struct TreeMemory<A: Allocator> {
     // What is let go just before the tree asks for its words. An allocator that keeps memory, as that of the C library does by the
     // settings of ./elltree, gives them out of this, and memory that was written to before is faster.
     pub(crate) spare: Vec<u64, A>,
-    ghost all_zero: { All (λ word. word ≡ 0) zeros.items × All (λ word. word ≡ 0) spare.items },
+    ghost all_zero: { AreZeros zeros.items × AreZeros spare.items },
 }
 
 impl<A: Allocator + Copy> TreeMemory<A> {
@@ -74,8 +74,9 @@ pub(crate) fn fill_beside<R: Threads + Sync, A: Allocator + Copy + Send, T, F: F
     }
     let TreeMemory { zeros, spare } = memory.with_room(count);
     let fill = move || -> (Vec<u64, A>, Vec<u64, A>)
-        requires { IsSync R.row × IsSend A.row × Frees A.Allocator A.dealloc_token × All (λ word. word ≡ 0) zeros.items × All (λ word. word ≡ 0) spare.items }
-        ensures { All (λ word. word ≡ 0) result.0.items × All (λ word. word ≡ 0) result.1.items }
+        requires { IsSync R.row × IsSend A.row × Frees A.Allocator A.dealloc_token
+            × AreZeros zeros.items × AreZeros spare.items }
+        ensures { AreZeros result.0.items × AreZeros result.1.items }
     { fill_both(rt, zeros, spare, count) };
     let ((zeros, spare), done) = join(rt, fill, work);
     (TreeMemory { zeros, spare }, done)
@@ -88,25 +89,25 @@ fn fill_both<R: Threads, A: Allocator + Copy + Send>(
     spare: Vec<u64, A>,
     count: usize,
 ) -> (Vec<u64, A>, Vec<u64, A>)
-    requires zeros { All (λ word. word ≡ 0) zeros.items }
-    requires spare { All (λ word. word ≡ 0) spare.items }
-    ensures { All (λ word. word ≡ 0) result.0.items × All (λ word. word ≡ 0) result.1.items }
+    requires zeros { AreZeros zeros.items }
+    requires spare { AreZeros spare.items }
+    ensures { AreZeros result.0.items × AreZeros result.1.items }
 {
     let first = move || -> Vec<u64, A>
-        requires { IsSend A.row × Frees A.Allocator A.dealloc_token × All (λ word. word ≡ 0) zeros.items }
-        ensures { All (λ word. word ≡ 0) result.items }
+        requires { IsSend A.row × Frees A.Allocator A.dealloc_token × AreZeros zeros.items }
+        ensures { AreZeros result.items }
     { filled(zeros, count) };
     let second = move || -> Vec<u64, A>
-        requires { All (λ word. word ≡ 0) spare.items }
-        ensures { All (λ word. word ≡ 0) result.items }
+        requires { AreZeros spare.items }
+        ensures { AreZeros result.items }
     { filled(spare, count) };
     join(rt, first, second)
 }
 
 // Zeros, and more of them behind, up to so many. Where memory is refused, they are as they were.
 fn filled<A: Allocator>(mut zeros: Vec<u64, A>, count: usize) -> Vec<u64, A>
-    requires { All (λ word. word ≡ 0) zeros.items }
-    ensures { All (λ word. word ≡ 0) result.items }
+    requires { AreZeros zeros.items }
+    ensures { AreZeros result.items }
 {
     let _ = zeros.resize(count, 0);
     zeros

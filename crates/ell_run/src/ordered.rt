@@ -1,14 +1,13 @@
 //! A list run in hands and rounds, and answered in its own order.
 ghost use Rattle.std.specs.Prelude.{◌≡◌, ◌≤◌, All, IfOk, length};
 ghost use denote.Param.Send.{Frees, IsSend, IsSync};
-ghost use Rattle.std.specs.List.Sorted.{IsStrictlyIncreasing};
-ghost use Rattle.std.specs.Map.{keys_of as keys_in};
-ghost use Rattle.ell_ops.specs.Contents.{ListsPairs, contents_of};
-ghost use Rattle.ell_ops.specs.Meaning.{Fits, final, greatest_key, replies};
+ghost use Rattle.ell_ops.specs.Contents.{contents_of};
+ghost use Rattle.ell_ops.specs.Meaning.{Fits};
 ghost use Rattle.ell_order.specs.Orders.{IsRunOrder};
 ghost use Rattle.ell_text.specs.Limits.{most_operations};
-ghost use Rattle.ell_word.specs.Node.{most_start};
 ghost use Rattle.ell_run.specs.Answered.{IsLateOf};
+ghost use Rattle.ell_run.specs.Late.{IsOneThreads};
+ghost use Rattle.ell_run.specs.Limits.{IsStart};
 ghost use Rattle.ell_run.specs.Settings.{AreSettings, IsPartedAs};
 
 use crate::memory::{TreeMemory, fill_beside};
@@ -37,14 +36,11 @@ pub(crate) fn run_in_order<
     settings: Settings,
     gate: &G,
 ) -> Result<Outcome<A>, NoMemory>
-    requires ascending { IsStrictlyIncreasing (keys_in start.now) }
-    requires real { All (λ key. key ≤ greatest_key) (keys_in start.now) }
-    requires few_keys { length start.now ≤ most_start }
+    requires start { IsStart start.now }
     requires fits { All Fits ops.now }
     requires few { length ops.now ≤ most_operations }
     requires settings { AreSettings settings }
-    ensures replies { IfOk result (λ outcome. outcome.replies.items ≡ replies (contents_of start.now) ops.now) }
-    ensures pairs { IfOk result (λ outcome. ListsPairs (final (contents_of start.now) ops.now) outcome.pairs.items) }
+    ensures answer { IfOk result (IsOneThreads (contents_of start.now) ops.now) }
     ensures late { IfOk result (λ outcome. IsLateOf settings (contents_of start.now) ops.now outcome.late) }
 {
     let limits = limits_for(ops, settings);

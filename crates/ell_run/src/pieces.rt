@@ -1,11 +1,11 @@
 //! What one worker does on its part, with a pass of the shared tree, and the pieces that workers leave.
-ghost use Rattle.std.specs.Prelude.{◌≡◌, ◌≤◌, ◌+◌, ℕ, IfOk, length, map};
+ghost use Rattle.std.specs.Prelude.{◌≡◌, ◌≤◌, ◌+◌, ℕ, IfOk, length};
 ghost use Rattle.ell_ops.specs.Meaning.{key_of};
 ghost use Rattle.ell_tree.specs.Counts.{Took};
 ghost use Rattle.ell_tree.specs.Ends.{Ends};
 ghost use Rattle.ell_tree.specs.Ledgers.{IsIdlePassOf, PassModel};
 ghost use Rattle.ell_tree.specs.Promises.{MayDo};
-ghost use Rattle.ell_run.specs.Pieces.{all_workers, busy, numbered};
+ghost use Rattle.ell_run.specs.Pieces.{all_workers, busy, lists_of, numbered};
 ghost use Rattle.ell_run.specs.Steps.{IsPaid, worker_steps};
 ghost use Rattle.ell_run.specs.Work.{IsWorked, IsWorkedOff, OwnsAll};
 
@@ -31,8 +31,10 @@ pub(crate) fn work_off<A: Allocator + Copy, G: StepGate>(
     requires may { IsIdlePassOf tree.now pass.old }
     requires owned { OwnsAll pass.old part.now }
     requires tries { 1 ≤ tries }
-    ensures worked { IfOk result (λ piece. IsWorkedOff tree.now.last_card tries part.now pass.old pass.new piece.items) }
-    ensures bounded { IfOk result (λ piece. Took pass.old pass.new (worker_steps tree.now.last_card (length part.now))) }
+    ensures worked { IfOk result (λ piece.
+        IsWorkedOff tree.now.plan.last_card tries part.now pass.old pass.new piece.items) }
+    ensures bounded { IfOk result (λ piece.
+        Took pass.old pass.new (worker_steps tree.now.plan.last_card (length part.now))) }
 {
     let mut piece = Vec::with_capacity(alloc, part.len())?;
     for (position, op) in part {
@@ -56,8 +58,8 @@ fn do_op<A: Allocator + Copy, G: StepGate>(
 ) -> Result<Reply, Held>
     requires may { MayDo tree.now (key_of op) pass.old }
     requires tries { 1 ≤ tries }
-    ensures ends { Ends tree.now.last_card tries op pass.old pass.new result }
-    ensures paid { IsPaid tree.now.last_card 1 pass.old pass.new }
+    ensures ends { Ends tree.now tries op pass.old pass.new result }
+    ensures paid { IsPaid tree.now.plan.last_card 1 pass.old pass.new }
 {
     match op {
         Op::Find(key) => Ok(Reply::found(tree.find(pass, key, gate))),
@@ -74,8 +76,8 @@ pub(crate) fn with_empty_pieces<A: Allocator + Copy>(
 ) -> Result<Vec<Piece<A>, A>, NoMemory>
     requires { length pieces.items ≡ length (busy parts.now) }
     ensures { (cards tries : ℕ) (before after : PassModel) →
-        IsWorked cards tries parts.now (busy parts.now) before after (map (λ piece. piece.items) pieces.items) →
-        IfOk result (λ all. IsWorked cards tries parts.now (all_workers parts.now) before after (map (λ piece. piece.items) all.items)) }
+        IsWorked cards tries parts.now (busy parts.now) before after (lists_of pieces.items) →
+        IfOk result (λ all. IsWorked cards tries parts.now (all_workers parts.now) before after (lists_of all.items)) }
 {
     for worker in 0..parts.workers() {
         if parts.part(worker).is_empty() {

@@ -1,18 +1,21 @@
 //! A run: a list of operations, parted among workers.
-ghost use Rattle.std.specs.Prelude.{◌≡◌, ◌≤◌, All, IfOk, length, map};
+ghost use Rattle.std.specs.Prelude.{◌≡◌, ◌≤◌, All, IfOk, length};
 ghost use Rattle.std.specs.List.{flat_map};
 ghost use Rattle.std.specs.List.Sorted.{IsStrictlyIncreasing};
 ghost use Rattle.std.specs.Map.{keys_of as keys_in};
-ghost use Rattle.ell_ops.specs.Contents.{Contents, ListsPairs, contents_of};
+ghost use Rattle.ell_ops.specs.Contents.{Contents, contents_of};
 ghost use Rattle.ell_ops.specs.KeySet.{Lists, set_of, union};
-ghost use Rattle.ell_ops.specs.Meaning.{Fits, final, greatest_key, replies};
+ghost use Rattle.ell_ops.specs.Meaning.{Fits, greatest_key};
 ghost use Rattle.ell_tree.specs.Ledgers.{Owns};
 ghost use Rattle.ell_tree.specs.PassParts.{IsFirst};
-ghost use Rattle.ell_word.specs.Node.{most_cards, most_start};
-ghost use Rattle.ell_run.specs.Late.{AreLeft, IsLate, IsOutcome, late_ops};
-ghost use Rattle.ell_run.specs.Limits.{AreLimits};
+ghost use Rattle.ell_word.specs.Node.{most_cards};
+ghost use Rattle.ell_run.specs.Late.{AreLeft, IsOutcome, late_ops};
+ghost use Rattle.ell_run.specs.Limits.{AreLimits, IsRunnable, IsStart};
+ghost use Rattle.ell_run.specs.Pieces.{lists_of};
 ghost use Rattle.ell_run.specs.Settings.{IsAllowed};
+ghost use Rattle.ell_run.specs.Work.{IsUnsharedFrom};
 
+use crate::faults::{WorkFault, only_memory};
 use crate::late::{do_late, late_ops};
 use crate::memory::TreeMemory;
 use crate::pieces::Piece;
@@ -60,16 +63,8 @@ pub fn run<R: Threads + Sync, A: Allocator + Copy + Send + Sync, G: StepGate + S
     limits: Limits,
     gate: &G,
 ) -> Result<Outcome<A>, NoMemory>
-    requires ascending { IsStrictlyIncreasing (keys_in start.now) }
-    requires real { All (λ key. key ≤ greatest_key) (keys_in start.now) }
-    requires few { length start.now ≤ most_start }
-    requires fits { All Fits ops.now }
-    requires parted { parts.now.ops ≡ ops.now }
-    requires limits { AreLimits limits }
-    ensures replies { IfOk result (λ outcome. outcome.replies.items ≡ replies (contents_of start.now) ops.now) }
-    ensures pairs { IfOk result (λ outcome. ListsPairs (final (contents_of start.now) ops.now) outcome.pairs.items) }
-    ensures few { IfOk result (λ outcome. outcome.late ≤ length ops.now) }
-    ensures late { IfOk result (λ outcome. IsLate (contents_of start.now) parts.now outcome.late) }
+    requires runnable { IsRunnable start.now ops.now parts.now limits }
+    ensures { IfOk result (IsOutcome (contents_of start.now) ops.now parts.now) }
 {
     run_in(
         rt,
@@ -94,16 +89,8 @@ pub(crate) fn run_in<R: Threads + Sync, A: Allocator + Copy + Send + Sync, G: St
     limits: Limits,
     gate: &G,
 ) -> Result<Outcome<A>, NoMemory>
-    requires ascending { IsStrictlyIncreasing (keys_in start.now) }
-    requires real { All (λ key. key ≤ greatest_key) (keys_in start.now) }
-    requires few { length start.now ≤ most_start }
-    requires fits { All Fits ops.now }
-    requires parted { parts.now.ops ≡ ops.now }
-    requires limits { AreLimits limits }
-    ensures replies { IfOk result (λ outcome. outcome.replies.items ≡ replies (contents_of start.now) ops.now) }
-    ensures pairs { IfOk result (λ outcome. ListsPairs (final (contents_of start.now) ops.now) outcome.pairs.items) }
-    ensures few { IfOk result (λ outcome. outcome.late ≤ length ops.now) }
-    ensures late { IfOk result (λ outcome. IsLate (contents_of start.now) parts.now outcome.late) }
+    requires runnable { IsRunnable start.now ops.now parts.now limits }
+    ensures { IfOk result (IsOutcome (contents_of start.now) ops.now parts.now) }
 {
     let (pieces, pairs) = run_workers(rt, alloc, memory, start, ops, parts, limits, gate)?;
     finish(alloc, ops, parts, pieces, pairs)
@@ -120,18 +107,20 @@ fn run_workers<R: Threads + Sync, A: Allocator + Copy + Send + Sync, G: StepGate
     limits: Limits,
     gate: &G,
 ) -> Result<(Vec<Piece<A>, A>, Vec<(u64, u64), A>), NoMemory>
-    requires ascending { IsStrictlyIncreasing (keys_in start.now) }
-    requires real { All (λ key. key ≤ greatest_key) (keys_in start.now) }
-    requires few { length start.now ≤ most_start }
+    requires start { IsStart start.now }
     requires fits { All Fits parts.now.ops }
     requires limits { AreLimits limits }
-    ensures { IfOk result (λ left. AreLeft (contents_of start.now) parts.now (map (λ piece. piece.items) left.0.items) left.1.items) }
+    ensures { IfOk result (λ left. AreLeft (contents_of start.now) parts.now (lists_of left.0.items) left.1.items) }
 {
     let workers = busy_workers(alloc, parts)?;
     let used = keys_for(alloc, parts, &workers)?;
     let cards = cards_to_reserve(ops, workers.len(), limits);
     let (tree, pass) = reserve(alloc, memory, start, &used, cards)?;
-    let (pass, pieces) = work_apart(rt, alloc, &tree, pass, &used, parts, limits.tries, gate)?;
+    let worked = work_apart(rt, alloc, &tree, pass, &used, parts, limits.tries, gate);
+    let (pass, pieces) = match worked {
+        Ok(done) => done,
+        Err(fault) => return Err(only_memory(fault, WorkFault::NoMemory)),
+    };
     match tree.close(pass) {
         Ok(pairs) => Ok((pieces, pairs)),
         Err(_) => Err(NoMemory),
@@ -146,13 +135,12 @@ fn reserve<A: Allocator + Copy>(
     used: &[u64],
     cards: u64,
 ) -> Result<(Tree<A>, Pass<A>), NoMemory>
-    requires ascending { IsStrictlyIncreasing (keys_in start.now) }
-    requires real { All (λ key. key ≤ greatest_key) (keys_in start.now) }
-    requires few { length start.now ≤ most_start }
+    requires start { IsStart start.now }
     requires used_ascending { IsStrictlyIncreasing used.now }
     requires used_real { All (λ key. key ≤ greatest_key) used.now }
     requires cards { IsAllowed most_cards cards }
-    ensures pass { IfOk result (λ made. IsFirst start.now made.0 made.1) }
+    ensures tree { IfOk result (λ made. IsUnsharedFrom start.now made.0) }
+    ensures pass { IfOk result (λ made. IsFirst made.0 made.1) }
     ensures owned { IfOk result (λ made. All (λ key. Owns made.1 key) used.now) }
 {
     let TreeMemory { zeros, spare } = memory;
@@ -161,7 +149,7 @@ fn reserve<A: Allocator + Copy>(
     drop(spare);
     match Tree::reserve_with_zeros(alloc, zeros, present, keys, cards) {
         Ok(made) => Ok(made),
-        Err(fault) => Err(no_cards(fault)),
+        Err(fault) => Err(only_memory(fault, CardFault::NoMemory)),
     }
 }
 
@@ -189,16 +177,6 @@ fn start_keys<A: Allocator + Copy>(alloc: A, start: &[(u64, u64)]) -> Result<Vec
     Ok(start.iter().map(|pair| pair.0).collect(alloc)?)
 }
 
-// The one fault that a tree of as many cards as there may be can have.
-fn no_cards(fault: CardFault) -> NoMemory
-    requires { fault ≡ CardFault.NoMemory }
-{
-    match fault {
-        CardFault::NoMemory => NoMemory,
-        _ => unreachable!(),
-    }
-}
-
 // Does what the workers left, and gathers all replies.
 fn finish<A: Allocator + Copy>(
     alloc: A,
@@ -208,10 +186,9 @@ fn finish<A: Allocator + Copy>(
     pairs: Vec<(u64, u64), A>,
 ) -> Result<Outcome<A>, NoMemory>
     requires parted { parts.now.ops ≡ ops.now }
-    requires left { (start : Contents) × AreLeft start parts.now (map (λ piece. piece.items) pieces.items) pairs.items }
-    ensures outcome { (start : Contents) → AreLeft start parts.now (map (λ piece. piece.items) pieces.items) pairs.items →
-        IfOk result (λ outcome. IsOutcome start ops.now parts.now outcome.replies.items outcome.pairs.items outcome.late) }
-    ensures few { IfOk result (λ outcome. outcome.late ≤ length ops.now) }
+    requires left { (start : Contents) × AreLeft start parts.now (lists_of pieces.items) pairs.items }
+    ensures outcome { (start : Contents) → AreLeft start parts.now (lists_of pieces.items) pairs.items →
+        IfOk result (IsOutcome start ops.now parts.now) }
     ensures count { IfOk result (λ outcome.
         outcome.late ≡ length (late_ops parts.now.ops (flat_map (λ piece. piece.items) pieces.items))) }
 {
@@ -220,21 +197,11 @@ fn finish<A: Allocator + Copy>(
     pieces.push(piece)?;
     let replies = match gather(alloc, parts.len(), &pieces) {
         Ok(replies) => replies,
-        Err(fault) => return Err(only_memory(fault)),
+        Err(fault) => return Err(only_memory(fault, GatherFault::NoMemory)),
     };
     Ok(Outcome {
         replies,
         pairs,
         late: late.len(),
     })
-}
-
-// The one fault that gathering the pieces of all parts and what was late can have.
-fn only_memory(fault: GatherFault) -> NoMemory
-    requires { fault ≡ GatherFault.NoMemory }
-{
-    match fault {
-        GatherFault::NoMemory => NoMemory,
-        _ => unreachable!(),
-    }
 }

@@ -5,6 +5,7 @@ ghost use Rattle.ell_run.specs.Limits.{AreLimits};
 ghost use Rattle.ell_word.specs.Node.{most_cards};
 ghost use Rattle.ell_run.specs.Settings.{AreSettings, IsAllowed, IsPartedAs};
 
+use crate::faults::only_memory;
 use crate::runs::Limits;
 use ell_ops::{NoMemory, Op};
 use ell_parts::{PartFault, Parts};
@@ -54,16 +55,9 @@ pub fn parts_for<A: Allocator + Copy>(
         Parting::Stripe => Parts::striped(alloc, ops, settings.workers),
         Parting::Range => Parts::ranged(alloc, ops, settings.workers),
     };
-    parts.map_err(only_memory)
-}
-
-// The one fault that a parting among workers of a number that may be can have.
-fn only_memory(fault: PartFault) -> NoMemory
-    requires { fault ≡ PartFault.NoMemory }
-{
-    match fault {
-        PartFault::NoMemory => NoMemory,
-        _ => unreachable!(),
+    match parts {
+        Ok(parts) => Ok(parts),
+        Err(fault) => Err(only_memory(fault, PartFault::NoMemory)),
     }
 }
 

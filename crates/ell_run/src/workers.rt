@@ -1,14 +1,15 @@
 //! Workers that share one tree: each does its part with a pass of its own, in a thread of its own where one can be made.
-ghost use Rattle.std.specs.Prelude.{◌≡◌, ◌<◌, ◌≤◌, ◌+◌, ◌++◌, ℕ, List, All, IfOk, length, map};
+ghost use Rattle.std.specs.Prelude.{◌≡◌, ◌<◌, ◌≤◌, ◌++◌, ℕ, List, All, IfErr, IfOk, length};
 ghost use denote.Param.Send.{Frees, IsSend, IsSync};
 ghost use Rattle.ell_ops.specs.KeySet.{Lists};
 ghost use Rattle.ell_ops.specs.Meaning.{key_of};
 ghost use Rattle.ell_parts.specs.PartedOps.{IsLawful, PartedOps, keys_of};
-ghost use Rattle.ell_tree.specs.Ledgers.{IsIdle, Owns, PassModel};
-ghost use Rattle.ell_run.specs.Pieces.{all_workers, busy};
-ghost use Rattle.ell_run.specs.Steps.{total_steps, work_steps};
-ghost use Rattle.ell_run.specs.Work.{AreHalves, AreReady, IsWorked, IsWorkedWithin, keys_for, label_after};
+ghost use Rattle.ell_tree.specs.Ledgers.{IsIdlePassOf, Owns, PassModel};
+ghost use Rattle.ell_run.specs.Pieces.{busy, lists_of};
+ghost use Rattle.ell_run.specs.WorkFault.{StopsWork};
+ghost use Rattle.ell_run.specs.Work.{AllHaveWorked, AreHalves, AreReady, HaveWorked, IsWorkedWithin, keys_for, label_after};
 
+use crate::faults::WorkFault;
 use crate::pieces::{Piece, with_empty_pieces, work_off};
 use ell_ops::{NoMemory, Op, united_keys};
 use ell_parts::Parts;
@@ -20,11 +21,12 @@ use std::thread::{Threads, join};
 /// Has each worker work its part off with a pass of the tree, in a thread of its own where one can be made. A worker leaves the rest
 /// of its part from the first operation on that is held: something was in its way at each of its tries, or all cards are given out.
 /// Answers the pass, with all its keys, and a piece for each worker, in their order: its replies, with their positions. The pass then
-/// has the number of the first worker with operations as its label, or its own label if there is none. After `NoMemory` the pass is
-/// gone. However many tries there are, and however the workers' steps fall, a worker with n operations makes at most
-/// `n * (7 * cards + 28) + 2 * cards * (7 * cards + 27)` steps, where `cards` is the number of the last card; the pass that comes
-/// back has counted no more than the worker with the most operations may, and two for each busy worker beside the first. All workers
-/// together make at most the sum of what each may, and two for each busy worker beside the first: its split and its join (`total`).
+/// has the number of the first worker with operations as its label, or its own label if there is none. After a fault the pass is
+/// gone; `TooManyPasses` comes only in a tree that shares keys. However many tries there are, and however the workers' steps fall, a
+/// worker with n operations makes at most `n * (7 * cards + 28) + 2 * cards * (7 * cards + 27)` steps, where `cards` is the number
+/// of the last card; the pass that comes back has counted no more than the worker with the most operations may, and two for each
+/// busy worker beside the first. All workers together make at most the sum of what each may, and two for each busy worker beside
+/// the first: its split and its join (`total`).
 pub fn work<R: Threads + Sync, A: Allocator + Copy + Send + Sync, G: StepGate + Sync>(
     rt: &R,
     alloc: A,
@@ -33,16 +35,13 @@ pub fn work<R: Threads + Sync, A: Allocator + Copy + Send + Sync, G: StepGate + 
     parts: &Parts<'_, A>,
     tries: u32,
     gate: &G,
-) -> Result<(Pass<A>, Vec<Piece<A>, A>), NoMemory>
-    requires own { pass.table ≡ tree.now.id }
-    requires idle { IsIdle pass }
+) -> Result<(Pass<A>, Vec<Piece<A>, A>), WorkFault>
+    requires idle { IsIdlePassOf tree.now pass }
     requires owned { All (λ op. Owns pass (key_of op)) parts.now.ops }
     requires tries { 1 ≤ tries }
-    ensures worked { IfOk result (λ done.
-        IsWorked tree.now.last_card tries parts.now (all_workers parts.now) pass done.0 (map (λ piece. piece.items) done.1.items)) }
+    ensures worked { IfOk result (AllHaveWorked tree.now tries 0 parts.now pass) }
     ensures label { IfOk result (λ done. done.0.label ≡ label_after pass (busy parts.now)) }
-    ensures bounded { IfOk result (λ done. done.0.steps ≤ pass.steps + work_steps tree.now.last_card parts.now (busy parts.now)) }
-    ensures total { IfOk result (λ done. done.0.view.made ≤ pass.view.made + total_steps tree.now.last_card parts.now (busy parts.now)) }
+    ensures why { IfErr result (StopsWork pass) }
 {
     let workers = busy_workers(alloc, parts)?;
     let (pass, pieces) = do_workers(rt, alloc, tree, pass, parts, &workers, tries, gate)?;
@@ -60,29 +59,26 @@ pub(crate) fn work_apart<R: Threads + Sync, A: Allocator + Copy + Send + Sync, G
     parts: &Parts<'_, A>,
     tries: u32,
     gate: &G,
-) -> Result<(Pass<A>, Vec<Piece<A>, A>), NoMemory>
-    requires own { pass.table ≡ tree.now.id }
-    requires idle { IsIdle pass }
+) -> Result<(Pass<A>, Vec<Piece<A>, A>), WorkFault>
+    requires idle { IsIdlePassOf tree.now pass }
     requires lawful { IsLawful parts.now }
     requires keys { Lists (keys_of parts.now.ops) keys.now }
     requires owned { All (λ key. Owns pass key) keys.now }
     requires tries { 1 ≤ tries }
-    ensures worked { IfOk result (λ done.
-        IsWorked tree.now.last_card tries parts.now (all_workers parts.now) pass done.0 (map (λ piece. piece.items) done.1.items)) }
-    ensures bounded { IfOk result (λ done. done.0.steps ≤ pass.steps + work_steps tree.now.last_card parts.now (busy parts.now) + 2) }
-    ensures total { IfOk result (λ done. done.0.view.made ≤ pass.view.made + total_steps tree.now.last_card parts.now (busy parts.now) + 2) }
+    ensures worked { IfOk result (AllHaveWorked tree.now tries 2 parts.now pass) }
+    ensures why { IfErr result (StopsWork pass) }
 {
     if pass.keys().len() == keys.len() {
         return work(rt, alloc, tree, pass, parts, tries, gate);
     }
     let (ours, others) = match tree.split(pass, keys) {
         Ok(parted) => parted,
-        Err(_) => return Err(NoMemory),
+        Err((_, fault)) => return Err(WorkFault::from(fault)),
     };
     let (ours, pieces) = work(rt, alloc, tree, ours, parts, tries, gate)?;
     match tree.join(ours, others) {
         Ok(pass) => Ok((pass, pieces)),
-        Err(_) => Err(NoMemory),
+        Err(_) => Err(WorkFault::NoMemory),
     }
 }
 
@@ -114,26 +110,31 @@ fn do_workers<R: Threads + Sync, A: Allocator + Copy + Send + Sync, G: StepGate 
     workers: &[u32],
     tries: u32,
     gate: &G,
-) -> Result<(Pass<A>, Vec<Piece<A>, A>), NoMemory>
+) -> Result<(Pass<A>, Vec<Piece<A>, A>), WorkFault>
     requires ready { AreReady tree.now parts.now workers.now pass }
     requires tries { 1 ≤ tries }
-    ensures { IfOk result (λ done. IsWorkedWithin tree.now.last_card tries parts.now workers.now pass done.0 (map (λ piece. piece.items) done.1.items)) }
+    ensures worked { IfOk result (HaveWorked tree.now tries parts.now workers.now pass) }
+    ensures why { IfErr result (StopsWork pass) }
 {
     if workers.len() < 2 {
-        return do_one(alloc, tree, pass, parts, workers, tries, gate);
+        return Ok(do_one(alloc, tree, pass, parts, workers, tries, gate)?);
     }
     let (low, high) = workers.split_at(workers.len() / 2);
     let (left, right) = halves(alloc, tree, pass, parts, low)?;
-    let front = move || -> Result<(Pass<A>, Vec<Piece<A>, A>), NoMemory>
-        requires { IsSync R.row × IsSync G.row × IsSend A.row × IsSync A.row × Frees A.Allocator A.dealloc_token × AreReady tree.now parts.now low.now left × (1 ≤ tries) }
-        ensures { IfOk result (λ done. IsWorkedWithin tree.entry.now.last_card tries parts.entry.now low.entry.now left done.0 (map (λ piece. piece.items) done.1.items)) }
+    let front = move || -> Result<(Pass<A>, Vec<Piece<A>, A>), WorkFault>
+        requires { IsSync R.row × IsSync G.row × IsSend A.row × IsSync A.row × Frees A.Allocator A.dealloc_token
+            × AreReady tree.now parts.now low.now left × (1 ≤ tries) }
+        ensures worked { IfOk result (HaveWorked tree.entry.now tries parts.entry.now low.entry.now left) }
+        ensures why { IfErr result (StopsWork left) }
     { do_workers(rt, alloc, tree, left, parts, low, tries, gate) };
-    let back = move || -> Result<(Pass<A>, Vec<Piece<A>, A>), NoMemory>
-        requires { IsSync R.row × IsSync G.row × IsSend A.row × IsSync A.row × Frees A.Allocator A.dealloc_token × AreReady tree.now parts.now high.now right × (1 ≤ tries) }
-        ensures { IfOk result (λ done. IsWorkedWithin tree.entry.now.last_card tries parts.entry.now high.entry.now right done.0 (map (λ piece. piece.items) done.1.items)) }
+    let back = move || -> Result<(Pass<A>, Vec<Piece<A>, A>), WorkFault>
+        requires { IsSync R.row × IsSync G.row × IsSend A.row × IsSync A.row × Frees A.Allocator A.dealloc_token
+            × AreReady tree.now parts.now high.now right × (1 ≤ tries) }
+        ensures worked { IfOk result (HaveWorked tree.entry.now tries parts.entry.now high.entry.now right) }
+        ensures why { IfErr result (StopsWork right) }
     { do_workers(rt, alloc, tree, right, parts, high, tries, gate) };
     let (first, second) = join(rt, front, back);
-    both(tree, first?, second?)
+    Ok(both(tree, first?, second?)?)
 }
 
 // Has one worker do its part, if there is one, in this thread.
@@ -149,7 +150,7 @@ fn do_one<A: Allocator + Copy, G: StepGate>(
     requires one { length workers.now ≤ 1 }
     requires ready { AreReady tree.now parts.now workers.now pass }
     requires tries { 1 ≤ tries }
-    ensures { IfOk result (λ done. IsWorkedWithin tree.now.last_card tries parts.now workers.now pass done.0 (map (λ piece. piece.items) done.1.items)) }
+    ensures { IfOk result (HaveWorked tree.now tries parts.now workers.now pass) }
 {
     let mut pieces = Vec::new(alloc);
     let [worker] = workers else {
@@ -168,17 +169,18 @@ fn halves<A: Allocator + Copy>(
     pass: Pass<A>,
     parts: &Parts<'_, A>,
     low: &[u32],
-) -> Result<(Pass<A>, Pass<A>), NoMemory>
+) -> Result<(Pass<A>, Pass<A>), WorkFault>
     requires { (high : List ℕ) × AreReady tree.now parts.now (low.now ++ high) pass }
     ensures halves { IfOk result (λ parted. AreHalves parts.now low.now pass parted.0 parted.1) }
     ensures left { IfOk result (λ parted. AreReady tree.now parts.now low.now parted.0) }
     ensures right { (high : List ℕ) → AreReady tree.now parts.now (low.now ++ high) pass →
         IfOk result (λ parted. AreReady tree.now parts.now high parted.1) }
+    ensures why { IfErr result (StopsWork pass) }
 {
     let keys = keys_for(alloc, parts, low)?;
     match tree.split(pass, &keys) {
         Ok(parted) => Ok(parted),
-        Err(_) => Err(NoMemory),
+        Err((_, fault)) => Err(WorkFault::from(fault)),
     }
 }
 
@@ -209,16 +211,14 @@ fn both<A: Allocator + Copy>(
     first: (Pass<A>, Vec<Piece<A>, A>),
     second: (Pass<A>, Vec<Piece<A>, A>),
 ) -> Result<(Pass<A>, Vec<Piece<A>, A>), NoMemory>
-    requires left { first.0.table ≡ tree.now.id }
-    requires right { second.0.table ≡ tree.now.id }
-    requires left_idle { IsIdle first.0 }
-    requires right_idle { IsIdle second.0 }
+    requires left { IsIdlePassOf tree.now first.0 }
+    requires right { IsIdlePassOf tree.now second.0 }
     ensures { (cards tries : ℕ) (parting : PartedOps) (low high : List ℕ) (pass left right : PassModel) →
         0 < length low → 0 < length high →
         AreReady tree.now parting (low ++ high) pass → AreHalves parting low pass left right →
-        IsWorkedWithin cards tries parting low left first.0 (map (λ piece. piece.items) first.1.items) →
-        IsWorkedWithin cards tries parting high right second.0 (map (λ piece. piece.items) second.1.items) →
-        IfOk result (λ done. IsWorkedWithin cards tries parting (low ++ high) pass done.0 (map (λ piece. piece.items) done.1.items)) }
+        IsWorkedWithin cards tries parting low left first.0 (lists_of first.1.items) →
+        IsWorkedWithin cards tries parting high right second.0 (lists_of second.1.items) →
+        IfOk result (λ done. IsWorkedWithin cards tries parting (low ++ high) pass done.0 (lists_of done.1.items)) }
 {
     let (left, mut pieces) = first;
     let (right, mut behind) = second;

@@ -1,8 +1,7 @@
 //! Runs by 64 workers beside one thread.
-ghost use Rattle.std.specs.Prelude.{◌≤◌, All, length};
-ghost use Rattle.std.specs.List.Sorted.{IsStrictlyIncreasing};
-ghost use Rattle.std.specs.Map.{keys_of};
-ghost use Rattle.ell_ops.specs.Meaning.{Fits, greatest_key};
+ghost use Rattle.std.specs.Prelude.{◌≤◌, All};
+ghost use Rattle.ell_ops.specs.Meaning.{Fits};
+ghost use Rattle.ell_run.specs.Limits.{IsStart};
 ghost use Rattle.ell_word.specs.Node.{most_start};
 
 use crate::counts::{Counts, add};
@@ -40,9 +39,7 @@ fn agree<R: Threads + Sync>(
     ops: &[Op],
     counts: &Counts,
 ) -> Result<bool, NoMemory>
-    requires ascending { IsStrictlyIncreasing (keys_of start.now) }
-    requires real { All (λ key. key ≤ greatest_key) (keys_of start.now) }
-    requires few { length start.now ≤ most_start }
+    requires start { IsStart start.now }
     requires fits { All Fits ops.now }
 {
     let wanted = apply_from(alloc, start, ops)?;
@@ -68,9 +65,7 @@ fn late_in<R: Threads + Sync, G: StepGate + Sync>(
     wanted: &(Vec<Reply>, Vec<(u64, u64)>),
     gate: &G,
 ) -> Result<Option<u64>, NoMemory>
-    requires ascending { IsStrictlyIncreasing (keys_of start.now) }
-    requires real { All (λ key. key ≤ greatest_key) (keys_of start.now) }
-    requires few { length start.now ≤ most_start }
+    requires start { IsStart start.now }
     requires fits { All Fits ops.now }
 {
     let tries = 1000;

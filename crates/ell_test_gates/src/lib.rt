@@ -5,8 +5,10 @@
 mod counting;
 mod dice;
 mod gathering;
+mod history;
 mod holding;
 mod holding_row;
+mod jostling;
 mod listing;
 mod meeting;
 mod turns;
@@ -14,8 +16,10 @@ mod turns;
 pub use counting::{Counting, Told};
 pub use dice::Dice;
 pub use gathering::Gathering;
+pub use history::{Made, are_in_order, calls_on};
 pub use holding::Holding;
 pub use holding_row::HoldingRow;
+pub use jostling::Jostling;
 pub use listing::{Call, Listing, Stretch};
 pub use meeting::{
     four_threads_meet, sixteen_threads_meet, sixty_four_threads_meet, two_threads_meet,

@@ -75,7 +75,7 @@ pub record StepsAside (old new : PassModel) : Type 0 where
 
 -- a pass with nothing in hand and nowhere to stand
 abbrev pub IsIdle : View → Type 0
-IsIdle v = v.worker ≡ idle_worker v.worker.ledger v.worker.facts
+IsIdle v = v.worker ≡ idle_worker v.worker.ledger v.worker.ownable v.worker.facts
 
 -- nothing is remembered
 abbrev pub IsNothing : Remembered → Type 0

@@ -1,12 +1,12 @@
-use Rattle.std.proofs.Common.{◌≡◌, ℕ, ◌+◌, ◌<◌, List, [], ◌++◌, length, get_or, take, drop, Option, sym, subst, ap, ◌∙◌}
-use Rattle.std.proofs.lemmas.List.{append_assoc, append-nil, take-append-drop}
+use Rattle.std.proofs.Common.{◌≡◌, ℕ, ◌+◌, ◌<◌, List, [], ◌++◌, length, get_or, take, drop, Option, Result, Ok, Err, IsErrAnd, OnOk, arith, sym, subst, ap, ◌∙◌}
+use Rattle.std.proofs.lemmas.List.{append_assoc, append-nil, length-append, take-append-drop}
 use Rattle.std.proofs.lemmas.List.Concat.{flat_map-append}
 use Rattle.std.specs.Io.KnownBytes.{Appends}
 use Rattle.std.specs.List.{flat_map}
 use Rattle.ell_ops.proofs.Places.{flat_map-take_more}
 use Rattle.ell_text.specs.declared.output.Output.{Output}
 use Rattle.ell_text.specs.declared.output.WriteFault.{WriteFault}
-use Rattle.ell_text.specs.Output.{waiting_bytes, Puts, Faults}
+use Rattle.ell_text.specs.Output.{HasPut, IsWritten, waiting_bytes, Puts, Faults}
 use Rattle.ell_text.specs.Sending.{Sends, Stops}
 use Rattle.ell_text.proofs.Sending.{Appends-from_Stops, Sends-more, Sends-trans, Stops-more, Stops-then}
 
@@ -31,12 +31,48 @@ pub Faults-more : {a b : Option (List ℕ)} {x : Output} {text : List ℕ} {faul
 Faults-more {a} {b} {x} {text} {fault} more p =
     record { stops = subst (λ (bytes : List ℕ). Stops a b bytes x.written fault.written) (append_assoc (waiting_bytes x) text more) (Stops-more more p.stops) }
 
+-- a fault that is passed on
+pub HasPut-failed : {X : Type 0} {a b : Option (List ℕ)} {x y : Output} {text : List ℕ} (result : Result X WriteFault) (fault : WriteFault)
+    → IsErrAnd result (λ y. y ≡ fault) → Faults a b x text fault → HasPut a b x y text result
+HasPut-failed (Ok done) fault is told = absurd is
+HasPut-failed {a = a} {b = b} {x = x} {text = text} (Err error) fault is told = record { ok = tt; fault = subst (Faults a b x text) (sym is) told }
+
+-- one text, and then what comes of another
+pub HasPut-then : {X : Type 0} {a b c : Option (List ℕ)} {x y z : Output} {done text : List ℕ} (result : Result X WriteFault)
+    → Puts a b x y done → HasPut b c y z text result → HasPut a c x z (done ++ text) result
+HasPut-then (Ok unit) p put = record { ok = Puts-then p put.ok; fault = tt }
+HasPut-then (Err error) p put = record { ok = tt; fault = Faults-then p put.fault }
+
 -- From an output that began empty the first bytes of the text are out, as many as were counted.
 pub Appends-from_Faults : {a b : Option (List ℕ)} {x : Output} {text : List ℕ} {fault : WriteFault} → waiting_bytes x ≡ [] → x.written ≡ 0
     → Faults a b x text fault → Appends a b (take fault.written text)
 Appends-from_Faults {a} {b} {x} {text} {fault} empty none p =
     let stops = subst (λ (waits : List ℕ). Stops a b (waits ++ text) x.written fault.written) empty p.stops in
     Appends-from_Stops (subst (λ (k : ℕ). Stops a b text k fault.written) none stops)
+
+-- from an output that began empty the text is out, where nothing waits behind it
+Appends-from_Puts : {a b : Option (List ℕ)} {x y : Output} {text : List ℕ} → waiting_bytes x ≡ [] → waiting_bytes y ≡ [] → Puts a b x y text → Appends a b text
+Appends-from_Puts {a} {b} {text = text} empty none p =
+    let sent = p.sends.sent in
+    let whole : sent ≡ text = sym (append-nil sent) ∙ ap (λ (waits : List ℕ). sent ++ waits) (sym none) ∙ sym p.sends.whole ∙ ap (λ (waits : List ℕ). waits ++ text) empty in
+    subst (Appends a b) whole p.sends.out
+
+-- after a fault some of the text is missing
+missing-from_Faults : {a b : Option (List ℕ)} {x : Output} {text : List ℕ} {fault : WriteFault} → waiting_bytes x ≡ [] → x.written ≡ 0 → Faults a b x text fault
+    → fault.written < length text
+missing-from_Faults {x = x} {text = text} {fault = fault} empty none p =
+    let stops = p.stops in
+    let whole : text ≡ stops.sends.sent ++ stops.left = sym (ap (λ (waits : List ℕ). waits ++ text) empty) ∙ stops.sends.whole in
+    omega (arith, ap length whole, length-append stops.sends.sent stops.left, stops.missing, stops.sends.counted, none)
+
+-- a text that was put in an output that began empty is written by the flush behind it
+pub IsWritten-flushed : {X : Type 0} {a b c : Option (List ℕ)} {x y z : Output} {text : List ℕ} (result : Result X WriteFault) → waiting_bytes x ≡ [] → x.written ≡ 0
+    → Puts a b x y text → HasPut b c y z [] result → OnOk result (z.filled ≡ 0) → IsWritten a c text result
+IsWritten-flushed {a = a} {c = c} {x = x} {z = z} {text = text} (Ok unit) empty none p put done =
+    let whole = subst (λ (bytes : List ℕ). Puts a c x z bytes) (append-nil text) (Puts-then p put.ok) in
+    record { ok = Appends-from_Puts empty (ap (λ n. take n z.bytes) done) whole; fault = tt; missing = tt }
+IsWritten-flushed (Err error) empty none p put done =
+    let faults = Faults-at_end p put.fault in record { ok = tt; fault = Appends-from_Faults empty none faults; missing = missing-from_Faults empty none faults }
 
 -- the front of the rest came to what waited, before it all goes out
 pub Sends-kept : {a b : Option (List ℕ)} {bytes front back kept : List ℕ} {k m m' : ℕ} (old rest : List ℕ) (n : ℕ) → Sends a b bytes (old ++ rest) k m

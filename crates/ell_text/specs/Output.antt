@@ -1,4 +1,5 @@
-use Rattle.std.specs.Prelude.{ℕ, List, ◌++◌, take, Option}
+use Rattle.std.specs.Prelude.{ℕ, ◌<◌, List, ◌++◌, length, take, Option, Result, IfErr, OnOk}
+use Rattle.std.specs.Io.KnownBytes.{Appends}
 use Rattle.ell_text.specs.declared.output.Output.{Output}
 use Rattle.ell_text.specs.declared.output.WriteFault.{WriteFault}
 use Rattle.ell_text.specs.Sending.{Sends, Stops}
@@ -14,3 +15,15 @@ pub record Puts (before after : Option (List ℕ)) (old new : Output) (text : Li
 -- The front of what waited and of the text went to the writer, and it did not take the rest.
 pub record Faults (before after : Option (List ℕ)) (old : Output) (text : List ℕ) (fault : WriteFault) : Type 0 where
   pub stops : Stops before after (waiting_bytes old ++ text) old.written fault.written
+
+-- The text was put behind what waited, unless the writer did not take all that was to go out.
+pub record HasPut {X : Type 0} (before after : Option (List ℕ)) (old new : Output) (text : List ℕ) (result : Result X WriteFault) : Type 0 where
+  pub ok : OnOk result (Puts before after old new text)
+  pub fault : IfErr result (Faults before after old text)
+
+-- A text was written: the whole of it is out, behind what was there. After a fault exactly its first `written` bytes are, and some of it is
+-- missing.
+pub record IsWritten {X : Type 0} (before after : Option (List ℕ)) (text : List ℕ) (result : Result X WriteFault) : Type 0 where
+  pub ok : OnOk result (Appends before after text)
+  pub fault : IfErr result (λ fault. Appends before after (take fault.written text))
+  pub missing : IfErr result (λ fault. fault.written < length text)

@@ -1,8 +1,8 @@
 //! The text that answers a file of operations.
-ghost use Rattle.std.specs.Prelude.{◌≡◌, ◌<◌, length, take, IfErr, OnOk};
-ghost use Rattle.std.specs.Io.KnownBytes.{Appends};
+ghost use Rattle.std.specs.Prelude.{◌≡◌};
 ghost use Rattle.ell_text.specs.declared.version.Version.TheVariants.{One};
 ghost use Rattle.ell_text.specs.Answer.{reply_line, answer};
+ghost use Rattle.ell_text.specs.Output.{IsWritten};
 ghost use Rattle.ell_text.specs.Version.{IsVersion};
 
 use crate::listing::{Listed, write_listing};
@@ -27,15 +27,8 @@ pub fn write_answer<W: Write>(
     pairs: &[(u64, u64)],
 ) -> Result<(), WriteFault>
     requires { IsVersion version }
-    // The whole text is out, behind what was there.
-    ensures ok { OnOk result
-        (Appends (W.contents out.old) (W.contents out.new) (answer version replies.now pairs.now)) }
-    // Exactly the first `written` bytes are out.
-    ensures fault { IfErr result (λ fault. Appends (W.contents out.old) (W.contents out.new)
-        (take fault.written (answer version replies.now pairs.now))) }
-    // Some of the text is missing.
-    ensures missing { IfErr result (λ fault.
-        fault.written < length (answer version replies.now pairs.now)) }
+    ensures { IsWritten (W.contents out.old) (W.contents out.new)
+        (answer version replies.now pairs.now) result }
 {
     write_listing(out, Version::numbered(version), replies, pairs)
 }

@@ -1,13 +1,9 @@
 //! The version, the start keys and the operations of a bulk text.
-ghost use Rattle.std.specs.Prelude.{◌≡◌, ◌≢◌, ◌+◌, ◌≤◌, All, IfErr, IfOk, IfSome, IsSome, None, OnErr, OnOk, Some, vec_len};
-ghost use Rattle.std.specs.List.Sorted.{IsStrictlyIncreasing};
-ghost use Rattle.std.specs.Map.{keys_of};
-ghost use Rattle.ell_ops.specs.Meaning.{Fits, greatest_key};
+ghost use Rattle.std.specs.Prelude.{◌≡◌, ◌≢◌, IfErr, IfOk, IfSome, IsSome, None, OnErr, OnOk, Some};
 ghost use Rattle.ell_text.specs.Bulk.{BulkFits, HasSoundLine, bulk, bulk_value, fault_of, fault_of_said, located, next_section, nothing_said, spoken_in, with_line, with_read};
-ghost use Rattle.ell_text.specs.Limits.{most_operations};
 ghost use Rattle.ell_text.specs.Line.{LineFits};
 ghost use Rattle.ell_text.specs.Lines.{lines};
-ghost use Rattle.ell_text.specs.Version.{IsVersion, version_numbered};
+ghost use Rattle.ell_text.specs.Version.{version_numbered};
 
 use crate::limits::OPERATIONS_MAX;
 use crate::line::{Line, LineFault, Section, read_first_line};
@@ -62,11 +58,7 @@ pub fn read_bulk<A: Allocator + Copy>(alloc: A, bytes: &[u8]) -> Result<Bulk<A>,
     ensures ok { IfOk result (λ found. bulk bytes.now ≡ Ok (bulk_value found)) }
     ensures fault { IfErr result (λ fault. fault ≢ TextFault.NoMemory → bulk bytes.now ≡ Err fault) }
     ensures no_memory { IfErr result (λ fault. fault ≡ TextFault.NoMemory → HasSoundLine (lines bytes.now)) }
-    ensures version { IfOk result (λ found. IsVersion found.version) }
-    ensures within { IfOk result (λ found. vec_len found.start + vec_len found.ops ≤ most_operations) }
-    ensures start_keys { IfOk result (λ found. All (λ key. key ≤ greatest_key) (keys_of found.start.items)) }
-    ensures ascending { IfOk result (λ found. IsStrictlyIncreasing (keys_of found.start.items)) }
-    ensures keys { IfOk result (λ found. All Fits found.ops.items) }
+    ensures fits { IfOk result (λ found. BulkFits (bulk_value found)) }
 {
     let mut bulk = Bulk::new(alloc);
     let mut rest = bytes;

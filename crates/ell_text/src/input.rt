@@ -1,7 +1,7 @@
 //! All the bytes of a reader.
-ghost use Rattle.std.specs.Prelude.{◌≡◌, ◌≢◌, ◌+◌, ◌<◌, ◌≤◌, IfErr, IfOk, IfSome, IsErrOf, OnErr, OnOk, drop, length, take, vec_len};
-ghost use Rattle.std.specs.Io.KnownBytes.{Consumes, IsAtEnd, Keeps};
-ghost use Rattle.ell_text.specs.Input.{GivesFront};
+ghost use Rattle.std.specs.Prelude.{◌≡◌, ◌≢◌, ◌+◌, ◌<◌, ◌≤◌, IfErr, IfOk, IfSome, IsErrOf, OnOk, length, take, vec_len};
+ghost use Rattle.std.specs.Io.KnownBytes.{IsAtEnd};
+ghost use Rattle.ell_text.specs.Input.{GivesFront, IsFilledTo, ReadsTo};
 ghost use Rattle.ell_text.specs.Limits.{most_bytes};
 
 use crate::limits::INPUT_MAX;
@@ -55,16 +55,12 @@ fn read_more<A: Allocator, R: Read>(
     bytes: &mut Vec<u8, A>,
     filled: usize,
 ) -> Result<usize, InputFault>
-    requires filled { filled ≤ vec_len bytes.old }
-    requires short { filled ≤ most_bytes }
-    requires within { vec_len bytes.old ≤ most_bytes + READ_ROOM }
-    ensures front { take filled bytes.new.items ≡ take filled bytes.old.items }
+    requires { IsFilledTo filled bytes.old }
+    ensures read { ReadsTo (R.remaining reader.old) (R.remaining reader.new)
+        filled bytes.old.items bytes.new.items result }
     ensures within { vec_len bytes.new ≤ most_bytes + READ_ROOM }
     ensures fits { IfOk result (λ count. filled + count ≤ vec_len bytes.new) }
-    ensures ok { IfOk result (λ count. Consumes (R.remaining reader.old) (R.remaining reader.new)
-        (take count (drop filled bytes.new.items))) }
     ensures end { IfOk result (λ count. count ≡ 0 → IsAtEnd (R.remaining reader.new)) }
-    ensures err { OnErr result (Keeps (R.remaining reader.old) (R.remaining reader.new)) }
     ensures fault { IfErr result (λ fault. fault ≢ InputFault.TooLong) }
 {
     make_room(bytes, filled)?;
@@ -74,9 +70,7 @@ fn read_more<A: Allocator, R: Read>(
 // Makes the list longer than its filled front by at least `READ_ROOM`, and twice as long as it was up
 // to the most that it may be.
 fn make_room<A: Allocator>(bytes: &mut Vec<u8, A>, filled: usize) -> Result<(), InputFault>
-    requires filled { filled ≤ vec_len bytes.old }
-    requires short { filled ≤ most_bytes }
-    requires within { vec_len bytes.old ≤ most_bytes + READ_ROOM }
+    requires { IsFilledTo filled bytes.old }
     ensures front { take filled bytes.new.items ≡ take filled bytes.old.items }
     ensures room { OnOk result (filled + READ_ROOM ≤ vec_len bytes.new) }
     ensures within { vec_len bytes.new ≤ most_bytes + READ_ROOM }
@@ -96,12 +90,9 @@ fn make_room<A: Allocator>(bytes: &mut Vec<u8, A>, filled: usize) -> Result<(), 
 // Reads once, to the part of the buffer from an index on.
 fn read_at<R: Read>(reader: &mut R, buffer: &mut [u8], at: usize) -> Result<usize, InputFault>
     requires { at < length buffer.old }
-    ensures front { take at buffer.new ≡ take at buffer.old }
+    ensures read { ReadsTo (R.remaining reader.old) (R.remaining reader.new) at buffer.old buffer.new result }
     ensures fits { IfOk result (λ count. at + count ≤ length buffer.new) }
-    ensures ok { IfOk result (λ count. Consumes (R.remaining reader.old) (R.remaining reader.new)
-        (take count (drop at buffer.new))) }
     ensures end { IfOk result (λ count. count ≡ 0 → IsAtEnd (R.remaining reader.new)) }
-    ensures err { OnErr result (Keeps (R.remaining reader.old) (R.remaining reader.new)) }
     ensures fault { IfErr result (λ fault. fault ≡ InputFault.Read) }
 {
     reader.read(&mut buffer[at..]).map_err(|_| InputFault::Read)

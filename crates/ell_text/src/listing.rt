@@ -1,10 +1,9 @@
 //! A listing: a line for each item, and then the keys. Replies are listed, and what is shown of events.
-ghost use Rattle.std.specs.Prelude.{ℕ, ◌<◌, List, length, take, IfErr, OnOk};
+ghost use Rattle.std.specs.Prelude.{ℕ, List};
 ghost use Rattle.std.specs.List.{flat_map};
-ghost use Rattle.std.specs.Io.KnownBytes.{Appends};
 ghost use Rattle.ell_text.specs.declared.version.Version.{Version};
 ghost use Rattle.ell_text.specs.Answer.{number_line, pair_line, keys_lines, listing};
-ghost use Rattle.ell_text.specs.Output.{Puts, Faults};
+ghost use Rattle.ell_text.specs.Output.{HasPut, IsWritten};
 
 use crate::output::{Output, WriteFault};
 use crate::version::Version;
@@ -21,10 +20,8 @@ pub(crate) trait Listed {
         output: &mut Output,
         out: &mut W,
     ) -> Result<(), WriteFault>
-        ensures ok { OnOk result (Puts (W.contents out.old) (W.contents out.new) output.old output.new
-            (line version self.now)) }
-        ensures fault { IfErr result (Faults (W.contents out.old) (W.contents out.new) output.old
-            (line version self.now)) };
+        ensures { HasPut (W.contents out.old) (W.contents out.new) output.old output.new
+            (line version self.now) result };
 }
 
 impl Listed for u64 {
@@ -72,12 +69,8 @@ pub(crate) fn write_listing<W: Write, T: Listed, K: Listed>(
     items: &[T],
     keys: &[K],
 ) -> Result<(), WriteFault>
-    ensures ok { OnOk result
-        (Appends (W.contents out.old) (W.contents out.new) (listing (T.line version) (K.line version) items.now keys.now)) }
-    ensures fault { IfErr result (λ fault. Appends (W.contents out.old) (W.contents out.new)
-        (take fault.written (listing (T.line version) (K.line version) items.now keys.now))) }
-    ensures missing { IfErr result (λ fault.
-        fault.written < length (listing (T.line version) (K.line version) items.now keys.now)) }
+    ensures { IsWritten (W.contents out.old) (W.contents out.new)
+        (listing (T.line version) (K.line version) items.now keys.now) result }
 {
     let mut output = Output::new();
     put_listing(&mut output, out, version, items, keys)?;
@@ -91,10 +84,8 @@ fn put_listing<W: Write, T: Listed, K: Listed>(
     items: &[T],
     keys: &[K],
 ) -> Result<(), WriteFault>
-    ensures ok { OnOk result (Puts (W.contents out.old) (W.contents out.new) output.old output.new
-        (listing (T.line version) (K.line version) items.now keys.now)) }
-    ensures fault { IfErr result (Faults (W.contents out.old) (W.contents out.new) output.old
-        (listing (T.line version) (K.line version) items.now keys.now)) }
+    ensures { HasPut (W.contents out.old) (W.contents out.new) output.old output.new
+        (listing (T.line version) (K.line version) items.now keys.now) result }
 {
     put_lines(output, out, version, items)?;
     put_keys(output, out, version, keys)
@@ -107,10 +98,8 @@ fn put_keys<W: Write, K: Listed>(
     version: Version,
     keys: &[K],
 ) -> Result<(), WriteFault>
-    ensures ok { OnOk result (Puts (W.contents out.old) (W.contents out.new) output.old output.new
-        (keys_lines (K.line version) keys.now)) }
-    ensures fault { IfErr result (Faults (W.contents out.old) (W.contents out.new) output.old
-        (keys_lines (K.line version) keys.now)) }
+    ensures { HasPut (W.contents out.old) (W.contents out.new) output.old output.new
+        (keys_lines (K.line version) keys.now) result }
 {
     output.put(out, b"keys ")?;
     (keys.len() as u64).put_line(version, output, out)?;
@@ -123,10 +112,8 @@ fn put_lines<W: Write, T: Listed>(
     version: Version,
     items: &[T],
 ) -> Result<(), WriteFault>
-    ensures ok { OnOk result (Puts (W.contents out.old) (W.contents out.new) output.old output.new
-        (flat_map (T.line version) items.now)) }
-    ensures fault { IfErr result (Faults (W.contents out.old) (W.contents out.new) output.old
-        (flat_map (T.line version) items.now)) }
+    ensures { HasPut (W.contents out.old) (W.contents out.new) output.old output.new
+        (flat_map (T.line version) items.now) result }
 {
     for item in items {
         item.put_line(version, output, out)?;

@@ -69,7 +69,7 @@ pub(crate) struct Output {
 }
 
 impl Output {
-    ghost use Rattle.ell_text.specs.Output.{waiting_bytes, Puts, Faults};
+    ghost use Rattle.ell_text.specs.Output.{HasPut, waiting_bytes};
 
     /// Nothing waits, and nothing has been written.
     pub(crate) fn new() -> Self
@@ -86,10 +86,8 @@ impl Output {
     /// Puts the text behind what waits. Each time that the buffer is full and more is to come, it
     /// goes to the writer.
     pub(crate) fn put<W: Write>(&mut self, out: &mut W, text: &[u8]) -> Result<(), WriteFault>
-        ensures ok { OnOk result
-            (Puts (W.contents out.old) (W.contents out.new) self.old self.new text.now) }
-        ensures fault { IfErr result
-            (Faults (W.contents out.old) (W.contents out.new) self.old text.now) }
+        ensures { HasPut (W.contents out.old) (W.contents out.new) self.old self.new
+            text.now result }
     {
         let mut rest = text;
         while rest.len() > CAPACITY - self.filled {
@@ -108,20 +106,16 @@ impl Output {
         out: &mut W,
         number: u64,
     ) -> Result<(), WriteFault>
-        ensures ok { OnOk result
-            (Puts (W.contents out.old) (W.contents out.new) self.old self.new (decimal number)) }
-        ensures fault { IfErr result
-            (Faults (W.contents out.old) (W.contents out.new) self.old (decimal number)) }
+        ensures { HasPut (W.contents out.old) (W.contents out.new) self.old self.new
+            (decimal number) result }
     {
         self.put(out, itoa::Buffer::new().format(number).as_bytes())
     }
 
     /// Gives what waits to the writer.
     pub(crate) fn flush<W: Write>(&mut self, out: &mut W) -> Result<(), WriteFault>
-        ensures ok { OnOk result
-            (Puts (W.contents out.old) (W.contents out.new) self.old self.new []) }
-        ensures fault { IfErr result
-            (Faults (W.contents out.old) (W.contents out.new) self.old []) }
+        ensures put { HasPut (W.contents out.old) (W.contents out.new) self.old self.new
+            [] result }
         // Nothing waits, and the whole buffer is free.
         ensures empty { OnOk result (self.new.filled ≡ 0) }
     {

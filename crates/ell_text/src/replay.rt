@@ -1,9 +1,7 @@
 //! The script of a replay text.
-ghost use Rattle.std.specs.Prelude.{◌≡◌, ◌≢◌, ◌<◌, ◌≤◌, All, None, Some, IfErr, IfOk, IsTrue, OnErr, OnOk};
-ghost use Rattle.ell_ops.specs.Meaning.{greatest_key, most_workers};
-ghost use Rattle.ell_text.specs.replays.Draft.{DraftFits, count_in_draft, draft_value, finished, next_fault, next_line, no_draft, place_in_draft, with_line, with_said};
+ghost use Rattle.std.specs.Prelude.{◌≡◌, ◌≢◌, ◌<◌, ◌≤◌, None, Some, IfErr, IfOk, IsTrue, OnErr, OnOk};
+ghost use Rattle.ell_text.specs.replays.Draft.{DraftFits, ScriptFits, count_in_draft, draft_value, finished, next_fault, next_line, no_draft, place_in_draft, with_line, with_said};
 ghost use Rattle.ell_text.specs.Limits.{most_lines};
-ghost use Rattle.ell_word.specs.Node.{most_cards};
 ghost use Rattle.ell_text.specs.Lines.{lines};
 ghost use Rattle.ell_text.specs.replays.ReplayLine.{SaidFits};
 ghost use Rattle.ell_text.specs.replays.Script.{HasSoundEntry, is_kept, replay_located, script, script_value};
@@ -54,11 +52,7 @@ pub fn read_replay<A: Allocator + Copy>(alloc: A, bytes: &[u8]) -> Result<Script
     ensures ok { IfOk result (λ s. script bytes.now ≡ Ok (script_value s)) }
     ensures fault { IfErr result (λ fault. fault ≢ ReplayFault.NoMemory → script bytes.now ≡ Err fault) }
     ensures no_memory { IfErr result (λ fault. fault ≡ ReplayFault.NoMemory → HasSoundEntry (lines bytes.now)) }
-    ensures workers { IfOk result (λ s. (1 ≤ s.workers) × (s.workers ≤ most_workers)) }
-    ensures cards { IfOk result (λ s. (1 ≤ s.cards) × (s.cards ≤ most_cards)) }
-    ensures keys { IfOk result (λ s. All (λ entry. entry.1 ≤ greatest_key) s.owned.items) }
-    ensures worker_numbers { IfOk result (λ s. All (λ entry. entry.0 < most_workers) s.owned.items) }
-    ensures event_workers { IfOk result (λ s. All (λ event. event.worker < most_workers) s.events.items) }
+    ensures fits { IfOk result (λ s. ScriptFits (script_value s)) }
 {
     let mut draft = Draft::new(alloc);
     for (index, line) in lines(bytes).enumerate() {
@@ -166,11 +160,7 @@ impl<A: Allocator + Copy> Draft<A> {
         ensures value { IfOk result (λ s. finished (draft_value self) ≡ Some (script_value s)) }
         ensures fault { IfErr result (λ fault. fault ≡ ReplayFault.Ended) }
         ensures ended { OnErr result (finished (draft_value self) ≡ None) }
-        ensures workers { IfOk result (λ s. (1 ≤ s.workers) × (s.workers ≤ most_workers)) }
-        ensures cards { IfOk result (λ s. (1 ≤ s.cards) × (s.cards ≤ most_cards)) }
-        ensures keys { IfOk result (λ s. All (λ entry. entry.1 ≤ greatest_key) s.owned.items) }
-        ensures worker_numbers { IfOk result (λ s. All (λ entry. entry.0 < most_workers) s.owned.items) }
-        ensures event_workers { IfOk result (λ s. All (λ event. event.worker < most_workers) s.events.items) }
+        ensures fits { IfOk result (λ s. ScriptFits (script_value s)) }
     {
         let (Some(workers), Some(cards)) = (self.workers, self.cards) else {
             return Err(ReplayFault::Ended);

@@ -1,6 +1,6 @@
 //! The text of a replay.
-ghost use Rattle.std.specs.Prelude.{◌≡◌, ◌<◌, length, take, IfErr, OnOk};
-ghost use Rattle.std.specs.Io.KnownBytes.{Appends};
+ghost use Rattle.std.specs.Prelude.{◌≡◌};
+ghost use Rattle.ell_text.specs.Output.{IsWritten};
 ghost use Rattle.ell_text.specs.replays.Trace.{shown_line, refusal_line, trace};
 
 use crate::answer::line_of;
@@ -20,15 +20,8 @@ use std::io::Write;
 /// `Err` at the first failure of the writer. It also comes where the count of the bytes could pass
 /// `u64::MAX`, before a byte goes out that is not counted.
 pub fn write_trace<W: Write>(out: &mut W, shown: &[Shown], keys: &[u64]) -> Result<(), WriteFault>
-    // The whole text is out, behind what was there.
-    ensures ok { OnOk result
-        (Appends (W.contents out.old) (W.contents out.new) (trace shown.now keys.now)) }
-    // Exactly the first `written` bytes are out.
-    ensures fault { IfErr result (λ fault. Appends (W.contents out.old) (W.contents out.new)
-        (take fault.written (trace shown.now keys.now))) }
-    // Some of the text is missing.
-    ensures missing { IfErr result (λ fault.
-        fault.written < length (trace shown.now keys.now)) }
+    ensures { IsWritten (W.contents out.old) (W.contents out.new)
+        (trace shown.now keys.now) result }
 {
     write_listing(out, Version::One, shown, keys)
 }

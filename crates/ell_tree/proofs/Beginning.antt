@@ -17,6 +17,7 @@ begins old new op s = subst (λ (m : PassModel). Begins op [] old.view.hindered 
   label = refl;
   ledger = refl;
   answers = refl;
+  share = record { share = refl; ownable = refl };
   hindrances = refl;
   hindered = refl;
   knows = λ f h. h;
@@ -42,6 +43,7 @@ begins_anew old new op s busy =
       label = refl;
       ledger = refl;
       answers = refl;
+      share = record { share = refl; ownable = refl };
       hindrances = refl;
       hindered = refl;
       knows = λ f h. h;
@@ -59,6 +61,7 @@ begins_first p op at = record {
   label = refl;
   ledger = refl;
   answers = refl;
+  share = record { share = refl; ownable = refl };
   hindrances = ap (λ hs. hs ++ p.view.hindrances) (sym (root_way op p.view at.root));
   hindered = sym (root_hindered op p.view at);
   knows = λ f h. h;
@@ -72,10 +75,12 @@ begins_first p op at = record {
 -- an operation that is laid down
 pub lays : (old new : PassModel) (op : Op) → Steps old new (after_leave old.view) → Does old.view op → Lays op old new
 lays old new op s busy = subst (λ (m : PassModel). Lays op old m) (sym s) (record {
+  laid = busy;
   table = refl;
   label = refl;
   ledger = refl;
   answers = refl;
+  share = record { share = refl; ownable = refl };
   hindrances = ap
       (λ (o : Option Op). in_the_way o old.view.worker.search.node old.view.worker.search.parent old.view.worker.search.grandparent ++ old.view.hindrances)
       busy;

@@ -53,6 +53,7 @@ won_keeps c v low = record {
   ledger = refl;
   operation = refl;
   answers = refl;
+  share = record { share = refl; ownable = refl };
   knows = λ f h. h;
   told = filling_more c (filling_of c v) v.told;
   before = refl;
@@ -62,7 +63,7 @@ won_keeps c v low = record {
 }
 
 lost_keeps : (c : ℕ) (v : View) → v.next_at_least ≤ c → LosesNothing v (after_claim false c v)
-lost_keeps c v low = record { ledger = refl; operation = refl; answers = refl; knows = λ f h. h; told = λ e h. h; before = refl; least = omega arith; hindered = refl; earlier = λ hs e. ap (λ hs. Claim c ∷ hs) e }
+lost_keeps c v low = record { ledger = refl; operation = refl; answers = refl; share = record { share = refl; ownable = refl }; knows = λ f h. h; told = λ e h. h; before = refl; least = omega arith; hindered = refl; earlier = λ hs e. ap (λ hs. Claim c ∷ hs) e }
 
 -- where a search stands at a leaf, and the claim word was read, a claim may be made
 pub may_claim_at : (old new : PassModel) (c : ℕ) (op : Op) (place : Place) → Steps old new (after_next c old.view) → Does old.view op

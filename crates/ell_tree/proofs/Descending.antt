@@ -147,8 +147,8 @@ search_ends cards a b d op place s s' busy outer h tells says =
       passed_above = passes_any_kept cards a.view w place.grandparent kept h.passed_above;
       unknown = unknown_kept a.view w place.parent kept h.unknown;
       unknown_above = unknown_any_kept a.view w place.grandparent kept h.unknown_above;
-      there = there_by (contents_in (ledger_of a.view.worker.ledger) (key_of op)) place (key_of op) (tells.present op busy stands outer)
-          (λ same. subst (λ (y : View). TellsValue y place.leaf place.value) asked says op busy stands (told ∙ ap Some same));
+      there = λ owns. there_by (contents_in (ledger_of a.view.worker.ledger) (key_of op)) place (key_of op) (tells.present op busy stands outer owns)
+          (λ same. subst (λ (y : View). TellsValue y place.leaf place.value) asked says op busy stands (told ∙ ap Some same) owns);
       deep = λ same none. tells.deep op busy stands outer same (ap (λ (r : Search). r.grandparent) h.search ∙ ap seen_any none);
     })
 

@@ -73,5 +73,8 @@ module _ (v t f : View) (c k : ℕ) (place : Place) (keeps : LosesNothing t f) w
     pub told_parent : (cards : ℕ) → IsInnerMet cards t place.parent.node → IsParent cards f c place.parent.node
     told_parent cards node = record { told = delete_tells _ (earlier _ _ _ (latest _ _)); node = inner_kept cards t f place.parent.node keeps node }
 
+    pub told_leaf : IsTold f (Info c field.L place.leaf)
+    told_leaf = delete_tells _ (earlier _ _ _ (earlier _ _ _ (latest _ _)))
+
     pub told_was : IsTold f (Info c field.Was (packed place.parent.update))
     told_was = delete_tells _ (earlier _ _ _ (earlier _ _ _ (earlier _ _ _ (latest _ _))))

@@ -78,6 +78,7 @@ module _ (k : Kind) (flag : ℕ → Fact) (c x : ℕ) (from : Update) where
     ledger = refl;
     operation = refl;
     answers = refl;
+    share = record { share = refl; ownable = refl };
     knows = λ g h. knows_more (flag c) g v.worker.facts h;
     told = λ e h. h;
     before = refl;
@@ -89,6 +90,7 @@ module _ (k : Kind) (flag : ℕ → Fact) (c x : ℕ) (from : Update) where
     ledger = refl;
     operation = refl;
     answers = refl;
+    share = record { share = refl; ownable = refl };
     knows = facts_by_more u.state u.card v.worker.facts;
     told = places_more x u.state u.card v.told;
     before = refl;

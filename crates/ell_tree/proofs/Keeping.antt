@@ -15,15 +15,21 @@ use Rattle.ell_cards.specs.Models.{PassModel, Steps, Has, latest, earlier, IsTol
 use Rattle.ell_cards.specs.Changes.{facts_by, places_by, learning, exchanged, after_upd, after_down, after_key_of, after_value_of, after_info, after_frozen_child, after_next}
 use Rattle.ell_cards.proofs.views.Facts.{knows_new, knows_more, facts_by_more}
 use Rattle.ell_cards.proofs.views.Entries.{places_more, info_more}
+use Rattle.ell_cards.specs.Stepping.{SameShare}
 use Rattle.ell_tree.proofs.Counting.{took_none, took_one, took_within, took_trans}
 use Rattle.ell_tree.specs.CardsTaken.{claims_in}
 use Rattle.ell_tree.specs.Keeping.{LosesNothing, Goes, Seeks, Works, Walks, IsInnerMet, TellsPlace, IsSeenAt}
+
+-- a share that is the same in two steps is the same
+pub share_trans : (u v w : View) → SameShare u v → SameShare v w → SameShare u w
+share_trans u v w a b = record { share = b.share ∙ a.share; ownable = b.ownable ∙ a.ownable }
 
 pub keeps_trans : (u v w : View) → LosesNothing u v → LosesNothing v w → LosesNothing u w
 keeps_trans u v w a b = record {
   ledger = b.ledger ∙ a.ledger;
   operation = b.operation ∙ a.operation;
   answers = b.answers ∙ a.answers;
+  share = share_trans u v w a.share b.share;
   knows = λ f h. b.knows f (a.knows f h);
   told = λ e h. b.told e (a.told e h);
   before = b.before ∙ a.before;
@@ -93,7 +99,7 @@ walks_none a n = record {
   goes = record {
     table = refl;
     label = refl;
-    view = record { ledger = refl; operation = refl; answers = refl; knows = λ f h. h; told = λ e h. h; before = refl; least = omega arith; hindered = refl; earlier = λ hs e. e };
+    view = record { ledger = refl; operation = refl; answers = refl; share = record { share = refl; ownable = refl }; knows = λ f h. h; told = λ e h. h; before = refl; least = omega arith; hindered = refl; earlier = λ hs e. e };
     took = took_none a n;
   };
   taken = refl;
@@ -181,6 +187,7 @@ upd_keeps x u v = record {
   ledger = refl;
   operation = refl;
   answers = refl;
+  share = record { share = refl; ownable = refl };
   knows = facts_by_more u.state u.card v.worker.facts;
   told = places_more x u.state u.card v.told;
   before = refl;
@@ -190,25 +197,26 @@ upd_keeps x u v = record {
 }
 
 pub key_of_keeps : (x key : ℕ) (v : View) → LosesNothing v (after_key_of x key v)
-key_of_keeps x key v = record { ledger = refl; operation = refl; answers = refl; knows = λ f h. h; told = λ e h. earlier e _ _ h; before = refl; least = omega arith; hindered = refl; earlier = λ hs e. e }
+key_of_keeps x key v = record { ledger = refl; operation = refl; answers = refl; share = record { share = refl; ownable = refl }; knows = λ f h. h; told = λ e h. earlier e _ _ h; before = refl; least = omega arith; hindered = refl; earlier = λ hs e. e }
 
 pub value_of_keeps : (x value : ℕ) (v : View) → LosesNothing v (after_value_of x value v)
-value_of_keeps x value v = record { ledger = refl; operation = refl; answers = refl; knows = λ f h. h; told = λ e h. earlier e _ _ h; before = refl; least = omega arith; hindered = refl; earlier = λ hs e. e }
+value_of_keeps x value v = record { ledger = refl; operation = refl; answers = refl; share = record { share = refl; ownable = refl }; knows = λ f h. h; told = λ e h. earlier e _ _ h; before = refl; least = omega arith; hindered = refl; earlier = λ hs e. e }
 
 pub down_keeps : (x child : ℕ) (v : View) → LosesNothing v (after_down x child v)
-down_keeps x child v = record { ledger = refl; operation = refl; answers = refl; knows = λ f h. h; told = λ e h. earlier e _ _ h; before = refl; least = omega arith; hindered = refl; earlier = λ hs e. e }
+down_keeps x child v = record { ledger = refl; operation = refl; answers = refl; share = record { share = refl; ownable = refl }; knows = λ f h. h; told = λ e h. earlier e _ _ h; before = refl; least = omega arith; hindered = refl; earlier = λ hs e. e }
 
 pub info_keeps : (c : ℕ) (f : Field) (x : ℕ) (v : View) → LosesNothing v (after_info c f x v)
-info_keeps c f x v = record { ledger = refl; operation = refl; answers = refl; knows = λ g h. h; told = info_more c f x v.told; before = refl; least = omega arith; hindered = refl; earlier = λ hs e. e }
+info_keeps c f x v = record { ledger = refl; operation = refl; answers = refl; share = record { share = refl; ownable = refl }; knows = λ g h. h; told = info_more c f x v.told; before = refl; least = omega arith; hindered = refl; earlier = λ hs e. e }
 
 pub frozen_keeps : (c : ℕ) (right : Bool) (x : ℕ) (v : View) → LosesNothing v (after_frozen_child c right x v)
-frozen_keeps c right x v = record { ledger = refl; operation = refl; answers = refl; knows = λ f h. h; told = λ e h. earlier e _ _ (earlier e _ _ h); before = refl; least = omega arith; hindered = refl; earlier = λ hs e. e }
+frozen_keeps c right x v = record { ledger = refl; operation = refl; answers = refl; share = record { share = refl; ownable = refl }; knows = λ f h. h; told = λ e h. earlier e _ _ (earlier e _ _ h); before = refl; least = omega arith; hindered = refl; earlier = λ hs e. e }
 
 pub learning_keeps : (wins : List (Kind × ℕ)) (n : ℕ) (f : Fact) (v : View) → LosesNothing v (exchanged wins n (learning f v))
 learning_keeps wins n f v = record {
   ledger = refl;
   operation = refl;
   answers = refl;
+  share = record { share = refl; ownable = refl };
   knows = λ g h. knows_more f g v.worker.facts h;
   told = λ e h. h;
   before = refl;
@@ -218,4 +226,4 @@ learning_keeps wins n f v = record {
 }
 
 pub next_keeps : (n : ℕ) (v : View) → LosesNothing v (after_next n v)
-next_keeps n v = record { ledger = refl; operation = refl; answers = refl; knows = λ f h. h; told = λ e h. h; before = refl; least = omega arith; hindered = refl; earlier = λ hs e. e }
+next_keeps n v = record { ledger = refl; operation = refl; answers = refl; share = record { share = refl; ownable = refl }; knows = λ f h. h; told = λ e h. h; before = refl; least = omega arith; hindered = refl; earlier = λ hs e. e }

@@ -21,6 +21,8 @@ pub mod Filling
 -- what is stored of a card
 pub mod Storing
 -- the steps of some tries
+pub mod Owning
+-- how many steps
 pub mod Counting
 -- a flag, won or lost
 pub mod Flagging

@@ -30,6 +30,7 @@ unmarking_keeps n c p u v = record {
   ledger = refl;
   operation = refl;
   answers = refl;
+  share = record { share = refl; ownable = refl };
   knows = λ g h. facts_by_more u.state u.card (fact.Unmarkable c ∷ v.worker.facts) g (knows_more (fact.Unmarkable c) g v.worker.facts h);
   told = places_more p u.state u.card v.told;
   before = refl;

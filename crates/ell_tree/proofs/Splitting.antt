@@ -4,8 +4,10 @@ use Rattle.std.specs.Map.{keys_of}
 use Rattle.ell_ops.specs.KeySet.{set_of}
 use Rattle.ell_core.specs.state.Machine.{ledger_of}
 use Rattle.ell_tree.proofs.Moving.{moves_more, moves_none, known_left, known_right}
-use Rattle.ell_cards.specs.Models.{PassModel, TableModel, Steps, one_more}
-use Rattle.ell_cards.specs.Changes.{first_view, part_on, part_off, left_view, right_view, united, joined_view}
+use Rattle.ell_cards.specs.Models.{TablePlan, PassModel, TableModel, Steps, one_more}
+use Rattle.ell_cards.specs.Changes.{first_of, part_on, part_off, left_view, right_view, united, joined_view}
+use Rattle.ell_core.specs.state.Machine.{entry_of}
+use Rattle.ell_cards.specs.Starts.{OpensBy}
 use Rattle.ell_cards.proofs.words.Keys.{ledger_at_start, present_at_start}
 use Rattle.ell_cards.proofs.lifetimes.Parts.{parts_on, parts_off}
 use Rattle.ell_cards.proofs.lifetimes.Unions.{ledger_united}
@@ -31,13 +33,23 @@ there_same (Some Absent) (Some v) h = let is = (h v).1 refl in absurd cc
 there_same None None h = refl
 there_same None (Some v) h = let is = (h v).1 refl in absurd cc
 
+-- the value in the entry of a start key is that of the key
+start_value_is : (o : Option ℕ) → value_in (Some (entry_of o)) ≡ o
+start_value_is (Some value) = refl
+start_value_is None = refl
+
 -- a first pass has all keys, the start keys present with their values
-pub first_pass : (t : TableModel) (keys : List ℕ) (start : List (ℕ × ℕ)) (p : PassModel) → All (λ k. set_of keys k ≡ true) (keys_of start)
-    → t.keys ≡ keys → p ≡ record { table = t.id; view = first_view keys start; steps = 0; label = 0 } → IsFirst start t p
-first_pass t keys start p given same e = subst (IsFirst start t) (sym e) (record {
+pub first_pass : (plan : TablePlan) (made : TableModel × PassModel) → (plan.shared ≡ false → All (λ k. set_of plan.keys k ≡ true) (keys_of plan.start))
+    → OpensBy plan made → IsFirst made.0 made.1
+first_pass plan made given opens = subst (IsFirst made.0) (sym opens.pass) (subst (λ p. IsFirst (record { id = made.0.id; plan = p }) (record { table = made.0.id; view = first_of plan; steps = 0; label = 0 })) (sym opens.table) (record {
   own = refl;
-  ledger = λ k. ledger_at_start keys start k ∙ ap (λ (ks : List ℕ). if set_of ks k then Some (start_entry start k) else None) (sym same);
-  present = λ t k. there_same (ledger_of (keys_at_start keys start) k) (contents_of start k) (present_at_start keys start given k) t;
+  ledger = λ k. ledger_at_start plan.keys plan.start k;
+  each = λ k among. ap value_in (ledger_at_start plan.keys plan.start k ∙ ap (λ b. if b then Some (start_entry plan.start k) else None) among)
+      ∙ start_value_is (contents_of plan.start k);
+  present = λ closed t k. there_same (ledger_of (keys_at_start plan.keys plan.start) k) (contents_of plan.start k)
+      (present_at_start plan.keys plan.start (given closed) k) t;
+  share = refl;
+  ownable = refl;
   answers = refl;
   hindrances = refl;
   hindered = refl;
@@ -47,7 +59,7 @@ first_pass t keys start p given same e = subst (IsFirst start t) (sym e) (record
   label = refl;
   moves = λ cards. moves_none cards;
   idle = refl;
-})
+}))
 
 -- the parts of a ledger
 left_ledger : (keys : List ℕ) (l : List (ℕ × Entry)) (k : ℕ) → ledger_of (part_on keys l) k ≡ (if set_of keys k then ledger_of l k else None)
@@ -76,6 +88,8 @@ left_part keys p part s = subst (IsLeftPart keys p) (sym s) (record {
   made = refl;
   label = refl;
   moves = λ cards. refl;
+  share = refl;
+  ownable = refl;
   idle = refl;
 })
 
@@ -91,6 +105,8 @@ right_part keys p part s = subst (IsRightPart keys p) (sym s) (record {
   made = refl;
   label = refl;
   moves = λ cards. refl;
+  share = refl;
+  ownable = refl;
   idle = refl;
 })
 
@@ -123,5 +139,7 @@ union left right both e = subst (IsUnion left right) (sym e) (record {
     moves_more cards left.view (joined_view left.view right.view) (λ f h. known_left left.view.worker.facts right.view.worker.facts f h) (omega arith),
     moves_more cards right.view (joined_view left.view right.view) (λ f h. known_right left.view.worker.facts right.view.worker.facts f h) (omega arith),
   );
+  share = refl;
+  ownable = refl;
   idle = refl;
 })

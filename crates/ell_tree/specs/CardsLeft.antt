@@ -6,6 +6,7 @@ use Rattle.ell_cards.specs.Models.{PassModel, Steps}
 use Rattle.ell_cards.specs.Changes.{after_next}
 use Rattle.ell_cards.specs.States.{TableState}
 use Rattle.ell_cards.specs.Starts.{IsReached}
+use Rattle.ell_tree.specs.Ledgers.{TreeModel}
 
 -- a pass read the claim word, which is the number of the card that is given out next, and did nothing else: so many cards were not given
 -- out then, those from that number to the last one
@@ -17,6 +18,6 @@ pub record ReadsCardsLeft (cards : ℕ) (old new : PassModel) (left : ℕ) : Typ
 
 -- in every run, wherever turns have led the tree while a pass knows just this, so many cards at most are left, from the claim word to the
 -- last one
-abbrev pub AreLeftAtMost : List ℕ → List (ℕ × ℕ) → ℕ → View → ℕ → Type 0
-AreLeftAtMost keys start cards v left =
-    (s : TableState) → IsReached keys start cards s → (seat : ℕ) → get_elem? s.views seat ≡ some v → cards + 1 ≤ slice_index s.words 0 + left
+abbrev pub AreLeftAtMost : TreeModel → View → ℕ → Type 0
+AreLeftAtMost t v left =
+    (s : TableState) → IsReached t.plan s → (seat : ℕ) → get_elem? s.views seat ≡ some v → t.plan.last_card + 1 ≤ slice_index s.words 0 + left

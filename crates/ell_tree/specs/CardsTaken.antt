@@ -1,4 +1,4 @@
-use Rattle.std.specs.Prelude.{◌≡◌, ℕ, ◌+◌, ◌≤◌, if◌then◌else◌, Bool, true, false, List, [], ◌∷◌, Result, Ok, Err}
+use Rattle.std.specs.Prelude.{◌≡◌, ℕ, ◌+◌, ◌≤◌, if◌then◌else◌, Bool, true, false, Some, None, List, [], ◌∷◌, Result, Ok, Err}
 use Rattle.ell_word.specs.declared.gate.Kind.{Kind}
 use Rattle.ell_word.specs.declared.gate.Kind.TheVariants.{Claim}
 use Rattle.ell_cards.specs.Models.{PassModel}
@@ -43,17 +43,16 @@ pub record TakesOneAndByHindered (old new : PassModel) : Type 0 where
   pub one : cards_taken old + 1 ≤ cards_taken new
   pub more : cards_taken new + old.view.hindered ≤ cards_taken old + 1 + new.view.hindered
 
--- which cards an insert or a delete takes: none, if it changes nothing; one, and more only for hindered tries, if it changes the map; and
--- if it has no answer, only those for hindered tries
+-- which cards an insert or a delete takes: one, and more only for hindered tries, if it changes the map; else only those for hindered tries
 abbrev pub TakesCards : {E : Type 0} → PassModel → PassModel → Result Bool E → Type 0
-TakesCards old new (Ok false) = TakesNoCard old new
+TakesCards old new (Ok false) = TakesByHindered old new
 TakesCards old new (Ok true) = TakesOneAndByHindered old new
 TakesCards old new (Err why) = TakesByHindered old new
 
 -- which cards a try takes
 abbrev pub TryTakes : PassModel → PassModel → Tried → Type 0
-TryTakes old new (tried.Answered false) = TakesNoCard old new
-TryTakes old new (tried.Answered true) = TakesOneCard old new
+TryTakes old new (tried.Answered None) = TakesNoCard old new
+TryTakes old new (tried.Answered (Some value)) = TakesOneCard old new
 TryTakes old new tried.Spent = TakesNoCard old new
 TryTakes old new tried.Hindered = TakesAtMost 1 old new
 

@@ -1,31 +1,44 @@
-use Rattle.std.specs.Prelude.{◌≡◌, ℕ, ◌+◌, ◌*◌, ◌≤◌, ◌↔◌, Bool, None, Some, Result, Ok, Err}
+use Rattle.std.specs.Prelude.{◌≡◌, ℕ, ◌+◌, ◌*◌, ◌≤◌, ◌↔◌, Bool, Option, None, Some, is_some, IfSome, Result, Ok, Err}
 use Rattle.ell_ops.specs.declared.op.Op.{Op}
+use Rattle.ell_ops.specs.declared.op.Op.TheVariants.{Find, Insert, Delete}
 use Rattle.ell_ops.specs.declared.reply.Reply.{Reply}
 use Rattle.ell_ops.specs.declared.reply.Reply.TheVariants.{Yes}
-use Rattle.ell_ops.specs.Meaning.{yes_if, reply_of, after}
+use Rattle.ell_ops.specs.Meaning.{key_of, yes_if, reply_of, after}
+use Rattle.ell_cards.specs.Answering.{IsAnsweredInRuns}
+use Rattle.ell_cards.specs.LayingDown.{IsLaidDownInRuns}
+use Rattle.ell_cards.specs.Taking.{IsTakenInRuns}
 use Rattle.ell_cards.specs.Models.{PassModel}
+use Rattle.ell_cards.specs.Stepping.{SameShare}
 use Rattle.ell_tree.specs.declared.operations.Held.{Held}
 use Rattle.ell_tree.specs.declared.operations.Held.TheVariants.{Busy, Spent}
 use Rattle.ell_tree.specs.Hindrances.{Meets}
-use Rattle.ell_tree.specs.Ledgers.{present_in, Owns, answers, hindrances, IsIdle}
+use Rattle.ell_tree.specs.Ledgers.{TreeModel, present_in, ledger, Owns, answers, hindrances, IsIdle}
 
--- an operation was answered: as a map answers it that has the pass's keys present with their values, which becomes the map after it
-pub record Answers (op : Op) (said : Reply) (old new : PassModel) : Type 0 where
+-- an operation was answered. On a key of the pass's own: as a map answers it that has the pass's keys present with their values, which becomes
+-- the map after it; on a shared key the ledger stays. Whoever may change the key, the call had its point: in every run of the tree in which the pass
+-- now knows this, its answer is that of one thread that made all operations by which the tree was changed till then
+pub record Answers (t : TreeModel) (op : Op) (said : Reply) (old new : PassModel) : Type 0 where
   pub table : new.table ≡ old.table
   pub label : new.label ≡ old.label
-  pub says : said ≡ reply_of op (present_in old)
-  pub map : (key : ℕ) → present_in new key ≡ after op (present_in old) key
+  pub says : Owns old (key_of op) → said ≡ reply_of op (present_in old)
+  pub map : Owns old (key_of op) → (key : ℕ) → present_in new key ≡ after op (present_in old) key
+  pub stays : ¬ Owns old (key_of op) → ledger new ≡ ledger old
+  pub point : IsAnsweredInRuns t.plan new.view op said
   pub owned : (key : ℕ) → Owns new key ↔ Owns old key
   pub answered : answers new ≡ answers old + 1
+  pub share : SameShare old.view new.view
   pub idle : IsIdle new
 
--- an operation that would change the map was laid down without an answer: the ledger is as it was, and nothing is in hand
-pub record LaidDown (op : Op) (old new : PassModel) : Type 0 where
+-- an operation was laid down without an answer: the ledger is as it was, nothing is in hand, and of an own key it would change the map. Whoever may
+-- change the key, in every run of the tree in which the pass now knows this, the call changes nothing, neither before nor later
+pub record LaidDown (t : TreeModel) (op : Op) (old new : PassModel) : Type 0 where
   pub table : new.table ≡ old.table
   pub label : new.label ≡ old.label
   pub ledger : new.view.worker.ledger ≡ old.view.worker.ledger
   pub answered : answers new ≡ answers old
-  pub would : reply_of op (present_in old) ≡ Yes
+  pub share : SameShare old.view new.view
+  pub would : Owns old (key_of op) → reply_of op (present_in old) ≡ Yes
+  pub nothing : IsLaidDownInRuns t.plan new.view op
   pub idle : IsIdle new
   pub no_card : new.view.worker.card ≡ None
 
@@ -44,10 +57,27 @@ abbrev pub replied : Result Bool Held → Result Reply Held
 replied (Ok said) = Ok (yes_if said)
 replied (Err why) = Err why
 
+-- whether it changes the map, by the value that it adds or takes away
+abbrev pub whether : Result (Option ℕ) Held → Result Bool Held
+whether (Ok moved) = Ok (is_some moved)
+whether (Err why) = Err why
+
+-- the value that a delete of a key took, if it took one: of an own key, just that which the pass had. Whoever may change the key, in every run
+-- of the tree in which the pass now knows this, the key had just this value at the call's point
+pub record TakesValue (t : TreeModel) (key : ℕ) (old new : PassModel) (taken : Option ℕ) : Type 0 where
+  pub mine : Owns old key → taken ≡ present_in old key
+  pub took : IfSome taken (IsTakenInRuns t.plan new.view key)
+
+-- the value that an insert or a delete added or took: what is promised of a delete's
+abbrev pub Moves : TreeModel → Op → PassModel → PassModel → Option ℕ → Type 0
+Moves t (Find key) old new moved = Unit {0}
+Moves t (Insert key value) old new moved = Unit {0}
+Moves t (Delete key) old new moved = TakesValue t key old new moved
+
 -- how an insert or a delete ends; whatever was in its way is over
-abbrev pub Ends : ℕ → ℕ → Op → PassModel → PassModel → Result Reply Held → Type 0
-Ends cards tries op old new (Ok said) = Answers op said old new × Meets old.view new.view
-Ends cards tries op old new (Err why) = LaidDown op old new × HeldFor cards tries old new why × Meets old.view new.view
+abbrev pub Ends : TreeModel → ℕ → Op → PassModel → PassModel → Result Reply Held → Type 0
+Ends t tries op old new (Ok said) = Answers t op said old new × Meets old.view new.view
+Ends t tries op old new (Err why) = LaidDown t op old new × HeldFor t.plan.last_card tries old new why × Meets old.view new.view
 
 -- the most steps of a find in a tree of so many cards
 abbrev pub find_steps : ℕ → ℕ

@@ -11,14 +11,16 @@ use Rattle.ell_cards.specs.declared.view.Told.TheVariants.{Met, Info}
 use Rattle.ell_cards.specs.declared.view.Hindrance.{Hindrance}
 use Rattle.ell_cards.specs.declared.view.View.{View}
 use Rattle.ell_cards.specs.Models.{PassModel, InTable, IsTold, Knows}
+use Rattle.ell_cards.specs.Stepping.{SameShare}
 use Rattle.ell_tree.specs.Counts.{Took}
 use Rattle.ell_tree.specs.CardsTaken.{TakesNoCard}
 
--- ledger, operation and answers stay, and nothing is forgotten; no try is given up, so what was in the way before the one in hand is the same
+-- ledger, operation, answers and share stay, and nothing is forgotten; no try is given up, so what was in the way before the one in hand is the same
 pub record LosesNothing (v w : View) : Type 0 where
   pub ledger : w.worker.ledger ≡ v.worker.ledger
   pub operation : w.worker.operation ≡ v.worker.operation
   pub answers : w.answers ≡ v.answers
+  pub share : SameShare v w
   pub knows : (f : Fact) → Knows v f → Knows w f
   pub told : (e : Told) → IsTold v e → IsTold w e
   pub before : w.knew_before ≡ v.knew_before

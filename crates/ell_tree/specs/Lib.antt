@@ -40,6 +40,7 @@ pub use Rattle.ell_cards.specs.Models
 pub use Rattle.ell_cards.specs.Changes
 pub use Rattle.ell_cards.specs.declared.view.Hindrance
 pub use Rattle.ell_cards.specs.declared.fault.CardFault
+pub use Rattle.ell_cards.specs.declared.fault.SplitFault
 -- the words of a tree that has ended, and their pairs
 pub use Rattle.ell_cards.specs.Closed
 pub use Rattle.ell_core.specs.state.Words

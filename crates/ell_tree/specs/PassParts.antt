@@ -1,20 +1,21 @@
-use Rattle.std.specs.Prelude.{◌≡◌, ℕ, ◌+◌, ◌≤◌, if◌then◌else◌, Option, Some, None, List, max}
+use Rattle.std.specs.Prelude.{◌≡◌, ℕ, ◌+◌, ◌-◌, ◌%◌, ◌^◌, ◌≤◌, true, if◌then◌else◌, Option, Some, None, List, max, false}
 use Rattle.ell_ops.specs.KeySet.{set_of}
 use Rattle.ell_ops.specs.Contents.{contents_of}
-use Rattle.ell_cards.specs.Models.{PassModel, one_more}
-pub use Rattle.ell_cards.specs.Changes.{later}
+use Rattle.ell_cards.specs.Models.{PassModel, given_share, one_more, whole_share}
+pub use Rattle.ell_cards.specs.Changes.{first_known, later, ownable_if}
 use Rattle.ell_tree.specs.CardsTaken.{cards_taken}
 use Rattle.ell_tree.specs.Moves.{moves_known}
 use Rattle.ell_tree.specs.Ledgers.{TreeModel, ledger, present_in, answers, hindrances, IsIdle}
 pub use Rattle.ell_core.specs.state.Opening.{start_entry}
 use Rattle.ell_core.specs.declared.view.Entry.{Entry}
 
--- the first pass of a tree with these start keys: it owns all keys of the tree, of which the start keys are present with their
--- values, and the others absent
-pub record IsFirst (start : List (ℕ × ℕ)) (t : TreeModel) (p : PassModel) : Type 0 where
+-- the first pass of a tree: it owns the keys of the tree's plan, of which the start keys are present with their values, and the others absent; and
+-- it has the whole share
+pub record IsFirst (t : TreeModel) (p : PassModel) : Type 0 where
   pub own : p.table ≡ t.id
-  pub ledger : (k : ℕ) → ledger p k ≡ (if set_of t.keys k then Some (start_entry start k) else None)
-  pub present : present_in p ≡ contents_of start
+  pub ledger : (k : ℕ) → ledger p k ≡ (if set_of t.plan.keys k then Some (start_entry t.plan.start k) else None)
+  pub each : (k : ℕ) → set_of t.plan.keys k ≡ true → present_in p k ≡ contents_of t.plan.start k
+  pub present : t.plan.shared ≡ false → present_in p ≡ contents_of t.plan.start
   pub answers : answers p ≡ 0
   pub hindrances : hindrances p ≡ 0
   pub hindered : p.view.hindered ≡ 0
@@ -23,6 +24,8 @@ pub record IsFirst (start : List (ℕ × ℕ)) (t : TreeModel) (p : PassModel) :
   pub made : p.view.made ≡ 0
   pub label : p.label ≡ 0
   pub moves : (cards : ℕ) → moves_known cards p.view ≡ 0
+  pub share : p.view.share ≡ whole_share
+  pub ownable : p.view.worker.ownable ≡ ownable_if t.plan.shared t.plan.keys
   pub idle : IsIdle p
 
 -- the left part of a pass: it has these keys as the pass had them, and keeps the counts; of the steps made, the split is its own
@@ -37,6 +40,8 @@ pub record IsLeftPart (keys : List ℕ) (p part : PassModel) : Type 0 where
   pub made : part.view.made ≡ p.view.made + 1
   pub label : part.label ≡ p.label
   pub moves : (cards : ℕ) → moves_known cards part.view ≡ moves_known cards p.view
+  pub share : part.view.share ≡ p.view.share - given_share p.view.share
+  pub ownable : part.view.worker.ownable ≡ p.view.worker.ownable
   pub idle : IsIdle part
 
 -- the right part: it has the other keys, and counts anew
@@ -51,6 +56,8 @@ pub record IsRightPart (keys : List ℕ) (p part : PassModel) : Type 0 where
   pub made : part.view.made ≡ 0
   pub label : part.label ≡ p.label
   pub moves : (cards : ℕ) → moves_known cards part.view ≡ moves_known cards p.view
+  pub share : part.view.share ≡ given_share p.view.share
+  pub ownable : part.view.worker.ownable ≡ p.view.worker.ownable
   pub idle : IsIdle part
 
 -- an entry of one ledger, or else of another
@@ -71,4 +78,6 @@ pub record IsUnion (left right both : PassModel) : Type 0 where
   pub made : both.view.made ≡ left.view.made + right.view.made + 1
   pub label : both.label ≡ left.label
   pub moves : (cards : ℕ) → (moves_known cards left.view ≤ moves_known cards both.view) × (moves_known cards right.view ≤ moves_known cards both.view)
+  pub share : both.view.share ≡ (left.view.share + right.view.share) % 2 ^ 64
+  pub ownable : both.view.worker.ownable ≡ first_known left.view.worker.ownable right.view.worker.ownable
   pub idle : IsIdle both

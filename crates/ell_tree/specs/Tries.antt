@@ -1,7 +1,7 @@
-use Rattle.std.specs.Prelude.{◌≡◌, ℕ, ◌+◌, ◌≤◌, ◌++◌, true, Some, None, List, [], ◌∷◌, Result, Ok, Err, length}
+use Rattle.std.specs.Prelude.{◌≡◌, ℕ, ◌+◌, ◌≤◌, ◌++◌, true, Some, None, is_some, List, [], ◌∷◌, Result, Ok, Err, length}
 use Rattle.ell_ops.specs.declared.op.Op.{Op}
 use Rattle.ell_ops.specs.declared.op.Op.TheVariants.{Find, Insert, Delete}
-use Rattle.ell_ops.specs.Meaning.{reply_of, yes_if}
+use Rattle.ell_ops.specs.Meaning.{key_of, reply_of, yes_if}
 use Rattle.ell_word.specs.declared.update.Update.{Update}
 use Rattle.ell_core.specs.declared.fact.Fact.{Fact}
 use Rattle.ell_core.specs.declared.fact.Fact.TheVariants as fact
@@ -18,10 +18,11 @@ use Rattle.ell_tree.specs.declared.trying.Claimed.{Claimed}
 use Rattle.ell_tree.specs.declared.trying.Claimed.TheVariants as claimed
 use Rattle.ell_tree.specs.declared.trying.Tried.{Tried}
 use Rattle.ell_tree.specs.declared.trying.Tried.TheVariants as tried
-use Rattle.ell_tree.specs.Ledgers.{present_in, IsIdle}
+use Rattle.ell_tree.specs.Ledgers.{TreeModel, Owns, present_in, IsIdle}
+use Rattle.ell_cards.specs.Stepping.{SameShare}
 use Rattle.ell_tree.specs.Counts.{Took}
 use Rattle.ell_tree.specs.CardsTaken.{TakesNoCard}
-use Rattle.ell_tree.specs.Ends.{Answers}
+use Rattle.ell_tree.specs.Ends.{Answers, TakesValue}
 use Rattle.ell_tree.specs.Hindrances.{AreOver, Meets, StillKnows, way_of}
 use Rattle.ell_tree.specs.Keeping.{IsSeenAt}
 use Rattle.ell_tree.specs.Moves.{GivesOut, SeesMove}
@@ -40,6 +41,7 @@ pub record Begins (op : Op) (met : List Hindrance) (tries : ℕ) (old new : Pass
   pub label : new.label ≡ old.label
   pub ledger : new.view.worker.ledger ≡ old.view.worker.ledger
   pub answers : new.view.answers ≡ old.view.answers
+  pub share : SameShare old.view new.view
   pub hindrances : new.view.hindrances ≡ met ++ old.view.hindrances
   pub hindered : new.view.hindered ≡ tries
   pub knows : StillKnows old.view new.view
@@ -56,10 +58,12 @@ pub record Stops (op : Op) (v : View) : Type 0 where
 
 -- an operation is laid down: nothing is in hand any more
 pub record Lays (op : Op) (old new : PassModel) : Type 0 where
+  pub laid : new.view.laid_down ≡ Some op
   pub table : new.table ≡ old.table
   pub label : new.label ≡ old.label
   pub ledger : new.view.worker.ledger ≡ old.view.worker.ledger
   pub answers : new.view.answers ≡ old.view.answers
+  pub share : SameShare old.view new.view
   pub hindrances : new.view.hindrances ≡ way_of op old.view ++ old.view.hindrances
   pub hindered : new.view.hindered ≡ tries_hindered old.view
   pub knows : StillKnows old.view new.view
@@ -78,18 +82,33 @@ pub record Halts (op : Op) (old new : PassModel) : Type 0 where
   pub label : new.label ≡ old.label
   pub ledger : new.view.worker.ledger ≡ old.view.worker.ledger
   pub answers : new.view.answers ≡ old.view.answers
+  pub share : SameShare old.view new.view
   pub meets : Meets old.view new.view
   pub in_try : new.view.hindrances ≡ new.view.met ++ old.view.hindrances
   pub way : AreOver new.view (way_of op new.view)
-  pub would : reply_of op (present_in old) ≡ Yes
+  pub would : Owns old (key_of op) → reply_of op (present_in old) ≡ Yes
   pub stops : Stops op new.view
 
 -- how a try ends
-abbrev pub TryEnds : ℕ → Op → PassModel → PassModel → Tried → Type 0
-TryEnds cards op old new (tried.Answered said) = Answers op (yes_if said) old new × Meets old.view new.view × (new.view.next_at_least ≤ cards + 1)
-TryEnds cards op old new tried.Spent = Halts op old new × (new.view.next ≡ Some (cards + 1))
-TryEnds cards op old new tried.Hindered =
-    Halts op old new × (length old.view.hindrances + 1 ≤ length (way_of op new.view) + length new.view.hindrances) × SeesMove cards old.view new.view
+abbrev pub TryEnds : TreeModel → Op → PassModel → PassModel → Tried → Type 0
+TryEnds t op old new (tried.Answered moved) =
+    Answers t op (yes_if (is_some moved)) old new × Meets old.view new.view × (new.view.next_at_least ≤ t.plan.last_card + 1)
+TryEnds t op old new tried.Spent = Halts op old new × (new.view.next ≡ Some (t.plan.last_card + 1))
+TryEnds t op old new tried.Hindered =
+    Halts op old new × (length old.view.hindrances + 1 ≤ length (way_of op new.view) + length new.view.hindrances)
+    × SeesMove t.plan.last_card old.view new.view
+
+-- what a try of a delete took
+abbrev pub TryTook : TreeModel → ℕ → PassModel → PassModel → Tried → Type 0
+TryTook t key old new (tried.Answered taken) = TakesValue t key old new taken
+TryTook t key old new tried.Spent = Unit {0}
+TryTook t key old new tried.Hindered = Unit {0}
+
+-- what a try added or took
+abbrev pub TryMoves : TreeModel → Op → PassModel → PassModel → Tried → Type 0
+TryMoves t (Find key) old new ended = Unit {0}
+TryMoves t (Insert key value) old new ended = Unit {0}
+TryMoves t (Delete key) old new ended = TryTook t key old new ended
 
 -- a card was taken for an operation whose search ended at a place: it is to say this, nothing of it was stored, and its words
 -- that never change are told

@@ -15,7 +15,7 @@ ghost use Rattle.ell_tree.specs.Helps.{IsBacked, IsParent, help_steps};
 ghost use Rattle.ell_tree.specs.Hindrances.{Meets};
 ghost use Rattle.ell_tree.specs.Keeping.{Goes, IsInnerMet, Works};
 ghost use Rattle.ell_tree.specs.Searches.{AtRoot};
-ghost use Rattle.ell_tree.specs.Tries.{Fills, Flags, HasCard, TryEnds};
+ghost use Rattle.ell_tree.specs.Tries.{Fills, Flags, HasCard, TryEnds, TryTook};
 
 use crate::helping::{DeleteFlag, Ending, finish_delete, help, help_delete};
 use crate::searching::{Passed, Place, search};
@@ -36,9 +36,10 @@ pub(crate) fn try_delete<A: Allocator + Copy, G: StepGate>(
 ) -> Tried
     requires own { pass.old.table ≡ table.now.id }
     requires root { AtRoot (Delete key) pass.old.view }
-    ensures steps { pass.new.steps + 1 ≤ pass.old.steps + try_steps table.now.last_card }
-    ensures made { pass.new.view.made + 1 ≤ pass.old.view.made + try_steps table.now.last_card }
-    ensures ends { TryEnds table.now.last_card (Delete key) pass.old pass.new result }
+    ensures steps { pass.new.steps + 1 ≤ pass.old.steps + try_steps table.now.plan.last_card }
+    ensures made { pass.new.view.made + 1 ≤ pass.old.view.made + try_steps table.now.plan.last_card }
+    ensures ends { TryEnds table.now (Delete key) pass.old pass.new result }
+    ensures took { TryTook table.now key pass.old pass.new result }
     ensures taken { TryTakes pass.old pass.new result }
     ensures least { pass.old.view.next_at_least ≤ pass.new.view.next_at_least }
     ensures hindered { pass.new.view.hindered ≡ pass.old.view.hindered }
@@ -47,7 +48,7 @@ pub(crate) fn try_delete<A: Allocator + Copy, G: StepGate>(
     let place = search(table, pass, op, gate);
     if place.key != key {
         answer(table, pass, Reply::No, gate);
-        return Tried::Answered(false);
+        return Tried::Answered(None);
     }
     // A leaf of a real key has a grandparent.
     let Some(above) = place.grandparent else {
@@ -75,7 +76,7 @@ pub(crate) fn try_delete<A: Allocator + Copy, G: StepGate>(
         return Tried::Hindered;
     }
     answer(table, pass, Reply::Yes, gate);
-    Tried::Answered(true)
+    Tried::Answered(Some(place.value))
 }
 
 // Fills the card of a delete, and flags the grandparent with it.
@@ -91,10 +92,10 @@ fn flag_delete<A: Allocator + Copy, G: StepGate>(
     requires above { place.grandparent ≡ Some above }
     requires limit { place.parent.update.card ≤ greatest_card }
     requires card { (key : ℕ) × HasCard (Delete key) place (delete_filling above.node place.parent.node place.leaf (packed place.parent.update)) pass.old.view card }
-    requires node { IsInnerMet table.now.last_card pass.old.view above.node }
+    requires node { IsInnerMet table.now.plan.last_card pass.old.view above.node }
     ensures goes { Goes pass.old pass.new 5 }
     ensures taken { TakesNoCard pass.old pass.new }
-    ensures flags { Flags table.now.last_card DFlagged card above.node pass.old pass.new result }
+    ensures flags { Flags table.now.plan.last_card DFlagged card above.node pass.old pass.new result }
 {
     fill_delete(table, pass, card, above.node, place, gate);
     gate.before(pass.label(), Kind::DFlag);
@@ -136,10 +137,10 @@ fn finish_own<A: Allocator + Copy, G: StepGate>(
     requires limit { parent.update.card ≤ greatest_card }
     requires knows { Knows pass.old.view (DFlagged card) }
     requires grandparent { IsTold pass.old.view (Info card field.Gp grandparent) }
-    requires node { IsInnerMet table.now.last_card pass.old.view grandparent }
-    requires parent { IsParent table.now.last_card pass.old.view card parent.node }
+    requires node { IsInnerMet table.now.plan.last_card pass.old.view grandparent }
+    requires parent { IsParent table.now.plan.last_card pass.old.view card parent.node }
     requires read { IsTold pass.old.view (Info card field.Was (packed parent.update)) }
-    ensures works { Works pass.old pass.new (help_steps table.now.last_card + 2) }
+    ensures works { Works pass.old pass.new (help_steps table.now.plan.last_card + 2) }
     ensures meets { Meets pass.old.view pass.new.view }
     ensures done { OnTrue result (Knows pass.new.view (DOver card)) }
     ensures backed { OnFalse result (IsBacked card pass.old.view pass.new.view) }

@@ -47,8 +47,8 @@ pub(crate) fn help<A: Allocator + Copy, G: StepGate>(
     gate: &G,
 )
     requires own { pass.old.table ≡ table.now.id }
-    requires seen { IsSeenAt table.now.last_card pass.old.view node update }
-    ensures works { Works pass.old pass.new (help_steps table.now.last_card) }
+    requires seen { IsSeenAt table.now.plan.last_card pass.old.view node update }
+    ensures works { Works pass.old pass.new (help_steps table.now.plan.last_card) }
     ensures meets { Meets pass.old.view pass.new.view }
     ensures ended { IsEnded pass.new.view update.state update.card }
 {
@@ -178,8 +178,8 @@ pub(crate) fn help_delete<A: Allocator + Copy, G: StepGate>(
     gate: &G,
 )
     requires own { pass.old.table ≡ table.now.id }
-    requires flag { IsFlag table.now.last_card pass.old.view flag }
-    ensures works { Works pass.old pass.new (chain_steps table.now.last_card flag.grandparent) }
+    requires flag { IsFlag table.now.plan.last_card pass.old.view flag }
+    ensures works { Works pass.old pass.new (chain_steps table.now.plan.last_card flag.grandparent) }
     ensures meets { Meets pass.old.view pass.new.view }
     ensures ended { IsDeleteEnded pass.new.view flag.card }
 {
@@ -197,8 +197,8 @@ fn help_one_delete<A: Allocator + Copy, G: StepGate>(
     gate: &G,
 ) -> Ending
     requires own { pass.old.table ≡ table.now.id }
-    requires flag { IsFlag table.now.last_card pass.old.view flag }
-    ensures { HelpEnds table.now.last_card flag pass.old pass.new result }
+    requires flag { IsFlag table.now.plan.last_card pass.old.view flag }
+    ensures { HelpEnds table.now.plan.last_card flag pass.old pass.new result }
 {
     let parent = look_info(table, pass, flag.card, Field::P, gate);
     let was = look_info(table, pass, flag.card, Field::Was, gate);
@@ -216,10 +216,10 @@ pub(crate) fn finish_delete<A: Allocator + Copy, G: StepGate>(
     gate: &G,
 ) -> Ending
     requires own { pass.old.table ≡ table.now.id }
-    requires flag { IsFlag table.now.last_card pass.old.view flag }
-    requires parent { IsParent table.now.last_card pass.old.view flag.card parent }
+    requires flag { IsFlag table.now.plan.last_card pass.old.view flag }
+    requires parent { IsParent table.now.plan.last_card pass.old.view flag.card parent }
     requires read { IsTold pass.old.view (told.Info flag.card field.Was was) }
-    ensures { DeleteEnds table.now.last_card flag.card parent pass.old pass.new result }
+    ensures { DeleteEnds table.now.plan.last_card flag.card parent pass.old pass.new result }
 {
     let DeleteFlag { card, grandparent } = flag;
     let Some(found) = set_mark(table, pass, card, parent, was, gate) else {

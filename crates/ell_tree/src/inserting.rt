@@ -30,9 +30,9 @@ pub(crate) fn try_insert<A: Allocator + Copy, G: StepGate>(
 ) -> Tried
     requires own { pass.old.table ≡ table.now.id }
     requires root { AtRoot (Insert key value) pass.old.view }
-    ensures steps { pass.new.steps + 1 ≤ pass.old.steps + try_steps table.now.last_card }
-    ensures made { pass.new.view.made + 1 ≤ pass.old.view.made + try_steps table.now.last_card }
-    ensures ends { TryEnds table.now.last_card (Insert key value) pass.old pass.new result }
+    ensures steps { pass.new.steps + 1 ≤ pass.old.steps + try_steps table.now.plan.last_card }
+    ensures made { pass.new.view.made + 1 ≤ pass.old.view.made + try_steps table.now.plan.last_card }
+    ensures ends { TryEnds table.now (Insert key value) pass.old pass.new result }
     ensures taken { TryTakes pass.old pass.new result }
     ensures least { pass.old.view.next_at_least ≤ pass.new.view.next_at_least }
     ensures hindered { pass.new.view.hindered ≡ pass.old.view.hindered }
@@ -41,7 +41,7 @@ pub(crate) fn try_insert<A: Allocator + Copy, G: StepGate>(
     let place = search(table, pass, op, gate);
     if place.key == key {
         answer(table, pass, Reply::No, gate);
-        return Tried::Answered(false);
+        return Tried::Answered(None);
     }
     let Passed {
         node: parent,
@@ -61,7 +61,7 @@ pub(crate) fn try_insert<A: Allocator + Copy, G: StepGate>(
             let card_key = key.max(place.key);
             finish_insert(table, pass, card, parent, place.leaf, card_key, gate);
             answer(table, pass, Reply::Yes, gate);
-            Tried::Answered(true)
+            Tried::Answered(Some(value))
         }
         Err(found) => {
             help(table, pass, parent, found, gate);
@@ -83,10 +83,10 @@ fn flag_insert<A: Allocator + Copy, G: StepGate>(
     requires own { pass.old.table ≡ table.now.id }
     requires limit { card ≤ greatest_card }
     requires card { HasCard (Insert key value) place (insert_filling card key value place.parent.node place.leaf place.key place.value) pass.old.view card }
-    requires node { IsInnerMet table.now.last_card pass.old.view place.parent.node }
+    requires node { IsInnerMet table.now.plan.last_card pass.old.view place.parent.node }
     ensures goes { Goes pass.old pass.new 11 }
     ensures taken { TakesNoCard pass.old pass.new }
-    ensures flags { Flags table.now.last_card IFlagged card place.parent.node pass.old pass.new result }
+    ensures flags { Flags table.now.plan.last_card IFlagged card place.parent.node pass.old pass.new result }
 {
     fill_insert(table, pass, card, key, value, place, gate);
     gate.before(pass.label(), Kind::IFlag);

@@ -13,7 +13,7 @@ mod steps;
 mod tree;
 mod trying;
 
-pub use ell_cards::{CardFault, Pass};
+pub use ell_cards::{CardFault, Pass, SplitFault};
 pub use ell_core::table_size;
 pub use ell_ops::{KEY_MAX, NoMemory, distinct_keys};
 pub use ell_word::{CARDS_MAX, Kind, NoGate, START_MAX, StepGate};

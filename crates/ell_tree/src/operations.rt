@@ -1,5 +1,5 @@
 //! The operations: find, insert and delete.
-ghost use Rattle.std.specs.Prelude.{◌≡◌, ◌≢◌, ◌<◌, ◌≤◌, ◌+◌, ◌*◌, true, Err};
+ghost use Rattle.std.specs.Prelude.{◌≡◌, ◌≢◌, ◌<◌, ◌≤◌, ◌+◌, ◌*◌, true, Err, IfOk};
 ghost use Rattle.ell_ops.specs.declared.op.Op.{Op};
 ghost use Rattle.ell_ops.specs.declared.op.Op.TheVariants.{Find};
 ghost use Rattle.ell_ops.specs.Meaning.{key_of, found};
@@ -8,12 +8,12 @@ ghost use Rattle.ell_cards.specs.Guards.{MayStop};
 ghost use Rattle.ell_cards.specs.Models.{Does};
 ghost use Rattle.ell_tree.specs.CardsTaken.{TakesNoCard, TryTakes};
 ghost use Rattle.ell_tree.specs.Counts.{Took};
-ghost use Rattle.ell_tree.specs.Ends.{Answers, Ends, find_steps, replied, try_steps};
+ghost use Rattle.ell_tree.specs.Ends.{Answers, Ends, Moves, find_steps, replied, try_steps, whether};
 ghost use Rattle.ell_tree.specs.Hindrances.{way_of};
 ghost use Rattle.ell_tree.specs.declared.operations.Held.TheVariants.{Busy};
 ghost use Rattle.ell_tree.specs.Promises.{IsOthersDoing, IsQuiet, IsWithin, MayDo, SpendsCards};
 ghost use Rattle.ell_tree.specs.Searches.{AtRoot};
-ghost use Rattle.ell_tree.specs.Tries.{Begins, IsChange, TryEnds};
+ghost use Rattle.ell_tree.specs.Tries.{Begins, IsChange, TryEnds, TryMoves};
 
 use crate::deleting::try_delete;
 use crate::inserting::try_insert;
@@ -45,9 +45,9 @@ pub(crate) fn find<A: Allocator + Copy, G: StepGate>(
     gate: &G,
 ) -> Option<u64>
     requires may { MayDo table.now key pass.old }
-    ensures answers { Answers (Find key) (found result) pass.old pass.new }
+    ensures answers { Answers table.now (Find key) (found result) pass.old pass.new }
     ensures quiet { IsQuiet table.now pass.old pass.new }
-    ensures steps { Took pass.old pass.new (find_steps table.now.last_card) }
+    ensures steps { Took pass.old pass.new (find_steps table.now.plan.last_card) }
     ensures cards { TakesNoCard pass.old pass.new }
 {
     let label = pass.label();
@@ -61,7 +61,7 @@ pub(crate) fn find<A: Allocator + Copy, G: StepGate>(
     there
 }
 
-/// Makes an insert or a delete in at most so many tries, and tells the gate of its start and its end: whether it changes the map.
+/// Makes an insert or a delete in at most so many tries: whether it changes the map.
 pub(crate) fn make_change<A: Allocator + Copy, G: StepGate>(
     table: &CardTable<A>,
     pass: &mut Pass<A>,
@@ -72,11 +72,34 @@ pub(crate) fn make_change<A: Allocator + Copy, G: StepGate>(
     requires may { MayDo table.now (key_of op) pass.old }
     requires change { IsChange op }
     requires tries { 1 ≤ tries }
-    ensures ends { Ends table.now.last_card tries op pass.old pass.new (replied result) }
+    ensures ends { Ends table.now tries op pass.old pass.new (replied result) }
     ensures others { result ≡ Err Busy → IsOthersDoing table.now tries pass.old pass.new }
     ensures steps { IsWithin table.now tries pass.old pass.new }
-    ensures cards { SpendsCards tries pass.old pass.new result }
-    ensures enough { 2 * table.now.last_card < tries → result ≢ Err Busy }
+    ensures cards { SpendsCards (key_of op) tries pass.old pass.new result }
+    ensures enough { 2 * table.now.plan.last_card < tries → result ≢ Err Busy }
+{
+    let moved = change(table, pass, op, tries, gate)?;
+    Ok(moved.is_some())
+}
+
+/// Makes an insert or a delete in at most so many tries, and tells the gate of its start and its end: the value that it adds or takes away, if
+/// it changes the map.
+pub(crate) fn change<A: Allocator + Copy, G: StepGate>(
+    table: &CardTable<A>,
+    pass: &mut Pass<A>,
+    op: Op,
+    tries: u32,
+    gate: &G,
+) -> Result<Option<u64>, Held>
+    requires may { MayDo table.now (key_of op) pass.old }
+    requires change { IsChange op }
+    requires tries { 1 ≤ tries }
+    ensures ends { Ends table.now tries op pass.old pass.new (replied (whether result)) }
+    ensures moves { IfOk result (Moves table.now op pass.old pass.new) }
+    ensures others { result ≡ Err Busy → IsOthersDoing table.now tries pass.old pass.new }
+    ensures steps { IsWithin table.now tries pass.old pass.new }
+    ensures cards { SpendsCards (key_of op) tries pass.old pass.new (whether result) }
+    ensures enough { 2 * table.now.plan.last_card < tries → result ≢ Err Busy }
 {
     let label = pass.label();
     gate.before(label, Kind::Begin);
@@ -85,28 +108,30 @@ pub(crate) fn make_change<A: Allocator + Copy, G: StepGate>(
     ended
 }
 
-// Takes an insert or a delete in hand, and tries it until a try is answered or finds no card, at most so many times.
+// Takes an insert or a delete in hand, and tries it until a try is answered or finds no card, at most so many times: the value that it adds
+// or takes away, if it changes the map.
 fn try_often<A: Allocator + Copy, G: StepGate>(
     table: &CardTable<A>,
     pass: &mut Pass<A>,
     op: Op,
     tries: u32,
     gate: &G,
-) -> Result<bool, Held>
+) -> Result<Option<u64>, Held>
     requires may { MayDo table.now (key_of op) pass.old }
     requires change { IsChange op }
     requires tries { 1 ≤ tries }
-    ensures ends { Ends table.now.last_card tries op pass.old pass.new (replied result) }
+    ensures ends { Ends table.now tries op pass.old pass.new (replied (whether result)) }
+    ensures moves { IfOk result (Moves table.now op pass.old pass.new) }
     ensures others { result ≡ Err Busy → IsOthersDoing table.now tries pass.old pass.new }
     ensures steps { IsWithin table.now tries pass.old pass.new }
-    ensures cards { SpendsCards tries pass.old pass.new result }
-    ensures enough { 2 * table.now.last_card < tries → result ≢ Err Busy }
+    ensures cards { SpendsCards (key_of op) tries pass.old pass.new (whether result) }
+    ensures enough { 2 * table.now.plan.last_card < tries → result ≢ Err Busy }
 {
     begin(table, pass, op, gate);
     for round in 0..tries {
         restart(table, pass, round == 0, gate);
         match try_once(table, pass, op, gate) {
-            Tried::Answered(said) => return Ok(said),
+            Tried::Answered(moved) => return Ok(moved),
             Tried::Spent => {
                 leave(table, pass, gate);
                 return Err(Held::Spent);
@@ -146,9 +171,10 @@ fn try_once<A: Allocator + Copy, G: StepGate>(
     requires own { pass.old.table ≡ table.now.id }
     requires change { IsChange op }
     requires root { AtRoot op pass.old.view }
-    ensures steps { pass.new.steps + 1 ≤ pass.old.steps + try_steps table.now.last_card }
-    ensures made { pass.new.view.made + 1 ≤ pass.old.view.made + try_steps table.now.last_card }
-    ensures ends { TryEnds table.now.last_card op pass.old pass.new result }
+    ensures steps { pass.new.steps + 1 ≤ pass.old.steps + try_steps table.now.plan.last_card }
+    ensures made { pass.new.view.made + 1 ≤ pass.old.view.made + try_steps table.now.plan.last_card }
+    ensures ends { TryEnds table.now op pass.old pass.new result }
+    ensures moves { TryMoves table.now op pass.old pass.new result }
     ensures taken { TryTakes pass.old pass.new result }
     ensures least { pass.old.view.next_at_least ≤ pass.new.view.next_at_least }
     ensures hindered { pass.new.view.hindered ≡ pass.old.view.hindered }

@@ -23,7 +23,7 @@ pub(crate) fn look<A: Allocator + Copy, G: StepGate>(
     ensures found { HasFound pass.new.view key result }
     ensures one { pass.new.view.looks ≡ pass.old.view.looks + 1 }
     ensures mine { Owns pass.old key → result ≡ present_in pass.old key }
-    ensures only { OnlyLooks pass.old pass.new (look_steps table.now.last_card) }
+    ensures only { OnlyLooks pass.old pass.new (look_steps table.now.plan.last_card) }
 {
     let label = pass.label();
     gate.before(label, Kind::Look);
@@ -50,7 +50,7 @@ pub(crate) fn cards_left<A: Allocator + Copy, G: StepGate>(
     gate: &G,
 ) -> u64
     requires own { pass.old.table ≡ table.now.id }
-    ensures { ReadsCardsLeft table.now.last_card pass.old pass.new result }
+    ensures { ReadsCardsLeft table.now.plan.last_card pass.old pass.new result }
 {
     gate.before(pass.label(), Kind::Look);
     table.last_card() + 1 - table.next(pass)

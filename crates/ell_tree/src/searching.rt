@@ -36,8 +36,8 @@ pub(crate) fn search<A: Allocator + Copy, G: StepGate>(
 ) -> Place
     requires own { pass.old.table ≡ table.now.id }
     requires root { AtRoot op pass.old.view }
-    ensures seeks { Seeks pass.old pass.new (3 * table.now.last_card + 5) }
-    ensures ends { EndsAt table.now.last_card pass.new.view op result }
+    ensures seeks { Seeks pass.old pass.new (3 * table.now.plan.last_card + 5) }
+    ensures ends { EndsAt table.now.plan.last_card pass.new.view op result }
 {
     let (mut parent, mut node) = descend(table, pass, op, 0, gate);
     let mut grandparent = None;
@@ -85,14 +85,14 @@ fn descend<A: Allocator + Copy, G: StepGate>(
     requires busy { Does pass.old.view op }
     requires stands { StandsAt pass.old.view node }
     requires unread { pass.old.view.worker.search.read ≡ None }
-    requires node { IsInnerMet table.now.last_card pass.old.view node }
+    requires node { IsInnerMet table.now.plan.last_card pass.old.view node }
     ensures seeks { Seeks pass.old pass.new 3 }
     ensures here { result.0.node ≡ node }
     ensures deeper { node < result.1 }
-    ensures there { InTable table.now.last_card result.1 }
+    ensures there { InTable table.now.plan.last_card result.1 }
     ensures search { pass.new.view.worker.search ≡ below result.1 result.0 pass.old.view.worker.search.parent }
     ensures met { IsTold pass.new.view (Met result.1) }
-    ensures passed { Passes table.now.last_card pass.new.view result.0 }
+    ensures passed { Passes table.now.plan.last_card pass.new.view result.0 }
     ensures unknown { EndWasUnknownAt pass.new.view result.0 }
 {
     let label = pass.label();

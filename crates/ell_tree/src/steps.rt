@@ -4,10 +4,11 @@ ghost use Rattle.ell_ops.specs.declared.op.Op.{Op};
 ghost use Rattle.ell_ops.specs.Meaning.{key_of};
 ghost use Rattle.ell_core.specs.declared.fact.Fact.TheVariants as fact;
 ghost use Rattle.ell_core.specs.declared.field.Field.TheVariants as field;
-ghost use Rattle.ell_core.specs.state.Machine.{ledger_of};
+ghost use Rattle.ell_core.specs.soundness.Sound.{MayChange};
+ghost use Rattle.ell_core.specs.state.Machine.{worker_of};
 ghost use Rattle.ell_cards.specs.declared.view.Told.TheVariants as told;
 ghost use Rattle.ell_cards.specs.Models.{Does, IsFree, IsTold, Knows};
-ghost use Rattle.ell_cards.specs.Changes.{is_mark_of, tries_hindered};
+ghost use Rattle.ell_cards.specs.Changes.{answered_so, is_mark_of, tries_hindered};
 ghost use Rattle.ell_cards.specs.Guards.{MayAnswer, MayAsk, MaySee, MayStop, NamesNode};
 ghost use Rattle.ell_cards.specs.Calls.{TellsDepth, TellsNode};
 ghost use Rattle.ell_tree.specs.CardsTaken.{TakesNoCard};
@@ -40,7 +41,7 @@ pub(crate) fn begin<A: Allocator + Copy, G: StepGate>(
 )
     requires own { pass.old.table ≡ table.now.id }
     requires free { IsFree pass.old.view }
-    requires owned { ledger_of pass.old.view.worker.ledger (key_of op) ≢ None }
+    requires may { MayChange (worker_of pass.old.view.worker) (key_of op) }
     ensures { Begins op [] pass.old.view.hindered pass.old pass.new }
 {
     gate.before(pass.label(), Kind::Note);
@@ -70,7 +71,7 @@ pub(crate) fn leave<A: Allocator + Copy, G: StepGate>(
     requires own { pass.old.table ≡ table.now.id }
     requires may { MayStop pass.old.view }
     ensures lays { (op : Op) → Does pass.old.view op → Lays op pass.old pass.new }
-    ensures least { pass.old.view.next_at_least ≤ table.now.last_card + 1 }
+    ensures least { pass.old.view.next_at_least ≤ table.now.plan.last_card + 1 }
 {
     gate.before(pass.label(), Kind::Note);
     table.leave(pass);
@@ -85,12 +86,14 @@ pub(crate) fn answer<A: Allocator + Copy, G: StepGate>(
 )
     requires own { pass.old.table ≡ table.now.id }
     requires may { MayAnswer pass.old.view said }
-    ensures answers { (op : Op) → Does pass.old.view op → Answers op said pass.old pass.new }
+    ensures answers { (op : Op) → Does pass.old.view op → Answers table.now op said pass.old pass.new }
     ensures hindrances { pass.new.view.hindrances ≡ pass.old.view.hindrances }
     ensures hindered { pass.new.view.hindered ≡ pass.old.view.hindered }
+    ensures last { pass.new.view.answered ≡ answered_so pass.old.view.worker.operation pass.old.view.worker.card said }
+    ensures told { pass.new.view.told ≡ pass.old.view.told }
     ensures facts { pass.new.view.worker.facts ≡ pass.old.view.worker.facts }
     ensures least { pass.new.view.next_at_least ≡ pass.old.view.next_at_least }
-    ensures room { pass.new.view.next_at_least ≤ table.now.last_card + 1 }
+    ensures room { pass.new.view.next_at_least ≤ table.now.plan.last_card + 1 }
     ensures taken { TakesNoCard pass.old pass.new }
     ensures took { Took pass.old pass.new 1 }
 {
@@ -129,7 +132,7 @@ pub(crate) fn look_info<A: Allocator + Copy, G: StepGate>(
     ensures walks { Walks pass.old pass.new 1 }
     ensures told { IsTold pass.new.view (told.Info card field result) }
     ensures met { NamesNode field → IsTold pass.new.view (told.Met result) }
-    ensures node { TellsNode table.now.last_card field result }
+    ensures node { TellsNode table.now.plan.last_card field result }
     ensures depth { TellsDepth pass.old.view card field result }
 {
     gate.before(pass.label(), Kind::Look);
@@ -208,12 +211,12 @@ pub(crate) fn set_mark<A: Allocator + Copy, G: StepGate>(
 ) -> Option<Update>
     requires own { pass.old.table ≡ table.now.id }
     requires flagged { Knows pass.old.view (fact.DFlagged card) }
-    requires parent { IsParent table.now.last_card pass.old.view card parent }
+    requires parent { IsParent table.now.plan.last_card pass.old.view card parent }
     requires read { IsTold pass.old.view (told.Info card field.Was was) }
     ensures works { Works pass.old pass.new 1 }
     ensures hindrances { pass.new.view.hindrances ≡ met_by_mark card result pass.old.view }
     ensures marked { result ≡ None → Knows pass.new.view (fact.Marked card) }
-    ensures lost { IfSome result (λ found. IsLost table.now.last_card card parent found pass.new.view) }
+    ensures lost { IfSome result (λ found. IsLost table.now.plan.last_card card parent found pass.new.view) }
 {
     gate.before(pass.label(), Kind::Mark);
     let marked = table.mark(pass, card, parent, was);

@@ -1,5 +1,5 @@
 //! The tree.
-ghost use Rattle.std.specs.Prelude.{◌≡◌, ◌≢◌, ◌<◌, ◌≤◌, ◌+◌, ◌*◌, [], true, length, Err, IfOk, IfErr, OnOk, vec_capacity};
+ghost use Rattle.std.specs.Prelude.{◌≡◌, ◌≢◌, ◌<◌, ◌≤◌, ◌+◌, ◌*◌, [], true, false, length, Err, IfOk, IfErr, OnOk, vec_capacity};
 ghost use Rattle.std.specs.List.{All};
 ghost use Rattle.std.specs.List.Sorted.{IsStrictlyIncreasing};
 ghost use Rattle.std.specs.Map.{keys_of};
@@ -8,12 +8,12 @@ ghost use Rattle.ell_ops.specs.KeySet.{set_of};
 ghost use Rattle.ell_ops.specs.Meaning.{greatest_key, found};
 ghost use Rattle.ell_word.specs.Node.{most_start};
 ghost use Rattle.ell_core.specs.state.Opening.{last_card};
-ghost use Rattle.ell_cards.specs.Models.{IsCardCount, Refuses};
+ghost use Rattle.ell_cards.specs.Models.{IsCardCount, Refuses, SplitRefuses, whole_share};
 ghost use Rattle.ell_tree.specs.CardsLeft.{AreLeftAtMost, ReadsCardsLeft};
 ghost use Rattle.ell_tree.specs.CardsTaken.{TakesNoCard};
 ghost use Rattle.ell_tree.specs.Closing.{ClosesTo};
 ghost use Rattle.ell_tree.specs.Counts.{Took};
-ghost use Rattle.ell_tree.specs.Ends.{Answers, Ends, find_steps, replied};
+ghost use Rattle.ell_tree.specs.Ends.{Answers, Ends, TakesValue, find_steps, replied, whether};
 ghost use Rattle.ell_tree.specs.Moves.{moves_known};
 ghost use Rattle.ell_tree.specs.declared.operations.Held.TheVariants.{Busy};
 ghost use Rattle.ell_tree.specs.Ledgers.{IsIdlePassOf, Owns, TreeModel, present_in};
@@ -21,9 +21,9 @@ ghost use Rattle.ell_tree.specs.Looks.{IsFoundIn, OnlyLooks, look_steps};
 ghost use Rattle.ell_tree.specs.PassParts.{IsFirst, IsLeftPart, IsRightPart, IsUnion};
 ghost use Rattle.ell_tree.specs.Promises.{IsOthersDoing, IsQuiet, IsWithin, MayDo, SpendsCards};
 
-use crate::operations::{Held, find, make_change};
+use crate::operations::{Held, change, find, make_change};
 use crate::reading::{cards_left, look};
-use ell_cards::{CardFault, CardTable, Pass};
+use ell_cards::{CardFault, CardTable, Pass, SplitFault};
 use ell_core::pairs_of_tree;
 use ell_ops::{NoMemory, Op};
 use ell_word::StepGate;
@@ -52,9 +52,8 @@ impl<A: Allocator + Copy> Tree<A> {
         requires ascending { IsStrictlyIncreasing keys.now }
         requires real { All (λ k. k ≤ greatest_key) keys.now }
         ensures cards { OnOk result (IsCardCount cards) }
-        ensures tree { IfOk result (λ made. (made.0.keys ≡ keys.now) × (made.0.last_card ≡ cards)) }
-        ensures start { IfOk result (λ made. made.0.start ≡ []) }
-        ensures pass { IfOk result (λ made. IsFirst [] made.0 made.1) }
+        ensures tree { IfOk result (λ made. made.0.plan ≡ record { keys = keys.now; start = []; last_card = cards; shared = false }) }
+        ensures pass { IfOk result (λ made. IsFirst made.0 made.1) }
         ensures refused { IfErr result (Refuses cards) }
     {
         Tree::reserve_from(alloc, &[], keys, cards)
@@ -78,9 +77,8 @@ impl<A: Allocator + Copy> Tree<A> {
         requires given { All (λ k. set_of keys.now k ≡ true) (keys_of start.now) }
         requires few { length start.now ≤ most_start }
         ensures cards { OnOk result (IsCardCount cards) }
-        ensures tree { IfOk result (λ made. (made.0.keys ≡ keys.now) × (made.0.last_card ≡ last_card start.now cards)) }
-        ensures start { IfOk result (λ made. made.0.start ≡ start.now) }
-        ensures pass { IfOk result (λ made. IsFirst start.now made.0 made.1) }
+        ensures tree { IfOk result (λ made. made.0.plan ≡ record { keys = keys.now; start = start.now; last_card = last_card start.now cards; shared = false }) }
+        ensures pass { IfOk result (λ made. IsFirst made.0 made.1) }
         ensures refused { IfErr result (Refuses cards) }
     {
         let (table, pass) = CardTable::reserve_from(alloc, start, keys, cards)?;
@@ -105,28 +103,54 @@ impl<A: Allocator + Copy> Tree<A> {
         requires given { All (λ k. set_of keys.items k ≡ true) (keys_of start.items) }
         requires few { length start.items ≤ most_start }
         ensures cards { OnOk result (IsCardCount cards) }
-        ensures tree { IfOk result (λ made. (made.0.keys ≡ keys.items) × (made.0.last_card ≡ last_card start.items cards)) }
-        ensures start { IfOk result (λ made. made.0.start ≡ start.items) }
-        ensures pass { IfOk result (λ made. IsFirst start.items made.0 made.1) }
+        ensures tree { IfOk result (λ made. made.0.plan ≡ record { keys = keys.items; start = start.items; last_card = last_card start.items cards; shared = false }) }
+        ensures pass { IfOk result (λ made. IsFirst made.0 made.1) }
         ensures refused { IfErr result (Refuses cards) }
     {
         let (table, pass) = CardTable::reserve_with_zeros(alloc, zeros, start, keys, cards)?;
         Ok((Tree { table, alloc }, pass))
     }
 
+    /// A tree of shared keys: every key up to `KEY_MAX` that is not among these keys, which may be none, is shared, and any pass may change
+    /// it. The tree has these start keys with their values from the first on, balanced, and one pass, which owns these keys: of them the start
+    /// keys are present, the others absent. Errors, and the number of the last card, are as of `reserve_from`. Conditions: the keys are
+    /// strictly ascending, and at most `KEY_MAX`; so are the start keys, which need not be among the keys; there are at most `START_MAX` of
+    /// these.
+    pub fn reserve_shared(
+        alloc: A,
+        start: &[(u64, u64)],
+        keys: &[u64],
+        cards: u64,
+    ) -> Result<(Tree<A>, Pass<A>), CardFault>
+        requires ascending { IsStrictlyIncreasing keys.now }
+        requires real { All (λ k. k ≤ greatest_key) keys.now }
+        requires start_ascending { IsStrictlyIncreasing (keys_of start.now) }
+        requires start_real { All (λ k. k ≤ greatest_key) (keys_of start.now) }
+        requires few { length start.now ≤ most_start }
+        ensures cards { OnOk result (IsCardCount cards) }
+        ensures tree { IfOk result (λ made. made.0.plan ≡ record { keys = keys.now; start = start.now; last_card = last_card start.now cards; shared = true }) }
+        ensures pass { IfOk result (λ made. IsFirst made.0 made.1) }
+        ensures refused { IfErr result (Refuses cards) }
+    {
+        let (table, pass) = CardTable::reserve_shared(alloc, start, keys, cards)?;
+        Ok((Tree { table, alloc }, pass))
+    }
+
     /// Parts a pass, so that two threads can work: the left part gets these keys of its own, strictly ascending, and the right part
-    /// the rest. Both keep its label. Where memory is refused, the pass comes back as it was.
+    /// the rest, and a part of the share. Both keep its label. Where some keys are shared, `TooManyPasses` comes if its share may not be parted;
+    /// `NoMemory` comes where memory is refused. Either way the pass comes back as it was.
     pub fn split(
         &self,
         pass: Pass<A>,
         left_keys: &[u64],
-    ) -> Result<(Pass<A>, Pass<A>), (Pass<A>, NoMemory)>
+    ) -> Result<(Pass<A>, Pass<A>), (Pass<A>, SplitFault)>
         requires may { IsIdlePassOf self.now pass }
         requires ascending { IsStrictlyIncreasing left_keys.now }
         requires owned { All (λ k. Owns pass k) left_keys.now }
         ensures left { IfOk result (λ parts. IsLeftPart left_keys.now pass parts.0) }
         ensures right { IfOk result (λ parts. IsRightPart left_keys.now pass parts.1) }
         ensures refused { IfErr result (λ refused. refused.0 ≡ pass) }
+        ensures why { IfErr result (λ refused. SplitRefuses pass.view refused.1) }
     {
         self.table.split(pass, left_keys)
     }
@@ -156,7 +180,7 @@ impl<A: Allocator + Copy> Tree<A> {
         ensures so { IsFoundIn self.now pass.new.view key result }
         ensures one { pass.new.view.looks ≡ pass.old.view.looks + 1 }
         ensures mine { Owns pass.old key → result ≡ present_in pass.old key }
-        ensures only { OnlyLooks pass.old pass.new (look_steps self.now.last_card) }
+        ensures only { OnlyLooks pass.old pass.new (look_steps self.now.plan.last_card) }
         ensures cards { TakesNoCard pass.old pass.new }
     {
         look(&self.table, pass, key, gate)
@@ -167,9 +191,9 @@ impl<A: Allocator + Copy> Tree<A> {
     /// left it is `Spent`. The gate is told the step, as `Look`.
     pub fn cards_left<G: StepGate>(&self, pass: &mut Pass<A>, gate: &G) -> u64
         requires own { pass.old.table ≡ self.now.id }
-        ensures reads { ReadsCardsLeft self.now.last_card pass.old pass.new result }
-        ensures most { AreLeftAtMost self.now.keys self.now.start self.now.last_card pass.new.view result }
-        ensures limit { result ≤ self.now.last_card }
+        ensures reads { ReadsCardsLeft self.now.plan.last_card pass.old pass.new result }
+        ensures most { AreLeftAtMost self.now pass.new.view result }
+        ensures limit { result ≤ self.now.plan.last_card }
         ensures table { pass.new.table ≡ pass.old.table }
         ensures worker { pass.new.view.worker ≡ pass.old.view.worker }
         ensures taken { TakesNoCard pass.old pass.new }
@@ -182,9 +206,9 @@ impl<A: Allocator + Copy> Tree<A> {
     /// for each of its start keys.
     pub fn find<G: StepGate>(&self, pass: &mut Pass<A>, key: u64, gate: &G) -> Option<u64>
         requires may { MayDo self.now key pass.old }
-        ensures answers { Answers (Find key) (found result) pass.old pass.new }
+        ensures answers { Answers self.now (Find key) (found result) pass.old pass.new }
         ensures quiet { IsQuiet self.now pass.old pass.new }
-        ensures steps { Took pass.old pass.new (find_steps self.now.last_card) }
+        ensures steps { Took pass.old pass.new (find_steps self.now.plan.last_card) }
         ensures cards { TakesNoCard pass.old pass.new }
     {
         find(&self.table, pass, key, gate)
@@ -214,11 +238,11 @@ impl<A: Allocator + Copy> Tree<A> {
     ) -> Result<bool, Held>
         requires may { MayDo self.now key pass.old }
         requires tries { 1 ≤ tries }
-        ensures ends { Ends self.now.last_card tries (Insert key value) pass.old pass.new (replied result) }
+        ensures ends { Ends self.now tries (Insert key value) pass.old pass.new (replied result) }
         ensures others { result ≡ Err Busy → IsOthersDoing self.now tries pass.old pass.new }
         ensures steps { IsWithin self.now tries pass.old pass.new }
-        ensures cards { SpendsCards tries pass.old pass.new result }
-        ensures enough { 2 * self.now.last_card < tries → result ≢ Err Busy }
+        ensures cards { SpendsCards key tries pass.old pass.new result }
+        ensures enough { 2 * self.now.plan.last_card < tries → result ≢ Err Busy }
     {
         make_change(&self.table, pass, Op::Insert(key, value), tries, gate)
     }
@@ -233,33 +257,56 @@ impl<A: Allocator + Copy> Tree<A> {
     ) -> Result<bool, Held>
         requires may { MayDo self.now key pass.old }
         requires tries { 1 ≤ tries }
-        ensures ends { Ends self.now.last_card tries (Delete key) pass.old pass.new (replied result) }
+        ensures ends { Ends self.now tries (Delete key) pass.old pass.new (replied result) }
         ensures others { result ≡ Err Busy → IsOthersDoing self.now tries pass.old pass.new }
         ensures steps { IsWithin self.now tries pass.old pass.new }
-        ensures cards { SpendsCards tries pass.old pass.new result }
-        ensures enough { 2 * self.now.last_card < tries → result ≢ Err Busy }
+        ensures cards { SpendsCards key tries pass.old pass.new result }
+        ensures enough { 2 * self.now.plan.last_card < tries → result ≢ Err Busy }
     {
         make_change(&self.table, pass, Op::Delete(key), tries, gate)
+    }
+
+    /// Takes a key of the pass away, and answers the value that it took, if the key was present. Nobody else took that value: at the point of
+    /// the call the key had just this value, and has none after it. Tries, steps, cards and errors are as of `delete`.
+    pub fn take<G: StepGate>(
+        &self,
+        pass: &mut Pass<A>,
+        key: u64,
+        tries: u32,
+        gate: &G,
+    ) -> Result<Option<u64>, Held>
+        requires may { MayDo self.now key pass.old }
+        requires tries { 1 ≤ tries }
+        ensures ends { Ends self.now tries (Delete key) pass.old pass.new (replied (whether result)) }
+        ensures took { IfOk result (TakesValue self.now key pass.old pass.new) }
+        ensures others { result ≡ Err Busy → IsOthersDoing self.now tries pass.old pass.new }
+        ensures steps { IsWithin self.now tries pass.old pass.new }
+        ensures cards { SpendsCards key tries pass.old pass.new (whether result) }
+        ensures enough { 2 * self.now.plan.last_card < tries → result ≢ Err Busy }
+    {
+        change(&self.table, pass, Op::Delete(key), tries, gate)
     }
 
     /// A law, the contract of a function that does nothing: a pass of the tree knows of two moves of each card at most, whatever it did.
     pub fn known_moves_are_few(&self, pass: &Pass<A>)
         requires own { pass.now.table ≡ self.now.id }
-        ensures { moves_known self.now.last_card pass.now.view ≤ 2 * self.now.last_card }
+        ensures { moves_known self.now.plan.last_card pass.now.view ≤ 2 * self.now.plan.last_card }
     {
         self.table.claims_stay_inside(pass);
     }
 
-    /// Ends the tree, by a pass that owns all its keys: those that are present with their values, the keys strictly ascending. Where
-    /// memory is refused, tree and pass come back as they were.
+    /// Ends the tree, by a pass that owns each key that may have an owner, and, if the other keys are shared, has the whole share: the keys
+    /// that are present with their values, the keys strictly ascending. Where memory is refused, tree and pass come back as they were.
     pub fn close(self, pass: Pass<A>) -> Result<Vec<(u64, u64), A>, (Tree<A>, Pass<A>, NoMemory)>
         requires may { IsIdlePassOf self pass }
-        requires all { All (λ k. Owns pass k) self.keys }
+        requires all { All (λ k. Owns pass k) self.plan.keys }
+        requires whole { self.plan.shared ≡ true → pass.view.share ≡ whole_share }
         ensures pairs { IfOk result (λ pairs. ClosesTo self pass pairs.items) }
         ensures refused { IfErr result (λ refused. (refused.0 ≡ self) × (refused.1 ≡ pass)) }
     {
         let places = self.table.last_card() as usize + 2;
-        let Ok((waiting, pairs)) = lists(self.alloc, places, pass.keys().len()) else {
+        let most = self.table.most_pairs(pass.keys().len());
+        let Ok((waiting, pairs)) = lists(self.alloc, places, most) else {
             return Err((self, pass, NoMemory));
         };
         let Tree { table, alloc: _ } = self;

@@ -20,8 +20,8 @@ use std::alloc::Allocator;
 /// How a try ended.
 #[derive(Clone, Copy)]
 pub(crate) enum Tried {
-    /// An answer: whether it changes the map.
-    Answered(bool),
+    /// An answer: the value that it adds or takes away, if it changes the map.
+    Answered(Option<u64>),
     /// No card is left.
     Spent,
     /// Something was in its way.
@@ -53,9 +53,9 @@ pub(crate) fn take_card<A: Allocator + Copy, G: StepGate>(
     requires calm { place.parent.update.state ≡ Clean }
     requires wants { Wants pass.old.view op place.leaf place.key }
     ensures goes { Goes pass.old pass.new 2 }
-    ensures claims { Claims table.now.last_card op place pass.old pass.new result }
+    ensures claims { Claims table.now.plan.last_card op place pass.old pass.new result }
     ensures taken { AskTakes pass.old pass.new result }
-    ensures limit { table.now.last_card ≤ greatest_card }
+    ensures limit { table.now.plan.last_card ≤ greatest_card }
 {
     let label = pass.label();
     gate.before(label, Kind::Look);

@@ -26,7 +26,7 @@ ready_first t p keys own idle same = rw same (record {
 })
 
 -- it stays so by an operation that is answered
-pub ready_answered : (t : TreeModel) (keys : List ℕ) (op : Op) (said : Reply) (p q : PassModel) → IsReady t p keys → Answers op said p q → IsReady t q keys
+pub ready_answered : (t : TreeModel) (keys : List ℕ) (op : Op) (said : Reply) (p q : PassModel) → IsReady t p keys → Answers t op said p q → IsReady t q keys
 ready_answered t keys op said p q h a = record {
   own = a.table ∙ h.own;
   idle = a.idle;
@@ -34,10 +34,10 @@ ready_answered t keys op said p q h a = record {
 }
 
 -- and by one that is laid down
-pub ready_ended : (t : TreeModel) (keys : List ℕ) (cards tries : ℕ) (op : Op) (outcome : Result Reply Held) (p q : PassModel)
-    → IsReady t p keys → Ends cards tries op p q outcome → IsReady t q keys
-ready_ended t keys cards tries op (Ok said) p q h e = ready_answered t keys op said p q h e.0
-ready_ended t keys cards tries op (Err why) p q h e = record {
+pub ready_ended : (t : TreeModel) (keys : List ℕ) (tries : ℕ) (op : Op) (outcome : Result Reply Held) (p q : PassModel)
+    → IsReady t p keys → Ends t tries op p q outcome → IsReady t q keys
+ready_ended t keys tries op (Ok said) p q h e = ready_answered t keys op said p q h e.0
+ready_ended t keys tries op (Err why) p q h e = record {
   own = e.0.table ∙ h.own;
   idle = e.0.idle;
   owned = rw e.0.ledger h.owned;

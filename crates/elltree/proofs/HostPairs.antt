@@ -1,20 +1,14 @@
-use Rattle.std.proofs.Common.{◌≡◌, ◌↔◌, ◌<◌, ◌≤◌, ◌+◌, ◌-◌, ℕ, zero, suc, List, [], ◌∷◌, All, length, get_or, refl, sym, subst, subst₂}
+use Rattle.std.proofs.Common.{◌↔◌, ◌<◌, ◌≤◌, ℕ, List, All, length, map, sym, subst}
 use Rattle.std.proofs.lemmas.List.{get_or-map, length-map}
+use Rattle.std.proofs.lemmas.Simd.{map-map}
 use Rattle.std.specs.List.Sorted.{IsStrictlyIncreasing}
 use Rattle.std.specs.Map.{keys_of}
 use Rattle.ell_ops.specs.Meaning.{greatest_key}
-use Rattle.ell_handle.proofs.Ascending.{falls, increasing}
 use Rattle.elltree.specs.declared.Pair.{Pair}
 use Rattle.elltree.specs.Maps.{as_pairs}
 
-abbrev pub none : Pair
+abbrev none : Pair
 none = record { key = 0; value = 0 }
-
--- a key of a host's pairs, as the tree has them
-key_at : (pairs : List Pair) (k : ℕ) → (get_or (as_pairs pairs) k (0, 0)).0 ≡ (get_or pairs k none).key
-key_at [] k = refl
-key_at (p ∷ ps) zero = refl
-key_at (p ∷ ps) (suc k) = key_at ps k
 
 -- the keys of a host's pairs are real if those of the tree's are
 pub real_pairs : (pairs : List Pair) → All (λ (p : Pair). p.key ≤ greatest_key) pairs ↔ All (λ (e : ℕ × ℕ). e.0 ≤ greatest_key) (as_pairs pairs)
@@ -27,16 +21,8 @@ real_pairs pairs = (
       (real i (0, 0) (subst (λ n. i < n) (sym (length-map pairs (λ (p : Pair). (p.key, p.value)))) low)),
 )
 
--- they ascend if each is less than the next
-pub host_rises : (pairs : List Pair) → ((k : ℕ) → k + 1 < length pairs → (get_or pairs k none).key < (get_or pairs (k + 1) none).key)
-    → IsStrictlyIncreasing (keys_of (as_pairs pairs))
-host_rises pairs rises = (increasing (as_pairs pairs)).0 (λ k low.
-    subst₂ (λ a b. a < b) (sym (key_at pairs k)) (sym (key_at pairs (k + 1)))
-    (rises k (subst (λ n. k + 1 < n) (length-map pairs (λ (p : Pair). (p.key, p.value))) low)))
-
--- and do not if one is not greater than the one before it
-pub host_falls : (pairs : List Pair) (i : ℕ) → 1 ≤ i → i < length pairs → (get_or pairs i none).key ≤ (get_or pairs (i - 1) none).key
-    → ¬ IsStrictlyIncreasing (keys_of (as_pairs pairs))
-host_falls pairs i more low fall =
-    falls (as_pairs pairs) i more (subst (λ n. i < n) (sym (length-map pairs (λ (p : Pair). (p.key, p.value)))) low)
-    (subst₂ (λ a b. a ≤ b) (sym (key_at pairs i)) (sym (key_at pairs (i - 1))) fall)
+-- and they ascend if those do
+pub host_ascends : (pairs : List Pair) → IsStrictlyIncreasing (map (λ (p : Pair). p.key) pairs) ↔ IsStrictlyIncreasing (keys_of (as_pairs pairs))
+host_ascends pairs =
+    let same = map-map (λ (e : ℕ × ℕ). e.0) (λ (p : Pair). (p.key, p.value)) pairs in
+    (λ rises. subst IsStrictlyIncreasing (sym same) rises, λ rises. subst IsStrictlyIncreasing same rises)

@@ -1,6 +1,6 @@
 use Rattle.std.specs.Prelude.{◌≡◌, ◌⊎◌, ℤ, pos, negsuc, List, [], ◌∷◌}
 use Rattle.ell_handle.specs.declared.refusal.Refusal.{Refusal}
-use Rattle.ell_handle.specs.declared.refusal.Refusal.TheVariants.{Foreign, NoTries, Busy, Spent, BadCards, BadKey, BadStart, OtherTree, NoMemory}
+use Rattle.ell_handle.specs.declared.refusal.Refusal.TheVariants.{Foreign, NoTries, Busy, Spent, BadCards, BadKey, BadStart, OtherTree, TooManyHandles, SharedKeys, NoMemory}
 
 -- what a call answers: yes and no are answers, and all others refusals
 abbrev pub said_no : ℤ
@@ -57,7 +57,7 @@ said_open = negsuc 10
 abbrev pub said_other_tree : ℤ
 said_other_tree = negsuc 11
 
--- a pointer is null that must not be: this and the codes below it come from the header and the bindings, and not from a call
+-- a pointer is null that must not be: this and the two codes below it come from the header and the bindings, and not from a call
 abbrev pub said_null : ℤ
 said_null = negsuc 12
 
@@ -69,6 +69,14 @@ said_same = negsuc 13
 abbrev pub said_in_call : ℤ
 said_in_call = negsuc 14
 
+-- a tree has as many handles as it may
+abbrev pub said_too_many : ℤ
+said_too_many = negsuc 15
+
+-- a call is not for a tree of shared keys
+abbrev pub said_shared_keys : ℤ
+said_shared_keys = negsuc 16
+
 -- the code of a refusal
 abbrev pub code_of : Refusal → ℤ
 code_of Foreign = said_foreign
@@ -79,6 +87,8 @@ code_of BadCards = said_bad_cards
 code_of BadKey = said_bad_key
 code_of BadStart = said_bad_start
 code_of OtherTree = said_other_tree
+code_of TooManyHandles = said_too_many
+code_of SharedKeys = said_shared_keys
 code_of NoMemory = said_no_memory
 
 -- an answer is one of these

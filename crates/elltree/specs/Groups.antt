@@ -1,7 +1,10 @@
-use Rattle.std.specs.Prelude.{◌≡◌, ◌≢◌, Option, Some, None, List, [], ◌∷◌}
-use Rattle.std.specs.List.{AllZip, filter_map}
-use Rattle.ell_handle.specs.Groups.{HasSame}
+use Rattle.std.specs.Prelude.{◌≡◌, ◌≢◌, ℕ, ℤ, Option, Some, None, List, [], ◌∷◌}
+use Rattle.std.specs.List.{All, AllZip, filter_map}
+use Rattle.ell_cards.specs.Models.{IsCardCount}
+use Rattle.ell_handle.specs.Groups.{AreOfOne, HasOwnedKeys, HasSame, present_in_all}
+use Rattle.ell_handle.specs.Renewal.{IsTooMuch}
 use Rattle.ell_handle.specs.declared.handle.Handle.{Handle}
+use Rattle.elltree.specs.Codes.{said_bad_cards, said_bad_start, said_no_memory, said_other_tree, said_shared_keys, said_yes}
 use Rattle.elltree.specs.Maps.{AreOfOneTree, handle_of}
 use Rattle.elltree.specs.Owned.{Inside}
 use Rattle.elltree.specs.declared.slot.Slot.{Slot}
@@ -59,3 +62,17 @@ abbrev pub AreFilled : List Slot → List Handle → List Slot → Type 0
 AreFilled olds [] news = AllZip HasSameHandle olds news
 AreFilled (old ∷ olds) (h ∷ hs) (new ∷ news) = (handle_of new.raw.inside ≡ Some h) × AreFilled olds hs news
 AreFilled _ (h ∷ hs) _ = ⊥
+
+-- what the code of a renewal of handles tells of them: they are of one tree, whose keys are not shared; or are not; or the keys of one are
+-- shared; or too much is present in all; or the cards are too few or too many
+pub record SaysOfAll (cards : ℕ) (said : ℤ) (handles : List Handle) : Type 0 where
+  pub one : said ≡ said_yes → AreOfOne handles
+  pub owned : said ≡ said_yes → All HasOwnedKeys handles
+  pub shared : said ≡ said_shared_keys → ¬ All HasOwnedKeys handles
+  pub other_tree : said ≡ said_other_tree → ¬ AreOfOne handles
+  pub bad_start : said ≡ said_bad_start → IsTooMuch (present_in_all handles)
+  pub bad_cards : said ≡ said_bad_cards → (¬ IsTooMuch (present_in_all handles)) × (¬ IsCardCount cards)
+
+-- the codes of such a renewal
+abbrev pub codes_of_all : List ℤ
+codes_of_all = said_yes ∷ said_other_tree ∷ said_shared_keys ∷ said_bad_start ∷ said_bad_cards ∷ said_no_memory ∷ []

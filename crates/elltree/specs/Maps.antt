@@ -1,12 +1,12 @@
-use Rattle.std.specs.Prelude.{◌≡◌, ◌≢◌, ◌<◌, ◌≤◌, ℕ, Option, Some, None, List, [], length, map, take, drop}
+use Rattle.std.specs.Prelude.{◌≡◌, ◌<◌, ◌≤◌, ℕ, Option, Some, None, List, length, map, take, drop}
 use Rattle.std.specs.Arc.{arc_value}
 use Rattle.ell_ops.specs.Contents.{Contents, ListsPairs, nothing}
 use Rattle.ell_cards.specs.Changes.{keys_of}
 use Rattle.ell_tree.specs.Ledgers.{Owns, present_in}
 use Rattle.ell_tree.specs.Looks.{IsFoundIn}
 use Rattle.ell_tree.specs.PassParts.{IsUnion}
+use Rattle.ell_handle.specs.Parts.{MayJoin}
 use Rattle.ell_handle.specs.Reads.{tree_of}
-use Rattle.ell_handle.specs.Renewal.{IsRenewed}
 use Rattle.ell_handle.specs.declared.handle.Handle.{Handle}
 use Rattle.elltree.specs.Owned.{Inside}
 use Rattle.elltree.specs.declared.Pair.{Pair}
@@ -30,11 +30,6 @@ map_of None = nothing
 abbrev pub OwnsIn : Option Handle → ℕ → Type 0
 OwnsIn (Some handle) key = Owns handle.pass key
 OwnsIn None key = ⊥
-
--- the keys that a handle owns
-abbrev pub keys_in : Option Handle → List ℕ
-keys_in (Some handle) = keys_of handle.pass.view.worker.ledger
-keys_in None = []
 
 -- how many keys a handle owns
 abbrev pub owned_in : Option Handle → ℕ
@@ -68,9 +63,9 @@ NumbersTell (Some left) (Some right) = (arc_value right.shared).number ≡ (arc_
 NumbersTell (Some left) None = Unit {0}
 NumbersTell None right = Unit {0}
 
--- two handles have different numbers
+-- two handles have different numbers, or the keys of one's tree alone are shared
 abbrev pub NumbersDiffer : Option Handle → Option Handle → Type 0
-NumbersDiffer (Some left) (Some right) = (arc_value right.shared).number ≢ (arc_value left.shared).number
+NumbersDiffer (Some left) (Some right) = ¬ MayJoin left right
 NumbersDiffer (Some left) None = ⊥
 NumbersDiffer None right = ⊥
 
@@ -93,16 +88,6 @@ pub record WritesKeys (keys : List ℕ) (count : ℕ) (old new : List ℕ) : Typ
 -- a map has more pairs than this
 abbrev pub NeedsMore : Contents → ℕ → Type 0
 NeedsMore there room = (pairs : List (ℕ × ℕ)) → ListsPairs there pairs → room < length pairs
-
--- the handle of a slot is the first of a new tree, with so many cards and this map
-abbrev pub IsRenewedIn : Contents → ℕ → Option Handle → Type 0
-IsRenewedIn there cards (Some handle) = IsRenewed there cards (arc_value handle.shared).tree handle.pass
-IsRenewedIn there cards None = ⊥
-
--- the number by which a handle's tree is told from others
-abbrev pub number_in : Option Handle → Option ℕ
-number_in (Some handle) = Some (arc_value handle.shared).number
-number_in None = None
 
 -- two handles are of one tree
 abbrev pub AreOfOneTree : Option Handle → Option Handle → Type 0

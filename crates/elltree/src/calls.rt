@@ -1,5 +1,5 @@
 //! Finds, looks, inserts and deletes.
-ghost use Rattle.std.specs.Prelude.{◌≡◌, ◌≢◌, ◌↔◌, [], ◌∷◌, None, Some, Ok, Err, IfErr, OnOk};
+ghost use Rattle.std.specs.Prelude.{◌≡◌, ◌≢◌, ◌↔◌, [], ◌∷◌, None, Some, Ok, Err, IfErr, OnOk, true, false};
 ghost use Rattle.ell_ops.specs.declared.op.Op.TheVariants.{Insert, Delete};
 ghost use Rattle.ell_handle.specs.declared.refusal.Refusal.TheVariants.{BadKey, Foreign};
 ghost use Rattle.elltree.specs.Codes.{IsOneOf, code_of, said_bad_key, said_closed, said_foreign, said_no, said_yes};
@@ -25,23 +25,10 @@ pub extern "C" fn elltree_slot_find(
         (handle_of slot.new.raw.inside) }
     ensures kept { result ≢ said_yes → value.new ≡ value.old }
 {
-    let Some(mut place) = slot.take(alloc) else {
+    let Some(answer) = slot.with_handle(alloc, |handle| handle.find(key)) else {
         return CLOSED;
     };
-    let code = match &mut place.handle {
-        Some(handle) => find(handle, key, value),
-        None => CLOSED,
-    };
-    slot.put(place);
-    code
-}
-
-// A find as a code.
-fn find(handle: &mut Handle, key: u64, value: &mut u64) -> i32
-    ensures tells { TellsFind key result value.new handle.old handle.new }
-    ensures kept { result ≢ said_yes → value.new ≡ value.old }
-{
-    told(handle.find(key), value)
+    told(answer, value)
 }
 
 /// Whether any key of the slot's tree is present, whoever owns it, and its value: as it was in one state of the tree during the call.
@@ -57,23 +44,10 @@ pub extern "C" fn elltree_slot_look(
         (handle_of slot.new.raw.inside) }
     ensures kept { result ≢ said_yes → value.new ≡ value.old }
 {
-    let Some(mut place) = slot.take(alloc) else {
+    let Some(answer) = slot.with_handle(alloc, |handle| handle.look(key)) else {
         return CLOSED;
     };
-    let code = match &mut place.handle {
-        Some(handle) => look(handle, key, value),
-        None => CLOSED,
-    };
-    slot.put(place);
-    code
-}
-
-// A look as a code.
-fn look(handle: &mut Handle, key: u64, value: &mut u64) -> i32
-    ensures tells { TellsLook key result value.new handle.old handle.new }
-    ensures kept { result ≢ said_yes → value.new ≡ value.old }
-{
-    told(handle.look(key), value)
+    told(answer, value)
 }
 
 // What a find or a look has answered, as a code: a value that was found is written.
@@ -109,15 +83,8 @@ pub extern "C" fn elltree_slot_insert(
     ensures tells { OfHandlesIfAny (TellsChange (Insert key value) tries result) (handle_of slot.old.raw.inside)
         (handle_of slot.new.raw.inside) }
 {
-    let Some(mut place) = slot.take(alloc) else {
-        return CLOSED;
-    };
-    let code = match &mut place.handle {
-        Some(handle) => insert(handle, key, value, tries),
-        None => CLOSED,
-    };
-    slot.put(place);
-    code
+    slot.with_handle(alloc, |handle| insert(handle, key, value, tries))
+        .unwrap_or(CLOSED)
 }
 
 /// Takes a key of the slot's away, with its value: whether it was present.
@@ -127,33 +94,32 @@ pub extern "C" fn elltree_slot_delete(alloc: Global, slot: &mut Slot, key: u64, 
     ensures tells { OfHandlesIfAny (TellsChange (Delete key) tries result) (handle_of slot.old.raw.inside)
         (handle_of slot.new.raw.inside) }
 {
-    let Some(mut place) = slot.take(alloc) else {
-        return CLOSED;
-    };
-    let code = match &mut place.handle {
-        Some(handle) => delete(handle, key, tries),
-        None => CLOSED,
-    };
-    slot.put(place);
-    code
+    slot.with_handle(alloc, |handle| delete(handle, key, tries))
+        .unwrap_or(CLOSED)
 }
 
 // An insert as a code.
 fn insert(handle: &mut Handle, key: u64, value: u64, tries: u32) -> i32
     ensures { TellsChange (Insert key value) tries result handle.old handle.new }
 {
-    match handle.insert(key, value, tries) {
-        Ok(true) => YES,
-        Ok(false) => NO,
-        Err(refusal) => code_of_refusal(refusal),
-    }
+    changed(handle.insert(key, value, tries))
 }
 
 // A delete as a code.
 fn delete(handle: &mut Handle, key: u64, tries: u32) -> i32
     ensures { TellsChange (Delete key) tries result handle.old handle.new }
 {
-    match handle.delete(key, tries) {
+    changed(handle.delete(key, tries))
+}
+
+// What an insert or a delete has answered, as a code.
+fn changed(answer: Result<bool, Refusal>) -> i32
+    ensures yes { result ≡ said_yes → answer ≡ Ok true }
+    ensures no { result ≡ said_no → answer ≡ Ok false }
+    ensures answered { OnOk answer (IsOneOf (said_yes ∷ said_no ∷ []) result) }
+    ensures refused { IfErr answer (λ why. result ≡ code_of why) }
+{
+    match answer {
         Ok(true) => YES,
         Ok(false) => NO,
         Err(refusal) => code_of_refusal(refusal),

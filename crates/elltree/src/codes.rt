@@ -1,7 +1,7 @@
 //! What the exported functions answer.
 ghost use Rattle.std.specs.Prelude.{◌≡◌, ◌≢◌};
-ghost use Rattle.ell_handle.specs.declared.refusal.Refusal.TheVariants.{Foreign, NoTries, Busy, Spent, BadCards, BadKey, BadStart, NoMemory, OtherTree};
-ghost use Rattle.elltree.specs.Codes.{code_of, said_bad_cards, said_bad_key, said_bad_start, said_busy, said_closed, said_foreign, said_no, said_no_memory, said_no_room, said_no_tries, said_open, said_other_tree, said_spent, said_yes};
+ghost use Rattle.ell_handle.specs.declared.refusal.Refusal.TheVariants.{Foreign, NoTries, Busy, Spent, BadCards, BadKey, BadStart, NoMemory, OtherTree, SharedKeys, TooManyHandles};
+ghost use Rattle.elltree.specs.Codes.{code_of, said_bad_cards, said_bad_key, said_bad_start, said_busy, said_closed, said_foreign, said_no, said_no_memory, said_no_room, said_no_tries, said_open, said_other_tree, said_shared_keys, said_spent, said_too_many, said_yes};
 
 use ell_handle::Refusal;
 
@@ -33,12 +33,16 @@ pub const OPEN: i32 = -11;
 
 pub const OTHER_TREE: i32 = -12;
 
-// What header and bindings answer before a call: no exported function does.
+// What header and bindings answer before a call: no exported function gives one of these three.
 pub const NULL: i32 = -13;
 
 pub const SAME: i32 = -14;
 
 pub const IN_CALL: i32 = -15;
+
+pub const TOO_MANY_HANDLES: i32 = -16;
+
+pub const SHARED_KEYS: i32 = -17;
 
 /// The code of a refusal.
 pub fn code_of_refusal(refusal: Refusal) -> i32
@@ -56,6 +60,8 @@ pub fn code_of_refusal(refusal: Refusal) -> i32
     ensures other_tree { result ≡ said_other_tree → refusal ≡ OtherTree }
     ensures bad_key { result ≡ said_bad_key → refusal ≡ BadKey }
     ensures bad_start { result ≡ said_bad_start → refusal ≡ BadStart }
+    ensures too_many { result ≡ said_too_many → refusal ≡ TooManyHandles }
+    ensures shared { result ≡ said_shared_keys → refusal ≡ SharedKeys }
     ensures no_memory { result ≡ said_no_memory → refusal ≡ NoMemory }
 {
     match refusal {
@@ -67,6 +73,8 @@ pub fn code_of_refusal(refusal: Refusal) -> i32
         Refusal::BadKey => BAD_KEY,
         Refusal::BadStart => BAD_START,
         Refusal::OtherTree => OTHER_TREE,
+        Refusal::TooManyHandles => TOO_MANY_HANDLES,
+        Refusal::SharedKeys => SHARED_KEYS,
         Refusal::NoMemory => NO_MEMORY,
     }
 }

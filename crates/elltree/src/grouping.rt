@@ -1,11 +1,9 @@
 //! How slots of one tree come to fresh cards together.
-ghost use Rattle.std.specs.Prelude.{◌≡◌, ◌≢◌, ◌<◌, ◌≤◌, ◌+◌, [], ◌∷◌, None, true, false, length, vec_capacity, IfSome, OnSome};
+ghost use Rattle.std.specs.Prelude.{◌≡◌, ◌≢◌, ◌<◌, ◌≤◌, [], ◌∷◌, None, true, false, length, vec_capacity, IfSome, OnSome};
 ghost use Rattle.std.specs.List.{All, AllZip};
-ghost use Rattle.ell_cards.specs.Models.{IsCardCount};
-ghost use Rattle.ell_handle.specs.Groups.{AreOfOne, AreRenewed, HasSame, StaysPut, present_in_all};
-ghost use Rattle.ell_handle.specs.Renewal.{IsTooMuch};
-ghost use Rattle.elltree.specs.Codes.{IsOneOf, said_bad_cards, said_bad_start, said_closed, said_no_memory, said_other_tree, said_yes};
-ghost use Rattle.elltree.specs.Groups.{AreEmptied, AreFilled, AreTaken, HasHandle, IsEmptied, KeepsMap, KeepsTree, handles_in};
+ghost use Rattle.ell_handle.specs.Groups.{AreRenewed, HasSame, StaysPut};
+ghost use Rattle.elltree.specs.Codes.{IsOneOf, said_closed, said_no_memory, said_yes};
+ghost use Rattle.elltree.specs.Groups.{AreEmptied, AreFilled, AreTaken, HasHandle, IsEmptied, KeepsMap, KeepsTree, SaysOfAll, codes_of_all, handles_in};
 ghost use Rattle.elltree.specs.Maps.{handle_of};
 
 use crate::codes::{CLOSED, NO_MEMORY, YES, code_of_refusal};
@@ -23,14 +21,12 @@ pub extern "C" fn elltree_slots_renew(
     number: u64,
 ) -> i32
     ensures kept { AllZip KeepsMap slots.old slots.new }
-    ensures renewed { result ≡ said_yes → 0 < length slots.old → AreRenewed (handles_in slots.old) cards number (handles_in slots.new) }
-    ensures one { result ≡ said_yes → AreOfOne (handles_in slots.old) }
-    ensures other_tree { result ≡ said_other_tree → ¬ AreOfOne (handles_in slots.old) }
-    ensures bad_start { result ≡ said_bad_start → IsTooMuch (present_in_all (handles_in slots.old)) }
-    ensures bad_cards { result ≡ said_bad_cards → (¬ IsTooMuch (present_in_all (handles_in slots.old))) × (¬ IsCardCount cards) }
+    ensures renewed { result ≡ said_yes → 0 < length slots.old →
+        AreRenewed (handles_in slots.old) cards number (handles_in slots.new) }
+    ensures says { SaysOfAll cards result (handles_in slots.old) }
     ensures closed { result ≡ said_closed → ¬ All HasHandle slots.old }
     ensures held { result ≢ said_closed → result ≢ said_no_memory → All HasHandle slots.old }
-    ensures codes { IsOneOf (said_yes ∷ said_closed ∷ said_other_tree ∷ said_bad_start ∷ said_bad_cards ∷ said_no_memory ∷ []) result }
+    ensures codes { IsOneOf (said_closed ∷ codes_of_all) result }
     ensures refused { result ≢ said_yes → AllZip KeepsTree slots.old slots.new }
     ensures some { result ≢ said_yes → 0 < length slots.old }
 {
@@ -82,12 +78,10 @@ fn take(alloc: Global, slot: &mut Slot) -> Option<Handle>
 // A renewal as a code.
 fn renew(alloc: Global, handles: &mut Vec<Handle>, cards: u64, number: u64) -> i32
     ensures kept { AllZip HasSame handles.old.items handles.new.items }
-    ensures renewed { result ≡ said_yes → 0 < length handles.old.items → AreRenewed handles.old.items cards number handles.new.items }
-    ensures one { result ≡ said_yes → AreOfOne handles.old.items }
-    ensures other_tree { result ≡ said_other_tree → ¬ AreOfOne handles.old.items }
-    ensures bad_start { result ≡ said_bad_start → IsTooMuch (present_in_all handles.old.items) }
-    ensures bad_cards { result ≡ said_bad_cards → (¬ IsTooMuch (present_in_all handles.old.items)) × (¬ IsCardCount cards) }
-    ensures codes { IsOneOf (said_yes ∷ said_other_tree ∷ said_bad_start ∷ said_bad_cards ∷ said_no_memory ∷ []) result }
+    ensures renewed { result ≡ said_yes → 0 < length handles.old.items →
+        AreRenewed handles.old.items cards number handles.new.items }
+    ensures says { SaysOfAll cards result handles.old.items }
+    ensures codes { IsOneOf codes_of_all result }
     ensures refused { result ≢ said_yes → AllZip StaysPut handles.old.items handles.new.items }
 {
     match renew_all(handles, alloc, cards, number) {

@@ -2,7 +2,7 @@
 //!
 //! A slot is a host's own memory, all zeros to begin with, and holds a handle or nothing. Each function tests all that the tree's calls ask
 //! and answers with one of the codes of `codes`; a call that is refused leaves the slot and the map as they were. A slot is in one call at a
-//! time, and may go from one thread to another. Opening, splitting, joining and renewing ask for memory, and no other call does.
+//! time, and may go from one thread to another. Opening, splitting, joining, renewing and making another ask for memory, and no other call does.
 #![tactic(auto)]
 
 pub mod calls;
@@ -12,6 +12,7 @@ pub mod opening;
 mod parts;
 pub mod reading;
 pub mod renewing;
+pub mod sharing;
 mod slot;
 mod starting;
 #[cfg(test)]

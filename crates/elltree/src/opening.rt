@@ -1,17 +1,15 @@
 //! How slots open, part, come together and close.
-ghost use Rattle.std.specs.Prelude.{◌≡◌, ◌≢◌, ◌⊎◌, ◌↔◌, ℕ, if◌then◌else◌, true, false, None, Err, IfOk, IfErr, OnOk, OnErr, [], ◌∷◌};
+ghost use Rattle.std.specs.Prelude.{◌≡◌, ◌≢◌, ◌↔◌, true, false, None, Err, IfOk, IfErr, OnOk, OnErr, [], ◌∷◌};
 ghost use Rattle.std.specs.List.{All};
-ghost use Rattle.ell_ops.specs.Contents.{contents_of};
-ghost use Rattle.ell_ops.specs.KeySet.{set_of};
-ghost use Rattle.ell_handle.specs.Opens.{IsOpened, MayOpen, Refuses};
-ghost use Rattle.ell_handle.specs.declared.refusal.Refusal.TheVariants.{BadCards, BadKey, BadStart};
-ghost use Rattle.elltree.specs.Codes.{IsOneOf, said_bad_cards, said_bad_key, said_bad_start, said_closed, said_foreign, said_no_memory, said_open, said_other_tree, said_yes};
-ghost use Rattle.elltree.specs.Groups.{KeepsTree};
-ghost use Rattle.elltree.specs.Maps.{AreOfOneTree, IsJoined, NumbersDiffer, NumbersTell, OwnsIn, as_pairs, handle_of, map_in, map_of};
+ghost use Rattle.ell_handle.specs.Opens.{Refuses};
+ghost use Rattle.ell_handle.specs.Parts.{IsLeast};
+ghost use Rattle.elltree.specs.Codes.{IsOneOf, said_closed, said_foreign, said_no_memory, said_open, said_too_many, said_yes};
+ghost use Rattle.elltree.specs.Maps.{NumbersTell, OwnsIn, as_pairs, handle_of};
 ghost use Rattle.elltree.specs.Slots.{ArePartsIn, OfHandle};
+ghost use Rattle.elltree.specs.Told.{BeginsWith, SaysWhyShut, TellsJoin};
 
 use crate::Pair;
-use crate::codes::{CLOSED, FOREIGN, NO_MEMORY, OPEN, YES, code_of_refusal};
+use crate::codes::{CLOSED, FOREIGN, NO_MEMORY, OPEN, TOO_MANY_HANDLES, YES, code_of_refusal};
 use crate::slot::Slot;
 use crate::starting::why_refused;
 use ell_handle::{Handle, Place, Refusal};
@@ -28,15 +26,10 @@ pub extern "C" fn elltree_slot_open(
     cards: u64,
     number: u64,
 ) -> i32
-    ensures opened { result ≡ said_yes → OfHandle (IsOpened keys.now (as_pairs start.now) cards number) (handle_of slot.new.raw.inside) }
-    ensures map { result ≡ said_yes → (k : ℕ) → map_of slot.new.raw.inside k ≡ contents_of (as_pairs start.now) k }
-    ensures may { result ≡ said_yes → MayOpen keys.now (as_pairs start.now) cards }
-    ensures bad_start { result ≡ said_bad_start → Refuses keys.now (as_pairs start.now) cards BadStart }
-    ensures bad_key { result ≡ said_bad_key → Refuses keys.now (as_pairs start.now) cards BadKey }
-    ensures bad_cards { result ≡ said_bad_cards → Refuses keys.now (as_pairs start.now) cards BadCards }
-    ensures no_memory { result ≡ said_no_memory → MayOpen keys.now (as_pairs start.now) cards }
+    ensures opened { result ≡ said_yes →
+        OfHandle (BeginsWith keys.now (as_pairs start.now) cards number) (handle_of slot.new.raw.inside) }
+    ensures why { SaysWhyShut keys.now (as_pairs start.now) cards result }
     ensures busy { (result ≡ said_open) ↔ (slot.old.is_open ≡ true) }
-    ensures codes { IsOneOf (said_yes ∷ said_open ∷ said_bad_start ∷ said_bad_key ∷ said_bad_cards ∷ said_no_memory ∷ []) result }
     ensures refused { result ≢ said_yes → slot.new.raw.inside ≡ slot.old.raw.inside }
 {
     if slot.is_open {
@@ -59,9 +52,8 @@ fn open(
     cards: u64,
     number: u64,
 ) -> Result<Box<Place, Global>, Refusal>
-    ensures opened { IfOk result (λ place. OfHandle (IsOpened keys.now (as_pairs start.now) cards number) place.value.handle) }
-    ensures map { IfOk result (λ place. (k : ℕ) → map_in place.value.handle k ≡ contents_of (as_pairs start.now) k) }
-    ensures may { OnOk result (MayOpen keys.now (as_pairs start.now) cards) }
+    ensures opened { IfOk result (λ place.
+        OfHandle (BeginsWith keys.now (as_pairs start.now) cards number) place.value.handle) }
     ensures refused { IfErr result (Refuses keys.now (as_pairs start.now) cards) }
 {
     let Ok(pairs) = pairs_of(alloc, start) else {
@@ -74,8 +66,8 @@ fn open(
     Ok(Box::new(alloc, place)?)
 }
 
-// The pairs of a host, as the tree has them.
-fn pairs_of(alloc: Global, pairs: &[Pair]) -> Result<Vec<(u64, u64)>, AllocError>
+/// The pairs of a host, as the tree has them.
+pub(crate) fn pairs_of(alloc: Global, pairs: &[Pair]) -> Result<Vec<(u64, u64)>, AllocError>
     ensures { IfOk result (λ out. out.items ≡ as_pairs pairs.now) }
 {
     pairs
@@ -92,19 +84,17 @@ pub extern "C" fn elltree_slot_split(
     into: &mut Slot,
     keys: &[u64],
 ) -> i32
-    ensures given { result ≡ said_yes → (k : ℕ) →
-        map_of into.new.raw.inside k ≡ (if set_of keys.now k then map_of from.old.raw.inside k else None) }
-    ensures rest { result ≡ said_yes → (k : ℕ) →
-        map_of from.new.raw.inside k ≡ (if set_of keys.now k then None else map_of from.old.raw.inside k) }
     ensures parts { result ≡ said_yes →
         ArePartsIn keys.now (handle_of from.old.raw.inside) (handle_of into.new.raw.inside) (handle_of from.new.raw.inside) }
-    ensures numbers { result ≡ said_yes → NumbersTell (handle_of from.new.raw.inside) (handle_of into.new.raw.inside) }
     ensures foreign { result ≡ said_foreign → ¬ All (OwnsIn (handle_of from.old.raw.inside)) keys.now }
-    ensures owned { result ≢ said_foreign → result ≢ said_closed → result ≢ said_open → All (OwnsIn (handle_of from.old.raw.inside)) keys.now }
+    ensures owned { result ≢ said_foreign → result ≢ said_closed → result ≢ said_open →
+        All (OwnsIn (handle_of from.old.raw.inside)) keys.now }
     ensures busy { (result ≡ said_open) ↔ (into.old.is_open ≡ true) }
     ensures closed { result ≡ said_closed → handle_of from.old.raw.inside ≡ None }
     ensures none { handle_of from.old.raw.inside ≡ None → into.old.is_open ≡ false → result ≡ said_closed }
-    ensures codes { IsOneOf (said_yes ∷ said_open ∷ said_closed ∷ said_foreign ∷ said_no_memory ∷ []) result }
+    ensures too_many { result ≡ said_too_many → OfHandle IsLeast (handle_of from.old.raw.inside) }
+    ensures no_memory { result ≡ said_no_memory → OfHandle (λ h. ¬ IsLeast h) (handle_of from.old.raw.inside) }
+    ensures codes { IsOneOf (said_yes ∷ said_open ∷ said_closed ∷ said_foreign ∷ said_too_many ∷ said_no_memory ∷ []) result }
     ensures refused { result ≢ said_yes → from.new.raw.inside ≡ from.old.raw.inside }
     ensures unopened { result ≢ said_yes → into.new.raw.inside ≡ into.old.raw.inside }
 {
@@ -127,28 +117,27 @@ pub extern "C" fn elltree_slot_split(
 
 // Parts the handle of a place: the part with these keys, in a box of its own, or a code.
 fn split(alloc: Global, place: &mut Place, keys: &[u64]) -> Result<Box<Place, Global>, i32>
-    ensures given { IfOk result (λ part. (k : ℕ) →
-        map_in part.value.handle k ≡ (if set_of keys.now k then map_in place.old.handle k else None)) }
-    ensures rest { OnOk result ((k : ℕ) →
-        map_in place.new.handle k ≡ (if set_of keys.now k then None else map_in place.old.handle k)) }
     ensures parts { IfOk result (λ part. ArePartsIn keys.now place.old.handle part.value.handle place.new.handle) }
-    ensures numbers { IfOk result (λ part. NumbersTell place.new.handle part.value.handle) }
     ensures owned { OnOk result (All (OwnsIn place.old.handle) keys.now) }
     ensures foreign { result ≡ Err said_foreign → ¬ All (OwnsIn place.old.handle) keys.now }
-    ensures no_memory { result ≡ Err said_no_memory → All (OwnsIn place.old.handle) keys.now }
+    ensures no_memory { result ≡ Err said_no_memory →
+        OfHandle (λ h. ¬ IsLeast h) place.old.handle × All (OwnsIn place.old.handle) keys.now }
     ensures closed { result ≡ Err said_closed → place.old.handle ≡ None }
     ensures none { place.old.handle ≡ None → result ≡ Err said_closed }
-    ensures codes { IfErr result (IsOneOf (said_closed ∷ said_foreign ∷ said_no_memory ∷ [])) }
+    ensures too_many { result ≡ Err said_too_many → OfHandle IsLeast place.old.handle × All (OwnsIn place.old.handle) keys.now }
+    ensures codes { IfErr result (IsOneOf (said_closed ∷ said_foreign ∷ said_too_many ∷ said_no_memory ∷ [])) }
     ensures refused { OnErr result (place.new ≡ place.old) }
 {
     let Some(handle) = place.handle.take() else {
         return Err(CLOSED);
     };
     let Ok(mut part) = Box::new(alloc, Place { handle: None }) else {
-        let code = if handle.owns_all(keys) {
-            NO_MEMORY
-        } else {
+        let code = if !handle.owns_all(keys) {
             FOREIGN
+        } else if handle.has_least_share() {
+            TOO_MANY_HANDLES
+        } else {
+            NO_MEMORY
         };
         place.handle = Some(handle);
         return Err(code);
@@ -171,18 +160,9 @@ fn split(alloc: Global, place: &mut Place, keys: &[u64]) -> Result<Box<Place, Gl
 #[unsafe(no_mangle)]
 pub extern "C" fn elltree_slot_join(alloc: Global, into: &mut Slot, from: &mut Slot) -> i32
     requires numbers { NumbersTell (handle_of into.old.raw.inside) (handle_of from.old.raw.inside) }
-    ensures joined { result ≡ said_yes →
-        IsJoined (handle_of into.old.raw.inside) (handle_of from.old.raw.inside) (handle_of into.new.raw.inside) }
-    ensures tree { KeepsTree into.old into.new }
+    ensures tells { TellsJoin result (handle_of into.old.raw.inside) (handle_of from.old.raw.inside)
+        (handle_of into.new.raw.inside) }
     ensures given { result ≡ said_yes → from.new.raw.inside ≡ None }
-    ensures other_tree { result ≡ said_other_tree →
-        NumbersDiffer (handle_of into.old.raw.inside) (handle_of from.old.raw.inside) }
-    ensures numbers { result ≢ said_other_tree →
-        ¬ NumbersDiffer (handle_of into.old.raw.inside) (handle_of from.old.raw.inside) }
-    ensures closed { result ≡ said_closed → (handle_of into.old.raw.inside ≡ None) ⊎ (handle_of from.old.raw.inside ≡ None) }
-    ensures none_into { handle_of into.old.raw.inside ≡ None → result ≡ said_closed }
-    ensures none_from { handle_of from.old.raw.inside ≡ None → result ≡ said_closed }
-    ensures codes { IsOneOf (said_yes ∷ said_closed ∷ said_other_tree ∷ said_no_memory ∷ []) result }
     ensures refused { result ≢ said_yes → into.new.raw.inside ≡ into.old.raw.inside }
     ensures kept { result ≢ said_yes → from.new.raw.inside ≡ from.old.raw.inside }
 {
@@ -204,14 +184,7 @@ pub extern "C" fn elltree_slot_join(alloc: Global, into: &mut Slot, from: &mut S
 // Joins the handles of two places in the first.
 fn join(place: &mut Place, added: &mut Place) -> i32
     requires numbers { NumbersTell place.old.handle added.old.handle }
-    ensures joined { result ≡ said_yes → IsJoined place.old.handle added.old.handle place.new.handle }
-    ensures tree { AreOfOneTree place.new.handle place.old.handle }
-    ensures other_tree { result ≡ said_other_tree → NumbersDiffer place.old.handle added.old.handle }
-    ensures numbers { result ≢ said_other_tree → ¬ NumbersDiffer place.old.handle added.old.handle }
-    ensures closed { result ≡ said_closed → (place.old.handle ≡ None) ⊎ (added.old.handle ≡ None) }
-    ensures none_into { place.old.handle ≡ None → result ≡ said_closed }
-    ensures none_from { added.old.handle ≡ None → result ≡ said_closed }
-    ensures codes { IsOneOf (said_yes ∷ said_closed ∷ said_other_tree ∷ said_no_memory ∷ []) result }
+    ensures tells { TellsJoin result place.old.handle added.old.handle place.new.handle }
     ensures refused { result ≢ said_yes → place.new ≡ place.old }
     ensures kept { result ≢ said_yes → added.new ≡ added.old }
 {

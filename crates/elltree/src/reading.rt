@@ -1,12 +1,10 @@
 //! What a slot owns and has.
-ghost use Rattle.std.specs.Prelude.{◌≡◌, ◌≢◌, ◌<◌, ◌≤◌, ◌↔◌, None, length, [], ◌∷◌};
-ghost use Rattle.ell_cards.specs.Changes.{keys_of};
-ghost use Rattle.ell_tree.specs.Ledgers.{present_in};
-ghost use Rattle.ell_handle.specs.Groups.{StaysPut};
+ghost use Rattle.std.specs.Prelude.{◌≡◌, ◌≢◌, ◌≤◌, ◌↔◌, None, length};
 ghost use Rattle.ell_handle.specs.Reads.{OnlyAsks, TellsCardsLeft};
-ghost use Rattle.elltree.specs.Codes.{IsOneOf, said_closed, said_no_room, said_yes};
-ghost use Rattle.elltree.specs.Maps.{NeedsMore, WritesKeys, WritesPairs, handle_of, keys_in, map_of, owned_in, steps_in};
-ghost use Rattle.elltree.specs.Slots.{OfHandles, OfHandlesIfAny};
+ghost use Rattle.elltree.specs.Codes.{said_closed, said_yes};
+ghost use Rattle.elltree.specs.Maps.{WritesKeys, handle_of, owned_in, steps_in};
+ghost use Rattle.elltree.specs.Slots.{OfHandleIfAny, OfHandles, OfHandlesIfAny};
+ghost use Rattle.elltree.specs.Told.{SaysIfAny, TellsKeys, TellsPairs};
 
 use crate::Pair;
 use crate::codes::{CLOSED, NO_ROOM, YES};
@@ -23,12 +21,10 @@ pub extern "C" fn elltree_slot_pairs(
     out: &mut [Pair],
     count: &mut usize,
 ) -> i32
-    ensures pairs { result ≡ said_yes → WritesPairs (map_of slot.old.raw.inside) count.new out.old out.new }
-    ensures no_room { result ≡ said_no_room → NeedsMore (map_of slot.old.raw.inside) (length out.old) }
     ensures closed { (result ≡ said_closed) ↔ (handle_of slot.old.raw.inside ≡ None) }
-    ensures codes { IsOneOf (said_yes ∷ said_no_room ∷ said_closed ∷ []) result }
+    ensures tells { OfHandlesIfAny (TellsPairs result count.new out.old out.new) (handle_of slot.old.raw.inside)
+        (handle_of slot.new.raw.inside) }
     ensures count { result ≢ said_yes → count.new ≡ count.old }
-    ensures stays { OfHandlesIfAny StaysPut (handle_of slot.old.raw.inside) (handle_of slot.new.raw.inside) }
 {
     let Some(mut place) = slot.take(alloc) else {
         return CLOSED;
@@ -43,11 +39,8 @@ pub extern "C" fn elltree_slot_pairs(
 
 // The pairs of a handle.
 fn pairs(handle: &mut Handle, out: &mut [Pair], count: &mut usize) -> i32
-    ensures pairs { result ≡ said_yes → WritesPairs (present_in handle.old.pass) count.new out.old out.new }
-    ensures no_room { result ≡ said_no_room → NeedsMore (present_in handle.old.pass) (length out.old) }
-    ensures codes { IsOneOf (said_yes ∷ said_no_room ∷ []) result }
+    ensures tells { TellsPairs result count.new out.old out.new handle.old handle.new }
     ensures count { result ≢ said_yes → count.new ≡ count.old }
-    ensures stays { StaysPut handle.old handle.new }
 {
     let mut written = 0;
     for place in 0..handle.keys().len() {
@@ -71,10 +64,8 @@ pub extern "C" fn elltree_slot_keys(
     out: &mut [u64],
     count: &mut usize,
 ) -> i32
-    ensures keys { result ≡ said_yes → WritesKeys (keys_in (handle_of slot.old.raw.inside)) count.new out.old out.new }
-    ensures no_room { result ≡ said_no_room → length out.old < owned_in (handle_of slot.old.raw.inside) }
     ensures closed { (result ≡ said_closed) ↔ (handle_of slot.old.raw.inside ≡ None) }
-    ensures codes { IsOneOf (said_yes ∷ said_no_room ∷ said_closed ∷ []) result }
+    ensures tells { OfHandleIfAny (TellsKeys result count.new out.old out.new) (handle_of slot.old.raw.inside) }
     ensures kept { result ≢ said_yes → (out.new ≡ out.old) × (count.new ≡ count.old) }
     ensures same { slot.new.raw.inside ≡ slot.old.raw.inside }
 {
@@ -91,9 +82,7 @@ pub extern "C" fn elltree_slot_keys(
 
 // The keys of a handle.
 fn keys(handle: &Handle, out: &mut [u64], count: &mut usize) -> i32
-    ensures keys { result ≡ said_yes → WritesKeys (keys_of handle.now.pass.view.worker.ledger) count.new out.old out.new }
-    ensures no_room { result ≡ said_no_room → length out.old < length (keys_of handle.now.pass.view.worker.ledger) }
-    ensures codes { IsOneOf (said_yes ∷ said_no_room ∷ []) result }
+    ensures tells { TellsKeys result count.new out.old out.new handle.now }
     ensures kept { result ≢ said_yes → (out.new ≡ out.old) × (count.new ≡ count.old) }
 {
     let keys = handle.keys();
@@ -119,68 +108,45 @@ fn write_keys(keys: &[u64], out: &mut [u64])
 #[unsafe(no_mangle)]
 pub extern "C" fn elltree_slot_owned(alloc: Global, slot: &mut Slot, count: &mut usize) -> i32
     ensures count { result ≡ said_yes → count.new ≡ owned_in (handle_of slot.old.raw.inside) }
-    ensures closed { (result ≡ said_closed) ↔ (handle_of slot.old.raw.inside ≡ None) }
-    ensures codes { IsOneOf (said_yes ∷ said_closed ∷ []) result }
+    ensures says { SaysIfAny (handle_of slot.old.raw.inside) result }
     ensures kept { result ≢ said_yes → count.new ≡ count.old }
     ensures same { slot.new.raw.inside ≡ slot.old.raw.inside }
 {
-    let Some(place) = slot.take(alloc) else {
+    let Some(found) = slot.with_handle(alloc, |handle| handle.keys().len()) else {
         return CLOSED;
     };
-    let code = match &place.handle {
-        Some(handle) => {
-            *count = handle.keys().len();
-            YES
-        }
-        None => CLOSED,
-    };
-    slot.put(place);
-    code
+    *count = found;
+    YES
 }
 
 /// The atomic steps that were made through the slot's handle, and through those that it came from, in a row.
 #[unsafe(no_mangle)]
 pub extern "C" fn elltree_slot_steps(alloc: Global, slot: &mut Slot, steps: &mut u64) -> i32
     ensures steps { result ≡ said_yes → steps.new ≡ steps_in (handle_of slot.old.raw.inside) }
-    ensures closed { (result ≡ said_closed) ↔ (handle_of slot.old.raw.inside ≡ None) }
-    ensures codes { IsOneOf (said_yes ∷ said_closed ∷ []) result }
+    ensures says { SaysIfAny (handle_of slot.old.raw.inside) result }
     ensures kept { result ≢ said_yes → steps.new ≡ steps.old }
     ensures same { slot.new.raw.inside ≡ slot.old.raw.inside }
 {
-    let Some(place) = slot.take(alloc) else {
+    let Some(found) = slot.with_handle(alloc, |handle| handle.steps()) else {
         return CLOSED;
     };
-    let code = match &place.handle {
-        Some(handle) => {
-            *steps = handle.steps();
-            YES
-        }
-        None => CLOSED,
-    };
-    slot.put(place);
-    code
+    *steps = found;
+    YES
 }
 
 /// How many cards of the slot's tree are not given out yet, 0 if all are: as it was at one step of the call. No more are left in this tree ever
 /// after.
 #[unsafe(no_mangle)]
 pub extern "C" fn elltree_slot_cards_left(alloc: Global, slot: &mut Slot, left: &mut u64) -> i32
-    ensures left { result ≡ said_yes → OfHandles (TellsCardsLeft left.new) (handle_of slot.old.raw.inside) (handle_of slot.new.raw.inside) }
-    ensures closed { (result ≡ said_closed) ↔ (handle_of slot.old.raw.inside ≡ None) }
-    ensures codes { IsOneOf (said_yes ∷ said_closed ∷ []) result }
+    ensures left { result ≡ said_yes →
+        OfHandles (TellsCardsLeft left.new) (handle_of slot.old.raw.inside) (handle_of slot.new.raw.inside) }
+    ensures says { SaysIfAny (handle_of slot.old.raw.inside) result }
     ensures kept { result ≢ said_yes → left.new ≡ left.old }
     ensures reads { OfHandlesIfAny OnlyAsks (handle_of slot.old.raw.inside) (handle_of slot.new.raw.inside) }
 {
-    let Some(mut place) = slot.take(alloc) else {
+    let Some(found) = slot.with_handle(alloc, |handle| handle.cards_left()) else {
         return CLOSED;
     };
-    let code = match &mut place.handle {
-        Some(handle) => {
-            *left = handle.cards_left();
-            YES
-        }
-        None => CLOSED,
-    };
-    slot.put(place);
-    code
+    *left = found;
+    YES
 }

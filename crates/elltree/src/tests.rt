@@ -3,13 +3,18 @@ use crate::Pair;
 use crate::calls::{
     elltree_slot_delete, elltree_slot_find, elltree_slot_insert, elltree_slot_look,
 };
-use crate::codes::{BAD_CARDS, CLOSED, FOREIGN, NO, OPEN, OTHER_TREE, SPENT, YES};
+use crate::codes::{
+    BAD_CARDS, BAD_KEY, BAD_START, CLOSED, FOREIGN, NO, OPEN, OTHER_TREE, SHARED_KEYS, SPENT,
+    TOO_MANY_HANDLES, YES,
+};
 use crate::grouping::elltree_slots_renew;
 use crate::opening::{elltree_slot_free, elltree_slot_join, elltree_slot_open, elltree_slot_split};
 use crate::reading::{elltree_slot_cards_left, elltree_slot_owned, elltree_slot_pairs};
 use crate::renewing::elltree_slot_renew;
+use crate::sharing::{elltree_slot_another, elltree_slot_open_shared};
 use crate::slot::Slot;
 use crate::texts::elltree_code_text;
+use ell_tree::KEY_MAX;
 use std::alloc::Global;
 
 const KEYS: [u64; 4] = [4, 2, 3, 1];
@@ -44,6 +49,91 @@ fn two_slots_part_join_and_close(rt: HostRuntime) {
     assert!(rt; elltree_slot_free(alloc, &mut low) == YES);
     assert!(rt; elltree_slot_free(alloc, &mut high) == YES);
     assert!(rt; elltree_slot_free(alloc, &mut high) == CLOSED);
+}
+
+#[test]
+fn two_slots_share_all_keys(rt: HostRuntime) {
+    let alloc: Global = rt.alloc();
+    let mut one = Slot::empty(alloc);
+    let mut two = Slot::empty(alloc);
+    let (mut value, mut count, mut left) = (0, 7, 0);
+    let great = [Pair {
+        key: KEY_MAX + 1,
+        value: 0,
+    }];
+    assert!(rt; elltree_slot_another(alloc, &mut one, &mut two) == CLOSED);
+    assert!(rt; elltree_slot_open_shared(alloc, &mut one, &great, 10, 1) == BAD_KEY);
+    assert!(rt; elltree_slot_open_shared(alloc, &mut one, &[START[0]; 2], 10, 1) == BAD_START);
+    assert!(rt; elltree_slot_open_shared(alloc, &mut one, &START, 0, 1) == BAD_CARDS);
+    assert!(rt; elltree_slot_open_shared(alloc, &mut one, &START, 10, 1) == YES);
+    assert!(rt; elltree_slot_open_shared(alloc, &mut one, &START, 10, 1) == OPEN);
+    assert!(rt; elltree_slot_another(alloc, &mut one, &mut two) == YES);
+    assert!(rt; elltree_slot_insert(alloc, &mut two, KEY_MAX, 77, 9) == YES);
+    assert!(rt; elltree_slot_insert(alloc, &mut one, KEY_MAX, 78, 9) == NO);
+    assert!(rt; elltree_slot_find(alloc, &mut one, KEY_MAX, &mut value) == YES);
+    assert!(rt; value == 77);
+    assert!(rt; elltree_slot_delete(alloc, &mut one, 2, 9) == YES);
+    assert!(rt; elltree_slot_find(alloc, &mut two, 2, &mut value) == NO);
+    assert!(rt; elltree_slot_insert(alloc, &mut two, KEY_MAX + 1, 1, 9) == FOREIGN);
+    assert!(rt; elltree_slot_owned(alloc, &mut two, &mut count) == YES);
+    assert!(rt; count == 0);
+    assert!(rt; elltree_slot_cards_left(alloc, &mut two, &mut left) == YES);
+    assert!(rt; left == 8);
+    assert!(rt; elltree_slot_renew(alloc, &mut two, 10, 2) == SHARED_KEYS);
+    let mut slots = [one, two];
+    assert!(rt; elltree_slots_renew(alloc, &mut slots, 10, 2) == SHARED_KEYS);
+    let [mut one, mut two] = slots;
+    assert!(rt; elltree_slot_join(alloc, &mut one, &mut two) == YES);
+    assert!(rt; elltree_slot_find(alloc, &mut one, KEY_MAX, &mut value) == YES);
+    assert!(rt; elltree_slot_free(alloc, &mut one) == YES);
+}
+
+#[test]
+fn a_slot_gives_another_until_its_share_is_the_least(rt: HostRuntime) {
+    let alloc: Global = rt.alloc();
+    let mut all = Slot::empty(alloc);
+    let mut last = Slot::empty(alloc);
+    assert!(rt; elltree_slot_open_shared(alloc, &mut last, &[], 10, 1) == YES);
+    let mut given = 0;
+    for _ in 0..32 {
+        let mut next = Slot::empty(alloc);
+        assert!(rt; elltree_slot_another(alloc, &mut last, &mut next) == YES);
+        given += 1;
+        if given == 1 {
+            all = last;
+        } else {
+            assert!(rt; elltree_slot_join(alloc, &mut all, &mut last) == YES);
+        }
+        last = next;
+    }
+    let mut next = Slot::empty(alloc);
+    assert!(rt; elltree_slot_another(alloc, &mut last, &mut next) == TOO_MANY_HANDLES);
+    assert!(rt; elltree_slot_split(alloc, &mut last, &mut next, &[]) == TOO_MANY_HANDLES);
+    assert!(rt; elltree_slot_insert(alloc, &mut last, 5, 50, 9) == YES);
+    assert!(rt; elltree_slot_delete(alloc, &mut all, 5, 9) == YES);
+    assert!(rt; elltree_slot_join(alloc, &mut last, &mut all) == YES);
+    assert!(rt; elltree_slot_another(alloc, &mut last, &mut next) == YES);
+    assert!(rt; elltree_slot_free(alloc, &mut last) == YES);
+    assert!(rt; elltree_slot_free(alloc, &mut next) == YES);
+}
+
+#[test]
+fn an_owner_gives_another_without_keys(rt: HostRuntime) {
+    let alloc: Global = rt.alloc();
+    let mut owner = Slot::empty(alloc);
+    let mut other = Slot::empty(alloc);
+    let (mut value, mut count) = (0, 7);
+    assert!(rt; elltree_slot_open(alloc, &mut owner, &KEYS, &START, 10, 1) == YES);
+    assert!(rt; elltree_slot_another(alloc, &mut owner, &mut other) == YES);
+    assert!(rt; elltree_slot_another(alloc, &mut owner, &mut other) == OPEN);
+    assert!(rt; elltree_slot_owned(alloc, &mut owner, &mut count) == YES);
+    assert!(rt; count == 4);
+    assert!(rt; elltree_slot_insert(alloc, &mut other, 3, 30, 9) == FOREIGN);
+    assert!(rt; elltree_slot_insert(alloc, &mut owner, 3, 30, 9) == YES);
+    assert!(rt; elltree_slot_look(alloc, &mut other, 3, &mut value) == YES);
+    assert!(rt; value == 30);
+    assert!(rt; elltree_slot_free(alloc, &mut owner) == YES);
+    assert!(rt; elltree_slot_free(alloc, &mut other) == YES);
 }
 
 #[test]

@@ -4,7 +4,7 @@ ghost use Rattle.elltree.specs.Texts.{WritesText, text_of};
 
 use crate::codes::{
     BAD_CARDS, BAD_KEY, BAD_START, BUSY, CLOSED, FOREIGN, IN_CALL, NO, NO_MEMORY, NO_ROOM,
-    NO_TRIES, NULL, OPEN, OTHER_TREE, SAME, SPENT, YES,
+    NO_TRIES, NULL, OPEN, OTHER_TREE, SAME, SHARED_KEYS, SPENT, TOO_MANY_HANDLES, YES,
 };
 
 /// Writes what a code says to the front of an array, with a 0 behind it, and returns how many bytes the whole text has, without the 0. As
@@ -55,6 +55,8 @@ fn text_of(code: i32) -> &'static [u8]
         NULL => b"a pointer is null",
         SAME => b"the same handle is given twice",
         IN_CALL => b"the handle is in another call",
+        TOO_MANY_HANDLES => b"the tree has too many handles",
+        SHARED_KEYS => b"the keys of the tree are shared",
         _ => b"no code of elltree",
     }
 }

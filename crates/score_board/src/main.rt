@@ -4,7 +4,7 @@
 //! players again and again. No thread waits for another, and a score that has been seen never falls.
 #![tactic(auto)]
 
-ghost use Rattle.std.specs.Prelude.{◌≡◌, IfOk};
+ghost use Rattle.std.specs.Prelude.{◌≡◌, IfOk, false};
 ghost use Rattle.ell_tree.specs.Ledgers.{IsIdle, IsIdlePassOf, Owns};
 
 use anyhow::{Result, bail, ensure};
@@ -147,7 +147,8 @@ fn both(
 fn close(board: Tree<Global>, pass: Pass<Global>, players: &[u64]) -> Result<Vec<(u64, u64)>>
     requires own { pass.table ≡ board.id }
     requires idle { IsIdle pass }
-    requires players { board.keys ≡ players.now }
+    requires players { board.plan.keys ≡ players.now }
+    requires unshared { board.plan.shared ≡ false }
 {
     let owns_all = players.iter().all(|player| pass.owns(*player));
     ensure!(owns_all, "a player has no owner");

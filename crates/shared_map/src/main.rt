@@ -4,7 +4,7 @@
 //! neighbor has stalled half-way through a change, a thread finishes that change and goes on.
 #![tactic(auto)]
 
-ghost use Rattle.std.specs.Prelude.{◌≡◌, IfOk};
+ghost use Rattle.std.specs.Prelude.{◌≡◌, IfOk, false};
 ghost use Rattle.ell_tree.specs.Ledgers.{IsIdle, IsIdlePassOf};
 
 use anyhow::{Result, bail, ensure};
@@ -88,7 +88,8 @@ fn add_up_by_two<R: Threads>(
 fn close(scores: Tree<Global>, pass: Pass<Global>, players: &[u64]) -> Result<Vec<(u64, u64)>>
     requires own { pass.table ≡ scores.id }
     requires idle { IsIdle pass }
-    requires players { scores.keys ≡ players.now }
+    requires players { scores.plan.keys ≡ players.now }
+    requires unshared { scores.plan.shared ≡ false }
 {
     let owns_all = players.iter().all(|player| pass.owns(*player));
     ensure!(owns_all, "a player has no owner");

@@ -1,4 +1,4 @@
-use Rattle.std.proofs.Common.{◌≡◌, ◌≢◌, ◌⊎◌, ℕ, true, false, ◌||◌, List, [], ◌∷◌, ◌++◌, length, set, Option, Bool, Some, None, refl, sym, ap, ◌∙◌, subst, inl, inr, ⊎_elim, length-set, ◌≤◌, max, arith, true≢false}
+use Rattle.std.proofs.Common.{◌≡◌, ◌≢◌, ◌⊎◌, ℕ, true, false, ◌||◌, List, [], ◌∷◌, ◌++◌, length, set, Option, Bool, Some, None, refl, sym, ap, ◌∙◌, subst, inl, inr, ⊎_elim, length-set, ◌≤◌, max, arith, true≢false, ◌↔◌, ◌%◌, ◌^◌, ◌+◌}
 use Rattle.std.specs.Prelude.{Contains}
 use Rattle.std.proofs.lemmas.Option.{same_Some}
 use mathlib.Core.Option.{some}
@@ -7,14 +7,14 @@ use Rattle.atomic_table.proofs.Lists.{at_set, set_else}
 use Rattle.ell_core.specs.declared.fact.Fact.{Fact}
 use Rattle.ell_core.specs.state.Words.{put}
 use Rattle.ell_core.specs.state.Facts.{known_of, same_fact}
-use Rattle.ell_core.specs.state.Machine.{Worker, nobody, worker_of, ledger_of}
+use Rattle.ell_core.specs.state.Machine.{Worker, nobody, worker_of, ledger_of, shared_of}
 use Rattle.ell_core.specs.state.Moves.{WorkerIsIdle, AreParted, Join}
 use Rattle.ell_core.specs.history.Stages.{is_born}
 use Rattle.ell_core.specs.soundness.Sound.{WorkerOwns}
 use Rattle.ell_core.proofs.following.Lawful.{joins_lawful}
 use Rattle.ell_core.proofs.outcomes.Decide.{some_not_none}
 use Rattle.ell_cards.specs.declared.view.View.{View}
-use Rattle.ell_cards.specs.Changes.{united, later, joined_view, spent_view}
+use Rattle.ell_cards.specs.Changes.{united, first_known, later, joined_view, spent_view}
 use Rattle.ell_cards.specs.Naming.{IsNamed}
 use Rattle.ell_cards.specs.States.{seat_worker, seated}
 use Rattle.ell_cards.specs.Machines.{EntryHolds, ViewHolds}
@@ -28,6 +28,8 @@ use Rattle.ell_ops.proofs.Merges.{keys_united, lists_united}
 use Rattle.ell_ops.proofs.Sets.{one_list}
 use Rattle.ell_cards.proofs.lifetimes.Unions.{keys_of_united, ledger_united}
 use Rattle.ell_core.specs.declared.view.Entry.{Entry}
+use Rattle.ell_cards.specs.declared.share.Share.{Share}
+use Rattle.std.proofs.lemmas.Bool.{false≢true}
 
 -- what one of two lists of facts has, both together have
 known_either : (a b : List Fact) (f : Fact) → known_of (a ++ b) f ≡ true → (known_of a f ≡ true) ⊎ (known_of b f ≡ true)
@@ -86,6 +88,28 @@ later_most most (Some x) None h g n e = h n e
 later_most most (Some x) (Some y) h g n e =
     let is = same_Some (max x y) n e in let low = h x refl in let low' = g y refl in omega arith
 
+-- a test or none, and a test twice
+or-false : (b : Bool) → (b || false) ≡ b
+or-false true = refl
+or-false false = refl
+
+or-self : (b : Bool) → (b || b) ≡ b
+or-self true = refl
+or-self false = refl
+
+-- what is shared for either of two passes is so for both together
+shared_both : (keys : List ℕ) (a b : Option (List ℕ)) → ((l : List ℕ) → a ≡ Some l → l ≡ keys) → ((l : List ℕ) → b ≡ Some l → l ≡ keys) → (k : ℕ)
+    → shared_of (first_known a b) k ≡ (shared_of a k || shared_of b k)
+shared_both keys None b h g k = refl
+shared_both keys (Some l) None h g k = sym (or-false (shared_of (Some l) k))
+shared_both keys (Some l) (Some m) h g k =
+    sym (ap (λ o. shared_of (Some l) k || shared_of (Some o) k) (g m refl ∙ sym (h l refl)) ∙ or-self (shared_of (Some l) k))
+
+-- the first of two lists is that of one of them
+first_list : (keys l : List ℕ) (a b : Option (List ℕ)) → (a ≡ Some l → l ≡ keys) → (b ≡ Some l → l ≡ keys) → first_known a b ≡ Some l → l ≡ keys
+first_list keys l None b h g is = g is
+first_list keys l (Some m) b h g is = h is
+
 -- a join is one of the machine
 pub joins_are_moves : JoinsAreMoves
 joins_are_moves keys cards s r id other v w here there apart free other_free =
@@ -108,6 +132,8 @@ joins_are_moves keys cards s r id other v w here there apart free other_free =
       right_free = subst WorkerIsIdle (sym same') ((mine_sound keys cards s r other w there).free other_free);
       both = worker_of both.worker;
       both_free = refl;
+      shares = λ k. shared_both keys v.worker.ownable w.worker.ownable (λ l is. r.listed id v l here is) (λ l is. r.listed other w l there is) k
+          ∙ (λ t. (ap (λ (u : Worker). u.shared k) (sym same) t) || (ap (λ (u : Worker). u.shared k) (sym same') t));
       ledgers = subst (λ (u : Worker). AreParted (ledger_of both.worker.ledger) u.ledger (m.worker other).ledger) (sym same)
           (subst (λ (u : Worker). AreParted (ledger_of both.worker.ledger) (ledger_of v.worker.ledger) u.ledger) (sym same') parts);
       knows = λ f k. elim (known_either v.worker.facts w.worker.facts f k) [
@@ -141,6 +167,9 @@ joins_are_moves keys cards s r id other v w here there apart free other_free =
             ])
             (λ has. absurd (has refl))
             (λ i u at has. r.owned i k u at has) j;
+        listed = λ j u l at. each_joined s.views id other v w here there turned both (λ u. u.worker.ownable ≡ Some l → l ≡ keys)
+            (first_list keys l v.worker.ownable w.worker.ownable (λ is. r.listed id v l here is) (λ is. r.listed other w l there is))
+            (λ is. absurd (some_not_none is refl)) (λ i u at is. r.listed i u l at is) j u at;
       };
       join = join;
     }
@@ -152,15 +181,33 @@ joined_named cards v w h g = rest_named cards (joined_view v w)
     (λ f k. elim (known_either v.worker.facts w.worker.facts f k) [ inl a ↦ h.facts f a | inr b ↦ g.facts f b ])
     refl refl (let a = h.next in let b = g.next in omega arith)
 
+-- the share of both counts where one of the two does
+either_counts : (a b : Bool) (l m : Option (List ℕ)) → (a ≡ true) ↔ (l ≢ None) → (b ≡ true) ↔ (m ≢ None) → ((a || b) ≡ true) ↔ (first_known l m ≢ None)
+either_counts a b None m h g = by a (λ is. h.0 is refl)
+  where
+    by : (a : Bool) → (a ≡ true → ⊥) → ((a || b) ≡ true) ↔ (m ≢ None)
+    by false h = g
+    by true h = absurd (h refl)
+either_counts a b (Some l) m h g = (λ is none. some_not_none refl none, λ some. by a (h.1 (λ none. some_not_none refl none)))
+  where
+    by : (a : Bool) → a ≡ true → (a || b) ≡ true
+    by true is = refl
+    by false is = absurd (false≢true is)
+
 -- it has the keys of both
-pub joined_fits : (words left right : ℕ) (ours theirs one other keys : List ℕ) (v w : View) → PassFits ours left v → PassFits theirs right w
-    → words ≡ left → words ≡ right → one ≡ ours → other ≡ theirs → Lists (union (set_of one) (set_of other)) keys → PassFits keys words (joined_view v w)
-joined_fits words left right ours theirs one other keys v w h g same_left same_right first second listed =
+pub joined_fits : (words left right : ℕ) (ours theirs one other keys : List ℕ) (mine yours : Share) (v w : View) → PassFits ours mine left v → PassFits theirs yours right w
+    → words ≡ left → words ≡ right → one ≡ ours → other ≡ theirs → Lists (union (set_of one) (set_of other)) keys
+    → PassFits keys (record { units = (mine.units + yours.units) % 2 ^ 64; counts = mine.counts || yours.counts }) words (joined_view v w)
+joined_fits words left right ours theirs one other keys mine yours v w h g same_left same_right first second listed =
     let both = union (set_of ours) (set_of theirs) in
     let ascending : Lists both keys =
     subst (λ l. Lists (union (set_of ours) (set_of l)) keys) second (subst (λ l. Lists (union (set_of l) (set_of other)) keys) first listed) in
     let is = one_list both keys (keys_united ours theirs) ascending (lists_united ours theirs g.ascending) in record {
       owned = is ∙ ((λ t. keys_united (h.owned t) (g.owned t)) ∙ sym (keys_of_united v.worker.ledger w.worker.ledger));
       ascending = ascending.ascending;
+      share = record {
+        units = (λ t. (h.share.units t + g.share.units t) % 2 ^ 64);
+        counts = either_counts mine.counts yours.counts v.worker.ownable w.worker.ownable h.share.counts g.share.counts;
+      };
       named = λ cards size. joined_named cards v w (h.named cards (sym same_left ∙ size)) (g.named cards (sym same_right ∙ size));
     }

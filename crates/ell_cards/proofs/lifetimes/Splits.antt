@@ -1,4 +1,4 @@
-use Rattle.std.proofs.Common.{◌≡◌, ◌≢◌, ℕ, zero, suc, ◌+◌, List, [], ◌∷◌, ◌++◌, length, set, get_or, filter, not, true, None, refl, sym, ap, ◌∙◌, subst, inl, inr, ⊎_elim, arith, length-set}
+use Rattle.std.proofs.Common.{◌≡◌, ◌≢◌, ℕ, zero, suc, ◌+◌, List, [], ◌∷◌, ◌++◌, length, set, get_or, filter, not, true, None, refl, sym, ap, ◌∙◌, subst, inl, inr, ⊎_elim, arith, length-set, Some, ◌-◌}
 use Rattle.std.specs.Prelude.{Contains}
 use Rattle.std.specs.List.{All}
 use Rattle.std.specs.List.Sorted.{IsStrictlyIncreasing}
@@ -20,13 +20,14 @@ use Rattle.ell_ops.specs.KeySet.{set_of}
 use Rattle.ell_cards.specs.Changes.{keys_of, left_view, right_view}
 use Rattle.ell_cards.specs.States.{seat_worker, seated}
 use Rattle.ell_cards.specs.Machines.{ViewHolds}
-use Rattle.ell_cards.specs.Stepping.{MayHave}
+use Rattle.ell_cards.specs.Stepping.{MayHave, PartsShare}
 use Rattle.ell_cards.specs.Laws.{SplitsAreMoves}
 use Rattle.ell_cards.proofs.seats.Seats.{inside, seated_put, mine_is, mine_sound}
 use Rattle.ell_cards.proofs.lifetimes.Idle.{rest_holds, rest_named}
 use Rattle.ell_cards.proofs.words.Keys.{owned_among}
 use Rattle.ell_cards.proofs.lifetimes.Parts.{keys_on, keys_off, ascending_parts, ledger_parts, part_owns}
 use Rattle.ell_core.specs.declared.view.Entry.{Entry}
+use Rattle.ell_cards.specs.Models.{given_share}
 
 -- a place before the last one
 pub before_last : {A : Type 0} (l : List A) (a : A) (n : ℕ) → n ≢ length l → get_elem? (l ++ a ∷ []) n ≡ get_elem? l n
@@ -79,6 +80,8 @@ splits_are_moves keys cards s r id v chosen here free =
       right = worker_of right.worker;
       left_free = refl;
       right_free = refl;
+      left_shares = ap (λ (u : Worker). u.shared) (sym same);
+      right_shares = ap (λ (u : Worker). u.shared) (sym same);
       ledgers = subst (λ (u : Worker). AreParted u.ledger (ledger_of left.worker.ledger) (ledger_of right.worker.ledger)) (sym same) parts;
       left_knows = λ f k. ap (λ (u : Worker). u.knows f) same ∙ k;
       right_knows = λ f k. ap (λ (u : Worker). u.knows f) same ∙ k;
@@ -104,9 +107,18 @@ splits_are_moves keys cards s r id v chosen here free =
             (λ has. r.owned id k v here ((owns k).0 has))
             (λ has. r.owned id k v here ((owns k).1 has))
             (λ i u at has. r.owned i k u at has) j;
+        listed = λ j u l at. each_split s.views id v here left right (λ u. u.worker.ownable ≡ Some l → l ≡ keys)
+            (λ is. r.listed id v l here is) (λ is. r.listed id v l here is) (λ i u at is. r.listed i u l at is) j u at;
       };
       split = split;
     }
+
+-- the parts have the shares that the code parts
+pub parts_share : (v : View) (chosen : List ℕ) → PartsShare v (left_view chosen v) (right_view chosen v)
+parts_share v chosen share has = (
+  record { units = ap (λ n. n - given_share n) has.units; counts = has.counts },
+  record { units = ap given_share has.units; counts = has.counts },
+)
 
 -- keys that a ledger owns are among its keys
 pub owned_all : (l : List (ℕ × Entry)) (keys chosen : List ℕ) → keys ≡ keys_of l → All (λ k. ledger_of l k ≢ None) chosen → All (λ k. set_of keys k ≡ true) chosen

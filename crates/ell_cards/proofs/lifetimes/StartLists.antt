@@ -8,7 +8,9 @@ use Rattle.ell_core.specs.state.Branches.{branch_of, descend}
 use Rattle.ell_core.specs.state.Opening.{start_leaf, start_value, root_filling, branch_filling, last_card}
 use Rattle.ell_core.proofs.words.Listed.{length_after_fields, words_after_fields}
 use Rattle.ell_core.proofs.opening.Growing.{growing, rooted_words, grows, grown_up}
-use Rattle.ell_cards.specs.Starts.{StartWords}
+use Rattle.ell_cards.specs.SmallRun.{small_plan}
+use Rattle.ell_cards.specs.Starts.{MayStart, StartWords}
+use Rattle.ell_cards.specs.Models.{TablePlan}
 
 -- zeros with the claim word and the fields of card 0, and then of so many cards more of the opening tree
 listed_up_to : List (ℕ × ℕ) → ℕ → ℕ → List ℕ
@@ -38,18 +40,18 @@ words_grow start last (suc n) low =
     (size_stays start (table_size last) n) low)
 
 -- a list of the words at the start
-pub start_list : List (ℕ × ℕ) → ℕ → List ℕ
-start_list start cards = listed_up_to start (table_size (last_card start cards)) (length start)
+pub start_list : TablePlan → List ℕ
+start_list plan = listed_up_to plan.start (table_size plan.last_card) (length plan.start)
 
-pub start_list_starts : (start : List (ℕ × ℕ)) (cards : ℕ) → StartWords start cards (start_list start cards)
+pub start_list_starts : (plan : TablePlan) → MayStart plan → StartWords plan (start_list plan)
 unfolding start_list
-start_list_starts start cards = record {
-  size = size_stays start (table_size (last_card start cards)) (length start);
-  are = words_grow start (last_card start cards) (length start) (omega arith) ∙ grown_up start (length start + 1) refl;
+start_list_starts plan may = record {
+  size = size_stays plan.start (table_size plan.last_card) (length plan.start);
+  are = words_grow plan.start plan.last_card (length plan.start) may.room ∙ grown_up plan.start (length plan.start + 1) refl;
 }
 
 -- the words of a table with one start key and three cards to give out
-pub small_list : start_list ((5, 50) ∷ []) 3
+pub small_list : start_list small_plan
     ≡ 2 ∷ 0 ∷ 0 ∷ 0 ∷ 0 ∷ infinity2 ∷ 3 ∷ 2 ∷ 3 ∷ infinity1 ∷ infinity2 ∷ 0 ∷ 0 ∷ 0 ∷ 0 ∷ 0 ∷ 0 ∷ infinity1 ∷ 4 ∷ 5 ∷ 3 ∷ 5 ∷ infinity1 ∷ 50 ∷ 0 ∷ 0 ∷ 0 ∷ 0 ∷ 0 ∷ 0 ∷ 0 ∷ 0 ∷ 0 ∷ 0 ∷ 0 ∷ 0 ∷ 0 ∷ 0 ∷ 0 ∷ 0 ∷ 0 ∷ 0 ∷ 0 ∷ 0 ∷ 0 ∷ 0 ∷ 0 ∷ 0 ∷ 0 ∷ 0 ∷ 0 ∷ 0 ∷ 0 ∷ 0 ∷ 0 ∷ 0 ∷ 0 ∷ 0 ∷ 0 ∷ 0 ∷ 0 ∷ []
 unfolding start_list listed_up_to descend
 small_list = refl

@@ -46,7 +46,8 @@ module _ (m : Machine) (t : Words) (stage : Stages) (holds : Invariant m stage) 
   own_ledgers : LedgersAreSound own
   own_ledgers = record {
     one_owner = was.ledgers.one_owner;
-    owned = λ key held. let by = was.ledgers.owned key ((same_keys t m.words (pairs_same m.words t stage holds.words same) key).1 held) in
+    apart = was.ledgers.apart;
+    owned = λ key held none. let by = was.ledgers.owned key ((same_keys t m.words (pairs_same m.words t stage holds.words same) key).1 held) none in
         record { worker = by.worker; owns = by.owns };
     present = λ i key value owns.
         let tree = pairs_same m.words t stage holds.words same key value in
@@ -59,9 +60,9 @@ module _ (m : Machine) (t : Words) (stage : Stages) (holds : Invariant m stage) 
   own_walks i op x busy stands =
       let born = ((holds.workers.each i).stands op x busy stands).born in
       let walk = was.walks i op x busy stands in record {
-        finds = λ value.
+        finds = λ owns value.
             let finds = finds_same m.words t stage holds.words same (key_of op) value x born in
-            (λ h. (walk.finds value).0 (finds.1 h), λ h. finds.0 ((walk.finds value).1 h));
+            (λ h. (walk.finds owns value).0 (finds.1 h), λ h. finds.0 ((walk.finds owns value).1 h));
         joins = joins_same m.words t stage holds.words same (key_of op) x born walk.joins;
       }
 

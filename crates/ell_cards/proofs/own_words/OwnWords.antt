@@ -1,4 +1,4 @@
-use Rattle.std.proofs.Common.{◌≡◌, ℕ, false, List, sym, ◌∙◌, inl, inr}
+use Rattle.std.proofs.Common.{◌≡◌, ℕ, true, false, List, sym, ◌∙◌, inl, inr}
 use mathlib.Core.Option.{some}
 use lib.ListN.{get_elem?}
 use Rattle.ell_word.specs.Node.{card}
@@ -6,7 +6,7 @@ use Rattle.ell_word.specs.Word.{unpacked}
 use Rattle.ell_core.specs.state.Cards.{card_key, card_value}
 use Rattle.ell_core.specs.acts.Searching.{IsLeaf}
 use Rattle.ell_core.specs.soundness.Sound.{IsSound}
-use Rattle.ell_core.specs.history.Stages.{waits}
+use Rattle.ell_core.specs.history.Stages.{waits, delete_won}
 use Rattle.ell_core.specs.history.Later.{SaysTheSame}
 use Rattle.ell_core.specs.statements.StepLaws.{GoesInTree}
 use Rattle.ell_core.specs.statements.Effects.{SamePairs}
@@ -14,7 +14,8 @@ use Rattle.ell_core.proofs.words.Listed.{words_are_listed, listed_next}
 use Rattle.ell_core.proofs.following.Reliance.{may_rely}
 use Rattle.ell_core.proofs.following.Sound.{sound}
 use Rattle.ell_core.proofs.following.waiting.Cards.{flagged_made}
-use Rattle.ell_core.proofs.stages.Waiting.{born-settled}
+use Rattle.ell_core.proofs.stages.Order.{delete_won-delete, delete-claimed}
+use Rattle.ell_core.proofs.stages.Waiting.{born-settled, delete_won-settled}
 use Rattle.ell_cards.specs.declared.view.View.{View}
 use Rattle.ell_cards.specs.Models.{KnowsCard}
 use Rattle.ell_cards.specs.States.{TableState, seated}
@@ -62,6 +63,14 @@ module _ (keys : List ℕ) (cards : ℕ) (s : TableState) (r : HasMachine keys c
     pub own_card_value : card_value (own_words s) c ≡ card_value r.words c
     own_card_value = card_value_same r.words (own_words s) r.stages r.invariant.words same_card c
         (known_settled keys cards s r id v here c knows) known_goes known_leaf
+
+  -- the value of a card that a delete flagged
+  pub own_taken_value : (c : ℕ) → delete_won (r.stages c) ≡ true → card_value (own_words s) c ≡ card_value r.words c
+  own_taken_value c won =
+      let deletes = delete_won-delete (r.stages c) won in
+      let sound = r.invariant.words.cards c in
+      card_value_same r.words (own_words s) r.stages r.invariant.words same_card c (delete_won-settled (r.stages c) won)
+      ((may_rely (seated r.words s.views cards) r.stages 0 r.invariant).goes c (sound.claimed.0 (delete-claimed (r.stages c) deletes))) (sound.delete deletes).leaf.outer
 
   -- where the words are the table's own
   words_own : WordsAreOwn keys cards s r

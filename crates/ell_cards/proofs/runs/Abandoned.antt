@@ -29,6 +29,7 @@ use Rattle.ell_cards.proofs.runs.Readings.{claim_word_rises}
 use Rattle.ell_cards.proofs.runs.Won.{number, one, count, times, total, won_by, turn_won, turn_total}
 use Rattle.ell_cards.proofs.runs.Counts.{wins_are_counted, claims_are_counted}
 use Rattle.ell_cards.proofs.runs.Hands.{hands_are_claimed, one_in, two_in, call_held}
+use Rattle.ell_cards.specs.Models.{TablePlan}
 
 -- how often the flag of a card was taken away, and how often it was set
 abbrev pub ends : ℕ → TableState → ℕ
@@ -152,12 +153,12 @@ pub record IsAbandoned (s : TableState) (c : ℕ) : Type 0 where
   pub free : (j : ℕ) (v : View) → get_elem? s.views j ≡ some v → v.worker.card ≢ Some c
   pub unended : ends c s ≡ 0
 
-module _ (keys : List ℕ) (start : List (ℕ × ℕ)) (last : ℕ) where
-  module _ (s : TableState) (reached : IsReached keys start last s) where
+module _ (plan : TablePlan) where
+  module _ (s : TableState) (reached : IsReached plan s) where
     -- a card that was flagged and has not ended is in a hand
     open_in_hand : (c : ℕ) → ends c s ≡ 0 → 0 < flags c s → IsHeldThere s.views c
     open_in_hand c unended flagged =
-        let k = wins_are_counted keys start last s reached in
+        let k = wins_are_counted plan s reached in
         let a = k.counted kind.IFlag (omega arith) c in
         let b = k.counted kind.DFlag (omega arith) c in
         let x = k.counted kind.IUnflag (omega arith) c in
@@ -172,7 +173,7 @@ module _ (keys : List ℕ) (start : List (ℕ × ℕ)) (last : ℕ) where
     -- one that has ended was flagged
     ended_was_flagged : (c : ℕ) → 0 < ends c s → 0 < flags c s
     ended_was_flagged c ended =
-        let k = wins_are_counted keys start last s reached in
+        let k = wins_are_counted plan s reached in
         let a = k.counted kind.IFlag (omega arith) c in
         let b = k.counted kind.DFlag (omega arith) c in
         let x = k.counted kind.IUnflag (omega arith) c in
@@ -184,7 +185,7 @@ module _ (keys : List ℕ) (start : List (ℕ × ℕ)) (last : ℕ) where
     -- a card in hand that is not flagged has not ended
     pub hand_unended : (seat : ℕ) (v : View) → get_elem? s.views seat ≡ some v → (c : ℕ) → v.worker.card ≡ Some c → v.worker.flagged ≡ false → ends c s ≡ 0
     hand_unended seat v there c has unflagged =
-        let k = wins_are_counted keys start last s reached in
+        let k = wins_are_counted plan s reached in
         let sound = subst (WorkerIsSound k.machine.words k.stages) (ap seat_worker there) (k.invariant.workers.each seat) in
         let none = waits_unended (k.stages c) (hand_waits k.machine.words k.stages (worker_of v.worker) c sound has unflagged) in
         let x = k.counted kind.IUnflag (omega arith) c in
@@ -195,7 +196,7 @@ module _ (keys : List ℕ) (start : List (ℕ × ℕ)) (last : ℕ) where
     -- a card that has ended was claimed
     pub ended_below : (c : ℕ) → 0 < ends c s → c < get_or s.words 0 0
     ended_below c ended =
-        let k = wins_are_counted keys start last s reached in
+        let k = wins_are_counted plan s reached in
         let x = k.counted kind.IUnflag (omega arith) c in
         let y = k.counted kind.DUnflag (omega arith) c in
         let z = k.counted kind.Backtrack (omega arith) c in
@@ -206,8 +207,8 @@ module _ (keys : List ℕ) (start : List (ℕ × ℕ)) (last : ℕ) where
     -- each claim was told once at most
     pub claimed_once : (c : ℕ) → total kind.Claim c s ≤ 1
     claimed_once c =
-        let counts = claims_are_counted keys start last s reached in
-        elim (cases_lt (length start) c) [
+        let counts = claims_are_counted plan s reached in
+        elim (cases_lt (length plan.start) c) [
           | inl above ↦ elim (cases_lt c (get_or s.words 0 0)) [
             | inl below ↦ (let is = counts.claimed c above below in omega arith)
             | inr high ↦ (let is = counts.high c high in omega arith)
@@ -220,7 +221,7 @@ module _ (keys : List ℕ) (start : List (ℕ × ℕ)) (last : ℕ) where
     claimed_below seat v there c mine = elim (cases_lt c (get_or s.words 0 0)) [
       | inl below ↦ below
       | inr high ↦
-          let none = (claims_are_counted keys start last s reached).high c high in
+          let none = (claims_are_counted plan s reached).high c high in
           let some = one_in kind.Claim c s.views seat v there in
           absurd (omega arith)
     ]
@@ -234,7 +235,7 @@ module _ (keys : List ℕ) (start : List (ℕ × ℕ)) (last : ℕ) where
         | inl e ↦ aside (ap (λ (u : View). u.worker.card)
             (some-injective v w (sym there ∙ (ap (get_elem? s.views) (sym e) ∙ at))) ∙ has)
         | inr n ↦
-            let other = (hands_are_claimed keys start last s reached j w at).held c has in
+            let other = (hands_are_claimed plan s reached j w at).held c has in
             let two = two_in kind.Claim c s.views j seat w v at there n in
             let once = claimed_once c in
             absurd (omega arith)
@@ -242,14 +243,14 @@ module _ (keys : List ℕ) (start : List (ℕ × ℕ)) (last : ℕ) where
       unended = unended;
     }
 
-  module _ (s : TableState) (reached : IsReached keys start last s) (c : ℕ) (h : IsAbandoned s c) where
+  module _ (s : TableState) (reached : IsReached plan s) (c : ℕ) (h : IsAbandoned s c) where
     -- no pass takes it in hand again
-    stays_free : (t : Turn) (s' : TableState) → TableTurns last s t s' → (j : ℕ) (v : View) → get_elem? s'.views j ≡ some v → v.worker.card ≢ Some c
+    stays_free : (t : Turn) (s' : TableState) → TableTurns plan.last_card s t s' → (j : ℕ) (v : View) → get_elem? s'.views j ≡ some v → v.worker.card ≢ Some c
     stays_free (Makes id i) s' turn j u at = λ has.
         let w = after i (found_by s i) turn.view in
         let there : get_elem? (set s.views id w) j ≡ some u = subst (λ (x : TableState). get_elem? x.views j ≡ some u) turn.gives at in
         ⊎_elim
-        (λ (t : (j ≡ id) × (w ≡ u)). elim (call_held last i (found_by s i) turn.view turn.may c (ap (λ (x : View). x.worker.card) t.1 ∙ has)) [
+        (λ (t : (j ≡ id) × (w ≡ u)). elim (call_held plan.last_card i (found_by s i) turn.view turn.may c (ap (λ (x : View). x.worker.card) t.1 ∙ has)) [
           | inl was ↦ h.free id turn.view turn.there was
           | inr claims ↦
               let is : get_or s.words 0 0 ≡ c = ap (found_by s) (sym claims.0) ∙ claims.1 in
@@ -268,30 +269,30 @@ module _ (keys : List ℕ) (start : List (ℕ × ℕ)) (last : ℕ) where
         (λ v. v.worker.card ≢ Some c) (λ e. some_not_none e refl) (λ e. some_not_none e refl) h.free) j u at
 
     -- and it doesn't end by a turn
-    stays_unended : (t : Turn) (s' : TableState) → TableTurns last s t s' → IsReached keys start last s' → ends c s' ≡ 0
+    stays_unended : (t : Turn) (s' : TableState) → TableTurns plan.last_card s t s' → IsReached plan s' → ends c s' ≡ 0
     stays_unended t s' turn on = by (ends c s') refl
       where
         by : (n : ℕ) → ends c s' ≡ n → n ≡ 0
         by zero e = refl
         by (suc n) e =
             let was = h.unended in
-            let rise = ends_rise c last s t s' turn in
+            let rise = ends_rise c plan.last_card s t s' turn in
             let one = turn_wins_one s t c in
             let flagged = ended_was_flagged s' on c (omega arith) in
-            let i = turn_total kind.IFlag c last s t s' turn in
-            let d = turn_total kind.DFlag c last s t s' turn in
+            let i = turn_total kind.IFlag c plan.last_card s t s' turn in
+            let d = turn_total kind.DFlag c plan.last_card s t s' turn in
             let hand = open_in_hand s reached c was (omega arith) in
             absurd (h.free hand.seat hand.view hand.there hand.holds)
 
   -- so it stays abandoned by every turn, and in every run
-  pub turn_abandoned : (s : TableState) → IsReached keys start last s → (c : ℕ) → IsAbandoned s c → (t : Turn) (s' : TableState) → TableTurns last s t s' → IsAbandoned s' c
+  pub turn_abandoned : (s : TableState) → IsReached plan s → (c : ℕ) → IsAbandoned s c → (t : Turn) (s' : TableState) → TableTurns plan.last_card s t s' → IsAbandoned s' c
   turn_abandoned s reached c h t s' turn = record {
-    claimed = let rises = claim_word_rises keys last s (reached_kept keys start last s reached) t s' turn in let low = h.claimed in omega arith;
+    claimed = let rises = claim_word_rises plan.keys plan.last_card s (reached_kept plan s reached) t s' turn in let low = h.claimed in omega arith;
     free = stays_free s reached c h t s' turn;
-    unended = stays_unended s reached c h t s' turn (reached_on keys start last s reached t s' turn);
+    unended = stays_unended s reached c h t s' turn (reached_on plan s reached t s' turn);
   }
 
-  pub run_abandoned : (s : TableState) → IsReached keys start last s → (c : ℕ) → IsAbandoned s c → (turns : List Turn) (s' : TableState) → TableRun last s turns s' → IsAbandoned s' c
+  pub run_abandoned : (s : TableState) → IsReached plan s → (c : ℕ) → IsAbandoned s c → (turns : List Turn) (s' : TableState) → TableRun plan.last_card s turns s' → IsAbandoned s' c
   run_abandoned s reached c h [] s' run = subst (λ x. IsAbandoned x c) (sym run) h
   run_abandoned s reached c h (t ∷ ts) s' run =
-      run_abandoned run.0 (reached_on keys start last s reached t run.0 run.1) c (turn_abandoned s reached c h t run.0 run.1) ts s' run.2
+      run_abandoned run.0 (reached_on plan s reached t run.0 run.1) c (turn_abandoned s reached c h t run.0 run.1) ts s' run.2

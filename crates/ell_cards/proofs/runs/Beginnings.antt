@@ -11,7 +11,7 @@ use Rattle.ell_cards.specs.declared.call.Call.{Call}
 use Rattle.ell_cards.specs.declared.call.Call.TheVariants as call
 use Rattle.ell_cards.specs.declared.view.Looking.{Looking}
 use Rattle.ell_cards.specs.declared.view.View.{View}
-use Rattle.ell_cards.specs.Changes.{looked_down, left_view, right_view, joined_view, spent_view, first_view}
+use Rattle.ell_cards.specs.Changes.{looked_down, left_view, right_view, joined_view, spent_view, first_of}
 use Rattle.ell_cards.specs.Calls.{after}
 use Rattle.ell_cards.specs.States.{TableState}
 use Rattle.ell_cards.specs.Machines.{HasMachine}
@@ -21,6 +21,7 @@ use Rattle.ell_cards.specs.Looking.{BeginsNothing, LooksOn, Began, LooksAreOfOne
 use Rattle.ell_cards.proofs.runs.Looking.{claim_look, flag_look, mark_look, looks_of_one_state}
 use Rattle.ell_cards.proofs.runs.Starting.{starts_are_kept}
 use Rattle.ell_cards.proofs.runs.TurnsOfRuns.{runs_are_lawful}
+use Rattle.ell_cards.specs.Models.{TablePlan}
 
 module _ (cards seat key : ℕ) where
   -- a look for the key has come to this node
@@ -144,30 +145,30 @@ module _ (cards seat key : ℕ) where
   ]
 
 -- no pass looks at a start
-starts_still : (keys : List ℕ) (start : List (ℕ × ℕ)) (cards : ℕ) (s : TableState) → Starts keys start cards s → (last seat key : ℕ) → LooksHere last seat key s → ⊥
-starts_still keys start cards s starts last seat key at =
-    elim (at_snoc [] (first_view keys start) at.view seat (ap (λ (t : TableState). get_elem? t.views seat) (sym starts.is) ∙ at.there)) [
+starts_still : (plan : TablePlan) (s : TableState) → Starts plan s → (last seat key : ℕ) → LooksHere last seat key s → ⊥
+starts_still plan s starts last seat key at =
+    elim (at_snoc [] (first_of plan) at.view seat (ap (λ (t : TableState). get_elem? t.views seat) (sym starts.is) ∙ at.there)) [
       | inl e ↦ absurd (some-ne-none at.view (sym e))
-      | inr e ↦ no_look last seat key (first_view keys start) at.view refl e at.node at.looks
+      | inr e ↦ no_look last seat key (first_of plan) at.view refl e at.node at.looks
     ]
 
 -- so each look began in the run, and what it has found was so since
 pub looks_are_of_one_state : LooksAreOfOneState
-looks_are_of_one_state keys start last v key said found cards s same starts turns s' run seat there =
-    let kept = subst (λ n. HasMachine keys n s) same (starts_are_kept keys start cards s starts).kept in
-    elim (run_back last seat key s turns s' run (record { view = v; there = there; node = found.leaf; looks = found.looks })) [
+looks_are_of_one_state plan v key said found s starts turns s' run seat there =
+    let kept = (starts_are_kept plan s starts).kept in
+    elim (run_back plan.last_card seat key s turns s' run (record { view = v; there = there; node = found.leaf; looks = found.looks })) [
       | inl b ↦ record {
         began = b;
-        so = looks_of_one_state keys last v key said found b.from
-            (runs_are_lawful keys last s kept _ b.from b.before).kept seat b.to b.call _ s' b.after b.on there;
+        so = looks_of_one_state plan.keys plan.last_card v key said found b.from
+            (runs_are_lawful plan.keys plan.last_card s kept _ b.from b.before).kept seat b.to b.call _ s' b.after b.on there;
       }
-      | inr h ↦ absurd (starts_still keys start cards s starts last seat key h.1)
+      | inr h ↦ absurd (starts_still plan s starts plan.last_card seat key h.1)
     ]
 
 -- of two looks, one after the other, the second is of no earlier state
 pub looks_are_in_order : LooksAreInOrder
-looks_are_in_order keys start cards s starts turns ended run seat v at key there found other next begun call more s' run' on w at' there' found' =
-    let last = last_card start cards in
-    let first = looks_are_of_one_state keys start last v key there found cards s refl starts turns ended run seat at in
-    let kept = (runs_are_lawful keys last s (starts_are_kept keys start cards s starts).kept turns ended run).kept in
-    (first, looks_of_one_state keys last w next there' found' ended kept other begun call more s' run' on at')
+looks_are_in_order plan s starts turns ended run seat v at key there found other next begun call more s' run' on w at' there' found' =
+    let last = plan.last_card in
+    let first = looks_are_of_one_state plan v key there found s starts turns ended run seat at in
+    let kept = (runs_are_lawful plan.keys plan.last_card s (starts_are_kept plan s starts).kept turns ended run).kept in
+    (first, looks_of_one_state plan.keys plan.last_card w next there' found' ended kept other begun call more s' run' on at')

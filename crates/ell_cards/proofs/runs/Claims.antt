@@ -18,7 +18,7 @@ use Rattle.ell_cards.specs.declared.call.Call.TheVariants as call
 use Rattle.ell_cards.specs.declared.view.Told.{Told}
 use Rattle.ell_cards.specs.declared.view.Told.TheVariants.{Met, Key, Value, Info, Frozen}
 use Rattle.ell_cards.specs.declared.view.View.{View}
-use Rattle.ell_cards.specs.Models.{Has, latest, earlier, IsTold}
+use Rattle.ell_cards.specs.Models.{TablePlan, Has, latest, earlier, IsTold}
 use Rattle.ell_cards.specs.Changes.{told_filling, filling_of, filling_for, told_value, after_claim, after_flag, after_mark, is_mark_of, learning, unmarking, left_view, right_view, joined_view, spent_view}
 use Rattle.ell_cards.specs.Guards.{MayClaim, Wants}
 use Rattle.ell_cards.specs.Calls.{word_of, atomic_of, left_by, after}
@@ -214,13 +214,13 @@ run_told : (cards first : ℕ) (s : TableState) (turns : List Turn) (s' : TableS
 run_told cards first s [] s' run h = subst (AllTold first) (sym run) h
 run_told cards first s (t ∷ ts) s' run h = run_told cards first run.0 ts s' run.2 (turn_told cards first s h t run.0 run.1)
 
-pub all_told : (keys : List ℕ) (start : List (ℕ × ℕ)) (cards : ℕ) (s : TableState) → IsReached keys start cards s → AllTold (length start) s
-all_told keys start cards s h =
-    let opens : get_or h.first.words 0 0 ≡ length start + 1 = sym (listed_next h.first.words) ∙ ap (λ (w : Words). w.next) h.starts.words.are in
-    run_told cards (length start) h.first h.turns s h.run (record {
+pub all_told : (plan : TablePlan) (s : TableState) → IsReached plan s → AllTold (length plan.start) s
+all_told plan s h =
+    let opens : get_or h.first.words 0 0 ≡ length plan.start + 1 = sym (listed_next h.first.words) ∙ ap (λ (w : Words). w.next) h.starts.words.are in
+    run_told plan.last_card (length plan.start) h.first h.turns s h.run (record {
       next = omega arith;
       told = λ c low below. absurd (omega arith);
     })
 
 pub claims_are_told : ClaimsAreTold
-claims_are_told keys start cards s h = (all_told keys start cards s h).told
+claims_are_told plan s h = (all_told plan s h).told

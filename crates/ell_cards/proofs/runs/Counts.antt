@@ -23,10 +23,11 @@ use Rattle.ell_cards.proofs.runs.GoingOn.{run_goes}
 use Rattle.ell_cards.proofs.runs.Starting.{starts_are_kept}
 use Rattle.ell_cards.proofs.runs.Claims.{first_set, leaves_next}
 use Rattle.ell_cards.proofs.runs.Won.{number, count, times, total, won_by, other_kind, turn_total, run_total}
+use Rattle.ell_cards.specs.Models.{TablePlan}
 
 -- nothing was won at the start
-pub none_at_start : (keys : List ℕ) (start : List (ℕ × ℕ)) (cards : ℕ) (s : TableState) → Starts keys start cards s → (k : Kind) (c : ℕ) → total k c s ≡ 0
-none_at_start keys start cards s starts k c = ap (total k c) starts.is
+pub none_at_start : (plan : TablePlan) (s : TableState) → Starts plan s → (k : Kind) (c : ℕ) → total k c s ≡ 0
+none_at_start plan s starts k c = ap (total k c) starts.is
 
 -- a machine of a state, with stages of its cards by which each win of a card was told once, to one pass
 pub record Counts (keys : List ℕ) (cards : ℕ) (s : TableState) : Type 0 where
@@ -35,26 +36,20 @@ pub record Counts (keys : List ℕ) (cards : ℕ) (s : TableState) : Type 0 wher
   pub invariant : Invariant (machine_of_table keys cards s machine) stages
   pub counted : (k : Kind) → 0 < number k → (c : ℕ) → total k c s ≡ count k (wins_of (stages c))
 
-pub wins_are_counted : (keys : List ℕ) (start : List (ℕ × ℕ)) (cards : ℕ) (s : TableState) → IsReached keys start cards s → Counts keys cards s
-wins_are_counted keys start cards s h = by cards h.all h.run
-  where
-    at : (run : TableRun (last_card start h.cards) h.first h.turns s) → Counts keys (last_card start h.cards) s
-    at run =
-        let k = starts_are_kept keys start h.cards h.first h.starts in
-        let goes = run_goes keys (last_card start h.cards) h.first k.kept k.kept.stages k.kept.invariant h.turns s run in record {
-          machine = goes.0;
-          stages = goes.1.stages;
-          invariant = goes.1.invariant;
-          counted = λ j more c.
-              let runs = run_total j more c (last_card start h.cards) h.first h.turns s run in
-              let none = none_at_start keys start h.cards h.first h.starts j c in
-              let first = ap (λ ws. count j (ws ++ run_wins (last_card start h.cards) h.first h.turns s run c)) (k.unwon c) in
-              let wins = ap (count j) (goes.1.wins c) in
-              omega arith;
-        }
-
-    by : (n : ℕ) → last_card start h.cards ≡ n → (run : TableRun n h.first h.turns s) → Counts keys n s
-    by n e = subst (λ n. (run : TableRun n h.first h.turns s) → Counts keys n s) e at
+pub wins_are_counted : (plan : TablePlan) (s : TableState) → IsReached plan s → Counts plan.keys plan.last_card s
+wins_are_counted plan s h =
+    let k = starts_are_kept plan h.first h.starts in
+    let goes = run_goes plan.keys plan.last_card h.first k.kept k.kept.stages k.kept.invariant h.turns s h.run in record {
+      machine = goes.0;
+      stages = goes.1.stages;
+      invariant = goes.1.invariant;
+      counted = λ j more c.
+          let runs = run_total j more c plan.last_card h.first h.turns s h.run in
+          let none = none_at_start plan h.first h.starts j c in
+          let first = ap (λ ws. count j (ws ++ run_wins plan.last_card h.first h.turns s h.run c)) (k.unwon c) in
+          let wins = ap (count j) (goes.1.wins c) in
+          omega arith;
+    }
 
 -- each claim was told once, to one pass: of the cards after the opening tree's and below the claim word
 pub record ClaimsCount (first : ℕ) (s : TableState) : Type 0 where
@@ -152,12 +147,12 @@ run_counts : (cards first : ℕ) (s : TableState) (turns : List Turn) (s' : Tabl
 run_counts cards first s [] s' run h = subst (ClaimsCount first) (sym run) h
 run_counts cards first s (t ∷ ts) s' run h = run_counts cards first run.0 ts s' run.2 (turn_counts cards first s h t run.0 run.1)
 
-pub claims_are_counted : (keys : List ℕ) (start : List (ℕ × ℕ)) (cards : ℕ) (s : TableState) → IsReached keys start cards s → ClaimsCount (length start) s
-claims_are_counted keys start cards s h =
-    let opens : get_or h.first.words 0 0 ≡ length start + 1 = sym (listed_next h.first.words) ∙ ap (λ (w : Words). w.next) h.starts.words.are in
-    run_counts cards (length start) h.first h.turns s h.run (record {
+pub claims_are_counted : (plan : TablePlan) (s : TableState) → IsReached plan s → ClaimsCount (length plan.start) s
+claims_are_counted plan s h =
+    let opens : get_or h.first.words 0 0 ≡ length plan.start + 1 = sym (listed_next h.first.words) ∙ ap (λ (w : Words). w.next) h.starts.words.are in
+    run_counts plan.last_card (length plan.start) h.first h.turns s h.run (record {
       next = omega arith;
-      low = λ c low. none_at_start keys start h.cards h.first h.starts kind.Claim c;
+      low = λ c low. none_at_start plan h.first h.starts kind.Claim c;
       claimed = λ c above below. absurd (omega arith);
-      high = λ c high. none_at_start keys start h.cards h.first h.starts kind.Claim c;
+      high = λ c high. none_at_start plan h.first h.starts kind.Claim c;
     })

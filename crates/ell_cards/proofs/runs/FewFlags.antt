@@ -30,7 +30,7 @@ use Rattle.ell_cards.specs.TurnEffects.{own_words, run_wins}
 use Rattle.ell_cards.specs.Stretches.{is_flag, won_in, HasHeight, passes_at_work, FewFlagsWithoutAChange}
 use Rattle.ell_cards.proofs.own_words.OwnTree.{leads_on, root_born}
 use Rattle.ell_cards.proofs.own_words.OwnWords.{same_card, machine_is_sound}
-use Rattle.ell_cards.proofs.runs.Reaching.{reached_kept}
+use Rattle.ell_cards.proofs.runs.Reaching.{led_kept}
 use Rattle.ell_cards.proofs.runs.Abandoned.{hand_there}
 use Rattle.ell_cards.proofs.runs.HowMany.{one, many_shared, held_by, held_there, hands_hold, sum_of, sum_both}
 use Rattle.ell_cards.proofs.runs.Stretching.{Amid, amid_first, run_amid, quiet_run, unchanged_since, flag_since, Places}
@@ -428,22 +428,22 @@ module _ (keys : List ℕ) (cards : ℕ) (s0 : TableState) (r0 : HasMachine keys
   few_flags = let a = flags_few in let b = back_few in omega arith
 
 pub few_flags_without_a_change : FewFlagsWithoutAChange
-few_flags_without_a_change keys start cards r h height =
-    few_flags keys last r.begun r0 r0.stages r0.invariant r.now (λ d. run_wins last r.begun r.turns r.now r.run d) (won_in is_flag last r.begun r.turns r.now r.run)
-    at (quiet_run last r.begun r.turns r.now r.run r.unchanged) (machine_is_sound keys last r.begun r0).tree h
+few_flags_without_a_change plan r h height =
+    few_flags plan.keys plan.last_card r.begun r0 r0.stages r0.invariant r.now (λ d. run_wins plan.last_card r.begun r.turns r.now r.run d) (won_in is_flag plan.last_card r.begun r.turns r.now r.run)
+    at (quiet_run plan.last_card r.begun r.turns r.now r.run r.unchanged) (machine_is_sound plan.keys plan.last_card r.begun r0).tree h
     (λ path x leads inner. height path x
-    (leads_on r0.words (own_words r.begun) r0.stages r0.invariant.words (same_card keys last r.begun r0) 0
-    (root_born r0.words (own_words r.begun) r0.stages r0.invariant.words (same_card keys last r.begun r0)) path x leads) inner)
+    (leads_on r0.words (own_words r.begun) r0.stages r0.invariant.words (same_card plan.keys plan.last_card r.begun r0) 0
+    (root_born r0.words (own_words r.begun) r0.stages r0.invariant.words (same_card plan.keys plan.last_card r.begun r0)) path x leads) inner)
   where
     last : ℕ
-    last = last_card start cards
+    last = plan.last_card
 
-    r0 : HasMachine keys last r.begun
-    r0 = reached_kept keys start last r.begun (record { cards = cards; all = refl; first = r.opened; starts = r.starts; turns = r.before; run = r.led })
+    r0 : HasMachine plan.keys plan.last_card r.begun
+    r0 = led_kept plan r.opened r.starts r.before r.begun r.led
 
-    at : Amid keys last r.begun r0 r0.stages r0.invariant r.now (λ d. run_wins last r.begun r.turns r.now r.run d) (won_in is_flag last r.begun r.turns r.now r.run)
+    at : Amid plan.keys plan.last_card r.begun r0 r0.stages r0.invariant r.now (λ d. run_wins plan.last_card r.begun r.turns r.now r.run d) (won_in is_flag plan.last_card r.begun r.turns r.now r.run)
     at =
-        let same : 0 + won_in is_flag last r.begun r.turns r.now r.run ≡ won_in is_flag last r.begun r.turns r.now r.run = omega arith in
-        subst (Amid keys last r.begun r0 r0.stages r0.invariant r.now (λ d. run_wins last r.begun r.turns r.now r.run d)) same
-        (run_amid keys last r.begun r0 r0.stages r0.invariant r.begun (λ d. []) 0 (amid_first keys last r.begun r0 r0.stages r0.invariant) (λ d. refl)
+        let same : 0 + won_in is_flag plan.last_card r.begun r.turns r.now r.run ≡ won_in is_flag plan.last_card r.begun r.turns r.now r.run = omega arith in
+        subst (Amid plan.keys plan.last_card r.begun r0 r0.stages r0.invariant r.now (λ d. run_wins plan.last_card r.begun r.turns r.now r.run d)) same
+        (run_amid plan.keys plan.last_card r.begun r0 r0.stages r0.invariant r.begun (λ d. []) 0 (amid_first plan.keys plan.last_card r.begun r0 r0.stages r0.invariant) (λ d. refl)
         r.turns r.now r.run r.unchanged)

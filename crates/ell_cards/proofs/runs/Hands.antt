@@ -12,7 +12,7 @@ use Rattle.ell_core.proofs.outcomes.Decide.{some_not_none}
 use Rattle.ell_cards.specs.declared.call.Call.{Call}
 use Rattle.ell_cards.specs.declared.call.Call.TheVariants as call
 use Rattle.ell_cards.specs.declared.view.View.{View}
-use Rattle.ell_cards.specs.Changes.{first_view, left_view, right_view, joined_view, spent_view, after_claim, after_flag, after_mark, is_mark_of, learning, unmarking}
+use Rattle.ell_cards.specs.Changes.{first_of, left_view, right_view, joined_view, spent_view, after_claim, after_flag, after_mark, is_mark_of, learning, unmarking}
 use Rattle.ell_cards.specs.Calls.{after, May}
 use Rattle.ell_cards.specs.States.{TableState}
 use Rattle.ell_cards.specs.Turns.{Turn, Makes, Splits, Joins, TableTurns, TableRun, found_by}
@@ -24,6 +24,7 @@ use Rattle.ell_cards.proofs.runs.Reaching.{reached_on}
 use Rattle.ell_cards.proofs.runs.Met.{some_same}
 use Rattle.ell_cards.proofs.runs.Won.{times, times_in, won_by, after_won, times_append}
 use Rattle.ell_cards.proofs.runs.Counts.{ClaimsCount, claims_are_counted, claims_none}
+use Rattle.ell_cards.specs.Models.{TablePlan}
 
 -- a card in hand was claimed by the pass; and the card that the claim word told to be the next was not, while the pass has none in hand and stands
 -- somewhere
@@ -168,19 +169,19 @@ turn_claimed cards first s counts (Joins id other) s' turn h =
     (each_joined s.views id other turn.view turn.view' turn.there turn.there' (λ e. turn.apart (sym e)) both HandIsClaimed
     (claimed_nowhere both refl refl) (claimed_nowhere spent_view refl refl) h)
 
-run_claimed : (keys : List ℕ) (start : List (ℕ × ℕ)) (cards : ℕ) (s : TableState) → IsReached keys start cards s → (turns : List Turn) (s' : TableState)
-    → TableRun cards s turns s' → AllClaimed s → AllClaimed s'
-run_claimed keys start cards s reached [] s' run h = subst AllClaimed (sym run) h
-run_claimed keys start cards s reached (t ∷ ts) s' run h =
-    run_claimed keys start cards run.0 (reached_on keys start cards s reached t run.0 run.1) ts s' run.2
-    (turn_claimed cards (length start) s (claims_are_counted keys start cards s reached) t run.0 run.1 h)
+run_claimed : (plan : TablePlan) (s : TableState) → IsReached plan s → (turns : List Turn) (s' : TableState)
+    → TableRun plan.last_card s turns s' → AllClaimed s → AllClaimed s'
+run_claimed plan s reached [] s' run h = subst AllClaimed (sym run) h
+run_claimed plan s reached (t ∷ ts) s' run h =
+    run_claimed plan run.0 (reached_on plan s reached t run.0 run.1) ts s' run.2
+    (turn_claimed plan.last_card (length plan.start) s (claims_are_counted plan s reached) t run.0 run.1 h)
 
 -- the start of a run that leads somewhere was reached
-pub first_reached : (keys : List ℕ) (start : List (ℕ × ℕ)) (cards : ℕ) (s : TableState) (h : IsReached keys start cards s) → IsReached keys start cards h.first
-first_reached keys start cards s h = record { cards = h.cards; all = h.all; first = h.first; starts = h.starts; turns = []; run = refl }
+pub first_reached : (plan : TablePlan) (s : TableState) (h : IsReached plan s) → IsReached plan h.first
+first_reached plan s h = record { first = h.first; starts = h.starts; turns = []; run = refl }
 
 -- wherever turns have led a table, a card in hand was claimed by its pass
-pub hands_are_claimed : (keys : List ℕ) (start : List (ℕ × ℕ)) (cards : ℕ) (s : TableState) → IsReached keys start cards s → AllClaimed s
-hands_are_claimed keys start cards s h =
-    run_claimed keys start cards h.first (first_reached keys start cards s h) h.turns s h.run
-    (subst AllClaimed (sym h.starts.is) (each_first (first_view keys start) HandIsClaimed (claimed_nowhere (first_view keys start) refl refl)))
+pub hands_are_claimed : (plan : TablePlan) (s : TableState) → IsReached plan s → AllClaimed s
+hands_are_claimed plan s h =
+    run_claimed plan h.first (first_reached plan s h) h.turns s h.run
+    (subst AllClaimed (sym h.starts.is) (each_first (first_of plan) HandIsClaimed (claimed_nowhere (first_of plan) refl refl)))

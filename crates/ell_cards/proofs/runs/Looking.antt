@@ -65,10 +65,10 @@ mark_look false c x u v = by (is_mark_of c u.state u.card)
     by false = refl
 
 -- where a machine goes on, by an act or by none, and the nodes that were met with it
-record GoneOn (key : ℕ) (met : ℕ → Type 0) (m' : Machine) : Type 0 where
-  stages : Stages
-  holds : Invariant m' stages
-  are : AreMet m'.words stages key (λ x. met x ⊎ OnWalk m'.words key 0 x)
+pub record GoneOn (key : ℕ) (met : ℕ → Type 0) (m' : Machine) : Type 0 where
+  pub stages : Stages
+  pub holds : Invariant m' stages
+  pub are : AreMet m'.words stages key (λ x. met x ⊎ OnWalk m'.words key 0 x)
 
 -- the nodes that were met and those on the walk, where no word changed
 still_met : (key : ℕ) → key ≤ greatest_key → (met : ℕ → Type 0) (m : Machine) (stage : Stages) (m' : Machine) → Invariant m' stage → m'.words ≡ m.words
@@ -96,6 +96,28 @@ becomes_met key real met m stage i (Some a) said m' holds steps are =
       holds = follows.invariant;
       are = event_met m stage (record { worker = i; act = a }) said m' follows.stages key met holds steps follows.invariant.words follows.later.born real are;
     }
+
+-- the machine after a turn, with the nodes that were met
+pub gone_by : (keys : List ℕ) (cards : ℕ) (key : ℕ) → key ≤ greatest_key → (s : TableState) (met : ℕ → Type 0) (kept : HasMachine keys cards s) (stages : Stages)
+    → Invariant (machine_of_table keys cards s kept) stages → AreMet kept.words stages key met → (t : Turn) (s' : TableState) → TableTurns cards s t s' → (kept : HasMachine keys cards s') × GoneOn key met (machine_of_table keys cards s' kept)
+gone_by keys cards key real s met was stage inv are (Makes other c) s' h =
+    let turn = turn_lawful keys cards s was (Makes other c) s' h in (
+      turn.0,
+      becomes_met key real met (machine_of_table keys cards s was) stage other (act_of c (found_by s c)) (said_of c (found_by s c))
+          (machine_of_table keys cards s' turn.0) inv turn.1.machine are,
+    )
+gone_by keys cards key real s met was stage inv are (Splits other left) s' h =
+    let turn = turn_lawful keys cards s was (Splits other left) s' h in
+    let m = machine_of_table keys cards s was in
+    let m' = machine_of_table keys cards s' turn.0 in
+    let split = turn.1.machine in
+    (turn.0, still_met key real met m stage m' (splits_lawful m stage other m' inv split) (ap (λ (n : Machine). n.words) split.gives) are)
+gone_by keys cards key real s met was stage inv are (Joins one other) s' h =
+    let turn = turn_lawful keys cards s was (Joins one other) s' h in
+    let m = machine_of_table keys cards s was in
+    let m' = machine_of_table keys cards s' turn.0 in
+    let join = turn.1.machine in
+    (turn.0, still_met key real met m stage m' (joins_lawful m stage one other m' inv join) (ap (λ (n : Machine). n.words) join.gives) are)
 
 module _ (keys : List ℕ) (cards : ℕ) (seat key : ℕ) (real : key ≤ greatest_key) where
   -- nodes that were met, in a state that has a machine, and the look of the pass in the seat has come to one of them
@@ -171,26 +193,8 @@ module _ (keys : List ℕ) (cards : ℕ) (seat key : ℕ) (real : key ≤ greate
       | inr c ↦ subst (LookGoes s met) (sym c.3) (look_goes c.0 c.1 c.2)
     ]
 
-    -- the machine after a turn, with the nodes that were met
     turn_met : (t : Turn) (s' : TableState) → TableTurns cards s t s' → (kept : HasMachine keys cards s') × GoneOn key met (machine_of_table keys cards s' kept)
-    turn_met (Makes other c) s' h =
-        let turn = turn_lawful keys cards s at.kept (Makes other c) s' h in (
-          turn.0,
-          becomes_met key real met (machine_of_table keys cards s at.kept) at.stages other (act_of c (found_by s c)) (said_of c (found_by s c))
-              (machine_of_table keys cards s' turn.0) at.holds turn.1.machine at.are,
-        )
-    turn_met (Splits other left) s' h =
-        let turn = turn_lawful keys cards s at.kept (Splits other left) s' h in
-        let m = machine_of_table keys cards s at.kept in
-        let m' = machine_of_table keys cards s' turn.0 in
-        let split = turn.1.machine in
-        (turn.0, still_met key real met m at.stages m' (splits_lawful m at.stages other m' at.holds split) (ap (λ (n : Machine). n.words) split.gives) at.are)
-    turn_met (Joins one other) s' h =
-        let turn = turn_lawful keys cards s at.kept (Joins one other) s' h in
-        let m = machine_of_table keys cards s at.kept in
-        let m' = machine_of_table keys cards s' turn.0 in
-        let join = turn.1.machine in
-        (turn.0, still_met key real met m at.stages m' (joins_lawful m at.stages one other m' at.holds join) (ap (λ (n : Machine). n.words) join.gives) at.are)
+    turn_met t s' h = gone_by keys cards key real s met at.kept at.stages at.holds at.are t s' h
 
     turn_stands : (t : Turn) (s' : TableState) → TableTurns cards s t s' → Only BeginsNothing seat t
         → (kept : HasMachine keys cards s') × Stands s' (λ x. met x ⊎ OnWalk kept.words key 0 x)
@@ -214,17 +218,17 @@ module _ (keys : List ℕ) (cards : ℕ) (seat key : ℕ) (real : key ≤ greate
         )
 
   -- in a state of a run the walk for the key comes by a node
-  record WasOn (s : TableState) (turns : List Turn) (s' : TableState) (x : ℕ) : Type 0 where
-    state : TableState
-    amid : IsAmid cards s turns s' state
-    kept : HasMachine keys cards state
-    on : OnWalk kept.words key 0 x
+  pub record WasOn (s : TableState) (turns : List Turn) (s' : TableState) (x : ℕ) : Type 0 where
+    pub state : TableState
+    pub amid : IsAmid cards s turns s' state
+    pub kept : HasMachine keys cards state
+    pub on : OnWalk kept.words key 0 x
 
-  was_first : (s : TableState) (turns : List Turn) (s' : TableState) (x : ℕ) → TableRun cards s turns s' → (kept : HasMachine keys cards s) → OnWalk kept.words key 0 x
+  pub was_first : (s : TableState) (turns : List Turn) (s' : TableState) (x : ℕ) → TableRun cards s turns s' → (kept : HasMachine keys cards s) → OnWalk kept.words key 0 x
       → WasOn s turns s' x
   was_first s turns s' x run kept on = record { state = s; amid = record { first = 0; before = refl; after = run }; kept = kept; on = on }
 
-  was_later : (s between : TableState) (t : Turn) (turns : List Turn) (s' : TableState) (x : ℕ) → TableTurns cards s t between → WasOn between turns s' x
+  pub was_later : (s between : TableState) (t : Turn) (turns : List Turn) (s' : TableState) (x : ℕ) → TableTurns cards s t between → WasOn between turns s' x
       → WasOn s (t ∷ turns) s' x
   was_later s between t turns s' x turn was = record {
     state = was.state;

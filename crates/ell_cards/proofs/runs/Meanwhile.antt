@@ -36,7 +36,7 @@ use Rattle.ell_cards.specs.declared.call.Call.TheVariants as call
 use Rattle.ell_cards.specs.declared.view.Hindrance.{Hindrance}
 use Rattle.ell_cards.specs.declared.view.Hindrance.TheVariants.{Claim, Found}
 use Rattle.ell_cards.specs.declared.view.View.{View}
-use Rattle.ell_cards.specs.Models.{EndedBy}
+use Rattle.ell_cards.specs.Models.{TablePlan, EndedBy}
 use Rattle.ell_cards.specs.Calls.{after, act_of, said_of, Becomes, May}
 use Rattle.ell_cards.specs.Changes.{way_now, left_view, right_view, joined_view, spent_view}
 use Rattle.ell_cards.specs.States.{TableState, seat_worker}
@@ -275,31 +275,31 @@ facts_ended m stages holds seat v mine c ended =
       ]
     ]
 
-module _ (keys : List ℕ) (start : List (ℕ × ℕ)) (cards : ℕ) (q : SearchRun keys start cards) where
+module _ (plan : TablePlan) (q : SearchRun plan) where
   abbrev last : ℕ
-  last = last_card start cards
+  last = plan.last_card
 
   -- the table as it starts
-  opens : StartIsKept keys start cards q.opened
-  opens = starts_are_kept keys start cards q.opened q.starts
+  opens : StartIsKept plan q.opened
+  opens = starts_are_kept plan q.opened q.starts
 
   -- where the run leads before the search begins
-  led_to : (k : HasMachine keys last q.begun) × Went opens.kept.words opens.kept.stages (run_wins last q.opened q.before q.begun q.led) (machine_of_table keys last q.begun k)
-  led_to = run_goes keys last q.opened opens.kept opens.kept.stages opens.kept.invariant q.before q.begun q.led
+  led_to : (k : HasMachine plan.keys plan.last_card q.begun) × Went opens.kept.words opens.kept.stages (run_wins plan.last_card q.opened q.before q.begun q.led) (machine_of_table plan.keys plan.last_card q.begun k)
+  led_to = run_goes plan.keys plan.last_card q.opened opens.kept opens.kept.stages opens.kept.invariant q.before q.begun q.led
 
   abbrev first : Machine
-  first = machine_of_table keys last q.begun led_to.0
+  first = machine_of_table plan.keys plan.last_card q.begun led_to.0
 
   abbrev stage : Stages
   stage = led_to.1.stages
 
   -- nothing was won before the start
-  won_by_then : (c : ℕ) → wins_of (stage c) ≡ run_wins last q.opened q.before q.begun q.led c
-  won_by_then c = led_to.1.wins c ∙ ap (λ ks. ks ++ run_wins last q.opened q.before q.begun q.led c) (opens.unwon c)
+  won_by_then : (c : ℕ) → wins_of (stage c) ≡ run_wins plan.last_card q.opened q.before q.begun q.led c
+  won_by_then c = led_to.1.wins c ∙ ap (λ ks. ks ++ run_wins plan.last_card q.opened q.before q.begun q.led c) (opens.unwon c)
 
   -- where it leads while the search goes on
-  led : Leads first stage led_to.1.invariant q.seat keys last q.begins.view.hindrances q.now (run_wins last q.begun q.meanwhile q.now q.run)
-  led = run_since first stage led_to.1.invariant q.seat keys last q.begins.view.hindrances q.begun (λ d. []) (record {
+  led : Leads first stage led_to.1.invariant q.seat plan.keys plan.last_card q.begins.view.hindrances q.now (run_wins plan.last_card q.begun q.meanwhile q.now q.run)
+  led = run_since first stage led_to.1.invariant q.seat plan.keys plan.last_card q.begins.view.hindrances q.begun (λ d. []) (record {
     kept = led_to.0;
     went = record {
       stages = stage;
@@ -329,32 +329,32 @@ module _ (keys : List ℕ) (start : List (ℕ × ℕ)) (cards : ℕ) (q : Search
   }) q.meanwhile q.now q.run q.keeps
 
   abbrev now : Machine
-  now = machine_of_table keys last q.now led.kept
+  now = machine_of_table plan.keys plan.last_card q.now led.kept
 
   mine : now.worker q.seat ≡ worker_of q.view.worker
   mine = ap seat_worker q.there
 
   -- a card that had not ended by the stages had not by the wins
-  not_before : (c : ℕ) → has_ended (stage c) ≡ false → ended_before keys start cards q c ≡ false
+  not_before : (c : ℕ) → has_ended (stage c) ≡ false → ended_before plan q c ≡ false
   not_before c un = ap has_end (sym (won_by_then c)) ∙ (wins_end (stage c) ∙ un)
 
   -- one that had not, and has ended now, ended since
-  ended_in : (c : ℕ) → has_ended (stage c) ≡ false → has_ended (led.went.stages c) ≡ true → ended_since keys start cards q c ≡ true
-  ended_in c un after = new_end (wins_of (stage c)) (run_wins last q.begun q.meanwhile q.now q.run c)
+  ended_in : (c : ℕ) → has_ended (stage c) ≡ false → has_ended (led.went.stages c) ≡ true → ended_since plan q c ≡ true
+  ended_in c un after = new_end (wins_of (stage c)) (run_wins plan.last_card q.begun q.meanwhile q.now q.run c)
       (ap has_end (sym (led.went.wins c)) ∙ (wins_end (led.went.stages c) ∙ after)) (wins_end (stage c) ∙ un)
 
   -- what the pass knows to have ended has
   known_ended : (c : ℕ) → EndedBy q.view.worker.facts c → has_ended (led.went.stages c) ≡ true
   known_ended c ended = facts_ended now led.went.stages led.went.invariant q.seat q.view mine c ended
 
-  ends_by : (c : ℕ) → has_ended (stage c) ≡ false → EndsMeanwhile keys start cards q c
+  ends_by : (c : ℕ) → has_ended (stage c) ≡ false → EndsMeanwhile plan q c
   ends_by c un = record { before = not_before c un; since = λ ended. ended_in c un (known_ended c ended) }
 
-  reads_end : (word : ℕ) → IsOfUnended stage word → WordEndsMeanwhile keys start cards q word
+  reads_end : (word : ℕ) → IsOfUnended stage word → WordEndsMeanwhile plan q word
   reads_end word unended dirty = ends_by (unpacked word).card (unended dirty)
 
   -- what was met, by the run
-  met_in : (hs : List Hindrance) → AllMet led_to.0.words stage led.kept.words led.went.stages hs → AreMeanwhile keys start cards q hs
+  met_in : (hs : List Hindrance) → AllMet led_to.0.words stage led.kept.words led.went.stages hs → AreMeanwhile plan q hs
   met_in [] h = tt
   met_in (Claim c ∷ hs) h =
       let first = listed_next q.begun.words ∙ led_to.0.next in
@@ -374,10 +374,10 @@ module _ (keys : List ℕ) (start : List (ℕ × ℕ)) (cards : ℕ) (q : Search
 
 -- what a search has read since it began ends meanwhile
 pub searches_read_meanwhile : SearchesReadMeanwhile
-searches_read_meanwhile keys start cards q =
-    let l = led keys start cards q in
-    let same = ap (λ (u : Worker). u.search) (mine keys start cards q) in
-    let ends = reads_end keys start cards q in record {
+searches_read_meanwhile plan q =
+    let l = led plan q in
+    let same = ap (λ (u : Worker). u.search) (mine plan q) in
+    let ends = reads_end plan q in record {
       here = λ x word at has. ends word (l.since.read x word (ap (λ (n : Search). n.node) same ∙ at) (ap (λ (n : Search). n.read) same ∙ has)).unended;
       parent = λ seen has. ends seen.word (l.since.parent seen (ap (λ (n : Search). n.parent) same ∙ has)).unended;
       grandparent = λ seen has. ends seen.word (l.since.grandparent seen (ap (λ (n : Search). n.grandparent) same ∙ has)).unended;
@@ -385,31 +385,31 @@ searches_read_meanwhile keys start cards q =
 
 -- and so does what came to be in its way
 pub searches_meet_meanwhile : SearchesMeetMeanwhile
-searches_meet_meanwhile keys start cards q =
-    let l = led keys start cards q in
+searches_meet_meanwhile plan q =
+    let l = led plan q in
     let same : l.view ≡ q.view = some-injective l.view q.view (sym l.there ∙ q.there) in record {
       met = l.hindered.met;
       list = subst (λ (u : View). u.hindrances ≡ l.hindered.met ++ q.begins.view.hindrances) same l.hindered.list;
       earlier = l.hindered.earlier;
       tries = l.hindered.tries ∙ ap (λ (u : View). u.met ++ l.hindered.earlier) same;
-      each = met_in keys start cards q l.hindered.met l.hindered.each;
+      each = met_in plan q l.hindered.met l.hindered.each;
       own = λ c has. l.hindered.own c (ap (λ (u : View). u.worker.card) same ∙ has);
-      free = hand_free keys start cards q;
+      free = hand_free plan q;
     }
 
 -- what a pass knows of moves was made
 pub known_moves_were_made : KnownMovesWereMade
-known_moves_were_made keys start cards first starts turns s run seat v there =
-    let last = last_card start cards in
-    let opens = starts_are_kept keys start cards first starts in
-    let led = run_goes keys last first opens.kept opens.kept.stages opens.kept.invariant turns s run in
+known_moves_were_made plan first starts turns s run seat v there =
+    let last = plan.last_card in
+    let opens = starts_are_kept plan first starts in
+    let led = run_goes plan.keys plan.last_card first opens.kept opens.kept.stages opens.kept.invariant turns s run in
     let low = (led.0.views seat v there).least in
     let is = listed_next s.words ∙ led.0.next in record {
       given_out = omega (arith, low, is);
       ended = λ c ended.
-          let won = led.1.wins c ∙ ap (λ ks. ks ++ run_wins last first turns s run c) (opens.unwon c) in
+          let won = led.1.wins c ∙ ap (λ ks. ks ++ run_wins plan.last_card first turns s run c) (opens.unwon c) in
           ap has_end (sym won) ∙ (wins_end (led.1.stages c)
-          ∙ facts_ended (machine_of_table keys last s led.0) led.1.stages led.1.invariant seat v (ap seat_worker there) c ended);
+          ∙ facts_ended (machine_of_table plan.keys plan.last_card s led.0) led.1.stages led.1.invariant seat v (ap seat_worker there) c ended);
     }
 
 -- a search begins after a begin and after an again

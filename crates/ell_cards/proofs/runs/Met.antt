@@ -15,8 +15,8 @@ use Rattle.ell_cards.specs.declared.call.Call.TheVariants as call
 use Rattle.ell_cards.specs.declared.view.Told.{Told}
 use Rattle.ell_cards.specs.declared.view.Told.TheVariants.{Met}
 use Rattle.ell_cards.specs.declared.view.View.{View}
-use Rattle.ell_cards.specs.Models.{latest, IsTold}
-use Rattle.ell_cards.specs.Changes.{first_view, left_view, right_view, joined_view, seen_at, after_claim, after_flag, after_mark, is_mark_of, learning, unmarking}
+use Rattle.ell_cards.specs.Models.{TablePlan, latest, IsTold}
+use Rattle.ell_cards.specs.Changes.{first_of, left_view, right_view, joined_view, seen_at, after_claim, after_flag, after_mark, is_mark_of, learning, unmarking}
 use Rattle.ell_cards.specs.Calls.{after, May}
 use Rattle.ell_cards.specs.States.{TableState}
 use Rattle.ell_cards.specs.Turns.{Turn, Makes, Splits, Joins, TableTurns, TableRun, found_by}
@@ -144,7 +144,7 @@ run_met cards s [] s' run h = subst AllMet (sym run) h
 run_met cards s (t ∷ ts) s' run h = run_met cards run.0 ts s' run.2 (turn_met cards s t run.0 run.1 h)
 
 -- so it is of each pass, wherever turns have led a table
-pub searches_are_met : (keys : List ℕ) (start : List (ℕ × ℕ)) (cards : ℕ) (s : TableState) → IsReached keys start cards s → AllMet s
-searches_are_met keys start cards s h =
-    run_met cards h.first h.turns s h.run
-    (subst AllMet (sym h.starts.is) (each_first (first_view keys start) SearchIsMet (met_nowhere (first_view keys start) refl refl refl)))
+pub searches_are_met : (plan : TablePlan) (s : TableState) → IsReached plan s → AllMet s
+searches_are_met plan s h =
+    run_met plan.last_card h.first h.turns s h.run
+    (subst AllMet (sym h.starts.is) (each_first (first_of plan) SearchIsMet (met_nowhere (first_of plan) refl refl refl)))

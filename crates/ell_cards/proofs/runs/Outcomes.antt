@@ -33,7 +33,7 @@ use Rattle.ell_cards.specs.declared.call.Call.{Call}
 use Rattle.ell_cards.specs.declared.call.Call.TheVariants as call
 use Rattle.ell_cards.specs.declared.view.Told.TheVariants.{Met, Info}
 use Rattle.ell_cards.specs.declared.view.View.{View}
-use Rattle.ell_cards.specs.Models.{Knows}
+use Rattle.ell_cards.specs.Models.{TablePlan, Knows}
 use Rattle.ell_cards.specs.Guards.{MayFill, IsFilled}
 use Rattle.ell_cards.specs.Laws.{machine_of_table}
 use Rattle.ell_cards.specs.Changes.{if_won, exchanged, after_flag, learning, unmarking, is_mark_of, after_mark}
@@ -146,17 +146,17 @@ alike_by false true h g = absurd (h refl refl)
 alike_by true false h g = absurd (g refl refl)
 
 -- an exchange that the pass in a seat may make, and its word told otherwise
-module _ (keys : List ℕ) (start : List (ℕ × ℕ)) (cards : ℕ) (s : TableState) (h : IsReached keys start cards s) (id : ℕ) (v : View) (here : get_elem? s.views id ≡ some v)
-    (c : Call) (may : May cards c v) (n : ℕ) (on : IsReached keys start cards (told_of s id v c n)) where
+module _ (plan : TablePlan) (s : TableState) (h : IsReached plan s) (id : ℕ) (v : View) (here : get_elem? s.views id ≡ some v)
+    (c : Call) (may : May plan.last_card c v) (n : ℕ) (on : IsReached plan (told_of s id v c n)) where
   -- where it leads
-  pub went : IsReached keys start cards (state_after s id v c)
-  went = reached_on keys start cards s h (Makes id c) (state_after s id v c) (record { view = v; there = here; may = may; gives = refl })
+  pub went : IsReached plan (state_after s id v c)
+  went = reached_on plan s h (Makes id c) (state_after s id v c) (record { view = v; there = here; may = may; gives = refl })
 
-  pub went_counts : Counts keys cards (state_after s id v c)
-  went_counts = wins_are_counted keys start cards (state_after s id v c) went
+  pub went_counts : Counts plan.keys plan.last_card (state_after s id v c)
+  went_counts = wins_are_counted plan (state_after s id v c) went
 
-  pub told_counts : Counts keys cards (told_of s id v c n)
-  told_counts = wins_are_counted keys start cards (told_of s id v c n) on
+  pub told_counts : Counts plan.keys plan.last_card (told_of s id v c n)
+  told_counts = wins_are_counted plan (told_of s id v c n) on
 
   pub went_there : get_elem? (state_after s id v c).views id ≡ some (after c (found_by s c) v)
   went_there = set_there s.views id (after c (found_by s c) v) v here
@@ -176,18 +176,18 @@ module _ (keys : List ℕ) (start : List (ℕ × ℕ)) (cards : ℕ) (s : TableS
       → won_by c (found_by s c) ≡ if_won (is_won (atomic_of c) (found_by s c)) k (card_of_fact f) → won_by c n ≡ if_won (is_won (atomic_of c) n) k (card_of_fact f)
       → Knows (after c (found_by s c) v) f → Knows (after c n v) f → is_won (atomic_of c) n ≡ is_won (atomic_of c) (found_by s c)
   taught_alike k more f tells found told knows knew =
-      let a = known_once keys cards (state_after s id v c) went_counts id (after c (found_by s c) v) went_there k more f tells knows in
-      let b = known_once keys cards (told_of s id v c n) told_counts id (after c n v) told_there k more f tells knew in
+      let a = known_once plan.keys plan.last_card (state_after s id v c) went_counts id (after c (found_by s c) v) went_there k more f tells knows in
+      let b = known_once plan.keys plan.last_card (told_of s id v c n) told_counts id (after c n v) told_there k more f tells knew in
       let x = went_total k (card_of_fact f) (is_won (atomic_of c) (found_by s c)) found in
       let y = told_total k (card_of_fact f) (is_won (atomic_of c) n) told in
       one_is (is_won (atomic_of c) n) (is_won (atomic_of c) (found_by s c)) (omega arith)
 
 -- a flag that the pass in a seat may set for its card in hand at a node, and its word told otherwise
-module _ (keys : List ℕ) (start : List (ℕ × ℕ)) (cards : ℕ) (s : TableState) (h : IsReached keys start cards s) (id : ℕ) (v : View) (here : get_elem? s.views id ≡ some v)
-    (c : Call) (may : May cards c v) (n : ℕ) (on : IsReached keys start cards (told_of s id v c n))
+module _ (plan : TablePlan) (s : TableState) (h : IsReached plan s) (id : ℕ) (v : View) (here : get_elem? s.views id ≡ some v)
+    (c : Call) (may : May plan.last_card c v) (n : ℕ) (on : IsReached plan (told_of s id v c n))
     (d : ℕ) (hand : MayFill v d) (x : ℕ) (passed : IsPassed v x) (at : word_of c ≡ update_at x) where
-  abbrev before : HasMachine keys cards s
-  before = reached_kept keys start cards s h
+  abbrev before : HasMachine plan.keys plan.last_card s
+  before = reached_kept plan s h
 
   abbrev T : TableState
   T = told_of s id v c n
@@ -196,19 +196,19 @@ module _ (keys : List ℕ) (start : List (ℕ × ℕ)) (cards : ℕ) (s : TableS
   w = after c n v
 
   there : get_elem? T.views id ≡ some w
-  there = told_there keys start cards s h id v here c may n on
+  there = told_there plan s h id v here c may n on
 
   -- the card waits
-  waits_there : (r : HasMachine keys cards s) (stages : Stages) → Invariant (machine_of_table keys cards s r) stages → waits (stages d) ≡ true
+  waits_there : (r : HasMachine plan.keys plan.last_card s) (stages : Stages) → Invariant (machine_of_table plan.keys plan.last_card s r) stages → waits (stages d) ≡ true
   waits_there r stages invariant =
-      let same = mine_is keys cards s r id v here in
+      let same = mine_is plan.keys plan.last_card s r id v here in
       hand_waits r.words stages (seat_worker (get_elem? s.views id)) d (invariant.workers.each id)
       (ap (λ (u : Worker). u.card) same ∙ hand.holds) (ap (λ (u : Worker). u.flagged) same ∙ hand.unflagged)
 
   -- so nothing was won for it
   none_won : (k : Kind) → 0 < number k → total k d s ≡ 0
   none_won k more =
-      let counts = wins_are_counted keys start cards s h in
+      let counts = wins_are_counted plan s h in
       counts.counted k more d ∙ ap (count k) (waits-wins (counts.stages d) (waits_there counts.machine counts.stages counts.invariant))
 
   -- nor told as won, but what the call says
@@ -224,23 +224,23 @@ module _ (keys : List ℕ) (start : List (ℕ × ℕ)) (cards : ℕ) (s : TableS
   left = left_by (atomic_of c) (found_by s c)
 
   -- the machine has it too, at a node that was met
-  flag_listed : (r : HasMachine keys cards T) → left ≡ r.words.update x
+  flag_listed : (r : HasMachine plan.keys plan.last_card T) → left ≡ r.words.update x
   flag_listed r =
       let born = (r.views id w there).entries (Met x) (after_told c n v (Met x) passed.met) in
-      sym (get_or-set_same s.words (word_of c) left 0 (steps_stay_inside keys start cards s h id v c here may))
-      ∙ (ap (λ i. get_or T.words i 0) at ∙ listed_update keys cards T r x passed.inner born)
+      sym (get_or-set_same s.words (word_of c) left 0 (steps_stay_inside plan s h id v c here may))
+      ∙ (ap (λ i. get_or T.words i 0) at ∙ listed_update plan.keys plan.last_card T r x passed.inner born)
 
   -- where it was laid aside, it is in nobody's hand
-  in_no_hand : (r : HasMachine keys cards T) → w.worker.card ≡ None → IsInHand (machine_of_table keys cards T r) d → ⊥
+  in_no_hand : (r : HasMachine plan.keys plan.last_card T) → w.worker.card ≡ None → IsInHand (machine_of_table plan.keys plan.last_card T r) d → ⊥
   in_no_hand r aside held = elim (cases_eq held.worker id) [
     | inl e ↦ some_not_none (sym (ap (λ i. (seat_worker (get_elem? T.views i)).card) e ∙ ap (λ (u : Worker). u.card) (ap seat_worker there)) ∙ held.holds) aside
-    | inr apart ↦ apart (sym (one_hand (machine_of_table keys cards s before) before.stages before.invariant id held.worker d
-        (record { holds = ap (λ (u : Worker). u.card) (mine_is keys cards s before id v here) ∙ hand.holds; unflagged = ap (λ (u : Worker). u.flagged) (mine_is keys cards s before id v here) ∙ hand.unflagged })
+    | inr apart ↦ apart (sym (one_hand (machine_of_table plan.keys plan.last_card s before) before.stages before.invariant id held.worker d
+        (record { holds = ap (λ (u : Worker). u.card) (mine_is plan.keys plan.last_card s before id v here) ∙ hand.holds; unflagged = ap (λ (u : Worker). u.flagged) (mine_is plan.keys plan.last_card s before id v here) ∙ hand.unflagged })
         (ap (λ o. (seat_worker o).card) (sym (set_else s.views id held.worker w apart)) ∙ held.holds)))
   ]
 
   -- a card that is filled goes where the machine says, in the table and after it too, if the step left its word
-  goes_there : (r : HasMachine keys cards T) (F : Field) → IsFilled v → left ≡ found_by s c → waits (r.stages d) ≡ false → word r.words d F ≡ word before.words d F
+  goes_there : (r : HasMachine plan.keys plan.last_card T) (F : Field) → IsFilled v → left ≡ found_by s c → waits (r.stages d) ≡ false → word r.words d F ≡ word before.words d F
   goes_there r F filled same calm =
       let held = (before.views id v here).hand d hand.holds hand.unflagged in
       let words : T.words ≡ s.words = ap (set s.words (word_of c)) same ∙ set-get_or s.words (word_of c) 0 in
@@ -251,50 +251,50 @@ module _ (keys : List ℕ) (start : List (ℕ × ℕ)) (cards : ℕ) (s : TableS
   born_before = (before.views id v here).entries (Met x) passed.met
 
   -- where the flag was lost and told as won, its card would have it at that node, which has it not
-  flag_before : (counts : Counts keys cards T) (F : Field) (flag : ℕ) → IsFilled v → left ≡ found_by s c → waits (counts.machine.stages d) ≡ false
+  flag_before : (counts : Counts plan.keys plan.last_card T) (F : Field) (flag : ℕ) → IsFilled v → left ≡ found_by s c → waits (counts.machine.stages d) ≡ false
       → word before.words d F ≡ x → counts.machine.words.update (word counts.machine.words d F) ≡ flag → before.words.update x ≡ flag
   flag_before counts F flag filled same calm goes stands =
-      sym (listed_update keys cards s before x passed.inner born_before) ∙ (sym (ap (λ i. get_or s.words i 0) at)
+      sym (listed_update plan.keys plan.last_card s before x passed.inner born_before) ∙ (sym (ap (λ i. get_or s.words i 0) at)
       ∙ (sym same ∙ (flag_listed counts.machine ∙ (ap counts.machine.words.update (sym (goes_there counts.machine F filled same calm ∙ goes)) ∙ stands))))
 
   -- what the pass knows after it holds of all stages that the machine may have
-  knows_then : (counts : Counts keys cards T) (stages : Stages) → Invariant (machine_of_table keys cards T counts.machine) stages → (f : Fact) → Knows w f
+  knows_then : (counts : Counts plan.keys plan.last_card T) (stages : Stages) → Invariant (machine_of_table plan.keys plan.last_card T counts.machine) stages → (f : Fact) → Knows w f
       → allows f (stages (card_of_fact f)) ≡ true
   knows_then counts stages invariant f knows =
-      (invariant.workers.each id).facts f (ap (λ (u : Worker). u.knows f) (mine_is keys cards T counts.machine id w there) ∙ knows)
+      (invariant.workers.each id).facts f (ap (λ (u : Worker). u.knows f) (mine_is plan.keys plan.last_card T counts.machine id w there) ∙ knows)
 
-module _ (keys : List ℕ) (start : List (ℕ × ℕ)) (cards : ℕ) (s : TableState) (h : IsReached keys start cards s) (id : ℕ) (v : View) (here : get_elem? s.views id ≡ some v) where
+module _ (plan : TablePlan) (s : TableState) (h : IsReached plan s) (id : ℕ) (v : View) (here : get_elem? s.views id ≡ some v) where
   abbrev Alike : Call → Type 0
-  Alike c = May cards c v → (n : ℕ) → IsReached keys start cards (told_of s id v c n) → is_won (atomic_of c) n ≡ is_won (atomic_of c) (found_by s c)
+  Alike c = May plan.last_card c v → (n : ℕ) → IsReached plan (told_of s id v c n) → is_won (atomic_of c) n ≡ is_won (atomic_of c) (found_by s c)
 
   ichild_alike : (c p l : ℕ) (right : Bool) → Alike (call.IChild c p l right)
-  ichild_alike c p l right may n on = taught_alike keys start cards s h id v here (call.IChild c p l right) may n on kind.IChild (omega arith)
+  ichild_alike c p l right may n on = taught_alike plan s h id v here (call.IChild c p l right) may n on kind.IChild (omega arith)
       (fact.IChanged c) (changed-once c) refl refl (knows_new (fact.IChanged c) v.worker.facts) (knows_new (fact.IChanged c) v.worker.facts)
 
   iunflag_alike : (c p : ℕ) → Alike (call.IUnflag c p)
-  iunflag_alike c p may n on = taught_alike keys start cards s h id v here (call.IUnflag c p) may n on kind.IUnflag (omega arith)
+  iunflag_alike c p may n on = taught_alike plan s h id v here (call.IUnflag c p) may n on kind.IUnflag (omega arith)
       (fact.IOver c) (over-once c) refl refl (knows_new (fact.IOver c) v.worker.facts) (knows_new (fact.IOver c) v.worker.facts)
 
   dchild_alike : (c gp p y : ℕ) (right : Bool) → Alike (call.DChild c gp p y right)
-  dchild_alike c gp p y right may n on = taught_alike keys start cards s h id v here (call.DChild c gp p y right) may n on kind.DChild (omega arith)
+  dchild_alike c gp p y right may n on = taught_alike plan s h id v here (call.DChild c gp p y right) may n on kind.DChild (omega arith)
       (fact.Cut c) (cut-once c) refl refl (knows_new (fact.Cut c) v.worker.facts) (knows_new (fact.Cut c) v.worker.facts)
 
   dunflag_alike : (c gp : ℕ) → Alike (call.DUnflag c gp)
-  dunflag_alike c gp may n on = taught_alike keys start cards s h id v here (call.DUnflag c gp) may n on kind.DUnflag (omega arith)
+  dunflag_alike c gp may n on = taught_alike plan s h id v here (call.DUnflag c gp) may n on kind.DUnflag (omega arith)
       (fact.DOver c) (gone-once c) refl refl (knows_new (fact.DOver c) v.worker.facts) (knows_new (fact.DOver c) v.worker.facts)
 
   backtrack_alike : (c gp : ℕ) → Alike (call.Backtrack c gp)
-  backtrack_alike c gp may n on = taught_alike keys start cards s h id v here (call.Backtrack c gp) may n on kind.Backtrack (omega arith)
+  backtrack_alike c gp may n on = taught_alike plan s h id v here (call.Backtrack c gp) may n on kind.Backtrack (omega arith)
       (fact.Backed c) (backed-once c) refl refl (knows_new (fact.Backed c) v.worker.facts) (knows_new (fact.Backed c) v.worker.facts)
 
   -- a claim: it is counted by the claim word
   claim_alike : (c : ℕ) → Alike (call.Claim c)
   claim_alike c may n on =
-      let a = went_total keys start cards s h id v here (call.Claim c) may n on kind.Claim c (found_by s (call.Claim c) == c) refl in
-      let b = told_total keys start cards s h id v here (call.Claim c) may n on kind.Claim c (n == c) refl in
-      let same = claims_alike (length start) (state_after s id v (call.Claim c)) (told_of s id v (call.Claim c) n) refl
-      (claims_are_counted keys start cards (state_after s id v (call.Claim c)) (went keys start cards s h id v here (call.Claim c) may n on))
-      (claims_are_counted keys start cards (told_of s id v (call.Claim c) n) on) c in
+      let a = went_total plan s h id v here (call.Claim c) may n on kind.Claim c (found_by s (call.Claim c) == c) refl in
+      let b = told_total plan s h id v here (call.Claim c) may n on kind.Claim c (n == c) refl in
+      let same = claims_alike (length plan.start) (state_after s id v (call.Claim c)) (told_of s id v (call.Claim c) n) refl
+      (claims_are_counted plan (state_after s id v (call.Claim c)) (went plan s h id v here (call.Claim c) may n on))
+      (claims_are_counted plan (told_of s id v (call.Claim c) n) on) c in
       one_is (n == c) (found_by s (call.Claim c) == c) (omega arith)
 
   -- a mark that is told: it is known, or the card is known unmarkable
@@ -322,11 +322,11 @@ module _ (keys : List ℕ) (start : List (ℕ × ℕ)) (cards : ℕ) (s : TableS
       T : TableState
       T = told_of s id v (call.Mark c p was) n
 
-      r : HasMachine keys cards T
-      r = reached_kept keys start cards T on
+      r : HasMachine plan.keys plan.last_card T
+      r = reached_kept plan T on
 
       there : get_elem? T.views id ≡ some (after (call.Mark c p was) n v)
-      there = told_there keys start cards s h id v here (call.Mark c p was) may n on
+      there = told_there plan s h id v here (call.Mark c p was) may n on
 
       parent : r.words.p c ≡ p
       parent = ((r.views id (after (call.Mark c p was) n v) there).entries (Info c field.P p) (after_told (call.Mark c p was) n v (Info c field.P p) may.parent)).2
@@ -336,7 +336,7 @@ module _ (keys : List ℕ) (start : List (ℕ × ℕ)) (cards : ℕ) (s : TableS
       stands deletes =
           let node = subst (IsInnerBorn r.stages) parent ((r.invariant.words.cards c).delete deletes).parent in
           sym (get_or-set_same s.words (update_at p) (if found == was then marked c else found) 0
-          (steps_stay_inside keys start cards s h id v (call.Mark c p was) here may)) ∙ listed_update keys cards T r p node.inner node.born
+          (steps_stay_inside plan s h id v (call.Mark c p was) here may)) ∙ listed_update plan.keys plan.last_card T r p node.inner node.born
 
       knows_told : (b m : Bool) → (n == was) ≡ b → (n == marked c) ≡ m → KnowsOf (after (call.Mark c p was) n v) c (if b then true else m)
       knows_told b m e f = subst (λ (t : Bool × Bool). KnowsOf (after (call.Mark c p was) n v) c (if t.0 then true else t.1)) (λ i. (e i, f i)) (mark_teaches c p was n)
@@ -345,13 +345,13 @@ module _ (keys : List ℕ) (start : List (ℕ × ℕ)) (cards : ℕ) (s : TableS
       knows_went b m e f = subst (λ (t : Bool × Bool). KnowsOf (after (call.Mark c p was) found v) c (if t.0 then true else t.1)) (λ i. (e i, f i)) (mark_teaches c p was found)
 
       went_once : Knows (after (call.Mark c p was) found v) (fact.Marked c) → total kind.Mark c s + one (found == was) ≡ 1
-      went_once k = sym (went_total keys start cards s h id v here (call.Mark c p was) may n on kind.Mark c (found == was) refl)
-          ∙ known_once keys cards (state_after s id v (call.Mark c p was)) (went_counts keys start cards s h id v here (call.Mark c p was) may n on) id
-          (after (call.Mark c p was) found v) (went_there keys start cards s h id v here (call.Mark c p was) may n on) kind.Mark (omega arith) (fact.Marked c) (marked-once c) k
+      went_once k = sym (went_total plan s h id v here (call.Mark c p was) may n on kind.Mark c (found == was) refl)
+          ∙ known_once plan.keys plan.last_card (state_after s id v (call.Mark c p was)) (went_counts plan s h id v here (call.Mark c p was) may n on) id
+          (after (call.Mark c p was) found v) (went_there plan s h id v here (call.Mark c p was) may n on) kind.Mark (omega arith) (fact.Marked c) (marked-once c) k
 
       told_once : Knows (after (call.Mark c p was) n v) (fact.Marked c) → total kind.Mark c s + one (n == was) ≡ 1
-      told_once k = sym (told_total keys start cards s h id v here (call.Mark c p was) may n on kind.Mark c (n == was) refl)
-          ∙ known_once keys cards T (told_counts keys start cards s h id v here (call.Mark c p was) may n on) id
+      told_once k = sym (told_total plan s h id v here (call.Mark c p was) may n on kind.Mark c (n == was) refl)
+          ∙ known_once plan.keys plan.last_card T (told_counts plan s h id v here (call.Mark c p was) may n on) id
           (after (call.Mark c p was) n v) there kind.Mark (omega arith) (fact.Marked c) (marked-once c) k
 
       -- won, told as lost
@@ -361,7 +361,7 @@ module _ (keys : List ℕ) (start : List (ℕ × ℕ)) (cards : ℕ) (s : TableS
           let b = went_once (knows_went true (found == marked c) g refl) in
           let x = ap one e in let y = ap one g in absurd (omega arith)
       won_lost false f e g =
-          let un = known_holds keys cards T r id (after (call.Mark c p was) n v) there (fact.Unmarkable c) (knows_told false false e f) in
+          let un = known_holds plan.keys plan.last_card T r id (after (call.Mark c p was) n v) there (fact.Unmarkable c) (knows_told false false e f) in
           let deletes = unmarkable-delete (r.stages c) un in
           let node = subst (IsInnerBorn r.stages) parent ((r.invariant.words.cards c).delete deletes).parent in
           marked-apart (r.stages c) ((r.invariant.words.updates p node.inner node.born).marked c
@@ -374,7 +374,7 @@ module _ (keys : List ℕ) (start : List (ℕ × ℕ)) (cards : ℕ) (s : TableS
           let b = went_once (knows_went false true g f) in
           let x = ap one e in let y = ap one g in absurd (omega arith)
       lost_won false f e g =
-          let is = known_holds keys cards T r id (after (call.Mark c p was) n v) there (fact.Marked c) (knows_told true (n == marked c) e refl) in
+          let is = known_holds plan.keys plan.last_card T r id (after (call.Mark c p was) n v) there (fact.Marked c) (knows_told true (n == marked c) e refl) in
           let mark = ((r.invariant.words.deletes c).marked is).mark in
           false≢true (sym f ∙ eq-eqb found (marked c)
           (sym (ap (λ (b : Bool). if b then marked c else found) g) ∙ (stands (marked-delete (r.stages c) is) ∙ (ap r.words.update (sym parent) ∙ mark))))
@@ -394,39 +394,39 @@ module _ (keys : List ℕ) (start : List (ℕ × ℕ)) (cards : ℕ) (s : TableS
       i = call.IFlag c p from
 
       passed : IsPassed v p
-      passed = (searches_are_met keys start cards s h id v here).parent (record { node = p; word = packed from }) may.behind
+      passed = (searches_are_met plan s h id v here).parent (record { node = p; word = packed from }) may.behind
 
-      r : HasMachine keys cards (told_of s id v i n)
-      r = reached_kept keys start cards (told_of s id v i n) on
+      r : HasMachine plan.keys plan.last_card (told_of s id v i n)
+      r = reached_kept plan (told_of s id v i n) on
 
       won_lost : (n == packed from) ≡ false → (found_by s i == packed from) ≡ true → ⊥
       won_lost e g =
-          let there = told_there keys start cards s h id v here i may n on in
+          let there = told_there plan s h id v here i may n on in
           let born = (r.views id (after i n v) there).entries (Met p) (after_told i n v (Met p) passed.met) in
-          in_no_hand keys start cards s h id v here i may n on c may.may p passed refl r (flag_aside (n == packed from) (fact.IFlagged c) p (unpacked n) e)
+          in_no_hand plan s h id v here i may n on c may.may p passed refl r (flag_aside (n == packed from) (fact.IFlagged c) p (unpacked n) e)
           (r.invariant.workers.insert_in_hand c ((r.invariant.words.updates p passed.inner born).iflagged c
-          (sym (flag_listed keys start cards s h id v here i may n on c may.may p passed refl r) ∙ ap (λ (b : Bool). if b then iflag c else found_by s i) g)).0)
+          (sym (flag_listed plan s h id v here i may n on c may.may p passed refl r) ∙ ap (λ (b : Bool). if b then iflag c else found_by s i) g)).0)
 
       -- by its search the card goes to that parent
-      goes : (q : HasMachine keys cards s) → q.words.p c ≡ p
+      goes : (q : HasMachine plan.keys plan.last_card s) → q.words.p c ≡ p
       goes q =
-          let same = mine_is keys cards s q id v here in
+          let same = mine_is plan.keys plan.last_card s q id v here in
           let says = (q.invariant.workers.each id).unflagged (Insert may.key may.value) c (ap (λ (u : Worker). u.operation) same ∙ may.busy)
           (ap (λ (u : Worker). u.card) same ∙ may.may.holds) (ap (λ (u : Worker). u.flagged) same ∙ may.may.unflagged) in
           sym says.node ∙ ap (λ (k : Seen). k.node) (some_same (sym says.behind ∙ (ap (λ (u : Worker). u.search.parent) same ∙ may.behind)))
 
       lost_won : (n == packed from) ≡ true → (found_by s i == packed from) ≡ false → ⊥
       lost_won e g =
-          let q = reached_kept keys start cards s h in
-          let counts = told_counts keys start cards s h id v here i may n on in
-          let won : (stages : Stages) → Invariant (machine_of_table keys cards (told_of s id v i n) counts.machine) stages → insert_won (stages c) ≡ true =
-          λ stages invariant. knows_then keys start cards s h id v here i may n on c may.may p passed refl counts stages invariant
+          let q = reached_kept plan s h in
+          let counts = told_counts plan s h id v here i may n on in
+          let won : (stages : Stages) → Invariant (machine_of_table plan.keys plan.last_card (told_of s id v i n) counts.machine) stages → insert_won (stages c) ≡ true =
+          λ stages invariant. knows_then plan s h id v here i may n on c may.may p passed refl counts stages invariant
           (fact.IFlagged c) (flag_known (n == packed from) (fact.IFlagged c) p (unpacked n) e) in
           let opens = insert-opens (counts.stages c) (won counts.stages counts.invariant)
-          (sym (counts.counted kind.IUnflag (omega arith) c) ∙ none_told keys start cards s h id v here i may n on c may.may p passed refl (n == packed from) kind.IFlag kind.IUnflag (omega arith) refl refl) in
-          waits-no_insert (q.stages c) (waits_there keys start cards s h id v here i may n on c may.may p passed refl q q.stages q.invariant)
-          ((q.invariant.words.updates p passed.inner (born_before keys start cards s h id v here i may n on c may.may p passed refl)).iflagged c
-          (flag_before keys start cards s h id v here i may n on c may.may p passed refl counts field.P (iflag c) may.filled
+          (sym (counts.counted kind.IUnflag (omega arith) c) ∙ none_told plan s h id v here i may n on c may.may p passed refl (n == packed from) kind.IFlag kind.IUnflag (omega arith) refl refl) in
+          waits-no_insert (q.stages c) (waits_there plan s h id v here i may n on c may.may p passed refl q q.stages q.invariant)
+          ((q.invariant.words.updates p passed.inner (born_before plan s h id v here i may n on c may.may p passed refl)).iflagged c
+          (flag_before plan s h id v here i may n on c may.may p passed refl counts field.P (iflag c) may.filled
           (ap (λ (b : Bool). if b then iflag c else found_by s i) g) (insert_won-settled (counts.machine.stages c) (won counts.machine.stages counts.machine.invariant))
           (goes q) ((counts.invariant.words.inserts c).flag opens))).0
 
@@ -437,40 +437,40 @@ module _ (keys : List ℕ) (start : List (ℕ × ℕ)) (cards : ℕ) (s : TableS
       i = call.DFlag c gp from
 
       passed : IsPassed v gp
-      passed = (searches_are_met keys start cards s h id v here).grandparent (record { node = gp; word = packed from }) may.above
+      passed = (searches_are_met plan s h id v here).grandparent (record { node = gp; word = packed from }) may.above
 
-      r : HasMachine keys cards (told_of s id v i n)
-      r = reached_kept keys start cards (told_of s id v i n) on
+      r : HasMachine plan.keys plan.last_card (told_of s id v i n)
+      r = reached_kept plan (told_of s id v i n) on
 
       won_lost : (n == packed from) ≡ false → (found_by s i == packed from) ≡ true → ⊥
       won_lost e g =
-          let there = told_there keys start cards s h id v here i may n on in
+          let there = told_there plan s h id v here i may n on in
           let born = (r.views id (after i n v) there).entries (Met gp) (after_told i n v (Met gp) passed.met) in
-          in_no_hand keys start cards s h id v here i may n on c may.may gp passed refl r (flag_aside (n == packed from) (fact.DFlagged c) gp (unpacked n) e)
+          in_no_hand plan s h id v here i may n on c may.may gp passed refl r (flag_aside (n == packed from) (fact.DFlagged c) gp (unpacked n) e)
           (r.invariant.workers.delete_in_hand c ((r.invariant.words.updates gp passed.inner born).dflagged c
-          (sym (flag_listed keys start cards s h id v here i may n on c may.may gp passed refl r) ∙ ap (λ (b : Bool). if b then dflag c else found_by s i) g)).0)
+          (sym (flag_listed plan s h id v here i may n on c may.may gp passed refl r) ∙ ap (λ (b : Bool). if b then dflag c else found_by s i) g)).0)
 
       -- by its search the card goes to that grandparent
-      goes : (q : HasMachine keys cards s) → q.words.gp c ≡ gp
+      goes : (q : HasMachine plan.keys plan.last_card s) → q.words.gp c ≡ gp
       goes q =
-          let same = mine_is keys cards s q id v here in
+          let same = mine_is plan.keys plan.last_card s q id v here in
           let says = (q.invariant.workers.each id).unflagged (Delete may.key) c (ap (λ (u : Worker). u.operation) same ∙ may.busy)
           (ap (λ (u : Worker). u.card) same ∙ may.may.holds) (ap (λ (u : Worker). u.flagged) same ∙ may.may.unflagged) in
           sym says.top_node ∙ ap (λ (k : Seen). k.node) (some_same (sym says.above ∙ (ap (λ (u : Worker). u.search.grandparent) same ∙ may.above)))
 
       lost_won : (n == packed from) ≡ true → (found_by s i == packed from) ≡ false → ⊥
       lost_won e g =
-          let q = reached_kept keys start cards s h in
-          let counts = told_counts keys start cards s h id v here i may n on in
-          let won : (stages : Stages) → Invariant (machine_of_table keys cards (told_of s id v i n) counts.machine) stages → delete_won (stages c) ≡ true =
-          λ stages invariant. knows_then keys start cards s h id v here i may n on c may.may gp passed refl counts stages invariant
+          let q = reached_kept plan s h in
+          let counts = told_counts plan s h id v here i may n on in
+          let won : (stages : Stages) → Invariant (machine_of_table plan.keys plan.last_card (told_of s id v i n) counts.machine) stages → delete_won (stages c) ≡ true =
+          λ stages invariant. knows_then plan s h id v here i may n on c may.may gp passed refl counts stages invariant
           (fact.DFlagged c) (flag_known (n == packed from) (fact.DFlagged c) gp (unpacked n) e) in
           let opens = delete-opens (counts.stages c) (won counts.stages counts.invariant)
-          (sym (counts.counted kind.DUnflag (omega arith) c) ∙ none_told keys start cards s h id v here i may n on c may.may gp passed refl (n == packed from) kind.DFlag kind.DUnflag (omega arith) refl refl)
-          (sym (counts.counted kind.Backtrack (omega arith) c) ∙ none_told keys start cards s h id v here i may n on c may.may gp passed refl (n == packed from) kind.DFlag kind.Backtrack (omega arith) refl refl) in
-          waits-no_delete (q.stages c) (waits_there keys start cards s h id v here i may n on c may.may gp passed refl q q.stages q.invariant)
-          ((q.invariant.words.updates gp passed.inner (born_before keys start cards s h id v here i may n on c may.may gp passed refl)).dflagged c
-          (flag_before keys start cards s h id v here i may n on c may.may gp passed refl counts field.Gp (dflag c) may.filled
+          (sym (counts.counted kind.DUnflag (omega arith) c) ∙ none_told plan s h id v here i may n on c may.may gp passed refl (n == packed from) kind.DFlag kind.DUnflag (omega arith) refl refl)
+          (sym (counts.counted kind.Backtrack (omega arith) c) ∙ none_told plan s h id v here i may n on c may.may gp passed refl (n == packed from) kind.DFlag kind.Backtrack (omega arith) refl refl) in
+          waits-no_delete (q.stages c) (waits_there plan s h id v here i may n on c may.may gp passed refl q q.stages q.invariant)
+          ((q.invariant.words.updates gp passed.inner (born_before plan s h id v here i may n on c may.may gp passed refl)).dflagged c
+          (flag_before plan s h id v here i may n on c may.may gp passed refl counts field.Gp (dflag c) may.filled
           (ap (λ (b : Bool). if b then dflag c else found_by s i) g) (delete_won-settled (counts.machine.stages c) (won counts.machine.stages counts.machine.invariant))
           (goes q) ((counts.invariant.words.deletes c).flag opens))).0
 
@@ -488,4 +488,4 @@ module _ (keys : List ℕ) (start : List (ℕ × ℕ)) (cards : ℕ) (s : TableS
   outcomes_alike _ = λ may n on. refl
 
 pub no_other_outcome : NoOtherOutcome
-no_other_outcome keys start cards s h id v here c may n other on = other (outcomes_alike keys start cards s h id v here c may n on)
+no_other_outcome plan s h id v here c may n other on = other (outcomes_alike plan s h id v here c may n on)

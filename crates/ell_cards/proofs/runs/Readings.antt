@@ -16,7 +16,7 @@ use Rattle.ell_cards.specs.declared.call.Call.TheVariants as call
 use Rattle.ell_cards.specs.declared.view.Hindrance.{Hindrance}
 use Rattle.ell_cards.specs.declared.view.Hindrance.TheVariants.{Claim, Found}
 use Rattle.ell_cards.specs.declared.view.View.{View}
-use Rattle.ell_cards.specs.Changes.{first_view, left_view, right_view, joined_view, later, unless_clean, read_in_way, first_in_way, in_the_way, given_up, after_claim, after_flag, after_mark, is_mark_of, is_held, learning, unmarking}
+use Rattle.ell_cards.specs.Changes.{first_of, left_view, right_view, joined_view, later, unless_clean, read_in_way, first_in_way, in_the_way, given_up, after_claim, after_flag, after_mark, is_mark_of, is_held, learning, unmarking}
 use Rattle.ell_cards.specs.Calls.{word_of, after, May}
 use Rattle.ell_cards.specs.States.{TableState}
 use Rattle.ell_cards.specs.Machines.{HasMachine}
@@ -29,6 +29,7 @@ use Rattle.ell_cards.proofs.lifetimes.Openings.{each_first}
 use Rattle.ell_cards.proofs.runs.Starting.{starts_are_kept}
 use Rattle.ell_cards.proofs.runs.GoingOn.{run_goes}
 use Rattle.ell_cards.proofs.runs.TurnsOfRuns.{turn_lawful}
+use Rattle.ell_cards.specs.Models.{TablePlan}
 
 below_rises : (n m : ℕ) (hs : List Hindrance) → n ≤ m → AreBelow n hs → AreBelow m hs
 below_rises n m [] low h = tt
@@ -166,11 +167,11 @@ module _ (keys : List ℕ) (last : ℕ) where
       run_past run.0 (turn_lawful keys last s r t run.0 run.1).0 ts s' run.2 (turn_past s r t run.0 run.1 h)
 
 -- so it is wherever turns have led a table
-reached_past : (keys : List ℕ) (start : List (ℕ × ℕ)) (last : ℕ) (s : TableState) → IsReached keys start last s → AllPast s
-reached_past keys start last s h =
-    let first = subst (λ n. HasMachine keys n h.first) h.all (starts_are_kept keys start h.cards h.first h.starts).kept in
-    run_past keys last h.first first h.turns s h.run
-    (subst AllPast (sym h.starts.is) (each_first (first_view keys start) (IsPast (get_or h.first.words 0 0)) (record { next = tt; claims = tt })))
+reached_past : (plan : TablePlan) (s : TableState) → IsReached plan s → AllPast s
+reached_past plan s h =
+    let first = (starts_are_kept plan h.first h.starts).kept in
+    run_past plan.keys plan.last_card h.first first h.turns s h.run
+    (subst AllPast (sym h.starts.is) (each_first (first_of plan) (IsPast (get_or h.first.words 0 0)) (record { next = tt; claims = tt })))
 
 pub readings_are_past : ReadingsArePast
 readings_are_past = reached_past

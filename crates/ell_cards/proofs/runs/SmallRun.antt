@@ -1,4 +1,4 @@
-use Rattle.std.proofs.Common.{◌≡◌, ◌≢◌, ℕ, ◌≤◌, zero, suc, true, Some, List, [], ◌∷◌, ◌++◌, inl, inr, refl, subst, arith}
+use Rattle.std.proofs.Common.{◌≡◌, ◌≢◌, ℕ, ◌≤◌, zero, suc, true, Some, List, [], ◌∷◌, ◌++◌, inl, inr, refl, subst, arith, ◌⊎◌}
 use Rattle.std.specs.List.{All}
 use Rattle.std.specs.List.Sorted.{IsStrictlyIncreasing}
 use Rattle.std.specs.Map.{keys_of}
@@ -16,13 +16,13 @@ use Rattle.ell_core.specs.acts.Searching.{IsLeaf}
 use Rattle.ell_core.proofs.outcomes.Decide.{some_not_none}
 use Rattle.ell_cards.specs.declared.view.Told.{Told}
 use Rattle.ell_cards.specs.declared.view.View.{View}
-use Rattle.ell_cards.specs.Models.{Has, latest, earlier, IsFree, Knows, stored_at}
-use Rattle.ell_cards.specs.Changes.{first_view, spent_view}
+use Rattle.ell_cards.specs.Models.{Has, latest, earlier, IsFree, Knows, stored_at, MayPart}
+use Rattle.ell_cards.specs.Changes.{first_of, spent_view}
 use Rattle.ell_cards.specs.Calls.{May}
 use Rattle.ell_cards.specs.States.{TableState}
-use Rattle.ell_cards.specs.Starts.{Starts, StartWords}
+use Rattle.ell_cards.specs.Starts.{Starts, StartWords, MayStart, IsSharedIn}
 use Rattle.ell_cards.specs.Turns.{Turn, Makes, Splits, Joins, TableTurns, TableRun, state_after, state_split, state_joined}
-use Rattle.ell_cards.specs.SmallRun.{small_keys, small_start, small_run, SmallRunIsMade, parting, delete_flags, insert_claims, insert_flags, mark_is_lost, insert_ends, delete_begins_anew, delete_ends, look, ending}
+use Rattle.ell_cards.specs.SmallRun.{small_plan, small_run, SmallRunIsMade, parting, delete_flags, insert_claims, insert_flags, mark_is_lost, insert_ends, delete_begins_anew, delete_ends, look, ending}
 use Rattle.ell_cards.proofs.lifetimes.StartLists.{start_list_starts, small_list}
 
 -- what the pass in a seat knows
@@ -40,7 +40,7 @@ Sits s seat = get_elem? s.views seat ≡ some (view_at s seat)
 -- what a turn asks, and the state to which it leads
 abbrev TurnAsks : ℕ → TableState → Turn → Type 0
 TurnAsks cards s (Makes seat c) = Sits s seat × May cards c (view_at s seat)
-TurnAsks cards s (Splits seat left) = Sits s seat × IsFree (view_at s seat)
+TurnAsks cards s (Splits seat left) = Sits s seat × IsFree (view_at s seat) × MayPart (view_at s seat)
 TurnAsks cards s (Joins seat other) = Sits s seat × Sits s other × (seat ≢ other) × IsFree (view_at s seat) × IsFree (view_at s other)
 
 abbrev turn_leads : TableState → Turn → TableState
@@ -50,7 +50,7 @@ turn_leads s (Joins seat other) = state_joined s seat other (view_at s seat) (vi
 
 turn_made : (cards : ℕ) (s : TableState) (t : Turn) → TurnAsks cards s t → TableTurns cards s t (turn_leads s t)
 turn_made cards s (Makes seat c) h = record { view = view_at s seat; there = h.0; may = h.1; gives = refl }
-turn_made cards s (Splits seat left) h = record { view = view_at s seat; there = h.0; free = h.1; gives = refl }
+turn_made cards s (Splits seat left) h = record { view = view_at s seat; there = h.0; free = h.1; may = h.2; gives = refl }
 turn_made cards s (Joins seat other) h =
     record { view = view_at s seat; view' = view_at s other; there = h.0; there' = h.1; apart = h.2; free = h.3; free' = h.4; gives = refl }
 
@@ -139,36 +139,39 @@ abbrev at_0 : TableState
 at_0 = record {
   words = 2 ∷ 0 ∷ 0 ∷ 0 ∷ 0 ∷ infinity2 ∷ 3 ∷ 2 ∷ 3 ∷ infinity1 ∷ infinity2 ∷ 0 ∷ 0 ∷ 0 ∷ 0 ∷ 0 ∷ 0 ∷ infinity1 ∷ 4 ∷ 5 ∷ 3 ∷ 5 ∷ infinity1 ∷ 50 ∷ 0 ∷ 0 ∷ 0 ∷ 0 ∷ 0 ∷ 0 ∷ 0 ∷ 0 ∷ 0 ∷ 0 ∷ 0 ∷ 0 ∷ 0 ∷ 0 ∷ 0 ∷ 0 ∷ 0 ∷ 0 ∷ 0 ∷ 0 ∷ 0 ∷ 0 ∷ 0 ∷ 0 ∷ 0 ∷ 0 ∷ 0 ∷ 0 ∷ 0 ∷ 0 ∷ 0 ∷ 0 ∷ 0 ∷ 0 ∷ 0 ∷ 0 ∷ 0 ∷ [];
   homes = [];
-  views = first_view small_keys small_start ∷ [];
+  views = first_of small_plan ∷ [];
 }
 
-keys_rise : IsStrictlyIncreasing small_keys
+keys_rise : IsStrictlyIncreasing small_plan.keys
 keys_rise zero low = omega arith
 keys_rise (suc k) low = absurd (omega (arith, low))
 
-keys_are_real : All (λ k. k ≤ greatest_key) small_keys
+keys_are_real : All (λ k. k ≤ greatest_key) small_plan.keys
 keys_are_real zero d low = omega arith
 keys_are_real (suc zero) d low = omega arith
 keys_are_real (suc (suc k)) d low = absurd (omega (arith, low))
 
-start_rises : IsStrictlyIncreasing (keys_of small_start)
+start_rises : IsStrictlyIncreasing (keys_of small_plan.start)
 start_rises k low = absurd (omega (arith, low))
 
-start_is_given : All (λ k. set_of small_keys k ≡ true) (keys_of small_start)
-start_is_given zero d low = refl
+start_is_given : All (λ k. (set_of small_plan.keys k ≡ true) ⊎ IsSharedIn small_plan k) (keys_of small_plan.start)
+start_is_given zero d low = inl refl
 start_is_given (suc k) d low = absurd (omega (arith, low))
 
-starts_there : Starts small_keys small_start 3 at_0
+may_there : MayStart small_plan
+may_there = record { ascending = keys_rise; real = keys_are_real; start_ascending = start_rises; given = start_is_given; room = omega arith }
+
+starts_there : Starts small_plan at_0
 starts_there = record {
-  may = record { ascending = keys_rise; real = keys_are_real; start_ascending = start_rises; given = start_is_given };
-  words = subst (StartWords small_start 3) small_list (start_list_starts small_start 3);
+  may = may_there;
+  words = subst (StartWords small_plan) small_list (start_list_starts small_plan may_there);
   is = refl;
 }
 
 -- the first pass is split: seat 0 has key 5 then, and seat 1 key 7
 parting_asks : RunAsks 4 at_0 parting
 parting_asks =
-    (refl, refl)
+    (refl, refl, λ sharing. omega arith)
     ▸ tt
 
 abbrev at_1 : TableState
@@ -177,7 +180,7 @@ at_1 = run_leads at_0 parting
 -- seat 0 begins to delete key 5: it searches, takes card 2, fills it, and flags the root
 delete_flags_asks : RunAsks 4 at_1 delete_flags
 delete_flags_asks =
-    (refl, record { free = refl; owned = some_not_none refl })
+    (refl, record { free = refl; owned = inl (some_not_none refl) })
     ▸ (refl, record { stands = refl; inner = refl; unread = refl })
     ▸ (refl, told_at 0 _ _ refl)
     ▸ (refl, record { op = Delete 5; word = 3; key = infinity2; busy = refl; stands = refl; inner = refl; read = refl; told = refl; side = refl })
@@ -200,7 +203,7 @@ at_2 = run_leads at_1 delete_flags
 -- seat 1 begins to insert key 7: it goes past the flag, and takes card 3
 insert_claims_asks : RunAsks 4 at_2 insert_claims
 insert_claims_asks =
-    (refl, record { free = refl; owned = some_not_none refl })
+    (refl, record { free = refl; owned = inl (some_not_none refl) })
     ▸ (refl, record { stands = refl; inner = refl; unread = refl })
     ▸ (refl, told_at 1 _ _ refl)
     ▸ (refl, record { op = Insert 7 70; word = 9; key = infinity2; busy = refl; stands = refl; inner = refl; read = refl; told = refl; side = refl })
@@ -315,7 +318,7 @@ at_9 = run_leads at_8 look
 -- it lays a find down, and both passes become one
 ending_asks : RunAsks 4 at_9 ending
 ending_asks =
-    (refl, record { free = refl; owned = some_not_none refl })
+    (refl, record { free = refl; owned = inl (some_not_none refl) })
     ▸ (refl, record { op = Find 7; busy = refl; backed = λ c is flagged. absurd (some_not_none is refl) })
     ▸ (refl, refl, (λ e. let h : ◌≡◌ {A = ℕ} 0 1 = e in omega arith), refl, refl)
     ▸ tt

@@ -20,31 +20,31 @@ still : (words : List ℕ) (i : ℕ) → get_or (set words i (get_or words i 0))
 still words i = ap (λ (ws : List ℕ). get_or ws i 0) (set-get_or words i 0)
 
 pub no_greater_next : NoGreaterNext
-no_greater_next keys start cards s h id v here n greater on =
-    let past = readings_are_past keys start cards _ on id (after_next n v) (set_there s.views id (after_next n v) v here) in
+no_greater_next plan s h id v here n greater on =
+    let past = readings_are_past plan _ on id (after_next n v) (set_there s.views id (after_next n v) v here) in
     let low = past.next in
     let same = still s.words 0 in
     omega arith
 
 pub no_untried_claim_lost : NoUntriedClaimLost
-no_untried_claim_lost keys start cards s h id v here on =
+no_untried_claim_lost plan s h id v here on =
     let w = after_claim false (get_or s.words 0 0) v in
-    let past = readings_are_past keys start cards _ on id w (set_there s.views id w v here) in
+    let past = readings_are_past plan _ on id w (set_there s.views id w v here) in
     let low = past.claims.0 in
     omega arith
 
 -- what a search has read at a node where it stands is past
 pub no_greater_update : NoGreaterUpdate
-no_greater_update keys start cards s h id v here x may n greater on =
+no_greater_update plan s h id v here x may n greater on =
     let u = unpacked n in
     let w = after_upd x u v in
     let s' = told_of s id v (call.Upd x) n in
-    let r = reached_kept keys start cards s' on in
+    let r = reached_kept plan s' on in
     let there = set_there s.views id w v here in
-    let sound = mine_sound keys cards s' r id w there in
-    let met = (searches_are_met keys start cards s h id v here).node x may.stands in
+    let sound = mine_sound plan.keys plan.last_card s' r id w there in
+    let met = (searches_are_met plan s h id v here).node x may.stands in
     let born = (r.views id w there).entries (Met x) (places_more x u.state u.card v.told (Met x) met) in
-    let same = listed_update keys cards s' r x may.inner born in
+    let same = listed_update plan.keys plan.last_card s' r x may.inner born in
     let was = still s.words (update_at x) in
     elim (cases_option v.worker.operation) [
       | inl op ↦ (let low = (sound.stands op.0 x op.1 may.stands).read (packed u) refl in let is = packed_again n in omega arith)

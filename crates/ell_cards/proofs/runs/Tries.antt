@@ -25,7 +25,7 @@ use Rattle.ell_cards.specs.declared.view.View.{View}
 use Rattle.ell_cards.specs.Changes.{if_won, exchanged, after_claim, after_flag, after_mark, is_mark_of, is_held, learning, unmarking, unless_clean, read_in_way, first_in_way, in_the_way, way_now, met_in_try, update_over, is_over, all_over, was_hindered, tries_hindered}
 use Rattle.ell_cards.specs.Calls.{after, May}
 use Rattle.ell_cards.specs.Guards.{MayStop}
-use Rattle.ell_cards.specs.Models.{EndedBy}
+use Rattle.ell_cards.specs.Models.{TablePlan, EndedBy}
 use Rattle.ell_cards.specs.Contention.{how_many, given_to_others, cards_in_hand, TriesAreHinderedByOthers, AreHinderedByOthers}
 use Rattle.ell_cards.specs.Meanwhile.{KeepsOn, KeepOn, BeginsHere, SearchRun, EndsMeanwhile, WordEndsMeanwhile, AreMeanwhile, AreOfOthers, ended_before, ended_since}
 use Rattle.ell_cards.specs.States.{TableState, seat_worker}
@@ -122,15 +122,15 @@ AllUnclaimed won [] = Unit {0}
 AllUnclaimed won (Claim c ∷ hs) = (times kind.Claim c won ≡ 0) × AllUnclaimed won hs
 AllUnclaimed won (Found u ∷ hs) = AllUnclaimed won hs
 
-module _ (keys : List ℕ) (start : List (ℕ × ℕ)) (cards : ℕ) where
+module _ (plan : TablePlan) where
   abbrev last : ℕ
-  last = last_card start cards
+  last = plan.last_card
 
-  turn_grows : (s : TableState) → IsReached keys start last s → (seat : ℕ) (v : View) → get_elem? s.views seat ≡ some v → (t : Turn) (s' : TableState) (turn : TableTurns last s t s')
-      → (goes : SeatGoesOn KeepsOn last s seat v t s') → Grows s v s' goes.view
+  turn_grows : (s : TableState) → IsReached plan s → (seat : ℕ) (v : View) → get_elem? s.views seat ≡ some v → (t : Turn) (s' : TableState) (turn : TableTurns plan.last_card s t s')
+      → (goes : SeatGoesOn KeepsOn plan.last_card s seat v t s') → Grows s v s' goes.view
   turn_grows s reached seat v there t s' turn goes = record {
-    next = claim_word_rises keys last s (reached_kept keys start last s reached) t s' turn;
-    ended = λ c. let rise = ends_rise c last s t s' turn in omega arith;
+    next = claim_word_rises plan.keys plan.last_card s (reached_kept plan s reached) t s' turn;
+    ended = λ c. let rise = ends_rise c plan.last_card s t s' turn in omega arith;
     own = λ c low. elim goes.made [
       | inl same ↦ ap (λ (u : View). times kind.Claim c u.won) same
       | inr made ↦ ap (λ (u : View). times kind.Claim c u.won) made.3 ∙ own_same s v made.0 c low
@@ -140,13 +140,13 @@ module _ (keys : List ℕ) (start : List (ℕ × ℕ)) (cards : ℕ) where
   -- a search of the pass in a seat that goes on, in a run from a start, since a state: what it has of cards, and how often it was hindered
   record Searches (s0 : TableState) (v0 : View) (seat : ℕ) (s : TableState) (v : View) : Type 0 where
     opened : TableState
-    starts : Starts keys start cards opened
+    starts : Starts plan opened
     before : List Turn
     begun : TableState
-    led : TableRun last opened before begun
+    led : TableRun plan.last_card opened before begun
     begins : BeginsHere begun seat
     meanwhile : List Turn
-    run : TableRun last begun meanwhile s
+    run : TableRun plan.last_card begun meanwhile s
     keeps : KeepOn seat meanwhile
     first : Grows s0 v0 begun begins.view
     since : Grows begun begins.view s v
@@ -156,7 +156,7 @@ module _ (keys : List ℕ) (start : List (ℕ × ℕ)) (cards : ℕ) where
 
   -- the pass has laid its operation down, or answered it
   record Stopped (s0 : TableState) (v0 : View) (s : TableState) (v : View) : Type 0 where
-    reached : IsReached keys start last s
+    reached : IsReached plan s
     free : v.worker.operation ≡ None
     grows : Grows s0 v0 s v
     counted : v.hindered ≤ v0.hindered + done_since s0 s v.won
@@ -176,7 +176,7 @@ module _ (keys : List ℕ) (start : List (ℕ × ℕ)) (cards : ℕ) where
   over_cases facts state.Mark c h = inr (test_ended facts c h)
 
   module _ (s0 : TableState) (v0 : View) (seat : ℕ) (s : TableState) (v : View) (h : Searches s0 v0 seat s v) (there : get_elem? s.views seat ≡ some v) where
-    abbrev ran : SearchRun keys start cards
+    abbrev ran : SearchRun plan
     ran = record {
       opened = h.opened;
       starts = h.starts;
@@ -193,39 +193,37 @@ module _ (keys : List ℕ) (start : List (ℕ × ℕ)) (cards : ℕ) where
       there = there;
     }
 
-    comes : IsReached keys start last s
+    comes : IsReached plan s
     comes = record {
-      cards = cards;
-      all = refl;
       first = h.opened;
       starts = h.starts;
       turns = h.before ++ h.meanwhile;
-      run = run_append last h.opened h.before h.begun h.meanwhile s h.led h.run;
+      run = run_append plan.last_card h.opened h.before h.begun h.meanwhile s h.led h.run;
     }
 
     -- the wins of a run, counted
-    unended : (c : ℕ) → ended_before keys start cards ran c ≡ false → ends c h.begun ≡ 0
+    unended : (c : ℕ) → ended_before plan ran c ≡ false → ends c h.begun ≡ 0
     unended c none =
-        let wins = run_wins last h.opened h.before h.begun h.led c in
-        let a = run_total kind.IUnflag (omega arith) c last h.opened h.before h.begun h.led in
-        let b = run_total kind.DUnflag (omega arith) c last h.opened h.before h.begun h.led in
-        let d = run_total kind.Backtrack (omega arith) c last h.opened h.before h.begun h.led in
-        let x = none_at_start keys start cards h.opened h.starts kind.IUnflag c in
-        let y = none_at_start keys start cards h.opened h.starts kind.DUnflag c in
-        let z = none_at_start keys start cards h.opened h.starts kind.Backtrack c in
+        let wins = run_wins plan.last_card h.opened h.before h.begun h.led c in
+        let a = run_total kind.IUnflag (omega arith) c plan.last_card h.opened h.before h.begun h.led in
+        let b = run_total kind.DUnflag (omega arith) c plan.last_card h.opened h.before h.begun h.led in
+        let d = run_total kind.Backtrack (omega arith) c plan.last_card h.opened h.before h.begun h.led in
+        let x = none_at_start plan h.opened h.starts kind.IUnflag c in
+        let y = none_at_start plan h.opened h.starts kind.DUnflag c in
+        let z = none_at_start plan h.opened h.starts kind.Backtrack c in
         let all = no_end wins none in
         omega arith
 
-    ended_then : (c : ℕ) → ended_since keys start cards ran c ≡ true → 0 < ends c s
+    ended_then : (c : ℕ) → ended_since plan ran c ≡ true → 0 < ends c s
     ended_then c has =
-        let wins = run_wins last h.begun h.meanwhile s h.run c in
-        let a = run_total kind.IUnflag (omega arith) c last h.begun h.meanwhile s h.run in
-        let b = run_total kind.DUnflag (omega arith) c last h.begun h.meanwhile s h.run in
-        let d = run_total kind.Backtrack (omega arith) c last h.begun h.meanwhile s h.run in
+        let wins = run_wins plan.last_card h.begun h.meanwhile s h.run c in
+        let a = run_total kind.IUnflag (omega arith) c plan.last_card h.begun h.meanwhile s h.run in
+        let b = run_total kind.DUnflag (omega arith) c plan.last_card h.begun h.meanwhile s h.run in
+        let d = run_total kind.Backtrack (omega arith) c plan.last_card h.begun h.meanwhile s h.run in
         let all = some_end wins has in
         omega arith
 
-    found_others : (u : Update) → EndsMeanwhile keys start cards ran u.card → (u.state ≡ state.Clean → ended_since keys start cards ran u.card ≡ true) → ((c : ℕ) → v.worker.card ≡ Some c → v.worker.flagged ≡ true → u.card ≢ c)
+    found_others : (u : Update) → EndsMeanwhile plan ran u.card → (u.state ≡ state.Clean → ended_since plan ran u.card ≡ true) → ((c : ℕ) → v.worker.card ≡ Some c → v.worker.flagged ≡ true → u.card ≢ c)
         → IsOfOthers h.begun s v (Found u)
     found_others u is calm apart = (
       unended u.card is.before,
@@ -236,7 +234,7 @@ module _ (keys : List ℕ) (start : List (ℕ × ℕ)) (cards : ℕ) where
       apart,
     )
 
-    met_others : (hs : List Hindrance) → AreMeanwhile keys start cards ran hs → AllUnclaimed v.won hs → ((c : ℕ) → v.worker.card ≡ Some c → AreOfOthers c hs)
+    met_others : (hs : List Hindrance) → AreMeanwhile plan ran hs → AllUnclaimed v.won hs → ((c : ℕ) → v.worker.card ≡ Some c → AreOfOthers c hs)
         → Each (IsOfOthers h.begun s v) hs
     met_others [] are free apart = tt
     met_others (Claim c ∷ hs) are free apart =
@@ -248,7 +246,7 @@ module _ (keys : List ℕ) (start : List (ℕ × ℕ)) (cards : ℕ) where
     met_others (Found u ∷ hs) are free apart =
         (found_others u are.0.0 are.0.1 (λ c has flagged. (apart c has).0), met_others hs are.1 free (λ c has. (apart c has).1))
 
-    first_are : (a b : List Hindrance) → AreMeanwhile keys start cards ran (a ++ b) → AreMeanwhile keys start cards ran a
+    first_are : (a b : List Hindrance) → AreMeanwhile plan ran (a ++ b) → AreMeanwhile plan ran a
     first_are [] b h = tt
     first_are (x ∷ a) b h = (h.0, first_are a b h.1)
 
@@ -259,22 +257,22 @@ module _ (keys : List ℕ) (start : List (ℕ × ℕ)) (cards : ℕ) where
 
     own_apart : (c : ℕ) → v.worker.card ≡ Some c → AreOfOthers c v.met
     own_apart c has =
-        let m = searches_meet_meanwhile keys start cards ran in
+        let m = searches_meet_meanwhile plan ran in
         first_own c v.met m.earlier (subst (AreOfOthers c) m.tries (m.own c has))
 
-    met_are : AreMeanwhile keys start cards ran v.met
+    met_are : AreMeanwhile plan ran v.met
     met_are =
-        let m = searches_meet_meanwhile keys start cards ran in
-        first_are v.met m.earlier (subst (AreMeanwhile keys start cards ran) m.tries m.each)
+        let m = searches_meet_meanwhile plan ran in
+        first_are v.met m.earlier (subst (AreMeanwhile plan ran) m.tries m.each)
 
     -- while an operation is in hand, a pass with its card flagged stands nowhere
     stands_unflagged : MayStop v → (x : ℕ) → v.worker.search.node ≡ Some x → (c : ℕ) → v.worker.card ≡ Some c → v.worker.flagged ≡ true → ⊥
     stands_unflagged may x at c has flagged =
-        let k = wins_are_counted keys start last s comes in
+        let k = wins_are_counted plan s comes in
         let sound = subst (WorkerIsSound k.machine.words k.stages) (ap seat_worker there) (k.invariant.workers.each seat) in
         some_not_none at (sound.flagged may.op c may.busy has flagged).1
 
-    unless_others : MayStop v → (x : ℕ) → v.worker.search.node ≡ Some x → (st : State) (c : ℕ) → (st ≢ state.Clean → EndsMeanwhile keys start cards ran c)
+    unless_others : MayStop v → (x : ℕ) → v.worker.search.node ≡ Some x → (st : State) (c : ℕ) → (st ≢ state.Clean → EndsMeanwhile plan ran c)
         → Each (IsOfOthers h.begun s v) (unless_clean st c)
     unless_others may x at state.Clean c is = tt
     unless_others may x at state.IFlag c is =
@@ -284,7 +282,7 @@ module _ (keys : List ℕ) (start : List (ℕ × ℕ)) (cards : ℕ) where
     unless_others may x at state.Mark c is =
         (found_others (record { state = state.Mark; card = c }) (is (λ e. cc)) (λ e. absurd (cc)) (λ d has flagged e. stands_unflagged may x at d has flagged), tt)
 
-    read_others : MayStop v → (x : ℕ) → v.worker.search.node ≡ Some x → (o : Option Seen) → ((seen : Seen) → o ≡ Some seen → WordEndsMeanwhile keys start cards ran seen.word)
+    read_others : MayStop v → (x : ℕ) → v.worker.search.node ≡ Some x → (o : Option Seen) → ((seen : Seen) → o ≡ Some seen → WordEndsMeanwhile plan ran seen.word)
         → Each (IsOfOthers h.begun s v) (read_in_way o)
     read_others may x at None is = tt
     read_others may x at (Some seen) is = unless_others may x at (unpacked seen.word).state (unpacked seen.word).card (is seen refl)
@@ -294,8 +292,8 @@ module _ (keys : List ℕ) (start : List (ℕ × ℕ)) (cards : ℕ) where
     first_others (x ∷ a) b f g = f
 
     way_others : MayStop v → (op : Option Op) (place : Option ℕ) (parent above : Option Seen) → v.worker.search.node ≡ place
-        → ((seen : Seen) → parent ≡ Some seen → WordEndsMeanwhile keys start cards ran seen.word)
-        → ((seen : Seen) → above ≡ Some seen → WordEndsMeanwhile keys start cards ran seen.word)
+        → ((seen : Seen) → parent ≡ Some seen → WordEndsMeanwhile plan ran seen.word)
+        → ((seen : Seen) → above ≡ Some seen → WordEndsMeanwhile plan ran seen.word)
         → Each (IsOfOthers h.begun s v) (in_the_way op place parent above)
     way_others may None place parent above at p g = tt
     way_others may (Some (Find k)) place parent above at p g = tt
@@ -308,7 +306,7 @@ module _ (keys : List ℕ) (start : List (ℕ × ℕ)) (cards : ℕ) where
     -- all that a try met, once it is given up
     try_others : MayStop v → Each (IsOfOthers h.begun s v) (met_in_try v)
     try_others may =
-        let reads = searches_read_meanwhile keys start cards ran in
+        let reads = searches_read_meanwhile plan ran in
         each_append (IsOfOthers h.begun s v) (way_now v) v.met
         (way_others may v.worker.operation v.worker.search.node v.worker.search.parent v.worker.search.grandparent refl reads.parent reads.grandparent)
         (met_others v.met met_are h.lost own_apart)
@@ -320,7 +318,7 @@ module _ (keys : List ℕ) (start : List (ℕ × ℕ)) (cards : ℕ) where
       where
         held : v.worker.card ≡ Some c → (b : Bool) → v.worker.flagged ≡ b → ⊥
         held has true e = apart c has e refl
-        held has false e = let none = hand_unended keys start last s comes seat v there c has e in absurd (omega arith)
+        held has false e = let none = hand_unended plan s comes seat v there c has e in absurd (omega arith)
 
         mine : 0 < times kind.Claim c v.won → (b : Bool) → is_held v.worker.card c ≡ b → ⊥
         mine own true e = held (held_is v.worker.card c e) v.worker.flagged refl
@@ -348,7 +346,7 @@ module _ (keys : List ℕ) (start : List (ℕ × ℕ)) (cards : ℕ) where
         hinders (Found u) is over =
             let c = u.card in
             let now = is.1 over in
-            let low = ended_below keys start last s comes c now in
+            let low = ended_below plan s comes c now in
             let more = g.ended c in
             let next = g.next in
             let other = ended_other may c is.0 now is.2 in
@@ -378,12 +376,12 @@ module _ (keys : List ℕ) (start : List (ℕ × ℕ)) (cards : ℕ) where
     lost : AllUnclaimed w.won w.met
 
   module _ (s0 : TableState) (v0 : View) (seat : ℕ) (s : TableState) (v : View) (h : Searches s0 v0 seat s v) (there : get_elem? s.views seat ≡ some v)
-      (t : Turn) (s' : TableState) (turn : TableTurns last s t s') (on : Only KeepsOn seat t) where
-    here : IsReached keys start last s
+      (t : Turn) (s' : TableState) (turn : TableTurns plan.last_card s t s') (on : Only KeepsOn seat t) where
+    here : IsReached plan s
     here = comes s0 v0 seat s v h there
 
-    next_here : IsReached keys start last s'
-    next_here = reached_on keys start last s here t s' turn
+    next_here : IsReached plan s'
+    next_here = reached_on plan s here t s' turn
 
     rests : (w : View) → get_elem? s'.views seat ≡ some w → Grows s v s' w → Rests s v s' w → Searches s0 v0 seat s' w
     rests w at g r = record {
@@ -394,14 +392,14 @@ module _ (keys : List ℕ) (start : List (ℕ × ℕ)) (cards : ℕ) where
       led = h.led;
       begins = h.begins;
       meanwhile = h.meanwhile ++ t ∷ [];
-      run = one_more_turn last h.begun h.meanwhile s t s' h.run turn;
+      run = one_more_turn plan.last_card h.begun h.meanwhile s t s' h.run turn;
       keeps = keep_more seat h.meanwhile t h.keeps on;
       first = h.first;
       since = grows_on h.begun h.begins.view s v s' w h.since g;
       aside = λ op busy c own no. elim (r.aside c own no) [
         | inl was ↦ elim (h.aside op (r.operation op busy) c was.0 was.1) [
           | inl ended ↦ inl ended
-          | inr left ↦ inr (turn_abandoned keys start last s here c left t s' turn)
+          | inr left ↦ inr (turn_abandoned plan s here c left t s' turn)
         ]
         | inr left ↦ inr left
       ];
@@ -413,7 +411,7 @@ module _ (keys : List ℕ) (start : List (ℕ × ℕ)) (cards : ℕ) where
     lost_on : (won : List (Kind × ℕ)) → ((c : ℕ) → c < get_or s.words 0 0 → times kind.Claim c won ≡ times kind.Claim c v.won) → AllUnclaimed won v.met
     lost_on won same = by v.met (met_are s0 v0 seat s v h there) h.lost
       where
-        by : (hs : List Hindrance) → AreMeanwhile keys start cards (ran s0 v0 seat s v h there) hs → AllUnclaimed v.won hs → AllUnclaimed won hs
+        by : (hs : List Hindrance) → AreMeanwhile plan (ran s0 v0 seat s v h there) hs → AllUnclaimed v.won hs → AllUnclaimed won hs
         by [] are free = tt
         by (Claim c ∷ hs) are free =
             let high = are.0.1 in
@@ -433,7 +431,7 @@ module _ (keys : List ℕ) (start : List (ℕ × ℕ)) (cards : ℕ) where
 
     module _ (c : Call) (made : t ≡ Makes seat c) (at : get_elem? s'.views seat ≡ some (view_after s v c)) where
       -- a claim
-      claim_rests : (d : ℕ) (b : Bool) → (found_by s (call.Claim d) == d) ≡ b → May last (call.Claim d) v → Grows s v s' (after_claim b d v) → Rests s v s' (after_claim b d v)
+      claim_rests : (d : ℕ) (b : Bool) → (found_by s (call.Claim d) == d) ≡ b → May plan.last_card (call.Claim d) v → Grows s v s' (after_claim b d v) → Rests s v s' (after_claim b d v)
       claim_rests d true e may g = record {
         hindered = refl;
         operation = λ op busy. busy;
@@ -446,7 +444,7 @@ module _ (keys : List ℕ) (start : List (ℕ × ℕ)) (cards : ℕ) where
         lost = lost_on (after_claim true d v).won g.own;
       }
       claim_rests d false e may g = alike (after_claim false d v) g refl refl refl (λ x. refl)
-          ((hands_are_claimed keys start last s here seat v there).read d may.0.leaf may.0.read may.0.no_card may.0.stands, lost_on v.won (λ x low. refl))
+          ((hands_are_claimed plan s here seat v there).read d may.0.leaf may.0.read may.0.no_card may.0.stands, lost_on v.won (λ x low. refl))
 
       -- a flag
       flag_rests : (k : Kind) (d x : ℕ) (new : Fact) (n : ℕ) (b : Bool) (w : View) → w ≡ exchanged (if_won b k d) n (after_flag b new x (unpacked n) v)
@@ -455,10 +453,10 @@ module _ (keys : List ℕ) (start : List (ℕ × ℕ)) (cards : ℕ) where
         where
           laid : (y : ℕ) → v.worker.card ≡ Some y → 0 < times kind.Claim y w.won → w.worker.card ≢ Some y → IsAbandoned s' y
           laid y has own else_where =
-              let was = hand_unended keys start last s here seat v there y has unflagged in
-              let rise = ends_rise y last s t s' turn in
+              let was = hand_unended plan s here seat v there y has unflagged in
+              let rise = ends_rise y plan.last_card s t s' turn in
               let none = ends_none y in
-              own_abandoned keys start last s' next_here seat w there_now y own else_where (omega arith)
+              own_abandoned plan s' next_here seat w there_now y own else_where (omega arith)
 
           by : (b : Bool) → w ≡ exchanged (if_won b k d) n (after_flag b new x (unpacked n) v) → Rests s v s' w
           by true is = alike w g (ap (λ u. u.hindered) is) (ap (λ u. u.worker.operation) is) (ap (λ u. u.worker.card) is)
@@ -507,7 +505,7 @@ module _ (keys : List ℕ) (start : List (ℕ × ℕ)) (cards : ℕ) where
           omega arith
 
     -- each of its calls by which it goes on with its try
-    call_rests : (c : Call) → GoesOn c → t ≡ Makes seat c → May last c v → get_elem? s'.views seat ≡ some (view_after s v c) → Grows s v s' (view_after s v c)
+    call_rests : (c : Call) → GoesOn c → t ≡ Makes seat c → May plan.last_card c v → get_elem? s'.views seat ≡ some (view_after s v c) → Grows s v s' (view_after s v c)
         → Rests s v s' (view_after s v c)
     call_rests (call.Begin op) goes made may at g = absurd goes
     call_rests call.Again goes made may at g = absurd goes
@@ -546,7 +544,7 @@ module _ (keys : List ℕ) (start : List (ℕ × ℕ)) (cards : ℕ) where
       starts = h.starts;
       before = h.before ++ (h.meanwhile ++ t ∷ []);
       begun = s';
-      led = run_append last h.opened h.before h.begun (h.meanwhile ++ t ∷ []) s' h.led (one_more_turn last h.begun h.meanwhile s t s' h.run turn);
+      led = run_append plan.last_card h.opened h.before h.begun (h.meanwhile ++ t ∷ []) s' h.led (one_more_turn plan.last_card h.begun h.meanwhile s t s' h.run turn);
       begins = record {
         view = w;
         there = at;
@@ -567,12 +565,12 @@ module _ (keys : List ℕ) (start : List (ℕ × ℕ)) (cards : ℕ) where
     }
       where
         by : (c : ℕ) → 0 < times kind.Claim c w.won → w.worker.card ≢ Some c → (n : ℕ) → ends c s' ≡ n → (0 < ends c s') ⊎ IsAbandoned s' c
-        by c own none zero e = inr (own_abandoned keys start last s' next_here seat w at c own none e)
+        by c own none zero e = inr (own_abandoned plan s' next_here seat w at c own none e)
         by c own none (suc n) e = inl (omega arith)
 
     -- what a turn makes of a search
-    turn_searches : Searches s0 v0 seat s' (turn_seat KeepsOn last s seat v there t s' turn on).view
-        ⊎ Stopped s0 v0 s' (turn_seat KeepsOn last s seat v there t s' turn on).view
+    turn_searches : Searches s0 v0 seat s' (turn_seat KeepsOn plan.last_card s seat v there t s' turn on).view
+        ⊎ Stopped s0 v0 s' (turn_seat KeepsOn plan.last_card s seat v there t s' turn on).view
     turn_searches = elim goes.made [
       | inl same ↦ inl (rests w goes.there g (alike w g (ap (λ u. u.hindered) same) (ap (λ u. u.worker.operation) same) (ap (λ u. u.worker.card) same)
           (λ c. ap (λ u. times kind.Claim c u.won) same) (subst (AllUnclaimed w.won) (sym (ap (λ (u : View). u.met) same)) (lost_on w.won g.own))))
@@ -580,8 +578,8 @@ module _ (keys : List ℕ) (start : List (ℕ × ℕ)) (cards : ℕ) where
           (by made.0 made.1 made.2 made.4 (ap (get_elem? s'.views) refl ∙ (goes.there ∙ ap some made.3)) (subst (Grows s v s') made.3 g))
     ]
       where
-        goes : SeatGoesOn KeepsOn last s seat v t s'
-        goes = turn_seat KeepsOn last s seat v there t s' turn on
+        goes : SeatGoesOn KeepsOn plan.last_card s seat v t s'
+        goes = turn_seat KeepsOn plan.last_card s seat v there t s' turn on
 
         w : View
         w = goes.view
@@ -589,7 +587,7 @@ module _ (keys : List ℕ) (start : List (ℕ × ℕ)) (cards : ℕ) where
         g : Grows s v s' w
         g = turn_grows s here seat v there t s' turn goes
 
-        by : (c : Call) → KeepsOn c → May last c v → t ≡ Makes seat c → get_elem? s'.views seat ≡ some (view_after s v c) → Grows s v s' (view_after s v c)
+        by : (c : Call) → KeepsOn c → May plan.last_card c v → t ≡ Makes seat c → get_elem? s'.views seat ≡ some (view_after s v c) → Grows s v s' (view_after s v c)
             → Searches s0 v0 seat s' (view_after s v c) ⊎ Stopped s0 v0 s' (view_after s v c)
         by (call.Begin op) keeps may made at g = absurd keeps
         by call.Again keeps may made at g = inl (begins_anew (view_after s v call.Again) at g refl may)
@@ -608,7 +606,7 @@ module _ (keys : List ℕ) (start : List (ℕ × ℕ)) (cards : ℕ) where
     how : Searches s0 v0 seat s view ⊎ Stopped s0 v0 s view
 
   -- a pass with nothing in hand has nothing in hand after a call, and has given no try up
-  call_stays : (c : Call) (n : ℕ) (v : View) → KeepsOn c → May last c v → v.worker.operation ≡ None
+  call_stays : (c : Call) (n : ℕ) (v : View) → KeepsOn c → May plan.last_card c v → v.worker.operation ≡ None
       → ((after c n v).worker.operation ≡ None) × ((after c n v).hindered ≡ v.hindered)
   call_stays (call.Begin op) n v keeps may free = absurd keeps
   call_stays call.Again n v keeps may free = absurd (some_not_none may.busy free)
@@ -630,9 +628,9 @@ module _ (keys : List ℕ) (start : List (ℕ × ℕ)) (cards : ℕ) where
   call_stays c n v keeps may free = (free, refl)
 
   turn_stopped : (s0 : TableState) (v0 : View) (seat : ℕ) (s : TableState) (v : View) → Stopped s0 v0 s v → get_elem? s.views seat ≡ some v
-      → (t : Turn) (s' : TableState) → TableTurns last s t s' → Only KeepsOn seat t → Comes s0 v0 seat s'
+      → (t : Turn) (s' : TableState) → TableTurns plan.last_card s t s' → Only KeepsOn seat t → Comes s0 v0 seat s'
   turn_stopped s0 v0 seat s v h there t s' turn on =
-      let goes = turn_seat KeepsOn last s seat v there t s' turn on in
+      let goes = turn_seat KeepsOn plan.last_card s seat v there t s' turn on in
       let g = turn_grows s h.reached seat v there t s' turn goes in
       let stays : (goes.view.worker.operation ≡ None) × (goes.view.hindered ≡ v.hindered) = elim goes.made [
         | inl same ↦ (ap (λ (u : View). u.worker.operation) same ∙ h.free, ap (λ (u : View). u.hindered) same)
@@ -645,23 +643,23 @@ module _ (keys : List ℕ) (start : List (ℕ × ℕ)) (cards : ℕ) where
         view = goes.view;
         there = goes.there;
         how = inr (record {
-          reached = reached_on keys start last s h.reached t s' turn;
+          reached = reached_on plan s h.reached t s' turn;
           free = stays.0;
           grows = grows_on s0 v0 s v s' goes.view h.grows g;
           counted = omega arith;
         });
       }
 
-  turn_comes : (s0 : TableState) (v0 : View) (seat : ℕ) (s : TableState) → Comes s0 v0 seat s → (t : Turn) (s' : TableState) → TableTurns last s t s' → Only KeepsOn seat t
+  turn_comes : (s0 : TableState) (v0 : View) (seat : ℕ) (s : TableState) → Comes s0 v0 seat s → (t : Turn) (s' : TableState) → TableTurns plan.last_card s t s' → Only KeepsOn seat t
       → Comes s0 v0 seat s'
   turn_comes s0 v0 seat s at t s' turn on = elim at.how [
     | inl h ↦
-        let goes = turn_seat KeepsOn last s seat at.view at.there t s' turn on in
+        let goes = turn_seat KeepsOn plan.last_card s seat at.view at.there t s' turn on in
         record { view = goes.view; there = goes.there; how = turn_searches s0 v0 seat s at.view h at.there t s' turn on }
     | inr h ↦ turn_stopped s0 v0 seat s at.view h at.there t s' turn on
   ]
 
-  run_comes : (s0 : TableState) (v0 : View) (seat : ℕ) (s : TableState) → Comes s0 v0 seat s → (turns : List Turn) (s' : TableState) → TableRun last s turns s' → KeepOn seat turns
+  run_comes : (s0 : TableState) (v0 : View) (seat : ℕ) (s : TableState) → Comes s0 v0 seat s → (turns : List Turn) (s' : TableState) → TableRun plan.last_card s turns s' → KeepOn seat turns
       → Comes s0 v0 seat s'
   run_comes s0 v0 seat s at [] s' run on = subst (Comes s0 v0 seat) (sym run) at
   run_comes s0 v0 seat s at (t ∷ ts) s' run on =
@@ -680,9 +678,9 @@ module _ (keys : List ℕ) (start : List (ℕ × ℕ)) (cards : ℕ) where
       record { grows = grows_on s0 v0 h.begun h.begins.view s v h.first h.since; counted = omega arith }
   came s0 v0 seat s v (inr h) = record { grows = h.grows; counted = h.counted }
 
-  module _ (q : SearchRun keys start cards) where
-    begun_reached : IsReached keys start last q.begun
-    begun_reached = record { cards = cards; all = refl; first = q.opened; starts = q.starts; turns = q.before; run = q.led }
+  module _ (q : SearchRun plan) where
+    begun_reached : IsReached plan q.begun
+    begun_reached = record { first = q.opened; starts = q.starts; turns = q.before; run = q.led }
 
     starts_there : Comes q.begun q.begins.view q.seat q.begun
     starts_there = record {
@@ -708,7 +706,7 @@ module _ (keys : List ℕ) (start : List (ℕ × ℕ)) (cards : ℕ) where
       where
         by : (c : ℕ) → 0 < times kind.Claim c q.begins.view.won → q.begins.view.worker.card ≢ Some c → (n : ℕ) → ends c q.begun ≡ n
             → (0 < ends c q.begun) ⊎ IsAbandoned q.begun c
-        by c own none zero e = inr (own_abandoned keys start last q.begun begun_reached q.seat q.begins.view q.begins.there c own none e)
+        by c own none zero e = inr (own_abandoned plan q.begun begun_reached q.seat q.begins.view q.begins.there c own none e)
         by c own none (suc n) e = inl (omega arith)
 
     -- a card that ended meanwhile was given out meanwhile, or in some hand at the beginning
@@ -722,7 +720,7 @@ module _ (keys : List ℕ) (start : List (ℕ × ℕ)) (cards : ℕ) where
               free = λ j v at has. let here = held_there q.begun.views j c v at has in (omega arith);
               unended = none;
             } in
-            let still = run_abandoned keys start last q.begun begun_reached c left q.meanwhile q.now q.run in
+            let still = run_abandoned plan q.begun begun_reached c left q.meanwhile q.now q.run in
             let is = still.unended in
             absurd (omega arith)
         in_hand none some_now low (suc n) e = omega arith
@@ -736,7 +734,7 @@ module _ (keys : List ℕ) (start : List (ℕ × ℕ)) (cards : ℕ) where
               | inr high ↦ (let more = ap one (is_given (get_or q.begun.words 0 0) c q.view.won high was.other) in omega arith)
             ]
 
-    few : q.view.hindered ≤ q.begins.view.hindered + (2 * given_to_others keys start cards q + cards_in_hand q.begun.views)
+    few : q.view.hindered ≤ q.begins.view.hindered + (2 * given_to_others plan q + cards_in_hand q.begun.views)
     few =
         let at = run_comes q.begun q.begins.view q.seat q.begun starts_there q.meanwhile q.now q.run q.keeps in
         let same : at.view ≡ q.view = some-injective at.view q.view (sym at.there ∙ q.there) in
@@ -745,19 +743,19 @@ module _ (keys : List ℕ) (start : List (ℕ × ℕ)) (cards : ℕ) where
         let shared = many_shared (get_or q.now.words 0 0) (ended q.begun q.now q.view.won) (given (get_or q.begun.words 0 0) q.view.won) (λ c. held_by c q.begun.views)
         (λ c low. ended_shared c) in
         let hands = hands_hold (get_or q.now.words 0 0) q.begun.views in
-        let others : given_to_others keys start cards q ≡ how_many (get_or q.now.words 0 0) (given (get_or q.begun.words 0 0) q.view.won) =
+        let others : given_to_others plan q ≡ how_many (get_or q.now.words 0 0) (given (get_or q.begun.words 0 0) q.view.won) =
         (λ i. how_many (listed_next q.now.words i) (given (listed_next q.begun.words i) q.view.won)) in
         omega arith
 
 pub tries_are_hindered_by_others : TriesAreHinderedByOthers
-tries_are_hindered_by_others keys start cards q = few keys start cards q
+tries_are_hindered_by_others plan q = few plan q
 
 -- and so it is of so many tries as a view has given up more
-pub more_tries : (keys : List ℕ) (start : List (ℕ × ℕ)) (last before : ℕ) (v : View) (tries : ℕ) → v.hindered ≡ before + tries
-    → AreHinderedByOthers keys start last before v tries
-more_tries keys start last before v tries more = record {
-  few = λ cards all r same was.
-      let few = tries_are_hindered_by_others keys start cards r in
+pub more_tries : (plan : TablePlan) (before : ℕ) (v : View) (tries : ℕ) → v.hindered ≡ before + tries
+    → AreHinderedByOthers plan before v tries
+more_tries plan before v tries more = record {
+  few = λ r same was.
+      let few = tries_are_hindered_by_others plan r in
       let is = ap (λ (u : View). u.hindered) same in
       omega arith;
 }

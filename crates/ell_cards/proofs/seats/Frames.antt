@@ -42,12 +42,13 @@ use Rattle.ell_cards.proofs.seats.Seats.{IsKept, Leads, Moves, leads, kept_event
 use Rattle.ell_core.proofs.stages.Ended.{over-cut}
 
 -- what is so of a view beside its entries after an event, whatever the words: its key is told, a card that it has in hand
--- unflagged it had so before, with the same to say and stored, and it owns no key more
+-- unflagged it had so before, with the same to say and stored, and it owns no key more, and knows the same keys that may have an owner
 pub record Onward (w : Words) (stage : Stages) (v after : View) : Type 0 where
   pub here : (x key : ℕ) → after.worker.search.node ≡ Some x → after.here ≡ Some key → IsTold after (Key x key)
   pub hand : (c : ℕ) → after.worker.card ≡ Some c → after.worker.flagged ≡ false
       → (v.worker.card ≡ Some c) × (v.worker.flagged ≡ false) × (after.planned ≡ v.planned) × (after.stores ≡ v.stores)
   pub owns : (k : ℕ) → WorkerOwns (worker_of after.worker) k → WorkerOwns (worker_of v.worker) k
+  pub list : after.worker.ownable ≡ v.worker.ownable
   pub read : (n : ℕ) → after.next ≡ Some n → v.next ≡ Some n
   pub least : after.next_at_least ≡ v.next_at_least
   pub before : (f : Fact) → KnewBefore after f → Knows v f
@@ -139,7 +140,7 @@ module _ (keys : List ℕ) (cards : ℕ) (s : TableState) (r : HasMachine keys c
             (sym (set-get_or s.words i 0))
             (kept_event keys cards s r id v here a said r.words after s.words l.0 l.1 moves
             (view_on a said r.words after s.words l.0 l.1 moves
-            (λ e told. entries_on keys cards s r id v here a said r.words after l.0 l.1 e (entries e told)) on) on.owns);
+            (λ e told. entries_on keys cards s r id v here a said r.words after l.0 l.1 e (entries e told)) on) on.owns on.list);
         steps = l.1.steps;
       }
 
@@ -182,6 +183,10 @@ module _ (keys : List ℕ) (cards : ℕ) (s : TableState) (r : HasMachine keys c
           (λ (t : (j ≡ id) × (after ≡ u)). r.owned id k v here
           (subst (λ z. WorkerOwns (worker_of z) k) same (subst (λ (z : View). WorkerOwns (worker_of z.worker) k) (sym t.1) has)))
           (λ (t : (j ≢ id) × (get_elem? s.views j ≡ some u)). r.owned j k u t.1 has)
+          (at_set s.views id j after u e);
+      listed = λ j u l e is. ⊎_elim
+          (λ (t : (j ≡ id) × (after ≡ u)). r.listed id v l here (ap (λ z. z.ownable) (sym same) ∙ (ap (λ (z : View). z.worker.ownable) t.1 ∙ is)))
+          (λ (t : (j ≢ id) × (get_elem? s.views j ≡ some u)). r.listed j u l t.1 is)
           (at_set s.views id j after u e);
     };
     words = refl;

@@ -172,8 +172,9 @@ module _ (keys : List ℕ) (cards : ℕ) (s : TableState) (r : HasMachine keys c
   pub kept_event : (a : Act) (said : Stepped) (new : Words) (after : View) (list : List ℕ) (stages : Stages)
       → Leads a said new after stages → Moves list new stages → ViewHolds list new stages after
       → ((k : ℕ) → WorkerOwns (worker_of after.worker) k → WorkerOwns (worker_of v.worker) k)
+      → after.worker.ownable ≡ v.worker.ownable
       → IsKept keys cards (record { words = list; homes = s.homes; views = set s.views id after }) new
-  kept_event a said new after list stages led moves own owns = record {
+  kept_event a said new after list stages led moves own owns same_list = record {
     kept = record {
       words = new;
       stages = stages;
@@ -189,6 +190,10 @@ module _ (keys : List ℕ) (cards : ℕ) (s : TableState) (r : HasMachine keys c
           (λ (t : (j ≡ id) × (after ≡ u)).
           r.owned id k v here (owns k (subst (λ (z : View). WorkerOwns (worker_of z.worker) k) (sym t.1) has)))
           (λ (t : (j ≢ id) × (get_elem? s.views j ≡ some u)). r.owned j k u t.1 has)
+          (at_set s.views id j after u e);
+      listed = λ j u l e is. ⊎_elim
+          (λ (t : (j ≡ id) × (after ≡ u)). r.listed id v l here (sym same_list ∙ (ap (λ (z : View). z.worker.ownable) t.1 ∙ is)))
+          (λ (t : (j ≢ id) × (get_elem? s.views j ≡ some u)). r.listed j u l t.1 is)
           (at_set s.views id j after u e);
     };
     words = refl;

@@ -1,4 +1,4 @@
-use Rattle.std.specs.Prelude.{◌≡◌, ◌≢◌, ℕ, ◌<◌, ◌↔◌, Some, None, List, length}
+use Rattle.std.specs.Prelude.{◌≡◌, ◌≢◌, ℕ, ◌<◌, ◌↔◌, Some, None, List, length, false}
 use mathlib.Core.Option.{some}
 use lib.ListN.{get_elem?}
 use Rattle.ell_core.specs.declared.view.Entry.TheVariants.{Present}
@@ -9,10 +9,10 @@ use Rattle.ell_cards.specs.declared.call.Call.{Call}
 use Rattle.ell_cards.specs.declared.view.View.{View}
 use Rattle.ell_cards.specs.Models.{IsFree}
 use Rattle.ell_cards.specs.Calls.{word_of, atomic_of, is_won, May}
-use Rattle.ell_cards.specs.States.{TableState}
+use Rattle.ell_cards.specs.States.{TableState, seat_worker}
 use Rattle.ell_cards.specs.Turns.{Turn, TableRun, found_by, view_after, state_after}
 use Rattle.ell_cards.specs.TurnEffects.{own_words, own_machine, PairsChangeBy, LedgerChangesBy, ChangeIsOf}
-use Rattle.ell_cards.specs.Machines.{HasMachine}
+use Rattle.ell_cards.specs.Machines.{HasMachine, NobodyShares}
 use Rattle.ell_cards.specs.OwnWords.{IsOwnedKey, NodeGoesOn}
 
 -- of each state that has a machine, what the laws of OwnWords say of each that turns have led to
@@ -42,7 +42,8 @@ LedgersByMachine = (keys : List ℕ) (cards : ℕ) (s : TableState) → HasMachi
     → IsTreePair (own_words s) key value ↔ (ledger_of v.worker.ledger key ≡ Some (Present value))
 
 abbrev pub OwnedByMachine : Type 0
-OwnedByMachine = (keys : List ℕ) (cards : ℕ) (s : TableState) → HasMachine keys cards s → (key : ℕ) → IsTreeKey (own_words s) key → IsOwnedKey s key
+OwnedByMachine = (keys : List ℕ) (cards : ℕ) (s : TableState) → HasMachine keys cards s → (key : ℕ)
+    → ((i : ℕ) → (seat_worker (get_elem? s.views i)).shared key ≡ false) → IsTreeKey (own_words s) key → IsOwnedKey s key
 
 abbrev pub NodesByMachine : Type 0
 NodesByMachine = (keys : List ℕ) (cards : ℕ) (s : TableState) → HasMachine keys cards s → (turns : List Turn) (s' : TableState)

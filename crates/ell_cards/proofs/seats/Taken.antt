@@ -1,4 +1,4 @@
-use Rattle.std.proofs.Common.{◌≡◌, ◌==◌, ℕ, ◌%◌, ◌<◌, ◌≤◌, false, List, [], ◌∷◌, Option, Some, refl, ap, inl, inr, arith}
+use Rattle.std.proofs.Common.{◌≡◌, ◌==◌, ℕ, ◌%◌, ◌<◌, ◌≤◌, false, List, [], ◌∷◌, Option, Some, refl, ap, inl, inr, arith, Bool, if◌then◌else◌, true}
 use Rattle.ell_ops.specs.declared.op.Op.{Op}
 use Rattle.ell_ops.specs.declared.op.Op.TheVariants.{Insert, Delete}
 use Rattle.ell_word.specs.Node.{card}
@@ -14,15 +14,17 @@ use Rattle.ell_cards.specs.declared.call.Call.TheVariants as call
 use Rattle.ell_cards.specs.declared.view.View.{View}
 use Rattle.ell_cards.specs.declared.view.Told.TheVariants.{Met, Info}
 use Rattle.ell_cards.specs.Models.{KnowsCard, PassModel, Steps}
-use Rattle.ell_cards.specs.Changes.{keys_of, with_entry, answered_ledger}
+use Rattle.ell_cards.specs.Changes.{keys_of, with_entry, answered_ledger, after_claim, after_mark, after_flag, is_mark_of, learning, unmarking}
 use Rattle.ell_cards.specs.Calls.{word_of, after, May}
 use Rattle.ell_cards.specs.Naming.{IsNamed}
-use Rattle.ell_cards.specs.Stepping.{KeepsPass, StepsBy, IsTaken}
-use Rattle.ell_cards.proofs.seats.LedgersStay.{claim_ledger, flag_ledger, mark_ledger}
+use Rattle.ell_cards.specs.Stepping.{KeepsPass, StepsBy, IsTaken, SameShare}
+use Rattle.ell_cards.proofs.seats.LedgersStay.{claim_ledger, flag_ledger, mark_ledger, claim_list, flag_list, mark_list}
 use Rattle.ell_core.specs.declared.view.Entry.{Entry}
 use Rattle.ell_core.specs.declared.view.Entry.TheVariants.{Present, Absent}
 use Rattle.ell_ops.specs.declared.reply.Reply.{Reply}
 use Rattle.ell_ops.specs.declared.reply.Reply.TheVariants.{Yes}
+use Rattle.ell_core.specs.declared.fact.Fact.{Fact}
+use Rattle.ell_word.specs.declared.update.Update.{Update}
 
 -- settling a key leaves the keys
 settled_keys : (k : ℕ) (b : Entry) (l : List (ℕ × Entry)) → keys_of (with_entry k b l) ≡ keys_of l
@@ -43,9 +45,44 @@ keys_stay (call.DFlag c gp from) n v = ap keys_of (flag_ledger (n == packed from
 keys_stay (call.Mark c p was) n v = ap keys_of (mark_ledger (n == was) c p (unpacked n) v)
 keys_stay _ n v = refl
 
+-- nor the keys that may have an owner, as it knows them
+pub owned_stays : (c : Call) (n : ℕ) (v : View) → (after c n v).worker.ownable ≡ v.worker.ownable
+owned_stays (call.Claim c) n v = claim_list (n == c) c v
+owned_stays (call.IFlag c p from) n v = flag_list (n == packed from) (IFlagged c) p (unpacked n) v
+owned_stays (call.DFlag c gp from) n v = flag_list (n == packed from) (DFlagged c) gp (unpacked n) v
+owned_stays (call.Mark c p was) n v = mark_list (n == was) c p (unpacked n) v
+owned_stays _ n v = refl
+
+-- nor the share
+share_claim : (b : Bool) (c : ℕ) (v : View) → (after_claim b c v).share ≡ v.share
+share_claim true c v = refl
+share_claim false c v = refl
+
+share_flag : (b : Bool) (new : Fact) (x : ℕ) (u : Update) (v : View) → (after_flag b new x u v).share ≡ v.share
+share_flag true new x u v = refl
+share_flag false new x u v = refl
+
+share_mark : (b : Bool) (c x : ℕ) (u : Update) (v : View) → (after_mark b c x u v).share ≡ v.share
+share_mark true c x u v = refl
+share_mark false c x u v = by (is_mark_of c u.state u.card)
+  where
+    by : (b : Bool) → (if b then learning (Marked c) v else unmarking c x u v).share ≡ v.share
+    by true = refl
+    by false = refl
+
+pub share_stays : (c : Call) (n : ℕ) (v : View) → (after c n v).share ≡ v.share
+share_stays (call.Claim c) n v = share_claim (n == c) c v
+share_stays (call.IFlag c p from) n v = share_flag (n == packed from) (IFlagged c) p (unpacked n) v
+share_stays (call.DFlag c gp from) n v = share_flag (n == packed from) (DFlagged c) gp (unpacked n) v
+share_stays (call.Mark c p was) n v = share_mark (n == was) c p (unpacked n) v
+share_stays _ n v = refl
+
+pub same_share : (c : Call) (n : ℕ) (v : View) → SameShare v (after c n v)
+same_share c n v = record { share = share_stays c n v; ownable = owned_stays c n v }
+
 -- what is taken leaves the pass as it has to be
 pub taken_keeps : (cards : ℕ) (c : Call) (v : View) → KeepsPass cards v (IsTaken cards c v)
-taken_keeps cards c v n w t = (t.keys, t.named)
+taken_keeps cards c v n w t = (t.keys, t.share, t.named)
 
 -- a field of a card of the table has its address there
 address_fits : (cards c : ℕ) (f : Field) → c ≤ cards → address c f < table_size cards

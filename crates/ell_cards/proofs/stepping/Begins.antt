@@ -9,7 +9,7 @@ use Rattle.ell_core.specs.declared.event.Event.{Event}
 use Rattle.ell_core.specs.declared.event.Stepped.TheVariants.{Moved, Answered}
 use Rattle.ell_core.specs.state.Facts.{known_of}
 use Rattle.ell_core.specs.state.Machine.{Worker, Ledger, worker_of, ledger_of}
-use Rattle.ell_core.specs.acts.Searching.{leaf_answer, value_at, card_answer, ledger_after, HasAnswer}
+use Rattle.ell_core.specs.acts.Searching.{leaf_answer, value_at, card_answer, settled, ledger_after, HasAnswer}
 use Rattle.ell_core.specs.acts.Events.{Happens}
 use Rattle.ell_core.specs.history.Stages.{is_born}
 use Rattle.ell_core.specs.statements.Effects.{AnswersAsMap}
@@ -20,7 +20,7 @@ use Rattle.ell_cards.specs.declared.view.Told.{Told}
 use Rattle.ell_cards.specs.declared.view.Told.TheVariants.{Met, Value}
 use Rattle.ell_cards.specs.declared.view.View.{View}
 use Rattle.ell_cards.specs.Models.{Has}
-use Rattle.ell_cards.specs.Changes.{after_begin, after_again, after_leave, after_answer, answered_ledger}
+use Rattle.ell_cards.specs.Changes.{with_entry as with_entry_for, after_begin, after_again, after_leave, after_answer, answered_ledger}
 use Rattle.ell_cards.specs.Guards.{MayBegin, MayStop, MayAnswer, TellsOf, KnowsAnswerAtLeaf, KnowsAnswerByCard, IsOver}
 use Rattle.ell_cards.specs.Models.{Knows, KnewBefore}
 use Rattle.ell_core.specs.state.Words.{Words}
@@ -38,22 +38,24 @@ use Rattle.ell_cards.proofs.seats.Entries.{with_entry}
 use Rattle.ell_cards.proofs.seats.Seats.{leads, machine, mine, becomes, mine_is, mine_sound, set_there}
 use Rattle.ell_cards.proofs.seats.Frames.{Onward, looks, is_event}
 use Rattle.ell_cards.proofs.stepping.Looks.{here_key}
-use Rattle.ell_cards.proofs.stepping.Settling.{settled_put}
+use Rattle.ell_cards.proofs.stepping.Settling.{settled_put, settled_none}
 use Rattle.ell_core.specs.declared.view.Entry.{Entry}
 use Rattle.ell_core.specs.declared.view.Entry.TheVariants.{Present, Absent}
 use Rattle.ell_ops.specs.declared.reply.Reply.{Reply}
 use Rattle.ell_ops.specs.declared.reply.Reply.TheVariants.{Yes, No, Found}
+use Rattle.std.proofs.lemmas.Bool.{false≢true}
 
 -- a view with no key told where it stands and no card in hand
 bare : (w : Words) (stage : Stages) (v after : View) → after.here ≡ None → after.worker.card ≡ None
     → ((k : ℕ) → ledger_of after.worker.ledger k ≢ None → ledger_of v.worker.ledger k ≢ None)
-    → ((n : ℕ) → after.next ≡ Some n → v.next ≡ Some n) → after.next_at_least ≡ v.next_at_least → ((f : Fact) → KnewBefore after f → Knows v f) → ((f : Fact) → KnewBefore after f → Knows after f)
+    → after.worker.ownable ≡ v.worker.ownable → ((n : ℕ) → after.next ≡ Some n → v.next ≡ Some n) → after.next_at_least ≡ v.next_at_least → ((f : Fact) → KnewBefore after f → Knows v f) → ((f : Fact) → KnewBefore after f → Knows after f)
     → ((op : Op) (x : ℕ) → after.worker.operation ≡ Some op → after.worker.search.node ≡ Some x
     → Born stage x × Avoids w (over_before after) (key_of op) x) → Onward w stage v after
-bare w stage v after no_key no_card owns read least before knew walk = record {
+bare w stage v after no_key no_card owns list read least before knew walk = record {
   here = λ y key at told. absurd (some_not_none told no_key);
   hand = λ c has un. absurd (some_not_none has no_card);
   owns = owns;
+  list = list;
   read = read;
   least = least;
   before = before;
@@ -79,13 +81,13 @@ module _ (keys : List ℕ) (cards : ℕ) (s : TableState) (r : HasMachine keys c
   keeps_begin op may =
       let after = after_begin (Some op) v in
       let happens : Happens cards (act.Begin op) (mine keys cards s r id v here) Moved (becomes keys cards s r id v here r.words after) = record {
-        owned = may.owned;
+        owned = λ lacks. elim may.owned [ inl owns ↦ owns lacks.0 | inr shared ↦ false≢true (sym lacks.1 ∙ shared) ];
         row = record { free = may.free; says = refl; gives = refl };
         room = λ h. h;
       } in
       is_event keys cards s r id v here (call.Begin op) (act.Begin op) Moved r.words
       (looks keys cards s r id v here (act.Begin op) Moved after happens (λ c. refl) root_entries
-      (bare r.words r.stages v after refl refl (λ k h. h) (λ n at. absurd (some_not_none at refl)) refl (λ f k. k) (λ f k. k) (λ o x busy at. root_walk o x at)) 0)
+      (bare r.words r.stages v after refl refl (λ k h. h) refl (λ n at. absurd (some_not_none at refl)) refl (λ f k. k) (λ f k. k) (λ o x busy at. root_walk o x at)) 0)
       refl refl tt
 
   -- again
@@ -99,7 +101,7 @@ module _ (keys : List ℕ) (cards : ℕ) (s : TableState) (r : HasMachine keys c
       } in
       is_event keys cards s r id v here call.Again act.Again Moved r.words
       (looks keys cards s r id v here act.Again Moved after happens (λ c. refl) root_entries
-      (bare r.words r.stages v after refl refl (λ k h. h) (λ n at. absurd (some_not_none at refl)) refl (λ f k. k) (λ f k. k) (λ o x busy at. root_walk o x at)) 0)
+      (bare r.words r.stages v after refl refl (λ k h. h) refl (λ n at. absurd (some_not_none at refl)) refl (λ f k. k) (λ f k. k) (λ o x busy at. root_walk o x at)) 0)
       refl refl tt
 
   -- leave
@@ -114,19 +116,25 @@ module _ (keys : List ℕ) (cards : ℕ) (s : TableState) (r : HasMachine keys c
       is_event keys cards s r id v here call.Leave act.Leave Moved r.words
       (looks keys cards s r id v here act.Leave Moved after happens (λ c. refl)
       (r.views id v here).entries
-      (bare r.words r.stages v after refl refl (λ k h. h) (λ n at. at) refl (r.views id v here).knew (r.views id v here).knew (λ o x busy at. absurd (some_not_none at refl))) 0)
+      (bare r.words r.stages v after refl refl (λ k h. h) refl (λ n at. at) refl (r.views id v here).knew (r.views id v here).knew (λ o x busy at. absurd (some_not_none at refl))) 0)
       refl refl (let low = (r.views id v here).least in let room = r.invariant.limit in omega arith)
 
+-- a ledger with an entry in place of that of a key, if it has the key, as a list and as the machine has it
+settled_by : (k : ℕ) (made : Entry) (l : List (ℕ × Entry)) (key : ℕ) (entry : Option Entry) → ledger_of l k ≡ entry
+    → ledger_of (with_entry_for k made l) key ≡ settled (ledger_of l) k made entry key
+settled_by k made l key None e = settled_none k made l e key
+settled_by k made l key (Some entry) e = settled_put k made l (λ none. some_not_none e none) key
+
 -- the ledger after an answer, as a list and as the machine has it
-answered : (op : Op) (said : Reply) (l : List (ℕ × Entry)) → ledger_of l (key_of op) ≢ None → (key : ℕ)
+answered : (op : Op) (said : Reply) (l : List (ℕ × Entry)) → (key : ℕ)
     → ledger_of (answered_ledger (Some op) said l) key ≡ ledger_after op said (ledger_of l) key
-answered (Find k) said l owns key = refl
-answered (Insert k value) Yes l owns key = settled_put k (Present value) l owns key
-answered (Insert k value) No l owns key = refl
-answered (Insert k value) (Found had) l owns key = refl
-answered (Delete k) Yes l owns key = settled_put k Absent l owns key
-answered (Delete k) No l owns key = refl
-answered (Delete k) (Found had) l owns key = refl
+answered (Find k) said l key = refl
+answered (Insert k value) Yes l key = settled_by k (Present value) l key (ledger_of l k) refl
+answered (Insert k value) No l key = refl
+answered (Insert k value) (Found had) l key = refl
+answered (Delete k) Yes l key = settled_by k Absent l key (ledger_of l k) refl
+answered (Delete k) No l key = refl
+answered (Delete k) (Found had) l key = refl
 
 -- the answer by a card that is over
 over_answers : (v : View) (op : Op) (c : ℕ) (said : Reply) → IsOver v op c → said ≡ Yes → card_answer op c (known_of v.worker.facts) ≡ Some said
@@ -163,9 +171,8 @@ module _ (keys : List ℕ) (cards : ℕ) (s : TableState) (r : HasMachine keys c
       let after = after_answer said v in
       let same = mine_is keys cards s r id v here in
       let sound = mine_sound keys cards s r id v here in
-      let owned = sound.owned may.op may.busy in
       let ledger : (key : ℕ) → ledger_of after.worker.ledger key ≡ ledger_after may.op said (ledger_of v.worker.ledger) key =
-      λ key. ap (λ o. ledger_of (answered_ledger o said v.worker.ledger) key) may.busy ∙ answered may.op said v.worker.ledger owned key in
+      λ key. ap (λ o. ledger_of (answered_ledger o said v.worker.ledger) key) may.busy ∙ answered may.op said v.worker.ledger key in
       let happens : Happens cards act.Answer (mine keys cards s r id v here) (Answered said) (becomes keys cards s r id v here r.words after) = record {
         owned = λ h. h;
         row = record {
@@ -184,12 +191,12 @@ module _ (keys : List ℕ) (cards : ℕ) (s : TableState) (r : HasMachine keys c
       let told = (events_lawful m r.stages e (Answered said) (seated r.words (set s.views id after) cards) r.invariant l.1.steps).ledgers.0 in
       let now : (seat_worker (get_elem? (set s.views id after) id)).ledger ≡ ledger_of after.worker.ledger =
       ap (λ o. (seat_worker o).ledger) (set_there s.views id after v here) in
-      let set_now : AnswersAsMap (ledger_of v.worker.ledger) (ledger_of after.worker.ledger) v.worker.operation said =
-      subst (λ (l : Ledger). AnswersAsMap (ledger_of v.worker.ledger) l v.worker.operation said) now
-      (subst (λ (u : Worker). AnswersAsMap u.ledger (seat_worker (get_elem? (set s.views id after) id)).ledger u.operation said) same told) in
+      let set_now : AnswersAsMap (worker_of v.worker) (ledger_of after.worker.ledger) said =
+      subst (λ (l : Ledger). AnswersAsMap (worker_of v.worker) l said) now
+      (subst (λ (u : Worker). AnswersAsMap u (seat_worker (get_elem? (set s.views id after) id)).ledger said) same told) in
       is_event keys cards s r id v here (call.Answer said) act.Answer (Answered said) r.words
       (looks keys cards s r id v here act.Answer (Answered said) after happens (λ c. refl)
       (r.views id v here).entries
-      (bare r.words r.stages v after refl refl (λ k has none. has ((set_now.owned k).1 none)) (λ n at. at) refl (r.views id v here).knew (r.views id v here).knew
+      (bare r.words r.stages v after refl refl (λ k has none. has ((set_now.owned k).1 none)) refl (λ n at. at) refl (r.views id v here).knew (r.views id v here).knew
       (λ o x busy at. absurd (some_not_none at refl))) 0)
       refl refl (set_now, (let low = (r.views id v here).least in let room = r.invariant.limit in omega arith))

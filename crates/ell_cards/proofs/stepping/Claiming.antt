@@ -130,7 +130,7 @@ module _ (keys : List ℕ) (cards : ℕ) (s : TableState) (r : HasMachine keys c
             table = λ f. subst (λ d. listed list d f ≡ 0) q
                 (listed_same next f ∙ (r.settled next f (unclaimed-settled (r.stages next) fresh) ∙ blank.words f));
           };
-        }) (λ k h. h);
+        }) (λ k h. h) refl;
         steps = l.1.steps;
       }
 

@@ -65,6 +65,7 @@ module _ (keys : List ℕ) (cards : ℕ) (s : TableState) (r : HasMachine keys c
         here = λ y key at told. places_more x (unpacked n).state (unpacked n).card v.told (Key y key) ((r.views id v here).here y key at told);
         hand = λ d has un. (has, un, refl, refl);
         owns = λ k h. h;
+        list = refl;
         read = λ m at. at;
         least = refl;
         before = (r.views id v here).knew;

@@ -100,7 +100,7 @@ module _ (keys : List ℕ) (cards : ℕ) (s : TableState) (r : HasMachine keys c
           let moves = moves_write keys cards s r id v here d g value l.0 fits calm (settles l.0 l.1) in record {
             kept = kept_event keys cards s r id v here a Won new (view true) (set s.words (address d g) value) l.0 l.1 moves
                 (view_on keys cards s r id v here a Won new (view true) (set s.words (address d g) value) l.0 l.1 moves
-                (λ e told. entries_on keys cards s r id v here a Won new (view true) l.0 l.1 e (entries true e told)) (on true)) (on true).owns;
+                (λ e told. entries_on keys cards s r id v here a Won new (view true) l.0 l.1 e (entries true e told)) (on true)) (on true).owns (on true).list;
             steps = l.1.steps;
           }
 
@@ -110,6 +110,7 @@ module _ (keys : List ℕ) (cards : ℕ) (s : TableState) (r : HasMachine keys c
     here = (r.views id v here).here;
     hand = λ c has un. (has, un, refl, refl);
     owns = λ k h. h;
+    list = refl;
     read = λ m at. at;
     least = refl;
     before = (r.views id v here).knew;

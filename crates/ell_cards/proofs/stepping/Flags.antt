@@ -62,6 +62,7 @@ module _ (keys : List ℕ) (cards : ℕ) (s : TableState) (r : HasMachine keys c
     here = λ y key a e. absurd (some_not_none e refl);
     hand = λ d has un. absurd (true≢false un);
     owns = λ key h. h;
+    list = refl;
     read = λ m at. at;
     least = refl;
     before = (r.views id v here).knew;
@@ -73,6 +74,7 @@ module _ (keys : List ℕ) (cards : ℕ) (s : TableState) (r : HasMachine keys c
         here = λ y key a e. absurd (some_not_none e refl);
         hand = λ d has un. absurd (some_not_none has refl);
         owns = λ key h. h;
+        list = refl;
         read = λ m at. at;
         least = refl;
         before = (r.views id v here).knew;

@@ -98,14 +98,15 @@ module _ (keys : List ℕ) (cards : ℕ) (s : TableState) (r : HasMachine keys c
   pub here_key : (x key : ℕ) → StandsAt v x → v.here ≡ Some key → r.words.key x ≡ key
   here_key x key at told = let h = r.views id v here in (h.entries (Key x key) (h.here x key at told)).1
 
-  -- the ledger has the operation's key as the leaf has it where the pass stands
-  leaf_contents : (op : Op) (x : ℕ) → Does v op → StandsAt v x → IsLeaf x
+  -- the ledger has the operation's key, if that is an own one, as the leaf has it where the pass stands
+  leaf_contents : (op : Op) (x : ℕ) → Does v op → StandsAt v x → IsLeaf x → ledger_of v.worker.ledger (key_of op) ≢ None
       → contents_in (ledger_of v.worker.ledger) (key_of op) ≡ value_there r.words x (key_of op)
-  leaf_contents op x busy stands outer =
+  leaf_contents op x busy stands outer owns =
       let same = mine_is keys cards s r id v here in
       same_value (ledger_of v.worker.ledger (key_of op)) (r.words.key x) (key_of op) (r.words.value x)
       (subst (λ (u : Worker). (n : ℕ) → ((r.words.key x ≡ key_of op) × (r.words.value x ≡ n)) ↔ (u.ledger (key_of op) ≡ Some (Present n))) same
       ((relies keys cards s r id v here).leaf_key op x (ap (λ (u : Worker). u.operation) same ∙ busy)
+      (subst (λ (u : Worker). u.ledger (key_of op) ≢ None) (sym same) owns)
       (ap (λ (u : Worker). u.search.node) same ∙ stands) outer))
 
   -- an update word that was found at a node names a card of the table
@@ -201,6 +202,7 @@ module _ (keys : List ℕ) (cards : ℕ) (s : TableState) (r : HasMachine keys c
         here = λ y key at told. places_more x (unpacked n).state (unpacked n).card v.told (Key y key) ((r.views id v here).here y key at told);
         hand = λ c has un. (has, un, refl, refl);
         owns = λ k h. h;
+        list = refl;
         read = λ m at. at;
         least = refl;
         before = (r.views id v here).knew;
@@ -249,6 +251,7 @@ module _ (keys : List ℕ) (cards : ℕ) (s : TableState) (r : HasMachine keys c
         here = λ y key at told. absurd (some_not_none told refl);
         hand = λ c has un. (has, un, refl, refl);
         owns = λ k h. h;
+        list = refl;
         read = λ m at. at;
         least = refl;
         before = (r.views id v here).knew;
@@ -306,8 +309,8 @@ module _ (keys : List ℕ) (cards : ℕ) (s : TableState) (r : HasMachine keys c
 
       leaf : (n : ℕ) → r.words.key x ≡ n → TellsLeaf v x n
       leaf n is = record {
-        present = λ op busy stands outer.
-            ap is_some (leaf_contents op x busy stands outer) ∙ (some_if (r.words.key x == key_of op) (r.words.value x) ∙ ap (λ k. k == key_of op) is);
+        present = λ op busy stands outer owns.
+            ap is_some (leaf_contents op x busy stands outer owns) ∙ (some_if (r.words.key x == key_of op) (r.words.value x) ∙ ap (λ k. k == key_of op) is);
         deep = λ op busy stands outer e.
             let sound = mine_sound keys cards s r id v here in
             let real = sound.real (key_of op) (sound.owned op busy) in
@@ -334,5 +337,5 @@ module _ (keys : List ℕ) (cards : ℕ) (s : TableState) (r : HasMachine keys c
       refl refl (leaf n is)
     where
       leaf : (n : ℕ) → r.words.value x ≡ n → TellsValue v x n
-      leaf n is op busy stands told = leaf_contents op x busy stands outer
+      leaf n is op busy stands told owns = leaf_contents op x busy stands outer owns
           ∙ (ap (λ b. if b then Some (r.words.value x) else None) (eq-eqb (r.words.key x) (key_of op) (here_key x (key_of op) stands told)) ∙ ap Some is)

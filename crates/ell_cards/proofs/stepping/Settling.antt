@@ -5,6 +5,7 @@ use Rattle.ell_core.specs.state.Machine.{ledger_of}
 use Rattle.ell_core.proofs.words.Writes.{put_same, put_other}
 use Rattle.ell_cards.specs.Changes.{with_entry}
 use Rattle.ell_core.specs.declared.view.Entry.{Entry}
+use Rattle.ell_core.proofs.outcomes.Decide.{some_not_none}
 
 settled_here : (k : ℕ) (b : Entry) (l : List (ℕ × Entry)) → ledger_of l k ≢ None → ledger_of (with_entry k b l) k ≡ Some b
 settled_here k b [] owns = absurd (owns refl)
@@ -30,3 +31,18 @@ settled_put k b l owns key = elim (cases_eq key k) [
   | inl e ↦ ap (ledger_of (with_entry k b l)) e ∙ (settled_here k b l owns ∙ sym (ap (put (ledger_of l) k (Some b)) e ∙ put_same (ledger_of l) k (Some b)))
   | inr n ↦ settled_else k b l key n ∙ sym (put_other (ledger_of l) k (Some b) key n)
 ]
+
+-- a ledger that has no entry of the key stays
+pub settled_none : (k : ℕ) (b : Entry) (l : List (ℕ × Entry)) → ledger_of l k ≡ None → (key : ℕ) → ledger_of (with_entry k b l) key ≡ ledger_of l key
+settled_none k b l none key = elim (cases_eq key k) [
+  | inl e ↦ ap (ledger_of (with_entry k b l)) e ∙ (none_here k b l none ∙ sym (ap (ledger_of l) e ∙ none))
+  | inr n ↦ settled_else k b l key n
+]
+  where
+    none_here : (k : ℕ) (b : Entry) (l : List (ℕ × Entry)) → ledger_of l k ≡ None → ledger_of (with_entry k b l) k ≡ None
+    none_here k b [] none = none
+    none_here k b (e ∷ l) none = by (k == e.0) refl (none_here k b l)
+      where
+        by : (t : Bool) → (k == e.0) ≡ t → (ledger_of l k ≡ None → ledger_of (with_entry k b l) k ≡ None) → ledger_of (with_entry k b (e ∷ l)) k ≡ None
+        by true is rest = (let some : Some e.1 ≡ None = sym (ap (λ t. cond t (Some e.1) (ledger_of l k)) is) ∙ none in absurd cc)
+        by false is rest = ap (λ t. cond t (Some (if k == e.0 then b else e.1)) (ledger_of (with_entry k b l) k)) is ∙ rest (sym (ap (λ t. cond t (Some e.1) (ledger_of l k)) is) ∙ none)

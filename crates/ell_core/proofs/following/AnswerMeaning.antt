@@ -9,7 +9,7 @@ use Rattle.ell_core.specs.declared.event.Stepped.TheVariants.{Answered}
 use Rattle.ell_core.specs.declared.fact.Fact.TheVariants as fact
 use Rattle.ell_core.specs.state.Words.{Words, put}
 use Rattle.ell_core.specs.state.Machine.{Ledger, Worker, Machine, Scene, scene}
-use Rattle.ell_core.specs.acts.Searching.{IsLeaf, value_at, leaf_answer, card_answer, ledger_after, HasAnswer, Answer}
+use Rattle.ell_core.specs.acts.Searching.{IsLeaf, value_at, leaf_answer, card_answer, settled, ledger_after, HasAnswer, Answer}
 use Rattle.ell_core.specs.tree.Ranges.{at_leaf}
 use Rattle.ell_core.specs.history.Stages.{Stages}
 use Rattle.ell_core.specs.history.Invariant.{StandIsSound, Flagged, Invariant}
@@ -20,6 +20,8 @@ use Rattle.ell_core.proofs.tree.Bounds.{leaf_key}
 use Rattle.ell_core.specs.declared.view.Entry.{Entry}
 use Rattle.ell_core.specs.declared.view.Entry.TheVariants.{Present, Absent}
 use Rattle.ell_ops.specs.declared.reply.Reply.{Reply}
+use Rattle.ell_ops.specs.declared.reply.Reply.TheVariants.{Yes}
+use Rattle.ell_core.specs.soundness.Sound.{WorkerOwns}
 
 -- an operation's reply is that on the contents of a ledger, and the later ledger has what the operation leaves
 pub record AnswersTheMap (op : Op) (reply : Reply) (ledger later : Ledger) : Type 0 where
@@ -32,17 +34,17 @@ present_entry (Some (Present v)) value h = let same : v ≡ value = cc in ap (λ
 present_entry (Some Absent) value h = absurd cc
 present_entry None value h = absurd cc
 
--- a worker that stands at a leaf finds its key there, with its value, exactly where the ledger has it present so
-has_value : (w : Words) (stage : Stages) (v : Worker) (k x : ℕ) → StandIsSound w stage v k x → IsLeaf x
+-- a worker that stands at a leaf finds a key of its own there, with its value, exactly where the ledger has it present so
+has_value : (w : Words) (stage : Stages) (v : Worker) (k x : ℕ) → StandIsSound w stage v k x → IsLeaf x → WorkerOwns v k
     → value_at w x k ≡ contents_in v.ledger k
-has_value w stage v k x h outer = by (w.key x == k) refl
+has_value w stage v k x h outer owns = by (w.key x == k) refl
   where
     other : w.key x ≢ k → (o : Option ℕ) → contents_in v.ledger k ≡ o → None ≡ o
     other n None e = refl
-    other n (Some value) e = absurd (n (leaf_key w.key w.child k x outer ((h.leads value).1 (present_entry (v.ledger k) value e))))
+    other n (Some value) e = absurd (n (leaf_key w.key w.child k x outer ((h.leads owns value).1 (present_entry (v.ledger k) value e))))
 
     by : (b : Bool) → (w.key x == k) ≡ b → (if b then Some (w.value x) else None) ≡ contents_in v.ledger k
-    by true same = sym (ap value_in ((h.leads (w.value x)).0 (at_leaf outer (eqb-true (w.key x) k same) refl)))
+    by true same = sym (ap value_in ((h.leads owns (w.value x)).0 (at_leaf outer (eqb-true (w.key x) k same) refl)))
     by false apart = other (λ e. false≢true (sym apart ∙ eq-eqb (w.key x) k e)) (contents_in v.ledger k) refl
 
 -- an entry that is put in place of another, in the contents
@@ -55,14 +57,14 @@ put_value ledger k made q = by_test (q == k) where
   by_test false = refl
 
 -- with a key that is there, and without one that is not, contents are as they were
-key_kept : (there : Contents) (k value had : ℕ) → there k ≡ Some had → (q : ℕ) → there q ≡ with_pair there k value q
+pub key_kept : (there : Contents) (k value had : ℕ) → there k ≡ Some had → (q : ℕ) → there q ≡ with_pair there k value q
 key_kept there k value had h q = by (q == k) refl
   where
     by : (b : Bool) → (q == k) ≡ b → there q ≡ (if b then Some (unwrap_or (there q) value) else there q)
     by true same = let has = ap there (eqb-true q k same) ∙ h in has ∙ ap (λ o. Some (unwrap_or o value)) (sym has)
     by false other = refl
 
-key_lacked : (there : Contents) (k : ℕ) → there k ≡ None → (q : ℕ) → there q ≡ without there k q
+pub key_lacked : (there : Contents) (k : ℕ) → there k ≡ None → (q : ℕ) → there q ≡ without there k q
 key_lacked there k h q = by (q == k) refl
   where
     by : (b : Bool) → (q == k) ≡ b → there q ≡ (if b then None else there q)
@@ -90,27 +92,33 @@ leaf_answers (Delete k) None reply ledger h e =
     subst (λ b. AnswersTheMap (Delete k) b ledger (ledger_after (Delete k) b ledger)) (same_value refl e)
     (record { reply_is = ap (λ o. yes_if (is_some o)) h; map_is = key_lacked (contents_in ledger) k (sym h) })
 
+-- a ledger that has an entry of a key gets another
+settled_put : (ledger : Ledger) (key : ℕ) (made old : Entry) → ledger key ≡ Some old → settled ledger key made (ledger key) ≡ put ledger key (Some made)
+settled_put ledger key made old e = ap (settled ledger key made) e
+
 -- an answer by a card answers the map: the key was absent for an insert, present for a delete
-pub card_answers : (w : Words) (stage : Stages) (v : Worker) (op : Op) (c : ℕ) (reply : Reply) → Flagged w stage v op c
+pub card_answers : (w : Words) (stage : Stages) (v : Worker) (op : Op) (c : ℕ) (reply : Reply) → Flagged w stage v op c → WorkerOwns v (key_of op)
     → card_answer op c v.knows ≡ Some reply → AnswersTheMap op reply v.ledger (ledger_after op reply v.ledger)
-card_answers w stage v (Find k) c reply h e = absurd h
-card_answers w stage v (Insert k value) c reply h e =
+card_answers w stage v (Find k) c reply h owns e = absurd h
+card_answers w stage v (Insert k value) c reply h owns e =
     subst (λ b. AnswersTheMap (Insert k value) b v.ledger (ledger_after (Insert k value) b v.ledger))
     (sym (gives_if (v.knows (fact.IOver c)) reply e).1)
+    (subst (AnswersTheMap (Insert k value) Yes v.ledger) (sym (settled_put v.ledger k (Present value) Absent (h.3 owns)))
     (record {
-      reply_is = ap (λ o. yes_if (not (is_some (value_in o)))) (sym h.3);
-      map_is = λ q. put_value v.ledger k (Present value) q ∙ key_added (contents_in v.ledger) k value (ap value_in h.3) q;
-    })
-card_answers w stage v (Delete k) c reply h e =
+      reply_is = ap (λ o. yes_if (not (is_some (value_in o)))) (sym (h.3 owns));
+      map_is = λ q. put_value v.ledger k (Present value) q ∙ key_added (contents_in v.ledger) k value (ap value_in (h.3 owns)) q;
+    }))
+card_answers w stage v (Delete k) c reply h owns e =
     subst (λ b. AnswersTheMap (Delete k) b v.ledger (ledger_after (Delete k) b v.ledger))
     (sym (gives_if (v.knows (fact.DOver c)) reply e).1)
-    (record { reply_is = ap (λ o. yes_if (is_some (value_in o))) (sym h.2.1); map_is = put_value v.ledger k Absent })
+    (subst (AnswersTheMap (Delete k) Yes v.ledger) (sym (settled_put v.ledger k Absent (Present (h.2 owns).0) (h.2 owns).1))
+    (record { reply_is = ap (λ o. yes_if (is_some (value_in o))) (sym (h.2 owns).1); map_is = put_value v.ledger k Absent }))
 
 -- an answer is the reply of the operation on the contents of the worker's ledger, and leaves what the operation leaves
 pub answers_the_map : (m : Machine) (stage : Stages) (i : ℕ) (said : Stepped) (becomes : Scene) (op : Op) (reply : Reply)
-    → Invariant m stage → Answer (scene m i) said becomes → (m.worker i).operation ≡ Some op → said ≡ Answered reply
+    → Invariant m stage → Answer (scene m i) said becomes → (m.worker i).operation ≡ Some op → said ≡ Answered reply → WorkerOwns (m.worker i) (key_of op)
     → AnswersTheMap op reply (m.worker i).ledger becomes.worker.ledger
-answers_the_map m stage i said becomes op reply sound r busy says =
+answers_the_map m stage i said becomes op reply sound r busy says owned =
     subst (λ o. AnswersTheMap o reply v.ledger becomes.worker.ledger) (same_value r.busy busy)
     (subst (λ b. AnswersTheMap r.op b v.ledger becomes.worker.ledger) (let same : r.reply ≡ reply = cc in same)
     (subst (λ (s : Scene). AnswersTheMap r.op r.reply v.ledger s.worker.ledger) (sym r.gives) (by_case r.answers)))
@@ -118,11 +126,14 @@ answers_the_map m stage i said becomes op reply sound r busy says =
     v : Worker
     v = m.worker i
 
+    owns : WorkerOwns v (key_of r.op)
+    owns = subst (λ o. WorkerOwns v (key_of o)) (sym (same_value r.busy busy)) owned
+
     by_case : HasAnswer (scene m i) r.op r.reply → AnswersTheMap r.op r.reply v.ledger (ledger_after r.op r.reply v.ledger)
     by_case answers = elim answers [
       | inl at ↦ leaf_answers r.op _ r.reply v.ledger
           (has_value m.words stage v (key_of r.op) at.leaf
-          ((sound.workers.each i).stands r.op at.leaf r.busy at.stands) at.outer) at.answers
+          ((sound.workers.each i).stands r.op at.leaf r.busy at.stands) at.outer owns) at.answers
       | inr by ↦ card_answers m.words stage v r.op by.0.card r.reply
-          ((sound.workers.each i).flagged r.op by.0.card r.busy by.0.holds by.0.flagged).0 by.0.answers
+          ((sound.workers.each i).flagged r.op by.0.card r.busy by.0.holds by.0.flagged).0 owns by.0.answers
     ]

@@ -1,4 +1,4 @@
-use Rattle.std.proofs.Common.{◌≡◌, ◌≢◌, ℕ, ◌↔◌, Some, None, inl, inr, sym, ap, ◌∙◌, subst}
+use Rattle.std.proofs.Common.{◌≡◌, ◌≢◌, ℕ, ◌↔◌, Some, None, inl, inr, sym, ap, ◌∙◌, subst, Option, refl}
 use Rattle.std.proofs.lemmas.Bool.{cases_eq}
 use Rattle.ell_ops.specs.declared.op.Op.{Op}
 use Rattle.ell_ops.specs.declared.op.Op.TheVariants.{Find, Insert, Delete}
@@ -6,7 +6,7 @@ use Rattle.ell_ops.specs.Meaning.{key_of}
 use Rattle.ell_core.specs.declared.event.Stepped.{Stepped}
 use Rattle.ell_core.specs.state.Words.{put}
 use Rattle.ell_core.specs.state.Machine.{Ledger, Machine, Scene, scene}
-use Rattle.ell_core.specs.acts.Searching.{ledger_after, Answer}
+use Rattle.ell_core.specs.acts.Searching.{settled, ledger_after, Answer}
 use Rattle.ell_core.specs.history.Stages.{Stages}
 use Rattle.ell_core.specs.history.Invariant.{Invariant}
 use Rattle.ell_core.specs.statements.StepLaws.{EventsAreLawful, SplitsAreLawful, JoinsAreLawful}
@@ -39,27 +39,41 @@ put_owned ledger k present owns key = elim (cases_eq key k) [
 ]
 
 -- the same keys are owned after an answer
-owned_after : (op : Op) (reply : Reply) (ledger : Ledger) → ledger (key_of op) ≢ None → (key : ℕ)
+settled_owned : (ledger : Ledger) (k : ℕ) (made : Entry) (entry : Option Entry) → ledger k ≡ entry → (key : ℕ)
+    → (settled ledger k made entry key ≡ None) ↔ (ledger key ≡ None)
+settled_owned ledger k made None e key = (λ h. h, λ h. h)
+settled_owned ledger k made (Some entry) e key = put_owned ledger k made (λ none. some_not_none e none) key
+
+owned_after : (op : Op) (reply : Reply) (ledger : Ledger) → (key : ℕ)
     → (ledger_after op reply ledger key ≡ None) ↔ (ledger key ≡ None)
-owned_after (Find k) reply ledger owns key = (λ h. h, λ h. h)
-owned_after (Insert k value) Yes ledger owns key = put_owned ledger k (Present value) owns key
-owned_after (Insert k value) _ ledger owns key = (λ h. h, λ h. h)
-owned_after (Delete k) Yes ledger owns key = put_owned ledger k Absent owns key
-owned_after (Delete k) _ ledger owns key = (λ h. h, λ h. h)
+owned_after (Find k) reply ledger key = (λ h. h, λ h. h)
+owned_after (Insert k value) Yes ledger key = settled_owned ledger k (Present value) (ledger k) refl key
+owned_after (Insert k value) _ ledger key = (λ h. h, λ h. h)
+owned_after (Delete k) Yes ledger key = settled_owned ledger k Absent (ledger k) refl key
+owned_after (Delete k) _ ledger key = (λ h. h, λ h. h)
+
+-- a ledger without the key stays
+unowned_stays : (op : Op) (reply : Reply) (ledger : Ledger) → ledger (key_of op) ≡ None → ledger_after op reply ledger ≡ ledger
+unowned_stays (Find k) reply ledger none = refl
+unowned_stays (Insert k value) Yes ledger none = ap (settled ledger k (Present value)) none
+unowned_stays (Insert k value) _ ledger none = refl
+unowned_stays (Delete k) Yes ledger none = ap (settled ledger k Absent) none
+unowned_stays (Delete k) _ ledger none = refl
 
 -- an answer is the map's
 answer_ledgers : (m : Machine) (stage : Stages) (i : ℕ) (said : Stepped) (becomes : Scene) → Invariant m stage
     → Answer (scene m i) said becomes → LedgerChanges (scene m i) said becomes
 answer_ledgers m stage i said becomes invariant r =
     let meant = answers_the_map m stage i said becomes r.op r.reply invariant r r.busy r.says in
-    let owns = (invariant.workers.each i).owned r.op r.busy in
     subst (λ (s : Stepped). LedgerChanges (scene m i) s becomes) (sym r.says) (record {
       op = r.op;
       busy = r.busy;
-      says = meant.reply_is;
-      map = meant.map_is;
+      may = (invariant.workers.each i).owned r.op r.busy;
+      says = λ owns. (meant owns).reply_is;
+      map = λ owns. (meant owns).map_is;
+      stays = λ none. ap (λ (s : Scene). s.worker.ledger) r.gives ∙ unowned_stays r.op r.reply (m.worker i).ledger none;
       owned = λ key. subst (λ (s : Scene). (s.worker.ledger key ≡ None) ↔ ((m.worker i).ledger key ≡ None)) (sym r.gives)
-          (owned_after r.op r.reply (m.worker i).ledger owns key);
+          (owned_after r.op r.reply (m.worker i).ledger key);
     })
 
 -- every event is lawful

@@ -48,7 +48,7 @@ ledgers_change m i Moved s h = ledgers_stay m i s h
 ledgers_change m i Won s h = ledgers_stay m i s h
 ledgers_change m i Lost s h = ledgers_stay m i s h
 ledgers_change m i (Answered reply) s h = (
-  subst (λ ledger. AnswersAsMap (m.worker i).ledger ledger (m.worker i).operation reply) (sym (ledger_here m i s)) h,
+  subst (λ ledger. AnswersAsMap (m.worker i) ledger reply) (sym (ledger_here m i s)) h,
   ledger_there m i s,
 )
 

@@ -1,17 +1,23 @@
-use Rattle.std.proofs.Common.{◌+◌, length, refl, arith, subst, inl, inr, ap}
-use Rattle.std.proofs.lemmas.Bool.{cases_eq}
+use Rattle.std.proofs.Common.{ℕ, ◌+◌, length, refl, arith, subst, inl, inr}
+use Rattle.std.proofs.lemmas.Bool.{cases_eq, false≢true}
+use Rattle.ell_core.specs.state.Machine.{nobody}
 use Rattle.ell_core.specs.state.Opening.{opening}
-use Rattle.ell_core.specs.soundness.Sound.{WorkerOwns}
+use Rattle.ell_core.specs.soundness.Sound.{MayChange}
 use Rattle.ell_core.specs.statements.Premises.{OneWorkerOwnsAll, IdleWorkerOwnsAll}
 use Rattle.ell_core.proofs.opening.Invariant.{start_stages}
 use Rattle.ell_core.proofs.opening.CanOpen.{opening_has}
+
+-- nobody may change any key
+nobody_may : (k : ℕ) → ¬ MayChange nobody k
+nobody_may k (inl owns) = owns refl
+nobody_may k (inr shared) = false≢true shared
 
 -- a worker but the one is not there, and owns nothing
 pub only_owns_all : IdleWorkerOwnsAll
 only_owns_all m stage sound one free = record {
   all = λ j k owns. elim (cases_eq j 0) [
-    | inl e ↦ subst (λ n. WorkerOwns (m.worker n) k) e owns
-    | inr other ↦ absurd (owns (ap (λ v. v.ledger k) (sound.workers.strangers j (omega arith))))
+    | inl e ↦ inl e
+    | inr other ↦ absurd (nobody_may k (subst (λ v. MayChange v k) (sound.workers.strangers j (omega arith)) owns))
   ];
   free = free;
 }

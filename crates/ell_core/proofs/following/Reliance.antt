@@ -210,7 +210,7 @@ may_rely m stage i invariant = record {
       (delete_told f (stage (card_of_fact f)) is ((invariant.workers.each i).facts f knows));
   marked = λ f knows is. ((invariant.words.deletes (card_of_fact f)).marked
       (marked_told f (stage (card_of_fact f)) is ((invariant.workers.each i).facts f knows))).mark;
-  leaf_key = λ op x busy at outer. leaf_key_tells m stage invariant i op x busy at outer;
+  leaf_key = λ op x busy owns at outer. leaf_key_tells m stage invariant i op x busy at outer owns;
   claimed = in_table m stage invariant;
   known = λ f knows. (invariant.words.cards (card_of_fact f)).claimed.0
       (told_claimed f (stage (card_of_fact f)) ((invariant.workers.each i).facts f knows));

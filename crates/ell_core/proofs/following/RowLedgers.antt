@@ -57,7 +57,7 @@ row_knows act.Answer s said after r = by_scene s after _ r.gives (λ fact h. h)
 
 -- what a row does to the ledger of its worker, by its answer
 abbrev pub LedgerChanges : Scene → Stepped → Scene → Type 0
-LedgerChanges s (Answered reply) after = AnswersAsMap s.worker.ledger after.worker.ledger s.worker.operation reply
+LedgerChanges s (Answered reply) after = AnswersAsMap s.worker after.worker.ledger reply
 LedgerChanges s _ after = after.worker.ledger ≡ s.worker.ledger
 
 -- a row that answers no operation leaves the ledger

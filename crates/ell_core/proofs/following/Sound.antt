@@ -64,8 +64,8 @@ module _ (m : Machine) (stage : Stages) (sound : Invariant m stage) where
   walks_sound i op x busy stands =
       let it = (sound.workers.each i).stands op x busy stands in
       record {
-        finds = λ value. (let same = finds_iff m.words (key_of op) value x in
-            let leads = it.leads value in
+        finds = λ owns value. (let same = finds_iff m.words (key_of op) value x in
+            let leads = it.leads owns value in
             (λ h. leads.0 (same.0 h), λ h. same.1 (leads.1 h)));
         joins = λ y on reached. joins_walk m.words sound.words.tree.ordered (key_of op) it.course on reached;
       }
@@ -78,12 +78,13 @@ module _ (m : Machine) (stage : Stages) (sound : Invariant m stage) where
       let ordered = sound.words.tree.ordered in
       record {
         one_owner = sound.workers.one_owner;
+        apart = sound.workers.apart;
         owned = λ k held. sound.workers.owned k held.real (tree_key_leads m.words ordered k held);
         present = λ i k value owns.
             (let says = sound.workers.present i k value owns in
             let same = ap (λ f. f k) (effective-at m.words stage sound.words (m.worker i) (sound.workers.each i)) in (
               λ held. same ∙ says.0 (tree_pair_leads m.words ordered k value held),
-              λ h. leads_tree_pair m.words k value ((sound.workers.each i).real k owns) (says.1 (sym same ∙ h)),
+              λ h. leads_tree_pair m.words k value ((sound.workers.each i).real k (inl owns)) (says.1 (sym same ∙ h)),
             ));
       }
 

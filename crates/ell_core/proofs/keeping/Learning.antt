@@ -91,7 +91,7 @@ sound_knowing w stage v known h allowed = record {
 pub takes_on_knowing : (m : Machine) (stage : Stages) (i : ℕ) (known : Knowledge) → Invariant m stage
     → KnowsAllowed stage known → TakesOn m stage i (knowing (m.worker i) known)
 takes_on_knowing m stage i known sound allowed = takes_on_same m stage i (knowing (m.worker i) known)
-    (sound_knowing m.words stage (m.worker i) known (sound.workers.each i) allowed) refl refl refl refl
+    (sound_knowing m.words stage (m.worker i) known (sound.workers.each i) allowed) refl refl refl refl refl
 
 -- an act that only teaches its worker something, and wins nothing, leads to a state of the invariant
 pub follows_knowing : (m : Machine) (stage : Stages) (a : Act) (i : ℕ) (said : Stepped) (known : Knowledge) → i < m.count

@@ -30,6 +30,8 @@ pub record Becomes (m : Machine) (stage : Stages) (i : ℕ) (words : Words) (new
   pub own : WorkerIsSound words new v
   pub others : (j : ℕ) → j ≢ i → WorkerIsSound words new (m.worker j)
   pub owns : (k : ℕ) → WorkerOwns v k ↔ WorkerOwns (m.worker i) k
+  pub shares : v.shared ≡ (m.worker i).shared
+  pub hands : (c : ℕ) → v.card ≡ Some c → ((m.worker i).card ≡ Some c) ⊎ ((j : ℕ) → (m.worker j).card ≢ Some c)
   pub counts : (k : ℕ) → WorkerOwns (m.worker i) k → effective_at new v k ≡ effective_at stage (m.worker i) k
   pub counts_others : (j k : ℕ) → j ≢ i → WorkerOwns (m.worker j) k → effective_at new (m.worker j) k ≡ effective_at stage (m.worker j) k
   pub inserts : (c : ℕ) → insert_open (new c) ≡ true → StaysInHand (m.worker i) v (insert_open (stage c)) c
@@ -77,6 +79,27 @@ module _ (m : Machine) (stage : Stages) (i : ℕ) (words : Words) (new : Stages)
       (h.counts k (subst (λ n. WorkerOwns (m.worker n) k) e o)))
       (λ n. h.counts_others j k n o)
 
+  -- the same keys are shared
+  shared_before : (j k : ℕ) → (worker j).shared k ≡ (m.worker j).shared k
+  shared_before j k = put_cases (λ u. u.shared k ≡ (m.worker j).shared k) m.worker i v j
+      (λ e. ap (λ f. f k) h.shares ∙ ap (λ n. (m.worker n).shared k) (sym e)) (λ n. refl)
+
+  -- a card is in one hand after the change
+  one_hand_after : (a b c : ℕ) → (worker a).card ≡ Some c → (worker b).card ≡ Some c → a ≡ b
+  one_hand_after a b c = put_cases (λ u. u.card ≡ Some c → (worker b).card ≡ Some c → a ≡ b) m.worker i v a
+      (λ e. put_cases (λ u. v.card ≡ Some c → u.card ≡ Some c → a ≡ b) m.worker i v b
+      (λ f holds same. e ∙ sym f)
+      (λ f holds other. elim (h.hands c holds) [
+        | inl had ↦ e ∙ old.one_hand i b c had other
+        | inr none ↦ absurd (none b other)
+      ]))
+      (λ e. put_cases (λ u. (m.worker a).card ≡ Some c → u.card ≡ Some c → a ≡ b) m.worker i v b
+      (λ f other holds. elim (h.hands c holds) [
+        | inl had ↦ old.one_hand a i c other had ∙ sym f
+        | inr none ↦ absurd (none a other)
+      ])
+      (λ f left right. old.one_hand a b c left right))
+
   -- the workers are sound after the change
   pub workers_become : WorkersAreSound (record m { words = words; worker = worker }) new
   workers_become = record {
@@ -86,7 +109,9 @@ module _ (m : Machine) (stage : Stages) (i : ℕ) (words : Words) (new : Stages)
         let was = old.present j k value before in
         let same = counts_after j k before in
         (λ l. same ∙ was.0 ((h.leads k value).0 l), λ e. (h.leads k value).1 (was.1 (sym same ∙ e))));
-    owned = λ k real l. owned_after k (old.owned k real ((leads_by_value m.words words k 0 (h.leads k)).0 l));
+    apart = λ a b k s o. old.apart a b k (sym (shared_before a k) ∙ s) (owned_before b k o);
+    owned = λ k real l none. owned_after k (old.owned k real ((leads_by_value m.words words k 0 (h.leads k)).0 l) (λ j. sym (shared_before j k) ∙ none j));
+    one_hand = one_hand_after;
     insert_in_hand = λ c g. elim (h.inserts c g) [
       | inl here ↦ in_hand_here m words i v c here
       | inr stood ↦ in_hand_kept m words i v c stood.1 (old.insert_in_hand c stood.0)
@@ -104,17 +129,21 @@ module _ (m : Machine) (stage : Stages) (i : ℕ) (words : Words) (new : Stages)
 pub record TakesOn (m : Machine) (stage : Stages) (i : ℕ) (v : Worker) : Type 0 where
   pub own : WorkerIsSound m.words stage v
   pub owns : (k : ℕ) → WorkerOwns v k ↔ WorkerOwns (m.worker i) k
+  pub shares : v.shared ≡ (m.worker i).shared
+  pub hands : (c : ℕ) → v.card ≡ Some c → (m.worker i).card ≡ Some c
   pub counts : (k : ℕ) → WorkerOwns (m.worker i) k → effective_at stage v k ≡ effective_at stage (m.worker i) k
   pub inserts : (c : ℕ) → insert_open (stage c) ≡ true → HasInHand (m.worker i) c → HasInHand v c
   pub deletes : (c : ℕ) → delete_open (stage c) ≡ true → HasInHand (m.worker i) c → HasInHand v c
 
 -- what worker i takes on is sound, and has its ledger and what it had in hand
 pub takes_on_same : (m : Machine) (stage : Stages) (i : ℕ) (v : Worker) → WorkerIsSound m.words stage v
-    → v.ledger ≡ (m.worker i).ledger → v.operation ≡ (m.worker i).operation → v.card ≡ (m.worker i).card
+    → v.ledger ≡ (m.worker i).ledger → v.shared ≡ (m.worker i).shared → v.operation ≡ (m.worker i).operation → v.card ≡ (m.worker i).card
     → v.flagged ≡ (m.worker i).flagged → TakesOn m stage i v
-takes_on_same m stage i v own ledger operation card flagged = record {
+takes_on_same m stage i v own ledger shared operation card flagged = record {
   own = own;
   owns = λ k. (let same = ap (λ f. f k) ledger in (λ o none. o (same ∙ none), λ o none. o (sym same ∙ none)));
+  shares = shared;
+  hands = λ c holds. sym card ∙ holds;
   counts = λ k o. λ t. effective_at_of stage (ledger t) (operation t) (card t) (flagged t) k;
   inserts = λ c g h. record { holds = card ∙ h.holds; flagged = flagged ∙ h.flagged };
   deletes = λ c g h. record { holds = card ∙ h.holds; flagged = flagged ∙ h.flagged };
@@ -137,6 +166,8 @@ keeps_worker m stage i v there sound h = record {
     own = h.own;
     others = λ j n. sound.workers.each j;
     owns = h.owns;
+    shares = h.shares;
+    hands = λ c holds. inl (h.hands c holds);
     counts = h.counts;
     counts_others = λ j k n o. refl;
     inserts = λ c g. inr (g, h.inserts c g);

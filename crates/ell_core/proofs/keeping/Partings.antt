@@ -1,4 +1,4 @@
-use Rattle.std.proofs.Common.{◌≡◌, ◌≢◌, ◌+◌, ◌⊎◌, inl, inr, if◌then◌else◌, Bool, true, false, Option, Some, None, refl, arith}
+use Rattle.std.proofs.Common.{◌≡◌, ◌≢◌, ◌+◌, ◌⊎◌, inl, inr, if◌then◌else◌, ◌||◌, Bool, true, false, Option, Some, None, refl, arith}
 use Rattle.std.proofs.lemmas.Bool.{or_cases}
 use Rattle.ell_core.specs.state.Machine.{idle, nobody}
 use Rattle.ell_core.specs.state.Words.{put}
@@ -28,8 +28,8 @@ unite_entry (Some entry) (Some other) apart = absurd (apart (λ e. cc) (λ e. cc
 -- the parts of an idle worker take its place and one at the end
 pub parting_splits : EveryPartingIsASplit
 parting_splits m i left right there free parts =
-    let stays = idle left (m.worker i).knows in
-    let comes = idle right (m.worker i).knows in
+    let stays = idle left (m.worker i).shared (m.worker i).knows in
+    let comes = idle right (m.worker i).shared (m.worker i).knows in
     record {
       after = record m { worker = put (put m.worker i stays) m.count comes; count = m.count + 1 };
       split = record {
@@ -40,6 +40,8 @@ parting_splits m i left right there free parts =
         left_free = refl;
         right_free = refl;
         ledgers = parts;
+        left_shares = refl;
+        right_shares = refl;
         left_knows = λ fact h. h;
         right_knows = λ fact h. h;
         gives = refl;
@@ -51,7 +53,7 @@ parting_splits m i left right there free parts =
 -- idle workers in one take the place of the first
 pub union_joins : EveryUnionIsAJoin
 union_joins m i j both left_there right_there apart left_free right_free parts =
-    let joined = idle both (known_to_either (m.worker i).knows (m.worker j).knows) in
+    let joined = idle both (λ key. (m.worker i).shared key || (m.worker j).shared key) (known_to_either (m.worker i).knows (m.worker j).knows) in
     record {
       after = record m { worker = put (put m.worker i joined) j nobody };
       join = record {
@@ -63,6 +65,7 @@ union_joins m i j both left_there right_there apart left_free right_free parts =
         both = joined;
         both_free = refl;
         ledgers = parts;
+        shares = λ key. refl;
         knows = λ fact h. or_cases ((m.worker i).knows fact) ((m.worker j).knows fact) h;
         gives = refl;
       };

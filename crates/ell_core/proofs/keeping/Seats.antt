@@ -1,5 +1,5 @@
-use Rattle.std.proofs.Common.{◌≡◌, ◌≢◌, ℕ, ◌+◌, ◌≤◌, ◌==◌, if◌then◌else◌, ◌⊎◌, inl, inr, Option, Some, None, refl, sym, ap, ◌∙◌, subst, arith}
-use Rattle.std.proofs.lemmas.Bool.{false≢true, cases_eq}
+use Rattle.std.proofs.Common.{◌≡◌, ◌≢◌, ℕ, ◌+◌, ◌≤◌, ◌==◌, if◌then◌else◌, ◌||◌, Bool, true, false, ◌⊎◌, inl, inr, Option, Some, None, refl, sym, ap, ◌∙◌, subst, arith}
+use Rattle.std.proofs.lemmas.Bool.{false≢true, cases_eq, or_cases}
 use Rattle.std.proofs.lemmas.Bool.Decides.{nat_tests}
 use Rattle.ell_core.specs.state.Words.{put}
 use Rattle.ell_core.specs.state.Machine.{Worker, Machine, nobody}
@@ -33,6 +33,11 @@ put_neither f a b x y n first second = put_other (put f a x) b y n second ∙ pu
 -- nobody has nothing in hand
 nobody_idle : (v : Worker) → v ≡ nobody → WorkerIsIdle v
 nobody_idle v h = subst WorkerIsIdle (sym h) refl
+
+-- neither of two is true where both in one are not
+or_false : (a b : Bool) → (a || b) ≡ false → (a ≡ false) × (b ≡ false)
+or_false true b e = absurd (false≢true (sym e))
+or_false false b e = (refl, e)
 
 -- the seat that an old one lands at: one seat goes to another
 abbrev moved : ℕ → ℕ → ℕ → ℕ
@@ -135,6 +140,16 @@ module _ (m after : Machine) (stage : Stages) (i : ℕ) (s : Split m i after) (b
     strangers = put_twice (λ n v. m.count + 1 ≤ n → v ≡ nobody) m.worker i m.count s.left s.right
         (λ past. absurd (omega arith)) (λ past. absurd (let t = s.there in omega arith))
         (λ n apart other past. before.workers.strangers n (omega arith));
+    shares = put_twice (λ n v. (k : ℕ) → v.shared k ≡ true → (old : ℕ) × ((m.worker old).shared k ≡ true)) m.worker i m.count s.left s.right
+        (λ k e. (i, ap (λ f. f k) (sym s.right_shares) ∙ e)) (λ k e. (i, ap (λ f. f k) (sym s.left_shares) ∙ e)) (λ n apart other k e. (n, e));
+    shared = λ k old none. elim (cases_eq old i) [
+      | inl e ↦ ap (λ n. (m.worker n).shared k) e ∙ (ap (λ f. f k) (sym s.left_shares)
+          ∙ (ap (λ v. v.shared k) (sym (put_first m.worker i m.count s.left s.right (λ e. (let t = s.there in omega arith)))) ∙ none i))
+      | inr apart ↦ elim (cases_eq old m.count) [
+        | inl e ↦ ap (λ v. v.shared k) (before.workers.strangers old (omega arith))
+        | inr other ↦ ap (λ v. v.shared k) (sym (put_neither m.worker i m.count s.left s.right old apart other)) ∙ none old
+      ]
+    ];
   }
 
 -- a split keeps the invariant
@@ -192,6 +207,14 @@ module _ (m after : Machine) (stage : Stages) (i j : ℕ) (s : Join m i j after)
       right_part : WorkerOwns (m.worker j) k → WorkerOwns s.both k
       right_part has = elim (s.ledgers k) [ inl p ↦ absurd (has p.1) | inr p ↦ (λ e. has (p.1 ∙ e)) ]
 
+  -- what both may change is either's
+  both_shared : (k : ℕ) → ((m.worker i).shared k || (m.worker j).shared k) ≡ true → (old : ℕ) × ((m.worker old).shared k ≡ true)
+  both_shared k e = elim (or_cases ((m.worker i).shared k) ((m.worker j).shared k) e) [ inl left ↦ (i, left) | inr right ↦ (j, right) ]
+
+  or_none : (k : ℕ) → ((n : ℕ) → (join_workers n).shared k ≡ false) → ((m.worker i).shared k ≡ false) × ((m.worker j).shared k ≡ false)
+  or_none k none = or_false ((m.worker i).shared k) ((m.worker j).shared k)
+      (sym (s.shares k) ∙ (ap (λ v. v.shared k) (sym (put_first m.worker i j s.both nobody s.apart)) ∙ none i))
+
   -- the join is new workers in the seats
   join_reseats : Reseats m stage join_workers m.count
   join_reseats = record {
@@ -207,6 +230,15 @@ module _ (m after : Machine) (stage : Stages) (i j : ℕ) (s : Join m i j after)
     strangers = put_twice (λ n v. m.count ≤ n → v ≡ nobody) m.worker i j s.both nobody
         (λ past. refl) (λ past. absurd (let t = s.left_there in omega arith))
         (λ n apart other past. before.workers.strangers n past);
+    shares = put_twice (λ n v. (k : ℕ) → v.shared k ≡ true → (old : ℕ) × ((m.worker old).shared k ≡ true)) m.worker i j s.both nobody
+        (λ k e. absurd (false≢true e)) (λ k e. both_shared k (sym (s.shares k) ∙ e)) (λ n apart other k e. (n, e));
+    shared = λ k old none. elim (cases_eq old j) [
+      | inl e ↦ ap (λ n. (m.worker n).shared k) e ∙ (or_none k none).1
+      | inr other ↦ elim (cases_eq old i) [
+        | inl e ↦ ap (λ n. (m.worker n).shared k) e ∙ (or_none k none).0
+        | inr apart ↦ ap (λ v. v.shared k) (sym (put_neither m.worker i j s.both nobody old apart other)) ∙ none old
+      ]
+    ];
   }
 
 -- a join keeps the invariant

@@ -1,5 +1,5 @@
-use Rattle.std.proofs.Common.{◌≡◌, ◌≢◌, ℕ, zero, suc, ◌<◌, ◌≤◌, List, [], ◌∷◌, slice_get, get_or, ◌+◌, ◌==◌, true, length, sym, ap, ◌∙◌, subst, arith}
-use Rattle.std.proofs.lemmas.Bool.{eqb-true}
+use Rattle.std.proofs.Common.{◌≡◌, ◌≢◌, ℕ, zero, suc, ◌<◌, ◌≤◌, List, [], ◌∷◌, slice_get, get_or, ◌+◌, ◌==◌, true, length, sym, ap, ◌∙◌, subst, arith, inl, inr}
+use Rattle.std.proofs.lemmas.Bool.{eqb-true, false≢true}
 use Rattle.std.proofs.lemmas.List.Folds.{Any-from_list_any}
 use Rattle.std.proofs.lemmas.Option.{none-some, same_Some}
 use Rattle.std.specs.List.{All}
@@ -47,17 +47,24 @@ two_keys_open count i j first second cards i_there j_there apart first_real seco
   real = both_real count i j first second first_real second_real;
   ascending = λ k below. absurd (omega arith);
   given = λ k d below. absurd (omega arith);
+  apart = λ k shared. absurd (false≢true shared);
 }
 
--- the start keys are real ones, since they are among the owned keys
-pub start_real : (owned : List (ℕ × ℕ)) (start : List ℕ) → All (λ entry. entry.1 ≤ greatest_key) owned → All (λ k. is_given owned k ≡ true) start
-    → All (λ k. k ≤ greatest_key) start
-start_real owned start real given i d below =
-    let any = Any-from_list_any (λ (entry : ℕ × ℕ). entry.1 == get_or start i d) owned (given i d below) in
-    let same : any.1.1 ≡ get_or start i d = eqb-true any.1.1 (get_or start i d) any.4 in
+-- a key that some worker is given is a real one
+given_real : (owned : List (ℕ × ℕ)) (k : ℕ) → All (λ entry. entry.1 ≤ greatest_key) owned → is_given owned k ≡ true → k ≤ greatest_key
+given_real owned k real given =
+    let any = Any-from_list_any (λ (entry : ℕ × ℕ). entry.1 == k) owned given in
+    let same : any.1.1 ≡ k = eqb-true any.1.1 k any.4 in
     let bound : any.1.1 ≤ greatest_key = subst (λ (entry : ℕ × ℕ). entry.1 ≤ greatest_key) any.3 (real any.0 any.1 any.2) in
     omega arith
 
+-- the start keys are real ones, since each is owned or shared
+pub start_real : (setup : Setup) → CanOpen setup → All (λ k. k ≤ greatest_key) (keys_of setup.start)
+start_real setup can i d below = elim (can.given i d below) [
+  | inl own ↦ given_real setup.owned (get_or (keys_of setup.start) i d) can.real own
+  | inr shared ↦ (can.apart (get_or (keys_of setup.start) i d) shared.1).0
+]
+
 -- what can open opens with the invariant
 pub opening_has : (setup : Setup) → CanOpen setup → Invariant (opening setup) (start_stages (length setup.start + 1))
-opening_has setup can = opening_invariant setup can.ascending (start_real setup.owned (keys_of setup.start) can.real can.given) can.faultless can.real can.given
+opening_has setup can = opening_invariant setup can.ascending (start_real setup can) can.faultless can.real can.given can.apart

@@ -1,4 +1,4 @@
-use Rattle.std.proofs.Common.{◌≡◌, ◌≢◌, ℕ, ◌+◌, ◌<◌, ◌≤◌, ◌==◌, ◌⊎◌, inl, inr, if◌then◌else◌, Bool, true, false, nat_lt, Some, None, List, length, get_or, refl, sym, ap, ◌∙◌, subst, arith}
+use Rattle.std.proofs.Common.{◌≡◌, ◌≢◌, ℕ, ◌+◌, ◌<◌, ◌≤◌, ◌==◌, ◌⊎◌, inl, inr, if◌then◌else◌, Bool, true, false, nat_lt, Some, None, List, length, get_or, refl, sym, ap, ◌∙◌, subst, arith, ◌&&◌}
 use Rattle.std.proofs.lemmas.Bool.{false≢true, cases_lt, and_from, eq-eqb, lt-ltb, le-ltb}
 use Rattle.std.proofs.lemmas.Option.{none-some, same_Some}
 use Rattle.std.proofs.lemmas.List.Folds.{Any-from_list_any, list_any_at}
@@ -17,9 +17,10 @@ use Rattle.ell_core.specs.history.Stages.{Stage, Stages, Unclaimed, Opening, is_
 use Rattle.ell_core.specs.history.Invariant.{GoesNowhere, Invariant, top, LeadsTo, LeadsToValue, IsIn, CardIsSound, ChildrenAreSound, UpdateIsSound, TreeIsSound, WordsAreSound, WorkerIsSound, WorkersAreSound}
 use Rattle.ell_core.specs.tree.Ranges.{IsOrdered}
 use Rattle.ell_core.proofs.keeping.going_on.Stages.{no_insert, no_delete}
-use Rattle.ell_core.proofs.opening.Owners.{ledger_there, opening_one_owner, opening_stranger, opening_real}
+use Rattle.ell_core.proofs.opening.Owners.{ledger_there, opening_one_owner, opening_stranger, opening_real, opening_given}
 use Rattle.ell_core.proofs.outcomes.Decide.{some_not_none}
-use Rattle.ell_core.specs.state.Opening.{Setup, gives, Faultless, start_leaf, start_value, start_words, opening_ledger, opening, is_given, start_entry}
+use Rattle.ell_core.specs.statements.RunLaws.{MayBeThere}
+use Rattle.ell_core.specs.state.Opening.{Setup, gives, Faultless, start_leaf, start_value, start_words, opening_ledger, opening, is_given, start_entry, shares}
 use Rattle.ell_core.proofs.opening.StartTree.{tree_ordered, card_reached, child_more, child_on, left_less, right_least, finds_leaf, finds_leaves_only}
 use Rattle.ell_core.proofs.opening.StartWords.{has_value, keys_length, leaf_key, leaf_last, leaf_root, leaves_rise, leaves_end, has_branches, clean_update, goes_none, later_blank}
 use Rattle.ell_core.specs.declared.view.Entry.TheVariants.{Present}
@@ -206,14 +207,28 @@ module _ (start : List (ℕ × ℕ)) (ascending : IsStrictlyIncreasing (keys_of 
     tree = tree_sound;
   }
 
--- where the start keys ascend, no entry is faulty, each names a real key, and some entry names each start key
+-- the first of two that are true
+first_of : (a b : Bool) → (a && b) ≡ true → a ≡ true
+first_of true b h = refl
+first_of false b h = absurd (false≢true h)
+
+-- what the first worker does not share, nobody does
+first_shares : (count : ℕ) (shared : ℕ → Bool) (k : ℕ) → 0 < count → shares count shared 0 k ≡ false → shared k ≡ false
+first_shares count shared k some none = by (shared k) (nat_lt 0 count) refl (lt-ltb 0 count some) none
+  where
+    by : (a b : Bool) → shared k ≡ a → b ≡ true → (a && b) ≡ false → shared k ≡ false
+    by false b is there h = is
+    by true b is there h = absurd (false≢true (sym h ∙ there))
+
+-- where the start keys ascend, no entry is faulty, each names a real key, and each start key is given or shared
 module _ (setup : Setup) (ascending : IsStrictlyIncreasing (keys_of setup.start)) (real : All (λ k. k ≤ greatest_key) (keys_of setup.start))
     (faultless : Faultless setup.count setup.owned) (owned_real : All (λ entry. entry.1 ≤ greatest_key) setup.owned)
-    (given : All (λ k. is_given setup.owned k ≡ true) (keys_of setup.start)) where
-  worker_sound : (i : ℕ) → WorkerIsSound (start_words setup.start) (start_stages (length setup.start + 1)) (idle (opening_ledger setup.owned setup.start i) (λ _. false))
+    (given : All (MayBeThere setup) (keys_of setup.start))
+    (not_owned : (k : ℕ) → setup.shared k ≡ true → (k ≤ greatest_key) × (is_given setup.owned k ≡ false)) where
+  worker_sound : (i : ℕ) → WorkerIsSound (start_words setup.start) (start_stages (length setup.start + 1)) (idle (opening_ledger setup.owned setup.start i) (shares setup.count setup.shared i) (λ _. false))
   worker_sound i = record {
     facts = λ fact h. absurd (false≢true h);
-    real = λ k owns. opening_real setup.owned setup.start i k owned_real owns;
+    real = λ k may. elim may [ inl owns ↦ opening_real setup.owned setup.start i k owned_real owns | inr shared ↦ (not_owned k (first_of (setup.shared k) (nat_lt i setup.count) shared)).0 ];
     free = λ h. refl;
     owned = λ op h. absurd (none-some op h);
     stands = λ op x h g. absurd (none-some op h);
@@ -221,13 +236,16 @@ module _ (setup : Setup) (ascending : IsStrictlyIncreasing (keys_of setup.start)
     flagged = λ op c h g f. absurd (none-some op h);
   }
 
-  -- a start key has an owner
-  pub start_owned : (k value : ℕ) → contents_of setup.start k ≡ Some value → IsGiven setup.owned setup.start k
-  start_owned k value is =
+  -- a start key that is not shared has an owner
+  pub start_owned : (k value : ℕ) → contents_of setup.start k ≡ Some value → ((0 < setup.count) → setup.shared k ≡ false) → IsGiven setup.owned setup.start k
+  start_owned k value is not_shared =
       let place = place_in setup.start k value is in
       let below = place.below in
       let n = keys_length setup.start in
-      given_owned setup.owned setup.start k (subst (λ n. is_given setup.owned n ≡ true) place.key_is (given place.at 0 (omega arith)))
+      elim (subst (MayBeThere setup) place.key_is (given place.at 0 (omega arith))) [
+        | inl own ↦ given_owned setup.owned setup.start k own
+        | inr shared ↦ absurd (false≢true (sym (not_shared shared.0) ∙ shared.1))
+      ]
 
   workers_sound : WorkersAreSound (opening setup) (start_stages (length setup.start + 1))
   unfolding opening
@@ -241,13 +259,15 @@ module _ (setup : Setup) (ascending : IsStrictlyIncreasing (keys_of setup.start)
           (holds_present (contents_of setup.start k) value
           (same_Some (start_entry setup.start k) (Present value) (sym (ledger_there setup.owned setup.start i k owns) ∙ has))),
     );
-    owned = λ k below found.
+    apart = λ i j k shared owns. opening_given setup.owned setup.start j k (not_owned k (first_of (setup.shared k) (nat_lt i setup.count) shared)).1 owns;
+    one_hand = λ i j c left right. absurd (none-some c left);
+    owned = λ k below found none.
         let there = leads_some (start_words setup.start) k found in
-        let at = start_owned k there.0 (found_start setup.start ascending real k there.0 below there.1) in
+        let at = start_owned k there.0 (found_start setup.start ascending real k there.0 below there.1) (λ some. first_shares setup.count setup.shared k some (none 0)) in
         record { worker = at.worker; owns = at.owns };
     insert_in_hand = λ c h. absurd (false≢true (sym (each_stage (λ s. insert_open s ≡ false) (length setup.start + 1) c refl refl) ∙ h));
     delete_in_hand = λ c h. absurd (false≢true (sym (each_stage (λ s. delete_open s ≡ false) (length setup.start + 1) c refl refl) ∙ h));
-    strangers = opening_stranger setup.count setup.owned setup.start faultless;
+    strangers = opening_stranger setup.count setup.owned setup.start faultless setup.shared;
   }
 
   -- the cards of the opening tree go nowhere

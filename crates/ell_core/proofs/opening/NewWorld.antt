@@ -1,7 +1,7 @@
 use Rattle.std.proofs.Common.{◌≡◌, ℕ, ◌+◌, false, length, slice_get, sym, subst}
 use Rattle.ell_core.specs.state.Words.{words_of}
 use Rattle.ell_core.specs.state.Machine.{idle, worker_or_nobody}
-use Rattle.ell_core.specs.state.Opening.{Setup, opening, start_words, last_card, opening_ledger}
+use Rattle.ell_core.specs.state.Opening.{Setup, opening, start_words, last_card, opening_ledger, shares}
 use Rattle.ell_core.specs.history.Invariant.{HasInvariant}
 use Rattle.ell_core.specs.inside.World.{WorldValue, machine_of}
 use Rattle.ell_core.proofs.opening.Invariant.{start_stages}
@@ -11,7 +11,7 @@ use Rattle.ell_core.specs.statements.RunLaws.{CanOpen}
 -- a world with the words and workers of an opening is that opening
 pub machine_of-opening : (w : WorldValue) (setup : Setup) → words_of w.words ≡ start_words setup.start →
     length w.workers ≡ setup.count → w.last_card ≡ last_card setup.start setup.cards →
-    ((i : ℕ) → worker_or_nobody (slice_get w.workers i) ≡ idle (opening_ledger setup.owned setup.start i) (λ _. false)) → machine_of w ≡ opening setup
+    ((i : ℕ) → worker_or_nobody (slice_get w.workers i) ≡ idle (opening_ledger setup.owned setup.start i) (shares setup.count setup.shared i) (λ _. false)) → machine_of w ≡ opening setup
 unfolding machine_of opening
 machine_of-opening w setup words many size workers = λ t. record {
   words = words t;
@@ -23,7 +23,7 @@ machine_of-opening w setup words many size workers = λ t. record {
 -- where its list of owned keys can be opened
 pub opening_lawful : (w : WorldValue) (setup : Setup) → words_of w.words ≡ start_words setup.start →
     length w.workers ≡ setup.count → w.last_card ≡ last_card setup.start setup.cards →
-    ((i : ℕ) → worker_or_nobody (slice_get w.workers i) ≡ idle (opening_ledger setup.owned setup.start i) (λ _. false)) →
+    ((i : ℕ) → worker_or_nobody (slice_get w.workers i) ≡ idle (opening_ledger setup.owned setup.start i) (shares setup.count setup.shared i) (λ _. false)) →
     CanOpen setup → HasInvariant (machine_of w)
 opening_lawful w setup words many size workers can =
     subst HasInvariant (sym (machine_of-opening w setup words many size workers))

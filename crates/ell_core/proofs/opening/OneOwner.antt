@@ -1,5 +1,5 @@
-use Rattle.std.proofs.Common.{◌≡◌, ℕ, zero, suc, ◌+◌, ◌<◌, ◌≤◌, ◌==◌, ◌&&◌, ◌||◌, if◌then◌else◌, cond, Bool, true, false, List, [], ◌∷◌, map, length, get_or, slice_get, option_map, Option, Some, None, refl, sym, ap, ◌∙◌, subst, arith}
-use Rattle.std.proofs.lemmas.Bool.{false≢true, eqb-true, eq-eqb, ne_eqb}
+use Rattle.std.proofs.Common.{◌≡◌, ℕ, zero, suc, ◌+◌, ◌<◌, ◌≤◌, ◌==◌, ◌&&◌, ◌||◌, if◌then◌else◌, cond, Bool, true, false, List, [], ◌∷◌, map, length, get_or, slice_get, option_map, Option, Some, None, refl, sym, ap, ◌∙◌, subst, arith, nat_lt, ◌⊎◌, inl, inr}
+use Rattle.std.proofs.lemmas.Bool.{false≢true, eqb-true, eq-eqb, ne_eqb, ltb-true}
 use Rattle.std.proofs.lemmas.Option.{same_Some, slice_get_within, slice_get-get_or, slice_get-map}
 use Rattle.std.proofs.lemmas.List.Elements.{All-map}
 use Rattle.std.proofs.lemmas.List.Kept.{AllPairs-from_increasing}
@@ -9,7 +9,7 @@ use Rattle.ell_ops.specs.KeySet.{set_of}
 use Rattle.ell_ops.specs.Meaning.{greatest_key}
 use Rattle.std.specs.Map.{keys_of}
 use Rattle.ell_core.specs.state.Machine.{idle, ledger_of}
-use Rattle.ell_core.specs.state.Opening.{Setup, opening, start_words, last_card, is_given, opening_ledger, gives, IsStranger, IsRepeat, start_entry}
+use Rattle.ell_core.specs.state.Opening.{Setup, opening, start_words, last_card, is_given, opening_ledger, shares, gives, IsStranger, IsRepeat, start_entry}
 use Rattle.ell_core.specs.history.Invariant.{Invariant}
 use Rattle.ell_core.specs.statements.RunLaws.{CanOpen}
 use Rattle.ell_core.specs.statements.Premises.{OneWorkerOpens}
@@ -18,6 +18,7 @@ use Rattle.ell_ops.proofs.Sets.{eqb-swap}
 use Rattle.ell_core.proofs.outcomes.Decide.{some_not_none}
 use Rattle.ell_core.proofs.opening.Invariant.{start_stages}
 use Rattle.ell_core.proofs.opening.CanOpen.{opening_has}
+use Rattle.std.proofs.Math.Bool.{and-true}
 
 -- the entry that gives a key to worker 0
 abbrev pub entry_of : ℕ → ℕ × ℕ
@@ -47,6 +48,15 @@ none_given (x ∷ keys) i k = ap (λ t. (t && (x == k)) || list_any (gives (suc 
 
 other_ledger : (start : List (ℕ × ℕ)) (keys : List ℕ) (i k : ℕ) → opening_ledger (entries keys) start (suc i) k ≡ None
 other_ledger start keys i k = ap (λ t. if t then Some (start_entry start k) else None) (none_given keys i k)
+
+-- nobody but the first shares anything
+one_shares : (shared : ℕ → Bool) (i key : ℕ) → shares 1 shared (suc i) key ≡ false
+one_shares shared i key = by (shared key) (nat_lt (suc i) 1) refl
+  where
+    by : (b c : Bool) → nat_lt (suc i) 1 ≡ c → (b && c) ≡ false
+    by false c is = refl
+    by true false is = refl
+    by true true is = absurd (let low = ltb-true (suc i) 1 is in omega arith)
 
 -- each of the keys is given
 pub given_entry : (keys : List ℕ) (k : ℕ) → is_given (entries keys) k ≡ set_of keys k
@@ -92,45 +102,52 @@ no_repeat keys rising at s =
     let same : q.key ≡ p.key = sym (ap (λ (x : ℕ × ℕ). x.1) q.is) ∙ (s.same ∙ ap (λ (x : ℕ × ℕ). x.1) p.is) in
     omega arith
 
-module _ (keys : List ℕ) (start : List (ℕ × ℕ)) (cards : ℕ) (rising : IsStrictlyIncreasing keys) (real : All (λ k. k ≤ greatest_key) keys)
-    (ascending : IsStrictlyIncreasing (keys_of start)) (among : All (λ k. set_of keys k ≡ true) (keys_of start)) where
+module _ (keys : List ℕ) (start : List (ℕ × ℕ)) (cards : ℕ) (shared : ℕ → Bool) (rising : IsStrictlyIncreasing keys)
+    (real : All (λ k. k ≤ greatest_key) keys) (ascending : IsStrictlyIncreasing (keys_of start))
+    (among : All (λ k. (set_of keys k ≡ true) ⊎ (shared k ≡ true)) (keys_of start))
+    (apart : (k : ℕ) → shared k ≡ true → (k ≤ greatest_key) × (set_of keys k ≡ false)) where
   -- the entries can open
   abbrev setup : Setup
-  setup = record { count = 1; owned = entries keys; start = start; cards = cards }
+  setup = record { count = 1; owned = entries keys; start = start; cards = cards; shared = shared }
 
   can_open : CanOpen setup
   can_open = record {
     faultless = λ at. (no_stranger keys at, no_repeat keys rising at);
     real = All-map (λ entry. entry.1 ≤ greatest_key) entry_of keys real;
     ascending = ascending;
-    given = λ i d below. given_entry keys (get_or (keys_of start) i d) ∙ among i d below;
+    given = λ i d below. elim (among i d below) [
+      | inl own ↦ inl (given_entry keys (get_or (keys_of start) i d) ∙ own)
+      | inr shared ↦ inr (omega arith, shared)
+    ];
+    apart = λ k e. ((apart k e).0, given_entry keys k ∙ (apart k e).1);
   }
 
   -- the workers are the first one alone
-  workers_are : (i : ℕ) → first_alone (idle (ledger_of (keys_at_start keys start)) (λ _. false)) i ≡ idle (opening_ledger (entries keys) start i) (λ _. false)
-  workers_are zero = λ t. idle (λ k. sym (first_ledger start keys k) t) (λ _. false)
-  workers_are (suc i) = λ t. idle (λ k. sym (other_ledger start keys i k) t) (λ _. false)
+  workers_are : (i : ℕ) → first_alone (idle (ledger_of (keys_at_start keys start)) shared (λ _. false)) i ≡ idle (opening_ledger (entries keys) start i) (shares 1 shared i) (λ _. false)
+  workers_are zero = λ t. idle (λ k. sym (first_ledger start keys k) t) (λ k. sym (and-true (shared k)) t) (λ _. false)
+  workers_are (suc i) = λ t. idle (λ k. sym (other_ledger start keys i k) t) (λ k. sym (one_shares shared i k) t) (λ _. false)
 
   -- so the state is the opening
-  state_is : opening_of_one keys start cards ≡ opening setup
+  state_is : opening_of_one keys start cards shared ≡ opening setup
   unfolding opening
   state_is = λ t. record { words = start_words start; worker = λ i. workers_are i t; count = 1; last_card = last_card start cards }
 
 -- it has the invariant with the stages at the start
-pub one_worker_has : (keys : List ℕ) (start : List (ℕ × ℕ)) (cards : ℕ) → IsStrictlyIncreasing keys → All (λ k. k ≤ greatest_key) keys
-    → IsStrictlyIncreasing (keys_of start) → All (λ k. set_of keys k ≡ true) (keys_of start)
-    → Invariant (opening_of_one keys start cards) (start_stages (length start + 1))
-one_worker_has keys start cards rising real ascending among =
-    subst (λ m. Invariant m (start_stages (length start + 1))) (sym (state_is keys start cards rising real ascending among))
-    (opening_has (setup keys start cards rising real ascending among) (can_open keys start cards rising real ascending among))
+pub one_worker_has : (keys : List ℕ) (start : List (ℕ × ℕ)) (cards : ℕ) (shared : ℕ → Bool) → IsStrictlyIncreasing keys → All (λ k. k ≤ greatest_key) keys
+    → IsStrictlyIncreasing (keys_of start) → All (λ k. (set_of keys k ≡ true) ⊎ (shared k ≡ true)) (keys_of start)
+    → ((k : ℕ) → shared k ≡ true → (k ≤ greatest_key) × (set_of keys k ≡ false))
+    → Invariant (opening_of_one keys start cards shared) (start_stages (length start + 1))
+one_worker_has keys start cards shared rising real ascending among apart =
+    subst (λ m. Invariant m (start_stages (length start + 1))) (sym (state_is keys start cards shared rising real ascending among apart))
+    (opening_has (setup keys start cards shared rising real ascending among apart) (can_open keys start cards shared rising real ascending among apart))
 
 -- one worker that owns all keys can open
 pub one_worker_opens : OneWorkerOpens
-one_worker_opens keys start cards rising real ascending among = record {
+one_worker_opens keys start cards shared rising real ascending among apart = record {
   opens = record {
-    setup = setup keys start cards rising real ascending among;
-    can = can_open keys start cards rising real ascending among;
-    opens = state_is keys start cards rising real ascending among;
+    setup = setup keys start cards shared rising real ascending among apart;
+    can = can_open keys start cards shared rising real ascending among apart;
+    opens = state_is keys start cards shared rising real ascending among apart;
   };
-  lawful = record { stages = start_stages (length start + 1); invariant = one_worker_has keys start cards rising real ascending among };
+  lawful = record { stages = start_stages (length start + 1); invariant = one_worker_has keys start cards shared rising real ascending among apart };
 }

@@ -1,10 +1,10 @@
-use Rattle.std.proofs.Common.{◌≡◌, ◌≢◌, ℕ, ◌<◌, ◌≤◌, ◌==◌, inl, inr, if◌then◌else◌, Bool, true, false, Option, Some, None, List, length, slice_get, get_or, refl, sym, ap, ◌∙◌, subst, arith, zero, suc, ◌+◌, ◌&&◌, ◌||◌, cond, [], ◌∷◌, ◌++◌, set, take, ⊎_elim}
-use Rattle.std.proofs.lemmas.Bool.{cases_lt, cases_eq, eqb-true, and_parts, false≢true, eq-eqb, ne_eqb}
-use Rattle.std.proofs.lemmas.List.Folds.{Any-from_list_any, list_any-append}
+use Rattle.std.proofs.Common.{◌≡◌, ◌≢◌, ℕ, ◌<◌, ◌≤◌, ◌==◌, inl, inr, if◌then◌else◌, Bool, true, false, Option, Some, None, List, length, slice_get, get_or, refl, sym, ap, ◌∙◌, subst, arith, zero, suc, ◌+◌, ◌&&◌, ◌||◌, cond, [], ◌∷◌, ◌++◌, set, take, ⊎_elim, nat_lt}
+use Rattle.std.proofs.lemmas.Bool.{cases_lt, cases_eq, eqb-true, and_parts, false≢true, eq-eqb, ne_eqb, ltb-true}
+use Rattle.std.proofs.lemmas.List.Folds.{Any-from_list_any, list_any-append, list_any_at}
 use Rattle.std.proofs.lemmas.Option.{same_Some, slice_get-get_or}
 use Rattle.std.specs.List.{All, list_any}
 use Rattle.ell_ops.specs.Meaning.{greatest_key}
-use Rattle.ell_core.specs.state.Opening.{gives, opening_ledger, Faultless, start_entry}
+use Rattle.ell_core.specs.state.Opening.{gives, opening_ledger, Faultless, start_entry, shares, is_given}
 use Rattle.std.proofs.lemmas.List.{take_more}
 use Rattle.ell_core.specs.declared.worker.Worker.{Worker}
 use Rattle.ell_core.specs.state.Words.{put}
@@ -101,9 +101,25 @@ module _ (count : ℕ) (owned start : List (ℕ × ℕ)) (faultless : Faultless 
       strange : Given owned i key → ⊥
       strange a = (faultless a.place).0 (record { entry = a.entry; stands = a.stands; strange = (let w = a.worker in omega arith) })
 
+  -- and shares nothing
+  no_stranger_shares : (shared : ℕ → Bool) (i key : ℕ) → count ≤ i → shares count shared i key ≡ false
+  no_stranger_shares shared i key past = by (shared key) (nat_lt i count) refl
+    where
+      by : (b c : Bool) → nat_lt i count ≡ c → (b && c) ≡ false
+      by false c is = refl
+      by true false is = refl
+      by true true is = absurd (let low = ltb-true i count is in omega arith)
+
   -- so it is nobody
-  pub opening_stranger : (i : ℕ) → count ≤ i → idle (opening_ledger owned start i) (λ _. false) ≡ nobody
-  opening_stranger i past = ap (λ (ledger : Ledger). idle ledger (λ _. false)) (λ t key. given_nothing i key past t)
+  pub opening_stranger : (shared : ℕ → Bool) (i : ℕ) → count ≤ i → idle (opening_ledger owned start i) (shares count shared i) (λ _. false) ≡ nobody
+  opening_stranger shared i past = λ t. idle (λ key. given_nothing i key past t) (λ key. no_stranger_shares shared i key past t) (λ _. false)
+
+-- an owned key is given
+pub opening_given : (owned start : List (ℕ × ℕ)) (i key : ℕ) → is_given owned key ≡ false → ¬ (opening_ledger owned start i key ≢ None)
+opening_given owned start i key not_given owns =
+    let a = given owned start i key owns in
+    false≢true (sym not_given ∙ list_any_at (λ (entry : ℕ × ℕ). entry.1 == key) owned a.place a.entry a.within
+    (ap (λ (entry : ℕ × ℕ). entry.1 == key) a.read ∙ eq-eqb a.entry.1 key a.names))
 
 -- an owned key is a real key if the entries name real keys
 pub opening_real : (owned start : List (ℕ × ℕ)) (i key : ℕ) → All (λ entry. entry.1 ≤ greatest_key) owned → opening_ledger owned start i key ≢ None
@@ -181,7 +197,7 @@ opening_ledger-push_other start entries entry i apart = λ t key. at key t where
 
 -- the workers have the ledgers that these entries give them, and nothing else
 abbrev pub HaveLedgers : {A : Type 0} → List (Worker A) → List (ℕ × ℕ) → List (ℕ × ℕ) → Type 0
-HaveLedgers workers start entries = (i : ℕ) → worker_at workers i ≡ idle (opening_ledger entries start i) (λ _. false)
+HaveLedgers workers start entries = (i : ℕ) → worker_at workers i ≡ idle (opening_ledger entries start i) (λ _. false) (λ _. false)
 
 -- a worker with one key more
 abbrev pub owning : machine.Worker → ℕ → Entry → machine.Worker
@@ -193,17 +209,17 @@ pub HaveLedgers-push : {A : Type 0} (workers : List (Worker A)) (start entries :
     HaveLedgers (set workers entry.0 new) start (entries ++ entry ∷ [])
 HaveLedgers-push workers start entries entry old new have below stood owns i =
     ⊎_elim
-    (λ same. subst (λ j. worker_at (set workers entry.0 new) j ≡ idle (opening_ledger (entries ++ entry ∷ []) start j) (λ _. false)) same here)
+    (λ same. subst (λ j. worker_at (set workers entry.0 new) j ≡ idle (opening_ledger (entries ++ entry ∷ []) start j) (λ _. false) (λ _. false)) same here)
     (λ apart. worker_at-set_other workers entry.0 new i apart ∙ have i
-    ∙ ap (λ (ledger : Ledger). idle ledger (λ _. false)) (sym (opening_ledger-push_other start entries entry i apart)))
+    ∙ ap (λ (ledger : Ledger). idle ledger (λ _. false) (λ _. false)) (sym (opening_ledger-push_other start entries entry i apart)))
     (cases_eq entry.0 i) where
-      was : worker_in old ≡ idle (opening_ledger entries start entry.0) (λ _. false)
+      was : worker_in old ≡ idle (opening_ledger entries start entry.0) (λ _. false) (λ _. false)
       was = ap worker_in stood ∙ sym (worker_at-get_or workers entry.0 old below) ∙ have entry.0
 
-      here : worker_at (set workers entry.0 new) entry.0 ≡ idle (opening_ledger (entries ++ entry ∷ []) start entry.0) (λ _. false)
+      here : worker_at (set workers entry.0 new) entry.0 ≡ idle (opening_ledger (entries ++ entry ∷ []) start entry.0) (λ _. false) (λ _. false)
       here =
           worker_at-set_same workers entry.0 new below ∙ owns ∙ ap (λ (v : machine.Worker). owning v entry.1 (start_entry start entry.1)) was
-          ∙ ap (λ (ledger : Ledger). idle ledger (λ _. false)) (sym (opening_ledger-push_same start entries entry))
+          ∙ ap (λ (ledger : Ledger). idle ledger (λ _. false) (λ _. false)) (sym (opening_ledger-push_same start entries entry))
 
 -- the same for the next entry of a list
 pub HaveLedgers-more : {A : Type 0} (workers : List (Worker A)) (start owned : List (ℕ × ℕ)) (n : ℕ) (old new : Worker A) → n < length owned → HaveLedgers workers start (take n owned) →

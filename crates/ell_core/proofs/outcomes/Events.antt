@@ -1,5 +1,5 @@
-use Rattle.std.proofs.Common.{◌≡◌, ℕ, ◌<◌, ◌≤◌, refl, ap, ◌∙◌, inl, inr, arith}
-use Rattle.std.proofs.lemmas.Bool.{cases_lt}
+use Rattle.std.proofs.Common.{sym, ◌∙◌, None, ◌≡◌, ℕ, ◌<◌, ◌≤◌, refl, ap, inl, inr, arith, Bool, true, false}
+use Rattle.std.proofs.lemmas.Bool.{cases_lt, false≢true}
 use Rattle.ell_ops.specs.Meaning.{key_of}
 use Rattle.ell_core.specs.declared.event.Act.{Act}
 use Rattle.ell_core.specs.declared.event.Act.TheVariants as act
@@ -35,7 +35,14 @@ settles act.Answer s = settles_answer s
 
 -- a worker lacks the key of an act or does not
 pub decides_key : (a : Act) (v : Worker) → Decided (LacksKey a v)
-decides_key (act.Begin op) v = elim (cases_option (v.ledger (key_of op))) [ inl w ↦ inr (some_not_none w.1) | inr e ↦ inl e ]
+decides_key (act.Begin op) v = elim (cases_option (v.ledger (key_of op))) [
+  | inl w ↦ inr (λ lacks. some_not_none w.1 lacks.0)
+  | inr e ↦ by (v.shared (key_of op)) refl e
+]
+  where
+    by : (b : Bool) → v.shared (key_of op) ≡ b → v.ledger (key_of op) ≡ None → Decided (LacksKey (act.Begin op) v)
+    by true shared none = inr (λ lacks. false≢true (sym lacks.1 ∙ shared))
+    by false shared none = inl (none, shared)
 decides_key act.Upd v = inr (λ h. h)
 decides_key act.Down v = inr (λ h. h)
 decides_key act.Claim v = inr (λ h. h)

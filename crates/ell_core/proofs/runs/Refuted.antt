@@ -85,7 +85,7 @@ busy_finds_flag finds =
 
 -- a worker without a key that knows everything
 abbrev all_knowing : Worker
-all_knowing = idle (λ _. None) (λ _. true)
+all_knowing = idle (λ _. None) (λ _. false) (λ _. true)
 
 -- it knows of a flag of card 1, which is no insert's
 pub no_teaching : ¬ SplitsMayTeach

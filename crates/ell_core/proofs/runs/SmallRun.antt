@@ -29,10 +29,10 @@ owned = (0, 5) ∷ (0, 7) ∷ []
 
 -- the opening of two workers, with no start keys
 abbrev pub setup : Setup
-setup = record { count = 2; owned = owned; start = []; cards = 4 }
+setup = record { count = 2; owned = owned; start = []; cards = 4; shared = λ _. false }
 
 abbrev pub opened : Machine
-opened = record { words = opening_words; count = 2; last_card = 4; worker = λ i. idle (opening_ledger owned [] i) (λ _. false) }
+opened = record { words = opening_words; count = 2; last_card = 4; worker = λ i. idle (opening_ledger owned [] i) (λ _. false) (λ _. false) }
 
 -- worker 0 takes an insert of 5 in hand
 abbrev pub begun_scene : Scene
@@ -131,7 +131,7 @@ two : 0 < 2
 two = omega arith
 
 pub begins : Steps opened (by (act.Begin (Insert 5 50))) Moved begun_state
-begins = step opened (act.Begin (Insert 5 50)) Moved begun_scene two (λ e. let f : Some Absent ≡ None = e in cc)
+begins = step opened (act.Begin (Insert 5 50)) Moved begun_scene two (λ e. let f : Some Absent ≡ None = e.0 in cc)
     (record { free = refl; says = refl; gives = refl }) (λ h. h)
 
 pub reads : Steps begun_state (by act.Upd) Moved read_state

@@ -35,9 +35,9 @@ pub record Guard (a : Act) (s : Scene) : Type 0 where
   pub after : Scene
   pub row : Row a s said after
 
--- a begin of a key that the worker does not own
+-- a begin of a key that the worker does not own, and that is not shared
 abbrev pub LacksKey : Act → Worker → Type 0
-LacksKey (act.Begin op) v = v.ledger (key_of op) ≡ None
+LacksKey (act.Begin op) v = (v.ledger (key_of op) ≡ None) × (v.shared (key_of op) ≡ false)
 LacksKey _ v = ⊥
 
 -- a claim, though all cards are claimed
@@ -45,7 +45,7 @@ abbrev pub LacksCard : Act → ℕ → ℕ → Type 0
 LacksCard act.Claim next cards = cards < next
 LacksCard _ next cards = ⊥
 
--- an act is answered: the key is owned, the guard holds, and there is a card if one is claimed
+-- an act is answered: the key may be changed, the guard holds, and there is a card if one is claimed
 pub record Happens (cards : ℕ) (a : Act) (s : Scene) (said : Stepped) (after : Scene) : Type 0 where
   pub owned : ¬ LacksKey a s.worker
   pub row : Row a s said after

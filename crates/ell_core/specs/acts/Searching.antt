@@ -15,6 +15,7 @@ use Rattle.ell_core.specs.state.Words.{Words, put}
 use Rattle.ell_core.specs.state.Facts.{Knowledge, learned_any, told_by}
 use Rattle.ell_core.specs.state.Machine.{Ledger, Worker, Scene, no_search}
 use Rattle.ell_core.specs.state.Cards.{child_for, insert_filling, delete_filling, claimed}
+use Rattle.ell_core.specs.declared.view.Entry.{Entry}
 use Rattle.ell_core.specs.declared.view.Entry.TheVariants.{Present, Absent}
 use Rattle.ell_ops.specs.declared.reply.Reply.{Reply}
 use Rattle.ell_ops.specs.declared.reply.Reply.TheVariants.{Yes, No}
@@ -174,10 +175,15 @@ pub record AnswersByCard (s : Scene) (op : Op) (reply : Reply) : Type 0 where
 abbrev pub HasAnswer : Scene → Op → Reply → Type 0
 HasAnswer s op reply = AnswersAtLeaf s op reply ⊎ (AnswersByCard s op reply × ((r : Reply) → ¬ AnswersAtLeaf s op r))
 
--- the ledger after an answer: an insert that answers yes makes its key present with its value, a delete absent
+-- a ledger that has an entry of a key has this one now; one that has none stays
+abbrev pub settled : Ledger → ℕ → Entry → Option Entry → Ledger
+settled ledger key entry None = ledger
+settled ledger key entry (Some old) = put ledger key (Some entry)
+
+-- the ledger after an answer: an insert that answers yes makes its key present with its value, a delete absent, if the ledger has the key
 abbrev pub ledger_after : Op → Reply → Ledger → Ledger
-ledger_after (Insert key value) Yes ledger = put ledger key (Some (Present value))
-ledger_after (Delete key) Yes ledger = put ledger key (Some Absent)
+ledger_after (Insert key value) Yes ledger = settled ledger key (Present value) (ledger key)
+ledger_after (Delete key) Yes ledger = settled ledger key Absent (ledger key)
 ledger_after _ _ ledger = ledger
 
 -- answer: an operation is in hand and has an answer; it is said, the ledger goes by it, and nothing is in hand any more

@@ -14,7 +14,7 @@ use Rattle.ell_core.specs.state.Cards.{iflag, dflag, marked, clean, is_right, ch
 use Rattle.ell_core.specs.acts.Searching.{IsLeaf, IsClean}
 use Rattle.ell_core.specs.state.Moves.{WorkerIsIdle}
 use Rattle.ell_core.specs.tree.Tree.{infinity1, infinity2}
-use Rattle.ell_core.specs.soundness.Sound.{WorkerOwns, IsOwned, IsInHand, StrangersAreNobody}
+use Rattle.ell_core.specs.soundness.Sound.{WorkerOwns, MayChange, IsNotShared, IsOwned, IsInHand, StrangersAreNobody}
 use Rattle.ell_core.specs.tree.Ranges.{IsSpanned, IsCutOut, Meets, IsOrdered, OnCourse}
 use Rattle.ell_core.specs.history.Stages.{Stages, Opening, is_claimed, is_start, is_insert, is_delete, is_born, insert_won, insert_open, insert_waits, is_changed, insert_over, delete_won, delete_open, delete_waits, is_markable, is_unmarkable, is_marked, is_cut, delete_past, allows, Born, effective_at}
 use Rattle.ell_core.specs.declared.view.Entry.TheVariants.{Present, Absent}
@@ -86,8 +86,8 @@ pub record IsCopy (w : Words) (c leaf : ℕ) : Type 0 where
   pub key : w.key leaf ≡ w.key (w.l c)
   pub value : w.value leaf ≡ w.value (w.l c)
 
--- an insert's card: where it goes, with no grandparent and no update word that was read; two leaves, a copy of the old one and one of its own key, which lie on one side of the
--- parent; and the child that it is to replace was not replaced by a lesser node
+-- an insert's card: where it goes, with no grandparent and no update word that was read; two leaves, a copy of the old one and one of its own key,
+-- which lie on one side of the parent; and the child that it is to replace was not replaced by a lesser node
 pub record InsertCard (w : Words) (stage : Stages) (c : ℕ) : Type 0 where
   pub gp : w.gp c ≡ 0
   pub was : w.was c ≡ 0
@@ -217,7 +217,7 @@ pub record SeenIsSound (w : Words) (stage : Stages) (k : ℕ) (seen : Seen) (x :
 pub record StandIsSound (w : Words) (stage : Stages) (v : Worker) (k x : ℕ) : Type 0 where
   pub born : Born stage x
   pub read : (word : ℕ) → v.search.read ≡ Some word → word ≤ w.update x
-  pub leads : (value : ℕ) → LeadsToValue w k value x ↔ (v.ledger k ≡ Some (Present value))
+  pub leads : WorkerOwns v k → (value : ℕ) → LeadsToValue w k value x ↔ (v.ledger k ≡ Some (Present value))
   pub course : IsOnCourse w k x
   pub parent : (seen : Seen) → v.search.parent ≡ Some seen → SeenIsSound w stage k seen x × IsOnCourse w k seen.node
   pub grandparent : (seen above : Seen) → v.search.parent ≡ Some seen → v.search.grandparent ≡ Some above
@@ -259,31 +259,34 @@ Unflagged w stage v (Find k) c = ⊥
 Unflagged w stage v (Insert k value) c = InsertInHand w stage v k value c
 Unflagged w stage v (Delete k) c = DeleteInHand w stage v k c
 
--- a card in hand that is flagged is of the operation's kind, key and value; the key was absent for an insert, present for a delete
+-- a card in hand that is flagged is of the operation's kind, key and value; an own key was absent for an insert, present for a delete
 abbrev pub Flagged : Words → Stages → Worker → Op → ℕ → Type 0
 Flagged w stage v (Find k) c = ⊥
 Flagged w stage v (Insert k value) c =
-    (insert_won (stage c) ≡ true) × (insert_key w c ≡ k) × (insert_value w c ≡ value) × (v.ledger k ≡ Some Absent)
-Flagged w stage v (Delete k) c = (delete_won (stage c) ≡ true) × (delete_key w c ≡ k) × ((value : ℕ) × (v.ledger k ≡ Some (Present value)))
+    (insert_won (stage c) ≡ true) × (insert_key w c ≡ k) × (insert_value w c ≡ value) × (WorkerOwns v k → v.ledger k ≡ Some Absent)
+Flagged w stage v (Delete k) c = (delete_won (stage c) ≡ true) × (delete_key w c ≡ k) × (WorkerOwns v k → (value : ℕ) × (v.ledger k ≡ Some (Present value)))
 
 -- a worker
 pub record WorkerIsSound (w : Words) (stage : Stages) (v : Worker) : Type 0 where
   pub facts : (fact : Fact) → v.knows fact ≡ true → allows fact (stage (card_of_fact fact)) ≡ true
-  pub real : (k : ℕ) → WorkerOwns v k → k ≤ greatest_key
+  pub real : (k : ℕ) → MayChange v k → k ≤ greatest_key
   pub free : v.operation ≡ None → WorkerIsIdle v
-  pub owned : (op : Op) → v.operation ≡ Some op → WorkerOwns v (key_of op)
+  pub owned : (op : Op) → v.operation ≡ Some op → MayChange v (key_of op)
   pub stands : (op : Op) (x : ℕ) → v.operation ≡ Some op → v.search.node ≡ Some x → StandIsSound w stage v (key_of op) x
   pub unflagged : (op : Op) (c : ℕ) → v.operation ≡ Some op → v.card ≡ Some c → v.flagged ≡ false → Unflagged w stage v op c
   pub flagged : (op : Op) (c : ℕ) → v.operation ≡ Some op → v.card ≡ Some c → v.flagged ≡ true
       → Flagged w stage v op c × (v.search.node ≡ None)
 
--- the workers: each key has one owner at most; the keys of the tree among a worker's, with their values, are those present in its
--- effective ledger, and each key of the tree has an owner; a card whose flag stands is in hand; and past the last worker there is nobody
+-- the workers: each key has one owner at most, and none if it is shared; the keys of the tree among a worker's, with their values, are those present
+-- in its effective ledger, and each other key of the tree has an owner; a card is in one hand at most, and one whose flag stands is in hand; and past
+-- the last worker there is nobody
 pub record WorkersAreSound (m : Machine) (stage : Stages) : Type 0 where
   pub each : (i : ℕ) → WorkerIsSound m.words stage (m.worker i)
   pub one_owner : (i j k : ℕ) → WorkerOwns (m.worker i) k → WorkerOwns (m.worker j) k → i ≡ j
   pub present : (i k value : ℕ) → WorkerOwns (m.worker i) k → LeadsToValue m.words k value 0 ↔ (effective_at stage (m.worker i) k ≡ Some (Present value))
-  pub owned : (k : ℕ) → k ≤ greatest_key → LeadsTo m.words k 0 → IsOwned m k
+  pub apart : (i j k : ℕ) → (m.worker i).shared k ≡ true → ¬ WorkerOwns (m.worker j) k
+  pub owned : (k : ℕ) → k ≤ greatest_key → LeadsTo m.words k 0 → IsNotShared m k → IsOwned m k
+  pub one_hand : (i j c : ℕ) → (m.worker i).card ≡ Some c → (m.worker j).card ≡ Some c → i ≡ j
   pub insert_in_hand : (c : ℕ) → insert_open (stage c) ≡ true → IsInHand m c
   pub delete_in_hand : (c : ℕ) → delete_open (stage c) ≡ true → IsInHand m c
   pub strangers : StrangersAreNobody m

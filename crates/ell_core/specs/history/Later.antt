@@ -41,8 +41,8 @@ pub record WordsLater (old new : Words) : Type 0 where
   pub value : (x : ℕ) → card x < old.next → new.value x ≡ old.value x
   pub frozen : (x c : ℕ) → old.update x ≡ marked c → SameNode old new x
 
--- the stages of a later state: the cards of the opening tree are the same, no card changed its kind, no node that came into the tree went back, and what might be known of
--- a card still may
+-- the stages of a later state: the cards of the opening tree are the same, no card changed its kind, no node that came into the tree went back, and
+-- what might be known of a card still may
 pub record StagesLater (old new : Stages) : Type 0 where
   pub start : (c : ℕ) → is_start (new c) ≡ is_start (old c)
   pub insert : (c : ℕ) → is_insert (old c) ≡ true → is_insert (new c) ≡ true

@@ -1,4 +1,4 @@
-use Rattle.std.specs.Prelude.{◌≡◌, ◌≢◌, ℕ, ◌≤◌, true, false, Some, None}
+use Rattle.std.specs.Prelude.{◌≡◌, ℕ, ◌≤◌, true, false, Some}
 use Rattle.ell_ops.specs.declared.op.Op.{Op}
 use Rattle.ell_ops.specs.Meaning.{key_of}
 use Rattle.ell_word.specs.Node.{IsInternal, card}
@@ -9,6 +9,7 @@ use Rattle.ell_core.specs.state.Words.{Words}
 use Rattle.ell_core.specs.state.Facts.{card_of_fact}
 use Rattle.ell_core.specs.state.Machine.{Worker, Scene}
 use Rattle.ell_core.specs.state.Cards.{sibling}
+use Rattle.ell_core.specs.soundness.Sound.{MayChange}
 
 -- a node of a table with so many cards
 abbrev pub IsNode : ℕ → ℕ → Type 0
@@ -24,7 +25,7 @@ pub record WordsFit (cards : ℕ) (w : Words) : Type 0 where
   pub p : (c : ℕ) → IsInner cards (w.p c)
 
 -- a worker stands at a node of the table, with a card of it in hand and facts of its cards; what its search has behind it, while
--- that card is not flagged, are internal nodes of the table; and it owns its operation's key
+-- that card is not flagged, are internal nodes of the table; and it may change its operation's key
 pub record WorkerFits (cards : ℕ) (v : Worker) : Type 0 where
   pub node : (x : ℕ) → v.search.node ≡ Some x → IsNode cards x
   pub card : (c : ℕ) → v.card ≡ Some c → c ≤ cards
@@ -32,7 +33,7 @@ pub record WorkerFits (cards : ℕ) (v : Worker) : Type 0 where
   pub grandparent : (c : ℕ) (seen : Seen) → v.card ≡ Some c → v.flagged ≡ false → v.search.grandparent ≡ Some seen
       → IsInner cards seen.node
   pub facts : (fact : Fact) → v.knows fact ≡ true → card_of_fact fact ≤ cards
-  pub owned : (op : Op) → v.operation ≡ Some op → v.ledger (key_of op) ≢ None
+  pub owned : (op : Op) → v.operation ≡ Some op → MayChange v (key_of op)
 
 -- the sibling of the leaf of a delete that the worker knows marked is a node of the table
 abbrev pub SiblingsFit : ℕ → Scene → Type 0

@@ -33,6 +33,7 @@ pub record SameSize {A : Type 0} (old new : Memory A) : Type 0 where
 abbrev pub view_of : {A : Type 0} → Worker A → WorkerView
 view_of v = record {
   ledger = v.ledger.entries;
+  ownable = None;
   operation = v.operation;
   search = v.search;
   card = v.card;

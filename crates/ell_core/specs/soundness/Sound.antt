@@ -1,4 +1,4 @@
-use Rattle.std.specs.Prelude.{◌≡◌, ◌≢◌, ℕ, ◌<◌, ◌≤◌, ◌↔◌, true, Some, None}
+use Rattle.std.specs.Prelude.{◌≡◌, ◌≢◌, ℕ, ◌<◌, ◌≤◌, ◌↔◌, ◌⊎◌, true, false, Some, None}
 use Rattle.ell_ops.specs.declared.op.Op.{Op}
 use Rattle.ell_ops.specs.Meaning.{key_of}
 use Rattle.ell_word.specs.Node.{IsInternal, card}
@@ -16,23 +16,32 @@ use Rattle.ell_core.specs.declared.view.Entry.TheVariants.{Present}
 abbrev pub WorkerOwns : Worker → ℕ → Type 0
 WorkerOwns v key = v.ledger key ≢ None
 
+-- a worker may change a key: it owns it, or the key is shared
+abbrev pub MayChange : Worker → ℕ → Type 0
+MayChange v key = WorkerOwns v key ⊎ (v.shared key ≡ true)
+
+-- a key is not shared
+abbrev pub IsNotShared : Machine → ℕ → Type 0
+IsNotShared m key = (i : ℕ) → (m.worker i).shared key ≡ false
+
 -- some worker owns a key
 pub record IsOwned (m : Machine) (key : ℕ) : Type 0 where
   pub worker : ℕ
   pub owns : WorkerOwns (m.worker worker) key
 
--- no key has two owners, each key of the tree has one, and the keys of the tree among a worker's keys, with their values, are those
--- present in its effective ledger
+-- no key has two owners, no shared key has any, each other key of the tree has one, and the keys of the tree among a worker's keys, with their
+-- values, are those present in its effective ledger
 pub record LedgersAreSound (m : Machine) : Type 0 where
   pub one_owner : (i j key : ℕ) → WorkerOwns (m.worker i) key → WorkerOwns (m.worker j) key → i ≡ j
-  pub owned : (key : ℕ) → IsTreeKey m.words key → IsOwned m key
+  pub apart : (i j key : ℕ) → (m.worker i).shared key ≡ true → ¬ WorkerOwns (m.worker j) key
+  pub owned : (key : ℕ) → IsTreeKey m.words key → IsNotShared m key → IsOwned m key
   pub present : (i key value : ℕ) → WorkerOwns (m.worker i) key
       → IsTreePair m.words key value ↔ (effective m.words (m.worker i) key ≡ Some (Present value))
 
--- where a worker stands, the walk for its key finds the key with a value exactly when its ledger has it present with that value, and
+-- where a worker stands, the walk for a key of its own finds the key with a value exactly when its ledger has it present with that value, and
 -- what is reached of that walk lies on the walk from the root
 pub record WalkIsSound (w : Words) (v : Worker) (key x : ℕ) : Type 0 where
-  pub finds : (value : ℕ) → Finds w key value x ↔ (v.ledger key ≡ Some (Present value))
+  pub finds : WorkerOwns v key → (value : ℕ) → Finds w key value x ↔ (v.ledger key ≡ Some (Present value))
   pub joins : (y : ℕ) → OnWalk w key x y → Reached w y → OnWalk w key 0 y
 
 abbrev pub WalksAreSound : Machine → Type 0

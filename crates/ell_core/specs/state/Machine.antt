@@ -1,4 +1,4 @@
-use Rattle.std.specs.Prelude.{ℕ, ◌==◌, Bool, false, Option, Some, None, List}
+use Rattle.std.specs.Prelude.{ℕ, ◌==◌, Bool, false, Option, Some, None, List, nat_le, ◌&&◌, not}
 use Rattle.std.specs.Map.{lookup}
 use Rattle.ell_ops.specs.declared.op.Op.{Op}
 use Rattle.ell_core.specs.declared.view.Search.{Search}
@@ -7,6 +7,8 @@ use Rattle.ell_core.specs.state.Words.{Words, put}
 use Rattle.ell_core.specs.state.Facts.{Knowledge, known_of}
 use Rattle.ell_core.specs.declared.view.Entry.{Entry}
 use Rattle.ell_core.specs.declared.view.Entry.TheVariants.{Present, Absent}
+use Rattle.ell_ops.specs.KeySet.{set_of}
+use Rattle.ell_ops.specs.Meaning.{greatest_key}
 
 -- which keys a worker owns: none says not owned, and else whether it is absent, or present with which value
 abbrev pub Ledger : Type 0
@@ -17,9 +19,10 @@ abbrev pub entry_of : Option ℕ → Entry
 entry_of (Some value) = Present value
 entry_of None = Absent
 
--- a worker: its ledger, the operation in hand, its search, the card in hand and whether that won its flag, its knowledge
+-- a worker: its ledger, the shared keys, the operation in hand, its search, the card in hand and whether that won its flag, its knowledge
 pub record Worker : Type 0 where
   pub ledger : Ledger
+  pub shared : ℕ → Bool
   pub operation : Option Op
   pub search : Search
   pub card : Option ℕ
@@ -50,21 +53,27 @@ abbrev pub no_search : Search
 no_search = record { node = None; read = None; parent = None; grandparent = None }
 
 -- a worker that has nothing in hand
-abbrev pub idle : Ledger → Knowledge → Worker
-idle ledger known = record { ledger = ledger; operation = None; search = no_search; card = None; flagged = false; knows = known }
+abbrev pub idle : Ledger → (ℕ → Bool) → Knowledge → Worker
+idle ledger shared known = record { ledger = ledger; shared = shared; operation = None; search = no_search; card = None; flagged = false; knows = known }
 
 -- the worker at a number where there is none: no key, nothing in hand, no knowledge
 abbrev pub nobody : Worker
-nobody = idle (λ _. None) (λ _. false)
+nobody = idle (λ _. None) (λ _. false) (λ _. false)
 
 -- the ledger that a list of keys is
 abbrev pub ledger_of : List (ℕ × Entry) → Ledger
 ledger_of entries = λ key. lookup (λ k. key == k) entries
 
+-- the shared keys: where these keys may have an owner, each other real one
+abbrev pub shared_of : Option (List ℕ) → ℕ → Bool
+shared_of None key = false
+shared_of (Some keys) key = nat_le key greatest_key && not (set_of keys key)
+
 -- the worker that a view is
 abbrev pub worker_of : WorkerView → Worker
 worker_of v = record {
   ledger = ledger_of v.ledger;
+  shared = shared_of v.ownable;
   operation = v.operation;
   search = v.search;
   card = v.card;

@@ -95,16 +95,21 @@ abbrev pub opening_ledger : List (ℕ × ℕ) → List (ℕ × ℕ) → ℕ → 
 opening_ledger owned start i = λ key. if list_any (gives i key) owned then Some (start_entry start key) else None
 
 -- what a state opens with: so many workers, the keys that they own, by entries of a worker and a key, the start keys with their
--- values, and so many cards beside those of the start keys' tree
+-- values, so many cards beside those of the start keys' tree, and the shared keys
 pub record Setup : Type 0 where
   pub count : ℕ
   pub owned : List (ℕ × ℕ)
   pub start : List (ℕ × ℕ)
   pub cards : ℕ
+  pub shared : ℕ → Bool
 
 -- the last card, where so many cards follow those of the start keys' tree
 abbrev pub last_card : List (ℕ × ℕ) → ℕ → ℕ
 last_card start cards = cards + length start
+
+-- the shared keys, as worker i of so many has them
+abbrev pub shares : ℕ → (ℕ → Bool) → ℕ → ℕ → Bool
+shares count shared i = λ key. shared key && nat_lt i count
 
 -- the opening state
 unfoldable pub opening : Setup → Machine
@@ -112,7 +117,7 @@ opening setup = record {
   words = start_words setup.start;
   count = setup.count;
   last_card = last_card setup.start setup.cards;
-  worker = λ i. idle (opening_ledger setup.owned setup.start i) (λ _. false);
+  worker = λ i. idle (opening_ledger setup.owned setup.start i) (shares setup.count setup.shared i) (λ _. false);
 }
 
 -- whether a key is given to some worker
@@ -173,10 +178,10 @@ abbrev pub keys_at_start : List ℕ → List (ℕ × ℕ) → List (ℕ × Entry
 keys_at_start keys start = map (λ k. (k, start_entry start k)) keys
 
 -- the state at the start of one worker that owns these keys, of which the start keys are present, with so many cards to claim
-abbrev pub opening_of_one : List ℕ → List (ℕ × ℕ) → ℕ → Machine
-opening_of_one keys start cards = record {
+abbrev pub opening_of_one : List ℕ → List (ℕ × ℕ) → ℕ → (ℕ → Bool) → Machine
+opening_of_one keys start cards shared = record {
   words = start_words start;
-  worker = first_alone (idle (ledger_of (keys_at_start keys start)) (λ _. false));
+  worker = first_alone (idle (ledger_of (keys_at_start keys start)) shared (λ _. false));
   count = 1;
   last_card = last_card start cards;
 }

@@ -1,14 +1,15 @@
 use Rattle.std.specs.Prelude.{◌≡◌, ◌≢◌, ℕ, ◌⊎◌, ◌↔◌, true, Option, Some, None}
 use Rattle.ell_ops.specs.declared.op.Op.{Op}
 use Rattle.ell_ops.specs.Contents.{Contents}
-use Rattle.ell_ops.specs.Meaning.{reply_of, after}
+use Rattle.ell_ops.specs.Meaning.{key_of, reply_of, after}
 use Rattle.ell_core.specs.declared.event.Act.{Act}
 use Rattle.ell_core.specs.declared.event.Act.TheVariants as act
 use Rattle.ell_core.specs.declared.event.Stepped.{Stepped}
 use Rattle.ell_core.specs.declared.event.Stepped.TheVariants.{Won, Answered}
 use Rattle.ell_core.specs.declared.fact.Fact.{Fact}
 use Rattle.ell_core.specs.state.Words.{Words}
-use Rattle.ell_core.specs.state.Machine.{Ledger, Machine}
+use Rattle.ell_core.specs.state.Machine.{Ledger, Worker, Machine}
+use Rattle.ell_core.specs.soundness.Sound.{MayChange, WorkerOwns}
 use Rattle.ell_core.specs.state.Cards.{card_key, card_value}
 use Rattle.ell_core.specs.tree.Tree.{IsTreeKey, IsTreePair}
 use Rattle.ell_core.specs.soundness.Holds.{Holds}
@@ -46,19 +47,22 @@ value_in _ = None
 abbrev pub contents_in : Ledger → Contents
 contents_in ledger = λ key. value_in (ledger key)
 
--- an answer is the map's answer to the operation in hand, and the ledger becomes the map after it, of the same keys
-pub record AnswersAsMap (old new : Ledger) (operation : Option Op) (reply : Reply) : Type 0 where
+-- a worker answers the operation that it has in hand, whose key it owns, or is shared: of an own key as a map, and its ledger becomes the map
+-- after it; of a shared key the ledger stays
+pub record AnswersAsMap (v : Worker) (new : Ledger) (reply : Reply) : Type 0 where
   pub op : Op
-  pub busy : operation ≡ Some op
-  pub says : reply ≡ reply_of op (contents_in old)
-  pub map : (key : ℕ) → contents_in new key ≡ after op (contents_in old) key
-  pub owned : (key : ℕ) → (new key ≡ None) ↔ (old key ≡ None)
+  pub busy : v.operation ≡ Some op
+  pub may : MayChange v (key_of op)
+  pub says : WorkerOwns v (key_of op) → reply ≡ reply_of op (contents_in v.ledger)
+  pub map : WorkerOwns v (key_of op) → (key : ℕ) → contents_in new key ≡ after op (contents_in v.ledger) key
+  pub stays : v.ledger (key_of op) ≡ None → new ≡ v.ledger
+  pub owned : (key : ℕ) → (new key ≡ None) ↔ (v.ledger key ≡ None)
 
 -- what an event does to the ledgers: an answer is the map's, on the ledger of its own worker; no other event changes any
 -- ledger, nor an answer another worker's
 abbrev pub LedgersChange : Machine → ℕ → Stepped → Machine → Type 0
 LedgersChange m i (Answered reply) m' =
-    AnswersAsMap (m.worker i).ledger (m'.worker i).ledger (m.worker i).operation reply
+    AnswersAsMap (m.worker i) (m'.worker i).ledger reply
     × ((j : ℕ) → j ≢ i → (m'.worker j).ledger ≡ (m.worker j).ledger)
 LedgersChange m i _ m' = (j : ℕ) → (m'.worker j).ledger ≡ (m.worker j).ledger
 

@@ -1,4 +1,4 @@
-use Rattle.std.specs.Prelude.{◌≡◌, ◌≢◌, ℕ, ◌<◌, ◌≤◌, ◌||◌, if◌then◌else◌, Bool, Option, Some, None, List, [], ◌∷◌, true}
+use Rattle.std.specs.Prelude.{◌≡◌, ◌≢◌, ℕ, ◌<◌, ◌≤◌, ◌⊎◌, ◌||◌, if◌then◌else◌, Bool, Option, Some, None, List, [], ◌∷◌, true, false}
 use Rattle.std.specs.List.{All}
 use Rattle.std.specs.Map.{keys_of}
 use Rattle.std.specs.List.Sorted.{IsStrictlyIncreasing}
@@ -21,7 +21,7 @@ use Rattle.ell_core.specs.state.Opening.{opening_of_one}
 -- any two real keys can open, of workers that are there, be they two or one, with no start keys
 abbrev pub TwoKeysCanOpen : Type 0
 TwoKeysCanOpen = (count i j first second cards : ℕ) → i < count → j < count → first ≢ second → first ≤ greatest_key → second ≤ greatest_key
-    → CanOpen (record { count = count; owned = (i, first) ∷ (j, second) ∷ []; start = []; cards = cards })
+    → CanOpen (record { count = count; owned = (i, first) ∷ (j, second) ∷ []; start = []; cards = cards; shared = λ _. false })
 
 -- every opening is a state of a run
 abbrev pub OpeningsArePassed : Type 0
@@ -58,8 +58,8 @@ EveryTestParts = (whole : Ledger) (test : ℕ → Bool) → AreParted whole (pas
 pub record SplitsInto (m : Machine) (i : ℕ) (left right : Ledger) : Type 0 where
   pub after : Machine
   pub split : Split m i after
-  pub stays : after.worker i ≡ idle left (m.worker i).knows
-  pub comes : after.worker m.count ≡ idle right (m.worker i).knows
+  pub stays : after.worker i ≡ idle left (m.worker i).shared (m.worker i).knows
+  pub comes : after.worker m.count ≡ idle right (m.worker i).shared (m.worker i).knows
 
 -- each idle worker can be split, whichever way its ledger is parted
 abbrev pub EveryPartingIsASplit : Type 0
@@ -83,7 +83,7 @@ known_to_either first second = λ fact. first fact || second fact
 pub record JoinsInto (m : Machine) (i j : ℕ) (both : Ledger) : Type 0 where
   pub after : Machine
   pub join : Join m i j after
-  pub stays : after.worker i ≡ idle both (known_to_either (m.worker i).knows (m.worker j).knows)
+  pub stays : after.worker i ≡ idle both (λ key. (m.worker i).shared key || (m.worker j).shared key) (known_to_either (m.worker i).knows (m.worker j).knows)
   pub goes : after.worker j ≡ nobody
 
 -- each two idle workers can be joined, whichever ledger theirs together are
@@ -105,11 +105,13 @@ abbrev pub IdleWorkerOwnsAll : Type 0
 IdleWorkerOwnsAll = (m : Machine) (stage : Stages) → Invariant m stage → m.count ≡ 1 → WorkerIsIdle (m.worker 0) → OwnsAll m 0
 
 -- it is an opening, and has the invariant
-pub record OpensForOne (keys : List ℕ) (start : List (ℕ × ℕ)) (cards : ℕ) : Type 0 where
-  pub opens : IsOpening (opening_of_one keys start cards)
-  pub lawful : HasInvariant (opening_of_one keys start cards)
+pub record OpensForOne (keys : List ℕ) (start : List (ℕ × ℕ)) (cards : ℕ) (shared : ℕ → Bool) : Type 0 where
+  pub opens : IsOpening (opening_of_one keys start cards shared)
+  pub lawful : HasInvariant (opening_of_one keys start cards shared)
 
--- so it is with every ascending list of real keys, and every ascending list of start keys among them
+-- so it is with every ascending list of real keys, real keys that are shared, none among them, and every ascending list of start keys among
+-- these and those
 abbrev pub OneWorkerOpens : Type 0
-OneWorkerOpens = (keys : List ℕ) (start : List (ℕ × ℕ)) (cards : ℕ) → IsStrictlyIncreasing keys → All (λ k. k ≤ greatest_key) keys
-    → IsStrictlyIncreasing (keys_of start) → All (λ k. set_of keys k ≡ true) (keys_of start) → OpensForOne keys start cards
+OneWorkerOpens = (keys : List ℕ) (start : List (ℕ × ℕ)) (cards : ℕ) (shared : ℕ → Bool) → IsStrictlyIncreasing keys → All (λ k. k ≤ greatest_key) keys
+    → IsStrictlyIncreasing (keys_of start) → All (λ k. (set_of keys k ≡ true) ⊎ (shared k ≡ true)) (keys_of start)
+    → ((k : ℕ) → shared k ≡ true → (k ≤ greatest_key) × (set_of keys k ≡ false)) → OpensForOne keys start cards shared

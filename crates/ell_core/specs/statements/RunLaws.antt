@@ -1,4 +1,4 @@
-use Rattle.std.specs.Prelude.{◌≡◌, ℕ, ◌<◌, ◌≤◌, Bool, true, List, [], ◌∷◌, ◌++◌}
+use Rattle.std.specs.Prelude.{◌≡◌, ℕ, ◌<◌, ◌≤◌, ◌⊎◌, Bool, true, false, List, [], ◌∷◌, ◌++◌}
 use Rattle.std.specs.List.Sorted.{IsStrictlyIncreasing}
 use Rattle.std.specs.List.{All}
 use Rattle.std.specs.Map.{keys_of}
@@ -22,13 +22,18 @@ use Rattle.ell_core.specs.history.Later.{WordsLater, StagesLater, SameNode, Same
 use Rattle.ell_core.specs.acts.Wins.{wins_by, InOrder}
 use Rattle.ell_core.specs.statements.Effects.{PairsChange, SamePairs, LedgersChange, KnowledgeLasts, FactsLast}
 
+-- a key may be there at the start: some worker is given it, or it is shared by workers that are there
+abbrev pub MayBeThere : Setup → ℕ → Type 0
+MayBeThere setup k = (is_given setup.owned k ≡ true) ⊎ ((0 < setup.count) × (setup.shared k ≡ true))
+
 -- what an opening takes: each entry's worker is there, no key is owned twice, and each is a real one; the start keys ascend, and each
--- of them is owned
+-- of them is owned or shared; and the shared keys are real ones that nobody owns
 pub record CanOpen (setup : Setup) : Type 0 where
   pub faultless : Faultless setup.count setup.owned
   pub real : All (λ entry. entry.1 ≤ greatest_key) setup.owned
   pub ascending : IsStrictlyIncreasing (keys_of setup.start)
-  pub given : All (λ k. is_given setup.owned k ≡ true) (keys_of setup.start)
+  pub given : All (MayBeThere setup) (keys_of setup.start)
+  pub apart : (k : ℕ) → setup.shared k ≡ true → (k ≤ greatest_key) × (is_given setup.owned k ≡ false)
 
 -- a state of a run: some schedule leads to it from an opening state
 pub record IsPassed (m : Machine) : Type 0 where

@@ -1,4 +1,4 @@
-use Rattle.std.specs.Prelude.{◌≡◌, ◌≢◌, ℕ, ◌+◌, ◌<◌, ◌≤◌, ◌↔◌, Bool, true, false, Some, None}
+use Rattle.std.specs.Prelude.{◌≡◌, ◌≢◌, ℕ, ◌+◌, ◌<◌, ◌≤◌, ◌↔◌, Bool, true, false, Some, None, ◌⊎◌}
 use Rattle.ell_ops.specs.declared.op.Op.{Op}
 use Rattle.ell_ops.specs.Meaning.{key_of}
 use Rattle.ell_word.specs.Node.{IsInternal, card}
@@ -17,7 +17,7 @@ use Rattle.ell_core.specs.acts.Searching.{IsLeaf, IsClean, Down}
 use Rattle.ell_core.specs.acts.Events.{Steps}
 use Rattle.ell_core.specs.state.Moves.{WorkerIsIdle, Split, Join}
 use Rattle.ell_core.specs.tree.Tree.{Reached}
-use Rattle.ell_core.specs.soundness.Sound.{WorkerOwns, IsSound, flags_at}
+use Rattle.ell_core.specs.soundness.Sound.{WorkerOwns, MayChange, IsSound, flags_at}
 use Rattle.ell_core.specs.history.Stages.{Stages, Born}
 use Rattle.ell_core.specs.history.Invariant.{Invariant}
 use Rattle.ell_core.specs.history.Later.{Follows}
@@ -135,13 +135,13 @@ pub record Reliance (m : Machine) (stage : Stages) (i : ℕ) : Type 0 where
       → IsDeepening m.words stage (card_of_fact f)
   pub marked : (f : Fact) → (m.worker i).knows f ≡ true → is_of_marked f ≡ true
       → m.words.update (m.words.p (card_of_fact f)) ≡ marked (card_of_fact f)
-  pub leaf_key : (op : Op) (x : ℕ) → (m.worker i).operation ≡ Some op → (m.worker i).search.node ≡ Some x → IsLeaf x
+  pub leaf_key : (op : Op) (x : ℕ) → (m.worker i).operation ≡ Some op → WorkerOwns (m.worker i) (key_of op) → (m.worker i).search.node ≡ Some x → IsLeaf x
       → (value : ℕ) → ((m.words.key x ≡ key_of op) × (m.words.value x ≡ value)) ↔ ((m.worker i).ledger (key_of op) ≡ Some (Present value))
   pub claimed : (x : ℕ) → Born stage x → card x < m.words.next
   pub known : (f : Fact) → (m.worker i).knows f ≡ true → card_of_fact f < m.words.next
   pub hand : (c : ℕ) → (m.worker i).card ≡ Some c → c < m.words.next
   pub unflagged : (c : ℕ) → (m.worker i).card ≡ Some c → (m.worker i).flagged ≡ false → StandsBelow (m.worker i)
-  pub owned : (op : Op) → (m.worker i).operation ≡ Some op → WorkerOwns (m.worker i) (key_of op)
+  pub owned : (op : Op) → (m.worker i).operation ≡ Some op → MayChange (m.worker i) (key_of op)
   pub goes : (c : ℕ) → c < m.words.next → GoesInTree m.words stage c
   pub some : 0 < m.words.next
   pub room : m.words.next ≤ m.last_card + 1
@@ -150,9 +150,9 @@ pub record Reliance (m : Machine) (stage : Stages) (i : ℕ) : Type 0 where
 abbrev pub StepsMayRely : Type 0
 StepsMayRely = (m : Machine) (stage : Stages) (i : ℕ) → Invariant m stage → Reliance m stage i
 
--- a worker owns every key that any worker owns, and has nothing in hand
+-- a worker owns every key that any other may change, and has nothing in hand
 pub record OwnsAll (m : Machine) (i : ℕ) : Type 0 where
-  pub all : (j k : ℕ) → WorkerOwns (m.worker j) k → WorkerOwns (m.worker i) k
+  pub all : (j k : ℕ) → MayChange (m.worker j) k → (j ≡ i) ⊎ WorkerOwns (m.worker i) k
   pub free : WorkerIsIdle (m.worker i)
 
 -- where a worker owns every key and has nothing in hand, every reached update word is clean

@@ -139,7 +139,7 @@ fn run_text<R: Threads + AllocGlobal + Sync>(
     let mut reader = text;
     let mut writer = Vec::new(rt.alloc());
     heap.refuse(refusal);
-    let ran = run_bytes(rt, heap, &mut reader, &mut writer, settings);
+    let ran = run_bytes(rt, heap, &mut reader, &mut writer, settings, &NoGate);
     heap.stop();
     match ran {
         Ok(_report) => Ended::answered(writer.as_slice() == wants),

@@ -67,6 +67,14 @@ next_fault number d line = replay_fault_of number (count_in_draft d) (next_line 
 abbrev pub finished : DraftValue → Option ScriptValue
 finished d = script_from d.workers d.cards d.owned d.events
 
+-- the numbers of a script are in their ranges
+pub record ScriptFits (s : ScriptValue) : Type 0 where
+  pub workers : (1 ≤ s.workers) × (s.workers ≤ most_workers)
+  pub cards : (1 ≤ s.cards) × (s.cards ≤ most_cards)
+  pub keys : All (λ (entry : ℕ × ℕ). entry.1 ≤ greatest_key) s.owned
+  pub owners : All (λ (entry : ℕ × ℕ). entry.0 < most_workers) s.owned
+  pub event_workers : All (λ (event : Event). event.worker < most_workers) s.events
+
 -- the numbers of a draft are in their ranges
 pub record DraftFits (d : DraftValue) : Type 0 where
   pub within : length d.owned + length d.events ≤ most_lines

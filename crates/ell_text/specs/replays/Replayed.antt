@@ -1,4 +1,4 @@
-use Rattle.std.specs.Prelude.{◌≡◌, ◌≢◌, ℕ, ◌<◌, List, [], length, take, Option, IfSome, Ok, Err, ⊤}
+use Rattle.std.specs.Prelude.{false, ◌≡◌, ◌≢◌, ℕ, ◌<◌, List, [], length, take, Option, IfSome, Ok, Err, ⊤}
 use Rattle.std.specs.Io.KnownBytes.{Appends, Keeps}
 use Rattle.ell_core.specs.declared.event.CoreFault.{CoreFault}
 use Rattle.ell_core.specs.declared.event.CoreFault.TheVariants as core
@@ -15,7 +15,7 @@ use Rattle.ell_text.specs.replays.Trace.{trace}
 
 -- what a script opens with: it has no start keys
 abbrev pub setup_of : ScriptValue → Setup
-setup_of value = record { count = value.workers; owned = value.owned; start = []; cards = value.cards }
+setup_of value = record { count = value.workers; owned = value.owned; start = []; cards = value.cards; shared = λ _. false }
 
 -- a run of the script's events from its opening state shows this list and ends in a state whose tree has these keys
 pub record IsReplay (value : ScriptValue) (shown : List Shown) (keys : List ℕ) : Type 0 where

@@ -3,6 +3,7 @@ use Rattle.std.proofs.lemmas.List.{with_items_is}
 use Rattle.ell_core.specs.state.Layout.{table_size}
 use Rattle.ell_core.specs.state.Words.{words_of}
 use Rattle.ell_core.specs.state.Opening.{start_words}
+use Rattle.ell_cards.specs.Models.{TablePlan}
 use Rattle.ell_cards.proofs.runs.Reaching.{reached_first}
 use Rattle.ell_cards.proofs.lifetime.opened.Goals as goal
 
@@ -14,7 +15,7 @@ of_words-requires g c =
     c.write_opening.auto.words ∙ ap length c.as_mut_slice.ensures.value ∙ sym c.in_ok-words.words.ok.0 in
     let words_are : c.as_slice-2.result.now ≡ written = c.as_slice-2.ensures.value ∙ with_items_is c.in_ok-words.words written length_is in
     let size : length c.as_slice-2.result.now ≡ table_size plan.last_card =
-    ap length words_are ∙ (length_is ∙ (c.in_ok-words.ensures.len ∙ c.table_size.ensures)) in
-    let are : words_of c.as_slice-2.result.now ≡ start_words plan.start.items =
-    ap words_of words_are ∙ (c.write_opening.ensures ∙ ap start_words c.as_slice.ensures.value) in
-    reached_first plan.keys.items plan.start.items plan.last_card c.as_slice-2.result.now c.requires.may c.requires.room size are
+    ap length words_are ∙ (length_is ∙ (c.in_ok-words.ensures.len ∙ (c.table_size.ensures ∙ ap (λ (p : TablePlan). table_size p.last_card) c.plan.view_is))) in
+    let are : words_of c.as_slice-2.result.now ≡ start_words plan.start =
+    ap words_of words_are ∙ (c.write_opening.ensures ∙ (ap start_words c.as_slice.ensures.value ∙ ap (λ (p : TablePlan). start_words p.start) c.plan.view_is)) in
+    reached_first plan c.as_slice-2.result.now c.requires.may size are

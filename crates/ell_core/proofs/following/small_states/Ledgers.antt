@@ -62,9 +62,13 @@ fifty_there = record {
 not_owned : (i : ℕ) → (key_without_owner.worker i).ledger 5 ≡ None
 not_owned i = grind (arith, nat_tests)
 
+-- nor is it shared
+not_shared_there : (i : ℕ) → (key_without_owner.worker i).shared 5 ≡ false
+not_shared_there i = grind (arith, nat_tests)
+
 -- a key of the tree without an owner
 pub owned_broken : BreaksLedgers key_without_owner
-owned_broken = breaks_ledgers key_without_owner (λ sound. let it = sound.owned 5 five_there in it.owns (not_owned it.worker))
+owned_broken = breaks_ledgers key_without_owner (λ sound. let it = sound.owned 5 five_there (not_shared_there) in it.owns (not_owned it.worker))
 
 -- a key of the tree that is absent in its owner's ledger
 pub present_broken : BreaksLedgers key_missing_in_ledger
@@ -87,7 +91,7 @@ other_value_broken = breaks_ledgers key_with_other_value (λ sound.
 pub found_broken : BreaksSearches key_found_too_early
 found_broken = breaks_searches key_found_too_early (λ sound.
     let found : Finds key_found_too_early.words 5 50 4 = record { leaf = 4; on = here refl; outer = four_leaf; has = refl; says = refl } in
-    let there : Some Absent ≡ Some (Present 50) = ((sound 0 (Find 5) 4 refl refl).finds 50).0 found in cc)
+    let there : Some Absent ≡ Some (Present 50) = ((sound 0 (Find 5) 4 refl refl).finds (λ e. let f : Some Absent ≡ None = e in cc) 50).0 found in cc)
 
 -- the walk from leaf 1 stays there
 at_one : (x : ℕ) → OnWalk five 5 1 x → x ≡ 1
@@ -97,7 +101,7 @@ at_one x (next leaf rest) = absurd (zero_is_not_one (sym leaf))
 -- a leaf of another key, where key 5 is present
 pub missed_broken : BreaksSearches key_not_found
 missed_broken = breaks_searches key_not_found (λ sound.
-    let found = ((sound 0 (Find 5) 1 refl refl).finds 50).1 refl in
+    let found = ((sound 0 (Find 5) 1 refl refl).finds (λ e. let f : Some (Present 50) ≡ None = e in cc) 50).1 refl in
     let h : infinity1 ≡ 5 = sym (ap five.key (at_one found.leaf found.on)) ∙ found.has in omega arith)
 
 after_left : ¬ OnWalk opening_words 5 1 2

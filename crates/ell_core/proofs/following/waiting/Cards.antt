@@ -1,12 +1,10 @@
-use Rattle.std.proofs.Common.{◌≡◌, ℕ, ◌<◌, ◌≤◌, inl, inr, Bool, true, false, Some, [], refl, sym, ap, ◌∙◌, subst, arith}
-use Rattle.std.proofs.lemmas.Bool.{false≢true}
+use Rattle.std.proofs.Common.{◌≡◌, ℕ, ◌<◌, ◌≤◌, inl, inr, Bool, true, false, Some, [], refl, ap, arith}
 use Rattle.ell_word.specs.Node.{card}
 use Rattle.ell_ops.specs.declared.op.Op.{Op}
 use Rattle.ell_ops.specs.declared.op.Op.TheVariants.{Find, Insert, Delete}
 use Rattle.ell_core.specs.state.Words.{Words}
 use Rattle.ell_core.specs.state.Machine.{Worker, Machine}
-use Rattle.ell_core.specs.soundness.Sound.{WorkerOwns}
-use Rattle.ell_core.specs.history.Stages.{Stage, Stages, is_claimed, is_start, is_insert, is_delete, waits}
+use Rattle.ell_core.specs.history.Stages.{Stages, is_claimed, is_start, waits}
 use Rattle.ell_core.specs.history.Invariant.{Unflagged, Flagged, WorkerIsSound, Invariant}
 use Rattle.ell_core.specs.history.Later.{wins_of}
 use Rattle.ell_core.specs.statements.Waiting.{IsUnflagged, StagesTellWaiting, ClaimedCardsSay}
@@ -61,42 +59,10 @@ hand_claimed w stage v c sound holds = by v.flagged refl
     by true flagged = let op = busy w stage v c sound holds in won_claimed w stage v op.0 c (sound.flagged op.0 c op.1 holds flagged).0
     by false unflagged = waits-claimed (stage c) (hand_waits w stage v c sound holds unflagged)
 
--- no card is both an insert's and a delete's
-one_kind : (s : Stage) → is_insert s ≡ true → is_delete s ≡ true → ⊥
-one_kind s a b = grind arith
-
--- two workers that have one card in hand, which is not flagged, own one key
-own_one : (w : Words) (stage : Stages) (v u : Worker) (one two : Op) (c : ℕ) → Unflagged w stage v one c → Unflagged w stage u two c
-    → WorkerIsSound w stage v → WorkerIsSound w stage u → v.operation ≡ Some one → u.operation ≡ Some two → (k : ℕ) × WorkerOwns v k × WorkerOwns u k
-own_one w stage v u (Find k) two c h g left right a b = absurd h
-own_one w stage v u one (Find k) c h g left right a b = absurd g
-own_one w stage v u (Insert k value) (Insert n other) c h g left right a b =
-    (k, left.owned (Insert k value) a, subst (WorkerOwns u) (sym g.own ∙ h.own) (right.owned (Insert n other) b))
-own_one w stage v u (Delete k) (Delete n) c h g left right a b =
-    (k, left.owned (Delete k) a, subst (WorkerOwns u) (sym g.own ∙ h.own) (right.owned (Delete n) b))
-own_one w stage v u (Insert k value) (Delete n) c h g left right a b = absurd (one_kind (stage c) h.claimed.0 g.claimed.0)
-own_one w stage v u (Delete k) (Insert n value) c h g left right a b = absurd (one_kind (stage c) g.claimed.0 h.claimed.0)
-
 module _ (m : Machine) (stage : Stages) (invariant : Invariant m stage) where
   -- a card that is not flagged is in one hand
   pub one_hand : (i j c : ℕ) → IsUnflagged m i c → (m.worker j).card ≡ Some c → i ≡ j
-  one_hand i j c h holds = by (m.worker j).flagged refl
-    where
-      left : WorkerIsSound m.words stage (m.worker i)
-      left = invariant.workers.each i
-
-      right : WorkerIsSound m.words stage (m.worker j)
-      right = invariant.workers.each j
-
-      by : (b : Bool) → (m.worker j).flagged ≡ b → i ≡ j
-      by true flagged = absurd (false≢true (sym (flagged_made m.words stage (m.worker j) c right holds flagged)
-          ∙ hand_waits m.words stage (m.worker i) c left h.holds h.unflagged))
-      by false unflagged =
-          let op = busy m.words stage (m.worker i) c left h.holds in
-          let other = busy m.words stage (m.worker j) c right holds in
-          let own = own_one m.words stage (m.worker i) (m.worker j) op.0 other.0 c
-          (left.unflagged op.0 c op.1 h.holds h.unflagged) (right.unflagged other.0 c other.1 holds unflagged) left right op.1 other.1 in
-          invariant.workers.one_owner i j own.0 own.1 own.2
+  one_hand i j c h holds = invariant.workers.one_hand i j c h.holds holds
 
   -- a claimed card that is none of the opening tree's and has won nothing waits
   pub claimed_waits : (c : ℕ) → c < m.words.next → is_start (stage c) ≡ false → wins_of (stage c) ≡ [] → waits (stage c) ≡ true

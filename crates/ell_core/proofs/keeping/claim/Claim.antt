@@ -1,4 +1,4 @@
-use Rattle.std.proofs.Common.{◌≡◌, ℕ, ◌<◌, ◌≤◌, true, Some, None, List, inl, inr, refl, sym, ap, ◌∙◌, subst, arith, ◌⊎◌}
+use Rattle.std.proofs.Common.{◌≡◌, ℕ, ◌<◌, ◌≤◌, true, Some, None, List, inl, inr, refl, sym, ap, ◌∙◌, subst, arith, ◌⊎◌, ◌≢◌, Bool, false}
 use Rattle.std.proofs.lemmas.Bool.{false≢true}
 use Rattle.ell_ops.specs.declared.op.Op.{Op}
 use Rattle.ell_ops.specs.declared.op.Op.TheVariants.{Find, Insert, Delete}
@@ -11,21 +11,23 @@ use Rattle.ell_core.specs.state.Words.{Words, put}
 use Rattle.ell_core.specs.state.Machine.{Worker, Machine, Scene, scene, with_scene}
 use Rattle.ell_core.specs.state.Cards.{claimed, insert_filling, delete_filling}
 use Rattle.ell_core.specs.acts.Searching.{claims, ClaimInsert, ClaimDelete}
-use Rattle.ell_core.specs.history.Stages.{Stage, Stages, Unclaimed, IClaimed, DClaimed, insert_open, delete_open, made_by_stage, is_insert, is_delete}
-use Rattle.ell_core.specs.history.Invariant.{CardIsSound, Unflagged, WorkerIsSound, Invariant}
+use Rattle.ell_core.specs.history.Stages.{Stage, Stages, Unclaimed, IClaimed, DClaimed, insert_open, delete_open, made_by_stage, is_insert, is_delete, is_claimed}
+use Rattle.ell_core.specs.history.Invariant.{CardIsSound, Unflagged, WorkerIsSound, Invariant, Flagged}
 use Rattle.ell_core.specs.history.Later.{Follows, KeepsInvariant}
 use Rattle.ell_core.proofs.words.Writes.{put_same, put_cases}
 use Rattle.ell_core.proofs.keeping.OneWorker.{Becomes, workers_become}
 use Rattle.ell_core.proofs.keeping.claim.Filling.{claimed_claims, others_say}
 use Rattle.ell_core.proofs.keeping.claim.Frames.{IsJustClaimed, just_claimed, Claiming, unclaimed, before, leads_kept, leads_before, claim_stages, claim_wins, claim_words}
 use Rattle.ell_core.proofs.keeping.claim.Words.{words_kept}
-use Rattle.ell_core.proofs.keeping.going_on.InHand.{same_place, stands_same}
+use Rattle.ell_core.proofs.keeping.going_on.InHand.{same_place, stands_same, unflagged_claimed}
 use Rattle.ell_core.proofs.keeping.claim.Workers.{worker_kept}
 use Rattle.ell_core.proofs.keeping.claim.InsertCard.{InsertSeen, insert_claimed, insert_in_hand}
 use Rattle.ell_core.proofs.keeping.claim.DeleteCard.{DeleteSeen, delete_claimed, delete_in_hand}
 use Rattle.ell_core.proofs.stages.Kinds.{HasKind, kinds_later}
 use Rattle.ell_core.proofs.stages.LaterKeys.{root_born}
 use Rattle.ell_core.proofs.stages.Counts.{counts_unmade, counts_same}
+use Rattle.ell_core.proofs.stages.Order.{insert-claimed, delete-claimed, insert_won-insert, delete_won-delete}
+use Rattle.ell_core.proofs.outcomes.Decide.{cases_option, some_not_none}
 
 -- nothing was made of a key by a card that was not claimed, or just was
 made_of_none : (o : Op) → (made_by_stage o Unclaimed ≡ None) × (made_by_stage o IClaimed ≡ None) × (made_by_stage o DClaimed ≡ None)
@@ -45,6 +47,23 @@ pub record ClaimsCard (m : Machine) (stage : Stages) (i : ℕ) (filling : List (
   pub own : CardIsSound (claimed m.words filling) (put stage m.words.next new) m.words.next
   pub hand : Unflagged (claimed m.words filling) (put stage m.words.next new)
       (claims (scene m i) filling).worker op m.words.next
+
+-- a card whose flag was won was claimed
+flagged_claimed : (w : Words) (stage : Stages) (v : Worker) (op : Op) (c : ℕ) → Flagged w stage v op c → is_claimed (stage c) ≡ true
+flagged_claimed w stage v (Find k) c h = absurd h
+flagged_claimed w stage v (Insert k value) c h = insert-claimed (stage c) (insert_won-insert (stage c) h.0)
+flagged_claimed w stage v (Delete k) c h = delete-claimed (stage c) (delete_won-delete (stage c) h.0)
+
+-- a card in a worker's hand was claimed
+in_hand_claimed : (w : Words) (stage : Stages) (v : Worker) (c : ℕ) → WorkerIsSound w stage v → v.card ≡ Some c → is_claimed (stage c) ≡ true
+in_hand_claimed w stage v c sound holds = elim (cases_option v.operation) [
+  | inl op ↦ by op.0 op.1 v.flagged refl
+  | inr none ↦ absurd (some_not_none holds (ap (λ (u : Worker). u.card) (sound.free none)))
+]
+  where
+    by : (op : Op) → v.operation ≡ Some op → (b : Bool) → v.flagged ≡ b → is_claimed (stage c) ≡ true
+    by op busy true flagged = flagged_claimed w stage v op c (sound.flagged op c busy holds flagged).0
+    by op busy false unflagged = unflagged_claimed w stage v op c (sound.unflagged op c busy holds unflagged)
 
 module _ (m : Machine) (stage : Stages) (i : ℕ) (filling : List (Field × ℕ)) (new : Stage) (op : Op)
     (h : ClaimsCard m stage i filling new op) where
@@ -97,6 +116,8 @@ module _ (m : Machine) (stage : Stages) (i : ℕ) (filling : List (Field × ℕ)
     own = claimer_sound;
     others = λ j n. worker_kept m.words after stage new claiming (m.worker j) (h.sound.workers.each j);
     owns = λ k. (λ o. o, λ o. o);
+    shares = refl;
+    hands = λ c holds. inr (λ j had. fresh_card c holds j had);
     counts = λ k o. ap (λ f. f k) (counts_unmade stages claimer (λ o c b e f. absurd (false≢true f))
         ∙ sym (counts_unmade stage (m.worker i) (λ o c b e f. absurd (none c e))));
     counts_others = λ j k n o. counts_same stage stages (m.worker j) k (λ op c busy holds f. inl (made_same op c));
@@ -110,6 +131,12 @@ module _ (m : Machine) (stage : Stages) (i : ℕ) (filling : List (Field × ℕ)
     );
   }
     where
+      fresh_card : (c : ℕ) → claimer.card ≡ Some c → (j : ℕ) → (m.worker j).card ≢ Some c
+      fresh_card c holds j had =
+          let here : m.words.next ≡ c = cc in
+          let below = (h.sound.words.cards c).claimed.0 (in_hand_claimed m.words stage (m.worker j) c (h.sound.workers.each j) had) in
+          omega arith
+
       none : (c : ℕ) → (m.worker i).card ≡ Some c → ⊥
       none c holds = let clash : None ≡ Some c = sym h.no_card ∙ holds in cc
 

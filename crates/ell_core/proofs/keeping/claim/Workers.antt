@@ -17,7 +17,7 @@ module _ (w after : Words) (stage : Stages) (new : Stage) (h : Claiming w after 
   -- a claim leaves what is said of a worker
   pub worker_kept : (v : Worker) → WorkerIsSound w stage v → WorkerIsSound after stages v
   worker_kept v old = worker_on w after stage stages (claim_goes_on w after stage new h) v
-      (λ op x busy at born value. (leads_before w after stage new h (key_of op) value x born, leads_kept w after stage new h (key_of op) value x born))
+      (λ op x busy at born owns value. (leads_before w after stage new h (key_of op) value x born, leads_kept w after stage new h (key_of op) value x born))
       (λ op c busy holds e hand.
       put_other stage w.next new c (another w after stage new h is_claimed refl c (unflagged_claimed w stage v op c hand)))
       old

@@ -96,12 +96,12 @@ module _ (old new : Words) (stage stages : Stages) (v u : Worker) where
     later.told (fact.IFlagged c) c h.0,
     (goal.insert (insert_won-insert (stage c) h.0)).1 ∙ h.1,
     (goal.insert (insert_won-insert (stage c) h.0)).2 ∙ h.2,
-    ap (λ f. f k) same ∙ h.3,
+    λ owns. ap (λ f. f k) same ∙ h.3 (λ none. owns (ap (λ f. f k) same ∙ none)),
   )
   flagged_same (Delete k) c later goal same h = (
     later.told (fact.DFlagged c) c h.0,
     (goal.delete (delete_won-delete (stage c) h.0)).1 ∙ h.1,
-    (h.2.0, ap (λ f. f k) same ∙ h.2.1),
+    λ owns. (let was = h.2 (λ none. owns (ap (λ f. f k) same ∙ none)) in (was.0, ap (λ f. f k) same ∙ was.1)),
   )
 
 -- a worker with the same ledger, at the same place, stands as it stood, if the word that it read is not past the node's
@@ -110,7 +110,8 @@ pub stands_same : (w : Words) (stage : Stages) (v u : Worker) (k x : ℕ) → Sa
 stands_same w stage v u k x place same read h = record {
   born = h.born;
   read = read;
-  leads = λ value. (λ l. ap (λ f. f k) same ∙ (h.leads value).0 l, λ e. (h.leads value).1 (sym (ap (λ f. f k) same) ∙ e));
+  leads = λ owns value. (let was = h.leads (λ none. owns (ap (λ f. f k) same ∙ none)) value in
+      (λ l. ap (λ f. f k) same ∙ was.0 l, λ e. was.1 (sym (ap (λ f. f k) same) ∙ e)));
   course = h.course;
   parent = λ seen e. h.parent seen (sym place.parent ∙ e);
   grandparent = λ seen above e f. h.grandparent seen above (sym place.parent ∙ e) (sym place.grandparent ∙ f);

@@ -1,10 +1,10 @@
 use Rattle.std.proofs.Common.{◌≡◌, ◌≢◌, ℕ, ◌≤◌, ◌⊎◌, ◌↔◌, true, Some, None, inl, inr, sym, ap, ◌∙◌, subst}
-use Rattle.std.proofs.lemmas.Bool.{cases_eq}
+use Rattle.std.proofs.lemmas.Bool.{cases_eq, false≢true}
 use Rattle.ell_ops.specs.declared.op.Op.{Op}
 use Rattle.ell_ops.specs.Meaning.{greatest_key, key_of}
 use Rattle.ell_core.specs.state.Words.{Words, put}
 use Rattle.ell_core.specs.state.Machine.{Worker, Machine}
-use Rattle.ell_core.specs.soundness.Sound.{WorkerOwns, IsOwned, IsInHand}
+use Rattle.ell_core.specs.soundness.Sound.{WorkerOwns, MayChange, IsNotShared, IsOwned, IsInHand}
 use Rattle.ell_core.specs.soundness.Holds.{with_made}
 use Rattle.ell_core.specs.history.Stages.{Stage, Stages, insert_won, insert_open, delete_won, delete_open, made_by_stage, effective_at}
 use Rattle.ell_core.specs.history.Invariant.{LeadsTo, LeadsToValue, Flagged, WorkerIsSound, WorkersAreSound}
@@ -61,27 +61,30 @@ module _ (m : Machine) (stage : Stages) (words : Words) (c : ℕ) (new : Stage) 
     | inr none ↦ absurd (some_not_none holds (ap (λ (v : Worker). v.card) ((old.each i).free none)))
   ]
 
-  -- one worker has it, and owns the key
+  -- one worker has it, and may change the key
   holder : HoldsFor (m.worker h.hand.worker) c key new made
   holder = holds_for h.hand.worker h.hand.holds h.hand.flagged
 
-  owner : WorkerOwns (m.worker h.hand.worker) key
-  owner = subst (WorkerOwns (m.worker h.hand.worker)) holder.own ((old.each h.hand.worker).owned holder.op holder.busy)
+  owner : MayChange (m.worker h.hand.worker) key
+  owner = subst (MayChange (m.worker h.hand.worker)) holder.own ((old.each h.hand.worker).owned holder.op holder.busy)
 
   -- so whoever owns the key has the card in hand
   owner_holds : (i : ℕ) → WorkerOwns (m.worker i) key → HoldsFor (m.worker i) c key new made
-  owner_holds i owns = subst (λ n. HoldsFor (m.worker n) c key new made) (sym (old.one_owner i h.hand.worker key owns owner)) holder
+  owner_holds i owns = elim owner [
+    | inl its ↦ subst (λ n. HoldsFor (m.worker n) c key new made) (sym (old.one_owner i h.hand.worker key owns its)) holder
+    | inr shared ↦ absurd (old.apart h.hand.worker i key shared owns)
+  ]
 
-  -- and nobody stands anywhere with it
-  stands_apart : (i : ℕ) (op : Op) (x : ℕ) → (m.worker i).operation ≡ Some op → (m.worker i).search.node ≡ Some x → key_of op ≢ key
-  stands_apart i op x busy stands same =
-      some_not_none stands (owner_holds i (subst (WorkerOwns (m.worker i)) same ((old.each i).owned op busy))).nowhere
+  -- and no owner of it stands anywhere with it
+  stands_apart : (i : ℕ) (op : Op) (x : ℕ) → (m.worker i).operation ≡ Some op → (m.worker i).search.node ≡ Some x → WorkerOwns (m.worker i) (key_of op) → key_of op ≢ key
+  stands_apart i op x busy stands owns same =
+      some_not_none stands (owner_holds i (subst (WorkerOwns (m.worker i)) same owns)).nowhere
 
   -- each worker is sound after
   worker_after : (i : ℕ) → WorkerIsSound words stages (m.worker i)
   worker_after i = let was = old.each i in
       worker_on m.words words stage stages h.goes (m.worker i)
-      (λ op x busy stands born value. h.leads (key_of op) value x (stands_apart i op x busy stands))
+      (λ op x busy stands born owns value. h.leads (key_of op) value x (stands_apart i op x busy stands owns))
       (λ op d busy holds f hand. put_other stage c new d
       (won_elsewhere m.words stage (m.worker i) c was h.won op d busy holds f))
       was
@@ -117,11 +120,14 @@ module _ (m : Machine) (stage : Stages) (words : Words) (c : ℕ) (new : Stage) 
         (λ l. same ∙ was.0 ((h.leads k value 0 n).0 l), λ s. (h.leads k value 0 n).1 (was.1 (sym same ∙ s)))
   ]
 
-  -- each key of the tree has an owner
-  owned_after : (k : ℕ) → k ≤ greatest_key → LeadsTo words k 0 → IsOwned (record m { words = words }) k
-  owned_after k real l = elim (cases_eq k key) [
-    | inl e ↦ record { worker = h.hand.worker; owns = subst (WorkerOwns (m.worker h.hand.worker)) (sym e) owner }
-    | inr n ↦ (let was = old.owned k real ((leads_by_value m.words words k 0 (λ value. h.leads k value 0 n)).0 l) in record { worker = was.worker; owns = was.owns })
+  -- each key of the tree that is not shared has an owner
+  owned_after : (k : ℕ) → k ≤ greatest_key → LeadsTo words k 0 → IsNotShared m k → IsOwned (record m { words = words }) k
+  owned_after k real l none = elim (cases_eq k key) [
+    | inl e ↦ elim owner [
+      | inl its ↦ record { worker = h.hand.worker; owns = subst (WorkerOwns (m.worker h.hand.worker)) (sym e) its }
+      | inr shared ↦ absurd (false≢true (sym (none h.hand.worker) ∙ (ap (m.worker h.hand.worker).shared e ∙ shared)))
+    ]
+    | inr n ↦ (let was = old.owned k real ((leads_by_value m.words words k 0 (λ value. h.leads k value 0 n)).0 l) none in record { worker = was.worker; owns = was.owns })
   ]
 
   -- a card in hand is in hand
@@ -134,7 +140,9 @@ module _ (m : Machine) (stage : Stages) (words : Words) (c : ℕ) (new : Stage) 
     each = worker_after;
     one_owner = old.one_owner;
     present = present_after;
+    apart = old.apart;
     owned = owned_after;
+    one_hand = old.one_hand;
     insert_in_hand = λ d. put_cases (λ s. insert_open s ≡ true → IsInHand (record m { words = words }) d) stage c new d
         (λ e g. in_hand_after d (old.insert_in_hand d (ap (λ n. insert_open (stage n)) e ∙ h.inserts g)))
         (λ n g. in_hand_after d (old.insert_in_hand d g));

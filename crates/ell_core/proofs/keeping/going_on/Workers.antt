@@ -6,6 +6,7 @@ use Rattle.ell_core.specs.state.Words.{Words}
 use Rattle.ell_core.specs.state.Facts.{card_of_fact}
 use Rattle.ell_core.specs.state.Machine.{Worker}
 use Rattle.ell_core.specs.state.Cards.{is_right, child_for}
+use Rattle.ell_core.specs.soundness.Sound.{WorkerOwns}
 use Rattle.ell_core.specs.history.Stages.{Stages, Born}
 use Rattle.ell_core.specs.history.Invariant.{LeadsToValue, SeenIsSound, StandIsSound, Unflagged, WorkerIsSound}
 use Rattle.ell_core.proofs.stages.LaterKeys.{insert_info, insert_key_later, insert_value_later, delete_info, delete_key_later, key_later, side_later}
@@ -31,13 +32,13 @@ module _ (old new : Words) (stage stages : Stages) (h : GoesOn old new stage sta
             child ∙ (same.child (is_right old seen.node k) ∙ was.still calm same.stood);
       }
 
-  -- a worker stands as it stood, if the walk for its key leads where it led
-  pub stand_on : (v : Worker) (k x : ℕ) → ((value : ℕ) → LeadsToValue new k value x ↔ LeadsToValue old k value x) → StandIsSound old stage v k x
+  -- a worker stands as it stood, if the walk for a key of its own leads where it led
+  pub stand_on : (v : Worker) (k x : ℕ) → (WorkerOwns v k → (value : ℕ) → LeadsToValue new k value x ↔ LeadsToValue old k value x) → StandIsSound old stage v k x
       → StandIsSound new stages v k x
   stand_on v k x leads was = record {
     born = h.later.born x was.born;
     read = λ word e. (let a = was.read word e in let up = h.words.update x in omega arith);
-    leads = λ value. (λ l. (was.leads value).0 ((leads value).0 l), λ e. (leads value).1 ((was.leads value).1 e));
+    leads = λ owns value. (λ l. (was.leads owns value).0 ((leads owns value).0 l), λ e. (leads owns value).1 ((was.leads owns value).1 e));
     course = h.course k x was.born was.course;
     parent = λ seen e. (let a = was.parent seen e in
         (seen_on k x seen was.born a.0, h.course k seen.node a.0.node.born a.1));
@@ -58,10 +59,10 @@ module _ (old new : Words) (stage stages : Stages) (h : GoesOn old new stage sta
     delete = λ e. (delete_info old new stage h.sound h.words c e, delete_key_later old new stage h.sound h.words c e);
   }
 
-  -- a worker stays sound, if the walk for its key leads where it led, and the card that it has in hand without its flag keeps
+  -- a worker stays sound, if the walk for a key of its own leads where it led, and the card that it has in hand without its flag keeps
   -- its stage
   pub worker_on : (v : Worker)
-      → ((op : Op) (x : ℕ) → v.operation ≡ Some op → v.search.node ≡ Some x → Born stage x
+      → ((op : Op) (x : ℕ) → v.operation ≡ Some op → v.search.node ≡ Some x → Born stage x → WorkerOwns v (key_of op)
       → (value : ℕ) → LeadsToValue new (key_of op) value x ↔ LeadsToValue old (key_of op) value x)
       → ((op : Op) (c : ℕ) → v.operation ≡ Some op → v.card ≡ Some c → v.flagged ≡ false → Unflagged old stage v op c
       → stages c ≡ stage c)

@@ -6,7 +6,7 @@ use Rattle.ell_core.specs.declared.event.Act.TheVariants as act
 use Rattle.ell_core.specs.declared.fact.Fact.TheVariants as fact
 use Rattle.ell_core.specs.state.Words.{put}
 use Rattle.ell_core.specs.state.Machine.{Ledger, Worker, Machine, scene, with_scene}
-use Rattle.ell_core.specs.acts.Searching.{leaf_answer, card_answer, ledger_after, AnswersAtLeaf, HasAnswer}
+use Rattle.ell_core.specs.acts.Searching.{leaf_answer, card_answer, settled, ledger_after, AnswersAtLeaf, HasAnswer}
 use Rattle.ell_core.specs.soundness.Holds.{with_made}
 use Rattle.ell_core.specs.soundness.Sound.{WorkerOwns}
 use Rattle.ell_core.specs.history.Stages.{Stage, Stages, insert_open, insert_over, delete_open, delete_over, made_by_stage, effective_at, effective_at_of}
@@ -17,7 +17,7 @@ use Rattle.ell_core.proofs.outcomes.Decide.{same_value, some_not_none}
 use Rattle.ell_core.proofs.keeping.search.Begin.{MayDrop, drops_backed, takes_on_ended}
 use Rattle.ell_core.proofs.keeping.Learning.{KnowsAllowed}
 use Rattle.ell_core.proofs.keeping.OneWorker.{HasInHand, follows_worker}
-use Rattle.ell_core.proofs.words.Writes.{put_cases}
+use Rattle.ell_core.proofs.words.Writes.{put_cases, put_other}
 use Rattle.ell_core.specs.declared.view.Entry.{Entry}
 use Rattle.ell_core.specs.declared.view.Entry.TheVariants.{Present, Absent}
 use Rattle.ell_ops.specs.declared.reply.Reply.{Reply}
@@ -58,43 +58,55 @@ effective_in_hand stage v op c busy holds flagged =
     ∙ ap (effective_at_of stage v.ledger (Some op) (Some c)) flagged)
 
 module _ (stage : Stages) (v : Worker) (op : Op) (c : ℕ) (made : Entry) (busy : v.operation ≡ Some op)
-    (holds : v.card ≡ Some c) (flagged : v.flagged ≡ true) (over : IsOver op (stage c) made) (owns : WorkerOwns v (key_of op)) where
-  -- the ledger after an answer by a card that is over
+    (holds : v.card ≡ Some c) (flagged : v.flagged ≡ true) (over : IsOver op (stage c) made) where
+  -- the ledger after an answer by a card that is over, for a key that the ledger has
   abbrev ledger : Ledger
   ledger = put v.ledger (key_of op) (Some made)
 
   -- the same keys are owned
-  owned_alike : (k : ℕ) → (ledger k ≢ None) ↔ WorkerOwns v k
-  owned_alike k = put_cases (λ o. (o ≢ None) ↔ WorkerOwns v k) v.ledger (key_of op) (Some made) k
+  owned_alike : WorkerOwns v (key_of op) → (k : ℕ) → (ledger k ≢ None) ↔ WorkerOwns v k
+  owned_alike owns k = put_cases (λ o. (o ≢ None) ↔ WorkerOwns v k) v.ledger (key_of op) (Some made) k
       (λ e. (λ n. subst (WorkerOwns v) (sym e) owns, λ n f. some_not_none refl f)) (λ n. (λ o. o, λ o. o))
 
   -- a card in hand is this one
   hand_is : (d : ℕ) → HasInHand v d → c ≡ d
   hand_is d h = same_value holds h.holds
 
-  -- a worker whose card is over may drop it, and has the effective ledger
-  pub drops_over : MayDrop stage v ledger
-  drops_over = record {
-    owns = owned_alike;
-    counts = λ k. ap (λ f. f k)
-        (effective_in_hand stage v op c busy holds flagged ∙ ap (with_made v.ledger (key_of op)) over.made_it);
+  -- its effective ledger
+  effective_is : effective_at stage v ≡ ledger
+  effective_is = effective_in_hand stage v op c busy holds flagged ∙ ap (with_made v.ledger (key_of op)) over.made_it
+
+  -- a worker whose card is over may drop it, and has the effective ledger, of its own keys
+  drops_by : (entry : Option Entry) → v.ledger (key_of op) ≡ entry → MayDrop stage v (settled v.ledger (key_of op) made entry)
+  drops_by None e = record {
+    owns = λ k. (λ o. o, λ o. o);
+    counts = λ k owns. ap (λ f. f k) effective_is ∙ put_other v.ledger (key_of op) (Some made) k (λ same. owns (ap v.ledger same ∙ e));
+    inserts = λ d h. subst (λ n. insert_open (stage n) ≡ false) (hand_is d h) over.no_insert;
+    deletes = λ d h. subst (λ n. delete_open (stage n) ≡ false) (hand_is d h) over.no_delete;
+  }
+  drops_by (Some entry) e = record {
+    owns = owned_alike (λ none. some_not_none e none);
+    counts = λ k owns. ap (λ f. f k) effective_is;
     inserts = λ d h. subst (λ n. insert_open (stage n) ≡ false) (hand_is d h) over.no_insert;
     deletes = λ d h. subst (λ n. delete_open (stage n) ≡ false) (hand_is d h) over.no_delete;
   }
 
+  pub drops_over : MayDrop stage v (settled v.ledger (key_of op) made (v.ledger (key_of op)))
+  drops_over = drops_by (v.ledger (key_of op)) refl
+
 -- an answer by a card of an insert or delete: the card is over
 drops_by_card : (stage : Stages) (v : Worker) (op : Op) (c : ℕ) (reply : Reply) → KnowsAllowed stage v.knows
-    → v.operation ≡ Some op → v.card ≡ Some c → v.flagged ≡ true → WorkerOwns v (key_of op) → card_answer op c v.knows ≡ Some reply
+    → v.operation ≡ Some op → v.card ≡ Some c → v.flagged ≡ true → card_answer op c v.knows ≡ Some reply
     → MayDrop stage v (ledger_after op reply v.ledger)
-drops_by_card stage v (Find k) c reply facts busy holds flagged owns e = absurd (some_not_none e refl)
-drops_by_card stage v (Insert k value) c reply facts busy holds flagged owns e =
+drops_by_card stage v (Find k) c reply facts busy holds flagged e = absurd (some_not_none e refl)
+drops_by_card stage v (Insert k value) c reply facts busy holds flagged e =
     let g = gives_if (v.knows (fact.IOver c)) reply e in
     subst (λ b. MayDrop stage v (ledger_after (Insert k value) b v.ledger)) (sym g.1)
-    (drops_over stage v (Insert k value) c (Present value) busy holds flagged (insert_is_over k value (stage c) (facts (fact.IOver c) g.0)) owns)
-drops_by_card stage v (Delete k) c reply facts busy holds flagged owns e =
+    (drops_over stage v (Insert k value) c (Present value) busy holds flagged (insert_is_over k value (stage c) (facts (fact.IOver c) g.0)))
+drops_by_card stage v (Delete k) c reply facts busy holds flagged e =
     let g = gives_if (v.knows (fact.DOver c)) reply e in
     subst (λ b. MayDrop stage v (ledger_after (Delete k) b v.ledger)) (sym g.1)
-    (drops_over stage v (Delete k) c Absent busy holds flagged (delete_is_over k (stage c) (facts (fact.DOver c) g.0)) owns)
+    (drops_over stage v (Delete k) c Absent busy holds flagged (delete_is_over k (stage c) (facts (fact.DOver c) g.0)))
 
 module _ (m : Machine) (stage : Stages) (i : ℕ) (sound : Invariant m stage) (op : Op) (reply : Reply)
     (busy : (m.worker i).operation ≡ Some op) where
@@ -109,7 +121,7 @@ module _ (m : Machine) (stage : Stages) (i : ℕ) (sound : Invariant m stage) (o
   drops_answered answers = elim answers [
     | inl at ↦ drops_at_leaf at
     | inr by ↦ (let worker = sound.workers.each i in
-        drops_by_card stage (m.worker i) op by.0.card reply worker.facts busy by.0.holds by.0.flagged (worker.owned op busy)
+        drops_by_card stage (m.worker i) op by.0.card reply worker.facts busy by.0.holds by.0.flagged
         by.0.answers)
   ]
 

@@ -1,4 +1,4 @@
-use Rattle.std.proofs.Common.{◌≡◌, ◌≢◌, ℕ, ◌<◌, ◌↔◌, true, false, Some, None, refl, sym, ap, ◌∙◌, subst, arith}
+use Rattle.std.proofs.Common.{◌≡◌, ◌≢◌, ℕ, ◌<◌, ◌↔◌, inl, inr, Bool, true, false, Some, None, refl, sym, ap, ◌∙◌, subst, arith}
 use Rattle.std.proofs.lemmas.Bool.{false≢true}
 use Rattle.ell_ops.specs.declared.op.Op.{Op}
 use Rattle.ell_ops.specs.Meaning.{key_of}
@@ -6,7 +6,8 @@ use Rattle.ell_core.specs.declared.event.Act.TheVariants as act
 use Rattle.ell_core.specs.declared.fact.Fact.TheVariants as fact
 use Rattle.ell_core.specs.state.Machine.{Ledger, Worker, Machine, with_scene}
 use Rattle.ell_core.specs.acts.Searching.{begun, ended, MayStop}
-use Rattle.ell_core.specs.soundness.Sound.{WorkerOwns}
+use Rattle.ell_core.specs.acts.Events.{LacksKey}
+use Rattle.ell_core.specs.soundness.Sound.{WorkerOwns, MayChange}
 use Rattle.ell_core.specs.history.Stages.{Stages, is_born, insert_open, delete_open, is_backed, effective_at}
 use Rattle.ell_core.specs.history.Invariant.{top, StandIsSound, Invariant}
 use Rattle.ell_core.specs.history.Later.{Follows, KeepsInvariant}
@@ -21,7 +22,7 @@ use Rattle.ell_core.proofs.stages.Order.{backed_made, backed_insert, backed_dele
 -- and no flag of its card stands
 pub record MayDrop (stage : Stages) (v : Worker) (ledger : Ledger) : Type 0 where
   pub owns : (k : ℕ) → (ledger k ≢ None) ↔ WorkerOwns v k
-  pub counts : (k : ℕ) → effective_at stage v k ≡ ledger k
+  pub counts : (k : ℕ) → WorkerOwns v k → effective_at stage v k ≡ ledger k
   pub inserts : (c : ℕ) → HasInHand v c → insert_open (stage c) ≡ false
   pub deletes : (c : ℕ) → HasInHand v c → delete_open (stage c) ≡ false
 
@@ -30,7 +31,7 @@ pub drops_backed : (stage : Stages) (v : Worker)
     → ((c : ℕ) → v.card ≡ Some c → v.flagged ≡ true → is_backed (stage c) ≡ true) → MayDrop stage v v.ledger
 drops_backed stage v h = record {
   owns = λ k. (λ o. o, λ o. o);
-  counts = λ k. ap (λ f. f k)
+  counts = λ k owns. ap (λ f. f k)
       (counts_unmade stage v (λ op c b e f. backed_made op (stage c) (h c e f)));
   inserts = λ c hand. backed_insert (stage c) (h c hand.holds hand.flagged);
   deletes = λ c hand. backed_delete (stage c) (h c hand.holds hand.flagged);
@@ -55,7 +56,10 @@ module _ (m : Machine) (stage : Stages) (i : ℕ) (sound : Invariant m stage) wh
   takes_on_ended ledger may = record {
     own = record {
       facts = (sound.workers.each i).facts;
-      real = λ k o. (sound.workers.each i).real k ((may.owns k).0 o);
+      real = λ k may_change. elim may_change [
+        | inl o ↦ (sound.workers.each i).real k (inl ((may.owns k).0 o))
+        | inr shared ↦ (sound.workers.each i).real k (inr shared)
+      ];
       free = λ e. refl;
       owned = λ op e. absurd (some_not_none e refl);
       stands = λ op x e. absurd (some_not_none e refl);
@@ -63,19 +67,21 @@ module _ (m : Machine) (stage : Stages) (i : ℕ) (sound : Invariant m stage) wh
       flagged = λ op c e. absurd (some_not_none e refl);
     };
     owns = may.owns;
-    counts = λ k o. sym (may.counts k);
+    shares = refl;
+    hands = λ c holds. absurd (some_not_none holds refl);
+    counts = λ k o. sym (may.counts k o);
     inserts = λ c stood hand. absurd (false≢true (sym (may.inserts c hand) ∙ stood));
     deletes = λ c stood hand. absurd (false≢true (sym (may.deletes c hand) ∙ stood));
   }
 
   -- a worker that stands at the root with an operation on a key of its own
-  stands_at_root : (op : Op) → WorkerOwns v (key_of op) → MayDrop stage v v.ledger
+  stands_at_root : (op : Op) → MayChange v (key_of op) → MayDrop stage v v.ledger
       → StandIsSound m.words stage (begun (Some op) v) (key_of op) 0
   stands_at_root op owns may = record {
     born = ap is_born sound.words.opening;
     read = λ word e. absurd (some_not_none e refl);
-    leads = λ value. (let present = sound.workers.present i (key_of op) value owns in
-        (λ l. sym (may.counts (key_of op)) ∙ present.0 l, λ e. present.1 (may.counts (key_of op) ∙ e)));
+    leads = λ owned value. (let present = sound.workers.present i (key_of op) value owned in
+        (λ l. sym (may.counts (key_of op) owned) ∙ present.0 l, λ e. present.1 (may.counts (key_of op) owned ∙ e)));
     course = OnCourse-start m.words.key m.words.child top sound.words.tree.ordered (key_of op) below_top;
     parent = λ seen e. absurd (some_not_none e refl);
     grandparent = λ seen above e. absurd (some_not_none e refl);
@@ -87,13 +93,13 @@ module _ (m : Machine) (stage : Stages) (i : ℕ) (sound : Invariant m stage) wh
     below_top = let real = (sound.workers.each i).real (key_of op) owns in omega arith
 
   -- a worker may begin at the root
-  pub takes_on_begun : (op : Op) → WorkerOwns v (key_of op) → MayDrop stage v v.ledger → TakesOn m stage i (begun (Some op) v)
+  pub takes_on_begun : (op : Op) → MayChange v (key_of op) → MayDrop stage v v.ledger → TakesOn m stage i (begun (Some op) v)
   takes_on_begun op owns may = record {
     own = record {
       facts = (sound.workers.each i).facts;
       real = (sound.workers.each i).real;
       free = λ e. absurd (some_not_none refl e);
-      owned = λ other e. subst (λ o. WorkerOwns v (key_of o)) (same_value refl e) owns;
+      owned = λ other e. subst (λ o. MayChange v (key_of o)) (same_value refl e) owns;
       stands = λ other x e at. subst (λ o. StandIsSound m.words stage (begun (Some op) v) (key_of o) x) (same_value refl e)
           (subst (StandIsSound m.words stage (begun (Some op) v) (key_of op)) (same_value refl at)
           (stands_at_root op owns may));
@@ -101,10 +107,20 @@ module _ (m : Machine) (stage : Stages) (i : ℕ) (sound : Invariant m stage) wh
       flagged = λ other c e holds. absurd (some_not_none holds refl);
     };
     owns = may.owns;
-    counts = λ k o. sym (may.counts k);
+    shares = refl;
+    hands = λ c holds. absurd (some_not_none holds refl);
+    counts = λ k o. sym (may.counts k o);
     inserts = λ c stood hand. absurd (false≢true (sym (may.inserts c hand) ∙ stood));
     deletes = λ c stood hand. absurd (false≢true (sym (may.deletes c hand) ∙ stood));
   }
+
+-- a key that a worker does not lack it may change
+may_begin : (op : Op) (v : Worker) → ¬ LacksKey (act.Begin op) v → MayChange v (key_of op)
+may_begin op v has = by (v.shared (key_of op)) refl
+  where
+    by : (b : Bool) → v.shared (key_of op) ≡ b → MayChange v (key_of op)
+    by true e = inr e
+    by false e = inl (λ none. has (none, e))
 
 -- begin keeps the invariant
 pub keeps_begin : (op : Op) → KeepsInvariant (act.Begin op)
@@ -113,7 +129,7 @@ keeps_begin op m stage i said becomes there sound happens =
     subst (λ s. Follows m stage (act.Begin op) i said (with_scene m i s)) (sym r.gives)
     (follows_worker m stage (act.Begin op) i said (begun (Some op) (m.worker i)) there sound
     (λ c. ap (λ s. wins_by (act.Begin op) (m.worker i).card s c) r.says)
-    (takes_on_begun m stage i sound op happens.owned (drops_idle m stage i sound r.free)))
+    (takes_on_begun m stage i sound op (may_begin op (m.worker i) happens.owned) (drops_idle m stage i sound r.free)))
 
 -- again keeps the invariant
 pub keeps_again : KeepsInvariant act.Again

@@ -93,9 +93,9 @@ module _ (w : Words) (stage : Stages) (words : WordsAreSound w stage) (v : Worke
   stands_down = record {
     born = children.born (is_right w seen.node k);
     read = λ word e. absurd (some_not_none e refl);
-    leads = λ value. (
-      λ l. (stood.leads value).0 (below inner refl l),
-      λ e. below_of w.key w.child top words.tree.ordered inner refl ((stood.leads value).1 e),
+    leads = λ owns value. (
+      λ l. (stood.leads owns value).0 (below inner refl l),
+      λ e. below_of w.key w.child top words.tree.ordered inner refl ((stood.leads owns value).1 e),
     );
     course = OnCourse-down w.key w.child top words.tree.ordered stood.course inner;
     parent = λ other e. subst (λ s. SeenIsSound w stage k s child × IsOnCourse w k s.node) (same_value refl e)
@@ -126,7 +126,7 @@ takes_on_down : (m : Machine) (stage : Stages) (i : ℕ) (op : Op) (seen : Seen)
     → (m.worker i).operation ≡ Some op → (m.worker i).search.node ≡ Some seen.node → IsInternal seen.node
     → (m.worker i).search.read ≡ Some seen.word → TakesOn m stage i (down m.words (m.worker i) op seen)
 takes_on_down m stage i op seen sound busy at inner read = takes_on_same m stage i (down m.words (m.worker i) op seen)
-    (sound_down m.words stage sound.words (m.worker i) op seen (sound.workers.each i) busy at inner read) refl refl refl refl
+    (sound_down m.words stage sound.words (m.worker i) op seen (sound.workers.each i) busy at inner read) refl refl refl refl refl
 
 -- down keeps the invariant
 pub keeps_down : KeepsInvariant act.Down

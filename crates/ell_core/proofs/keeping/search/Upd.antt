@@ -72,7 +72,7 @@ takes_on_reading m stage i node sound at inner =
     let born = standing_born m.words stage (m.worker i) node (m.worker i).knows each at in
     let allowed = learns_word m.words stage (m.worker i).knows node (sound.words.updates node inner born) each.facts in
     takes_on_same m stage i (reading (m.worker i) (m.words.update node) (told_to m i node))
-    (sound_reading m.words stage (m.worker i) node (told_to m i node) each at allowed) refl refl refl refl
+    (sound_reading m.words stage (m.worker i) node (told_to m i node) each at allowed) refl refl refl refl refl
 
 -- upd keeps the invariant
 pub keeps_upd : KeepsInvariant act.Upd

@@ -26,6 +26,7 @@ use Rattle.ell_core.proofs.keeping.going_on.Stages.{no_insert}
 use Rattle.ell_core.proofs.stages.Advances.{dflag_later, dflag_kind, StageLater, SameKind}
 use Rattle.ell_core.proofs.words.CleanWords.{clean_remainder}
 use Rattle.ell_core.specs.declared.view.Entry.TheVariants.{Present}
+use Rattle.ell_core.specs.soundness.Sound.{WorkerOwns}
 
 module _ (m : Machine) (stage : Stages) (i k c : ℕ) (grandparent : Seen) (there : i < m.count) (sound : Invariant m stage)
     (h : HoldsCard m i c (Delete k)) (above : (m.worker i).search.grandparent ≡ Some grandparent) where
@@ -54,9 +55,9 @@ module _ (m : Machine) (stage : Stages) (i k c : ℕ) (grandparent : Seen) (ther
   seen_above : SeenIsSound m.words stage k grandparent hand.parent.node
   seen_above = stand.grandparent hand.parent grandparent hand.behind above
 
-  -- the key was present, since the leaf where it stands has it
-  present : (value : ℕ) × ((m.worker i).ledger k ≡ Some (Present value))
-  present = let value = m.words.value (m.words.l c) in (value, (stand.leads value).0 (at_leaf said.leaf.outer hand.own refl))
+  -- a key of its own was present, since the leaf where it stands has it
+  present : WorkerOwns (m.worker i) k → (value : ℕ) × ((m.worker i).ledger k ≡ Some (Present value))
+  present owns = let value = m.words.value (m.words.l c) in (value, (stand.leads owns value).0 (at_leaf said.leaf.outer hand.own refl))
 
   module _ (won : m.words.update grandparent.node ≡ grandparent.word) where
     -- the words after the flag

@@ -1,25 +1,22 @@
 use Rattle.std.proofs.Common.{◌≡◌, ◌≢◌, ℕ, ◌<◌, true, false, [], ◌∷◌, ◌++◌, Some, None, inr, refl, sym, ap, ◌∙◌, subst}
 use Rattle.std.proofs.lemmas.Bool.{false≢true, eq-eqb, ne_eqb}
 use Rattle.ell_ops.specs.declared.op.Op.{Op}
-use Rattle.ell_ops.specs.declared.op.Op.TheVariants.{Find, Insert, Delete}
 use Rattle.ell_ops.specs.Meaning.{key_of}
 use Rattle.ell_word.specs.declared.gate.Kind.{Kind}
 use Rattle.ell_core.specs.declared.event.Act.{Act}
 use Rattle.ell_core.specs.declared.event.Stepped.TheVariants.{Won, Lost}
 use Rattle.ell_core.specs.declared.fact.Fact.{Fact}
 use Rattle.ell_core.specs.declared.view.Seen.{Seen}
-use Rattle.ell_core.specs.state.Words.{Words, put, with_update}
+use Rattle.ell_core.specs.state.Words.{put, with_update}
 use Rattle.ell_core.specs.state.Facts.{card_of_fact}
 use Rattle.ell_core.specs.state.Machine.{Worker, Machine, Scene, with_scene}
 use Rattle.ell_core.specs.acts.Exchanges.{flagged_worker, flags}
 use Rattle.ell_core.specs.soundness.Holds.{with_made}
-use Rattle.ell_core.specs.soundness.Sound.{WorkerOwns}
 use Rattle.ell_core.specs.history.Stages.{Stage, Stages, made_by_stage, effective_at, allows}
 use Rattle.ell_core.specs.history.Invariant.{IsInnerBorn, Unflagged, Flagged, WorkerIsSound, Invariant}
 use Rattle.ell_core.specs.history.Later.{Follows, wins_of}
 use Rattle.ell_core.specs.acts.Wins.{wins_by, win_for}
 use Rattle.ell_core.proofs.words.Writes.{put_same}
-use Rattle.ell_core.proofs.stages.Order.{one_kind}
 use Rattle.ell_core.proofs.words.Later.{words_update}
 use Rattle.ell_core.proofs.keeping.Learning.{learns_word}
 use Rattle.ell_core.proofs.keeping.OneWorker.{TakesOn, follows_worker}
@@ -54,17 +51,6 @@ flags_lost s seen new fact lost = λ t. record {
   worker = flagged_worker s.worker (ne_eqb (s.words.update seen.node) seen.word lost t) fact (s.words.update seen.node);
 }
 
--- two operations that have one card in hand without its flag are on one key
-same_key : (w : Words) (stage : Stages) (v u : Worker) (op other : Op) (c : ℕ) → Unflagged w stage v op c
-    → Unflagged w stage u other c
-    → key_of other ≡ key_of op
-same_key w stage v u (Find k) _ c h g = absurd h
-same_key w stage v u _ (Find k) c h g = absurd g
-same_key w stage v u (Insert k value) (Insert l other) c h g = sym g.own ∙ h.own
-same_key w stage v u (Delete k) (Delete l) c h g = sym g.own ∙ h.own
-same_key w stage v u (Insert k value) (Delete l) c h g = absurd (one_kind (stage c) h.claimed.0 g.claimed.0)
-same_key w stage v u (Delete k) (Insert l value) c h g = absurd (one_kind (stage c) g.claimed.0 h.claimed.0)
-
 -- worker i has card c in hand for an operation, without its flag
 pub record HoldsCard (m : Machine) (i c : ℕ) (op : Op) : Type 0 where
   pub busy : (m.worker i).operation ≡ Some op
@@ -76,14 +62,10 @@ module _ (m : Machine) (stage : Stages) (i c : ℕ) (op : Op) (sound : Invariant
   pub hand_of : Unflagged m.words stage (m.worker i) op c
   hand_of = (sound.workers.each i).unflagged op c h.busy h.holds h.unflagged
 
-  -- no other worker has the card in hand without its flag, since no other owns its key
+  -- no other worker has the card in hand
   pub held_alone : (j : ℕ) → j ≢ i → OtherInHand (m.worker j) c
   held_alone j apart other d busy holds unflagged same =
-      let theirs = (sound.workers.each j).unflagged other d busy holds unflagged in
-      let key = same_key m.words stage (m.worker i) (m.worker j) op other c hand_of
-      (subst (Unflagged m.words stage (m.worker j) other) same theirs) in
-      let owns_there = subst (WorkerOwns (m.worker j)) key ((sound.workers.each j).owned other busy) in
-      apart (sound.workers.one_owner j i (key_of op) owns_there ((sound.workers.each i).owned op h.busy))
+      apart (sound.workers.one_hand j i c (holds ∙ ap (λ n. Some n) same) h.holds)
 
   -- it has no flagged card in hand
   not_flagged : (m.worker i).flagged ≡ true → ⊥
@@ -113,6 +95,8 @@ module _ (m : Machine) (stage : Stages) (i c : ℕ) (op : Op) (sound : Invariant
     loser_takes = record {
       own = loser_sound;
       owns = λ k. (λ o. o, λ o. o);
+      shares = refl;
+      hands = λ d e. absurd cc;
       counts = λ k o. ap (λ f. f k) (counts_unmade stage loser (λ o d b e f. absurd (false≢true f)) ∙ sym unflagged_ledger);
       inserts = λ d e had. absurd (not_flagged had.flagged);
       deletes = λ d e had. absurd (not_flagged had.flagged);
@@ -159,6 +143,8 @@ module _ (m : Machine) (stage : Stages) (i c : ℕ) (op : Op) (sound : Invariant
     new_worker = record {
       sound = winner_sound;
       ledger = refl;
+      shares = refl;
+      hands = λ d e. e;
       effective = λ k. ap (λ f. f k) (winner_ledger ∙ sym unflagged_ledger);
       hand = λ d holds flagged. absurd (not_flagged flagged);
       insert_hand = λ stands. inr (h.holds, refl);

@@ -55,6 +55,8 @@ module _ (m : Machine) (stage : Stages) (i x value c : ℕ) (new : Stage) (known
     sound = sound_knowing (with_update m.words x value) (put stage c new) (m.worker i) known
         (worker_later m.words stage x value c new e sound.words (m.worker i) (elsewhere i) (sound.workers.each i)) allowed;
     ledger = refl;
+    shares = refl;
+    hands = λ d e. e;
     effective = λ k. counts_later m.words stage x value c new e (m.worker i) k;
     hand = λ d h g. (h, g);
     insert_hand = λ h. inl (opens.insert h);

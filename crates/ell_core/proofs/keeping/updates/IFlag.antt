@@ -30,6 +30,7 @@ use Rattle.ell_core.proofs.stages.Advances.{iflag_later, iflag_kind, StageLater,
 use Rattle.ell_core.proofs.words.CleanWords.{clean_remainder}
 use Rattle.ell_core.specs.declared.view.Entry.{Entry}
 use Rattle.ell_core.specs.declared.view.Entry.TheVariants.{Present, Absent}
+use Rattle.ell_core.specs.soundness.Sound.{WorkerOwns}
 
 -- of two keys that rise, the one that is not the leaf's is another one
 other_of_two : (left right leaf : ℕ) → left < right → key_of_three left right leaf ≢ leaf
@@ -72,11 +73,11 @@ module _ (m : Machine) (stage : Stages) (i k value c : ℕ) (parent : Seen) (the
   course = subst (λ n. IsOnCourse m.words n (m.words.p c)) (sym hand.own)
       (subst (IsOnCourse m.words k) node (stand.parent parent behind).1)
 
-  -- the key was absent, since the leaf where it stands has another one
-  absent : (m.worker i).ledger k ≡ Some Absent
-  absent = absent_entry ((m.worker i).ledger k) ((sound.workers.each i).owned (Insert k value) h.busy)
+  -- a key of its own was absent, since the leaf where it stands has another one
+  absent : WorkerOwns (m.worker i) k → (m.worker i).ledger k ≡ Some Absent
+  absent owns = absent_entry ((m.worker i).ledger k) owns
       (λ v e. other_of_two (m.words.key (left_leaf c)) (m.words.key (right_leaf c)) (m.words.key (m.words.l c)) said.ordered
-      (hand.own ∙ sym (leaf_key m.words.key m.words.child k (m.words.l c) said.leaf.outer ((stand.leads v).1 e))))
+      (hand.own ∙ sym (leaf_key m.words.key m.words.child k (m.words.l c) said.leaf.outer ((stand.leads owns v).1 e))))
 
   module _ (won : m.words.update parent.node ≡ parent.word) where
     -- the parent's word was clean, and is the card's flag

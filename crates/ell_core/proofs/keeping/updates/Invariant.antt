@@ -23,6 +23,8 @@ exchanged m i x value v = with_scene m i (record { words = with_update m.words x
 pub record NewWorker (m : Machine) (stage : Stages) (i x value c : ℕ) (new : Stage) (v : Worker) : Type 0 where
   pub sound : WorkerIsSound (with_update m.words x value) (put stage c new) v
   pub ledger : v.ledger ≡ (m.worker i).ledger
+  pub shares : v.shared ≡ (m.worker i).shared
+  pub hands : (d : ℕ) → v.card ≡ Some d → (m.worker i).card ≡ Some d
   pub effective : (k : ℕ) → effective_at (put stage c new) v k ≡ effective_at stage (m.worker i) k
   pub hand : (d : ℕ) → (m.worker i).card ≡ Some d → (m.worker i).flagged ≡ true → (v.card ≡ Some d) × (v.flagged ≡ true)
   pub insert_hand : insert_open new ≡ true → (insert_open (stage c) ≡ true) ⊎ ((v.card ≡ Some c) × (v.flagged ≡ true))
@@ -64,6 +66,8 @@ module _ (m : Machine) (stage : Stages) (i x value c : ℕ) (new : Stage) (v : W
     leads = λ k held. (λ l. l, λ l. l);
     own = n.sound;
     others = λ j other. worker_later m.words stage x value c new e old.words (m.worker j) (n.others j other) (old.workers.each j);
+    shares = n.shares;
+    hands = λ d holds. inl (n.hands d holds);
     owns = λ k. (let same = ap (λ ledger. ledger k) n.ledger in (λ o none. o (same ∙ none), λ o none. o (sym same ∙ none)));
     counts = λ k o. n.effective k;
     counts_others = λ j k other o. counts_later m.words stage x value c new e (m.worker j) k;

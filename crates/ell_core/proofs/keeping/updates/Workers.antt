@@ -15,7 +15,7 @@ module _ (w : Words) (stage : Stages) (x value c : ℕ) (new : Stage) (e : Excha
       → WorkerIsSound (with_update w x value) (put stage c new) v
   worker_later sound v other k = worker_on w (with_update w x value) stage (put stage c new)
       (update_goes_on w stage x value c new e sound) v
-      (λ op y busy at born held. (λ l. l, λ l. l)) (λ op d busy holds f hand. put_other stage c new d (other op d busy holds f)) k
+      (λ op y busy at born owns held. (λ l. l, λ l. l)) (λ op d busy holds f hand. put_other stage c new d (other op d busy holds f)) k
 
   -- a worker's effective ledger counts as before
   pub counts_later : (v : Worker) (k : ℕ) → effective_at (put stage c new) v k ≡ effective_at stage v k

@@ -16,13 +16,13 @@ pub returns-in_err-pairs-clause-kept : goal.returns-in_err-pairs-clause-kept
 returns-in_err-pairs-clause-kept c =
     let same = length_all_zip StaysPut c.args.handles.now c.loop-place.handles c.loop-place.invariant.kept in
     stay_more c.args.handles.now c.loop-place.handles c.loop-place.place c.index-handles-place.result c.pairs.new.self (omega arith) c.loop-place.invariant.kept
-    c.pairs.ensures.map c.pairs.ensures.owned c.pairs.ensures.tree
+    c.pairs.ensures.stays.same.map c.pairs.ensures.stays.same.owned c.pairs.ensures.stays.tree
 
 pub returns-in_err-all-clause-kept : goal.returns-in_err-all-clause-kept
 returns-in_err-all-clause-kept c =
     let same = length_all_zip StaysPut c.args.handles.now c.loop-place.handles c.loop-place.invariant.kept in
     stay_more c.args.handles.now c.loop-place.handles c.loop-place.place c.index-handles-place.result c.pairs.new.self (omega arith) c.loop-place.invariant.kept
-    c.pairs.ensures.map c.pairs.ensures.owned c.pairs.ensures.tree
+    c.pairs.ensures.stays.same.map c.pairs.ensures.stays.same.owned c.pairs.ensures.stays.tree
 
 -- one handle more
 pub loop-place-preserved : goal.loop-place-preserved
@@ -36,5 +36,5 @@ loop-place-preserved c =
           (subst (ListsPairs (present_in (get_or c.loop-place.handles c.loop-place.place c.index-handles-place.result).pass)) (sym c.deref-in-loop-place.ensures.value) c.in_ok-pairs.ensures.pairs)
           c.in_ok-all.ensures;
       kept = stay_more olds c.loop-place.handles c.loop-place.place c.index-handles-place.result c.pairs.new.self low c.loop-place.invariant.kept
-          c.pairs.ensures.map c.pairs.ensures.owned c.pairs.ensures.tree;
+          c.pairs.ensures.stays.same.map c.pairs.ensures.stays.same.owned c.pairs.ensures.stays.tree;
     }

@@ -10,6 +10,12 @@ returns-then-not-have_one_number-clause-kept c = zip_same HasSame has_same c.arg
 pub returns-then-not-have_one_number-clause-refused : goal.returns-then-not-have_one_number-clause-refused
 returns-then-not-have_one_number-clause-refused c = zip_same StaysPut stays_put c.args.handles.now
 
+pub returns-then-any-clause-kept : goal.returns-then-any-clause-kept
+returns-then-any-clause-kept c = zip_same HasSame has_same c.args.handles.now
+
+pub returns-then-any-clause-refused : goal.returns-then-any-clause-refused
+returns-then-any-clause-refused c = zip_same StaysPut stays_put c.args.handles.now
+
 pub returns-in_err-parts-clause-kept : goal.returns-in_err-parts-clause-kept
 returns-in_err-parts-clause-kept c = zip_weaker StaysPut HasSame (λ old new stays. stays.same) c.args.handles.now c.renewed.new.handles c.renewed.ensures.kept
 

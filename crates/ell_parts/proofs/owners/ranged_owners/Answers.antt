@@ -3,7 +3,8 @@ use Rattle.std.specs.Int.{div_ceil}
 use Rattle.std.proofs.lemmas.List.Sorted.{IsPartitionPoint-from_clause}
 use Rattle.ell_ops.specs.declared.op.Op.TheVariants.{Find}
 use Rattle.ell_ops.specs.Meaning.{key_of}
-use Rattle.ell_parts.specs.PartedOps.{rank, ranged}
+use Rattle.ell_order.specs.Rounds.{rank}
+use Rattle.ell_parts.specs.PartedOps.{ranged}
 use Rattle.ell_parts.specs.Ranges.{AreStarts}
 use Rattle.ell_ops.specs.KeySet.{set_of}
 use Rattle.ell_parts.proofs.Ranges.{range_of, starts_parted}

@@ -7,31 +7,31 @@ use Rattle.ell_run.proofs.pieces.work_off.Goals as goal
 pub loop-position-preserved : goal.loop-position-preserved
 loop-position-preserved g c = (
   rw c.in_ok-push.ensures.items
-      (front_more c.args.part.now c.loop-position.position-index (0, Find 0) c.args.pass.now c.loop-position.pass c.do_op.new.pass c.loop-position.piece.items c.in-Ok.reply
-      c.loop-position-test.true c.loop-position.invariant.0 c.in-Ok.ensures.ends.0 c.in-Ok.ensures.ends.1),
-  paid_more c.args.tree.now.last_card c.loop-position.position-index c.args.pass.now c.loop-position.pass c.do_op.new.pass c.loop-position.invariant.1 c.do_op.ensures.paid,
+      (front_more c.args.tree.now c.args.part.now c.loop-position.position-index (0, Find 0) c.args.pass.now c.loop-position.pass c.do_op.new.pass c.loop-position.piece.items c.in-Ok.reply
+      c.loop-position-test.true c.requires.owned c.loop-position.invariant.0 c.in-Ok.ensures.ends.0 c.in-Ok.ensures.ends.1),
+  paid_more c.args.tree.now.plan.last_card c.loop-position.position-index c.args.pass.now c.loop-position.pass c.do_op.new.pass c.loop-position.invariant.1 c.do_op.ensures.paid,
 )
 
 pub returns-clause-worked : goal.returns-clause-worked
 returns-clause-worked g c =
-    front_all c.args.tree.now.last_card c.args.tries c.args.part.now c.loop-position.position-index c.args.pass.now c.loop-position.pass c.loop-position.piece.items
+    front_all c.args.tree.now.plan.last_card c.args.tries c.args.part.now c.loop-position.position-index c.args.pass.now c.loop-position.pass c.loop-position.piece.items
     c.loop-position-test.false c.loop-position.invariant.0
 
 pub returns-clause-bounded : goal.returns-clause-bounded
 returns-clause-bounded g c =
     let few = c.loop-position.invariant.0.few in
-    paid_steps c.args.tree.now.last_card _ c.args.pass.now c.loop-position.pass
-    (paid_within c.args.tree.now.last_card c.loop-position.position-index _ c.args.pass.now c.loop-position.pass few c.loop-position.invariant.1)
+    paid_steps c.args.tree.now.plan.last_card _ c.args.pass.now c.loop-position.pass
+    (paid_within c.args.tree.now.plan.last_card c.loop-position.position-index _ c.args.pass.now c.loop-position.pass few c.loop-position.invariant.1)
     c.known_moves_are_few-2.ensures
 
 pub returns-in_default-clause-worked : goal.returns-in_default-clause-worked
 returns-in_default-clause-worked g c =
-    front_held c.args.tree.now.last_card c.args.tries c.args.part.now c.loop-position.position-index (0, Find 0) c.args.pass.now c.loop-position.pass c.do_op.new.pass c.loop-position.piece.items
-    c.in_default.field-0 c.loop-position-test.true c.loop-position.invariant.0 c.in_default.ensures.ends.0 c.in_default.ensures.ends.1
+    front_held c.args.tree.now c.args.tree.now.plan.last_card c.args.tries c.args.part.now c.loop-position.position-index (0, Find 0) c.args.pass.now c.loop-position.pass c.do_op.new.pass c.loop-position.piece.items
+    c.in_default.field-0 c.loop-position-test.true c.requires.owned c.loop-position.invariant.0 c.in_default.ensures.ends.0 c.in_default.ensures.ends.1
 
 pub returns-in_default-clause-bounded : goal.returns-in_default-clause-bounded
 returns-in_default-clause-bounded g c =
-    let cards = c.args.tree.now.last_card in
+    let cards = c.args.tree.now.plan.last_card in
     let within = c.loop-position-test.true in
     paid_steps cards _ c.args.pass.now c.do_op.new.pass
     (paid_within cards (c.loop-position.position-index + 1) _ c.args.pass.now c.do_op.new.pass (omega (arith, within))

@@ -44,16 +44,22 @@ returns-clause-outcome g c = λ start left.
     subst (λ pieces. AreAnswers start parting.ops (flat_map (λ piece. piece.items) pieces)) (sym (c.deref-3.ensures.value ∙ c.in_ok-push.ensures.items))
     (all_answer (λ piece. piece.items) start parting c.args.pieces.items left.told c.len.ensures.lawful c.args.pairs.items left.listed
     c.in_ok-late.late.items late c.in_ok-piece.piece piece) in record {
-      told =
-          gathered start parting.ops items answers c.in-Ok.replies.items (subst (λ n. IsGathered n items c.in-Ok.replies.items) c.len.ensures.value c.in-Ok.ensures.ok)
-          ∙ ap (replies start) c.requires.parted;
-      listed =
-          subst (λ there. ListsPairs there c.in_ok-piece.pairs.items)
-          (ap (λ items. final (contents_of c.args.pairs.items) (ops_in items)) c.deref-2.ensures.value
-          ∙ last_map (λ piece. piece.items) start parting c.args.pieces.items left.told c.len.ensures.lawful c.args.pairs.items left.listed
-          c.in_ok-late.late.items late
-          ∙ ap (final start) c.requires.parted)
-          c.in_ok-piece.ensures.pairs;
+      answer = record {
+        told =
+            gathered start parting.ops items answers c.in-Ok.replies.items (subst (λ n. IsGathered n items c.in-Ok.replies.items) c.len.ensures.value c.in-Ok.ensures.ok)
+            ∙ ap (replies start) c.requires.parted;
+        listed =
+            subst (λ there. ListsPairs there c.in_ok-piece.pairs.items)
+            (ap (λ items. final (contents_of c.args.pairs.items) (ops_in items)) c.deref-2.ensures.value
+            ∙ last_map (λ piece. piece.items) start parting c.args.pieces.items left.told c.len.ensures.lawful c.args.pairs.items left.listed
+            c.in_ok-late.late.items late
+            ∙ ap (final start) c.requires.parted)
+            c.in_ok-piece.ensures.pairs;
+      };
+      few =
+          let same = ap length c.in_ok-late.ensures in
+          let value = c.len-2.ensures in
+          omega (arith, few_late c.args.ops.now (flat_map (λ piece. piece.items) c.deref.result.now));
       late = record {
         pieces = map (λ piece. piece.items) c.args.pieces.items;
         told = left.told;
@@ -63,12 +69,6 @@ returns-clause-outcome g c = λ start left.
             omega arith;
       };
     }
-
-pub returns-clause-few : goal.returns-clause-few
-returns-clause-few g c =
-    let same = ap length c.in_ok-late.ensures in
-    let value = c.len-2.ensures in
-    omega (arith, few_late c.args.ops.now (flat_map (λ piece. piece.items) c.deref.result.now))
 
 pub returns-clause-count : goal.returns-clause-count
 returns-clause-count g c =

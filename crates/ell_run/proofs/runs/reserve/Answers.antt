@@ -1,14 +1,13 @@
-use Rattle.std.proofs.Common.{All, sym, subst, ◌≤◌, ◌≡◌, true}
+use Rattle.std.proofs.Common.{All, ap, sym, subst, ◌≤◌, ◌≡◌, true, ◌∙◌}
 use Rattle.std.specs.Map.{keys_of as keys_in}
 use Rattle.ell_ops.specs.KeySet.{set_of}
 use Rattle.ell_ops.specs.Meaning.{greatest_key}
-use Rattle.ell_tree.specs.PassParts.{IsFirst}
 use Rattle.ell_run.proofs.Opened.{all_united, first_given, owns_used}
 use Rattle.ell_run.proofs.runs.reserve.Goals as goal
 
 pub reserve_with_zeros-requires-clause-real : goal.reserve_with_zeros-requires-clause-real
 reserve_with_zeros-requires-clause-real g c =
-    all_united (keys_in c.args.start.now) c.args.used.now c.in_ok-keys.keys.items c.in_ok-keys.ensures (λ key. key ≤ greatest_key) c.requires.real c.requires.used_real
+    all_united (keys_in c.args.start.now) c.args.used.now c.in_ok-keys.keys.items c.in_ok-keys.ensures (λ key. key ≤ greatest_key) c.requires.start.real c.requires.used_real
 
 pub reserve_with_zeros-requires-clause-given : goal.reserve_with_zeros-requires-clause-given
 reserve_with_zeros-requires-clause-given g c =
@@ -18,5 +17,11 @@ reserve_with_zeros-requires-clause-given g c =
 pub returns-in-Ok-clause-owned : goal.returns-in-Ok-clause-owned
 returns-in-Ok-clause-owned g c =
     let made = c.in-Ok.made in
-    owns_used c.args.start.now c.args.used.now c.in_ok-keys.keys.items made.0 made.1 c.in_ok-keys.ensures c.in-Ok.ensures.tree.0
-    (subst (λ start. IsFirst start made.0 made.1) c.in_ok-present.ensures.items c.in-Ok.ensures.pass)
+    owns_used c.args.start.now c.args.used.now c.in_ok-keys.keys.items made.0 made.1 c.in_ok-keys.ensures
+    (ap (λ plan. plan.keys) c.in-Ok.ensures.tree) c.in-Ok.ensures.pass
+
+pub returns-in-Ok-clause-tree : goal.returns-in-Ok-clause-tree
+returns-in-Ok-clause-tree g c = record {
+  begins = ap (λ plan. plan.start) c.in-Ok.ensures.tree ∙ c.in_ok-present.ensures.items;
+  unshared = ap (λ plan. plan.shared) c.in-Ok.ensures.tree;
+}

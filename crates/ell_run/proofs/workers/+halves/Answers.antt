@@ -1,4 +1,4 @@
-use Rattle.std.proofs.Common.{rules, ◌≡◌, ◌++◌, ◌/◌, IfOk, length, map, ap₂, arith, sym, subst, ◌∙◌}
+use Rattle.std.proofs.Common.{rules, ◌≡◌, ◌++◌, ◌/◌, length, map, ap₂, arith, sym, subst, ◌∙◌}
 use Rattle.std.proofs.lemmas.List.{take-append-drop}
 use Rattle.ell_run.specs.Work.{AreHalves, AreReady, IsWorkedWithin}
 use Rattle.ell_run.proofs.Paid.{some_each}
@@ -15,8 +15,8 @@ join-first-requires-after_bounds g t c κs within =
     c.in_ok-left.ensures.right high (subst (λ row. AreReady c.args.tree.now c.args.parts.now row c.args.pass) (sym rows) c.requires.ready) in
     search rules
 
-pub returns : goal.returns
-returns g t c =
+pub returns-clause-worked : goal.returns-clause-worked
+returns-clause-worked g t c =
     let parting = c.args.parts.now in
     let workers = c.args.workers.now in
     let low = c.split_at.result.0.now in
@@ -26,13 +26,11 @@ returns g t c =
     let ready : AreReady c.args.tree.now parting (low ++ high) c.args.pass =
     subst (λ row. AreReady c.args.tree.now parting row c.args.pass) (sym rows) c.requires.ready in
     let halves : AreHalves parting low c.args.pass c.in_ok-left.left c.in_ok-left.right = search rules in
-    let first : IsWorkedWithin c.args.tree.now.last_card c.args.tries parting low c.in_ok-left.left c.in_ok-first.field-0.0
+    let first : IsWorkedWithin c.args.tree.now.plan.last_card c.args.tries parting low c.in_ok-left.left c.in_ok-first.field-0.0
     (map (λ piece. piece.items) c.in_ok-first.field-0.1.items) = search rules in
-    let second : IsWorkedWithin c.args.tree.now.last_card c.args.tries parting high c.in_ok-left.right c.in_ok-second.field-0.0
+    let second : IsWorkedWithin c.args.tree.now.plan.last_card c.args.tries parting high c.in_ok-left.right c.in_ok-second.field-0.0
     (map (λ piece. piece.items) c.in_ok-second.field-0.1.items) = search rules in
     let some = some_each workers low high (omega (arith, c.if-workers-lt2.false)) c.split_at.ensures.front c.split_at.ensures.back in
-    let done : IfOk c.both.result (λ done. IsWorkedWithin c.args.tree.now.last_card c.args.tries parting (low ++ high) c.args.pass done.0
-    (map (λ piece. piece.items) done.1.items)) =
-    c.both.ensures c.args.tree.now.last_card c.args.tries parting low high c.args.pass c.in_ok-left.left c.in_ok-left.right some.0 some.1 ready halves first second in
-    subst (λ row. IfOk c.both.result (λ done. IsWorkedWithin c.args.tree.now.last_card c.args.tries parting row c.args.pass done.0
-    (map (λ piece. piece.items) done.1.items))) rows done
+    let done = c.in_ok-both.ensures c.args.tree.now.plan.last_card c.args.tries parting low high c.args.pass c.in_ok-left.left c.in_ok-left.right some.0 some.1 ready halves first second in
+    subst (λ row. IsWorkedWithin c.args.tree.now.plan.last_card c.args.tries parting row c.args.pass c.in_ok-both.field-0.0
+    (map (λ piece. piece.items) c.in_ok-both.field-0.1.items)) rows done

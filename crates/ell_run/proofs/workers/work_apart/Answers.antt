@@ -13,18 +13,14 @@ work-requires-2-clause-owned g c = λ κs outlives.
 
 pub returns-in-Ok-join-clause-worked : goal.returns-in-Ok-join-clause-worked
 returns-in-Ok-join-clause-worked g c =
-    worked_apart c.args.parts.now c.args.keys.now c.args.pass c.in-Ok.parted.0 c.in-Ok.parted.1 c.requires.keys c.requires.owned c.in-Ok.ensures.left
-    c.args.tree.now c.args.tree.now.last_card c.args.tries c.in_ok-ours.ours c.in-Ok-join.pass (map (λ piece. piece.items) c.in_ok-ours.pieces.items)
-    c.requires.lawful c.requires.own c.requires.idle c.in-Ok.ensures.right c.in_ok-ours.ensures.worked c.in-Ok-join.ensures.joined
-
-pub returns-in-Ok-join-clause-bounded : goal.returns-in-Ok-join-clause-bounded
-returns-in-Ok-join-clause-bounded g c =
-    let apart = c.in-Ok.ensures.left.steps in
-    let others = c.in-Ok.ensures.right.steps in
-    let did = c.in_ok-ours.ensures.bounded in
-    let union = c.in-Ok-join.ensures.joined.steps in
-    omega (arith, apart, others, did, union)
-
-pub returns-in-Ok-join-clause-total : goal.returns-in-Ok-join-clause-total
-returns-in-Ok-join-clause-total g c =
-    omega (arith, c.in-Ok.ensures.left.made, c.in-Ok.ensures.right.made, c.in_ok-ours.ensures.total, c.in-Ok-join.ensures.joined.made)
+    let left = c.in-Ok.ensures.left in
+    let right = c.in-Ok.ensures.right in
+    let did = c.in_ok-ours.ensures.worked in
+    let union = c.in-Ok-join.ensures.joined in record {
+      worked =
+          worked_apart c.args.parts.now c.args.keys.now c.args.pass c.in-Ok.parted.0 c.in-Ok.parted.1 c.requires.keys c.requires.owned left
+          c.args.tree.now c.args.tree.now.plan.last_card c.args.tries c.in_ok-ours.ours c.in-Ok-join.pass (map (λ piece. piece.items) c.in_ok-ours.pieces.items)
+          c.requires.lawful c.requires.idle.0 c.requires.idle.1 right did.worked union;
+      bounded = omega (arith, left.steps, right.steps, did.bounded, union.steps);
+      total = omega (arith, left.made, right.made, did.total, union.made);
+    }

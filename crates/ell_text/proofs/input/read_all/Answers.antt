@@ -8,5 +8,5 @@ loop-filled-preserved g c =
     record {
       filled = read.fits;
       within = read.within;
-      given = given_more _ _ _ c.loop-filled.bytes.items c.read_more.new.bytes.items c.loop-filled.filled c.in_ok-count.count read.front c.loop-filled.invariant.given read.ok;
+      given = given_more _ _ _ c.loop-filled.bytes.items c.read_more.new.bytes.items c.loop-filled.filled c.in_ok-count.count read.read.front c.loop-filled.invariant.given read.read.ok;
     }

@@ -1,21 +1,13 @@
-use Rattle.std.proofs.lemmas.Result.{err_from_is_err_and, on_ok_weaker, IfErr-weaker}
-use Rattle.ell_text.proofs.Putting.{Puts-then, Faults-then, Faults-more}
+use Rattle.ell_text.proofs.Putting.{HasPut-failed, HasPut-then, Faults-then, Faults-more}
 use Rattle.ell_text.proofs.listing.put_keys.Goals as goal
 
-pub returns-in_err-put-clause-fault : goal.returns-in_err-put-clause-fault
-returns-in_err-put-clause-fault g c =
-    let p = err_from_is_err_and c.from_residual.result c.from_residual.ensures.1 in
-    rw (p.1, p.2) (Faults-more _ c.in_err-put.ensures.fault)
+pub returns-in_err-put : goal.returns-in_err-put
+returns-in_err-put g c = HasPut-failed c.from_residual.result _ c.from_residual.ensures.1 (Faults-more _ c.in_err-put.ensures.fault)
 
-pub returns-in_err-put_line-clause-fault : goal.returns-in_err-put_line-clause-fault
-returns-in_err-put_line-clause-fault g c =
-    let p = err_from_is_err_and c.from_residual-in_err-put_line.result c.from_residual-in_err-put_line.ensures.1 in
-    rw (p.1, p.2) (Faults-then c.in_ok-put.ensures.ok (Faults-more _ c.in_err-put_line.ensures.fault))
+pub returns-in_err-put_line : goal.returns-in_err-put_line
+returns-in_err-put_line g c =
+    HasPut-failed c.from_residual-in_err-put_line.result _ c.from_residual-in_err-put_line.ensures.1
+    (Faults-then c.in_ok-put.ensures.ok (Faults-more _ c.in_err-put_line.ensures.fault))
 
-pub returns-clause-ok : goal.returns-clause-ok
-returns-clause-ok g c =
-    on_ok_weaker c.put_lines.result (λ lines. Puts-then c.in_ok-put.ensures.ok (Puts-then c.in_ok-put_line.ensures.ok lines)) c.put_lines.ensures.ok
-
-pub returns-clause-fault : goal.returns-clause-fault
-returns-clause-fault g c =
-    IfErr-weaker c.put_lines.result _ _ (λ fault lines. Faults-then c.in_ok-put.ensures.ok (Faults-then c.in_ok-put_line.ensures.ok lines)) c.put_lines.ensures.fault
+pub returns : goal.returns
+returns g c = HasPut-then c.put_lines.result c.in_ok-put.ensures.ok (HasPut-then c.put_lines.result c.in_ok-put_line.ensures.ok c.put_lines.ensures)

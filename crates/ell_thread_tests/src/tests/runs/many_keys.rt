@@ -1,5 +1,6 @@
 //! Texts of as many operations as a text may have, on as many keys.
 use ell_run::{Parting, Settings, run_bytes};
+use ell_word::NoGate;
 use std::alloc::Global;
 use std::io::Write;
 use std::process::Abort;
@@ -97,7 +98,8 @@ fn is_answered<R: Threads + Abort + Sync>(
         tries: 1000,
     };
     let (mut reader, mut out) = (text, Vec::new(alloc));
-    run_bytes(rt, alloc, &mut reader, &mut out, settings).is_ok() && out.as_slice() == answer
+    run_bytes(rt, alloc, &mut reader, &mut out, settings, &NoGate).is_ok()
+        && out.as_slice() == answer
 }
 
 #[test]

@@ -1,5 +1,5 @@
 //! Texts whose keys ascend, shorter and longer than those that are run in another order.
-use ell_run::{Parting, Settings, run_bytes_watched};
+use ell_run::{Parting, Settings, run_bytes};
 use ell_test_gates::Counting;
 use ell_word::{Kind, NoGate};
 use std::io::Write;
@@ -26,7 +26,7 @@ fn words_read<R: Threads + Abort + AllocGlobal + Sync>(rt: &R, count: u64) -> u6
     }
     let gate = Counting::new(rt.alloc(), 1, NoGate).expect(rt, "memory");
     let (mut reader, mut out) = (text.as_slice(), Vec::new(rt.alloc()));
-    let ran = run_bytes_watched(rt, rt.alloc(), &mut reader, &mut out, ALONE, &gate);
+    let ran = run_bytes(rt, rt.alloc(), &mut reader, &mut out, ALONE, &gate);
     assert!(rt;
         ran.is_ok() && out.as_slice() == answer.as_slice(),
         "of {count}"

@@ -1,5 +1,6 @@
 //! Runs of small texts, with the answers that a person gave them.
 use ell_run::{Parting, Settings, run_bytes};
+use ell_word::NoGate;
 
 // A text, by how many workers and which parting and cards it is run, and its answer.
 type Row = (&'static [u8], u32, Parting, Option<u64>, &'static [u8]);
@@ -83,7 +84,7 @@ fn small_texts_with_values_have_one_answer(rt: HostRuntime) {
                 tries: 1000,
             };
             let (mut reader, mut out) = (*text, Vec::new(rt.alloc()));
-            let report = run_bytes(&rt, rt.alloc(), &mut reader, &mut out, settings);
+            let report = run_bytes(&rt, rt.alloc(), &mut reader, &mut out, settings, &NoGate);
             assert!(rt;
                 report.is_ok() && out.as_slice() == *answer,
                 "row {row} by {workers}"
@@ -103,7 +104,7 @@ fn texts_have_one_answer(rt: HostRuntime) {
             tries: 1000,
         };
         let (mut reader, mut out) = (*text, Vec::new(rt.alloc()));
-        let report = run_bytes(&rt, rt.alloc(), &mut reader, &mut out, settings);
+        let report = run_bytes(&rt, rt.alloc(), &mut reader, &mut out, settings, &NoGate);
         let late = report.map_or(1, |report| report.late);
         assert!(rt; out.as_slice() == *answer && late == 0, "row {row}");
     }

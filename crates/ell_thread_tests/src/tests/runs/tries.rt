@@ -2,7 +2,7 @@
 use super::running::{came_to, run_owned};
 use ell_ops::Op::{Find, Insert};
 use ell_ops::Reply::{Found, Yes};
-use ell_run::{Parting, Settings, run_bytes_watched};
+use ell_run::{Parting, Settings, run_bytes};
 use ell_test_gates::{Counting, Holding, Told, two_threads_meet};
 use ell_word::Kind;
 
@@ -52,7 +52,7 @@ fn a_text_is_tried_as_often_as_its_settings_say(rt: HostRuntime) {
         };
         let gate = Counting::new(rt.alloc(), 2, Holding::at(Kind::IChild)).expect(&rt, "memory");
         let (mut reader, mut out) = (TEXT.as_bytes(), Vec::new(rt.alloc()));
-        let report = run_bytes_watched(&rt, rt.alloc(), &mut reader, &mut out, settings, &gate);
+        let report = run_bytes(&rt, rt.alloc(), &mut reader, &mut out, settings, &gate);
         assert!(rt; gate.behind().has_held(), "row {row}");
         assert!(rt;
             report.is_ok_and(|report| report.late == *late),

@@ -1,6 +1,7 @@
 //! The two calls that turn a text into its answer, and whether they end as they are to.
 use ell_run::{Parting, RunFault, Settings, run_bytes};
 use ell_text::{ScriptFault, replay_bytes};
+use ell_word::NoGate;
 use std::alloc::Global;
 use std::io::{Read, Write};
 use std::thread::Threads;
@@ -18,7 +19,7 @@ pub(super) fn run<R: Threads + Sync, I: Read, O: Write>(
         cards: None,
         tries: 1000,
     };
-    run_bytes(rt, alloc, reader, writer, settings).err()
+    run_bytes(rt, alloc, reader, writer, settings, &NoGate).err()
 }
 
 /// Whether a run of what a reader gives ends by a fault, with nothing written.

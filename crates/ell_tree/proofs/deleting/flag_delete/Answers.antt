@@ -16,5 +16,5 @@ returns g c =
       goes = flag_goes kind.DFlag DFlagged c.args.card above.node above.update c.args.pass.now f.new.pass c.dflag.new.pass 4 c.dflag.result f.ensures c.dflag.ensures.step;
       taken = flag_takes kind.DFlag DFlagged c.args.card above.node above.update c.args.pass.now f.new.pass c.dflag.new.pass 4 c.dflag.result f.ensures c.dflag.ensures.step refl;
       flags = flag_ends kind.DFlag DFlagged c.args.card above.node above.update c.args.pass.now f.new.pass c.dflag.new.pass 4 c.dflag.result f.ensures c.dflag.ensures.step
-          c.args.table.now.last_card c.requires.card.1.may.holds c.requires.node c.dflag.ensures.card;
+          c.args.table.now.plan.last_card c.requires.card.1.may.holds c.requires.node c.dflag.ensures.card;
     }

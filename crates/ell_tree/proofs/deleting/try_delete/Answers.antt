@@ -1,14 +1,21 @@
-use Rattle.std.proofs.Common.{◌+◌, ◌≡◌, ◌≢◌, length, ap, ◌∙◌, rules, arith}
+use Rattle.std.proofs.Common.{◌+◌, ◌≡◌, ◌≢◌, Some, List, length, sym, ap, ◌∙◌, subst, rules, arith}
 use Rattle.ell_ops.specs.declared.op.Op.TheVariants.{Delete}
+use Rattle.ell_ops.specs.declared.reply.Reply.TheVariants.{Yes}
 use Rattle.ell_word.specs.declared.update.State.TheVariants.{Clean}
 use Rattle.ell_core.specs.declared.view.Search.{Search}
+use Rattle.ell_cards.specs.declared.view.Told.{Told}
+use Rattle.ell_cards.specs.Models.{Does, Has, IsTold}
+use Rattle.ell_cards.specs.Changes.{answered_so}
+use Rattle.ell_cards.proofs.runs.Taking.{deletes_take_the_told_value}
 use Rattle.ell_tree.specs.CardsTaken.{cards_taken}
 use Rattle.ell_tree.specs.Hindrances.{way_of}
 use Rattle.ell_tree.specs.Searches.{seen_any, below}
 use Rattle.ell_tree.proofs.Keeping.{inner_kept}
+use Rattle.ell_tree.proofs.Keeping.{share_trans}
+use Rattle.ell_tree.proofs.Owning.{goes_answers, had_none, had_value, would_delete}
 use Rattle.ell_tree.proofs.Meeting.{meets_trans, meets_more, above_way, parent_way, nowhere_way, way_over, way_free, no_way}
 use Rattle.ell_tree.proofs.Halting.{goes_meets, seek_meets, said_meets, flag_lost}
-use Rattle.ell_tree.proofs.Filling.{delete_wants, told_grandparent, told_parent, told_was}
+use Rattle.ell_tree.proofs.Filling.{delete_wants, told_grandparent, told_leaf, told_parent, told_was}
 use Rattle.ell_tree.proofs.Hindering.{root_in_try}
 use Rattle.ell_tree.proofs.Moving.{sees_end, gives_out}
 use Rattle.ell_tree.proofs.Descending.{unknown_above, named_above}
@@ -30,8 +37,8 @@ finish_own-requires-clause-parent g c =
     let s = c.search-place in
     told_parent s.new.pass.view c.take_card.new.pass.view c.flag_delete.new.pass.view c.in-Card.card c.args.key s.result c.flag_delete.ensures.goes.view
     c.in-Some.above c.in-Some.is (s.ensures.seeks.goes.view.operation ∙ c.requires.root.busy) s.ensures.ends.at c.in-Card.ensures.claims.0
-    c.args.table.now.last_card
-    (inner_kept c.args.table.now.last_card s.new.pass.view c.take_card.new.pass.view s.result.parent.node c.take_card.ensures.goes.view s.ensures.ends.passed.node)
+    c.args.table.now.plan.last_card
+    (inner_kept c.args.table.now.plan.last_card s.new.pass.view c.take_card.new.pass.view s.result.parent.node c.take_card.ensures.goes.view s.ensures.ends.passed.node)
 
 pub finish_own-requires-clause-read : goal.finish_own-requires-clause-read
 finish_own-requires-clause-read g c =
@@ -46,7 +53,7 @@ returns-then-place-key-clause-ends g c =
     let s = c.search-place in
     let said = c.answer in
     let answers = said.ensures.answers (Delete c.args.key) (s.ensures.seeks.goes.view.operation ∙ c.requires.root.busy) in (
-      search rules,
+      goes_answers c.args.table.now (Delete c.args.key) _ a s.new.pass said.new.pass _ s.ensures.seeks.goes answers,
       meets_trans a.view s.new.pass.view said.new.pass.view (seek_meets a s.new.pass _ s.ensures.seeks)
           (said_meets s.new.pass.view said.new.pass.view said.ensures.hindrances said.ensures.facts),
       said.ensures.room,
@@ -72,16 +79,17 @@ returns-then-ne-clause-ends g c =
         label = search rules;
         ledger = search rules;
         answers = search rules;
+        share = share_trans a.view s.new.pass.view new.view s.ensures.seeks.goes.view.share c.help.ensures.works.goes.view.share;
         meets = meets;
         in_try = c.help.ensures.works.goes.view.earlier a.view.hindrances (s.ensures.seeks.goes.view.earlier a.view.hindrances (root_in_try (Delete c.args.key) a.view c.requires.root));
         way = way.0;
-        would = search rules;
+        would = would_delete c.args.table.now.plan.last_card a s.new.pass s.ensures.seeks.goes.view.ledger s.result c.args.key s.ensures.ends (search rules);
         stops = search rules;
       },
       omega (arith, way.1, more),
-      sees_end c.args.table.now.last_card a.view s.new.pass.view new.view above.update.state above.update.card s.ensures.seeks.goes.view.before
+      sees_end c.args.table.now.plan.last_card a.view s.new.pass.view new.view above.update.state above.update.card s.ensures.seeks.goes.view.before
           (unknown_above s.new.pass.view place.grandparent above c.in-Some.is s.ensures.ends.unknown_above)
-          (named_above c.args.table.now.last_card s.new.pass.view place.grandparent above c.in-Some.is s.ensures.ends.passed_above) stands c.help.ensures.ended
+          (named_above c.args.table.now.plan.last_card s.new.pass.view place.grandparent above c.in-Some.is s.ensures.ends.passed_above) stands c.help.ensures.ended
           (omega (arith, s.ensures.seeks.goes.view.least, c.help.ensures.works.goes.view.least)),
     )
 
@@ -108,14 +116,15 @@ returns-then-ne-2-clause-ends g c =
         label = search rules;
         ledger = search rules;
         answers = search rules;
+        share = share_trans a.view s.new.pass.view new.view s.ensures.seeks.goes.view.share help.ensures.works.goes.view.share;
         meets = meets;
         in_try = help.ensures.works.goes.view.earlier a.view.hindrances (s.ensures.seeks.goes.view.earlier a.view.hindrances (root_in_try (Delete c.args.key) a.view c.requires.root));
         way = way.0;
-        would = search rules;
+        would = would_delete c.args.table.now.plan.last_card a s.new.pass s.ensures.seeks.goes.view.ledger s.result c.args.key s.ensures.ends (search rules);
         stops = search rules;
       },
       omega (arith, way.1, more),
-      sees_end c.args.table.now.last_card a.view s.new.pass.view new.view update.state update.card s.ensures.seeks.goes.view.before s.ensures.ends.unknown
+      sees_end c.args.table.now.plan.last_card a.view s.new.pass.view new.view update.state update.card s.ensures.seeks.goes.view.before s.ensures.ends.unknown
           s.ensures.ends.passed.named stands help.ensures.ended
           (omega (arith, s.ensures.seeks.goes.view.least, help.ensures.works.goes.view.least)),
     )
@@ -142,10 +151,11 @@ returns-in-NoneLeft-clause-ends g c =
         label = search rules;
         ledger = search rules;
         answers = search rules;
+        share = share_trans a.view s.new.pass.view new.view s.ensures.seeks.goes.view.share c.take_card.ensures.goes.view.share;
         meets = meets;
         in_try = c.take_card.ensures.goes.view.earlier a.view.hindrances (s.ensures.seeks.goes.view.earlier a.view.hindrances (root_in_try (Delete c.args.key) a.view c.requires.root));
         way = way;
-        would = search rules;
+        would = would_delete c.args.table.now.plan.last_card a s.new.pass s.ensures.seeks.goes.view.ledger s.result c.args.key s.ensures.ends (search rules);
         stops = search rules;
       },
       claims.1,
@@ -173,14 +183,15 @@ returns-in-Lost-clause-ends g c =
         label = search rules;
         ledger = search rules;
         answers = search rules;
+        share = share_trans a.view s.new.pass.view new.view s.ensures.seeks.goes.view.share c.take_card.ensures.goes.view.share;
         meets = meets;
         in_try = c.take_card.ensures.goes.view.earlier a.view.hindrances (s.ensures.seeks.goes.view.earlier a.view.hindrances (root_in_try (Delete c.args.key) a.view c.requires.root));
         way = way;
-        would = search rules;
+        would = would_delete c.args.table.now.plan.last_card a s.new.pass s.ensures.seeks.goes.view.ledger s.result c.args.key s.ensures.ends (search rules);
         stops = search rules;
       },
       omega (arith, quiet, claims.2),
-      gives_out c.args.table.now.last_card a.view s.new.pass.view new.view new.view s.ensures.seeks.goes.view.least claims.3 (omega arith),
+      gives_out c.args.table.now.plan.last_card a.view s.new.pass.view new.view new.view s.ensures.seeks.goes.view.least claims.3 (omega arith),
     )
 
 -- the flag was lost
@@ -195,7 +206,7 @@ returns-in-Err-clause-ends g c =
     let flags = c.in-Err.ensures.flags in
     let taken = meets_trans a.view s.new.pass.view t.view (seek_meets a s.new.pass _ s.ensures.seeks)
     (goes_meets s.new.pass t 2 c.take_card.ensures.goes c.in-Card.ensures.claims.2) in
-    let lost = flag_lost c.args.table.now.last_card c.in-Some.above.node c.in-Err.found t.view f.view new.view flags c.flag_delete.ensures.goes.view.knows
+    let lost = flag_lost c.args.table.now.plan.last_card c.in-Some.above.node c.in-Err.found t.view f.view new.view flags c.flag_delete.ensures.goes.view.knows
     help.ensures.meets help.ensures.ended in
     let meets = meets_trans a.view t.view new.view taken lost.0 in
     let way = no_way new.view (way_of (Delete c.args.key) new.view)
@@ -209,14 +220,16 @@ returns-in-Err-clause-ends g c =
         label = search rules;
         ledger = search rules;
         answers = search rules;
+        share = share_trans a.view f.view new.view (share_trans a.view t.view f.view (share_trans a.view s.new.pass.view t.view s.ensures.seeks.goes.view.share
+            c.take_card.ensures.goes.view.share) c.flag_delete.ensures.goes.view.share) help.ensures.works.goes.view.share;
         meets = meets;
         in_try = in_try;
         way = way;
-        would = search rules;
+        would = would_delete c.args.table.now.plan.last_card a s.new.pass s.ensures.seeks.goes.view.ledger s.result c.args.key s.ensures.ends (search rules);
         stops = search rules;
       },
       omega (arith, lost.1, more),
-      gives_out c.args.table.now.last_card a.view s.new.pass.view t.view new.view s.ensures.seeks.goes.view.least c.in-Card.ensures.claims.3
+      gives_out c.args.table.now.plan.last_card a.view s.new.pass.view t.view new.view s.ensures.seeks.goes.view.least c.in-Card.ensures.claims.3
           (omega (arith, c.flag_delete.ensures.goes.view.least, help.ensures.works.goes.view.least)),
     )
 
@@ -234,10 +247,47 @@ returns-clause-ends g c =
     let flagged = meets_trans a.view t.view f.view taken (goes_meets t f 5 c.flag_delete.ensures.goes c.in_default-flag_delete.ensures.flags.hindrances) in
     let finished = meets_trans a.view f.view m.view flagged c.finish_own.ensures.meets in
     let answers = said.ensures.answers (Delete c.args.key) (search rules) in (
-      search rules,
+      goes_answers c.args.table.now (Delete c.args.key) _ a s.new.pass said.new.pass _ s.ensures.seeks.goes
+          (goes_answers c.args.table.now (Delete c.args.key) _ s.new.pass t said.new.pass _ c.take_card.ensures.goes
+          (goes_answers c.args.table.now (Delete c.args.key) _ t f said.new.pass _ c.flag_delete.ensures.goes
+          (goes_answers c.args.table.now (Delete c.args.key) _ f m said.new.pass _ c.finish_own.ensures.works.goes answers))),
       meets_trans a.view m.view said.new.pass.view finished (said_meets m.view said.new.pass.view said.ensures.hindrances said.ensures.facts),
       said.ensures.room,
     )
+
+-- nothing was there to take
+pub returns-then-place-key-clause-took : goal.returns-then-place-key-clause-took
+returns-then-place-key-clause-took g c =
+    let s = c.search-place in
+    record {
+      mine = had_none c.args.table.now.plan.last_card c.args.pass.now s.new.pass s.ensures.seeks.goes.view.ledger s.result c.args.key s.ensures.ends (search rules);
+      took = tt;
+    }
+
+-- the value of the leaf of the card was taken
+pub returns-clause-took : goal.returns-clause-took
+returns-clause-took g c =
+    let s = c.search-place in
+    let t = c.take_card.new.pass in
+    let f = c.flag_delete.new.pass in
+    let m = c.finish_own.new.pass in
+    let said = c.answer-2 in
+    let new = said.new.pass in
+    let place = s.result in
+    let card = c.in-Card.card in
+    let busy : Does m.view (Delete c.args.key) = search rules in
+    let hand : m.view.worker.card ≡ Some card = c.finish_own.ensures.works.card ∙ c.in_default-flag_delete.ensures.flags.card in
+    let stays : (e : Told) → IsTold m.view e → IsTold new.view e = λ e has. subst (λ (es : List Told). Has es e) (sym said.ensures.told) has in
+    let leaf = told_leaf s.new.pass.view t.view f.view card c.args.key place c.flag_delete.ensures.goes.view
+    c.in-Some.above c.in-Some.is (s.ensures.seeks.goes.view.operation ∙ c.requires.root.busy) s.ensures.ends.at c.in-Card.ensures.claims.0 in
+    let value = c.flag_delete.ensures.goes.view.told _ (c.take_card.ensures.goes.view.told _ s.ensures.ends.at.value_told) in
+    let on = c.finish_own.ensures.works.goes.view.told in
+    record {
+      mine = had_value c.args.table.now.plan.last_card c.args.pass.now s.new.pass s.ensures.seeks.goes.view.ledger place c.args.key s.ensures.ends (search rules);
+      took = deletes_take_the_told_value c.args.table.now.plan new.view c.args.key card place.leaf place.value
+          (said.ensures.last ∙ (ap (λ o. answered_so o m.view.worker.card Yes) busy ∙ ap (λ o. answered_so (Some (Delete c.args.key)) o Yes) hand))
+          (stays _ (on _ leaf)) (stays _ (on _ value));
+    }
 
 -- the cards of each
 pub returns-then-ne-clause-taken : goal.returns-then-ne-clause-taken

@@ -9,7 +9,7 @@ use Rattle.ell_tree.proofs.helping.help_delete.Given as goal
 abbrev pub invariant-loop-next : goal.invariant-loop-next
 invariant-loop-next g l = record {
   same : l.table ≡ l.fn.table;
-  flag : IsFlag l.table.last_card l.pass.view l.flag;
+  flag : IsFlag l.table.plan.last_card l.pass.view l.flag;
   down : card l.fn.flag.grandparent ≤ card l.flag.grandparent;
   ended : (l.flag ≡ l.fn.flag) ⊎ IsDeleteEnded l.pass.view l.fn.flag.card;
   meets : MeetsUpTo l.flag.card l.fn.pass.view l.pass.view;
@@ -17,4 +17,4 @@ invariant-loop-next g l = record {
 }
 
 abbrev pub decreases-loop-next : goal.decreases-loop-next
-decreases-loop-next g l = 3 * l.table.last_card + 3 - l.flag.grandparent
+decreases-loop-next g l = 3 * l.table.plan.last_card + 3 - l.flag.grandparent

@@ -15,5 +15,5 @@ returns g c =
       goes = flag_goes kind.IFlag IFlagged c.args.card parent.node parent.update c.args.pass.now f.new.pass c.iflag.new.pass 10 c.iflag.result f.ensures c.iflag.ensures.step;
       taken = flag_takes kind.IFlag IFlagged c.args.card parent.node parent.update c.args.pass.now f.new.pass c.iflag.new.pass 10 c.iflag.result f.ensures c.iflag.ensures.step refl;
       flags = flag_ends kind.IFlag IFlagged c.args.card parent.node parent.update c.args.pass.now f.new.pass c.iflag.new.pass 10 c.iflag.result f.ensures c.iflag.ensures.step
-          c.args.table.now.last_card c.requires.card.may.holds c.requires.node c.iflag.ensures.card;
+          c.args.table.now.plan.last_card c.requires.card.may.holds c.requires.node c.iflag.ensures.card;
     }

@@ -11,6 +11,8 @@ use Rattle.ell_tree.specs.Hindrances.{way_of}
 use Rattle.ell_tree.specs.Tries.{HasCard}
 use Rattle.ell_tree.proofs.Descending.{may_answer}
 use Rattle.ell_tree.proofs.Filling.{insert_fills, is_insert}
+use Rattle.ell_tree.proofs.Keeping.{share_trans}
+use Rattle.ell_tree.proofs.Owning.{goes_answers, would_insert}
 use Rattle.ell_tree.proofs.Meeting.{meets_trans, meets_more, insert_way, nowhere_way, way_over, way_free, no_way}
 use Rattle.ell_tree.proofs.Halting.{goes_meets, seek_meets, walk_meets, said_meets, flag_lost}
 use Rattle.ell_tree.proofs.Hindering.{root_in_try}
@@ -51,7 +53,7 @@ returns-then-place-key-clause-ends g c =
     let s = c.search-place in
     let said = c.answer in
     let answers = said.ensures.answers (Insert c.args.key c.args.value) (s.ensures.seeks.goes.view.operation ∙ c.requires.root.busy) in (
-      search rules,
+      goes_answers c.args.table.now (Insert c.args.key c.args.value) _ a s.new.pass said.new.pass _ s.ensures.seeks.goes answers,
       meets_trans a.view s.new.pass.view said.new.pass.view (seek_meets a s.new.pass _ s.ensures.seeks)
           (said_meets s.new.pass.view said.new.pass.view said.ensures.hindrances said.ensures.facts),
       said.ensures.room,
@@ -76,14 +78,15 @@ returns-then-ne-clause-ends g c =
         label = search rules;
         ledger = search rules;
         answers = search rules;
+        share = share_trans a.view s.new.pass.view new.view s.ensures.seeks.goes.view.share c.help.ensures.works.goes.view.share;
         meets = meets;
         in_try = c.help.ensures.works.goes.view.earlier a.view.hindrances (s.ensures.seeks.goes.view.earlier a.view.hindrances (root_in_try (Insert c.args.key c.args.value) a.view c.requires.root));
         way = way.0;
-        would = search rules;
+        would = would_insert c.args.table.now.plan.last_card a s.new.pass s.ensures.seeks.goes.view.ledger s.result c.args.key c.args.value s.ensures.ends (search rules);
         stops = search rules;
       },
       omega (arith, way.1, more),
-      sees_end c.args.table.now.last_card a.view s.new.pass.view new.view update.state update.card s.ensures.seeks.goes.view.before s.ensures.ends.unknown
+      sees_end c.args.table.now.plan.last_card a.view s.new.pass.view new.view update.state update.card s.ensures.seeks.goes.view.before s.ensures.ends.unknown
           s.ensures.ends.passed.named stands c.help.ensures.ended
           (omega (arith, s.ensures.seeks.goes.view.least, c.help.ensures.works.goes.view.least)),
     )
@@ -107,10 +110,11 @@ returns-in-NoneLeft-clause-ends g c =
         label = search rules;
         ledger = search rules;
         answers = search rules;
+        share = share_trans a.view s.new.pass.view new.view s.ensures.seeks.goes.view.share c.take_card.ensures.goes.view.share;
         meets = meets;
         in_try = c.take_card.ensures.goes.view.earlier a.view.hindrances (s.ensures.seeks.goes.view.earlier a.view.hindrances (root_in_try (Insert c.args.key c.args.value) a.view c.requires.root));
         way = way;
-        would = search rules;
+        would = would_insert c.args.table.now.plan.last_card a s.new.pass s.ensures.seeks.goes.view.ledger s.result c.args.key c.args.value s.ensures.ends (search rules);
         stops = search rules;
       },
       claims.1,
@@ -135,14 +139,15 @@ returns-in-Lost-clause-ends g c =
         label = search rules;
         ledger = search rules;
         answers = search rules;
+        share = share_trans a.view s.new.pass.view new.view s.ensures.seeks.goes.view.share c.take_card.ensures.goes.view.share;
         meets = meets;
         in_try = c.take_card.ensures.goes.view.earlier a.view.hindrances (s.ensures.seeks.goes.view.earlier a.view.hindrances (root_in_try (Insert c.args.key c.args.value) a.view c.requires.root));
         way = way;
-        would = search rules;
+        would = would_insert c.args.table.now.plan.last_card a s.new.pass s.ensures.seeks.goes.view.ledger s.result c.args.key c.args.value s.ensures.ends (search rules);
         stops = search rules;
       },
       omega (arith, quiet, claims.2),
-      gives_out c.args.table.now.last_card a.view s.new.pass.view new.view new.view s.ensures.seeks.goes.view.least claims.3 (omega arith),
+      gives_out c.args.table.now.plan.last_card a.view s.new.pass.view new.view new.view s.ensures.seeks.goes.view.least claims.3 (omega arith),
     )
 
 -- the key was added
@@ -159,7 +164,10 @@ returns-in-Ok-clause-ends g c =
     let flagged = meets_trans a.view t.view f.view taken (goes_meets t f 11 c.flag_insert.ensures.goes c.in-Ok.ensures.flags.hindrances) in
     let finished = meets_trans a.view f.view m.view flagged (walk_meets f m 3 c.finish_insert.ensures.walks) in
     let answers = said.ensures.answers (Insert c.args.key c.args.value) (search rules) in (
-      search rules,
+      goes_answers c.args.table.now (Insert c.args.key c.args.value) _ a s.new.pass said.new.pass _ s.ensures.seeks.goes
+          (goes_answers c.args.table.now (Insert c.args.key c.args.value) _ s.new.pass t said.new.pass _ c.take_card.ensures.goes
+          (goes_answers c.args.table.now (Insert c.args.key c.args.value) _ t f said.new.pass _ c.flag_insert.ensures.goes
+          (goes_answers c.args.table.now (Insert c.args.key c.args.value) _ f m said.new.pass _ c.finish_insert.ensures.walks.goes answers))),
       meets_trans a.view m.view said.new.pass.view finished (said_meets m.view said.new.pass.view said.ensures.hindrances said.ensures.facts),
       said.ensures.room,
     )
@@ -176,7 +184,7 @@ returns-in-Err-clause-ends g c =
     let flags = c.in-Err.ensures.flags in
     let taken = meets_trans a.view s.new.pass.view t.view (seek_meets a s.new.pass _ s.ensures.seeks)
     (goes_meets s.new.pass t 2 c.take_card.ensures.goes c.in-Card.ensures.claims.2) in
-    let lost = flag_lost c.args.table.now.last_card s.result.parent.node c.in-Err.found t.view f.view new.view flags c.flag_insert.ensures.goes.view.knows
+    let lost = flag_lost c.args.table.now.plan.last_card s.result.parent.node c.in-Err.found t.view f.view new.view flags c.flag_insert.ensures.goes.view.knows
     help.ensures.meets help.ensures.ended in
     let meets = meets_trans a.view t.view new.view taken lost.0 in
     let way = no_way new.view (way_of (Insert c.args.key c.args.value) new.view)
@@ -190,14 +198,16 @@ returns-in-Err-clause-ends g c =
         label = search rules;
         ledger = search rules;
         answers = search rules;
+        share = share_trans a.view f.view new.view (share_trans a.view t.view f.view (share_trans a.view s.new.pass.view t.view s.ensures.seeks.goes.view.share
+            c.take_card.ensures.goes.view.share) c.flag_insert.ensures.goes.view.share) help.ensures.works.goes.view.share;
         meets = meets;
         in_try = in_try;
         way = way;
-        would = search rules;
+        would = would_insert c.args.table.now.plan.last_card a s.new.pass s.ensures.seeks.goes.view.ledger s.result c.args.key c.args.value s.ensures.ends (search rules);
         stops = search rules;
       },
       omega (arith, lost.1, more),
-      gives_out c.args.table.now.last_card a.view s.new.pass.view t.view new.view s.ensures.seeks.goes.view.least c.in-Card.ensures.claims.3
+      gives_out c.args.table.now.plan.last_card a.view s.new.pass.view t.view new.view s.ensures.seeks.goes.view.least c.in-Card.ensures.claims.3
           (omega (arith, c.flag_insert.ensures.goes.view.least, help.ensures.works.goes.view.least)),
     )
 

@@ -1,19 +1,24 @@
-use Rattle.std.proofs.Common.{◌∙◌, rules, arith}
+use Rattle.std.proofs.Common.{◌∙◌, rules, arith, subst}
 use Rattle.ell_ops.specs.declared.op.Op.TheVariants.{Find}
 use Rattle.ell_tree.proofs.Meeting.{meets_none, meets_trans}
 use Rattle.ell_tree.proofs.Halting.{seek_meets, said_meets}
+use Rattle.ell_tree.specs.Ends.{Answers}
+use Rattle.ell_tree.proofs.Owning.{answers_before, goes_answers}
 use Rattle.ell_tree.proofs.Moving.{moves_more, moves_same}
 use Rattle.ell_tree.proofs.operations.find.Goals as goal
 
 pub returns-clause-answers : goal.returns-clause-answers
 returns-clause-answers g c =
     let answers = c.answer.ensures.answers (Find c.args.key) (c.search-place.ensures.seeks.goes.view.operation ∙ c.begin.ensures.root.busy) in
-    search rules
+    subst (λ r. Answers c.args.table.now (Find c.args.key) r c.args.pass.now c.answer.new.pass) c.found.ensures
+    (answers_before c.args.table.now (Find c.args.key) _ c.args.pass.now c.begin.new.pass c.answer.new.pass c.begin.ensures.table c.begin.ensures.label
+    c.begin.ensures.ledger c.begin.ensures.answers c.begin.ensures.share
+    (goes_answers c.args.table.now (Find c.args.key) _ c.begin.new.pass c.search-place.new.pass c.answer.new.pass _ c.search-place.ensures.seeks.goes answers))
 
 -- an operation that begins, searches and is answered meets nothing; what was known stays known, and nothing was given out
 pub returns-clause-quiet : goal.returns-clause-quiet
 returns-clause-quiet g c =
-    let cards = c.args.table.now.last_card in
+    let cards = c.args.table.now.plan.last_card in
     let a = c.args.pass.now in
     let begun = c.begin.ensures in
     let seeks = c.search-place.ensures.seeks in

@@ -1,5 +1,6 @@
-use Rattle.std.proofs.Common.{◌≡◌, ◌+◌, ◌*◌, ◌∙◌, ap, arith, rules, eq-eqb, eqb-true}
+use Rattle.std.proofs.Common.{◌≡◌, ◌+◌, ◌*◌, ◌∙◌, is_some, ap, arith, rules, eq-eqb, eqb-true}
 use Rattle.ell_cards.proofs.runs.Tries.{more_tries}
+use Rattle.ell_cards.proofs.runs.LayingDown.{laid_down_last_changes_nothing}
 use Rattle.ell_tree.specs.Ends.{try_steps}
 use Rattle.ell_tree.specs.Hindrances.{way_of}
 use Rattle.ell_tree.proofs.Counting.{took_within, took_trans, rounds_first, rounds_later, round_steps, rounds_steps}
@@ -7,7 +8,9 @@ use Rattle.ell_tree.proofs.Halting.{begun_meets, begun_count}
 use Rattle.ell_tree.proofs.Hindering.{root_hindered, one_hindered, halts_hindered}
 use Rattle.ell_tree.proofs.Meeting.{meets_trans}
 use Rattle.ell_tree.proofs.Moving.{moves_one, moves_still, moves_same, moves_most, moves_more, amortized}
-use Rattle.ell_tree.proofs.Taking.{answers_first, answered_most, answered_cards}
+use Rattle.ell_tree.proofs.Taking.{answers_first, answered_most, answered_cards, unchanged_cards, taken_none, same_Ok}
+use Rattle.ell_tree.proofs.Keeping.{share_trans}
+use Rattle.ell_tree.proofs.Owning.{answers_before, would_before, moves_before}
 use Rattle.ell_tree.proofs.operations.try_often.Goals as goal
 
 pub try_once-requires-clause-root : goal.try_once-requires-clause-root
@@ -22,7 +25,7 @@ loop-round-preserved g c =
     let i = l.invariant in
     let op = c.args.op in
     let begins = c.restart.ensures.begins op i.stops.busy (λ none. i.root (eqb-true l.round 0 none)) in
-    let most = try_steps c.args.table.now.last_card in
+    let most = try_steps c.args.table.now.plan.last_card in
     let few = round_steps l.round most c.args.pass.now l.pass c.restart.new.pass c.try_once.new.pass i.rounds
     begins.took (λ none. c.restart.ensures.first (eq-eqb l.round 0 none)) c.try_once.ensures.steps c.try_once.ensures.made in
     let halts = c.in-Hindered.ensures.ends.0 in
@@ -34,16 +37,18 @@ loop-round-preserved g c =
       label = halts.label ∙ (begins.label ∙ i.label);
       ledger = halts.ledger ∙ (begins.ledger ∙ i.ledger);
       answers = halts.answers ∙ (begins.answers ∙ i.answers);
+      share = share_trans c.args.pass.now.view c.restart.new.pass.view c.try_once.new.pass.view
+          (share_trans c.args.pass.now.view l.pass.view c.restart.new.pass.view i.share begins.share) halts.share;
       stops = halts.stops;
       root = λ none. absurd (omega (arith, none));
-      would = λ some. search rules;
+      would = λ some. would_before op c.args.pass.now c.restart.new.pass (begins.ledger ∙ i.ledger) halts.would;
       meets = meets_trans c.args.pass.now.view c.restart.new.pass.view c.try_once.new.pass.view begun halts.meets;
       way = halts.way;
       hindrances = let n = begun_count (way_of op l.pass.view) l.pass.view c.restart.new.pass.view begins.hindrances in
           omega (arith, hindered, n, i.hindrances);
       hindered = let counts = halts_hindered op c.restart.new.pass c.try_once.new.pass halts hindered in
           omega (arith, counts, c.try_once.ensures.hindered, begins.hindered, i.hindered);
-      moved = let one = moves_one c.args.table.now.last_card l.pass.view c.restart.new.pass.view c.try_once.new.pass.view begins.before begins.least
+      moved = let one = moves_one c.args.table.now.plan.last_card l.pass.view c.restart.new.pass.view c.try_once.new.pass.view begins.before begins.least
           (λ f h. halts.meets.knows f (begins.knows f h)) c.in-Hindered.ensures.ends.2 in
           omega (arith, one, i.moved);
       taken = record {
@@ -55,7 +60,7 @@ loop-round-preserved g c =
 
 pub loop-round-init : goal.loop-round-init
 loop-round-init g c =
-    let cards = c.args.table.now.last_card in
+    let cards = c.args.table.now.plan.last_card in
     let start = c.begin.ensures in
     let still = moves_still cards c.args.pass.now.view c.begin.new.pass.view start.knows start.least in
     record {
@@ -64,6 +69,7 @@ loop-round-init g c =
       label = search rules;
       ledger = search rules;
       answers = search rules;
+      share = start.share;
       stops = search rules;
       root = λ none. start.root;
       would = λ some. absurd (omega (arith, some));
@@ -83,7 +89,7 @@ returns-in-Answered-clause-steps g c =
     let start = c.args.pass.now in
     let tried = c.try_once.new.pass in
     let begins = c.restart.ensures.begins c.args.op i.stops.busy (λ none. i.root (eqb-true l.round 0 none)) in
-    let cards = c.args.table.now.last_card in
+    let cards = c.args.table.now.plan.last_card in
     let most = try_steps cards in
     let few = round_steps l.round most start l.pass c.restart.new.pass tried i.rounds
     begins.took (λ none. c.restart.ensures.first (eq-eqb l.round 0 none)) c.try_once.ensures.steps c.try_once.ensures.made in
@@ -109,7 +115,7 @@ returns-in-Spent-clause-steps g c =
     let tried = c.try_once.new.pass in
     let left = c.leave.new.pass in
     let begins = c.restart.ensures.begins op i.stops.busy (λ none. i.root (eqb-true l.round 0 none)) in
-    let cards = c.args.table.now.last_card in
+    let cards = c.args.table.now.plan.last_card in
     let most = try_steps cards in
     let few = round_steps l.round most start l.pass c.restart.new.pass tried i.rounds
     begins.took (λ none. c.restart.ensures.first (eq-eqb l.round 0 none)) c.try_once.ensures.steps c.try_once.ensures.made in
@@ -136,7 +142,7 @@ returns-clause-steps g c =
     let i = l.invariant in
     let start = c.args.pass.now in
     let left = c.leave-2.new.pass in
-    let cards = c.args.table.now.last_card in
+    let cards = c.args.table.now.plan.last_card in
     let most = try_steps cards in
     let few = i.rounds.later (omega (arith, c.requires.tries, c.loop-round-test.false, l.auto.round-end)) in
     let all : l.round ≡ c.args.tries = omega (arith, c.loop-round-test.false, l.auto.round-end) in
@@ -156,19 +162,19 @@ returns-clause-others g c = λ held.
     let l = c.loop-round in
     let left = c.leave-2.new.pass.view in
     let lays = c.leave-2.ensures.lays c.args.op l.invariant.stops.busy in
-    let same = moves_same t.last_card l.pass.view left lays.facts lays.least in
+    let same = moves_same t.plan.last_card l.pass.view left lays.facts lays.least in
     let all : l.round ≡ c.args.tries = omega (arith, c.loop-round-test.false, l.auto.round-end) in
     let each : left.hindered ≡ c.args.pass.now.view.hindered + c.args.tries = omega (arith, lays.hindered, all, l.invariant.hindered) in
     record {
       each = each;
       moved = omega (arith, same, all, l.invariant.moved);
-      by_others = more_tries t.keys t.start t.last_card c.args.pass.now.view.hindered left c.args.tries each;
+      by_others = more_tries t.plan c.args.pass.now.view.hindered left c.args.tries each;
     }
 
 pub returns-clause-enough : goal.returns-clause-enough
 returns-clause-enough g c = λ many held.
     let l = c.loop-round in
-    let cards = c.args.table.now.last_card in
+    let cards = c.args.table.now.plan.last_card in
     let most = moves_most cards l.pass.view c.leave-2.ensures.least in
     let all : l.round ≡ c.args.tries = omega (arith, c.loop-round-test.false, l.auto.round-end) in
     omega (arith, many, most, all, l.invariant.moved)
@@ -179,8 +185,11 @@ returns-in-Answered-clause-ends g c =
     let l = c.loop-round in
     let i = l.invariant in
     let begins = c.restart.ensures.begins c.args.op i.stops.busy (λ none. i.root (eqb-true l.round 0 none)) in
-    let begun = begun_meets (way_of c.args.op l.pass.view) a l.pass.view c.restart.new.pass.view i.meets i.way begins.hindrances begins.knows in
-    (search rules, meets_trans a c.restart.new.pass.view c.try_once.new.pass.view begun c.in-Answered.ensures.ends.1)
+    let begun = begun_meets (way_of c.args.op l.pass.view) a l.pass.view c.restart.new.pass.view i.meets i.way begins.hindrances begins.knows in (
+      answers_before c.args.table.now c.args.op _ c.args.pass.now c.restart.new.pass c.try_once.new.pass (begins.table ∙ i.table) (begins.label ∙ i.label)
+          (begins.ledger ∙ i.ledger) (begins.answers ∙ i.answers) (share_trans a l.pass.view c.restart.new.pass.view i.share begins.share) c.in-Answered.ensures.ends.0,
+      meets_trans a c.restart.new.pass.view c.try_once.new.pass.view begun c.in-Answered.ensures.ends.1,
+    )
 
 pub returns-in-Spent-clause-ends : goal.returns-in-Spent-clause-ends
 returns-in-Spent-clause-ends g c =
@@ -193,8 +202,19 @@ returns-in-Spent-clause-ends g c =
     let tried = c.try_once.new.pass.view in
     let lays = c.leave.ensures.lays op halts.stops.busy in
     let begun = begun_meets (way_of op l.pass.view) a l.pass.view c.restart.new.pass.view i.meets i.way begins.hindrances begins.knows in
-    let met = meets_trans a c.restart.new.pass.view tried begun halts.meets in (
-      search rules,
+    let met = meets_trans a c.restart.new.pass.view tried begun halts.meets in
+    let kept = share_trans a l.pass.view c.restart.new.pass.view i.share begins.share in (
+      record {
+        table = search rules;
+        label = search rules;
+        ledger = search rules;
+        answered = search rules;
+        share = share_trans a tried c.leave.new.pass.view (share_trans a c.restart.new.pass.view tried kept halts.share) lays.share;
+        would = would_before op c.args.pass.now c.restart.new.pass (begins.ledger ∙ i.ledger) halts.would;
+        nothing = laid_down_last_changes_nothing c.args.table.now.plan c.leave.new.pass.view op lays.laid;
+        idle = lays.idle;
+        no_card = lays.no_card;
+      },
       search rules,
       begun_meets (way_of op tried) a tried c.leave.new.pass.view met halts.way lays.hindrances lays.knows,
     )
@@ -208,29 +228,50 @@ returns-clause-ends g c =
     let lays = c.leave-2.ensures.lays op i.stops.busy in
     let all : l.round ≡ c.args.tries = omega (arith, c.loop-round-test.false, l.auto.round-end) in
     let n = begun_count (way_of op l.pass.view) l.pass.view c.leave-2.new.pass.view lays.hindrances in (
-      search rules,
+      record {
+        table = search rules;
+        label = search rules;
+        ledger = search rules;
+        answered = search rules;
+        share = share_trans a l.pass.view c.leave-2.new.pass.view i.share lays.share;
+        would = i.would (omega (arith, all, c.requires.tries));
+        nothing = laid_down_last_changes_nothing c.args.table.now.plan c.leave-2.new.pass.view op lays.laid;
+        idle = lays.idle;
+        no_card = lays.no_card;
+      },
       omega (arith, all, n, i.hindrances),
       begun_meets (way_of op l.pass.view) a l.pass.view c.leave-2.new.pass.view i.meets i.way lays.hindrances lays.knows,
     )
+
+-- the value that it moved
+pub returns-in-Answered-clause-moves : goal.returns-in-Answered-clause-moves
+returns-in-Answered-clause-moves g c =
+    let l = c.loop-round in
+    let i = l.invariant in
+    let begins = c.restart.ensures.begins c.args.op i.stops.busy (λ none. i.root (eqb-true l.round 0 none)) in
+    moves_before c.args.table.now c.args.op c.in-Answered.moved c.args.pass.now c.restart.new.pass c.try_once.new.pass (begins.ledger ∙ i.ledger) c.in-Answered.ensures.moves
 
 pub returns-in-Answered-clause-cards : goal.returns-in-Answered-clause-cards
 returns-in-Answered-clause-cards g c =
     let l = c.loop-round in
     let i = l.invariant in
     let op = c.args.op in
-    let said = c.in-Answered.said in
+    let moved = c.in-Answered.moved in
     let begun = c.restart.new.pass in
     let after = c.try_once.new.pass in
     let begins = c.restart.ensures.begins op i.stops.busy (λ none. i.root (eqb-true l.round 0 none)) in
-    let one = answered_most said begun after c.in-Answered.ensures.taken in
+    let one = answered_most moved begun after c.in-Answered.ensures.taken in
     record {
       most = record {
         least = omega (arith, one.least, begins.taken, i.taken.least);
         most = omega (arith, one.most, begins.taken, i.taken.most, c.loop-round-test.true);
       };
-      each = answered_cards said l.round c.args.pass.now l.pass begun after i.taken begins.taken c.in-Answered.ensures.taken
-          (answers_first said op l.round c.args.pass.now begun after c.in-Answered.ensures.ends.0 (begins.ledger ∙ i.ledger) i.would)
+      each = answered_cards moved l.round c.args.pass.now l.pass begun after i.taken begins.taken c.in-Answered.ensures.taken
           (omega (arith, c.try_once.ensures.hindered, begins.hindered, i.hindered));
+      unchanged = λ owns none. unchanged_cards l.round c.args.pass.now l.pass begun after i.taken begins.taken
+          (taken_none moved begun after c.in-Answered.ensures.taken none)
+          (answers_first c.args.table.now (is_some moved) op l.round c.args.pass.now begun after c.in-Answered.ensures.ends.0 (begins.ledger ∙ i.ledger) i.would owns
+          (same_Ok (is_some moved) none));
     }
 
 pub returns-in-Spent-clause-cards : goal.returns-in-Spent-clause-cards
@@ -247,6 +288,7 @@ returns-in-Spent-clause-cards g c =
         most = omega (arith, lays.taken, none, begins.taken, i.taken.most, c.loop-round-test.true);
       };
       each = omega (arith, lays.taken, none, begins.taken, i.taken.most, one.0, lays.hindered, c.try_once.ensures.hindered, begins.hindered, i.hindered);
+      unchanged = λ owns held. absurd cc;
     }
 
 pub returns-clause-cards : goal.returns-clause-cards
@@ -258,4 +300,5 @@ returns-clause-cards g c =
     record {
       most = record { least = omega (arith, lays.taken, i.taken.least); most = omega (arith, lays.taken, i.taken.most, all) };
       each = omega (arith, lays.taken, i.taken.most, lays.hindered, i.hindered);
+      unchanged = λ owns held. absurd cc;
     }

@@ -1,10 +1,11 @@
 use Rattle.std.proofs.Common.{◌≡◌, ◌+◌, ◌≤◌, length}
-use Rattle.ell_ops.specs.Meaning.{reply_of}
+use Rattle.ell_ops.specs.Meaning.{key_of, reply_of}
 use Rattle.ell_cards.specs.Changes.{tries_hindered}
 use Rattle.ell_tree.specs.CardsTaken.{TakesAtMost}
 use Rattle.ell_tree.specs.Ends.{try_steps}
 use Rattle.ell_tree.specs.Hindrances.{AreOver, Meets, way_of}
-use Rattle.ell_tree.specs.Ledgers.{present_in}
+use Rattle.ell_tree.specs.Ledgers.{Owns, present_in}
+use Rattle.ell_cards.specs.Stepping.{SameShare}
 use Rattle.ell_tree.specs.Searches.{AtRoot}
 use Rattle.ell_tree.specs.Tries.{Stops}
 use Rattle.ell_tree.specs.Moves.{moves_known}
@@ -20,14 +21,15 @@ invariant-loop-round g l = record {
   label : l.pass.label ≡ l.fn.pass.label;
   ledger : l.pass.view.worker.ledger ≡ l.fn.pass.view.worker.ledger;
   answers : l.pass.view.answers ≡ l.fn.pass.view.answers;
+  share : SameShare l.fn.pass.view l.pass.view;
   stops : Stops l.op l.pass.view;
   root : l.round ≡ 0 → AtRoot l.op l.pass.view;
-  would : 1 ≤ l.round → reply_of l.op (present_in l.fn.pass) ≡ Yes;
+  would : 1 ≤ l.round → Owns l.fn.pass (key_of l.op) → reply_of l.op (present_in l.fn.pass) ≡ Yes;
   meets : Meets l.fn.pass.view l.pass.view;
   way : AreOver l.pass.view (way_of l.op l.pass.view);
   hindrances : length l.fn.pass.view.hindrances + l.round ≤ length (way_of l.op l.pass.view) + length l.pass.view.hindrances;
   hindered : tries_hindered l.pass.view ≡ l.fn.pass.view.hindered + l.round;
-  moved : moves_known l.table.last_card l.fn.pass.view + l.round ≤ moves_known l.table.last_card l.pass.view;
+  moved : moves_known l.table.plan.last_card l.fn.pass.view + l.round ≤ moves_known l.table.plan.last_card l.pass.view;
   taken : TakesAtMost l.round l.fn.pass l.pass;
-  rounds : TookRounds l.round (try_steps l.table.last_card) l.fn.pass l.pass;
+  rounds : TookRounds l.round (try_steps l.table.plan.last_card) l.fn.pass l.pass;
 }

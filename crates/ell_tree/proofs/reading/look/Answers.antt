@@ -7,7 +7,7 @@ use Rattle.ell_tree.proofs.reading.look.Goals as goal
 pub loop-pass-init : goal.loop-pass-init
 loop-pass-init g c =
     let f = c.look_for-node in
-    comes_first c.args.table.now.last_card c.args.pass.now f.new.pass c.args.key f.result f.ensures.step f.ensures.greater f.ensures.there
+    comes_first c.args.table.now.plan.last_card c.args.pass.now f.new.pass c.args.key f.result f.ensures.step f.ensures.greater f.ensures.there
 
 pub key_of-node_key-requires-clause-own : goal.key_of-node_key-requires-clause-own
 key_of-node_key-requires-clause-own g c = c.loop-pass.invariant.only.table ∙ c.requires.may.0
@@ -26,7 +26,7 @@ look_down-node-requires-clause-may g c =
     let l = c.loop-pass in
     let k = c.key_of-node_key in
     let inner : IsInternal l.node = search rules in
-    may_down c.args.table.now.last_card c.args.pass.now l.pass k.new.pass c.args.key l.node k.result l.invariant k.ensures.step inner
+    may_down c.args.table.now.plan.last_card c.args.pass.now l.pass k.new.pass c.args.key l.node k.result l.invariant k.ensures.step inner
 
 pub loop-pass-smaller : goal.loop-pass-smaller
 loop-pass-smaller g c =
@@ -41,7 +41,7 @@ loop-pass-preserved g c =
     let k = c.key_of-node_key in
     let d = c.look_down-node in
     let inner : IsInternal l.node = search rules in
-    comes_down c.args.table.now.last_card c.args.pass.now l.pass k.new.pass c.args.key l.node k.result l.invariant k.ensures.step
+    comes_down c.args.table.now.plan.last_card c.args.pass.now l.pass k.new.pass c.args.key l.node k.result l.invariant k.ensures.step
     d.new.pass d.result d.ensures.step inner d.ensures.greater d.ensures.there
 
 pub key_of-leaf_key-requires-clause-own : goal.key_of-leaf_key-requires-clause-own
@@ -56,13 +56,13 @@ returns-then-leaf_key-key-clause-found g c =
     let k = c.key_of-leaf_key in
     let outer : IsLeaf l.node = search rules in
     let other : k.result ≢ c.args.key = search rules in
-    found_none c.args.table.now.last_card c.args.pass.now l.pass k.new.pass c.args.key l.node k.result l.invariant k.ensures.step outer other
+    found_none c.args.table.now.plan.last_card c.args.pass.now l.pass k.new.pass c.args.key l.node k.result l.invariant k.ensures.step outer other
 
 pub returns-then-leaf_key-key-clause-only : goal.returns-then-leaf_key-key-clause-only
 returns-then-leaf_key-key-clause-only g c =
     let l = c.loop-pass in
     let k = c.key_of-leaf_key in
-    only_none c.args.table.now.last_card c.args.pass.now l.pass k.new.pass c.args.key l.node k.result l.invariant k.ensures.step
+    only_none c.args.table.now.plan.last_card c.args.pass.now l.pass k.new.pass c.args.key l.node k.result l.invariant k.ensures.step
 
 pub value_of-requires-clause-own : goal.value_of-requires-clause-own
 value_of-requires-clause-own g c =
@@ -74,7 +74,7 @@ pub value_of-requires-clause-met : goal.value_of-requires-clause-met
 value_of-requires-clause-met g c =
     let l = c.loop-pass in
     let k = c.key_of-leaf_key in
-    met_still c.args.table.now.last_card c.args.pass.now l.pass k.new.pass c.args.key l.node k.result l.invariant k.ensures.step
+    met_still c.args.table.now.plan.last_card c.args.pass.now l.pass k.new.pass c.args.key l.node k.result l.invariant k.ensures.step
 
 pub returns-clause-found : goal.returns-clause-found
 returns-clause-found g c =
@@ -83,7 +83,7 @@ returns-clause-found g c =
     let v = c.value_of in
     let outer : IsLeaf l.node = search rules in
     let same : k.result ≡ c.args.key = search rules in
-    found_some c.args.table.now.last_card c.args.pass.now l.pass k.new.pass c.args.key l.node k.result l.invariant k.ensures.step
+    found_some c.args.table.now.plan.last_card c.args.pass.now l.pass k.new.pass c.args.key l.node k.result l.invariant k.ensures.step
     v.new.pass v.result v.ensures.step outer same
 
 pub returns-clause-only : goal.returns-clause-only
@@ -91,21 +91,21 @@ returns-clause-only g c =
     let l = c.loop-pass in
     let k = c.key_of-leaf_key in
     let v = c.value_of in
-    only_some c.args.table.now.last_card c.args.pass.now l.pass k.new.pass c.args.key l.node k.result l.invariant k.ensures.step
+    only_some c.args.table.now.plan.last_card c.args.pass.now l.pass k.new.pass c.args.key l.node k.result l.invariant k.ensures.step
     v.new.pass v.result v.ensures.step
 
 pub returns-then-leaf_key-key-clause-one : goal.returns-then-leaf_key-key-clause-one
 returns-then-leaf_key-key-clause-one g c =
     let l = c.loop-pass in
     let k = c.key_of-leaf_key in
-    one_none c.args.table.now.last_card c.args.pass.now l.pass k.new.pass c.args.key l.node k.result l.invariant k.ensures.step
+    one_none c.args.table.now.plan.last_card c.args.pass.now l.pass k.new.pass c.args.key l.node k.result l.invariant k.ensures.step
 
 pub returns-clause-one : goal.returns-clause-one
 returns-clause-one g c =
     let l = c.loop-pass in
     let k = c.key_of-leaf_key in
     let v = c.value_of in
-    one_some c.args.table.now.last_card c.args.pass.now l.pass k.new.pass c.args.key l.node k.result l.invariant k.ensures.step
+    one_some c.args.table.now.plan.last_card c.args.pass.now l.pass k.new.pass c.args.key l.node k.result l.invariant k.ensures.step
     v.new.pass v.result v.ensures.step
 
 pub returns-then-leaf_key-key-clause-mine : goal.returns-then-leaf_key-key-clause-mine
@@ -115,8 +115,8 @@ returns-then-leaf_key-key-clause-mine g c =
     let outer : IsLeaf l.node = search rules in
     let other : k.result ≢ c.args.key = search rules in
     reads_mine c.args.pass.now k.new.pass c.args.key None k.ensures.looked
-    (found_none c.args.table.now.last_card c.args.pass.now l.pass k.new.pass c.args.key l.node k.result l.invariant k.ensures.step outer other)
-    (only_none c.args.table.now.last_card c.args.pass.now l.pass k.new.pass c.args.key l.node k.result l.invariant k.ensures.step).worker
+    (found_none c.args.table.now.plan.last_card c.args.pass.now l.pass k.new.pass c.args.key l.node k.result l.invariant k.ensures.step outer other)
+    (only_none c.args.table.now.plan.last_card c.args.pass.now l.pass k.new.pass c.args.key l.node k.result l.invariant k.ensures.step).worker
 
 pub returns-clause-mine : goal.returns-clause-mine
 returns-clause-mine g c =
@@ -126,7 +126,7 @@ returns-clause-mine g c =
     let outer : IsLeaf l.node = search rules in
     let same : k.result ≡ c.args.key = search rules in
     reads_mine c.args.pass.now v.new.pass c.args.key (Some v.result) v.ensures.looked
-    (found_some c.args.table.now.last_card c.args.pass.now l.pass k.new.pass c.args.key l.node k.result l.invariant k.ensures.step
+    (found_some c.args.table.now.plan.last_card c.args.pass.now l.pass k.new.pass c.args.key l.node k.result l.invariant k.ensures.step
     v.new.pass v.result v.ensures.step outer same)
-    (only_some c.args.table.now.last_card c.args.pass.now l.pass k.new.pass c.args.key l.node k.result l.invariant k.ensures.step
+    (only_some c.args.table.now.plan.last_card c.args.pass.now l.pass k.new.pass c.args.key l.node k.result l.invariant k.ensures.step
     v.new.pass v.result v.ensures.step).worker

@@ -31,6 +31,6 @@ returns g c =
       search = descend_search a b d e c.args.node c.upd-update.result c.key_of-node_key.result c.down-child.result read asked gone;
       met = descend_met a b d e c.args.node c.upd-update.result c.key_of-node_key.result c.down-child.result read asked gone;
       passed = descend_passed a b d e c.args.node c.upd-update.result c.key_of-node_key.result c.down-child.result read asked gone
-          c.args.table.now.last_card c.requires.node c.upd-update.ensures.card;
+          c.args.table.now.plan.last_card c.requires.node c.upd-update.ensures.card;
       unknown = descend_unknown a b d e c.args.node c.upd-update.result c.key_of-node_key.result c.down-child.result read asked gone c.upd-update.ensures.unknown;
     }

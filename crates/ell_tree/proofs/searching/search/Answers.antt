@@ -14,7 +14,7 @@ loop-grandparent-preserved g c =
     let inner : IsInternal l.node = search rules in
     rw (c.anew.ensures, c.anew-parent.ensures) (record {
       same = (refl, refl);
-      stands = stands_next c.args.table.now.last_card l.pass.view d.new.pass.view l.node d.result.1 l.parent d.result.0 l.grandparent
+      stands = stands_next c.args.table.now.plan.last_card l.pass.view d.new.pass.view l.node d.result.1 l.parent d.result.0 l.grandparent
           d.ensures.seeks.goes.view i.stands d.ensures.search d.ensures.met d.ensures.there d.ensures.passed d.ensures.unknown;
       down = omega (arith, d.ensures.here, d.ensures.deeper);
       seeks = seeks_trans c.args.pass.now l.pass d.new.pass (l.parent.node + 3) 3 (d.result.0.node + 3) i.seeks d.ensures.seeks
@@ -35,11 +35,11 @@ returns g c =
     let v = c.value_of-value in
     let outer : IsLeaf l.node = search rules in
     record {
-      seeks = seeks_trans c.args.pass.now l.pass v.new.pass (l.parent.node + 3) 2 (3 * c.args.table.now.last_card + 5) i.seeks
+      seeks = seeks_trans c.args.pass.now l.pass v.new.pass (l.parent.node + 3) 2 (3 * c.args.table.now.plan.last_card + 5) i.seeks
           (seeks_trans l.pass k.new.pass v.new.pass 1 1 2 (key_seeks l.pass k.new.pass l.node k.result k.ensures.step)
           (value_seeks k.new.pass v.new.pass l.node v.result v.ensures.step) (omega arith))
           (omega (arith, i.stands.passed.node.inner, i.stands.passed.node.there));
-      ends = search_ends c.args.table.now.last_card l.pass k.new.pass v.new.pass c.args.op
+      ends = search_ends c.args.table.now.plan.last_card l.pass k.new.pass v.new.pass c.args.op
           (record { leaf = l.node; key = k.result; value = v.result; parent = l.parent; grandparent = l.grandparent }) k.ensures.step v.ensures.step
           (i.seeks.goes.view.operation ∙ c.requires.root.busy) outer i.stands k.ensures.leaf v.ensures.value;
     }

@@ -7,10 +7,10 @@ use Rattle.ell_tree.proofs.searching.search.Given as goal
 abbrev pub invariant-loop-grandparent : goal.invariant-loop-grandparent
 invariant-loop-grandparent g l = record {
   same : (l.op ≡ l.fn.op) × (l.table ≡ l.fn.table);
-  stands : Stands l.table.last_card l.pass.view l.node l.parent l.grandparent;
+  stands : Stands l.table.plan.last_card l.pass.view l.node l.parent l.grandparent;
   down : l.parent.node < l.node;
   seeks : Seeks l.fn.pass l.pass (l.parent.node + 3);
 }
 
 abbrev pub decreases-loop-grandparent : goal.decreases-loop-grandparent
-decreases-loop-grandparent g l = 3 * l.table.last_card + 3 - l.node
+decreases-loop-grandparent g l = 3 * l.table.plan.last_card + 3 - l.node

@@ -21,7 +21,7 @@ returns-then-claim g c =
         has_card a b c.claim.new.pass card c.next-card.ensures.step c.next-card.ensures.least c.args.op c.args.place won c.requires.busy c.requires.at,
         omega (arith, c.last_card.ensures.cards),
         won_calm a b c.claim.new.pass card c.next-card.ensures.step c.next-card.ensures.least won,
-        given_out a b c.claim.new.pass card c.next-card.ensures.step c.next-card.ensures.least true c.args.table.now.last_card won c.next-card.ensures.some (omega (arith, c.last_card.ensures.cards)),
+        given_out a b c.claim.new.pass card c.next-card.ensures.step c.next-card.ensures.least true c.args.table.now.plan.last_card won c.next-card.ensures.some (omega (arith, c.last_card.ensures.cards)),
       );
       taken = won_takes a b c.claim.new.pass card c.next-card.ensures.step c.next-card.ensures.least won;
       limit = omega (arith, c.last_card.ensures.cards, c.last_card.ensures.limit);
@@ -39,7 +39,7 @@ returns-else-claim g c =
         claims.0,
         claims.1,
         claims.2,
-        given_out a b c.claim.new.pass card c.next-card.ensures.step c.next-card.ensures.least false c.args.table.now.last_card lost c.next-card.ensures.some (omega (arith, c.last_card.ensures.cards)),
+        given_out a b c.claim.new.pass card c.next-card.ensures.step c.next-card.ensures.least false c.args.table.now.plan.last_card lost c.next-card.ensures.some (omega (arith, c.last_card.ensures.cards)),
       );
       taken = lost_takes a b c.claim.new.pass card c.next-card.ensures.step c.next-card.ensures.least lost;
       limit = omega (arith, c.last_card.ensures.cards, c.last_card.ensures.limit);

@@ -2,8 +2,8 @@ use Rattle.std.proofs.Common.{◌≡◌, ◌<◌, ◌∙◌, length, refl, rules
 use Rattle.std.proofs.lemmas.Int.{to_z-of_z}
 use Rattle.std.proofs.lemmas.List.Elements.{length_all_zip}
 use mir.Val.{SFits}
-use Rattle.ell_handle.specs.Groups.{AreOfOne, AreRenewed, HasSame, present_in_all}
-use Rattle.ell_handle.specs.Renewal.{IsTooMuch}
+use Rattle.ell_handle.specs.Groups.{AreRenewed, HasSame}
+use Rattle.elltree.specs.Groups.{SaysOfAll}
 use Rattle.elltree.proofs.Grouped.{again_maps, again_trees, all_have, filled_all, keep_maps, keep_trees, other_maps, other_trees, taken_all, taken_count, taken_emptied}
 use Rattle.elltree.proofs.grouping.elltree_slots_renew.Goals as goal
 
@@ -60,34 +60,13 @@ returns-clause-renewed c = λ yes some.
     (sym (filled_all mids gs news c.put_all-2.ensures count))
     (c.renew-code.ensures.renewed (sym (to_z-of_z w32 c.renew-code.result fits) ∙ yes) (subst (λ n. 0 < n) (sym all) some))
 
-pub returns-clause-one : goal.returns-clause-one
-returns-clause-one c = λ yes.
+-- what is said of those that were taken out is said of the slots'
+pub returns-clause-says : goal.returns-clause-says
+returns-clause-says c =
     let fits : SFits w32 c.renew-code.result = search rules in
-    subst AreOfOne (sym (taken_all c.args.slots.now c.take_all.new.slots c.take_all.new.handles.items c.take_all.ensures.taken (c.take_all.ensures.all c.if-not-take_all.false)))
-    (c.renew-code.ensures.one (sym (to_z-of_z w32 c.renew-code.result fits) ∙ yes))
-
-pub returns-clause-other_tree : goal.returns-clause-other_tree
-returns-clause-other_tree c = λ said one.
-    let fits : SFits w32 c.renew-code.result = search rules in
-    c.renew-code.ensures.other_tree (sym (to_z-of_z w32 c.renew-code.result fits) ∙ said)
-    (subst AreOfOne (taken_all c.args.slots.now c.take_all.new.slots c.take_all.new.handles.items c.take_all.ensures.taken (c.take_all.ensures.all c.if-not-take_all.false)) one)
-
-pub returns-clause-bad_start : goal.returns-clause-bad_start
-returns-clause-bad_start c = λ said.
-    let fits : SFits w32 c.renew-code.result = search rules in
-    subst (λ hs. IsTooMuch (present_in_all hs))
+    subst₂ (SaysOfAll c.args.cards) (sym (to_z-of_z w32 c.renew-code.result fits))
     (sym (taken_all c.args.slots.now c.take_all.new.slots c.take_all.new.handles.items c.take_all.ensures.taken (c.take_all.ensures.all c.if-not-take_all.false)))
-    (c.renew-code.ensures.bad_start (sym (to_z-of_z w32 c.renew-code.result fits) ∙ said))
-
-pub returns-clause-bad_cards : goal.returns-clause-bad_cards
-returns-clause-bad_cards c = λ said.
-    let fits : SFits w32 c.renew-code.result = search rules in
-    let bad = c.renew-code.ensures.bad_cards (sym (to_z-of_z w32 c.renew-code.result fits) ∙ said) in (
-      subst (λ hs. ¬ IsTooMuch (present_in_all hs))
-          (sym (taken_all c.args.slots.now c.take_all.new.slots c.take_all.new.handles.items c.take_all.ensures.taken (c.take_all.ensures.all c.if-not-take_all.false)))
-          bad.0,
-      bad.1,
-    )
+    c.renew-code.ensures.says
 
 pub returns-clause-held : goal.returns-clause-held
 returns-clause-held c = λ _ _.

@@ -13,37 +13,32 @@ use Rattle.elltree.proofs.Writing.{others_more, written_more}
 use Rattle.elltree.proofs.reading.pairs.Goals as goal
 use Rattle.elltree.proofs.reading.pairs.Goals.{in-Some+else-written-out, in_default}
 
--- one pair more than there is room for
-pub returns-then-written-out-clause-no_room : goal.returns-then-written-out-clause-no_room
-returns-then-written-out-clause-no_room c = λ _ pairs lists.
-    let p = c.args.handle.now.pass in
-    let keys = keys_of p.view.worker.ledger in
-    let same = c.keys-place-end.ensures.keys in
-    let low : c.loop-place.place < length keys = subst (λ (ks : List ℕ). c.loop-place.place < length ks) same c.loop-place-test.true in
-    let all = lists_pairs (present_in p) keys (subst IsStrictlyIncreasing same c.keys-place-end.ensures.ascending) (none_else p) in
-    let found : Some (c.in-Some.key, c.in-Some.value) ≡ c.pair.result = search rules in
-    let written = take c.loop-place.written c.loop-place.out in
-    let less = listed_less (present_in p) (present_in c.loop-place.handle.pass) keys (keys_of c.loop-place.handle.pass.view.worker.ledger) c.loop-place.place
-    (c.in-Some.key, c.in-Some.value) (as_pairs written) pairs low c.loop-place.invariant.keys c.loop-place.invariant.map (found ∙ c.pair.ensures.pair)
-    c.loop-place.invariant.listed all lists in
-    let count : length (as_pairs written) ≡ c.loop-place.written =
-    length-map written (λ (q : Pair). (q.key, q.value)) ∙ length-take-le c.loop-place.written c.loop-place.out c.loop-place.invariant.fits in
-    omega arith
-
--- keys, map and tree stay
-pub returns-then-written-out-clause-stays : goal.returns-then-written-out-clause-stays
-returns-then-written-out-clause-stays c = record {
-  same = record {
-    map = λ k. c.pair.ensures.map k ∙ c.loop-place.invariant.map k;
-    owned = same_owned c.pair.new.self.pass c.args.handle.now.pass (c.pair.ensures.keys ∙ c.loop-place.invariant.keys);
+-- one pair more than there is room for: keys, map and tree stay
+pub returns-then-written-out-clause-tells : goal.returns-then-written-out-clause-tells
+returns-then-written-out-clause-tells c = record {
+  codes = search rules;
+  pairs = search rules;
+  no_room = λ _ pairs lists.
+      let p = c.args.handle.now.pass in
+      let keys = keys_of p.view.worker.ledger in
+      let same = c.keys-place-end.ensures.keys in
+      let low : c.loop-place.place < length keys = subst (λ (ks : List ℕ). c.loop-place.place < length ks) same c.loop-place-test.true in
+      let all = lists_pairs (present_in p) keys (subst IsStrictlyIncreasing same c.keys-place-end.ensures.ascending) (none_else p) in
+      let found : Some (c.in-Some.key, c.in-Some.value) ≡ c.pair.result = search rules in
+      let written = take c.loop-place.written c.loop-place.out in
+      let less = listed_less (present_in p) (present_in c.loop-place.handle.pass) keys (keys_of c.loop-place.handle.pass.view.worker.ledger) c.loop-place.place
+      (c.in-Some.key, c.in-Some.value) (as_pairs written) pairs low c.loop-place.invariant.keys c.loop-place.invariant.map (found ∙ c.pair.ensures.pair)
+      c.loop-place.invariant.listed all lists in
+      let count : length (as_pairs written) ≡ c.loop-place.written =
+      length-map written (λ (q : Pair). (q.key, q.value)) ∙ length-take-le c.loop-place.written c.loop-place.out c.loop-place.invariant.fits in
+      omega arith;
+  stays = record {
+    same = record {
+      map = λ k. c.pair.ensures.map k ∙ c.loop-place.invariant.map k;
+      owned = same_owned c.pair.new.self.pass c.args.handle.now.pass (c.pair.ensures.keys ∙ c.loop-place.invariant.keys);
+    };
+    tree = c.pair.ensures.tree ∙ c.loop-place.invariant.tree;
   };
-  tree = c.pair.ensures.tree ∙ c.loop-place.invariant.tree;
-}
-
-pub returns-clause-stays : goal.returns-clause-stays
-returns-clause-stays c = record {
-  same = record { map = c.loop-place.invariant.map; owned = same_owned c.loop-place.handle.pass c.args.handle.now.pass c.loop-place.invariant.keys };
-  tree = c.loop-place.invariant.tree;
 }
 
 -- one pair more, or none
@@ -83,14 +78,22 @@ loop-place-preserved c =
     }
 
 -- all pairs
-pub returns-clause-pairs : goal.returns-clause-pairs
-returns-clause-pairs c = λ _.
-    let p = c.args.handle.now.pass in
-    let keys = keys_of p.view.worker.ledger in
-    let same = c.keys-place-end.ensures.keys in
-    let past : length keys ≤ c.loop-place.place = subst (λ (ks : List ℕ). length ks ≤ c.loop-place.place) same c.loop-place-test.false in record {
-      fits = c.loop-place.invariant.fits;
-      pairs = subst (ListsPairs (present_in p)) (sym (c.loop-place.invariant.listed ∙ ap (pairs_at (present_in p)) (take_all c.loop-place.place keys past)))
-          (lists_pairs (present_in p) keys (subst IsStrictlyIncreasing same c.keys-place-end.ensures.ascending) (none_else p));
-      others = c.loop-place.invariant.others;
-    }
+pub returns-clause-tells : goal.returns-clause-tells
+returns-clause-tells c = record {
+  codes = search rules;
+  pairs = λ _.
+      let p = c.args.handle.now.pass in
+      let keys = keys_of p.view.worker.ledger in
+      let same = c.keys-place-end.ensures.keys in
+      let past : length keys ≤ c.loop-place.place = subst (λ (ks : List ℕ). length ks ≤ c.loop-place.place) same c.loop-place-test.false in record {
+        fits = c.loop-place.invariant.fits;
+        pairs = subst (ListsPairs (present_in p)) (sym (c.loop-place.invariant.listed ∙ ap (pairs_at (present_in p)) (take_all c.loop-place.place keys past)))
+            (lists_pairs (present_in p) keys (subst IsStrictlyIncreasing same c.keys-place-end.ensures.ascending) (none_else p));
+        others = c.loop-place.invariant.others;
+      };
+  no_room = search rules;
+  stays = record {
+    same = record { map = c.loop-place.invariant.map; owned = same_owned c.loop-place.handle.pass c.args.handle.now.pass c.loop-place.invariant.keys };
+    tree = c.loop-place.invariant.tree;
+  };
+}

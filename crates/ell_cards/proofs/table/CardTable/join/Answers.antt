@@ -7,6 +7,7 @@ use Rattle.ell_cards.proofs.lifetimes.Joins.{joined_fits}
 use Rattle.ell_cards.proofs.runs.Reaching.{joins}
 use Rattle.ell_cards.proofs.seats.Opened.{of_table, own_size}
 use Rattle.ell_cards.proofs.table.CardTable.join.Goals as goal
+use Rattle.ell_cards.specs.Changes.{joined_view}
 
 pub join_seat-requires : goal.join_seat-requires
 join_seat-requires g c =
@@ -16,7 +17,7 @@ join_seat-requires g c =
       of_table _ _ _ _ c.self.view_is c.right.view_is c.requires.right size,
       c.right.invariant.1,
       omega arith,
-      joins t.key.keys.items t.key.start.items t.key.last_card c.left.inside.seat.me.0 c.right.inside.seat.me.0
+      joins t.key c.left.inside.seat.me.0 c.right.inside.seat.me.0
           (subst (λ (p : PassModel). IsFree p.view) (sym c.left.view_is) c.requires.left_free)
           (subst (λ (p : PassModel). IsFree p.view) (sym c.right.view_is) c.requires.right_free)
           c.left.inside.seat.id c.right.inside.seat.id,
@@ -29,8 +30,9 @@ invariant_of-result g c =
     let left_words = ap (λ i. i.words) now.0 in
     let right_words = own_size _ _ _ _ c.self.view_is c.left.view_is c.requires.left size
     ∙ sym (own_size _ _ _ _ c.self.view_is c.right.view_is c.requires.right size) in (
-      subst (λ (m : Me (Unit {0}) View). PassFits c.in-Ok.keys.items c.join_seat.new.seat.table_id.words m.0) (sym now.2)
-          (joined_fits _ _ _ _ _ _ _ _ _ _ c.left.invariant.0 c.right.invariant.0 left_words (left_words ∙ right_words)
-          c.as_slice.ensures.value c.as_slice-2.ensures.value c.in-Ok.ensures),
+      subst (λ (m : Me (Unit {0}) View). PassFits c.in-Ok.keys.items c.joined.result c.join_seat.new.seat.table_id.words m.0) (sym now.2)
+          (subst (λ s. PassFits c.in-Ok.keys.items s c.join_seat.new.seat.table_id.words (joined_view c.left.inside.seat.me.0 c.right.inside.seat.me.0)) (sym c.joined.ensures)
+          (joined_fits _ _ _ _ _ _ _ _ _ _ _ _ c.left.invariant.0 c.right.invariant.0 left_words (left_words ∙ right_words)
+          c.as_slice.ensures.value c.as_slice-2.ensures.value c.in-Ok.ensures)),
       ap (λ (m : Me (Unit {0}) View). m.1) now.2 ∙ c.left.invariant.1,
     )

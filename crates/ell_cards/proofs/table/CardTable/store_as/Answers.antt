@@ -4,13 +4,13 @@ use Rattle.ell_cards.proofs.table.CardTable.store_as.Goals as goal
 
 pub store-requires : goal.store-requires
 store-requires g c =
-    owed _ _ _ _ c.self.view_is c.pass.view_is c.requires.own c.self.invariant.0 c.pass.inside.seat.id c.pass.inside.seat.me.1 c.pass.inside.keys.items c.args.word
+    owed _ _ _ _ c.self.view_is c.pass.view_is c.requires.own c.self.invariant.0 c.pass.inside.seat.id c.pass.inside.seat.me.1 c.pass.inside.keys.items c.pass.inside.share c.args.word
     (λ _. c.args.value) (λ _. g.J.Telling.then c.args.value) c.self.invariant.1 c.pass.invariant.1 c.pass.invariant.0 c.requires.word c.requires.rule
 
 pub invariant_of-pass : goal.invariant_of-pass
 invariant_of-pass g c =
     let now = c.store.ensures in (
-      stepped _ _ _ _ c.self.view_is c.pass.view_is c.requires.own c.self.invariant.0 c.pass.inside.keys.items _ _ _ g.J.Telling.then
+      stepped _ _ _ _ c.self.view_is c.pass.view_is c.requires.own c.self.invariant.0 c.pass.inside.keys.items c.pass.inside.share _ _ _ g.J.Telling.then
           c.pass.invariant.0 (ap (λ i. i.words) now.0) c.requires.keeps now.2.0,
       now.2.1 ∙ c.pass.invariant.1,
     )

@@ -1,5 +1,6 @@
-use Rattle.std.proofs.Common.{◌∙◌, sym}
+use Rattle.std.proofs.Common.{◌∙◌, sym, false, inl}
 use Rattle.std.proofs.lemmas.List.{length-map}
+use Rattle.std.proofs.lemmas.Bool.{false≢true}
 use Rattle.ell_core.specs.inside.Inside.{view_of}
 use Rattle.ell_core.specs.inside.WorldInside.{value_in}
 use Rattle.ell_core.proofs.opening.NewWorld.{machine_of-opening, opening_lawful}
@@ -12,13 +13,14 @@ invariant_of-result g c =
       size = memory.sized.size;
       limit = memory.sized.limit;
       lawful = opening_lawful (value_in (record { alloc = c.args.alloc; memory = c.in_ok-memory.memory; workers = c.in_ok-workers.workers }))
-          (record { count = c.args.workers; owned = c.args.owned.now; start = c.args.start.now; cards = c.args.cards }) memory.words
+          (record { count = c.args.workers; owned = c.args.owned.now; start = c.args.start.now; cards = c.args.cards; shared = λ _. false }) memory.words
           (length-map c.in_ok-workers.workers.items view_of ∙ sym c.in_ok-workers.workers.ok.0 ∙ c.in_ok-workers.ensures.count) memory.last_card c.in_ok-workers.ensures.ledgers
           (record {
             faultless = c.in_ok-workers.ensures.faultless;
             real = c.requires.keys;
             ascending = c.requires.ascending;
-            given = c.requires.given;
+            given = λ i d below. inl (c.requires.given i d below);
+            apart = λ k shared. absurd (false≢true shared);
           });
     }
 
@@ -28,5 +30,5 @@ returns-clause-opening g c =
     let workers = c.in_ok-workers.workers in
     machine_of-opening
     (value_in (record { alloc = c.args.alloc; memory = c.in_ok-memory.memory; workers = workers }))
-    (record { count = c.args.workers; owned = c.args.owned.now; start = c.args.start.now; cards = c.args.cards }) memory.words
+    (record { count = c.args.workers; owned = c.args.owned.now; start = c.args.start.now; cards = c.args.cards; shared = λ _. false }) memory.words
     (length-map workers.items view_of ∙ sym workers.ok.0 ∙ c.in_ok-workers.ensures.count) memory.last_card c.in_ok-workers.ensures.ledgers

@@ -1,6 +1,5 @@
-use Rattle.std.proofs.Common.{◌≡◌, ◌<◌, ◌≤◌, ◌+◌, ℕ, List, [], arith, length, lt-ltb, ltb-true, rules, ap, sym, subst, ◌∙◌}
+use Rattle.std.proofs.Common.{◌≡◌, ◌<◌, ◌≤◌, ℕ, List, arith, length, lt-ltb, ltb-true, ap, sym, subst, ◌∙◌}
 use Rattle.std.proofs.lemmas.List.{take_all}
-use Rattle.std.specs.List.{cons_option}
 use Rattle.std.specs.List.Sorted.{IsStrictlyIncreasing}
 use Rattle.ell_cards.specs.Changes.{keys_of}
 use Rattle.ell_tree.specs.Ledgers.{present_in}

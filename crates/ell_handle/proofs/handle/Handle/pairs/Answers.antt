@@ -10,8 +10,14 @@ use Rattle.ell_handle.proofs.Listing.{listed_more, lists_pairs, none_else, pairs
 use Rattle.ell_handle.proofs.handle.Handle.pairs.Goals as goal
 use Rattle.ell_handle.proofs.handle.Handle.pairs.Goals.{in-Some+in_ok-push, in_default}
 
-pub returns-in_err-push-clause-owned : goal.returns-in_err-push-clause-owned
-returns-in_err-push-clause-owned c = same_owned c.pair.new.self.pass c.args.self.now.pass (c.pair.ensures.keys ∙ c.loop-place.invariant.keys)
+pub returns-in_err-push-clause-stays : goal.returns-in_err-push-clause-stays
+returns-in_err-push-clause-stays c = record {
+  same = record {
+    map = λ k. c.pair.ensures.map k ∙ c.loop-place.invariant.map k;
+    owned = same_owned c.pair.new.self.pass c.args.self.now.pass (c.pair.ensures.keys ∙ c.loop-place.invariant.keys);
+  };
+  tree = c.pair.ensures.tree ∙ c.loop-place.invariant.tree;
+}
 
 -- one key more
 pub loop-place-preserved : goal.loop-place-preserved
@@ -45,5 +51,8 @@ returns-clause-pairs c =
     subst (ListsPairs (present_in p)) (sym (c.loop-place.invariant.listed ∙ ap (pairs_at (present_in p)) (take_all c.loop-place.place keys past)))
     (lists_pairs (present_in p) keys (subst IsStrictlyIncreasing same c.keys-place-end.ensures.ascending) (none_else p))
 
-pub returns-clause-owned : goal.returns-clause-owned
-returns-clause-owned c = same_owned c.loop-place.self.pass c.args.self.now.pass c.loop-place.invariant.keys
+pub returns-clause-stays : goal.returns-clause-stays
+returns-clause-stays c = record {
+  same = record { map = c.loop-place.invariant.map; owned = same_owned c.loop-place.self.pass c.args.self.now.pass c.loop-place.invariant.keys };
+  tree = c.loop-place.invariant.tree;
+}

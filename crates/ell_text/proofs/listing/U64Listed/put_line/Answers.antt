@@ -1,13 +1,8 @@
-use Rattle.std.proofs.lemmas.Result.{err_from_is_err_and, on_ok_weaker, IfErr-weaker}
-use Rattle.ell_text.proofs.Putting.{Puts-then, Faults-then, Faults-more}
+use Rattle.ell_text.proofs.Putting.{HasPut-failed, HasPut-then, Faults-more}
 use Rattle.ell_text.proofs.listing.U64Listed.put_line.Goals as goal
 
-pub returns-in_err-put_number-clause-fault : goal.returns-in_err-put_number-clause-fault
-returns-in_err-put_number-clause-fault g c =
-    let p = err_from_is_err_and c.from_residual.result c.from_residual.ensures.1 in rw (p.1, p.2) (Faults-more _ c.in_err-put_number.ensures.fault)
+pub returns-in_err-put_number : goal.returns-in_err-put_number
+returns-in_err-put_number g c = HasPut-failed c.from_residual.result _ c.from_residual.ensures.1 (Faults-more _ c.in_err-put_number.ensures.fault)
 
-pub returns-clause-ok : goal.returns-clause-ok
-returns-clause-ok g c = on_ok_weaker c.put.result (Puts-then c.in_ok-put_number.ensures.ok) c.put.ensures.ok
-
-pub returns-clause-fault : goal.returns-clause-fault
-returns-clause-fault g c = IfErr-weaker c.put.result _ _ (λ fault. Faults-then c.in_ok-put_number.ensures.ok) c.put.ensures.fault
+pub returns : goal.returns
+returns g c = HasPut-then c.put.result c.in_ok-put_number.ensures.ok c.put.ensures

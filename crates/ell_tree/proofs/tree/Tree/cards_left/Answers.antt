@@ -10,7 +10,7 @@ pub returns-clause-most : goal.returns-clause-most
 returns-clause-most g c = λ s reached seat there.
     let t = c.args.self.now in
     let reads = c.cards_left.ensures in
-    let past = (readings_are_past t.keys t.start t.last_card s reached seat c.cards_left.new.pass.view there).next in
+    let past = (readings_are_past t.plan s reached seat c.cards_left.new.pass.view there).next in
     let least = subst (λ (o : Option ℕ). IsRead (slice_index s.words 0) o) (ap (λ (p : PassModel). p.view.next) reads.step) past in
-    let same = ap (λ (t : TreeModel). t.last_card) c.self.view_is in
+    let same = ap (λ (t : TreeModel). t.plan.last_card) c.self.view_is in
     omega (arith, least, reads.all, same)

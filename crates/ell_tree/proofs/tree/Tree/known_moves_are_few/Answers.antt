@@ -5,5 +5,5 @@ use Rattle.ell_tree.proofs.tree.Tree.known_moves_are_few.Goals as goal
 
 pub returns : goal.returns
 returns g c =
-    let same = ap (λ (t : TreeModel). t.last_card) c.self.view_is in
-    moves_most c.args.self.now.last_card c.args.pass.now.view (omega (arith, c.claims_stay_inside.ensures, same))
+    let same = ap (λ (t : TreeModel). t.plan.last_card) c.self.view_is in
+    moves_most c.args.self.now.plan.last_card c.args.pass.now.view (omega (arith, c.claims_stay_inside.ensures, same))

@@ -4,4 +4,4 @@ use Rattle.ell_tree.proofs.tree.Tree.look.Goals as goal
 
 pub returns-clause-so : goal.returns-clause-so
 returns-clause-so g c =
-    looks_are_of_one_state c.args.self.now.keys c.args.self.now.start c.args.self.now.last_card c.look.new.pass.view c.args.key c.look.result c.look.ensures.found
+    looks_are_of_one_state c.args.self.now.plan c.look.new.pass.view c.args.key c.look.result c.look.ensures.found

@@ -3,5 +3,4 @@ use Rattle.ell_tree.proofs.tree.Tree.reserve_from.Goals as goal
 
 pub returns-clause-pass : goal.returns-clause-pass
 returns-clause-pass g c =
-    first_pass c.in_ok-table.table c.args.keys.now c.args.start.now c.in_ok-table.pass c.requires.given c.in_ok-table.ensures.table.0
-    c.in_ok-table.ensures.pass
+    first_pass _ (c.in_ok-table.table, c.in_ok-table.pass) (λ closed. c.requires.given) c.in_ok-table.ensures.opened

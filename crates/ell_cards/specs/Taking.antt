@@ -1,0 +1,32 @@
+use Rattle.std.specs.Prelude.{◌≡◌, ℕ, Some, List}
+use mathlib.Core.Option.{some}
+use lib.ListN.{get_elem?}
+use Rattle.ell_ops.specs.declared.op.Op.TheVariants.{Delete}
+use Rattle.ell_ops.specs.declared.reply.Reply.TheVariants.{Yes}
+use Rattle.ell_ops.specs.Contents.{contents_of}
+use Rattle.ell_ops.specs.Meaning.{final}
+use Rattle.ell_core.specs.declared.field.Field.TheVariants as field
+use Rattle.ell_cards.specs.declared.view.Told.TheVariants.{Info, Value}
+use Rattle.ell_cards.specs.declared.view.View.{View}
+use Rattle.ell_cards.specs.Models.{TablePlan, IsTold}
+use Rattle.ell_cards.specs.States.{TableState}
+use Rattle.ell_cards.specs.Turns.{Turn, TableRun}
+use Rattle.ell_cards.specs.Starts.{Starts}
+use Rattle.ell_cards.specs.Changing.{run_effects}
+use Rattle.ell_cards.specs.Answering.{AnsweredInRun}
+
+-- in a run from a start the pass in a seat deleted a key: at the call's point, one thread that had made all operations by which the tree was
+-- changed till then had the key with this value
+pub record TookInRun (plan : TablePlan) (s : TableState) (turns : List Turn) (s' : TableState) (seat key value : ℕ) : Type 0 where
+  pub call : AnsweredInRun plan s turns s' seat (Delete key) Yes
+  pub had : final (contents_of plan.start) (run_effects plan.last_card s call.point.all call.point.state call.point.led) key ≡ Some value
+
+-- so it is in every run of a table with this plan, from its start to a state in which a pass knows this
+abbrev pub IsTakenInRuns : TablePlan → View → ℕ → ℕ → Type 0
+IsTakenInRuns plan v key value = (s : TableState) → Starts plan s → (turns : List Turn) (s' : TableState) → TableRun plan.last_card s turns s'
+    → (seat : ℕ) → get_elem? s'.views seat ≡ some v → TookInRun plan s turns s' seat key value
+
+-- a delete that was answered yes by its card took the value that the pass was told of the card's leaf
+abbrev pub DeletesTakeTheToldValue : Type 0
+DeletesTakeTheToldValue = (plan : TablePlan) (v : View) (key c leaf value : ℕ) → v.answered ≡ Some (record { op = Delete key; said = Yes; card = Some c })
+    → IsTold v (Info c field.L leaf) → IsTold v (Value leaf value) → IsTakenInRuns plan v key value

@@ -1,0 +1,2 @@
+-- what passes that share keys may do, and that they go on to share them
+pub mod Sharers

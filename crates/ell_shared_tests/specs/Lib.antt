@@ -1,0 +1,2 @@
+-- passes that share keys
+pub mod Sharing

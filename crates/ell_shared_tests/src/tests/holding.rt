@@ -1,0 +1,208 @@
+//! A worker that is held at each kind of step in turn, while another makes whole calls on the same key.
+ghost use Rattle.std.specs.Prelude.{◌≡◌, ◌≤◌, [], length};
+ghost use Rattle.std.specs.List.{All};
+ghost use Rattle.std.specs.List.Sorted.{IsStrictlyIncreasing};
+ghost use Rattle.std.specs.Map.{keys_of};
+ghost use Rattle.ell_tree.specs.Meaning.{greatest_key};
+ghost use Rattle.ell_tree.specs.Node.{most_start};
+ghost use Rattle.ell_shared_tests.specs.Sharing.{IsSharer};
+
+use super::calling::{check, close, make};
+use super::parting::{joined, parted};
+use super::working::Done;
+use ell_ops::Op::{Delete, Find, Insert};
+use ell_ops::Reply::{Found, No, Yes};
+use ell_ops::{Op, Reply};
+use ell_test_gates::{Holding, two_threads_meet};
+use ell_tree::{Kind, Pass, StepGate, Tree};
+use std::alloc::Global;
+use std::process::Abort;
+use std::sync::atomic::AtomicU64;
+use std::thread::{Threads, join};
+
+/// A call, and what it answers.
+pub type Row = (Op, Reply);
+
+/// Makes calls one after the other, each of which is to be answered as its row says.
+pub fn play<G: StepGate>(
+    rt: &(impl Abort + AllocGlobal),
+    tree: &Tree<Global>,
+    pass: Pass<Global>,
+    clock: &AtomicU64,
+    gate: &G,
+    rows: &[Row],
+) -> Done
+    requires { IsSharer tree.now pass }
+    ensures { IsSharer tree.now result.pass }
+{
+    let mut pass = pass;
+    let mut calls = Vec::new(rt.alloc());
+    for (number, (op, said)) in rows.iter().enumerate() {
+        let label = pass.label();
+        let made = make(rt, tree, &mut pass, clock, *op, gate).expect(rt, "answer");
+        assert!(rt; made.said == *said, "row {number} of worker {label}");
+        calls.push(made).expect(rt, "memory");
+    }
+    Done { pass, calls }
+}
+
+// Two workers on one key: worker 0 is held at its first step of a kind, until worker 1 has made its calls. The keys at the start and at
+// the end, with their values.
+#[derive(Clone, Copy)]
+struct Meeting<'a> {
+    start: &'a [(u64, u64)],
+    held: Row,
+    rows: &'a [Row],
+    end: &'a [(u64, u64)],
+}
+
+fn meet<R: Threads + Abort + AllocGlobal + Sync>(rt: &R, at: Kind, meeting: Meeting)
+    requires ascending { IsStrictlyIncreasing (keys_of meeting.start.now) }
+    requires real { All (λ k. k ≤ greatest_key) (keys_of meeting.start.now) }
+    requires few { length meeting.start.now ≤ most_start }
+{
+    let (start, held, rows) = (meeting.start, [meeting.held], meeting.rows);
+    let (clock, gate) = (AtomicU64::new(0), Holding::until(at, rows.len() as u64));
+    let made = Tree::reserve_shared(rt.alloc(), start, &[], 100);
+    let (tree, pass) = made.expect(rt, "tree");
+    let (zero, mut one) = parted(rt, &tree, pass);
+    one.relabel(1);
+    let (shared, time, told, held) = (&tree, &clock, &gate, &held);
+    let (zero, one) = join(
+        rt,
+        move || play(rt, shared, zero, time, told, held),
+        move || play(rt, shared, one, time, told, rows),
+    );
+    assert!(rt; gate.has_held());
+    let mut calls = zero.calls;
+    for call in &one.calls {
+        calls.push(*call).expect(rt, "memory");
+    }
+    let pass = joined(rt, &tree, zero.pass, one.pass);
+    let pairs = close(rt, tree, pass);
+    assert!(rt; pairs.as_slice() == meeting.end);
+    check(rt, 10, start, &calls, &pairs);
+}
+
+// Worker 0 has not flagged yet: it is as if its insert began behind the others.
+const BEFORE_ITS_FLAG: Meeting = Meeting {
+    start: &[],
+    held: (Insert(5, 50), No),
+    rows: &[
+        (Find(5), No),
+        (Insert(5, 51), Yes),
+        (Find(5), Found(51)),
+        (Delete(5), Yes),
+        (Find(5), No),
+        (Insert(5, 52), Yes),
+    ],
+    end: &[(5, 52)],
+};
+
+// Its flag stands: a change on the same key makes its exchange for it, and finds the key.
+const BEHIND_ITS_FLAG: Meeting = Meeting {
+    held: (Insert(5, 50), Yes),
+    rows: &[
+        (Find(5), No),
+        (Insert(5, 51), No),
+        (Find(5), Found(50)),
+        (Delete(5), Yes),
+        (Find(5), No),
+        (Insert(5, 52), Yes),
+    ],
+    ..BEFORE_ITS_FLAG
+};
+
+// Its exchange is made.
+const BEHIND_ITS_EXCHANGE: Meeting = Meeting {
+    held: (Insert(5, 50), Yes),
+    rows: &[
+        (Find(5), Found(50)),
+        (Insert(5, 51), No),
+        (Delete(5), Yes),
+        (Delete(5), No),
+        (Insert(5, 52), Yes),
+    ],
+    ..BEFORE_ITS_FLAG
+};
+
+#[test]
+fn others_go_past_an_insert_of_their_key(rt: HostRuntime) {
+    if !two_threads_meet(&rt) {
+        return;
+    }
+    for at in [
+        Kind::Begin,
+        Kind::Note,
+        Kind::Look,
+        Kind::Claim,
+        Kind::Fill,
+        Kind::IFlag,
+    ] {
+        meet(&rt, at, BEFORE_ITS_FLAG);
+    }
+    meet(&rt, Kind::IChild, BEHIND_ITS_FLAG);
+    meet(&rt, Kind::IUnflag, BEHIND_ITS_EXCHANGE);
+}
+
+// Worker 0 has not flagged yet: it is as if its delete began behind the others.
+const BEFORE_ITS_DELETE: Meeting = Meeting {
+    start: &[(3, 30), (5, 50), (7, 70)],
+    held: (Delete(5), No),
+    rows: &[
+        (Find(5), Found(50)),
+        (Insert(5, 51), No),
+        (Delete(5), Yes),
+        (Find(5), No),
+        (Insert(5, 52), Yes),
+        (Find(5), Found(52)),
+        (Delete(5), Yes),
+    ],
+    end: &[(3, 30), (7, 70)],
+};
+
+// Its flag stands, and its mark too: another delete ends it, and finds no key.
+const BEHIND_ITS_DELETE_FLAG: Meeting = Meeting {
+    held: (Delete(5), Yes),
+    rows: &[
+        (Find(5), Found(50)),
+        (Delete(5), No),
+        (Find(5), No),
+        (Insert(5, 51), Yes),
+        (Find(5), Found(51)),
+    ],
+    end: &[(3, 30), (5, 51), (7, 70)],
+    ..BEFORE_ITS_DELETE
+};
+
+// Its parent is cut out.
+const BEHIND_ITS_CUT: Meeting = Meeting {
+    rows: &[
+        (Find(5), No),
+        (Delete(5), No),
+        (Insert(5, 51), Yes),
+        (Find(5), Found(51)),
+    ],
+    ..BEHIND_ITS_DELETE_FLAG
+};
+
+#[test]
+fn others_go_past_a_delete_of_their_key(rt: HostRuntime) {
+    if !two_threads_meet(&rt) {
+        return;
+    }
+    for at in [
+        Kind::Begin,
+        Kind::Note,
+        Kind::Look,
+        Kind::Claim,
+        Kind::Fill,
+        Kind::DFlag,
+    ] {
+        meet(&rt, at, BEFORE_ITS_DELETE);
+    }
+    for at in [Kind::Mark, Kind::DChild] {
+        meet(&rt, at, BEHIND_ITS_DELETE_FLAG);
+    }
+    meet(&rt, Kind::DUnflag, BEHIND_ITS_CUT);
+}

@@ -1,0 +1,182 @@
+//! Whether calls on one key, which overlap, were answered as one thread's map answers them in some order.
+//!
+//! A call has its point between its begin and its end: there it is answered, at once. Operations on one key say nothing of another, so
+//! calls on many keys are in order if those on each key are.
+use ell_ops::{Op, Reply};
+use std::alloc::{AllocError, Global};
+
+/// A call that was answered, with its begin and its end by a clock that all workers read. A look counts as a find. A call that is held
+/// changes nothing, and stands in no history.
+#[derive(Clone, Copy, Debug, PartialEq, Eq)]
+pub struct Made {
+    /// Who made it, by a number below 64: a worker makes one call at a time.
+    pub worker: u32,
+    pub op: Op,
+    pub said: Reply,
+    pub begun: u64,
+    pub ended: u64,
+}
+
+impl Made {
+    // The bit of its worker.
+    fn bit(&self) -> u64 {
+        1u64.wrapping_shl(self.worker)
+    }
+
+    // The value of the key after the call, if it is answered so where the key has this value.
+    fn after(&self, value: Option<u64>) -> Option<Option<u64>> {
+        match (self.op, self.said, value) {
+            (Op::Find(_), Reply::Found(said), Some(there)) if said == there => Some(value),
+            (Op::Find(_) | Op::Delete(_), Reply::No, None) => Some(None),
+            (Op::Insert(_, _), Reply::No, Some(_)) => Some(value),
+            (Op::Insert(_, new), Reply::Yes, None) => Some(Some(new)),
+            (Op::Delete(_), Reply::Yes, Some(_)) => Some(None),
+            _ => None,
+        }
+    }
+}
+
+// What an order of points comes to: which of the calls that go on have had theirs, by the bits of their workers, and the value of the
+// key behind them.
+#[derive(Clone, Copy, PartialEq, Eq)]
+struct Standing {
+    done: u64,
+    value: Option<u64>,
+}
+
+impl Standing {
+    // A call has its point now, if it had none yet and is answered so.
+    fn after(self, call: &Made) -> Option<Standing> {
+        if self.has(call) {
+            return None;
+        }
+        let value = call.after(self.value)?;
+        let done = self.done | call.bit();
+        Some(Standing { done, value })
+    }
+
+    // Calls that change nothing have their points wherever they may: no order is lost by that.
+    fn settled(self, going: &[Made]) -> Standing {
+        let idle = going
+            .iter()
+            .filter(|call| call.after(self.value) == Some(self.value));
+        let done = idle.fold(self.done, |done, call| done | call.bit());
+        Standing { done, ..self }
+    }
+
+    fn has(self, call: &Made) -> bool {
+        self.done & call.bit() != 0
+    }
+
+    // The worker of a call may make another one.
+    fn without(self, call: &Made) -> Standing {
+        let done = self.done & !call.bit();
+        Standing { done, ..self }
+    }
+}
+
+// All that orders of points come to, at a moment of a history, and the calls that go on.
+#[derive(Drop)]
+struct Orders {
+    going: Vec<Made>,
+    standings: Vec<Standing>,
+}
+
+impl Orders {
+    // Before the first call, where the key has this value.
+    fn at(alloc: Global, value: Option<u64>) -> Result<Orders, AllocError> {
+        let mut standings = Vec::new(alloc);
+        standings.push(Standing { done: 0, value })?;
+        Ok(Orders {
+            going: Vec::new(alloc),
+            standings,
+        })
+    }
+
+    // A call ends, and so has had its point by now.
+    fn end(&mut self, alloc: Global, call: &Made) -> Result<(), AllocError> {
+        self.explore()?;
+        let mut left = Vec::new(alloc);
+        for standing in &self.standings {
+            if standing.has(call) {
+                add(&mut left, standing.without(call))?;
+            }
+        }
+        self.standings = left;
+        self.going.retain(|other| other.worker != call.worker);
+        Ok(())
+    }
+
+    // Calls that go on have their points, in each order.
+    fn explore(&mut self) -> Result<(), AllocError> {
+        for place in 0..u32::MAX {
+            let Some(standing) = self.standings.get(place as usize).copied() else {
+                break;
+            };
+            let settled = standing.settled(&self.going);
+            if let Some(there) = self.standings.get_mut(place as usize) {
+                *there = settled;
+            }
+            self.go_on(settled)?;
+        }
+        Ok(())
+    }
+
+    // Each of the calls that go on has its point behind a standing, if it may.
+    fn go_on(&mut self, standing: Standing) -> Result<(), AllocError> {
+        for call in &self.going {
+            if let Some(next) = standing.after(call) {
+                add(&mut self.standings, next)?;
+            }
+        }
+        Ok(())
+    }
+}
+
+// Adds a standing, unless it is there.
+fn add(standings: &mut Vec<Standing>, standing: Standing) -> Result<(), AllocError> {
+    if !standings.contains(&standing) {
+        standings.push(standing)?;
+    }
+    Ok(())
+}
+
+// The begins and the ends of calls in their order, by their time, whether it is an end, and the place of the call.
+fn moments(alloc: Global, calls: &[Made]) -> Result<Vec<(u64, bool, usize)>, AllocError> {
+    let mut moments = Vec::new(alloc);
+    for (place, call) in calls.iter().enumerate() {
+        moments.push((call.begun, false, place))?;
+        moments.push((call.ended, true, place))?;
+    }
+    moments.sort_unstable();
+    Ok(moments)
+}
+
+/// Whether there is an order of calls on one key in which a call that ended before another one began comes before it, and each is answered
+/// as a map answers that has the key with this value at first.
+pub fn are_in_order(
+    alloc: Global,
+    start: Option<u64>,
+    calls: &[Made],
+) -> Result<bool, AllocError> {
+    let mut orders = Orders::at(alloc, start)?;
+    for (_, ends, place) in &moments(alloc, calls)? {
+        match calls.get(*place) {
+            Some(call) if *ends => orders.end(alloc, call)?,
+            Some(call) => orders.going.push(*call)?,
+            None => {}
+        }
+    }
+    Ok(!orders.standings.is_empty())
+}
+
+/// The calls on a key, of those of many workers.
+pub fn calls_on(alloc: Global, key: u64, calls: &[Made]) -> Result<Vec<Made>, AllocError> {
+    let mut on_it = Vec::new(alloc);
+    for call in calls {
+        if call.op.key() == key {
+            on_it.push(*call)?;
+        }
+    }
+    Ok(on_it)
+}

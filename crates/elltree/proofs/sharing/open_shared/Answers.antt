@@ -1,0 +1,11 @@
+use Rattle.std.proofs.Common.{rules, subst, sym}
+use Rattle.ell_handle.specs.declared.handle.Place.{Place}
+use Rattle.elltree.specs.Maps.{as_pairs}
+use Rattle.elltree.specs.Slots.{OfHandle}
+use Rattle.elltree.specs.Told.{BeginsShared}
+use Rattle.elltree.proofs.sharing.open_shared.Goals as goal
+
+pub returns-clause-opened : goal.returns-clause-opened
+returns-clause-opened c =
+    subst (λ (p : Place). OfHandle (BeginsShared (as_pairs c.args.start.now) c.args.cards c.args.number) p.handle) (sym c.in_ok-new.ensures.ok)
+    (record { opened = search rules; may = search rules })

@@ -1,0 +1,132 @@
+//! Trees of shared keys, and further handles of a tree.
+ghost use Rattle.std.specs.Prelude.{◌≡◌, ◌≢◌, ◌↔◌, true, false, None, Err, IfOk, IfErr, OnErr, [], ◌∷◌};
+ghost use Rattle.ell_handle.specs.Opens.{Refuses};
+ghost use Rattle.ell_handle.specs.Parts.{IsLeast};
+ghost use Rattle.elltree.specs.Codes.{IsOneOf, said_closed, said_no_memory, said_open, said_too_many, said_yes};
+ghost use Rattle.elltree.specs.Maps.{as_pairs, handle_of};
+ghost use Rattle.elltree.specs.Slots.{HasAnotherIn, OfHandle};
+ghost use Rattle.elltree.specs.Told.{BeginsShared, SaysWhyShut};
+
+use crate::Pair;
+use crate::codes::{CLOSED, NO_MEMORY, OPEN, TOO_MANY_HANDLES, YES, code_of_refusal};
+use crate::opening::pairs_of;
+use crate::slot::Slot;
+use crate::starting::why_refused;
+use ell_handle::{Handle, Place, Refusal};
+use std::alloc::Global;
+
+/// Opens a tree of so many cards in which every key up to `KEY_MAX` is shared, and which has the start keys with their values. Trees that are
+/// open at once have different numbers.
+#[unsafe(no_mangle)]
+pub extern "C" fn elltree_slot_open_shared(
+    alloc: Global,
+    slot: &mut Slot,
+    start: &[Pair],
+    cards: u64,
+    number: u64,
+) -> i32
+    ensures opened { result ≡ said_yes →
+        OfHandle (BeginsShared (as_pairs start.now) cards number) (handle_of slot.new.raw.inside) }
+    ensures why { SaysWhyShut [] (as_pairs start.now) cards result }
+    ensures busy { (result ≡ said_open) ↔ (slot.old.is_open ≡ true) }
+    ensures refused { result ≢ said_yes → slot.new.raw.inside ≡ slot.old.raw.inside }
+{
+    if slot.is_open {
+        return OPEN;
+    }
+    match open_shared(alloc, start, cards, number) {
+        Ok(place) => {
+            slot.put(place);
+            YES
+        }
+        Err(refusal) => code_of_refusal(refusal),
+    }
+}
+
+// A tree of shared keys, and its first handle in a box.
+fn open_shared(
+    alloc: Global,
+    start: &[Pair],
+    cards: u64,
+    number: u64,
+) -> Result<Box<Place, Global>, Refusal>
+    ensures opened { IfOk result (λ place.
+        OfHandle (BeginsShared (as_pairs start.now) cards number) place.value.handle) }
+    ensures refused { IfErr result (Refuses [] (as_pairs start.now) cards) }
+{
+    let Ok(pairs) = pairs_of(alloc, start) else {
+        return Err(why_refused(&[], start, cards));
+    };
+    let handle = Handle::open_shared(alloc, &pairs, cards, number)?;
+    let place = Place {
+        handle: Some(handle),
+    };
+    Ok(Box::new(alloc, place)?)
+}
+
+/// Gives another slot, which is not open yet, a handle of the same tree: it changes shared keys, and looks at any key. A slot's own keys
+/// stay its own.
+#[unsafe(no_mangle)]
+pub extern "C" fn elltree_slot_another(alloc: Global, from: &mut Slot, into: &mut Slot) -> i32
+    ensures another { result ≡ said_yes →
+        HasAnotherIn (handle_of from.old.raw.inside) (handle_of from.new.raw.inside) (handle_of into.new.raw.inside) }
+    ensures too_many { result ≡ said_too_many → OfHandle IsLeast (handle_of from.old.raw.inside) }
+    ensures no_memory { result ≡ said_no_memory → OfHandle (λ h. ¬ IsLeast h) (handle_of from.old.raw.inside) }
+    ensures busy { (result ≡ said_open) ↔ (into.old.is_open ≡ true) }
+    ensures closed { result ≡ said_closed → handle_of from.old.raw.inside ≡ None }
+    ensures none { handle_of from.old.raw.inside ≡ None → into.old.is_open ≡ false → result ≡ said_closed }
+    ensures codes { IsOneOf (said_yes ∷ said_open ∷ said_closed ∷ said_too_many ∷ said_no_memory ∷ []) result }
+    ensures refused { result ≢ said_yes → from.new.raw.inside ≡ from.old.raw.inside }
+    ensures unopened { result ≢ said_yes → into.new.raw.inside ≡ into.old.raw.inside }
+{
+    if into.is_open {
+        return OPEN;
+    }
+    let Some(mut place) = from.take(alloc) else {
+        return CLOSED;
+    };
+    let code = match another(alloc, &mut place) {
+        Ok(made) => {
+            into.put(made);
+            YES
+        }
+        Err(code) => code,
+    };
+    from.put(place);
+    code
+}
+
+// Another handle of the tree of a place's handle, in a box of its own, or a code.
+fn another(alloc: Global, place: &mut Place) -> Result<Box<Place, Global>, i32>
+    ensures another { IfOk result (λ made. HasAnotherIn place.old.handle place.new.handle made.value.handle) }
+    ensures too_many { result ≡ Err said_too_many → OfHandle IsLeast place.old.handle }
+    ensures no_memory { result ≡ Err said_no_memory → OfHandle (λ h. ¬ IsLeast h) place.old.handle }
+    ensures closed { result ≡ Err said_closed → place.old.handle ≡ None }
+    ensures none { place.old.handle ≡ None → result ≡ Err said_closed }
+    ensures codes { IfErr result (IsOneOf (said_closed ∷ said_too_many ∷ said_no_memory ∷ [])) }
+    ensures refused { OnErr result (place.new ≡ place.old) }
+{
+    let Some(handle) = place.handle.take() else {
+        return Err(CLOSED);
+    };
+    let Ok(mut made) = Box::new(alloc, Place { handle: None }) else {
+        let code = if handle.has_least_share() {
+            TOO_MANY_HANDLES
+        } else {
+            NO_MEMORY
+        };
+        place.handle = Some(handle);
+        return Err(code);
+    };
+    match handle.another(alloc) {
+        Ok((kept, other)) => {
+            place.handle = Some(kept);
+            made.handle = Some(other);
+            Ok(made)
+        }
+        Err((whole, refusal)) => {
+            place.handle = Some(whole);
+            Err(code_of_refusal(refusal))
+        }
+    }
+}

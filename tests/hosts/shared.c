@@ -1,0 +1,100 @@
+/* Two threads of a host, and then four, that insert and delete the same few keys of a tree of shared keys. Each yes is matched: of each key,
+   the inserts that answered yes are as many as the deletes that did, or one more where the key is present at the end, counting a start key as
+   an insert. Then what is refused in such a tree. */
+#include "elltree.h"
+#include <pthread.h>
+#include <stdio.h>
+
+#ifndef OPS
+#define OPS 60000
+#endif
+enum { MOST = 4, KEYS = 6, CARDS = 600000, TRIES = 100000 };
+
+struct worker {
+    struct elltree_handle handle;
+    uint64_t seed;
+    long inserted[KEYS], deleted[KEYS], found, wrong;
+};
+
+/* Few keys, far from each other. */
+static uint64_t key_at(uint64_t place) { return place * 1000003 * 1000003; }
+
+/* Each value tells its key. */
+static uint64_t value_of(uint64_t place, uint64_t random) { return random / KEYS / 2 * KEYS + place; }
+
+static void change(struct worker *w, uint64_t place) {
+    int32_t said;
+    if (w->seed & 4) {
+        said = elltree_insert(&w->handle, key_at(place), value_of(place, w->seed), TRIES);
+        w->inserted[place] += said == ELLTREE_YES;
+    } else {
+        said = elltree_delete(&w->handle, key_at(place), TRIES);
+        w->deleted[place] += said == ELLTREE_YES;
+    }
+    w->wrong += said < 0;
+}
+
+static void *work(void *given) {
+    struct worker *w = given;
+    uint64_t got = 0;
+    for (int i = 0; i < OPS; i++) {
+        w->seed ^= w->seed << 13, w->seed ^= w->seed >> 7, w->seed ^= w->seed << 17;
+        uint64_t place = (w->seed >> 20) % KEYS;
+        if (w->seed & 1) {
+            change(w, place);
+        } else {
+            int32_t said = w->seed & 2 ? elltree_find(&w->handle, key_at(place), &got) : elltree_look(&w->handle, key_at(place), &got);
+            w->wrong += said < 0 || (said == ELLTREE_YES && got % KEYS != place);
+            w->found += said == ELLTREE_YES;
+        }
+    }
+    return NULL;
+}
+
+/* Whether each yes is matched by the others and by what is there: how many keys are not. */
+static long unmatched(struct worker *w, int threads, const long *began) {
+    long wrong = 0, size = 0;
+    uint64_t got = 0;
+    for (uint64_t place = 0; place < KEYS; place++) {
+        long there = began[place];
+        for (int t = 0; t < threads; t++)
+            there += w[t].inserted[place] - w[t].deleted[place];
+        wrong += there != (elltree_find(&w[0].handle, key_at(place), &got) == ELLTREE_YES);
+        size += there;
+    }
+    printf("%d threads, %ld keys at the end, %ld not matched\n", threads, size, wrong);
+    return wrong;
+}
+
+static long run(int threads) {
+    static struct worker w[MOST];
+    const struct elltree_pair start[2] = {{key_at(1), value_of(1, 0)}, {key_at(4), value_of(4, 0)}};
+    const long began[KEYS] = {0, 1, 0, 0, 1, 0};
+    pthread_t running[MOST];
+    long wrong = elltree_open_shared(&w[0].handle, start, 2, CARDS) != ELLTREE_YES;
+    for (int t = 1; t < threads; t++)
+        wrong += elltree_another(&w[0].handle, &w[t].handle) != ELLTREE_YES;
+    for (int t = 0; t < threads; t++) {
+        w[t].found = w[t].wrong = 0;
+        w[t].seed = 88172645463325252u + (uint64_t)t * 7919;
+        for (int place = 0; place < KEYS; place++)
+            w[t].inserted[place] = w[t].deleted[place] = 0;
+        pthread_create(&running[t], NULL, work, &w[t]);
+    }
+    for (int t = 0; t < threads; t++)
+        pthread_join(running[t], NULL);
+    wrong += unmatched(w, threads, began);
+    for (int t = 0; t < threads; t++) {
+        printf("thread %d: %ld found, %ld wrong\n", t, w[t].found, w[t].wrong);
+        wrong += w[t].wrong + (w[t].found == 0);
+    }
+    for (int t = 1; t < threads; t++)
+        wrong += elltree_join(&w[0].handle, &w[t].handle) != ELLTREE_YES;
+    return wrong + unmatched(w, threads, began) + (elltree_free(&w[0].handle) != ELLTREE_YES);
+}
+
+int main(void) {
+    long wrong = run(2) + run(MOST);
+    printf("%ld wrong\n", wrong);
+    return wrong != 0;
+}
