@@ -154,11 +154,7 @@ fn moments(alloc: Global, calls: &[Made]) -> Result<Vec<(u64, bool, usize)>, All
 
 /// Whether there is an order of calls on one key in which a call that ended before another one began comes before it, and each is answered
 /// as a map answers that has the key with this value at first.
-pub fn are_in_order(
-    alloc: Global,
-    start: Option<u64>,
-    calls: &[Made],
-) -> Result<bool, AllocError> {
+pub fn are_in_order(alloc: Global, start: Option<u64>, calls: &[Made]) -> Result<bool, AllocError> {
     let mut orders = Orders::at(alloc, start)?;
     for (_, ends, place) in &moments(alloc, calls)? {
         match calls.get(*place) {

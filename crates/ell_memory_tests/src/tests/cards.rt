@@ -9,7 +9,7 @@ use super::passes::{KEYS, ROOT, START, START_CARDS, START_KEYS, STARTED, owns_al
 use super::refusing::{Heap, Refusal};
 use super::schedule::{CARDS, TURNS, Turn};
 use super::sweeping::{Ended, sweep};
-use ell_cards::{CardFault, CardTable, Closed, Pass};
+use ell_cards::{CardFault, CardTable, Closed, Pass, SplitFault};
 use ell_core::Field;
 use ell_ops::NoMemory;
 use ell_test_steps::{Remembered, nothing, step};
@@ -41,9 +41,12 @@ fn has_words<A: Allocator + Copy>(closed: &Closed<A>, card: u64, words: &[u64; 1
 fn is_started<A: Allocator + Copy>(table: CardTable<A>, pass: Pass<A>) -> bool
     requires own { pass.table ≡ table.id }
     requires free { IsFree pass.view }
-    requires keys { table.keys ≡ START_KEYS }
+    requires keys { table.plan.keys ≡ START_KEYS }
 {
-    if !tells(&pass, &START_KEYS, 0, 0) || !owns_all(&pass, &START_KEYS) {
+    if !tells(&pass, &START_KEYS, 0, 0)
+        || !owns_all(&pass, &START_KEYS)
+        || !pass.has_whole_share()
+    {
         return false;
     }
     let closed = table.close(pass);
@@ -88,8 +91,9 @@ fn split(rt: &impl Abort, heap: &Heap, refusal: Refusal) -> Ended {
         Ok((left, right)) => Ended::answered(
             left.keys() == [5].as_slice() && right.keys() == [7].as_slice(),
         ),
-        Err((pass, NoMemory)) => {
-            Ended::no_memory(tells(&pass, &KEYS, 3, 1) && is_parted(&table, pass))
+        Err((pass, fault)) => {
+            let is_same = fault == SplitFault::NoMemory && tells(&pass, &KEYS, 3, 1);
+            Ended::no_memory(is_same && is_parted(&table, pass))
         }
     }
 }
@@ -101,7 +105,7 @@ fn parted<'a>(
 ) -> (CardTable<&'a Heap>, Pass<&'a Heap>, Pass<&'a Heap>)
     ensures left { (result.1.table ≡ result.0.id) × IsFree result.1.view }
     ensures right { (result.2.table ≡ result.0.id) × IsFree result.2.view }
-    ensures keys { result.0.keys ≡ KEYS }
+    ensures keys { result.0.plan.keys ≡ KEYS }
 {
     let (table, pass) = CardTable::reserve(heap, &KEYS, FEW).expect(rt, "no memory");
     let Ok((left, mut right)) = table.split(pass, &[5]) else {
@@ -192,7 +196,7 @@ fn a_table_is_closed_without_memory(rt: HostRuntime) {
     let Ok(pass) = table.join(left, right) else {
         panic!(rt; "no memory");
     };
-    assert!(rt; owns_all(&pass, &KEYS));
+    assert!(rt; owns_all(&pass, &KEYS) && pass.has_whole_share());
     heap.refuse(Refusal::From(1));
     let closed = table.close(pass);
     assert!(rt; closed.last_card() == FEW && has_words(&closed, 0, &ROOT));
@@ -222,7 +226,7 @@ fn are_done<A: Allocator + Copy>(
 // Plays the turns by two passes with nothing in hand.
 #[tactic(auto, using(ell_test_steps::proofs::Readiness::ready_idle))]
 fn play<A: Allocator + Copy>(rt: &impl Abort, table: &CardTable<A>, parts: (Pass<A>, Pass<A>))
-    requires limit { table.now.last_card ≤ greatest_card }
+    requires limit { table.now.plan.last_card ≤ greatest_card }
     requires left { (parts.0.table ≡ table.now.id) × IsIdle parts.0.view }
     requires right { (parts.1.table ≡ table.now.id) × IsIdle parts.1.view }
 {

@@ -72,9 +72,9 @@ const ONE_KEYS: [u64; 2] = [5, 6];
 fn is_closed<A: Allocator + Copy>(tree: Tree<A>, pass: Pass<A>, wants: &[(u64, u64)]) -> bool
     requires own { pass.table ≡ tree.id }
     requires idle { IsIdle pass }
-    requires keys { tree.keys ≡ ONE_KEYS }
+    requires keys { tree.plan.keys ≡ ONE_KEYS }
 {
-    if !owns_all(&pass, &ONE_KEYS) {
+    if !owns_all(&pass, &ONE_KEYS) || !pass.has_whole_share() {
         return false;
     }
     match tree.close(pass) {

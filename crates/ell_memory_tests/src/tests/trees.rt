@@ -9,7 +9,7 @@ use super::refusing::{Heap, Refusal};
 use super::sweeping::{Ended, sweep};
 use ell_ops::Reply::{self, Found, No, Yes};
 use ell_ops::{NoMemory, Op};
-use ell_tree::{CardFault, Held, Pass, Tree};
+use ell_tree::{CardFault, Held, Pass, SplitFault, Tree};
 use ell_word::NoGate;
 use std::alloc::Allocator;
 use std::process::Abort;
@@ -75,7 +75,7 @@ fn answer_without_memory<'a>(
 fn planted<'a>(rt: &impl Abort, heap: &'a Heap) -> (Tree<&'a Heap>, Pass<&'a Heap>)
     ensures own { result.1.table ≡ result.0.id }
     ensures idle { IsIdle result.1 }
-    ensures keys { result.0.keys ≡ KEYS }
+    ensures keys { result.0.plan.keys ≡ KEYS }
     ensures owned { All (λ k. Owns result.1 k) KEYS }
 {
     let rows = [
@@ -94,7 +94,7 @@ fn planted<'a>(rt: &impl Abort, heap: &'a Heap) -> (Tree<&'a Heap>, Pass<&'a Hea
 fn started<'a>(rt: &impl Abort, heap: &'a Heap) -> (Tree<&'a Heap>, Pass<&'a Heap>)
     ensures own { result.1.table ≡ result.0.id }
     ensures idle { IsIdle result.1 }
-    ensures all { All (λ k. Owns result.1 k) result.0.keys }
+    ensures all { All (λ k. Owns result.1 k) result.0.plan.keys }
 {
     let made = Tree::reserve_from(heap, &START, &START_KEYS, START_CARDS);
     let (tree, mut pass) = made.expect(rt, "no memory");
@@ -110,7 +110,7 @@ const VALUED: [(u64, u64); 1] = [(7, 77)];
 fn valued<'a>(rt: &impl Abort, heap: &'a Heap) -> (Tree<&'a Heap>, Pass<&'a Heap>)
     ensures own { result.1.table ≡ result.0.id }
     ensures idle { IsIdle result.1 }
-    ensures all { All (λ k. Owns result.1 k) result.0.keys }
+    ensures all { All (λ k. Owns result.1 k) result.0.plan.keys }
 {
     let made = Tree::reserve_from(heap, &VALUED, &KEYS, 4);
     let (tree, mut pass) = made.expect(rt, "no memory");
@@ -167,8 +167,9 @@ fn split(rt: &impl Abort, heap: &Heap, refusal: Refusal) -> Ended {
         Ok((left, right)) => Ended::answered(
             left.keys() == [5].as_slice() && right.keys() == [7].as_slice(),
         ),
-        Err((pass, NoMemory)) => {
-            Ended::no_memory(tells(&pass, &KEYS, 3, steps) && is_parted(&tree, pass))
+        Err((pass, fault)) => {
+            let is_same = fault == SplitFault::NoMemory && tells(&pass, &KEYS, 3, steps);
+            Ended::no_memory(is_same && is_parted(&tree, pass))
         }
     }
 }
@@ -177,7 +178,7 @@ fn split(rt: &impl Abort, heap: &Heap, refusal: Refusal) -> Ended {
 fn parted<'a>(rt: &impl Abort, heap: &'a Heap) -> (Tree<&'a Heap>, Pass<&'a Heap>, Pass<&'a Heap>)
     ensures left { IsIdlePassOf result.0 result.1 }
     ensures right { IsIdlePassOf result.0 result.2 }
-    ensures keys { result.0.keys ≡ KEYS }
+    ensures keys { result.0.plan.keys ≡ KEYS }
 {
     let (tree, pass) = planted(rt, heap);
     let Ok((mut left, mut right)) = tree.split(pass, &[5]) else {
@@ -198,7 +199,7 @@ fn parted<'a>(rt: &impl Abort, heap: &'a Heap) -> (Tree<&'a Heap>, Pass<&'a Heap
 fn joined<'a>(rt: &impl Abort, heap: &'a Heap) -> (Tree<&'a Heap>, Pass<&'a Heap>)
     ensures own { result.1.table ≡ result.0.id }
     ensures idle { IsIdle result.1 }
-    ensures all { All (λ k. Owns result.1 k) result.0.keys }
+    ensures all { All (λ k. Owns result.1 k) result.0.plan.keys }
 {
     let (tree, left, right) = parted(rt, heap);
     let Ok(pass) = tree.join(left, right) else {
@@ -244,8 +245,11 @@ fn join(rt: &impl Abort, heap: &Heap, refusal: Refusal) -> Ended {
 fn is_closed<A: Allocator + Copy>(tree: Tree<A>, pass: Pass<A>, wants: &[(u64, u64)]) -> bool
     requires own { pass.table ≡ tree.id }
     requires idle { IsIdle pass }
-    requires all { All (λ k. Owns pass k) tree.keys }
+    requires all { All (λ k. Owns pass k) tree.plan.keys }
 {
+    if !pass.has_whole_share() {
+        return false;
+    }
     match tree.close(pass) {
         Ok(pairs) => pairs.as_slice() == wants,
         Err(_) => false,
@@ -263,9 +267,12 @@ fn close<'a>(
 ) -> Ended
     requires own { made.1.table ≡ made.0.id }
     requires idle { IsIdle made.1 }
-    requires all { All (λ k. Owns made.1 k) made.0.keys }
+    requires all { All (λ k. Owns made.1 k) made.0.plan.keys }
 {
     let (tree, pass) = made;
+    if !pass.has_whole_share() {
+        return Ended::answered(false);
+    }
     let steps = pass.steps();
     heap.refuse(refusal);
     let pairs = tree.close(pass);

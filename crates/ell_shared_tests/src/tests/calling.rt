@@ -138,7 +138,10 @@ fn check_key(
         ended: u64::MAX,
     };
     history.push(last).expect(rt, "memory");
-    assert!(rt; are_in_order(alloc, first, &history).expect(rt, "memory"), "key {key}");
+    assert!(rt;
+        are_in_order(alloc, first, &history).expect(rt, "memory"),
+        "key {key}"
+    );
 }
 
 /// Checks the calls on keys below a number, from the keys with their values at the start to those at the end.

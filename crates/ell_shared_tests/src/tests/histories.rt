@@ -180,11 +180,7 @@ const RIGHT: [(&str, History<'static>); 9] = [
 ];
 
 // Whether the calls of a history, from the key absent or with a value, are in order.
-fn is_right(
-    rt: &(impl Abort + AllocGlobal),
-    start: Option<u64>,
-    history: History,
-) -> bool {
+fn is_right(rt: &(impl Abort + AllocGlobal), start: Option<u64>, history: History) -> bool {
     let mut calls = Vec::new(rt.alloc());
     for (worker, op, said, begun, ended) in history {
         let made = call(*worker, *op, *said, *begun, *ended);
@@ -225,7 +221,11 @@ fn calls_are_of_their_key(rt: HostRuntime) {
     ];
     let five = calls_on(rt.alloc(), 5, &calls).expect(&rt, "memory");
     assert!(rt; five.as_slice() == [calls[0], calls[2]].as_slice());
-    assert!(rt; calls_on(rt.alloc(), 6, &calls).expect(&rt, "memory").is_empty());
+    assert!(rt;
+        calls_on(rt.alloc(), 6, &calls)
+            .expect(&rt, "memory")
+            .is_empty()
+    );
 }
 
 // Sixteen workers make calls that all overlap, and change nothing: each of them is in order wherever it stands, so there is one standing.

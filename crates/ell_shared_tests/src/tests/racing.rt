@@ -9,9 +9,8 @@ ghost use Rattle.ell_shared_tests.specs.Sharing.{IsSharer};
 
 use super::calling::{ask, close};
 use super::parting::{joined, parted};
-use ell_ops::Op;
 use ell_ops::Op::{Delete, Insert};
-use ell_ops::Reply;
+use ell_ops::{Op, Reply};
 use ell_test_gates::{Gathering, two_threads_meet};
 use ell_tree::{Kind, Pass, StepGate, Tree};
 use std::alloc::Global;

@@ -53,7 +53,7 @@ fn a_table_begins_parts_and_ends(rt: HostRuntime) {
     let (left, right) = parted(&rt, &table, pass, &[5]);
     assert!(rt; left.owns(5) && !left.owns(7) && right.owns(7) && !right.owns(5));
     let both = joined(&rt, &table, left, right);
-    assert!(rt; both.owns(5) && both.owns(7) && !both.owns(6));
+    assert!(rt; both.owns(5) && both.owns(7) && !both.owns(6) && both.has_whole_share());
     let closed = table.close(both);
     assert!(rt; closed.last_card() == 2);
     for (row, (field, want)) in WORDS.iter().enumerate() {

@@ -48,9 +48,9 @@ pub fn closed(
 ) -> Closed<Global>
     requires own { pass.table ≡ table.id }
     requires free { IsFree pass.view }
-    requires keys { table.keys ≡ keys.now }
-    ensures { result.last_card ≡ table.last_card }
+    requires keys { table.plan.keys ≡ keys.now }
+    ensures { result.last_card ≡ table.plan.last_card }
 {
-    assert!(rt; keys.iter().all(|key| pass.owns(*key)));
+    assert!(rt; keys.iter().all(|key| pass.owns(*key)) && pass.has_whole_share());
     table.close(pass)
 }

@@ -87,8 +87,8 @@ fn start_keys_add_no_card_to_those_that_may_be_asked_for(rt: HostRuntime) {
 fn opened(rt: &(impl Abort + AllocGlobal)) -> (CardTable<Global>, Pass<Global>)
     ensures own { result.1.table ≡ result.0.id }
     ensures idle { IsIdle result.1.view }
-    ensures keys { result.0.keys ≡ KEYS }
-    ensures cards { result.0.last_card ≡ 7 }
+    ensures keys { result.0.plan.keys ≡ KEYS }
+    ensures cards { result.0.plan.last_card ≡ 7 }
     ensures present { All (λ pair. ledger_of result.1.view.worker.ledger pair.0 ≡ Some (Present pair.1)) START }
     ensures absent { All (λ k. ledger_of result.1.view.worker.ledger k ≡ Some Absent) (5 ∷ 7 ∷ 8 ∷ []) }
     ensures strange { All (λ k. ledger_of result.1.view.worker.ledger k ≡ None) (1 ∷ 3 ∷ 9 ∷ []) }

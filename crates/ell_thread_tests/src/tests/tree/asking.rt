@@ -68,8 +68,8 @@ pub fn close(
 ) -> Vec<(u64, u64)>
     requires own { pass.table ≡ tree.id }
     requires idle { IsIdle pass }
-    requires keys { tree.keys ≡ keys.now }
+    requires keys { tree.plan.keys ≡ keys.now }
 {
-    assert!(rt; keys.iter().all(|key| pass.owns(*key)));
+    assert!(rt; keys.iter().all(|key| pass.owns(*key)) && pass.has_whole_share());
     tree.close(pass).ok().expect(rt, "memory")
 }

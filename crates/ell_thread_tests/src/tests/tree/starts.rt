@@ -132,14 +132,14 @@ fn renewed(
 ) -> Result<(Tree<Global>, Pass<Global>), CardFault>
     requires own { pass.table ≡ tree.id }
     requires idle { IsIdle pass }
-    requires keys { tree.keys ≡ keys.now }
+    requires keys { tree.plan.keys ≡ keys.now }
     requires ascending { IsStrictlyIncreasing keys.now }
     requires real { All (λ k. k ≤ greatest_key) keys.now }
-    ensures tree { IfOk result (λ made. made.0.keys ≡ keys.now) }
+    ensures tree { IfOk result (λ made. made.0.plan.keys ≡ keys.now) }
     ensures pass { IfOk result (λ made. IsIdlePassOf made.0 made.1) }
     ensures same { IfOk result (λ made. present_in made.1 ≡ present_in pass) }
 {
-    assert!(rt; keys.iter().all(|key| pass.owns(*key)));
+    assert!(rt; keys.iter().all(|key| pass.owns(*key)) && pass.has_whole_share());
     let alloc = rt.alloc();
     let Ok(pairs) = tree.close(pass) else {
         return Err(CardFault::NoMemory);
