@@ -27,7 +27,11 @@ impl<A: Allocator + Copy> Model for Closed<A> {
 
     ghost view = { λ c. record { words = slots_items c.closed.words; last_card = c.last_card } };
 
-    ghost invariant = { λ c. IsFull c.closed.words × (slots_len c.closed.words ≡ length (slots_items c.closed.words)) × (slots_len c.closed.slots ≡ 0) × (length (slots_items c.closed.words) ≡ table_size c.last_card) × (c.last_card ≤ greatest_card) };
+    ghost invariant = { λ c. IsFull c.closed.words
+        × (slots_len c.closed.words ≡ length (slots_items c.closed.words))
+        × (slots_len c.closed.slots ≡ 0)
+        × (length (slots_items c.closed.words) ≡ table_size c.last_card)
+        × (c.last_card ≤ greatest_card) };
 }
 
 impl<A: Allocator + Copy> CardTable<A> {

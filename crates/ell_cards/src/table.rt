@@ -35,7 +35,11 @@ impl<A: Allocator + Copy> Model for CardTable<A> {
 
     ghost view = { λ t. record { id = t.table.shared.table_id; plan = t.table.shared.key } };
 
-    ghost invariant = { λ t. (t.table.shared.table_id.words ≡ table_size t.table.shared.key.last_card) × (t.table.shared.table_id.slots ≡ 0) × (t.table.shared.key.last_card ≤ greatest_card) × (t.last_card ≡ t.table.shared.key.last_card) × (t.shared ≡ t.table.shared.key.shared) };
+    ghost invariant = { λ t. (t.table.shared.table_id.words ≡ table_size t.table.shared.key.last_card)
+        × (t.table.shared.table_id.slots ≡ 0)
+        × (t.table.shared.key.last_card ≤ greatest_card)
+        × (t.last_card ≡ t.table.shared.key.last_card)
+        × (t.shared ≡ t.table.shared.key.shared) };
 }
 
 impl<A: Allocator + Copy> CardTable<A> {

@@ -64,7 +64,13 @@ impl<A: Allocator + Copy> World<A> {
         requires most_cards { cards ≤ most_cards }
         requires keys { All (λ entry. entry.1 ≤ greatest_key) owned.now }
         ensures opening { IfOk result (λ world.
-            machine_of world ≡ opening (record { count = workers; owned = owned.now; start = []; cards = cards; shared = λ _. false })) }
+            machine_of world ≡ opening (record {
+              count = workers;
+              owned = owned.now;
+              start = [];
+              cards = cards;
+              shared = λ _. false;
+            })) }
         ensures cards { IfOk result (λ world. world.last_card ≡ cards) }
         ensures faultless { OnOk result (Faultless workers owned.now) }
         ensures refused { IfErr result (OpeningRefused workers owned.now) }
@@ -92,7 +98,13 @@ impl<A: Allocator + Copy> World<A> {
         requires given { All (λ k. is_given owned.now k ≡ true) (keys_of start.now) }
         requires most_start { length start.now ≤ most_start }
         ensures opening { IfOk result (λ world.
-            machine_of world ≡ opening (record { count = workers; owned = owned.now; start = start.now; cards = cards; shared = λ _. false })) }
+            machine_of world ≡ opening (record {
+              count = workers;
+              owned = owned.now;
+              start = start.now;
+              cards = cards;
+              shared = λ _. false;
+            })) }
         ensures cards { IfOk result (λ world. world.last_card ≡ last_card start.now cards) }
         ensures faultless { OnOk result (Faultless workers owned.now) }
         ensures refused { IfErr result (OpeningRefused workers owned.now) }

@@ -19,7 +19,8 @@ impl Handle {
     /// The value of a key of the handle's own, or of a shared one, if the key is present. `Foreign` where it is neither.
     #[tactic(auto, using(crate::proofs::Trying::quiet_same, crate::proofs::May::may_do, crate::proofs::May::find_keeps))]
     pub fn find(&mut self, key: u64) -> Result<Option<u64>, Refusal>
-        ensures answers { IfOk result (λ there. Answers (tree_of self.old) (Find key) (found there) self.old.pass self.new.pass) }
+        ensures answers { IfOk result (λ there.
+            Answers (tree_of self.old) (Find key) (found there) self.old.pass self.new.pass) }
         ensures may { OnOk result (MayUse self.old key) }
         ensures foreign { IfErr result (λ why. (why ≡ Foreign) × (¬ MayUse self.old key)) }
         ensures reads { OnlyFinds self.old self.new }
@@ -54,7 +55,8 @@ impl Handle {
     /// takes one, and at most one more for each try that something hindered; and a refused one takes only those.
     #[tactic(auto, using(crate::proofs::Trying::within_same, crate::proofs::Trying::spends_none, crate::proofs::May::may_do))]
     pub fn insert(&mut self, key: u64, value: u64, tries: u32) -> Result<bool, Refusal>
-        ensures answers { IfOk result (λ said. Answers (tree_of self.old) (Insert key value) (yes_if said) self.old.pass self.new.pass) }
+        ensures answers { IfOk result (λ said.
+            Answers (tree_of self.old) (Insert key value) (yes_if said) self.old.pass self.new.pass) }
         ensures may { OnOk result (MayChange key tries self.old) }
         ensures why { IfErr result (ChangeRefuses (Insert key value) tries self.old self.new) }
         ensures refused { OnErr result (StaysPut self.old self.new) }
@@ -73,7 +75,8 @@ impl Handle {
     /// Takes a key of the handle's own, or a shared one, away, with its value: whether it was present. Refusals are as of `insert`.
     #[tactic(auto, using(crate::proofs::Trying::within_same, crate::proofs::Trying::spends_none, crate::proofs::May::may_do))]
     pub fn delete(&mut self, key: u64, tries: u32) -> Result<bool, Refusal>
-        ensures answers { IfOk result (λ said. Answers (tree_of self.old) (Delete key) (yes_if said) self.old.pass self.new.pass) }
+        ensures answers { IfOk result (λ said.
+            Answers (tree_of self.old) (Delete key) (yes_if said) self.old.pass self.new.pass) }
         ensures may { OnOk result (MayChange key tries self.old) }
         ensures why { IfErr result (ChangeRefuses (Delete key) tries self.old self.new) }
         ensures refused { OnErr result (StaysPut self.old self.new) }

@@ -94,7 +94,8 @@ fn claim_for_delete<A: Allocator + Copy>(
 
 // The grandparent of a place, if it and the parent were read clean.
 fn calm_grandparent(place: Place) -> Option<Passed>
-    ensures { IfSome result (λ above. (place.grandparent ≡ Some above) × (above.update.state ≡ Clean) × (place.parent.update.state ≡ Clean)) }
+    ensures { IfSome result (λ above. (place.grandparent ≡ Some above) ×
+        (above.update.state ≡ Clean) × (place.parent.update.state ≡ Clean)) }
 {
     let above = place.grandparent?;
     if above.update.state == State::Clean && place.parent.update.state == State::Clean {

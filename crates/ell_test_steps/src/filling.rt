@@ -64,7 +64,8 @@ pub(crate) fn fill_insert<A: Allocator + Copy>(
 )
     requires own { pass.old.table ≡ table.now.id }
     requires limit { card ≤ greatest_card }
-    requires fresh { IsFresh pass.old.view card (insert_filling card key value place.parent.node place.leaf place.key place.value) }
+    requires fresh { IsFresh pass.old.view card
+        (insert_filling card key value place.parent.node place.leaf place.key place.value) }
     ensures own { pass.new.table ≡ pass.old.table }
     ensures view { pass.new.view ≡ with_stores (insert_stores card key value place) pass.old.view }
     ensures filled { IsFilled pass.new.view }
@@ -96,7 +97,8 @@ pub(crate) fn fill_delete<A: Allocator + Copy>(
 )
     requires own { pass.old.table ≡ table.now.id }
     requires limit { place.parent.update.card ≤ greatest_card }
-    requires fresh { IsFresh pass.old.view card (delete_filling grandparent place.parent.node place.leaf (packed place.parent.update)) }
+    requires fresh { IsFresh pass.old.view card
+        (delete_filling grandparent place.parent.node place.leaf (packed place.parent.update)) }
     ensures own { pass.new.table ≡ pass.old.table }
     ensures view { pass.new.view ≡ with_stores (delete_stores grandparent place) pass.old.view }
     ensures filled { IsFilled pass.new.view }

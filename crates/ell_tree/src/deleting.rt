@@ -91,7 +91,8 @@ fn flag_delete<A: Allocator + Copy, G: StepGate>(
     requires own { pass.old.table ≡ table.now.id }
     requires above { place.grandparent ≡ Some above }
     requires limit { place.parent.update.card ≤ greatest_card }
-    requires card { (key : ℕ) × HasCard (Delete key) place (delete_filling above.node place.parent.node place.leaf (packed place.parent.update)) pass.old.view card }
+    requires card { (key : ℕ) × HasCard (Delete key) place
+        (delete_filling above.node place.parent.node place.leaf (packed place.parent.update)) pass.old.view card }
     requires node { IsInnerMet table.now.plan.last_card pass.old.view above.node }
     ensures goes { Goes pass.old pass.new 5 }
     ensures taken { TakesNoCard pass.old pass.new }
@@ -113,7 +114,8 @@ fn fill_delete<A: Allocator + Copy, G: StepGate>(
 )
     requires own { pass.old.table ≡ table.now.id }
     requires limit { place.parent.update.card ≤ greatest_card }
-    requires card { (key : ℕ) × HasCard (Delete key) place (delete_filling grandparent place.parent.node place.leaf (packed place.parent.update)) pass.old.view card }
+    requires card { (key : ℕ) × HasCard (Delete key) place
+        (delete_filling grandparent place.parent.node place.leaf (packed place.parent.update)) pass.old.view card }
     ensures { Fills pass.old pass.new 4 }
 {
     fill(table, pass, card, Field::Gp, grandparent, gate);

@@ -82,7 +82,8 @@ fn flag_insert<A: Allocator + Copy, G: StepGate>(
 ) -> Result<(), Update>
     requires own { pass.old.table ≡ table.now.id }
     requires limit { card ≤ greatest_card }
-    requires card { HasCard (Insert key value) place (insert_filling card key value place.parent.node place.leaf place.key place.value) pass.old.view card }
+    requires card { HasCard (Insert key value) place
+        (insert_filling card key value place.parent.node place.leaf place.key place.value) pass.old.view card }
     requires node { IsInnerMet table.now.plan.last_card pass.old.view place.parent.node }
     ensures goes { Goes pass.old pass.new 11 }
     ensures taken { TakesNoCard pass.old pass.new }
@@ -106,7 +107,8 @@ fn fill_insert<A: Allocator + Copy, G: StepGate>(
 )
     requires own { pass.old.table ≡ table.now.id }
     requires limit { card ≤ greatest_card }
-    requires card { HasCard (Insert key value) place (insert_filling card key value place.parent.node place.leaf place.key place.value) pass.old.view card }
+    requires card { HasCard (Insert key value) place
+        (insert_filling card key value place.parent.node place.leaf place.key place.value) pass.old.view card }
     ensures { Fills pass.old pass.new 10 }
 {
     let (lesser, greater) = (key.min(place.key), key.max(place.key));

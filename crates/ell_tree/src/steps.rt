@@ -56,7 +56,8 @@ pub(crate) fn again<A: Allocator + Copy, G: StepGate>(
 )
     requires own { pass.old.table ≡ table.now.id }
     requires may { MayStop pass.old.view }
-    ensures { (op : Op) → Does pass.old.view op → Begins op (way_of op pass.old.view) (tries_hindered pass.old.view) pass.old pass.new }
+    ensures { (op : Op) → Does pass.old.view op →
+        Begins op (way_of op pass.old.view) (tries_hindered pass.old.view) pass.old pass.new }
 {
     gate.before(pass.label(), Kind::Note);
     table.again(pass);

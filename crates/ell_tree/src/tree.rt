@@ -46,13 +46,15 @@ impl<A: Allocator + Copy> Model for Tree<A> {
 
 impl<A: Allocator + Copy> Tree<A> {
     /// An empty tree of so many cards, and one pass that owns all these keys, each absent. Each try of an insert or a delete that
-    /// finds its way free takes a card, and no card is given back; `cards_left` tells how many there are. `BadCards` comes exactly where the cards are not 1 to 1,000,000,
-    /// and `NoMemory` where memory is refused. Conditions: the keys are strictly ascending, and at most `KEY_MAX`.
+    /// finds its way free takes a card, and no card is given back; `cards_left` tells how many there are. `BadCards` comes exactly
+    /// where the cards are not 1 to 1,000,000, and `NoMemory` where memory is refused. Conditions: the keys are strictly
+    /// ascending, and at most `KEY_MAX`.
     pub fn reserve(alloc: A, keys: &[u64], cards: u64) -> Result<(Tree<A>, Pass<A>), CardFault>
         requires ascending { IsStrictlyIncreasing keys.now }
         requires real { All (λ k. k ≤ greatest_key) keys.now }
         ensures cards { OnOk result (IsCardCount cards) }
-        ensures tree { IfOk result (λ made. made.0.plan ≡ record { keys = keys.now; start = []; last_card = cards; shared = false }) }
+        ensures tree { IfOk result (λ made.
+            made.0.plan ≡ record { keys = keys.now; start = []; last_card = cards; shared = false }) }
         ensures pass { IfOk result (λ made. IsFirst made.0 made.1) }
         ensures refused { IfErr result (Refuses cards) }
     {
@@ -77,7 +79,12 @@ impl<A: Allocator + Copy> Tree<A> {
         requires given { All (λ k. set_of keys.now k ≡ true) (keys_of start.now) }
         requires few { length start.now ≤ most_start }
         ensures cards { OnOk result (IsCardCount cards) }
-        ensures tree { IfOk result (λ made. made.0.plan ≡ record { keys = keys.now; start = start.now; last_card = last_card start.now cards; shared = false }) }
+        ensures tree { IfOk result (λ made. made.0.plan ≡ record {
+          keys = keys.now;
+          start = start.now;
+          last_card = last_card start.now cards;
+          shared = false;
+        }) }
         ensures pass { IfOk result (λ made. IsFirst made.0 made.1) }
         ensures refused { IfErr result (Refuses cards) }
     {
@@ -103,7 +110,12 @@ impl<A: Allocator + Copy> Tree<A> {
         requires given { All (λ k. set_of keys.items k ≡ true) (keys_of start.items) }
         requires few { length start.items ≤ most_start }
         ensures cards { OnOk result (IsCardCount cards) }
-        ensures tree { IfOk result (λ made. made.0.plan ≡ record { keys = keys.items; start = start.items; last_card = last_card start.items cards; shared = false }) }
+        ensures tree { IfOk result (λ made. made.0.plan ≡ record {
+          keys = keys.items;
+          start = start.items;
+          last_card = last_card start.items cards;
+          shared = false;
+        }) }
         ensures pass { IfOk result (λ made. IsFirst made.0 made.1) }
         ensures refused { IfErr result (Refuses cards) }
     {
@@ -128,7 +140,12 @@ impl<A: Allocator + Copy> Tree<A> {
         requires start_real { All (λ k. k ≤ greatest_key) (keys_of start.now) }
         requires few { length start.now ≤ most_start }
         ensures cards { OnOk result (IsCardCount cards) }
-        ensures tree { IfOk result (λ made. made.0.plan ≡ record { keys = keys.now; start = start.now; last_card = last_card start.now cards; shared = true }) }
+        ensures tree { IfOk result (λ made. made.0.plan ≡ record {
+          keys = keys.now;
+          start = start.now;
+          last_card = last_card start.now cards;
+          shared = true;
+        }) }
         ensures pass { IfOk result (λ made. IsFirst made.0 made.1) }
         ensures refused { IfErr result (Refuses cards) }
     {

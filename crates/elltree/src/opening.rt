@@ -94,7 +94,8 @@ pub extern "C" fn elltree_slot_split(
     ensures none { handle_of from.old.raw.inside ≡ None → into.old.is_open ≡ false → result ≡ said_closed }
     ensures too_many { result ≡ said_too_many → OfHandle IsLeast (handle_of from.old.raw.inside) }
     ensures no_memory { result ≡ said_no_memory → OfHandle (λ h. ¬ IsLeast h) (handle_of from.old.raw.inside) }
-    ensures codes { IsOneOf (said_yes ∷ said_open ∷ said_closed ∷ said_foreign ∷ said_too_many ∷ said_no_memory ∷ []) result }
+    ensures codes { IsOneOf
+        (said_yes ∷ said_open ∷ said_closed ∷ said_foreign ∷ said_too_many ∷ said_no_memory ∷ []) result }
     ensures refused { result ≢ said_yes → from.new.raw.inside ≡ from.old.raw.inside }
     ensures unopened { result ≢ said_yes → into.new.raw.inside ≡ into.old.raw.inside }
 {
@@ -124,7 +125,8 @@ fn split(alloc: Global, place: &mut Place, keys: &[u64]) -> Result<Box<Place, Gl
         OfHandle (λ h. ¬ IsLeast h) place.old.handle × All (OwnsIn place.old.handle) keys.now }
     ensures closed { result ≡ Err said_closed → place.old.handle ≡ None }
     ensures none { place.old.handle ≡ None → result ≡ Err said_closed }
-    ensures too_many { result ≡ Err said_too_many → OfHandle IsLeast place.old.handle × All (OwnsIn place.old.handle) keys.now }
+    ensures too_many { result ≡ Err said_too_many →
+        OfHandle IsLeast place.old.handle × All (OwnsIn place.old.handle) keys.now }
     ensures codes { IfErr result (IsOneOf (said_closed ∷ said_foreign ∷ said_too_many ∷ said_no_memory ∷ [])) }
     ensures refused { OnErr result (place.new ≡ place.old) }
 {

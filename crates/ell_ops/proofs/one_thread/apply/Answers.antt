@@ -1,4 +1,4 @@
-use Rattle.std.proofs.Common.{◌≡◌, is_some, rules, ap, sym, ◌∙◌}
+use Rattle.std.proofs.Common.{◌≡◌, is_some, ap, sym, ◌∙◌}
 use Rattle.ell_ops.specs.Contents.{contents_of}
 use Rattle.ell_ops.specs.Meaning.{found, yes_if, reply_of, after}
 use Rattle.ell_ops.proofs.Pairs.{get-contents_of, contents_of-remove}
