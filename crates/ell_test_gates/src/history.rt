@@ -5,8 +5,8 @@
 use ell_ops::{Op, Reply};
 use std::alloc::{AllocError, Global};
 
-/// A call that was answered, with its begin and its end by a clock that all workers read. A look counts as a find. A call that is held
-/// changes nothing, and stands in no history.
+/// A call that was answered, with its begin and its end by a clock that all workers read. A look counts as a find, and a take as a delete
+/// that found the value which it took. A call that is held changes nothing, and stands in no history.
 #[derive(Clone, Copy, Debug, PartialEq, Eq)]
 pub struct Made {
     /// Who made it, by a number below 64: a worker makes one call at a time.
@@ -31,6 +31,7 @@ impl Made {
             (Op::Insert(_, _), Reply::No, Some(_)) => Some(value),
             (Op::Insert(_, new), Reply::Yes, None) => Some(Some(new)),
             (Op::Delete(_), Reply::Yes, Some(_)) => Some(None),
+            (Op::Delete(_), Reply::Found(said), Some(there)) if said == there => Some(None),
             _ => None,
         }
     }

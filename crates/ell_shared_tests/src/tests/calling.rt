@@ -1,6 +1,7 @@
-//! Calls on shared keys, and their history.
-ghost use Rattle.std.specs.Prelude.{◌≡◌, []};
-ghost use Rattle.ell_shared_tests.specs.Sharing.{IsSharer};
+//! Calls of passes of a tree of shared keys, some of which may have owners, and their history.
+ghost use Rattle.std.specs.Prelude.{◌≡◌, ◌≤◌};
+ghost use Rattle.ell_ops.specs.KeySet.{set_of};
+ghost use Rattle.ell_shared_tests.specs.Sharing.{IsMember};
 
 use ell_ops::{KEY_MAX, Op, Reply};
 use ell_test_gates::{Made, are_in_order, calls_on};
@@ -12,23 +13,91 @@ use std::sync::atomic::{AtomicU64, Ordering};
 // How many tries a call makes.
 const TRIES: u32 = 1_000;
 
-/// Makes a call on a shared key.
-#[tactic(auto, using(crate::proofs::Sharers::may_do, crate::proofs::Sharers::shares_answered, crate::proofs::Sharers::shares_held))]
+/// A call on a key.
+#[derive(Clone, Copy, Debug)]
+pub enum Call {
+    Ask(Op),
+    Take(u64),
+    Look(u64),
+}
+
+impl Call {
+    // As what it stands in a history.
+    fn op(self) -> Op {
+        match self {
+            Call::Ask(op) => op,
+            Call::Take(key) => Op::Delete(key),
+            Call::Look(key) => Op::Find(key),
+        }
+    }
+}
+
+/// Whether a key is one of these.
+pub fn is_among(key: u64, keys: &[u64]) -> bool
+    ensures { result ≡ set_of keys.now key }
+{
+    keys.iter().any(|other| key == *other)
+}
+
+/// Makes an operation on a key of the pass, or on a shared one, where these keys may have owners.
+#[tactic(auto, using(crate::proofs::Sharers::may_own, crate::proofs::Sharers::may_share, crate::proofs::Sharers::member_answered, crate::proofs::Sharers::member_held))]
 pub fn ask<G: StepGate>(
     rt: &impl Abort,
     tree: &Tree<Global>,
     pass: &mut Pass<Global>,
+    owned: &[u64],
     op: Op,
     gate: &G,
 ) -> Result<Reply, Held>
-    requires { IsSharer tree.now pass.old }
-    ensures { IsSharer tree.now pass.new }
+    requires { IsMember owned.now tree.now pass.old }
+    ensures { IsMember owned.now tree.now pass.new }
 {
-    assert!(rt; op.key() <= KEY_MAX);
+    let key = op.key();
+    assert!(rt; pass.owns(key) || (key <= KEY_MAX && !is_among(key, owned)));
     match op {
         Op::Find(key) => Ok(Reply::found(tree.find(pass, key, gate))),
         Op::Insert(key, value) => Ok(Reply::yes_if(tree.insert(pass, key, value, TRIES, gate)?)),
         Op::Delete(key) => Ok(Reply::yes_if(tree.delete(pass, key, TRIES, gate)?)),
+    }
+}
+
+// Takes such a key away: the value that it took.
+#[tactic(auto, using(crate::proofs::Sharers::may_own, crate::proofs::Sharers::may_share, crate::proofs::Sharers::member_answered, crate::proofs::Sharers::member_held))]
+fn take<G: StepGate>(
+    rt: &impl Abort,
+    tree: &Tree<Global>,
+    pass: &mut Pass<Global>,
+    owned: &[u64],
+    key: u64,
+    gate: &G,
+) -> Result<Option<u64>, Held>
+    requires { IsMember owned.now tree.now pass.old }
+    ensures { IsMember owned.now tree.now pass.new }
+{
+    assert!(rt; pass.owns(key) || (key <= KEY_MAX && !is_among(key, owned)));
+    tree.take(pass, key, TRIES, gate)
+}
+
+/// Makes a call: what it answers, of a look as a find does, and of a take that it found the value.
+#[tactic(auto, using(crate::proofs::Sharers::member_looking))]
+pub fn answer<G: StepGate>(
+    rt: &impl Abort,
+    tree: &Tree<Global>,
+    pass: &mut Pass<Global>,
+    owned: &[u64],
+    call: Call,
+    gate: &G,
+) -> Result<Reply, Held>
+    requires { IsMember owned.now tree.now pass.old }
+    ensures { IsMember owned.now tree.now pass.new }
+{
+    match call {
+        Call::Ask(op) => ask(rt, tree, pass, owned, op, gate),
+        Call::Take(key) => Ok(Reply::found(take(rt, tree, pass, owned, key, gate)?)),
+        Call::Look(key) => {
+            assert!(rt; key <= KEY_MAX);
+            Ok(Reply::found(tree.look(pass, key, gate)))
+        }
     }
 }
 
@@ -37,64 +106,42 @@ pub fn tick(clock: &AtomicU64) -> u64 {
     clock.fetch_add(1, Ordering::SeqCst)
 }
 
-/// Makes a call on a shared key: what a history says of it, if it was answered.
+/// Makes a call: what a history says of it, if it was answered.
 pub fn make<G: StepGate>(
     rt: &impl Abort,
     tree: &Tree<Global>,
     pass: &mut Pass<Global>,
+    owned: &[u64],
     clock: &AtomicU64,
-    op: Op,
+    call: Call,
     gate: &G,
 ) -> Option<Made>
-    requires { IsSharer tree.now pass.old }
-    ensures { IsSharer tree.now pass.new }
+    requires { IsMember owned.now tree.now pass.old }
+    ensures { IsMember owned.now tree.now pass.new }
 {
     let begun = tick(clock);
-    let said = ask(rt, tree, pass, op, gate).ok()?;
+    let said = answer(rt, tree, pass, owned, call, gate).ok()?;
     let ended = tick(clock);
-    let worker = pass.label();
     Some(Made {
-        worker,
-        op,
+        worker: pass.label(),
+        op: call.op(),
         said,
         begun,
         ended,
     })
 }
 
-/// Looks for a key: what a history says of it, that of a find.
-#[tactic(auto, using(crate::proofs::Sharers::shares_looking))]
-pub fn look<G: StepGate>(
+/// Ends a tree, by the pass that is to own all keys that may have owners, and to have the whole share: the keys with their values.
+pub fn close(
     rt: &impl Abort,
-    tree: &Tree<Global>,
-    pass: &mut Pass<Global>,
-    clock: &AtomicU64,
-    key: u64,
-    gate: &G,
-) -> Made
-    requires { IsSharer tree.now pass.old }
-    ensures { IsSharer tree.now pass.new }
+    tree: Tree<Global>,
+    pass: Pass<Global>,
+    owned: &[u64],
+) -> Vec<(u64, u64)>
+    requires member { IsMember owned.now tree pass }
+    requires keys { tree.plan.keys ≡ owned.now }
 {
-    assert!(rt; key <= KEY_MAX);
-    let begun = tick(clock);
-    let there = tree.look(pass, key, gate);
-    let ended = tick(clock);
-    Made {
-        worker: pass.label(),
-        op: Op::Find(key),
-        said: Reply::found(there),
-        begun,
-        ended,
-    }
-}
-
-/// Ends a tree of which no key has an owner, by the pass that is to have the whole share: the keys with their values.
-#[tactic(auto, using(crate::proofs::Sharers::owns_all))]
-pub fn close(rt: &impl Abort, tree: Tree<Global>, pass: Pass<Global>) -> Vec<(u64, u64)>
-    requires sharer { IsSharer tree pass }
-    requires keys { tree.plan.keys ≡ [] }
-{
-    assert!(rt; pass.has_whole_share());
+    assert!(rt; owned.iter().all(|key| pass.owns(*key)) && pass.has_whole_share());
     tree.close(pass).ok().expect(rt, "memory")
 }
 
@@ -112,12 +159,12 @@ fn added(calls: &[Made]) -> usize {
 
 // How many calls took their key away.
 fn taken(calls: &[Made]) -> usize {
-    let is_so = |call: &&Made| matches!((call.op, call.said), (Op::Delete(_), Reply::Yes));
+    let is_so = |call: &&Made| matches!(call.op, Op::Delete(_)) && call.said != Reply::No;
     calls.iter().filter(is_so).count()
 }
 
-// Checks the calls on a key: there is an order of them, at whose end the key is as the tree closed with it.
-fn check_key(
+/// Checks the calls on a key: there is an order of them, at whose end the key is as the tree closed with it.
+pub fn check_key(
     rt: &(impl Abort + AllocGlobal),
     key: u64,
     start: &[(u64, u64)],

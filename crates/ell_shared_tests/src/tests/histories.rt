@@ -19,7 +19,7 @@ const fn call(worker: u32, op: Op, said: Reply, begun: u64, ended: u64) -> Made 
 type History<'a> = &'a [(u32, Op, Reply, u64, u64)];
 
 // From the key absent.
-const WRONG: [(&str, History<'static>); 14] = [
+const WRONG: [(&str, History<'static>); 17] = [
     (
         "two inserts add the key, and none takes it away between",
         &[(0, Insert(5, 50), Yes, 1, 4), (1, Insert(5, 51), Yes, 2, 3)],
@@ -110,9 +110,33 @@ const WRONG: [(&str, History<'static>); 14] = [
             (3, Delete(5), Yes, 4, 5),
         ],
     ),
+    (
+        "a take takes another value than the one that was added",
+        &[
+            (0, Insert(5, 50), Yes, 1, 2),
+            (1, Delete(5), Found(51), 3, 4),
+        ],
+    ),
+    (
+        "two takes take what one insert added",
+        &[
+            (0, Insert(5, 50), Yes, 1, 2),
+            (1, Delete(5), Found(50), 3, 6),
+            (2, Delete(5), Found(50), 4, 5),
+        ],
+    ),
+    (
+        "a take takes the old value behind the newer one",
+        &[
+            (0, Insert(5, 50), Yes, 1, 2),
+            (1, Delete(5), Yes, 3, 5),
+            (0, Insert(5, 51), Yes, 6, 7),
+            (2, Delete(5), Found(50), 4, 8),
+        ],
+    ),
 ];
 
-const RIGHT: [(&str, History<'static>); 9] = [
+const RIGHT: [(&str, History<'static>); 11] = [
     ("nothing happens", &[]),
     (
         "calls come one after the other",
@@ -175,6 +199,24 @@ const RIGHT: [(&str, History<'static>); 9] = [
             (2, Delete(5), Yes, 3, 8),
             (3, Insert(5, 51), Yes, 4, 7),
             (4, Delete(5), Yes, 5, 6),
+        ],
+    ),
+    (
+        "a take comes before an insert that goes on, or behind it",
+        &[
+            (0, Insert(5, 50), Yes, 1, 9),
+            (1, Delete(5), No, 2, 3),
+            (1, Delete(5), Found(50), 4, 5),
+            (2, Find(5), No, 6, 7),
+        ],
+    ),
+    (
+        "two takes at once take the values of two inserts, the later one first",
+        &[
+            (0, Insert(5, 50), Yes, 1, 8),
+            (1, Insert(5, 51), Yes, 2, 7),
+            (2, Delete(5), Found(51), 3, 6),
+            (3, Delete(5), Found(50), 4, 5),
         ],
     ),
 ];

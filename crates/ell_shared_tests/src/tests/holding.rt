@@ -1,12 +1,13 @@
 //! A worker that is held at each kind of step in turn, while another makes whole calls on the same key.
-ghost use Rattle.std.specs.Prelude.{◌≡◌, ◌≤◌, [], length};
+ghost use Rattle.std.specs.Prelude.{◌≤◌, length};
 ghost use Rattle.std.specs.List.{All};
 ghost use Rattle.std.specs.List.Sorted.{IsStrictlyIncreasing};
 ghost use Rattle.std.specs.Map.{keys_of};
 ghost use Rattle.ell_tree.specs.Meaning.{greatest_key};
 ghost use Rattle.ell_tree.specs.Node.{most_start};
-ghost use Rattle.ell_shared_tests.specs.Sharing.{IsSharer};
+ghost use Rattle.ell_shared_tests.specs.Sharing.{IsMember};
 
+use super::calling::Call::Ask;
 use super::calling::{check, close, make};
 use super::parting::{joined, parted};
 use super::working::Done;
@@ -28,64 +29,74 @@ pub fn play<G: StepGate>(
     rt: &(impl Abort + AllocGlobal),
     tree: &Tree<Global>,
     pass: Pass<Global>,
+    owned: &[u64],
     clock: &AtomicU64,
     gate: &G,
     rows: &[Row],
 ) -> Done
-    requires { IsSharer tree.now pass }
-    ensures { IsSharer tree.now result.pass }
+    requires { IsMember owned.now tree.now pass }
+    ensures { IsMember owned.now tree.now result.pass }
 {
     let mut pass = pass;
     let mut calls = Vec::new(rt.alloc());
     for (number, (op, said)) in rows.iter().enumerate() {
         let label = pass.label();
-        let made = make(rt, tree, &mut pass, clock, *op, gate).expect(rt, "answer");
+        let made = make(rt, tree, &mut pass, owned, clock, Ask(*op), gate).expect(rt, "answer");
         assert!(rt; made.said == *said, "row {number} of worker {label}");
         calls.push(made).expect(rt, "memory");
     }
     Done { pass, calls }
 }
 
-// Two workers on one key: worker 0 is held at its first step of a kind, until worker 1 has made its calls. The keys at the start and at
-// the end, with their values.
+/// Two workers: worker 0 is held at its first step of a kind, until worker 1 has made its calls. The keys at the start and at the end, with
+/// their values; those that have owners, and those of them that worker 0 owns.
 #[derive(Clone, Copy)]
-struct Meeting<'a> {
-    start: &'a [(u64, u64)],
-    held: Row,
-    rows: &'a [Row],
-    end: &'a [(u64, u64)],
+pub struct Meeting<'a> {
+    pub owned: &'a [u64],
+    pub by_zero: &'a [u64],
+    pub start: &'a [(u64, u64)],
+    pub held: Row,
+    pub rows: &'a [Row],
+    pub end: &'a [(u64, u64)],
 }
 
-fn meet<R: Threads + Abort + AllocGlobal + Sync>(rt: &R, at: Kind, meeting: Meeting)
+/// Has the two meet.
+pub fn meet<R: Threads + Abort + AllocGlobal + Sync>(rt: &R, at: Kind, meeting: Meeting)
     requires ascending { IsStrictlyIncreasing (keys_of meeting.start.now) }
     requires real { All (λ k. k ≤ greatest_key) (keys_of meeting.start.now) }
     requires few { length meeting.start.now ≤ most_start }
+    requires owned { IsStrictlyIncreasing meeting.owned.now }
+    requires owned_real { All (λ k. k ≤ greatest_key) meeting.owned.now }
+    requires by_zero { IsStrictlyIncreasing meeting.by_zero.now }
 {
-    let (start, held, rows) = (meeting.start, [meeting.held], meeting.rows);
+    let (owned, start) = (meeting.owned, meeting.start);
+    let (held, rows) = ([meeting.held], meeting.rows);
     let (clock, gate) = (AtomicU64::new(0), Holding::until(at, rows.len() as u64));
-    let made = Tree::reserve_shared(rt.alloc(), start, &[], 100);
+    let made = Tree::reserve_shared(rt.alloc(), start, owned, 100);
     let (tree, pass) = made.expect(rt, "tree");
-    let (zero, mut one) = parted(rt, &tree, pass);
+    let (zero, mut one) = parted(rt, &tree, pass, owned, meeting.by_zero);
     one.relabel(1);
     let (shared, time, told, held) = (&tree, &clock, &gate, &held);
     let (zero, one) = join(
         rt,
-        move || play(rt, shared, zero, time, told, held),
-        move || play(rt, shared, one, time, told, rows),
+        move || play(rt, shared, zero, owned, time, told, held),
+        move || play(rt, shared, one, owned, time, told, rows),
     );
     assert!(rt; gate.has_held());
     let mut calls = zero.calls;
     for call in &one.calls {
         calls.push(*call).expect(rt, "memory");
     }
-    let pass = joined(rt, &tree, zero.pass, one.pass);
-    let pairs = close(rt, tree, pass);
+    let pass = joined(rt, &tree, owned, zero.pass, one.pass);
+    let pairs = close(rt, tree, pass, owned);
     assert!(rt; pairs.as_slice() == meeting.end);
     check(rt, 10, start, &calls, &pairs);
 }
 
 // Worker 0 has not flagged yet: it is as if its insert began behind the others.
 const BEFORE_ITS_FLAG: Meeting = Meeting {
+    owned: &[],
+    by_zero: &[],
     start: &[],
     held: (Insert(5, 50), No),
     rows: &[
@@ -147,6 +158,8 @@ fn others_go_past_an_insert_of_their_key(rt: HostRuntime) {
 
 // Worker 0 has not flagged yet: it is as if its delete began behind the others.
 const BEFORE_ITS_DELETE: Meeting = Meeting {
+    owned: &[],
+    by_zero: &[],
     start: &[(3, 30), (5, 50), (7, 70)],
     held: (Delete(5), No),
     rows: &[

@@ -7,10 +7,12 @@ ghost use Rattle.ell_tree.specs.Meaning.{greatest_key};
 ghost use Rattle.ell_tree.specs.Node.{most_start};
 ghost use Rattle.ell_shared_tests.specs.Sharing.{IsSharer};
 
-use super::calling::{ask, close};
+use super::calling::Call::{self, Ask, Take};
+use super::calling::{answer, close};
 use super::parting::{joined, parted};
 use ell_ops::Op::{Delete, Insert};
-use ell_ops::{Op, Reply};
+use ell_ops::Reply;
+use ell_ops::Reply::{Found, No, Yes};
 use ell_test_gates::{Gathering, two_threads_meet};
 use ell_tree::{Kind, Pass, StepGate, Tree};
 use std::alloc::Global;
@@ -27,14 +29,14 @@ fn run<G: StepGate>(
     rt: &impl Abort,
     tree: &Tree<Global>,
     pass: Pass<Global>,
-    op: Op,
+    call: Call,
     gate: &G,
 ) -> Ran
     requires { IsSharer tree.now pass }
     ensures { IsSharer tree.now result.0 }
 {
     let mut pass = pass;
-    let said = ask(rt, tree, &mut pass, op, gate).ok();
+    let said = answer(rt, tree, &mut pass, &[], call, gate).ok();
     (pass, said)
 }
 
@@ -43,7 +45,7 @@ fn race<R: Threads + Abort + AllocGlobal + Sync>(
     rt: &R,
     at: Kind,
     start: &[(u64, u64)],
-    ops: (Op, Op),
+    calls: (Call, Call),
 ) -> (Option<Reply>, Option<Reply>, Vec<(u64, u64)>)
     requires ascending { IsStrictlyIncreasing (keys_of start.now) }
     requires real { All (λ k. k ≤ greatest_key) (keys_of start.now) }
@@ -52,17 +54,17 @@ fn race<R: Threads + Abort + AllocGlobal + Sync>(
     let gate = Gathering::at(rt.alloc(), at, 2).expect(rt, "memory");
     let made = Tree::reserve_shared(rt.alloc(), start, &[], 100);
     let (tree, pass) = made.expect(rt, "tree");
-    let (one, mut other) = parted(rt, &tree, pass);
+    let (one, mut other) = parted(rt, &tree, pass, &[], &[]);
     other.relabel(1);
     let (shared, told) = (&tree, &gate);
     let ((one, said), (other, also)) = join(
         rt,
-        move || run(rt, shared, one, ops.0, told),
-        move || run(rt, shared, other, ops.1, told),
+        move || run(rt, shared, one, calls.0, told),
+        move || run(rt, shared, other, calls.1, told),
     );
     assert!(rt; gate.has_gathered());
-    let pass = joined(rt, &tree, one, other);
-    (said, also, close(rt, tree, pass))
+    let pass = joined(rt, &tree, &[], one, other);
+    (said, also, close(rt, tree, pass, &[]))
 }
 
 #[test]
@@ -79,12 +81,12 @@ fn of_two_inserts_at_once_one_adds_the_key(rt: HostRuntime) {
         Kind::IChild,
     ] {
         for _ in 0..RACES {
-            let raced = race(&rt, at, &[], (Insert(5, 50), Insert(5, 51)));
+            let raced = race(&rt, at, &[], (Ask(Insert(5, 50)), Ask(Insert(5, 51))));
             match (raced.0, raced.1) {
-                (Some(Reply::Yes), Some(Reply::No)) => {
+                (Some(Yes), Some(No)) => {
                     assert!(rt; raced.2.as_slice() == [(5, 50)].as_slice());
                 }
-                (Some(Reply::No), Some(Reply::Yes)) => {
+                (Some(No), Some(Yes)) => {
                     assert!(rt; raced.2.as_slice() == [(5, 51)].as_slice());
                 }
                 _ => assert!(rt; false, "not one of both"),
@@ -92,6 +94,8 @@ fn of_two_inserts_at_once_one_adds_the_key(rt: HostRuntime) {
         }
     }
 }
+
+const START: [(u64, u64); 2] = [(5, 50), (6, 60)];
 
 #[test]
 fn of_two_deletes_at_once_one_takes_the_key_away(rt: HostRuntime) {
@@ -108,11 +112,30 @@ fn of_two_deletes_at_once_one_takes_the_key_away(rt: HostRuntime) {
         Kind::DChild,
     ] {
         for _ in 0..RACES {
-            let raced = race(&rt, at, &[(5, 50), (6, 60)], (Delete(5), Delete(5)));
+            let raced = race(&rt, at, &START, (Ask(Delete(5)), Ask(Delete(5))));
             assert!(rt; raced.2.as_slice() == [(6, 60)].as_slice());
             match (raced.0, raced.1) {
-                (Some(Reply::Yes), Some(Reply::No)) | (Some(Reply::No), Some(Reply::Yes)) => {}
+                (Some(Yes), Some(No)) | (Some(No), Some(Yes)) => {}
                 _ => assert!(rt; false, "not one of both"),
+            }
+        }
+    }
+}
+
+#[test]
+fn of_two_takes_at_once_one_gets_the_value(rt: HostRuntime) {
+    if !two_threads_meet(&rt) {
+        return;
+    }
+    for at in [Kind::Begin, Kind::Look, Kind::DFlag, Kind::Mark] {
+        for other in [Take(5), Ask(Delete(5))] {
+            for _ in 0..RACES {
+                let raced = race(&rt, at, &START, (Take(5), other));
+                assert!(rt; raced.2.as_slice() == [(6, 60)].as_slice());
+                match (raced.0, raced.1) {
+                    (Some(Found(50)), Some(No)) | (Some(No), Some(Yes | Found(50))) => {}
+                    _ => assert!(rt; false, "not one of both"),
+                }
             }
         }
     }

@@ -1,28 +1,29 @@
 //! Workers on threads of their own, which make calls on the same keys, and the history that they leave.
-ghost use Rattle.std.specs.Prelude.{◌≤◌, length};
+ghost use Rattle.std.specs.Prelude.{◌≡◌, ◌≤◌, IfOk, length};
 ghost use Rattle.std.specs.List.{All};
 ghost use Rattle.std.specs.List.Sorted.{IsStrictlyIncreasing};
 ghost use Rattle.std.specs.Map.{keys_of};
 ghost use Rattle.ell_tree.specs.Meaning.{greatest_key};
 ghost use Rattle.ell_tree.specs.Node.{most_start};
-ghost use Rattle.ell_shared_tests.specs.Sharing.{IsSharer};
+ghost use Rattle.ell_shared_tests.specs.Sharing.{IsMember};
 
-use super::calling::{check, close, look, make};
+use super::calling::{Call, check, close, is_among, make};
 use super::parting::{joined, parted};
-use ell_ops::Op;
+use ell_ops::distinct_keys;
 use ell_test_gates::{Dice, Jostling, Made};
 use ell_tree::{NoGate, Pass, StepGate, Tree};
-use std::alloc::Global;
+use std::alloc::{AllocError, Global};
 use std::process::Abort;
 use std::sync::atomic::AtomicU64;
-use std::thread::{Threads, join};
+use std::thread::{Threads, map_vec};
 
 const CARDS: u64 = 1_000_000;
 
-/// What each of some workers does: so many calls, on keys below a number, drawn by a seed.
+/// What each of some workers does: so many calls, on keys below a number, of which these may have owners, drawn by a seed.
 #[derive(Clone, Copy)]
-pub struct Load {
+pub struct Load<'a> {
     pub keys: u64,
+    pub owned: &'a [u64],
     pub calls: u32,
     pub seed: u64,
 }
@@ -34,46 +35,40 @@ pub struct Done {
     pub calls: Vec<Made>,
 }
 
-// Draws a call, and makes it: of four one is a look.
-fn make_drawn<G: StepGate>(
-    rt: &impl Abort,
-    tree: &Tree<Global>,
-    pass: &mut Pass<Global>,
-    clock: &AtomicU64,
-    dice: &mut Dice,
-    load: Load,
-    gate: &G,
-) -> Option<Made>
-    requires { IsSharer tree.now pass.old }
-    ensures { IsSharer tree.now pass.new }
-{
-    let key = dice.below(load.keys.max(1));
-    if dice.below(4) == 0 {
-        return Some(look(rt, tree, pass, clock, key, gate));
-    }
-    let op = dice.operation(key);
-    make(rt, tree, pass, clock, op, gate)
+/// The number of the worker, of so many, that owns a key, if it may have an owner.
+pub fn owner_of(key: u64, workers: u32) -> u64 {
+    key % workers.max(1) as u64
 }
 
-/// One worker makes its calls, under a label.
-pub fn work<G: StepGate>(
+// Draws a call: of five one is a look and one a take, and a key that another worker owns is looked for.
+fn draw(dice: &mut Dice, load: Load, pass: &Pass<Global>) -> Call {
+    let key = dice.below(load.keys.max(1));
+    let may = pass.owns(key) || !is_among(key, load.owned);
+    match dice.below(5) {
+        1 if may => Call::Take(key),
+        2.. if may => Call::Ask(dice.operation(key)),
+        _ => Call::Look(key),
+    }
+}
+
+// One worker makes its calls.
+fn work<G: StepGate>(
     rt: &(impl Abort + AllocGlobal),
     tree: &Tree<Global>,
     pass: Pass<Global>,
-    label: u32,
     clock: &AtomicU64,
     load: Load,
     gate: &G,
 ) -> Done
-    requires { IsSharer tree.now pass }
-    ensures { IsSharer tree.now result.pass }
+    requires { IsMember load.owned.now tree.now pass }
+    ensures { IsMember load.owned.now tree.now result.pass }
 {
     let mut pass = pass;
-    pass.relabel(label);
     let mut calls = Vec::new(rt.alloc());
-    let mut dice = Dice::new(load.seed.wrapping_mul(64).wrapping_add(label as u64));
+    let mut dice = Dice::new(load.seed.wrapping_mul(64).wrapping_add(pass.label() as u64));
     for _ in 0..load.calls {
-        let made = make_drawn(rt, tree, &mut pass, clock, &mut dice, load, gate);
+        let call = draw(&mut dice, load, &pass);
+        let made = make(rt, tree, &mut pass, load.owned, clock, call, gate);
         if let Some(made) = made {
             calls.push(made).expect(rt, "memory");
         }
@@ -81,191 +76,142 @@ pub fn work<G: StepGate>(
     Done { pass, calls }
 }
 
-// What two leave, in one.
-fn together(rt: &impl Abort, tree: &Tree<Global>, one: Done, other: Done) -> Done
-    requires one { IsSharer tree.now one.pass }
-    requires other { IsSharer tree.now other.pass }
-    ensures { IsSharer tree.now result.pass }
+// Parts the pass of a worker, with its label and the keys that it owns, from the rest.
+fn parted_for(
+    rt: &(impl Abort + AllocGlobal),
+    tree: &Tree<Global>,
+    pass: Pass<Global>,
+    owned: &[u64],
+    worker: u32,
+    workers: u32,
+) -> (Pass<Global>, Pass<Global>)
+    requires { IsMember owned.now tree.now pass }
+    ensures rest { IsMember owned.now tree.now result.0 }
+    ensures ours { IsMember owned.now tree.now result.1 }
 {
-    let pass = joined(rt, tree, one.pass, other.pass);
-    let mut calls = one.calls;
-    for call in &other.calls {
-        calls.push(*call).expect(rt, "memory");
+    let mut others = Vec::from_slice(rt.alloc(), pass.keys()).expect(rt, "memory");
+    others.retain(|key| owner_of(*key, workers) != worker as u64);
+    let others = distinct_keys(others);
+    let (rest, mut ours) = parted(rt, tree, pass, owned, &others);
+    ours.relabel(worker);
+    (rest, ours)
+}
+
+// A pass for each of some workers, and the rest, which owns no key.
+fn passes_of(
+    rt: &(impl Abort + AllocGlobal),
+    tree: &Tree<Global>,
+    pass: Pass<Global>,
+    owned: &[u64],
+    workers: u32,
+) -> Result<(Pass<Global>, Vec<Pass<Global>>), AllocError>
+    requires { IsMember owned.now tree.now pass }
+    ensures rest { IfOk result (λ made. IsMember owned.now tree.now made.0) }
+    ensures each { IfOk result (λ made. All (λ pass. IsMember owned.now tree.now pass) made.1.items) }
+{
+    let (mut rest, mut passes) = (pass, Vec::new(rt.alloc()));
+    for worker in 0..workers {
+        let (others, ours) = parted_for(rt, tree, rest, owned, worker, workers);
+        passes.push(ours)?;
+        rest = others;
     }
-    Done { pass, calls }
+    Ok((rest, passes))
 }
 
-/// Two workers make their calls, by parts of a pass, under this label and the next.
-pub fn work_by_two<R: Threads + Abort + AllocGlobal + Sync, G: StepGate + Sync>(
+// Workers make their calls, each on a thread of its own.
+fn work_all<R: Threads + Abort + AllocGlobal + Sync, G: StepGate + Sync>(
     rt: &R,
     tree: &Tree<Global>,
-    pass: Pass<Global>,
-    label: u32,
+    passes: Vec<Pass<Global>>,
     clock: &AtomicU64,
     load: Load,
     gate: &G,
-) -> Done
-    requires { IsSharer tree.now pass }
-    ensures { IsSharer tree.now result.pass }
+) -> Result<Vec<Done>, AllocError>
+    requires { All (λ pass. IsMember load.owned.now tree.now pass) passes.items }
+    ensures { IfOk result (λ all. All (λ done. IsMember load.owned.now tree.now done.pass) all.items) }
 {
-    let (left, right) = parted(rt, tree, pass);
-    let next = label.wrapping_add(1);
-    let (one, other) = join(
-        rt,
-        move || work(rt, tree, left, label, clock, load, gate),
-        move || work(rt, tree, right, next, clock, load, gate),
-    );
-    together(rt, tree, one, other)
+    map_vec(rt, passes, &|pass| work(rt, tree, pass, clock, load, gate))
 }
 
-/// Four workers do.
-pub fn work_by_four<R: Threads + Abort + AllocGlobal + Sync, G: StepGate + Sync>(
-    rt: &R,
+// What they leave, in one.
+fn gathered(
+    rt: &(impl Abort + AllocGlobal),
     tree: &Tree<Global>,
-    pass: Pass<Global>,
-    label: u32,
-    clock: &AtomicU64,
-    load: Load,
-    gate: &G,
-) -> Done
-    requires { IsSharer tree.now pass }
-    ensures { IsSharer tree.now result.pass }
+    owned: &[u64],
+    rest: Pass<Global>,
+    all: Vec<Done>,
+) -> Result<Done, AllocError>
+    requires rest { IsMember owned.now tree.now rest }
+    requires each { All (λ done. IsMember owned.now tree.now done.pass) all.items }
+    ensures { IfOk result (λ done. IsMember owned.now tree.now done.pass) }
 {
-    let (left, right) = parted(rt, tree, pass);
-    let next = label.wrapping_add(2);
-    let (one, other) = join(
-        rt,
-        move || -> Done
-            requires { IsSharer tree.now left }
-            ensures { IsSharer tree.entry.now result.pass }
-        { work_by_two(rt, tree, left, label, clock, load, gate) },
-        move || -> Done
-            requires { IsSharer tree.now right }
-            ensures { IsSharer tree.entry.now result.pass }
-        { work_by_two(rt, tree, right, next, clock, load, gate) },
-    );
-    together(rt, tree, one, other)
+    let (mut pass, mut calls) = (rest, Vec::new(rt.alloc()));
+    for done in all {
+        pass = joined(rt, tree, owned, pass, done.pass);
+        for call in &done.calls {
+            calls.push(*call)?;
+        }
+    }
+    Ok(Done { pass, calls })
 }
 
-/// Eight workers do.
-pub fn work_by_eight<R: Threads + Abort + AllocGlobal + Sync, G: StepGate + Sync>(
+/// Some workers make their calls on a tree with start keys: the calls, and the keys at the end with their values.
+pub fn run<R: Threads + Abort + AllocGlobal + Sync, G: StepGate + Sync>(
     rt: &R,
-    tree: &Tree<Global>,
-    pass: Pass<Global>,
-    label: u32,
-    clock: &AtomicU64,
-    load: Load,
-    gate: &G,
-) -> Done
-    requires { IsSharer tree.now pass }
-    ensures { IsSharer tree.now result.pass }
-{
-    let (left, right) = parted(rt, tree, pass);
-    let next = label.wrapping_add(4);
-    let (one, other) = join(
-        rt,
-        move || -> Done
-            requires { IsSharer tree.now left }
-            ensures { IsSharer tree.entry.now result.pass }
-        { work_by_four(rt, tree, left, label, clock, load, gate) },
-        move || -> Done
-            requires { IsSharer tree.now right }
-            ensures { IsSharer tree.entry.now result.pass }
-        { work_by_four(rt, tree, right, next, clock, load, gate) },
-    );
-    together(rt, tree, one, other)
-}
-
-/// Sixteen workers do.
-pub fn work_by_sixteen<R: Threads + Abort + AllocGlobal + Sync, G: StepGate + Sync>(
-    rt: &R,
-    tree: &Tree<Global>,
-    pass: Pass<Global>,
-    label: u32,
-    clock: &AtomicU64,
-    load: Load,
-    gate: &G,
-) -> Done
-    requires { IsSharer tree.now pass }
-    ensures { IsSharer tree.now result.pass }
-{
-    let (left, right) = parted(rt, tree, pass);
-    let next = label.wrapping_add(8);
-    let (one, other) = join(
-        rt,
-        move || -> Done
-            requires { IsSharer tree.now left }
-            ensures { IsSharer tree.entry.now result.pass }
-        { work_by_eight(rt, tree, left, label, clock, load, gate) },
-        move || -> Done
-            requires { IsSharer tree.now right }
-            ensures { IsSharer tree.entry.now result.pass }
-        { work_by_eight(rt, tree, right, next, clock, load, gate) },
-    );
-    together(rt, tree, one, other)
-}
-
-// How many workers.
-#[derive(Clone, Copy, Debug)]
-enum Crew {
-    One,
-    Two,
-    Four,
-    Eight,
-    Sixteen,
-}
-
-// Some workers make their calls on a tree with start keys: the history of each key, to the end, is to be in order.
-fn check_crew<R: Threads + Abort + AllocGlobal + Sync, G: StepGate + Sync>(
-    rt: &R,
-    crew: Crew,
+    workers: u32,
     start: &[(u64, u64)],
     load: Load,
     gate: &G,
-)
+) -> (Vec<Made>, Vec<(u64, u64)>)
     requires ascending { IsStrictlyIncreasing (keys_of start.now) }
     requires real { All (λ k. k ≤ greatest_key) (keys_of start.now) }
     requires few { length start.now ≤ most_start }
+    requires owned { IsStrictlyIncreasing load.owned.now }
+    requires owned_real { All (λ k. k ≤ greatest_key) load.owned.now }
 {
-    let clock = AtomicU64::new(0);
-    let made = Tree::reserve_shared(rt.alloc(), start, &[], CARDS);
+    let (clock, owned) = (AtomicU64::new(0), load.owned);
+    let made = Tree::reserve_shared(rt.alloc(), start, owned, CARDS);
     let (tree, pass) = made.expect(rt, "tree");
-    let done = match crew {
-        Crew::One => work(rt, &tree, pass, 0, &clock, load, gate),
-        Crew::Two => work_by_two(rt, &tree, pass, 0, &clock, load, gate),
-        Crew::Four => work_by_four(rt, &tree, pass, 0, &clock, load, gate),
-        Crew::Eight => work_by_eight(rt, &tree, pass, 0, &clock, load, gate),
-        Crew::Sixteen => work_by_sixteen(rt, &tree, pass, 0, &clock, load, gate),
-    };
-    let pairs = close(rt, tree, done.pass);
-    check(rt, load.keys, start, &done.calls, &pairs);
+    let parts = passes_of(rt, &tree, pass, owned, workers);
+    let (rest, passes) = parts.expect(rt, "memory");
+    let all = work_all(rt, &tree, passes, &clock, load, gate).expect(rt, "memory");
+    let done = gathered(rt, &tree, owned, rest, all).expect(rt, "memory");
+    let pairs = close(rt, tree, done.pass, owned);
+    (done.calls, pairs)
 }
+
+const WORKERS: [u32; 7] = [1, 2, 4, 8, 16, 32, 64];
 
 const START: [(u64, u64); 3] = [(0, 10), (1, 11), (5, 15)];
 
 #[test]
 fn calls_of_many_threads_are_in_order(rt: HostRuntime) {
-    for crew in [Crew::One, Crew::Two, Crew::Four, Crew::Eight, Crew::Sixteen] {
+    for workers in WORKERS {
         for keys in [2, 8, 64] {
             let load = Load {
                 keys,
+                owned: &[],
                 calls: 1_000,
                 seed: keys,
             };
-            check_crew(&rt, crew, &[], load, &NoGate);
-            check_crew(&rt, crew, &[], load, &Jostling::new(keys));
+            let (calls, pairs) = run(&rt, workers, &[], load, &NoGate);
+            check(&rt, keys, &[], &calls, &pairs);
+            let (calls, pairs) = run(&rt, workers, &[], load, &Jostling::new(keys));
+            check(&rt, keys, &[], &calls, &pairs);
         }
     }
 }
 
 #[test]
 fn calls_over_start_keys_are_in_order(rt: HostRuntime) {
-    for crew in [Crew::One, Crew::Two, Crew::Four, Crew::Eight, Crew::Sixteen] {
+    for workers in WORKERS {
         let load = Load {
             keys: 8,
+            owned: &[],
             calls: 1_000,
             seed: 5,
         };
-        check_crew(&rt, crew, &START, load, &Jostling::new(5));
+        let (calls, pairs) = run(&rt, workers, &START, load, &Jostling::new(5));
+        check(&rt, load.keys, &START, &calls, &pairs);
     }
 }

@@ -1,0 +1,189 @@
+//! Trees in which some keys have owners, and every other one is shared.
+use super::calling::Call::{Ask, Look, Take};
+use super::calling::{answer, check, check_key, close};
+use super::holding::{Meeting, meet};
+use super::parting::{joined, parted};
+use super::working::{Load, owner_of, run};
+use ell_ops::Op::{Delete, Find, Insert};
+use ell_ops::Reply::{Found, No, Yes};
+use ell_test_gates::{Jostling, Made, two_threads_meet};
+use ell_tree::{Kind, NoGate, Tree};
+use std::process::Abort;
+
+// The keys of the workers, with shared ones in between.
+const OWNED: [u64; 8] = [0, 2, 3, 6, 7, 9, 12, 13];
+
+const KEYS: u64 = 16;
+
+const START: [(u64, u64); 4] = [(1, 11), (2, 12), (7, 17), (8, 18)];
+
+// Checks the calls of the owner of a key, alone: they do not overlap, so they are in order if a private map answers them so, which has the
+// value at the end. All others look for the key, or find it.
+fn check_owner(
+    rt: &(impl Abort + AllocGlobal),
+    key: u64,
+    workers: u32,
+    calls: &[Made],
+    end: &[(u64, u64)],
+) {
+    let (mut mine, owner) = (Vec::new(rt.alloc()), owner_of(key, workers));
+    for call in calls {
+        if call.op.key() == key && call.worker as u64 == owner {
+            mine.push(*call).expect(rt, "memory");
+        } else {
+            assert!(rt; call.op.key() != key || call.op == Find(key), "key {key}");
+        }
+    }
+    assert!(rt; !mine.is_empty(), "key {key}");
+    check_key(rt, key, &START, &mine, end);
+}
+
+#[test]
+fn owners_are_answered_as_private_maps_among_shared_keys(rt: HostRuntime) {
+    for workers in [2, 4, 16, 64] {
+        for seed in 0..4 {
+            let load = Load {
+                keys: KEYS,
+                owned: &OWNED,
+                calls: 2_000,
+                seed,
+            };
+            let (calls, pairs) = run(&rt, workers, &START, load, &Jostling::new(seed));
+            check(&rt, KEYS, &START, &calls, &pairs);
+            for key in OWNED {
+                check_owner(&rt, key, workers, &calls, &pairs);
+            }
+        }
+    }
+}
+
+#[test]
+fn a_take_answers_the_value_that_goes(rt: HostRuntime) {
+    let (owned, start) = ([1, 3], [(1, 10), (2, 20)]);
+    let made = Tree::reserve_shared(rt.alloc(), &start, &owned, 20);
+    let (tree, pass) = made.expect(&rt, "tree");
+    let (mut owner, mut guest) = parted(&rt, &tree, pass, &owned, &owned);
+    // Whether the owner makes a call, and what it answers.
+    let rows = [
+        (true, Take(1), Found(10)),
+        (true, Take(1), No),
+        (false, Look(1), No),
+        (true, Ask(Insert(1, 11)), Yes),
+        (false, Look(1), Found(11)),
+        (true, Take(1), Found(11)),
+        (true, Take(3), No),
+        (false, Take(2), Found(20)),
+        (true, Take(2), No),
+        (false, Ask(Insert(2, 21)), Yes),
+        (true, Ask(Insert(2, 22)), No),
+        (true, Take(2), Found(21)),
+        (false, Take(2), No),
+        (true, Ask(Insert(3, 30)), Yes),
+        (false, Ask(Insert(4, 40)), Yes),
+    ];
+    for (number, (by_owner, call, said)) in rows.iter().enumerate() {
+        let pass = if *by_owner { &mut owner } else { &mut guest };
+        let answered = answer(&rt, &tree, pass, &owned, *call, &NoGate);
+        assert!(rt; answered == Ok(*said), "row {number}");
+    }
+    let pass = joined(&rt, &tree, &owned, owner, guest);
+    let pairs = close(&rt, tree, pass, &owned);
+    assert!(rt; pairs.as_slice() == [(3, 30), (4, 40)].as_slice());
+}
+
+// The owner of a key is held in the middle of a change, and its shared neighbors come and go beside.
+const OWNER_ADDS: Meeting = Meeting {
+    owned: &[5],
+    by_zero: &[5],
+    start: &[(6, 60)],
+    held: (Insert(5, 50), Yes),
+    rows: &[
+        (Insert(4, 40), Yes),
+        (Delete(6), Yes),
+        (Find(4), Found(40)),
+        (Insert(6, 61), Yes),
+        (Delete(4), Yes),
+        (Insert(4, 41), Yes),
+        (Delete(4), Yes),
+        (Insert(7, 70), Yes),
+    ],
+    end: &[(5, 50), (6, 61), (7, 70)],
+};
+
+const OWNER_DELETES: Meeting = Meeting {
+    start: &[(4, 40), (5, 50), (6, 60)],
+    held: (Delete(5), Yes),
+    rows: &[
+        (Delete(4), Yes),
+        (Insert(4, 41), Yes),
+        (Delete(6), Yes),
+        (Find(6), No),
+        (Delete(4), Yes),
+        (Insert(6, 61), Yes),
+    ],
+    end: &[(6, 61)],
+    ..OWNER_ADDS
+};
+
+// A shared key is being changed by a worker that is held, and the owner of the neighbors is answered as by a private map.
+const GUEST_ADDS: Meeting = Meeting {
+    by_zero: &[],
+    owned: &[4, 6],
+    end: &[(5, 50), (6, 61)],
+    rows: &[
+        (Insert(4, 40), Yes),
+        (Delete(6), Yes),
+        (Delete(6), No),
+        (Find(4), Found(40)),
+        (Insert(6, 61), Yes),
+        (Insert(6, 62), No),
+        (Delete(4), Yes),
+        (Find(4), No),
+    ],
+    ..OWNER_ADDS
+};
+
+const GUEST_DELETES: Meeting = Meeting {
+    by_zero: &[],
+    owned: &[4, 6],
+    ..OWNER_DELETES
+};
+
+#[test]
+fn shared_neighbors_come_and_go_beside_an_owner_that_is_held(rt: HostRuntime) {
+    if !two_threads_meet(&rt) {
+        return;
+    }
+    for at in INSERTING {
+        meet(&rt, at, OWNER_ADDS);
+        meet(&rt, at, GUEST_ADDS);
+    }
+    for at in DELETING {
+        meet(&rt, at, OWNER_DELETES);
+        meet(&rt, at, GUEST_DELETES);
+    }
+}
+
+// The kinds of steps of an insert, and of a delete.
+const INSERTING: [Kind; 8] = [
+    Kind::Begin,
+    Kind::Note,
+    Kind::Look,
+    Kind::Claim,
+    Kind::Fill,
+    Kind::IFlag,
+    Kind::IChild,
+    Kind::IUnflag,
+];
+
+const DELETING: [Kind; 9] = [
+    Kind::Begin,
+    Kind::Note,
+    Kind::Look,
+    Kind::Claim,
+    Kind::Fill,
+    Kind::DFlag,
+    Kind::Mark,
+    Kind::DChild,
+    Kind::DUnflag,
+];
