@@ -1,10 +1,133 @@
-//! Two threads of Rust, and then four, that insert and delete the same few keys of a tree of shared keys: of each key, the inserts that
-//! answered yes are as many as the deletes that did, or one more where the key is present at the end, counting a start key as an insert.
+//! Threads of Rust, 2 to 64, that find, insert and delete the same few keys of a tree of shared keys. Each call is noted with its begin and its
+//! end by one clock, and the calls on each key are to be in order: each has a point between its begin and its end, and one map gives their
+//! answers in the order of these points. At the end of each round each key is as the last of them leave it. Then all threads at once insert one
+//! key, and delete it, again and again: each time one of them answers yes. With `--seconds=N` it makes rounds, with new seeds, for so long. The
+//! check of the order is tried first, on histories that a person worked out.
 use elltree::{Handle, Refused};
+use std::collections::{BTreeSet, HashSet};
+use std::sync::atomic::{AtomicU64, Ordering::SeqCst};
+use std::sync::Barrier;
+use std::time::{Duration, Instant};
 
-const KEYS: usize = 5;
-const CALLS: u64 = 60_000;
 const TRIES: u32 = 100_000;
+const CARDS: u64 = 300_000;
+const START: [(u64, u64); 2] = [(1, 901), (3, 903)];
+const RACES: u64 = 20;
+
+/// A call, with what it answered.
+#[derive(Clone, Copy, Debug, PartialEq)]
+enum Call {
+    Find(Option<u64>),
+    Insert(u64, bool),
+    Delete(bool),
+}
+
+impl Call {
+    /// The value of the key behind the call, if it is answered so where the key has this one.
+    fn after(self, value: Option<u64>) -> Option<Option<u64>> {
+        match (self, value) {
+            (Call::Find(said), _) if said == value => Some(value),
+            (Call::Insert(_, false), Some(_)) | (Call::Delete(false), None) => Some(value),
+            (Call::Insert(new, true), None) => Some(Some(new)),
+            (Call::Delete(true), Some(_)) => Some(None),
+            _ => None,
+        }
+    }
+}
+
+/// A call with its worker, below 64, its key, and its begin and its end. A worker makes one call at a time.
+#[derive(Clone, Copy, Debug)]
+struct Made {
+    worker: u32,
+    key: u64,
+    call: Call,
+    begun: u64,
+    ended: u64,
+}
+
+/// What an order of points comes to: which workers have had the points of their calls that go on, by bits, and the value of the key.
+type Standing = (u64, Option<u64>);
+
+/// Adds all standings to which points of calls that go on lead, of one call the last.
+fn explore(standing: Standing, going: &[Made], last: u32, seen: &mut HashSet<Standing>) {
+    let (mut done, value) = standing;
+    // A call that changes nothing may have its point at once: no order is lost by that.
+    for made in going.iter().filter(|made| made.call.after(value) == Some(value)) {
+        done |= 1 << made.worker;
+    }
+    if !seen.insert((done, value)) || done >> last & 1 == 1 {
+        return;
+    }
+    let left: Vec<&Made> = going.iter().filter(|made| done >> made.worker & 1 == 0).collect();
+    for made in &left {
+        // Of two that change the key alike, the one that ends first comes first: no order is lost by that either.
+        let is_first = left.iter().all(|other| other.call != made.call || made.ended <= other.ended);
+        if let (true, Some(next)) = (is_first, made.call.after(value)) {
+            explore((done | 1 << made.worker, next), going, last, seen);
+        }
+    }
+}
+
+/// The calls, where inserts whose values no call finds all add one value, which no call finds.
+fn with_found_values(calls: &[Made]) -> Vec<Made> {
+    let found: HashSet<u64> = calls.iter().filter_map(|made| if let Call::Find(said) = made.call { said } else { None }).collect();
+    let other = (0..).find(|value| !found.contains(value)).unwrap();
+    let with_found = |call: Call| match call {
+        Call::Insert(value, said) if !found.contains(&value) => Call::Insert(other, said),
+        _ => call,
+    };
+    calls.iter().map(|made| Made { call: with_found(made.call), ..*made }).collect()
+}
+
+/// Whether calls on one key are in order, from its value at the start.
+fn are_in_order(start: Option<u64>, calls: &[Made]) -> bool {
+    let calls = with_found_values(calls);
+    let mut moments: Vec<(u64, bool, &Made)> = calls.iter().flat_map(|made| [(made.begun, false, made), (made.ended, true, made)]).collect();
+    moments.sort_by_key(|&(time, ends, _)| (time, ends));
+    let (mut going, mut standings) = (Vec::<Made>::new(), HashSet::from([(0, start)]));
+    for (_, ends, made) in moments {
+        if !ends {
+            going.push(*made);
+            continue;
+        }
+        let (mut seen, bit) = (HashSet::new(), 1 << made.worker);
+        for standing in standings {
+            explore(standing, &going, made.worker, &mut seen);
+        }
+        standings = seen.into_iter().filter(|standing| standing.0 & bit != 0).map(|(done, value)| (done & !bit, value)).collect();
+        going.retain(|other| other.worker != made.worker);
+    }
+    !standings.is_empty()
+}
+
+/// Tries the check on histories of calls by workers 0, 1 and so on, each with its begin and its end, from the key absent.
+fn try_the_check() {
+    use Call::*;
+    let wrong: [&[(Call, u64, u64)]; 9] = [
+        &[(Insert(50, true), 1, 4), (Insert(51, true), 2, 3)],
+        &[(Insert(50, false), 1, 2)],
+        &[(Find(Some(50)), 1, 2), (Insert(50, true), 3, 4)],
+        &[(Insert(50, true), 1, 2), (Find(None), 3, 4)],
+        &[(Insert(50, true), 1, 2), (Delete(false), 3, 4)],
+        &[(Insert(50, true), 1, 2), (Insert(51, false), 3, 4), (Find(Some(51)), 5, 6)],
+        &[(Insert(50, true), 1, 10), (Find(Some(50)), 2, 3), (Find(None), 4, 5)],
+        &[(Insert(50, true), 1, 2), (Delete(true), 3, 6), (Delete(true), 4, 5)],
+        &[(Insert(50, true), 1, 2), (Delete(true), 3, 9), (Insert(51, true), 4, 8), (Find(Some(51)), 5, 6), (Find(Some(50)), 7, 10)],
+    ];
+    let right: [&[(Call, u64, u64)]; 5] = [
+        &[(Insert(50, false), 1, 4), (Insert(51, true), 2, 3)],
+        &[(Insert(50, true), 1, 10), (Find(Some(50)), 2, 3), (Find(Some(50)), 4, 5)],
+        &[(Insert(50, true), 1, 10), (Find(None), 2, 5), (Find(Some(50)), 3, 4)],
+        &[(Insert(50, true), 1, 6), (Insert(51, true), 2, 5), (Delete(true), 3, 4), (Find(Some(50)), 7, 8)],
+        &[(Insert(50, true), 1, 9), (Delete(true), 2, 8), (Find(Some(50)), 3, 7), (Insert(51, false), 4, 6), (Find(None), 10, 11)],
+    ];
+    for (histories, is_right) in [(&wrong[..], false), (&right[..], true)] {
+        for history in histories {
+            let calls: Vec<Made> = (0..).zip(*history).map(|(worker, &(call, begun, ended))| Made { worker, key: 5, call, begun, ended }).collect();
+            assert_eq!(are_in_order(None, &calls), is_right, "{history:?}");
+        }
+    }
+}
 
 fn next(seed: &mut u64) -> u64 {
     *seed ^= *seed << 13;
@@ -13,48 +136,106 @@ fn next(seed: &mut u64) -> u64 {
     *seed
 }
 
-// A value has its key in the low digits.
-fn value_of(key: u64, random: u64) -> u64 {
-    random % 1_000_000 * KEYS as u64 + key
-}
-
-// How many more inserts than deletes of each key answered yes.
-fn work(handle: &mut Handle, mut seed: u64) -> Result<[i64; KEYS], Refused> {
-    let mut more = [0; KEYS];
-    for _ in 0..CALLS {
+/// One worker makes so many calls on keys below a number. No two inserts have one value.
+fn work(handle: &mut Handle, worker: u32, keys: u64, calls: u64, mut seed: u64, clock: &AtomicU64) -> Result<Vec<Made>, Refused> {
+    let mut all = Vec::new();
+    for number in 0..calls {
         let random = next(&mut seed);
-        let key = (random >> 20) % KEYS as u64;
-        match random % 4 {
-            0 => more[key as usize] += i64::from(handle.insert(key, value_of(key, random), TRIES)?),
-            1 => more[key as usize] -= i64::from(handle.delete(key, TRIES)?),
-            2 => assert!(handle.find(key)?.is_none_or(|value| value % KEYS as u64 == key)),
-            _ => assert!(handle.look(key)?.is_none_or(|value| value % KEYS as u64 == key)),
-        }
+        let (key, value) = ((random >> 20) % keys, u64::from(worker) << 32 | number);
+        let begun = clock.fetch_add(1, SeqCst);
+        let call = match random % 5 {
+            0 | 1 => Call::Insert(value, handle.insert(key, value, TRIES)?),
+            2 | 3 => Call::Delete(handle.delete(key, TRIES)?),
+            _ if random & 1024 == 0 => Call::Find(handle.find(key)?),
+            _ => Call::Find(handle.look(key)?),
+        };
+        let ended = clock.fetch_add(1, SeqCst);
+        all.push(Made { worker, key, call, begun, ended });
     }
-    Ok(more)
+    Ok(all)
 }
 
-fn run(number: u64) -> Result<(), Refused> {
-    let mut first = Handle::open_shared(&[(1, value_of(1, 9)), (3, value_of(3, 9))], 500_000)?;
-    let mut others = (1..number).map(|_| first.another()).collect::<Result<Vec<_>, _>>()?;
-    let counts: Vec<[i64; KEYS]> = std::thread::scope(|threads| {
-        let working: Vec<_> = others.iter_mut().chain([&mut first]).zip(1..).map(|(handle, seed)| threads.spawn(move || work(handle, seed).unwrap())).collect();
+/// Some threads call, each with a handle: what each of them makes of its own and its number.
+fn in_threads<T: Send>(handles: &mut [Handle], of_one: impl Fn(&mut Handle, u32) -> Result<T, Refused> + Sync) -> Vec<T> {
+    let of_one = &of_one;
+    std::thread::scope(|threads| {
+        let working: Vec<_> = handles.iter_mut().zip(0..).map(|(handle, worker)| threads.spawn(move || of_one(handle, worker).unwrap())).collect();
         working.into_iter().map(|thread| thread.join().unwrap()).collect()
-    });
-    let mut size = 0;
-    for key in 0..KEYS {
-        let there = counts.iter().map(|more| more[key]).sum::<i64>() + i64::from(key == 1 || key == 3);
-        assert_eq!(there, i64::from(first.find(key as u64)?.is_some()));
-        size += there;
+    })
+}
+
+fn open(threads: u32, start: &[(u64, u64)]) -> Result<Vec<Handle>, Refused> {
+    let mut handles = vec![Handle::open_shared(start, CARDS)?];
+    for _ in 1..threads {
+        let other = handles[0].another()?;
+        handles.push(other);
     }
-    for other in others {
+    Ok(handles)
+}
+
+/// One round of so many threads on keys below a number: how many calls they made, and how many keys are there at the end.
+fn round(threads: u32, keys: u64, calls: u64, seed: u64) -> Result<(usize, usize), Refused> {
+    let start: Vec<(u64, u64)> = START.into_iter().filter(|pair| pair.0 < keys).collect();
+    let (mut handles, clock) = (open(threads, &start)?, AtomicU64::new(1));
+    let seed_of = |worker: u32| (seed * 64 + u64::from(worker) + 1).wrapping_mul(0x9e37_79b9_7f4a_7c15);
+    let made = in_threads(&mut handles, |handle, worker| work(handle, worker, keys, calls, seed_of(worker), &clock)).concat();
+    let mut there = BTreeSet::new();
+    for key in 0..keys {
+        let left = handles[0].find(key)?;
+        there.extend(left.map(|_| key));
+        let mut history: Vec<Made> = made.iter().filter(|made| made.key == key).copied().collect();
+        history.push(Made { worker: 63, key, call: Call::Find(left), begun: u64::MAX, ended: u64::MAX });
+        let first = start.iter().find(|pair| pair.0 == key).map(|pair| pair.1);
+        let changes = |is_so: fn(&Call) -> bool| history.iter().filter(|made| is_so(&made.call)).count();
+        let (came, went) = (changes(|call| matches!(call, Call::Insert(_, true))), changes(|call| *call == Call::Delete(true)));
+        assert_eq!(came + usize::from(first.is_some()), went + usize::from(left.is_some()), "key {key}, {threads} threads, {keys} keys, seed {seed}");
+        assert!(are_in_order(first, &history), "out of order: key {key}, {threads} threads, {keys} keys, seed {seed}");
+    }
+    let mut first = handles.remove(0);
+    for other in handles {
         first.join(other).map_err(|(_, why)| why)?;
     }
-    println!("{number} threads, {size} keys at the end, none wrong");
+    Ok((made.len(), there.len()))
+}
+
+/// All threads insert one key at once, and then delete it: of each just one answers yes.
+fn race(threads: u32) -> Result<(), Refused> {
+    let (mut handles, barrier) = (open(threads, &[(6, 60), (8, 80)])?, Barrier::new(threads as usize));
+    let said = in_threads(&mut handles, |handle, worker| {
+        let mut said = Vec::new();
+        for _ in 0..RACES {
+            barrier.wait();
+            let inserted = handle.insert(7, u64::from(worker), TRIES)?;
+            barrier.wait();
+            assert!(handle.find(7)?.is_some_and(|value| !inserted || value == u64::from(worker)));
+            barrier.wait();
+            said.push((inserted, handle.delete(7, TRIES)?));
+        }
+        Ok(said)
+    });
+    for race in 0..RACES as usize {
+        let yes = |of: fn(&(bool, bool)) -> bool| said.iter().filter(|said| of(&said[race])).count();
+        assert_eq!((yes(|said| said.0), yes(|said| said.1)), (1, 1), "race {race} of {threads} threads");
+    }
+    assert_eq!((handles[0].find(6)?, handles[0].find(7)?, handles[0].find(8)?), (Some(60), None, Some(80)));
     Ok(())
 }
 
 fn main() -> Result<(), Refused> {
-    run(2)?;
-    run(4)
+    let seconds = std::env::args().nth(1).map_or(0, |word| word.strip_prefix("--seconds=").expect("--seconds=N").parse().expect("a number"));
+    let begun = Instant::now();
+    let (mut seeds, mut rounds, mut calls, mut left) = (0, 0, 0, 0);
+    try_the_check();
+    while seeds == 0 || begun.elapsed() < Duration::from_secs(seconds) {
+        seeds += 1;
+        for threads in [2, 4, 8, 16, 32, 64] {
+            for keys in [2, 8, 64] {
+                let (made, there) = round(threads, keys, 8_000 / u64::from(threads), seeds)?;
+                (rounds, calls, left) = (rounds + 1, calls + made, left + there);
+            }
+            race(threads)?;
+        }
+    }
+    println!("{rounds} rounds, {calls} calls in order, {left} keys at the ends, {} s", begun.elapsed().as_secs());
+    Ok(())
 }

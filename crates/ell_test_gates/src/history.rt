@@ -4,6 +4,7 @@
 //! calls on many keys are in order if those on each key are.
 use ell_ops::{Op, Reply};
 use std::alloc::{AllocError, Global};
+use std::collections::BTreeSet;
 
 /// A call that was answered, with its begin and its end by a clock that all workers read. A look counts as a find, and a take as a delete
 /// that found the value which it took. A call that is held changes nothing, and stands in no history.
@@ -39,7 +40,7 @@ impl Made {
 
 // What an order of points comes to: which of the calls that go on have had theirs, by the bits of their workers, and the value of the
 // key behind them.
-#[derive(Clone, Copy, PartialEq, Eq)]
+#[derive(Clone, Copy, PartialEq, Eq, PartialOrd, Ord)]
 struct Standing {
     done: u64,
     value: Option<u64>,
@@ -80,14 +81,14 @@ impl Standing {
 #[derive(Drop)]
 struct Orders {
     going: Vec<Made>,
-    standings: Vec<Standing>,
+    standings: BTreeSet<Standing>,
 }
 
 impl Orders {
     // Before the first call, where the key has this value.
     fn at(alloc: Global, value: Option<u64>) -> Result<Orders, AllocError> {
-        let mut standings = Vec::new(alloc);
-        standings.push(Standing { done: 0, value })?;
+        let mut standings = BTreeSet::new(alloc);
+        standings.insert(Standing { done: 0, value })?;
         Ok(Orders {
             going: Vec::new(alloc),
             standings,
@@ -96,11 +97,10 @@ impl Orders {
 
     // A call ends, and so has had its point by now.
     fn end(&mut self, alloc: Global, call: &Made) -> Result<(), AllocError> {
-        self.explore()?;
-        let mut left = Vec::new(alloc);
-        for standing in &self.standings {
+        let mut left = BTreeSet::new(alloc);
+        for standing in &self.explored(alloc, call)? {
             if standing.has(call) {
-                add(&mut left, standing.without(call))?;
+                left.insert(standing.without(call))?;
             }
         }
         self.standings = left;
@@ -108,38 +108,64 @@ impl Orders {
         Ok(())
     }
 
-    // Calls that go on have their points, in each order.
-    fn explore(&mut self) -> Result<(), AllocError> {
-        for place in 0..u32::MAX {
-            let Some(standing) = self.standings.get(place as usize).copied() else {
+    // Calls that go on have their points, in each order, until a call has its own: points of others may wait until they end.
+    fn explored(&self, alloc: Global, until: &Made) -> Result<BTreeSet<Standing>, AllocError> {
+        let (mut seen, mut next) = (BTreeSet::new(alloc), Vec::new(alloc));
+        for standing in &self.standings {
+            next.push(*standing)?;
+        }
+        for _ in 0..u64::MAX {
+            let Some(standing) = next.pop() else {
                 break;
             };
             let settled = standing.settled(&self.going);
-            if let Some(there) = self.standings.get_mut(place as usize) {
-                *there = settled;
+            if seen.insert(settled)? && !settled.has(until) {
+                self.go_on(settled, &mut next)?;
             }
-            self.go_on(settled)?;
         }
-        Ok(())
+        Ok(seen)
     }
 
     // Each of the calls that go on has its point behind a standing, if it may.
-    fn go_on(&mut self, standing: Standing) -> Result<(), AllocError> {
+    fn go_on(&self, standing: Standing, next: &mut Vec<Standing>) -> Result<(), AllocError> {
         for call in &self.going {
-            if let Some(next) = standing.after(call) {
-                add(&mut self.standings, next)?;
+            match standing.after(call) {
+                Some(after) if !self.is_behind_its_like(standing, call) => next.push(after)?,
+                _ => {}
             }
         }
         Ok(())
     }
+
+    // Whether a call that is answered alike ends earlier, and has had no point yet: then that one comes first, and no order is lost.
+    fn is_behind_its_like(&self, standing: Standing, call: &Made) -> bool {
+        self.going.iter().any(|other| {
+            let alike = other.op == call.op && other.said == call.said;
+            alike && other.ended < call.ended && !standing.has(other)
+        })
+    }
 }
 
-// Adds a standing, unless it is there.
-fn add(standings: &mut Vec<Standing>, standing: Standing) -> Result<(), AllocError> {
-    if !standings.contains(&standing) {
-        standings.push(standing)?;
+// The calls, where inserts whose values no call found all add one value, which no call found: so they are alike.
+fn with_found_values(alloc: Global, calls: &[Made]) -> Result<Vec<Made>, AllocError> {
+    let mut found = BTreeSet::new(alloc);
+    for call in calls {
+        if let Reply::Found(value) = call.said {
+            found.insert(value)?;
+        }
     }
-    Ok(())
+    let other = (0..u64::MAX).find(|value| !found.contains(value));
+    let mut all = Vec::new(alloc);
+    for call in calls {
+        let op = match (call.op, other) {
+            (Op::Insert(key, value), Some(other)) if !found.contains(&value) => {
+                Op::Insert(key, other)
+            }
+            (op, _) => op,
+        };
+        all.push(Made { op, ..*call })?;
+    }
+    Ok(all)
 }
 
 // The begins and the ends of calls in their order, by their time, whether it is an end, and the place of the call.
@@ -157,7 +183,8 @@ fn moments(alloc: Global, calls: &[Made]) -> Result<Vec<(u64, bool, usize)>, All
 /// as a map answers that has the key with this value at first.
 pub fn are_in_order(alloc: Global, start: Option<u64>, calls: &[Made]) -> Result<bool, AllocError> {
     let mut orders = Orders::at(alloc, start)?;
-    for (_, ends, place) in &moments(alloc, calls)? {
+    let calls = with_found_values(alloc, calls)?;
+    for (_, ends, place) in &moments(alloc, &calls)? {
         match calls.get(*place) {
             Some(call) if *ends => orders.end(alloc, call)?,
             Some(call) => orders.going.push(*call)?,

@@ -3,7 +3,7 @@ use super::calling::Call::{Ask, Look, Take};
 use super::calling::{answer, check, check_key, close};
 use super::holding::{Meeting, meet};
 use super::parting::{joined, parted};
-use super::working::{Load, owner_of, run};
+use super::working::{Load, calls_of, owner_of, run};
 use ell_ops::Op::{Delete, Find, Insert};
 use ell_ops::Reply::{Found, No, Yes};
 use ell_test_gates::{Jostling, Made, two_threads_meet};
@@ -41,11 +41,11 @@ fn check_owner(
 #[test]
 fn owners_are_answered_as_private_maps_among_shared_keys(rt: HostRuntime) {
     for workers in [2, 4, 16, 64] {
-        for seed in 0..4 {
+        for seed in [1, 2] {
             let load = Load {
                 keys: KEYS,
                 owned: &OWNED,
-                calls: 2_000,
+                calls: calls_of(workers),
                 seed,
             };
             let (calls, pairs) = run(&rt, workers, &START, load, &Jostling::new(seed));

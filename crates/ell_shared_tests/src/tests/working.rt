@@ -182,24 +182,37 @@ pub fn run<R: Threads + Abort + AllocGlobal + Sync, G: StepGate + Sync>(
 
 const WORKERS: [u32; 7] = [1, 2, 4, 8, 16, 32, 64];
 
+/// How many calls each of so many workers makes: fewer, where they are many.
+pub fn calls_of(workers: u32) -> u32 {
+    (8_000 / workers.max(1)).min(1_000)
+}
+
 const START: [(u64, u64); 3] = [(0, 10), (1, 11), (5, 15)];
 
-#[test]
-fn calls_of_many_threads_are_in_order(rt: HostRuntime) {
+// Workers make their calls on few keys, and on more.
+fn check_all<R: Threads + Abort + AllocGlobal + Sync, G: StepGate + Sync>(rt: &R, gate: &G) {
     for workers in WORKERS {
         for keys in [2, 8, 64] {
             let load = Load {
                 keys,
                 owned: &[],
-                calls: 1_000,
+                calls: calls_of(workers),
                 seed: keys,
             };
-            let (calls, pairs) = run(&rt, workers, &[], load, &NoGate);
-            check(&rt, keys, &[], &calls, &pairs);
-            let (calls, pairs) = run(&rt, workers, &[], load, &Jostling::new(keys));
-            check(&rt, keys, &[], &calls, &pairs);
+            let (calls, pairs) = run(rt, workers, &[], load, gate);
+            check(rt, keys, &[], &calls, &pairs);
         }
     }
+}
+
+#[test]
+fn calls_of_many_threads_are_in_order(rt: HostRuntime) {
+    check_all(&rt, &NoGate);
+}
+
+#[test]
+fn calls_of_many_threads_that_stumble_are_in_order(rt: HostRuntime) {
+    check_all(&rt, &Jostling::new(2));
 }
 
 #[test]
@@ -208,7 +221,7 @@ fn calls_over_start_keys_are_in_order(rt: HostRuntime) {
         let load = Load {
             keys: 8,
             owned: &[],
-            calls: 1_000,
+            calls: calls_of(workers),
             seed: 5,
         };
         let (calls, pairs) = run(&rt, workers, &START, load, &Jostling::new(5));
