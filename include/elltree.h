@@ -26,7 +26,7 @@
    - malloc, realloc and free are one allocator, which aligns blocks to 16 bytes. No call comes from a signal handler, or from the forked
      child of a process with threads.
    - Trees are told apart by a number, which this header counts in one variable of the program. Where a program has two such variables
-     (two shared objects that hide their symbols, or this header beside another binding), their handles are never joined.
+     (two shared objects that hide their symbols, or this header together with another binding), their handles are never joined.
 
    Link with -lelltree (pkg-config elltree); docs/GUIDE.md has the line for a folder where the system does not look for libraries.
    clang 14 has no warning of this header by -Weverything, in C and in C++; later ones have -Wunsafe-buffer-usage, of any array. */
@@ -310,8 +310,8 @@ ELLTREE_MUST_USE static inline int32_t elltree_cards_left(struct elltree_handle 
     return code == ELLTREE_YES ? elltree_leave(handle, elltree_slot_cards_left(&handle->slot, left)) : code;
 }
 
-/* Makes the cards fresh: the handle goes to a new tree with so many cards, and takes along the keys that it owns, which are present with
-   their values or absent as they were. Other handles of the tree stay behind in the old tree, which does not change any more but by them:
+/* Makes the cards fresh: the handle goes to a new tree with this number of cards, and takes along the keys that it owns, which are present
+   with their values or absent as they were. Other handles of the tree stay behind in the old tree, which does not change any more but by them:
    elltree_renew_all takes handles along that are to stay together. A tree of shared keys is not renewed.
    ELLTREE_NULL, ELLTREE_IN_CALL, ELLTREE_CLOSED, ELLTREE_SHARED_KEYS, ELLTREE_BAD_START (more than ELLTREE_START_MAX keys are present),
    ELLTREE_BAD_CARDS, ELLTREE_NO_MEMORY: then the handle is where it was. */
@@ -328,8 +328,8 @@ ELLTREE_MUST_USE static inline int32_t elltree_renew(struct elltree_handle *hand
 #define ELLTREE_AS_SLOTS(memory) (memory)
 #endif
 
-/* Makes the cards of handles of one tree fresh, also of handles without keys, which only look: all of them go to one new tree with so many
-   cards, each with the keys that it owns, which are present with their values or absent as they were. Other handles stay behind in the old
+/* Makes the cards of handles of one tree fresh, also of handles without keys, which only look: all of them go to one new tree with this
+   number of cards, each with the keys that it owns, which are present with their values or absent as they were. Other handles stay behind in the old
    tree, with their keys: the new one has those of the handles in the array alone. It takes time for each card, for each key that is present,
    and about 0.7 microseconds for each key that a handle owns, also an absent one. Without handles nothing happens. The first handle in the
    array that is null, stands there twice, or is in another call is refused. A tree of shared keys is not renewed.

@@ -117,7 +117,7 @@ _take_all = collections.deque(maxlen=0).extend
 
 
 def _whole(number, bits, what):
-    """The number, if so many bits hold it: ctypes would drop what is above them."""
+    """The number, if this number of bits holds it: ctypes would drop what is above them."""
     try:
         number = operator.index(number)
     except TypeError:
@@ -333,8 +333,8 @@ class Handle:
         return left.value
 
     def renew(self, cards=1_000_000):
-        """Makes the cards fresh: the handle goes to a new tree with so many cards, and takes along the keys that it owns, which are present or
-        absent as they were. Others stay in the old tree: renew_all takes handles along that are to stay together. A handle of a tree of shared
+        """Makes the cards fresh: the handle goes to a new tree with this number of cards, and takes along the keys that it owns, which are present
+        or absent as they were. Others stay in the old tree: renew_all takes handles along that are to stay together. A handle of a tree of shared
         keys is refused."""
         self._call("renew", _cards(cards), next(_numbers))
 
@@ -370,9 +370,9 @@ class Handle:
 
 
 def renew_all(handles, cards=1_000_000):
-    """Makes the cards of handles of one tree fresh, also of handles without keys: all of them go to one new tree with so many cards, each with
-    the keys that it owns, which are present or absent as they were. Others stay in the old tree, and the new one has none of their keys. It
-    takes about 0.7 microseconds for each key that they own, beside the time for cards and present keys. Handles of a tree of shared keys are
+    """Makes the cards of handles of one tree fresh, also of handles without keys: all of them go to one new tree with this number of cards, each
+    with the keys that it owns, which are present or absent as they were. Others stay in the old tree, and the new one has none of their keys. It
+    takes about 0.7 microseconds for each key that they own, besides the time for cards and present keys. Handles of a tree of shared keys are
     refused. Where it is refused, each handle is where it was."""
     handles, cards = list(handles), _cards(cards)
 

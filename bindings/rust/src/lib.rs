@@ -313,8 +313,8 @@ impl Handle {
         Ok(handle)
     }
 
-    /// Makes the cards fresh: the handle goes to a new tree with so many cards, and takes along the keys that it owns, which are present
-    /// with their values or absent as they were. Other handles stay behind in the old tree: [`renew_all`] takes handles along that are to
+    /// Makes the cards fresh: the handle goes to a new tree with this number of cards, and takes along the keys that it owns, which are
+    /// present with their values or absent as they were. Other handles stay behind in the old tree: [`renew_all`] takes handles along that are to
     /// stay together.
     ///
     /// `SharedKeys` in a tree of shared keys, `BadStart` if more than [`START_MAX`] keys are present, `BadCards` if the cards are not 1 to
@@ -615,8 +615,8 @@ impl member::HasHandle for Tree {
     }
 }
 
-/// Makes the cards of handles of one tree fresh: all of them go to one new tree with so many cards, each with the keys that it owns, which
-/// are present with their values or absent as they were. Other handles stay behind in the old tree, and the new tree has none of their keys.
+/// Makes the cards of handles of one tree fresh: all of them go to one new tree with this number of cards, each with the keys that it owns,
+/// which are present with their values or absent as they were. Other handles stay behind in the old tree, and the new tree has none of their keys.
 /// It takes time for each card and each present key, and about 0.7 microseconds for each key that a member owns. Without members nothing
 /// happens.
 ///
