@@ -1,4 +1,4 @@
-use Rattle.std.specs.Prelude.{◌≡◌, ℕ, suc, ◌⊎◌, Bool, true, Option, Some, None, List, [], ◌∷◌, take, drop, ◌↔◌, ◌≢◌, ◌++◌}
+use Rattle.std.specs.Prelude.{◌≡◌, ℕ, suc, ◌⊎◌, Bool, true, Option, Some, List, [], ◌∷◌, take, drop, ◌↔◌, ◌≢◌, ◌++◌}
 use mathlib.Core.Option.{some}
 use lib.ListN.{get_elem?}
 use Rattle.ell_ops.specs.declared.op.Op.{Op}
@@ -21,7 +21,6 @@ use Rattle.ell_cards.specs.Looking.{WasSo}
 use Rattle.ell_ops.specs.Contents.{Contents, contents_of}
 use Rattle.ell_core.specs.tree.Tree.{IsTreePair}
 use Rattle.ell_cards.specs.Starts.{Starts}
-use Rattle.ell_core.specs.state.Opening.{last_card}
 use Rattle.ell_core.specs.state.Cards.{card_key, card_value}
 use Rattle.ell_cards.specs.declared.call.Call.{Call}
 use Rattle.ell_cards.specs.declared.call.Call.TheVariants as call

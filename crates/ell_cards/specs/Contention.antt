@@ -3,7 +3,6 @@ use Rattle.ell_word.specs.declared.gate.Kind.{Kind}
 use Rattle.ell_word.specs.declared.gate.Kind.TheVariants as kind
 use Rattle.ell_cards.specs.declared.view.View.{View}
 use Rattle.ell_cards.specs.TurnEffects.{own_words}
-use Rattle.ell_core.specs.state.Opening.{last_card}
 use Rattle.ell_cards.specs.Meanwhile.{SearchRun}
 use Rattle.ell_cards.specs.Models.{TablePlan}
 

@@ -3,7 +3,6 @@ use mathlib.Core.Option.{some}
 use lib.ListN.{get_elem?}
 use Rattle.ell_core.specs.state.Words.{Words}
 use Rattle.ell_core.specs.state.Machine.{ledger_of}
-use Rattle.ell_core.specs.state.Opening.{last_card}
 use Rattle.ell_core.specs.acts.Searching.{IsLeaf}
 use Rattle.ell_core.specs.tree.Tree.{IsTreeKey, IsTreePair}
 use Rattle.ell_core.specs.statements.Effects.{contents_in}

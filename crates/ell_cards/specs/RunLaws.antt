@@ -1,6 +1,5 @@
 use Rattle.std.specs.Prelude.{◌≡◌, ℕ, ◌≤◌, List, [], ◌++◌}
 use Rattle.ell_word.specs.declared.gate.Kind.{Kind}
-use Rattle.ell_core.specs.state.Opening.{last_card}
 use Rattle.ell_core.specs.history.Later.{wins_of}
 use Rattle.ell_core.specs.acts.Wins.{InOrder}
 use Rattle.ell_core.specs.statements.RunLaws.{IsOpening}

@@ -8,7 +8,7 @@ use Rattle.std.proofs.lemmas.List.Kept.{AllPairs-from_increasing}
 use Rattle.std.proofs.lemmas.Map.Made.{IsDistinct-from_AllPairs, length-le_from_is_member}
 use Rattle.std.proofs.lemmas.Map.Views.{list_any-from_Contains}
 use Rattle.ell_core.specs.state.Words.{words_of}
-use Rattle.ell_core.specs.tree.Tree.{IsTreeKey, IsTreePair, ListsKeys, ListsTreePairs}
+use Rattle.ell_core.specs.tree.Tree.{IsTreeKey, IsTreePair, ListsTreePairs}
 use Rattle.ell_core.specs.tree.Room.{HoldsKeys}
 use Rattle.ell_core.proofs.tree.Pairs.{Contains-from_list_any}
 use Rattle.ell_cards.specs.Models.{PassModel}

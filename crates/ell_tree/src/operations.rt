@@ -61,29 +61,8 @@ pub(crate) fn find<A: Allocator + Copy, G: StepGate>(
     there
 }
 
-/// Makes an insert or a delete in at most so many tries: whether it changes the map.
-pub(crate) fn make_change<A: Allocator + Copy, G: StepGate>(
-    table: &CardTable<A>,
-    pass: &mut Pass<A>,
-    op: Op,
-    tries: u32,
-    gate: &G,
-) -> Result<bool, Held>
-    requires may { MayDo table.now (key_of op) pass.old }
-    requires change { IsChange op }
-    requires tries { 1 ≤ tries }
-    ensures ends { Ends table.now tries op pass.old pass.new (replied result) }
-    ensures others { result ≡ Err Busy → IsOthersDoing table.now tries pass.old pass.new }
-    ensures steps { IsWithin table.now tries pass.old pass.new }
-    ensures cards { SpendsCards (key_of op) tries pass.old pass.new result }
-    ensures enough { 2 * table.now.plan.last_card < tries → result ≢ Err Busy }
-{
-    let moved = change(table, pass, op, tries, gate)?;
-    Ok(moved.is_some())
-}
-
-/// Makes an insert or a delete in at most so many tries, and tells the gate of its start and its end: the value that it adds or takes away, if
-/// it changes the map.
+/// Takes an insert or a delete in hand, and tries it until a try is answered or finds no card, at most so many times: the value that it adds
+/// or takes away, if it changes the map. The gate is told of its start and its end.
 pub(crate) fn change<A: Allocator + Copy, G: StepGate>(
     table: &CardTable<A>,
     pass: &mut Pass<A>,
@@ -103,43 +82,24 @@ pub(crate) fn change<A: Allocator + Copy, G: StepGate>(
 {
     let label = pass.label();
     gate.before(label, Kind::Begin);
-    let ended = try_often(table, pass, op, tries, gate);
-    gate.after(label, ended.is_ok());
-    ended
-}
-
-// Takes an insert or a delete in hand, and tries it until a try is answered or finds no card, at most so many times: the value that it adds
-// or takes away, if it changes the map.
-fn try_often<A: Allocator + Copy, G: StepGate>(
-    table: &CardTable<A>,
-    pass: &mut Pass<A>,
-    op: Op,
-    tries: u32,
-    gate: &G,
-) -> Result<Option<u64>, Held>
-    requires may { MayDo table.now (key_of op) pass.old }
-    requires change { IsChange op }
-    requires tries { 1 ≤ tries }
-    ensures ends { Ends table.now tries op pass.old pass.new (replied (whether result)) }
-    ensures moves { IfOk result (Moves table.now op pass.old pass.new) }
-    ensures others { result ≡ Err Busy → IsOthersDoing table.now tries pass.old pass.new }
-    ensures steps { IsWithin table.now tries pass.old pass.new }
-    ensures cards { SpendsCards (key_of op) tries pass.old pass.new (whether result) }
-    ensures enough { 2 * table.now.plan.last_card < tries → result ≢ Err Busy }
-{
     begin(table, pass, op, gate);
     for round in 0..tries {
         restart(table, pass, round == 0, gate);
         match try_once(table, pass, op, gate) {
-            Tried::Answered(moved) => return Ok(moved),
+            Tried::Answered(moved) => {
+                gate.after(label, true);
+                return Ok(moved);
+            }
             Tried::Spent => {
                 leave(table, pass, gate);
+                gate.after(label, false);
                 return Err(Held::Spent);
             }
             Tried::Hindered => {}
         }
     }
     leave(table, pass, gate);
+    gate.after(label, false);
     Err(Held::Busy)
 }
 

@@ -21,7 +21,7 @@ ghost use Rattle.ell_tree.specs.Looks.{IsFoundIn, OnlyLooks, look_steps};
 ghost use Rattle.ell_tree.specs.PassParts.{IsFirst, IsLeftPart, IsRightPart, IsUnion};
 ghost use Rattle.ell_tree.specs.Promises.{IsOthersDoing, IsQuiet, IsWithin, MayDo, SpendsCards};
 
-use crate::operations::{Held, change, find, make_change};
+use crate::operations::{Held, change, find};
 use crate::reading::{cards_left, look};
 use ell_cards::{CardFault, CardTable, Pass, SplitFault};
 use ell_core::pairs_of_tree;
@@ -261,7 +261,7 @@ impl<A: Allocator + Copy> Tree<A> {
         ensures cards { SpendsCards key tries pass.old pass.new result }
         ensures enough { 2 * self.now.plan.last_card < tries → result ≢ Err Busy }
     {
-        make_change(&self.table, pass, Op::Insert(key, value), tries, gate)
+        Ok(change(&self.table, pass, Op::Insert(key, value), tries, gate)?.is_some())
     }
 
     /// Takes a key of the pass away, with its value: whether it was present. Tries, steps, cards and errors are as of `insert`.
@@ -280,7 +280,7 @@ impl<A: Allocator + Copy> Tree<A> {
         ensures cards { SpendsCards key tries pass.old pass.new result }
         ensures enough { 2 * self.now.plan.last_card < tries → result ≢ Err Busy }
     {
-        make_change(&self.table, pass, Op::Delete(key), tries, gate)
+        Ok(self.take(pass, key, tries, gate)?.is_some())
     }
 
     /// Takes a key of the pass away, and answers the value that it took, if the key was present. Nobody else took that value: at the point of

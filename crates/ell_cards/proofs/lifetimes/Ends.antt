@@ -1,4 +1,4 @@
-use Rattle.std.proofs.Common.{◌≡◌, ◌≢◌, ℕ, List, None, refl, sym, subst, arith, inl, inr, ◌∙◌}
+use Rattle.std.proofs.Common.{◌≡◌, ◌≢◌, ℕ, None, refl, sym, subst, arith, inl, inr}
 use Rattle.std.specs.Prelude.{Contains}
 use Rattle.std.specs.List.{All}
 use mathlib.Core.Option.{Option, some, none}
@@ -25,7 +25,6 @@ use Rattle.ell_cards.specs.TurnEffects.{own_words}
 use Rattle.ell_cards.proofs.own_words.OwnTree.{update_same, reached_same}
 use Rattle.ell_cards.proofs.own_words.OwnWords.{same_next, same_card, own_words_are_sound}
 use Rattle.ell_cards.proofs.own_words.OwnLedgers.{ledgers_tell_the_tree}
-use Rattle.std.proofs.lemmas.Bool.{false≢true}
 
 module _ (plan : TablePlan) (s : TableState) (h : IsReached plan s) (r : HasMachine plan.keys plan.last_card s) (id : ℕ) (v : View)
     (here : get_elem? s.views id ≡ some v) (alone : IsAlone s id) (free : IsFree v) (all : All (λ k. ledger_of v.worker.ledger k ≢ None) plan.keys) where

@@ -1,4 +1,4 @@
-use Rattle.std.proofs.Common.{◌≡◌, ℕ, zero, suc, Bool, true, false, ◌≤◌, ◌&&◌, not, nat_le, Some, List, [], ◌∷◌, length, ◌+◌, refl, sym, ap, ◌∙◌, subst, arith, All, ◌-◌, le-leb, ◌⊎◌, inl, inr, get_or, ◌↔◌, ◌%◌, ◌^◌, ◌≢◌, None}
+use Rattle.std.proofs.Common.{◌≡◌, ℕ, zero, suc, Bool, true, false, ◌≤◌, ◌&&◌, not, nat_le, Some, List, [], ◌∷◌, length, ◌+◌, refl, sym, ap, ◌∙◌, subst, arith, All, ◌-◌, le-leb, ◌⊎◌, inl, inr, get_or, ◌↔◌, ◌≢◌, None}
 use Rattle.std.specs.Prelude.{Contains}
 use Rattle.std.specs.List.Sorted.{IsStrictlyIncreasing}
 use mathlib.Core.Option.{some, some-injective, some-ne-none}

@@ -5,7 +5,7 @@ use Rattle.ell_core.specs.state.Layout.{table_size}
 use Rattle.ell_core.specs.state.Words.{words_of}
 use Rattle.ell_core.specs.state.Cards.{filled_list}
 use Rattle.ell_core.specs.state.Branches.{branch_of, descend}
-use Rattle.ell_core.specs.state.Opening.{start_leaf, start_value, root_filling, branch_filling, last_card}
+use Rattle.ell_core.specs.state.Opening.{start_leaf, start_value, root_filling, branch_filling}
 use Rattle.ell_core.proofs.words.Listed.{length_after_fields, words_after_fields}
 use Rattle.ell_core.proofs.opening.Growing.{growing, rooted_words, grows, grown_up}
 use Rattle.ell_cards.specs.SmallRun.{small_plan}

@@ -1,9 +1,9 @@
-use Rattle.std.proofs.Common.{◌≡◌, ℕ, ◌==◌, refl, sym, ap, ◌∙◌, subst, false}
+use Rattle.std.proofs.Common.{◌≡◌, ℕ, ◌==◌, refl, sym, ap, ◌∙◌, subst}
 use mathlib.Core.Option.{Option, some, none}
 use lib.ListN.{get_elem?}
 use Rattle.ell_word.specs.Word.{packed, unpacked}
 use Rattle.ell_core.specs.declared.fact.Fact.TheVariants.{IFlagged, DFlagged}
-use Rattle.ell_core.specs.state.Machine.{Worker, worker_of, ledger_of, shared_of}
+use Rattle.ell_core.specs.state.Machine.{Worker, worker_of, ledger_of}
 use Rattle.ell_core.specs.soundness.Holds.{effective_of, effective}
 use Rattle.ell_core.specs.soundness.Sound.{WorkerOwns}
 use Rattle.ell_cards.specs.declared.call.Call.TheVariants as call
@@ -17,7 +17,6 @@ use Rattle.ell_cards.proofs.seats.Statements.{AnswersByMachine, LedgersByMachine
 use Rattle.ell_cards.proofs.stepping.AllCalls.{steps_are_events}
 use Rattle.ell_cards.proofs.seats.LedgersStay.{claim_ledger, flag_ledger, mark_ledger}
 use Rattle.ell_cards.proofs.own_words.OwnWords.{own_words_are_sound}
-use Rattle.ell_cards.specs.Machines.{NobodyShares}
 
 pub table_answers_are_the_maps : AnswersByMachine
 table_answers_are_the_maps keys cards s r id v (call.Answer said) here may = (steps_are_events keys cards s r id v (call.Answer said) here may).tells.0

@@ -1,14 +1,14 @@
-use Rattle.std.proofs.Common.{◌≡◌, ◌≢◌, ℕ, suc, ◌==◌, if◌then◌else◌, Bool, true, false, not, Option, Some, None, is_some, unwrap_or, List, ◌∷◌, inl, inr, ◌⊎◌, ◌↔◌, refl, sym, ap, ◌∙◌, subst, drop, [], ◌++◌, take}
-use Rattle.std.proofs.lemmas.Bool.{false≢true, eqb-true, eq-eqb, cases_eq, ne_eqb}
+use Rattle.std.proofs.Common.{◌≡◌, ℕ, suc, if◌then◌else◌, Bool, true, false, not, Option, Some, None, is_some, unwrap_or, List, ◌∷◌, inl, inr, refl, sym, ap, ◌∙◌, subst, drop, [], ◌++◌, take}
+use Rattle.std.proofs.lemmas.Bool.{eq-eqb, cases_eq, ne_eqb}
 use Rattle.ell_ops.specs.Contents.{Contents, with_pair, without, contents_of}
 use Rattle.ell_ops.specs.Meaning.{key_of, reply_of, after, yes_if, found, final}
 use Rattle.ell_ops.specs.declared.op.Op.{Op}
 use Rattle.ell_ops.specs.declared.op.Op.TheVariants.{Find, Insert, Delete}
 use Rattle.ell_ops.specs.declared.reply.Reply.{Reply}
-use Rattle.ell_ops.specs.declared.reply.Reply.TheVariants.{Yes, No}
+use Rattle.ell_ops.specs.declared.reply.Reply.TheVariants.{Yes}
 use Rattle.ell_core.specs.state.Words.{Words}
 use Rattle.ell_core.specs.acts.Searching.{leaf_answer}
-use Rattle.ell_core.specs.tree.Tree.{IsTreeKey, IsTreePair}
+use Rattle.ell_core.specs.tree.Tree.{IsTreeKey}
 use Rattle.ell_core.specs.statements.Effects.{AddsPair, TakesPair, SamePairs}
 use Rattle.ell_core.proofs.outcomes.Decide.{same_value, some_not_none}
 use Rattle.ell_core.proofs.following.AnswerMeaning.{key_kept, key_lacked}
@@ -16,11 +16,10 @@ use Rattle.ell_core.proofs.tree.Reached.{pair_key}
 use Rattle.ell_cards.specs.Looking.{HasThere}
 use Rattle.ell_cards.specs.TurnEffects.{own_words, PairsChangeBy}
 use Rattle.ell_cards.specs.States.{TableState}
-use Rattle.ell_cards.specs.Changing.{HasMap, Leaves, MakesChange, SaysWhatWas, TakesEffect, CallsAnswerAsAMap, IsAMap, TreesAreMaps, effect_of, turn_effect, run_effects, TreesAreOfOneThread, CallsReplyAsOneThread}
+use Rattle.ell_cards.specs.Changing.{HasMap, MakesChange, CallsAnswerAsAMap, IsAMap, TreesAreMaps, effect_of, turn_effect, run_effects, TreesAreOfOneThread, CallsReplyAsOneThread}
 use Rattle.ell_cards.proofs.runs.Points.{calls_have_their_point}
 use Rattle.ell_cards.specs.Turns.{TableRun, Turn, Makes, Splits, Joins, TableTurns, found_by}
 use Rattle.ell_core.specs.state.Cards.{card_key, card_value}
-use Rattle.ell_core.specs.state.Opening.{last_card}
 use Rattle.ell_cards.specs.declared.call.Call.{Call}
 use Rattle.ell_cards.specs.declared.call.Call.TheVariants as call
 use Rattle.ell_cards.specs.Calls.{is_won, atomic_of}

@@ -4,7 +4,6 @@ use Rattle.ell_word.specs.declared.gate.Kind.{Kind}
 use Rattle.ell_word.specs.declared.gate.Kind.TheVariants as kind
 use Rattle.ell_word.specs.Word.{packed}
 use Rattle.ell_core.specs.state.Cards.{iflag, dflag}
-use Rattle.ell_core.specs.state.Opening.{last_card}
 use Rattle.ell_core.specs.state.Words.{Words}
 use Rattle.ell_core.specs.history.Stages.{Stages}
 use Rattle.ell_core.specs.history.Invariant.{Invariant}

@@ -8,7 +8,6 @@ use Rattle.ell_core.specs.state.Words.{Words}
 use Rattle.ell_core.specs.declared.view.Search.{Search}
 use Rattle.ell_ops.specs.declared.op.Op.{Op}
 use Rattle.ell_core.specs.state.Machine.{Worker, worker_of}
-use Rattle.ell_core.specs.state.Opening.{last_card}
 use Rattle.ell_core.specs.tree.Tree.{Leads, IsLawful}
 use Rattle.ell_core.specs.history.Stages.{Stages, is_claimed, is_changed, is_cut, insert_won, delete_won, is_backed, is_marked}
 use Rattle.ell_core.specs.history.Invariant.{Invariant, DeleteCard}

@@ -1,4 +1,4 @@
-use Rattle.std.proofs.Common.{◌≡◌, ℕ, zero, suc, ◌<◌, ◌≤◌, ◌+◌, ◌==◌, if◌then◌else◌, Bool, true, false, Option, Some, None, List, [], ◌∷◌, ◌++◌, length, take, inl, inr, ◌⊎◌, refl, sym, ap, ◌∙◌, subst, arith}
+use Rattle.std.proofs.Common.{◌≡◌, ℕ, suc, ◌<◌, ◌≤◌, ◌==◌, if◌then◌else◌, Bool, true, false, Some, List, [], ◌∷◌, ◌++◌, length, take, inl, inr, ◌⊎◌, refl, sym, ap, ◌∙◌, subst, arith}
 use Rattle.std.proofs.lemmas.Bool.{cases_lt}
 use mathlib.Core.Option.{some, some-injective}
 use lib.ListN.{get_elem?}
@@ -16,13 +16,13 @@ use Rattle.ell_cards.specs.Changes.{after_claim, after_flag, after_mark, is_mark
 use Rattle.ell_cards.specs.Calls.{after}
 use Rattle.ell_cards.specs.States.{TableState}
 use Rattle.ell_cards.specs.Starts.{Starts}
-use Rattle.ell_cards.specs.Turns.{Turn, Makes, CallIsMade, TableRun, found_by, view_after}
+use Rattle.ell_cards.specs.Turns.{Turn, Makes, CallIsMade, TableRun, view_after}
 use Rattle.ell_cards.specs.Changing.{turn_effect}
-use Rattle.ell_cards.specs.Linearizing.{ChangesAt, KeepsOnBetween}
-use Rattle.ell_cards.specs.LayingDown.{IsLaidDown, ChangesNothing, LaidDownCallsChangeNothing, IsLaidDownInRun, LaidDownLastChangesNothing}
+use Rattle.ell_cards.specs.Linearizing.{KeepsOnBetween}
+use Rattle.ell_cards.specs.LayingDown.{IsLaidDown, LaidDownCallsChangeNothing, LaidDownLastChangesNothing}
 use Rattle.ell_cards.proofs.seats.Seats.{set_there}
 use Rattle.ell_cards.proofs.lifetimes.Openings.{each_first}
-use Rattle.ell_cards.proofs.runs.Answering.{run_back, HasHere, HasSince}
+use Rattle.ell_cards.proofs.runs.Answering.{run_back}
 use Rattle.ell_cards.proofs.runs.LinearizingAnswers.{behind}
 use Rattle.ell_cards.proofs.runs.LinearizingCalls.{free_on, not_backed_since}
 use Rattle.ell_cards.proofs.runs.LinearizingPoints.{Changed, IsBusy, after_turns, kept, made, slice, run_slice, keep_slice, begun_of, changed_of, settled_at, same_begin}

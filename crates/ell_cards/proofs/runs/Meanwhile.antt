@@ -22,7 +22,6 @@ use Rattle.ell_core.proofs.outcomes.Decide.{some_not_none}
 use Rattle.ell_core.proofs.words.Writes.{put_same, put_other}
 use Rattle.ell_core.proofs.words.Later.{words_same}
 use Rattle.ell_core.proofs.runs.Chains.{stages_later}
-use Rattle.ell_core.specs.state.Opening.{last_card}
 use Rattle.ell_core.proofs.stages.Advances.{stages_same}
 use Rattle.ell_core.proofs.stages.Ended.{insert_over-ended, delete_over-ended, backed-ended}
 use Rattle.ell_core.proofs.following.Since.{searches_begin, searches_go_on}

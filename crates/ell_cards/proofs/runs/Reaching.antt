@@ -1,15 +1,11 @@
-use Rattle.std.proofs.Common.{◌≡◌, ◌≢◌, None, ◌==◌, ℕ, ◌≤◌, ◌-◌, if◌then◌else◌, Bool, true, false, List, [], ◌∷◌, ◌++◌, get_or, set, length, refl, sym, ap, ◌∙◌, subst, arith}
+use Rattle.std.proofs.Common.{◌≡◌, ◌==◌, ℕ, if◌then◌else◌, Bool, true, false, List, [], ◌∷◌, ◌++◌, get_or, set, length, refl, sym, ap, ◌∙◌, subst}
 use prog.Atomic.{either}
-use Rattle.std.specs.List.{All}
-use mathlib.Core.Option.{some}
-use lib.ListN.{get_elem?}
 use Rattle.atomic_table.specs.Table.{Allows, opening, keeps}
 use Rattle.atomic_table.proofs.Lists.{set_else}
 use Rattle.ell_core.specs.declared.field.Field.{Field}
 use Rattle.ell_core.specs.state.Layout.{address, table_size}
 use Rattle.ell_core.specs.state.Words.{words_of}
-use Rattle.ell_core.specs.state.Machine.{ledger_of}
-use Rattle.ell_core.specs.state.Opening.{start_words, last_card}
+use Rattle.ell_core.specs.state.Opening.{start_words}
 use Rattle.ell_cards.specs.declared.call.Call.{Call}
 use Rattle.ell_cards.specs.declared.call.Call.TheVariants as call
 use Rattle.ell_cards.specs.declared.view.View.{View}

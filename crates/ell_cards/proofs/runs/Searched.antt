@@ -1,4 +1,4 @@
-use Rattle.std.proofs.Common.{◌≡◌, ℕ, suc, ◌<◌, ◌≤◌, ◌==◌, if◌then◌else◌, Bool, true, false, nat_le, Option, Some, None, List, [], ◌∷◌, ◌+◌, inl, inr, ◌⊎◌, refl, sym, ap, ◌∙◌, subst, arith, take, drop}
+use Rattle.std.proofs.Common.{◌≡◌, ℕ, ◌<◌, ◌≤◌, ◌==◌, if◌then◌else◌, Bool, true, false, nat_le, Option, Some, None, List, [], ◌∷◌, inl, inr, ◌⊎◌, refl, sym, ap, ◌∙◌, subst}
 use Rattle.std.proofs.lemmas.Option.{same_Some}
 use mathlib.Core.Option.{some, some-injective}
 use lib.ListN.{get_elem?}
@@ -11,9 +11,8 @@ use Rattle.ell_word.specs.declared.update.Update.{Update}
 use Rattle.ell_core.specs.declared.fact.Fact.{Fact}
 use Rattle.ell_core.specs.declared.fact.Fact.TheVariants as fact
 use Rattle.ell_core.specs.state.Words.{Words}
-use Rattle.ell_core.specs.state.Machine.{Worker, Machine}
 use Rattle.ell_core.specs.state.Cards.{child_for}
-use Rattle.ell_core.specs.acts.Searching.{IsLeaf, leaf_answer}
+use Rattle.ell_core.specs.acts.Searching.{IsLeaf}
 use Rattle.ell_core.specs.tree.Tree.{OnWalk, here}
 use Rattle.ell_core.specs.history.Stages.{Stages}
 use Rattle.ell_core.specs.history.Invariant.{Invariant}
@@ -25,18 +24,18 @@ use Rattle.ell_core.proofs.runs.Looks.{AreMet, walk_met, walk_born, walk_ends}
 use Rattle.ell_cards.specs.declared.call.Call.{Call}
 use Rattle.ell_cards.specs.declared.call.Call.TheVariants as call
 use Rattle.ell_cards.specs.declared.view.Told.{Told}
-use Rattle.ell_cards.specs.declared.view.Told.TheVariants.{Met, Key, Value}
+use Rattle.ell_cards.specs.declared.view.Told.TheVariants.{Value}
 use Rattle.ell_cards.specs.declared.view.View.{View}
 use Rattle.ell_cards.specs.Changes.{after_claim, after_flag, after_mark, is_mark_of, learning, unmarking}
 use Rattle.ell_cards.specs.Models.{IsTold, Does, StandsAt}
 use Rattle.ell_cards.specs.Guards.{MayGoDown, TellsOf, KnowsAnswerAtLeaf}
-use Rattle.ell_cards.specs.Calls.{May, after}
+use Rattle.ell_cards.specs.Calls.{May}
 use Rattle.ell_cards.specs.States.{TableState}
 use Rattle.ell_cards.specs.Machines.{EntryHolds, HasMachine}
 use Rattle.ell_cards.specs.Laws.{machine_of_table}
 use Rattle.ell_cards.specs.TurnEffects.{own_words}
 use Rattle.ell_cards.specs.Turns.{Turn, Makes, Splits, Joins, CallIsMade, TableTurns, TableRun, found_by, view_after}
-use Rattle.ell_cards.specs.Looking.{IsAmid, HasThere, WasSo}
+use Rattle.ell_cards.specs.Looking.{HasThere, WasSo}
 use Rattle.ell_cards.specs.Meanwhile.{KeepsOn, KeepOn}
 use Rattle.ell_cards.specs.Changing.{SaysWhatWas}
 use Rattle.ell_cards.proofs.own_words.OwnTree.{same_keys}
@@ -45,7 +44,7 @@ use Rattle.ell_cards.proofs.seats.Seats.{set_there, relied_born}
 use Rattle.ell_cards.proofs.runs.OwnSeat.{Only, SeatGoesOn, turn_seat}
 use Rattle.ell_cards.proofs.stepping.Looks.{child_listed, here_key}
 use Rattle.ell_cards.proofs.runs.TurnsOfRuns.{turn_lawful}
-use Rattle.ell_cards.proofs.runs.Looking.{GoneOn, gone_by, WasOn, was_first, was_later}
+use Rattle.ell_cards.proofs.runs.Looking.{gone_by, WasOn, was_first, was_later}
 use Rattle.ell_cards.proofs.runs.GoingOn.{run_goes}
 
 -- a search for an operation stands after a call where it stood, if it is still that operation's, and stands anywhere

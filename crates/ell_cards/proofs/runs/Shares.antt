@@ -1,4 +1,4 @@
-use Rattle.std.proofs.Common.{◌≡◌, ◌≢◌, ℕ, zero, suc, ◌+◌, ◌-◌, ◌*◌, ◌<◌, ◌≤◌, ◌%◌, ◌^◌, ◌/◌, nat_le, if◌then◌else◌, Bool, true, false, None, Some, Option, List, [], ◌∷◌, ◌++◌, set, inl, inr, ◌⊎◌, refl, sym, ap, ◌∙◌, subst, ⊎_elim, arith}
+use Rattle.std.proofs.Common.{◌≡◌, ◌≢◌, ℕ, zero, suc, ◌+◌, ◌<◌, ◌≤◌, ◌%◌, ◌^◌, ◌/◌, nat_le, if◌then◌else◌, Bool, true, false, None, Some, Option, List, [], ◌∷◌, ◌++◌, set, inl, inr, ◌⊎◌, refl, sym, ap, ◌∙◌, subst, ⊎_elim, arith}
 use Rattle.std.proofs.lemmas.Bool.{leb-true, cases_eq}
 use Rattle.std.proofs.Math.Nat.{mod-eq_of_lt}
 use mathlib.Core.Option.{some, some-injective, some-ne-none}
@@ -6,7 +6,7 @@ use lib.ListN.{get_elem?}
 use Rattle.atomic_table.proofs.Lists.{at_set, set_else}
 use Rattle.ell_core.proofs.outcomes.Decide.{some_not_none}
 use Rattle.ell_cards.specs.declared.view.View.{View}
-use Rattle.ell_cards.specs.Models.{TablePlan, MayPart, whole_share, given_share}
+use Rattle.ell_cards.specs.Models.{TablePlan, whole_share, given_share}
 use Rattle.ell_cards.specs.Changes.{first_of, first_known, left_view, right_view, joined_view, spent_view}
 use Rattle.ell_cards.specs.Calls.{after}
 use Rattle.ell_cards.specs.States.{TableState}

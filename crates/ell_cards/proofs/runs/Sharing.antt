@@ -1,9 +1,9 @@
-use Rattle.std.proofs.Common.{◌≡◌, ◌≢◌, ℕ, false, None, List, [], ◌∷◌, set, refl, sym, ap, ◌∙◌, subst, ⊎_elim, ◌⊎◌, true, Contains, Option, Bool, nat_le, ◌≤◌, inl, inr, not, Some}
+use Rattle.std.proofs.Common.{◌≡◌, ◌≢◌, ℕ, false, None, List, [], ◌∷◌, set, refl, sym, ap, ◌∙◌, subst, ⊎_elim, ◌⊎◌, true, Contains, Option, Bool, nat_le, inl, inr, Some}
 use mathlib.Core.Option.{Option as Item, some, none}
 use lib.ListN.{get_elem?}
 use Rattle.atomic_table.proofs.Lists.{at_set}
 use Rattle.ell_cards.specs.declared.view.View.{View}
-use Rattle.ell_cards.specs.Changes.{first_of, ownable_if, first_known, left_view, right_view, joined_view, spent_view}
+use Rattle.ell_cards.specs.Changes.{first_of, ownable_if, first_known, left_view, right_view, joined_view}
 use Rattle.ell_cards.specs.Calls.{after}
 use Rattle.ell_cards.specs.States.{TableState, seat_worker}
 use Rattle.ell_cards.specs.Machines.{NobodyShares}

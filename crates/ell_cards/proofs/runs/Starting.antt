@@ -1,38 +1,29 @@
-use Rattle.std.proofs.Common.{◌≡◌, ◌≢◌, ◌↔◌, ℕ, ◌++◌, Some, None, List, [], ◌∷◌, refl, sym, subst, false, inl, true, Bool, inr, ap, ◌∙◌, not, ◌&&◌, nat_le, ◌≤◌}
+use Rattle.std.proofs.Common.{◌≡◌, ◌↔◌, ℕ, ◌++◌, Some, List, [], ◌∷◌, refl, sym, subst, inl, inr}
 use Rattle.std.specs.Prelude.{Contains}
 use Rattle.ell_ops.specs.Contents.{contents_of}
-use Rattle.ell_ops.specs.Meaning.{key_of, greatest_key}
-use Rattle.ell_core.specs.state.Words.{words_of}
-use Rattle.ell_core.specs.state.Machine.{ledger_of, worker_of}
-use Rattle.ell_core.specs.state.Opening.{last_card}
+use Rattle.ell_ops.specs.Meaning.{key_of}
 use Rattle.ell_core.specs.tree.Tree.{IsTreePair}
-use Rattle.ell_core.proofs.outcomes.Decide.{some_not_none}
-use Rattle.ell_core.proofs.tree.Reached.{pair_key}
 use Rattle.ell_core.specs.acts.Wins.{InOrder}
 use Rattle.ell_core.specs.state.Opening.{keys_at_start}
 use Rattle.atomic_table.specs.Table.{opening}
 use Rattle.ell_cards.specs.declared.call.Call.TheVariants as call
-use Rattle.ell_cards.specs.Changes.{keys_of, first_view, first_of}
+use Rattle.ell_cards.specs.Changes.{keys_of, first_of}
 use Rattle.ell_cards.specs.States.{TableState}
 use Rattle.ell_cards.specs.Machines.{HasMachine}
 use Rattle.ell_cards.specs.Turns.{Turn, Makes, Splits, Joins, TableTurns, TableRun, state_after}
 use Rattle.ell_cards.specs.Runs.{TurnIsLawful, TurnsAreLawful}
 use Rattle.ell_cards.specs.TurnEffects.{TurnDoes, TurnsDo, run_wins}
-use Rattle.ell_cards.specs.Starts.{MayStart, StartWords, TablesStart, StartsHaveTheirKeys, MayBeginThere, FirstPassMayBegin, RunsFromStarts}
+use Rattle.ell_cards.specs.Starts.{TablesStart, StartsHaveTheirKeys, MayBeginThere, FirstPassMayBegin, RunsFromStarts}
 use Rattle.ell_cards.specs.RunLaws.{StartIsKept, StartsAreKept}
-use Rattle.ell_cards.proofs.words.Keys.{among_owned, contains_among, present_at_start}
+use Rattle.ell_cards.proofs.words.Keys.{among_owned, contains_among}
 use Rattle.ell_core.proofs.opening.StartKeys.{start_pairs}
-use Rattle.ell_cards.proofs.lifetimes.Openings.{shared_there, start_real, opening_is_kept, keys_start, each_first, shared_there}
+use Rattle.ell_cards.proofs.lifetimes.Openings.{shared_there, start_real, opening_is_kept, keys_start, shared_there}
 use Rattle.ell_cards.proofs.lifetimes.StartLists.{start_list, start_list_starts}
 use Rattle.ell_cards.proofs.own_words.OwnWords.{own_words_are_sound}
-use Rattle.ell_cards.proofs.own_words.OwnLedgers.{ledgers_tell_the_tree, tree_keys_are_owned, table_answers_are_the_maps}
+use Rattle.ell_cards.proofs.own_words.OwnLedgers.{table_answers_are_the_maps}
 use Rattle.ell_cards.proofs.own_words.ChangesOf.{table_changes_are_operations}
 use Rattle.ell_cards.proofs.runs.TurnsOfRuns.{runs_are_lawful}
 use Rattle.ell_cards.proofs.runs.WinsOfRuns.{table_wins_are_in_order}
-use Rattle.std.proofs.lemmas.Bool.{le-leb}
-use Rattle.ell_ops.specs.KeySet.{set_of}
-use Rattle.ell_core.specs.soundness.Sound.{MayChange}
-use Rattle.ell_cards.specs.Models.{TablePlan}
 
 -- a new table is one
 pub tables_start : TablesStart

@@ -1,4 +1,4 @@
-use Rattle.std.proofs.Common.{◌≡◌, ℕ, ◌==◌, if◌then◌else◌, Bool, Option, Some, None, is_some, List, ◌∷◌, ◌++◌, [], drop, inl, inr, refl, sym, ap, ◌∙◌, subst}
+use Rattle.std.proofs.Common.{◌≡◌, ℕ, ◌==◌, if◌then◌else◌, Some, None, is_some, List, ◌∷◌, ◌++◌, [], drop, inl, inr, refl, sym, ap, ◌∙◌, subst}
 use Rattle.std.proofs.lemmas.Bool.{eq-eqb}
 use Rattle.std.proofs.lemmas.Option.{same_Some}
 use mathlib.Core.Option.{some}
@@ -16,12 +16,12 @@ use Rattle.ell_core.proofs.words.Sides.{card_value-delete}
 use Rattle.ell_cards.specs.declared.call.Call.TheVariants as call
 use Rattle.ell_cards.specs.declared.view.Told.TheVariants.{Info, Value}
 use Rattle.ell_cards.specs.declared.view.View.{View}
-use Rattle.ell_cards.specs.Models.{TablePlan, IsTold}
+use Rattle.ell_cards.specs.Models.{IsTold}
 use Rattle.ell_cards.specs.States.{TableState}
 use Rattle.ell_cards.specs.Machines.{HasMachine}
 use Rattle.ell_cards.specs.Turns.{Turn, Makes, TableTurns, TableRun}
 use Rattle.ell_cards.specs.TurnEffects.{own_words, turn_wins}
-use Rattle.ell_cards.specs.Changing.{HasMap, Leaves, run_effects}
+use Rattle.ell_cards.specs.Changing.{run_effects}
 use Rattle.ell_cards.specs.Taking.{DeletesTakeTheToldValue}
 use Rattle.ell_cards.proofs.own_words.OwnWords.{own_taken_value}
 use Rattle.ell_cards.proofs.runs.GoingOn.{run_goes}

@@ -13,7 +13,6 @@ use Rattle.ell_word.specs.Word.{packed, unpacked}
 use Rattle.ell_core.specs.declared.fact.Fact.{Fact}
 use Rattle.ell_core.specs.declared.fact.Fact.TheVariants as fact
 use Rattle.ell_core.specs.declared.view.Seen.{Seen}
-use Rattle.ell_core.specs.state.Opening.{last_card}
 use Rattle.ell_core.specs.history.Invariant.{WorkerIsSound}
 use Rattle.ell_core.proofs.words.Listed.{listed_next}
 use Rattle.ell_core.proofs.outcomes.Decide.{some_not_none}

@@ -12,7 +12,7 @@ use Rattle.ell_cards.specs.Calls.{word_of, atomic_of, is_won, May}
 use Rattle.ell_cards.specs.States.{TableState, seat_worker}
 use Rattle.ell_cards.specs.Turns.{Turn, TableRun, found_by, view_after, state_after}
 use Rattle.ell_cards.specs.TurnEffects.{own_words, own_machine, PairsChangeBy, LedgerChangesBy, ChangeIsOf}
-use Rattle.ell_cards.specs.Machines.{HasMachine, NobodyShares}
+use Rattle.ell_cards.specs.Machines.{HasMachine}
 use Rattle.ell_cards.specs.OwnWords.{IsOwnedKey, NodeGoesOn}
 
 -- of each state that has a machine, what the laws of OwnWords say of each that turns have led to

@@ -5,7 +5,6 @@ use Rattle.ell_core.specs.state.Machine.{ledger_of}
 use Rattle.ell_core.proofs.words.Writes.{put_same, put_other}
 use Rattle.ell_cards.specs.Changes.{with_entry}
 use Rattle.ell_core.specs.declared.view.Entry.{Entry}
-use Rattle.ell_core.proofs.outcomes.Decide.{some_not_none}
 
 settled_here : (k : ℕ) (b : Entry) (l : List (ℕ × Entry)) → ledger_of l k ≢ None → ledger_of (with_entry k b l) k ≡ Some b
 settled_here k b [] owns = absurd (owns refl)

@@ -1,4 +1,4 @@
-use Rattle.std.proofs.Common.{◌∙◌, rules, arith, subst}
+use Rattle.std.proofs.Common.{◌∙◌, arith, subst}
 use Rattle.ell_ops.specs.declared.op.Op.TheVariants.{Find}
 use Rattle.ell_tree.proofs.Meeting.{meets_none, meets_trans}
 use Rattle.ell_tree.proofs.Halting.{seek_meets, said_meets}

@@ -1,4 +1,4 @@
-use Rattle.std.proofs.Common.{◌≢◌, ℕ, List, None, sym, subst, ◌≡◌, false, true}
+use Rattle.std.proofs.Common.{◌≢◌, ℕ, List, None, sym, subst, ◌≡◌, true}
 use Rattle.std.specs.List.{All}
 use Rattle.std.specs.Slots.{slots_items}
 use Rattle.ell_core.specs.state.Machine.{ledger_of}

@@ -1,4 +1,4 @@
-use Rattle.std.proofs.Common.{ap, sym, subst, ◌∙◌}
+use Rattle.std.proofs.Common.{ap, sym, subst}
 use Rattle.atomic_table.specs.Table.{Me}
 use Rattle.ell_cards.specs.declared.share.Share.{Share}
 use Rattle.ell_cards.specs.declared.view.View.{View}

@@ -1,4 +1,4 @@
-use Rattle.std.proofs.Common.{length, ap, ◌∙◌, subst, arith, if◌then◌else◌, ◌+◌, ◌*◌}
+use Rattle.std.proofs.Common.{length, ap, ◌∙◌, subst, if◌then◌else◌, ◌+◌, ◌*◌}
 use Rattle.ell_cards.specs.Closed.{TableEnds}
 use Rattle.ell_tree.specs.Ledgers.{TreeModel}
 use Rattle.ell_tree.proofs.Closing.{room_for, holds_keys, closes}

@@ -11,7 +11,7 @@ use Rattle.ell_tree.proofs.Moving.{moves_one, moves_still, moves_same, moves_mos
 use Rattle.ell_tree.proofs.Taking.{answers_first, answered_most, answered_cards, unchanged_cards, taken_none, same_Ok}
 use Rattle.ell_tree.proofs.Keeping.{share_trans}
 use Rattle.ell_tree.proofs.Owning.{answers_before, would_before, moves_before}
-use Rattle.ell_tree.proofs.operations.try_often.Goals as goal
+use Rattle.ell_tree.proofs.operations.change.Goals as goal
 
 pub try_once-requires-clause-root : goal.try_once-requires-clause-root
 try_once-requires-clause-root g c =

@@ -10,7 +10,7 @@ use Rattle.ell_tree.specs.Searches.{AtRoot}
 use Rattle.ell_tree.specs.Tries.{Stops}
 use Rattle.ell_tree.specs.Moves.{moves_known}
 use Rattle.ell_tree.proofs.Counting.{TookRounds}
-use Rattle.ell_tree.proofs.operations.try_often.Given as goal
+use Rattle.ell_tree.proofs.operations.change.Given as goal
 use Rattle.ell_ops.specs.declared.reply.Reply.TheVariants.{Yes}
 
 -- each try so far met something in its way
