@@ -1,14 +1,20 @@
 /* elltree: a map from 64-bit keys to 64-bit values that threads share without locks.
 
-   A handle begins as all zeros and holds nothing: struct elltree_handle h = ELLTREE_EMPTY. elltree_open_shared makes a tree in which every
-   key is shared, and elltree_another gives another handle of it, one for each thread: each finds, inserts and deletes any key, and all
-   calls together answer as if they were made one after the other. elltree_open makes a tree of keys that have owners: a handle owns some of
-   them, and it alone finds, inserts and deletes these, so that its answers are those of a map of its own. The first handle owns all;
-   elltree_split gives some of them to another handle, also none, for a handle that only looks. Any handle looks at any key of its tree.
-   Calls on different handles may run at once. A handle is in one call at a time, and may go from one thread to another.
+   A handle begins as all zeros and holds nothing: struct elltree_handle h = ELLTREE_EMPTY. Calls on different handles may run at once. A
+   handle is in one call at a time, and may go from one thread to another.
 
-   Each call answers with ELLTREE_YES, with ELLTREE_NO, or with a negative code that says why it was refused; elltree_text writes a text for
-   each. A call that was refused has changed neither the map nor what a handle owns, and has written nothing but, for ELLTREE_NO_ROOM, pairs.
+   elltree_open_shared makes a tree in which every key is shared, and elltree_another makes a further handle of it, one for each thread. Any
+   handle finds, inserts and deletes any key, and all finds, inserts and deletes together answer as if they were made one after the other.
+   Such a tree cannot be renewed yet: its cards are for its whole life.
+
+   elltree_open makes a tree of keys that have owners. A handle owns some of them, and it alone finds, inserts and deletes these, so that its
+   answers are those of a map of its own. The first handle owns all; elltree_split gives some of them to another handle, or none, for a handle
+   that only looks.
+
+   Any handle looks at any key of its tree.
+
+   Each call returns ELLTREE_YES, ELLTREE_NO, or a negative code that says why it was refused; elltree_text writes a text for each. A call
+   that was refused has changed neither the map nor what a handle owns, and has written nothing but, for ELLTREE_NO_ROOM, pairs.
    elltree_open_shared, elltree_another, elltree_open, elltree_split, elltree_join, elltree_renew and elltree_renew_all ask for memory. No
    other call does.
 
@@ -20,7 +26,7 @@
    - malloc, realloc and free are one allocator, which aligns blocks to 16 bytes. No call comes from a signal handler, or from the forked
      child of a process with threads.
    - Trees are told apart by a number, which this header counts in one variable of the program. Where a program has two such variables
-     (two shared objects that hide their symbols, or this header beside another binding), their handles are never joined.
+     (two shared objects that hide their symbols, or this header together with another binding), their handles are never joined.
 
    Link with -lelltree (pkg-config elltree); docs/GUIDE.md has the line for a folder where the system does not look for libraries.
    clang 14 has no warning of this header by -Weverything, in C and in C++; later ones have -Wunsafe-buffer-usage, of any array. */
@@ -65,8 +71,8 @@ enum {
     ELLTREE_NO = 0,
     ELLTREE_YES = 1,
     ELLTREE_BUSY = -1,        /* something was in the way of each try: call again */
-    ELLTREE_SPENT = -2,       /* all cards of the tree are given out: elltree_renew_all makes them fresh, and finds and looks go on without */
-    ELLTREE_FOREIGN = -3,     /* a key of the call is neither the handle's own nor shared */
+    ELLTREE_SPENT = -2,       /* all cards are given out: finds and looks go on; elltree_renew_all makes fresh ones for owned keys */
+    ELLTREE_FOREIGN = -3,     /* a key is neither the handle's own nor shared; no key above ELLTREE_KEY_MAX is */
     ELLTREE_NO_TRIES = -4,    /* tries is 0 */
     ELLTREE_BAD_CARDS = -5,   /* cards are not 1 to ELLTREE_CARDS_MAX */
     ELLTREE_BAD_KEY = -6,     /* a key is above ELLTREE_KEY_MAX */
@@ -79,8 +85,8 @@ enum {
     ELLTREE_NULL = -13,       /* a pointer is null that must not be */
     ELLTREE_SAME = -14,       /* the same handle is given twice */
     ELLTREE_IN_CALL = -15,    /* the handle is in another call */
-    ELLTREE_TOO_MANY_HANDLES = -16, /* the handle may not give another any more */
-    ELLTREE_SHARED_KEYS = -17       /* the call is not for a tree of shared keys */
+    ELLTREE_TOO_MANY_HANDLES = -16, /* the handle has the least share of a tree of shared keys */
+    ELLTREE_SHARED_KEYS = -17       /* a tree of shared keys is not renewed */
 };
 
 /* Room for the text of each code, and the 0 behind it. */
@@ -162,9 +168,10 @@ static inline int32_t elltree_leave_all(struct elltree_handle *const *handles, s
     return code;
 }
 
-/* Opens a tree in which every key up to ELLTREE_KEY_MAX is shared; the start keys, which ascend strictly, are present with their values. Each
+/* Opens a tree in which every key up to ELLTREE_KEY_MAX is shared. The start keys, which ascend strictly, are present with their values. Each
    insert or delete that changes the map takes one of the cards, a try that another thread hinders may take one too, and no card is given
-   back: elltree_cards_left tells how many are left. A card and a start key take 96 bytes each. An array without items may be null.
+   back; elltree_cards_left tells how many are left, and no call makes fresh ones. A card and a start key take 96 bytes each. An array without
+   items may be null.
    ELLTREE_NULL, ELLTREE_IN_CALL, ELLTREE_OPEN, ELLTREE_BAD_START, ELLTREE_BAD_KEY, ELLTREE_BAD_CARDS, ELLTREE_NO_MEMORY. */
 ELLTREE_MUST_USE static inline int32_t elltree_open_shared(struct elltree_handle *handle, const struct elltree_pair *start,
                                                            size_t start_count, uint64_t cards) {
@@ -176,9 +183,10 @@ ELLTREE_MUST_USE static inline int32_t elltree_open_shared(struct elltree_handle
                                                           __atomic_add_fetch(&elltree_trees, 1, __ATOMIC_SEQ_CST)));
 }
 
-/* Gives another handle, which holds nothing yet, a handle of the same tree, for another thread: it changes shared keys, where the tree has
-   them, and looks at any key. The handle keeps the keys that it owns. The first handle of a tree
-   gives more than a million others, and each of those fewer.
+/* Makes a further handle of the tree of a handle, for another thread, in one that holds nothing yet. It finds and changes shared keys, if the
+   tree has them, owns none, and looks at any key. The first handle keeps the keys that it owns. Of a tree of shared keys it also keeps the
+   greater part of its share, so that the first handle of the tree can make more than 1,300,000 others, and each of those fewer: make all of
+   them from the first. A join gives a share back, and elltree_free does not.
    ELLTREE_NULL, ELLTREE_SAME, ELLTREE_IN_CALL, ELLTREE_OPEN (into), ELLTREE_CLOSED (from), ELLTREE_TOO_MANY_HANDLES, ELLTREE_NO_MEMORY. */
 ELLTREE_MUST_USE static inline int32_t elltree_another(struct elltree_handle *from, struct elltree_handle *into) {
     int32_t code = elltree_enter_both(from, into);
@@ -187,11 +195,11 @@ ELLTREE_MUST_USE static inline int32_t elltree_another(struct elltree_handle *fr
     return elltree_leave(from, elltree_leave(into, elltree_slot_another(&from->slot, &into->slot)));
 }
 
-/* Opens a tree over these keys, which have owners, and the start keys, in any order but that the start keys ascend strictly; the start keys are present with
-   their values, the others absent. Each insert or delete that changes the map takes one of the cards, a try that another thread hinders
-   may take one too, and no card is given back: elltree_cards_left tells how many are left, and elltree_renew makes them fresh. A card and a
-   start key take 96 bytes each. Up to 300,000 of both together a renewal takes less than a third of the time for each that it takes above,
-   with glibc. An array without items may be null.
+/* Opens a tree over these keys, in any order, and the start keys, which ascend strictly. The handle owns all of them: the start keys are
+   present with their values, the others absent. Each insert or delete that changes the map takes one of the cards, a try that another thread
+   hinders may take one too, and no card is given back; elltree_cards_left tells how many are left, and elltree_renew makes them fresh. A card
+   and a start key take 96 bytes each. With glibc, a renewal of up to 300,000 of both together takes less than a third of the time for each
+   that it takes above. An array without items may be null.
    ELLTREE_NULL, ELLTREE_IN_CALL, ELLTREE_OPEN, ELLTREE_BAD_START, ELLTREE_BAD_KEY, ELLTREE_BAD_CARDS, ELLTREE_NO_MEMORY. */
 ELLTREE_MUST_USE static inline int32_t elltree_open(struct elltree_handle *handle, const uint64_t *keys, size_t key_count,
                                                     const struct elltree_pair *start, size_t start_count, uint64_t cards) {
@@ -207,7 +215,8 @@ ELLTREE_MUST_USE static inline int32_t elltree_open(struct elltree_handle *handl
                                                    cards, __atomic_add_fetch(&elltree_trees, 1, __ATOMIC_SEQ_CST)));
 }
 
-/* Gives these keys of a handle to another, which holds nothing yet. Without keys the other is one that only looks.
+/* Gives these keys of a handle to another, which holds nothing yet. Without keys the other is one that only looks, unless the keys of the tree
+   are shared: then it is as one of elltree_another, but gets the greater part of the share, so that a handle can be split 32 times at most.
    ELLTREE_NULL, ELLTREE_SAME, ELLTREE_IN_CALL, ELLTREE_OPEN (into), ELLTREE_CLOSED (from), ELLTREE_FOREIGN, ELLTREE_TOO_MANY_HANDLES,
    ELLTREE_NO_MEMORY. */
 ELLTREE_MUST_USE static inline int32_t elltree_split(struct elltree_handle *from, struct elltree_handle *into, const uint64_t *keys,
@@ -223,7 +232,7 @@ ELLTREE_MUST_USE static inline int32_t elltree_split(struct elltree_handle *from
     return elltree_leave(from, elltree_leave(into, code));
 }
 
-/* Gives all keys of a handle, which holds nothing then, to another of the same tree.
+/* Gives all keys and the share of a handle, which holds nothing then, to another of the same tree.
    ELLTREE_NULL, ELLTREE_SAME, ELLTREE_IN_CALL, ELLTREE_CLOSED, ELLTREE_OTHER_TREE, ELLTREE_NO_MEMORY. */
 ELLTREE_MUST_USE static inline int32_t elltree_join(struct elltree_handle *into, struct elltree_handle *from) {
     int32_t code = elltree_enter_both(into, from);
@@ -232,32 +241,33 @@ ELLTREE_MUST_USE static inline int32_t elltree_join(struct elltree_handle *into,
     return elltree_leave(into, elltree_leave(from, elltree_slot_join(&into->slot, &from->slot)));
 }
 
-/* ELLTREE_YES with the value where a key of the handle's own, or a shared one, is present, else ELLTREE_NO.
+/* ELLTREE_YES with the value if a shared key, or one of the handle's own, is present, else ELLTREE_NO.
    ELLTREE_NULL, ELLTREE_IN_CALL, ELLTREE_CLOSED, ELLTREE_FOREIGN. */
 ELLTREE_MUST_USE static inline int32_t elltree_find(struct elltree_handle *handle, uint64_t key, uint64_t *value) {
     int32_t code = value ? elltree_enter(handle) : ELLTREE_NULL;
     return code == ELLTREE_YES ? elltree_leave(handle, elltree_slot_find(&handle->slot, key, value)) : code;
 }
 
-/* As elltree_find, of any key of the tree, whoever owns it: as it was at one moment of the call.
+/* As elltree_find, but of any key of the tree, whoever owns it, and as it was at one moment of the call. It has no place in the one order in
+   which finds, inserts and deletes answer.
    ELLTREE_NULL, ELLTREE_IN_CALL, ELLTREE_CLOSED, ELLTREE_BAD_KEY. */
 ELLTREE_MUST_USE static inline int32_t elltree_look(struct elltree_handle *handle, uint64_t key, uint64_t *value) {
     int32_t code = value ? elltree_enter(handle) : ELLTREE_NULL;
     return code == ELLTREE_YES ? elltree_leave(handle, elltree_slot_look(&handle->slot, key, value)) : code;
 }
 
-/* Adds a key of the handle's own, or a shared one: ELLTREE_YES where it was absent, else ELLTREE_NO, and the key keeps its value. Before ELLTREE_SPENT comes,
-   elltree_cards_left tells how many cards are left.
+/* Adds a shared key, or one of the handle's own: ELLTREE_YES if it was absent, else ELLTREE_NO, and the key keeps its value. Before
+   ELLTREE_SPENT comes, elltree_cards_left tells how many cards are left.
    ELLTREE_NULL, ELLTREE_IN_CALL, ELLTREE_CLOSED, ELLTREE_NO_TRIES, ELLTREE_FOREIGN, ELLTREE_BUSY, ELLTREE_SPENT. */
 ELLTREE_MUST_USE static inline int32_t elltree_insert(struct elltree_handle *handle, uint64_t key, uint64_t value, uint32_t tries) {
     int32_t code = elltree_enter(handle);
     return code == ELLTREE_YES ? elltree_leave(handle, elltree_slot_insert(&handle->slot, key, value, tries)) : code;
 }
 
-/* Takes a key of the handle's own, or a shared one, away: ELLTREE_YES where it was present, else ELLTREE_NO. Refused as elltree_insert is.
-   A value changes by a delete and an insert, two cards: ask elltree_cards_left before the delete. Where the insert is refused by
-   ELLTREE_BUSY, make it again: until then the key is absent. Where it is refused by ELLTREE_SPENT, no card is left, not even to put the old
-   value back: keep the value for fresh cards. */
+/* Takes a shared key, or one of the handle's own, away: ELLTREE_YES if it was present, else ELLTREE_NO. Refused as elltree_insert is.
+   You change a value by a delete and an insert, which take two cards: ask elltree_cards_left before the delete. If the insert is refused by
+   ELLTREE_BUSY, make it again: until then the key is absent, unless it is shared and another thread has inserted it. If the insert is refused
+   by ELLTREE_SPENT, no card is left, not even to put the old value back: keep the value for fresh cards, or for a tree that you open anew. */
 ELLTREE_MUST_USE static inline int32_t elltree_delete(struct elltree_handle *handle, uint64_t key, uint32_t tries) {
     int32_t code = elltree_enter(handle);
     return code == ELLTREE_YES ? elltree_leave(handle, elltree_slot_delete(&handle->slot, key, tries)) : code;
@@ -277,8 +287,9 @@ ELLTREE_MUST_USE static inline int32_t elltree_keys(struct elltree_handle *handl
     return code == ELLTREE_YES ? elltree_leave(handle, elltree_slot_keys(&handle->slot, out ? out : &none, room, count)) : code;
 }
 
-/* The keys of the handle's own that are present, ascending, with their values, and how many they are: shared keys are not among them. elltree_owned tells for how many there must be
-   room at most; without room the array may be null. ELLTREE_NULL, ELLTREE_IN_CALL, ELLTREE_CLOSED, ELLTREE_NO_ROOM. */
+/* The keys of the handle's own that are present, ascending, with their values, and how many they are: shared keys are not among them.
+   elltree_owned tells how many there can be; without room the array may be null.
+   ELLTREE_NULL, ELLTREE_IN_CALL, ELLTREE_CLOSED, ELLTREE_NO_ROOM. */
 ELLTREE_MUST_USE static inline int32_t elltree_pairs(struct elltree_handle *handle, struct elltree_pair *out, size_t room, size_t *count) {
     struct elltree_pair none;
     int32_t code = count && (out || !room) ? elltree_enter(handle) : ELLTREE_NULL;
@@ -292,18 +303,18 @@ ELLTREE_MUST_USE static inline int32_t elltree_steps(struct elltree_handle *hand
 }
 
 /* How many cards of the handle's tree are not given out yet, 0 if all are: as it was at one moment of the call. Calls on other handles of
-   the tree may take some meanwhile. No more are left later, until a renewal makes fresh ones. It takes one step and no card.
+   the tree may take some meanwhile. No more are left later, until a renewal makes fresh ones. The call takes one step and no card.
    ELLTREE_NULL, ELLTREE_IN_CALL, ELLTREE_CLOSED. */
 ELLTREE_MUST_USE static inline int32_t elltree_cards_left(struct elltree_handle *handle, uint64_t *left) {
     int32_t code = left ? elltree_enter(handle) : ELLTREE_NULL;
     return code == ELLTREE_YES ? elltree_leave(handle, elltree_slot_cards_left(&handle->slot, left)) : code;
 }
 
-/* Makes the cards fresh: the handle goes to a new tree with so many cards, and takes along the keys that it owns, which are present with
-   their values or absent as they were. Other handles of the tree stay behind in the old tree, which does not change any more but by them:
-   elltree_renew_all takes handles along that are to stay together.
-   ELLTREE_NULL, ELLTREE_IN_CALL, ELLTREE_CLOSED, ELLTREE_SHARED_KEYS, ELLTREE_BAD_START (more than ELLTREE_START_MAX keys are present), ELLTREE_BAD_CARDS,
-   ELLTREE_NO_MEMORY: then the handle is where it was. */
+/* Makes the cards fresh: the handle goes to a new tree with this number of cards, and takes along the keys that it owns, which are present
+   with their values or absent as they were. Other handles of the tree stay behind in the old tree, which does not change any more but by them:
+   elltree_renew_all takes handles along that are to stay together. A tree of shared keys is not renewed.
+   ELLTREE_NULL, ELLTREE_IN_CALL, ELLTREE_CLOSED, ELLTREE_SHARED_KEYS, ELLTREE_BAD_START (more than ELLTREE_START_MAX keys are present),
+   ELLTREE_BAD_CARDS, ELLTREE_NO_MEMORY: then the handle is where it was. */
 ELLTREE_MUST_USE static inline int32_t elltree_renew(struct elltree_handle *handle, uint64_t cards) {
     int32_t code = elltree_enter(handle);
     if (code != ELLTREE_YES)
@@ -317,13 +328,13 @@ ELLTREE_MUST_USE static inline int32_t elltree_renew(struct elltree_handle *hand
 #define ELLTREE_AS_SLOTS(memory) (memory)
 #endif
 
-/* Makes the cards of handles of one tree fresh, also of handles without keys, which only look: all of them go to one new tree with so many
-   cards, each with the keys that it owns, which are present with their values or absent as they were. Other handles stay behind in the old
+/* Makes the cards of handles of one tree fresh, also of handles without keys, which only look: all of them go to one new tree with this
+   number of cards, each with the keys that it owns, which are present with their values or absent as they were. Other handles stay behind in the old
    tree, with their keys: the new one has those of the handles in the array alone. It takes time for each card, for each key that is present,
    and about 0.7 microseconds for each key that a handle owns, also an absent one. Without handles nothing happens. The first handle in the
-   array that is null, stands there twice, or is in another call is refused.
-   ELLTREE_NULL, ELLTREE_SAME, ELLTREE_IN_CALL, ELLTREE_CLOSED, ELLTREE_OTHER_TREE, ELLTREE_SHARED_KEYS, ELLTREE_BAD_START (more than ELLTREE_START_MAX keys are
-   present in all), ELLTREE_BAD_CARDS, ELLTREE_NO_MEMORY: then each handle is where it was. */
+   array that is null, stands there twice, or is in another call is refused. A tree of shared keys is not renewed.
+   ELLTREE_NULL, ELLTREE_SAME, ELLTREE_IN_CALL, ELLTREE_CLOSED, ELLTREE_OTHER_TREE, ELLTREE_SHARED_KEYS, ELLTREE_BAD_START (more than
+   ELLTREE_START_MAX keys are present in all), ELLTREE_BAD_CARDS, ELLTREE_NO_MEMORY: then each handle is where it was. */
 ELLTREE_MUST_USE static inline int32_t elltree_renew_all(struct elltree_handle *const *handles, size_t count, uint64_t cards) {
     struct elltree_slot *slots;
     int32_t code;
@@ -347,8 +358,8 @@ ELLTREE_MUST_USE static inline int32_t elltree_renew_all(struct elltree_handle *
     return elltree_leave_all(handles, count, code);
 }
 
-/* Ends a handle, and with the last handle the tree. What its own keys have stays, and can be looked at, but not be changed any more, and does
-   not come along at a renewal: join the handle into another where its keys are to stay in use.
+/* Ends a handle, and with the last handle the tree. The keys that it owned stay as they are: they can be looked at, but no handle changes them
+   any more or takes them along at a renewal. Join the handle into another if they are to stay in use. Shared keys stay in use.
    ELLTREE_NULL, ELLTREE_IN_CALL, ELLTREE_CLOSED. */
 static inline int32_t elltree_free(struct elltree_handle *handle) {
     int32_t code = elltree_enter(handle);

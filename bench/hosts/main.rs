@@ -1,9 +1,11 @@
-//! Measures elltree, as a program in Rust has it, beside the same tree over bare atomic words, `BTreeMap`s behind locks, one or 16 of
-//! them, and a private `BTreeMap` for each owner. Takes the seconds of an interval, the number of rounds, and a file, to which it writes
-//! all figures; the tables go to standard output.
+//! Measures elltree, as a program in Rust has it, with owned keys and with shared ones, beside the same tree over bare atomic words and
+//! as libcds has it, `BTreeMap`s behind locks, one or 16 of them, and a private `BTreeMap` for each owner. Takes the seconds of an
+//! interval, the number of rounds, and a file, to which it writes all figures; the tables go to standard output.
 
 #[path = "../plain/bare_tree.rs"]
 mod bare_tree;
+#[cfg(libcds)]
+mod libcds;
 mod peers;
 mod record;
 mod work;
@@ -23,9 +25,9 @@ const LONGER: u32 = 3;
 /// What is measured.
 #[derive(Clone, Copy, PartialEq)]
 pub enum Kind {
-    /// The operations of owners, without readers.
+    /// The operations of owners, each on keys of its own, without readers.
     Operations,
-    /// The operations of threads that share all keys.
+    /// The same, each on all keys.
     Shared,
     /// Looks of readers, and changes of owners.
     Looks,
@@ -46,7 +48,7 @@ impl Kind {
     pub fn peers(self) -> Vec<Peer> {
         match self {
             Kind::Looks => vec![Peer::Elltree, Peer::Bare, Peer::RwLock, Peer::RwLocks],
-            Kind::Shared => Peer::ALL.into_iter().filter(|it| *it != Peer::Private).collect(),
+            Kind::Shared => Peer::ALL.iter().copied().filter(|peer| peer.can_share()).collect(),
             _ => Peer::ALL.to_vec(),
         }
     }
@@ -122,14 +124,15 @@ fn answers(peer: Peer, sizes: Sizes) -> [Vec<Option<u64>>; 2] {
     [operations, looks]
 }
 
-/// Whether all peers answer alike. Private maps have no readers, and share no key.
+/// Whether all peers answer alike, on keys of their own and on shared ones. Private maps have no readers.
 fn agree() -> bool {
-    let cases = KEYS.into_iter().flat_map(|keys| [false, true].map(|shared| Sizes { keys, owners: 4, readers: 2, shared }));
-    cases.into_iter().all(|sizes| {
-        let expected = answers(Peer::Elltree, sizes);
-        Peer::ALL.into_iter().filter(|peer| !sizes.shared || *peer != Peer::Private).all(|peer| {
-            let [operations, looks] = answers(peer, sizes);
-            operations == expected[0] && (looks == expected[1] || peer == Peer::Private)
+    let parted = KEYS.map(|keys| Sizes { keys, owners: 4, readers: 2, shared: false });
+    let shared = parted.map(|sizes| Sizes { shared: true, ..sizes });
+    parted.into_iter().chain(shared).all(|sizes| {
+        let expected = answers(Peer::Mutex, sizes);
+        Peer::ALL.iter().filter(|peer| !sizes.shared || peer.can_share()).all(|peer| {
+            let [operations, looks] = answers(*peer, sizes);
+            operations == expected[0] && (looks == expected[1] || *peer == Peer::Private)
         })
     })
 }

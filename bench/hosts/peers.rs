@@ -2,6 +2,8 @@
 //! shared, and readers of any key.
 
 use crate::bare_tree::BareTree;
+#[cfg(libcds)]
+use crate::libcds::{EllenTree, Reclaim};
 use elltree::{Handle, Tree, CARDS_MAX};
 use std::array;
 use std::collections::btree_map::{BTreeMap, Entry};
@@ -231,7 +233,7 @@ impl Crew {
         Ok(Crew { owners: boxed(owners), readers: boxed(readers) })
     }
 
-    /// Handles of a tree of shared keys.
+    /// The handles of a tree in which all keys are shared.
     fn of_sharing_handles(sizes: Sizes) -> elltree::Result<Crew> {
         let mut first = Handle::open_shared(&sizes.start().collect::<Vec<_>>(), CARDS_MAX)?;
         let mut others = |count| (0..count).map(|_| first.another()).collect::<elltree::Result<Vec<_>>>();
@@ -243,6 +245,11 @@ impl Crew {
         let tree = BareTree::reserve(&sizes.start().collect::<Vec<_>>(), CARDS_MAX);
         tree.take_memory();
         Crew::sharing(Arc::new(tree), sizes)
+    }
+
+    #[cfg(libcds)]
+    fn of_libcds(reclaim: Reclaim, sizes: Sizes) -> Crew {
+        Crew::sharing(Arc::new(EllenTree::start(reclaim, &sizes.start().collect::<Vec<_>>())), sizes)
     }
 
     fn of_locks<L: Lock + 'static, const COUNT: usize>(sizes: Sizes) -> Crew {
@@ -266,7 +273,10 @@ impl Crew {
 #[derive(Clone, Copy, PartialEq)]
 pub enum Peer {
     Elltree,
+    SharedElltree,
     Bare,
+    #[cfg(libcds)]
+    Libcds(Reclaim),
     Mutex,
     RwLock,
     Mutexes,
@@ -275,13 +285,30 @@ pub enum Peer {
 }
 
 impl Peer {
-    pub const ALL: [Peer; 7] =
-        [Peer::Elltree, Peer::Bare, Peer::Mutex, Peer::RwLock, Peer::Mutexes, Peer::RwLocks, Peer::Private];
+    pub const ALL: &[Peer] = &[
+        Peer::Elltree,
+        Peer::SharedElltree,
+        Peer::Bare,
+        #[cfg(libcds)]
+        Peer::Libcds(Reclaim::HazardPointers),
+        #[cfg(libcds)]
+        Peer::Libcds(Reclaim::Rcu),
+        Peer::Mutex,
+        Peer::RwLock,
+        Peer::Mutexes,
+        Peer::RwLocks,
+        Peer::Private,
+    ];
 
     pub fn name(self) -> &'static str {
         match self {
             Peer::Elltree => "elltree",
+            Peer::SharedElltree => "shared elltree",
             Peer::Bare => "bare atomics",
+            #[cfg(libcds)]
+            Peer::Libcds(Reclaim::HazardPointers) => "libcds HP",
+            #[cfg(libcds)]
+            Peer::Libcds(Reclaim::Rcu) => "libcds RCU",
             Peer::Mutex => "Mutex",
             Peer::RwLock => "RwLock",
             Peer::Mutexes => "16 Mutex",
@@ -290,11 +317,16 @@ impl Peer {
         }
     }
 
+    /// Whether all owners may change the same keys.
+    pub fn can_share(self) -> bool {
+        !matches!(self, Peer::Elltree | Peer::Private)
+    }
+
     /// How many changes may be asked of a map in all: half of them change it, and take a card each if there are cards. The other cards
     /// are for tries that fail.
     pub fn most_changes(self) -> u64 {
         match self {
-            Peer::Elltree | Peer::Bare => 1_400_000,
+            Peer::Elltree | Peer::SharedElltree | Peer::Bare => 1_400_000,
             _ => u64::MAX / 2,
         }
     }
@@ -302,9 +334,11 @@ impl Peer {
     /// A new map of this kind, parted.
     pub fn crew(self, sizes: Sizes) -> Crew {
         match self {
-            Peer::Elltree if sizes.shared => Crew::of_sharing_handles(sizes).expect("a tree"),
             Peer::Elltree => Crew::of_handles(sizes).expect("a tree"),
+            Peer::SharedElltree => Crew::of_sharing_handles(sizes).expect("a tree"),
             Peer::Bare => Crew::of_bare_tree(sizes),
+            #[cfg(libcds)]
+            Peer::Libcds(reclaim) => Crew::of_libcds(reclaim, sizes),
             Peer::Mutex => Crew::of_locks::<Mutex<Map>, 1>(sizes),
             Peer::RwLock => Crew::of_locks::<RwLock<Map>, 1>(sizes),
             Peer::Mutexes => Crew::of_locks::<Mutex<Map>, SHARDS>(sizes),

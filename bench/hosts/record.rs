@@ -117,23 +117,34 @@ impl Record {
         })
     }
 
-    /// The table of these kinds and figures.
-    fn table(&self, title: &str, kinds: &[Kind], figures: &[Figure]) -> String {
+    /// The median of how many times as long as the locked shards a peer took in the same round.
+    fn ratio(&self, at: usize, peer: Peer) -> Option<String> {
+        let times = |peer: Peer| self.times.get(&(at, Figure::Operation, peer.name()));
+        let ratios: Vec<f64> = times(peer)?.iter().zip(times(Peer::Mutexes)?).map(|(time, shards)| time / shards).collect();
+        Some(format!("{:.2}", least_and_median(&ratios).1))
+    }
+
+    /// The table of these kinds, with such a cell for each peer.
+    fn table(&self, title: &str, kinds: &[Kind], cell: impl Fn(usize, Peer) -> Option<String>) -> String {
         let peers = kinds[0].peers();
         let names: Vec<&str> = peers.iter().map(|peer| peer.name()).collect();
         let rule = "--:|".repeat(names.len());
         let mut table = format!("\n{title}\n\n| keys | owners | readers | {} |\n|--:|--:|--:|{rule}\n", names.join(" | "));
         for (at, case) in self.cases.iter().enumerate().filter(|(_, case)| kinds.contains(&case.kind)) {
-            let cells: Vec<_> = peers.iter().map(|peer| self.cell(at, *peer, figures)).collect();
+            let cells: Vec<_> = peers.iter().map(|peer| cell(at, *peer)).collect();
             if cells.iter().all(Option::is_none) {
                 continue;
             }
-            let stop = if case.kind == Kind::Stopped { ", one stopped" } else { "" };
+            let note = match case.kind {
+                Kind::Shared => ", all keys shared",
+                Kind::Stopped => ", one stopped",
+                _ => "",
+            };
             let cells: Vec<String> = cells.into_iter().map(|it| it.unwrap_or("–".into())).collect();
             let sizes = case.sizes;
             let _ = writeln!(
                 table,
-                "| {} | {}{stop} | {} | {} |",
+                "| {} | {}{note} | {} | {} |",
                 counted(sizes.keys),
                 sizes.owners,
                 sizes.readers,
@@ -143,20 +154,27 @@ impl Record {
         table
     }
 
+    /// The table of these kinds, with these figures of each peer.
+    fn times(&self, title: &str, kinds: &[Kind], figures: &[Figure]) -> String {
+        self.table(title, kinds, |at, peer| self.cell(at, peer, figures))
+    }
+
     /// All tables.
     pub fn tables(&self) -> String {
+        let operations = [Kind::Operations, Kind::Shared];
         let latencies = [Kind::Running, Kind::Stopped];
+        let beside_shards = "An operation of an owner, in times that of 16 Mutex: median of the ratios within each round";
         [
-            self.table("An operation of an owner: median of the rounds, and least", &[Kind::Operations], &[Figure::Operation]),
-            self.table("An operation on any key, all keys shared: median of the rounds, and least", &[Kind::Shared], &[Figure::Operation]),
-            self.table("A look at any key: median of the rounds, and least", &[Kind::Looks], &[Figure::Look]),
-            self.table(
+            self.times("An operation of an owner: median of the rounds, and least", &operations, &[Figure::Operation]),
+            self.table(beside_shards, &operations, |at, peer| self.ratio(at, peer)),
+            self.times("A look at any key: median of the rounds, and least", &[Kind::Looks], &[Figure::Look]),
+            self.times(
                 "A change by an owner beside these readers: median of the rounds, and least",
                 &[Kind::Looks],
                 &[Figure::Change],
             ),
-            self.table("Latency of a look: median, 99 %, worst", &latencies, &Figure::OF_LOOKS),
-            self.table("Latency of another owner's operation: median, 99 %, worst", &latencies, &Figure::OF_OPERATIONS),
+            self.times("Latency of a look: median, 99 %, worst", &latencies, &Figure::OF_LOOKS),
+            self.times("Latency of another owner's operation: median, 99 %, worst", &latencies, &Figure::OF_OPERATIONS),
         ]
         .concat()
     }

@@ -12,6 +12,9 @@
     second.look(3)        # 30: any handle looks at any key
     second.find(3)        # Refused: elltree.FOREIGN, another handle owns the key
 
+With shared keys, all finds, inserts and deletes together answer as if they were made one after the other. Such a tree cannot be renewed yet:
+its cards are for its whole life.
+
 A handle is in one call at a time: a second call meanwhile is refused. An exception of a signal, as KeyboardInterrupt, that cuts a call off
 leaves the handle free for the next one; whether the call had its effect is not told. It needs Python 3.10. The library is the file in
 ELLTREE_LIBRARY, or else lib/libelltree.so of the prefix that this file is installed in, or else the one that the system finds.
@@ -56,7 +59,7 @@ class Busy(Refused):
 
 
 class Spent(Refused):
-    """All cards are given out, and the insert or the delete needs one: renew_all makes fresh ones. cards_left tells beforehand."""
+    """All cards are given out, and the insert or the delete needs one: renew_all makes fresh ones for owned keys. cards_left tells beforehand."""
 
     def __init__(self, code=SPENT):
         super().__init__(code)
@@ -114,7 +117,7 @@ _take_all = collections.deque(maxlen=0).extend
 
 
 def _whole(number, bits, what):
-    """The number, if so many bits hold it: ctypes would drop what is above them."""
+    """The number, if this number of bits holds it: ctypes would drop what is above them."""
     try:
         number = operator.index(number)
     except TypeError:
@@ -170,8 +173,9 @@ def open(keys, start=(), cards=1_000_000):
 
 
 def open_shared(start=(), cards=1_000_000):
-    """A handle of a tree in which every key up to KEY_MAX is shared, and which has the keys of start, a dict or pairs, with their values. Its
-    method another gives more handles of it, one for each thread. Each change takes a card; cards_left tells how many are left."""
+    """The first handle of a tree in which every key up to KEY_MAX is shared, and which has the keys of start, a dict or pairs, with their values.
+    Its method another makes the others, one for each thread. Each change takes a card; cards_left tells how many are left, and no call makes
+    fresh ones."""
     handle = Handle()
     handle._call("open_shared", *_pairs(start), _cards(cards), next(_numbers))
     return handle
@@ -212,7 +216,7 @@ def _call_on(handles, call_library):
 
 
 class Handle:
-    """One thread's way to a tree: it finds, inserts and deletes shared keys, or those of its own, which no other handle changes. It looks at any
+    """One thread's way to a tree: it finds, inserts and deletes shared keys, and keys of its own, which no other handle changes. It looks at any
     key. It is not copied or pickled. A handle that is dropped while it owns keys warns (ResourceWarning), since nobody changes them any more:
     close it, or join it into another."""
 
@@ -255,40 +259,44 @@ class Handle:
         return part
 
     def another(self):
-        """Another handle of the same tree, for another thread: it changes shared keys, if the tree has them, and looks at any key. This one keeps
-        the keys that it owns."""
+        """A further handle of the same tree, for another thread: it finds and changes shared keys, if the tree has them, owns none, and looks at
+        any key. This one keeps the keys that it owns. In a tree of shared keys it also keeps the greater part of its share, so that the first
+        handle makes more than 1,300,000 others, and each of those fewer: make all of them from the first. With the least share it is refused
+        (TOO_MANY_HANDLES). A join gives a share back, and close does not."""
         return self._part(_library["another"])
 
     def split(self, keys=()):
-        """A handle with these keys of this one, which keeps the others; without keys one that only looks."""
+        """A handle with these keys of this one, which keeps the others; without keys one that only looks. In a tree of shared keys no key is its
+        own, and the new handle gets the greater part of the share, so that this can be called 32 times at most: use another there."""
         listed, count = _keys(keys)
         return self._part(lambda whole, part: _library["split"](whole, part, listed, count))
 
     def join(self, other):
-        """Takes over all keys of another handle of the same tree, which holds nothing then."""
+        """Takes over all keys and the share of another handle of the same tree, which holds nothing then."""
         if other is self:
             raise Refused(SAME)
         _call_on([self, other], lambda: _library["join"](self._slot, other._slot))
 
     def find(self, key):
-        """The value of a key of the handle's own, or of a shared one, or None."""
+        """The value of a shared key, or of one of the handle's own, or None."""
         value = ctypes.c_uint64()
         return value.value if self._call("find", _key(key), value) else None
 
     def look(self, key):
-        """The value of any key of the tree, or None: as it was at one moment of the call."""
+        """The value of any key of the tree, or None: as it was at one moment of the call. It has no place in the one order in which finds, inserts
+        and deletes answer."""
         value = ctypes.c_uint64()
         return value.value if self._call("look", _key(key), value) else None
 
     def insert(self, key, value, tries=1000):
-        """Adds a key of the handle's own, or a shared one, with its value: whether it was absent. A key that is present keeps its value. It is
-        Spent where it needs a card and none is left: cards_left tells how many are."""
+        """Adds a shared key, or one of the handle's own, with its value, and returns whether it was absent. A key that is present keeps its value.
+        Raises Spent if it needs a card and none is left: cards_left tells how many are."""
         return self._call("insert", _key(key), _value(value), _tries(tries))
 
     def delete(self, key, tries=1000):
-        """Takes a key of the handle's own, or a shared one, away: whether it was present. A value changes by a delete and an insert, two cards:
-        ask cards_left before the delete. Where the insert is Spent all the same, as others have taken the cards, keep the value, renew, and
-        insert it."""
+        """Takes a shared key, or one of the handle's own, away, and returns whether it was present. You change a value by a delete and an insert,
+        which take two cards: ask cards_left before the delete. If the insert raises Spent all the same, as others have taken the cards, keep
+        the value, renew, and insert it. In between, another thread may insert a shared key: then the insert returns False."""
         return self._call("delete", _key(key), _tries(tries))
 
     def owned(self):
@@ -325,14 +333,14 @@ class Handle:
         return left.value
 
     def renew(self, cards=1_000_000):
-        """Makes the cards fresh: the handle goes to a new tree with so many cards, and takes along the keys that it owns, which are present or
-        absent as they were. Others stay in the old tree: renew_all takes handles along that are to stay together. A handle of a tree of shared
+        """Makes the cards fresh: the handle goes to a new tree with this number of cards, and takes along the keys that it owns, which are present
+        or absent as they were. Others stay in the old tree: renew_all takes handles along that are to stay together. A handle of a tree of shared
         keys is refused."""
         self._call("renew", _cards(cards), next(_numbers))
 
     def close(self):
-        """Ends the handle, and with the last handle the tree. Nobody changes its keys any more, nor takes them along at a renewal: join it into
-        another where they are to stay in use. Nothing happens to a handle that holds nothing."""
+        """Ends the handle, and with the last handle the tree. Nobody changes the keys that it owned any more, nor takes them along at a renewal: join
+        it into another if they are to stay in use. Shared keys stay in use. Nothing happens to a handle that holds nothing."""
         try:
             self._call("free")
         except Refused as why:
@@ -362,9 +370,9 @@ class Handle:
 
 
 def renew_all(handles, cards=1_000_000):
-    """Makes the cards of handles of one tree fresh, also of handles without keys: all of them go to one new tree with so many cards, each with
-    the keys that it owns, which are present or absent as they were. Others stay in the old tree, and the new one has none of their keys. It
-    takes about 0.7 microseconds for each key that they own, beside the time for cards and present keys. Handles of a tree of shared keys are
+    """Makes the cards of handles of one tree fresh, also of handles without keys: all of them go to one new tree with this number of cards, each
+    with the keys that it owns, which are present or absent as they were. Others stay in the old tree, and the new one has none of their keys. It
+    takes about 0.7 microseconds for each key that they own, besides the time for cards and present keys. Handles of a tree of shared keys are
     refused. Where it is refused, each handle is where it was."""
     handles, cards = list(handles), _cards(cards)
 

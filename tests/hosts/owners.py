@@ -102,7 +102,7 @@ class Handles(unittest.TestCase):
         for why, text in (
             (raised.exception, "all cards are given out"),
             (elltree.Busy(), "something was in the way of each try"),
-            (elltree.Refused(elltree.FOREIGN), "the handle does not own the key"),
+            (elltree.Refused(elltree.FOREIGN), "the key is neither the handle's own nor shared"),
             (elltree.Refused(7), "no code of elltree"),
         ):
             again = pickle.loads(pickle.dumps(why))

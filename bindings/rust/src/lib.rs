@@ -1,7 +1,8 @@
 //! A map from `u64` to `u64` that threads share without locks, over `libelltree.a`.
 //!
-//! [`Handle::open_shared`] makes a tree in which every key is shared, and [`Handle::another`] gives a handle of it for each thread: each finds,
-//! inserts and deletes any key, never waits for another, and all calls together answer as if they were made one after the other.
+//! [`Handle::open_shared`] makes a tree in which every key is shared, and [`Handle::another`] makes a further handle of it for each thread. Any
+//! handle finds, inserts and deletes any key and never waits for another, and all finds, inserts and deletes together answer as if they were
+//! made one after the other. Such a tree cannot be renewed yet: its cards are for its whole life.
 //!
 //! ```
 //! let mut first = elltree::Handle::open_shared(&[(2, 20)], 1_000)?; // pairs to start with, cards
@@ -16,9 +17,8 @@
 //! # Ok::<(), elltree::Refused>(())
 //! ```
 //!
-//! Where each key belongs to one thread, a [`Tree`] is opened over a fixed set of keys, which it gives to [`Handle`]s. A handle alone finds,
-//! inserts and deletes the keys that it owns, so that its answers are those of a map of its own. Every handle, and every [`Reader`], looks at
-//! any key.
+//! If each key belongs to one thread, open a [`Tree`] over a fixed set of keys, which it gives to [`Handle`]s. A handle alone finds, inserts and
+//! deletes the keys that it owns, so that its answers are those of a map of its own. Any handle, and any [`Reader`], looks at any key.
 //!
 //! ```
 //! let mut tree = elltree::Tree::open(&[1, 2, 3, 4], &[(2, 20)], 1_000)?; // keys, pairs to start with, cards
@@ -123,9 +123,9 @@ unsafe extern "C" {
 pub enum Refused {
     /// Something was in the way of each try.
     Busy,
-    /// All cards of the tree are given out: [`renew_all`] makes them fresh, and [`Handle::cards_left`] tells beforehand.
+    /// All cards of the tree are given out: [`renew_all`] makes fresh ones for owned keys, and [`Handle::cards_left`] tells beforehand.
     Spent,
-    /// A key of the call is neither the handle's own nor shared.
+    /// A key of the call is neither the handle's own nor shared. No key above [`KEY_MAX`] is.
     Foreign,
     /// The call allows no try.
     NoTries,
@@ -139,9 +139,9 @@ pub enum Refused {
     NoMemory,
     /// The handles are of two trees.
     OtherTree,
-    /// The handle may not give another any more.
+    /// The handle has the least share of a tree of shared keys, so it makes no other: see [`Handle::another`].
     TooManyHandles,
-    /// The call is not for a tree of shared keys.
+    /// A tree of shared keys is not renewed.
     SharedKeys,
     /// Another code of the library.
     Other(i32),
@@ -232,7 +232,7 @@ fn host_pairs(pairs: &[(u64, u64)]) -> Vec<Pair> {
     pairs.iter().map(|&(key, value)| Pair { key, value }).collect()
 }
 
-/// One thread's way to a tree: it finds, inserts and deletes shared keys, or those of its own, which no other handle changes. It looks at any
+/// One thread's way to a tree: it finds, inserts and deletes shared keys, and keys of its own, which no other handle changes. It looks at any
 /// key.
 pub struct Handle(Slot);
 
@@ -240,8 +240,9 @@ pub struct Handle(Slot);
 unsafe impl Send for Handle {}
 
 impl Handle {
-    /// A tree in which every key up to [`KEY_MAX`] is shared, and which has the start keys with their values. [`Handle::another`] gives more
-    /// handles of it. Each change takes a card, and [`Handle::cards_left`] tells how many are left. Refused as [`Handle::open`] is.
+    /// Opens a tree in which every key up to [`KEY_MAX`] is shared, and which has the start keys with their values. Returns its first handle, of
+    /// which [`Handle::another`] makes others. Each change takes a card; [`Handle::cards_left`] tells how many are left, and no call makes fresh
+    /// ones. Refused as [`Handle::open`] is.
     ///
     /// ```
     /// use elltree::{Handle, Refused};
@@ -260,9 +261,12 @@ impl Handle {
         Ok(handle)
     }
 
-    /// Another handle of the same tree, for another thread: it changes shared keys, if the tree has them, and looks at any key. This one keeps
-    /// the keys that it owns. `TooManyHandles` where a handle of a tree of shared keys may not give another any more: the first one gives more
-    /// than a million, and each of those fewer.
+    /// Makes a further handle of the same tree, for another thread: it finds and changes shared keys, if the tree has them, owns none, and looks
+    /// at any key. This one keeps the keys that it owns.
+    ///
+    /// `TooManyHandles` if this handle has the least share of a tree of shared keys. It keeps the greater part of its share, so the first handle
+    /// makes more than 1,300,000 others, and each of those fewer: make all of them from the first. A join gives a share back, and a drop does
+    /// not.
     ///
     /// ```
     /// let mut owner = elltree::Handle::open(&[1, 2], &[], 10)?;
@@ -309,12 +313,12 @@ impl Handle {
         Ok(handle)
     }
 
-    /// Makes the cards fresh: the handle goes to a new tree with so many cards, and takes along the keys that it owns, which are present
-    /// with their values or absent as they were. Other handles stay behind in the old tree: [`renew_all`] takes handles along that are to
+    /// Makes the cards fresh: the handle goes to a new tree with this number of cards, and takes along the keys that it owns, which are
+    /// present with their values or absent as they were. Other handles stay behind in the old tree: [`renew_all`] takes handles along that are to
     /// stay together.
     ///
-    /// `SharedKeys` in a tree of shared keys, `BadStart` if more than [`START_MAX`] keys are present, `BadCards` if the cards are not 1 to [`CARDS_MAX`]: then the handle is where
-    /// it was.
+    /// `SharedKeys` in a tree of shared keys, `BadStart` if more than [`START_MAX`] keys are present, `BadCards` if the cards are not 1 to
+    /// [`CARDS_MAX`]: then the handle is where it was.
     ///
     /// ```
     /// use elltree::{Handle, Refused};
@@ -333,7 +337,10 @@ impl Handle {
         Ok(())
     }
 
-    /// A handle with these keys of this one, which keeps the others. `Foreign` where a key is not its own.
+    /// A handle with these keys of this one, which keeps the others. `Foreign` if a key is not its own.
+    ///
+    /// In a tree of shared keys no key is, and the new handle gets the greater part of the share: so this can be called 32 times at most, and then
+    /// is refused by `TooManyHandles`. Use [`Handle::another`] there.
     ///
     /// ```
     /// let mut all = elltree::Handle::open(&[1, 2, 3], &[], 10)?;
@@ -349,12 +356,12 @@ impl Handle {
         Ok(part)
     }
 
-    /// A reader of the handle's tree.
+    /// A reader of the handle's tree: a split without keys.
     pub fn reader(&mut self) -> Result<Reader> {
         self.split(&[]).map(Reader)
     }
 
-    /// Takes over the keys of another handle of the same tree; it comes back where it is of another tree, or memory is refused.
+    /// Takes over the keys and the share of another handle of the same tree; it comes back if it is of another tree, or memory is refused.
     ///
     /// ```
     /// let mut one = elltree::Handle::open(&[1, 2], &[], 10)?;
@@ -374,7 +381,7 @@ impl Handle {
         }
     }
 
-    /// The value of a key of the handle's own, or of a shared one, if the key is present. `Foreign` where it is neither.
+    /// The value of a shared key, or of one of the handle's own, if the key is present. `Foreign` if it is neither.
     pub fn find(&mut self, key: u64) -> Result<Option<u64>> {
         let mut value = 0;
         // SAFETY: the slot is this handle's.
@@ -382,8 +389,8 @@ impl Handle {
         Ok(there.then_some(value))
     }
 
-    /// The value of any key of the tree, whoever owns it, if it is present: as it was at one moment of the call. `BadKey` where the key is
-    /// above [`KEY_MAX`].
+    /// The value of any key of the tree, whoever owns it, if it is present: as it was at one moment of the call. It has no place in the one order
+    /// in which finds, inserts and deletes answer. `BadKey` if the key is above [`KEY_MAX`].
     pub fn look(&mut self, key: u64) -> Result<Option<u64>> {
         let mut value = 0;
         // SAFETY: the slot is this handle's.
@@ -391,20 +398,21 @@ impl Handle {
         Ok(there.then_some(value))
     }
 
-    /// Adds a key of the handle's own, or a shared one, with its value: whether the key was absent. A key that is present keeps its value.
+    /// Adds a shared key, or one of the handle's own, with its value, and returns whether the key was absent. A key that is present keeps its
+    /// value.
     ///
-    /// `NoTries` where no try is allowed, then `Foreign` where the key is neither; `Busy` where something was in the way of each
-    /// try, and `Spent` where all cards are given out: [`Handle::cards_left`] tells how many are left.
+    /// `NoTries` if no try is allowed, then `Foreign` if the key is neither; `Busy` if something was in the way of each try, and `Spent` if all
+    /// cards are given out: [`Handle::cards_left`] tells how many are left.
     pub fn insert(&mut self, key: u64, value: u64, tries: u32) -> Result<bool> {
         // SAFETY: the slot is this handle's.
         answer(unsafe { elltree_slot_insert(&mut self.0, key, value, tries) })
     }
 
-    /// Takes a key of the handle's own, or a shared one, away: whether it was present. Refused as an insert is.
+    /// Takes a shared key, or one of the handle's own, away, and returns whether it was present. Refused as an insert is.
     ///
-    /// A value changes by a delete and an insert, two cards: ask [`Handle::cards_left`] before the delete. Until the insert is made the key is
-    /// absent, so a `?` that returns by its `Spent` loses the value. Where other handles of the tree may have taken the cards meanwhile, keep
-    /// the value, renew, and insert it.
+    /// You change a value by a delete and an insert, which take two cards: ask [`Handle::cards_left`] before the delete. Until the insert is made,
+    /// the key is absent (unless it is shared and another thread inserts it), so a `?` that returns by its `Spent` loses the value. If other
+    /// handles of the tree may have taken the cards meanwhile, keep the value, renew, and insert it.
     ///
     /// ```
     /// use elltree::{Handle, Refused};
@@ -482,8 +490,8 @@ impl Handle {
 }
 
 impl Drop for Handle {
-    /// The last handle of a tree ends it. What the handle's keys have stays, is not changed any more, and does not come along at a renewal:
-    /// join the handle into another where its keys are to stay in use.
+    /// The last handle of a tree ends it. The keys that the handle owned stay as they are: no handle changes them any more or takes them along at
+    /// a renewal. Join the handle into another if they are to stay in use. Shared keys stay in use.
     fn drop(&mut self) {
         // SAFETY: the slot is this handle's; where it holds nothing, nothing happens.
         unsafe { elltree_slot_free(&mut self.0) };
@@ -607,13 +615,13 @@ impl member::HasHandle for Tree {
     }
 }
 
-/// Makes the cards of handles of one tree fresh: all of them go to one new tree with so many cards, each with the keys that it owns, which
-/// are present with their values or absent as they were. Other handles stay behind in the old tree, and the new tree has none of their keys.
+/// Makes the cards of handles of one tree fresh: all of them go to one new tree with this number of cards, each with the keys that it owns,
+/// which are present with their values or absent as they were. Other handles stay behind in the old tree, and the new tree has none of their keys.
 /// It takes time for each card and each present key, and about 0.7 microseconds for each key that a member owns. Without members nothing
 /// happens.
 ///
-/// `OtherTree` if the members are of two trees, `SharedKeys` if the keys of one are shared, `BadStart` if more than [`START_MAX`] keys are present in all, `BadCards` if the cards are
-/// not 1 to [`CARDS_MAX`]: then each member is where it was.
+/// `OtherTree` if the members are of two trees, `SharedKeys` if the keys of one are shared, `BadStart` if more than [`START_MAX`] keys are present
+/// in all, `BadCards` if the cards are not 1 to [`CARDS_MAX`]: then each member is where it was.
 ///
 /// ```
 /// use elltree::{renew_all, Member, Refused, Tree};

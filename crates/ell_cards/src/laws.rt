@@ -86,9 +86,10 @@ pub fn table_nodes_go_on()
     ensures { TableNodesGoOn }
 {}
 
-/// The laws are about something. Any ascending list of real keys, any ascending list of start keys among them, with any values, and
-/// any number of cards have a table as it starts, with a machine that is an opening, with nothing won yet; the keys of its tree are
-/// the start keys, with their values, and its one pass may begin any operation on a key of its own.
+/// The laws are about something. Any ascending list of real keys that have owners, any ascending list of start keys, which are among
+/// them where no key is shared, with any values, and any number of cards have a table as it starts, with a machine that is an opening,
+/// with nothing won yet; the keys of its tree are the start keys, with their values, and its one pass may begin any operation on a key
+/// of its own, and on a shared one.
 pub fn tables_start()
     ensures tables { TablesStart }
     ensures kept { StartsAreKept }

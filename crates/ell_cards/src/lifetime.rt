@@ -8,7 +8,7 @@ ghost use Rattle.ell_ops.specs.KeySet.{set_of};
 ghost use Rattle.ell_word.specs.Node.{greatest_card, most_start};
 ghost use Rattle.ell_core.specs.state.Opening.{last_card};
 ghost use Rattle.ell_core.specs.state.Machine.{ledger_of};
-ghost use Rattle.ell_cards.specs.Models.{Steps, IsFree, IsCardCount, Refuses, SplitRefuses, one_more};
+ghost use Rattle.ell_cards.specs.Models.{Steps, IsFree, IsCardCount, MayPart, Refuses, SplitRefuses, one_more};
 ghost use Rattle.ell_cards.specs.Changes.{first_of, left_view, right_view, joined_view};
 ghost use Rattle.ell_cards.specs.Inside.{IsOpened};
 ghost use Rattle.ell_cards.specs.Stepping.{MaySplit, MayHave, PartsShare};
@@ -213,6 +213,7 @@ impl<A: Allocator + Copy> CardTable<A> {
         requires owned { All (λ k. ledger_of pass.view.worker.ledger k ≢ None) left_keys.now }
         ensures left { IfOk result (λ parts. Steps pass parts.0 (left_view left_keys.now pass.view)) }
         ensures right { IfOk result (λ parts. Steps pass parts.1 (right_view left_keys.now pass.view)) }
+        ensures may { OnOk result (MayPart pass.view) }
         ensures refused { IfErr result (λ refused. refused.0 ≡ pass) }
         ensures why { IfErr result (λ refused. SplitRefuses pass.view refused.1) }
     {

@@ -51,8 +51,8 @@ impl Handle {
 
     /// Adds a key of the handle's own, or a shared one, with its value: whether the key was absent. A key that is present keeps its value.
     /// `NoTries` where no try is allowed, then `Foreign` where the key is neither; `Busy` where something was in the way of each try, and `Spent`
-    /// where all cards are given out: `cards_left` tells how many are left. An insert of a present key takes no card; one that adds its key
-    /// takes one, and at most one more for each try that something hindered; and a refused one takes only those.
+    /// where all cards are given out: `cards_left` tells how many are left. An insert that adds its key takes a card, and at most one more for
+    /// each try that something hindered; any other takes at most one for each of those, and none if it answers on a key of the handle's own.
     #[tactic(auto, using(crate::proofs::Trying::within_same, crate::proofs::Trying::spends_none, crate::proofs::May::may_do))]
     pub fn insert(&mut self, key: u64, value: u64, tries: u32) -> Result<bool, Refusal>
         ensures answers { IfOk result (λ said.

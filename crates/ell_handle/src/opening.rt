@@ -9,7 +9,7 @@ ghost use Rattle.ell_tree.specs.Ledgers.{Owns, present_in};
 ghost use Rattle.ell_tree.specs.PassParts.{IsUnion};
 ghost use Rattle.ell_handle.specs.Groups.{HasSame, HaveNumber};
 ghost use Rattle.ell_handle.specs.Opens.{IsOpened, IsOpenedShared, MayOpen, Refuses};
-ghost use Rattle.ell_handle.specs.Parts.{AnotherRefuses, AreParts, JoinRefuses, MayJoin, SplitRefuses};
+ghost use Rattle.ell_handle.specs.Parts.{AnotherRefuses, AreParts, IsLeast, JoinRefuses, MayJoin, SplitRefuses};
 ghost use Rattle.ell_handle.specs.declared.refusal.Refusal.TheVariants.{NoMemory};
 
 use crate::handle::{Handle, SharedTree};
@@ -82,6 +82,7 @@ impl Handle {
         ensures parts { IfOk result (λ both. AreParts (ledger_keys self.pass.view.worker.ledger) self both.0 both.1) }
         ensures kept { IfOk result (λ both. HasSame self both.0) }
         ensures bare { IfOk result (λ both. (k : ℕ) → ¬ Owns both.1.pass k) }
+        ensures may { OnOk result (¬ IsLeast self) }
         ensures why { IfErr result (λ refused. AnotherRefuses self refused.1) }
         ensures refused { IfErr result (λ refused. refused.0 ≡ self) }
     {
@@ -103,6 +104,7 @@ impl Handle {
         ensures rest { IfOk result (λ parts. (k : ℕ) →
             present_in parts.1.pass k ≡ (if set_of wanted.now k then None else present_in self.pass k)) }
         ensures owned { OnOk result (All (λ k. Owns self.pass k) wanted.now) }
+        ensures may { OnOk result (¬ IsLeast self) }
         ensures why { IfErr result (λ refused. SplitRefuses wanted.now self refused.1) }
         ensures refused { IfErr result (λ refused. refused.0 ≡ self) }
     {

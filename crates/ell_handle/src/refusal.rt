@@ -10,8 +10,8 @@ use thiserror::Error;
 /// Why a call has no answer. The map is as it was before.
 #[derive(Clone, Copy, Debug, PartialEq, Eq, Error)]
 pub enum Refusal {
-    /// The handle does not own a key of the call.
-    #[error("the handle does not own the key")]
+    /// A key of the call is neither the handle's own nor shared.
+    #[error("the key is neither the handle's own nor shared")]
     Foreign,
     /// The call allows no try.
     #[error("the call allows no try")]
@@ -34,8 +34,8 @@ pub enum Refusal {
     /// The handles are of two trees.
     #[error("the handles are of two trees")]
     OtherTree,
-    /// The tree has as many handles as it may.
-    #[error("the tree has too many handles")]
+    /// The keys of the tree are shared, and the handle has the least share of it, which is not parted.
+    #[error("the handle can make no more handles")]
     TooManyHandles,
     /// The call is not for a tree of shared keys.
     #[error("the keys of the tree are shared")]

@@ -8,7 +8,7 @@ ghost use Rattle.ell_ops.specs.KeySet.{set_of};
 ghost use Rattle.ell_ops.specs.Meaning.{greatest_key, found};
 ghost use Rattle.ell_word.specs.Node.{most_start};
 ghost use Rattle.ell_core.specs.state.Opening.{last_card};
-ghost use Rattle.ell_cards.specs.Models.{IsCardCount, Refuses, SplitRefuses, whole_share};
+ghost use Rattle.ell_cards.specs.Models.{IsCardCount, MayPart, Refuses, SplitRefuses, whole_share};
 ghost use Rattle.ell_tree.specs.CardsLeft.{AreLeftAtMost, ReadsCardsLeft};
 ghost use Rattle.ell_tree.specs.CardsTaken.{TakesNoCard};
 ghost use Rattle.ell_tree.specs.Closing.{ClosesTo};
@@ -30,8 +30,8 @@ use ell_word::StepGate;
 use std::alloc::{AllocError, Allocator};
 use std::marker::Model;
 
-/// A map from keys to values that many threads share, each through a pass of its own. A pass owns some of the keys, and finds,
-/// inserts and deletes those.
+/// A map from keys to values that many threads share, each through a pass of its own. A pass finds, inserts and deletes the keys that it
+/// owns, which no other pass does, and the shared ones, if the tree has any, as every pass does.
 #[derive(Drop)]
 pub struct Tree<A: Allocator + Copy> {
     table: CardTable<A>,
@@ -154,8 +154,8 @@ impl<A: Allocator + Copy> Tree<A> {
     }
 
     /// Parts a pass, so that two threads can work: the left part gets these keys of its own, strictly ascending, and the right part
-    /// the rest, and a part of the share. Both keep its label. Where some keys are shared, `TooManyPasses` comes if its share may not be parted;
-    /// `NoMemory` comes where memory is refused. Either way the pass comes back as it was.
+    /// the rest, and a part of the share. Both keep its label. `TooManyPasses` comes exactly if some keys are shared and its share may not be
+    /// parted, and else `NoMemory` if memory is refused. Either way the pass comes back as it was.
     pub fn split(
         &self,
         pass: Pass<A>,
@@ -166,6 +166,7 @@ impl<A: Allocator + Copy> Tree<A> {
         requires owned { All (λ k. Owns pass k) left_keys.now }
         ensures left { IfOk result (λ parts. IsLeftPart left_keys.now pass parts.0) }
         ensures right { IfOk result (λ parts. IsRightPart left_keys.now pass parts.1) }
+        ensures may { OnOk result (MayPart pass.view) }
         ensures refused { IfErr result (λ refused. refused.0 ≡ pass) }
         ensures why { IfErr result (λ refused. SplitRefuses pass.view refused.1) }
     {
@@ -218,8 +219,8 @@ impl<A: Allocator + Copy> Tree<A> {
         cards_left(&self.table, pass, gate)
     }
 
-    /// The value of a key of the pass, if the key is present. It helps nobody, nothing is in its way, it takes no card, and at most
-    /// `3 * cards + 7` steps, where `cards` is the number of the last card: how many cards the tree was asked for, and one more
+    /// The value of a key of the pass, or of a shared one, if the key is present. It helps nobody, nothing is in its way, it takes no card,
+    /// and at most `3 * cards + 7` steps, where `cards` is the number of the last card: how many cards the tree was asked for, and one more
     /// for each of its start keys.
     pub fn find<G: StepGate>(&self, pass: &mut Pass<A>, key: u64, gate: &G) -> Option<u64>
         requires may { MayDo self.now key pass.old }
@@ -231,20 +232,20 @@ impl<A: Allocator + Copy> Tree<A> {
         find(&self.table, pass, key, gate)
     }
 
-    /// Adds a key of the pass with its value: whether the key was absent. A key that is present keeps its value. It makes at least one try
-    /// and at most `tries`. `Busy` comes if something was in the way of every try, and `Spent` if a try that would add the key finds all
-    /// cards given out: after either the map is as it was, and nothing of the call is under way. However it ends, whatever was in the way
-    /// of a try is over by then: a card that another pass took first, or a change of a neighbor, which was helped to its end if nobody else
-    /// had ended it.
+    /// Adds a key of the pass, or a shared one, with its value: whether the key was absent. A key that is present keeps its value. It makes
+    /// at least one try and at most `tries`. `Busy` comes if something was in the way of every try, and `Spent` if a try that would add the
+    /// key finds all cards given out: after either the call has changed nothing, and nothing of it is under way. However it ends, whatever
+    /// was in the way of a try is over by then: a card that another pass took first, or a change of a neighbor, which was helped to its end
+    /// if nobody else had ended it.
     ///
     /// The bounds, where `cards` is the number of the last card: how many cards the tree was asked for, and one more for each of its start
     /// keys. A call takes at most `tries * (7 * cards + 27) + 1` steps. Each try that ends without an answer shows the pass a card given out,
     /// or come to its end, that it did not know of, and no card does either twice: so with more than `2 * cards` tries it is never `Busy`,
     /// and all calls of a pass together take at most `7 * cards + 28` steps each, and `2 * cards * (7 * cards + 27)` more, in every schedule.
     /// A call that is `Busy` counts all its tries as hindered, and in every run of the tree they are at most two for each card that was given
-    /// out to another pass while it went on, and one for each card that some pass had in hand when it began. A call that changes nothing
-    /// takes no card; one that changes the map takes one, and at most one more for each try that something hindered; and one that is held, at
-    /// most one for each of those.
+    /// out to another pass while it went on, and one for each card that some pass had in hand when it began. A call that changes the map
+    /// takes one card, and at most one more for each try that something hindered; any other takes at most one for each of those, and none if
+    /// it answers on a key of the pass.
     pub fn insert<G: StepGate>(
         &self,
         pass: &mut Pass<A>,
@@ -264,7 +265,7 @@ impl<A: Allocator + Copy> Tree<A> {
         Ok(change(&self.table, pass, Op::Insert(key, value), tries, gate)?.is_some())
     }
 
-    /// Takes a key of the pass away, with its value: whether it was present. Tries, steps, cards and errors are as of `insert`.
+    /// Takes a key of the pass, or a shared one, away, with its value: whether it was present. Tries, steps, cards and errors are as of `insert`.
     pub fn delete<G: StepGate>(
         &self,
         pass: &mut Pass<A>,
@@ -283,8 +284,8 @@ impl<A: Allocator + Copy> Tree<A> {
         Ok(self.take(pass, key, tries, gate)?.is_some())
     }
 
-    /// Takes a key of the pass away, and answers the value that it took, if the key was present. Nobody else took that value: at the point of
-    /// the call the key had just this value, and has none after it. Tries, steps, cards and errors are as of `delete`.
+    /// Takes a key of the pass, or a shared one, away, and answers the value that it took, if the key was present. Nobody else took that
+    /// value: at the point of the call the key had just this value, and has none after it. Tries, steps, cards and errors are as of `delete`.
     pub fn take<G: StepGate>(
         &self,
         pass: &mut Pass<A>,

@@ -9,7 +9,7 @@ text_of code =
     if int_eq code said_yes then codes "yes" else
     if int_eq code said_busy then codes "something was in the way of each try" else
     if int_eq code said_spent then codes "all cards are given out" else
-    if int_eq code said_foreign then codes "the handle does not own the key" else
+    if int_eq code said_foreign then codes "the key is neither the handle's own nor shared" else
     if int_eq code said_no_tries then codes "the call allows no try" else
     if int_eq code said_bad_cards then codes "cards are not 1 to 1,000,000" else
     if int_eq code said_bad_key then codes "a key is above 18446744073709551613" else
@@ -22,7 +22,7 @@ text_of code =
     if int_eq code said_null then codes "a pointer is null" else
     if int_eq code said_same then codes "the same handle is given twice" else
     if int_eq code said_in_call then codes "the handle is in another call" else
-    if int_eq code said_too_many then codes "the tree has too many handles" else
+    if int_eq code said_too_many then codes "the handle can make no more handles" else
     if int_eq code said_shared_keys then codes "the keys of the tree are shared" else
     codes "no code of elltree"
 

@@ -11,14 +11,17 @@ use Rattle.ell_tree.specs.CardsTaken.{TakesAtMost, TakesByHindered, TakesNoCard,
 use Rattle.ell_tree.specs.Ends.{Answers}
 use Rattle.ell_tree.specs.Ledgers.{Owns, present_in}
 use Rattle.ell_handle.specs.Groups.{HasSame, StaysPut}
+use Rattle.std.specs.List.{All}
 use Rattle.ell_handle.specs.Opens.{IsOpened, IsOpenedShared, MayOpen, Refuses}
+use Rattle.ell_handle.specs.Parts.{IsLeast}
 use Rattle.ell_handle.specs.Reads.{HasSharedKeys, KeepsKeys, MayUse, OnlyFinds, OnlyLooksUp, tree_of}
 use Rattle.ell_handle.specs.Renewal.{IsRenewed, IsTooMuch, MayRenew}
 use Rattle.ell_handle.specs.Tries.{IsHindered, IsSpent, TookTries}
 use Rattle.ell_handle.specs.declared.handle.Handle.{Handle}
 use Rattle.ell_handle.specs.declared.refusal.Refusal.TheVariants.{BadCards, BadKey, BadStart}
-use Rattle.elltree.specs.Codes.{IsOneOf, said_bad_cards, said_bad_key, said_bad_start, said_busy, said_closed, said_foreign, said_no, said_no_memory, said_no_room, said_no_tries, said_open, said_other_tree, said_shared_keys, said_spent, said_yes}
-use Rattle.elltree.specs.Maps.{AreOfOneTree, IsFoundBy, IsJoined, NeedsMore, NumbersDiffer, WritesKeys, WritesPairs}
+use Rattle.elltree.specs.Codes.{IsOneOf, said_bad_cards, said_bad_key, said_bad_start, said_busy, said_closed, said_foreign, said_no, said_no_memory, said_no_room, said_no_tries, said_open, said_other_tree, said_shared_keys, said_spent, said_too_many, said_yes}
+use Rattle.elltree.specs.Maps.{AreOfOneTree, IsFoundBy, IsJoined, NeedsMore, NumbersDiffer, OwnsIn, WritesKeys, WritesPairs}
+use Rattle.elltree.specs.Slots.{ArePartsIn, HasAnotherIn, OfHandle}
 use Rattle.elltree.specs.declared.Pair.{Pair}
 
 -- what the code of a find tells of a handle, with the value that the find has left in its place: whether the key is present and has this
@@ -120,6 +123,27 @@ pub record SaysWhyShut (keys : List ℕ) (start : List (ℕ × ℕ)) (cards : �
   pub bad_key : said ≡ said_bad_key → Refuses keys start cards BadKey
   pub bad_cards : said ≡ said_bad_cards → Refuses keys start cards BadCards
   pub no_memory : said ≡ said_no_memory → MayOpen keys start cards
+
+-- what the code of a split by these keys tells of a slot's handle, of the slot with its part and of its own after it: that these have the
+-- parts; or why there are none, each exactly if it is so, but that want of memory is named only if nothing else is wrong
+pub record TellsSplit (keys : List ℕ) (said : ℤ) (whole part rest : Option Handle) : Type 0 where
+  pub codes : IsOneOf (said_yes ∷ said_closed ∷ said_foreign ∷ said_too_many ∷ said_no_memory ∷ []) said
+  pub parts : said ≡ said_yes → ArePartsIn keys whole part rest
+  pub closed : said ≡ said_closed → whole ≡ None
+  pub none : whole ≡ None → said ≡ said_closed
+  pub foreign : said ≡ said_foreign → ¬ All (OwnsIn whole) keys
+  pub owned : said ≢ said_closed → said ≢ said_foreign → All (OwnsIn whole) keys
+  pub too_many : said ≡ said_too_many → OfHandle IsLeast whole
+  pub may : said ≡ said_yes ⊎ said ≡ said_no_memory → OfHandle (λ h. ¬ IsLeast h) whole
+
+-- and that of another handle of its tree
+pub record TellsAnother (said : ℤ) (whole kept other : Option Handle) : Type 0 where
+  pub codes : IsOneOf (said_yes ∷ said_closed ∷ said_too_many ∷ said_no_memory ∷ []) said
+  pub another : said ≡ said_yes → HasAnotherIn whole kept other
+  pub closed : said ≡ said_closed → whole ≡ None
+  pub none : whole ≡ None → said ≡ said_closed
+  pub too_many : said ≡ said_too_many → OfHandle IsLeast whole
+  pub may : said ≡ said_yes ⊎ said ≡ said_no_memory → OfHandle (λ h. ¬ IsLeast h) whole
 
 -- what the code of a join tells of two slots' handles and of the first slot's after it, whose tree stays: that it has the keys of both; or
 -- that their numbers differ, or that one slot has none, each exactly if it is so

@@ -1,12 +1,10 @@
 //! How slots open, part, come together and close.
-ghost use Rattle.std.specs.Prelude.{◌≡◌, ◌≢◌, ◌↔◌, true, false, None, Err, IfOk, IfErr, OnOk, OnErr, [], ◌∷◌};
-ghost use Rattle.std.specs.List.{All};
+ghost use Rattle.std.specs.Prelude.{◌≡◌, ◌≢◌, ◌↔◌, true, None, IfOk, IfErr, OnErr, [], ◌∷◌};
 ghost use Rattle.ell_handle.specs.Opens.{Refuses};
-ghost use Rattle.ell_handle.specs.Parts.{IsLeast};
-ghost use Rattle.elltree.specs.Codes.{IsOneOf, said_closed, said_foreign, said_no_memory, said_open, said_too_many, said_yes};
-ghost use Rattle.elltree.specs.Maps.{NumbersTell, OwnsIn, as_pairs, handle_of};
-ghost use Rattle.elltree.specs.Slots.{ArePartsIn, OfHandle};
-ghost use Rattle.elltree.specs.Told.{BeginsWith, SaysWhyShut, TellsJoin};
+ghost use Rattle.elltree.specs.Codes.{IsOneOf, said_closed, said_open, said_yes};
+ghost use Rattle.elltree.specs.Maps.{NumbersTell, as_pairs, handle_of};
+ghost use Rattle.elltree.specs.Slots.{OfHandle};
+ghost use Rattle.elltree.specs.Told.{BeginsWith, SaysWhyShut, TellsJoin, TellsSplit};
 
 use crate::Pair;
 use crate::codes::{CLOSED, FOREIGN, NO_MEMORY, OPEN, TOO_MANY_HANDLES, YES, code_of_refusal};
@@ -77,6 +75,7 @@ pub(crate) fn pairs_of(alloc: Global, pairs: &[Pair]) -> Result<Vec<(u64, u64)>,
 }
 
 /// Gives these keys of a slot to another slot, which is not open yet.
+#[tactic(auto, using(crate::proofs::Parting::split_refused))]
 #[unsafe(no_mangle)]
 pub extern "C" fn elltree_slot_split(
     alloc: Global,
@@ -84,18 +83,9 @@ pub extern "C" fn elltree_slot_split(
     into: &mut Slot,
     keys: &[u64],
 ) -> i32
-    ensures parts { result ≡ said_yes →
-        ArePartsIn keys.now (handle_of from.old.raw.inside) (handle_of into.new.raw.inside) (handle_of from.new.raw.inside) }
-    ensures foreign { result ≡ said_foreign → ¬ All (OwnsIn (handle_of from.old.raw.inside)) keys.now }
-    ensures owned { result ≢ said_foreign → result ≢ said_closed → result ≢ said_open →
-        All (OwnsIn (handle_of from.old.raw.inside)) keys.now }
     ensures busy { (result ≡ said_open) ↔ (into.old.is_open ≡ true) }
-    ensures closed { result ≡ said_closed → handle_of from.old.raw.inside ≡ None }
-    ensures none { handle_of from.old.raw.inside ≡ None → into.old.is_open ≡ false → result ≡ said_closed }
-    ensures too_many { result ≡ said_too_many → OfHandle IsLeast (handle_of from.old.raw.inside) }
-    ensures no_memory { result ≡ said_no_memory → OfHandle (λ h. ¬ IsLeast h) (handle_of from.old.raw.inside) }
-    ensures codes { IsOneOf
-        (said_yes ∷ said_open ∷ said_closed ∷ said_foreign ∷ said_too_many ∷ said_no_memory ∷ []) result }
+    ensures tells { result ≢ said_open → TellsSplit keys.now result (handle_of from.old.raw.inside)
+        (handle_of into.new.raw.inside) (handle_of from.new.raw.inside) }
     ensures refused { result ≢ said_yes → from.new.raw.inside ≡ from.old.raw.inside }
     ensures unopened { result ≢ said_yes → into.new.raw.inside ≡ into.old.raw.inside }
 {
@@ -118,16 +108,10 @@ pub extern "C" fn elltree_slot_split(
 
 // Parts the handle of a place: the part with these keys, in a box of its own, or a code.
 fn split(alloc: Global, place: &mut Place, keys: &[u64]) -> Result<Box<Place, Global>, i32>
-    ensures parts { IfOk result (λ part. ArePartsIn keys.now place.old.handle part.value.handle place.new.handle) }
-    ensures owned { OnOk result (All (OwnsIn place.old.handle) keys.now) }
-    ensures foreign { result ≡ Err said_foreign → ¬ All (OwnsIn place.old.handle) keys.now }
-    ensures no_memory { result ≡ Err said_no_memory →
-        OfHandle (λ h. ¬ IsLeast h) place.old.handle × All (OwnsIn place.old.handle) keys.now }
-    ensures closed { result ≡ Err said_closed → place.old.handle ≡ None }
-    ensures none { place.old.handle ≡ None → result ≡ Err said_closed }
-    ensures too_many { result ≡ Err said_too_many →
-        OfHandle IsLeast place.old.handle × All (OwnsIn place.old.handle) keys.now }
-    ensures codes { IfErr result (IsOneOf (said_closed ∷ said_foreign ∷ said_too_many ∷ said_no_memory ∷ [])) }
+    ensures parts { IfOk result (λ part.
+        TellsSplit keys.now said_yes place.old.handle part.value.handle place.new.handle) }
+    ensures why { IfErr result (λ code. TellsSplit keys.now code place.old.handle None None) }
+    ensures others { IfErr result (λ code. (code ≢ said_yes) × (code ≢ said_open)) }
     ensures refused { OnErr result (place.new ≡ place.old) }
 {
     let Some(handle) = place.handle.take() else {

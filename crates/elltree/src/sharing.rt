@@ -1,11 +1,10 @@
 //! Trees of shared keys, and further handles of a tree.
-ghost use Rattle.std.specs.Prelude.{◌≡◌, ◌≢◌, ◌↔◌, true, false, None, Err, IfOk, IfErr, OnErr, [], ◌∷◌};
+ghost use Rattle.std.specs.Prelude.{◌≡◌, ◌≢◌, ◌↔◌, true, None, IfOk, IfErr, OnErr, []};
 ghost use Rattle.ell_handle.specs.Opens.{Refuses};
-ghost use Rattle.ell_handle.specs.Parts.{IsLeast};
-ghost use Rattle.elltree.specs.Codes.{IsOneOf, said_closed, said_no_memory, said_open, said_too_many, said_yes};
+ghost use Rattle.elltree.specs.Codes.{said_open, said_yes};
 ghost use Rattle.elltree.specs.Maps.{as_pairs, handle_of};
-ghost use Rattle.elltree.specs.Slots.{HasAnotherIn, OfHandle};
-ghost use Rattle.elltree.specs.Told.{BeginsShared, SaysWhyShut};
+ghost use Rattle.elltree.specs.Slots.{OfHandle};
+ghost use Rattle.elltree.specs.Told.{BeginsShared, SaysWhyShut, TellsAnother};
 
 use crate::Pair;
 use crate::codes::{CLOSED, NO_MEMORY, OPEN, TOO_MANY_HANDLES, YES, code_of_refusal};
@@ -66,16 +65,12 @@ fn open_shared(
 
 /// Gives another slot, which is not open yet, a handle of the same tree: it changes shared keys, and looks at any key. A slot's own keys
 /// stay its own.
+#[tactic(auto, using(crate::proofs::Parting::another_refused))]
 #[unsafe(no_mangle)]
 pub extern "C" fn elltree_slot_another(alloc: Global, from: &mut Slot, into: &mut Slot) -> i32
-    ensures another { result ≡ said_yes →
-        HasAnotherIn (handle_of from.old.raw.inside) (handle_of from.new.raw.inside) (handle_of into.new.raw.inside) }
-    ensures too_many { result ≡ said_too_many → OfHandle IsLeast (handle_of from.old.raw.inside) }
-    ensures no_memory { result ≡ said_no_memory → OfHandle (λ h. ¬ IsLeast h) (handle_of from.old.raw.inside) }
     ensures busy { (result ≡ said_open) ↔ (into.old.is_open ≡ true) }
-    ensures closed { result ≡ said_closed → handle_of from.old.raw.inside ≡ None }
-    ensures none { handle_of from.old.raw.inside ≡ None → into.old.is_open ≡ false → result ≡ said_closed }
-    ensures codes { IsOneOf (said_yes ∷ said_open ∷ said_closed ∷ said_too_many ∷ said_no_memory ∷ []) result }
+    ensures tells { result ≢ said_open → TellsAnother result (handle_of from.old.raw.inside)
+        (handle_of from.new.raw.inside) (handle_of into.new.raw.inside) }
     ensures refused { result ≢ said_yes → from.new.raw.inside ≡ from.old.raw.inside }
     ensures unopened { result ≢ said_yes → into.new.raw.inside ≡ into.old.raw.inside }
 {
@@ -98,12 +93,10 @@ pub extern "C" fn elltree_slot_another(alloc: Global, from: &mut Slot, into: &mu
 
 // Another handle of the tree of a place's handle, in a box of its own, or a code.
 fn another(alloc: Global, place: &mut Place) -> Result<Box<Place, Global>, i32>
-    ensures another { IfOk result (λ made. HasAnotherIn place.old.handle place.new.handle made.value.handle) }
-    ensures too_many { result ≡ Err said_too_many → OfHandle IsLeast place.old.handle }
-    ensures no_memory { result ≡ Err said_no_memory → OfHandle (λ h. ¬ IsLeast h) place.old.handle }
-    ensures closed { result ≡ Err said_closed → place.old.handle ≡ None }
-    ensures none { place.old.handle ≡ None → result ≡ Err said_closed }
-    ensures codes { IfErr result (IsOneOf (said_closed ∷ said_too_many ∷ said_no_memory ∷ [])) }
+    ensures another { IfOk result (λ made.
+        TellsAnother said_yes place.old.handle place.new.handle made.value.handle) }
+    ensures why { IfErr result (λ code. TellsAnother code place.old.handle None None) }
+    ensures others { IfErr result (λ code. (code ≢ said_yes) × (code ≢ said_open)) }
     ensures refused { OnErr result (place.new ≡ place.old) }
 {
     let Some(handle) = place.handle.take() else {

@@ -42,7 +42,7 @@ fn text_of(code: i32) -> &'static [u8]
         YES => b"yes",
         BUSY => b"something was in the way of each try",
         SPENT => b"all cards are given out",
-        FOREIGN => b"the handle does not own the key",
+        FOREIGN => b"the key is neither the handle's own nor shared",
         NO_TRIES => b"the call allows no try",
         BAD_CARDS => b"cards are not 1 to 1,000,000",
         BAD_KEY => b"a key is above 18446744073709551613",
@@ -55,7 +55,7 @@ fn text_of(code: i32) -> &'static [u8]
         NULL => b"a pointer is null",
         SAME => b"the same handle is given twice",
         IN_CALL => b"the handle is in another call",
-        TOO_MANY_HANDLES => b"the tree has too many handles",
+        TOO_MANY_HANDLES => b"the handle can make no more handles",
         SHARED_KEYS => b"the keys of the tree are shared",
         _ => b"no code of elltree",
     }
