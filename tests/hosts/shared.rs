@@ -10,7 +10,7 @@ use std::sync::Barrier;
 use std::time::{Duration, Instant};
 
 const TRIES: u32 = 100_000;
-const CARDS: u64 = 300_000;
+const CARDS: u64 = 100_000;
 const START: [(u64, u64); 2] = [(1, 901), (3, 903)];
 const RACES: u64 = 20;
 

@@ -184,7 +184,7 @@ const WORKERS: [u32; 7] = [1, 2, 4, 8, 16, 32, 64];
 
 /// How many calls each of so many workers makes: fewer, where they are many.
 pub fn calls_of(workers: u32) -> u32 {
-    (8_000 / workers.max(1)).min(1_000)
+    (4_000 / workers.max(1)).min(500)
 }
 
 const START: [(u64, u64); 3] = [(0, 10), (1, 11), (5, 15)];
