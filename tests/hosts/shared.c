@@ -1,6 +1,6 @@
 /* Two threads of a host, and then four, that insert and delete the same few keys of a tree of shared keys. Each yes is matched: of each key,
    the inserts that answered yes are as many as the deletes that did, or one more where the key is present at the end, counting a start key as
-   an insert. Then what is refused in such a tree. */
+   an insert. Then four threads insert one absent key at once, and delete it at once, again and again: each time just one of them answers yes. */
 #include "elltree.h"
 #include <pthread.h>
 #include <stdio.h>
@@ -8,7 +8,7 @@
 #ifndef OPS
 #define OPS 60000
 #endif
-enum { MOST = 4, KEYS = 6, CARDS = 600000, TRIES = 100000 };
+enum { MOST = 4, KEYS = 6, CARDS = 600000, TRIES = 100000, RACES = 2000 };
 
 struct worker {
     struct elltree_handle handle;
@@ -93,8 +93,52 @@ static long run(int threads) {
     return wrong + unmatched(w, threads, began) + (elltree_free(&w[0].handle) != ELLTREE_YES);
 }
 
+struct racer {
+    struct elltree_handle handle;
+    int32_t inserted[RACES], deleted[RACES];
+};
+
+static pthread_barrier_t line;
+
+static void *hurry(void *given) {
+    struct racer *r = given;
+    for (int i = 0; i < RACES; i++) {
+        pthread_barrier_wait(&line);
+        r->inserted[i] = elltree_insert(&r->handle, key_at(3), value_of(3, 7), TRIES);
+        pthread_barrier_wait(&line);
+        r->deleted[i] = elltree_delete(&r->handle, key_at(3), TRIES);
+    }
+    return NULL;
+}
+
+static long race(void) {
+    static struct racer r[MOST];
+    pthread_t running[MOST];
+    long wrong = elltree_open_shared(&r[0].handle, NULL, 0, CARDS) != ELLTREE_YES;
+    for (int t = 1; t < MOST; t++)
+        wrong += elltree_another(&r[0].handle, &r[t].handle) != ELLTREE_YES;
+    pthread_barrier_init(&line, NULL, MOST);
+    for (int t = 0; t < MOST; t++)
+        pthread_create(&running[t], NULL, hurry, &r[t]);
+    for (int t = 0; t < MOST; t++)
+        pthread_join(running[t], NULL);
+    for (int i = 0; i < RACES; i++) {
+        int inserted = 0, deleted = 0;
+        for (int t = 0; t < MOST; t++) {
+            inserted += r[t].inserted[i] == ELLTREE_YES;
+            deleted += r[t].deleted[i] == ELLTREE_YES;
+            wrong += r[t].inserted[i] < 0 || r[t].deleted[i] < 0;
+        }
+        wrong += inserted != 1 || deleted != 1;
+    }
+    for (int t = 0; t < MOST; t++)
+        wrong += elltree_free(&r[t].handle) != ELLTREE_YES;
+    printf("%d races of %d threads, %ld wrong\n", RACES, MOST, wrong);
+    return wrong;
+}
+
 int main(void) {
-    long wrong = run(2) + run(MOST);
+    long wrong = run(2) + run(MOST) + race();
     printf("%ld wrong\n", wrong);
     return wrong != 0;
 }
