@@ -1,4 +1,4 @@
-use Rattle.std.proofs.Common.{◌≡◌, ◌≤◌, ◌×◌, ◌⊎◌, ℕ, Bool, true, false, not, List, Option, Some, ap, subst, inl, inr, sym, ◌∙◌, ◌&&◌}
+use Rattle.std.proofs.Common.{◌≡◌, ◌≤◌, ℕ, Bool, true, false, not, List, Option, Some, ap, subst, inl, inr, sym, ◌∙◌, ◌&&◌}
 use Rattle.std.proofs.lemmas.Bool.{le-leb}
 use Rattle.ell_ops.specs.declared.op.Op.{Op}
 use Rattle.ell_ops.specs.declared.reply.Reply.{Reply}
@@ -34,7 +34,7 @@ pub member_answered : (owned : List ℕ) (t : TreeModel) (op : Op) (said : Reply
 member_answered owned t op said p q h a = record { own = a.table ∙ h.own; idle = a.idle; ownable = a.share.ownable ∙ h.ownable }
 
 -- and without one
-pub member_held : (owned : List ℕ) (t : TreeModel) (op : Op) (p q : PassModel) → IsMember owned t p → LaidDown op p q → IsMember owned t q
+pub member_held : (owned : List ℕ) (t : TreeModel) (op : Op) (p q : PassModel) → IsMember owned t p → LaidDown t op p q → IsMember owned t q
 member_held owned t op p q h l = record { own = l.table ∙ h.own; idle = l.idle; ownable = l.share.ownable ∙ h.ownable }
 
 -- and after a look

@@ -1,13 +1,17 @@
 //! Trees in which some keys have owners, and every other one is shared.
-use super::calling::Call::{Ask, Look, Take};
+ghost use Rattle.ell_shared_tests.specs.Sharing.{IsMember};
+
+use super::calling::Call::{self, Ask, Look, Take};
 use super::calling::{answer, check, check_key, close};
 use super::holding::{Meeting, meet};
 use super::parting::{joined, parted};
 use super::working::{Load, calls_of, owner_of, run};
 use ell_ops::Op::{Delete, Find, Insert};
+use ell_ops::Reply;
 use ell_ops::Reply::{Found, No, Yes};
 use ell_test_gates::{Jostling, Made, two_threads_meet};
-use ell_tree::{Kind, NoGate, Tree};
+use ell_tree::{Kind, NoGate, Pass, Tree};
+use std::alloc::Global;
 use std::process::Abort;
 
 // The keys of the workers, with shared ones in between.
@@ -57,35 +61,59 @@ fn owners_are_answered_as_private_maps_among_shared_keys(rt: HostRuntime) {
     }
 }
 
+// A call, whether the owner of keys makes it, and what it answers.
+type Turn = (bool, Call, Reply);
+
+// An owner and a guest make calls in turns, each of which is to be answered as it says.
+fn take_turns(
+    rt: &impl Abort,
+    tree: &Tree<Global>,
+    owned: &[u64],
+    passes: (Pass<Global>, Pass<Global>),
+    turns: &[Turn],
+) -> (Pass<Global>, Pass<Global>)
+    requires owner { IsMember owned.now tree.now passes.0 }
+    requires guest { IsMember owned.now tree.now passes.1 }
+    ensures owner { IsMember owned.now tree.now result.0 }
+    ensures guest { IsMember owned.now tree.now result.1 }
+{
+    let (mut owner, mut guest) = passes;
+    for (number, (by_owner, call, said)) in turns.iter().enumerate() {
+        let answered = if *by_owner {
+            answer(rt, tree, &mut owner, owned, *call, &NoGate)
+        } else {
+            answer(rt, tree, &mut guest, owned, *call, &NoGate)
+        };
+        assert!(rt; answered == Ok(*said), "turn {number}");
+    }
+    (owner, guest)
+}
+
+const TURNS: [Turn; 15] = [
+    (true, Take(1), Found(10)),
+    (true, Take(1), No),
+    (false, Look(1), No),
+    (true, Ask(Insert(1, 11)), Yes),
+    (false, Look(1), Found(11)),
+    (true, Take(1), Found(11)),
+    (true, Take(3), No),
+    (false, Take(2), Found(20)),
+    (true, Take(2), No),
+    (false, Ask(Insert(2, 21)), Yes),
+    (true, Ask(Insert(2, 22)), No),
+    (true, Take(2), Found(21)),
+    (false, Take(2), No),
+    (true, Ask(Insert(3, 30)), Yes),
+    (false, Ask(Insert(4, 40)), Yes),
+];
+
 #[test]
 fn a_take_answers_the_value_that_goes(rt: HostRuntime) {
     let (owned, start) = ([1, 3], [(1, 10), (2, 20)]);
     let made = Tree::reserve_shared(rt.alloc(), &start, &owned, 20);
     let (tree, pass) = made.expect(&rt, "tree");
-    let (mut owner, mut guest) = parted(&rt, &tree, pass, &owned, &owned);
-    // Whether the owner makes a call, and what it answers.
-    let rows = [
-        (true, Take(1), Found(10)),
-        (true, Take(1), No),
-        (false, Look(1), No),
-        (true, Ask(Insert(1, 11)), Yes),
-        (false, Look(1), Found(11)),
-        (true, Take(1), Found(11)),
-        (true, Take(3), No),
-        (false, Take(2), Found(20)),
-        (true, Take(2), No),
-        (false, Ask(Insert(2, 21)), Yes),
-        (true, Ask(Insert(2, 22)), No),
-        (true, Take(2), Found(21)),
-        (false, Take(2), No),
-        (true, Ask(Insert(3, 30)), Yes),
-        (false, Ask(Insert(4, 40)), Yes),
-    ];
-    for (number, (by_owner, call, said)) in rows.iter().enumerate() {
-        let pass = if *by_owner { &mut owner } else { &mut guest };
-        let answered = answer(&rt, &tree, pass, &owned, *call, &NoGate);
-        assert!(rt; answered == Ok(*said), "row {number}");
-    }
+    let passes = parted(&rt, &tree, pass, &owned, &owned);
+    let (owner, guest) = take_turns(&rt, &tree, &owned, passes, &TURNS);
     let pass = joined(&rt, &tree, &owned, owner, guest);
     let pairs = close(&rt, tree, pass, &owned);
     assert!(rt; pairs.as_slice() == [(3, 30), (4, 40)].as_slice());

@@ -24,7 +24,10 @@ pub fn parted(
     ensures left { IsMember owned.now tree.now result.0 }
     ensures right { IsMember owned.now tree.now result.1 }
 {
-    assert!(rt; left.iter().all(|key| is_among(*key, owned) && pass.owns(*key)));
+    assert!(rt;
+        left.iter()
+            .all(|key| is_among(*key, owned) && pass.owns(*key))
+    );
     tree.split(pass, left).ok().expect(rt, "part")
 }
 
@@ -41,7 +44,11 @@ pub fn joined(
     requires right { IsMember owned.now tree.now right }
     ensures { IsMember owned.now tree.now result }
 {
-    assert!(rt; owned.iter().all(|key| !(left.owns(*key) && right.owns(*key))));
+    assert!(rt;
+        owned
+            .iter()
+            .all(|key| !(left.owns(*key) && right.owns(*key)))
+    );
     tree.join(left, right).ok().expect(rt, "memory")
 }
 

@@ -61,7 +61,7 @@ fn work<G: StepGate>(
     gate: &G,
 ) -> Done
     requires { IsMember load.owned.now tree.now pass }
-    ensures { IsMember load.owned.now tree.now result.pass }
+    ensures { IsMember load.entry.owned.now tree.now result.pass }
 {
     let mut pass = pass;
     let mut calls = Vec::new(rt.alloc());
@@ -128,7 +128,7 @@ fn work_all<R: Threads + Abort + AllocGlobal + Sync, G: StepGate + Sync>(
     gate: &G,
 ) -> Result<Vec<Done>, AllocError>
     requires { All (λ pass. IsMember load.owned.now tree.now pass) passes.items }
-    ensures { IfOk result (λ all. All (λ done. IsMember load.owned.now tree.now done.pass) all.items) }
+    ensures { IfOk result (λ all. All (λ done. IsMember load.entry.owned.now tree.now done.pass) all.items) }
 {
     map_vec(rt, passes, &|pass| work(rt, tree, pass, clock, load, gate))
 }
