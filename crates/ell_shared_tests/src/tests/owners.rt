@@ -5,7 +5,7 @@ use super::calling::Call::{self, Ask, Look, Take};
 use super::calling::{answer, check, check_key, close};
 use super::holding::{Meeting, meet};
 use super::parting::{joined, parted};
-use super::working::{Load, calls_of, owner_of, run};
+use super::working::{Load, owner_of, run};
 use ell_ops::Op::{Delete, Find, Insert};
 use ell_ops::Reply;
 use ell_ops::Reply::{Found, No, Yes};
@@ -49,7 +49,7 @@ fn owners_are_answered_as_private_maps_among_shared_keys(rt: HostRuntime) {
             let load = Load {
                 keys: KEYS,
                 owned: &OWNED,
-                calls: calls_of(workers),
+                calls: 500,
                 seed,
             };
             let (calls, pairs) = run(&rt, workers, &START, load, &Jostling::new(seed));

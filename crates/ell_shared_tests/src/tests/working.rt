@@ -182,8 +182,8 @@ pub fn run<R: Threads + Abort + AllocGlobal + Sync, G: StepGate + Sync>(
 
 const WORKERS: [u32; 7] = [1, 2, 4, 8, 16, 32, 64];
 
-/// How many calls each of so many workers makes: fewer, where they are many.
-pub fn calls_of(workers: u32) -> u32 {
+// How many calls each of so many workers makes: fewer, where they are many.
+fn calls_of(workers: u32) -> u32 {
     (4_000 / workers.max(1)).min(500)
 }
 
