@@ -1,4 +1,5 @@
-//! Histories, calls that are made at once by up to 64 threads, of owners too, ones that a gate holds, and how passes part and come together.
+//! Histories, calls that up to 64 threads make at once, ones that a gate holds, owners beside shared keys, and how passes part and come
+//! together.
 mod calling;
 mod histories;
 mod holding;

@@ -22,7 +22,7 @@ const KEYS: u64 = 16;
 const START: [(u64, u64); 4] = [(1, 11), (2, 12), (7, 17), (8, 18)];
 
 // Checks the calls of the owner of a key, alone: they do not overlap, so they are in order if a private map answers them so, which has the
-// value at the end. All others look for the key, or find it.
+// value at the end. All others only look for the key.
 fn check_owner(
     rt: &(impl Abort + AllocGlobal),
     key: u64,
