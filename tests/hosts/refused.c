@@ -130,8 +130,10 @@ int main(void) {
     faults += one_shares() != 0;
     refuse("another", another, one_shares);
     faults += two_share() != 0;
-    refuse("join of shared keys", join_c, two_share);
-    faults += one_shares() != 0 || elltree_free(&c) != ELLTREE_YES;
+    /* No handle of it owns a key that would go over, so such a join asks for no memory. */
+    asked = 0;
+    faults += join_c() != ELLTREE_YES || asked != 0 || one_shares() != 0;
+    faults += elltree_free(&c) != ELLTREE_YES;
     asked = 0;
     faults += elltree_free(&a) != ELLTREE_YES || asked != 0;
     printf("%d faults\n", faults);
