@@ -14,7 +14,7 @@ use super::working::Done;
 use ell_ops::Op::{Delete, Find, Insert};
 use ell_ops::Reply::{Found, No, Yes};
 use ell_ops::{Op, Reply};
-use ell_test_gates::{Holding, two_threads_meet};
+use ell_test_gates::{Holding, Turn, Turns, Until, two_threads_meet};
 use ell_tree::{Kind, Pass, StepGate, Tree};
 use std::alloc::Global;
 use std::process::Abort;
@@ -60,7 +60,7 @@ pub struct Meeting<'a> {
     pub end: &'a [(u64, u64)],
 }
 
-/// Has the two meet.
+/// Has the two meet, worker 0 at this kind of step.
 pub fn meet<R: Threads + Abort + AllocGlobal + Sync>(rt: &R, at: Kind, meeting: Meeting)
     requires ascending { IsStrictlyIncreasing (keys_of meeting.start.now) }
     requires real { All (λ k. k ≤ greatest_key) (keys_of meeting.start.now) }
@@ -69,20 +69,36 @@ pub fn meet<R: Threads + Abort + AllocGlobal + Sync>(rt: &R, at: Kind, meeting: 
     requires owned_real { All (λ k. k ≤ greatest_key) meeting.owned.now }
     requires by_zero { IsStrictlyIncreasing meeting.by_zero.now }
 {
+    let gate = Holding::until(at, meeting.rows.len() as u64);
+    meet_under(rt, &gate, meeting);
+    assert!(rt; gate.has_held());
+}
+
+// Has the two make their calls under a gate.
+fn meet_under<R: Threads + Abort + AllocGlobal + Sync, G: StepGate + Sync>(
+    rt: &R,
+    gate: &G,
+    meeting: Meeting,
+)
+    requires ascending { IsStrictlyIncreasing (keys_of meeting.start.now) }
+    requires real { All (λ k. k ≤ greatest_key) (keys_of meeting.start.now) }
+    requires few { length meeting.start.now ≤ most_start }
+    requires owned { IsStrictlyIncreasing meeting.owned.now }
+    requires owned_real { All (λ k. k ≤ greatest_key) meeting.owned.now }
+    requires by_zero { IsStrictlyIncreasing meeting.by_zero.now }
+{
     let (owned, start) = (meeting.owned, meeting.start);
-    let (held, rows) = ([meeting.held], meeting.rows);
-    let (clock, gate) = (AtomicU64::new(0), Holding::until(at, rows.len() as u64));
+    let (held, rows, clock) = ([meeting.held], meeting.rows, AtomicU64::new(0));
     let made = Tree::reserve_shared(rt.alloc(), start, owned, 100);
     let (tree, pass) = made.expect(rt, "tree");
     let (zero, mut one) = parted(rt, &tree, pass, owned, meeting.by_zero);
     one.relabel(1);
-    let (shared, time, told, held) = (&tree, &clock, &gate, &held);
+    let (shared, time, held) = (&tree, &clock, &held);
     let (zero, one) = join(
         rt,
-        move || play(rt, shared, zero, owned, time, told, held),
-        move || play(rt, shared, one, owned, time, told, rows),
+        move || play(rt, shared, zero, owned, time, gate, held),
+        move || play(rt, shared, one, owned, time, gate, rows),
     );
-    assert!(rt; gate.has_held());
     let mut calls = zero.calls;
     for call in &one.calls {
         calls.push(*call).expect(rt, "memory");
@@ -218,4 +234,40 @@ fn others_go_past_a_delete_of_their_key(rt: HostRuntime) {
         meet(&rt, at, BEHIND_ITS_DELETE_FLAG);
     }
     meet(&rt, Kind::DUnflag, BEHIND_ITS_CUT);
+}
+
+// Between the flag of worker 0 and its mark, worker 1 adds a neighbor at its place: so the mark is lost. Worker 0 is held again before it takes
+// its flag back, and then deletes what it finds.
+const BEHIND_A_LOST_MARK: Meeting = Meeting {
+    held: (Delete(5), Yes),
+    rows: &[
+        (Insert(6, 60), Yes),
+        (Find(5), Found(50)),
+        (Delete(5), Yes),
+        (Find(5), No),
+        (Insert(5, 51), Yes),
+    ],
+    end: &[(3, 30), (6, 60), (7, 70)],
+    ..BEFORE_ITS_DELETE
+};
+
+const TURNS: [Turn; 8] = [
+    (0, Until::Comes(Kind::Mark, 1)),
+    (1, Until::Ends),
+    (0, Until::Comes(Kind::Backtrack, 1)),
+    (1, Until::Ends),
+    (1, Until::Ends),
+    (1, Until::Ends),
+    (1, Until::Ends),
+    (0, Until::Ends),
+];
+
+#[test]
+fn others_go_past_a_delete_that_lost_its_mark(rt: HostRuntime) {
+    if !two_threads_meet(&rt) {
+        return;
+    }
+    let gate = Turns::new(&TURNS);
+    meet_under(&rt, &gate, BEHIND_A_LOST_MARK);
+    assert!(rt; gate.are_over());
 }
