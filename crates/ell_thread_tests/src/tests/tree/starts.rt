@@ -1,5 +1,5 @@
 //! Trees that open with start keys, on one thread, as a person worked them out.
-ghost use Rattle.std.specs.Prelude.{◌≡◌, ◌≤◌, IfOk};
+ghost use Rattle.std.specs.Prelude.{◌≡◌, ◌≤◌, false, IfOk};
 ghost use Rattle.std.specs.List.{All};
 ghost use Rattle.std.specs.List.Sorted.{IsStrictlyIncreasing};
 ghost use Rattle.ell_tree.specs.Ledgers.{IsIdle, IsIdlePassOf, present_in};
@@ -133,13 +133,14 @@ fn renewed(
     requires own { pass.table ≡ tree.id }
     requires idle { IsIdle pass }
     requires keys { tree.plan.keys ≡ keys.now }
+    requires owned { tree.plan.shared ≡ false }
     requires ascending { IsStrictlyIncreasing keys.now }
     requires real { All (λ k. k ≤ greatest_key) keys.now }
     ensures tree { IfOk result (λ made. made.0.plan.keys ≡ keys.now) }
     ensures pass { IfOk result (λ made. IsIdlePassOf made.0 made.1) }
     ensures same { IfOk result (λ made. present_in made.1 ≡ present_in pass) }
 {
-    assert!(rt; keys.iter().all(|key| pass.owns(*key)) && pass.has_whole_share());
+    assert!(rt; keys.iter().all(|key| pass.owns(*key)));
     let alloc = rt.alloc();
     let Ok(pairs) = tree.close(pass) else {
         return Err(CardFault::NoMemory);
