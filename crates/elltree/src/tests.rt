@@ -83,38 +83,34 @@ fn two_slots_share_all_keys(rt: HostRuntime) {
     let mut slots = [one, two];
     assert!(rt; elltree_slots_renew(alloc, &mut slots, 10, 2) == SHARED_KEYS);
     let [mut one, mut two] = slots;
-    assert!(rt; elltree_slot_join(alloc, &mut one, &mut two) == YES);
-    assert!(rt; elltree_slot_find(alloc, &mut one, KEY_MAX, &mut value) == YES);
     assert!(rt; elltree_slot_free(alloc, &mut one) == YES);
+    assert!(rt; elltree_slot_find(alloc, &mut two, KEY_MAX, &mut value) == YES);
+    assert!(rt; elltree_slot_free(alloc, &mut two) == YES);
 }
 
 #[test]
 fn a_slot_gives_another_until_its_share_is_the_least(rt: HostRuntime) {
     let alloc: Global = rt.alloc();
-    let mut all = Slot::empty(alloc);
     let mut last = Slot::empty(alloc);
-    assert!(rt; elltree_slot_open_shared(alloc, &mut last, &[], 10, 1) == YES);
-    let mut given = 0;
-    for _ in 0..32 {
+    assert!(rt; elltree_slot_open_shared(alloc, &mut last, &START, 10, 1) == YES);
+    for _ in 0..31 {
         let mut next = Slot::empty(alloc);
         assert!(rt; elltree_slot_another(alloc, &mut last, &mut next) == YES);
-        given += 1;
-        if given == 1 {
-            all = last;
-        } else {
-            assert!(rt; elltree_slot_join(alloc, &mut all, &mut last) == YES);
-        }
+        assert!(rt; elltree_slot_free(alloc, &mut last) == YES);
         last = next;
     }
-    let mut next = Slot::empty(alloc);
-    assert!(rt; elltree_slot_another(alloc, &mut last, &mut next) == TOO_MANY_HANDLES);
-    assert!(rt; elltree_slot_split(alloc, &mut last, &mut next, &[]) == TOO_MANY_HANDLES);
-    assert!(rt; elltree_slot_insert(alloc, &mut last, 5, 50, 9) == YES);
-    assert!(rt; elltree_slot_delete(alloc, &mut all, 5, 9) == YES);
-    assert!(rt; elltree_slot_join(alloc, &mut last, &mut all) == YES);
+    let (mut next, mut third, mut value) = (Slot::empty(alloc), Slot::empty(alloc), 0);
     assert!(rt; elltree_slot_another(alloc, &mut last, &mut next) == YES);
+    assert!(rt; elltree_slot_another(alloc, &mut last, &mut third) == TOO_MANY_HANDLES);
+    assert!(rt; elltree_slot_split(alloc, &mut last, &mut third, &[]) == TOO_MANY_HANDLES);
+    assert!(rt; elltree_slot_join(alloc, &mut last, &mut next) == YES);
+    assert!(rt; elltree_slot_another(alloc, &mut last, &mut third) == YES);
+    assert!(rt; elltree_slot_insert(alloc, &mut last, 5, 50, 9) == YES);
+    assert!(rt; elltree_slot_find(alloc, &mut third, 5, &mut value) == YES);
+    assert!(rt; value == 50);
+    assert!(rt; elltree_slot_delete(alloc, &mut third, 2, 9) == YES);
     assert!(rt; elltree_slot_free(alloc, &mut last) == YES);
-    assert!(rt; elltree_slot_free(alloc, &mut next) == YES);
+    assert!(rt; elltree_slot_free(alloc, &mut third) == YES);
 }
 
 #[test]
