@@ -2,7 +2,7 @@ use Rattle.std.specs.Prelude.{◌≡◌, ◌≢◌, ℕ, ◌+◌, ◌<◌, ◌�
 use Rattle.ell_ops.specs.declared.op.Op.{Op}
 use Rattle.ell_ops.specs.Meaning.{key_of}
 use Rattle.ell_word.specs.declared.gate.Kind.TheVariants as kind
-use Rattle.ell_word.specs.Node.{IsInternal, card, internal}
+use Rattle.ell_word.specs.Node.{IsInternal, card, internal, right_leaf}
 use Rattle.ell_word.specs.Word.{packed, unpacked}
 use Rattle.ell_core.specs.declared.event.Act.{Act}
 use Rattle.ell_core.specs.declared.event.Act.TheVariants as act
@@ -61,7 +61,7 @@ word_of (call.LookDown x right) = child_at x right
 word_of (call.Claim c) = 0
 word_of (call.Fill c f value) = address c f
 word_of (call.IFlag c p from) = update_at p
-word_of (call.IChild c p l right) = child_at p right
+word_of (call.IChild c p l q right) = child_at p right
 word_of (call.IUnflag c p) = update_at p
 word_of (call.DFlag c gp from) = update_at gp
 word_of (call.Mark c p was) = update_at p
@@ -75,12 +75,16 @@ pub data Atomic : Type 0 where
   Store : ℕ → Atomic
   Exchange : ℕ → ℕ → Atomic
 
+-- the node that an insert's card brings, by whether it replaces a leaf
+abbrev pub node_of_card : ℕ → Bool → ℕ
+node_of_card c replaces = if replaces then right_leaf c else internal c
+
 -- what a call does to its word
 abbrev pub atomic_of : Call → Atomic
 atomic_of (call.Claim c) = Exchange c (c + 1)
 atomic_of (call.Fill c f value) = Store value
 atomic_of (call.IFlag c p from) = Exchange (packed from) (iflag c)
-atomic_of (call.IChild c p l right) = Exchange l (internal c)
+atomic_of (call.IChild c p l q right) = Exchange l (node_of_card c q)
 atomic_of (call.IUnflag c p) = Exchange (iflag c) (clean c)
 atomic_of (call.DFlag c gp from) = Exchange (packed from) (dflag c)
 atomic_of (call.Mark c p was) = Exchange was (marked c)
@@ -118,7 +122,7 @@ after (call.LookDown x right) n v = after_look_down n v
 after (call.Claim c) n v = after_claim (n == c) c v
 after (call.Fill c f value) n v = after_fill f value v
 after (call.IFlag c p from) n v = exchanged (if_won (n == packed from) kind.IFlag c) n (after_flag (n == packed from) (fact.IFlagged c) p (unpacked n) v)
-after (call.IChild c p l right) n v = exchanged (if_won (n == l) kind.IChild c) n (learning (fact.IChanged c) v)
+after (call.IChild c p l q right) n v = exchanged (if_won (n == l) kind.IChild c) n (learning (fact.IChanged c) v)
 after (call.IUnflag c p) n v = exchanged (if_won (n == iflag c) kind.IUnflag c) n (learning (fact.IOver c) v)
 after (call.DFlag c gp from) n v = exchanged (if_won (n == packed from) kind.DFlag c) n (after_flag (n == packed from) (fact.DFlagged c) gp (unpacked n) v)
 after (call.Mark c p was) n v = exchanged (if_won (n == was) kind.Mark c) n (after_mark (n == was) c p (unpacked n) v)
@@ -144,7 +148,7 @@ May cards (call.LookDown x right) v = MayLookDown v x right
 May cards (call.Claim c) v = MayClaim v c × (c ≤ cards)
 May cards (call.Fill c f value) v = MayFill v c
 May cards (call.IFlag c p from) v = MayIFlag v c p from
-May cards (call.IChild c p l right) v = MayIChild v c p l right
+May cards (call.IChild c p l q right) v = MayIChild v c p l q right
 May cards (call.IUnflag c p) v = MayIUnflag v c p
 May cards (call.DFlag c gp from) v = MayDFlag v c gp from
 May cards (call.Mark c p was) v = MayMark v c p was
@@ -162,7 +166,7 @@ act_of (call.Upd x) n = Some act.Upd
 act_of (call.Down x right) n = Some act.Down
 act_of (call.Claim c) n = if n == c then Some act.Claim else None
 act_of (call.IFlag c p from) n = Some act.IFlag
-act_of (call.IChild c p l right) n = Some (act.IChild c)
+act_of (call.IChild c p l q right) n = Some (act.IChild c)
 act_of (call.IUnflag c p) n = Some (act.IUnflag c)
 act_of (call.DFlag c gp from) n = Some act.DFlag
 act_of (call.Mark c p was) n = Some (act.Mark c)

@@ -1,7 +1,7 @@
 use Rattle.std.specs.Prelude.{ℕ, ◌+◌, ◌==◌, ◌++◌, ◌&&◌, if◌then◌else◌, Bool, true, false, Option, Some, None, List, [], ◌∷◌, unwrap_or, nat_lt, max, Result, Ok, Err, ◌-◌, ◌%◌, ◌^◌}
 use Rattle.ell_ops.specs.KeySet.{set_of}
 use Rattle.ell_ops.specs.declared.op.Op.{Op}
-use Rattle.ell_ops.specs.declared.op.Op.TheVariants.{Insert, Delete}
+use Rattle.ell_ops.specs.declared.op.Op.TheVariants.{Insert, Delete, Swap}
 use Rattle.ell_word.specs.declared.gate.Kind.{Kind}
 use Rattle.ell_word.specs.declared.gate.Kind.TheVariants as kind
 use Rattle.ell_word.specs.declared.update.Update.{Update}
@@ -29,7 +29,7 @@ use Rattle.ell_cards.specs.Models.{TablePlan, knows_end, whole_share, given_shar
 use Rattle.ell_core.specs.declared.view.Entry.{Entry}
 use Rattle.ell_core.specs.declared.view.Entry.TheVariants.{Present, Absent}
 use Rattle.ell_ops.specs.declared.reply.Reply.{Reply}
-use Rattle.ell_ops.specs.declared.reply.Reply.TheVariants.{Yes}
+use Rattle.ell_ops.specs.declared.reply.Reply.TheVariants.{Yes, Found}
 use Rattle.ell_cards.specs.declared.view.Answered.{Answered}
 
 -- the facts with the one that an update tells: a flag or a mark that of its card, a clean update none
@@ -65,6 +65,7 @@ first_in_way (h ∷ hs) those = h ∷ hs
 -- grandparent, or else at the parent
 abbrev pub in_the_way : Option Op → Option ℕ → Option Seen → Option Seen → List Hindrance
 in_the_way (Some (Insert k value)) (Some x) parent above = read_in_way parent
+in_the_way (Some (Swap k was value)) (Some x) parent above = read_in_way parent
 in_the_way (Some (Delete k)) (Some x) parent above = first_in_way (read_in_way above) (read_in_way parent)
 in_the_way _ _ parent above = []
 
@@ -197,6 +198,7 @@ with_entry k entry (e ∷ es) = (e.0, if k == e.0 then entry else e.1) ∷ with_
 abbrev pub answered_ledger : Option Op → Reply → List (ℕ × Entry) → List (ℕ × Entry)
 answered_ledger (Some (Insert k value)) Yes ledger = with_entry k (Present value) ledger
 answered_ledger (Some (Delete k)) Yes ledger = with_entry k Absent ledger
+answered_ledger (Some (Swap k was value)) (Found there) ledger = if there == was then with_entry k (Present value) ledger else ledger
 answered_ledger _ _ ledger = ledger
 
 -- the operation that was in hand, with what is answered to it, and the card that was in hand for it
@@ -308,6 +310,8 @@ told_value (_ ∷ told) x = told_value told x
 -- what fills a card, by the operation, the search, the key of the leaf and the values of leaves
 abbrev pub filling_for : ℕ → Option Op → Option ℕ → Option Seen → Option Seen → ℕ → (ℕ → ℕ) → List (Field × ℕ)
 filling_for c (Some (Insert k value)) (Some leaf) (Some parent) above key value_of =
+    insert_filling c k value parent.node leaf key (value_of leaf)
+filling_for c (Some (Swap k was value)) (Some leaf) (Some parent) above key value_of =
     insert_filling c k value parent.node leaf key (value_of leaf)
 filling_for c (Some (Delete k)) (Some leaf) (Some parent) (Some above) key value_of =
     delete_filling above.node parent.node leaf parent.word

@@ -1,9 +1,9 @@
-use Rattle.std.specs.Prelude.{◌≡◌, ◌≢◌, ℕ, ◌≤◌, ◌⊎◌, nat_le, Bool, true, false, Option, Some, None}
+use Rattle.std.specs.Prelude.{◌≡◌, ◌≢◌, ℕ, ◌≤◌, ◌⊎◌, ◌==◌, if◌then◌else◌, nat_le, Bool, true, false, Option, Some, None}
 use Rattle.ell_ops.specs.declared.op.Op.{Op}
-use Rattle.ell_ops.specs.declared.op.Op.TheVariants.{Find, Insert, Delete}
+use Rattle.ell_ops.specs.declared.op.Op.TheVariants.{Find, Insert, Delete, Swap}
 use Rattle.ell_ops.specs.Meaning.{greatest_key, key_of}
 use Rattle.ell_word.specs.declared.update.Update.{Update}
-use Rattle.ell_word.specs.Node.{IsInternal}
+use Rattle.ell_word.specs.Node.{IsInternal, internal, right_leaf}
 use Rattle.ell_word.specs.Word.{packed}
 use Rattle.ell_core.specs.declared.fact.Fact.TheVariants.{IFlagged, IChanged, IOver, DFlagged, Marked, Unmarkable, Cut, DOver, Backed}
 use Rattle.ell_core.specs.declared.field.Field.{Field}
@@ -11,13 +11,13 @@ use Rattle.ell_core.specs.declared.field.Field.TheVariants as field
 use Rattle.ell_core.specs.declared.view.Seen.{Seen}
 use Rattle.ell_core.specs.state.Machine.{worker_of}
 use Rattle.ell_core.specs.state.Cards.{stored}
-use Rattle.ell_core.specs.acts.Searching.{IsLeaf, IsClean, leaf_answer}
+use Rattle.ell_core.specs.acts.Searching.{put_of, IsLeaf, IsClean, leaf_answer}
 use Rattle.ell_cards.specs.declared.view.Told.TheVariants.{Met, Key, Value, Info, Frozen}
 use Rattle.ell_cards.specs.declared.view.Looking.{Looking}
 use Rattle.ell_cards.specs.declared.view.View.{View}
 use Rattle.ell_cards.specs.Models.{IsTold, Knows, KnowsCard, Does, StandsAt, IsFree, stored_at}
 use Rattle.ell_ops.specs.declared.reply.Reply.{Reply}
-use Rattle.ell_ops.specs.declared.reply.Reply.TheVariants.{Yes}
+use Rattle.ell_ops.specs.declared.reply.Reply.TheVariants.{Yes, Found}
 use Rattle.ell_core.specs.soundness.Sound.{MayChange}
 
 -- begin: nothing is in hand, and the key is owned, or shared
@@ -52,14 +52,20 @@ abbrev pub IsOver : View → Op → ℕ → Type 0
 IsOver v (Find k) c = ⊥
 IsOver v (Insert k value) c = Knows v (IOver c)
 IsOver v (Delete k) c = Knows v (DOver c)
+IsOver v (Swap k was value) c = Knows v (IOver c)
 
--- an answer by the card in hand, which is over: yes
+-- what an operation answers whose card is over: yes, a swap the value that it had to find
+abbrev pub over_reply : Op → Reply
+over_reply (Swap k was value) = Found was
+over_reply _ = Yes
+
+-- an answer by the card in hand, which is over
 pub record KnowsAnswerByCard (v : View) (op : Op) (said : Reply) : Type 0 where
   pub card : ℕ
   pub holds : v.worker.card ≡ Some card
   pub flagged : v.worker.flagged ≡ true
   pub over : IsOver v op card
-  pub yes : said ≡ Yes
+  pub says : said ≡ over_reply op
 
 -- answer: an operation is in hand, and has this answer
 pub record MayAnswer (v : View) (said : Reply) : Type 0 where
@@ -92,6 +98,7 @@ IsAsked field.P = Unit {0}
 IsAsked field.L = Unit {0}
 IsAsked field.Was = Unit {0}
 IsAsked field.Key = Unit {0}
+IsAsked field.LeftLeafKey = Unit {0}
 IsAsked _ = ⊥
 
 -- the words of a card that are nodes
@@ -132,6 +139,7 @@ pub record MaySee (v : View) (c p : ℕ) : Type 0 where
 abbrev pub Wants : View → Op → ℕ → ℕ → Type 0
 Wants v (Find k) leaf key = ⊥
 Wants v (Insert k value) leaf key = (key ≢ k) × ((leaf_value : ℕ) × IsTold v (Value leaf leaf_value))
+Wants v (Swap k was value) leaf key = (key ≡ k) × IsTold v (Value leaf was)
 Wants v (Delete k) leaf key = (key ≡ k) × ((above : Seen) × (v.worker.search.grandparent ≡ Some above) × IsClean above.word)
 
 -- claim: the card was read by next in this try; the pass stands at a leaf, whose key it was told, without a card, behind a
@@ -160,12 +168,15 @@ pub record MayFill (v : View) (c : ℕ) : Type 0 where
 abbrev pub IsFilled : View → Type 0
 IsFilled v = (f : Field) → stored_at v.stores f ≡ stored v.planned f 0
 
--- iflag: an insert's card is in hand, filled and not flagged, and this is the parent with the update that was read there
+-- iflag: an insert's or a swap's card is in hand, filled and not flagged, and this is the parent with the update that was read there
 pub record MayIFlag (v : View) (c p : ℕ) (from : Update) : Type 0 where
+  pub op : Op
   pub key : ℕ
   pub value : ℕ
+  pub was : Option ℕ
   pub leaf : ℕ
-  pub busy : Does v (Insert key value)
+  pub busy : Does v op
+  pub puts : put_of op ≡ Some (key, value, was)
   pub may : MayFill v c
   pub stands : StandsAt v leaf
   pub behind : v.worker.search.parent ≡ Some (record { node = p; word = packed from })
@@ -183,15 +194,18 @@ pub record MayDFlag (v : View) (c gp : ℕ) (from : Update) : Type 0 where
   pub above : v.worker.search.grandparent ≡ Some (record { node = gp; word = packed from })
   pub filled : IsFilled v
 
--- ichild: the card is known flagged; these are its parent and leaf, and the side of its key at the parent
-pub record MayIChild (v : View) (c p l : ℕ) (right : Bool) : Type 0 where
+-- ichild: the card is known flagged; these are its parent and leaf, whether it replaces the leaf, by its keys, and the side of its key at the parent
+pub record MayIChild (v : View) (c p l : ℕ) (replaces right : Bool) : Type 0 where
   pub parent_key : ℕ
   pub card_key : ℕ
+  pub left_key : ℕ
   pub knows : Knows v (IFlagged c)
   pub parent : IsTold v (Info c field.P p)
   pub leaf : IsTold v (Info c field.L l)
   pub told_parent : IsTold v (Key p parent_key)
   pub told_card : IsTold v (Info c field.Key card_key)
+  pub told_left : IsTold v (Info c field.LeftLeafKey left_key)
+  pub kind : replaces ≡ (left_key == card_key)
   pub side : right ≡ nat_le parent_key card_key
 
 -- iunflag: the card is known changed, and this is its parent

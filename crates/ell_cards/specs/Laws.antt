@@ -9,7 +9,7 @@ use Rattle.ell_core.specs.state.Moves.{Split, Join}
 use Rattle.ell_core.specs.soundness.Sound.{IsSound}
 use Rattle.ell_core.specs.tree.Tree.{Reached}
 use Rattle.ell_core.specs.history.Stages.{waits}
-use Rattle.ell_core.specs.history.Later.{SaysTheSame}
+use Rattle.ell_core.specs.history.Later.{SaysTheSame, StagesLater}
 use Rattle.ell_core.specs.statements.Effects.{SamePairs}
 use Rattle.ell_cards.specs.declared.call.Call.{Call}
 use Rattle.ell_cards.specs.declared.view.View.{View}
@@ -27,6 +27,7 @@ machine_of_table keys cards s r = seated r.words s.views cards
 -- the state after a call has a machine again: the one to which the call's event leads, or the same one; and what the call tells is so
 pub record IsEvent (keys : List ℕ) (cards : ℕ) (s : TableState) (r : HasMachine keys cards s) (id : ℕ) (v : View) (c : Call) : Type 0 where
   pub kept : HasMachine keys cards (state_after s id v c)
+  pub later : StagesLater r.stages kept.stages
   pub event : Becomes id (act_of c (found_by s c)) (said_of c (found_by s c)) (machine_of_table keys cards s r) (machine_of_table keys cards (state_after s id v c) kept)
   pub tells : Tells cards c v (found_by s c)
 
@@ -38,6 +39,7 @@ StepsAreEvents = (keys : List ℕ) (cards : ℕ) (s : TableState) (r : HasMachin
 -- the state after a split has a machine again: the one before, after a split of that worker
 pub record IsSplit (keys : List ℕ) (cards : ℕ) (s : TableState) (r : HasMachine keys cards s) (id : ℕ) (v : View) (left : List ℕ) : Type 0 where
   pub kept : HasMachine keys cards (state_split s id v left)
+  pub later : StagesLater r.stages kept.stages
   pub split : Split (machine_of_table keys cards s r) id (machine_of_table keys cards (state_split s id v left) kept)
 
 -- each split is one of the machine
@@ -48,6 +50,7 @@ SplitsAreMoves = (keys : List ℕ) (cards : ℕ) (s : TableState) (r : HasMachin
 -- the state after a join has a machine again: the one before, after a join of these workers
 pub record IsJoin (keys : List ℕ) (cards : ℕ) (s : TableState) (r : HasMachine keys cards s) (id other : ℕ) (v w : View) : Type 0 where
   pub kept : HasMachine keys cards (state_joined s id other v w)
+  pub later : StagesLater r.stages kept.stages
   pub join : Join (machine_of_table keys cards s r) id other (machine_of_table keys cards (state_joined s id other v w) kept)
 
 -- each join is one of the machine

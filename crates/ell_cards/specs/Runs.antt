@@ -1,4 +1,5 @@
 use Rattle.std.specs.Prelude.{◌≡◌, ℕ, Option, Some, None, List, [], ◌∷◌, ◌++◌}
+use Rattle.ell_core.specs.history.Later.{StagesLater}
 use Rattle.ell_core.specs.declared.event.Act.{Act}
 use Rattle.ell_core.specs.declared.event.Event.{Event}
 use Rattle.ell_core.specs.declared.event.Shown.{Shown}
@@ -26,6 +27,7 @@ GoesBy s (Joins seat other) m m' = Join m seat other m'
 -- are a sound state
 pub record TurnIsLawful (keys : List ℕ) (cards : ℕ) (s : TableState) (r : HasMachine keys cards s) (t : Turn) (s' : TableState) (r' : HasMachine keys cards s') : Type 0 where
   pub machine : GoesBy s t (machine_of_table keys cards s r) (machine_of_table keys cards s' r')
+  pub later : StagesLater r.stages r'.stages
   pub tree : PairsGoBy s t s'
   pub sound : IsSound (own_machine cards s')
 

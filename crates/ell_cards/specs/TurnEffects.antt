@@ -2,15 +2,15 @@ use Rattle.std.specs.Prelude.{◌≡◌, ℕ, if◌then◌else◌, Bool, true, S
 use mathlib.Core.Option.{some}
 use lib.ListN.{get_elem?}
 use Rattle.ell_ops.specs.declared.op.Op.{Op}
-use Rattle.ell_ops.specs.declared.op.Op.TheVariants.{Insert, Delete}
+use Rattle.ell_ops.specs.declared.op.Op.TheVariants.{Insert, Delete, Swap}
 use Rattle.ell_word.specs.declared.gate.Kind.{Kind}
 use Rattle.ell_word.specs.declared.gate.Kind.TheVariants as kind
 use Rattle.ell_core.specs.state.Words.{Words, words_of}
 use Rattle.ell_core.specs.state.Machine.{Machine, ledger_of, worker_of}
-use Rattle.ell_core.specs.state.Cards.{card_key, card_value}
+use Rattle.ell_core.specs.state.Cards.{card_key, card_value, is_replace_card}
 use Rattle.ell_core.specs.soundness.Sound.{IsSound}
 use Rattle.ell_core.specs.acts.Wins.{win_for}
-use Rattle.ell_core.specs.statements.Effects.{AddsPair, TakesPair, SamePairs, AnswersAsMap}
+use Rattle.ell_core.specs.statements.Effects.{BringsPair, TakesPair, SamePairs, AnswersAsMap}
 use Rattle.ell_cards.specs.declared.call.Call.{Call}
 use Rattle.ell_cards.specs.declared.call.Call.TheVariants as call
 use Rattle.ell_cards.specs.declared.view.View.{View}
@@ -35,7 +35,7 @@ pub record IsHeld (v : View) (c : ℕ) : Type 0 where
 -- what a call does to the keys of the tree and their values, by whether it is a won exchange: a won ichild adds its card's key with
 -- its value, a won dchild takes its card's key with its value away, and nothing else changes them
 abbrev pub PairsChangeBy : Call → Bool → Words → Words → Type 0
-PairsChangeBy (call.IChild c p l right) true old new = AddsPair old new (card_key old c) (card_value old c)
+PairsChangeBy (call.IChild c p l q right) true old new = BringsPair (is_replace_card old c) old new (card_key old c) (old.value (old.l c)) (card_value old c)
 PairsChangeBy (call.DChild c gp p s right) true old new = TakesPair old new (card_key old c) (card_value old c)
 PairsChangeBy _ _ old new = SamePairs old new
 
@@ -54,9 +54,13 @@ pub record IsAtWork (s : TableState) (c : ℕ) (op : Op) : Type 0 where
   pub does : Does view op
   pub held : IsHeld view c
 
+-- the operation of an insert's card: a swap of the leaf's value, if it replaces the leaf
+abbrev pub op_of_card : Words → ℕ → Op
+op_of_card w c = if is_replace_card w c then Swap (card_key w c) (w.value (w.l c)) (card_value w c) else Insert (card_key w c) (card_value w c)
+
 -- whose a won child exchange is: a won ichild is of an insert of its card's key and value that is in hand, a won dchild of a delete
 abbrev pub ChangeIsOf : Call → Bool → TableState → Type 0
-ChangeIsOf (call.IChild c p l right) true s = IsAtWork s c (Insert (card_key (own_words s) c) (card_value (own_words s) c))
+ChangeIsOf (call.IChild c p l q right) true s = IsAtWork s c (op_of_card (own_words s) c)
 ChangeIsOf (call.DChild c gp p y right) true s = IsAtWork s c (Delete (card_key (own_words s) c))
 ChangeIsOf _ _ s = Unit {0}
 
@@ -93,7 +97,7 @@ TurnsDo cards s (t ∷ ts) s' run = TurnDoes cards s t run.0 run.1 × TurnsDo ca
 -- what a call wins for a card, if it is a won exchange
 abbrev pub win_of : Call → ℕ → List Kind
 win_of (call.IFlag c p from) d = win_for (Some c) kind.IFlag d
-win_of (call.IChild c p l right) d = win_for (Some c) kind.IChild d
+win_of (call.IChild c p l q right) d = win_for (Some c) kind.IChild d
 win_of (call.IUnflag c p) d = win_for (Some c) kind.IUnflag d
 win_of (call.DFlag c gp from) d = win_for (Some c) kind.DFlag d
 win_of (call.Mark c p was) d = win_for (Some c) kind.Mark d

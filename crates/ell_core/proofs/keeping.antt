@@ -18,6 +18,8 @@ pub mod Learning
 pub mod OneWorker
 -- The premises of the laws of seat moves are met: each parting of an idle worker's ledger is a split, each union a join.
 pub mod Partings
+-- What an operation puts at its key, and the cards in hand of such operations.
+pub mod Puts
 -- Workers in new seats: where each key of an old worker lands at one new one, the invariant holds on.
 pub mod Reseats
 -- An event leads where another answer and scene lead that are equal to its own.

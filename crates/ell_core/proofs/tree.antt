@@ -24,6 +24,8 @@ pub mod Reached
 pub mod RealPairs
 -- A node p with a leaf l is cut out: the child of its parent g that p was is now the other child of p, w.
 pub mod Removes
+-- A leaf takes the place of a leaf of the same key.
+pub mod Replaces
 -- How low the nodes of a walk's stack may be, and so how long the stack is.
 pub mod Stacks
 -- A walk over a lawful tree with a stack of nodes: what it has made of the tree, and what each of its turns does.

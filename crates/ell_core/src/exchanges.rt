@@ -11,10 +11,11 @@ use crate::event::{CoreFault, Stepped};
 use crate::fact::{Fact, told_by};
 use crate::field::{Field, update_word};
 use crate::memory::Memory;
+use crate::put::Put;
 use crate::view::Seen;
 use crate::worker::Worker;
 use ell_ops::Op;
-use ell_word::{State, internal_of};
+use ell_word::{State, internal_of, right_leaf_of};
 use std::alloc::Allocator;
 
 // What an exchange says.
@@ -27,7 +28,7 @@ fn won_or_lost(outcome: Result<(), u64>) -> Stepped
     }
 }
 
-/// Flags the parent for the insert in hand.
+/// Flags the parent for the insert or swap in hand.
 pub(crate) fn iflag<A: Allocator + Copy>(
     memory: &mut Memory<A>,
     worker: &mut Worker<A>,
@@ -35,7 +36,7 @@ pub(crate) fn iflag<A: Allocator + Copy>(
     requires { IsReady memory.old worker.old }
     ensures { TakesTurn act.IFlag memory.old worker.old memory.new worker.new result }
 {
-    let (Some(Op::Insert(_, _)), Some(card), false, Some(parent)) = (
+    let (Some(op), Some(card), false, Some(parent)) = (
         worker.operation,
         worker.card,
         worker.flagged,
@@ -43,6 +44,9 @@ pub(crate) fn iflag<A: Allocator + Copy>(
     ) else {
         return Err(CoreFault::NotNow);
     };
+    if Put::of(op).is_none() {
+        return Err(CoreFault::NotNow);
+    }
     let new = update_word(State::IFlag, card);
     flag(memory, worker, parent, new, Fact::IFlagged(card))
 }
@@ -107,7 +111,8 @@ fn flag<A: Allocator + Copy>(
     Ok(won_or_lost(outcome))
 }
 
-/// Exchanges the child of an insert's parent, from the leaf to the card's internal node.
+/// Exchanges the child of an insert's parent, from the leaf to the node that the card brings: its internal node, or, where
+/// it replaces a leaf of its key, its right leaf.
 pub(crate) fn ichild<A: Allocator + Copy>(
     memory: &mut Memory<A>,
     worker: &mut Worker<A>,
@@ -122,7 +127,12 @@ pub(crate) fn ichild<A: Allocator + Copy>(
     worker.learn(Fact::IChanged(card))?;
     let parent = memory.read(card, Field::P);
     let leaf = memory.read(card, Field::L);
-    Ok(won_or_lost(memory.exchange_child(parent, leaf, internal_of(card))))
+    let node = if memory.read(card, Field::LeftLeafKey) == memory.read(card, Field::RightLeafKey) {
+        right_leaf_of(card)
+    } else {
+        internal_of(card)
+    };
+    Ok(won_or_lost(memory.exchange_child(parent, leaf, node)))
 }
 
 /// Takes an insert's flag away.

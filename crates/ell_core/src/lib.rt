@@ -12,6 +12,7 @@ mod fillings;
 mod keys;
 mod laws;
 mod memory;
+mod put;
 mod replays;
 mod searching;
 mod start;
@@ -38,6 +39,7 @@ pub use laws::{
     steps_may_rely, told_words_stay, two_keys_can_open, wins_are_in_order, words_rise,
     writes_are_seen,
 };
+pub use put::Put;
 pub use replays::replay;
 pub use searching::leaf_answer;
 pub use start::write_opening;

@@ -1,9 +1,10 @@
 //! The events by which a worker searches, claims a card and ends its operation.
-ghost use Rattle.std.specs.Prelude.{◌≡◌, ◌↔◌, ℕ, IsTrue, IfSome, IfNone, Some};
-ghost use Rattle.ell_ops.specs.declared.op.Op.TheVariants.{Insert, Delete};
+ghost use Rattle.std.specs.Prelude.{◌≡◌, ◌≢◌, ◌↔◌, ℕ, IsTrue, IfSome, IfNone, Some, None};
+ghost use Rattle.ell_ops.specs.declared.op.Op.TheVariants.{Delete};
+ghost use Rattle.ell_ops.specs.Meaning.{key_of};
 ghost use Rattle.ell_core.specs.declared.event.Act.TheVariants as act;
 ghost use Rattle.ell_core.specs.declared.view.Seen.{Seen};
-ghost use Rattle.ell_core.specs.acts.Searching.{begun, ended, MayStop, AtCleanLeaf, IsClean, IsLeaf, value_at, leaf_answer, card_answer, HasAnswer};
+ghost use Rattle.ell_core.specs.acts.Searching.{begun, ended, MayStop, put_of, AtCleanLeaf, IsClean, IsLeaf, value_at, leaf_answer, card_answer, HasAnswer, ledger_after};
 ghost use Rattle.ell_core.specs.inside.Fits.{IsNode};
 ghost use Rattle.ell_core.specs.inside.Inside.{words_in, worker_in, scene_in, IsReady, IsSized, TakesTurn};
 
@@ -11,6 +12,7 @@ use crate::event::{CoreFault, Stepped};
 use crate::fact::{Fact, told_by};
 use crate::fillings::{delete_filling, insert_filling};
 use crate::memory::Memory;
+use crate::put::Put;
 use crate::view::{Entry, Search, Seen};
 use crate::worker::{NO_SEARCH, Worker};
 use ell_ops::{Op, Reply};
@@ -148,26 +150,31 @@ pub(crate) fn claim<A: Allocator + Copy>(
         return Err(CoreFault::NotNow);
     };
     match worker.operation {
-        Some(Op::Insert(key, value)) => claim_for_insert(memory, worker, key, value, at),
         Some(Op::Delete(key)) => claim_for_delete(memory, worker, key, at),
-        _ => Err(CoreFault::NotNow),
+        Some(op) => match Put::of(op) {
+            Some(what) => claim_for_put(memory, worker, op, what, at),
+            None => Err(CoreFault::NotNow),
+        },
+        None => Err(CoreFault::NotNow),
     }
 }
 
-fn claim_for_insert<A: Allocator + Copy>(
+fn claim_for_put<A: Allocator + Copy>(
     memory: &mut Memory<A>,
     worker: &mut Worker<A>,
-    key: u64,
-    value: u64,
+    op: Op,
+    what: Put,
     at: CleanLeaf,
 ) -> Result<Stepped, CoreFault>
     requires ready { IsReady memory.old worker.old }
-    requires inserts { (worker_in worker.old).operation ≡ Some (Insert key value) }
+    requires busy { (worker_in worker.old).operation ≡ Some op }
+    requires puts { put_of op ≡ Some what }
     requires at { AtCleanLeaf (worker_in worker.old) at.leaf at.parent }
     ensures { TakesTurn act.Claim memory.old worker.old memory.new worker.new result }
 {
     let leaf_key = memory.key(at.leaf);
-    if leaf_key == key {
+    let leaf_value = memory.value(at.leaf);
+    if !what.may_replace(leaf_key, leaf_value) {
         return Err(CoreFault::NotNow);
     }
     let card = memory.next();
@@ -176,12 +183,12 @@ fn claim_for_insert<A: Allocator + Copy>(
     }
     memory.claim(&insert_filling(
         card,
-        key,
-        value,
+        what.key,
+        what.value,
         at.parent.node,
         at.leaf,
         leaf_key,
-        memory.value(at.leaf),
+        leaf_value,
     ));
     worker.card = Some(card);
     worker.flagged = false;
@@ -263,7 +270,8 @@ pub fn leaf_answer(op: Op, there: Option<u64>) -> Option<Reply>
 {
     match (op, there) {
         (Op::Find(_), there) => Some(Reply::found(there)),
-        (Op::Insert(_, _), Some(_)) | (Op::Delete(_), None) => Some(Reply::No),
+        (Op::Insert(_, _), Some(_)) | (Op::Delete(_) | Op::Swap(_, _, _), None) => Some(Reply::No),
+        (Op::Swap(_, was, _), Some(there)) if there != was => Some(Reply::Found(there)),
         _ => None,
     }
 }
@@ -286,12 +294,13 @@ fn value_at<A: Allocator + Copy>(memory: &Memory<A>, leaf: u64, key: u64) -> Opt
 fn card_answer<A: Allocator + Copy>(worker: &Worker<A>, op: Op, card: u64) -> Option<Reply>
     ensures { result ≡ card_answer op card (worker_in worker.now).knows }
 {
-    let over = match op {
-        Op::Find(_) => false,
-        Op::Insert(_, _) => worker.knows(Fact::IOver(card)),
-        Op::Delete(_) => worker.knows(Fact::DOver(card)),
+    let (over, reply) = match op {
+        Op::Find(_) => (false, Reply::No),
+        Op::Insert(_, _) => (worker.knows(Fact::IOver(card)), Reply::Yes),
+        Op::Delete(_) => (worker.knows(Fact::DOver(card)), Reply::Yes),
+        Op::Swap(_, was, _) => (worker.knows(Fact::IOver(card)), Reply::Found(was)),
     };
-    if over { Some(Reply::Yes) } else { None }
+    if over { Some(reply) } else { None }
 }
 
 // The operation's answer: at a leaf if it has one there, else by its card.
@@ -312,8 +321,25 @@ fn answer_of<A: Allocator + Copy>(memory: &Memory<A>, worker: &Worker<A>, op: Op
     }
 }
 
+// Writes into the ledger what an operation with this answer has made of its key.
+fn settle<A: Allocator + Copy>(worker: &mut Worker<A>, op: Op, reply: Reply)
+    requires { (worker_in worker.old).ledger (key_of op) ≢ None }
+    ensures { worker_in worker.new ≡ record (worker_in worker.old) {
+      ledger = ledger_after op reply (worker_in worker.old).ledger;
+    } }
+{
+    match (op, reply) {
+        (Op::Insert(key, value), Reply::Yes) => worker.settle(key, Entry::Present(value)),
+        (Op::Delete(key), Reply::Yes) => worker.settle(key, Entry::Absent),
+        (Op::Swap(key, was, value), Reply::Found(there)) if there == was => {
+            worker.settle(key, Entry::Present(value));
+        }
+        _ => {}
+    }
+}
+
 /// Answers the operation, and has nothing in hand any more. An insert that answers yes makes its key present with its value, a
-/// delete absent.
+/// delete absent, and a swap that found its first value present with its second one.
 pub(crate) fn answer<A: Allocator + Copy>(
     memory: &Memory<A>,
     worker: &mut Worker<A>,
@@ -327,11 +353,7 @@ pub(crate) fn answer<A: Allocator + Copy>(
     let Some(reply) = answer_of(memory, worker, op) else {
         return Err(CoreFault::NotNow);
     };
-    match (op, reply) {
-        (Op::Insert(key, value), Reply::Yes) => worker.settle(key, Entry::Present(value)),
-        (Op::Delete(key), Reply::Yes) => worker.settle(key, Entry::Absent),
-        _ => {}
-    }
+    settle(worker, op, reply);
     put_down(worker);
     Ok(Stepped::Answered(reply))
 }

@@ -1,11 +1,11 @@
-use Rattle.std.proofs.Common.{◌≡◌, ℕ, zero, suc, ◌<◌, length, get_or, Bool, true, false, cond, List, [], ◌∷◌, ◌++◌, ◌==◌, if◌then◌else◌, eqb, eqb-true, Option, Some, None, unwrap_or, arith, inl, inr, ⊎_elim, refl, ap, sym, ◌∙◌}
+use Rattle.std.proofs.Common.{◌≡◌, ◌≢◌, ℕ, zero, suc, ◌<◌, length, get_or, Bool, true, false, cond, List, [], ◌∷◌, ◌++◌, ◌==◌, if◌then◌else◌, eqb, eqb-true, Option, Some, None, unwrap_or, arith, inl, inr, ⊎_elim, refl, ap, sym, ◌∙◌}
 use Rattle.std.proofs.lemmas.List.{length-map}
 use Rattle.std.proofs.lemmas.Bool.{cases_eq, cases_lt, eq-eqb, ne_eqb}
 use Rattle.std.specs.BTreeMap.{is_at}
 use Rattle.std.specs.Map.{lookup, keys_of, values_of}
 use Rattle.std.specs.List.Sorted.{IsStrictlyIncreasing}
 use Rattle.std.specs.Ordering.{nat_cmp}
-use Rattle.ell_ops.specs.Contents.{Contents, contents_of, with_pair, without, ListsPairs}
+use Rattle.ell_ops.specs.Contents.{Contents, contents_of, with_pair, with_swap, swapped, without, ListsPairs}
 use Rattle.ell_ops.proofs.Rising.{Over, Rises, over_less, rises}
 use Rattle.ell_ops.proofs.Sets.{is_at-nat, eqb-swap}
 
@@ -41,6 +41,30 @@ contents_of-kept old key value there had = λ t q. by q (q == key) refl t
     by : (q : ℕ) (b : Bool) → (q == key) ≡ b → contents_of old q ≡ (if b then Some (unwrap_or (contents_of old q) value) else contents_of old q)
     by q true same = let has = ap (contents_of old) (eqb-true q key same) ∙ had in has ∙ ap (λ o. Some (unwrap_or o value)) (sym has)
     by q false other = refl
+
+-- one that had the first value of a swap gets the second
+pub contents_of-swapped : (old new : List (ℕ × ℕ)) (key was value : ℕ) → contents_of old key ≡ Some was
+    → ((q : ℕ) → lookup (is_at (nat_cmp q)) new ≡ cond (is_at (nat_cmp key) q) (Some value) (lookup (is_at (nat_cmp q)) old))
+    → contents_of new ≡ with_swap (contents_of old) key was value
+contents_of-swapped old new key was value had h = λ t q. (changed old new key (Some value) h q ∙ by q (q == key) refl) t
+  where
+    by : (q : ℕ) (b : Bool) → (q == key) ≡ b
+        → cond b (Some value) (contents_of old q) ≡ (if b then swapped (contents_of old q) was value else contents_of old q)
+    by q true same = sym (ap (λ o. swapped o was value) (ap (contents_of old) (eqb-true q key same) ∙ had)
+        ∙ ap (λ t. Some (if t then value else was)) (eq-eqb was was refl))
+    by q false other = refl
+
+-- any other keeps its value
+pub contents_of-unswapped : (old : List (ℕ × ℕ)) (key was value : ℕ) → contents_of old key ≢ Some was → contents_of old ≡ with_swap (contents_of old) key was value
+contents_of-unswapped old key was value other = λ t q. by q (q == key) refl t
+  where
+    stays : (o : Option ℕ) → o ≢ Some was → o ≡ swapped o was value
+    stays None n = refl
+    stays (Some v) n = ap Some (sym (ap (λ t. if t then value else v) (ne_eqb v was (λ e. n (ap Some e)))))
+
+    by : (q : ℕ) (b : Bool) → (q == key) ≡ b → contents_of old q ≡ (if b then swapped (contents_of old q) was value else contents_of old q)
+    by q true same = stays (contents_of old q) (λ e. other (ap (contents_of old) (sym (eqb-true q key same)) ∙ e))
+    by q false different = refl
 
 pub contents_of-remove : (old new : List (ℕ × ℕ)) (key : ℕ)
     → ((q : ℕ) → lookup (is_at (nat_cmp q)) new ≡ cond (is_at (nat_cmp key) q) None (lookup (is_at (nat_cmp q)) old))

@@ -2,11 +2,11 @@ use Rattle.std.proofs.Common.{◌≡◌, ◌≢◌, ℕ, zero, suc, ◌<◌, ◌
 use Rattle.std.specs.Prelude.{slice_get}
 use Rattle.std.proofs.lemmas.Bool.{cases_eq, eq-eqb, ne_eqb}
 use Rattle.ell_ops.specs.declared.op.Op.{Op}
-use Rattle.ell_ops.specs.declared.op.Op.TheVariants.{Find, Insert, Delete}
+use Rattle.ell_ops.specs.declared.op.Op.TheVariants.{Find, Insert, Delete, Swap}
 use Rattle.ell_ops.specs.declared.reply.Reply.TheVariants.{No, Yes, Found}
 use Rattle.ell_ops.specs.Contents.{Contents}
 use Rattle.ell_ops.specs.Meaning.{yes_if, found, reply_of, after, replies, final}
-use Rattle.ell_ops.specs.LastWriter.{NoInsert, NoDelete, IsAbsent, HasValue, GoesByPresence, FoldHasPresentKeys, RepliesGoByPresence}
+use Rattle.ell_ops.specs.LastWriter.{NoSwap, NoInsert, NoDelete, IsAbsent, HasValue, GoesByPresence, FoldHasPresentKeys, RepliesGoByPresence}
 
 -- no insert behind the first operation, in the list and in its rest
 inserts_up : (op : Op) (ops : List Op) (key low high : ℕ) → NoInsert ops key low high → NoInsert (op ∷ ops) key (suc low) (suc high)
@@ -58,24 +58,35 @@ data Did (there : Contents) (op : Op) (key : ℕ) : Type 0 where
   inserted : (value : ℕ) → op ≡ Insert key value → after op there key ≡ Some (unwrap_or (there key) value) → Did there op key
   deleted : op ≡ Delete key → after op there key ≡ None → Did there op key
 
-did : (there : Contents) (op : Op) (key : ℕ) → Did there op key
-did there (Find k) key = left refl (λ value e. absurd cc) (λ e. absurd cc)
-did there (Insert k v) key =
+-- an operation that is no swap
+abbrev pub IsNoSwap : Op → Type 0
+IsNoSwap op = (k was value : ℕ) → op ≢ Swap k was value
+
+swaps_rest : (op : Op) (ops : List Op) → NoSwap (op ∷ ops) → NoSwap ops
+swaps_rest op ops free j k was value = free (suc j) k was value
+
+swaps_first : (op : Op) (ops : List Op) → NoSwap (op ∷ ops) → IsNoSwap op
+swaps_first op ops free k was value e = free 0 k was value (ap Some e)
+
+did : (there : Contents) (op : Op) (key : ℕ) → IsNoSwap op → Did there op key
+did there (Swap k was value) key free = absurd (free k was value refl)
+did there (Find k) key free = left refl (λ value e. absurd cc) (λ e. absurd cc)
+did there (Insert k v) key free =
     ⊎_elim
     (λ e. let same : Insert k v ≡ Insert key v = ap (λ q. Insert q v) (sym e) in inserted v same (ap (λ o. after o there key) same ∙ insert_here there key v))
     (λ n. left (insert_else there k v key n) (λ value e. let same : k ≡ key = cc in n (sym same)) (λ e. absurd cc))
     (cases_eq key k)
-did there (Delete k) key =
+did there (Delete k) key free =
     ⊎_elim
     (λ e. let same : Delete k ≡ Delete key = ap Delete (sym e) in deleted same (ap (λ o. after o there key) same ∙ delete_here there key))
     (λ n. left (delete_else there k key n) (λ value e. absurd cc) (λ e. let same : k ≡ key = cc in n (sym same)))
     (cases_eq key k)
 
 -- a key that is absent in the rest, behind the first operation, is absent in the list
-absent_forth : (there : Contents) (op : Op) (ops : List Op) (key i : ℕ) → IsAbsent (after op there) ops key i → IsAbsent there (op ∷ ops) key (suc i)
-absent_forth there op ops key i (inl h) =
+absent_forth : (there : Contents) (op : Op) (ops : List Op) (key i : ℕ) → NoSwap (op ∷ ops) → IsAbsent (after op there) ops key i → IsAbsent there (op ∷ ops) key (suc i)
+absent_forth there op ops key i free (inl h) =
     inl (record { at = suc h.at; before = let b = h.before in omega arith; delete = h.delete; stays = inserts_up op ops key h.at i h.stays })
-absent_forth there op ops key i (inr h) = by (did there op key)
+absent_forth there op ops key i free (inr h) = by (did there op key (swaps_first op ops free))
   where
     by : Did there op key → IsAbsent there (op ∷ ops) key (suc i)
     by (left same no_insert no_delete) = inr (record { lacked = sym same ∙ h.lacked; stays = inserts_first op ops key i no_insert h.stays })
@@ -87,14 +98,14 @@ absent_forth there op ops key i (inr h) = by (did there op key)
       stays = inserts_first op ops key i (λ value e. let clash : Delete key ≡ Insert key value = sym is ∙ e in absurd cc) h.stays;
     })
 
-absent_back : (there : Contents) (op : Op) (ops : List Op) (key i : ℕ) → IsAbsent there (op ∷ ops) key (suc i) → IsAbsent (after op there) ops key i
-absent_back there op ops key i (inl h) = at_place h.at h.before h.delete h.stays
+absent_back : (there : Contents) (op : Op) (ops : List Op) (key i : ℕ) → NoSwap (op ∷ ops) → IsAbsent there (op ∷ ops) key (suc i) → IsAbsent (after op there) ops key i
+absent_back there op ops key i free (inl h) = at_place h.at h.before h.delete h.stays
   where
     at_place : (at : ℕ) → at < suc i → slice_get (op ∷ ops) at ≡ Some (Delete key) → NoInsert (op ∷ ops) key at (suc i) → IsAbsent (after op there) ops key i
     at_place zero before delete stays = let is : op ≡ Delete key = cc in
         inr (record { lacked = ap (λ o. after o there key) is ∙ delete_here there key; stays = inserts_rest op ops key i stays })
     at_place (suc at) before delete stays = inl (record { at = at; before = omega arith; delete = delete; stays = inserts_down op ops key at i stays })
-absent_back there op ops key i (inr h) = by (did there op key)
+absent_back there op ops key i free (inr h) = by (did there op key (swaps_first op ops free))
   where
     by : Did there op key → IsAbsent (after op there) ops key i
     by (left same no_insert no_delete) = inr (record { lacked = same ∙ h.lacked; stays = inserts_rest op ops key i h.stays })
@@ -102,15 +113,15 @@ absent_back there op ops key i (inr h) = by (did there op key)
     by (deleted is none) = inr (record { lacked = none; stays = inserts_rest op ops key i h.stays })
 
 -- so it is of one that is present with a value
-value_forth : (there : Contents) (op : Op) (ops : List Op) (key i value : ℕ) → HasValue (after op there) ops key i value → HasValue there (op ∷ ops) key (suc i) value
-value_forth there op ops key i value (inl h) = inl (record {
+value_forth : (there : Contents) (op : Op) (ops : List Op) (key i value : ℕ) → NoSwap (op ∷ ops) → HasValue (after op there) ops key i value → HasValue there (op ∷ ops) key (suc i) value
+value_forth there op ops key i value free (inl h) = inl (record {
   at = suc h.at;
   before = let b = h.before in omega arith;
   insert = h.insert;
-  absent = absent_forth there op ops key h.at h.absent;
+  absent = absent_forth there op ops key h.at free h.absent;
   stays = deletes_up op ops key h.at i h.stays;
 })
-value_forth there op ops key i value (inr h) = by (did there op key)
+value_forth there op ops key i value free (inr h) = by (did there op key (swaps_first op ops free))
   where
     new : (v : ℕ) → op ≡ Insert key v → (o : Option ℕ) → there key ≡ o → Some (unwrap_or o v) ≡ Some value → HasValue there (op ∷ ops) key (suc i) value
     new v is None none e = let same : v ≡ value = cc in inl (record {
@@ -130,8 +141,8 @@ value_forth there op ops key i value (inr h) = by (did there op key)
     by (inserted v is has) = new v is (there key) refl (sym has ∙ h.had)
     by (deleted is none) = absurd (let clash : None ≡ Some value = sym none ∙ h.had in cc)
 
-value_back : (there : Contents) (op : Op) (ops : List Op) (key i value : ℕ) → HasValue there (op ∷ ops) key (suc i) value → HasValue (after op there) ops key i value
-value_back there op ops key i value (inl h) = at_place h.at h.before h.insert h.absent h.stays
+value_back : (there : Contents) (op : Op) (ops : List Op) (key i value : ℕ) → NoSwap (op ∷ ops) → HasValue there (op ∷ ops) key (suc i) value → HasValue (after op there) ops key i value
+value_back there op ops key i value free (inl h) = at_place h.at h.before h.insert h.absent h.stays
   where
     first : IsAbsent there (op ∷ ops) key 0 → there key ≡ None
     first (inl d) = let b = d.before in absurd (omega arith)
@@ -147,10 +158,10 @@ value_back there op ops key i value (inl h) = at_place h.at h.before h.insert h.
       at = at;
       before = omega arith;
       insert = insert;
-      absent = absent_back there op ops key at absent;
+      absent = absent_back there op ops key at free absent;
       stays = deletes_down op ops key at i stays;
     })
-value_back there op ops key i value (inr h) = by (did there op key)
+value_back there op ops key i value free (inr h) = by (did there op key (swaps_first op ops free))
   where
     by : Did there op key → HasValue (after op there) ops key i value
     by (left same no_insert no_delete) = inr (record { had = same ∙ h.had; stays = deletes_rest op ops key i h.stays })
@@ -185,16 +196,16 @@ nothing_stands there key i = (
 )
 
 pub present_keys : FoldHasPresentKeys
-present_keys there [] key zero = none_yet there [] key
-present_keys there [] key (suc i) = nothing_stands there key (suc i)
-present_keys there (op ∷ ops) key zero = none_yet there (op ∷ ops) key
-present_keys there (op ∷ ops) key (suc i) =
-    let rest = present_keys (after op there) ops key i in (
+present_keys there [] key zero free = none_yet there [] key
+present_keys there [] key (suc i) free = nothing_stands there key (suc i)
+present_keys there (op ∷ ops) key zero free = none_yet there (op ∷ ops) key
+present_keys there (op ∷ ops) key (suc i) free =
+    let rest = present_keys (after op there) ops key i (swaps_rest op ops free) in (
       λ value. (
-        λ h. value_forth there op ops key i value ((rest.0 value).0 h),
-        λ h. (rest.0 value).1 (value_back there op ops key i value h),
+        λ h. value_forth there op ops key i value free ((rest.0 value).0 h),
+        λ h. (rest.0 value).1 (value_back there op ops key i value free h),
       ),
-      (λ h. absent_forth there op ops key i (rest.1.0 h), λ h. rest.1.1 (absent_back there op ops key i h)),
+      (λ h. absent_forth there op ops key i free (rest.1.0 h), λ h. rest.1.1 (absent_back there op ops key i free h)),
     )
 
 -- the reply at a position is that where it stands
@@ -248,19 +259,21 @@ module _ (o : Option ℕ) (P : ℕ → Type 0) (N : Type 0) (some : (value : ℕ
       by None has = (λ e. absurd cc, λ p. let e = (has p.0).1 p.1 in absurd cc)
       by (Some v) has = (λ e. (v, (has v).0 refl), λ p. refl)
 
-answers : (there : Contents) (ops : List Op) (i : ℕ) (op : Op) → GoesByPresence there ops i op (reply_of op (final there (take i ops)))
-answers there ops i (Find key) =
-    let h = present_keys there ops key i in
+answers : (there : Contents) (ops : List Op) (i : ℕ) (op : Op) → NoSwap ops → GoesByPresence there ops i op (reply_of op (final there (take i ops)))
+answers there ops i (Find key) free =
+    let h = present_keys there ops key i free in
     let o = final there (take i ops) key in
     (finds o (HasValue there ops key i) (IsAbsent there ops key i) h.0 h.1, finds_none o (HasValue there ops key i) (IsAbsent there ops key i) h.0 h.1)
-answers there ops i (Insert key value) =
-    let h = present_keys there ops key i in
+answers there ops i (Insert key value) free =
+    let h = present_keys there ops key i free in
     let o = final there (take i ops) key in
     (yes_none o (HasValue there ops key i) (IsAbsent there ops key i) h.0 h.1, no_none o (HasValue there ops key i) (IsAbsent there ops key i) h.0 h.1)
-answers there ops i (Delete key) =
-    let h = present_keys there ops key i in
+answers there ops i (Delete key) free =
+    let h = present_keys there ops key i free in
     let o = final there (take i ops) key in
     (yes_some o (HasValue there ops key i) (IsAbsent there ops key i) h.0 h.1, no_some o (HasValue there ops key i) (IsAbsent there ops key i) h.0 h.1)
 
+answers there ops i (Swap key was value) free = refl
+
 pub replies_by_presence : RepliesGoByPresence
-replies_by_presence there ops i op e = (reply_of op (final there (take i ops)), reply_at there ops i op e, answers there ops i op)
+replies_by_presence there ops i op free e = (reply_of op (final there (take i ops)), reply_at there ops i op e, answers there ops i op free)

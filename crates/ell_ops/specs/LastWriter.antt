@@ -1,6 +1,6 @@
 use Rattle.std.specs.Prelude.{◌≡◌, ◌≢◌, ℕ, ◌<◌, ◌≤◌, ◌↔◌, ◌⊎◌, List, Some, None, slice_get, take}
 use Rattle.ell_ops.specs.declared.op.Op.{Op}
-use Rattle.ell_ops.specs.declared.op.Op.TheVariants.{Find, Insert, Delete}
+use Rattle.ell_ops.specs.declared.op.Op.TheVariants.{Find, Insert, Delete, Swap}
 use Rattle.ell_ops.specs.declared.reply.Reply.{Reply}
 use Rattle.ell_ops.specs.declared.reply.Reply.TheVariants.{No, Yes, Found}
 use Rattle.ell_ops.specs.Contents.{Contents}
@@ -58,14 +58,19 @@ GoesByPresence there ops i (Find key) reply =
     ((value : ℕ) → (reply ≡ Found value) ↔ HasValue there ops key i value) × ((reply ≡ No) ↔ IsAbsent there ops key i)
 GoesByPresence there ops i (Insert key value) reply = ((reply ≡ Yes) ↔ IsAbsent there ops key i) × ((reply ≡ No) ↔ IsPresent there ops key i)
 GoesByPresence there ops i (Delete key) reply = ((reply ≡ Yes) ↔ IsPresent there ops key i) × ((reply ≡ No) ↔ IsAbsent there ops key i)
+GoesByPresence there ops i (Swap key was value) reply = reply ≡ reply
+
+-- a list of finds, inserts and deletes
+abbrev pub NoSwap : List Op → Type 0
+NoSwap ops = (j key was value : ℕ) → slice_get ops j ≢ Some (Swap key was value)
 
 -- before each position, and at the end, there are the keys that are present, with their values
 abbrev pub FoldHasPresentKeys : Type 0
-FoldHasPresentKeys = (there : Contents) (ops : List Op) (key i : ℕ)
+FoldHasPresentKeys = (there : Contents) (ops : List Op) (key i : ℕ) → NoSwap ops
     → ((value : ℕ) → (final there (take i ops) key ≡ Some value) ↔ HasValue there ops key i value)
     × ((final there (take i ops) key ≡ None) ↔ IsAbsent there ops key i)
 
 -- each operation's reply goes by its key before it
 abbrev pub RepliesGoByPresence : Type 0
-RepliesGoByPresence = (there : Contents) (ops : List Op) (i : ℕ) (op : Op) → slice_get ops i ≡ Some op
+RepliesGoByPresence = (there : Contents) (ops : List Op) (i : ℕ) (op : Op) → NoSwap ops → slice_get ops i ≡ Some op
     → (reply : Reply) × (slice_get (replies there ops) i ≡ Some reply) × GoesByPresence there ops i op reply

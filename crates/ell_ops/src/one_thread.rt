@@ -2,7 +2,7 @@
 ghost use Rattle.std.specs.Prelude.{◌≡◌, IfOk, OnOk, OnErr};
 ghost use Rattle.std.specs.List.Sorted.{IsStrictlyIncreasing};
 ghost use Rattle.std.specs.Map.{keys_of};
-ghost use Rattle.ell_ops.specs.declared.op.Op.TheVariants.{Insert};
+ghost use Rattle.ell_ops.specs.declared.op.Op.TheVariants.{Insert, Swap};
 ghost use Rattle.ell_ops.specs.Contents.{contents_of, nothing, ListsPairs};
 ghost use Rattle.ell_ops.specs.Meaning.{reply_of, after, AddsKey, replies, final};
 
@@ -28,6 +28,7 @@ pub fn apply<A: Allocator + Copy>(
         Op::Find(key) => Ok(Reply::found(map.get(&key).copied())),
         Op::Insert(key, value) => insert(map, key, value),
         Op::Delete(key) => Ok(Reply::yes_if(map.remove(&key).is_some())),
+        Op::Swap(key, was, value) => swap(map, key, was, value),
     }
 }
 
@@ -47,6 +48,25 @@ fn insert<A: Allocator + Copy>(
     }
     map.insert(key, value)?;
     Ok(Reply::Yes)
+}
+
+// Gives a key another value, if it has the first one.
+fn swap<A: Allocator + Copy>(
+    map: &mut BTreeMap<u64, u64, A>,
+    key: u64,
+    was: u64,
+    value: u64,
+) -> Result<Reply, NoMemory>
+    ensures reply { IfOk result (λ reply. reply ≡ reply_of (Swap key was value) (contents_of map.old.entries)) }
+    ensures after { OnOk result (contents_of map.new.entries ≡ after (Swap key was value) (contents_of map.old.entries)) }
+    ensures err { OnErr result (map.new.entries ≡ map.old.entries) }
+    ensures refused { OnErr result (AddsKey (Swap key was value) (contents_of map.old.entries)) }
+{
+    let found = map.get(&key).copied();
+    if found == Some(was) {
+        map.insert(key, value)?;
+    }
+    Ok(Reply::found(found))
 }
 
 /// Applies a list of operations to the empty map, one after the other. Answers the reply of each operation, in their order, and

@@ -13,6 +13,8 @@ pub enum Op {
     Insert(u64, u64),
     /// Removes the key; was it present?
     Delete(u64),
+    /// What is the key's value? If it is the first one, it becomes the second one.
+    Swap(u64, u64, u64),
 }
 
 impl Op {
@@ -23,7 +25,7 @@ impl Op {
         ensures { result ≡ key_of self.now }
     {
         match *self {
-            Op::Find(key) | Op::Insert(key, _) | Op::Delete(key) => key,
+            Op::Find(key) | Op::Insert(key, _) | Op::Delete(key) | Op::Swap(key, _, _) => key,
         }
     }
 

@@ -2,7 +2,7 @@
 ghost use Rattle.std.specs.Prelude.{◌≡◌};
 ghost use Rattle.ell_ops.specs.Meaning.{found, yes_if};
 
-/// What an operation answers: a find the value of its key, if it is present, an insert whether it was absent, a delete whether it
+/// What an operation answers: a find and a swap the value of its key, if it is present, an insert whether it was absent, a delete whether it
 /// was present.
 #[derive(Clone, Copy, Debug, PartialEq, Eq)]
 pub enum Reply {
@@ -10,7 +10,7 @@ pub enum Reply {
     No,
     /// An insert has added its key, or a delete has removed it.
     Yes,
-    /// A find has found its key, with this value.
+    /// A find or a swap has found its key, with this value.
     Found(u64),
 }
 

@@ -1,6 +1,6 @@
-use Rattle.std.proofs.Common.{◌≡◌, ℕ, Option, Some, List, [], sym, ◌∙◌, ap, subst, max}
+use Rattle.std.proofs.Common.{◌≡◌, ℕ, Option, Some, List, [], sym, ◌∙◌, ap, subst, max, min}
 use Rattle.ell_ops.specs.declared.op.Op.{Op}
-use Rattle.ell_ops.specs.declared.op.Op.TheVariants.{Insert, Delete}
+use Rattle.ell_ops.specs.declared.op.Op.TheVariants.{Insert, Delete, Swap}
 use Rattle.ell_word.specs.declared.update.State.TheVariants as state
 use Rattle.ell_word.specs.Word.{packed}
 use Rattle.ell_core.specs.declared.fact.Fact.TheVariants as fact
@@ -36,6 +36,12 @@ pub insert_fills : (c k value : ℕ) (v : View) (place : Place) → Does v (Inse
 insert_fills c k value v place busy at =
     filling_there c (Insert k value) v place busy at ∙ ap (insert_filling c k value place.parent.node place.leaf place.key) at.value
 
+-- for a swap
+pub swap_fills : (c k was value : ℕ) (v : View) (place : Place) → Does v (Swap k was value) → IsAt v place
+    → filling_of c v ≡ insert_filling c k value place.parent.node place.leaf place.key place.value
+swap_fills c k was value v place busy at =
+    filling_there c (Swap k was value) v place busy at ∙ ap (insert_filling c k value place.parent.node place.leaf place.key) at.value
+
 -- a delete wants a card at a leaf of its key whose grandparent was read clean
 pub delete_wants : (v : View) (k : ℕ) (place : Place) (above : Passed) → IsAt v place → place.key ≡ k → place.grandparent ≡ Some above
     → above.update.state ≡ state.Clean → Wants v (Delete k) place.leaf place.key
@@ -48,18 +54,28 @@ module _ (v t f : View) (c : ℕ) (op : Op) (place : Place) (busy : Does v op) (
   told_by_card filling is e has = keeps.told e (h.told e (subst (λ (fs : List (Field × ℕ)). Has (told_filling c fs []) e) (sym is) has))
 
 module _ (v t f : View) (c k : ℕ) (place : Place) (keeps : LosesNothing t f) where
-  pub is_insert : (value : ℕ) → Does v (Insert k value) → IsAt v place → HasCard (Insert k value) place (filling_of c v) t c → Knows f (fact.IFlagged c) → IsTold t (Met place.parent.node)
-      → IsInsert f c place.parent.node place.leaf (max k place.key)
-  is_insert value busy at h knows met =
-      let tells = told_by_card v t f c (Insert k value) place busy at h keeps
-      (insert_filling c k value place.parent.node place.leaf place.key place.value) (insert_fills c k value v place busy at) in
+  puts_told : (op : Op) (value : ℕ) → Does v op → IsAt v place → filling_of c v ≡ insert_filling c k value place.parent.node place.leaf place.key place.value
+      → HasCard op place (filling_of c v) t c → Knows f (fact.IFlagged c) → IsTold t (Met place.parent.node)
+      → IsInsert f c place.parent.node place.leaf (max k place.key) (min k place.key)
+  puts_told op value busy at fills h knows met =
+      let tells = told_by_card v t f c op place busy at h keeps
+      (insert_filling c k value place.parent.node place.leaf place.key place.value) fills in
       record {
         knows = knows;
         met = keeps.told (Met place.parent.node) met;
         parent = tells (Info c field.P place.parent.node) (latest _ _);
         leaf = tells (Info c field.L place.leaf) (earlier _ _ _ (latest _ _));
         key = tells (Info c field.Key (max k place.key)) (earlier _ _ _ (earlier _ _ _ (latest _ _)));
+        left_key = tells (Info c field.LeftLeafKey (min k place.key)) (earlier _ _ _ (earlier _ _ _ (earlier _ _ _ (latest _ _))));
       }
+
+  pub is_insert : (value : ℕ) → Does v (Insert k value) → IsAt v place → HasCard (Insert k value) place (filling_of c v) t c → Knows f (fact.IFlagged c) → IsTold t (Met place.parent.node)
+      → IsInsert f c place.parent.node place.leaf (max k place.key) (min k place.key)
+  is_insert value busy at h knows met = puts_told (Insert k value) value busy at (insert_fills c k value v place busy at) h knows met
+
+  pub is_swap : (was value : ℕ) → Does v (Swap k was value) → IsAt v place → HasCard (Swap k was value) place (filling_of c v) t c → Knows f (fact.IFlagged c)
+      → IsTold t (Met place.parent.node) → IsInsert f c place.parent.node place.leaf (max k place.key) (min k place.key)
+  is_swap was value busy at h knows met = puts_told (Swap k was value) value busy at (swap_fills c k was value v place busy at) h knows met
 
   module _ (above : Passed) (is : place.grandparent ≡ Some above) (busy : Does v (Delete k)) (at : IsAt v place) (h : HasCard (Delete k) place (filling_of c v) t c) where
     delete_tells : (e : Told) → Has (told_filling c (delete_filling above.node place.parent.node place.leaf (packed place.parent.update)) []) e → IsTold f e

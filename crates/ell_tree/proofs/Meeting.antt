@@ -1,6 +1,6 @@
 use Rattle.std.proofs.Common.{◌≡◌, ◌≢◌, ℕ, ◌+◌, ◌*◌, ◌%◌, ◌≤◌, ◌++◌, Option, Some, None, List, [], ◌∷◌, Bool, true, false, if◌then◌else◌, ◌==◌, eq-eqb, length, refl, sym, ◌∙◌, ap, subst, inl, inr, arith, append_assoc, length-append}
 use Rattle.ell_ops.specs.declared.op.Op.{Op}
-use Rattle.ell_ops.specs.declared.op.Op.TheVariants.{Find, Insert, Delete}
+use Rattle.ell_ops.specs.declared.op.Op.TheVariants.{Find, Insert, Delete, Swap}
 use Rattle.ell_word.specs.declared.update.State.{State}
 use Rattle.ell_word.specs.declared.update.State.TheVariants as state
 use Rattle.ell_word.specs.declared.update.Update.{Update}
@@ -81,11 +81,13 @@ meets_more v w m = let n = ap length m.list in omega (arith, n, length-append m.
 pub root_way : (op : Op) (v : View) → v.worker.search ≡ at_root → way_of op v ≡ []
 root_way (Find k) v e = subst (λ (s : Search). in_the_way (Some (Find k)) s.node s.parent s.grandparent ≡ []) (sym e) refl
 root_way (Insert k value) v e = subst (λ (s : Search). in_the_way (Some (Insert k value)) s.node s.parent s.grandparent ≡ []) (sym e) refl
+root_way (Swap k was value) v e = subst (λ (s : Search). in_the_way (Some (Swap k was value)) s.node s.parent s.grandparent ≡ []) (sym e) refl
 root_way (Delete k) v e = subst (λ (s : Search). in_the_way (Some (Delete k)) s.node s.parent s.grandparent ≡ []) (sym e) refl
 
 pub nowhere_way : (op : Op) (v : View) → v.worker.search.node ≡ None → way_of op v ≡ []
 nowhere_way (Find k) v e = subst (λ (n : Option ℕ). in_the_way (Some (Find k)) n v.worker.search.parent v.worker.search.grandparent ≡ []) (sym e) refl
 nowhere_way (Insert k value) v e = subst (λ (n : Option ℕ). in_the_way (Some (Insert k value)) n v.worker.search.parent v.worker.search.grandparent ≡ []) (sym e) refl
+nowhere_way (Swap k was value) v e = subst (λ (n : Option ℕ). in_the_way (Some (Swap k was value)) n v.worker.search.parent v.worker.search.grandparent ≡ []) (sym e) refl
 nowhere_way (Delete k) v e = subst (λ (n : Option ℕ). in_the_way (Some (Delete k)) n v.worker.search.parent v.worker.search.grandparent ≡ []) (sym e) refl
 
 -- the state of an update is that of its word
@@ -122,6 +124,12 @@ pub insert_way : (k value leaf : ℕ) (x : Passed) (above : Option Passed) (v : 
     → way_of (Insert k value) v ≡ unless_clean x.update.state x.update.card
 insert_way k value leaf x above v e =
     subst (λ (s : Search). in_the_way (Some (Insert k value)) s.node s.parent s.grandparent ≡ unless_clean x.update.state x.update.card) (sym e) (passed_way x)
+
+-- a swap's likewise
+pub swap_way : (k was value leaf : ℕ) (x : Passed) (above : Option Passed) (v : View) → v.worker.search ≡ below leaf x (seen_any above)
+    → way_of (Swap k was value) v ≡ unless_clean x.update.state x.update.card
+swap_way k was value leaf x above v e =
+    subst (λ (s : Search). in_the_way (Some (Swap k was value)) s.node s.parent s.grandparent ≡ unless_clean x.update.state x.update.card) (sym e) (passed_way x)
 
 -- what a delete's search read in its way, where it stands below a grandparent and a parent
 delete_way : (k leaf : ℕ) (x above : Passed) (v : View) → v.worker.search ≡ below leaf x (Some (seen above))

@@ -1,9 +1,10 @@
 use Rattle.std.specs.Prelude.{◌≡◌, ℕ, ◌+◌, ◌*◌, ◌≤◌, ◌↔◌, Bool, Option, None, Some, is_some, IfSome, Result, Ok, Err}
+use Rattle.ell_cards.specs.Guards.{over_reply}
 use Rattle.ell_ops.specs.declared.op.Op.{Op}
 use Rattle.ell_ops.specs.declared.op.Op.TheVariants.{Find, Insert, Delete}
 use Rattle.ell_ops.specs.declared.reply.Reply.{Reply}
 use Rattle.ell_ops.specs.declared.reply.Reply.TheVariants.{Yes}
-use Rattle.ell_ops.specs.Meaning.{key_of, yes_if, reply_of, after}
+use Rattle.ell_ops.specs.Meaning.{key_of, yes_if, reply_of, after, found}
 use Rattle.ell_cards.specs.Answering.{IsAnsweredInRuns}
 use Rattle.ell_cards.specs.LayingDown.{IsLaidDownInRuns}
 use Rattle.ell_cards.specs.Taking.{IsTakenInRuns}
@@ -36,9 +37,13 @@ pub record LaidDown (t : TreeModel) (op : Op) (old new : PassModel) : Type 0 whe
   pub label : new.label ≡ old.label
   pub ledger : new.view.worker.ledger ≡ old.view.worker.ledger
   pub answered : answers new ≡ answers old
+<<<<<<< HEAD
   pub share : SameShare old.view new.view
   pub would : Owns old (key_of op) → reply_of op (present_in old) ≡ Yes
   pub nothing : IsLaidDownInRuns t.plan new.view op
+=======
+  pub would : reply_of op (present_in old) ≡ over_reply op
+>>>>>>> swap
   pub idle : IsIdle new
   pub no_card : new.view.worker.card ≡ None
 
@@ -57,6 +62,7 @@ abbrev pub replied : Result Bool Held → Result Reply Held
 replied (Ok said) = Ok (yes_if said)
 replied (Err why) = Err why
 
+<<<<<<< HEAD
 -- whether it changes the map, by the value that it adds or takes away
 abbrev pub whether : Result (Option ℕ) Held → Result Bool Held
 whether (Ok moved) = Ok (is_some moved)
@@ -73,6 +79,12 @@ abbrev pub Moves : TreeModel → Op → PassModel → PassModel → Option ℕ �
 Moves t (Find key) old new moved = Unit {0}
 Moves t (Insert key value) old new moved = Unit {0}
 Moves t (Delete key) old new moved = TakesValue t key old new moved
+=======
+-- what a swap says, as a reply
+abbrev pub swapped : Result (Option ℕ) Held → Result Reply Held
+swapped (Ok there) = Ok (found there)
+swapped (Err why) = Err why
+>>>>>>> swap
 
 -- how an insert or a delete ends; whatever was in its way is over
 abbrev pub Ends : TreeModel → ℕ → Op → PassModel → PassModel → Result Reply Held → Type 0

@@ -18,12 +18,13 @@ use Rattle.ell_tree.specs.Hindrances.{Meets, MeetsUpTo}
 use Rattle.ell_tree.specs.Keeping.{Works, IsInnerMet, IsSeenAt}
 
 -- the flag of an insert is known, and where its card goes
-pub record IsInsert (v : View) (c p l k : ℕ) : Type 0 where
+pub record IsInsert (v : View) (c p l k j : ℕ) : Type 0 where
   pub knows : Knows v (fact.IFlagged c)
   pub met : IsTold v (Met p)
   pub parent : IsTold v (Info c field.P p)
   pub leaf : IsTold v (Info c field.L l)
   pub key : IsTold v (Info c field.Key k)
+  pub left_key : IsTold v (Info c field.LeftLeafKey j)
 
 -- the flag of a delete is known, and stands at its grandparent
 pub record IsFlag (cards : ℕ) (v : View) (flag : DeleteFlag) : Type 0 where

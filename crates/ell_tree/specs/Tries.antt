@@ -1,7 +1,11 @@
-use Rattle.std.specs.Prelude.{◌≡◌, ℕ, ◌+◌, ◌≤◌, ◌++◌, true, Some, None, is_some, List, [], ◌∷◌, Result, Ok, Err, length}
+use Rattle.std.specs.Prelude.{◌≡◌, ℕ, ◌+◌, ◌≤◌, ◌++◌, true, Some, None, is_some, List, [], ◌∷◌, Result, Ok, Err, length, Option}
 use Rattle.ell_ops.specs.declared.op.Op.{Op}
-use Rattle.ell_ops.specs.declared.op.Op.TheVariants.{Find, Insert, Delete}
-use Rattle.ell_ops.specs.Meaning.{key_of, reply_of, yes_if}
+use Rattle.ell_ops.specs.declared.op.Op.TheVariants.{Find, Insert, Delete, Swap}
+use Rattle.ell_ops.specs.Meaning.{key_of, reply_of, yes_if, found}
+use Rattle.ell_tree.specs.declared.swapping.SwapTried.{SwapTried}
+use Rattle.ell_tree.specs.declared.swapping.SwapTried.TheVariants as swapped
+use Rattle.ell_core.specs.acts.Searching.{put_of}
+use Rattle.ell_cards.specs.Guards.{over_reply}
 use Rattle.ell_word.specs.declared.update.Update.{Update}
 use Rattle.ell_core.specs.declared.fact.Fact.{Fact}
 use Rattle.ell_core.specs.declared.fact.Fact.TheVariants as fact
@@ -34,6 +38,7 @@ abbrev pub IsChange : Op → Type 0
 IsChange (Find key) = ⊥
 IsChange (Insert key value) = Unit {0}
 IsChange (Delete key) = Unit {0}
+IsChange (Swap key was value) = ⊥
 
 -- an operation starts, or starts anew, at the root; what came to be in its way before, and how many tries were hindered
 pub record Begins (op : Op) (met : List Hindrance) (tries : ℕ) (old new : PassModel) : Type 0 where
@@ -86,7 +91,11 @@ pub record Halts (op : Op) (old new : PassModel) : Type 0 where
   pub meets : Meets old.view new.view
   pub in_try : new.view.hindrances ≡ new.view.met ++ old.view.hindrances
   pub way : AreOver new.view (way_of op new.view)
+<<<<<<< HEAD
   pub would : Owns old (key_of op) → reply_of op (present_in old) ≡ Yes
+=======
+  pub would : reply_of op (present_in old) ≡ over_reply op
+>>>>>>> swap
   pub stops : Stops op new.view
 
 -- how a try ends
@@ -109,6 +118,18 @@ abbrev pub TryMoves : TreeModel → Op → PassModel → PassModel → Tried →
 TryMoves t (Find key) old new ended = Unit {0}
 TryMoves t (Insert key value) old new ended = Unit {0}
 TryMoves t (Delete key) old new ended = TryTook t key old new ended
+
+-- how a try of a swap ends
+abbrev pub SwapEnds : ℕ → Op → PassModel → PassModel → SwapTried → Type 0
+SwapEnds cards op old new (swapped.Answered there) = Answers op (found there) old new × Meets old.view new.view × (new.view.next_at_least ≤ cards + 1)
+SwapEnds cards op old new swapped.Spent = Halts op old new × (new.view.next ≡ Some (cards + 1))
+SwapEnds cards op old new swapped.Hindered =
+    Halts op old new × (length old.view.hindrances + 1 ≤ length (way_of op new.view) + length new.view.hindrances) × SeesMove cards old.view new.view
+
+-- an operation that puts this value at this key: an insert, or a swap
+pub record Puts (op : Op) (key value : ℕ) : Type 0 where
+  pub was : Option ℕ
+  pub is : put_of op ≡ Some (key, value, was)
 
 -- a card was taken for an operation whose search ended at a place: it is to say this, nothing of it was stored, and its words
 -- that never change are told

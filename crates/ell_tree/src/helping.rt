@@ -79,15 +79,16 @@ pub(crate) fn help_insert<A: Allocator + Copy, G: StepGate>(
     requires flagged { Knows pass.old.view (fact.IFlagged card) }
     requires met { IsTold pass.old.view (told.Met parent) }
     requires parent { IsTold pass.old.view (told.Info card field.P parent) }
-    ensures walks { Walks pass.old pass.new 5 }
+    ensures walks { Walks pass.old pass.new 6 }
     ensures over { Knows pass.new.view (fact.IOver card) }
 {
     let leaf = look_info(table, pass, card, Field::L, gate);
     let card_key = look_info(table, pass, card, Field::Key, gate);
-    finish_insert(table, pass, card, parent, leaf, card_key, gate);
+    let left_key = look_info(table, pass, card, Field::LeftLeafKey, gate);
+    finish_insert(table, pass, card, parent, leaf, card_key, left_key, gate);
 }
 
-/// As `help_insert`, where leaf and key of the card are known.
+/// As `help_insert`, where leaf and keys of the card are known.
 pub(crate) fn finish_insert<A: Allocator + Copy, G: StepGate>(
     table: &CardTable<A>,
     pass: &mut Pass<A>,
@@ -95,15 +96,16 @@ pub(crate) fn finish_insert<A: Allocator + Copy, G: StepGate>(
     parent: u64,
     leaf: u64,
     card_key: u64,
+    left_key: u64,
     gate: &G,
 )
     requires own { pass.old.table ≡ table.now.id }
-    requires insert { IsInsert pass.old.view card parent leaf card_key }
+    requires insert { IsInsert pass.old.view card parent leaf card_key left_key }
     ensures walks { Walks pass.old pass.new 3 }
     ensures over { Knows pass.new.view (fact.IOver card) }
 {
     let above = look_key(table, pass, parent, gate);
-    change_child(table, pass, card, above, leaf, card_key, gate);
+    change_child(table, pass, card, above, leaf, card_key, left_key, gate);
     clear_insert(table, pass, card, parent, gate);
 }
 

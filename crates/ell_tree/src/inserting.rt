@@ -8,7 +8,7 @@ ghost use Rattle.ell_tree.specs.CardsTaken.{TakesNoCard, TryTakes};
 ghost use Rattle.ell_tree.specs.Ends.{try_steps};
 ghost use Rattle.ell_tree.specs.Keeping.{Goes, IsInnerMet};
 ghost use Rattle.ell_tree.specs.Searches.{AtRoot};
-ghost use Rattle.ell_tree.specs.Tries.{Fills, Flags, HasCard, TryEnds};
+ghost use Rattle.ell_tree.specs.Tries.{Fills, Flags, HasCard, Puts, TryEnds};
 
 use crate::helping::{finish_insert, help};
 use crate::searching::{Passed, Place, search};
@@ -56,10 +56,11 @@ pub(crate) fn try_insert<A: Allocator + Copy, G: StepGate>(
         Claimed::NoneLeft => return Tried::Spent,
         Claimed::Lost => return Tried::Hindered,
     };
-    match flag_insert(table, pass, card, key, value, place, gate) {
+    match flag_insert(table, pass, op, card, key, value, place, gate) {
         Ok(()) => {
             let card_key = key.max(place.key);
-            finish_insert(table, pass, card, parent, place.leaf, card_key, gate);
+            let left_key = key.min(place.key);
+            finish_insert(table, pass, card, parent, place.leaf, card_key, left_key, gate);
             answer(table, pass, Reply::Yes, gate);
             Tried::Answered(Some(value))
         }
@@ -70,10 +71,11 @@ pub(crate) fn try_insert<A: Allocator + Copy, G: StepGate>(
     }
 }
 
-// Fills the card of an insert, and flags the parent with it.
-fn flag_insert<A: Allocator + Copy, G: StepGate>(
+// Fills the card of an insert or a swap, and flags the parent with it.
+pub(crate) fn flag_insert<A: Allocator + Copy, G: StepGate>(
     table: &CardTable<A>,
     pass: &mut Pass<A>,
+    op: Op,
     card: u64,
     key: u64,
     value: u64,
@@ -82,23 +84,30 @@ fn flag_insert<A: Allocator + Copy, G: StepGate>(
 ) -> Result<(), Update>
     requires own { pass.old.table ≡ table.now.id }
     requires limit { card ≤ greatest_card }
+<<<<<<< HEAD
     requires card { HasCard (Insert key value) place
         (insert_filling card key value place.parent.node place.leaf place.key place.value) pass.old.view card }
     requires node { IsInnerMet table.now.plan.last_card pass.old.view place.parent.node }
+=======
+    requires card { HasCard op place (insert_filling card key value place.parent.node place.leaf place.key place.value) pass.old.view card }
+    requires puts { Puts op key value }
+    requires node { IsInnerMet table.now.last_card pass.old.view place.parent.node }
+>>>>>>> swap
     ensures goes { Goes pass.old pass.new 11 }
     ensures taken { TakesNoCard pass.old pass.new }
     ensures flags { Flags table.now.plan.last_card IFlagged card place.parent.node pass.old pass.new result }
 {
-    fill_insert(table, pass, card, key, value, place, gate);
+    fill_insert(table, pass, op, card, key, value, place, gate);
     gate.before(pass.label(), Kind::IFlag);
     table.iflag(pass, card, place.parent.node, place.parent.update)
 }
 
-// Fills the card of an insert: an internal node, and below it the leaf of the key and a copy of the old leaf, the lesser key left,
+// Fills the card of an insert or a swap: an internal node, and below it the leaf of the key and a copy of the old leaf, the lesser key left,
 // each with its value.
 fn fill_insert<A: Allocator + Copy, G: StepGate>(
     table: &CardTable<A>,
     pass: &mut Pass<A>,
+    op: Op,
     card: u64,
     key: u64,
     value: u64,
@@ -107,8 +116,12 @@ fn fill_insert<A: Allocator + Copy, G: StepGate>(
 )
     requires own { pass.old.table ≡ table.now.id }
     requires limit { card ≤ greatest_card }
+<<<<<<< HEAD
     requires card { HasCard (Insert key value) place
         (insert_filling card key value place.parent.node place.leaf place.key place.value) pass.old.view card }
+=======
+    requires card { HasCard op place (insert_filling card key value place.parent.node place.leaf place.key place.value) pass.old.view card }
+>>>>>>> swap
     ensures { Fills pass.old pass.new 10 }
 {
     let (lesser, greater) = (key.min(place.key), key.max(place.key));

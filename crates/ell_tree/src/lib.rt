@@ -10,6 +10,7 @@ mod operations;
 mod reading;
 mod searching;
 mod steps;
+mod swapping;
 mod tree;
 mod trying;
 

@@ -1,15 +1,15 @@
 //! The operations: find, insert and delete.
 ghost use Rattle.std.specs.Prelude.{◌≡◌, ◌≢◌, ◌<◌, ◌≤◌, ◌+◌, ◌*◌, true, Err, IfOk};
 ghost use Rattle.ell_ops.specs.declared.op.Op.{Op};
-ghost use Rattle.ell_ops.specs.declared.op.Op.TheVariants.{Find};
+ghost use Rattle.ell_ops.specs.declared.op.Op.TheVariants.{Swap, Find};
 ghost use Rattle.ell_ops.specs.Meaning.{key_of, found};
 ghost use Rattle.ell_cards.specs.Changes.{tries_hindered};
 ghost use Rattle.ell_cards.specs.Guards.{MayStop};
 ghost use Rattle.ell_cards.specs.Models.{Does};
 ghost use Rattle.ell_tree.specs.CardsTaken.{TakesNoCard, TryTakes};
-ghost use Rattle.ell_tree.specs.Counts.{Took};
-ghost use Rattle.ell_tree.specs.Ends.{Answers, Ends, Moves, find_steps, replied, try_steps, whether};
-ghost use Rattle.ell_tree.specs.Hindrances.{way_of};
+ghost use Rattle.ell_tree.specs.Counts.{Took, IsAmortized};
+ghost use Rattle.ell_tree.specs.Ends.{Answers, Ends, Moves, find_steps, replied, try_steps, whether, swapped, CountsTries, change_steps};
+ghost use Rattle.ell_tree.specs.Hindrances.{way_of, Meets};
 ghost use Rattle.ell_tree.specs.declared.operations.Held.TheVariants.{Busy};
 ghost use Rattle.ell_tree.specs.Promises.{IsOthersDoing, IsQuiet, IsWithin, MayDo, SpendsCards};
 ghost use Rattle.ell_tree.specs.Searches.{AtRoot};
@@ -19,6 +19,7 @@ use crate::deleting::try_delete;
 use crate::inserting::try_insert;
 use crate::searching::search;
 use crate::steps::{again, answer, begin, leave};
+use crate::swapping::{SwapTried, try_swap};
 use crate::trying::Tried;
 use ell_cards::{CardTable, Pass};
 use ell_ops::{Op, Reply};
@@ -142,6 +143,55 @@ fn try_once<A: Allocator + Copy, G: StepGate>(
     match op {
         Op::Insert(key, value) => try_insert(table, pass, key, value, gate),
         Op::Delete(key) => try_delete(table, pass, key, gate),
-        Op::Find(_) => unreachable!(),
+        Op::Find(_) | Op::Swap(_, _, _) => unreachable!(),
+    }
+}
+
+/// One try of a swap, from its start to its end: the value that the key had, if it was present.
+pub(crate) fn swap_once<A: Allocator + Copy, G: StepGate>(
+    table: &CardTable<A>,
+    pass: &mut Pass<A>,
+    key: u64,
+    was: u64,
+    value: u64,
+    gate: &G,
+) -> Result<Option<u64>, Held>
+    requires own { pass.old.table ≡ table.now.id }
+    requires idle { IsIdle pass.old }
+    requires owned { Owns pass.old key }
+    ensures ends { Ends table.now.last_card 1 (Swap key was value) pass.old pass.new (swapped result) }
+{
+    let label = pass.label();
+    gate.before(label, Kind::Begin);
+    let ended = take_swap(table, pass, key, was, value, gate);
+    gate.after(label, ended.is_ok());
+    ended
+}
+
+// Takes a swap in hand, and tries it once.
+fn take_swap<A: Allocator + Copy, G: StepGate>(
+    table: &CardTable<A>,
+    pass: &mut Pass<A>,
+    key: u64,
+    was: u64,
+    value: u64,
+    gate: &G,
+) -> Result<Option<u64>, Held>
+    requires own { pass.old.table ≡ table.now.id }
+    requires idle { IsIdle pass.old }
+    requires owned { Owns pass.old key }
+    ensures ends { Ends table.now.last_card 1 (Swap key was value) pass.old pass.new (swapped result) }
+{
+    begin(table, pass, Op::Swap(key, was, value), gate);
+    match try_swap(table, pass, key, was, value, gate) {
+        SwapTried::Answered(there) => Ok(there),
+        SwapTried::Spent => {
+            leave(table, pass, gate);
+            Err(Held::Spent)
+        }
+        SwapTried::Hindered => {
+            leave(table, pass, gate);
+            Err(Held::Busy)
+        }
     }
 }

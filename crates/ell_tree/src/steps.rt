@@ -167,6 +167,7 @@ pub(crate) fn change_child<A: Allocator + Copy, G: StepGate>(
     parent: KeyedNode,
     leaf: u64,
     card_key: u64,
+    left_key: u64,
     gate: &G,
 )
     requires own { pass.old.table ≡ table.now.id }
@@ -175,12 +176,14 @@ pub(crate) fn change_child<A: Allocator + Copy, G: StepGate>(
     requires parent_key { IsTold pass.old.view (told.Key parent.node parent.key) }
     requires leaf { IsTold pass.old.view (told.Info card field.L leaf) }
     requires card_key { IsTold pass.old.view (told.Info card field.Key card_key) }
+    requires left_key { IsTold pass.old.view (told.Info card field.LeftLeafKey left_key) }
     ensures walks { Walks pass.old pass.new 1 }
     ensures changed { Knows pass.new.view (fact.IChanged card) }
 {
     gate.before(pass.label(), Kind::IChild);
     let right = parent.key <= card_key;
-    let _ = table.ichild(pass, card, parent.node, leaf, right);
+    let replaces = left_key == card_key;
+    let _ = table.ichild(pass, card, parent.node, leaf, replaces, right);
 }
 
 /// Takes the flag of an insert away.

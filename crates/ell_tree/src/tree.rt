@@ -3,7 +3,7 @@ ghost use Rattle.std.specs.Prelude.{◌≡◌, ◌≢◌, ◌<◌, ◌≤◌, �
 ghost use Rattle.std.specs.List.{All};
 ghost use Rattle.std.specs.List.Sorted.{IsStrictlyIncreasing};
 ghost use Rattle.std.specs.Map.{keys_of};
-ghost use Rattle.ell_ops.specs.declared.op.Op.TheVariants.{Find, Insert, Delete};
+ghost use Rattle.ell_ops.specs.declared.op.Op.TheVariants.{Swap, Find, Insert, Delete};
 ghost use Rattle.ell_ops.specs.KeySet.{set_of};
 ghost use Rattle.ell_ops.specs.Meaning.{greatest_key, found};
 ghost use Rattle.ell_word.specs.Node.{most_start};
@@ -13,7 +13,8 @@ ghost use Rattle.ell_tree.specs.CardsLeft.{AreLeftAtMost, ReadsCardsLeft};
 ghost use Rattle.ell_tree.specs.CardsTaken.{TakesNoCard};
 ghost use Rattle.ell_tree.specs.Closing.{ClosesTo};
 ghost use Rattle.ell_tree.specs.Counts.{Took};
-ghost use Rattle.ell_tree.specs.Ends.{Answers, Ends, TakesValue, find_steps, replied, whether};
+ghost use Rattle.ell_tree.specs.Ends.{Answers, Ends, TakesValue, find_steps, replied, whether, swapped, CountsTries, change_steps, try_steps};
+ghost use Rattle.ell_tree.specs.Hindrances.{Meets};
 ghost use Rattle.ell_tree.specs.Moves.{moves_known};
 ghost use Rattle.ell_tree.specs.declared.operations.Held.TheVariants.{Busy};
 ghost use Rattle.ell_tree.specs.Ledgers.{IsIdlePassOf, Owns, TreeModel, present_in};
@@ -24,6 +25,9 @@ ghost use Rattle.ell_tree.specs.Promises.{IsOthersDoing, IsQuiet, IsWithin, MayD
 use crate::operations::{Held, change, find};
 use crate::reading::{cards_left, look};
 use ell_cards::{CardFault, CardTable, Pass, SplitFault};
+use crate::operations::{Held, find, make_change, swap_once};
+use crate::reading::look;
+use ell_cards::{CardFault, CardTable, Pass};
 use ell_core::pairs_of_tree;
 use ell_ops::{NoMemory, Op};
 use ell_word::StepGate;
@@ -265,7 +269,30 @@ impl<A: Allocator + Copy> Tree<A> {
         Ok(change(&self.table, pass, Op::Insert(key, value), tries, gate)?.is_some())
     }
 
+<<<<<<< HEAD
     /// Takes a key of the pass, or a shared one, away, with its value: whether it was present. Tries, steps, cards and errors are as of `insert`.
+=======
+    /// Gives a key of the pass another value, by one atomic exchange, if it has the first one: the value that it had, if it was present. One
+    /// try.
+    pub fn swap<G: StepGate>(
+        &self,
+        pass: &mut Pass<A>,
+        key: u64,
+        was: u64,
+        value: u64,
+        gate: &G,
+    ) -> Result<Option<u64>, Held>
+        requires own { pass.old.table ≡ self.now.id }
+        requires idle { IsIdle pass.old }
+        requires owned { Owns pass.old key }
+        ensures ends { Ends self.now.last_card 1 (Swap key was value) pass.old pass.new (swapped result) }
+    {
+        swap_once(&self.table, pass, key, was, value, gate)
+    }
+
+    /// Takes a key of the pass away, with its value: whether it was present. Tries, steps and errors are as of `insert`.
+    #[tactic(auto, using(ell_cards::proofs::runs::Tries::more_tries))]
+>>>>>>> swap
     pub fn delete<G: StepGate>(
         &self,
         pass: &mut Pass<A>,

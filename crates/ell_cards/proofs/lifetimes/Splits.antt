@@ -1,4 +1,5 @@
 use Rattle.std.proofs.Common.{◌≡◌, ◌≢◌, ℕ, zero, suc, ◌+◌, List, [], ◌∷◌, ◌++◌, length, set, get_or, filter, not, true, None, refl, sym, ap, ◌∙◌, subst, inl, inr, ⊎_elim, arith, length-set, Some, ◌-◌}
+use Rattle.ell_core.proofs.stages.Advances.{stages_same}
 use Rattle.std.specs.Prelude.{Contains}
 use Rattle.std.specs.List.{All}
 use Rattle.std.specs.List.Sorted.{IsStrictlyIncreasing}
@@ -92,6 +93,7 @@ splits_are_moves keys cards s r id v chosen here free =
         last_card = cards;
       };
     } in record {
+      later = stages_same r.stages;
       kept = record {
         words = r.words;
         stages = r.stages;

@@ -1,8 +1,9 @@
-use Rattle.std.proofs.Common.{◌≡◌, ℕ, ◌==◌, eq-eqb, if◌then◌else◌, Bool, true, false, List, [], ◌∷◌, ◌++◌, Some, refl, sym, ap, ◌∙◌, subst, inl, inr, arith}
+use Rattle.std.proofs.Common.{◌≡◌, ℕ, ◌==◌, eq-eqb, ne_eqb, if◌then◌else◌, Bool, true, false, List, [], ◌∷◌, ◌++◌, Some, refl, sym, ap, ◌∙◌, subst, inl, inr, arith}
 use mathlib.Core.Option.{Option, some, none}
 use lib.ListN.{get_elem?}
 use Rattle.ell_ops.specs.declared.op.Op.{Op}
-use Rattle.ell_ops.specs.declared.op.Op.TheVariants.{Find, Insert, Delete}
+use Rattle.ell_ops.specs.declared.op.Op.TheVariants.{Find, Insert, Delete, Swap}
+use Rattle.ell_word.specs.Node.{left_leaf, right_leaf}
 use Rattle.ell_word.specs.declared.gate.Kind.{Kind}
 use Rattle.ell_word.specs.declared.gate.Kind.TheVariants as kind
 use Rattle.ell_core.specs.declared.event.Act.{Act}
@@ -28,10 +29,10 @@ use Rattle.ell_cards.specs.States.{TableState, seat_worker}
 use Rattle.ell_cards.specs.Machines.{HasMachine}
 use Rattle.ell_cards.specs.Laws.{machine_of_table}
 use Rattle.ell_cards.specs.Turns.{found_by, state_after}
-use Rattle.ell_cards.specs.TurnEffects.{IsAtWork, ChangeIsOf}
+use Rattle.ell_cards.specs.TurnEffects.{IsAtWork, ChangeIsOf, op_of_card}
 use Rattle.ell_cards.proofs.seats.Statements.{OperationsByMachine}
 use Rattle.ell_cards.proofs.stepping.AllCalls.{steps_are_events}
-use Rattle.ell_cards.proofs.own_words.OwnWords.{own_card_key, own_card_value}
+use Rattle.ell_cards.proofs.own_words.OwnWords.{own_card_key, own_card_value, own_card_kind}
 use Rattle.ell_cards.proofs.seats.Seats.{mine_sound}
 
 -- a card that wins its ichild has its insert's flag standing
@@ -56,16 +57,24 @@ busy_with w stage v c sound has = elim (cases_option v.operation) [
 module _ (keys : List ℕ) (cards : ℕ) (s : TableState) (r : HasMachine keys cards s) where
   -- the operation of a flagged card, by its kind
   inserts : (v : Worker) (op : Op) (c : ℕ) → is_insert (r.stages c) ≡ true → Flagged r.words r.stages v op c
-      → op ≡ Insert (card_key r.words c) (card_value r.words c)
+      → op ≡ op_of_card r.words c
   inserts v (Find k) c is h = absurd h
   inserts v (Insert k value) c is h =
       let kind = insert_kind r.words r.stages r.invariant.words c is in
-      λ i. Insert (sym (card_key-insert r.words c kind ∙ h.1) i) (sym (card_value-insert r.words c kind ∙ h.2) i)
+      let two = ne_eqb (r.words.key (left_leaf c)) (r.words.key (right_leaf c)) (λ e. let less = h.4 in omega arith) in
+      (λ i. Insert (sym (card_key-insert r.words c kind ∙ h.1) i) (sym (card_value-insert r.words c kind ∙ h.2) i))
+      ∙ sym (ap (λ b. if b then Swap (card_key r.words c) (r.words.value (r.words.l c)) (card_value r.words c) else Insert (card_key r.words c) (card_value r.words c)) two)
+  inserts v (Swap k was value) c is h =
+      let kind = insert_kind r.words r.stages r.invariant.words c is in
+      let one = eq-eqb (r.words.key (left_leaf c)) (r.words.key (right_leaf c)) h.4.0 in
+      (λ i. Swap (sym (card_key-insert r.words c kind ∙ h.1) i) (sym h.4.1 i) (sym (card_value-insert r.words c kind ∙ h.2) i))
+      ∙ sym (ap (λ b. if b then Swap (card_key r.words c) (r.words.value (r.words.l c)) (card_value r.words c) else Insert (card_key r.words c) (card_value r.words c)) one)
   inserts v (Delete k) c is h = absurd (one_kind (r.stages c) is (delete_won-delete (r.stages c) h.0))
 
   deletes : (v : Worker) (op : Op) (c : ℕ) → is_delete (r.stages c) ≡ true → Flagged r.words r.stages v op c → op ≡ Delete (card_key r.words c)
   deletes v (Find k) c is h = absurd h
   deletes v (Insert k value) c is h = absurd (one_kind (r.stages c) (insert_won-insert (r.stages c) h.0) is)
+  deletes v (Swap k was value) c is h = absurd (one_kind (r.stages c) (insert_won-insert (r.stages c) h.0) is)
   deletes v (Delete k) c is h = ap Delete (sym h.1 ∙ sym (card_key-delete r.words c (delete_kind r.words r.stages r.invariant.words c is)))
 
   -- whoever has the card in hand, flagged, is at work with it
@@ -99,20 +108,21 @@ one_win : (c : ℕ) (k : Kind) → (if c == c then k ∷ [] else []) ≡ k ∷ [
 one_win c k = ap (λ b. if b then k ∷ [] else []) (eq-eqb c c refl)
 
 pub table_changes_are_operations : OperationsByMachine
-table_changes_are_operations keys cards s r id v (call.IChild c p l right) here may =
-    let step = steps_are_events keys cards s r id v (call.IChild c p l right) here may in by step.kept (found_by s (call.IChild c p l right) == l) step.event
+table_changes_are_operations keys cards s r id v (call.IChild c p l q right) here may =
+    let step = steps_are_events keys cards s r id v (call.IChild c p l q right) here may in by step.kept (found_by s (call.IChild c p l q right) == l) step.event
   where
-    by : (r' : HasMachine keys cards (state_after s id v (call.IChild c p l right))) (b : Bool)
-        → Becomes id (Some (act.IChild c)) (won_or_lost b) (machine_of_table keys cards s r) (machine_of_table keys cards (state_after s id v (call.IChild c p l right)) r')
-        → ChangeIsOf (call.IChild c p l right) b s
+    by : (r' : HasMachine keys cards (state_after s id v (call.IChild c p l q right))) (b : Bool)
+        → Becomes id (Some (act.IChild c)) (won_or_lost b) (machine_of_table keys cards s r) (machine_of_table keys cards (state_after s id v (call.IChild c p l q right)) r')
+        → ChangeIsOf (call.IChild c p l q right) b s
     by r' true h =
-        let won = won_by keys cards s r id (act.IChild c) c kind.IChild (state_after s id v (call.IChild c p l right)) r' h (one_win c kind.IChild) in
+        let won = won_by keys cards s r id (act.IChild c) c kind.IChild (state_after s id v (call.IChild c p l q right)) r' h (one_win c kind.IChild) in
         let opened = before_ichild (r.stages c) won.0 won.1 in
-        let work = at_work keys cards s r c (λ o. o ≡ Insert (card_key r.words c) (card_value r.words c))
+        let work = at_work keys cards s r c (λ o. o ≡ op_of_card r.words c)
         (λ u o f. inserts keys cards s r u o c (insert_open-insert (r.stages c) opened) f) (r.invariant.workers.insert_in_hand c opened) in
         let key = own_card_key keys cards s r id c v here (inl may.knows) in
         let value = own_card_value keys cards s r id c v here (inl may.knows) in
-        subst (IsAtWork s c) (work.1 ∙ (λ i. Insert (sym key i) (sym value i))) work.2
+        let same = own_card_kind keys cards s r id c v here (inl may.knows) in
+        subst (IsAtWork s c) (work.1 ∙ (λ i. if same.0 i then Swap (sym key i) (same.1 i) (sym value i) else Insert (sym key i) (sym value i))) work.2
     by r' false h = tt
 table_changes_are_operations keys cards s r id v (call.DChild c gp p y right) here may =
     let step = steps_are_events keys cards s r id v (call.DChild c gp p y right) here may in by step.kept (found_by s (call.DChild c gp p y right) == p) step.event

@@ -46,7 +46,7 @@ module _ (w t : Words) (stage : Stages) (sound : WordsAreSound w stage) (same : 
       else (if here field.LeftLeafKey i == leaf_key_same i then here field.RightLeafKey i else here field.LeftLeafKey i)
 
   -- its value, where it goes to a leaf
-  leaf_value_same : IsLeaf (w.l c) → t.value (t.l c) ≡ w.value (w.l c)
+  pub leaf_value_same : IsLeaf (w.l c) → t.value (t.l c) ≡ w.value (w.l c)
   leaf_value_same outer = ap t.value (here field.L) ∙ value_same w t stage sound same (w.l c) outer goes.leaf
 
   pub card_value_same : IsLeaf (w.l c) → card_value t c ≡ card_value w c

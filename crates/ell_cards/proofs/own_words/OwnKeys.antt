@@ -5,11 +5,11 @@ use Rattle.ell_core.specs.declared.event.Stepped.{Stepped}
 use Rattle.ell_core.specs.declared.event.Stepped.TheVariants.{Moved}
 use Rattle.ell_core.specs.state.Words.{Words}
 use Rattle.ell_core.specs.state.Machine.{Machine}
-use Rattle.ell_core.specs.state.Cards.{card_key, card_value}
+use Rattle.ell_core.specs.state.Cards.{card_key, card_value, is_replace_card}
 use Rattle.ell_core.specs.acts.Exchanges.{won_or_lost}
 use Rattle.ell_core.specs.history.Stages.{Stages}
 use Rattle.ell_core.specs.history.Invariant.{Invariant}
-use Rattle.ell_core.specs.statements.Effects.{AddsPair, TakesPair, SamePairs, PairsChange}
+use Rattle.ell_core.specs.statements.Effects.{AddsPair, ReplacesPair, BringsPair, TakesPair, SamePairs, PairsChange}
 use Rattle.ell_core.proofs.following.Lawful.{events_lawful}
 use Rattle.ell_cards.specs.declared.call.Call.{Call}
 use Rattle.ell_cards.specs.declared.call.Call.TheVariants as call
@@ -22,7 +22,7 @@ use Rattle.ell_cards.specs.TurnEffects.{own_words, PairsChangeBy}
 use Rattle.ell_cards.proofs.seats.Statements.{PairsByMachine}
 use Rattle.ell_cards.proofs.stepping.AllCalls.{steps_are_events}
 use Rattle.ell_cards.proofs.own_words.OwnTree.{same_keys}
-use Rattle.ell_cards.proofs.own_words.OwnWords.{own_pairs, own_card_key, own_card_value}
+use Rattle.ell_cards.proofs.own_words.OwnWords.{own_pairs, own_card_key, own_card_value, own_card_kind}
 
 -- an act of a machine, and no act
 module _ (m : Machine) (stage : Stages) (holds : Invariant m stage) (i : ℕ) (m' : Machine) where
@@ -46,9 +46,9 @@ module _ (m : Machine) (stage : Stages) (holds : Invariant m stage) (i : ℕ) (m
   machine_pairs (call.Down x right) n h = acts act.Down Moved h
   machine_pairs (call.Claim c) n h = claims (n == c) h
   machine_pairs (call.IFlag c p from) n h = acts act.IFlag (said_of (call.IFlag c p from) n) h
-  machine_pairs (call.IChild c p l right) n h = by (n == l) h
+  machine_pairs (call.IChild c p l q right) n h = by (n == l) h
     where
-      by : (b : Bool) → Becomes i (Some (act.IChild c)) (won_or_lost b) m m' → PairsChangeBy (call.IChild c p l right) b m.words m'.words
+      by : (b : Bool) → Becomes i (Some (act.IChild c)) (won_or_lost b) m m' → PairsChangeBy (call.IChild c p l q right) b m.words m'.words
       by true h = acts (act.IChild c) (won_or_lost true) h
       by false h = acts (act.IChild c) (won_or_lost false) h
   machine_pairs (call.IUnflag c p) n h = acts (act.IUnflag c) (said_of (call.IUnflag c p) n) h
@@ -77,6 +77,19 @@ module _ (w w' t t' : Words) (before : SamePairs t w) (after : SamePairs t' w') 
     );
   }
 
+  own_replaces : (key was value : ℕ) → ReplacesPair w w' key was value → ReplacesPair t t' key was value
+  own_replaces key was value h = record {
+    present = (before key was).0 h.present;
+    pairs = λ k v. (
+      λ x. elim ((h.pairs k v).0 ((after k v).1 x)) [ inl o ↦ inl ((before k v).0 o.0, o.1) | inr e ↦ inr e ],
+      λ x. elim x [ inl o ↦ (after k v).0 ((h.pairs k v).1 (inl ((before k v).1 o.0, o.1))) | inr e ↦ (after k v).0 ((h.pairs k v).1 (inr e)) ],
+    );
+  }
+
+  own_brings : (b : Bool) (key was value : ℕ) → BringsPair b w w' key was value → BringsPair b t t' key was value
+  own_brings true key was value h = own_replaces key was value h
+  own_brings false key was value h = own_adds key value h
+
   own_takes : (key value : ℕ) → TakesPair w w' key value → TakesPair t t' key value
   own_takes key value h = record {
     present = (before key value).0 h.present;
@@ -89,14 +102,19 @@ module _ (w w' t t' : Words) (before : SamePairs t w) (after : SamePairs t' w') 
   -- so they change as the call says, where the cards that the pass knows have the same keys and values
   own_change : (c : Call) (b : Bool) (v : View) (cards : ℕ) → May cards c v
       → ((d : ℕ) → KnowsCard v d → card_key w d ≡ card_key t d) → ((d : ℕ) → KnowsCard v d → card_value w d ≡ card_value t d)
+      → ((d : ℕ) → KnowsCard v d → (is_replace_card w d ≡ is_replace_card t d) × (w.value (w.l d) ≡ t.value (t.l d)))
       → PairsChangeBy c b w w' → PairsChangeBy c b t t'
-  own_change (call.IChild c p l right) true v cards may key value h =
-      subst (λ k. AddsPair t t' k (card_value t c)) (key c (inl may.knows))
-      (subst (AddsPair t t' (card_key w c)) (value c (inl may.knows)) (own_adds (card_key w c) (card_value w c) h))
-  own_change (call.DChild c gp p sibling right) true v cards may key value h =
+  own_change (call.IChild c p l q right) true v cards may key value kind h =
+      let same = kind c (inl may.knows) in
+      subst (λ b. BringsPair b t t' (card_key t c) (t.value (t.l c)) (card_value t c)) same.0
+      (subst (λ u. BringsPair (is_replace_card w c) t t' (card_key t c) u (card_value t c)) same.1
+      (subst (λ k. BringsPair (is_replace_card w c) t t' k (w.value (w.l c)) (card_value t c)) (key c (inl may.knows))
+      (subst (BringsPair (is_replace_card w c) t t' (card_key w c) (w.value (w.l c))) (value c (inl may.knows))
+      (own_brings (is_replace_card w c) (card_key w c) (w.value (w.l c)) (card_value w c) h))))
+  own_change (call.DChild c gp p sibling right) true v cards may key value kind h =
       subst (λ k. TakesPair t t' k (card_value t c)) (key c (inr (inr may.knows)))
       (subst (TakesPair t t' (card_key w c)) (value c (inr (inr may.knows))) (own_takes (card_key w c) (card_value w c) h))
-  own_change _ _ v cards may key value h = own_same h
+  own_change _ _ v cards may key value kind h = own_same h
 
 pub table_pairs_change_at_wins : PairsByMachine
 table_pairs_change_at_wins keys cards s r id v c here may =
@@ -105,4 +123,4 @@ table_pairs_change_at_wins keys cards s r id v c here may =
     let change = machine_pairs (machine_of_table keys cards s r) r.stages r.invariant id (machine_of_table keys cards s' step.kept) c (found_by s c) step.event in
     own_change r.words step.kept.words (own_words s) (own_words s') (own_pairs keys cards s r) (own_pairs keys cards s' step.kept)
     c (is_won (atomic_of c) (found_by s c)) v cards may (λ d knows. sym (own_card_key keys cards s r id d v here knows))
-    (λ d knows. sym (own_card_value keys cards s r id d v here knows)) change
+    (λ d knows. sym (own_card_value keys cards s r id d v here knows)) (λ d knows. own_card_kind keys cards s r id d v here knows) change

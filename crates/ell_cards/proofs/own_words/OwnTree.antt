@@ -1,4 +1,5 @@
 use Rattle.std.proofs.Common.{◌≡◌, ℕ, ◌%◌, ◌<◌, ◌≤◌, ◌↔◌, nat_le, Bool, true, false, List, [], ◌∷◌, refl, sym, ap, ◌∙◌, subst, arith}
+use Rattle.ell_core.proofs.stages.LaterKeys.{start_there}
 use Rattle.ell_ops.specs.Meaning.{greatest_key}
 use Rattle.ell_word.specs.Node.{IsInternal, card, right_leaf}
 use Rattle.ell_core.specs.declared.field.Field.TheVariants.{Update}
@@ -25,7 +26,7 @@ same_keys old new same k = (
 module _ (w t : Words) (stage : Stages) (sound : WordsAreSound w stage) (same : (c : ℕ) → waits (stage c) ≡ false → SaysTheSame w t c) where
   -- a node that came into the tree is as it was
   at_card : (x : ℕ) → Born stage x → SaysTheSame w t (card x)
-  at_card x born = same (card x) (born-settled (stage (card x)) born)
+  at_card x born = same (card x) (born-settled (stage (card x)) (x % 3) born)
 
   pub key_same : (x : ℕ) → Born stage x → t.key x ≡ w.key x
   key_same x born = key_at_node t x ∙ (at_card x born (key_field (x % 3)) ∙ sym (key_at_node w x))
@@ -42,7 +43,7 @@ module _ (w t : Words) (stage : Stages) (sound : WordsAreSound w stage) (same : 
 
   -- the root came into the tree, and so do children
   pub root_born : Born stage 0
-  root_born = ap is_born sound.opening
+  root_born = start_there w stage sound 0 refl
 
   pub child_born : (x : ℕ) (right : Bool) → IsInternal x → Born stage x → Born stage (w.child x right)
   child_born x right inner born = (sound.children x inner born).born right
@@ -206,6 +207,6 @@ module _ (w t : Words) (stage : Stages) (sound : WordsAreSound w stage) (same : 
         omega arith;
     root_key = key_same 0 root_born ∙ h.root_key;
     root_right = child_same 0 true refl root_born ∙ h.root_right;
-    right_key = key_same (right_leaf 0) root_born ∙ h.right_key;
+    right_key = key_same (right_leaf 0) (start_there w stage sound (right_leaf 0) refl) ∙ h.right_key;
     left = left_lawful h.left;
   }

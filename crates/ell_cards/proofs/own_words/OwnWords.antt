@@ -1,9 +1,10 @@
-use Rattle.std.proofs.Common.{◌≡◌, ℕ, true, false, List, sym, ◌∙◌, inl, inr}
+use Rattle.std.proofs.Common.{◌≡◌, ℕ, true, false, List, sym, ◌∙◌, inl, inr, ◌%◌, ◌==◌}
 use mathlib.Core.Option.{some}
 use lib.ListN.{get_elem?}
 use Rattle.ell_word.specs.Node.{card}
 use Rattle.ell_word.specs.Word.{unpacked}
-use Rattle.ell_core.specs.state.Cards.{card_key, card_value}
+use Rattle.ell_core.specs.state.Cards.{card_key, card_value, is_replace_card}
+use Rattle.ell_core.specs.declared.field.Field.TheVariants as field
 use Rattle.ell_core.specs.acts.Searching.{IsLeaf}
 use Rattle.ell_core.specs.soundness.Sound.{IsSound}
 use Rattle.ell_core.specs.history.Stages.{waits, delete_won}
@@ -26,7 +27,7 @@ use Rattle.ell_cards.proofs.seats.Statements.{SoundByMachine}
 use Rattle.ell_cards.proofs.stepping.Known.{known_card, known_settled, known_claimed}
 use Rattle.ell_cards.proofs.seats.Seats.{mine_sound}
 use Rattle.ell_cards.proofs.own_words.OwnTree.{reached_same, reached_born, pairs_same}
-use Rattle.ell_cards.proofs.own_words.OwnCards.{card_key_same, card_value_same}
+use Rattle.ell_cards.proofs.own_words.OwnCards.{card_key_same, card_value_same, leaf_value_same}
 use Rattle.ell_cards.proofs.own_words.OwnSound.{own_sound}
 
 module _ (keys : List ℕ) (cards : ℕ) (s : TableState) (r : HasMachine keys cards s) where
@@ -64,6 +65,7 @@ module _ (keys : List ℕ) (cards : ℕ) (s : TableState) (r : HasMachine keys c
     own_card_value = card_value_same r.words (own_words s) r.stages r.invariant.words same_card c
         (known_settled keys cards s r id v here c knows) known_goes known_leaf
 
+<<<<<<< HEAD
   -- the value of a card that a delete flagged
   pub own_taken_value : (c : ℕ) → delete_won (r.stages c) ≡ true → card_value (own_words s) c ≡ card_value r.words c
   own_taken_value c won =
@@ -71,6 +73,14 @@ module _ (keys : List ℕ) (cards : ℕ) (s : TableState) (r : HasMachine keys c
       let sound = r.invariant.words.cards c in
       card_value_same r.words (own_words s) r.stages r.invariant.words same_card c (delete_won-settled (r.stages c) won)
       ((may_rely (seated r.words s.views cards) r.stages 0 r.invariant).goes c (sound.claimed.0 (delete-claimed (r.stages c) deletes))) (sound.delete deletes).leaf.outer
+=======
+    -- whether it replaces its leaf, and the value of that
+    pub own_card_kind : (is_replace_card r.words c ≡ is_replace_card (own_words s) c) × (r.words.value (r.words.l c) ≡ (own_words s).value ((own_words s).l c))
+    own_card_kind = let same = same_card c (known_settled keys cards s r id v here c knows) in (
+      (λ t. sym (same field.LeftLeafKey) t == sym (same field.RightLeafKey) t),
+      sym (leaf_value_same r.words (own_words s) r.stages r.invariant.words same_card c (known_settled keys cards s r id v here c knows) known_goes known_leaf),
+    )
+>>>>>>> swap
 
   -- where the words are the table's own
   words_own : WordsAreOwn keys cards s r
@@ -79,7 +89,7 @@ module _ (keys : List ℕ) (cards : ℕ) (s : TableState) (r : HasMachine keys c
     settled = settled_card;
     reached = reached_same r.words (own_words s) r.stages r.invariant.words same_card;
     nodes = λ x reached. settled_card (card x)
-        (born-settled (r.stages (card x)) (reached_born r.words (own_words s) r.stages r.invariant.words same_card x reached));
+        (born-settled (r.stages (card x)) (x % 3) (reached_born r.words (own_words s) r.stages r.invariant.words same_card x reached));
     flags = λ x reached inner dirty.
         let hand = (sound_state.flags x reached inner dirty).in_hand in
         let c = (unpacked ((own_words s).update x)).card in

@@ -64,7 +64,7 @@ module _ (cards seat key : ℕ) where
   look_before (call.Info c f) n v node e = inr (tt, node, e)
   look_before (call.FrozenChild c p right) n v node e = inr (tt, node, e)
   look_before (call.Fill c f value) n v node e = inr (tt, node, e)
-  look_before (call.IChild c p l right) n v node e = inr (tt, node, e)
+  look_before (call.IChild c p l q right) n v node e = inr (tt, node, e)
   look_before (call.IUnflag c p) n v node e = inr (tt, node, e)
   look_before (call.DChild c gp p y right) n v node e = inr (tt, node, e)
   look_before (call.DUnflag c gp) n v node e = inr (tt, node, e)

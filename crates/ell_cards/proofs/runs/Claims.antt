@@ -5,7 +5,7 @@ use mathlib.Core.Option.{some, some-injective}
 use lib.ListN.{get_elem?}
 use Rattle.atomic_table.proofs.Lists.{set_else, at_longer}
 use Rattle.ell_ops.specs.declared.op.Op.{Op}
-use Rattle.ell_ops.specs.declared.op.Op.TheVariants.{Find, Insert, Delete}
+use Rattle.ell_ops.specs.declared.op.Op.TheVariants.{Find, Insert, Delete, Swap}
 use Rattle.ell_word.specs.Word.{packed, unpacked}
 use Rattle.ell_word.specs.declared.update.Update.{Update}
 use Rattle.ell_core.specs.declared.fact.Fact.{Fact}
@@ -74,6 +74,10 @@ claims_told v c may = by may.op may.busy may.wants
         subst (λ es. Has (told_filling c es v.told) (Info c P may.parent.node))
         (λ i. filling_for c (sym busy i) (sym may.stands i) (sym may.behind i) v.worker.search.grandparent (unwrap_or v.here 0) (told_value v.told))
         (latest (Info c P may.parent.node) _)
+    by (Swap k was value) busy wants =
+        subst (λ es. Has (told_filling c es v.told) (Info c P may.parent.node))
+        (λ i. filling_for c (sym busy i) (sym may.stands i) (sym may.behind i) v.worker.search.grandparent (unwrap_or v.here 0) (told_value v.told))
+        (latest (Info c P may.parent.node) _)
     by (Delete k) busy wants =
         subst (λ es. Has (told_filling c es v.told) (Info c P may.parent.node))
         (λ i. filling_for c (sym busy i) (sym may.stands i) (sym may.behind i) (sym wants.1.1 i) (unwrap_or v.here 0) (told_value v.told))
@@ -98,7 +102,7 @@ pub leaves_next : (c : Call) (ws : List ℕ) → ((d : ℕ) → c ≢ call.Claim
 leaves_next (call.Claim c) ws apart = absurd (apart c refl)
 leaves_next (call.Fill c f value) ws apart = get_or-set_other ws (word_of (call.Fill c f value)) 0 _ 0 (λ e. omega arith)
 leaves_next (call.IFlag c p from) ws apart = get_or-set_other ws (word_of (call.IFlag c p from)) 0 _ 0 (λ e. omega arith)
-leaves_next (call.IChild c p l right) ws apart = get_or-set_other ws (word_of (call.IChild c p l right)) 0 _ 0 (λ e. omega arith)
+leaves_next (call.IChild c p l q right) ws apart = get_or-set_other ws (word_of (call.IChild c p l q right)) 0 _ 0 (λ e. omega arith)
 leaves_next (call.IUnflag c p) ws apart = get_or-set_other ws (word_of (call.IUnflag c p)) 0 _ 0 (λ e. omega arith)
 leaves_next (call.DFlag c gp from) ws apart = get_or-set_other ws (word_of (call.DFlag c gp from)) 0 _ 0 (λ e. omega arith)
 leaves_next (call.Mark c p was) ws apart = get_or-set_other ws (word_of (call.Mark c p was)) 0 _ 0 (λ e. omega arith)

@@ -61,7 +61,7 @@ pub record ClaimsCount (first : ℕ) (s : TableState) : Type 0 where
 pub claims_none : (c : Call) (n d : ℕ) → ((e : ℕ) → c ≢ call.Claim e) → times kind.Claim d (won_by c n) ≡ 0
 claims_none (call.Claim c) n d apart = absurd (apart c refl)
 claims_none (call.IFlag c p from) n d apart = other_kind (n == packed from) kind.IFlag kind.Claim c d refl
-claims_none (call.IChild c p l right) n d apart = other_kind (n == l) kind.IChild kind.Claim c d refl
+claims_none (call.IChild c p l q right) n d apart = other_kind (n == l) kind.IChild kind.Claim c d refl
 claims_none (call.IUnflag c p) n d apart = other_kind (n == iflag c) kind.IUnflag kind.Claim c d refl
 claims_none (call.DFlag c gp from) n d apart = other_kind (n == packed from) kind.DFlag kind.Claim c d refl
 claims_none (call.Mark c p was) n d apart = other_kind (n == was) kind.Mark kind.Claim c d refl

@@ -159,7 +159,7 @@ module _ (m : Machine) (stage : Stages) (holds : Invariant m stage) (i : ℕ) (m
   call_wins (call.Claim c) n v cards mine may h = claims (n == c) h
   call_wins (call.IFlag c p from) n v cards mine may h =
       flags act.IFlag kind.IFlag (n == packed from) c (λ hand d. refl) (mine ∙ may.may.holds) h
-  call_wins (call.IChild c p l right) n v cards mine may h = tries (act.IChild c) (n == l) h
+  call_wins (call.IChild c p l q right) n v cards mine may h = tries (act.IChild c) (n == l) h
   call_wins (call.IUnflag c p) n v cards mine may h = tries (act.IUnflag c) (n == iflag c) h
   call_wins (call.DFlag c gp from) n v cards mine may h =
       flags act.DFlag kind.DFlag (n == packed from) c (λ hand d. refl) (mine ∙ may.may.holds) h
@@ -221,30 +221,33 @@ module _ (keys : List ℕ) (cards : ℕ) where
   -- what a turn makes of the machine
   pub turn_turns : (s : TableState) (r : HasMachine keys cards s) (stage : Stages) → Invariant (machine_of_table keys cards s r) stage → (t : Turn) (s' : TableState)
       → TableTurns cards s t s' → (k : HasMachine keys cards s') × Turned (machine_of_table keys cards s r) stage (turn_wins s t) (machine_of_table keys cards s' k)
+      × StagesLater r.stages k.stages
   turn_turns s r stage holds (Makes seat c) s' h =
       let turn = turn_lawful keys cards s r (Makes seat c) s' h in (
         turn.0,
         call_wins (machine_of_table keys cards s r) stage holds seat (machine_of_table keys cards s' turn.0) c (found_by s c) h.view cards
             (ap (λ o. (seat_worker o).card) h.there) h.may turn.1.machine,
+        turn.1.later,
       )
   turn_turns s r stage holds (Splits seat left) s' h =
       let turn = turn_lawful keys cards s r (Splits seat left) s' h in
-      (turn.0, splits (machine_of_table keys cards s r) stage seat (machine_of_table keys cards s' turn.0) holds turn.1.machine)
+      (turn.0, splits (machine_of_table keys cards s r) stage seat (machine_of_table keys cards s' turn.0) holds turn.1.machine, turn.1.later)
   turn_turns s r stage holds (Joins seat other) s' h =
       let turn = turn_lawful keys cards s r (Joins seat other) s' h in
-      (turn.0, joins (machine_of_table keys cards s r) stage seat other (machine_of_table keys cards s' turn.0) holds turn.1.machine)
+      (turn.0, joins (machine_of_table keys cards s r) stage seat other (machine_of_table keys cards s' turn.0) holds turn.1.machine, turn.1.later)
 
   -- what a run makes of the machine
   pub run_goes : (s : TableState) (r : HasMachine keys cards s) (stage : Stages) → Invariant (machine_of_table keys cards s r) stage → (turns : List Turn) (s' : TableState)
       → (run : TableRun cards s turns s')
-      → (k : HasMachine keys cards s') × Went r.words stage (run_wins cards s turns s' run) (machine_of_table keys cards s' k)
+      → (k : HasMachine keys cards s') × Went r.words stage (run_wins cards s turns s' run) (machine_of_table keys cards s' k) × StagesLater r.stages k.stages
   run_goes s r stage holds [] s' run =
-      subst (λ x. (k : HasMachine keys cards x) × Went r.words stage (λ d. []) (machine_of_table keys cards x k)) (sym run)
-      (r, went_nowhere (machine_of_table keys cards s r) stage (machine_of_table keys cards s r) holds refl)
+      subst (λ x. (k : HasMachine keys cards x) × Went r.words stage (λ d. []) (machine_of_table keys cards x k) × StagesLater r.stages k.stages) (sym run)
+      (r, went_nowhere (machine_of_table keys cards s r) stage (machine_of_table keys cards s r) holds refl, stages_same r.stages)
   run_goes s r stage holds (t ∷ ts) s' run =
       let first = turn_turns s r stage holds t run.0 run.1 in
       let rest = run_goes run.0 first.0 first.1.went.stages first.1.went.invariant ts s' run.2 in (
         rest.0,
         went_after r.words stage (turn_wins s t) (machine_of_table keys cards run.0 first.0) (run_wins cards run.0 ts s' run.2)
             (machine_of_table keys cards s' rest.0) first.1.went rest.1,
+        stages_later r.stages first.0.stages rest.0.stages first.2 rest.2,
       )

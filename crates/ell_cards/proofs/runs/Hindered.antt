@@ -1,10 +1,12 @@
 use Rattle.std.proofs.Common.{◌≡◌, ◌≢◌, ℕ, ◌⊎◌, ◌/◌, ◌%◌, ◌<◌, ◌≤◌, ◌==◌, if◌then◌else◌, Bool, true, false, Option, Some, None, List, [], ◌∷◌, ◌++◌, inl, inr, refl, sym, ap, ◌∙◌, subst, arith, eq-eqb, eqb-true, true≢false}
+use Rattle.ell_core.specs.acts.Searching.{put_of}
+use Rattle.ell_core.proofs.keeping.Puts.{putting_hand}
 use Rattle.std.proofs.lemmas.Bool.{cases_eq, false≢true}
 use Rattle.std.proofs.lemmas.List.{append_assoc}
 use Rattle.std.proofs.lemmas.Option.{same_Some}
 use mathlib.Core.Option.{some}
 use lib.ListN.{get_elem?}
-use Rattle.ell_ops.specs.declared.op.Op.TheVariants.{Find, Insert, Delete}
+use Rattle.ell_ops.specs.declared.op.Op.TheVariants.{Find, Insert, Delete, Swap}
 use Rattle.ell_ops.specs.declared.op.Op.{Op}
 use Rattle.ell_word.specs.declared.gate.Kind.{Kind}
 use Rattle.ell_word.specs.declared.gate.Kind.TheVariants as kind
@@ -114,6 +116,8 @@ module _ (w : Words) (stage : Stages) (now : Words) (after : Stages) where
   way_met (Some (Find k)) place parent above h g = tt
   way_met (Some (Insert k value)) None parent above h g = tt
   way_met (Some (Insert k value)) (Some x) parent above h g = read_met parent h
+  way_met (Some (Swap k was value)) None parent above h g = tt
+  way_met (Some (Swap k was value)) (Some x) parent above h g = read_met parent h
   way_met (Some (Delete k)) None parent above h g = tt
   way_met (Some (Delete k)) (Some x) parent above h g = first_met (read_in_way above) (read_in_way parent) (read_met above g) (read_met parent h)
 
@@ -140,9 +144,9 @@ won_waits s h k = false≢true (sym (calm s h) ∙ k)
     calm : (s : Stage) → delete_won s ≡ true → waits s ≡ false
     calm s h = grind arith
 
--- an insert is no delete
-insert_is_no_delete : (k key value : ℕ) → Some (Delete k) ≡ Some (Insert key value) → ⊥
-insert_is_no_delete k key value e = cc
+-- an operation that puts something is no delete
+put_is_no_delete : (k : ℕ) (op : Op) (key value : ℕ) (was : Option ℕ) → put_of op ≡ Some (key, value, was) → Some (Delete k) ≡ Some op → ⊥
+put_is_no_delete k op key value was puts e = some_not_none puts (ap put_of (sym (same_Some (Delete k) op e)))
 
 -- the card that is held
 pub held_is : (o : Option ℕ) (c : ℕ) → is_held o c ≡ true → o ≡ Some c
@@ -293,6 +297,8 @@ module _ (keys : List ℕ) (cards : ℕ) (m0 : Machine) (stage : Stages) (first 
   deletes_hand (Find k) c busy has flagged won = absurd (sound.flagged (Find k) c busy has flagged).0
   deletes_hand (Insert k value) c busy has flagged won =
       absurd (one_kind (now c) (insert_won-insert (now c) (sound.flagged (Insert k value) c busy has flagged).0.0) (delete_won-delete (now c) won))
+  deletes_hand (Swap k was value) c busy has flagged won =
+      absurd (one_kind (now c) (insert_won-insert (now c) (sound.flagged (Swap k was value) c busy has flagged).0.0) (delete_won-delete (now c) won))
   deletes_hand (Delete k) c busy has flagged won = hindered.hand k c busy has flagged
 
   -- the word that a delete's search read at the parent is no greater than the one there
@@ -336,11 +342,11 @@ module _ (keys : List ℕ) (cards : ℕ) (m0 : Machine) (stage : Stages) (first 
       let there_now = (rely.parent may.leaf seen stands behind).node in
       let there_then = ((relies keys cards s r seat v there).parent may.leaf seen stands behind).node in
       let is = update_listed keys cards s r seat v there p there_then.inner there_then.born in
-      let low = ((sound.stands (Insert may.key may.value) may.leaf may.busy may.stands).parent seen may.behind).0.word in
-      let held = sound.unflagged (Insert may.key may.value) c may.busy may.may.holds may.may.unflagged in
+      let low = ((sound.stands may.op may.leaf may.busy may.stands).parent seen may.behind).0.word in
+      let held = putting_hand r.words now (worker_of v.worker) may.op may.key may.value may.was c may.puts (sound.unflagged may.op c may.busy may.may.holds may.may.unflagged) in
       let same = same_Some held.parent seen (sym held.behind ∙ may.behind) in
       flag_hindered kind.IFlag c (IFlagged c) p (packed from) n (n == packed from) refl
-      (λ k d busy has. absurd (insert_is_no_delete k may.key may.value (sym busy ∙ may.busy)))
+      (λ k d busy has. absurd (put_is_no_delete k may.op may.key may.value may.was may.puts (sym busy ∙ may.busy)))
       (finds p (packed from) n there_now.inner there_now.born (place_of seen (since.parent seen behind)) low
       (three (packed from) (subst (λ (z : Seen). IsClean z.word) same held.calm)) is)
 
@@ -520,7 +526,7 @@ module _ (keys : List ℕ) (cards : ℕ) (m0 : Machine) (stage : Stages) (first 
   call_hindered (call.Claim c) keeps may = claim_hindered c may (found_by s (call.Claim c) == c) refl
   call_hindered (call.Fill c f value) keeps may = quiet _ refl refl refl refl refl refl (λ seen h. h)
   call_hindered (call.IFlag c p from) keeps may = iflag_hindered c p from may
-  call_hindered (call.IChild c p l right) keeps may = quiet _ refl refl refl refl refl refl (λ seen h. h)
+  call_hindered (call.IChild c p l q right) keeps may = quiet _ refl refl refl refl refl refl (λ seen h. h)
   call_hindered (call.IUnflag c p) keeps may = quiet _ refl refl refl refl refl refl (λ seen h. h)
   call_hindered (call.DFlag c gp from) keeps may = dflag_hindered c gp from may
   call_hindered (call.Mark c p was) keeps may = mark_hindered c p was may

@@ -1,6 +1,6 @@
 use Rattle.std.proofs.Common.{◌≡◌, ℕ, Bool, true, false, Option, Some, None, [], refl, sym, ap, ◌∙◌, subst}
 use Rattle.ell_ops.specs.declared.op.Op.{Op}
-use Rattle.ell_ops.specs.declared.op.Op.TheVariants.{Find, Insert, Delete}
+use Rattle.ell_ops.specs.declared.op.Op.TheVariants.{Find, Insert, Delete, Swap}
 use Rattle.ell_word.specs.Word.{unpacked}
 use Rattle.ell_core.specs.declared.view.Seen.{Seen}
 use Rattle.ell_core.specs.state.Words.{Words}
@@ -17,6 +17,7 @@ nowhere_way : (op : Op) (parent above : Option Seen) → in_the_way (Some op) No
 nowhere_way (Find k) parent above = refl
 nowhere_way (Insert k value) parent above = refl
 nowhere_way (Delete k) parent above = refl
+nowhere_way (Swap k was value) parent above = refl
 
 -- what was read clean is not in the way
 clean_read : (seen : Seen) → IsClean seen.word → read_in_way (Some seen) ≡ []
@@ -34,8 +35,11 @@ hand_way w stage v words sound c has = by v.worker.operation refl v.worker.flagg
         → v.worker.search.grandparent ≡ above → in_the_way o place parent above ≡ [] → way_now v ≡ []
     is o place parent above e f g h none = (λ t. in_the_way (e t) (f t) (g t) (h t)) ∙ none
 
-    inserts : (k value : ℕ) → v.worker.operation ≡ Some (Insert k value) → InsertInHand w stage (worker_of v.worker) k value c → way_now v ≡ []
+    inserts : (k value : ℕ) → v.worker.operation ≡ Some (Insert k value) → InsertInHand w stage (worker_of v.worker) k value None c → way_now v ≡ []
     inserts k value e h = is (Some (Insert k value)) (Some (w.l c)) (Some h.parent) v.worker.search.grandparent e h.stands h.behind refl (clean_read h.parent h.calm)
+
+    swaps : (k was value : ℕ) → v.worker.operation ≡ Some (Swap k was value) → InsertInHand w stage (worker_of v.worker) k value (Some was) c → way_now v ≡ []
+    swaps k was value e h = is (Some (Swap k was value)) (Some (w.l c)) (Some h.parent) v.worker.search.grandparent e h.stands h.behind refl (clean_read h.parent h.calm)
 
     deletes : (k : ℕ) → v.worker.operation ≡ Some (Delete k) → DeleteInHand w stage (worker_of v.worker) k c → way_now v ≡ []
     deletes k e h = is (Some (Delete k)) (Some (w.l c)) (Some h.parent) (Some h.grandparent) e h.stands h.behind h.above
@@ -48,4 +52,5 @@ hand_way w stage v words sound c has = by v.worker.operation refl v.worker.flagg
         (nowhere_way op v.worker.search.parent v.worker.search.grandparent)
     by (Some (Find k)) e false flagged = absurd (sound.unflagged (Find k) c e has flagged)
     by (Some (Insert k value)) e false flagged = inserts k value e (sound.unflagged (Insert k value) c e has flagged)
+    by (Some (Swap k was value)) e false flagged = swaps k was value e (sound.unflagged (Swap k was value) c e has flagged)
     by (Some (Delete k)) e false flagged = deletes k e (sound.unflagged (Delete k) c e has flagged)

@@ -1,4 +1,5 @@
-use Rattle.std.proofs.Common.{◌≡◌, ℕ, suc, ◌<◌, ◌≤◌, ◌==◌, if◌then◌else◌, Bool, true, false, nat_le, Option, Some, None, List, [], ◌∷◌, ◌+◌, inl, inr, ◌⊎◌, refl, sym, ap, ◌∙◌, subst, arith}
+use Rattle.std.proofs.Common.{◌≡◌, ◌%◌, ℕ, suc, ◌<◌, ◌≤◌, ◌==◌, if◌then◌else◌, Bool, true, false, nat_le, Option, Some, None, List, [], ◌∷◌, ◌+◌, inl, inr, ◌⊎◌, refl, sym, ap, ◌∙◌, subst, arith}
+use Rattle.std.proofs.lemmas.Bool.{lt-leb}
 use Rattle.std.proofs.lemmas.Bool.Decides.{nat_tests}
 use Rattle.std.proofs.lemmas.Option.{same_Some}
 use mathlib.Core.Option.{some, some-injective}
@@ -97,6 +98,7 @@ becomes_met key real met m stage i (Some a) said m' holds steps are =
       are = event_met m stage (record { worker = i; act = a }) said m' follows.stages key met holds steps follows.invariant.words follows.later.born real are;
     }
 
+<<<<<<< HEAD
 -- the machine after a turn, with the nodes that were met
 pub gone_by : (keys : List ℕ) (cards : ℕ) (key : ℕ) → key ≤ greatest_key → (s : TableState) (met : ℕ → Type 0) (kept : HasMachine keys cards s) (stages : Stages)
     → Invariant (machine_of_table keys cards s kept) stages → AreMet kept.words stages key met → (t : Turn) (s' : TableState) → TableTurns cards s t s' → (kept : HasMachine keys cards s') × GoneOn key met (machine_of_table keys cards s' kept)
@@ -118,6 +120,11 @@ gone_by keys cards key real s met was stage inv are (Joins one other) s' h =
     let m' = machine_of_table keys cards s' turn.0 in
     let join = turn.1.machine in
     (turn.0, still_met key real met m stage m' (joins_lawful m stage one other m' inv join) (ap (λ (n : Machine). n.words) join.gives) are)
+=======
+-- a key that is no greater than another is left of a node whose key is greater than that one
+left_of_top : (k top key : ℕ) → k ≡ top + 2 → key ≤ top → false ≡ nat_le k key
+left_of_top k top key e real = sym (lt-leb k key (omega arith))
+>>>>>>> swap
 
 module _ (keys : List ℕ) (cards : ℕ) (seat key : ℕ) (real : key ≤ greatest_key) where
   -- nodes that were met, in a state that has a machine, and the look of the pass in the seat has come to one of them
@@ -180,7 +187,7 @@ module _ (keys : List ℕ) (cards : ℕ) (seat key : ℕ) (real : key ≤ greate
     look_goes (call.Info c f) keeps may = stays _ refl
     look_goes (call.FrozenChild c p right) keeps may = stays _ refl
     look_goes (call.Fill c f value) keeps may = stays _ refl
-    look_goes (call.IChild c p l right) keeps may = stays _ refl
+    look_goes (call.IChild c p l q right) keeps may = stays _ refl
     look_goes (call.IUnflag c p) keeps may = stays _ refl
     look_goes (call.DChild c gp p y right) keeps may = stays _ refl
     look_goes (call.DUnflag c gp) keeps may = stays _ refl
@@ -292,7 +299,7 @@ module _ (keys : List ℕ) (cards : ℕ) (seat key : ℕ) (real : key ≤ greate
       )
     where
       left_side : (k : ℕ) → k ≡ greatest_key + 2 → false ≡ nat_le k key
-      left_side k e = grind (arith, nat_tests)
+      left_side k e = left_of_top k greatest_key key e real
 
   -- what was found at a leaf of the walk
   found_there : (s : TableState) (turns : List Turn) (s' : TableState) → (v : View) → get_elem? s'.views seat ≡ some v → (there : Option ℕ)
@@ -303,7 +310,7 @@ module _ (keys : List ℕ) (cards : ℕ) (seat key : ℕ) (real : key ≤ greate
       let goes = run_goes keys cards was.state r r.stages r.invariant _ s' was.amid.after in
       let last = goes.0 in
       let born = walk_born r.words r.stages sound key (root_born r.words r.stages sound) was.on in
-      let below : card found.leaf < r.words.next = (sound.cards (card found.leaf)).claimed.0 (born-claimed (r.stages (card found.leaf)) born) in
+      let below : card found.leaf < r.words.next = (sound.cards (card found.leaf)).claimed.0 (born-claimed (r.stages (card found.leaf)) (found.leaf % 3) born) in
       let has : r.words.key found.leaf ≡ found.leaf_key =
       sym (goes.1.words.key found.leaf below) ∙ ((last.views seat v at).entries (Key found.leaf found.leaf_key) found.told).1 in
       record { state = was.state; amid = was.amid; so = by there found.tells has last.words last.stages (goes.1.words.value found.leaf below) (last.views seat v at).entries }

@@ -98,7 +98,7 @@ call_goes (call.Upd x) n h = inl tt
 call_goes (call.Down x right) n h = inl tt
 call_goes (call.Claim c) n h = inl (claim_goes (n == c))
 call_goes (call.IFlag c p from) n h = inl tt
-call_goes (call.IChild c p l right) n h = inl tt
+call_goes (call.IChild c p l q right) n h = inl tt
 call_goes (call.IUnflag c p) n h = inl tt
 call_goes (call.DFlag c gp from) n h = inl tt
 call_goes (call.Mark c p was) n h = inl tt
@@ -283,8 +283,13 @@ module _ (plan : TablePlan) (q : SearchRun plan) where
   opens = starts_are_kept plan q.opened q.starts
 
   -- where the run leads before the search begins
+<<<<<<< HEAD
   led_to : (k : HasMachine plan.keys plan.last_card q.begun) × Went opens.kept.words opens.kept.stages (run_wins plan.last_card q.opened q.before q.begun q.led) (machine_of_table plan.keys plan.last_card q.begun k)
   led_to = run_goes plan.keys plan.last_card q.opened opens.kept opens.kept.stages opens.kept.invariant q.before q.begun q.led
+=======
+  led_to : (k : HasMachine keys last q.begun) × Went opens.kept.words opens.kept.stages (run_wins last q.opened q.before q.begun q.led) (machine_of_table keys last q.begun k)
+  led_to = let made = run_goes keys last q.opened opens.kept opens.kept.stages opens.kept.invariant q.before q.begun q.led in (made.0, made.1)
+>>>>>>> swap
 
   abbrev first : Machine
   first = machine_of_table plan.keys plan.last_card q.begun led_to.0

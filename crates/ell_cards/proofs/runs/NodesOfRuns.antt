@@ -1,4 +1,5 @@
-use Rattle.std.proofs.Common.{◌≡◌, ◌≢◌, ℕ, ◌<◌, ◌⊎◌, Bool, true, false, List, refl, sym, ap, ◌∙◌, inl, inr, arith}
+use Rattle.std.proofs.Common.{◌≡◌, ◌%◌, ◌≢◌, ℕ, ◌<◌, ◌⊎◌, Bool, true, false, List, refl, sym, ap, ◌∙◌, inl, inr, arith}
+use Rattle.ell_core.specs.history.Later.{StagesLater}
 use Rattle.std.proofs.lemmas.Bool.{cases_Bool}
 use Rattle.ell_word.specs.Node.{IsInternal, card, internal}
 use Rattle.ell_word.specs.Word.{unpacked}
@@ -10,7 +11,7 @@ use Rattle.ell_core.specs.tree.Tree.{Reached}
 use Rattle.ell_core.specs.history.Stages.{Stage, Stages, is_start, is_born, is_insert, is_delete, Born}
 use Rattle.ell_core.specs.history.Invariant.{Invariant}
 use Rattle.ell_core.proofs.following.Sound.{word_by_state}
-use Rattle.ell_core.proofs.stages.Order.{born-claimed}
+use Rattle.ell_core.proofs.stages.Order.{born-claimed, all-born, inner-born}
 use Rattle.ell_core.proofs.stages.Waiting.{start-born}
 use Rattle.ell_core.proofs.tree.Reached.{Spans-reached}
 use Rattle.ell_cards.specs.States.{TableState}
@@ -23,68 +24,15 @@ use Rattle.ell_cards.proofs.own_words.OwnTree.{key_same, child_same, update_same
 use Rattle.ell_cards.proofs.own_words.OwnWords.{same_card}
 use Rattle.ell_cards.proofs.runs.GoingOn.{Went, run_goes}
 
--- a clean update word is no mark
-no_mark : (w : ℕ) (d : ℕ) → w ≡ clean 0 → w ≢ marked d
-no_mark w d is e = omega arith
-
--- a card that came into the tree is an insert's, but the opening tree's
-born_insert : (s : Stage) → is_born s ≡ true → (is_insert s ≡ true) ⊎ (is_delete s ≡ true) → is_insert s ≡ true
-born_insert s a b = grind arith
-
-module _ (m : Machine) (one two : Stages) (holds : Invariant m one) (also : Invariant m two) where
-  -- the node of an insert's card that came into the tree by these stages, by the others
-  node_born : (c : ℕ) → is_born (one c) ≡ true → is_insert (two c) ≡ true → is_born (two c) ≡ true
-  node_born c born inserts = by (is_born (two c)) refl
-    where
-      at : card (internal c) ≡ c
-      at = omega arith
-
-      by : (b : Bool) → is_born (two c) ≡ b → is_born (two c) ≡ true
-      by true is = is
-      by false is =
-          let fresh = (also.words.cards c).unborn inserts is in
-          let inside = holds.words.tree.there (internal c) (omega arith) (ap (λ d. is_born (one d)) at ∙ born)
-          (λ d. no_mark (m.words.update (internal c)) d fresh.calm) in
-          ap (λ d. is_born (two d)) (sym at)
-          ∙ reached_born m.words m.words two also.words (λ d calm f. refl) (internal c) (Spans-reached m.words inside.spans)
-
-  -- an insert's card or a delete's by those goes somewhere, so it is none of the opening tree's by these
-  no_start : (c : ℕ) → (is_insert (two c) ≡ true) ⊎ (is_delete (two c) ≡ true) → is_start (one c) ≡ false
-  no_start c kind = elim (cases_Bool (is_start (one c))) [
-    | inl start ↦ absurd (let leaf = (holds.kinds.start c start).leaf in let above = goes kind in omega arith)
-    | inr none ↦ none
-  ]
-    where
-      goes : (is_insert (two c) ≡ true) ⊎ (is_delete (two c) ≡ true) → m.words.p c < m.words.l c
-      goes (inl i) = ((also.words.cards c).insert i).above
-      goes (inr d) = ((also.words.cards c).delete d).above
-
-  -- which nodes came into the tree is told by the machine: stages that the invariant holds with agree on it
-  born_by_machine : (x : ℕ) → Born one x → Born two x
-  born_by_machine x born = by (card x) born
-    where
-      by : (c : ℕ) → is_born (one c) ≡ true → is_born (two c) ≡ true
-      by c is = elim (cases_Bool (is_start (two c))) [
-        | inl start ↦ start-born (two c) start
-        | inr n ↦ (
-            let below = (holds.words.cards c).claimed.0 (born-claimed (one c) is) in
-            let kind = also.kinds.kinds c below n in
-            let inserts = born_insert (one c) is (holds.kinds.kinds c below (no_start c kind)) in
-            elim kind [
-              | inl i ↦ node_born c is i
-              | inr d ↦ absurd (((holds.words.cards c).insert inserts).left_child ((also.words.cards c).delete d).no_left_child)
-            ])
-      ]
-
 -- two states with machines, the second one's gone on from the first one's, and a node that was reached in the first
 module _ (keys : List ℕ) (cards : ℕ) (s : TableState) (r : HasMachine keys cards s) (s' : TableState) (k : HasMachine keys cards s') (won : ℕ → List Kind)
-    (went : Went r.words r.stages won (machine_of_table keys cards s' k)) (x : ℕ) (reached : Reached (own_words s) x) where
+    (went : Went r.words r.stages won (machine_of_table keys cards s' k)) (stages : StagesLater r.stages k.stages) (x : ℕ) (reached : Reached (own_words s) x) where
   -- it came into the tree
   born : Born r.stages x
   born = reached_born r.words (own_words s) r.stages r.invariant.words (same_card keys cards s r) x reached
 
   later : Born k.stages x
-  later = born_by_machine (machine_of_table keys cards s' k) went.stages k.stages went.invariant k.invariant x (went.later.born x born)
+  later = stages.born x born
 
   -- so the table's own words there are the machine's
   key_then : (own_words s).key x ≡ r.words.key x
@@ -108,7 +56,7 @@ module _ (keys : List ℕ) (cards : ℕ) (s : TableState) (r : HasMachine keys c
   -- and go on as those do
   node_goes_on : NodeGoesOn (own_words s) (own_words s') x
   node_goes_on = record {
-    key = key_now ∙ (went.words.key x ((r.invariant.words.cards (card x)).claimed.0 (born-claimed (r.stages (card x)) born)) ∙ sym key_then);
+    key = key_now ∙ (went.words.key x ((r.invariant.words.cards (card x)).claimed.0 (born-claimed (r.stages (card x)) (x % 3) born)) ∙ sym key_then);
     children = λ inner right.
         let before = child_then inner right in
         let after = child_now inner right in
@@ -132,4 +80,4 @@ module _ (keys : List ℕ) (cards : ℕ) (s : TableState) (r : HasMachine keys c
 pub table_nodes_go_on : NodesByMachine
 table_nodes_go_on keys cards s r turns s' run x reached =
     let goes = run_goes keys cards s r r.stages r.invariant turns s' run in
-    node_goes_on keys cards s r s' goes.0 (run_wins cards s turns s' run) goes.1 x reached
+    node_goes_on keys cards s r s' goes.0 (run_wins cards s turns s' run) goes.1 goes.2 x reached

@@ -3,7 +3,7 @@ use mathlib.Core.Option.{some}
 use lib.ListN.{get_elem?}
 use Rattle.atomic_table.proofs.Lists.{at_set}
 use Rattle.ell_ops.specs.declared.op.Op.{Op}
-use Rattle.ell_ops.specs.declared.op.Op.TheVariants.{Insert, Delete}
+use Rattle.ell_ops.specs.declared.op.Op.TheVariants.{Insert, Delete, Swap}
 use Rattle.ell_word.specs.Word.{packed, unpacked}
 use Rattle.ell_word.specs.declared.update.State.{State}
 use Rattle.ell_word.specs.declared.update.State.TheVariants.{Clean}
@@ -68,6 +68,7 @@ first_no_claim n (h ∷ hs) ks a b = a
 
 way_no_claim : (n : ℕ) (op : Option Op) (at : Option ℕ) (parent above : Option Seen) → AreBelow n (in_the_way op at parent above)
 way_no_claim n (Some (Insert k value)) (Some x) parent above = read_no_claim n parent
+way_no_claim n (Some (Swap k was value)) (Some x) parent above = read_no_claim n parent
 way_no_claim n (Some (Delete k)) (Some x) parent above =
     first_no_claim n (read_in_way above) (read_in_way parent) (read_no_claim n above) (read_no_claim n parent)
 way_no_claim n _ _ parent above = tt

@@ -1,18 +1,18 @@
-use Rattle.std.proofs.Common.{◌≡◌, ℕ, ◌+◌, ◌<◌, ◌≤◌, ◌&&◌, not, if◌then◌else◌, Bool, true, false, List, [], ◌∷◌, ◌++◌, length, inl, inr, refl, sym, ap, ◌∙◌, subst, arith}
+use Rattle.std.proofs.Common.{◌≡◌, ◌%◌, ℕ, ◌+◌, ◌<◌, ◌≤◌, ◌&&◌, ◌||◌, ◌==◌, not, if◌then◌else◌, Bool, true, false, List, [], ◌∷◌, ◌++◌, length, inl, inr, refl, sym, ap, ◌∙◌, subst, arith}
 use Rattle.std.proofs.lemmas.Bool.{false≢true, false_from_ne_true, and_from, and_right, not_from_false}
 use Rattle.std.proofs.lemmas.List.{append_assoc, append-nil}
-use Rattle.ell_word.specs.Node.{card}
+use Rattle.ell_word.specs.Node.{card, left_leaf, right_leaf}
 use Rattle.ell_word.specs.Word.{unpacked}
 use Rattle.ell_word.specs.declared.gate.Kind.{Kind}
 use Rattle.ell_core.specs.declared.fact.Fact.TheVariants.{IFlagged, DFlagged, Marked}
 use Rattle.ell_core.specs.state.Words.{Words}
 use Rattle.ell_core.specs.state.Machine.{Machine}
-use Rattle.ell_core.specs.history.Stages.{Stages, Born, is_delete, is_changed, delete_waits}
+use Rattle.ell_core.specs.history.Stages.{Stages, Born, is_born, is_delete, is_changed, delete_waits}
 use Rattle.ell_core.specs.history.Invariant.{Invariant, IsIn, delete_side}
 use Rattle.ell_core.specs.history.Later.{WordsLater, StagesLater, wins_of}
-use Rattle.ell_core.proofs.stages.Order.{delete-claimed, insert-claimed, born-claimed, insert_won-insert, delete_won-delete, delete_waits-delete, delete_waits-open, changed-insert, cut-delete, marked-delete, backed-delete, one_kind}
+use Rattle.ell_core.proofs.stages.Order.{delete-claimed, insert-claimed, born-claimed, changed_nodes, insert_won-insert, delete_won-delete, delete_waits-delete, delete_waits-open, changed-insert, cut-delete, marked-delete, backed-delete, one_kind}
 use Rattle.ell_core.proofs.stages.Sums.{child_changes, all_flags, sum_by, sum_append, sum_same, changed-sum, sum-changed, unflagged-sum, sum-flagged, flags-once}
-use Rattle.ell_core.proofs.stages.Flags.{was_flagged, flagged_cases, insert-flagged, delete-flagged, flagged-claimed, born_cases, changed-born, backed-won}
+use Rattle.ell_core.proofs.stages.Flags.{was_flagged, flagged_cases, insert-flagged, delete-flagged, flagged-claimed, born_cases, backed-won}
 use Rattle.ell_core.proofs.stages.Waiting.{start-born}
 use Rattle.ell_core.proofs.following.Backtracks.{Backtracks, IsTakenBack, Keeps, none_back}
 use Rattle.ell_core.proofs.following.SetSince.{IsSetSince, insert_flag, delete_flag, mark, set_since}
@@ -113,7 +113,7 @@ module _ (keys : List ℕ) (cards : ℕ) (s0 : TableState) (r0 : HasMachine keys
     stage = at.went.stages
 
     turned : (k : HasMachine keys cards s') × Turned m stage (turn_wins s t) (machine_of_table keys cards s' k)
-    turned = turn_turns keys cards s at.kept stage at.went.invariant t s' turn
+    turned = let made = turn_turns keys cards s at.kept stage at.went.invariant t s' turn in (made.0, made.1)
 
     abbrev m' : Machine
     m' = machine_of_table keys cards s' turned.0
@@ -163,11 +163,22 @@ module _ (keys : List ℕ) (cards : ℕ) (s0 : TableState) (r0 : HasMachine keys
         (set_since m0 first before m' stages goes.invariant goes.words goes.later goes.cleans unchanged_now (m'.words.p c) (m'.words.was c)
         says.parent.inner says.parent.born (omega arith) says.calm late (omega arith))
 
+    -- a card that had changed and has changed now had brought the same nodes
+    changed_alike : (x : ℕ) → is_changed (stage (card x)) ≡ true → Born stage x → is_changed (first (card x)) ≡ true → Born first x
+    changed_alike x now born had =
+        let c = card x in
+        let low = (before.words.cards c).claimed.0 (insert-claimed (first c) (changed-insert (first c) had)) in
+        let left = at.went.words.key (left_leaf c) (omega arith) in
+        let right = at.went.words.key (right_leaf c) (omega arith) in
+        let alike : is_born (stage c) ≡ is_born (first c) =
+        (at.went.invariant.words.inserts c).brings now ∙ ((λ t. not (left t == right t)) ∙ sym ((before.words.inserts c).brings had)) in
+        changed_nodes (first c) (x % 3) had ∙ ((λ t. sym alike t || (x % 3 == 2)) ∙ (sym (changed_nodes (stage c) (x % 3) now) ∙ born))
+
     -- what came into the tree had come into it before
     born_before : (x : ℕ) → Born stage x → Born first x
-    born_before x born = elim (born_cases (stage (card x)) born) [
-      | inl start ↦ start-born (first (card x)) (sym (at.went.later.start (card x)) ∙ start)
-      | inr changed ↦ changed-born (first (card x)) (unchanged_since first stage at.went.later (won (card x)) (card x) (at.went.wins (card x)) (quiet (card x)) changed)
+    born_before x born = elim (born_cases (stage (card x)) (x % 3) born) [
+      | inl start ↦ start-born (first (card x)) (x % 3) (sym (at.went.later.start (card x)) ∙ start)
+      | inr changed ↦ changed_alike x changed born (unchanged_since first stage at.went.later (won (card x)) (card x) (at.went.wins (card x)) (quiet (card x)) changed)
     ]
 
     placed_now : (c : ℕ) → delete_waits (stage c) ≡ true → Places m0.words (m'.words.gp c) (m'.words.p c)
@@ -177,7 +188,7 @@ module _ (keys : List ℕ) (cards : ℕ) (s0 : TableState) (r0 : HasMachine keys
         let says = (at.went.invariant.words.cards c).delete deletes in
         let side = delete_side m.words c in
         let born = born_before (m.words.gp c) says.grandparent.born in
-        let low = (before.words.cards (card (m.words.gp c))).claimed.0 (born-claimed (first (card (m.words.gp c))) born) in
+        let low = (before.words.cards (card (m.words.gp c))).claimed.0 (born-claimed (first (card (m.words.gp c))) ((m.words.gp c) % 3) born) in
         let flag = (at.went.invariant.words.deletes c).flag (delete_waits-open (stage c) waits) in
         moved info.gp info.p (record {
           right = side;

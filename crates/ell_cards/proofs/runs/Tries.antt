@@ -3,7 +3,7 @@ use Rattle.std.proofs.lemmas.Bool.{cases_eq, cases_lt, false≢true, ne_eqb}
 use mathlib.Core.Option.{some, some-injective}
 use lib.ListN.{get_elem?}
 use Rattle.ell_ops.specs.declared.op.Op.{Op}
-use Rattle.ell_ops.specs.declared.op.Op.TheVariants.{Find, Insert, Delete}
+use Rattle.ell_ops.specs.declared.op.Op.TheVariants.{Find, Insert, Delete, Swap}
 use Rattle.ell_word.specs.declared.gate.Kind.{Kind}
 use Rattle.ell_word.specs.declared.gate.Kind.TheVariants as kind
 use Rattle.ell_word.specs.declared.update.State.{State}
@@ -298,6 +298,8 @@ module _ (plan : TablePlan) where
     way_others may (Some (Find k)) place parent above at p g = tt
     way_others may (Some (Insert k value)) None parent above at p g = tt
     way_others may (Some (Insert k value)) (Some x) parent above at p g = read_others may x at parent p
+    way_others may (Some (Swap k was value)) None parent above at p g = tt
+    way_others may (Some (Swap k was value)) (Some x) parent above at p g = read_others may x at parent p
     way_others may (Some (Delete k)) None parent above at p g = tt
     way_others may (Some (Delete k)) (Some x) parent above at p g =
         first_others (read_in_way above) (read_in_way parent) (read_others may x at above g) (read_others may x at parent p)

@@ -29,6 +29,7 @@ module _ (keys : List ℕ) (cards : ℕ) where
         step.kept,
         record {
           machine = step.event;
+          later = step.later;
           tree = table_pairs_change_at_wins keys cards s r seat h.view c h.there h.may;
           sound = own_words_are_sound keys cards (state_after s seat h.view c) step.kept;
         },
@@ -39,6 +40,7 @@ module _ (keys : List ℕ) (cards : ℕ) where
         step.kept,
         record {
           machine = step.split;
+          later = step.later;
           tree = λ k value. (λ x. x, λ x. x);
           sound = own_words_are_sound keys cards (state_split s seat h.view left) step.kept;
         },
@@ -49,6 +51,7 @@ module _ (keys : List ℕ) (cards : ℕ) where
         step.kept,
         record {
           machine = step.join;
+          later = step.later;
           tree = λ k value. (λ x. x, λ x. x);
           sound = own_words_are_sound keys cards (state_joined s seat other h.view h.view') step.kept;
         },

@@ -63,7 +63,7 @@ total k c s = times_in k c s.views
 abbrev pub won_by : Call → ℕ → List (Kind × ℕ)
 won_by (call.Claim c) n = if_won (n == c) kind.Claim c
 won_by (call.IFlag c p from) n = if_won (n == packed from) kind.IFlag c
-won_by (call.IChild c p l right) n = if_won (n == l) kind.IChild c
+won_by (call.IChild c p l q right) n = if_won (n == l) kind.IChild c
 won_by (call.IUnflag c p) n = if_won (n == iflag c) kind.IUnflag c
 won_by (call.DFlag c gp from) n = if_won (n == packed from) kind.DFlag c
 won_by (call.Mark c p was) n = if_won (n == was) kind.Mark c
@@ -176,7 +176,7 @@ no_claim true k c d more = by (d == c)
 call_counts : (k : Kind) → 0 < number k → (c : Call) (d n : ℕ) → times k d (won_by c n) ≡ count k (if is_won (atomic_of c) n then win_of c d else [])
 call_counts k more (call.Claim c) d n = no_claim (n == c) k c d more
 call_counts k more (call.IFlag c p from) d n = single (n == packed from) kind.IFlag c k d
-call_counts k more (call.IChild c p l right) d n = single (n == l) kind.IChild c k d
+call_counts k more (call.IChild c p l q right) d n = single (n == l) kind.IChild c k d
 call_counts k more (call.IUnflag c p) d n = single (n == iflag c) kind.IUnflag c k d
 call_counts k more (call.DFlag c gp from) d n = single (n == packed from) kind.DFlag c k d
 call_counts k more (call.Mark c p was) d n = single (n == was) kind.Mark c k d

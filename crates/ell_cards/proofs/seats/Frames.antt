@@ -1,4 +1,5 @@
 use Rattle.std.proofs.Common.{◌≡◌, ◌≢◌, ℕ, ◌<◌, true, false, List, [], ◌++◌, length, get_or, set, refl, sym, ap, ◌∙◌, subst, inl, inr, ⊎_elim, length-set, true≢false, arith}
+use Rattle.ell_core.proofs.stages.Advances.{stages_same}
 use Rattle.std.specs.Prelude.{Some, None}
 use Rattle.std.proofs.lemmas.Bool.{cases_eq}
 use mathlib.Core.Option.{some}
@@ -59,7 +60,7 @@ pub record Onward (w : Words) (stage : Stages) (v after : View) : Type 0 where
 module _ (keys : List ℕ) (cards : ℕ) (s : TableState) (r : HasMachine keys cards s) (id : ℕ) (v : View) (here : get_elem? s.views id ≡ some v) where
   -- a state that an event leads to has a machine
   pub record IsReached (list : List ℕ) (new : Words) (after : View) (a : core.Act) (said : Stepped) : Type 0 where
-    pub kept : IsKept keys cards (record { words = list; homes = s.homes; views = set s.views id after }) new
+    pub kept : IsKept keys cards (record { words = list; homes = s.homes; views = set s.views id after }) new r.stages
     pub steps : Steps (machine keys cards s r id v here) (record { worker = id; act = a }) said (seated new (set s.views id after) cards)
 
   -- a card that waits goes on to, where the event wins nothing for it
@@ -136,7 +137,7 @@ module _ (keys : List ℕ) (cards : ℕ) (s : TableState) (r : HasMachine keys c
   looks a said after h none entries on i =
       let l = leads keys cards s r id v here a said r.words after h in
       let moves = moves_none a said after l.0 l.1 none in record {
-        kept = subst (λ ws. IsKept keys cards (record { words = ws; homes = s.homes; views = set s.views id after }) r.words)
+        kept = subst (λ ws. IsKept keys cards (record { words = ws; homes = s.homes; views = set s.views id after }) r.words r.stages)
             (sym (set-get_or s.words i 0))
             (kept_event keys cards s r id v here a said r.words after s.words l.0 l.1 moves
             (view_on a said r.words after s.words l.0 l.1 moves
@@ -166,7 +167,7 @@ module _ (keys : List ℕ) (cards : ℕ) (s : TableState) (r : HasMachine keys c
       → ((c : ℕ) (f : Field) → waits (r.stages c) ≡ false → listed list c f ≡ listed s.words c f)
       → ViewHolds list r.words r.stages after
       → ((j : ℕ) (u : View) → j ≢ id → get_elem? s.views j ≡ some u → ViewHolds list r.words r.stages u)
-      → IsKept keys cards (record { words = list; homes = s.homes; views = set s.views id after }) r.words
+      → IsKept keys cards (record { words = list; homes = s.homes; views = set s.views id after }) r.words r.stages
   kept_note after list same size next calm own others = record {
     kept = record {
       words = r.words;
@@ -190,13 +191,14 @@ module _ (keys : List ℕ) (cards : ℕ) (s : TableState) (r : HasMachine keys c
           (at_set s.views id j after u e);
     };
     words = refl;
+    later = stages_same r.stages;
   }
 
   -- the same where the list does not change
   pub kept_told : (after : View) → after.worker ≡ v.worker → ViewHolds s.words r.words r.stages after
-      → (i : ℕ) → IsKept keys cards (record { words = set s.words i (get_or s.words i 0); homes = s.homes; views = set s.views id after }) r.words
+      → (i : ℕ) → IsKept keys cards (record { words = set s.words i (get_or s.words i 0); homes = s.homes; views = set s.views id after }) r.words r.stages
   kept_told after same own i =
-      subst (λ ws. IsKept keys cards (record { words = ws; homes = s.homes; views = set s.views id after }) r.words)
+      subst (λ ws. IsKept keys cards (record { words = ws; homes = s.homes; views = set s.views id after }) r.words r.stages)
       (sym (set-get_or s.words i 0))
       (kept_note after s.words same refl refl (λ c f still. refl) own (λ j u n e. r.views j u e))
 
@@ -206,6 +208,7 @@ module _ (keys : List ℕ) (cards : ℕ) (s : TableState) (r : HasMachine keys c
       → act_of c (found_by s c) ≡ Some a → said_of c (found_by s c) ≡ said → Tells cards c v (found_by s c) → IsEvent keys cards s r id v c
   is_event c a said new at acts says tells = record {
     kept = at.kept.kept;
+    later = at.kept.later;
     event = subst (λ w. Becomes id (act_of c (found_by s c)) (said_of c (found_by s c)) (machine keys cards s r id v here)
         (seated w (set s.views id (view_after s v c)) cards)) (sym at.kept.words)
         (subst (λ b. Becomes id (act_of c (found_by s c)) b (machine keys cards s r id v here) (seated new (set s.views id (view_after s v c)) cards)) (sym says)
@@ -215,10 +218,11 @@ module _ (keys : List ℕ) (cards : ℕ) (s : TableState) (r : HasMachine keys c
 
   -- a step call that leaves the machine
   pub is_no_event : (c : Call)
-      → IsKept keys cards (state_after s id v c) r.words → (view_after s v c).worker ≡ v.worker
+      → IsKept keys cards (state_after s id v c) r.words r.stages → (view_after s v c).worker ≡ v.worker
       → act_of c (found_by s c) ≡ None → Tells cards c v (found_by s c) → IsEvent keys cards s r id v c
   is_no_event c at same none tells = record {
     kept = at.kept;
+    later = at.later;
     event = subst (λ o. Becomes id o (said_of c (found_by s c)) (machine keys cards s r id v here)
         (seated at.kept.words (set s.views id (view_after s v c)) cards)) (sym none)
         (sym (same_machine (view_after s v c) same ∙ ap (λ w. seated w (set s.views id (view_after s v c)) cards) (sym at.words)));

@@ -71,9 +71,10 @@ module _ (views : List View) (id : ℕ) (v : View) (here : get_elem? views id �
   }
 
 -- a state has a machine, of these words
-pub record IsKept (keys : List ℕ) (cards : ℕ) (s : TableState) (w : Words) : Type 0 where
+pub record IsKept (keys : List ℕ) (cards : ℕ) (s : TableState) (w : Words) (stage : Stages) : Type 0 where
   pub kept : HasMachine keys cards s
   pub words : kept.words ≡ w
+  pub later : StagesLater stage kept.stages
 
 module _ (keys : List ℕ) (cards : ℕ) (s : TableState) (r : HasMachine keys cards s) (id : ℕ) (v : View) (here : get_elem? s.views id ≡ some v) where
   -- the machine
@@ -172,9 +173,14 @@ module _ (keys : List ℕ) (cards : ℕ) (s : TableState) (r : HasMachine keys c
   pub kept_event : (a : Act) (said : Stepped) (new : Words) (after : View) (list : List ℕ) (stages : Stages)
       → Leads a said new after stages → Moves list new stages → ViewHolds list new stages after
       → ((k : ℕ) → WorkerOwns (worker_of after.worker) k → WorkerOwns (worker_of v.worker) k)
+<<<<<<< HEAD
       → after.worker.ownable ≡ v.worker.ownable
       → IsKept keys cards (record { words = list; homes = s.homes; views = set s.views id after }) new
   kept_event a said new after list stages led moves own owns same_list = record {
+=======
+      → IsKept keys cards (record { words = list; homes = s.homes; views = set s.views id after }) new r.stages
+  kept_event a said new after list stages led moves own owns = record {
+>>>>>>> swap
     kept = record {
       words = new;
       stages = stages;
@@ -197,6 +203,7 @@ module _ (keys : List ℕ) (cards : ℕ) (s : TableState) (r : HasMachine keys c
           (at_set s.views id j after u e);
     };
     words = refl;
+    later = led.later;
   }
     where
       by : (c : ℕ) (f : Field) → waits (stages c) ≡ false → (b : Bool) → waits (r.stages c) ≡ b → listed list c f ≡ word new c f

@@ -1,6 +1,6 @@
 use Rattle.std.proofs.Common.{◌≡◌, ◌==◌, ℕ, ◌%◌, ◌<◌, ◌≤◌, false, List, [], ◌∷◌, Option, Some, refl, ap, inl, inr, arith, Bool, if◌then◌else◌, true}
 use Rattle.ell_ops.specs.declared.op.Op.{Op}
-use Rattle.ell_ops.specs.declared.op.Op.TheVariants.{Insert, Delete}
+use Rattle.ell_ops.specs.declared.op.Op.TheVariants.{Insert, Delete, Swap}
 use Rattle.ell_word.specs.Node.{card}
 use Rattle.ell_word.specs.Word.{packed, unpacked}
 use Rattle.ell_core.specs.declared.fact.Fact.TheVariants.{IFlagged, DFlagged, Marked}
@@ -22,7 +22,7 @@ use Rattle.ell_cards.proofs.seats.LedgersStay.{claim_ledger, flag_ledger, mark_l
 use Rattle.ell_core.specs.declared.view.Entry.{Entry}
 use Rattle.ell_core.specs.declared.view.Entry.TheVariants.{Present, Absent}
 use Rattle.ell_ops.specs.declared.reply.Reply.{Reply}
-use Rattle.ell_ops.specs.declared.reply.Reply.TheVariants.{Yes}
+use Rattle.ell_ops.specs.declared.reply.Reply.TheVariants.{Yes, Found}
 use Rattle.ell_core.specs.declared.fact.Fact.{Fact}
 use Rattle.ell_word.specs.declared.update.Update.{Update}
 
@@ -34,6 +34,11 @@ settled_keys k b (e ∷ es) = ap (λ ks. e.0 ∷ ks) (settled_keys k b es)
 answered_keys : (o : Option Op) (said : Reply) (l : List (ℕ × Entry)) → keys_of (answered_ledger o said l) ≡ keys_of l
 answered_keys (Some (Insert k value)) Yes l = settled_keys k (Present value) l
 answered_keys (Some (Delete k)) Yes l = settled_keys k Absent l
+answered_keys (Some (Swap k was value)) (Found there) l = by (there == was)
+  where
+    by : (b : Bool) → keys_of (if b then with_entry k (Present value) l else l) ≡ keys_of l
+    by true = settled_keys k (Present value) l
+    by false = refl
 answered_keys _ _ l = refl
 
 -- no step call changes which keys a pass owns
@@ -106,7 +111,7 @@ word_fits cards (call.LookFor key) v named may = address_fits cards 0 (child_fie
 word_fits cards (call.LookDown x right) v named may = address_fits cards (card x) (child_field right) (named.entries (Met x) may.met)
 word_fits cards (call.Fill c f value) v named may = address_fits cards c f (named.hand c may.holds)
 word_fits cards (call.IFlag c p from) v named may = address_fits cards (card p) field.Update (named.parent may.leaf _ may.stands may.behind).node
-word_fits cards (call.IChild c p l right) v named may = address_fits cards (card p) (child_field right) (named.entries (Info c field.P p) may.parent).1
+word_fits cards (call.IChild c p l q right) v named may = address_fits cards (card p) (child_field right) (named.entries (Info c field.P p) may.parent).1
 word_fits cards (call.IUnflag c p) v named may = address_fits cards (card p) field.Update (named.entries (Info c field.P p) may.parent).1
 word_fits cards (call.DFlag c gp from) v named may =
     address_fits cards (card gp) field.Update (named.grandparent may.leaf may.parent _ may.stands may.behind may.above).node

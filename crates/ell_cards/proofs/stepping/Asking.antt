@@ -1,4 +1,5 @@
 use Rattle.std.proofs.Common.{◌≡◌, ◌∷◌, ℕ, ◌<◌, Bool, true, List, get_or, refl, sym, ap, subst, inl, inr, arith}
+use Rattle.ell_core.proofs.stages.LaterKeys.{root_born}
 use mathlib.Core.Option.{some}
 use lib.ListN.{get_elem?}
 use Rattle.ell_word.specs.Node.{IsInternal}
@@ -38,7 +39,7 @@ module _ (keys : List ℕ) (cards : ℕ) (s : TableState) (r : HasMachine keys c
   -- where a known card goes came into the tree; an insert's has no grandparent, which is node 0
   gp_born : (c : ℕ) → KnowsCard v c → Born r.stages (r.words.gp c)
   gp_born c k = elim (known_card keys cards s r id v here c k) [
-    | inl i ↦ subst (Born r.stages) (sym i.gp) (ap is_born r.invariant.words.opening)
+    | inl i ↦ subst (Born r.stages) (sym i.gp) (root_born r.words r.stages r.invariant.words)
     | inr d ↦ d.grandparent.born
   ]
 

@@ -1,8 +1,9 @@
-use Rattle.std.proofs.Common.{◌≡◌, ◌≢◌, ◌⊎◌, ◌∷◌, set, if◌then◌else◌, ℕ, eq-eqb, ne_eqb, List, Option, Some, None, refl, sym, ap, ◌∙◌, subst, inl, inr, arith}
+use Rattle.std.proofs.Common.{◌≡◌, ◌≢◌, ◌⊎◌, ◌∷◌, ◌==◌, Bool, true, false, set, if◌then◌else◌, ℕ, eq-eqb, ne_eqb, List, Option, Some, None, refl, sym, ap, ◌∙◌, subst, inl, inr, arith}
+use Rattle.ell_core.proofs.stages.LaterKeys.{start_there}
 use mathlib.Core.Option.{some}
 use lib.ListN.{get_elem?}
 use Rattle.ell_ops.specs.declared.op.Op.{Op}
-use Rattle.ell_ops.specs.declared.op.Op.TheVariants.{Find, Insert, Delete}
+use Rattle.ell_ops.specs.declared.op.Op.TheVariants.{Find, Insert, Delete, Swap}
 use Rattle.ell_ops.specs.Meaning.{key_of}
 use Rattle.ell_core.specs.declared.event.Act.TheVariants as act
 use Rattle.ell_core.specs.declared.event.Event.{Event}
@@ -20,10 +21,10 @@ use Rattle.ell_cards.specs.declared.view.Told.{Told}
 use Rattle.ell_cards.specs.declared.view.Told.TheVariants.{Met, Value}
 use Rattle.ell_cards.specs.declared.view.View.{View}
 use Rattle.ell_cards.specs.Models.{Has}
-use Rattle.ell_cards.specs.Changes.{with_entry as with_entry_for, after_begin, after_again, after_leave, after_answer, answered_ledger}
-use Rattle.ell_cards.specs.Guards.{MayBegin, MayStop, MayAnswer, TellsOf, KnowsAnswerAtLeaf, KnowsAnswerByCard, IsOver}
+use Rattle.ell_cards.specs.Changes.{with_entry as with_entry_for, after_begin, after_again, after_leave, after_answer, answered_ledger, with_entry as put_entry}
+use Rattle.ell_cards.specs.Guards.{MayBegin, MayStop, MayAnswer, TellsOf, KnowsAnswerAtLeaf, KnowsAnswerByCard, IsOver, over_reply}
 use Rattle.ell_cards.specs.Models.{Knows, KnewBefore}
-use Rattle.ell_core.specs.state.Words.{Words}
+use Rattle.ell_core.specs.state.Words.{Words, put}
 use Rattle.ell_core.specs.declared.fact.Fact.{Fact}
 use Rattle.ell_core.specs.declared.fact.Fact.TheVariants.{DOver}
 use Rattle.ell_core.specs.history.Stages.{Stages, Born}
@@ -66,12 +67,12 @@ bare w stage v after no_key no_card owns list read least before knew walk = reco
 module _ (keys : List ℕ) (cards : ℕ) (s : TableState) (r : HasMachine keys cards s) (id : ℕ) (v : View) (here : get_elem? s.views id ≡ some v) where
   -- what a pass that stands at the root was told
   root_entries : (e : Told) → Has (Met 0 ∷ v.told) e → EntryHolds r.words r.stages e
-  root_entries = with_entry (EntryHolds r.words r.stages) (Met 0) v.told (ap is_born r.invariant.words.opening) (r.views id v here).entries
+  root_entries = with_entry (EntryHolds r.words r.stages) (Met 0) v.told (start_there r.words r.stages r.invariant.words 0 refl) (r.views id v here).entries
 
   -- where a search begins, its walk comes by nothing that was cut out
   root_walk : (op : Op) (x : ℕ) → Some 0 ≡ Some x → Born r.stages x × Avoids r.words (λ c. known_of v.worker.facts (DOver c)) (key_of op) x
   root_walk op x at = subst (λ y. Born r.stages y × Avoids r.words (λ c. known_of v.worker.facts (DOver c)) (key_of op) y) (same_Some 0 x at) (
-    ap is_born r.invariant.words.opening,
+    start_there r.words r.stages r.invariant.words 0 refl,
     roots_avoid (machine keys cards s r id v here) r.stages (λ c. known_of v.worker.facts (DOver c)) (key_of op) r.invariant
         (λ c has. over-cut (r.stages c) ((mine_sound keys cards s r id v here).facts (DOver c) has)),
   )
@@ -128,6 +129,7 @@ settled_by k made l key (Some entry) e = settled_put k made l (λ none. some_not
 -- the ledger after an answer, as a list and as the machine has it
 answered : (op : Op) (said : Reply) (l : List (ℕ × Entry)) → (key : ℕ)
     → ledger_of (answered_ledger (Some op) said l) key ≡ ledger_after op said (ledger_of l) key
+<<<<<<< HEAD
 answered (Find k) said l key = refl
 answered (Insert k value) Yes l key = settled_by k (Present value) l key (ledger_of l k) refl
 answered (Insert k value) No l key = refl
@@ -135,11 +137,28 @@ answered (Insert k value) (Found had) l key = refl
 answered (Delete k) Yes l key = settled_by k Absent l key (ledger_of l k) refl
 answered (Delete k) No l key = refl
 answered (Delete k) (Found had) l key = refl
+=======
+answered (Find k) said l owns key = refl
+answered (Insert k value) Yes l owns key = settled_put k (Present value) l owns key
+answered (Insert k value) No l owns key = refl
+answered (Insert k value) (Found had) l owns key = refl
+answered (Delete k) Yes l owns key = settled_put k Absent l owns key
+answered (Delete k) No l owns key = refl
+answered (Delete k) (Found had) l owns key = refl
+answered (Swap k was value) Yes l owns key = refl
+answered (Swap k was value) No l owns key = refl
+answered (Swap k was value) (Found had) l owns key = by (had == was)
+  where
+    by : (b : Bool) → ledger_of (if b then put_entry k (Present value) l else l) key ≡ (if b then put (ledger_of l) k (Some (Present value)) else ledger_of l) key
+    by true = settled_put k (Present value) l owns key
+    by false = refl
+>>>>>>> swap
 
 -- the answer by a card that is over
-over_answers : (v : View) (op : Op) (c : ℕ) (said : Reply) → IsOver v op c → said ≡ Yes → card_answer op c (known_of v.worker.facts) ≡ Some said
+over_answers : (v : View) (op : Op) (c : ℕ) (said : Reply) → IsOver v op c → said ≡ over_reply op → card_answer op c (known_of v.worker.facts) ≡ Some said
 over_answers v (Find k) c said over e = absurd over
 over_answers v (Insert k value) c said over e = ap (λ b. if b then Some Yes else None) over ∙ ap Some (sym e)
+over_answers v (Swap k was value) c said over e = ap (λ b. if b then Some (Found was) else None) over ∙ ap Some (sym e)
 over_answers v (Delete k) c said over e = ap (λ b. if b then Some Yes else None) over ∙ ap Some (sym e)
 
 module _ (keys : List ℕ) (cards : ℕ) (s : TableState) (r : HasMachine keys cards s) (id : ℕ) (v : View) (here : get_elem? s.views id ≡ some v) where
@@ -161,7 +180,7 @@ module _ (keys : List ℕ) (cards : ℕ) (s : TableState) (r : HasMachine keys c
     answers = ap (leaf_answer op) (leaf_has a.leaf a.key (key_of op) a.there (here_key keys cards s r id v here a.leaf a.key a.stands a.told) a.tells) ∙ a.says;
   })
   answers_now op said busy (inr a) = inr (
-    record { card = a.card; holds = a.holds; flagged = a.flagged; answers = over_answers v op a.card said a.over a.yes },
+    record { card = a.card; holds = a.holds; flagged = a.flagged; answers = over_answers v op a.card said a.over a.says },
     λ b h. some_not_none h.stands ((mine_sound keys cards s r id v here).flagged op a.card busy a.holds a.flagged).1,
   )
 

@@ -1,10 +1,11 @@
 use Rattle.std.proofs.Common.{◌≡◌, ◌≢◌, ◌==◌, ℕ, ◌+◌, ◌<◌, ◌≤◌, if◌then◌else◌, Bool, true, false, List, [], ◌∷◌, ◌++◌, length, get_or, set, Some, None, refl, sym, ap, ◌∙◌, subst, inl, inr, arith, eqb-true, true≢false, length-set, get_or-set_same, get_or-set_other, eq-eqb}
+use Rattle.ell_core.specs.history.Later.{StagesLater}
 use Rattle.std.specs.Prelude.{unwrap_or}
 use mathlib.Core.Option.{some}
 use lib.ListN.{get_elem?}
 use Rattle.ell_ops.specs.declared.op.Op.{Op}
 use Rattle.ell_ops.specs.Meaning.{key_of}
-use Rattle.ell_ops.specs.declared.op.Op.TheVariants.{Find, Insert, Delete}
+use Rattle.ell_ops.specs.declared.op.Op.TheVariants.{Find, Insert, Delete, Swap}
 use Rattle.ell_word.specs.declared.gate.Kind.{Kind}
 use Rattle.ell_word.specs.declared.gate.Kind.TheVariants as kind
 use Rattle.ell_core.specs.declared.event.Act.TheVariants as act
@@ -23,7 +24,7 @@ use Rattle.ell_core.proofs.following.facts.Claimed.{not_claimed}
 use Rattle.ell_core.proofs.words.Listed.{same_but_next}
 use Rattle.ell_cards.specs.declared.call.Call.TheVariants as call
 use Rattle.ell_cards.specs.declared.view.Told.{Told}
-use Rattle.ell_cards.specs.declared.view.Told.TheVariants.{Key, Info}
+use Rattle.ell_cards.specs.declared.view.Told.TheVariants.{Key, Info, Value}
 use Rattle.ell_cards.specs.declared.view.View.{View}
 use Rattle.ell_cards.specs.Models.{Has}
 use Rattle.ell_cards.specs.Changes.{told_value, told_fixed, told_filling, filling_for, filling_of, after_claim}
@@ -155,13 +156,62 @@ module _ (keys : List ℕ) (cards : ℕ) (s : TableState) (r : HasMachine keys c
           let at = claimed_cards_say (machine keys cards s r id v here) r.stages es in
           subst (λ fields. IsReached keys cards s r id v here (set s.words 0 (next + 1)) (claimed r.words fields) (taking next fields v) act.Claim Moved) is
           (takes es (omega arith) (inl (record {
+            op = Insert k value;
             key = k;
             value = value;
+            was = None;
             leaf = may.leaf;
             parent = may.parent;
-            inserts = busy;
+            busy = busy;
+            puts = refl;
             at = record { stands = may.stands; outer = may.outer; behind = may.behind; calm = may.calm; no_card = may.no_card };
-            absent = λ e. wants.0 (sym key_is ∙ e);
+            takes = λ e. wants.0 (sym key_is ∙ e);
+            says = refl;
+            gives = λ t. record {
+              words = claimed r.words (insert_filling next k value may.parent.node may.leaf (sym key_is t) (value_is t));
+              worker = record (worker_of v.worker) { card = Some next; flagged = false };
+            };
+          })) (
+            at field.P r.invariant,
+            (
+              at field.L r.invariant,
+              (
+                at field.Key r.invariant,
+                (
+                  at field.Left r.invariant,
+                  (
+                    at field.Right r.invariant,
+                    (
+                      at field.Update r.invariant,
+                      (
+                        at field.LeftLeafKey r.invariant,
+                        (at field.RightLeafKey r.invariant, (at field.LeftValue r.invariant, (at field.RightValue r.invariant, tt))),
+                      ),
+                    ),
+                  ),
+                ),
+              ),
+            ),
+          ))
+      by (Swap k was value) busy wants =
+          let leaf_value = told_value v.told may.leaf in
+          let value_is = told_value_is r.words r.stages v.told may.leaf was (r.views id v here).entries wants.1 in
+          let es = insert_filling next k value may.parent.node may.leaf may.key leaf_value in
+          let is : es ≡ filling_of next v =
+          λ t. filling_for next (sym busy t) (sym may.stands t) (sym may.behind t) v.worker.search.grandparent (unwrap_or (sym may.told t) 0) (told_value v.told) in
+          let at = claimed_cards_say (machine keys cards s r id v here) r.stages es in
+          subst (λ fields. IsReached keys cards s r id v here (set s.words 0 (next + 1)) (claimed r.words fields) (taking next fields v) act.Claim Moved) is
+          (takes es (omega arith) (inl (record {
+            op = Swap k was value;
+            key = k;
+            value = value;
+            was = Some was;
+            leaf = may.leaf;
+            parent = may.parent;
+            busy = busy;
+            puts = refl;
+            at = record { stands = may.stands; outer = may.outer; behind = may.behind; calm = may.calm; no_card = may.no_card };
+            takes = (key_is ∙ wants.0, ((r.views id v here).entries (Value may.leaf was) wants.1).1);
             says = refl;
             gives = λ t. record {
               words = claimed r.words (insert_filling next k value may.parent.node may.leaf (sym key_is t) (value_is t));
@@ -213,6 +263,7 @@ module _ (keys : List ℕ) (cards : ℕ) (s : TableState) (r : HasMachine keys c
   -- the event of a claim by whether it was won
   record ClaimAt (c : ℕ) (b : Bool) : Type 0 where
     kept : HasMachine keys cards (record { words = set s.words 0 (if b then c + 1 else get_or s.words 0 0); homes = s.homes; views = set s.views id (after_claim b c v) })
+    later : StagesLater r.stages kept.stages
     event : Becomes id (if b then Some act.Claim else None) Moved (machine keys cards s r id v here)
         (seated kept.words (set s.views id (after_claim b c v)) cards)
 
@@ -220,6 +271,7 @@ module _ (keys : List ℕ) (cards : ℕ) (s : TableState) (r : HasMachine keys c
   claim_at c may room true e =
       let reached = claims c may room (sym (eqb-true (get_or s.words 0 0) c e) ∙ r.next) in record {
         kept = reached.kept.kept;
+        later = reached.kept.later;
         event = subst (λ w. Becomes id (Some act.Claim) Moved (machine keys cards s r id v here) (seated w (set s.views id (after_claim true c v)) cards))
             (sym reached.kept.words) reached.steps;
       }
@@ -227,6 +279,7 @@ module _ (keys : List ℕ) (cards : ℕ) (s : TableState) (r : HasMachine keys c
       let h = r.views id v here in
       let kept = kept_told keys cards s r id v here (after_claim false c v) refl (record { entries = h.entries; here = h.here; hand = h.hand; read = h.read; least = (let low = h.read c may.read in let is = r.next in let other : get_or s.words 0 0 ≢ c = (λ q. true≢false (sym (eq-eqb (get_or s.words 0 0) c q) ∙ e)) in omega arith); knew = h.knew; walk = h.walk }) 0 in record {
         kept = kept.kept;
+        later = kept.later;
         event = sym (same_machine keys cards s r id v here (after_claim false c v) refl
             ∙ ap (λ w. seated w (set s.views id (after_claim false c v)) cards) (sym kept.words));
       }
@@ -234,4 +287,4 @@ module _ (keys : List ℕ) (cards : ℕ) (s : TableState) (r : HasMachine keys c
   -- claim
   pub keeps_claim : (c : ℕ) → MayClaim v c → c ≤ cards → IsEvent keys cards s r id v (call.Claim c)
   keeps_claim c may room =
-      let h = claim_at c may room (get_or s.words 0 0 == c) refl in record { kept = h.kept; event = h.event; tells = tt }
+      let h = claim_at c may room (get_or s.words 0 0 == c) refl in record { kept = h.kept; later = h.later; event = h.event; tells = tt }

@@ -1,4 +1,4 @@
-use Rattle.std.proofs.Common.{◌≡◌, ◌==◌, ℕ, Bool, true, false, List, ◌∷◌, [], set, if◌then◌else◌, Some, None, refl, sym, ap, ◌∙◌, inl, inr, ne_eqb, true≢false}
+use Rattle.std.proofs.Common.{◌≡◌, ◌%◌, ◌==◌, ℕ, Bool, true, false, List, ◌∷◌, [], set, if◌then◌else◌, Some, None, refl, sym, ap, ◌∙◌, inl, inr, ne_eqb, true≢false}
 use Rattle.std.proofs.lemmas.Bool.{cases_eq}
 use mathlib.Core.Option.{some}
 use lib.ListN.{get_elem?}
@@ -113,7 +113,7 @@ module _ (keys : List ℕ) (cards : ℕ) (s : TableState) (r : HasMachine keys c
       (won_or_lost (found_at keys cards s r id v here (card x) field.Update == update))
   flag_leads a x update value c new k reads may filled wins none happens =
       exchange_leads keys cards s r id v here a (card x) field.Update update value (flag_view new k c x)
-      (in_list keys cards s r id v here x field.Update reads.born) (born-settled (r.stages (card x)) reads.born)
+      (in_list keys cards s r id v here x field.Update reads.born) (born-settled (r.stages (card x)) (x % 3) reads.born)
       happens settles none (flag_entries new k c x reads) (flag_on new k c x)
     where
       settles : Settles keys cards s r id v here a (written r.words (card x) field.Update value) (flag_view new k c x true)
@@ -137,11 +137,14 @@ module _ (keys : List ℕ) (cards : ℕ) (s : TableState) (r : HasMachine keys c
       (flag_leads act.IFlag p (packed from) (iflag c) c (IFlagged c) kind.IFlag reads may.may may.filled (λ d. refl) (λ d. refl) (record {
         owned = λ h. h;
         row = record {
+          op = may.op;
           key = may.key;
           value = may.value;
+          was = may.was;
           card = c;
           parent = seen;
-          inserts = may.busy;
+          busy = may.busy;
+          puts = may.puts;
           holds = may.may.holds;
           unflagged = may.may.unflagged;
           behind = may.behind;

@@ -74,21 +74,21 @@ some_if false value = refl
 module _ (keys : List ℕ) (cards : ℕ) (s : TableState) (r : HasMachine keys cards s) (id : ℕ) (v : View) (here : get_elem? s.views id ≡ some v) where
   -- a node that came into the tree has its key in the table
   pub key_listed : (x : ℕ) → Born r.stages x → r.words.key x ≡ get_or s.words (key_at x) 0
-  key_listed x born = key_at_node r.words x ∙ sym (r.settled (card x) (key_field (x % 3)) (born-settled (r.stages (card x)) born))
+  key_listed x born = key_at_node r.words x ∙ sym (r.settled (card x) (key_field (x % 3)) (born-settled (r.stages (card x)) (x % 3) born))
 
   -- a leaf its value
   pub value_listed : (x : ℕ) → IsLeaf x → Born r.stages x → r.words.value x ≡ get_or s.words (value_at x) 0
   value_listed x outer born =
-      value_at_leaf r.words x outer ∙ sym (r.settled (card x) (value_field (x % 3)) (born-settled (r.stages (card x)) born))
+      value_at_leaf r.words x outer ∙ sym (r.settled (card x) (value_field (x % 3)) (born-settled (r.stages (card x)) (x % 3) born))
 
   -- an internal one its children and its update word
   pub child_listed : (x : ℕ) (right : Bool) → IsInternal x → Born r.stages x → r.words.child x right ≡ get_or s.words (child_at x right) 0
   child_listed x right inner born =
-      child_at_node r.words x right inner ∙ sym (r.settled (card x) (child_field right) (born-settled (r.stages (card x)) born))
+      child_at_node r.words x right inner ∙ sym (r.settled (card x) (child_field right) (born-settled (r.stages (card x)) (x % 3) born))
 
   pub update_listed : (x : ℕ) → IsInternal x → Born r.stages x → r.words.update x ≡ get_or s.words (update_at x) 0
   update_listed x inner born =
-      update_at_node r.words x inner ∙ sym (r.settled (card x) field.Update (born-settled (r.stages (card x)) born))
+      update_at_node r.words x inner ∙ sym (r.settled (card x) field.Update (born-settled (r.stages (card x)) (x % 3) born))
 
   -- a node that came into the tree is one of the table
   pub born_in_table : (x : ℕ) → Born r.stages x → InTable cards x

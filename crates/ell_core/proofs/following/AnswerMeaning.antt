@@ -1,8 +1,8 @@
 use Rattle.std.proofs.Common.{◌≡◌, ◌≢◌, ℕ, ◌==◌, if◌then◌else◌, Bool, true, false, not, Option, Some, None, is_some, unwrap_or, inl, inr, refl, sym, ap, ◌∙◌, subst}
 use Rattle.std.proofs.lemmas.Bool.{false≢true, eqb-true, eq-eqb}
 use Rattle.ell_ops.specs.declared.op.Op.{Op}
-use Rattle.ell_ops.specs.declared.op.Op.TheVariants.{Find, Insert, Delete}
-use Rattle.ell_ops.specs.Contents.{Contents, with_pair, without}
+use Rattle.ell_ops.specs.declared.op.Op.TheVariants.{Find, Insert, Delete, Swap}
+use Rattle.ell_ops.specs.Contents.{Contents, with_pair, with_swap, swapped, without}
 use Rattle.ell_ops.specs.Meaning.{key_of, reply_of, after, yes_if, found}
 use Rattle.ell_core.specs.declared.event.Stepped.{Stepped}
 use Rattle.ell_core.specs.declared.event.Stepped.TheVariants.{Answered}
@@ -15,12 +15,12 @@ use Rattle.ell_core.specs.history.Stages.{Stages}
 use Rattle.ell_core.specs.history.Invariant.{StandIsSound, Flagged, Invariant}
 use Rattle.ell_core.specs.statements.Effects.{value_in, contents_in}
 use Rattle.ell_core.proofs.outcomes.Decide.{same_value, some_not_none}
-use Rattle.ell_core.proofs.keeping.search.Answer.{gives_if}
+use Rattle.ell_core.proofs.keeping.search.Answer.{gives_if, gives_one, gives_else}
 use Rattle.ell_core.proofs.tree.Bounds.{leaf_key}
 use Rattle.ell_core.specs.declared.view.Entry.{Entry}
 use Rattle.ell_core.specs.declared.view.Entry.TheVariants.{Present, Absent}
 use Rattle.ell_ops.specs.declared.reply.Reply.{Reply}
-use Rattle.ell_ops.specs.declared.reply.Reply.TheVariants.{Yes}
+use Rattle.ell_ops.specs.declared.reply.Reply.TheVariants.{Yes, Found}
 use Rattle.ell_core.specs.soundness.Sound.{WorkerOwns}
 
 -- an operation's reply is that on the contents of a ledger, and the later ledger has what the operation leaves
@@ -79,6 +79,30 @@ key_added there k value h q = by (q == k) refl
     by true same = ap (λ o. Some (unwrap_or o value)) (sym (ap there (eqb-true q k same) ∙ h))
     by false other = refl
 
+-- a swap leaves what has not its first value, and gives the second one to what has it
+swap_lacked : (there : Contents) (k was value : ℕ) → there k ≡ None → (q : ℕ) → there q ≡ with_swap there k was value q
+swap_lacked there k was value h q = by (q == k) refl
+  where
+    by : (b : Bool) → (q == k) ≡ b → there q ≡ (if b then swapped (there q) was value else there q)
+    by true same = let lacks = ap there (eqb-true q k same) ∙ h in lacks ∙ ap (λ o. swapped o was value) (sym lacks)
+    by false other = refl
+
+swap_other : (there : Contents) (k was value had : ℕ) → there k ≡ Some had → (had == was) ≡ false → (q : ℕ) → there q ≡ with_swap there k was value q
+swap_other there k was value had h differs q = by (q == k) refl
+  where
+    by : (b : Bool) → (q == k) ≡ b → there q ≡ (if b then swapped (there q) was value else there q)
+    by true same = let has = ap there (eqb-true q k same) ∙ h in
+        has ∙ (sym (ap (λ t. Some (if t then value else had)) differs) ∙ ap (λ o. swapped o was value) (sym has))
+    by false other = refl
+
+swap_taken : (there : Contents) (k was value : ℕ) → there k ≡ Some was → (q : ℕ) → (if q == k then Some value else there q) ≡ with_swap there k was value q
+swap_taken there k was value h q = by (q == k) refl
+  where
+    by : (b : Bool) → (q == k) ≡ b → (if b then Some value else there q) ≡ (if b then swapped (there q) was value else there q)
+    by true same = let has = ap there (eqb-true q k same) ∙ h in
+        sym (ap (λ t. Some (if t then value else was)) (eq-eqb was was refl)) ∙ ap (λ o. swapped o was value) (sym has)
+    by false other = refl
+
 -- an answer at a leaf answers the map, where the leaf has the key with a value exactly as the map has it
 pub leaf_answers : (op : Op) (there : Option ℕ) (reply : Reply) (ledger : Ledger) → there ≡ contents_in ledger (key_of op)
     → leaf_answer op there ≡ Some reply → AnswersTheMap op reply ledger (ledger_after op reply ledger)
@@ -91,6 +115,15 @@ leaf_answers (Delete k) (Some had) reply ledger h e = absurd (some_not_none e re
 leaf_answers (Delete k) None reply ledger h e =
     subst (λ b. AnswersTheMap (Delete k) b ledger (ledger_after (Delete k) b ledger)) (same_value refl e)
     (record { reply_is = ap (λ o. yes_if (is_some o)) h; map_is = key_lacked (contents_in ledger) k (sym h) })
+
+leaf_answers (Swap k was value) None reply ledger h e =
+    subst (λ b. AnswersTheMap (Swap k was value) b ledger (ledger_after (Swap k was value) b ledger)) (same_value refl e)
+    (record { reply_is = ap found h; map_is = swap_lacked (contents_in ledger) k was value (sym h) })
+leaf_answers (Swap k was value) (Some had) reply ledger h e =
+    let g = gives_else (had == was) (Found had) reply e in
+    subst (λ b. AnswersTheMap (Swap k was value) b ledger (ledger_after (Swap k was value) b ledger)) (sym g.1)
+    (subst (λ t. AnswersTheMap (Swap k was value) (Found had) ledger (if t then settled ledger k (Present value) (ledger k) else ledger)) (sym g.0)
+    (record { reply_is = ap found h; map_is = swap_other (contents_in ledger) k was value had (sym h) g.0 }))
 
 -- a ledger that has an entry of a key gets another
 settled_put : (ledger : Ledger) (key : ℕ) (made old : Entry) → ledger key ≡ Some old → settled ledger key made (ledger key) ≡ put ledger key (Some made)
@@ -113,6 +146,16 @@ card_answers w stage v (Delete k) c reply h owns e =
     (sym (gives_if (v.knows (fact.DOver c)) reply e).1)
     (subst (AnswersTheMap (Delete k) Yes v.ledger) (sym (settled_put v.ledger k Absent (Present (h.2 owns).0) (h.2 owns).1))
     (record { reply_is = ap (λ o. yes_if (is_some (value_in o))) (sym (h.2 owns).1); map_is = put_value v.ledger k Absent }))
+card_answers w stage v (Swap k was value) c reply h owns e =
+    subst (λ b. AnswersTheMap (Swap k was value) b v.ledger (ledger_after (Swap k was value) b v.ledger))
+    (sym (gives_one (v.knows (fact.IOver c)) (Found was) reply e).1)
+    (subst (λ t. AnswersTheMap (Swap k was value) (Found was) v.ledger (if t then settled v.ledger k (Present value) (v.ledger k) else v.ledger))
+    (sym (eq-eqb was was refl))
+    (subst (AnswersTheMap (Swap k was value) (Found was) v.ledger) (sym (settled_put v.ledger k (Present value) (Present was) (h.3 owns)))
+    (record {
+      reply_is = ap (λ o. found (value_in o)) (sym (h.3 owns));
+      map_is = λ q. put_value v.ledger k (Present value) q ∙ swap_taken (contents_in v.ledger) k was value (ap value_in (h.3 owns)) q;
+    })))
 
 -- an answer is the reply of the operation on the contents of the worker's ledger, and leaves what the operation leaves
 pub answers_the_map : (m : Machine) (stage : Stages) (i : ℕ) (said : Stepped) (becomes : Scene) (op : Op) (reply : Reply)

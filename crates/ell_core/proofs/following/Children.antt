@@ -48,7 +48,7 @@ row_children act.Again s said after row none x right low = ap (λ (z : Scene). z
 row_children act.Leave s said after row none x right low = ap (λ (z : Scene). z.words.child x right) row.gives
 row_children act.Answer s said after row none x right low = ap (λ (z : Scene). z.words.child x right) row.gives
 row_children act.Claim s said after (inl row) none x right low = ap (λ (z : Scene). z.words.child x right) row.gives
-    ∙ claim_child s.words (insert_filling s.words.next row.key row.value row.parent.node row.leaf (s.words.key row.leaf) (s.words.value row.leaf)) x right low
+    ∙ claim_child s.words (insert_filling s.words.next row.what.key row.what.value row.parent.node row.leaf (s.words.key row.leaf) (s.words.value row.leaf)) x right low
 row_children act.Claim s said after (inr row) none x right low = ap (λ (z : Scene). z.words.child x right) row.gives
     ∙ claim_child s.words (delete_filling row.grandparent.node row.parent.node row.leaf row.parent.word) x right low
 row_children act.IFlag s said after row none x right low = ap (λ (z : Scene). z.words.child x right) row.gives ∙ update_child s.words _ _ _ x right

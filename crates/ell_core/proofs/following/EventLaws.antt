@@ -1,4 +1,5 @@
-use Rattle.std.proofs.Common.{◌≡◌, ℕ, ◌↔◌, Bool, true, false, List, refl, sym, ap, subst, inl, inr}
+use Rattle.std.proofs.Common.{◌≡◌, ℕ, ◌≤◌, ◌↔◌, Bool, true, false, List, refl, sym, ap, subst, inl, inr}
+use Rattle.ell_ops.specs.Meaning.{greatest_key}
 use Rattle.ell_core.specs.declared.event.Act.{Act}
 use Rattle.ell_core.specs.declared.event.Act.TheVariants as act
 use Rattle.ell_core.specs.declared.event.Event.{Event}
@@ -8,18 +9,18 @@ use Rattle.ell_core.specs.state.Words.{Words}
 use Rattle.ell_core.specs.state.Machine.{Machine, Scene, scene, with_scene}
 use Rattle.ell_core.specs.declared.fact.Fact.TheVariants.{Marked}
 use Rattle.ell_core.specs.declared.field.Field.{Field}
-use Rattle.ell_core.specs.state.Cards.{card_key, card_value, claimed, insert_filling, delete_filling}
+use Rattle.ell_core.specs.state.Cards.{card_key, card_value, is_replace_card, claimed, insert_filling, delete_filling}
 use Rattle.ell_core.specs.acts.Searching.{claims}
 use Rattle.ell_core.specs.acts.Exchanges.{won_or_lost, IChild}
 use Rattle.ell_core.specs.acts.Events.{Row, Happens, Steps}
 use Rattle.ell_core.specs.history.Stages.{Stages, IClaimed, is_insert, is_delete}
-use Rattle.ell_core.specs.history.Invariant.{Invariant, WordsAreSound, LeadsToValue, insert_key, insert_value, delete_key, delete_value}
+use Rattle.ell_core.specs.history.Invariant.{Invariant, WordsAreSound, TreeIsSound, LeadsToValue, insert_key, insert_value, delete_key, delete_value}
 use Rattle.ell_core.specs.history.Later.{Follows}
-use Rattle.ell_core.specs.statements.Effects.{AddsPair, TakesPair, PairsChange, SamePairs}
-use Rattle.ell_core.proofs.following.TreeKeys.{KeepsLinks, row_links, links_keep, pairs_same, pairs_more, pairs_less}
+use Rattle.ell_core.specs.statements.Effects.{BringsPair, TakesPair, PairsChange, SamePairs}
+use Rattle.ell_core.proofs.following.TreeKeys.{KeepsLinks, row_links, links_keep, pairs_same, pairs_more, pairs_replaced, pairs_less}
 use Rattle.ell_core.proofs.keeping.claim.Filling.{claimed_claims}
 use Rattle.ell_core.proofs.keeping.claim.Frames.{Claiming, leads_kept, leads_before}
-use Rattle.ell_core.proofs.keeping.insert_child.IChild.{ichild_won-waits, ichild_won-gains, ichild_lost-same}
+use Rattle.ell_core.proofs.keeping.insert_child.IChild.{ichild_won-waits, ichild_won-brings, ichild_lost-same, BringsKey}
 use Rattle.ell_core.proofs.keeping.delete_child.DChild.{dchild-loses_pair, dchild-lost_same}
 use Rattle.ell_core.proofs.stages.Holding.{insert_kind, delete_kind}
 use Rattle.ell_core.proofs.stages.Order.{marked-delete}
@@ -53,7 +54,7 @@ claimed_keys m stage i said becomes filling invariant is after =
 claim_keys : (m : Machine) (stage : Stages) (i : ℕ) (said : Stepped) (becomes : Scene) → Invariant m stage
     → Row act.Claim (scene m i) said becomes → Follows m stage act.Claim i said (with_scene m i becomes) → SamePairs m.words becomes.words
 claim_keys m stage i said becomes invariant (inl row) after =
-    claimed_keys m stage i said becomes (insert_filling m.words.next row.key row.value row.parent.node row.leaf (m.words.key row.leaf) (m.words.value row.leaf)) invariant row.gives after
+    claimed_keys m stage i said becomes (insert_filling m.words.next row.what.key row.what.value row.parent.node row.leaf (m.words.key row.leaf) (m.words.value row.leaf)) invariant row.gives after
 claim_keys m stage i said becomes invariant (inr row) after =
     claimed_keys m stage i said becomes (delete_filling row.grandparent.node row.parent.node row.leaf row.parent.word) invariant row.gives after
 
@@ -75,19 +76,25 @@ insert_card_value m stage c invariant h = card_value-insert m.words c (insert_ki
 delete_card_value : (m : Machine) (stage : Stages) (c : ℕ) → Invariant m stage → is_delete (stage c) ≡ true → card_value m.words c ≡ delete_value m.words c
 delete_card_value m stage c invariant h = card_value-delete m.words c (delete_kind m.words stage invariant.words c h)
 
+-- the pairs of a tree are replaced, or one is added, as the walks to them are
+pairs_brought : (old new : Words) (stage stages : Stages) (key was value : ℕ) → TreeIsSound old stage → TreeIsSound new stages → key ≤ greatest_key
+    → (b : Bool) → BringsKey b old new key was value → BringsPair b old new key was value
+pairs_brought old new stage stages key was value tree tree' real true h = pairs_replaced old new stage stages key was value tree tree' real h.had h.pairs
+pairs_brought old new stage stages key was value tree tree' real false h = pairs_more old new stage stages key value tree tree' real h.absent h.pairs
+
 -- a won child exchange of an insert adds the card's key with its value
 ichild_keys : (m : Machine) (stage : Stages) (i c : ℕ) (becomes : Scene) → Invariant m stage → IChild c (scene m i) Won becomes
-    → Follows m stage (act.IChild c) i Won (with_scene m i becomes) → AddsPair m.words becomes.words (card_key m.words c) (card_value m.words c)
+    → Follows m stage (act.IChild c) i Won (with_scene m i becomes) → BringsPair (is_replace_card m.words c) m.words becomes.words (card_key m.words c) (m.words.value (m.words.l c)) (card_value m.words c)
 ichild_keys m stage i c becomes invariant row after =
     let waits = ichild_won-waits m stage i c becomes invariant row in
     let inserts : is_insert (stage c) ≡ true = ap is_insert waits in
-    let gains = ichild_won-gains m stage i c becomes invariant row in
+    let brings = ichild_won-brings m stage i c becomes invariant row in
     let key_is = insert_card_key m stage c invariant inserts in
     let value_is = insert_card_value m stage c invariant inserts in
-    subst (λ k. AddsPair m.words becomes.words k (card_value m.words c)) (sym key_is)
-    (subst (AddsPair m.words becomes.words (insert_key m.words c)) (sym value_is)
-    (pairs_more m.words becomes.words stage after.stages (insert_key m.words c) (insert_value m.words c) invariant.words.tree after.invariant.words.tree
-    ((invariant.words.cards c).insert inserts).real gains.absent gains.pairs))
+    subst (λ k. BringsPair (is_replace_card m.words c) m.words becomes.words k (m.words.value (m.words.l c)) (card_value m.words c)) (sym key_is)
+    (subst (BringsPair (is_replace_card m.words c) m.words becomes.words (insert_key m.words c) (m.words.value (m.words.l c))) (sym value_is)
+    (pairs_brought m.words becomes.words stage after.stages (insert_key m.words c) (m.words.value (m.words.l c)) (insert_value m.words c)
+    invariant.words.tree after.invariant.words.tree ((invariant.words.cards c).insert inserts).real (is_replace_card m.words c) brings))
 
 -- a won child exchange of a delete takes the card's key with its value away
 dchild_keys : (m : Machine) (stage : Stages) (i c : ℕ) (becomes : Scene) → Invariant m stage → Happens m.last_card (act.DChild c) (scene m i) Won becomes

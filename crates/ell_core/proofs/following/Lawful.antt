@@ -1,7 +1,7 @@
-use Rattle.std.proofs.Common.{◌≡◌, ◌≢◌, ℕ, ◌↔◌, Some, None, inl, inr, sym, ap, ◌∙◌, subst, Option, refl}
+use Rattle.std.proofs.Common.{◌≡◌, ◌≢◌, ℕ, ◌↔◌, Some, None, inl, inr, sym, ap, ◌∙◌, subst, Option, refl, ◌==◌, if◌then◌else◌, Bool, true, false}
 use Rattle.std.proofs.lemmas.Bool.{cases_eq}
 use Rattle.ell_ops.specs.declared.op.Op.{Op}
-use Rattle.ell_ops.specs.declared.op.Op.TheVariants.{Find, Insert, Delete}
+use Rattle.ell_ops.specs.declared.op.Op.TheVariants.{Find, Insert, Delete, Swap}
 use Rattle.ell_ops.specs.Meaning.{key_of}
 use Rattle.ell_core.specs.declared.event.Stepped.{Stepped}
 use Rattle.ell_core.specs.state.Words.{put}
@@ -22,7 +22,7 @@ use Rattle.ell_core.proofs.keeping.Seats.{split_keeps, join_keeps}
 use Rattle.ell_core.specs.declared.view.Entry.{Entry}
 use Rattle.ell_core.specs.declared.view.Entry.TheVariants.{Present, Absent}
 use Rattle.ell_ops.specs.declared.reply.Reply.{Reply}
-use Rattle.ell_ops.specs.declared.reply.Reply.TheVariants.{Yes}
+use Rattle.ell_ops.specs.declared.reply.Reply.TheVariants.{Yes, No, Found}
 
 -- the same keys are owned where an owned key gets an entry
 put_owned : (ledger : Ledger) (k : ℕ) (present : Entry) → ledger k ≢ None → (key : ℕ)
@@ -51,6 +51,12 @@ owned_after (Insert k value) Yes ledger key = settled_owned ledger k (Present va
 owned_after (Insert k value) _ ledger key = (λ h. h, λ h. h)
 owned_after (Delete k) Yes ledger key = settled_owned ledger k Absent (ledger k) refl key
 owned_after (Delete k) _ ledger key = (λ h. h, λ h. h)
+owned_after (Swap k was value) (Found v) ledger key = by (v == was)
+  where
+    by : (b : Bool) → ((if b then settled ledger k (Present value) (ledger k) else ledger) key ≡ None) ↔ (ledger key ≡ None)
+    by true = settled_owned ledger k (Present value) (ledger k) refl key
+    by false = (λ h. h, λ h. h)
+owned_after (Swap k was value) _ ledger key = (λ h. h, λ h. h)
 
 -- a ledger without the key stays
 unowned_stays : (op : Op) (reply : Reply) (ledger : Ledger) → ledger (key_of op) ≡ None → ledger_after op reply ledger ≡ ledger
@@ -59,6 +65,12 @@ unowned_stays (Insert k value) Yes ledger none = ap (settled ledger k (Present v
 unowned_stays (Insert k value) _ ledger none = refl
 unowned_stays (Delete k) Yes ledger none = ap (settled ledger k Absent) none
 unowned_stays (Delete k) _ ledger none = refl
+unowned_stays (Swap k was value) (Found v) ledger none = by (v == was)
+  where
+    by : (b : Bool) → (if b then settled ledger k (Present value) (ledger k) else ledger) ≡ ledger
+    by true = ap (settled ledger k (Present value)) none
+    by false = refl
+unowned_stays (Swap k was value) _ ledger none = refl
 
 -- an answer is the map's
 answer_ledgers : (m : Machine) (stage : Stages) (i : ℕ) (said : Stepped) (becomes : Scene) → Invariant m stage

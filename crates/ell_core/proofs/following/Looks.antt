@@ -1,4 +1,4 @@
-use Rattle.std.proofs.Common.{◌≡◌, ℕ, ◌⊎◌, inl, inr, List, nat_le, refl, sym, ap, ◌∙◌, subst}
+use Rattle.std.proofs.Common.{◌≡◌, ◌%◌, ℕ, ◌⊎◌, inl, inr, List, nat_le, refl, sym, ap, ◌∙◌, subst}
 use Rattle.ell_word.specs.Node.{IsInternal, card}
 use Rattle.ell_core.specs.declared.event.Act.{Act}
 use Rattle.ell_core.specs.declared.event.Act.TheVariants as act
@@ -22,8 +22,7 @@ use Rattle.ell_core.proofs.keeping.claim.Filling.{claimed_claims}
 use Rattle.ell_core.proofs.keeping.claim.Frames.{Claiming, course_kept}
 use Rattle.ell_core.proofs.keeping.delete_child.DChild.{dchild-won, dchild-lost}
 use Rattle.ell_core.proofs.keeping.delete_child.Tree.{cuts_at, cut_tree}
-use Rattle.ell_core.proofs.keeping.insert_child.IChild.{waits_or_made, won_waiting, lost_changed}
-use Rattle.ell_core.proofs.keeping.insert_child.Tree.{course_after}
+use Rattle.ell_core.proofs.keeping.insert_child.IChild.{waits_or_made, won_waiting, lost_changed, brings}
 use Rattle.ell_core.proofs.keeping.AllEvents.{steps_follow}
 use Rattle.ell_core.proofs.following.TreeKeys.{SameLinks, KeepsLinks, row_links}
 use Rattle.ell_core.proofs.following.Walks.{Moved, moved_by}
@@ -55,12 +54,12 @@ module _ (m : Machine) (stage : Stages) (i : ℕ) (said : Stepped) (becomes : Sc
   pub course_by : (a : Act) → Row a (scene m i) said becomes
       → (key x : ℕ) → Born stage x → IsOnCourse m.words key x → IsOnCourse becomes.words key x
   course_by act.Claim (inl row) key x born on =
-      course_claim (insert_filling m.words.next row.key row.value row.parent.node row.leaf (m.words.key row.leaf) (m.words.value row.leaf)) row.gives key x born on
+      course_claim (insert_filling m.words.next row.what.key row.what.value row.parent.node row.leaf (m.words.key row.leaf) (m.words.value row.leaf)) row.gives key x born on
   course_by act.Claim (inr row) key x born on =
       course_claim (delete_filling row.grandparent.node row.parent.node row.leaf row.parent.word) row.gives key x born on
   course_by (act.IChild c) row key x born on = elim (waits_or_made m stage i invariant c row.may) [
     | inl flagged ↦ subst (λ (s : Scene). IsOnCourse s.words key x) (sym (won_waiting m stage i invariant c flagged said becomes row).1)
-        (course_after m.words stage invariant.words c flagged key x born on)
+        ((brings m.words stage invariant.words c flagged).course key x born on)
     | inr changed ↦ subst (λ (s : Scene). IsOnCourse s.words key x) (sym (lost_changed m stage i invariant c changed said becomes row).1) on
   ]
   course_by (act.DChild c) row key x born on = elim (marked_cases (stage c) ((invariant.workers.each i).facts (Marked c) row.may)) [
@@ -90,7 +89,7 @@ child_or_walk : (old new : Words) (stage : Stages) → WordsAreSound old stage �
 child_or_walk old new stage sound words after sound' key x born on moved = elim moved [
   | inl same ↦
       let side : is_right new x key ≡ is_right old x key =
-      ap (λ n. nat_le n key) (words.key x ((sound.cards (card x)).claimed.0 (born-claimed (stage (card x)) born))) in
+      ap (λ n. nat_le n key) (words.key x ((sound.cards (card x)).claimed.0 (born-claimed (stage (card x)) (x % 3) born))) in
       inl (ap (new.child x) side ∙ same)
   | inr there ↦ inr (joins_walk new sound'.tree.ordered key on (here refl) there)
 ]

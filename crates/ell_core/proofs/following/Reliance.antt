@@ -1,7 +1,7 @@
-use Rattle.std.proofs.Common.{◌≡◌, ◌≢◌, ℕ, ◌<◌, ◌≤◌, Bool, true, false, Some, inl, inr, refl, sym, ap, ◌∙◌, subst, arith}
+use Rattle.std.proofs.Common.{◌≡◌, ◌%◌, ◌≢◌, ℕ, ◌<◌, ◌≤◌, Bool, true, false, Some, inl, inr, refl, sym, ap, ◌∙◌, subst, arith}
 use Rattle.std.proofs.lemmas.Bool.{cases_Bool, false≢true}
 use Rattle.ell_ops.specs.declared.op.Op.{Op}
-use Rattle.ell_ops.specs.declared.op.Op.TheVariants.{Find, Insert, Delete}
+use Rattle.ell_ops.specs.declared.op.Op.TheVariants.{Find, Insert, Delete, Swap}
 use Rattle.ell_ops.specs.Meaning.{key_of}
 use Rattle.ell_word.specs.Node.{IsInternal, card}
 use Rattle.ell_word.specs.Word.{unpacked}
@@ -120,7 +120,7 @@ standing m stage i x invariant at = elim (cases_option (m.worker i).operation) [
 
 -- a node that came into the tree is on a claimed card
 in_table : (m : Machine) (stage : Stages) → Invariant m stage → (x : ℕ) → Born stage x → card x < m.words.next
-in_table m stage invariant x born = ((invariant.words.cards (card x)).claimed).0 (born-claimed (stage (card x)) born)
+in_table m stage invariant x born = ((invariant.words.cards (card x)).claimed).0 (born-claimed (stage (card x)) (x % 3) born)
 
 -- a down leads from a node to a greater one of the table
 goes_down : (m : Machine) (stage : Stages) (i : ℕ) (said : Stepped) (after : Scene) (x y : ℕ) → Invariant m stage → Down (scene m i) said after
@@ -178,6 +178,7 @@ goes_in_tree w stage sound kinds c below = elim (cases_Bool (is_start (stage c))
 below_parent : (w : Words) (stage : Stages) (v : Worker) (op : Op) (c : ℕ) → Unflagged w stage v op c → StandsBelow v
 below_parent w stage v (Find k) c h = absurd h
 below_parent w stage v (Insert k value) c h = record { node = w.l c; stands = h.stands; parent = h.parent; behind = h.behind }
+below_parent w stage v (Swap k was value) c h = record { node = w.l c; stands = h.stands; parent = h.parent; behind = h.behind }
 below_parent w stage v (Delete k) c h = record { node = w.l c; stands = h.stands; parent = h.parent; behind = h.behind }
 
 stands_below : (w : Words) (stage : Stages) (v : Worker) (c : ℕ) → WorkerIsSound w stage v → v.card ≡ Some c → v.flagged ≡ false

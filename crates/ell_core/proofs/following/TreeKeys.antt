@@ -11,7 +11,7 @@ use Rattle.ell_core.specs.tree.Tree.{IsTreePair}
 use Rattle.ell_core.specs.tree.Ranges.{Meets}
 use Rattle.ell_core.specs.history.Stages.{Stages}
 use Rattle.ell_core.specs.history.Invariant.{TreeIsSound, LeadsTo, LeadsToValue}
-use Rattle.ell_core.specs.statements.Effects.{AddsPair, TakesPair, SamePairs}
+use Rattle.ell_core.specs.statements.Effects.{AddsPair, ReplacesPair, TakesPair, SamePairs}
 use Rattle.ell_core.proofs.tree.Reached.{tree_key_leads, tree_pair_leads, leads_tree_pair}
 
 -- a key of the tree with its value is a real key to whose leaf the walk from the root leads
@@ -37,6 +37,22 @@ pairs_more old new stage stages key value tree tree' real absent h = record {
         λ there. let g = after.0 there in elim ((h k v).0 g.1) [ inl l ↦ inl (before.1 (g.0, l)) | inr e ↦ inr e ],
         λ one. elim one [
           | inl there ↦ (let g = before.0 there in after.1 (g.0, (h k v).1 (inl g.1)))
+          | inr e ↦ after.1 (omega (arith, e.0), (h k v).1 (inr e))
+        ],
+      );
+}
+
+-- one pair is another where the walks for its key lead to another value
+pub pairs_replaced : (old new : Words) (stage stages : Stages) (key was value : ℕ) → TreeIsSound old stage → TreeIsSound new stages → key ≤ greatest_key
+    → LeadsToValue old key was 0 → ((k v : ℕ) → LeadsToValue new k v 0 ↔ ((LeadsToValue old k v 0 × (k ≢ key)) ⊎ ((k ≡ key) × (v ≡ value)))) → ReplacesPair old new key was value
+pairs_replaced old new stage stages key was value tree tree' real there h = record {
+  present = leads_tree_pair old key was real there;
+  pairs = λ k v.
+      let before = tree_pair old stage tree k v in
+      let after = tree_pair new stages tree' k v in (
+        λ pair. let g = after.0 pair in elim ((h k v).0 g.1) [ inl l ↦ inl (before.1 (g.0, l.0), l.1) | inr e ↦ inr e ],
+        λ one. elim one [
+          | inl both ↦ (let g = before.0 both.0 in after.1 (g.0, (h k v).1 (inl (g.1, both.1))))
           | inr e ↦ after.1 (omega (arith, e.0), (h k v).1 (inr e))
         ],
       );

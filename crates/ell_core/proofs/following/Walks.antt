@@ -1,4 +1,4 @@
-use Rattle.std.proofs.Common.{◌≡◌, ◌≢◌, ℕ, ◌/◌, ◌==◌, if◌then◌else◌, ◌⊎◌, inl, inr, Bool, true, false, List, nat_le, refl, sym, ap, ◌∙◌, subst, arith}
+use Rattle.std.proofs.Common.{◌≡◌, ◌%◌, ◌≢◌, ℕ, ◌/◌, ◌==◌, if◌then◌else◌, ◌⊎◌, inl, inr, Bool, true, false, List, nat_le, refl, sym, ap, ◌∙◌, subst, arith}
 use Rattle.std.proofs.lemmas.Bool.{cases_eq}
 use Rattle.ell_word.specs.Node.{IsInternal, card}
 use Rattle.ell_core.specs.declared.event.Act.{Act}
@@ -46,7 +46,7 @@ module _ (old new : Words) (stage : Stages) (sound : WordsAreSound old stage) (w
   walk_back key {y = y} born (next {x = x} inner on) = elim (moved x (is_right new x key) inner born) [
     | inl same ↦
         let side : is_right new x key ≡ is_right old x key =
-        ap (λ n. nat_le n key) (words.key x ((sound.cards (card x)).claimed.0 (born-claimed (stage (card x)) born))) in
+        ap (λ n. nat_le n key) (words.key x ((sound.cards (card x)).claimed.0 (born-claimed (stage (card x)) (x % 3) born))) in
         let down : child_for new key x ≡ child_for old key x = same ∙ ap (old.child x) side in
         let child_born = subst (Born stage) (sym down) ((sound.children x inner born).born (is_right old x key)) in
         elim (walk_back key child_born on) [
@@ -98,7 +98,7 @@ module _ (m : Machine) (stage : Stages) (i : ℕ) (said : Stepped) (becomes : Sc
   pub moved_by : (a : Act) → Row a (scene m i) said becomes → Follows m stage a i said (with_scene m i becomes)
       → (x : ℕ) (right : Bool) → IsInternal x → Born stage x → Moved m.words becomes.words x right
   moved_by act.Claim (inl row) follows x right inner born =
-      moved_claim (insert_filling m.words.next row.key row.value row.parent.node row.leaf (m.words.key row.leaf) (m.words.value row.leaf)) row.gives x right born
+      moved_claim (insert_filling m.words.next row.what.key row.what.value row.parent.node row.leaf (m.words.key row.leaf) (m.words.value row.leaf)) row.gives x right born
   moved_by act.Claim (inr row) follows x right inner born =
       moved_claim (delete_filling row.grandparent.node row.parent.node row.leaf row.parent.word) row.gives x right born
   moved_by (act.IChild c) row follows x right inner born =

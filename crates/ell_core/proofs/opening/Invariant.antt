@@ -1,4 +1,4 @@
-use Rattle.std.proofs.Common.{◌≡◌, ◌≢◌, ℕ, ◌+◌, ◌<◌, ◌≤◌, ◌==◌, ◌⊎◌, inl, inr, if◌then◌else◌, Bool, true, false, nat_lt, Some, None, List, length, get_or, refl, sym, ap, ◌∙◌, subst, arith, ◌&&◌}
+use Rattle.std.proofs.Common.{◌≡◌, ◌≢◌, ℕ, ◌+◌, ◌<◌, ◌≤◌, ◌==◌, ◌⊎◌, inl, inr, if◌then◌else◌, Bool, true, false, nat_lt, Some, None, List, length, get_or, refl, sym, ap, ◌∙◌, subst, arith, ◌&&◌, ◌%◌}
 use Rattle.std.proofs.lemmas.Bool.{false≢true, cases_lt, and_from, eq-eqb, lt-ltb, le-ltb}
 use Rattle.std.proofs.lemmas.Option.{none-some, same_Some}
 use Rattle.std.proofs.lemmas.List.Folds.{Any-from_list_any, list_any_at}
@@ -13,7 +13,7 @@ use Rattle.ell_word.specs.Node.{IsInternal, card, internal}
 use Rattle.ell_core.specs.state.Words.{Words}
 use Rattle.ell_core.specs.state.Cards.{iflag, dflag, marked, clean}
 use Rattle.ell_core.specs.state.Machine.{idle, entry_of}
-use Rattle.ell_core.specs.history.Stages.{Stage, Stages, Unclaimed, Opening, is_claimed, is_start, is_insert, is_delete, is_born, insert_open, delete_open, insert_won, delete_won}
+use Rattle.ell_core.specs.history.Stages.{Stage, Stages, Unclaimed, Opening, is_claimed, is_start, is_insert, is_delete, is_node_born, insert_open, delete_open, insert_won, delete_won}
 use Rattle.ell_core.specs.history.Invariant.{GoesNowhere, Invariant, top, LeadsTo, LeadsToValue, IsIn, CardIsSound, ChildrenAreSound, UpdateIsSound, TreeIsSound, WordsAreSound, WorkerIsSound, WorkersAreSound}
 use Rattle.ell_core.specs.tree.Ranges.{IsOrdered}
 use Rattle.ell_core.proofs.keeping.going_on.Stages.{no_insert, no_delete}
@@ -51,14 +51,14 @@ each_stage P end c there past = elim (start_cases end c) [
 ]
 
 -- a card whose nodes came into the tree is one of the opening tree's
-born_below : (end c : ℕ) → is_born (start_stages end c) ≡ true → c < end
-born_below end c born = elim (start_cases end c) [
+born_below : (end c place : ℕ) → is_node_born (start_stages end c) place ≡ true → c < end
+born_below end c place born = elim (start_cases end c) [
   | inl h ↦ h.0
-  | inr h ↦ absurd (false≢true (sym (ap is_born h.1) ∙ born))
+  | inr h ↦ absurd (false≢true (sym (ap (λ s. is_node_born s place) h.1) ∙ born))
 ]
 
-below_born : (end c : ℕ) → c < end → is_born (start_stages end c) ≡ true
-below_born end c below = ap is_born (stage_there end c below)
+below_born : (end c place : ℕ) → c < end → is_node_born (start_stages end c) place ≡ true
+below_born end c place below = ap (λ s. is_node_born s place) (stage_there end c below)
 
 -- no card is an insert's, or a delete's
 no_insert_yet : (end c : ℕ) → is_insert (start_stages end c) ≡ false
@@ -165,7 +165,7 @@ module _ (start : List (ℕ × ℕ)) (ascending : IsStrictlyIncreasing (keys_of 
 
   children_sound : (c : ℕ) → c < length start + 1 → ChildrenAreSound w (start_stages (length start + 1)) (internal c)
   children_sound c below = record {
-    born = λ right. below_born (length start + 1) (card (w.child (internal c) right)) (on_card c right below);
+    born = λ right. below_born (length start + 1) (card (w.child (internal c) right)) (w.child (internal c) right % 3) (on_card c right below);
     rising = λ right. child_more (length start + 1) some (start_leaf start) w.key w.child (has_value start) top (leaves_rise start ascending real) (leaves_end start ascending real)
         (has_branches start) right c below;
     left_less = left_less (length start + 1) some (start_leaf start) w.key w.child (has_value start) top (leaves_rise start ascending real) (leaves_end start ascending real)
@@ -190,7 +190,7 @@ module _ (start : List (ℕ × ℕ)) (ascending : IsStrictlyIncreasing (keys_of 
     right_key = refl;
     last = subst (λ n. LeadsTo w n 0) (leaf_last start)
         (leads_any w (start_leaf start (length start)) (start_value start (length start)) 0 (finds (length start) (omega arith)));
-    there = λ x inner born calm. subst (IsIn w) (sym (node_of x inner)) (reached (card x) (born_below (length start + 1) (card x) born));
+    there = λ x inner born calm. subst (IsIn w) (sym (node_of x inner)) (reached (card x) (born_below (length start + 1) (card x) (x % 3) born));
   }
 
   -- the words at the start are sound
@@ -201,9 +201,9 @@ module _ (start : List (ℕ × ℕ)) (ascending : IsStrictlyIncreasing (keys_of 
     inserts = λ c. no_insert w (start_stages (length start + 1)) c (each_stage (λ s. insert_won s ≡ false) (length start + 1) c refl refl);
     deletes = λ c. no_delete w (start_stages (length start + 1)) c (each_stage (λ s. delete_won s ≡ false) (length start + 1) c refl refl);
     children = λ x inner born. subst (ChildrenAreSound w (start_stages (length start + 1))) (sym (node_of x inner))
-        (children_sound (card x) (born_below (length start + 1) (card x) born));
+        (children_sound (card x) (born_below (length start + 1) (card x) (x % 3) born));
     updates = λ x inner born. subst (UpdateIsSound w (start_stages (length start + 1))) (sym (node_of x inner))
-        (update_sound (card x) (born_below (length start + 1) (card x) born));
+        (update_sound (card x) (born_below (length start + 1) (card x) (x % 3) born));
     tree = tree_sound;
   }
 

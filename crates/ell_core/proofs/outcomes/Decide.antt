@@ -1,7 +1,7 @@
 use Rattle.std.proofs.Common.{◌≡◌, ℕ, ◌%◌, Option, Some, None, refl, ap, ◌∙◌, inl, inr, ◌⊎◌}
 use Rattle.std.proofs.lemmas.Bool.{cases_eq}
 use Rattle.ell_ops.specs.declared.op.Op.{Op}
-use Rattle.ell_ops.specs.declared.op.Op.TheVariants.{Find, Insert, Delete}
+use Rattle.ell_ops.specs.declared.op.Op.TheVariants.{Find, Insert, Delete, Swap}
 use Rattle.ell_word.specs.declared.update.State.{State}
 use Rattle.ell_word.specs.declared.update.State.TheVariants as state
 use Rattle.ell_word.specs.Node.{IsInternal}
@@ -9,7 +9,8 @@ use Rattle.ell_word.specs.Word.{unpacked}
 use Rattle.ell_core.specs.declared.event.Stepped.{Stepped}
 use Rattle.ell_core.specs.declared.view.Seen.{Seen}
 use Rattle.ell_core.specs.state.Machine.{Scene}
-use Rattle.ell_core.specs.acts.Searching.{IsClean}
+use Rattle.ell_core.specs.declared.put.Put.{Put}
+use Rattle.ell_core.specs.acts.Searching.{put_of, HasPlace, TakesPut, IsClean}
 
 -- a statement holds or is refuted
 abbrev pub Decided : Type 0 → Type 0
@@ -62,6 +63,7 @@ cases_insert None = inr (λ key value e. (cc))
 cases_insert (Some (Find k)) = inr (λ key value e. (cc))
 cases_insert (Some (Insert k value)) = inl (k, value, refl)
 cases_insert (Some (Delete k)) = inr (λ key value e. (cc))
+cases_insert (Some (Swap k was value)) = inr (λ key v e. (cc))
 
 -- an option is a delete in hand, or is none of any key
 pub cases_delete : (o : Option Op) → ((key : ℕ) × (o ≡ Some (Delete key))) ⊎ ((key : ℕ) → ¬ (o ≡ Some (Delete key)))
@@ -69,6 +71,25 @@ cases_delete None = inr (λ key e. (cc))
 cases_delete (Some (Find k)) = inr (λ key e. (cc))
 cases_delete (Some (Insert k value)) = inr (λ key e. (cc))
 cases_delete (Some (Delete k)) = inl (k, refl)
+cases_delete (Some (Swap k was value)) = inr (λ key e. (cc))
+
+-- an operation puts something, or not
+pub cases_put : (op : Op) → ((what : Put) × (put_of op ≡ Some what)) ⊎ (put_of op ≡ None)
+cases_put (Find k) = inr refl
+cases_put (Insert k value) = inl (_, refl)
+cases_put (Delete k) = inr refl
+cases_put (Swap k was value) = inl (_, refl)
+
+-- at a leaf there is place for a key, or not
+decides_place : (key : ℕ) (was : Option ℕ) (leaf_key leaf_value : ℕ) → Decided (HasPlace key was leaf_key leaf_value)
+decides_place key None leaf_key leaf_value = elim (cases_eq leaf_key key) [ inl e ↦ inr (λ n. n e) | inr n ↦ inl n ]
+decides_place key (Some was) leaf_key leaf_value = elim (cases_eq leaf_key key) [
+  | inl e ↦ elim (cases_eq leaf_value was) [ inl f ↦ inl (e, f) | inr n ↦ inr (λ h. n h.1) ]
+  | inr n ↦ inr (λ h. n h.0)
+]
+
+pub decides_takes : (what : Put) (leaf_key leaf_value : ℕ) → Decided (TakesPut what leaf_key leaf_value)
+decides_takes what leaf_key leaf_value = decides_place what.key what.was leaf_key leaf_value
 
 -- an update state is clean or is not
 pub decides_state : (s : State) → Decided (s ≡ state.Clean)

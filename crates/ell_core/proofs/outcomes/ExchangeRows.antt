@@ -1,16 +1,18 @@
-use Rattle.std.proofs.Common.{◌≡◌, ℕ, ◌==◌, Some, refl, sym, ap, ◌∙◌, inl, inr}
+use Rattle.std.proofs.Common.{◌≡◌, ℕ, ◌==◌, Option, Some, refl, sym, ap, ◌∙◌, inl, inr}
 use Rattle.std.proofs.lemmas.Bool.{cases_Bool, false≢true}
-use Rattle.ell_ops.specs.declared.op.Op.TheVariants.{Insert, Delete}
-use Rattle.ell_word.specs.Node.{internal}
+use Rattle.ell_ops.specs.declared.op.Op.{Op}
+use Rattle.ell_core.specs.acts.Searching.{put_of}
+use Rattle.ell_ops.specs.declared.op.Op.TheVariants.{Delete}
 use Rattle.ell_core.specs.declared.event.Stepped.{Stepped}
 use Rattle.ell_core.specs.declared.fact.Fact.{Fact}
 use Rattle.ell_core.specs.declared.fact.Fact.TheVariants.{IFlagged, IChanged, IOver, DFlagged, Marked, Unmarkable, Cut, DOver, Backed}
+use Rattle.ell_core.specs.declared.put.Put.{Put}
 use Rattle.ell_core.specs.declared.view.Seen.{Seen}
-use Rattle.ell_core.specs.state.Cards.{iflag, dflag, marked, clean, sibling}
+use Rattle.ell_core.specs.state.Cards.{iflag, dflag, marked, clean, sibling, brought}
 use Rattle.ell_core.specs.state.Facts.{learned}
 use Rattle.ell_core.specs.state.Machine.{Scene}
 use Rattle.ell_core.specs.acts.Exchanges.{won_or_lost, exchanged_update, found_child, exchanged_child, knowing, flags, mark_teaches, IFlag, DFlag, IChild, IUnflag, Mark, DChild, DUnflag, Backtrack}
-use Rattle.ell_core.proofs.outcomes.Decide.{Settled, ap2, cases_option, cases_insert, cases_delete, same_value, some_not_none}
+use Rattle.ell_core.proofs.outcomes.Decide.{Settled, ap2, cases_option, cases_put, cases_delete, same_value, some_not_none}
 
 -- what a flag exchange at this node says
 abbrev flag_says : Scene → Seen → Stepped
@@ -24,9 +26,9 @@ iflagged s card parent = flags s parent (iflag card) (IFlagged card)
 abbrev dflagged : Scene → ℕ → Seen → Scene
 dflagged s card grandparent = flags s grandparent (dflag card) (DFlagged card)
 
--- iflag by an insert in hand has one outcome or none
-settles_iflag_of : (s : Scene) (key value : ℕ) → s.worker.operation ≡ Some (Insert key value) → Settled (IFlag s)
-settles_iflag_of s key value inserts = elim (cases_option s.worker.card) [
+-- iflag by an insert or a swap in hand has one outcome or none
+settles_iflag_of : (s : Scene) (op : Op) (what : Put) → s.worker.operation ≡ Some op → put_of op ≡ Some what → Settled (IFlag s)
+settles_iflag_of s op what busy puts = elim (cases_option s.worker.card) [
   | inr e ↦ inr (λ said after r. some_not_none r.holds e)
   | inl c ↦ elim (cases_Bool s.worker.flagged) [
     | inl f ↦ inr (λ said after r. false≢true (sym r.unflagged ∙ f))
@@ -35,7 +37,7 @@ settles_iflag_of s key value inserts = elim (cases_option s.worker.card) [
       | inl p ↦ inl (record {
         said = flag_says s p.0;
         after = iflagged s c.0 p.0;
-        row = record { key = key; value = value; card = c.0; parent = p.0; inserts = inserts; holds = c.1; unflagged = unflagged; behind = p.1; says = refl; gives = refl };
+        row = record { op = op; what = what; card = c.0; parent = p.0; busy = busy; puts = puts; holds = c.1; unflagged = unflagged; behind = p.1; says = refl; gives = refl };
         only = λ other later r. (let same = same_value r.behind p.1 in (r.says ∙ ap (flag_says s) same, r.gives ∙ ap2 (iflagged s) (same_value r.holds c.1) same));
       })
     ]
@@ -44,9 +46,12 @@ settles_iflag_of s key value inserts = elim (cases_option s.worker.card) [
 
 -- iflag has one outcome or none
 pub settles_iflag : (s : Scene) → Settled (IFlag s)
-settles_iflag s = elim (cases_insert s.worker.operation) [
-  | inr n ↦ inr (λ said after r. n r.key r.value r.inserts)
-  | inl o ↦ settles_iflag_of s o.0 o.1 o.2
+settles_iflag s = elim (cases_option s.worker.operation) [
+  | inr e ↦ inr (λ said after r. some_not_none r.busy e)
+  | inl o ↦ elim (cases_put o.0) [
+    | inr n ↦ inr (λ said after r. some_not_none r.puts (ap put_of (same_value r.busy o.1) ∙ n))
+    | inl t ↦ settles_iflag_of s o.0 t.0 o.1 t.1
+  ]
 ]
 
 -- dflag by a delete in hand has one outcome or none
@@ -79,9 +84,9 @@ pub settles_ichild : (c : ℕ) (s : Scene) → Settled (IChild c s)
 settles_ichild c s = elim (cases_Bool (s.worker.knows (IFlagged c))) [
   | inr n ↦ inr (λ said after r. false≢true (sym n ∙ r.may))
   | inl may ↦ inl (record {
-    said = won_or_lost (found_child s.words (s.words.p c) (internal c) == s.words.l c);
+    said = won_or_lost (found_child s.words (s.words.p c) (brought s.words c) == s.words.l c);
     after = record {
-      words = exchanged_child s.words (s.words.p c) (s.words.l c) (internal c);
+      words = exchanged_child s.words (s.words.p c) (s.words.l c) (brought s.words c);
       worker = knowing s.worker (learned s.worker.knows (IChanged c));
     };
     row = record { may = may; says = refl; gives = refl };

@@ -1,16 +1,17 @@
 use Rattle.std.proofs.Common.{◌≡◌, ℕ, ◌%◌, true, Option, Some, None, refl, sym, ap, ◌∙◌, subst, inl, inr, ◌⊎◌}
 use Rattle.std.proofs.lemmas.Bool.{cases_eq, cases_Bool, false≢true}
 use Rattle.ell_ops.specs.declared.op.Op.{Op}
-use Rattle.ell_ops.specs.declared.op.Op.TheVariants.{Insert, Delete}
+use Rattle.ell_ops.specs.declared.op.Op.TheVariants.{Delete}
 use Rattle.ell_ops.specs.Meaning.{key_of}
 use Rattle.ell_core.specs.declared.event.Stepped.TheVariants.{Moved, Answered}
 use Rattle.ell_core.specs.declared.fact.Fact.TheVariants.{Backed}
+use Rattle.ell_core.specs.declared.put.Put.{Put}
 use Rattle.ell_core.specs.declared.view.Seen.{Seen}
 use Rattle.ell_core.specs.state.Cards.{child_for, insert_filling, delete_filling}
 use Rattle.ell_core.specs.state.Facts.{learned_any, told_by}
 use Rattle.ell_core.specs.state.Machine.{Worker, Scene}
-use Rattle.ell_core.specs.acts.Searching.{IsLeaf, IsClean, Begin, Upd, Down, AtCleanLeaf, ClaimInsert, ClaimDelete, MayStop, Again, Leave, value_at, leaf_answer, card_answer, AnswersAtLeaf, AnswersByCard, HasAnswer, Answer, begun, ended, with_read, gone_down, claims, ledger_after}
-use Rattle.ell_core.proofs.outcomes.Decide.{Decided, Settled, ap2, settles_either, cases_option, cases_insert, cases_delete, decides_clean, decides_internal, same_value, some_not_none, same_seen}
+use Rattle.ell_core.specs.acts.Searching.{put_of, TakesPut, IsLeaf, IsClean, Begin, Upd, Down, AtCleanLeaf, ClaimPut, ClaimDelete, MayStop, Again, Leave, value_at, leaf_answer, card_answer, AnswersAtLeaf, AnswersByCard, HasAnswer, Answer, begun, ended, with_read, gone_down, claims, ledger_after}
+use Rattle.ell_core.proofs.outcomes.Decide.{Decided, Settled, ap2, settles_either, cases_option, cases_put, decides_takes, cases_delete, decides_clean, decides_internal, same_value, some_not_none, same_seen}
 use Rattle.ell_ops.specs.declared.reply.Reply.{Reply}
 
 -- begin has one outcome or none
@@ -126,37 +127,48 @@ clean_leaf v = elim (cases_option v.search.node) [
   ]
 ]
 
--- two inserts in hand are of one key and one value
-same_insert : {o : Option Op} {x y u v : ℕ} → o ≡ Some (Insert x u) → o ≡ Some (Insert y v) → (x ≡ y) × (u ≡ v)
-same_insert e f = (cc, cc)
-
 -- two deletes in hand are of one key
 same_delete : {o : Option Op} {x y : ℕ} → o ≡ Some (Delete x) → o ≡ Some (Delete y) → x ≡ y
 same_delete e f = cc
 
--- the scene after a claim for an insert
-abbrev insert_claimed : Scene → ℕ → ℕ → ℕ → Seen → Scene
-insert_claimed s key value leaf parent =
-    claims s (insert_filling s.words.next key value parent.node leaf (s.words.key leaf) (s.words.value leaf))
+-- the scene after a claim for an insert or a swap
+abbrev put_claimed : Scene → Put → ℕ → Seen → Scene
+put_claimed s what leaf parent =
+    claims s (insert_filling s.words.next what.key what.value parent.node leaf (s.words.key leaf) (s.words.value leaf))
 
--- a claim for an insert has one outcome or none
-settles_claim_insert : (s : Scene) → Settled (ClaimInsert s)
-settles_claim_insert s = elim (cases_insert s.worker.operation) [
-  | inr n ↦ inr (λ said after r. n r.key r.value r.inserts)
-  | inl o ↦ elim (clean_leaf s.worker) [
-    | inr n ↦ inr (λ said after r. n r.leaf r.parent r.at)
-    | inl a ↦ elim (cases_eq (s.words.key a.leaf) o.0) [
-      | inl e ↦ inr (λ said after r. r.absent (ap s.words.key (a.only r.leaf r.parent r.at).0 ∙ (e ∙ (same_insert o.2 r.inserts).0)))
-      | inr absent ↦ inl (record {
-        said = Moved;
-        after = insert_claimed s o.0 o.1 a.leaf a.parent;
-        row = record { key = o.0; value = o.1; leaf = a.leaf; parent = a.parent; inserts = o.2; at = a.at; absent = absent; says = refl; gives = refl };
-        only = λ other later r. (let only = a.only r.leaf r.parent r.at in (
-          r.says,
-          r.gives ∙ ((let same = same_insert r.inserts o.2 in ap2 (λ x v. insert_claimed s x v r.leaf r.parent) same.0 same.1)
-              ∙ ap2 (insert_claimed s o.0 o.1) only.0 only.1),
-        ));
-      })
+-- two claims of one operation put the same
+same_put : {o : Option Op} {op other : Op} {what then : Put} → o ≡ Some op → o ≡ Some other → put_of op ≡ Some what → put_of other ≡ Some then
+    → what ≡ then
+same_put e f g h = same_value g (ap put_of (same_value e f) ∙ h)
+
+-- a claim of an operation that puts something, at a leaf, has one outcome or none
+settles_put_at : (s : Scene) (op : Op) (what : Put) (a : CleanLeaf s.worker) → s.worker.operation ≡ Some op → put_of op ≡ Some what
+    → Settled (ClaimPut s)
+settles_put_at s op what a busy puts = elim (decides_takes what (s.words.key a.leaf) (s.words.value a.leaf)) [
+  | inr n ↦ inr (λ said after r. (
+      let only = (a.only r.leaf r.parent r.at).0 in
+      n (subst (λ t. TakesPut t (s.words.key a.leaf) (s.words.value a.leaf)) (same_put r.busy busy r.puts puts)
+      (subst (λ x. TakesPut r.what (s.words.key x) (s.words.value x)) only r.takes))))
+  | inl takes ↦ inl (record {
+    said = Moved;
+    after = put_claimed s what a.leaf a.parent;
+    row = record { op = op; what = what; leaf = a.leaf; parent = a.parent; busy = busy; puts = puts; at = a.at; takes = takes; says = refl; gives = refl };
+    only = λ other later r. (let only = a.only r.leaf r.parent r.at in (
+      r.says,
+      r.gives ∙ (ap (λ t. put_claimed s t r.leaf r.parent) (same_put r.busy busy r.puts puts) ∙ ap2 (put_claimed s what) only.0 only.1),
+    ));
+  })
+]
+
+-- a claim for an insert or a swap has one outcome or none
+settles_claim_put : (s : Scene) → Settled (ClaimPut s)
+settles_claim_put s = elim (cases_option s.worker.operation) [
+  | inr e ↦ inr (λ said after r. some_not_none r.busy e)
+  | inl o ↦ elim (cases_put o.0) [
+    | inr n ↦ inr (λ said after r. some_not_none r.puts (ap put_of (same_value r.busy o.1) ∙ n))
+    | inl t ↦ elim (clean_leaf s.worker) [
+      | inr n ↦ inr (λ said after r. n r.leaf r.parent r.at)
+      | inl a ↦ settles_put_at s o.0 t.0 a o.1 t.1
     ]
   ]
 ]
@@ -197,13 +209,13 @@ settles_claim_delete s = elim (cases_delete s.worker.operation) [
   ]
 ]
 
--- an operation in hand is not both an insert and a delete
-insert_not_delete : {o : Option Op} {x y u : ℕ} → o ≡ Some (Insert x u) → ¬ (o ≡ Some (Delete y))
-insert_not_delete e f = cc
+-- an operation that puts something is no delete
+put_not_delete : {o : Option Op} {op : Op} {what : Put} {y : ℕ} → o ≡ Some op → put_of op ≡ Some what → ¬ (o ≡ Some (Delete y))
+put_not_delete {y = y} e g f = some_not_none g (ap put_of (same_value {y = Delete y} e f))
 
 -- claim has one outcome or none
-pub settles_claim : (s : Scene) → Settled (λ said after. ClaimInsert s said after ⊎ ClaimDelete s said after)
-settles_claim s = settles_either (settles_claim_insert s) (settles_claim_delete s) (λ said other after later r q. insert_not_delete r.inserts q.deletes)
+pub settles_claim : (s : Scene) → Settled (λ said after. ClaimPut s said after ⊎ ClaimDelete s said after)
+settles_claim s = settles_either (settles_claim_put s) (settles_claim_delete s) (λ said other after later r q. put_not_delete r.busy r.puts q.deletes)
 
 -- a worker with this operation and this card, which is flagged, may stop or not
 may_stop_flagged : (v : Worker) (op : Op) (c : ℕ) → v.operation ≡ Some op → v.card ≡ Some c → v.flagged ≡ true → Decided (MayStop v)

@@ -1,4 +1,4 @@
-use Rattle.std.proofs.Common.{◌≡◌, ℕ, suc, ◌<◌, ◌≤◌, ◌⊎◌, inl, inr, List, ◌∷◌, refl, sym, ◌∙◌, subst, arith}
+use Rattle.std.proofs.Common.{◌≡◌, ◌%◌, ℕ, suc, ◌<◌, ◌≤◌, ◌⊎◌, inl, inr, List, ◌∷◌, refl, sym, ◌∙◌, subst, arith}
 use Rattle.ell_ops.specs.Meaning.{greatest_key}
 use Rattle.ell_word.specs.Node.{IsInternal, card}
 use Rattle.ell_core.specs.declared.event.Event.{Event}
@@ -151,7 +151,7 @@ looks_of_one_state key m events answers m' leaf passed real look outer =
     let after = ran was.state before.stages _ _ m' before.invariant was.amid.after in
     let sound = before.invariant.words in
     let born = walk_born w before.stages sound key (root_born w before.stages sound) was.on in
-    let below : card leaf < w.next = (sound.cards (card leaf)).claimed.0 (born-claimed (before.stages (card leaf)) born) in
+    let below : card leaf < w.next = (sound.cards (card leaf)).claimed.0 (born-claimed (before.stages (card leaf)) (leaf % 3) born) in
     let same = after.words.key leaf below in
     record {
       state = was.state;

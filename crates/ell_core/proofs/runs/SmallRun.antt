@@ -148,13 +148,14 @@ one_leaf e = omega arith
 pub claims_card : Steps down_state (by act.Claim) Moved claimed_state
 claims_card = step down_state act.Claim Moved claimed_scene two (λ h. h)
     (inl (record {
-      key = 5;
-      value = 50;
+      op = Insert 5 50;
+      what = record { key = 5; value = 50; was = None };
       leaf = 1;
       parent = seen_root;
-      inserts = refl;
+      busy = refl;
+      puts = refl;
       at = record { stands = refl; outer = one_leaf; behind = refl; calm = refl; no_card = refl };
-      absent = λ e. let h : infinity1 ≡ 5 = e in omega arith;
+      takes = λ e. let h : infinity1 ≡ 5 = e in omega arith;
       says = refl;
       gives = refl;
     }))
@@ -162,7 +163,7 @@ claims_card = step down_state act.Claim Moved claimed_scene two (λ h. h)
 
 pub flags_root : Steps claimed_state (by act.IFlag) Won flagged_state
 flags_root = step claimed_state act.IFlag Won flagged_scene two (λ h. h)
-    (record { key = 5; value = 50; card = 1; parent = seen_root; inserts = refl; holds = refl; unflagged = refl; behind = refl; says = refl; gives = refl })
+    (record { op = Insert 5 50; what = record { key = 5; value = 50; was = None }; card = 1; parent = seen_root; busy = refl; puts = refl; holds = refl; unflagged = refl; behind = refl; says = refl; gives = refl })
     (λ h. h)
 
 pub changes_child : Steps flagged_state (by (act.IChild 1)) Won changed_state

@@ -1,6 +1,6 @@
 use Rattle.std.proofs.Common.{ℕ, ◌≡◌, inl, inr, [], ◌∷◌, refl}
 use Rattle.ell_word.specs.declared.gate.Kind.TheVariants as kind
-use Rattle.ell_core.specs.history.Stages.{Stage, Unclaimed, Opening, IClaimed, IFlagged, IChanged, IOver, DClaimed, DFlagged, DUnmarkable, DMarked, DCut, DOver, DBacked}
+use Rattle.ell_core.specs.history.Stages.{Stage, Unclaimed, Opening, IClaimed, IFlagged, IChanged, IOver, RChanged, ROver, DClaimed, DFlagged, DUnmarkable, DMarked, DCut, DOver, DBacked}
 use Rattle.ell_core.specs.history.Later.{wins_of}
 use Rattle.ell_core.specs.acts.Wins.{insert_order, cut_order, InOrder}
 use Rattle.ell_core.proofs.opening.Invariant.{start_stages, each_stage}
@@ -13,6 +13,8 @@ stage_wins IClaimed = inl (record { rest = insert_order; together = refl })
 stage_wins IFlagged = inl (record { rest = kind.IChild ∷ kind.IUnflag ∷ []; together = refl })
 stage_wins IChanged = inl (record { rest = kind.IUnflag ∷ []; together = refl })
 stage_wins IOver = inl (record { rest = []; together = refl })
+stage_wins RChanged = inl (record { rest = kind.IUnflag ∷ []; together = refl })
+stage_wins ROver = inl (record { rest = []; together = refl })
 stage_wins DClaimed = inr (inl (record { rest = cut_order; together = refl }))
 stage_wins DFlagged = inr (inl (record { rest = kind.Mark ∷ kind.DChild ∷ kind.DUnflag ∷ []; together = refl }))
 stage_wins DUnmarkable = inr (inr (record { rest = kind.Backtrack ∷ []; together = refl }))

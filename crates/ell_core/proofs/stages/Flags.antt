@@ -1,5 +1,5 @@
-use Rattle.std.proofs.Common.{◌≡◌, ◌⊎◌, ◌||◌, Bool, true, false, arith}
-use Rattle.ell_core.specs.history.Stages.{Stage, is_claimed, is_start, is_born, is_changed, insert_won, insert_open, delete_won, delete_open, delete_waits, is_marked, is_cut, is_backed}
+use Rattle.std.proofs.Common.{◌≡◌, ℕ, ◌⊎◌, ◌||◌, Bool, true, false, arith}
+use Rattle.ell_core.specs.history.Stages.{Stage, is_claimed, is_start, is_born, is_node_born, is_changed, insert_won, insert_open, delete_won, delete_open, delete_waits, is_marked, is_cut, is_backed}
 use Rattle.ell_core.specs.statements.Since.{has_ended}
 
 -- whether the flag of a card was won
@@ -63,8 +63,5 @@ pub backed-won : (s : Stage) → is_backed s ≡ true → delete_won s ≡ true
 backed-won s h = grind arith
 
 -- a card whose nodes came into the tree is of the opening tree, or has changed
-pub born_cases : (s : Stage) → is_born s ≡ true → (is_start s ≡ true) ⊎ (is_changed s ≡ true)
-born_cases s h = grind arith
-
-pub changed-born : (s : Stage) → is_changed s ≡ true → is_born s ≡ true
-changed-born s h = grind arith
+pub born_cases : (s : Stage) (place : ℕ) → is_node_born s place ≡ true → (is_start s ≡ true) ⊎ (is_changed s ≡ true)
+born_cases s place h = grind arith

@@ -2,7 +2,7 @@ use Rattle.std.proofs.Common.{◌≡◌, ℕ, ◌<◌, ◌≤◌, ◌==◌, ◌�
 use Rattle.std.proofs.lemmas.Bool.{false≢true, cond-true, cond-false, eq-eqb, ne_eqb, cases_eq}
 use Rattle.std.proofs.lemmas.Bool.Decides.{nat_tests}
 use Rattle.ell_ops.specs.declared.op.Op.{Op}
-use Rattle.ell_ops.specs.declared.op.Op.TheVariants.{Find, Insert, Delete}
+use Rattle.ell_ops.specs.declared.op.Op.TheVariants.{Find, Insert, Delete, Swap}
 use Rattle.ell_ops.specs.Meaning.{key_of}
 use Rattle.ell_word.specs.Node.{internal}
 use Rattle.ell_core.specs.declared.fact.Fact.{Fact}
@@ -11,7 +11,7 @@ use Rattle.ell_core.specs.state.Words.{Words}
 use Rattle.ell_core.specs.state.Facts.{card_of_fact}
 use Rattle.ell_core.specs.state.Machine.{Ledger, Worker}
 use Rattle.ell_core.specs.state.Cards.{iflag, dflag, marked, is_right, is_delete_card, card_child}
-use Rattle.ell_core.specs.soundness.Holds.{IFlagHolds, IChangeHolds, DFlagHolds, MarkHolds, UnmarkableHolds, CutHolds, Holds, phase, insert_phase, delete_phase, made_by_phase, with_made, effective_of, effective}
+use Rattle.ell_core.specs.soundness.Holds.{IFlagHolds, IChangeHolds, DFlagHolds, MarkHolds, UnmarkableHolds, CutHolds, Holds, phase, insert_phase, delete_phase, made, is_past_ichild, is_past_dchild, made_by_phase, with_made, effective_of, effective}
 use Rattle.ell_core.specs.history.Stages.{Stage, Stages, is_insert, is_delete, insert_won, insert_open, insert_waits, is_changed, insert_over, delete_won, delete_open, delete_waits, is_unmarkable, is_marked, is_cut, delete_past, delete_over, is_backed, allows, made_by_stage, effective_at_of, effective_at}
 use Rattle.ell_core.specs.history.Stages as at
 use Rattle.ell_core.specs.soundness.Holds as done
@@ -23,6 +23,8 @@ insert_won-cases : (s : Stage) → insert_won s ≡ true → (insert_open s ≡ 
 insert_won-cases at.IFlagged h = inl refl
 insert_won-cases at.IChanged h = inl refl
 insert_won-cases at.IOver h = inr refl
+insert_won-cases at.RChanged h = inl refl
+insert_won-cases at.ROver h = inr refl
 insert_won-cases _ h = absurd (false≢true h)
 
 pub delete_won-cases : (s : Stage) → delete_won s ≡ true → (delete_open s ≡ true) ⊎ (delete_past s ≡ true)
@@ -48,6 +50,11 @@ no_less : (flag update : ℕ) → (update ≡ flag) ⊎ (flag < update) → flag
 no_less flag update (inl e) = omega arith
 no_less flag update (inr h) = omega arith
 
+-- a swap has made what an insert has
+made_swap : (k was value : ℕ) (changed cut : Bool) → made (Swap k was value) changed cut ≡ made (Insert k value) changed cut
+made_swap k was value true cut = refl
+made_swap k was value false cut = refl
+
 -- the phase of an insert that won its flag has made what its stage has
 made_insert : (k value : ℕ) (s : Stage) (update flag child leaf : ℕ) → insert_won s ≡ true
     → (insert_open s ≡ true → update ≡ flag) → (insert_over s ≡ true → flag < update)
@@ -58,6 +65,10 @@ made_insert k value at.IFlagged update flag child leaf won opened over waits cha
 made_insert k value at.IChanged update flag child leaf won opened over waits changed =
     let a = opened refl in let b = changed refl in grind (arith, nat_tests)
 made_insert k value at.IOver update flag child leaf won opened over waits changed =
+    let a = over refl in grind (arith, nat_tests)
+made_insert k value at.RChanged update flag child leaf won opened over waits changed =
+    let a = opened refl in let b = changed refl in grind (arith, nat_tests)
+made_insert k value at.ROver update flag child leaf won opened over waits changed =
     let a = over refl in grind (arith, nat_tests)
 made_insert k value _ update flag child leaf won opened over waits changed = absurd (false≢true won)
 
@@ -204,6 +215,7 @@ module _ (w : Words) (stage : Stages) (sound : WordsAreSound w stage) where
   flagged_made : (v : Worker) (op : Op) (c : ℕ) → Flagged w stage v op c → made_by_phase op (phase w c) ≡ made_by_stage op (stage c)
   flagged_made v (Find k) c h = absurd h
   flagged_made v (Insert k value) c h = insert_made k value c h.0
+  flagged_made v (Swap k was value) c h = made_swap k was value (is_past_ichild (phase w c)) (is_past_dchild (phase w c)) ∙ insert_made k value c h.0 ∙ sym (made_swap k was value (is_changed (stage c)) (is_cut (stage c)))
   flagged_made v (Delete k) c h = delete_made k c h.0
 
   -- so the effective ledger is that of the stages, whatever is in hand

@@ -1,8 +1,8 @@
-use Rattle.std.proofs.Common.{◌≡◌, ◌≢◌, ◌⊎◌, true, false, None, inl, inr, refl, sym, arith}
+use Rattle.std.proofs.Common.{◌≡◌, ◌≢◌, ℕ, ◌==◌, ◌||◌, ◌⊎◌, true, false, None, inl, inr, refl, sym, arith}
 use Rattle.std.proofs.lemmas.Bool.{false≢true}
 use Rattle.ell_ops.specs.declared.op.Op.{Op}
-use Rattle.ell_ops.specs.declared.op.Op.TheVariants.{Find, Insert, Delete}
-use Rattle.ell_core.specs.history.Stages.{Stage, Unclaimed, Opening, IClaimed, IFlagged, IChanged, IOver, DClaimed, DFlagged, DUnmarkable, DMarked, DCut, DOver, DBacked, is_claimed, is_insert, is_delete, is_born, insert_won, insert_open, insert_waits, is_changed, insert_over, delete_won, delete_open, delete_waits, is_markable, is_unmarkable, is_marked, is_cut, delete_past, delete_over, is_backed, made_by_stage}
+use Rattle.ell_ops.specs.declared.op.Op.TheVariants.{Find, Insert, Delete, Swap}
+use Rattle.ell_core.specs.history.Stages.{Stage, Unclaimed, Opening, IClaimed, IFlagged, IChanged, IOver, RChanged, ROver, DClaimed, DFlagged, DUnmarkable, DMarked, DCut, DOver, DBacked, is_claimed, is_insert, is_delete, is_born, is_node_born, insert_won, insert_open, insert_waits, is_changed, insert_over, delete_won, delete_open, delete_waits, is_markable, is_unmarkable, is_marked, is_cut, delete_past, delete_over, is_backed, made_by_stage}
 
 -- an insert whose flag stands has won it
 pub insert_open-won : (s : Stage) → insert_open s ≡ true → insert_won s ≡ true
@@ -113,8 +113,20 @@ pub delete-unborn : (s : Stage) → is_delete s ≡ true → is_born s ≡ false
 delete-unborn s h = grind arith
 
 -- a card whose nodes came into the tree was claimed
-pub born-claimed : (s : Stage) → is_born s ≡ true → is_claimed s ≡ true
-born-claimed s h = grind arith
+pub born-claimed : (s : Stage) (place : ℕ) → is_node_born s place ≡ true → is_claimed s ≡ true
+born-claimed s place h = grind arith
+
+-- a card's internal node came into the tree with all its nodes
+pub inner-born : (s : Stage) (place : ℕ) → place ≡ 0 → is_node_born s place ≡ true → is_born s ≡ true
+inner-born s place zero h = grind arith
+
+-- and each of its nodes with them
+pub all-born : (s : Stage) (place : ℕ) → is_born s ≡ true → is_node_born s place ≡ true
+all-born s place h = grind arith
+
+-- the nodes of a changed card that came into the tree, by whether all did
+pub changed_nodes : (s : Stage) (place : ℕ) → is_changed s ≡ true → is_node_born s place ≡ (is_born s || (place == 2))
+changed_nodes s place h = grind arith
 
 -- the nodes of a card that was not claimed did not come into the tree
 pub unclaimed-unborn : (s : Stage) → is_claimed s ≡ false → is_born s ≡ false
@@ -144,9 +156,11 @@ pub waits_or_changed : (s : Stage) → insert_won s ≡ true → (s ≡ IFlagged
 waits_or_changed s h = grind arith
 
 -- a changed insert has its flag or is over
-pub changed_cases : (s : Stage) → is_changed s ≡ true → (s ≡ IChanged) ⊎ (s ≡ IOver)
-changed_cases IChanged h = inl refl
-changed_cases IOver h = inr refl
+pub changed_cases : (s : Stage) → is_changed s ≡ true → ((s ≡ IChanged) ⊎ (s ≡ RChanged)) ⊎ ((s ≡ IOver) ⊎ (s ≡ ROver))
+changed_cases IChanged h = inl (inl refl)
+changed_cases IOver h = inr (inl refl)
+changed_cases RChanged h = inl (inr refl)
+changed_cases ROver h = inr (inr refl)
 changed_cases _ h = absurd (false≢true h)
 
 -- a delete whose flag was won may be marked, or can't be any more, or was
@@ -202,6 +216,7 @@ pub backed_made : (op : Op) (s : Stage) → is_backed s ≡ true → made_by_sta
 backed_made (Find k) s h = refl
 backed_made (Insert k value) s h = grind arith
 backed_made (Delete k) s h = grind arith
+backed_made (Swap k was value) s h = grind arith
 
 pub backed_insert : (s : Stage) → is_backed s ≡ true → insert_open s ≡ false
 backed_insert s h = grind arith

@@ -1,7 +1,7 @@
-use Rattle.std.proofs.Common.{◌≡◌, ◌⊎◌, true, false, List, [], ◌∷◌, ◌++◌, arith, refl}
+use Rattle.std.proofs.Common.{◌≡◌, ℕ, ◌⊎◌, true, false, List, [], ◌∷◌, ◌++◌, arith, refl}
 use Rattle.ell_word.specs.declared.gate.Kind.{Kind}
 use Rattle.ell_word.specs.declared.gate.Kind.TheVariants as kind
-use Rattle.ell_core.specs.history.Stages.{Stage, is_start, is_insert, is_delete, is_born, is_claimed, insert_won, delete_won, waits}
+use Rattle.ell_core.specs.history.Stages.{Stage, is_start, is_insert, is_delete, is_born, is_node_born, is_claimed, insert_won, delete_won, waits}
 use Rattle.ell_core.specs.history.Later.{wins_of}
 
 -- an insert's card that has not won its flag waits
@@ -21,8 +21,8 @@ pub delete_won-settled : (s : Stage) → delete_won s ≡ true → waits s ≡ f
 delete_won-settled s a = grind arith
 
 -- nor does a card whose nodes came into the tree
-pub born-settled : (s : Stage) → is_born s ≡ true → waits s ≡ false
-born-settled s a = grind arith
+pub born-settled : (s : Stage) (place : ℕ) → is_node_born s place ≡ true → waits s ≡ false
+born-settled s place a = grind arith
 
 -- nor does one that was not claimed
 pub unclaimed-settled : (s : Stage) → is_claimed s ≡ false → waits s ≡ false
@@ -37,8 +37,8 @@ pub waits-no_start : (s : Stage) → waits s ≡ true → is_start s ≡ false
 waits-no_start s a = grind arith
 
 -- one of those came into the tree
-pub start-born : (s : Stage) → is_start s ≡ true → is_born s ≡ true
-start-born s a = grind arith
+pub start-born : (s : Stage) (place : ℕ) → is_start s ≡ true → is_node_born s place ≡ true
+start-born s place a = grind arith
 
 -- a card that was not claimed is none of them
 pub unclaimed-no_start : (s : Stage) → is_claimed s ≡ false → is_start s ≡ false

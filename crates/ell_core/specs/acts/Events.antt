@@ -8,7 +8,7 @@ use Rattle.ell_core.specs.declared.event.CoreFault.{CoreFault}
 use Rattle.ell_core.specs.declared.event.CoreFault.TheVariants.{NoSuchWorker, NotOwned, NotNow, NoCards, NoMemory}
 use Rattle.ell_core.specs.declared.fact.Fact.{Fact}
 use Rattle.ell_core.specs.state.Machine.{Worker, Machine, Scene, scene, with_scene}
-use Rattle.ell_core.specs.acts.Searching.{Begin, Upd, Down, ClaimInsert, ClaimDelete, Again, Leave, Answer}
+use Rattle.ell_core.specs.acts.Searching.{Begin, Upd, Down, ClaimPut, ClaimDelete, Again, Leave, Answer}
 use Rattle.ell_core.specs.acts.Exchanges.{IFlag, DFlag, IChild, IUnflag, Mark, DChild, DUnflag, Backtrack}
 
 -- the event table, a row for each act: its guard holds of a scene, this is its answer, and this the scene after it
@@ -16,7 +16,7 @@ abbrev pub Row : Act → Scene → Stepped → Scene → Type 0
 Row (act.Begin op) s said after = Begin op s said after
 Row act.Upd s said after = Upd s said after
 Row act.Down s said after = Down s said after
-Row act.Claim s said after = ClaimInsert s said after ⊎ ClaimDelete s said after
+Row act.Claim s said after = ClaimPut s said after ⊎ ClaimDelete s said after
 Row act.IFlag s said after = IFlag s said after
 Row act.DFlag s said after = DFlag s said after
 Row (act.IChild c) s said after = IChild c s said after

@@ -1,15 +1,17 @@
 use Rattle.std.specs.Prelude.{◌≡◌, ℕ, ◌==◌, if◌then◌else◌, Bool, true, false, Option, Some, None}
-use Rattle.ell_ops.specs.declared.op.Op.TheVariants.{Insert, Delete}
-use Rattle.ell_word.specs.Node.{internal}
+use Rattle.ell_ops.specs.declared.op.Op.{Op}
+use Rattle.ell_ops.specs.declared.op.Op.TheVariants.{Delete}
+use Rattle.ell_core.specs.acts.Searching.{put_of}
 use Rattle.ell_core.specs.declared.event.Stepped.{Stepped}
 use Rattle.ell_core.specs.declared.event.Stepped.TheVariants.{Won, Lost}
 use Rattle.ell_core.specs.declared.fact.Fact.{Fact}
 use Rattle.ell_core.specs.declared.fact.Fact.TheVariants.{IFlagged, IChanged, IOver, DFlagged, Marked, Unmarkable, Cut, DOver, Backed}
+use Rattle.ell_core.specs.declared.put.Put.{Put}
 use Rattle.ell_core.specs.declared.view.Seen.{Seen}
 use Rattle.ell_core.specs.state.Words.{Words, with_update, with_child}
 use Rattle.ell_core.specs.state.Facts.{Knowledge, learned, learned_any, told_by}
 use Rattle.ell_core.specs.state.Machine.{Worker, Scene}
-use Rattle.ell_core.specs.state.Cards.{iflag, dflag, marked, clean, exchange_side, sibling}
+use Rattle.ell_core.specs.state.Cards.{iflag, dflag, marked, clean, exchange_side, sibling, brought}
 
 -- what an exchange says, won or not
 abbrev pub won_or_lost : Bool → Stepped
@@ -58,13 +60,14 @@ flags s seen new fact = record {
   worker = flagged_worker s.worker (s.words.update seen.node == seen.word) fact (s.words.update seen.node);
 }
 
--- iflag: an insert has a card in hand that is not flagged; it exchanges the parent's update word to the card's flag
+-- iflag: an insert or a swap has a card in hand that is not flagged; it exchanges the parent's update word to the card's flag
 pub record IFlag (s : Scene) (said : Stepped) (after : Scene) : Type 0 where
-  pub key : ℕ
-  pub value : ℕ
+  pub op : Op
+  pub what : Put
   pub card : ℕ
   pub parent : Seen
-  pub inserts : s.worker.operation ≡ Some (Insert key value)
+  pub busy : s.worker.operation ≡ Some op
+  pub puts : put_of op ≡ Some what
   pub holds : s.worker.card ≡ Some card
   pub unflagged : s.worker.flagged ≡ false
   pub behind : s.worker.search.parent ≡ Some parent
@@ -83,12 +86,12 @@ pub record DFlag (s : Scene) (said : Stepped) (after : Scene) : Type 0 where
   pub says : said ≡ won_or_lost (s.words.update grandparent.node == grandparent.word)
   pub gives : after ≡ flags s grandparent (dflag card) (DFlagged card)
 
--- ichild: the card is known flagged; the parent's child is exchanged from the leaf to the card's internal node
+-- ichild: the card is known flagged; the parent's child is exchanged from the leaf to the node that the card brings
 pub record IChild (c : ℕ) (s : Scene) (said : Stepped) (after : Scene) : Type 0 where
   pub may : s.worker.knows (IFlagged c) ≡ true
-  pub says : said ≡ won_or_lost (found_child s.words (s.words.p c) (internal c) == s.words.l c)
+  pub says : said ≡ won_or_lost (found_child s.words (s.words.p c) (brought s.words c) == s.words.l c)
   pub gives : after ≡ record {
-    words = exchanged_child s.words (s.words.p c) (s.words.l c) (internal c);
+    words = exchanged_child s.words (s.words.p c) (s.words.l c) (brought s.words c);
     worker = knowing s.worker (learned s.worker.knows (IChanged c));
   }
 

@@ -1,6 +1,6 @@
 use Rattle.std.specs.Prelude.{◌≡◌, ◌≢◌, ℕ, ◌==◌, if◌then◌else◌, ◌⊎◌, true, false, Option, Some, None, List}
 use Rattle.ell_ops.specs.declared.op.Op.{Op}
-use Rattle.ell_ops.specs.declared.op.Op.TheVariants.{Find, Insert, Delete}
+use Rattle.ell_ops.specs.declared.op.Op.TheVariants.{Find, Insert, Delete, Swap}
 use Rattle.ell_ops.specs.Meaning.{key_of, found}
 use Rattle.ell_word.specs.Node.{IsInternal}
 use Rattle.ell_word.specs.Word.{unpacked}
@@ -8,6 +8,7 @@ use Rattle.ell_word.specs.declared.update.State.TheVariants as state
 use Rattle.ell_core.specs.declared.event.Stepped.{Stepped}
 use Rattle.ell_core.specs.declared.event.Stepped.TheVariants.{Moved, Answered}
 use Rattle.ell_core.specs.declared.fact.Fact.TheVariants.{IOver, DOver, Backed}
+use Rattle.ell_core.specs.declared.put.Put.{Put}
 use Rattle.ell_core.specs.declared.view.Seen.{Seen}
 use Rattle.ell_core.specs.declared.view.Search.{Search}
 use Rattle.ell_core.specs.declared.field.Field.{Field}
@@ -18,7 +19,7 @@ use Rattle.ell_core.specs.state.Cards.{child_for, insert_filling, delete_filling
 use Rattle.ell_core.specs.declared.view.Entry.{Entry}
 use Rattle.ell_core.specs.declared.view.Entry.TheVariants.{Present, Absent}
 use Rattle.ell_ops.specs.declared.reply.Reply.{Reply}
-use Rattle.ell_ops.specs.declared.reply.Reply.TheVariants.{Yes, No}
+use Rattle.ell_ops.specs.declared.reply.Reply.TheVariants.{Yes, No, Found}
 
 -- a leaf is a node that is not internal
 abbrev pub IsLeaf : ℕ → Type 0
@@ -98,17 +99,33 @@ claims s filling = record {
   worker = record (s.worker) { card = Some s.words.next; flagged = false };
 }
 
--- claim for an insert: at such a leaf of another key
-pub record ClaimInsert (s : Scene) (said : Stepped) (after : Scene) : Type 0 where
-  pub key : ℕ
-  pub value : ℕ
+-- what an operation puts into the tree, if it puts anything: its key with its value, where the key is absent, or has a certain value
+abbrev pub put_of : Op → Option Put
+put_of (Insert key value) = Some (record { key = key; value = value; was = None })
+put_of (Swap key was value) = Some (record { key = key; value = value; was = Some was })
+put_of _ = None
+
+-- at a leaf of this key and this value there is place for a key: the leaf has another key, or this one with the value that is to go
+abbrev pub HasPlace : ℕ → Option ℕ → ℕ → ℕ → Type 0
+HasPlace key None leaf_key leaf_value = leaf_key ≢ key
+HasPlace key (Some was) leaf_key leaf_value = (leaf_key ≡ key) × (leaf_value ≡ was)
+
+-- there is place for what is put
+abbrev pub TakesPut : Put → ℕ → ℕ → Type 0
+TakesPut what leaf_key leaf_value = HasPlace what.key what.was leaf_key leaf_value
+
+-- claim for an insert or a swap: at such a leaf, where there is place for what it puts
+pub record ClaimPut (s : Scene) (said : Stepped) (after : Scene) : Type 0 where
+  pub op : Op
+  pub what : Put
   pub leaf : ℕ
   pub parent : Seen
-  pub inserts : s.worker.operation ≡ Some (Insert key value)
+  pub busy : s.worker.operation ≡ Some op
+  pub puts : put_of op ≡ Some what
   pub at : AtCleanLeaf s.worker leaf parent
-  pub absent : s.words.key leaf ≢ key
+  pub takes : TakesPut what (s.words.key leaf) (s.words.value leaf)
   pub says : said ≡ Moved
-  pub gives : after ≡ claims s (insert_filling s.words.next key value parent.node leaf (s.words.key leaf) (s.words.value leaf))
+  pub gives : after ≡ claims s (insert_filling s.words.next what.key what.value parent.node leaf (s.words.key leaf) (s.words.value leaf))
 
 -- claim for a delete: at such a leaf of its key, with a grandparent whose update word it read clean
 pub record ClaimDelete (s : Scene) (said : Stepped) (after : Scene) : Type 0 where
@@ -151,6 +168,8 @@ abbrev pub leaf_answer : Op → Option ℕ → Option Reply
 leaf_answer (Find key) there = Some (found there)
 leaf_answer (Insert key value) (Some there) = Some No
 leaf_answer (Delete key) None = Some No
+leaf_answer (Swap key was value) None = Some No
+leaf_answer (Swap key was value) (Some there) = if there == was then None else Some (Found there)
 leaf_answer _ _ = None
 
 pub record AnswersAtLeaf (s : Scene) (op : Op) (reply : Reply) : Type 0 where
@@ -164,6 +183,7 @@ abbrev pub card_answer : Op → ℕ → Knowledge → Option Reply
 card_answer (Find key) c known = None
 card_answer (Insert key value) c known = if known (IOver c) then Some Yes else None
 card_answer (Delete key) c known = if known (DOver c) then Some Yes else None
+card_answer (Swap key was value) c known = if known (IOver c) then Some (Found was) else None
 
 pub record AnswersByCard (s : Scene) (op : Op) (reply : Reply) : Type 0 where
   pub card : ℕ
@@ -184,6 +204,7 @@ settled ledger key entry (Some old) = put ledger key (Some entry)
 abbrev pub ledger_after : Op → Reply → Ledger → Ledger
 ledger_after (Insert key value) Yes ledger = settled ledger key (Present value) (ledger key)
 ledger_after (Delete key) Yes ledger = settled ledger key Absent (ledger key)
+ledger_after (Swap key was value) (Found there) ledger = if there == was then settled ledger key (Present value) (ledger key) else ledger
 ledger_after _ _ ledger = ledger
 
 -- answer: an operation is in hand and has an answer; it is said, the ledger goes by it, and nothing is in hand any more

@@ -1,16 +1,17 @@
-use Rattle.std.specs.Prelude.{◌≡◌, ◌≢◌, ℕ, ◌+◌, ◌<◌, ◌≤◌, ◌⊎◌, ◌↔◌, ◌==◌, if◌then◌else◌, Bool, true, false, Some, None}
+use Rattle.std.specs.Prelude.{◌≡◌, ◌≢◌, ℕ, ◌+◌, ◌<◌, ◌≤◌, ◌⊎◌, ◌↔◌, ◌==◌, if◌then◌else◌, Bool, true, false, not, Option, Some, None}
 use Rattle.ell_ops.specs.declared.op.Op.{Op}
-use Rattle.ell_ops.specs.declared.op.Op.TheVariants.{Find, Insert, Delete}
+use Rattle.ell_ops.specs.declared.op.Op.TheVariants.{Find, Insert, Delete, Swap}
 use Rattle.ell_ops.specs.Meaning.{greatest_key, key_of}
 use Rattle.ell_word.specs.Node.{IsInternal, internal, left_leaf, right_leaf}
 use Rattle.ell_word.specs.Word.{unpacked}
 use Rattle.ell_core.specs.declared.fact.Fact.{Fact}
 use Rattle.ell_core.specs.declared.field.Field.{Field}
+use Rattle.ell_core.specs.declared.put.Put.{Put}
 use Rattle.ell_core.specs.declared.view.Seen.{Seen}
 use Rattle.ell_core.specs.state.Words.{Words, word}
 use Rattle.ell_core.specs.state.Facts.{card_of_fact}
-use Rattle.ell_core.specs.state.Machine.{Worker, Machine}
-use Rattle.ell_core.specs.state.Cards.{iflag, dflag, marked, clean, is_right, child_for, exchange_side, sibling}
+use Rattle.ell_core.specs.state.Machine.{Worker, Machine, entry_of}
+use Rattle.ell_core.specs.state.Cards.{iflag, dflag, marked, clean, is_right, child_for, exchange_side, sibling, is_replace_card}
 use Rattle.ell_core.specs.acts.Searching.{IsLeaf, IsClean}
 use Rattle.ell_core.specs.state.Moves.{WorkerIsIdle}
 use Rattle.ell_core.specs.tree.Tree.{infinity1, infinity2}
@@ -87,6 +88,7 @@ pub record IsCopy (w : Words) (c leaf : ℕ) : Type 0 where
   pub value : w.value leaf ≡ w.value (w.l c)
 
 -- an insert's card: where it goes, with no grandparent and no update word that was read; two leaves, a copy of the old one and one of its own key,
+-- which may be the same key, and
 -- which lie on one side of the parent; and the child that it is to replace was not replaced by a lesser node
 pub record InsertCard (w : Words) (stage : Stages) (c : ℕ) : Type 0 where
   pub gp : w.gp c ≡ 0
@@ -95,7 +97,7 @@ pub record InsertCard (w : Words) (stage : Stages) (c : ℕ) : Type 0 where
   pub leaf : IsLeafBorn stage (w.l c)
   pub above : w.p c < w.l c
   pub before : w.l c < internal c
-  pub ordered : w.key (left_leaf c) < w.key (right_leaf c)
+  pub ordered : w.key (left_leaf c) ≤ w.key (right_leaf c)
   pub node_key : w.key (internal c) ≡ w.key (right_leaf c)
   pub copy : IsCopy w c (left_leaf c) ⊎ IsCopy w c (right_leaf c)
   pub real : insert_key w c ≤ greatest_key
@@ -141,6 +143,7 @@ pub record InsertStage (w : Words) (stage : Stages) (c : ℕ) : Type 0 where
   pub waits : insert_waits (stage c) ≡ true → w.child (w.p c) (insert_side w c) ≡ w.l c
   pub course : insert_waits (stage c) ≡ true → IsOnCourse w (insert_key w c) (w.p c)
   pub changed : is_changed (stage c) ≡ true → w.l c < w.child (w.p c) (insert_side w c)
+  pub brings : is_changed (stage c) ≡ true → is_born (stage c) ≡ not (is_replace_card w c)
 
 -- the parent of a delete that may still be marked: its update word is the one that the search read, with the leaf still its
 -- child, or past it
@@ -226,8 +229,13 @@ pub record StandIsSound (w : Words) (stage : Stages) (v : Worker) (k x : ℕ) : 
   pub has_grandparent : (seen : Seen) → v.search.parent ≡ Some seen → seen.node ≢ 0 → v.search.grandparent ≢ None
   pub deep : IsLeaf x → w.key x ≤ greatest_key → v.search.grandparent ≢ None
 
--- an insert's card in hand that is not flagged says what its worker's search saw, and has the operation's key and value
-pub record InsertInHand (w : Words) (stage : Stages) (v : Worker) (k value c : ℕ) : Type 0 where
+-- a card adds its key, or replaces a leaf of its key and of a certain value
+abbrev pub IsPutting : Words → ℕ → Option ℕ → Type 0
+IsPutting w c None = w.key (left_leaf c) < w.key (right_leaf c)
+IsPutting w c (Some was) = (w.key (left_leaf c) ≡ w.key (right_leaf c)) × (w.value (w.l c) ≡ was)
+
+-- an insert's or swap's card in hand that is not flagged says what its worker's search saw, and has the operation's key and value
+pub record InsertInHand (w : Words) (stage : Stages) (v : Worker) (what : Put) (c : ℕ) : Type 0 where
   pub parent : Seen
   pub claimed : (is_insert (stage c) ≡ true) × (insert_won (stage c) ≡ false)
   pub stands : v.search.node ≡ Some (w.l c)
@@ -235,8 +243,9 @@ pub record InsertInHand (w : Words) (stage : Stages) (v : Worker) (k value c : �
   pub node : parent.node ≡ w.p c
   pub calm : IsClean parent.word
   pub earlier : parent.word < iflag c
-  pub own : insert_key w c ≡ k
-  pub own_value : insert_value w c ≡ value
+  pub own : insert_key w c ≡ what.key
+  pub own_value : insert_value w c ≡ what.value
+  pub kind : IsPutting w c what.was
 
 -- the same of a delete's card
 pub record DeleteInHand (w : Words) (stage : Stages) (v : Worker) (k c : ℕ) : Type 0 where
@@ -256,14 +265,22 @@ pub record DeleteInHand (w : Words) (stage : Stages) (v : Worker) (k c : ℕ) : 
 -- a card in hand that is not flagged is of the operation's kind
 abbrev pub Unflagged : Words → Stages → Worker → Op → ℕ → Type 0
 Unflagged w stage v (Find k) c = ⊥
-Unflagged w stage v (Insert k value) c = InsertInHand w stage v k value c
+Unflagged w stage v (Insert k value) c = InsertInHand w stage v (record { key = k; value = value; was = None }) c
+Unflagged w stage v (Swap k was value) c = InsertInHand w stage v (record { key = k; value = value; was = Some was }) c
 Unflagged w stage v (Delete k) c = DeleteInHand w stage v k c
 
--- a card in hand that is flagged is of the operation's kind, key and value; an own key was absent for an insert, present for a delete
+-- a card in hand that is flagged has what is put; an own key was absent, or present with the value that is to go
+abbrev pub FlaggedPut : Words → Stages → Worker → Put → ℕ → Type 0
+FlaggedPut w stage v what c =
+    (insert_won (stage c) ≡ true) × (insert_key w c ≡ what.key) × (insert_value w c ≡ what.value)
+    × (WorkerOwns v what.key → v.ledger what.key ≡ Some (entry_of what.was)) × IsPutting w c what.was
+
+-- a card in hand that is flagged is of the operation's kind, key and value; an own key is absent for an insert, present for a delete, and present
+-- with its first value for a swap
 abbrev pub Flagged : Words → Stages → Worker → Op → ℕ → Type 0
 Flagged w stage v (Find k) c = ⊥
-Flagged w stage v (Insert k value) c =
-    (insert_won (stage c) ≡ true) × (insert_key w c ≡ k) × (insert_value w c ≡ value) × (WorkerOwns v k → v.ledger k ≡ Some Absent)
+Flagged w stage v (Insert k value) c = FlaggedPut w stage v (record { key = k; value = value; was = None }) c
+Flagged w stage v (Swap k was value) c = FlaggedPut w stage v (record { key = k; value = value; was = Some was }) c
 Flagged w stage v (Delete k) c = (delete_won (stage c) ≡ true) × (delete_key w c ≡ k) × (WorkerOwns v k → (value : ℕ) × (v.ledger k ≡ Some (Present value)))
 
 -- a worker

@@ -10,7 +10,7 @@ use Rattle.ell_core.specs.state.Words.{Words, word}
 use Rattle.ell_core.specs.state.Machine.{Machine, Scene, scene, with_scene}
 use Rattle.ell_core.specs.state.Cards.{marked}
 use Rattle.ell_core.specs.acts.Events.{Happens}
-use Rattle.ell_core.specs.history.Stages.{Stage, Stages, IFlagged, IChanged, IOver, DFlagged, DUnmarkable, DMarked, DCut, DOver, DBacked, is_start, is_insert, is_delete, is_born, allows, Born}
+use Rattle.ell_core.specs.history.Stages.{Stage, Stages, IFlagged, IChanged, IOver, RChanged, ROver, DFlagged, DUnmarkable, DMarked, DCut, DOver, DBacked, is_start, is_insert, is_delete, is_born, allows, Born}
 use Rattle.ell_core.specs.history.Invariant.{Invariant}
 use Rattle.ell_core.specs.acts.Wins.{wins_by}
 
@@ -55,6 +55,8 @@ abbrev pub wins_of : Stage → List Kind
 wins_of IFlagged = kind.IFlag ∷ []
 wins_of IChanged = kind.IFlag ∷ kind.IChild ∷ []
 wins_of IOver = kind.IFlag ∷ kind.IChild ∷ kind.IUnflag ∷ []
+wins_of RChanged = kind.IFlag ∷ kind.IChild ∷ []
+wins_of ROver = kind.IFlag ∷ kind.IChild ∷ kind.IUnflag ∷ []
 wins_of DFlagged = kind.DFlag ∷ []
 wins_of DUnmarkable = kind.DFlag ∷ []
 wins_of DMarked = kind.DFlag ∷ kind.Mark ∷ []

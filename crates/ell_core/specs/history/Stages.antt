@@ -1,4 +1,4 @@
-use Rattle.std.specs.Prelude.{◌≡◌, ℕ, Bool, true, false, Option, Some}
+use Rattle.std.specs.Prelude.{◌≡◌, ℕ, ◌%◌, ◌==◌, Bool, true, false, Option, Some}
 use Rattle.ell_ops.specs.declared.op.Op.{Op}
 use Rattle.ell_ops.specs.Meaning.{key_of}
 use Rattle.ell_word.specs.Node.{card}
@@ -9,7 +9,7 @@ use Rattle.ell_core.specs.soundness.Holds.{made, with_made}
 use Rattle.ell_core.specs.declared.view.Entry.{Entry}
 
 -- a card's stage: not claimed; one of the opening tree's; claimed for an insert, and then as far as its flag, child exchange and
--- unflag were won; the same for a delete, whose flag is followed by mark, child exchange and unflag, or, once the mark can't be
+-- unflag were won, which brings in its nodes, or its right leaf alone, in the place of a leaf of its key; the same for a delete, whose flag is followed by mark, child exchange and unflag, or, once the mark can't be
 -- set any more, by the unflag that takes it back
 pub data Stage : Type 0 where
   Unclaimed : Stage
@@ -18,6 +18,8 @@ pub data Stage : Type 0 where
   IFlagged : Stage
   IChanged : Stage
   IOver : Stage
+  RChanged : Stage
+  ROver : Stage
   DClaimed : Stage
   DFlagged : Stage
   DUnmarkable : Stage
@@ -46,6 +48,8 @@ is_insert IClaimed = true
 is_insert IFlagged = true
 is_insert IChanged = true
 is_insert IOver = true
+is_insert RChanged = true
+is_insert ROver = true
 is_insert _ = false
 
 -- a delete's card
@@ -59,12 +63,21 @@ is_delete DOver = true
 is_delete DBacked = true
 is_delete _ = false
 
--- the card's nodes came into the tree
+-- all the card's nodes came into the tree
 abbrev pub is_born : Stage → Bool
 is_born Opening = true
 is_born IChanged = true
 is_born IOver = true
 is_born _ = false
+
+-- one of the card's nodes came into the tree, by its place among them: of a card that replaces a leaf its right leaf alone
+abbrev pub is_node_born : Stage → ℕ → Bool
+is_node_born Opening place = true
+is_node_born IChanged place = true
+is_node_born IOver place = true
+is_node_born RChanged place = place == 2
+is_node_born ROver place = place == 2
+is_node_born _ place = false
 
 -- a claimed card that has not won its flag
 abbrev pub waits : Stage → Bool
@@ -77,12 +90,15 @@ abbrev pub insert_won : Stage → Bool
 insert_won IFlagged = true
 insert_won IChanged = true
 insert_won IOver = true
+insert_won RChanged = true
+insert_won ROver = true
 insert_won _ = false
 
 -- an insert's flag stands
 abbrev pub insert_open : Stage → Bool
 insert_open IFlagged = true
 insert_open IChanged = true
+insert_open RChanged = true
 insert_open _ = false
 
 -- an insert's flag stands and its child exchange was not made yet
@@ -94,11 +110,14 @@ insert_waits _ = false
 abbrev pub is_changed : Stage → Bool
 is_changed IChanged = true
 is_changed IOver = true
+is_changed RChanged = true
+is_changed ROver = true
 is_changed _ = false
 
 -- an insert's flag was taken away again
 abbrev pub insert_over : Stage → Bool
 insert_over IOver = true
+insert_over ROver = true
 insert_over _ = false
 
 -- a delete's flag was won
@@ -180,7 +199,7 @@ allows (fact.Backed c) stage = is_backed stage
 
 -- a node came into the tree
 abbrev pub Born : Stages → ℕ → Type 0
-Born stage x = is_born (stage (card x)) ≡ true
+Born stage x = is_node_born (stage (card x)) (x % 3) ≡ true
 
 -- what an operation has made of its key by its card's stage
 abbrev pub made_by_stage : Op → Stage → Option Entry

@@ -1,6 +1,6 @@
 use Rattle.std.specs.Prelude.{◌≡◌, ◌≢◌, ℕ, ◌<◌, ◌≤◌, ◌==◌, if◌then◌else◌, Bool, true, false, Option, Some, None}
 use Rattle.ell_ops.specs.declared.op.Op.{Op}
-use Rattle.ell_ops.specs.declared.op.Op.TheVariants.{Insert, Delete}
+use Rattle.ell_ops.specs.declared.op.Op.TheVariants.{Insert, Delete, Swap}
 use Rattle.ell_ops.specs.Meaning.{key_of}
 use Rattle.ell_core.specs.declared.fact.Fact.{Fact}
 use Rattle.ell_core.specs.declared.fact.Fact.TheVariants as fact
@@ -82,6 +82,7 @@ phase w c = if is_delete_card w c then delete_phase w c else insert_phase w c
 abbrev pub made : Op → Bool → Bool → Option Entry
 made (Insert key value) true cut = Some (Present value)
 made (Delete key) changed true = Some Absent
+made (Swap key was value) true cut = Some (Present value)
 made _ _ _ = None
 
 -- the phase is past an insert's child exchange

@@ -52,6 +52,14 @@ card_value w c =
     if is_delete_card w c then w.value (w.l c)
     else (if w.key (left_leaf c) == w.key (w.l c) then w.value (right_leaf c) else w.value (left_leaf c))
 
+-- an insert's card replaces a leaf of its key where its own two leaf keys are one: its right leaf has the new value
+abbrev pub is_replace_card : Words → ℕ → Bool
+is_replace_card w c = w.key (left_leaf c) == w.key (right_leaf c)
+
+-- the node that an insert's card brings to the parent: its right leaf, if it replaces a leaf, else its internal node
+abbrev pub brought : Words → ℕ → ℕ
+brought w c = if is_replace_card w c then right_leaf c else internal c
+
 -- the child of a node on the side of a card's own key
 abbrev pub card_child : Words → ℕ → ℕ → ℕ
 card_child w c node = child_for w (card_key w c) node

@@ -1,4 +1,4 @@
-use Rattle.std.specs.Prelude.{◌≡◌, ◌≢◌, ℕ, ◌⊎◌, ◌↔◌, true, Option, Some, None}
+use Rattle.std.specs.Prelude.{◌≡◌, ◌≢◌, ℕ, ◌⊎◌, ◌↔◌, Bool, true, false, Option, Some, None}
 use Rattle.ell_ops.specs.declared.op.Op.{Op}
 use Rattle.ell_ops.specs.Contents.{Contents}
 use Rattle.ell_ops.specs.Meaning.{key_of, reply_of, after}
@@ -10,7 +10,7 @@ use Rattle.ell_core.specs.declared.fact.Fact.{Fact}
 use Rattle.ell_core.specs.state.Words.{Words}
 use Rattle.ell_core.specs.state.Machine.{Ledger, Worker, Machine}
 use Rattle.ell_core.specs.soundness.Sound.{MayChange, WorkerOwns}
-use Rattle.ell_core.specs.state.Cards.{card_key, card_value}
+use Rattle.ell_core.specs.state.Cards.{card_key, card_value, is_replace_card}
 use Rattle.ell_core.specs.tree.Tree.{IsTreeKey, IsTreePair}
 use Rattle.ell_core.specs.soundness.Holds.{Holds}
 use Rattle.ell_core.specs.declared.view.Entry.{Entry}
@@ -27,6 +27,16 @@ pub record TakesPair (old new : Words) (key value : ℕ) : Type 0 where
   pub present : IsTreePair old key value
   pub pairs : (k v : ℕ) → IsTreePair new k v ↔ (IsTreePair old k v × (k ≢ key))
 
+-- the tree has the same keys, and the same values but that of this one, which it had with a value, and now has with this one
+pub record ReplacesPair (old new : Words) (key was value : ℕ) : Type 0 where
+  pub present : IsTreePair old key was
+  pub pairs : (k v : ℕ) → IsTreePair new k v ↔ ((IsTreePair old k v × (k ≢ key)) ⊎ ((k ≡ key) × (v ≡ value)))
+
+-- what an insert's card does: it adds its pair, or replaces the pair that its leaf has
+abbrev pub BringsPair : Bool → Words → Words → ℕ → ℕ → ℕ → Type 0
+BringsPair true old new key was value = ReplacesPair old new key was value
+BringsPair false old new key was value = AddsPair old new key value
+
 -- the tree has the same keys with the same values
 abbrev pub SamePairs : Words → Words → Type 0
 SamePairs old new = (k v : ℕ) → IsTreePair new k v ↔ IsTreePair old k v
@@ -34,7 +44,7 @@ SamePairs old new = (k v : ℕ) → IsTreePair new k v ↔ IsTreePair old k v
 -- what an act does to the keys of the tree and their values: a won ichild adds its card's key with its value, a won dchild takes its
 -- card's key with its value away, and nothing else changes them (paper of 2010: an update takes effect at its child exchange)
 abbrev pub PairsChange : Act → Stepped → Words → Words → Type 0
-PairsChange (act.IChild c) Won old new = AddsPair old new (card_key old c) (card_value old c)
+PairsChange (act.IChild c) Won old new = BringsPair (is_replace_card old c) old new (card_key old c) (old.value (old.l c)) (card_value old c)
 PairsChange (act.DChild c) Won old new = TakesPair old new (card_key old c) (card_value old c)
 PairsChange _ _ old new = SamePairs old new
 

@@ -13,7 +13,7 @@ use Rattle.ell_core.specs.state.Machine.{Worker, Machine}
 use Rattle.ell_core.specs.state.Cards.{clean}
 use Rattle.ell_core.specs.acts.Searching.{at_root}
 use Rattle.ell_core.specs.acts.Events.{Steps}
-use Rattle.ell_core.specs.history.Stages.{Stage, Stages, IOver, DOver, DBacked, is_insert, is_cut}
+use Rattle.ell_core.specs.history.Stages.{Stage, Stages, IOver, ROver, DOver, DBacked, is_insert, is_cut}
 use Rattle.ell_core.specs.history.Invariant.{Invariant}
 use Rattle.ell_core.specs.history.Later.{WordsLater, StagesLater, Follows}
 use Rattle.ell_core.specs.statements.Walks.{Avoids}
@@ -21,6 +21,7 @@ use Rattle.ell_core.specs.statements.Walks.{Avoids}
 -- what a card was for has come to its end: its flag was taken away
 abbrev pub has_ended : Stage → Bool
 has_ended IOver = true
+has_ended ROver = true
 has_ended DOver = true
 has_ended DBacked = true
 has_ended _ = false

@@ -10,5 +10,6 @@ mod refusing;
 mod replaying;
 mod scripts;
 mod starts;
+mod swapping;
 mod walking;
 mod words;

@@ -1,4 +1,4 @@
-use Rattle.std.proofs.Common.{◌≡◌, ◌≢◌, ℕ, ◌<◌, ◌≤◌, ◌⊎◌, inl, inr, true, false, refl, sym, ap, ◌∙◌, arith}
+use Rattle.std.proofs.Common.{◌≡◌, ◌≢◌, ℕ, ◌%◌, ◌<◌, ◌≤◌, ◌⊎◌, inl, inr, true, false, refl, sym, ap, ◌∙◌, arith}
 use Rattle.std.proofs.lemmas.Bool.{false≢true, cases_Bool, eqb-true}
 use Rattle.ell_word.specs.Node.{internal, card}
 use Rattle.ell_core.specs.declared.fact.Fact.{Fact}
@@ -7,7 +7,7 @@ use Rattle.ell_core.specs.state.Words.{Words}
 use Rattle.ell_core.specs.state.Facts.{card_of_fact}
 use Rattle.ell_core.specs.state.Cards.{iflag, dflag, is_right, is_delete_card, card_key, card_child}
 use Rattle.ell_core.specs.soundness.Holds.{IFlagHolds, IChangeHolds, DFlagHolds, MarkHolds, UnmarkableHolds, CutHolds, Holds}
-use Rattle.ell_core.specs.history.Stages.{Stages, is_start, is_born, is_insert, is_delete, is_cut, delete_waits}
+use Rattle.ell_core.specs.history.Stages.{Stages, is_start, is_node_born, is_insert, is_delete, is_cut, delete_waits}
 use Rattle.ell_core.specs.history.Invariant.{insert_key, insert_side, delete_side, WordsAreSound, KindsAreSound}
 use Rattle.ell_core.specs.history.Later.{WordsLater, StagesLater}
 use Rattle.ell_core.proofs.runs.Chains.{MarksLater}
@@ -37,7 +37,7 @@ counts_as_delete : (w : Words) (stage : Stages) (c : ℕ) → WordsAreSound w st
     → is_delete (stage c) ≡ true
 counts_as_delete w stage c sound kinds below h = elim (cases_Bool (is_start (stage c))) [
   | inl e ↦ absurd (let at : card (internal c) ≡ c = omega arith in
-      let born = ap (λ n. is_born (stage n)) at ∙ start-born (stage c) e in
+      let born = ap (λ n. is_node_born (stage n) (internal c % 3)) at ∙ start-born (stage c) (internal c % 3) e in
       let up = (sound.children (internal c) (omega arith) born).rising false in
       let none = eqb-true (w.child (internal c) false) 0 h in
       omega arith)

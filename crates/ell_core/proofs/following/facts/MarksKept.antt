@@ -6,7 +6,7 @@ use Rattle.ell_core.specs.declared.event.Act.TheVariants as act
 use Rattle.ell_core.specs.declared.event.Stepped.{Stepped}
 use Rattle.ell_core.specs.state.Words.{Words, put, with_update, with_child}
 use Rattle.ell_core.specs.state.Machine.{Scene}
-use Rattle.ell_core.specs.state.Cards.{iflag, dflag, marked, clean, exchange_side}
+use Rattle.ell_core.specs.state.Cards.{brought, iflag, dflag, marked, clean, exchange_side}
 use Rattle.ell_core.specs.acts.Exchanges.{exchanged_update, exchanged_child, found_child}
 use Rattle.ell_core.specs.acts.Events.{Row}
 use Rattle.ell_core.proofs.words.Writes.{put_same, put_other}
@@ -54,7 +54,7 @@ marks_step act.IFlag s said after row = marks_to s.words after _ row.gives
 marks_step act.DFlag s said after row = marks_to s.words after _ row.gives
     (marks_exchange s.words row.grandparent.node row.grandparent.word (dflag row.card) (λ d e. absurd (omega arith)))
 marks_step (act.IChild c) s said after row = marks_to s.words after _ row.gives
-    (marks_child s.words (s.words.p c) (s.words.l c) (internal c))
+    (marks_child s.words (s.words.p c) (s.words.l c) (brought s.words c))
 marks_step (act.IUnflag c) s said after row = marks_to s.words after _ row.gives
     (marks_exchange s.words (s.words.p c) (iflag c) (clean c) (λ d e. absurd (omega arith)))
 marks_step (act.Mark c) s said after row = marks_to s.words after _ row.gives

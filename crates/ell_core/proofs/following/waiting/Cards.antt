@@ -1,7 +1,8 @@
-use Rattle.std.proofs.Common.{◌≡◌, ℕ, ◌<◌, ◌≤◌, inl, inr, Bool, true, false, Some, [], refl, ap, arith}
+use Rattle.std.proofs.Common.{◌≡◌, ℕ, ◌<◌, ◌≤◌, inl, inr, Bool, true, false, Some, [], refl, ap, arith, ◌%◌, sym, ◌∙◌, subst}
+use Rattle.std.proofs.lemmas.Bool.{false≢true}
 use Rattle.ell_word.specs.Node.{card}
 use Rattle.ell_ops.specs.declared.op.Op.{Op}
-use Rattle.ell_ops.specs.declared.op.Op.TheVariants.{Find, Insert, Delete}
+use Rattle.ell_ops.specs.declared.op.Op.TheVariants.{Find, Insert, Delete, Swap}
 use Rattle.ell_core.specs.state.Words.{Words}
 use Rattle.ell_core.specs.state.Machine.{Worker, Machine}
 use Rattle.ell_core.specs.history.Stages.{Stages, is_claimed, is_start, waits}
@@ -18,12 +19,14 @@ use Rattle.ell_core.proofs.following.facts.Claimed.{not_claimed}
 by_operation : (w : Words) (stage : Stages) (v : Worker) (op : Op) (c : ℕ) → Unflagged w stage v op c → waits (stage c) ≡ true
 by_operation w stage v (Find k) c h = absurd h
 by_operation w stage v (Insert k value) c h = insert-waits (stage c) h.claimed.0 h.claimed.1
+by_operation w stage v (Swap k was value) c h = insert-waits (stage c) h.claimed.0 h.claimed.1
 by_operation w stage v (Delete k) c h = delete-waits (stage c) h.claimed.0 h.claimed.1
 
 -- one that is flagged does not
 by_flag : (w : Words) (stage : Stages) (v : Worker) (op : Op) (c : ℕ) → Flagged w stage v op c → waits (stage c) ≡ false
 by_flag w stage v (Find k) c h = absurd h
 by_flag w stage v (Insert k value) c h = insert_won-settled (stage c) h.0
+by_flag w stage v (Swap k was value) c h = insert_won-settled (stage c) h.0
 by_flag w stage v (Delete k) c h = delete_won-settled (stage c) h.0
 
 -- a worker with a card in hand has an operation in hand
@@ -49,6 +52,7 @@ flagged_made w stage v c sound holds flagged =
 won_claimed : (w : Words) (stage : Stages) (v : Worker) (op : Op) (c : ℕ) → Flagged w stage v op c → is_claimed (stage c) ≡ true
 won_claimed w stage v (Find k) c h = absurd h
 won_claimed w stage v (Insert k value) c h = insert-claimed (stage c) (insert_won-insert (stage c) h.0)
+won_claimed w stage v (Swap k was value) c h = insert-claimed (stage c) (insert_won-insert (stage c) h.0)
 won_claimed w stage v (Delete k) c h = delete-claimed (stage c) (delete_won-delete (stage c) h.0)
 
 -- so was every card in a worker's hand
@@ -79,7 +83,7 @@ stages_tell_waiting m stage invariant = record {
     λ h. ((invariant.words.cards c).claimed.0 (waits-claimed (stage c) h), waits-no_start (stage c) h, waits-wins (stage c) h),
     λ h. claimed_waits m stage invariant c h.0 h.1 h.2,
   );
-  born = λ x h. born-settled (stage (card x)) h;
+  born = λ x h. born-settled (stage (card x)) (x % 3) h;
   hand = λ i c h. hand_waits m.words stage (m.worker i) c (invariant.workers.each i) h.holds h.unflagged;
   alone = one_hand m stage invariant;
   flagged = λ i c holds flagged. flagged_made m.words stage (m.worker i) c (invariant.workers.each i) holds flagged;

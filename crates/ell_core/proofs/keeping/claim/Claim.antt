@@ -1,8 +1,8 @@
 use Rattle.std.proofs.Common.{◌≡◌, ℕ, ◌<◌, ◌≤◌, true, Some, None, List, inl, inr, refl, sym, ap, ◌∙◌, subst, arith, ◌⊎◌, ◌≢◌, Bool, false}
 use Rattle.std.proofs.lemmas.Bool.{false≢true}
 use Rattle.ell_ops.specs.declared.op.Op.{Op}
-use Rattle.ell_ops.specs.declared.op.Op.TheVariants.{Find, Insert, Delete}
-use Rattle.ell_ops.specs.Meaning.{key_of}
+use Rattle.ell_ops.specs.declared.op.Op.TheVariants.{Find, Insert, Delete, Swap}
+use Rattle.ell_ops.specs.Meaning.{key_of, greatest_key}
 use Rattle.ell_core.specs.declared.event.Act.TheVariants as act
 use Rattle.ell_core.specs.declared.event.Stepped.{Stepped}
 use Rattle.ell_core.specs.declared.event.Stepped.TheVariants.{Moved}
@@ -10,11 +10,12 @@ use Rattle.ell_core.specs.declared.field.Field.{Field}
 use Rattle.ell_core.specs.state.Words.{Words, put}
 use Rattle.ell_core.specs.state.Machine.{Worker, Machine, Scene, scene, with_scene}
 use Rattle.ell_core.specs.state.Cards.{claimed, insert_filling, delete_filling}
-use Rattle.ell_core.specs.acts.Searching.{claims, ClaimInsert, ClaimDelete}
+use Rattle.ell_core.specs.acts.Searching.{claims, ClaimPut, ClaimDelete}
 use Rattle.ell_core.specs.history.Stages.{Stage, Stages, Unclaimed, IClaimed, DClaimed, insert_open, delete_open, made_by_stage, is_insert, is_delete, is_claimed}
-use Rattle.ell_core.specs.history.Invariant.{CardIsSound, Unflagged, WorkerIsSound, Invariant, Flagged}
+use Rattle.ell_core.specs.history.Invariant.{CardIsSound, Unflagged, WorkerIsSound, Invariant, Flagged, StandIsSound}
 use Rattle.ell_core.specs.history.Later.{Follows, KeepsInvariant}
 use Rattle.ell_core.proofs.words.Writes.{put_same, put_cases}
+use Rattle.ell_core.proofs.keeping.Puts.{put_key, hand_putting}
 use Rattle.ell_core.proofs.keeping.OneWorker.{Becomes, workers_become}
 use Rattle.ell_core.proofs.keeping.claim.Filling.{claimed_claims, others_say}
 use Rattle.ell_core.proofs.keeping.claim.Frames.{IsJustClaimed, just_claimed, Claiming, unclaimed, before, leads_kept, leads_before, claim_stages, claim_wins, claim_words}
@@ -34,6 +35,7 @@ made_of_none : (o : Op) → (made_by_stage o Unclaimed ≡ None) × (made_by_sta
 made_of_none (Find k) = (refl, refl, refl)
 made_of_none (Insert k value) = (refl, refl, refl)
 made_of_none (Delete k) = (refl, refl, refl)
+made_of_none (Swap k was value) = (refl, refl, refl)
 
 -- a worker without a card claims the next one for its operation, which fills it as a sound card that it then has in hand
 pub record ClaimsCard (m : Machine) (stage : Stages) (i : ℕ) (filling : List (Field × ℕ)) (new : Stage)
@@ -52,6 +54,7 @@ pub record ClaimsCard (m : Machine) (stage : Stages) (i : ℕ) (filling : List (
 flagged_claimed : (w : Words) (stage : Stages) (v : Worker) (op : Op) (c : ℕ) → Flagged w stage v op c → is_claimed (stage c) ≡ true
 flagged_claimed w stage v (Find k) c h = absurd h
 flagged_claimed w stage v (Insert k value) c h = insert-claimed (stage c) (insert_won-insert (stage c) h.0)
+flagged_claimed w stage v (Swap k was value) c h = insert-claimed (stage c) (insert_won-insert (stage c) h.0)
 flagged_claimed w stage v (Delete k) c h = delete-claimed (stage c) (delete_won-delete (stage c) h.0)
 
 -- a card in a worker's hand was claimed
@@ -162,36 +165,38 @@ module _ (m : Machine) (stage : Stages) (i : ℕ) (filling : List (Field × ℕ)
     wins = claim_wins m.words after stage new claiming;
   }
 
--- a claim for an insert keeps it
+-- a claim for an insert or a swap keeps it
 claim_insert : (m : Machine) (stage : Stages) (i : ℕ) (said : Stepped) (becomes : Scene) → i < m.count → Invariant m stage
     → m.words.next ≤ m.last_card
-    → ClaimInsert (scene m i) said becomes → Follows m stage act.Claim i said (with_scene m i becomes)
+    → ClaimPut (scene m i) said becomes → Follows m stage act.Claim i said (with_scene m i becomes)
 claim_insert m stage i said becomes there sound room e =
     let own = sound.workers.each i in
-    let stand = own.stands (Insert e.key e.value) e.leaf e.inserts e.at.stands in
-    let seen : InsertSeen m.words stage (m.worker i) e.key e.leaf e.parent = record {
+    let key = put_key e.op e.what e.puts in
+    let stand = subst (λ k. StandIsSound m.words stage (m.worker i) k e.leaf) key (own.stands e.op e.leaf e.busy e.at.stands) in
+    let seen : InsertSeen m.words stage (m.worker i) e.what.key e.leaf e.parent = record {
       words = sound.words;
       stand = stand;
       outer = e.at.outer;
       seen = (stand.parent e.parent e.at.behind).0;
-      absent = e.absent;
-      real = own.real e.key (own.owned (Insert e.key e.value) e.inserts);
+      real = subst (λ k. k ≤ greatest_key) key (own.real (key_of e.op) (own.owned e.op e.busy));
     } in
-    let filling = insert_filling m.words.next e.key e.value e.parent.node e.leaf (m.words.key e.leaf) (m.words.value e.leaf) in
-    let claims_card : ClaimsCard m stage i filling IClaimed (Insert e.key e.value) = record {
+    let filling = insert_filling m.words.next e.what.key e.what.value e.parent.node e.leaf (m.words.key e.leaf) (m.words.value e.leaf) in
+    let claimer = (claims (scene m i) filling).worker in
+    let claims_card : ClaimsCard m stage i filling IClaimed e.op = record {
       there = there;
       sound = sound;
       room = room;
       fresh = inl refl;
-      busy = e.inserts;
+      busy = e.busy;
       no_card = e.at.no_card;
-      own = insert_claimed m.words stage (m.worker i) e.key e.value e.leaf e.parent seen;
-      hand = insert_in_hand m.words stage (m.worker i) e.key e.value e.leaf e.parent seen
-          (claims (scene m i) filling).worker e.at.stands e.at.behind e.at.calm;
+      own = insert_claimed m.words stage (m.worker i) e.what.key e.what.value e.leaf e.parent seen;
+      hand = hand_putting (claimed m.words filling) (put stage m.words.next IClaimed) claimer e.what m.words.next e.op e.puts
+          (insert_in_hand m.words stage (m.worker i) e.what.key e.what.value e.leaf e.parent seen claimer e.at.stands e.at.behind e.at.calm
+          e.what.was e.takes);
     } in
     subst (λ s. Follows m stage act.Claim i said (with_scene m i s)) (sym e.gives)
     (subst (λ s. Follows m stage act.Claim i s (with_scene m i (claims (scene m i) filling))) (sym e.says)
-    (claim_follows m stage i filling IClaimed (Insert e.key e.value) claims_card))
+    (claim_follows m stage i filling IClaimed e.op claims_card))
 
 -- a claim for a delete keeps it
 claim_delete : (m : Machine) (stage : Stages) (i : ℕ) (said : Stepped) (becomes : Scene) → i < m.count → Invariant m stage

@@ -1,11 +1,11 @@
-use Rattle.std.proofs.Common.{◌≡◌, ◌≢◌, ℕ, ◌<◌, ◌≤◌, ◌⊎◌, Bool, true, false, [], ◌++◌, inl, inr, refl, sym, ap, ◌∙◌, subst, arith}
+use Rattle.std.proofs.Common.{◌≡◌, ◌≢◌, ℕ, ◌%◌, ◌<◌, ◌≤◌, ◌⊎◌, Bool, true, false, [], ◌++◌, inl, inr, refl, sym, ap, ◌∙◌, subst, arith}
 use Rattle.std.proofs.lemmas.Bool.{false≢true, cases_eq}
 use Rattle.ell_word.specs.Node.{IsInternal, card, internal}
 use Rattle.ell_core.specs.declared.fact.Fact.{Fact}
 use Rattle.ell_core.specs.declared.field.Field.TheVariants.{Left, Right, Update}
 use Rattle.ell_core.specs.state.Words.{Words, put}
 use Rattle.ell_core.specs.state.Cards.{iflag, marked}
-use Rattle.ell_core.specs.history.Stages.{Stage, Stages, Unclaimed, IClaimed, DClaimed, is_claimed, is_start, is_born, allows, Born}
+use Rattle.ell_core.specs.history.Stages.{Stage, Stages, Unclaimed, IClaimed, DClaimed, is_claimed, is_start, is_node_born, allows, Born}
 use Rattle.ell_core.specs.history.Invariant.{top, IsIn, IsOut, LeadsToValue, IsOnCourse, Blank, IsInnerBorn, WordsAreSound}
 use Rattle.ell_core.specs.history.Later.{SameNode, WordsLater, StagesLater, wins_of}
 use Rattle.ell_core.proofs.words.Writes.{put_other, put_cases}
@@ -77,15 +77,15 @@ module _ (w after : Words) (stage : Stages) (new : Stage) (h : Claiming w after 
 
   -- a node that came into the tree is not on the card
   pub born_another : (x : ℕ) → Born stage x → card x ≢ w.next
-  born_another x born = another is_born refl (card x) born
+  born_another x born = another (λ s. is_node_born s (x % 3)) refl (card x) born
 
   -- it came into the tree still
   pub born_kept : (x : ℕ) → Born stage x → Born (put stage w.next new) x
-  born_kept x born = kept is_born refl (card x) born
+  born_kept x born = kept (λ s. is_node_born s (x % 3)) refl (card x) born
 
   -- no other did by the claim
   pub born_before : (x : ℕ) → Born (put stage w.next new) x → Born stage x
-  born_before x born = before is_born refl refl (card x) born
+  born_before x born = before (λ s. is_node_born s (x % 3)) refl refl (card x) born
 
   -- so its key is as it was
   pub key_kept : (x : ℕ) → Born stage x → after.key x ≡ w.key x
@@ -145,7 +145,7 @@ module _ (w after : Words) (stage : Stages) (new : Stage) (h : Claiming w after 
     start = just_claimed (λ s. is_start s ≡ false) new h.fresh refl refl;
     insert = λ said. absurd (false≢true said);
     delete = λ said. absurd (false≢true said);
-    born = λ said. absurd (false≢true said);
+    born = λ place said. absurd (false≢true said);
     told = λ fact said. absurd (false≢true (sym (untold fact) ∙ said));
   }))
 

@@ -1,4 +1,4 @@
-use Rattle.std.proofs.Common.{◌≡◌, ◌≢◌, ℕ, ◌≤◌, ◌⊎◌, ◌==◌, nat_le, nat_lt, if◌then◌else◌, min, max, Some, inl, inr, refl, sym, ap, ◌∙◌, subst, arith}
+use Rattle.std.proofs.Common.{◌≡◌, ◌≢◌, ℕ, ◌≤◌, ◌⊎◌, ◌==◌, nat_le, nat_lt, if◌then◌else◌, min, max, Option, Some, None, inl, inr, refl, sym, ap, ◌∙◌, subst, arith}
 use Rattle.std.proofs.lemmas.Bool.{false≢true, cases_eq, cases_lt, eq-eqb, ne_eqb, lt-ltb, le-ltb}
 use Rattle.std.proofs.lemmas.Bool.Decides.{nat_tests}
 use Rattle.ell_ops.specs.Meaning.{greatest_key}
@@ -7,34 +7,34 @@ use Rattle.ell_core.specs.declared.view.Seen.{Seen}
 use Rattle.ell_core.specs.state.Words.{Words, put}
 use Rattle.ell_core.specs.state.Machine.{Worker}
 use Rattle.ell_core.specs.state.Cards.{is_right, child_for, claimed, insert_filling}
-use Rattle.ell_core.specs.acts.Searching.{IsLeaf, IsClean}
+use Rattle.ell_core.specs.acts.Searching.{IsLeaf, IsClean, HasPlace}
 use Rattle.ell_core.specs.history.Stages.{Stages, IClaimed, is_claimed, is_insert, is_delete, insert_won}
-use Rattle.ell_core.specs.history.Invariant.{insert_key, insert_value, insert_side, IsInnerBorn, IsLeafBorn, InsertCard, CardIsSound, WordsAreSound, SeenIsSound, StandIsSound, InsertInHand}
+use Rattle.ell_core.specs.history.Invariant.{insert_key, insert_value, insert_side, IsInnerBorn, IsLeafBorn, InsertCard, CardIsSound, WordsAreSound, SeenIsSound, StandIsSound, InsertInHand, IsPutting}
 use Rattle.ell_core.proofs.words.Writes.{put_same}
 use Rattle.ell_core.proofs.words.Sides.{key_of_three}
 use Rattle.ell_core.proofs.keeping.claim.Filling.{claimed_claims, claimed_insert, IsFilledInsert}
 use Rattle.ell_core.proofs.keeping.claim.Frames.{earlier_word, earlier_node, Claiming, blank, born_kept, key_kept, value_kept, child_kept}
 
 -- of the lesser and the greater of two keys, the one that is not the leaf's is the other one
-own_of_two : (k leaf : ℕ) → leaf ≢ k → key_of_three (min k leaf) (max k leaf) leaf ≡ k
-own_of_two k leaf apart = elim (cases_eq (min k leaf) leaf) [
+own_of_two : (k leaf : ℕ) → key_of_three (min k leaf) (max k leaf) leaf ≡ k
+own_of_two k leaf = elim (cases_eq (min k leaf) leaf) [
   | inl e ↦ grind (arith, nat_tests)
   | inr n ↦ grind (arith, nat_tests)
 ]
 
 -- one of them is the leaf's, and on its side is the leaf's value
-copy_of_two : (k value leaf leaf_value : ℕ) → leaf ≢ k
+copy_of_two : (k value leaf leaf_value : ℕ)
     → ((min k leaf ≡ leaf) × ((if nat_lt k leaf then value else leaf_value) ≡ leaf_value))
     ⊎ ((max k leaf ≡ leaf) × ((if nat_lt k leaf then leaf_value else value) ≡ leaf_value))
-copy_of_two k value leaf leaf_value apart = elim (cases_lt k leaf) [
+copy_of_two k value leaf leaf_value = elim (cases_lt k leaf) [
   | inl less ↦ inr (omega arith, ap (λ t. if t then leaf_value else value) (lt-ltb k leaf less))
   | inr past ↦ inl (omega arith, ap (λ t. if t then value else leaf_value) (le-ltb k leaf past))
 ]
 
 -- and its value is the one on its side
-value_of_two : (k value leaf leaf_value : ℕ) → leaf ≢ k
+value_of_two : (k value leaf leaf_value : ℕ)
     → (if min k leaf == leaf then (if nat_lt k leaf then leaf_value else value) else (if nat_lt k leaf then value else leaf_value)) ≡ value
-value_of_two k value leaf leaf_value apart = elim (cases_lt k leaf) [
+value_of_two k value leaf leaf_value = elim (cases_lt k leaf) [
   | inl less ↦
       ap (λ t. if t then (if nat_lt k leaf then leaf_value else value) else (if nat_lt k leaf then value else leaf_value))
       (ne_eqb (min k leaf) leaf (λ e. omega arith))
@@ -49,13 +49,12 @@ value_of_two k value leaf leaf_value apart = elim (cases_lt k leaf) [
 side_of_two : (middle k leaf : ℕ) → nat_le middle leaf ≡ nat_le middle k → nat_le middle (max k leaf) ≡ nat_le middle k
 side_of_two middle k leaf e = grind (arith, nat_tests)
 
--- a worker stands at a leaf of another key below a parent that it saw
+-- a worker stands at a leaf below a parent that it saw
 pub record InsertSeen (w : Words) (stage : Stages) (v : Worker) (k leaf : ℕ) (parent : Seen) : Type 0 where
   pub words : WordsAreSound w stage
   pub stand : StandIsSound w stage v k leaf
   pub outer : IsLeaf leaf
   pub seen : SeenIsSound w stage k parent leaf
-  pub absent : w.key leaf ≢ k
   pub real : k ≤ greatest_key
 
 module _ (w : Words) (stage : Stages) (v : Worker) (k value leaf : ℕ) (parent : Seen)
@@ -91,11 +90,11 @@ module _ (w : Words) (stage : Stages) (v : Worker) (k value leaf : ℕ) (parent 
   parent_key = ap after.key filled.p ∙ key_kept w after stage IClaimed claiming parent.node h.seen.node.born
 
   own_key : insert_key after w.next ≡ k
-  own_key = (λ t. key_of_three (filled.left_key t) (filled.right_key t) (leaf_key t)) ∙ own_of_two k (w.key leaf) h.absent
+  own_key = (λ t. key_of_three (filled.left_key t) (filled.right_key t) (leaf_key t)) ∙ own_of_two k (w.key leaf)
 
   own_value : insert_value after w.next ≡ value
   own_value = (λ t. if filled.left_key t == leaf_key t then filled.right_value t else filled.left_value t)
-      ∙ value_of_two k value (w.key leaf) (w.value leaf) h.absent
+      ∙ value_of_two k value (w.key leaf) (w.value leaf)
 
   side_is : insert_side after w.next ≡ is_right w parent.node k
   side_is = (λ t. nat_le (parent_key t) (filled.key t)) ∙ side_of_two (w.key parent.node) k (w.key leaf) h.seen.side
@@ -118,9 +117,9 @@ module _ (w : Words) (stage : Stages) (v : Worker) (k value leaf : ℕ) (parent 
     });
     above = let a = h.seen.less in let p = filled.p in let l = filled.l in omega arith;
     before = let a = earlier_node w stage h.words leaf h.stand.born in let l = filled.l in omega arith;
-    ordered = let n = h.absent in let a = filled.left_key in let b = filled.right_key in omega arith;
+    ordered = let a = filled.left_key in let b = filled.right_key in omega arith;
     node_key = filled.key ∙ sym filled.right_key;
-    copy = elim (copy_of_two k value (w.key leaf) (w.value leaf) h.absent) [
+    copy = elim (copy_of_two k value (w.key leaf) (w.value leaf)) [
       | inl e ↦ inl (record { key = filled.left_key ∙ (e.0 ∙ sym leaf_key); value = filled.left_value ∙ (e.1 ∙ sym leaf_value) })
       | inr e ↦ inr (record { key = filled.right_key ∙ (e.0 ∙ sym leaf_key); value = filled.right_value ∙ (e.1 ∙ sym leaf_value) })
     ];
@@ -140,10 +139,16 @@ module _ (w : Words) (stage : Stages) (v : Worker) (k value leaf : ℕ) (parent 
     blank = λ e. absurd (false≢true (sym e ∙ ap is_claimed at_stage));
   }
 
+  -- the card adds its key, or replaces the leaf
+  putting : (was : Option ℕ) → HasPlace k was (w.key leaf) (w.value leaf) → IsPutting after w.next was
+  putting None takes = let a = filled.left_key in let b = filled.right_key in omega arith
+  putting (Some was) takes = (let a = filled.left_key in let b = filled.right_key in let e = takes.0 in omega arith, leaf_value ∙ takes.1)
+
   -- the claimer, that still stands there, has it in hand
   pub insert_in_hand : (u : Worker) → u.search.node ≡ Some leaf → u.search.parent ≡ Some parent → IsClean parent.word
-      → InsertInHand after stages u k value w.next
-  insert_in_hand u stands behind calm = record {
+      → (was : Option ℕ) → HasPlace k was (w.key leaf) (w.value leaf)
+      → InsertInHand after stages u (record { key = k; value = value; was = was }) w.next
+  insert_in_hand u stands behind calm was takes = record {
     parent = parent;
     claimed = (ap is_insert at_stage, ap insert_won at_stage);
     stands = stands ∙ ap Some (sym filled.l);
@@ -153,4 +158,5 @@ module _ (w : Words) (stage : Stages) (v : Worker) (k value leaf : ℕ) (parent 
     earlier = earlier_word w stage h.words parent.node parent.word h.seen.node h.seen.word;
     own = own_key;
     own_value = own_value;
+    kind = putting was takes;
   }

@@ -3,7 +3,7 @@ use Rattle.std.proofs.lemmas.Bool.{cases_eq}
 use Rattle.ell_word.specs.Node.{IsInternal, right_leaf}
 use Rattle.ell_word.specs.Word.{unpacked}
 use Rattle.ell_core.specs.state.Words.{Words, put}
-use Rattle.ell_core.specs.history.Stages.{Stage, Stages, is_claimed, is_insert, is_delete, is_born, insert_open, delete_open, is_marked, Born, IClaimed, DClaimed, insert_won, delete_won}
+use Rattle.ell_core.specs.history.Stages.{Stage, Stages, is_claimed, is_insert, is_delete, is_node_born, insert_open, delete_open, is_marked, Born, IClaimed, DClaimed, insert_won, delete_won}
 use Rattle.ell_core.specs.tree.Tree.{infinity1}
 use Rattle.ell_core.specs.history.Invariant.{top, CardIsSound, ChildrenAreSound, UpdateIsSound, TreeIsSound, WordsAreSound, InsertStage, DeleteStage, insert_side, delete_side}
 use Rattle.ell_core.proofs.words.Writes.{put_other, put_same}
@@ -14,7 +14,7 @@ use Rattle.ell_core.proofs.keeping.claim.Filling.{others_say}
 use Rattle.ell_core.proofs.keeping.going_on.Cards.{GoesOn, card_on}
 use Rattle.ell_core.proofs.keeping.going_on.Stages.{no_insert, no_delete, insert_stage_on, delete_stage_on}
 use Rattle.ell_core.proofs.stages.Order.{insert_open-insert, delete_open-delete, insert_waits-insert, delete_waits-delete}
-use Rattle.ell_core.proofs.stages.LaterKeys.{root_born}
+use Rattle.ell_core.proofs.stages.LaterKeys.{root_born, start_there}
 
 module _ (w after : Words) (stage : Stages) (new : Stage) (h : Claiming w after stage new) where
   -- the stages after the claim
@@ -109,7 +109,7 @@ module _ (w after : Words) (stage : Stages) (new : Stage) (h : Claiming w after 
         (key_kept w after stage new h) (child_kept w after stage new h) old.ordered;
     root_key = key_kept w after stage new h 0 zero_born ∙ old.root_key;
     root_right = child_kept w after stage new h 0 true zero_born ∙ old.root_right;
-    right_key = key_kept w after stage new h (right_leaf 0) zero_born ∙ old.right_key;
+    right_key = key_kept w after stage new h (right_leaf 0) (start_there w stage h.words (right_leaf 0) refl) ∙ old.right_key;
     last = let there = leads_some w infinity1 old.last in leads_any after infinity1 there.0 0 (leads_kept w after stage new h infinity1 there.0 0 zero_born there.1);
     there = λ x inner born calm. (let was_born = born_before w after stage new h x born in
         in_kept w after stage new h x
@@ -119,7 +119,7 @@ module _ (w after : Words) (stage : Stages) (new : Stage) (h : Claiming w after 
   -- all words after a claim are sound, if the claimed card is
   pub words_kept : CardIsSound after stages w.next → WordsAreSound after stages
   words_kept own = record {
-    opening = put_other stage w.next new 0 (another w after stage new h is_born refl 0 (root_born w stage h.words))
+    opening = put_other stage w.next new 0 (another w after stage new h (λ s. is_node_born s 0) refl 0 (root_born w stage h.words))
         ∙ h.words.opening;
     cards = λ c. elim (cases_eq c w.next) [
       | inl e ↦ subst (CardIsSound after stages) (sym e) own

@@ -1,7 +1,7 @@
 use Rattle.std.proofs.Common.{◌≡◌, ℕ, Some, inr, refl, sym, ap, ◌∙◌}
 use Rattle.std.proofs.lemmas.Bool.{false≢true}
 use Rattle.ell_ops.specs.declared.op.Op.{Op}
-use Rattle.ell_ops.specs.declared.op.Op.TheVariants.{Find, Insert, Delete}
+use Rattle.ell_ops.specs.declared.op.Op.TheVariants.{Find, Insert, Delete, Swap}
 use Rattle.ell_ops.specs.Meaning.{key_of}
 use Rattle.ell_core.specs.state.Words.{Words}
 use Rattle.ell_core.specs.state.Machine.{Worker, Machine}
@@ -19,6 +19,7 @@ marked_own : (w : Words) (stage : Stages) (c : ℕ) → stage c ≡ DMarked → 
     → (key_of op ≡ delete_key w c) × (made_by_stage op DCut ≡ Some Absent)
 marked_own w stage c now v (Find k) h = absurd h
 marked_own w stage c now v (Insert k value) h = absurd (false≢true (ap insert_won (sym now) ∙ h.0))
+marked_own w stage c now v (Swap k was value) h = absurd (false≢true (ap insert_won (sym now) ∙ h.0))
 marked_own w stage c now v (Delete k) h = (sym h.1, refl)
 
 -- the workers are sound after the exchange, which settles the card's key as absent

@@ -1,4 +1,4 @@
-use Rattle.std.proofs.Common.{◌≡◌, ℕ, ◌<◌, ◌≤◌, ◌↔◌, nat_le, Bool, true, false, inl, inr, refl, sym, ◌∙◌, subst, arith}
+use Rattle.std.proofs.Common.{◌≡◌, ℕ, ◌%◌, ◌<◌, ◌≤◌, ◌↔◌, nat_le, Bool, true, false, inl, inr, refl, sym, ◌∙◌, subst, arith}
 use Rattle.std.proofs.lemmas.Bool.{false≢true}
 use Rattle.ell_ops.specs.Meaning.{greatest_key}
 use Rattle.ell_word.specs.Node.{card, internal, left_leaf, right_leaf}
@@ -8,7 +8,7 @@ use Rattle.ell_core.specs.acts.Searching.{IsClean}
 use Rattle.ell_core.specs.history.Stages.{Stages, is_claimed, is_insert, is_delete, is_born, Born}
 use Rattle.ell_core.specs.history.Invariant.{IsOut, IsOnCourse, insert_side, IsInnerBorn, IsLeafBorn, InsertCard, DeleteCard, CardIsSound, WordsAreSound}
 use Rattle.ell_core.specs.history.Later.{SaysTheSame, WordsLater, StagesLater}
-use Rattle.ell_core.proofs.stages.Order.{unclaimed-unborn, delete-unborn}
+use Rattle.ell_core.proofs.stages.Order.{unclaimed-unborn, delete-unborn, inner-born, all-born}
 use Rattle.ell_core.proofs.stages.LaterKeys.{insert_info, insert_node_key, insert_parent_key, insert_leaf_key, insert_node_value, insert_leaf_value, insert_key_later, delete_info, delete_key_later, insert_child_later}
 
 -- a node has an update word that it had, and the children that it had
@@ -50,7 +50,9 @@ module _ (old new : Words) (stage stages : Stages) (h : GoesOn old new stage sta
     where
       born_on : is_born (stage c) ≡ true → is_born (stages c) ≡ true
       born_on e = let same : card (internal c) ≡ c = omega arith in
-          subst (λ n. is_born (stages n) ≡ true) same (h.later.born (internal c) (subst (λ n. is_born (stage n) ≡ true) (sym same) e))
+          subst (λ n. is_born (stages n) ≡ true) same
+          (inner-born (stages (card (internal c))) (internal c % 3) (omega arith)
+          (h.later.born (internal c) (all-born (stage (card (internal c))) (internal c % 3) (subst (λ n. is_born (stage n) ≡ true) (sym same) e))))
 
       by : (b : Bool) → is_born (stage c) ≡ b → b ≡ false
       by true e = absurd (false≢true (sym out ∙ born_on e))

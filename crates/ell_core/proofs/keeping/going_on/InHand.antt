@@ -1,12 +1,13 @@
-use Rattle.std.proofs.Common.{◌≡◌, ℕ, ◌≤◌, true, Some, refl, sym, ap, ◌∙◌, false, ◌≢◌, ◌⊎◌, subst}
+use Rattle.std.proofs.Common.{◌≡◌, ℕ, ◌<◌, ◌≤◌, true, Option, Some, None, refl, sym, ap, ◌∙◌, false, ◌≢◌, ◌⊎◌, subst}
 use Rattle.ell_ops.specs.declared.op.Op.{Op}
-use Rattle.ell_ops.specs.declared.op.Op.TheVariants.{Find, Insert, Delete}
+use Rattle.ell_word.specs.Node.{left_leaf, right_leaf}
+use Rattle.ell_ops.specs.declared.op.Op.TheVariants.{Find, Insert, Delete, Swap}
 use Rattle.ell_core.specs.declared.fact.Fact.TheVariants as fact
 use Rattle.ell_core.specs.declared.view.Search.{Search}
 use Rattle.ell_core.specs.state.Words.{Words}
 use Rattle.ell_core.specs.state.Machine.{Worker}
 use Rattle.ell_core.specs.history.Stages.{Stages, is_insert, is_delete, insert_won, delete_won, is_claimed}
-use Rattle.ell_core.specs.history.Invariant.{insert_key, insert_value, delete_key, StandIsSound, Unflagged, Flagged, WorkerIsSound}
+use Rattle.ell_core.specs.history.Invariant.{insert_key, insert_value, delete_key, StandIsSound, IsPutting, Unflagged, Flagged, WorkerIsSound}
 use Rattle.ell_core.specs.history.Later.{SameInfo, StagesLater}
 use Rattle.ell_core.proofs.stages.Order.{insert_won-insert, delete_won-delete, insert-claimed, delete-claimed, insert_not_won, delete_not_won}
 
@@ -24,12 +25,14 @@ same_place search = record { node = refl; parent = refl; grandparent = refl }
 pub record SameGoal (old new : Words) (stage : Stages) (c : ℕ) : Type 0 where
   pub insert : is_insert (stage c) ≡ true → SameInfo old new c × (insert_key new c ≡ insert_key old c) × (insert_value new c ≡ insert_value old c)
   pub delete : is_delete (stage c) ≡ true → SameInfo old new c × (delete_key new c ≡ delete_key old c)
+  pub kind : is_insert (stage c) ≡ true → (was : Option ℕ) → IsPutting old c was → IsPutting new c was
 
 -- in the same words it does
 pub same_goal : (w : Words) (stage : Stages) (c : ℕ) → SameGoal w w stage c
 same_goal w stage c = record {
   insert = λ h. (record { gp = refl; p = refl; l = refl; was = refl }, refl, refl);
   delete = λ h. (record { gp = refl; p = refl; l = refl; was = refl }, refl);
+  kind = λ h was is. is;
 }
 
 -- a card in hand that is not flagged was claimed
@@ -37,6 +40,7 @@ pub unflagged_claimed : (w : Words) (stage : Stages) (v : Worker) (op : Op) (c :
     → is_claimed (stage c) ≡ true
 unflagged_claimed w stage v (Find k) c h = absurd h
 unflagged_claimed w stage v (Insert k value) c h = insert-claimed (stage c) h.claimed.0
+unflagged_claimed w stage v (Swap k was value) c h = insert-claimed (stage c) h.claimed.0
 unflagged_claimed w stage v (Delete k) c h = delete-claimed (stage c) h.claimed.0
 
 -- the card that a worker has in hand without its flag is another one
@@ -49,6 +53,7 @@ won_not_unflagged : (w : Words) (stage : Stages) (v : Worker) (op : Op) (c : ℕ
     → Unflagged w stage v op c → ⊥
 won_not_unflagged w stage v (Find k) c won h = h
 won_not_unflagged w stage v (Insert k value) c won h = insert_not_won (stage c) h.claimed.0 h.claimed.1 won
+won_not_unflagged w stage v (Swap k was value) c won h = insert_not_won (stage c) h.claimed.0 h.claimed.1 won
 won_not_unflagged w stage v (Delete k) c won h = delete_not_won (stage c) h.claimed.0 h.claimed.1 won
 
 -- no worker has a card in hand without its flag whose flag was won
@@ -72,6 +77,19 @@ module _ (old new : Words) (stage stages : Stages) (v u : Worker) where
     earlier = h.earlier;
     own = same.1 ∙ h.own;
     own_value = same.2 ∙ h.own_value;
+    kind = goal.kind h.claimed.0 None h.kind;
+  }
+  unflagged_same (Swap k was value) c at goal place h = let same = goal.insert h.claimed.0 in record {
+    parent = h.parent;
+    claimed = (ap is_insert at ∙ h.claimed.0, ap insert_won at ∙ h.claimed.1);
+    stands = place.node ∙ (h.stands ∙ ap Some (sym same.0.l));
+    behind = place.parent ∙ h.behind;
+    node = h.node ∙ sym same.0.p;
+    calm = h.calm;
+    earlier = h.earlier;
+    own = same.1 ∙ h.own;
+    own_value = same.2 ∙ h.own_value;
+    kind = goal.kind h.claimed.0 (Some was) h.kind;
   }
   unflagged_same (Delete k) c at goal place h = let same = goal.delete h.claimed.0 in record {
     parent = h.parent;
@@ -97,6 +115,14 @@ module _ (old new : Words) (stage stages : Stages) (v u : Worker) where
     (goal.insert (insert_won-insert (stage c) h.0)).1 ∙ h.1,
     (goal.insert (insert_won-insert (stage c) h.0)).2 ∙ h.2,
     λ owns. ap (λ f. f k) same ∙ h.3 (λ none. owns (ap (λ f. f k) same ∙ none)),
+    goal.kind (insert_won-insert (stage c) h.0) None h.4,
+  )
+  flagged_same (Swap k was value) c later goal same h = (
+    later.told (fact.IFlagged c) c h.0,
+    (goal.insert (insert_won-insert (stage c) h.0)).1 ∙ h.1,
+    (goal.insert (insert_won-insert (stage c) h.0)).2 ∙ h.2,
+    λ owns. ap (λ f. f k) same ∙ h.3 (λ none. owns (ap (λ f. f k) same ∙ none)),
+    goal.kind (insert_won-insert (stage c) h.0) (Some was) h.4,
   )
   flagged_same (Delete k) c later goal same h = (
     later.told (fact.DFlagged c) c h.0,

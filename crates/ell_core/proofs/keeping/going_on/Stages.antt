@@ -1,12 +1,13 @@
-use Rattle.std.proofs.Common.{◌≡◌, ℕ, ◌==◌, if◌then◌else◌, Bool, true, false, inl, inr, sym, ap, ◌∙◌, subst, arith}
+use Rattle.std.proofs.Common.{◌≡◌, ℕ, ◌==◌, if◌then◌else◌, Bool, true, false, not, inl, inr, sym, ap, ◌∙◌, subst, arith}
+use Rattle.ell_word.specs.Node.{card, left_leaf, right_leaf}
 use Rattle.ell_core.specs.state.Words.{Words}
 use Rattle.ell_core.specs.state.Cards.{exchange_side, sibling}
-use Rattle.ell_core.specs.history.Stages.{Stages, is_delete, insert_won, insert_open, insert_over, insert_waits, is_changed, delete_won, delete_open, delete_past, delete_waits, is_markable, is_unmarkable, is_marked, is_cut, Born}
+use Rattle.ell_core.specs.history.Stages.{Stages, is_born, is_delete, insert_won, insert_open, insert_over, insert_waits, is_changed, delete_won, delete_open, delete_past, delete_waits, is_markable, is_unmarkable, is_marked, is_cut, Born}
 use Rattle.ell_core.specs.history.Invariant.{IsOut, IsOnCourse, insert_key, insert_side, delete_side, leaf_side, DeleteCard, InsertStage, Markable, IsMarked, IsCut, DeleteStage}
 use Rattle.ell_core.specs.history.Later.{SameInfo}
 use Rattle.ell_core.proofs.words.Sides.{sibling_cases}
 use Rattle.ell_core.proofs.stages.Order.{insert_open-insert, insert_over-insert, insert_waits-insert, changed-insert, delete_open-delete, delete_past-delete, delete_waits-delete, markable-delete, unmarkable-delete, marked-delete, cut-delete}
-use Rattle.ell_core.proofs.stages.LaterKeys.{insert_info, insert_key_later, insert_child_later, delete_info, delete_side_later, top_child_later, leaf_child_later, key_later, side_later}
+use Rattle.ell_core.proofs.stages.LaterKeys.{insert_info, insert_node_key, insert_key_later, insert_child_later, delete_info, delete_side_later, top_child_later, leaf_child_later, key_later, side_later}
 use Rattle.ell_core.proofs.keeping.going_on.Cards.{GoesOn}
 
 -- the stage of a card without an insert's won flag says nothing of an insert
@@ -17,6 +18,7 @@ no_insert w stage c h = record {
   waits = λ g. absurd (grind arith);
   course = λ g. absurd (grind arith);
   changed = λ g. absurd (grind arith);
+  brings = λ g. absurd (grind arith);
 }
 
 -- the stage of a card without a delete's won flag says nothing of a delete
@@ -39,6 +41,7 @@ insert_stage_same w old new c e k = record {
   waits = λ h. k.waits (ap insert_waits e ∙ h);
   course = λ h. k.course (ap insert_waits e ∙ h);
   changed = λ h. k.changed (ap is_changed e ∙ h);
+  brings = λ h. ap is_born (sym e) ∙ k.brings (ap is_changed e ∙ h);
 }
 
 -- what a delete's stage says, with the same stage of the card
@@ -77,6 +80,10 @@ module _ (old new : Words) (stage stages : Stages) (h : GoesOn old new stage sta
         changed = λ e. (let g = ap is_changed (sym at) ∙ e in let kind = changed-insert (stage c) g in
             let less = was.changed g in let up = h.words.child (old.p c) (insert_side old c) in
             let same = insert_child_later old new stage h.sound h.words c kind in let l = (info kind).l in omega arith);
+        brings = λ e. (let g = ap is_changed (sym at) ∙ e in let kind = changed-insert (stage c) g in
+            let left = insert_node_key old new stage h.sound h.words c kind (left_leaf c) (omega arith) in
+            let right = insert_node_key old new stage h.sound h.words c kind (right_leaf c) (omega arith) in
+            ap is_born at ∙ (was.brings g ∙ (λ t. not (sym left t == sym right t))));
       }
 
   module _ (c : ℕ) (deletes : is_delete (stage c) ≡ true) where

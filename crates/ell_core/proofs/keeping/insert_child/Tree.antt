@@ -1,22 +1,21 @@
-use Rattle.std.proofs.Common.{◌≡◌, ◌≢◌, ℕ, ◌<◌, ◌≤◌, ◌==◌, ◌↔◌, if◌then◌else◌, Bool, true, false, nat_le, inl, inr, ◌⊎◌, refl, sym, ap, ◌∙◌, subst, arith}
+use Rattle.std.proofs.Common.{◌≡◌, ◌≢◌, ℕ, ◌%◌, ◌<◌, ◌≤◌, ◌==◌, ◌↔◌, if◌then◌else◌, Bool, true, false, not, nat_le, inl, inr, ◌⊎◌, refl, sym, ap, ◌∙◌, subst, arith}
 use Rattle.std.proofs.lemmas.Bool.{cases_eq, false≢true, eq-eqb, ne_eqb}
 use Rattle.std.proofs.lemmas.Bool.Decides.{nat_tests}
 use Rattle.ell_word.specs.Node.{IsInternal, card, internal, left_leaf, right_leaf}
-use Rattle.ell_core.specs.state.Words.{Words, with_child}
-use Rattle.ell_core.specs.state.Cards.{iflag, marked, is_right}
-use Rattle.ell_core.specs.tree.Ranges.{Spans, goes, IsOrdered, Relinked, low_of, high_of}
-use Rattle.ell_core.specs.history.Stages.{Stages, IFlagged, is_insert, is_born, insert_open, insert_waits, Born}
-use Rattle.ell_core.specs.history.Invariant.{top, IsIn, IsOut, LeadsTo, LeadsToValue, IsOnCourse, insert_key, insert_value, insert_side, InsertCard, Unborn, WordsAreSound}
-use Rattle.ell_core.proofs.words.Later.{child_there, child_elsewhere}
-use Rattle.ell_core.proofs.tree.Bounds.{side_within}
-use Rattle.ell_core.proofs.tree.OneRange.{unique}
+use Rattle.ell_core.specs.state.Words.{Words}
+use Rattle.ell_core.specs.state.Cards.{is_replace_card, clean}
+use Rattle.ell_core.specs.tree.Ranges.{Spans, goes, IsOrdered, low_of, high_of}
+use Rattle.ell_core.specs.history.Stages.{Stages, IFlagged, IChanged, is_node_born, Born}
+use Rattle.ell_core.specs.history.Invariant.{top, IsIn, IsOut, LeadsTo, LeadsToValue, IsOnCourse, insert_key, insert_value, insert_side, InsertCard, Unborn, ChildrenAreSound, WordsAreSound}
+use Rattle.ell_core.proofs.words.Writes.{put_same}
 use Rattle.ell_core.proofs.tree.Reached.{leads_any, one_value}
 use Rattle.ell_core.proofs.tree.Inserts.{Inserts, Spans-stays, IsOrdered-insert, Meets-inserted, Meets-before, Meets-new, absent_before}
-use Rattle.ell_core.proofs.tree.Courses.{OnCourse-range, OnCourse-insert, stays_out}
+use Rattle.ell_core.proofs.tree.Courses.{OnCourse-insert, stays_out}
+use Rattle.ell_core.proofs.keeping.insert_child.Card.{Brings, NewInner, ichild_words, ichild_stages, its_card, its_nodes, its_child, its_relinks, parent_in, key_range, leaf_range, closed, not_born}
 
--- the words after the child exchange of an insert
-abbrev pub ichild_words : Words → ℕ → Words
-ichild_words w c = with_child w (w.p c) (insert_side w c) (internal c)
+-- numbers in order that are not one
+strictly : (a b : ℕ) → a ≤ b → (a == b) ≡ false → a < b
+strictly a b least two = grind (arith, nat_tests)
 
 -- the lesser and the greater leaf key of a card: one is the old leaf's, the other the card's own
 pub leaf_keys : (a b old k : ℕ) → a < b → (a ≡ old) ⊎ (b ≡ old) → k ≡ (if a == old then b else a)
@@ -34,88 +33,47 @@ to_its_leaf key_at a b middle z on_left on_right greater less one true test =
 to_its_leaf key_at a b middle z on_left on_right greater less one false test =
     let o : z < middle = grind (arith, nat_tests) in omega arith
 
--- a key that is one of two on the same side of a node is on that side
-pub same_side : (at k old middle : ℕ) → nat_le at k ≡ nat_le at old → (middle ≡ k) ⊎ (middle ≡ old)
-    → nat_le at k ≡ nat_le at middle
-same_side at k old middle same (inl e) = ap (nat_le at) (sym e)
-same_side at k old middle same (inr e) = same ∙ ap (nat_le at) (sym e)
+-- the card's leaf keys are two: it adds a key
+module _ (w : Words) (stage : Stages) (sound : WordsAreSound w stage) (c : ℕ) (flagged : stage c ≡ IFlagged) (two : is_replace_card w c ≡ false) where
+  abbrev card_said : InsertCard w stage c
+  card_said = its_card w stage sound c flagged
 
-module _ (w : Words) (stage : Stages) (sound : WordsAreSound w stage) (c : ℕ) (flagged : stage c ≡ IFlagged) where
-  -- the card says where it goes
-  pub its_card : InsertCard w stage c
-  its_card = (sound.cards c).insert (ap is_insert flagged)
+  abbrev nodes_said : Unborn w c
+  nodes_said = its_nodes w stage sound c flagged
 
-  -- its nodes are as they were filled
-  pub its_nodes : Unborn w c
-  its_nodes = (sound.cards c).unborn (ap is_insert flagged) (ap is_born flagged)
+  abbrev node_words : Words
+  node_words = ichild_words w c (internal c)
 
-  -- its flag stands
-  pub its_flag : w.update (w.p c) ≡ iflag c
-  its_flag = (sound.inserts c).flag (ap insert_open flagged)
-
-  -- the child is still the leaf
-  pub its_child : w.child (w.p c) (insert_side w c) ≡ w.l c
-  its_child = (sound.inserts c).waits (ap insert_waits flagged)
-
-  -- its parent has no mark
-  pub no_mark : (d : ℕ) → w.update (w.p c) ≢ marked d
-  no_mark d h = let e = its_flag in omega arith
-
-  -- its parent is in the tree
-  pub parent_in : IsIn w (w.p c)
-  parent_in = sound.tree.there (w.p c) its_card.parent.inner its_card.parent.born no_mark
+  -- the leaf keys are in order
+  its_order : w.key (left_leaf c) < w.key (right_leaf c)
+  its_order = strictly (w.key (left_leaf c)) (w.key (right_leaf c)) card_said.ordered two
 
   -- which leaf key is whose
   pub its_keys : ((w.key (left_leaf c) ≡ w.key (w.l c)) × (w.key (right_leaf c) ≡ insert_key w c))
       ⊎ ((w.key (left_leaf c) ≡ insert_key w c) × (w.key (right_leaf c) ≡ w.key (w.l c)))
   its_keys =
       leaf_keys (w.key (left_leaf c)) (w.key (right_leaf c)) (w.key (w.l c)) (insert_key w c)
-      its_card.ordered (elim its_card.copy [ inl left ↦ inl left.key | inr right ↦ inr right.key ]) refl
+      its_order (elim card_said.copy [ inl left ↦ inl left.key | inr right ↦ inr right.key ]) refl
 
   -- its own key is not the old leaf's
   pub key_differs : w.key (w.l c) ≢ insert_key w c
-  key_differs e = let less = its_card.ordered in elim its_keys [ inl h ↦ omega arith | inr h ↦ omega arith ]
-
-  -- the card's key goes to the side where its node is put
-  pub key_side : is_right w (w.p c) (insert_key w c) ≡ insert_side w c
-  key_side = same_side (w.key (w.p c)) (insert_key w c) (w.key (w.l c)) (w.key (internal c)) its_card.side
-      (elim its_keys [ inl h ↦ inl (its_card.node_key ∙ h.1) | inr h ↦ inr (its_card.node_key ∙ h.1) ])
-
-  -- the card's key lies in the range of its side of the parent
-  key_range : (low high : ℕ) → Spans w.key w.child top (w.p c) low high
-      → (low_of (insert_side w c) low (w.key (w.p c)) ≤ insert_key w c)
-      × (insert_key w c < high_of (insert_side w c) high (w.key (w.p c)))
-  key_range low high there =
-      let course = (sound.inserts c).course (ap insert_waits flagged) in
-      let range = OnCourse-range w.key w.child top sound.tree.ordered course there in
-      side_within w.key w.child top sound.tree.ordered (w.key (w.p c)) (insert_key w c) low high
-      (insert_side w c) key_side range.0 range.1
-
-  -- it lies in the range of the leaf
-  leaf_range : (low high : ℕ) → Spans w.key w.child top (w.l c) low high
-      → (low ≤ insert_key w c) × (insert_key w c < high)
-  leaf_range low high leaf_in =
-      let there = parent_in in
-      let range = key_range there.low there.high there.spans in
-      let same = unique w.key w.child top sound.tree.ordered leaf_in
-      (goes (insert_side w c) there.spans its_card.parent.inner (sym its_child) refl refl) in
-      (omega arith, omega arith)
+  key_differs e = let less = its_order in elim its_keys [ inl h ↦ omega arith | inr h ↦ omega arith ]
 
   -- the children of the new node are the card's leaves
   new_child : (right : Bool) → (w.child (internal c) right ≡ left_leaf c) ⊎ (w.child (internal c) right ≡ right_leaf c)
-  new_child false = inl its_nodes.left
-  new_child true = inr its_nodes.right
+  new_child false = inl nodes_said.left
+  new_child true = inr nodes_said.right
 
   -- whose keys are the old leaf's and the card's own
   new_keys : (right : Bool)
       → (w.key (w.child (internal c) right) ≡ w.key (w.l c)) ⊎ (w.key (w.child (internal c) right) ≡ insert_key w c)
   new_keys false = elim its_keys [
-    | inl h ↦ inl (ap w.key its_nodes.left ∙ h.0)
-    | inr h ↦ inr (ap w.key its_nodes.left ∙ h.0)
+    | inl h ↦ inl (ap w.key nodes_said.left ∙ h.0)
+    | inr h ↦ inr (ap w.key nodes_said.left ∙ h.0)
   ]
   new_keys true = elim its_keys [
-    | inl h ↦ inr (ap w.key its_nodes.right ∙ h.1)
-    | inr h ↦ inl (ap w.key its_nodes.right ∙ h.1)
+    | inl h ↦ inr (ap w.key nodes_said.right ∙ h.1)
+    | inr h ↦ inl (ap w.key nodes_said.right ∙ h.1)
   ]
 
   -- the walk for such a key goes to the leaf of that key
@@ -123,30 +81,23 @@ module _ (w : Words) (stage : Stages) (sound : WordsAreSound w stage) (c : ℕ) 
       → w.key (w.child (internal c) (nat_le (w.key (internal c)) z)) ≡ z
   goes_to z one =
       to_its_leaf (λ right. w.key (w.child (internal c) right)) (w.key (left_leaf c)) (w.key (right_leaf c))
-      (w.key (internal c)) z (ap w.key its_nodes.left) (ap w.key its_nodes.right)
-      its_card.node_key its_card.ordered one (nat_le (w.key (internal c)) z) refl
-
-  -- the parent's child is the card's node now, and no other child changed
-  pub its_relinks : Relinked w.child (ichild_words w c).child (w.p c) (insert_side w c) (internal c)
-  its_relinks = record {
-    there = child_there w (w.p c) (internal c) (insert_side w c);
-    others = child_elsewhere w (w.p c) (internal c) (insert_side w c);
-  }
+      (w.key (internal c)) z (ap w.key nodes_said.left) (ap w.key nodes_said.right)
+      card_said.node_key its_order one (nat_le (w.key (internal c)) z) refl
 
   -- what the exchange does to the tree
   pub its_shape :
-      Inserts w.key w.child (ichild_words w c).child top (w.p c) (insert_side w c) (w.l c) (internal c) (insert_key w c)
+      Inserts w.key w.child node_words.child top (w.p c) (insert_side w c) (w.l c) (internal c) (insert_key w c)
   its_shape =
-      let a = ap w.key its_nodes.left in
-      let b = ap w.key its_nodes.right in
-      let less = its_card.ordered in
-      let greater = its_card.node_key in
-      let above = its_card.above in
-      let before = its_card.before in
+      let a = ap w.key nodes_said.left in
+      let b = ap w.key nodes_said.right in
+      let less = its_order in
+      let greater = card_said.node_key in
+      let above = card_said.above in
+      let before = card_said.before in
       record {
-        relinks = its_relinks;
-        was = its_child;
-        leaf = its_card.leaf.outer;
+        relinks = its_relinks w stage sound c flagged (internal c);
+        was = its_child w stage sound c flagged;
+        leaf = card_said.leaf.outer;
         node = omega arith;
         leaves = λ right. elim (new_child right) [ inl e ↦ (λ h. omega arith) | inr e ↦ (λ h. omega arith) ];
         apart = λ h. omega arith;
@@ -157,89 +108,81 @@ module _ (w : Words) (stage : Stages) (sound : WordsAreSound w stage) (c : ℕ) 
         old_key = goes_to (w.key (w.l c)) (elim its_keys [ inl h ↦ inl (sym h.0) | inr h ↦ inr (sym h.1) ]);
         new_key = goes_to (insert_key w c) (elim its_keys [ inl h ↦ inr (sym h.1) | inr h ↦ inl (sym h.0) ]);
         only = new_keys;
-        leads = leaf_range;
+        leads = leaf_range w stage sound c flagged;
       }
 
   -- the tree is in order afterwards
-  pub ordered_after : IsOrdered w.key (ichild_words w c).child top
+  pub ordered_after : IsOrdered w.key node_words.child top
   ordered_after =
-      IsOrdered-insert w.key w.child (ichild_words w c).child top (w.p c) (insert_side w c) (w.l c) (internal c)
+      IsOrdered-insert w.key w.child node_words.child top (w.p c) (insert_side w c) (w.l c) (internal c)
       (insert_key w c) its_shape sound.tree.ordered
 
-  -- the children of what came into the tree came too
-  closed : (x : ℕ) (right : Bool) → IsInternal x → Born stage x → Born stage (w.child x right)
-  closed x right inner born = (sound.children x inner born).born right
-
-  -- none of the card's nodes came into the tree before
-  pub not_born : (x : ℕ) → card x ≡ c → ¬ Born stage x
-  not_born x e born = false≢true (sym (ap is_born flagged) ∙ (ap (λ d. is_born (stage d)) (sym e) ∙ born))
-
   not_node : (x : ℕ) → Born stage x → x ≢ internal c
-  not_node x born e = not_born x (omega arith) born
+  not_node x born e = not_born w stage sound c flagged x (omega arith) born
 
   not_leaf : (x : ℕ) (right : Bool) → Born stage x → x ≢ w.child (internal c) right
   not_leaf x right born e = elim (new_child right) [
-    | inl h ↦ not_born x (omega arith) born
-    | inr h ↦ not_born x (omega arith) born
+    | inl h ↦ not_born w stage sound c flagged x (omega arith) born
+    | inr h ↦ not_born w stage sound c flagged x (omega arith) born
   ]
 
   -- a node on course for a key stays so
-  pub course_after : (k : ℕ) (x : ℕ) → Born stage x → IsOnCourse w k x → IsOnCourse (ichild_words w c) k x
+  pub course_after : (k : ℕ) (x : ℕ) → Born stage x → IsOnCourse w k x → IsOnCourse node_words k x
   course_after k x born course =
-      let there = parent_in in
-      OnCourse-insert w.key w.child top sound.tree.ordered (ichild_words w c).child (w.p c) (insert_side w c) (w.l c)
-      (internal c) (insert_key w c) its_shape there.low there.high there.spans its_card.parent.inner
-      (Born stage) closed not_node not_leaf its_card.leaf.born k born course
+      let there = (parent_in w stage sound c flagged) in
+      OnCourse-insert w.key w.child top sound.tree.ordered node_words.child (w.p c) (insert_side w c) (w.l c)
+      (internal c) (insert_key w c) its_shape there.low there.high there.spans card_said.parent.inner
+      (Born stage) (closed w stage sound c flagged) not_node not_leaf card_said.leaf.born k born course
 
   -- a node that was cut out stays so
-  pub out_after : (x : ℕ) → Born stage x → IsOut w x → IsOut (ichild_words w c) x
+  pub out_after : (x : ℕ) → Born stage x → IsOut w x → IsOut node_words x
   out_after x born out =
-      let there = parent_in in
-      stays_out w.key w.child top sound.tree.ordered (ichild_words w c).child (w.p c) (insert_side w c) (w.l c)
-      (internal c) (insert_key w c) its_shape there.low there.high there.spans its_card.parent.inner
-      (Born stage) closed not_node not_leaf its_card.leaf.born x born out
+      let there = (parent_in w stage sound c flagged) in
+      stays_out w.key w.child top sound.tree.ordered node_words.child (w.p c) (insert_side w c) (w.l c)
+      (internal c) (insert_key w c) its_shape there.low there.high there.spans card_said.parent.inner
+      (Born stage) (closed w stage sound c flagged) not_node not_leaf card_said.leaf.born x born out
 
   spans_still : {x low high : ℕ} → Spans w.key w.child top x low high
-      → (x ≡ w.l c) ⊎ Spans w.key (ichild_words w c).child top x low high
+      → (x ≡ w.l c) ⊎ Spans w.key node_words.child top x low high
   spans_still spans =
-      Spans-stays w.key w.child (ichild_words w c).child top (w.p c) (insert_side w c) (w.l c) (internal c)
+      Spans-stays w.key w.child node_words.child top (w.p c) (insert_side w c) (w.l c) (internal c)
       (insert_key w c) its_shape spans
 
   -- an internal node of the tree stays there
-  pub in_after : (x : ℕ) → IsInternal x → IsIn w x → IsIn (ichild_words w c) x
+  pub in_after : (x : ℕ) → IsInternal x → IsIn w x → IsIn node_words x
   in_after x inner place = elim (spans_still place.spans) [
-    | inl e ↦ absurd (its_card.leaf.outer (subst IsInternal e inner))
+    | inl e ↦ absurd (card_said.leaf.outer (subst IsInternal e inner))
     | inr spans ↦ record { low = place.low; high = place.high; spans = spans }
   ]
 
   -- the new internal node is in the tree
-  pub node_in : IsIn (ichild_words w c) (internal c)
+  pub node_in : IsIn node_words (internal c)
   node_in =
-      let place = in_after (w.p c) its_card.parent.inner parent_in in
+      let place = in_after (w.p c) card_said.parent.inner (parent_in w stage sound c flagged) in
       record {
         low = low_of (insert_side w c) place.low (w.key (w.p c));
         high = high_of (insert_side w c) place.high (w.key (w.p c));
-        spans = goes (insert_side w c) place.spans its_card.parent.inner (sym its_relinks.there) refl refl;
+        spans = goes (insert_side w c) place.spans card_said.parent.inner (sym (its_relinks w stage sound c flagged (internal c)).there) refl refl;
       }
 
   -- a leaf of the card that has the old leaf's key has its value
   copy_value : (right : Bool) → w.key (w.child (internal c) right) ≡ w.key (w.l c) → w.value (w.child (internal c) right) ≡ w.value (w.l c)
-  copy_value false same = ap w.value its_nodes.left ∙ elim its_card.copy [
+  copy_value false same = ap w.value nodes_said.left ∙ elim card_said.copy [
     | inl copy ↦ copy.value
-    | inr copy ↦ (let less = its_card.ordered in let at = ap w.key its_nodes.left in let has = copy.key in absurd (omega arith))
+    | inr copy ↦ (let less = its_order in let at = ap w.key nodes_said.left in let has = copy.key in absurd (omega arith))
   ]
-  copy_value true same = ap w.value its_nodes.right ∙ elim its_card.copy [
-    | inl copy ↦ (let less = its_card.ordered in let at = ap w.key its_nodes.right in let has = copy.key in absurd (omega arith))
+  copy_value true same = ap w.value nodes_said.right ∙ elim card_said.copy [
+    | inl copy ↦ (let less = its_order in let at = ap w.key nodes_said.right in let has = copy.key in absurd (omega arith))
     | inr copy ↦ copy.value
   ]
 
   -- and the one that has the card's key has the card's value
   new_value : (right : Bool) → w.key (w.child (internal c) right) ≡ insert_key w c → w.value (w.child (internal c) right) ≡ insert_value w c
-  new_value false same = ap w.value its_nodes.left ∙ sym (ap (λ t. if t then w.value (right_leaf c) else w.value (left_leaf c))
-      (ne_eqb (w.key (left_leaf c)) (w.key (w.l c)) (λ e. key_differs (sym e ∙ (sym (ap w.key its_nodes.left) ∙ same)))))
-  new_value true same = ap w.value its_nodes.right ∙ sym (ap (λ t. if t then w.value (right_leaf c) else w.value (left_leaf c)) (elim its_keys [
+  new_value false same = ap w.value nodes_said.left ∙ sym (ap (λ t. if t then w.value (right_leaf c) else w.value (left_leaf c))
+      (ne_eqb (w.key (left_leaf c)) (w.key (w.l c)) (λ e. key_differs (sym e ∙ (sym (ap w.key nodes_said.left) ∙ same)))))
+  new_value true same = ap w.value nodes_said.right ∙ sym (ap (λ t. if t then w.value (right_leaf c) else w.value (left_leaf c)) (elim its_keys [
     | inl h ↦ eq-eqb (w.key (left_leaf c)) (w.key (w.l c)) h.0
-    | inr h ↦ (let at = ap w.key its_nodes.right in let n = key_differs in absurd (n (sym h.1 ∙ (sym at ∙ same))))
+    | inr h ↦ (let at = ap w.key nodes_said.right in let n = key_differs in absurd (n (sym h.1 ∙ (sym at ∙ same))))
   ]))
 
   copies : (value : ℕ) (right : Bool) → w.key (w.child (internal c) right) ≡ w.key (w.l c)
@@ -247,48 +190,111 @@ module _ (w : Words) (stage : Stages) (sound : WordsAreSound w stage) (c : ℕ) 
   copies value right same = (λ e. sym (copy_value right same) ∙ e, λ e. copy_value right same ∙ e)
 
   -- every other key is met as before, with its value
-  pub leads_still : (k value x : ℕ) → k ≢ insert_key w c → LeadsToValue w k value x → LeadsToValue (ichild_words w c) k value x
+  pub leads_still : (k value x : ℕ) → k ≢ insert_key w c → LeadsToValue w k value x → LeadsToValue node_words k value x
   leads_still k value x other leads =
-      Meets-inserted w.key w.child (ichild_words w c).child top (w.p c) (insert_side w c) (w.l c) (internal c)
+      Meets-inserted w.key w.child node_words.child top (w.p c) (insert_side w c) (w.l c) (internal c)
       (insert_key w c) its_shape (copies value) k other leads
 
   -- and no further one
-  pub led_before : (k value x : ℕ) → k ≢ insert_key w c → LeadsToValue (ichild_words w c) k value x → LeadsToValue w k value x
+  pub led_before : (k value x : ℕ) → k ≢ insert_key w c → LeadsToValue node_words k value x → LeadsToValue w k value x
   led_before k value x other leads =
-      Meets-before w.key w.child (ichild_words w c).child top (w.p c) (insert_side w c) (w.l c) (internal c)
+      Meets-before w.key w.child node_words.child top (w.p c) (insert_side w c) (w.l c) (internal c)
       (insert_key w c) its_shape (copies value) k other leads
 
   -- the card's key is in the tree afterwards, with the card's value
-  pub key_gained : LeadsToValue (ichild_words w c) (insert_key w c) (insert_value w c) 0
+  pub key_gained : LeadsToValue node_words (insert_key w c) (insert_value w c) 0
   key_gained =
-      let there = parent_in in
-      let range = key_range there.low there.high there.spans in
-      Meets-new w.key w.child (ichild_words w c).child top (w.p c) (insert_side w c) (w.l c) (internal c)
-      (insert_key w c) its_shape sound.tree.ordered there.low there.high there.spans its_card.parent.inner range.0 range.1
+      let there = (parent_in w stage sound c flagged) in
+      let range = key_range w stage sound c flagged there.low there.high there.spans in
+      Meets-new w.key w.child node_words.child top (w.p c) (insert_side w c) (w.l c) (internal c)
+      (insert_key w c) its_shape sound.tree.ordered there.low there.high there.spans card_said.parent.inner range.0 range.1
       (new_value (nat_le (w.key (internal c)) (insert_key w c)) its_shape.new_key)
 
   -- and was not before
   pub key_absent : ¬ LeadsTo w (insert_key w c) 0
   key_absent =
-      let there = parent_in in
-      let range = key_range there.low there.high there.spans in
-      absent_before w.key w.child (ichild_words w c).child top (w.p c) (insert_side w c) (w.l c) (internal c)
-      (insert_key w c) its_shape sound.tree.ordered there.low there.high there.spans its_card.parent.inner
+      let there = (parent_in w stage sound c flagged) in
+      let range = key_range w stage sound c flagged there.low there.high there.spans in
+      absent_before w.key w.child node_words.child top (w.p c) (insert_side w c) (w.l c) (internal c)
+      (insert_key w c) its_shape sound.tree.ordered there.low there.high there.spans card_said.parent.inner
       range.0 range.1 key_differs
 
   -- the card's key leads to the card's value alone
-  pub gained_only : (value : ℕ) → LeadsToValue (ichild_words w c) (insert_key w c) value 0 → value ≡ insert_value w c
-  gained_only value leads = one_value (ichild_words w c) (insert_key w c) value (insert_value w c) leads key_gained
+  pub gained_only : (value : ℕ) → LeadsToValue node_words (insert_key w c) value 0 → value ≡ insert_value w c
+  gained_only value leads = one_value node_words (insert_key w c) value (insert_value w c) leads key_gained
 
   -- the keys of the tree afterwards are those before and the card's
-  pub pairs_after : (k v : ℕ) → LeadsToValue (ichild_words w c) k v 0 ↔ (LeadsToValue w k v 0 ⊎ ((k ≡ insert_key w c) × (v ≡ insert_value w c)))
+  pub pairs_after : (k v : ℕ) → LeadsToValue node_words k v 0 ↔ (LeadsToValue w k v 0 ⊎ ((k ≡ insert_key w c) × (v ≡ insert_value w c)))
   pairs_after k v = elim (cases_eq k (insert_key w c)) [
     | inl e ↦ (
-      λ h. inr (e, gained_only v (subst (λ z. LeadsToValue (ichild_words w c) z v 0) e h)),
+      λ h. inr (e, gained_only v (subst (λ z. LeadsToValue node_words z v 0) e h)),
       λ h. elim h [
         | inl g ↦ absurd (key_absent (leads_any w (insert_key w c) v 0 (subst (λ z. LeadsToValue w z v 0) e g)))
-        | inr f ↦ subst (λ z. LeadsToValue (ichild_words w c) z v 0) (sym e) (subst (λ u. LeadsToValue (ichild_words w c) (insert_key w c) u 0) (sym f.1) key_gained)
+        | inr f ↦ subst (λ z. LeadsToValue node_words z v 0) (sym e) (subst (λ u. LeadsToValue node_words (insert_key w c) u 0) (sym f.1) key_gained)
       ],
     )
     | inr n ↦ (λ h. inl (led_before k v 0 n h), λ h. elim h [ inl g ↦ leads_still k v 0 n g | inr e ↦ absurd (n e.0) ])
   ]
+
+  -- the stages afterwards
+  abbrev node_stages : Stages
+  node_stages = ichild_stages stage c IChanged
+
+  -- all nodes of the card came into the tree
+  born_here : (x : ℕ) → card x ≡ c → Born node_stages x
+  born_here x e = ap (λ n. is_node_born (node_stages n) (x % 3)) e ∙ ap (λ s. is_node_born s (x % 3)) (put_same stage c IChanged)
+
+  new_kept : (right : Bool) → node_words.child (internal c) right ≡ w.child (internal c) right
+  new_kept right = elim ((its_relinks w stage sound c flagged (internal c)).others (internal c) right) [
+    | inl h ↦ (let a = card_said.above in let b = card_said.before in let e = h.0 in absurd (omega arith))
+    | inr h ↦ h
+  ]
+
+  new_left : node_words.child (internal c) false ≡ left_leaf c
+  new_left = new_kept false ∙ nodes_said.left
+
+  new_right : node_words.child (internal c) true ≡ right_leaf c
+  new_right = new_kept true ∙ nodes_said.right
+
+  children_here : ChildrenAreSound node_words node_stages (internal c)
+  children_here =
+      let less = its_order in
+      let greater = card_said.node_key in
+      let a = ap w.key new_left in
+      let b = ap w.key new_right in
+      let e = new_left in
+      let f = new_right in
+      record {
+        born = both (λ right. Born node_stages (node_words.child (internal c) right))
+            (born_here _ (omega arith)) (born_here _ (omega arith));
+        rising = both (λ right. internal c < node_words.child (internal c) right) (omega arith) (omega arith);
+        left_less = omega arith;
+        right_more = omega arith;
+      }
+    where
+      both : (P : Bool → Type 0) → P false → P true → (right : Bool) → P right
+      both P a b false = a
+      both P a b true = b
+
+  inner_here : (x : ℕ) → IsInternal x → card x ≡ c → is_node_born IChanged (x % 3) ≡ true → NewInner w node_words node_stages x
+  inner_here x inner e born = let same : internal c ≡ x = omega arith in
+      subst (NewInner w node_words node_stages) same (record { children = children_here; calm = nodes_said.calm; there = node_in })
+
+  -- the card brings its internal node
+  pub brings_node : Brings w stage c (internal c) IChanged
+  brings_node = record {
+    fresh = inl refl;
+    above = card_said.before;
+    on_card = omega arith;
+    born = refl;
+    key = refl;
+    kind = ap not (sym two);
+    inner = inner_here;
+    ordered = ordered_after;
+    course = course_after;
+    out = out_after;
+    inside = in_after;
+    still = leads_still;
+    before = led_before;
+    gained = key_gained;
+  }

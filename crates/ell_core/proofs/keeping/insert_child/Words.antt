@@ -1,108 +1,84 @@
-use Rattle.std.proofs.Common.{◌≡◌, ◌≢◌, ℕ, ◌<◌, ◌≤◌, Bool, true, false, nat_le, inl, inr, ◌⊎◌, refl, sym, ap, ◌∙◌, subst, arith}
+use Rattle.std.proofs.Common.{◌≡◌, ◌≢◌, ℕ, ◌%◌, ◌<◌, ◌≤◌, Bool, true, false, nat_le, inl, inr, ◌⊎◌, refl, sym, ap, ◌∙◌, subst, arith}
 use Rattle.std.proofs.lemmas.Bool.{cases_eq, false≢true, leb-false, leb-true}
 use Rattle.std.proofs.lemmas.Bool.Decides.{nat_tests}
-use Rattle.ell_word.specs.Node.{IsInternal, card, internal, left_leaf, right_leaf}
+use Rattle.ell_word.specs.Node.{IsInternal, card, internal, right_leaf}
 use Rattle.ell_core.specs.state.Words.{Words}
-use Rattle.ell_core.specs.state.Cards.{marked}
+use Rattle.ell_core.specs.state.Cards.{marked, clean}
 use Rattle.ell_core.specs.tree.Tree.{infinity1, infinity2}
-use Rattle.ell_core.specs.history.Stages.{Stages, IFlagged, IChanged, is_claimed, is_born, insert_open, delete_open, is_marked, Born}
+use Rattle.ell_core.specs.history.Stages.{Stage, Stages, IFlagged, IChanged, RChanged, is_claimed, is_born, is_node_born, insert_open, delete_open, is_marked, Born}
 use Rattle.ell_core.specs.history.Invariant.{IsIn, insert_key, insert_side, ChildrenAreSound, UpdateIsSound, TreeIsSound, WordsAreSound}
 use Rattle.ell_core.proofs.tree.Reached.{leads_any, leads_some}
 use Rattle.ell_core.proofs.words.Writes.{put_same, put_other}
-use Rattle.ell_core.proofs.keeping.insert_child.Tree.{ichild_words, its_card, its_nodes, its_child, its_relinks, in_after, node_in, ordered_after, leads_still}
-use Rattle.ell_core.proofs.keeping.insert_child.Cards.{ichild_stages, as_before, still, stages_after, words_after, child_other, card_after, insert_after, delete_after}
+use Rattle.ell_core.proofs.keeping.insert_child.Card.{Brings, just_changed, ichild_words, ichild_stages, its_card, its_child, its_relinks}
+use Rattle.ell_core.proofs.keeping.insert_child.Cards.{as_before, still, stages_after, words_after, card_after, insert_after, delete_after}
 
 -- a key and one that is at least the node's are not on the same side if the key is less
 not_same_side : (at k old : ℕ) → k < at → old ≡ at → nat_le at k ≡ nat_le at old → ⊥
 not_same_side at k old less same h = grind (arith, nat_tests)
 
-module _ (w : Words) (stage : Stages) (sound : WordsAreSound w stage) (c : ℕ) (flagged : stage c ≡ IFlagged) where
+module _ (w : Words) (stage : Stages) (sound : WordsAreSound w stage) (c : ℕ) (flagged : stage c ≡ IFlagged)
+    (q : ℕ) (now : Stage) (b : Brings w stage c q now) where
+  abbrev after : Words
+  after = ichild_words w c q
+
+  abbrev stages : Stages
+  stages = ichild_stages stage c now
+
+  both : (P : Stage → Type 0) → P IChanged → P RChanged → P now
+  both P insert replace = just_changed P now b.fresh insert replace
+
   new_there : (x : ℕ) (right : Bool) → (x ≡ w.p c) × (right ≡ insert_side w c)
-      → (ichild_words w c).child x right ≡ internal c
+      → after.child x right ≡ q
   new_there x right h =
-      ap (λ n. (ichild_words w c).child n right) h.0
-      ∙ (ap ((ichild_words w c).child (w.p c)) h.1 ∙ (its_relinks w stage sound c flagged).there)
+      ap (λ n. after.child n right) h.0
+      ∙ (ap (after.child (w.p c)) h.1 ∙ (its_relinks w stage sound c flagged q).there)
 
-  -- the card's nodes came into the tree
-  pub born_here : (x : ℕ) → card x ≡ c → Born (ichild_stages stage c) x
-  born_here x e = ap (λ n. is_born (ichild_stages stage c n)) e ∙ ap is_born (put_same stage c IChanged)
+  -- the node came into the tree
+  born_here : Born stages q
+  born_here = ap (λ n. is_node_born (stages n) (q % 3)) b.on_card ∙ (ap (λ s. is_node_born s (q % 3)) (put_same stage c now) ∙ b.born)
 
-  -- no others did
-  pub born_back : (x : ℕ) → Born (ichild_stages stage c) x → (card x ≡ c) ⊎ Born stage x
+  -- none but the card's did
+  born_back : (x : ℕ) → Born stages x → ((card x ≡ c) × (is_node_born now (x % 3) ≡ true)) ⊎ Born stage x
   born_back x born = elim (cases_eq (card x) c) [
-    | inl e ↦ inl e
-    | inr n ↦ inr (ap is_born (sym (put_other stage c IChanged (card x) n)) ∙ born)
+    | inl e ↦ inl (e, ap (λ s. is_node_born s (x % 3)) (sym (put_same stage c now)) ∙ (ap (λ n. is_node_born (stages n) (x % 3)) (sym e) ∙ born))
+    | inr n ↦ inr (ap (λ s. is_node_born s (x % 3)) (sym (put_other stage c now (card x) n)) ∙ born)
   ]
-
-  new_kept : (right : Bool) → (ichild_words w c).child (internal c) right ≡ w.child (internal c) right
-  new_kept right =
-      let a = (its_card w stage sound c flagged).above in
-      let b = (its_card w stage sound c flagged).before in
-      child_other w stage sound c flagged (internal c) right (λ e. omega arith)
-
-  new_left : (ichild_words w c).child (internal c) false ≡ left_leaf c
-  new_left = new_kept false ∙ (its_nodes w stage sound c flagged).left
-
-  new_right : (ichild_words w c).child (internal c) true ≡ right_leaf c
-  new_right = new_kept true ∙ (its_nodes w stage sound c flagged).right
-
-  children_here : ChildrenAreSound (ichild_words w c) (ichild_stages stage c) (internal c)
-  children_here =
-      let its = its_card w stage sound c flagged in
-      let less = its.ordered in
-      let greater = its.node_key in
-      let a = ap w.key new_left in
-      let b = ap w.key new_right in
-      let e = new_left in
-      let f = new_right in
-      record {
-        born = both (λ right. Born (ichild_stages stage c) ((ichild_words w c).child (internal c) right))
-            (born_here _ (omega arith)) (born_here _ (omega arith));
-        rising = both (λ right. internal c < (ichild_words w c).child (internal c) right) (omega arith) (omega arith);
-        left_less = omega arith;
-        right_more = omega arith;
-      }
-    where
-      both : (P : Bool → Type 0) → P false → P true → (right : Bool) → P right
-      both P a b false = a
-      both P a b true = b
 
   born_child : (x : ℕ) (right : Bool) → IsInternal x → Born stage x
-      → Born (ichild_stages stage c) ((ichild_words w c).child x right)
-  born_child x right inner born = elim ((its_relinks w stage sound c flagged).others x right) [
-    | inl h ↦ subst (Born (ichild_stages stage c)) (sym (new_there x right h)) (born_here (internal c) (omega arith))
-    | inr e ↦ subst (Born (ichild_stages stage c)) (sym e)
-        ((stages_after w stage sound c flagged).born (w.child x right) ((sound.children x inner born).born right))
+      → Born stages (after.child x right)
+  born_child x right inner born = elim ((its_relinks w stage sound c flagged q).others x right) [
+    | inl h ↦ subst (Born stages) (sym (new_there x right h)) born_here
+    | inr e ↦ subst (Born stages) (sym e)
+        ((stages_after w stage sound c flagged q now b).born (w.child x right) ((sound.children x inner born).born right))
   ]
 
-  left_after : (x : ℕ) → IsInternal x → Born stage x → w.key ((ichild_words w c).child x false) < w.key x
-  left_after x inner born = elim ((its_relinks w stage sound c flagged).others x false) [
+  left_after : (x : ℕ) → IsInternal x → Born stage x → w.key (after.child x false) < w.key x
+  left_after x inner born = elim ((its_relinks w stage sound c flagged q).others x false) [
     | inl h ↦ (let less = leb-false (w.key (w.p c)) (w.key (internal c)) (sym h.1) in
-        let a = ap w.key (new_there x false h) in
-        let b = ap w.key h.0 in
+        let a = ap w.key (new_there x false h) ∙ b.key in
+        let at = ap w.key h.0 in
         omega arith)
     | inr e ↦ (let less = (sound.children x inner born).left_less in let a = ap w.key e in omega arith)
   ]
 
-  right_after : (x : ℕ) → IsInternal x → Born stage x → w.key x ≤ w.key ((ichild_words w c).child x true)
-  right_after x inner born = elim ((its_relinks w stage sound c flagged).others x true) [
+  right_after : (x : ℕ) → IsInternal x → Born stage x → w.key x ≤ w.key (after.child x true)
+  right_after x inner born = elim ((its_relinks w stage sound c flagged q).others x true) [
     | inl h ↦ (let more = leb-true (w.key (w.p c)) (w.key (internal c)) (sym h.1) in
-        let a = ap w.key (new_there x true h) in
-        let b = ap w.key h.0 in
+        let a = ap w.key (new_there x true h) ∙ b.key in
+        let at = ap w.key h.0 in
         omega arith)
     | inr e ↦ (let more = (sound.children x inner born).right_more in let a = ap w.key e in omega arith)
   ]
 
   -- the children of each node are sound afterwards
-  pub children_after : (x : ℕ) → IsInternal x → Born (ichild_stages stage c) x
-      → ChildrenAreSound (ichild_words w c) (ichild_stages stage c) x
+  pub children_after : (x : ℕ) → IsInternal x → Born stages x
+      → ChildrenAreSound after stages x
   children_after x inner born = elim (born_back x born) [
-    | inl e ↦ (let same : internal c ≡ x = omega arith in
-        subst (ChildrenAreSound (ichild_words w c) (ichild_stages stage c)) same children_here)
+    | inl e ↦ (b.inner x inner e.0 e.1).children
     | inr old ↦ record {
       born = λ right. born_child x right inner old;
       rising = λ right.
-          let up = (words_after w stage sound c flagged).child x right in
+          let up = (words_after w stage sound c flagged q now b).child x right in
           let less = (sound.children x inner old).rising right in
           omega arith;
       left_less = left_after x inner old;
@@ -110,9 +86,8 @@ module _ (w : Words) (stage : Stages) (sound : WordsAreSound w stage) (c : ℕ) 
     }
   ]
 
-  update_here : UpdateIsSound (ichild_words w c) (ichild_stages stage c) (internal c)
-  update_here =
-      let calm = (its_nodes w stage sound c flagged).calm in
+  update_here : (x : ℕ) → w.update x ≡ clean 0 → UpdateIsSound after stages x
+  update_here x calm =
       let here = (sound.cards c).claimed.0 (ap is_claimed flagged) in
       record {
         named = omega arith;
@@ -121,20 +96,19 @@ module _ (w : Words) (stage : Stages) (sound : WordsAreSound w stage) (c : ℕ) 
         marked = λ d h. absurd (omega arith);
       }
 
-  update_kept : (x : ℕ) → UpdateIsSound w stage x → UpdateIsSound (ichild_words w c) (ichild_stages stage c) x
+  update_kept : (x : ℕ) → UpdateIsSound w stage x → UpdateIsSound after stages x
   update_kept x a = record {
     named = a.named;
-    iflagged = λ d h. (let b = a.iflagged d h in (as_before w stage sound c flagged insert_open refl d ∙ b.0, b.1));
-    dflagged = λ d h. (let b = a.dflagged d h in (still w stage sound c flagged delete_open false≢true d b.0, b.1));
-    marked = λ d h. (let b = a.marked d h in (still w stage sound c flagged is_marked false≢true d b.0, b.1));
+    iflagged = λ d h. (let g = a.iflagged d h in (as_before w stage sound c flagged q now b insert_open (both (λ s. insert_open s ≡ true) refl refl) d ∙ g.0, g.1));
+    dflagged = λ d h. (let g = a.dflagged d h in (still w stage sound c flagged q now b delete_open false≢true d g.0, g.1));
+    marked = λ d h. (let g = a.marked d h in (still w stage sound c flagged q now b is_marked false≢true d g.0, g.1));
   }
 
   -- the update word of each node is sound afterwards
-  pub update_after : (x : ℕ) → IsInternal x → Born (ichild_stages stage c) x
-      → UpdateIsSound (ichild_words w c) (ichild_stages stage c) x
+  pub update_after : (x : ℕ) → IsInternal x → Born stages x
+      → UpdateIsSound after stages x
   update_after x inner born = elim (born_back x born) [
-    | inl e ↦ (let same : internal c ≡ x = omega arith in
-        subst (UpdateIsSound (ichild_words w c) (ichild_stages stage c)) same update_here)
+    | inl e ↦ update_here x (b.inner x inner e.0 e.1).calm
     | inr old ↦ update_kept x (sound.updates x inner old)
   ]
 
@@ -146,24 +120,23 @@ module _ (w : Words) (stage : Stages) (sound : WordsAreSound w stage) (c : ℕ) 
       let a : w.l c ≡ right_leaf 0 =
       sym (its_child w stage sound c flagged)
       ∙ (ap (w.child (w.p c)) (sym h.1) ∙ (ap (λ n. w.child n true) (sym h.0) ∙ sound.tree.root_right)) in
-      let b : w.key (w.l c) ≡ infinity2 = ap w.key a ∙ sound.tree.right_key in
+      let at : w.key (w.l c) ≡ infinity2 = ap w.key a ∙ sound.tree.right_key in
       let k : w.key (w.p c) ≡ infinity2 = ap w.key (sym h.0) ∙ sound.tree.root_key in
       not_same_side (w.key (w.p c)) (insert_key w c) (w.key (w.l c)) (omega arith) (omega arith) its.side
 
-  there_after : (x : ℕ) → IsInternal x → Born (ichild_stages stage c) x → ((d : ℕ) → w.update x ≢ marked d)
-      → IsIn (ichild_words w c) x
+  there_after : (x : ℕ) → IsInternal x → Born stages x → ((d : ℕ) → w.update x ≢ marked d)
+      → IsIn after x
   there_after x inner born calm = elim (born_back x born) [
-    | inl e ↦ (let same : internal c ≡ x = omega arith in
-        subst (IsIn (ichild_words w c)) same (node_in w stage sound c flagged))
-    | inr old ↦ in_after w stage sound c flagged x inner (sound.tree.there x inner old calm)
+    | inl e ↦ (b.inner x inner e.0 e.1).there
+    | inr old ↦ b.inside x inner (sound.tree.there x inner old calm)
   ]
 
   -- the tree is sound afterwards
-  pub tree_after : TreeIsSound (ichild_words w c) (ichild_stages stage c)
+  pub tree_after : TreeIsSound after stages
   tree_after = record {
-    ordered = ordered_after w stage sound c flagged;
+    ordered = b.ordered;
     root_key = sound.tree.root_key;
-    root_right = elim ((its_relinks w stage sound c flagged).others 0 true) [
+    root_right = elim ((its_relinks w stage sound c flagged q).others 0 true) [
       | inl h ↦ absurd (not_root h)
       | inr e ↦ e ∙ sound.tree.root_right
     ];
@@ -171,7 +144,7 @@ module _ (w : Words) (stage : Stages) (sound : WordsAreSound w stage) (c : ℕ) 
     last =
         let real = (its_card w stage sound c flagged).real in
         let there = leads_some w infinity1 sound.tree.last in
-        leads_any (ichild_words w c) infinity1 there.0 0 (leads_still w stage sound c flagged infinity1 there.0 0 (λ e. omega arith) there.1);
+        leads_any after infinity1 there.0 0 (b.still infinity1 there.0 0 (λ e. omega arith) there.1);
     there = there_after;
   }
 
@@ -179,12 +152,12 @@ module _ (w : Words) (stage : Stages) (sound : WordsAreSound w stage) (c : ℕ) 
   not_opening e = false≢true (sym (ap is_born flagged) ∙ (ap (λ n. is_born (stage n)) (sym e) ∙ ap is_born sound.opening))
 
   -- all words are sound afterwards
-  pub sound_after : WordsAreSound (ichild_words w c) (ichild_stages stage c)
+  pub sound_after : WordsAreSound after stages
   sound_after = record {
-    opening = put_other stage c IChanged 0 not_opening ∙ sound.opening;
-    cards = card_after w stage sound c flagged;
-    inserts = insert_after w stage sound c flagged;
-    deletes = delete_after w stage sound c flagged;
+    opening = put_other stage c now 0 not_opening ∙ sound.opening;
+    cards = card_after w stage sound c flagged q now b;
+    inserts = insert_after w stage sound c flagged q now b;
+    deletes = delete_after w stage sound c flagged q now b;
     children = children_after;
     updates = update_after;
     tree = tree_after;

@@ -1,6 +1,7 @@
-use Rattle.std.proofs.Common.{◌≡◌, ◌≢◌, ℕ, ◌↔◌, if◌then◌else◌, Bool, true, false, Option, Some, None, inl, inr, refl, sym, ap, ◌∙◌, subst, arith}
+use Rattle.std.proofs.Common.{◌≡◌, ◌≢◌, ℕ, ◌↔◌, ◌==◌, if◌then◌else◌, Bool, true, false, Option, Some, None, inl, inr, refl, sym, ap, ◌∙◌, subst, arith}
+use Rattle.std.proofs.lemmas.Bool.{eq-eqb}
 use Rattle.ell_ops.specs.declared.op.Op.{Op}
-use Rattle.ell_ops.specs.declared.op.Op.TheVariants.{Find, Insert, Delete}
+use Rattle.ell_ops.specs.declared.op.Op.TheVariants.{Find, Insert, Delete, Swap}
 use Rattle.ell_ops.specs.Meaning.{key_of}
 use Rattle.ell_core.specs.declared.event.Act.TheVariants as act
 use Rattle.ell_core.specs.declared.fact.Fact.TheVariants as fact
@@ -21,7 +22,17 @@ use Rattle.ell_core.proofs.words.Writes.{put_cases, put_other}
 use Rattle.ell_core.specs.declared.view.Entry.{Entry}
 use Rattle.ell_core.specs.declared.view.Entry.TheVariants.{Present, Absent}
 use Rattle.ell_ops.specs.declared.reply.Reply.{Reply}
-use Rattle.ell_ops.specs.declared.reply.Reply.TheVariants.{Yes}
+use Rattle.ell_ops.specs.declared.reply.Reply.TheVariants.{Yes, Found}
+
+-- an option that a failed test gives
+pub gives_else : (test : Bool) (given reply : Reply) → (if test then None else Some given) ≡ Some reply → (test ≡ false) × (reply ≡ given)
+gives_else true given reply e = absurd (some_not_none e refl)
+gives_else false given reply e = (refl, sym (same_value refl e))
+
+-- one that a test gives
+pub gives_one : (test : Bool) (given reply : Reply) → (if test then Some given else None) ≡ Some reply → (test ≡ true) × (reply ≡ given)
+gives_one true given reply e = (refl, sym (same_value refl e))
+gives_one false given reply e = absurd (some_not_none e refl)
 
 -- an answer at a leaf leaves the ledger
 pub leaf_answer-ledger : (op : Op) (there : Option ℕ) (reply : Reply) (ledger : Ledger) → leaf_answer op there ≡ Some reply
@@ -31,6 +42,11 @@ leaf_answer-ledger (Insert k value) (Some v) reply ledger e = ap (λ b. ledger_a
 leaf_answer-ledger (Insert k value) None reply ledger e = absurd (some_not_none e refl)
 leaf_answer-ledger (Delete k) (Some v) reply ledger e = absurd (some_not_none e refl)
 leaf_answer-ledger (Delete k) None reply ledger e = ap (λ b. ledger_after (Delete k) b ledger) (sym (same_value refl e))
+
+leaf_answer-ledger (Swap k was value) None reply ledger e = ap (λ b. ledger_after (Swap k was value) b ledger) (sym (same_value refl e))
+leaf_answer-ledger (Swap k was value) (Some v) reply ledger e =
+    let g = gives_else (v == was) (Found v) reply e in
+    ap (λ b. ledger_after (Swap k was value) b ledger) g.1 ∙ ap (λ t. if t then settled ledger k (Present value) (ledger k) else ledger) g.0
 
 -- an option that a test gives or not: the test was met, and this is what it gives
 pub gives_if : (test : Bool) (reply : Reply) → (if test then Some Yes else None) ≡ Some reply → (test ≡ true) × (reply ≡ Yes)
@@ -45,6 +61,9 @@ pub record IsOver (op : Op) (s : Stage) (made : Entry) : Type 0 where
 
 insert_is_over : (k value : ℕ) (s : Stage) → insert_over s ≡ true → IsOver (Insert k value) s (Present value)
 insert_is_over k value s h = record { made_it = grind arith; no_insert = grind arith; no_delete = grind arith }
+
+swap_is_over : (k was value : ℕ) (s : Stage) → insert_over s ≡ true → IsOver (Swap k was value) s (Present value)
+swap_is_over k was value s h = record { made_it = grind arith; no_insert = grind arith; no_delete = grind arith }
 
 delete_is_over : (k : ℕ) (s : Stage) → delete_over s ≡ true → IsOver (Delete k) s Absent
 delete_is_over k s h = record { made_it = grind arith; no_insert = grind arith; no_delete = grind arith }
@@ -107,6 +126,11 @@ drops_by_card stage v (Delete k) c reply facts busy holds flagged e =
     let g = gives_if (v.knows (fact.DOver c)) reply e in
     subst (λ b. MayDrop stage v (ledger_after (Delete k) b v.ledger)) (sym g.1)
     (drops_over stage v (Delete k) c Absent busy holds flagged (delete_is_over k (stage c) (facts (fact.DOver c) g.0)))
+drops_by_card stage v (Swap k was value) c reply facts busy holds flagged e =
+    let g = gives_one (v.knows (fact.IOver c)) (Found was) reply e in
+    subst (λ b. MayDrop stage v (ledger_after (Swap k was value) b v.ledger)) (sym g.1)
+    (subst (λ t. MayDrop stage v (if t then settled v.ledger k (Present value) (v.ledger k) else v.ledger)) (sym (eq-eqb was was refl))
+    (drops_over stage v (Swap k was value) c (Present value) busy holds flagged (swap_is_over k was value (stage c) (facts (fact.IOver c) g.0))))
 
 module _ (m : Machine) (stage : Stages) (i : ℕ) (sound : Invariant m stage) (op : Op) (reply : Reply)
     (busy : (m.worker i).operation ≡ Some op) where

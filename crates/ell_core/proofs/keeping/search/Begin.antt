@@ -1,4 +1,4 @@
-use Rattle.std.proofs.Common.{◌≡◌, ◌≢◌, ℕ, ◌<◌, ◌↔◌, inl, inr, Bool, true, false, Some, None, refl, sym, ap, ◌∙◌, subst, arith}
+use Rattle.std.proofs.Common.{◌≡◌, ◌≢◌, ℕ, ◌<◌, ◌↔◌, inl, inr, Bool, true, false, Some, None, refl, sym, ap, ◌∙◌, subst, arith, ◌%◌}
 use Rattle.std.proofs.lemmas.Bool.{false≢true}
 use Rattle.ell_ops.specs.declared.op.Op.{Op}
 use Rattle.ell_ops.specs.Meaning.{key_of}
@@ -8,7 +8,7 @@ use Rattle.ell_core.specs.state.Machine.{Ledger, Worker, Machine, with_scene}
 use Rattle.ell_core.specs.acts.Searching.{begun, ended, MayStop}
 use Rattle.ell_core.specs.acts.Events.{LacksKey}
 use Rattle.ell_core.specs.soundness.Sound.{WorkerOwns, MayChange}
-use Rattle.ell_core.specs.history.Stages.{Stages, is_born, insert_open, delete_open, is_backed, effective_at}
+use Rattle.ell_core.specs.history.Stages.{Stages, is_born, insert_open, delete_open, is_backed, effective_at, is_node_born}
 use Rattle.ell_core.specs.history.Invariant.{top, StandIsSound, Invariant}
 use Rattle.ell_core.specs.history.Later.{Follows, KeepsInvariant}
 use Rattle.ell_core.specs.acts.Wins.{wins_by}
@@ -78,7 +78,7 @@ module _ (m : Machine) (stage : Stages) (i : ℕ) (sound : Invariant m stage) wh
   stands_at_root : (op : Op) → MayChange v (key_of op) → MayDrop stage v v.ledger
       → StandIsSound m.words stage (begun (Some op) v) (key_of op) 0
   stands_at_root op owns may = record {
-    born = ap is_born sound.words.opening;
+    born = ap (λ s. is_node_born s (0 % 3)) sound.words.opening;
     read = λ word e. absurd (some_not_none e refl);
     leads = λ owned value. (let present = sound.workers.present i (key_of op) value owned in
         (λ l. sym (may.counts (key_of op) owned) ∙ present.0 l, λ e. present.1 (may.counts (key_of op) owned ∙ e)));

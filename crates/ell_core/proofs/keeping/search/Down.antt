@@ -1,7 +1,7 @@
 use Rattle.std.proofs.Common.{◌≡◌, ◌≢◌, ℕ, ◌+◌, ◌≤◌, Bool, true, false, nat_le, Some, None, inl, inr, refl, sym, ap, ◌∙◌, subst, arith}
 use Rattle.std.proofs.lemmas.Bool.{cases_eq, le-leb, lt-leb}
 use Rattle.ell_ops.specs.declared.op.Op.{Op}
-use Rattle.ell_ops.specs.declared.op.Op.TheVariants.{Find, Insert, Delete}
+use Rattle.ell_ops.specs.declared.op.Op.TheVariants.{Find, Insert, Delete, Swap}
 use Rattle.ell_ops.specs.Meaning.{greatest_key, key_of}
 use Rattle.ell_word.specs.Node.{IsInternal}
 use Rattle.ell_core.specs.declared.event.Act.TheVariants as act
@@ -44,6 +44,8 @@ pub unflagged_at_leaf : (w : Words) (stage : Stages) (v : Worker) (op : Op) (c x
     → Unflagged w stage v op c → v.search.node ≡ Some x → IsLeaf x
 unflagged_at_leaf w stage v (Find k) c x sound h at = absurd h
 unflagged_at_leaf w stage v (Insert k value) c x sound h at =
+    subst IsLeaf (same_value h.stands at) ((sound.cards c).insert h.claimed.0).leaf.outer
+unflagged_at_leaf w stage v (Swap k was value) c x sound h at =
     subst IsLeaf (same_value h.stands at) ((sound.cards c).insert h.claimed.0).leaf.outer
 unflagged_at_leaf w stage v (Delete k) c x sound h at =
     subst IsLeaf (same_value h.stands at) ((sound.cards c).delete h.claimed.0).leaf.outer

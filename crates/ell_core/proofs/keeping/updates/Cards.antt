@@ -1,4 +1,4 @@
-use Rattle.std.proofs.Common.{◌≡◌, ◌≢◌, ℕ, ◌≤◌, ◌⊎◌, true, false, inl, inr, refl, sym, ap, ◌∙◌, subst, arith}
+use Rattle.std.proofs.Common.{◌≡◌, ◌≢◌, ℕ, ◌%◌, ◌≤◌, ◌⊎◌, true, false, inl, inr, refl, sym, ap, ◌∙◌, subst, arith}
 use Rattle.std.proofs.lemmas.Bool.{false≢true, cases_eq}
 use Rattle.ell_word.specs.Node.{card, internal}
 use Rattle.ell_core.specs.state.Words.{Words, put, with_update}
@@ -11,6 +11,7 @@ use Rattle.ell_core.proofs.words.Later.{words_update, update_says}
 use Rattle.ell_core.proofs.keeping.going_on.Cards.{GoesOn, card_on}
 use Rattle.ell_core.proofs.keeping.going_on.Stages.{insert_stage_on, delete_stage_on}
 use Rattle.ell_core.proofs.stages.Advances.{SameKind, same_kind, StageLater, stages_put}
+use Rattle.ell_core.proofs.stages.Order.{inner-born}
 
 -- an exchange that takes the update word of node x to a value that is no less, and card c to a later stage: the old word was no
 -- mark, and no other card's flag; and where c has a flag that stands no longer, it stood at x
@@ -38,7 +39,7 @@ module _ (w : Words) (stage : Stages) (x value c : ℕ) (new : Stage) (e : Excha
 
   -- a node that came into the tree did so before
   pub born_before : (y : ℕ) → Born (put stage c new) y → Born stage y
-  born_before y h = sym (kind_of (card y)).born ∙ h
+  born_before y h = sym ((kind_of (card y)).born (y % 3)) ∙ h
 
   -- a word that was not that of x stays
   pub word_stays : (y word : ℕ) → w.update y ≡ word → w.update x ≢ word → put w.update x value y ≡ word
@@ -63,7 +64,7 @@ module _ (w : Words) (stage : Stages) (x value c : ℕ) (new : Stage) (e : Excha
       on_card same = omega arith
 
       elsewhere : internal d ≢ x
-      elsewhere same = false≢true (sym h ∙ (ap (λ n. is_born (stage n)) (on_card same) ∙ e.place.born))
+      elsewhere same = false≢true (sym h ∙ (ap (λ n. is_born (stage n)) (on_card same) ∙ inner-born (stage (card x)) (x % 3) e.place.inner e.place.born))
 
   -- cards and workers go on
   pub update_goes_on : WordsAreSound w stage → GoesOn w (with_update w x value) stage (put stage c new)

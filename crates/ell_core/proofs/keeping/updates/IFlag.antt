@@ -1,26 +1,31 @@
-use Rattle.std.proofs.Common.{◌≡◌, ◌≢◌, ℕ, ◌%◌, ◌<◌, ◌==◌, true, [], ◌∷◌, ◌++◌, Option, Some, None, inl, inr, refl, sym, ap, ◌∙◌, subst, arith}
+use Rattle.std.proofs.Common.{◌≡◌, ◌≢◌, ℕ, ◌%◌, ◌<◌, ◌==◌, ◌⊎◌, true, [], ◌∷◌, ◌++◌, Option, Some, None, inl, inr, refl, sym, ap, ◌∙◌, subst, arith}
 use Rattle.std.proofs.lemmas.Bool.{false≢true, cases_eq, eq-eqb, ne_eqb}
 use Rattle.std.proofs.lemmas.Bool.Decides.{nat_tests}
-use Rattle.ell_ops.specs.declared.op.Op.TheVariants.{Insert}
+use Rattle.ell_ops.specs.declared.op.Op.{Op}
+use Rattle.ell_ops.specs.declared.op.Op.TheVariants.{Find, Insert, Delete, Swap}
+use Rattle.ell_ops.specs.Meaning.{key_of}
+use Rattle.ell_core.specs.tree.Ranges.{at_leaf}
 use Rattle.ell_word.specs.Node.{left_leaf, right_leaf}
 use Rattle.ell_word.specs.declared.gate.Kind.TheVariants as kind
 use Rattle.ell_core.specs.declared.event.Act.TheVariants as act
 use Rattle.ell_core.specs.declared.event.Stepped.{Stepped}
 use Rattle.ell_core.specs.declared.event.Stepped.TheVariants.{Won, Lost}
 use Rattle.ell_core.specs.declared.fact.Fact.TheVariants as fact
+use Rattle.ell_core.specs.declared.put.Put.{Put}
 use Rattle.ell_core.specs.declared.view.Seen.{Seen}
-use Rattle.ell_core.specs.state.Words.{put, with_update}
-use Rattle.ell_core.specs.state.Machine.{Machine, Scene, scene, with_scene}
+use Rattle.ell_core.specs.state.Words.{Words, put, with_update}
+use Rattle.ell_core.specs.state.Machine.{Worker, Machine, Scene, scene, with_scene, entry_of}
 use Rattle.ell_core.specs.state.Cards.{iflag, is_right}
-use Rattle.ell_core.specs.acts.Searching.{IsClean}
+use Rattle.ell_core.specs.acts.Searching.{IsClean, put_of}
 use Rattle.ell_core.specs.acts.Exchanges.{won_or_lost, flags, flagged_worker}
-use Rattle.ell_core.specs.history.Stages.{Stages, Opening, IClaimed, IFlagged, is_claimed, insert_won, insert_open, delete_open}
-use Rattle.ell_core.specs.history.Invariant.{IsOnCourse, insert_key, insert_side, InsertCard, InsertStage, UpdateIsSound, SeenIsSound, StandIsSound, InsertInHand, Invariant}
+use Rattle.ell_core.specs.history.Stages.{Stages, Opening, IClaimed, IFlagged, is_claimed, insert_won, insert_open, delete_open, made_by_stage}
+use Rattle.ell_core.specs.history.Invariant.{IsOnCourse, insert_key, insert_side, InsertCard, InsertStage, UpdateIsSound, SeenIsSound, StandIsSound, InsertInHand, IsPutting, Invariant}
 use Rattle.ell_core.specs.history.Later.{Follows, KeepsInvariant, wins_of}
 use Rattle.ell_core.proofs.words.Writes.{put_same}
 use Rattle.ell_core.proofs.stages.Order.{insert_claimed}
 use Rattle.ell_core.proofs.keeping.updates.Cards.{Exchange}
 use Rattle.ell_core.proofs.keeping.updates.Words.{NewWord}
+use Rattle.ell_core.proofs.keeping.Puts.{put_key, putting_hand, putting_flag}
 use Rattle.ell_core.proofs.keeping.SameOutcome.{follows_as}
 use Rattle.ell_core.proofs.keeping.updates.Flag.{flags_won, flags_lost, HoldsCard, hand_of, flag_loses, flag_wins}
 use Rattle.ell_core.proofs.tree.Bounds.{leaf_key}
@@ -45,11 +50,25 @@ absent_entry None there unmade = absurd (there refl)
 absent_entry (Some (Present value)) there unmade = absurd (unmade value refl)
 absent_entry (Some Absent) there unmade = refl
 
-module _ (m : Machine) (stage : Stages) (i k value c : ℕ) (parent : Seen) (there : i < m.count) (sound : Invariant m stage)
-    (h : HoldsCard m i c (Insert k value)) (behind : (m.worker i).search.parent ≡ Some parent) where
+-- an operation whose card has only its flag has made nothing
+not_made : (op : Op) → made_by_stage op IFlagged ≡ None
+not_made (Find k) = refl
+not_made (Insert k value) = refl
+not_made (Delete k) = refl
+not_made (Swap k was value) = refl
+
+-- of two keys that are one, which is the leaf's, so is the one that is picked
+one_of_one : (left right leaf : ℕ) → left ≡ right → (left ≡ leaf) ⊎ (right ≡ leaf) → key_of_three left right leaf ≡ leaf
+one_of_one left right leaf same one = grind (arith, nat_tests)
+
+module _ (m : Machine) (stage : Stages) (i : ℕ) (op : Op) (what : Put) (puts : put_of op ≡ Some what) (c : ℕ) (parent : Seen)
+    (there : i < m.count) (sound : Invariant m stage) (h : HoldsCard m i c op) (behind : (m.worker i).search.parent ≡ Some parent) where
+  abbrev k : ℕ
+  k = what.key
+
   -- what the worker's search saw on its way to the leaf
-  hand : InsertInHand m.words stage (m.worker i) k value c
-  hand = hand_of m stage i c (Insert k value) sound h
+  hand : InsertInHand m.words stage (m.worker i) what c
+  hand = putting_hand m.words stage (m.worker i) what c op puts (hand_of m stage i c op sound h)
 
   same_parent : hand.parent ≡ parent
   same_parent = let same : Some hand.parent ≡ Some parent = sym hand.behind ∙ behind in cc
@@ -64,7 +83,8 @@ module _ (m : Machine) (stage : Stages) (i k value c : ℕ) (parent : Seen) (the
   node = ap (λ seen. seen.node) (sym same_parent) ∙ hand.node
 
   stand : StandIsSound m.words stage (m.worker i) k (m.words.l c)
-  stand = (sound.workers.each i).stands (Insert k value) (m.words.l c) h.busy hand.stands
+  stand = subst (λ key. StandIsSound m.words stage (m.worker i) key (m.words.l c)) (put_key op what puts)
+      ((sound.workers.each i).stands op (m.words.l c) h.busy hand.stands)
 
   seen : SeenIsSound m.words stage k parent (m.words.l c)
   seen = (stand.parent parent behind).0
@@ -73,11 +93,15 @@ module _ (m : Machine) (stage : Stages) (i k value c : ℕ) (parent : Seen) (the
   course = subst (λ n. IsOnCourse m.words n (m.words.p c)) (sym hand.own)
       (subst (IsOnCourse m.words k) node (stand.parent parent behind).1)
 
-  -- a key of its own was absent, since the leaf where it stands has another one
-  absent : WorkerOwns (m.worker i) k → (m.worker i).ledger k ≡ Some Absent
-  absent owns = absent_entry ((m.worker i).ledger k) owns
-      (λ v e. other_of_two (m.words.key (left_leaf c)) (m.words.key (right_leaf c)) (m.words.key (m.words.l c)) said.ordered
+  -- a key of its own was absent, since the leaf where it stands has another one, or it was present with the leaf's value
+  entry_is : (old : Option ℕ) → IsPutting m.words c old → WorkerOwns (m.worker i) k → (m.worker i).ledger k ≡ Some (entry_of old)
+  entry_is None less owns = absent_entry ((m.worker i).ledger k) owns
+      (λ v e. other_of_two (m.words.key (left_leaf c)) (m.words.key (right_leaf c)) (m.words.key (m.words.l c)) less
       (hand.own ∙ sym (leaf_key m.words.key m.words.child k (m.words.l c) said.leaf.outer ((stand.leads owns v).1 e))))
+  entry_is (Some v) one owns =
+      let key = one_of_one (m.words.key (left_leaf c)) (m.words.key (right_leaf c)) (m.words.key (m.words.l c)) one.0
+      (elim said.copy [ inl left ↦ inl left.key | inr right ↦ inr right.key ]) in
+      (stand.leads owns v).0 (at_leaf said.leaf.outer (sym key ∙ hand.own) one.1)
 
   module _ (won : m.words.update parent.node ≡ parent.word) where
     -- the parent's word was clean, and is the card's flag
@@ -112,6 +136,7 @@ module _ (m : Machine) (stage : Stages) (i k value c : ℕ) (parent : Seen) (the
       waits = λ e. child_is_leaf;
       course = λ e. course;
       changed = λ e. absurd (false≢true e);
+      brings = λ e. absurd (false≢true e);
     }
 
     flag_is_sound : UpdateIsSound (with_update m.words parent.node (iflag c)) (put stage c IFlagged) parent.node
@@ -137,9 +162,10 @@ module _ (m : Machine) (stage : Stages) (i k value c : ℕ) (parent : Seen) (the
       words = with_update m.words parent.node (iflag c);
       worker = flagged_worker (m.worker i) true (fact.IFlagged c) (m.words.update parent.node);
     }))
-    wins = flag_wins m stage i c (Insert k value) sound h (fact.IFlagged c) parent.node (iflag c)
+    wins = flag_wins m stage i c op sound h (fact.IFlagged c) parent.node (iflag c)
         (m.words.update parent.node) IFlagged exchange
-        refl refl refl (ap insert_won (put_same stage c IFlagged), hand.own, hand.own_value, absent) act.IFlag kind.IFlag there new_word
+        refl refl (not_made op) (putting_flag (with_update m.words parent.node (iflag c)) (put stage c IFlagged) (m.worker i) what c op puts
+        (ap insert_won (put_same stage c IFlagged), hand.own, hand.own_value, entry_is what.was hand.kind, hand.kind)) act.IFlag kind.IFlag there new_word
         (ap (λ s. wins_of s ++ kind.IFlag ∷ []) (sym at)) (λ d. refl)
 
   -- iflag, by its row
@@ -151,11 +177,11 @@ module _ (m : Machine) (stage : Stages) (i k value c : ℕ) (parent : Seen) (the
         (gives ∙ flags_won (scene m i) parent (iflag c) (fact.IFlagged c) won) (wins won)
     | inr lost ↦ follows_as m stage act.IFlag i said Lost becomes _ (says ∙ ap won_or_lost (ne_eqb _ _ lost))
         (gives ∙ flags_lost (scene m i) parent (iflag c) (fact.IFlagged c) lost)
-        (flag_loses m stage i c (Insert k value) sound h (fact.IFlagged c) parent.node seen.node act.IFlag there (λ d. refl))
+        (flag_loses m stage i c op sound h (fact.IFlagged c) parent.node seen.node act.IFlag there (λ d. refl))
   ]
 
 -- iflag keeps the invariant
 pub keeps_iflag : KeepsInvariant act.IFlag
 keeps_iflag m stage i said becomes there sound happens = let row = happens.row in
-    follows m stage i row.key row.value row.card row.parent there sound
-    (record { busy = row.inserts; holds = row.holds; unflagged = row.unflagged }) row.behind said becomes row.says row.gives
+    follows m stage i row.op row.what row.puts row.card row.parent there sound
+    (record { busy = row.busy; holds = row.holds; unflagged = row.unflagged }) row.behind said becomes row.says row.gives

@@ -29,7 +29,7 @@ returns-in-DFlag g c =
 helped : (g : Over) (c : After-go_back-2 g) → Walks c.set_mark.new.pass c.match-found.pass 8 × IsEnded c.match-found.pass.view c.in-Some.found.state c.in-Some.found.card
 helped g c = elim c.match-found.branch [
   | in-IFlag w ↦ subst (λ (p : PassModel). Walks c.set_mark.new.pass p 8 × IsEnded p.view c.in-Some.found.state c.in-Some.found.card) (sym w.pass-is) (
-    walks_within c.set_mark.new.pass w.help_insert.new.pass 5 8 w.help_insert.ensures.walks (omega arith),
+    walks_within c.set_mark.new.pass w.help_insert.new.pass 6 8 w.help_insert.ensures.walks (omega arith),
     subst (λ s. IsEnded w.help_insert.new.pass.view s c.in-Some.found.card) (sym w.in-IFlag.is) w.help_insert.ensures.over,
   )
   | in-Mark w ↦ subst (λ (p : PassModel). Walks c.set_mark.new.pass p 8 × IsEnded p.view c.in-Some.found.state c.in-Some.found.card) (sym w.pass-is) (

@@ -42,6 +42,7 @@ finish_insert-requires-clause-insert g c =
     let place = s.result in
     let ends = s.ensures.ends in
     rw c.max-card_key.ensures
+    rw c.min-left_key.ensures
     (is_insert s.new.pass.view c.take_card.new.pass.view c.flag_insert.new.pass.view c.in-Card.card c.args.key place c.flag_insert.ensures.goes.view c.args.value
     (s.ensures.seeks.goes.view.operation ∙ c.requires.root.busy) ends.at c.in-Card.ensures.claims.0 c.in-Ok.ensures.flags.knows
     (c.take_card.ensures.goes.view.told (Met place.parent.node) ends.passed.node.met))

@@ -9,5 +9,5 @@ pub returns : goal.returns
 returns g c =
     let w = (machine_of c.args.self.now).words in
     let pairs = c.in_ok-pairs.pairs.items in
-    let same : c.in_ok-keys.keys.items ≡ keys_of pairs = search rules in
+    let same : c.in_ok-keys.keys.items ≡ keys_of pairs = search (rules, c.in_ok-keys.ensures.runs, c.in_ok-keys.ensures.ran, c.map.ensures.runs, c.map.ensures.source, c.map.ensures.closure, c.iter.ensures.runs, c.iter.ensures.rest, c.deref.ensures.value) in
     subst (ListsKeys w) (sym same) (ListsKeys-of_pairs w pairs c.in_ok-pairs.ensures)

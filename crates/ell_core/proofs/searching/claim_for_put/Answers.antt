@@ -2,7 +2,7 @@ use Rattle.std.proofs.Common.{arith, rules, ◌<◌, ◌≤◌, ap, ◌∙◌, r
 use Rattle.ell_core.specs.declared.event.Stepped.TheVariants.{Moved}
 use Rattle.ell_core.specs.state.Cards.{claimed, insert_filling}
 use Rattle.ell_core.specs.inside.Inside.{words_in, worker_in}
-use Rattle.ell_core.proofs.searching.claim_for_insert.Goals as goal
+use Rattle.ell_core.proofs.searching.claim_for_put.Goals as goal
 
 pub returns-then-card-memory : goal.returns-then-card-memory
 returns-then-card-memory g c =
@@ -14,13 +14,14 @@ returns-then-card-memory g c =
           said = Moved;
           after = _;
           row = inl (record {
-            key = c.args.key;
-            value = c.args.value;
+            op = c.args.op;
+            what = c.args.what;
             leaf = c.args.at.leaf;
             parent = c.args.at.parent;
-            inserts = c.requires.inserts;
+            busy = c.requires.busy;
+            puts = c.requires.puts;
             at = c.requires.at;
-            absent = λ same. c.if-leaf_key-key.false (c.key-leaf_key.ensures ∙ same);
+            takes = search rules;
             says = refl;
             gives = refl;
           });
@@ -35,19 +36,20 @@ returns-then-card-memory g c =
 pub returns : goal.returns
 returns g c =
     let filling = c.insert_filling.ensures
-    ∙ (λ t. insert_filling (c.next-card.ensures t) c.args.key c.args.value c.args.at.parent.node c.args.at.leaf (c.key-leaf_key.ensures t) (c.value.ensures t)) in
+    ∙ (λ t. insert_filling (c.next-card.ensures t) c.args.what.key c.args.what.value c.args.at.parent.node c.args.at.leaf (c.key-leaf_key.ensures t) (c.value-leaf_value.ensures t)) in
     let words = c.claim.ensures.words ∙ ap (claimed (words_in c.args.memory.now)) filling in
     let room : (words_in c.args.memory.now).next ≤ c.args.memory.now.last_card = omega arith in record {
       done = record {
         owned = λ h. h;
         row = inl (record {
-          key = c.args.key;
-          value = c.args.value;
+          op = c.args.op;
+          what = c.args.what;
           leaf = c.args.at.leaf;
           parent = c.args.at.parent;
-          inserts = c.requires.inserts;
+          busy = c.requires.busy;
+          puts = c.requires.puts;
           at = c.requires.at;
-          absent = λ same. c.if-leaf_key-key.false (c.key-leaf_key.ensures ∙ same);
+          takes = search rules;
           says = refl;
           gives = λ t. record {
             words = words t;
