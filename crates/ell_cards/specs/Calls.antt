@@ -2,7 +2,7 @@ use Rattle.std.specs.Prelude.{◌≡◌, ◌≢◌, ℕ, ◌+◌, ◌<◌, ◌�
 use Rattle.ell_ops.specs.declared.op.Op.{Op}
 use Rattle.ell_ops.specs.Meaning.{key_of}
 use Rattle.ell_word.specs.declared.gate.Kind.TheVariants as kind
-use Rattle.ell_word.specs.Node.{IsInternal, card, internal, right_leaf}
+use Rattle.ell_word.specs.Node.{IsInternal, card}
 use Rattle.ell_word.specs.Word.{packed, unpacked}
 use Rattle.ell_core.specs.declared.event.Act.{Act}
 use Rattle.ell_core.specs.declared.event.Act.TheVariants as act
@@ -75,16 +75,12 @@ pub data Atomic : Type 0 where
   Store : ℕ → Atomic
   Exchange : ℕ → ℕ → Atomic
 
--- the node that an insert's card brings, by whether it replaces a leaf
-abbrev pub node_of_card : ℕ → Bool → ℕ
-node_of_card c replaces = if replaces then right_leaf c else internal c
-
 -- what a call does to its word
 abbrev pub atomic_of : Call → Atomic
 atomic_of (call.Claim c) = Exchange c (c + 1)
 atomic_of (call.Fill c f value) = Store value
 atomic_of (call.IFlag c p from) = Exchange (packed from) (iflag c)
-atomic_of (call.IChild c p l q right) = Exchange l (node_of_card c q)
+atomic_of (call.IChild c p l q right) = Exchange l q
 atomic_of (call.IUnflag c p) = Exchange (iflag c) (clean c)
 atomic_of (call.DFlag c gp from) = Exchange (packed from) (dflag c)
 atomic_of (call.Mark c p was) = Exchange was (marked c)

@@ -2,15 +2,14 @@ use Rattle.std.specs.Prelude.{◌≡◌, ℕ, suc, ◌⊎◌, Bool, true, Option
 use mathlib.Core.Option.{some}
 use lib.ListN.{get_elem?}
 use Rattle.ell_ops.specs.declared.op.Op.{Op}
-use Rattle.ell_ops.specs.declared.op.Op.TheVariants.{Find, Insert, Delete}
+use Rattle.ell_ops.specs.declared.op.Op.TheVariants.{Find, Insert, Delete, Swap}
 use Rattle.ell_ops.specs.declared.reply.Reply.{Reply}
-use Rattle.ell_ops.specs.declared.reply.Reply.TheVariants.{Yes}
 use Rattle.ell_ops.specs.Meaning.{key_of, reply_of, after, final}
 use Rattle.ell_word.specs.declared.gate.Kind.{Kind}
 use Rattle.ell_word.specs.declared.gate.Kind.TheVariants as kind
 use Rattle.ell_core.specs.state.Words.{Words}
 use Rattle.ell_core.specs.acts.Searching.{leaf_answer}
-use Rattle.ell_core.specs.statements.Effects.{AddsPair, TakesPair}
+use Rattle.ell_core.specs.statements.Effects.{reply_of_change, MakesChange, op_of_card}
 use Rattle.ell_cards.specs.declared.view.View.{View}
 use Rattle.ell_cards.specs.States.{TableState}
 use Rattle.ell_cards.specs.Machines.{HasMachine}
@@ -42,23 +41,19 @@ pub record SaysWhatWas (cards : ℕ) (op : Op) (begun : TableState) (turns : Lis
   pub says : leaf_answer op there ≡ Some said
   pub so : WasSo cards begun turns s' (key_of op) there
 
--- the tree changes as an operation changes a map that it finds otherwise
-abbrev pub MakesChange : Op → Words → Words → Type 0
-MakesChange (Find key) old new = ⊥
-MakesChange (Insert key value) old new = AddsPair old new key value
-MakesChange (Delete key) old new = (value : ℕ) × TakesPair old new key value
-
 -- the win by which a card's operation changes the tree
 abbrev pub change_of : Op → List Kind
 change_of (Find key) = []
 change_of (Insert key value) = kind.IChild ∷ []
 change_of (Delete key) = kind.DChild ∷ []
+change_of (Swap key was value) = kind.IChild ∷ []
 
 -- a delete finds its key with the value that goes with its card
 abbrev pub FindsItsValue : Op → ℕ → Words → Type 0
 FindsItsValue (Find key) c w = Unit {0}
 FindsItsValue (Insert key value) c w = Unit {0}
 FindsItsValue (Delete key) c w = IsTreePair w key (card_value w c)
+FindsItsValue (Swap key was value) c w = Unit {0}
 
 -- in one turn of the call, of whatever pass, the child exchange of its own card was won, and changed the tree as the operation says
 pub record TakesEffect (cards : ℕ) (op : Op) (c : ℕ) (begun : TableState) (turns : List Turn) (s' : TableState) : Type 0 where
@@ -83,7 +78,7 @@ abbrev pub CallsHaveTheirPoint : Type 0
 CallsHaveTheirPoint = (keys : List ℕ) (cards : ℕ) (s : TableState) → HasMachine keys cards s → (seat : ℕ) (op : Op) (begun : TableState) (turns : List Turn)
     (s' : TableState) (said : Reply) → IsCalled cards s seat op begun turns s' said
     → SaysWhatWas cards op begun turns s' said
-    ⊎ ((said ≡ Yes) × ((c : ℕ) × HoldsAtEnd s' seat c × TakesEffect cards op c begun turns s'))
+    ⊎ ((said ≡ reply_of_change op) × ((c : ℕ) × HoldsAtEnd s' seat c × TakesEffect cards op c begun turns s'))
 
 -- a map is what the tree of these words has: just its keys, with their values
 abbrev pub HasMap : Words → Contents → Type 0
@@ -144,9 +139,9 @@ abbrev pub TreesAreMaps : Type 0
 TreesAreMaps = (plan : TablePlan) (s : TableState) → Starts plan s → (turns : List Turn) (s' : TableState)
     → TableRun plan.last_card s turns s' → IsAMap s'
 
--- the operation by which a call changes the tree, if it does: a won ichild's insert, a won dchild's delete
+-- the operation by which a call changes the tree, if it does: a won ichild's insert or swap, a won dchild's delete
 abbrev pub effect_of : Call → Bool → Words → List Op
-effect_of (call.IChild c p l right) true w = Insert (card_key w c) (card_value w c) ∷ []
+effect_of (call.IChild c p l q right) true w = op_of_card w c ∷ []
 effect_of (call.DChild c gp p y right) true w = Delete (card_key w c) ∷ []
 effect_of _ _ w = []
 

@@ -3,22 +3,23 @@ use Rattle.ell_ops.specs.declared.op.Op.{Op}
 use Rattle.ell_ops.specs.declared.op.Op.TheVariants.{Find, Insert, Delete, Swap}
 use Rattle.ell_ops.specs.Meaning.{greatest_key, key_of}
 use Rattle.ell_word.specs.declared.update.Update.{Update}
-use Rattle.ell_word.specs.Node.{IsInternal, internal, right_leaf}
+use Rattle.ell_word.specs.Node.{IsInternal}
 use Rattle.ell_word.specs.Word.{packed}
 use Rattle.ell_core.specs.declared.fact.Fact.TheVariants.{IFlagged, IChanged, IOver, DFlagged, Marked, Unmarkable, Cut, DOver, Backed}
 use Rattle.ell_core.specs.declared.field.Field.{Field}
 use Rattle.ell_core.specs.declared.field.Field.TheVariants as field
+use Rattle.ell_core.specs.declared.put.Put.{Put}
 use Rattle.ell_core.specs.declared.view.Seen.{Seen}
 use Rattle.ell_core.specs.state.Machine.{worker_of}
-use Rattle.ell_core.specs.state.Cards.{stored}
+use Rattle.ell_core.specs.state.Cards.{stored, brought_by}
 use Rattle.ell_core.specs.acts.Searching.{put_of, IsLeaf, IsClean, leaf_answer}
 use Rattle.ell_cards.specs.declared.view.Told.TheVariants.{Met, Key, Value, Info, Frozen}
 use Rattle.ell_cards.specs.declared.view.Looking.{Looking}
 use Rattle.ell_cards.specs.declared.view.View.{View}
 use Rattle.ell_cards.specs.Models.{IsTold, Knows, KnowsCard, Does, StandsAt, IsFree, stored_at}
 use Rattle.ell_ops.specs.declared.reply.Reply.{Reply}
-use Rattle.ell_ops.specs.declared.reply.Reply.TheVariants.{Yes, Found}
 use Rattle.ell_core.specs.soundness.Sound.{MayChange}
+use Rattle.ell_core.specs.statements.Effects.{reply_of_change}
 
 -- begin: nothing is in hand, and the key is owned, or shared
 pub record MayBegin (v : View) (op : Op) : Type 0 where
@@ -54,18 +55,13 @@ IsOver v (Insert k value) c = Knows v (IOver c)
 IsOver v (Delete k) c = Knows v (DOver c)
 IsOver v (Swap k was value) c = Knows v (IOver c)
 
--- what an operation answers whose card is over: yes, a swap the value that it had to find
-abbrev pub over_reply : Op → Reply
-over_reply (Swap k was value) = Found was
-over_reply _ = Yes
-
 -- an answer by the card in hand, which is over
 pub record KnowsAnswerByCard (v : View) (op : Op) (said : Reply) : Type 0 where
   pub card : ℕ
   pub holds : v.worker.card ≡ Some card
   pub flagged : v.worker.flagged ≡ true
   pub over : IsOver v op card
-  pub says : said ≡ over_reply op
+  pub says : said ≡ reply_of_change op
 
 -- answer: an operation is in hand, and has this answer
 pub record MayAnswer (v : View) (said : Reply) : Type 0 where
@@ -171,12 +167,10 @@ IsFilled v = (f : Field) → stored_at v.stores f ≡ stored v.planned f 0
 -- iflag: an insert's or a swap's card is in hand, filled and not flagged, and this is the parent with the update that was read there
 pub record MayIFlag (v : View) (c p : ℕ) (from : Update) : Type 0 where
   pub op : Op
-  pub key : ℕ
-  pub value : ℕ
-  pub was : Option ℕ
+  pub what : Put
   pub leaf : ℕ
   pub busy : Does v op
-  pub puts : put_of op ≡ Some (key, value, was)
+  pub puts : put_of op ≡ Some what
   pub may : MayFill v c
   pub stands : StandsAt v leaf
   pub behind : v.worker.search.parent ≡ Some (record { node = p; word = packed from })
@@ -194,8 +188,9 @@ pub record MayDFlag (v : View) (c gp : ℕ) (from : Update) : Type 0 where
   pub above : v.worker.search.grandparent ≡ Some (record { node = gp; word = packed from })
   pub filled : IsFilled v
 
--- ichild: the card is known flagged; these are its parent and leaf, whether it replaces the leaf, by its keys, and the side of its key at the parent
-pub record MayIChild (v : View) (c p l : ℕ) (replaces right : Bool) : Type 0 where
+-- ichild: the card is known flagged; these are its parent and leaf, the node that it brings, by its two leaf keys, and the side of its key at
+-- the parent
+pub record MayIChild (v : View) (c p l node : ℕ) (right : Bool) : Type 0 where
   pub parent_key : ℕ
   pub card_key : ℕ
   pub left_key : ℕ
@@ -205,7 +200,7 @@ pub record MayIChild (v : View) (c p l : ℕ) (replaces right : Bool) : Type 0 w
   pub told_parent : IsTold v (Key p parent_key)
   pub told_card : IsTold v (Info c field.Key card_key)
   pub told_left : IsTold v (Info c field.LeftLeafKey left_key)
-  pub kind : replaces ≡ (left_key == card_key)
+  pub brings : node ≡ brought_by c (left_key == card_key)
   pub side : right ≡ nat_le parent_key card_key
 
 -- iunflag: the card is known changed, and this is its parent

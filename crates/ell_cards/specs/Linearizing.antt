@@ -3,8 +3,8 @@ use mathlib.Core.Option.{some}
 use lib.ListN.{get_elem?}
 use Rattle.ell_ops.specs.declared.op.Op.{Op}
 use Rattle.ell_ops.specs.declared.reply.Reply.{Reply}
-use Rattle.ell_ops.specs.declared.reply.Reply.TheVariants.{Yes}
 use Rattle.ell_ops.specs.Contents.{contents_of}
+use Rattle.ell_core.specs.statements.Effects.{reply_of_change}
 use Rattle.ell_ops.specs.Meaning.{replies, final}
 use Rattle.ell_cards.specs.declared.call.Call.TheVariants as call
 use Rattle.ell_cards.specs.declared.view.View.{View}
@@ -77,21 +77,22 @@ StandsIn order i item = get_elem? order i ≡ some item
 abbrev pub IsIn : List Item → Item → Type 0
 IsIn order item = (i : ℕ) × StandsIn order i item
 
--- an item is a call that has changed the tree and has not ended, with yes
+-- an item is a call that has changed the tree and has not ended, with the answer of a change
 pub record IsPending (cards : ℕ) (s : TableState) (turns : List Turn) (item : Item) : Type 0 where
   pub change : ℕ
   pub changes : ChangesAt cards s turns item.begin change item.op
   pub unended : (end : ℕ) (op : Op) (said : Reply) → ¬ IsAnswered turns item.begin end op said
-  pub yes : item.reply ≡ Yes
+  pub says : item.reply ≡ reply_of_change item.op
 
 -- an item may be in the sequence of a run: it is a call that has ended, with its answer, or such a one
 abbrev pub IsMade : ℕ → TableState → List Turn → Item → Type 0
 IsMade cards s turns item = ((end : ℕ) × IsAnswered turns item.begin end item.op item.reply) ⊎ IsPending cards s turns item
 
--- which calls the sequence of a run has: each that has ended, with its answer; each that has changed the tree, with yes; no other; and each once
+-- which calls the sequence of a run has: each that has ended, with its answer; each that has changed the tree, with the answer of a change; no
+-- other; and each once
 pub record HasTheCalls (cards : ℕ) (s : TableState) (turns : List Turn) (order : List Item) : Type 0 where
   pub ended : (begin end : ℕ) (op : Op) (said : Reply) → IsAnswered turns begin end op said → IsIn order (record { begin = begin; op = op; reply = said })
-  pub changed : (begin change : ℕ) (op : Op) → ChangesAt cards s turns begin change op → IsIn order (record { begin = begin; op = op; reply = Yes })
+  pub changed : (begin change : ℕ) (op : Op) → ChangesAt cards s turns begin change op → IsIn order (record { begin = begin; op = op; reply = reply_of_change op })
   pub other : (item : Item) → IsIn order item → IsMade cards s turns item
   pub once : (i j : ℕ) (x y : Item) → StandsIn order i x → StandsIn order j y → x.begin ≡ y.begin → i ≡ j
 
@@ -127,8 +128,8 @@ CallsChangeOnce cards s turns = (begin change again : ℕ) (op o : Op) → Chang
 
 -- A run of a table is linearizable, as Herlihy and Wing define it in "Linearizability: a correctness condition for concurrent objects" (1990),
 -- section 2, of the object that is a finite map. There is one sequence of calls, as if one thread made one after the other. It has each call of
--- the run that has ended, with its answer; of those that have not ended, it has each that has changed the tree, as if that had answered yes; and
--- it has each once. Of two calls, of which one ended before the other began, it has that one first. Its replies are those of the map that has
+-- the run that has ended, with its answer; of those that have not ended, it has each that has changed the tree, as if that had answered yes, or
+-- a swap the value that it has replaced; and it has each once. Of two calls, of which one ended before the other began, it has that one first. Its replies are those of the map that has
 -- the start keys first, and what they leave is the tree. Each answer of the run is of one of its calls, and so is each change of the tree; and
 -- no call changes it twice.
 pub record IsLinearized (plan : TablePlan) (opened : TableState) (turns : List Turn) (s' : TableState) : Type 0 where

@@ -7,10 +7,10 @@ use Rattle.ell_word.specs.declared.gate.Kind.{Kind}
 use Rattle.ell_word.specs.declared.gate.Kind.TheVariants as kind
 use Rattle.ell_core.specs.state.Words.{Words, words_of}
 use Rattle.ell_core.specs.state.Machine.{Machine, ledger_of, worker_of}
-use Rattle.ell_core.specs.state.Cards.{card_key, card_value, is_replace_card}
+use Rattle.ell_core.specs.state.Cards.{card_key, card_value}
 use Rattle.ell_core.specs.soundness.Sound.{IsSound}
 use Rattle.ell_core.specs.acts.Wins.{win_for}
-use Rattle.ell_core.specs.statements.Effects.{BringsPair, TakesPair, SamePairs, AnswersAsMap}
+use Rattle.ell_core.specs.statements.Effects.{MakesChange, op_of_card, TakesPair, SamePairs, AnswersAsMap}
 use Rattle.ell_cards.specs.declared.call.Call.{Call}
 use Rattle.ell_cards.specs.declared.call.Call.TheVariants as call
 use Rattle.ell_cards.specs.declared.view.View.{View}
@@ -33,9 +33,10 @@ pub record IsHeld (v : View) (c : ℕ) : Type 0 where
   pub flagged : v.worker.flagged ≡ true
 
 -- what a call does to the keys of the tree and their values, by whether it is a won exchange: a won ichild adds its card's key with
--- its value, a won dchild takes its card's key with its value away, and nothing else changes them
+-- its value, or gives its key this value in place of the leaf's; a won dchild takes its card's key with its value away; and nothing else
+-- changes them
 abbrev pub PairsChangeBy : Call → Bool → Words → Words → Type 0
-PairsChangeBy (call.IChild c p l q right) true old new = BringsPair (is_replace_card old c) old new (card_key old c) (old.value (old.l c)) (card_value old c)
+PairsChangeBy (call.IChild c p l q right) true old new = MakesChange (op_of_card old c) old new
 PairsChangeBy (call.DChild c gp p s right) true old new = TakesPair old new (card_key old c) (card_value old c)
 PairsChangeBy _ _ old new = SamePairs old new
 
@@ -54,11 +55,7 @@ pub record IsAtWork (s : TableState) (c : ℕ) (op : Op) : Type 0 where
   pub does : Does view op
   pub held : IsHeld view c
 
--- the operation of an insert's card: a swap of the leaf's value, if it replaces the leaf
-abbrev pub op_of_card : Words → ℕ → Op
-op_of_card w c = if is_replace_card w c then Swap (card_key w c) (w.value (w.l c)) (card_value w c) else Insert (card_key w c) (card_value w c)
-
--- whose a won child exchange is: a won ichild is of an insert of its card's key and value that is in hand, a won dchild of a delete
+-- whose a won child exchange is: a won ichild is of an insert or a swap of its card's key and value that is in hand, a won dchild of a delete
 abbrev pub ChangeIsOf : Call → Bool → TableState → Type 0
 ChangeIsOf (call.IChild c p l q right) true s = IsAtWork s c (op_of_card (own_words s) c)
 ChangeIsOf (call.DChild c gp p y right) true s = IsAtWork s c (Delete (card_key (own_words s) c))

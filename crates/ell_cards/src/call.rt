@@ -38,8 +38,8 @@ pub enum Call {
     Fill(u64, Field, u64),
     /// Flags the parent for an insert: card, parent, the update that was read there.
     IFlag(u64, u64, Update),
-    /// Exchanges a child for an insert: card, parent, leaf, whether the card replaces it, side.
-    IChild(u64, u64, u64, bool, bool),
+    /// Exchanges a child for an insert or a swap: card, parent, leaf, the node that the card brings, side.
+    IChild(u64, u64, u64, u64, bool),
     /// Takes an insert's flag away: card, parent.
     IUnflag(u64, u64),
     /// Flags the grandparent for a delete: card, grandparent, the update that was read there.

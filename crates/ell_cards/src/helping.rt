@@ -16,7 +16,7 @@ use crate::pass::Pass;
 use crate::places::{child_at, update_at};
 use crate::table::CardTable;
 use ell_core::{Field, update_word};
-use ell_word::{State, Update, internal_of, unpack, right_leaf_of};
+use ell_word::{State, Update, internal_of, unpack};
 use std::alloc::Allocator;
 
 impl<A: Allocator + Copy> CardTable<A> {
@@ -57,27 +57,17 @@ impl<A: Allocator + Copy> CardTable<A> {
         card: u64,
         parent: u64,
         leaf: u64,
-        replaces: bool,
+        node: u64,
         right: bool,
     ) -> Result<(), u64>
         requires own { pass.old.table ≡ self.now.id }
-<<<<<<< HEAD
-        requires may { MayIChild pass.old.view card parent leaf right }
+        requires may { MayIChild pass.old.view card parent leaf node right }
         ensures step { Steps pass.old pass.new (exchanged (if_won (is_ok result) kind.IChild card)
             (found_child leaf result) (learning (IChanged card) pass.old.view)) }
-=======
-        requires may { MayIChild pass.old.view card parent leaf replaces right }
-        ensures step { Steps pass.old pass.new (exchanged (if_won (is_ok result) kind.IChild card) (found_child leaf result) (learning (IChanged card) pass.old.view)) }
->>>>>>> swap
         ensures lost { IfErr result (λ found. found ≢ leaf) }
     {
         self.names(pass);
-        let call = Call::IChild(card, parent, leaf, replaces, right);
-        let node = if replaces {
-            right_leaf_of(card)
-        } else {
-            internal_of(card)
-        };
+        let call = Call::IChild(card, parent, leaf, node, right);
         let found = self.exchange(pass, call, child_at(parent, right), leaf, node);
         child_outcome(leaf, found)
     }

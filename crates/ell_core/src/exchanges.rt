@@ -10,12 +10,13 @@ ghost use Rattle.ell_core.specs.inside.Inside.{words_in, worker_in, view_of, sce
 use crate::event::{CoreFault, Stepped};
 use crate::fact::{Fact, told_by};
 use crate::field::{Field, update_word};
+use crate::fillings::brought_node;
 use crate::memory::Memory;
 use crate::put::Put;
 use crate::view::Seen;
 use crate::worker::Worker;
 use ell_ops::Op;
-use ell_word::{State, internal_of, right_leaf_of};
+use ell_word::State;
 use std::alloc::Allocator;
 
 // What an exchange says.
@@ -127,11 +128,8 @@ pub(crate) fn ichild<A: Allocator + Copy>(
     worker.learn(Fact::IChanged(card))?;
     let parent = memory.read(card, Field::P);
     let leaf = memory.read(card, Field::L);
-    let node = if memory.read(card, Field::LeftLeafKey) == memory.read(card, Field::RightLeafKey) {
-        right_leaf_of(card)
-    } else {
-        internal_of(card)
-    };
+    let left_key = memory.read(card, Field::LeftLeafKey);
+    let node = brought_node(card, left_key, memory.read(card, Field::RightLeafKey));
     Ok(won_or_lost(memory.exchange_child(parent, leaf, node)))
 }
 

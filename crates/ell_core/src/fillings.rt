@@ -1,10 +1,10 @@
 //! What fills a card when it is claimed.
-ghost use Rattle.std.specs.Prelude.{◌≡◌, ◌≤◌};
+ghost use Rattle.std.specs.Prelude.{◌≡◌, ◌≤◌, ◌==◌};
 ghost use Rattle.ell_word.specs.Node.{greatest_card};
-ghost use Rattle.ell_core.specs.state.Cards.{insert_filling, delete_filling};
+ghost use Rattle.ell_core.specs.state.Cards.{brought_by, insert_filling, delete_filling};
 
 use crate::field::{Field, update_word};
-use ell_word::{State, left_leaf_of, right_leaf_of};
+use ell_word::{State, internal_of, left_leaf_of, right_leaf_of};
 
 /// The fields of an insert's card, for a key with its value at a leaf: an internal node with the greater key, over two new
 /// leaves, the lesser key on the left, each with its value. Condition: the card is at most `CARD_MAX`.
@@ -37,6 +37,19 @@ pub fn insert_filling(
         (Field::LeftValue, left_value),
         (Field::RightValue, right_value),
     ]
+}
+
+/// The node that an insert's card brings to the parent, by the keys of its two leaves: where they are one, it replaces a leaf of
+/// that key, by its right leaf; else it brings its internal node. Condition: the card is at most `CARD_MAX`.
+pub fn brought_node(card: u64, left_leaf_key: u64, right_leaf_key: u64) -> u64
+    requires { card ≤ greatest_card }
+    ensures { result ≡ brought_by card (left_leaf_key == right_leaf_key) }
+{
+    if left_leaf_key == right_leaf_key {
+        right_leaf_of(card)
+    } else {
+        internal_of(card)
+    }
 }
 
 /// The fields of a delete's card: what its search saw.

@@ -25,7 +25,7 @@ pub use branch::{Branch, branch_of};
 pub use event::{Act, CoreFault, Event, Shown, Stepped};
 pub use fact::{Fact, told_by};
 pub use field::{Field, child_field, key_field, table_size, update_word, value_field};
-pub use fillings::{delete_filling, insert_filling};
+pub use fillings::{brought_node, delete_filling, insert_filling};
 pub use keys::{TreeWords, pairs_of_tree};
 pub use laws::{
     answers_are_the_maps, balanced_trees_are_shallow, branches_are_halves, cards_wait,

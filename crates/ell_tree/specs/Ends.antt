@@ -1,5 +1,5 @@
 use Rattle.std.specs.Prelude.{◌≡◌, ℕ, ◌+◌, ◌*◌, ◌≤◌, ◌↔◌, Bool, Option, None, Some, is_some, IfSome, Result, Ok, Err}
-use Rattle.ell_cards.specs.Guards.{over_reply}
+use Rattle.ell_cards.specs.Guards.{reply_of_change}
 use Rattle.ell_ops.specs.declared.op.Op.{Op}
 use Rattle.ell_ops.specs.declared.op.Op.TheVariants.{Find, Insert, Delete}
 use Rattle.ell_ops.specs.declared.reply.Reply.{Reply}
@@ -42,7 +42,7 @@ pub record LaidDown (t : TreeModel) (op : Op) (old new : PassModel) : Type 0 whe
   pub would : Owns old (key_of op) → reply_of op (present_in old) ≡ Yes
   pub nothing : IsLaidDownInRuns t.plan new.view op
 =======
-  pub would : reply_of op (present_in old) ≡ over_reply op
+  pub would : reply_of op (present_in old) ≡ reply_of_change op
 >>>>>>> swap
   pub idle : IsIdle new
   pub no_card : new.view.worker.card ≡ None

@@ -5,7 +5,7 @@ use Rattle.ell_ops.specs.Meaning.{key_of, reply_of, yes_if, found}
 use Rattle.ell_tree.specs.declared.swapping.SwapTried.{SwapTried}
 use Rattle.ell_tree.specs.declared.swapping.SwapTried.TheVariants as swapped
 use Rattle.ell_core.specs.acts.Searching.{put_of}
-use Rattle.ell_cards.specs.Guards.{over_reply}
+use Rattle.ell_cards.specs.Guards.{reply_of_change}
 use Rattle.ell_word.specs.declared.update.Update.{Update}
 use Rattle.ell_core.specs.declared.fact.Fact.{Fact}
 use Rattle.ell_core.specs.declared.fact.Fact.TheVariants as fact
@@ -94,7 +94,7 @@ pub record Halts (op : Op) (old new : PassModel) : Type 0 where
 <<<<<<< HEAD
   pub would : Owns old (key_of op) → reply_of op (present_in old) ≡ Yes
 =======
-  pub would : reply_of op (present_in old) ≡ over_reply op
+  pub would : reply_of op (present_in old) ≡ reply_of_change op
 >>>>>>> swap
   pub stops : Stops op new.view
 

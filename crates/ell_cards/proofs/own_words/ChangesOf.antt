@@ -29,7 +29,8 @@ use Rattle.ell_cards.specs.States.{TableState, seat_worker}
 use Rattle.ell_cards.specs.Machines.{HasMachine}
 use Rattle.ell_cards.specs.Laws.{machine_of_table}
 use Rattle.ell_cards.specs.Turns.{found_by, state_after}
-use Rattle.ell_cards.specs.TurnEffects.{IsAtWork, ChangeIsOf, op_of_card}
+use Rattle.ell_core.specs.statements.Effects.{op_brought, op_of_card}
+use Rattle.ell_cards.specs.TurnEffects.{IsAtWork, ChangeIsOf}
 use Rattle.ell_cards.proofs.seats.Statements.{OperationsByMachine}
 use Rattle.ell_cards.proofs.stepping.AllCalls.{steps_are_events}
 use Rattle.ell_cards.proofs.own_words.OwnWords.{own_card_key, own_card_value, own_card_kind}
@@ -63,12 +64,12 @@ module _ (keys : List ℕ) (cards : ℕ) (s : TableState) (r : HasMachine keys c
       let kind = insert_kind r.words r.stages r.invariant.words c is in
       let two = ne_eqb (r.words.key (left_leaf c)) (r.words.key (right_leaf c)) (λ e. let less = h.4 in omega arith) in
       (λ i. Insert (sym (card_key-insert r.words c kind ∙ h.1) i) (sym (card_value-insert r.words c kind ∙ h.2) i))
-      ∙ sym (ap (λ b. if b then Swap (card_key r.words c) (r.words.value (r.words.l c)) (card_value r.words c) else Insert (card_key r.words c) (card_value r.words c)) two)
+      ∙ sym (ap (λ b. op_brought b (card_key r.words c) (r.words.value (r.words.l c)) (card_value r.words c)) two)
   inserts v (Swap k was value) c is h =
       let kind = insert_kind r.words r.stages r.invariant.words c is in
       let one = eq-eqb (r.words.key (left_leaf c)) (r.words.key (right_leaf c)) h.4.0 in
       (λ i. Swap (sym (card_key-insert r.words c kind ∙ h.1) i) (sym h.4.1 i) (sym (card_value-insert r.words c kind ∙ h.2) i))
-      ∙ sym (ap (λ b. if b then Swap (card_key r.words c) (r.words.value (r.words.l c)) (card_value r.words c) else Insert (card_key r.words c) (card_value r.words c)) one)
+      ∙ sym (ap (λ b. op_brought b (card_key r.words c) (r.words.value (r.words.l c)) (card_value r.words c)) one)
   inserts v (Delete k) c is h = absurd (one_kind (r.stages c) is (delete_won-delete (r.stages c) h.0))
 
   deletes : (v : Worker) (op : Op) (c : ℕ) → is_delete (r.stages c) ≡ true → Flagged r.words r.stages v op c → op ≡ Delete (card_key r.words c)
@@ -122,7 +123,7 @@ table_changes_are_operations keys cards s r id v (call.IChild c p l q right) her
         let key = own_card_key keys cards s r id c v here (inl may.knows) in
         let value = own_card_value keys cards s r id c v here (inl may.knows) in
         let same = own_card_kind keys cards s r id c v here (inl may.knows) in
-        subst (IsAtWork s c) (work.1 ∙ (λ i. if same.0 i then Swap (sym key i) (same.1 i) (sym value i) else Insert (sym key i) (sym value i))) work.2
+        subst (IsAtWork s c) (work.1 ∙ (λ i. op_brought (same.0 i) (sym key i) (same.1 i) (sym value i))) work.2
     by r' false h = tt
 table_changes_are_operations keys cards s r id v (call.DChild c gp p y right) here may =
     let step = steps_are_events keys cards s r id v (call.DChild c gp p y right) here may in by step.kept (found_by s (call.DChild c gp p y right) == p) step.event

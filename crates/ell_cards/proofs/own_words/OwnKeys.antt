@@ -9,7 +9,7 @@ use Rattle.ell_core.specs.state.Cards.{card_key, card_value, is_replace_card}
 use Rattle.ell_core.specs.acts.Exchanges.{won_or_lost}
 use Rattle.ell_core.specs.history.Stages.{Stages}
 use Rattle.ell_core.specs.history.Invariant.{Invariant}
-use Rattle.ell_core.specs.statements.Effects.{AddsPair, ReplacesPair, BringsPair, TakesPair, SamePairs, PairsChange}
+use Rattle.ell_core.specs.statements.Effects.{AddsPair, ReplacesPair, MakesChange, op_brought, op_of_card, TakesPair, SamePairs, PairsChange}
 use Rattle.ell_core.proofs.following.Lawful.{events_lawful}
 use Rattle.ell_cards.specs.declared.call.Call.{Call}
 use Rattle.ell_cards.specs.declared.call.Call.TheVariants as call
@@ -86,7 +86,7 @@ module _ (w w' t t' : Words) (before : SamePairs t w) (after : SamePairs t' w') 
     );
   }
 
-  own_brings : (b : Bool) (key was value : ℕ) → BringsPair b w w' key was value → BringsPair b t t' key was value
+  own_brings : (b : Bool) (key was value : ℕ) → MakesChange (op_brought b key was value) w w' → MakesChange (op_brought b key was value) t t'
   own_brings true key was value h = own_replaces key was value h
   own_brings false key was value h = own_adds key value h
 
@@ -106,11 +106,9 @@ module _ (w w' t t' : Words) (before : SamePairs t w) (after : SamePairs t' w') 
       → PairsChangeBy c b w w' → PairsChangeBy c b t t'
   own_change (call.IChild c p l q right) true v cards may key value kind h =
       let same = kind c (inl may.knows) in
-      subst (λ b. BringsPair b t t' (card_key t c) (t.value (t.l c)) (card_value t c)) same.0
-      (subst (λ u. BringsPair (is_replace_card w c) t t' (card_key t c) u (card_value t c)) same.1
-      (subst (λ k. BringsPair (is_replace_card w c) t t' k (w.value (w.l c)) (card_value t c)) (key c (inl may.knows))
-      (subst (BringsPair (is_replace_card w c) t t' (card_key w c) (w.value (w.l c))) (value c (inl may.knows))
-      (own_brings (is_replace_card w c) (card_key w c) (w.value (w.l c)) (card_value w c) h))))
+      let op_is : op_of_card w c ≡ op_of_card t c =
+      (λ i. op_brought (same.0 i) (key c (inl may.knows) i) (same.1 i) (value c (inl may.knows) i)) in
+      subst (λ op. MakesChange op t t') op_is (own_brings (is_replace_card w c) (card_key w c) (w.value (w.l c)) (card_value w c) h)
   own_change (call.DChild c gp p sibling right) true v cards may key value kind h =
       subst (λ k. TakesPair t t' k (card_value t c)) (key c (inr (inr may.knows)))
       (subst (TakesPair t t' (card_key w c)) (value c (inr (inr may.knows))) (own_takes (card_key w c) (card_value w c) h))

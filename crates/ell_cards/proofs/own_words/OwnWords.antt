@@ -65,7 +65,13 @@ module _ (keys : List ℕ) (cards : ℕ) (s : TableState) (r : HasMachine keys c
     own_card_value = card_value_same r.words (own_words s) r.stages r.invariant.words same_card c
         (known_settled keys cards s r id v here c knows) known_goes known_leaf
 
-<<<<<<< HEAD
+    -- whether it replaces its leaf, and the value of that
+    pub own_card_kind : (is_replace_card r.words c ≡ is_replace_card (own_words s) c) × (r.words.value (r.words.l c) ≡ (own_words s).value ((own_words s).l c))
+    own_card_kind = let same = same_card c (known_settled keys cards s r id v here c knows) in (
+      (λ t. sym (same field.LeftLeafKey) t == sym (same field.RightLeafKey) t),
+      sym (leaf_value_same r.words (own_words s) r.stages r.invariant.words same_card c (known_settled keys cards s r id v here c knows) known_goes known_leaf),
+    )
+
   -- the value of a card that a delete flagged
   pub own_taken_value : (c : ℕ) → delete_won (r.stages c) ≡ true → card_value (own_words s) c ≡ card_value r.words c
   own_taken_value c won =
@@ -73,14 +79,6 @@ module _ (keys : List ℕ) (cards : ℕ) (s : TableState) (r : HasMachine keys c
       let sound = r.invariant.words.cards c in
       card_value_same r.words (own_words s) r.stages r.invariant.words same_card c (delete_won-settled (r.stages c) won)
       ((may_rely (seated r.words s.views cards) r.stages 0 r.invariant).goes c (sound.claimed.0 (delete-claimed (r.stages c) deletes))) (sound.delete deletes).leaf.outer
-=======
-    -- whether it replaces its leaf, and the value of that
-    pub own_card_kind : (is_replace_card r.words c ≡ is_replace_card (own_words s) c) × (r.words.value (r.words.l c) ≡ (own_words s).value ((own_words s).l c))
-    own_card_kind = let same = same_card c (known_settled keys cards s r id v here c knows) in (
-      (λ t. sym (same field.LeftLeafKey) t == sym (same field.RightLeafKey) t),
-      sym (leaf_value_same r.words (own_words s) r.stages r.invariant.words same_card c (known_settled keys cards s r id v here c knows) known_goes known_leaf),
-    )
->>>>>>> swap
 
   -- where the words are the table's own
   words_own : WordsAreOwn keys cards s r

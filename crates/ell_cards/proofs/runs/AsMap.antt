@@ -1,22 +1,23 @@
-use Rattle.std.proofs.Common.{◌≡◌, ℕ, suc, if◌then◌else◌, Bool, true, false, not, Option, Some, None, is_some, unwrap_or, List, ◌∷◌, inl, inr, refl, sym, ap, ◌∙◌, subst, drop, [], ◌++◌, take}
+use Rattle.std.proofs.Common.{◌≡◌, ◌==◌, ℕ, suc, if◌then◌else◌, Bool, true, false, not, Option, Some, None, is_some, unwrap_or, List, ◌∷◌, inl, inr, refl, sym, ap, ◌∙◌, subst, drop, [], ◌++◌, take}
 use Rattle.std.proofs.lemmas.Bool.{eq-eqb, cases_eq, ne_eqb}
-use Rattle.ell_ops.specs.Contents.{Contents, with_pair, without, contents_of}
+use Rattle.ell_ops.specs.Contents.{Contents, with_pair, with_swap, swapped, without, contents_of}
 use Rattle.ell_ops.specs.Meaning.{key_of, reply_of, after, yes_if, found, final}
 use Rattle.ell_ops.specs.declared.op.Op.{Op}
-use Rattle.ell_ops.specs.declared.op.Op.TheVariants.{Find, Insert, Delete}
+use Rattle.ell_ops.specs.declared.op.Op.TheVariants.{Find, Insert, Delete, Swap}
 use Rattle.ell_ops.specs.declared.reply.Reply.{Reply}
-use Rattle.ell_ops.specs.declared.reply.Reply.TheVariants.{Yes}
+use Rattle.ell_ops.specs.declared.reply.Reply.TheVariants.{Found}
 use Rattle.ell_core.specs.state.Words.{Words}
 use Rattle.ell_core.specs.acts.Searching.{leaf_answer}
 use Rattle.ell_core.specs.tree.Tree.{IsTreeKey}
-use Rattle.ell_core.specs.statements.Effects.{AddsPair, TakesPair, SamePairs}
+use Rattle.ell_core.specs.statements.Effects.{reply_of_change, AddsPair, TakesPair, ReplacesPair, SamePairs, MakesChange, op_of_card}
 use Rattle.ell_core.proofs.outcomes.Decide.{same_value, some_not_none}
-use Rattle.ell_core.proofs.following.AnswerMeaning.{key_kept, key_lacked}
+use Rattle.ell_core.proofs.following.AnswerMeaning.{key_kept, key_lacked, swap_lacked, swap_other}
 use Rattle.ell_core.proofs.tree.Reached.{pair_key}
+use Rattle.ell_core.proofs.keeping.search.Answer.{gives_else}
 use Rattle.ell_cards.specs.Looking.{HasThere}
 use Rattle.ell_cards.specs.TurnEffects.{own_words, PairsChangeBy}
 use Rattle.ell_cards.specs.States.{TableState}
-use Rattle.ell_cards.specs.Changing.{HasMap, MakesChange, CallsAnswerAsAMap, IsAMap, TreesAreMaps, effect_of, turn_effect, run_effects, TreesAreOfOneThread, CallsReplyAsOneThread}
+use Rattle.ell_cards.specs.Changing.{HasMap, CallsAnswerAsAMap, IsAMap, TreesAreMaps, effect_of, turn_effect, run_effects, TreesAreOfOneThread, CallsReplyAsOneThread}
 use Rattle.ell_cards.proofs.runs.Points.{calls_have_their_point}
 use Rattle.ell_cards.specs.Turns.{TableRun, Turn, Makes, Splits, Joins, TableTurns, found_by}
 use Rattle.ell_core.specs.state.Cards.{card_key, card_value}
@@ -43,6 +44,8 @@ leaf_reply (Insert k value) (Some had) said there is e = sym (same_value refl e)
 leaf_reply (Insert k value) None said there is e = absurd (some_not_none e refl)
 leaf_reply (Delete k) (Some had) said there is e = absurd (some_not_none e refl)
 leaf_reply (Delete k) None said there is e = sym (same_value refl e) ∙ ap (λ p. yes_if (is_some p)) (sym is)
+leaf_reply (Swap k was value) (Some had) said there is e = (gives_else (had == was) (Found had) said e).1 ∙ ap found (sym is)
+leaf_reply (Swap k was value) None said there is e = sym (same_value refl e) ∙ ap found (sym is)
 
 pub leaf_leaves : (op : Op) (o : Option ℕ) (said : Reply) (there : Contents) → there (key_of op) ≡ o → leaf_answer op o ≡ Some said → (key : ℕ) → after op there key ≡ there key
 leaf_leaves (Find k) o said there is e key = refl
@@ -50,6 +53,8 @@ leaf_leaves (Insert k value) (Some had) said there is e key = sym (key_kept ther
 leaf_leaves (Insert k value) None said there is e key = absurd (some_not_none e refl)
 leaf_leaves (Delete k) (Some had) said there is e key = absurd (some_not_none e refl)
 leaf_leaves (Delete k) None said there is e key = sym (key_lacked there k is key)
+leaf_leaves (Swap k was value) (Some had) said there is e key = sym (swap_other there k was value had is (gives_else (had == was) (Found had) said e).0 key)
+leaf_leaves (Swap k was value) None said there is e key = sym (swap_lacked there k was value is key)
 
 -- a tree that lacks a key has a map that lacks it
 lacks : (w : Words) (there : Contents) → HasMap w there → (key : ℕ) → ¬ IsTreeKey w key → there key ≡ None
@@ -93,15 +98,42 @@ taken old new key value takes there map q v = elim (cases_eq q key) [
       )
 ]
 
+-- a swap of the value that a key has
+replaced : (old new : Words) (key was value : ℕ) → ReplacesPair old new key was value → (there : Contents) → HasMap old there
+    → HasMap new (with_swap there key was value)
+replaced old new key was value replaces there map q v = elim (cases_eq q key) [
+  | inl same ↦
+      let had : there q ≡ Some was = ap there same ∙ (map key was).0 replaces.present in
+      let is : with_swap there key was value q ≡ Some value =
+      ap (λ b. if b then swapped (there q) was value else there q) (eq-eqb q key same)
+      ∙ (ap (λ o. swapped o was value) had ∙ ap (λ b. Some (if b then value else was)) (eq-eqb was was refl)) in (
+        λ h. elim ((replaces.pairs q v).0 h) [
+          | inl other ↦ absurd (other.1 same)
+          | inr new ↦ is ∙ ap (λ n. Some n) (sym new.1)
+        ],
+        λ e. (replaces.pairs q v).1 (inr (same, sym (same_value is e))),
+      )
+  | inr other ↦
+      let is : with_swap there key was value q ≡ there q = ap (λ b. if b then swapped (there q) was value else there q) (ne_eqb q key other) in (
+        λ h. elim ((replaces.pairs q v).0 h) [
+          | inl had ↦ is ∙ (map q v).0 had.0
+          | inr new ↦ absurd (other new.0)
+        ],
+        λ e. (replaces.pairs q v).1 (inl ((map q v).1 (sym is ∙ e), other)),
+      )
+]
+
 pub change_map : (op : Op) (old new : Words) → MakesChange op old new → (there : Contents) → HasMap old there → HasMap new (after op there)
 change_map (Find k) old new h there map = absurd h
 change_map (Insert k value) old new h there map = added old new k value h there map
 change_map (Delete k) old new h there map = taken old new k h.0 h.1 there map
+change_map (Swap k was value) old new h there map = replaced old new k was value h there map
 
-pub change_says : (op : Op) (old new : Words) → MakesChange op old new → (there : Contents) → HasMap old there → Yes ≡ reply_of op there
+pub change_says : (op : Op) (old new : Words) → MakesChange op old new → (there : Contents) → HasMap old there → reply_of_change op ≡ reply_of op there
 change_says (Find k) old new h there map = absurd h
 change_says (Insert k value) old new h there map = ap (λ p. yes_if (not (is_some p))) (sym (lacks old there map k h.absent))
 change_says (Delete k) old new h there map = ap (λ p. yes_if (is_some p)) (sym ((map k h.0).0 h.1.present))
+change_says (Swap k was value) old new h there map = ap found (sym ((map k was).0 h.present))
 
 -- each call answers as a map at one point
 pub calls_answer_as_a_map : CallsAnswerAsAMap
@@ -140,9 +172,9 @@ same_map old new same there map k v = (λ h. (map k v).0 ((same k v).0 h), λ e.
 
 -- a call leads from a map to a map
 call_map : (c : Call) (b : Bool) (old new : Words) → PairsChangeBy c b old new → (there : Contents) → HasMap old there → (after : Contents) × HasMap new after
-call_map (call.IChild c p l right) true old new adds there map =
-    (with_pair there (card_key old c) (card_value old c), added old new (card_key old c) (card_value old c) adds there map)
-call_map (call.IChild c p l right) false old new same there map = (there, same_map old new same there map)
+call_map (call.IChild c p l q right) true old new makes there map =
+    (after (op_of_card old c) there, change_map (op_of_card old c) old new makes there map)
+call_map (call.IChild c p l q right) false old new same there map = (there, same_map old new same there map)
 call_map (call.DChild c gp p s right) true old new takes there map = (without there (card_key old c), taken old new (card_key old c) (card_value old c) takes there map)
 call_map (call.DChild c gp p s right) false old new same there map = (there, same_map old new same there map)
 call_map _ b old new same there map = (there, same_map old new same there map)
@@ -169,8 +201,8 @@ trees_are_maps plan s starts turns s' run =
 
 -- a call leads from a map to that after its effect
 effect_map : (c : Call) (b : Bool) (old new : Words) → PairsChangeBy c b old new → (there : Contents) → HasMap old there → HasMap new (final there (effect_of c b old))
-effect_map (call.IChild c p l right) true old new adds there map = added old new (card_key old c) (card_value old c) adds there map
-effect_map (call.IChild c p l right) false old new same there map = same_map old new same there map
+effect_map (call.IChild c p l q right) true old new makes there map = change_map (op_of_card old c) old new makes there map
+effect_map (call.IChild c p l q right) false old new same there map = same_map old new same there map
 effect_map (call.DChild c gp p s right) true old new takes there map = taken old new (card_key old c) (card_value old c) takes there map
 effect_map (call.DChild c gp p s right) false old new same there map = same_map old new same there map
 effect_map _ b old new same there map = same_map old new same there map

@@ -27,17 +27,10 @@ steps_rise w lawful x (right ∷ path) y reached leads inner =
     omega arith
 
 pub tables_have_heights : TablesHaveHeights
-<<<<<<< HEAD
 tables_have_heights plan s reached path x leads inner =
     let rise = steps_rise (own_words s) (own_words_are_sound plan.keys plan.last_card s r).tree 0 path x (Below-refl (own_words s) 0) leads inner in
     let born = reached_born r.words (own_words s) r.stages r.invariant.words (same_card plan.keys plan.last_card s r) x (record { path = path; leads = leads }) in
-    let low = (r.invariant.words.cards (card x)).claimed.0 (born-claimed (r.stages (card x)) born) in
-=======
-tables_have_heights keys start last s reached path x leads inner =
-    let rise = steps_rise (own_words s) (own_words_are_sound keys last s r).tree 0 path x (Below-refl (own_words s) 0) leads inner in
-    let born = reached_born r.words (own_words s) r.stages r.invariant.words (same_card keys last s r) x (record { path = path; leads = leads }) in
     let low = (r.invariant.words.cards (card x)).claimed.0 (born-claimed (r.stages (card x)) (x % 3) born) in
->>>>>>> swap
     let limit = r.invariant.limit in
     omega arith
   where

@@ -18,6 +18,7 @@ use Rattle.ell_word.specs.declared.update.Update.{Update}
 use Rattle.ell_core.specs.declared.fact.Fact.TheVariants.{IFlagged, DFlagged, Marked}
 use Rattle.ell_core.specs.declared.fact.Fact.{Fact}
 use Rattle.ell_core.specs.declared.field.Field.TheVariants as field
+use Rattle.ell_core.specs.declared.put.Put.{Put}
 use Rattle.ell_core.specs.declared.view.Seen.{Seen}
 use Rattle.ell_core.specs.declared.view.Search.{Search}
 use Rattle.ell_core.specs.state.Words.{Words}
@@ -145,8 +146,8 @@ won_waits s h k = false≢true (sym (calm s h) ∙ k)
     calm s h = grind arith
 
 -- an operation that puts something is no delete
-put_is_no_delete : (k : ℕ) (op : Op) (key value : ℕ) (was : Option ℕ) → put_of op ≡ Some (key, value, was) → Some (Delete k) ≡ Some op → ⊥
-put_is_no_delete k op key value was puts e = some_not_none puts (ap put_of (sym (same_Some (Delete k) op e)))
+put_is_no_delete : (k : ℕ) (op : Op) (what : Put) → put_of op ≡ Some what → Some (Delete k) ≡ Some op → ⊥
+put_is_no_delete k op what puts e = some_not_none puts (ap put_of (sym (same_Some (Delete k) op e)))
 
 -- the card that is held
 pub held_is : (o : Option ℕ) (c : ℕ) → is_held o c ≡ true → o ≡ Some c
@@ -343,10 +344,10 @@ module _ (keys : List ℕ) (cards : ℕ) (m0 : Machine) (stage : Stages) (first 
       let there_then = ((relies keys cards s r seat v there).parent may.leaf seen stands behind).node in
       let is = update_listed keys cards s r seat v there p there_then.inner there_then.born in
       let low = ((sound.stands may.op may.leaf may.busy may.stands).parent seen may.behind).0.word in
-      let held = putting_hand r.words now (worker_of v.worker) may.op may.key may.value may.was c may.puts (sound.unflagged may.op c may.busy may.may.holds may.may.unflagged) in
+      let held = putting_hand r.words now (worker_of v.worker) may.what c may.op may.puts (sound.unflagged may.op c may.busy may.may.holds may.may.unflagged) in
       let same = same_Some held.parent seen (sym held.behind ∙ may.behind) in
       flag_hindered kind.IFlag c (IFlagged c) p (packed from) n (n == packed from) refl
-      (λ k d busy has. absurd (put_is_no_delete k may.op may.key may.value may.was may.puts (sym busy ∙ may.busy)))
+      (λ k d busy has. absurd (put_is_no_delete k may.op may.what may.puts (sym busy ∙ may.busy)))
       (finds p (packed from) n there_now.inner there_now.born (place_of seen (since.parent seen behind)) low
       (three (packed from) (subst (λ (z : Seen). IsClean z.word) same held.calm)) is)
 

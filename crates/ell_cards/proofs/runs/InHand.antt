@@ -35,10 +35,10 @@ hand_way w stage v words sound c has = by v.worker.operation refl v.worker.flagg
         → v.worker.search.grandparent ≡ above → in_the_way o place parent above ≡ [] → way_now v ≡ []
     is o place parent above e f g h none = (λ t. in_the_way (e t) (f t) (g t) (h t)) ∙ none
 
-    inserts : (k value : ℕ) → v.worker.operation ≡ Some (Insert k value) → InsertInHand w stage (worker_of v.worker) k value None c → way_now v ≡ []
+    inserts : (k value : ℕ) → v.worker.operation ≡ Some (Insert k value) → InsertInHand w stage (worker_of v.worker) (record { key = k; value = value; was = None }) c → way_now v ≡ []
     inserts k value e h = is (Some (Insert k value)) (Some (w.l c)) (Some h.parent) v.worker.search.grandparent e h.stands h.behind refl (clean_read h.parent h.calm)
 
-    swaps : (k was value : ℕ) → v.worker.operation ≡ Some (Swap k was value) → InsertInHand w stage (worker_of v.worker) k value (Some was) c → way_now v ≡ []
+    swaps : (k was value : ℕ) → v.worker.operation ≡ Some (Swap k was value) → InsertInHand w stage (worker_of v.worker) (record { key = k; value = value; was = Some was }) c → way_now v ≡ []
     swaps k was value e h = is (Some (Swap k was value)) (Some (w.l c)) (Some h.parent) v.worker.search.grandparent e h.stands h.behind refl (clean_read h.parent h.calm)
 
     deletes : (k : ℕ) → v.worker.operation ≡ Some (Delete k) → DeleteInHand w stage (worker_of v.worker) k c → way_now v ≡ []

@@ -117,7 +117,7 @@ module _ (op : Op) where
   laid_before (call.LookFor key) n v e = inr (tt, e)
   laid_before (call.LookDown x right) n v e = inr (tt, e)
   laid_before (call.Fill c f value) n v e = inr (tt, e)
-  laid_before (call.IChild c p l right) n v e = inr (tt, e)
+  laid_before (call.IChild c p l q right) n v e = inr (tt, e)
   laid_before (call.IUnflag c p) n v e = inr (tt, e)
   laid_before (call.DChild c gp p y right) n v e = inr (tt, e)
   laid_before (call.DUnflag c gp) n v e = inr (tt, e)

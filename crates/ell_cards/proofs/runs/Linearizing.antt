@@ -5,7 +5,7 @@ use lib.ListN.{get_elem?}
 use Rattle.ell_ops.specs.Contents.{Contents, contents_of}
 use Rattle.ell_ops.specs.declared.op.Op.{Op}
 use Rattle.ell_ops.specs.declared.reply.Reply.{Reply}
-use Rattle.ell_ops.specs.declared.reply.Reply.TheVariants.{Yes}
+use Rattle.ell_core.specs.statements.Effects.{reply_of_change}
 use Rattle.ell_ops.specs.Meaning.{after, replies, final}
 use Rattle.ell_cards.specs.declared.call.Call.TheVariants as call
 use Rattle.ell_cards.specs.Models.{TablePlan}
@@ -37,7 +37,7 @@ module _ (plan : TablePlan) (opened : TableState) (starts : Starts plan opened) 
   -- an item that is a call which changes the tree, at its turn
   record IsChanging (x : Placed) : Type 0 where
     changes : Changes x.item.begin x.at x.item.op
-    yes : x.item.reply ≡ Yes
+    says : x.item.reply ≡ reply_of_change x.item.op
 
   -- one that is a call which answered at a leaf, at its point
   record IsReading (x : Placed) (j : ℕ) : Type 0 where
@@ -65,7 +65,7 @@ module _ (plan : TablePlan) (opened : TableState) (starts : Starts plan opened) 
       (map_at p) (is_map plan opened starts turns s' run p)))
 
   -- and by a call that changes it
-  right_change : (i p : ℕ) (op : Op) → Changes i p op → IsRight map_at (record { item = record { begin = i; op = op; reply = Yes }; at = p; past = suc p })
+  right_change : (i p : ℕ) (op : Op) → Changes i p op → IsRight map_at (record { item = record { begin = i; op = op; reply = reply_of_change op }; at = p; past = suc p })
   right_change i p op g =
       let h = changed_of plan opened starts turns s' run i p op g in
       let lawful = turn_lawful plan.keys plan.last_card (at_turn p) (kept plan opened starts turns s' run p) h.turn (at_turn (suc p))
@@ -131,11 +131,11 @@ module _ (plan : TablePlan) (opened : TableState) (starts : Starts plan opened) 
   -- and one by which it does
   changing_here : (p : ℕ) (op : Op) (g : IsOfACall plan.last_card opened turns p op) → Changing (suc p) → Changing p
   changing_here p op g rest =
-      let x : Placed = record { item = record { begin = g.begin; op = op; reply = Yes }; at = p; past = suc p } in record {
+      let x : Placed = record { item = record { begin = g.begin; op = op; reply = reply_of_change op }; at = p; past = suc p } in record {
         list = x ∷ rest.list;
         right = (stays_here p, right_change g.begin p op g.changes, rest.right);
         each = λ y i. elim i [
-          | inl e ↦ subst (λ (z : Placed). (p ≤ z.at) × IsChanging z) (sym e) (omega arith, record { changes = g.changes; yes = refl })
+          | inl e ↦ subst (λ (z : Placed). (p ≤ z.at) × IsChanging z) (sym e) (omega arith, record { changes = g.changes; says = refl })
           | inr j ↦ (let h = rest.each y j in let up = h.0 in (omega arith, h.1))
         ];
         all = λ k u o up at effect. elim (cases_lt p k) [
@@ -187,7 +187,7 @@ module _ (plan : TablePlan) (opened : TableState) (starts : Starts plan opened) 
 
   -- where a call that has ended is
   abbrev IsKept : List Placed → ℕ → Op → Reply → Type 0
-  IsKept list i op said = ((x : Placed) × In x list × (x.item ≡ item i op said)) ⊎ ((said ≡ Yes) × ChangesThere plan opened starts turns s' run i op)
+  IsKept list i op said = ((x : Placed) × In x list × (x.item ≡ item i op said)) ⊎ ((said ≡ reply_of_change op) × ChangesThere plan opened starts turns s' run i op)
 
   -- the calls that answer at a leaf from a turn on
   record Reading (p : ℕ) : Type 0 where
@@ -217,7 +217,7 @@ module _ (plan : TablePlan) (opened : TableState) (starts : Starts plan opened) 
   }
 
   -- where it ends one by its card
-  ends_by_card : (i p : ℕ) (op : Op) (said : Reply) → IsAnswered turns i p op said → said ≡ Yes → ChangesThere plan opened starts turns s' run i op → Reading (suc p) → Reading p
+  ends_by_card : (i p : ℕ) (op : Op) (said : Reply) → IsAnswered turns i p op said → said ≡ reply_of_change op → ChangesThere plan opened starts turns s' run i op → Reading (suc p) → Reading p
   ends_by_card i p op said h says there rest = record {
     list = rest.list;
     each = λ x i. (let h = rest.each x i in let up = h.1 in (h.0, omega arith, h.2));
@@ -227,7 +227,7 @@ module _ (plan : TablePlan) (opened : TableState) (starts : Starts plan opened) 
           let now : j ≡ p = omega arith in
           let same = same_answer i k p op o said other h (subst (λ n. IsAnswered turns k n o other) now g) in
           inr (
-            sym same.says ∙ says,
+            sym same.says ∙ (says ∙ ap reply_of_change same.does),
             subst (λ n. ChangesThere plan opened starts turns s' run n o) same.begins
                 (subst (λ b. ChangesThere plan opened starts turns s' run i b) same.does there),
           )
@@ -350,7 +350,7 @@ module _ (plan : TablePlan) (opened : TableState) (starts : Starts plan opened) 
   sequence = items_of all_calls.list
 
   -- each call that changes the tree is there
-  changed_there : (i p : ℕ) (op : Op) → Changes i p op → IsIn sequence (item i op Yes)
+  changed_there : (i p : ℕ) (op : Op) → Changes i p op → IsIn sequence (item i op (reply_of_change op))
   changed_there i p op g =
       let h = changed_of plan opened starts turns s' run i p op g in
       let found = every_change.all p h.turn op (omega arith) h.at h.effect in
@@ -360,7 +360,7 @@ module _ (plan : TablePlan) (opened : TableState) (starts : Starts plan opened) 
       let one = one_call plan opened starts turns s' run here.by.work.seat g.by.work.seat x.item.begin i p x.item.op op
       (changed_of plan opened starts turns s' run x.item.begin p x.item.op here) h in
       let there = item_in all_calls.list x (all_calls.changes x found.1) in
-      (there.0, there.1 ∙ ap (λ (n : Item). some n) (same_item x.item.begin i x.item.op op x.item.reply Yes one.begins one.does its.yes))
+      (there.0, there.1 ∙ ap (λ (n : Item). some n) (same_item x.item.begin i x.item.op op x.item.reply (reply_of_change op) one.begins one.does (its.says ∙ ap reply_of_change one.does)))
 
   -- and each that has ended
   ended_there : (i j : ℕ) (op : Op) (said : Reply) → IsAnswered turns i j op said → IsIn sequence (item i op said)
@@ -398,7 +398,7 @@ module _ (plan : TablePlan) (opened : TableState) (starts : Starts plan opened) 
   ]
 
   -- a call that has changed the tree has ended with yes, or not yet
-  pending : (x : Item) (p : ℕ) → Changes x.begin p x.op → x.reply ≡ Yes → IsMade plan.last_card opened turns x
+  pending : (x : Item) (p : ℕ) → Changes x.begin p x.op → x.reply ≡ reply_of_change x.op → IsMade plan.last_card opened turns x
   pending x p g says = elim (ended_by (length turns) x.begin (omega arith)) [
     | inl h ↦
         let does = (same_begin turns x.begin h.ended.seat g.by.work.seat h.op x.op h.ended.begins g.begins).1 in
@@ -406,7 +406,7 @@ module _ (plan : TablePlan) (opened : TableState) (starts : Starts plan opened) 
           | inl leaf ↦ absurd (crossed x.begin x.begin h.end p h.op x.op h.said h.ended leaf.0 g refl)
           | inr card ↦ inl (
             h.end,
-            subst (λ r. IsAnswered turns x.begin h.end x.op r) (card.0 ∙ sym says)
+            subst (λ r. IsAnswered turns x.begin h.end x.op r) (card.0 ∙ (ap reply_of_change does ∙ sym says))
                 (subst (λ o. IsAnswered turns x.begin h.end o h.said) does h.ended),
           )
         ]
@@ -414,7 +414,7 @@ module _ (plan : TablePlan) (opened : TableState) (starts : Starts plan opened) 
       change = p;
       changes = g;
       unended = λ j op said h. (let less = inside turns j (Makes h.seat (call.Answer said)) h.answers in none j op said less h);
-      yes = says;
+      says = says;
     })
   ]
 
@@ -422,7 +422,7 @@ module _ (plan : TablePlan) (opened : TableState) (starts : Starts plan opened) 
   made_of : (x : Placed) → In x all_calls.list → IsMade plan.last_card opened turns x.item
   made_of x i = elim (all_calls.all x i) [
     | inl j ↦ (let h = every_reading.each x j in inl (h.0, h.2.answered))
-    | inr j ↦ (let h = (every_change.each x j).1 in pending x.item x.at h.changes h.yes)
+    | inr j ↦ (let h = (every_change.each x j).1 in pending x.item x.at h.changes h.says)
   ]
 
   has_the_calls : HasTheCalls plan.last_card opened turns sequence

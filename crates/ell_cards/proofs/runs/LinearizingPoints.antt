@@ -5,12 +5,12 @@ use mathlib.Core.Option.{some, some-injective}
 use lib.ListN.{get_elem?}
 use Rattle.ell_ops.specs.Contents.{Contents, contents_of}
 use Rattle.ell_ops.specs.declared.op.Op.{Op}
-use Rattle.ell_ops.specs.declared.op.Op.TheVariants.{Find, Insert, Delete}
+use Rattle.ell_ops.specs.declared.op.Op.TheVariants.{Find, Insert, Delete, Swap}
 use Rattle.ell_ops.specs.declared.reply.Reply.{Reply}
-use Rattle.ell_ops.specs.declared.reply.Reply.TheVariants.{Yes}
 use Rattle.ell_ops.specs.Meaning.{key_of, reply_of, after, final}
 use Rattle.ell_core.specs.state.Words.{Words}
 use Rattle.ell_core.specs.state.Machine.{Worker}
+use Rattle.ell_core.specs.statements.Effects.{MakesChange, reply_of_change}
 use Rattle.ell_core.proofs.outcomes.Decide.{some_not_none}
 use Rattle.ell_core.proofs.stages.Sums.{child_changes, sum_by}
 use Rattle.ell_cards.specs.declared.call.Call.TheVariants as call
@@ -23,7 +23,7 @@ use Rattle.ell_cards.specs.Turns.{Turn, Makes, Splits, Joins, CallIsMade, TableT
 use Rattle.ell_cards.specs.TurnEffects.{own_words, IsHeld, IsWonFor, turn_wins}
 use Rattle.ell_cards.specs.Starts.{Starts}
 use Rattle.ell_cards.specs.Meanwhile.{KeepsOn, KeepOn}
-use Rattle.ell_cards.specs.Changing.{HasMap, IsCalled, SaysWhatWas, MakesChange, TakesEffect, HoldsAtEnd, change_of, turn_effect, run_effects}
+use Rattle.ell_cards.specs.Changing.{HasMap, IsCalled, SaysWhatWas, TakesEffect, HoldsAtEnd, change_of, turn_effect, run_effects}
 use Rattle.ell_cards.specs.Guards.{KnowsAnswerAtLeaf}
 use Rattle.ell_cards.specs.Looking.{HasThere}
 use Rattle.ell_cards.specs.Linearizing.{KeepsOnBetween, IsAnswered, ChangesAt, IsOfACall}
@@ -417,6 +417,7 @@ module _ (plan : TablePlan) (opened : TableState) (starts : Starts plan opened) 
   change_sum (Find key) old new h = absurd h
   change_sum (Insert key value) old new h = refl
   change_sum (Delete key) old new h = refl
+  change_sum (Swap key was value) old new h = refl
 
   -- it has that card in hand there
   own_seat : (seat i j p c : ℕ) (op : Op) (h : Changed seat i p op) (other k : ℕ) → KeepsOnBetween other turns k j → k < p → p < j → c ≡ h.card
@@ -505,7 +506,7 @@ module _ (plan : TablePlan) (opened : TableState) (starts : Starts plan opened) 
 
   -- a call that has ended answered at a leaf, of one state; or by its card, and has changed the tree
   pub point_at : (i j : ℕ) (op : Op) (said : Reply) (h : IsAnswered turns i j op said)
-      → (KnowsAnswerAtLeaf (called i j op said h).answers.view op said × ReadsAt i j op said) ⊎ ((said ≡ Yes) × ChangesThere i op)
+      → (KnowsAnswerAtLeaf (called i j op said h).answers.view op said × ReadsAt i j op said) ⊎ ((said ≡ reply_of_change op) × ChangesThere i op)
   point_at i j op said h =
       elim (point_of plan.keys plan.last_card (after_turns i) (kept i) h.seat op (after_turns (suc i)) (slice (suc i) j) (after_turns j) said (called i j op said h)) [
         | inl leaf ↦ inl (leaf.0, reads_at i j op said h.later leaf.1)

@@ -1,9 +1,10 @@
-use Rattle.std.proofs.Common.{◌≡◌, ℕ, ◌<◌, ◌⊎◌, ◌==◌, if◌then◌else◌, Bool, true, false, Some, [], ◌∷◌, inl, inr, refl, ap, ◌∙◌, subst, arith, eqb-true}
+use Rattle.std.proofs.Common.{◌≡◌, ℕ, ◌<◌, ◌⊎◌, ◌==◌, if◌then◌else◌, Bool, true, false, Some, [], ◌∷◌, inl, inr, refl, sym, ap, ◌∙◌, subst, arith, eqb-true}
 use Rattle.ell_ops.specs.declared.op.Op.{Op}
-use Rattle.ell_ops.specs.declared.op.Op.TheVariants.{Insert, Delete}
+use Rattle.ell_ops.specs.declared.op.Op.TheVariants.{Delete}
 use Rattle.ell_word.specs.declared.gate.Kind.TheVariants as kind
 use Rattle.ell_core.specs.state.Words.{Words}
-use Rattle.ell_core.specs.state.Cards.{card_key, card_value}
+use Rattle.ell_core.specs.state.Cards.{card_key, card_value, is_replace_card}
+use Rattle.ell_core.specs.statements.Effects.{MakesChange, op_brought, op_of_card}
 use Rattle.ell_core.proofs.stages.Sums.{child_changes, sum_by, win_sum}
 use Rattle.ell_cards.specs.declared.call.Call.{Call}
 use Rattle.ell_cards.specs.declared.call.Call.TheVariants as call
@@ -12,11 +13,19 @@ use Rattle.ell_cards.specs.States.{TableState}
 use Rattle.ell_cards.specs.Turns.{Turn, Makes, Splits, Joins, found_by}
 use Rattle.ell_cards.specs.TurnEffects.{own_words, PairsChangeBy, IsAtWork, ChangeIsOf, PairsGoBy, IsWonFor, win_of, turn_wins}
 use Rattle.ell_cards.specs.Meanwhile.{KeepsOn, KeepOn}
-use Rattle.ell_cards.specs.Changing.{MakesChange, change_of, effect_of, turn_effect}
+use Rattle.ell_cards.specs.Changing.{change_of, effect_of, turn_effect}
+
+-- an insert's card changes the tree by its ichild
+brought_change : (b : Bool) (key was value : ℕ) → change_of (op_brought b key was value) ≡ kind.IChild ∷ []
+brought_change true key was value = refl
+brought_change false key was value = refl
+
+card_change : (w : Words) (c : ℕ) → change_of (op_of_card w c) ≡ kind.IChild ∷ []
+card_change w c = brought_change (is_replace_card w c) (card_key w c) (w.value (w.l c)) (card_value w c)
 
 -- a call changes the tree by one operation or not at all
 effect_cases : (y : Call) (b : Bool) (w : Words) → (effect_of y b w ≡ []) ⊎ ((op : Op) × (effect_of y b w ≡ op ∷ []))
-effect_cases (call.IChild d p l right) true w = inr (Insert (card_key w d) (card_value w d), refl)
+effect_cases (call.IChild d p l q right) true w = inr (op_of_card w d, refl)
 effect_cases (call.DChild d gp p y right) true w = inr (Delete (card_key w d), refl)
 effect_cases _ b w = inl refl
 
@@ -28,7 +37,7 @@ turn_cases s (Joins seat other) = inl refl
 -- a call that does not wins no exchange of a child
 effect_none : (y : Call) (b : Bool) (w : Words) (c : ℕ) → effect_of y b w ≡ [] → sum_by child_changes (if b then win_of y c else []) ≡ 0
 effect_none y false w c e = refl
-effect_none (call.IChild d p l right) true w c e = absurd cc
+effect_none (call.IChild d p l q right) true w c e = absurd cc
 effect_none (call.DChild d gp p y right) true w c e = absurd cc
 effect_none (call.IFlag d p from) true w c e = win_sum child_changes (Some d) kind.IFlag c refl
 effect_none (call.IUnflag d p) true w c e = win_sum child_changes (Some d) kind.IUnflag c refl
@@ -56,9 +65,16 @@ one_op : (a b : Op) → a ∷ [] ≡ b ∷ [] → a ≡ b
 one_op a b e = cc
 
 call_changes : (s : TableState) (y : Call) (b : Bool) (op : Op) → effect_of y b (own_words s) ≡ op ∷ [] → CallChanges s y b op
-call_changes s (call.IChild d p l right) true op e =
-    subst (CallChanges s (call.IChild d p l right) true) (one_op (Insert (card_key (own_words s) d) (card_value (own_words s) d)) op e)
-    (record { card = d; own = λ c. refl; work = λ h. h; makes = λ new h. h; one = refl; keeps = tt })
+call_changes s (call.IChild d p l q right) true op e =
+    subst (CallChanges s (call.IChild d p l q right) true) (one_op (op_of_card (own_words s) d) op e)
+    (record {
+      card = d;
+      own = λ c. ap (λ ks. if c == d then ks else []) (sym (card_change (own_words s) d));
+      work = λ h. h;
+      makes = λ new h. h;
+      one = ap (sum_by child_changes) (card_change (own_words s) d);
+      keeps = tt;
+    })
 call_changes s (call.DChild d gp p y right) true op e =
     subst (CallChanges s (call.DChild d gp p y right) true) (one_op (Delete (card_key (own_words s) d)) op e)
     (record { card = d; own = λ c. refl; work = λ h. h; makes = λ new h. (card_value (own_words s) d, h); one = refl; keeps = tt })

@@ -98,7 +98,6 @@ becomes_met key real met m stage i (Some a) said m' holds steps are =
       are = event_met m stage (record { worker = i; act = a }) said m' follows.stages key met holds steps follows.invariant.words follows.later.born real are;
     }
 
-<<<<<<< HEAD
 -- the machine after a turn, with the nodes that were met
 pub gone_by : (keys : List ℕ) (cards : ℕ) (key : ℕ) → key ≤ greatest_key → (s : TableState) (met : ℕ → Type 0) (kept : HasMachine keys cards s) (stages : Stages)
     → Invariant (machine_of_table keys cards s kept) stages → AreMet kept.words stages key met → (t : Turn) (s' : TableState) → TableTurns cards s t s' → (kept : HasMachine keys cards s') × GoneOn key met (machine_of_table keys cards s' kept)
@@ -120,11 +119,10 @@ gone_by keys cards key real s met was stage inv are (Joins one other) s' h =
     let m' = machine_of_table keys cards s' turn.0 in
     let join = turn.1.machine in
     (turn.0, still_met key real met m stage m' (joins_lawful m stage one other m' inv join) (ap (λ (n : Machine). n.words) join.gives) are)
-=======
+
 -- a key that is no greater than another is left of a node whose key is greater than that one
 left_of_top : (k top key : ℕ) → k ≡ top + 2 → key ≤ top → false ≡ nat_le k key
 left_of_top k top key e real = sym (lt-leb k key (omega arith))
->>>>>>> swap
 
 module _ (keys : List ℕ) (cards : ℕ) (seat key : ℕ) (real : key ≤ greatest_key) where
   -- nodes that were met, in a state that has a machine, and the look of the pass in the seat has come to one of them

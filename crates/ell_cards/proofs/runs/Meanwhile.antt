@@ -283,13 +283,8 @@ module _ (plan : TablePlan) (q : SearchRun plan) where
   opens = starts_are_kept plan q.opened q.starts
 
   -- where the run leads before the search begins
-<<<<<<< HEAD
   led_to : (k : HasMachine plan.keys plan.last_card q.begun) × Went opens.kept.words opens.kept.stages (run_wins plan.last_card q.opened q.before q.begun q.led) (machine_of_table plan.keys plan.last_card q.begun k)
-  led_to = run_goes plan.keys plan.last_card q.opened opens.kept opens.kept.stages opens.kept.invariant q.before q.begun q.led
-=======
-  led_to : (k : HasMachine keys last q.begun) × Went opens.kept.words opens.kept.stages (run_wins last q.opened q.before q.begun q.led) (machine_of_table keys last q.begun k)
-  led_to = let made = run_goes keys last q.opened opens.kept opens.kept.stages opens.kept.invariant q.before q.begun q.led in (made.0, made.1)
->>>>>>> swap
+  led_to = let made = run_goes plan.keys plan.last_card q.opened opens.kept opens.kept.stages opens.kept.invariant q.before q.begun q.led in (made.0, made.1)
 
   abbrev first : Machine
   first = machine_of_table plan.keys plan.last_card q.begun led_to.0

@@ -268,13 +268,8 @@ module _ (plan : TablePlan) (s : TableState) (h : IsReached plan s) (id : ℕ) (
   abbrev Alike : Call → Type 0
   Alike c = May plan.last_card c v → (n : ℕ) → IsReached plan (told_of s id v c n) → is_won (atomic_of c) n ≡ is_won (atomic_of c) (found_by s c)
 
-<<<<<<< HEAD
-  ichild_alike : (c p l : ℕ) (right : Bool) → Alike (call.IChild c p l right)
-  ichild_alike c p l right may n on = taught_alike plan s h id v here (call.IChild c p l right) may n on kind.IChild (omega arith)
-=======
-  ichild_alike : (c p l : ℕ) (q right : Bool) → Alike (call.IChild c p l q right)
-  ichild_alike c p l q right may n on = taught_alike keys start cards s h id v here (call.IChild c p l q right) may n on kind.IChild (omega arith)
->>>>>>> swap
+  ichild_alike : (c p l q : ℕ) (right : Bool) → Alike (call.IChild c p l q right)
+  ichild_alike c p l q right may n on = taught_alike plan s h id v here (call.IChild c p l q right) may n on kind.IChild (omega arith)
       (fact.IChanged c) (changed-once c) refl refl (knows_new (fact.IChanged c) v.worker.facts) (knows_new (fact.IChanged c) v.worker.facts)
 
   iunflag_alike : (c p : ℕ) → Alike (call.IUnflag c p)
@@ -416,15 +411,9 @@ module _ (plan : TablePlan) (s : TableState) (h : IsReached plan s) (id : ℕ) (
       -- by its search the card goes to that parent
       goes : (q : HasMachine plan.keys plan.last_card s) → q.words.p c ≡ p
       goes q =
-<<<<<<< HEAD
           let same = mine_is plan.keys plan.last_card s q id v here in
-          let says = (q.invariant.workers.each id).unflagged (Insert may.key may.value) c (ap (λ (u : Worker). u.operation) same ∙ may.busy)
-          (ap (λ (u : Worker). u.card) same ∙ may.may.holds) (ap (λ (u : Worker). u.flagged) same ∙ may.may.unflagged) in
-=======
-          let same = mine_is keys cards s q id v here in
-          let says = putting_hand q.words q.stages _ may.op may.key may.value may.was c may.puts ((q.invariant.workers.each id).unflagged may.op c (ap (λ (u : Worker). u.operation) same ∙ may.busy)
+          let says = putting_hand q.words q.stages _ may.what c may.op may.puts ((q.invariant.workers.each id).unflagged may.op c (ap (λ (u : Worker). u.operation) same ∙ may.busy)
           (ap (λ (u : Worker). u.card) same ∙ may.may.holds) (ap (λ (u : Worker). u.flagged) same ∙ may.may.unflagged)) in
->>>>>>> swap
           sym says.node ∙ ap (λ (k : Seen). k.node) (some_same (sym says.behind ∙ (ap (λ (u : Worker). u.search.parent) same ∙ may.behind)))
 
       lost_won : (n == packed from) ≡ true → (found_by s i == packed from) ≡ false → ⊥

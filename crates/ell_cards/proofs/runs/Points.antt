@@ -4,28 +4,30 @@ use Rattle.std.proofs.lemmas.Option.{same_Some}
 use mathlib.Core.Option.{some, some-injective}
 use lib.ListN.{get_elem?}
 use Rattle.ell_ops.specs.declared.op.Op.{Op}
-use Rattle.ell_ops.specs.declared.op.Op.TheVariants.{Find, Insert, Delete}
+use Rattle.ell_ops.specs.declared.op.Op.TheVariants.{Find, Insert, Delete, Swap}
 use Rattle.ell_ops.specs.declared.reply.Reply.{Reply}
-use Rattle.ell_ops.specs.declared.reply.Reply.TheVariants.{Yes}
 use Rattle.ell_ops.specs.Meaning.{key_of}
 use Rattle.ell_word.specs.declared.gate.Kind.{Kind}
 use Rattle.ell_word.specs.declared.gate.Kind.TheVariants as kind
 use Rattle.ell_core.specs.declared.fact.Fact.TheVariants as fact
 use Rattle.ell_core.specs.state.Words.{Words}
 use Rattle.ell_core.specs.state.Machine.{Worker}
-use Rattle.ell_core.specs.state.Cards.{card_key, card_value}
+use Rattle.ell_core.specs.declared.put.Put.{Put}
+use Rattle.ell_core.specs.state.Cards.{card_key, card_value, is_replace_card}
+use Rattle.ell_core.specs.acts.Searching.{put_of}
+use Rattle.ell_core.proofs.keeping.Puts.{added, replacing, flag_putting, one_putter}
 use Rattle.ell_core.specs.acts.Wins.{win_for}
 use Rattle.ell_core.specs.history.Stages.{Stage, Stages, insert_over, delete_over, delete_won}
-use Rattle.ell_core.specs.history.Stages.{IOver, DOver}
+use Rattle.ell_core.specs.history.Stages.{IOver, ROver, DOver}
 use Rattle.ell_core.specs.history.Invariant.{Flagged, Invariant}
 use Rattle.ell_core.specs.history.Later.{wins_of}
 use Rattle.ell_core.specs.tree.Tree.{IsTreePair}
-use Rattle.ell_core.specs.statements.Effects.{AddsPair, TakesPair}
+use Rattle.ell_core.specs.statements.Effects.{reply_of_change, MakesChange, op_brought, op_of_card, TakesPair}
 use Rattle.ell_core.proofs.outcomes.Decide.{some_not_none}
 use Rattle.ell_core.proofs.following.facts.Claimed.{not_claimed}
 use Rattle.ell_core.proofs.stages.Waiting.{unclaimed-wins}
 use Rattle.ell_core.proofs.stages.Order.{insert_won-insert, delete_won-delete, delete-claimed}
-use Rattle.ell_core.proofs.stages.LaterKeys.{insert_key_later, insert_value_later, delete_key_later}
+use Rattle.ell_core.proofs.stages.LaterKeys.{insert_key_later, insert_value_later, putting_later, delete_key_later}
 use Rattle.ell_cards.specs.declared.call.Call.{Call}
 use Rattle.ell_cards.specs.declared.call.Call.TheVariants as call
 use Rattle.ell_cards.specs.declared.call.Call.TheVariants.{Begin}
@@ -46,7 +48,7 @@ use Rattle.ell_cards.specs.Laws.{machine_of_table}
 use Rattle.ell_cards.specs.TurnEffects.{own_words, IsAtWork, PairsChangeBy, ChangeIsOf, win_of, turn_wins, run_wins}
 use Rattle.ell_cards.specs.Turns.{Turn, Makes, Splits, Joins, CallIsMade, TableTurns, TableRun, found_by, view_after}
 use Rattle.ell_cards.specs.Meanwhile.{KeepsOn, KeepOn}
-use Rattle.ell_cards.specs.Changing.{IsCalled, SaysWhatWas, TakesEffect, HoldsAtEnd, CallsHaveTheirPoint, CallsHaveTheirOwnCards}
+use Rattle.ell_cards.specs.Changing.{IsCalled, change_of, FindsItsValue, SaysWhatWas, TakesEffect, HoldsAtEnd, CallsHaveTheirPoint, CallsHaveTheirOwnCards}
 use Rattle.ell_cards.proofs.seats.Seats.{mine_is, mine_sound, set_there}
 use Rattle.ell_cards.proofs.own_words.ChangesOf.{table_changes_are_operations}
 use Rattle.ell_cards.proofs.runs.OwnSeat.{turn_seat}
@@ -54,6 +56,27 @@ use Rattle.ell_cards.proofs.runs.TurnsOfRuns.{turn_lawful}
 use Rattle.ell_cards.proofs.runs.GoingOn.{run_goes}
 use Rattle.ell_cards.proofs.runs.Searched.{first_keeps, still_does, leaf_answers_of_one_state}
 use Rattle.ell_core.proofs.following.waiting.Cards.{hand_claimed}
+
+-- what the operation of an insert's card puts
+brought_puts : (b : Bool) (key was value : ℕ) → (what : Put) × (put_of (op_brought b key was value) ≡ Some what)
+brought_puts true key was value = (replacing key was value, refl)
+brought_puts false key was value = (added key value, refl)
+
+card_puts : (w : Words) (c : ℕ) → (what : Put) × (put_of (op_of_card w c) ≡ Some what)
+card_puts w c = brought_puts (is_replace_card w c) (card_key w c) (w.value (w.l c)) (card_value w c)
+
+-- an operation that puts something changes the tree by an ichild, and is no delete
+put_change : (op : Op) (what : Put) → put_of op ≡ Some what → change_of op ≡ kind.IChild ∷ []
+put_change (Find k) what e = absurd cc
+put_change (Insert k value) what e = refl
+put_change (Delete k) what e = absurd cc
+put_change (Swap k was value) what e = refl
+
+put_finds : (op : Op) (what : Put) (c : ℕ) (w : Words) → put_of op ≡ Some what → FindsItsValue op c w
+put_finds (Find k) what c w e = tt
+put_finds (Insert k value) what c w e = tt
+put_finds (Delete k) what c w e = absurd cc
+put_finds (Swap k was value) what c w e = tt
 
 -- a list has a win
 data InList : Kind → List Kind → Type 0 where
@@ -73,6 +96,7 @@ not_in_none k ks e (later _ _ _ h) = absurd cc
 -- a card over was changed
 over_insert : (s : Stage) → insert_over s ≡ true → wins_of s ≡ kind.IFlag ∷ kind.IChild ∷ kind.IUnflag ∷ []
 over_insert IOver h = refl
+over_insert ROver h = refl
 over_insert _ h = absurd (false≢true h)
 
 over_delete : (s : Stage) → delete_over s ≡ true → wins_of s ≡ kind.DFlag ∷ kind.Mark ∷ kind.DChild ∷ kind.DUnflag ∷ []
@@ -162,7 +186,7 @@ module _ (keys : List ℕ) (cards : ℕ) where
   claims_or_not (call.LookDown x right) = inr (λ d e. cc)
   claims_or_not (call.Fill c f value) = inr (λ d e. cc)
   claims_or_not (call.IFlag c p from) = inr (λ d e. cc)
-  claims_or_not (call.IChild c p l right) = inr (λ d e. cc)
+  claims_or_not (call.IChild c p l q right) = inr (λ d e. cc)
   claims_or_not (call.IUnflag c p) = inr (λ d e. cc)
   claims_or_not (call.DFlag c gp from) = inr (λ d e. cc)
   claims_or_not (call.Mark c p was) = inr (λ d e. cc)
@@ -214,8 +238,8 @@ in_win k j d c h = by (c == d) refl h
 
 -- what the turn that wins an ichild does
 record Inserts (s : TableState) (old new : Words) (c : ℕ) (wins : List Kind) : Type 0 where
-  adds : AddsPair old new (card_key old c) (card_value old c)
-  work : IsAtWork s c (Insert (card_key (own_words s) c) (card_value (own_words s) c))
+  makes : MakesChange (op_of_card old c) old new
+  work : IsAtWork s c (op_of_card (own_words s) c)
   own : wins ≡ kind.IChild ∷ []
 
 record Deletes (s : TableState) (old new : Words) (c : ℕ) (wins : List Kind) : Type 0 where
@@ -230,10 +254,10 @@ no_win k false h = not_in_none k [] refl h
 inserts_by : (s : TableState) (old new : Words) (c : ℕ) (y : Call) (b : Bool) → InList kind.IChild (if b then win_of y c else [])
     → PairsChangeBy y b old new → ChangeIsOf y b s → Inserts s old new c (if b then win_of y c else [])
 inserts_by s old new c y false h pairs work = absurd (not_in_none kind.IChild [] refl h)
-inserts_by s old new c (call.IChild d p l right) true h pairs work =
+inserts_by s old new c (call.IChild d p l q right) true h pairs work =
     let w = in_win kind.IChild kind.IChild d c h in record {
-      adds = subst (λ n. AddsPair old new (card_key old n) (card_value old n)) w.1 pairs;
-      work = subst (λ n. IsAtWork s n (Insert (card_key (own_words s) n) (card_value (own_words s) n))) w.1 work;
+      makes = subst (λ n. MakesChange (op_of_card old n) old new) w.1 pairs;
+      work = subst (λ n. IsAtWork s n (op_of_card (own_words s) n)) w.1 work;
       own = w.2;
     }
 inserts_by s old new c (call.IFlag d p from) true h pairs work = absurd (let w = in_win kind.IChild kind.IFlag d c h in let e : kind.IChild ≡ kind.IFlag = w.0 in cc)
@@ -255,7 +279,7 @@ deletes_by s old new c (call.DChild d gp p z right) true h pairs work =
       own = w.2;
     }
 deletes_by s old new c (call.IFlag d p from) true h pairs work = absurd (let w = in_win kind.DChild kind.IFlag d c h in let e : kind.DChild ≡ kind.IFlag = w.0 in cc)
-deletes_by s old new c (call.IChild d p l right) true h pairs work = absurd (let w = in_win kind.DChild kind.IChild d c h in let e : kind.DChild ≡ kind.IChild = w.0 in cc)
+deletes_by s old new c (call.IChild d p l q right) true h pairs work = absurd (let w = in_win kind.DChild kind.IChild d c h in let e : kind.DChild ≡ kind.IChild = w.0 in cc)
 deletes_by s old new c (call.IUnflag d p) true h pairs work = absurd (let w = in_win kind.DChild kind.IUnflag d c h in let e : kind.DChild ≡ kind.IUnflag = w.0 in cc)
 deletes_by s old new c (call.DFlag d gp from) true h pairs work = absurd (let w = in_win kind.DChild kind.DFlag d c h in let e : kind.DChild ≡ kind.DFlag = w.0 in cc)
 deletes_by s old new c (call.Mark d p was) true h pairs work = absurd (let w = in_win kind.DChild kind.Mark d c h in let e : kind.DChild ≡ kind.Mark = w.0 in cc)
@@ -317,8 +341,8 @@ module _ (keys : List ℕ) (cards : ℕ) where
         → run_wins cards begun turns s' run c ≡ ks
     won_here stage ks goes is = sym (goes ∙ ap (λ l. l ++ run_wins cards begun turns s' run c) none_before) ∙ is
 
-    insert_point : (k value : ℕ) → Does v (Insert k value) → Knows v (fact.IOver c) → TakesEffect cards (Insert k value) c begun turns s'
-    insert_point k value does over =
+    put_point : (op : Op) (what : Put) → put_of op ≡ Some what → Does v op → Knows v (fact.IOver c) → TakesEffect cards op c begun turns s'
+    put_point op what puts does over =
         let goes = run_goes keys cards begun r r.stages r.invariant turns s' run in
         let end = over_insert (goes.1.stages c) (knows_in s' goes.0 seat v there goes.1.stages goes.1.invariant (fact.IOver c) over) in
         let won = won_here goes.1.stages _ (goes.1.wins c) end in
@@ -327,14 +351,19 @@ module _ (keys : List ℕ) (cards : ℕ) where
         let does_it = inserts_turn f.state f.kept f.turn f.next f.now c f.wins in
         let rest = run_goes keys cards f.state f.kept f.kept.stages f.kept.invariant (f.turn ∷ drop (suc f.n) turns) s' (f.next, f.now, f.after) in
         let work = does_it.work in
-        let theirs = flagged_in f.state f.kept work.seat work.view work.there f.kept.stages f.kept.invariant
-        (Insert (card_key (own_words f.state) c) (card_value (own_words f.state) c)) c work.does work.held.holds work.held.flagged in
-        let ours = flagged_in s' rest.0 seat v there rest.1.stages rest.1.invariant (Insert k value) c does has flagged in
-        let is_insert = insert_won-insert (f.kept.stages c) theirs.0 in
-        let key : card_key (own_words f.state) c ≡ k =
-        sym theirs.1 ∙ (sym (insert_key_later f.kept.words rest.0.words f.kept.stages f.kept.invariant.words rest.1.words c is_insert) ∙ ours.1) in
-        let its : card_value (own_words f.state) c ≡ value =
-        sym theirs.2 ∙ (sym (insert_value_later f.kept.words rest.0.words f.kept.stages f.kept.invariant.words rest.1.words c is_insert) ∙ ours.2) in
+        let its = card_puts (own_words f.state) c in
+        let theirs = flag_putting f.kept.words f.kept.stages (worker_of work.view.worker) its.0 c (op_of_card (own_words f.state) c) its.1
+        (flagged_in f.state f.kept work.seat work.view work.there f.kept.stages f.kept.invariant (op_of_card (own_words f.state) c) c work.does
+        work.held.holds work.held.flagged) in
+        let ours = flag_putting rest.0.words rest.1.stages (worker_of v.worker) what c op puts
+        (flagged_in s' rest.0 seat v there rest.1.stages rest.1.invariant op c does has flagged) in
+        let inserts = insert_won-insert (f.kept.stages c) theirs.0 in
+        let key : its.0.key ≡ what.key =
+        sym theirs.1 ∙ (sym (insert_key_later f.kept.words rest.0.words f.kept.stages f.kept.invariant.words rest.1.words c inserts) ∙ ours.1) in
+        let value : its.0.value ≡ what.value =
+        sym theirs.2 ∙ (sym (insert_value_later f.kept.words rest.0.words f.kept.stages f.kept.invariant.words rest.1.words c inserts) ∙ ours.2) in
+        let same = one_putter rest.0.words c (op_of_card (own_words f.state) c) op its.0 what its.1 puts key value
+        (putting_later f.kept.words rest.0.words f.kept.stages f.kept.invariant.words rest.1.words c inserts its.0.was theirs.4) ours.4 in
         record {
           first = f.n;
           state = f.state;
@@ -344,10 +373,9 @@ module _ (keys : List ℕ) (cards : ℕ) where
           now = f.now;
           after = f.after;
           at = f.at;
-          own = does_it.own;
-          changes = subst (λ n. AddsPair (own_words f.state) (own_words f.next) n value) key
-              (subst (AddsPair (own_words f.state) (own_words f.next) (card_key (own_words f.state) c)) its does_it.adds);
-          finds = tt;
+          own = does_it.own ∙ sym (put_change op what puts);
+          changes = subst (λ o. MakesChange o (own_words f.state) (own_words f.next)) same does_it.makes;
+          finds = put_finds op what c (own_words f.state) puts;
         }
 
     delete_point : (k : ℕ) → Does v (Delete k) → Knows v (fact.DOver c) → TakesEffect cards (Delete k) c begun turns s'
@@ -382,7 +410,8 @@ module _ (keys : List ℕ) (cards : ℕ) where
 
     point : (op : Op) → Does v op → IsOver v op c → TakesEffect cards op c begun turns s'
     point (Find k) does over = absurd over
-    point (Insert k value) does over = insert_point k value does over
+    point (Insert k value) does over = put_point (Insert k value) (added k value) refl does over
+    point (Swap k was value) does over = put_point (Swap k was value) (replacing k was value) refl does over
     point (Delete k) does over = delete_point k does over
 
 -- where there was no old card
@@ -394,7 +423,7 @@ late_of (inr h) = h
 pub point_of : (keys : List ℕ) (cards : ℕ) (s : TableState) → HasMachine keys cards s → (seat : ℕ) (op : Op) (begun : TableState) (turns : List Turn) (s' : TableState) (said : Reply)
     → (called : IsCalled cards s seat op begun turns s' said)
     → (KnowsAnswerAtLeaf called.answers.view op said × SaysWhatWas cards op begun turns s' said)
-    ⊎ ((said ≡ Yes) × ((c : ℕ) × HoldsAtEnd s' seat c × TakesEffect cards op c begun turns s'))
+    ⊎ ((said ≡ reply_of_change op) × ((c : ℕ) × HoldsAtEnd s' seat c × TakesEffect cards op c begun turns s'))
 point_of keys cards s r seat op begun turns s' said called =
     let real = (mine_sound keys cards s r seat called.begins.view called.begins.there).real (key_of op) called.begins.may.owned in
     let v = called.answers.view in
@@ -410,7 +439,7 @@ point_of keys cards s r seat op begun turns s' said called =
             called.run called.on v there does said (subst (λ o. KnowsAnswerAtLeaf v o said) is leaf),
       )
       | inr card ↦ inr (
-        card.yes,
+        card.says ∙ ap reply_of_change is,
         (
           card.card,
           record { holds = λ w at. subst (λ (u : View). (u.worker.card ≡ Some card.card) × (u.worker.flagged ≡ true)) (some-injective v w (sym there ∙ at)) (card.holds, card.flagged) },

@@ -1,4 +1,4 @@
-use Rattle.std.proofs.Common.{◌≡◌, ℕ, ◌<◌, ◌≤◌, ◌==◌, if◌then◌else◌, Bool, true, false, nat_le, Option, Some, None, List, [], ◌∷◌, inl, inr, ◌⊎◌, refl, sym, ap, ◌∙◌, subst}
+use Rattle.std.proofs.Common.{◌%◌, ◌≡◌, ℕ, ◌<◌, ◌≤◌, ◌==◌, if◌then◌else◌, Bool, true, false, nat_le, Option, Some, None, List, [], ◌∷◌, inl, inr, ◌⊎◌, refl, sym, ap, ◌∙◌, subst}
 use Rattle.std.proofs.lemmas.Option.{same_Some}
 use mathlib.Core.Option.{some, some-injective}
 use lib.ListN.{get_elem?}
@@ -166,7 +166,7 @@ module _ (keys : List ℕ) (cards : ℕ) (seat key : ℕ) (real : key ≤ greate
     goes_by (call.Info c f) keeps may = stays _ (λ op d. d) (λ op x d e. (d, e))
     goes_by (call.FrozenChild c p right) keeps may = stays _ (λ op d. d) (λ op x d e. (d, e))
     goes_by (call.Fill c f value) keeps may = stays _ (λ op d. d) (λ op x d e. (d, e))
-    goes_by (call.IChild c p l right) keeps may = stays _ (λ op d. d) (λ op x d e. (d, e))
+    goes_by (call.IChild c p l q right) keeps may = stays _ (λ op d. d) (λ op x d e. (d, e))
     goes_by (call.IUnflag c p) keeps may = stays _ (λ op d. d) (λ op x d e. (d, e))
     goes_by (call.DChild c gp p y right) keeps may = stays _ (λ op d. d) (λ op x d e. (d, e))
     goes_by (call.DUnflag c gp) keeps may = stays _ (λ op d. d) (λ op x d e. (d, e))
@@ -252,7 +252,7 @@ module _ (keys : List ℕ) (cards : ℕ) (seat key : ℕ) (real : key ≤ greate
       let goes = run_goes keys cards was.state r r.stages r.invariant _ s' was.amid.after in
       let last = goes.0 in
       let born = walk_born r.words r.stages sound key (root_born r.words r.stages sound) was.on in
-      let below : card leaf < r.words.next = (sound.cards (card leaf)).claimed.0 (born-claimed (r.stages (card leaf)) born) in
+      let below : card leaf < r.words.next = (sound.cards (card leaf)).claimed.0 (born-claimed (r.stages (card leaf)) (leaf % 3) born) in
       let has : r.words.key leaf ≡ has_key =
       sym (goes.1.words.key leaf below) ∙ here_key keys cards s' last seat v at leaf has_key stands told in
       record { state = was.state; amid = was.amid; so = by there tells has last.words last.stages (goes.1.words.value leaf below) (last.views seat v at).entries }

@@ -1,4 +1,4 @@
-use Rattle.std.proofs.Common.{◌≡◌, ◌≢◌, ℕ, ◌≤◌, zero, suc, true, Some, List, [], ◌∷◌, ◌++◌, inl, inr, refl, subst, arith, ◌⊎◌}
+use Rattle.std.proofs.Common.{None, ◌≡◌, ◌≢◌, ℕ, ◌≤◌, zero, suc, true, Some, List, [], ◌∷◌, ◌++◌, inl, inr, refl, subst, arith, ◌⊎◌}
 use Rattle.std.specs.List.{All}
 use Rattle.std.specs.List.Sorted.{IsStrictlyIncreasing}
 use Rattle.std.specs.Map.{keys_of}
@@ -232,7 +232,7 @@ insert_flags_asks =
     ▸ (refl, record { holds = refl; unflagged = refl })
     ▸ (refl, record { holds = refl; unflagged = refl })
     ▸ (refl, record { holds = refl; unflagged = refl })
-    ▸ (refl, record { key = 7; value = 70; leaf = 4; busy = refl; may = record { holds = refl; unflagged = refl }; stands = refl; behind = refl; filled = filled_insert })
+    ▸ (refl, record { op = Insert 7 70; what = record { key = 7; value = 70; was = None }; leaf = 4; busy = refl; puts = refl; may = record { holds = refl; unflagged = refl }; stands = refl; behind = refl; filled = filled_insert })
     ▸ tt
 
 abbrev at_4 : TableState
@@ -244,9 +244,10 @@ mark_is_lost_asks =
     (refl, record { knows = refl; parent = told_at 1 _ _ refl; read = told_at 3 _ _ refl })
     ▸ (refl, record { knows = inl refl; asked = tt })
     ▸ (refl, record { knows = inl refl; asked = tt })
-    ▸ (refl, record { parent_key = infinity1; card_key = 7; knows = refl; parent = told_at 3 _ _ refl; leaf = told_at 1 _ _ refl; told_parent = told_at 10 _ _ refl; told_card = told_at 0 _ _ refl; side = refl })
-    ▸ (refl, record { knows = refl; parent = told_at 3 _ _ refl })
-    ▸ (refl, record { knows = refl; grandparent = told_at 4 _ _ refl })
+    ▸ (refl, record { knows = inl refl; asked = tt })
+    ▸ (refl, record { parent_key = infinity1; card_key = 7; left_key = 5; knows = refl; parent = told_at 4 _ _ refl; leaf = told_at 2 _ _ refl; told_parent = told_at 11 _ _ refl; told_card = told_at 1 _ _ refl; told_left = told_at 0 _ _ refl; brings = refl; side = refl })
+    ▸ (refl, record { knows = refl; parent = told_at 4 _ _ refl })
+    ▸ (refl, record { knows = refl; grandparent = told_at 5 _ _ refl })
     ▸ tt
 
 abbrev at_5 : TableState
@@ -255,9 +256,9 @@ at_5 = run_leads at_4 mark_is_lost
 -- seat 1 finds that its insert was made, and answers
 insert_ends_asks : RunAsks 4 at_5 insert_ends
 insert_ends_asks =
-    (refl, record { parent_key = infinity1; card_key = 7; knows = refl; parent = told_at 0 _ _ refl; leaf = told_at 1 _ _ refl; told_parent = told_at 10 _ _ refl; told_card = told_at 2 _ _ refl; side = refl })
+    (refl, record { parent_key = infinity1; card_key = 7; left_key = 5; knows = refl; parent = told_at 0 _ _ refl; leaf = told_at 1 _ _ refl; told_parent = told_at 10 _ _ refl; told_card = told_at 2 _ _ refl; told_left = told_at 3 _ _ refl; brings = refl; side = refl })
     ▸ (refl, record { knows = refl; parent = told_at 0 _ _ refl })
-    ▸ (refl, record { op = Insert 7 70; busy = refl; answers = inr (record { card = 3; holds = refl; flagged = refl; over = refl; yes = refl }) })
+    ▸ (refl, record { op = Insert 7 70; busy = refl; answers = inr (record { card = 3; holds = refl; flagged = refl; over = refl; says = refl }) })
     ▸ tt
 
 abbrev at_6 : TableState
@@ -297,7 +298,7 @@ delete_ends_asks =
     ▸ (refl, told_at 1 _ _ refl)
     ▸ (refl, record { leaf = 10; grandparent_key = infinity1; sibling_key = 7; knows = refl; grandparent = told_at 3 _ _ refl; parent = told_at 4 _ _ refl; below = told_at 5 _ _ refl; sibling = inl (told_at 1 _ _ refl, λ e. let h : ◌≡◌ {A = ℕ} 11 10 = e in omega arith); told_grandparent = told_at 11 _ _ refl; told_sibling = told_at 0 _ _ refl; side = refl })
     ▸ (refl, record { knows = refl; grandparent = told_at 3 _ _ refl })
-    ▸ (refl, record { op = Delete 5; busy = refl; answers = inr (record { card = 4; holds = refl; flagged = refl; over = refl; yes = refl }) })
+    ▸ (refl, record { op = Delete 5; busy = refl; answers = inr (record { card = 4; holds = refl; flagged = refl; over = refl; says = refl }) })
     ▸ tt
 
 abbrev at_8 : TableState

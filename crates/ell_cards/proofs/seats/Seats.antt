@@ -173,14 +173,9 @@ module _ (keys : List ℕ) (cards : ℕ) (s : TableState) (r : HasMachine keys c
   pub kept_event : (a : Act) (said : Stepped) (new : Words) (after : View) (list : List ℕ) (stages : Stages)
       → Leads a said new after stages → Moves list new stages → ViewHolds list new stages after
       → ((k : ℕ) → WorkerOwns (worker_of after.worker) k → WorkerOwns (worker_of v.worker) k)
-<<<<<<< HEAD
       → after.worker.ownable ≡ v.worker.ownable
-      → IsKept keys cards (record { words = list; homes = s.homes; views = set s.views id after }) new
-  kept_event a said new after list stages led moves own owns same_list = record {
-=======
       → IsKept keys cards (record { words = list; homes = s.homes; views = set s.views id after }) new r.stages
-  kept_event a said new after list stages led moves own owns = record {
->>>>>>> swap
+  kept_event a said new after list stages led moves own owns same_list = record {
     kept = record {
       words = new;
       stages = stages;

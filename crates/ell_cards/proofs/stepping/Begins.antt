@@ -13,7 +13,7 @@ use Rattle.ell_core.specs.state.Machine.{Worker, Ledger, worker_of, ledger_of}
 use Rattle.ell_core.specs.acts.Searching.{leaf_answer, value_at, card_answer, settled, ledger_after, HasAnswer}
 use Rattle.ell_core.specs.acts.Events.{Happens}
 use Rattle.ell_core.specs.history.Stages.{is_born}
-use Rattle.ell_core.specs.statements.Effects.{AnswersAsMap}
+use Rattle.ell_core.specs.statements.Effects.{reply_of_change, AnswersAsMap}
 use Rattle.ell_core.proofs.outcomes.Decide.{some_not_none}
 use Rattle.ell_core.proofs.following.Lawful.{events_lawful}
 use Rattle.ell_cards.specs.declared.call.Call.TheVariants as call
@@ -22,7 +22,7 @@ use Rattle.ell_cards.specs.declared.view.Told.TheVariants.{Met, Value}
 use Rattle.ell_cards.specs.declared.view.View.{View}
 use Rattle.ell_cards.specs.Models.{Has}
 use Rattle.ell_cards.specs.Changes.{with_entry as with_entry_for, after_begin, after_again, after_leave, after_answer, answered_ledger, with_entry as put_entry}
-use Rattle.ell_cards.specs.Guards.{MayBegin, MayStop, MayAnswer, TellsOf, KnowsAnswerAtLeaf, KnowsAnswerByCard, IsOver, over_reply}
+use Rattle.ell_cards.specs.Guards.{MayBegin, MayStop, MayAnswer, TellsOf, KnowsAnswerAtLeaf, KnowsAnswerByCard, IsOver}
 use Rattle.ell_cards.specs.Models.{Knows, KnewBefore}
 use Rattle.ell_core.specs.state.Words.{Words, put}
 use Rattle.ell_core.specs.declared.fact.Fact.{Fact}
@@ -129,7 +129,6 @@ settled_by k made l key (Some entry) e = settled_put k made l (λ none. some_not
 -- the ledger after an answer, as a list and as the machine has it
 answered : (op : Op) (said : Reply) (l : List (ℕ × Entry)) → (key : ℕ)
     → ledger_of (answered_ledger (Some op) said l) key ≡ ledger_after op said (ledger_of l) key
-<<<<<<< HEAD
 answered (Find k) said l key = refl
 answered (Insert k value) Yes l key = settled_by k (Present value) l key (ledger_of l k) refl
 answered (Insert k value) No l key = refl
@@ -137,25 +136,17 @@ answered (Insert k value) (Found had) l key = refl
 answered (Delete k) Yes l key = settled_by k Absent l key (ledger_of l k) refl
 answered (Delete k) No l key = refl
 answered (Delete k) (Found had) l key = refl
-=======
-answered (Find k) said l owns key = refl
-answered (Insert k value) Yes l owns key = settled_put k (Present value) l owns key
-answered (Insert k value) No l owns key = refl
-answered (Insert k value) (Found had) l owns key = refl
-answered (Delete k) Yes l owns key = settled_put k Absent l owns key
-answered (Delete k) No l owns key = refl
-answered (Delete k) (Found had) l owns key = refl
-answered (Swap k was value) Yes l owns key = refl
-answered (Swap k was value) No l owns key = refl
-answered (Swap k was value) (Found had) l owns key = by (had == was)
+answered (Swap k was value) Yes l key = refl
+answered (Swap k was value) No l key = refl
+answered (Swap k was value) (Found had) l key = by (had == was)
   where
-    by : (b : Bool) → ledger_of (if b then put_entry k (Present value) l else l) key ≡ (if b then put (ledger_of l) k (Some (Present value)) else ledger_of l) key
-    by true = settled_put k (Present value) l owns key
+    by : (b : Bool) → ledger_of (if b then put_entry k (Present value) l else l) key
+        ≡ (if b then settled (ledger_of l) k (Present value) (ledger_of l k) else ledger_of l) key
+    by true = settled_by k (Present value) l key (ledger_of l k) refl
     by false = refl
->>>>>>> swap
 
 -- the answer by a card that is over
-over_answers : (v : View) (op : Op) (c : ℕ) (said : Reply) → IsOver v op c → said ≡ over_reply op → card_answer op c (known_of v.worker.facts) ≡ Some said
+over_answers : (v : View) (op : Op) (c : ℕ) (said : Reply) → IsOver v op c → said ≡ reply_of_change op → card_answer op c (known_of v.worker.facts) ≡ Some said
 over_answers v (Find k) c said over e = absurd over
 over_answers v (Insert k value) c said over e = ap (λ b. if b then Some Yes else None) over ∙ ap Some (sym e)
 over_answers v (Swap k was value) c said over e = ap (λ b. if b then Some (Found was) else None) over ∙ ap Some (sym e)

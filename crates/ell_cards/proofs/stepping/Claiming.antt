@@ -1,6 +1,12 @@
 use Rattle.std.proofs.Common.{◌≡◌, ◌≢◌, ◌==◌, ℕ, ◌+◌, ◌<◌, ◌≤◌, if◌then◌else◌, Bool, true, false, List, [], ◌∷◌, ◌++◌, length, get_or, set, Some, None, refl, sym, ap, ◌∙◌, subst, inl, inr, arith, eqb-true, true≢false, length-set, get_or-set_same, get_or-set_other, eq-eqb}
 use Rattle.ell_core.specs.history.Later.{StagesLater}
-use Rattle.std.specs.Prelude.{unwrap_or}
+use Rattle.std.specs.Prelude.{unwrap_or, Option}
+use Rattle.std.proofs.lemmas.Option.{same_Some}
+use Rattle.ell_core.specs.declared.put.Put.{Put}
+use Rattle.ell_core.specs.declared.view.Seen.{Seen}
+use Rattle.ell_core.specs.acts.Searching.{put_of, TakesPut}
+use Rattle.ell_core.proofs.keeping.Puts.{added, replacing}
+use Rattle.ell_cards.specs.Models.{IsTold}
 use mathlib.Core.Option.{some}
 use lib.ListN.{get_elem?}
 use Rattle.ell_ops.specs.declared.op.Op.{Op}
@@ -70,6 +76,16 @@ taking c es v = record v {
   next_at_least = c + 1;
   made = v.made + 1;
 }
+
+-- what fills a card for an operation that puts something
+put_filling : (op : Op) (what : Put) → put_of op ≡ Some what → (c leaf : ℕ) (parent : Seen) (above : Option Seen) (key : ℕ) (value_of : ℕ → ℕ)
+    → insert_filling c what.key what.value parent.node leaf key (value_of leaf) ≡ filling_for c (Some op) (Some leaf) (Some parent) above key value_of
+put_filling (Find k) what e c leaf parent above key value_of = absurd cc
+put_filling (Insert k value) what e c leaf parent above key value_of =
+    ap (λ (t : Put). insert_filling c t.key t.value parent.node leaf key (value_of leaf)) (sym (same_Some (added k value) what e))
+put_filling (Delete k) what e c leaf parent above key value_of = absurd cc
+put_filling (Swap k was value) what e c leaf parent above key value_of =
+    ap (λ (t : Put). insert_filling c t.key t.value parent.node leaf key (value_of leaf)) (sym (same_Some (replacing k was value) what e))
 
 module _ (keys : List ℕ) (cards : ℕ) (s : TableState) (r : HasMachine keys cards s) (id : ℕ) (v : View) (here : get_elem? s.views id ≡ some v) where
   -- the next card
@@ -144,101 +160,61 @@ module _ (keys : List ℕ) (cards : ℕ) (s : TableState) (r : HasMachine keys c
       key_is : r.words.key may.leaf ≡ may.key
       key_is = here_key keys cards s r id v here may.leaf may.key may.stands may.told
 
+      puts : (op : Op) (what : Put) → put_of op ≡ Some what → v.worker.operation ≡ Some op → (had : ℕ) → IsTold v (Value may.leaf had)
+          → TakesPut what (r.words.key may.leaf) (r.words.value may.leaf)
+          → IsReached keys cards s r id v here (set s.words 0 (next + 1)) (claimed r.words (filling_of next v)) (after_claim true next v) act.Claim Moved
+      puts op what is_put busy had told takes_it =
+          let leaf_value = told_value v.told may.leaf in
+          let value_is = told_value_is r.words r.stages v.told may.leaf had (r.views id v here).entries told in
+          let es = insert_filling next what.key what.value may.parent.node may.leaf may.key leaf_value in
+          let is : es ≡ filling_of next v =
+          put_filling op what is_put next may.leaf may.parent v.worker.search.grandparent may.key (told_value v.told)
+          ∙ (λ t. filling_for next (sym busy t) (sym may.stands t) (sym may.behind t) v.worker.search.grandparent (unwrap_or (sym may.told t) 0) (told_value v.told)) in
+          let at = claimed_cards_say (machine keys cards s r id v here) r.stages es in
+          subst (λ fields. IsReached keys cards s r id v here (set s.words 0 (next + 1)) (claimed r.words fields) (taking next fields v) act.Claim Moved) is
+          (takes es (omega arith) (inl (record {
+            op = op;
+            what = what;
+            leaf = may.leaf;
+            parent = may.parent;
+            busy = busy;
+            puts = is_put;
+            at = record { stands = may.stands; outer = may.outer; behind = may.behind; calm = may.calm; no_card = may.no_card };
+            takes = takes_it;
+            says = refl;
+            gives = λ t. record {
+              words = claimed r.words (insert_filling next what.key what.value may.parent.node may.leaf (sym key_is t) (value_is t));
+              worker = record (worker_of v.worker) { card = Some next; flagged = false };
+            };
+          })) (
+            at field.P r.invariant,
+            (
+              at field.L r.invariant,
+              (
+                at field.Key r.invariant,
+                (
+                  at field.Left r.invariant,
+                  (
+                    at field.Right r.invariant,
+                    (
+                      at field.Update r.invariant,
+                      (
+                        at field.LeftLeafKey r.invariant,
+                        (at field.RightLeafKey r.invariant, (at field.LeftValue r.invariant, (at field.RightValue r.invariant, tt))),
+                      ),
+                    ),
+                  ),
+                ),
+              ),
+            ),
+          ))
+
       by : (op : Op) → v.worker.operation ≡ Some op → Wants v op may.leaf may.key
           → IsReached keys cards s r id v here (set s.words 0 (next + 1)) (claimed r.words (filling_of next v)) (after_claim true next v) act.Claim Moved
       by (Find k) busy wants = absurd wants
-      by (Insert k value) busy wants =
-          let leaf_value = told_value v.told may.leaf in
-          let value_is = told_value_is r.words r.stages v.told may.leaf wants.1.0 (r.views id v here).entries wants.1.1 in
-          let es = insert_filling next k value may.parent.node may.leaf may.key leaf_value in
-          let is : es ≡ filling_of next v =
-          λ t. filling_for next (sym busy t) (sym may.stands t) (sym may.behind t) v.worker.search.grandparent (unwrap_or (sym may.told t) 0) (told_value v.told) in
-          let at = claimed_cards_say (machine keys cards s r id v here) r.stages es in
-          subst (λ fields. IsReached keys cards s r id v here (set s.words 0 (next + 1)) (claimed r.words fields) (taking next fields v) act.Claim Moved) is
-          (takes es (omega arith) (inl (record {
-            op = Insert k value;
-            key = k;
-            value = value;
-            was = None;
-            leaf = may.leaf;
-            parent = may.parent;
-            busy = busy;
-            puts = refl;
-            at = record { stands = may.stands; outer = may.outer; behind = may.behind; calm = may.calm; no_card = may.no_card };
-            takes = λ e. wants.0 (sym key_is ∙ e);
-            says = refl;
-            gives = λ t. record {
-              words = claimed r.words (insert_filling next k value may.parent.node may.leaf (sym key_is t) (value_is t));
-              worker = record (worker_of v.worker) { card = Some next; flagged = false };
-            };
-          })) (
-            at field.P r.invariant,
-            (
-              at field.L r.invariant,
-              (
-                at field.Key r.invariant,
-                (
-                  at field.Left r.invariant,
-                  (
-                    at field.Right r.invariant,
-                    (
-                      at field.Update r.invariant,
-                      (
-                        at field.LeftLeafKey r.invariant,
-                        (at field.RightLeafKey r.invariant, (at field.LeftValue r.invariant, (at field.RightValue r.invariant, tt))),
-                      ),
-                    ),
-                  ),
-                ),
-              ),
-            ),
-          ))
-      by (Swap k was value) busy wants =
-          let leaf_value = told_value v.told may.leaf in
-          let value_is = told_value_is r.words r.stages v.told may.leaf was (r.views id v here).entries wants.1 in
-          let es = insert_filling next k value may.parent.node may.leaf may.key leaf_value in
-          let is : es ≡ filling_of next v =
-          λ t. filling_for next (sym busy t) (sym may.stands t) (sym may.behind t) v.worker.search.grandparent (unwrap_or (sym may.told t) 0) (told_value v.told) in
-          let at = claimed_cards_say (machine keys cards s r id v here) r.stages es in
-          subst (λ fields. IsReached keys cards s r id v here (set s.words 0 (next + 1)) (claimed r.words fields) (taking next fields v) act.Claim Moved) is
-          (takes es (omega arith) (inl (record {
-            op = Swap k was value;
-            key = k;
-            value = value;
-            was = Some was;
-            leaf = may.leaf;
-            parent = may.parent;
-            busy = busy;
-            puts = refl;
-            at = record { stands = may.stands; outer = may.outer; behind = may.behind; calm = may.calm; no_card = may.no_card };
-            takes = (key_is ∙ wants.0, ((r.views id v here).entries (Value may.leaf was) wants.1).1);
-            says = refl;
-            gives = λ t. record {
-              words = claimed r.words (insert_filling next k value may.parent.node may.leaf (sym key_is t) (value_is t));
-              worker = record (worker_of v.worker) { card = Some next; flagged = false };
-            };
-          })) (
-            at field.P r.invariant,
-            (
-              at field.L r.invariant,
-              (
-                at field.Key r.invariant,
-                (
-                  at field.Left r.invariant,
-                  (
-                    at field.Right r.invariant,
-                    (
-                      at field.Update r.invariant,
-                      (
-                        at field.LeftLeafKey r.invariant,
-                        (at field.RightLeafKey r.invariant, (at field.LeftValue r.invariant, (at field.RightValue r.invariant, tt))),
-                      ),
-                    ),
-                  ),
-                ),
-              ),
-            ),
-          ))
+      by (Insert k value) busy wants = puts (Insert k value) (added k value) refl busy wants.1.0 wants.1.1 (λ e. wants.0 (sym key_is ∙ e))
+      by (Swap k was value) busy wants = puts (Swap k was value) (replacing k was value) refl busy was wants.1
+          (key_is ∙ wants.0, ((r.views id v here).entries (Value may.leaf was) wants.1).1)
       by (Delete k) busy wants =
           let above = wants.1.0 in
           let es = delete_filling above.node may.parent.node may.leaf may.parent.word in

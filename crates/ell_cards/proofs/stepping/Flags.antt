@@ -138,9 +138,7 @@ module _ (keys : List ℕ) (cards : ℕ) (s : TableState) (r : HasMachine keys c
         owned = λ h. h;
         row = record {
           op = may.op;
-          key = may.key;
-          value = may.value;
-          was = may.was;
+          what = may.what;
           card = c;
           parent = seen;
           busy = may.busy;

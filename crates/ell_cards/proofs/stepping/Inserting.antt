@@ -1,5 +1,4 @@
 use Rattle.std.proofs.Common.{◌≡◌, ◌%◌, ◌==◌, if◌then◌else◌, ℕ, Bool, List, nat_le, refl, sym, ap, ◌∙◌, subst}
-use Rattle.ell_cards.specs.Calls.{node_of_card}
 use Rattle.ell_core.proofs.keeping.insert_child.IChild.{brought_side}
 use mathlib.Core.Option.{some}
 use lib.ListN.{get_elem?}
@@ -10,7 +9,7 @@ use Rattle.ell_core.specs.declared.fact.Fact.TheVariants.{IChanged, IOver}
 use Rattle.ell_core.specs.declared.field.Field.TheVariants as field
 use Rattle.ell_core.specs.state.Words.{child_field}
 use Rattle.ell_core.specs.state.Machine.{worker_of}
-use Rattle.ell_core.specs.state.Cards.{iflag, exchange_side, brought}
+use Rattle.ell_core.specs.state.Cards.{iflag, exchange_side, brought, brought_by}
 use Rattle.ell_core.specs.acts.Exchanges.{won_or_lost}
 use Rattle.ell_core.specs.history.Stages.{Born}
 use Rattle.ell_cards.specs.declared.call.Call.TheVariants as call
@@ -27,7 +26,7 @@ use Rattle.ell_cards.proofs.stepping.Known.{insert_flagged, insert_changed, chil
 
 module _ (keys : List ℕ) (cards : ℕ) (s : TableState) (r : HasMachine keys cards s) (id : ℕ) (v : View) (here : get_elem? s.views id ≡ some v) where
   -- ichild
-  pub keeps_ichild : (c p l : ℕ) (q right : Bool) → MayIChild v c p l q right → IsEvent keys cards s r id v (call.IChild c p l q right)
+  pub keeps_ichild : (c p l q : ℕ) (right : Bool) → MayIChild v c p l q right → IsEvent keys cards s r id v (call.IChild c p l q right)
   keeps_ichild c p l q right may =
       let w = r.words in
       let a = act.IChild c in
@@ -39,14 +38,14 @@ module _ (keys : List ℕ) (cards : ℕ) (s : TableState) (r : HasMachine keys c
       let key_is : w.key (internal c) ≡ may.card_key = told_is keys cards s r id v here c field.Key may.card_key may.told_card in
       let left_is : w.key (left_leaf c) ≡ may.left_key = told_is keys cards s r id v here c field.LeftLeafKey may.left_key may.told_left in
       let right_is : w.key (right_leaf c) ≡ may.card_key = sym said.node_key ∙ key_is in
-      let brought_is : brought w c ≡ node_of_card c q = (λ t. if left_is t == right_is t then right_leaf c else internal c) ∙ ap (node_of_card c) (sym may.kind) in
+      let brought_is : brought w c ≡ q = (λ t. brought_by c (left_is t == right_is t)) ∙ sym may.brings in
       let side : exchange_side w (w.p c) (brought w c) ≡ right =
       brought_side w r.stages c said ∙ (ap (λ k. nat_le k (w.key (internal c))) (ap w.key p_is ∙ told_key keys cards s r id v here p may.parent_key may.told_parent)
       ∙ (ap (nat_le may.parent_key) key_is ∙ sym may.side)) in
       let born = subst (Born r.stages) p_is said.parent.born in
       let is = child_found keys cards s r id v here (w.p c) p right p_is said.parent.inner said.parent.born in
       is_event keys cards s r id v here (call.IChild c p l q right) a _ _
-      (teaches keys cards s r id v here a (card p) g l (node_of_card c q) (IChanged c) kind.IChild c
+      (teaches keys cards s r id v here a (card p) g l q (IChanged c) kind.IChild c
       (in_list keys cards s r id v here p g born) (born-settled (r.stages (card p)) (p % 3) born)
       (λ e. (cc)) (λ e. (cc)) (λ e. refl) (λ e. refl) (record {
         owned = λ h. h;
@@ -54,7 +53,7 @@ module _ (keys : List ℕ) (cards : ℕ) (s : TableState) (r : HasMachine keys c
           may = may.knows;
           says = ap (λ z. won_or_lost (n == z)) (sym l_is) ∙ child_says w (w.p c) p (w.l c) (brought w c) n right p_is said.parent.inner side is;
           gives = λ t. record {
-            words = (ap (λ z. exchanged_words keys cards s r id v here (card p) g (node_of_card c q) (n == z)) (sym l_is)
+            words = (ap (λ z. exchanged_words keys cards s r id v here (card p) g q (n == z)) (sym l_is)
                 ∙ (ap (λ z. exchanged_words keys cards s r id v here (card p) g z (n == w.l c)) (sym brought_is)
                 ∙ child_exchanged w (w.p c) p (w.l c) (brought w c) n right p_is said.parent.inner side is)) t;
             worker = worker_of (learning (IChanged c) v).worker;

@@ -80,14 +80,14 @@ key_added there k value h q = by (q == k) refl
     by false other = refl
 
 -- a swap leaves what has not its first value, and gives the second one to what has it
-swap_lacked : (there : Contents) (k was value : ℕ) → there k ≡ None → (q : ℕ) → there q ≡ with_swap there k was value q
+pub swap_lacked : (there : Contents) (k was value : ℕ) → there k ≡ None → (q : ℕ) → there q ≡ with_swap there k was value q
 swap_lacked there k was value h q = by (q == k) refl
   where
     by : (b : Bool) → (q == k) ≡ b → there q ≡ (if b then swapped (there q) was value else there q)
     by true same = let lacks = ap there (eqb-true q k same) ∙ h in lacks ∙ ap (λ o. swapped o was value) (sym lacks)
     by false other = refl
 
-swap_other : (there : Contents) (k was value had : ℕ) → there k ≡ Some had → (had == was) ≡ false → (q : ℕ) → there q ≡ with_swap there k was value q
+pub swap_other : (there : Contents) (k was value had : ℕ) → there k ≡ Some had → (had == was) ≡ false → (q : ℕ) → there q ≡ with_swap there k was value q
 swap_other there k was value had h differs q = by (q == k) refl
   where
     by : (b : Bool) → (q == k) ≡ b → there q ≡ (if b then swapped (there q) was value else there q)

@@ -16,7 +16,7 @@ use Rattle.ell_core.specs.acts.Events.{Row, Happens, Steps}
 use Rattle.ell_core.specs.history.Stages.{Stages, IClaimed, is_insert, is_delete}
 use Rattle.ell_core.specs.history.Invariant.{Invariant, WordsAreSound, TreeIsSound, LeadsToValue, insert_key, insert_value, delete_key, delete_value}
 use Rattle.ell_core.specs.history.Later.{Follows}
-use Rattle.ell_core.specs.statements.Effects.{BringsPair, TakesPair, PairsChange, SamePairs}
+use Rattle.ell_core.specs.statements.Effects.{MakesChange, op_brought, op_of_card, TakesPair, PairsChange, SamePairs}
 use Rattle.ell_core.proofs.following.TreeKeys.{KeepsLinks, row_links, links_keep, pairs_same, pairs_more, pairs_replaced, pairs_less}
 use Rattle.ell_core.proofs.keeping.claim.Filling.{claimed_claims}
 use Rattle.ell_core.proofs.keeping.claim.Frames.{Claiming, leads_kept, leads_before}
@@ -78,23 +78,26 @@ delete_card_value m stage c invariant h = card_value-delete m.words c (delete_ki
 
 -- the pairs of a tree are replaced, or one is added, as the walks to them are
 pairs_brought : (old new : Words) (stage stages : Stages) (key was value : ℕ) → TreeIsSound old stage → TreeIsSound new stages → key ≤ greatest_key
-    → (b : Bool) → BringsKey b old new key was value → BringsPair b old new key was value
+    → (b : Bool) → BringsKey b old new key was value → MakesChange (op_brought b key was value) old new
 pairs_brought old new stage stages key was value tree tree' real true h = pairs_replaced old new stage stages key was value tree tree' real h.had h.pairs
 pairs_brought old new stage stages key was value tree tree' real false h = pairs_more old new stage stages key value tree tree' real h.absent h.pairs
 
--- a won child exchange of an insert adds the card's key with its value
+-- a won child exchange makes the change of its card's operation
 ichild_keys : (m : Machine) (stage : Stages) (i c : ℕ) (becomes : Scene) → Invariant m stage → IChild c (scene m i) Won becomes
-    → Follows m stage (act.IChild c) i Won (with_scene m i becomes) → BringsPair (is_replace_card m.words c) m.words becomes.words (card_key m.words c) (m.words.value (m.words.l c)) (card_value m.words c)
+    → Follows m stage (act.IChild c) i Won (with_scene m i becomes) → MakesChange (op_of_card m.words c) m.words becomes.words
 ichild_keys m stage i c becomes invariant row after =
     let waits = ichild_won-waits m stage i c becomes invariant row in
     let inserts : is_insert (stage c) ≡ true = ap is_insert waits in
     let brings = ichild_won-brings m stage i c becomes invariant row in
     let key_is = insert_card_key m stage c invariant inserts in
     let value_is = insert_card_value m stage c invariant inserts in
-    subst (λ k. BringsPair (is_replace_card m.words c) m.words becomes.words k (m.words.value (m.words.l c)) (card_value m.words c)) (sym key_is)
-    (subst (BringsPair (is_replace_card m.words c) m.words becomes.words (insert_key m.words c) (m.words.value (m.words.l c))) (sym value_is)
+    let replaces = is_replace_card m.words c in
+    let had = m.words.value (m.words.l c) in
+    let op_is : op_brought replaces (insert_key m.words c) had (insert_value m.words c) ≡ op_of_card m.words c =
+    (λ t. op_brought replaces (sym key_is t) had (sym value_is t)) in
+    subst (λ op. MakesChange op m.words becomes.words) op_is
     (pairs_brought m.words becomes.words stage after.stages (insert_key m.words c) (m.words.value (m.words.l c)) (insert_value m.words c)
-    invariant.words.tree after.invariant.words.tree ((invariant.words.cards c).insert inserts).real (is_replace_card m.words c) brings))
+    invariant.words.tree after.invariant.words.tree ((invariant.words.cards c).insert inserts).real replaces brings)
 
 -- a won child exchange of a delete takes the card's key with its value away
 dchild_keys : (m : Machine) (stage : Stages) (i c : ℕ) (becomes : Scene) → Invariant m stage → Happens m.last_card (act.DChild c) (scene m i) Won becomes

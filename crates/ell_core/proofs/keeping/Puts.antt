@@ -1,4 +1,4 @@
-use Rattle.std.proofs.Common.{◌≡◌, ℕ, Some, None, sym, ap, subst}
+use Rattle.std.proofs.Common.{◌≡◌, ℕ, Option, Some, None, refl, sym, ap, ◌∙◌, subst, arith}
 use Rattle.std.proofs.lemmas.Option.{same_Some}
 use Rattle.ell_ops.specs.declared.op.Op.{Op}
 use Rattle.ell_ops.specs.declared.op.Op.TheVariants.{Find, Insert, Delete, Swap}
@@ -8,13 +8,13 @@ use Rattle.ell_core.specs.state.Words.{Words}
 use Rattle.ell_core.specs.state.Machine.{Worker}
 use Rattle.ell_core.specs.acts.Searching.{put_of}
 use Rattle.ell_core.specs.history.Stages.{Stages}
-use Rattle.ell_core.specs.history.Invariant.{InsertInHand, FlaggedPut, Unflagged, Flagged}
+use Rattle.ell_core.specs.history.Invariant.{InsertInHand, FlaggedPut, IsPutting, Unflagged, Flagged}
 
 -- what an insert and what a swap put
-abbrev added : ℕ → ℕ → Put
+abbrev pub added : ℕ → ℕ → Put
 added key value = record { key = key; value = value; was = None }
 
-abbrev replacing : ℕ → ℕ → ℕ → Put
+abbrev pub replacing : ℕ → ℕ → ℕ → Put
 replacing key was value = record { key = key; value = value; was = Some was }
 
 -- what an operation puts is put at its key
@@ -45,3 +45,34 @@ module _ (w : Words) (stage : Stages) (v : Worker) (what : Put) (c : ℕ) where
   putting_flag (Insert key value) e h = subst (λ t. FlaggedPut w stage v t c) (sym (same_Some (added key value) what e)) h
   putting_flag (Delete key) e h = absurd cc
   putting_flag (Swap key was value) e h = subst (λ t. FlaggedPut w stage v t c) (sym (same_Some (replacing key was value) what e)) h
+
+  -- and the other way round
+  pub flag_putting : (op : Op) → put_of op ≡ Some what → Flagged w stage v op c → FlaggedPut w stage v what c
+  flag_putting (Find key) e h = absurd h
+  flag_putting (Insert key value) e h = subst (λ t. FlaggedPut w stage v t c) (same_Some (added key value) what e) h
+  flag_putting (Delete key) e h = absurd cc
+  flag_putting (Swap key was value) e h = subst (λ t. FlaggedPut w stage v t c) (same_Some (replacing key was value) what e) h
+
+-- the operation that puts this
+abbrev putter : ℕ → ℕ → Option ℕ → Op
+putter key value None = Insert key value
+putter key value (Some was) = Swap key was value
+
+putter_of : (op : Op) (what : Put) → put_of op ≡ Some what → op ≡ putter what.key what.value what.was
+putter_of (Find key) what e = absurd cc
+putter_of (Insert key value) what e = ap (λ (t : Put). putter t.key t.value t.was) (same_Some (added key value) what e)
+putter_of (Delete key) what e = absurd cc
+putter_of (Swap key was value) what e = ap (λ (t : Put). putter t.key t.value t.was) (same_Some (replacing key was value) what e)
+
+-- a card puts in one way
+one_way : (w : Words) (c : ℕ) (was had : Option ℕ) → IsPutting w c was → IsPutting w c had → was ≡ had
+one_way w c None None g h = refl
+one_way w c None (Some had) g h = absurd (let same = h.0 in omega arith)
+one_way w c (Some was) None g h = absurd (let same = g.0 in omega arith)
+one_way w c (Some was) (Some had) g h = ap Some (sym g.1 ∙ h.1)
+
+-- two operations whose card is this one, and which put its key and value, are one
+pub one_putter : (w : Words) (c : ℕ) (op other : Op) (what then : Put) → put_of op ≡ Some what → put_of other ≡ Some then → what.key ≡ then.key
+    → what.value ≡ then.value → IsPutting w c what.was → IsPutting w c then.was → op ≡ other
+one_putter w c op other what then e f key value g h =
+    putter_of op what e ∙ ((λ t. putter (key t) (value t) (one_way w c what.was then.was g h t)) ∙ sym (putter_of other then f))

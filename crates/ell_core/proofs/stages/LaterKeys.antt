@@ -1,9 +1,9 @@
-use Rattle.std.proofs.Common.{◌≡◌, ℕ, ◌%◌, ◌<◌, nat_le, true, ap, ◌∙◌, arith, ◌==◌, if◌then◌else◌}
+use Rattle.std.proofs.Common.{◌≡◌, ℕ, ◌%◌, ◌<◌, nat_le, true, Option, Some, None, sym, ap, ◌∙◌, arith, ◌==◌, if◌then◌else◌}
 use Rattle.ell_word.specs.Node.{card, internal, left_leaf, right_leaf}
 use Rattle.ell_core.specs.state.Words.{Words}
 use Rattle.ell_core.specs.state.Cards.{is_right}
 use Rattle.ell_core.specs.history.Stages.{Stages, is_insert, is_delete, is_node_born, Born}
-use Rattle.ell_core.specs.history.Invariant.{insert_key, insert_value, delete_key, insert_side, delete_side, leaf_side, InsertCard, DeleteCard, WordsAreSound}
+use Rattle.ell_core.specs.history.Invariant.{insert_key, insert_value, delete_key, insert_side, delete_side, leaf_side, InsertCard, DeleteCard, IsPutting, WordsAreSound}
 use Rattle.ell_core.specs.history.Later.{WordsLater, SameInfo}
 use Rattle.ell_core.proofs.words.Sides.{key_of_three}
 use Rattle.ell_core.proofs.stages.Order.{born-claimed, insert-claimed, delete-claimed}
@@ -77,6 +77,17 @@ module _ (old new : Words) (stage : Stages) (sound : WordsAreSound old stage) (w
         let left_value = insert_node_value (left_leaf c) (omega arith) in
         let right_value = insert_node_value (right_leaf c) (omega arith) in
         λ t. if left t == insert_leaf_key t then right_value t else left_value t
+
+    -- it adds its key still, or replaces a leaf of its key and of that value
+    pub putting_later : (was : Option ℕ) → IsPutting old c was → IsPutting new c was
+    putting_later None is = (
+        let left = insert_node_key (left_leaf c) (omega arith) in
+        let right = insert_node_key (right_leaf c) (omega arith) in
+        omega arith)
+    putting_later (Some was) is = (
+        insert_node_key (left_leaf c) (omega arith) ∙ (is.0 ∙ sym (insert_node_key (right_leaf c) (omega arith))),
+        insert_leaf_value ∙ is.1,
+    )
 
     pub insert_side_later : insert_side new c ≡ insert_side old c
     insert_side_later = side_later (old.p c) (new.p c) (old.key (internal c)) (new.key (internal c)) insert_info.p

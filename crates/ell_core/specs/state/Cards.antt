@@ -57,8 +57,11 @@ abbrev pub is_replace_card : Words → ℕ → Bool
 is_replace_card w c = w.key (left_leaf c) == w.key (right_leaf c)
 
 -- the node that an insert's card brings to the parent: its right leaf, if it replaces a leaf, else its internal node
+abbrev pub brought_by : ℕ → Bool → ℕ
+brought_by c replaces = if replaces then right_leaf c else internal c
+
 abbrev pub brought : Words → ℕ → ℕ
-brought w c = if is_replace_card w c then right_leaf c else internal c
+brought w c = brought_by c (is_replace_card w c)
 
 -- the child of a node on the side of a card's own key
 abbrev pub card_child : Words → ℕ → ℕ → ℕ

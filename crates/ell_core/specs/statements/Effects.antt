@@ -1,5 +1,6 @@
 use Rattle.std.specs.Prelude.{◌≡◌, ◌≢◌, ℕ, ◌⊎◌, ◌↔◌, Bool, true, false, Option, Some, None}
 use Rattle.ell_ops.specs.declared.op.Op.{Op}
+use Rattle.ell_ops.specs.declared.op.Op.TheVariants.{Find, Insert, Delete, Swap}
 use Rattle.ell_ops.specs.Contents.{Contents}
 use Rattle.ell_ops.specs.Meaning.{key_of, reply_of, after}
 use Rattle.ell_core.specs.declared.event.Act.{Act}
@@ -16,6 +17,7 @@ use Rattle.ell_core.specs.soundness.Holds.{Holds}
 use Rattle.ell_core.specs.declared.view.Entry.{Entry}
 use Rattle.ell_core.specs.declared.view.Entry.TheVariants.{Present}
 use Rattle.ell_ops.specs.declared.reply.Reply.{Reply}
+use Rattle.ell_ops.specs.declared.reply.Reply.TheVariants.{Yes, Found}
 
 -- the tree has one key more, which it had not, with this value
 pub record AddsPair (old new : Words) (key value : ℕ) : Type 0 where
@@ -32,19 +34,36 @@ pub record ReplacesPair (old new : Words) (key was value : ℕ) : Type 0 where
   pub present : IsTreePair old key was
   pub pairs : (k v : ℕ) → IsTreePair new k v ↔ ((IsTreePair old k v × (k ≢ key)) ⊎ ((k ≡ key) × (v ≡ value)))
 
--- what an insert's card does: it adds its pair, or replaces the pair that its leaf has
-abbrev pub BringsPair : Bool → Words → Words → ℕ → ℕ → ℕ → Type 0
-BringsPair true old new key was value = ReplacesPair old new key was value
-BringsPair false old new key was value = AddsPair old new key value
+-- the tree changes as an operation changes a map that it finds otherwise
+abbrev pub MakesChange : Op → Words → Words → Type 0
+MakesChange (Find key) old new = ⊥
+MakesChange (Insert key value) old new = AddsPair old new key value
+MakesChange (Delete key) old new = (value : ℕ) × TakesPair old new key value
+MakesChange (Swap key was value) old new = ReplacesPair old new key was value
+
+-- what an operation answers that has changed the tree: yes, a swap the value that it has replaced
+abbrev pub reply_of_change : Op → Reply
+reply_of_change (Swap key was value) = Found was
+reply_of_change _ = Yes
+
+-- what is put of a key with a value: by a swap, where a leaf of the key is replaced, that had a value, or else by an insert
+abbrev pub op_brought : Bool → ℕ → ℕ → ℕ → Op
+op_brought true key was value = Swap key was value
+op_brought false key was value = Insert key value
+
+-- the operation that an insert's card is for: its own key and value, with the value of its leaf
+abbrev pub op_of_card : Words → ℕ → Op
+op_of_card w c = op_brought (is_replace_card w c) (card_key w c) (w.value (w.l c)) (card_value w c)
 
 -- the tree has the same keys with the same values
 abbrev pub SamePairs : Words → Words → Type 0
 SamePairs old new = (k v : ℕ) → IsTreePair new k v ↔ IsTreePair old k v
 
--- what an act does to the keys of the tree and their values: a won ichild adds its card's key with its value, a won dchild takes its
--- card's key with its value away, and nothing else changes them (paper of 2010: an update takes effect at its child exchange)
+-- what an act does to the keys of the tree and their values: a won ichild adds its card's key with its value, or gives its key this value in
+-- place of the one that its leaf has; a won dchild takes its card's key with its value away; and nothing else changes them (paper of 2010: an
+-- update takes effect at its child exchange)
 abbrev pub PairsChange : Act → Stepped → Words → Words → Type 0
-PairsChange (act.IChild c) Won old new = BringsPair (is_replace_card old c) old new (card_key old c) (old.value (old.l c)) (card_value old c)
+PairsChange (act.IChild c) Won old new = MakesChange (op_of_card old c) old new
 PairsChange (act.DChild c) Won old new = TakesPair old new (card_key old c) (card_value old c)
 PairsChange _ _ old new = SamePairs old new
 

@@ -10,7 +10,7 @@ use Rattle.ell_core.specs.state.Cards.{is_right, child_for}
 use Rattle.ell_core.specs.soundness.Sound.{WorkerOwns}
 use Rattle.ell_core.specs.history.Stages.{Stages, Born, is_insert}
 use Rattle.ell_core.specs.history.Invariant.{LeadsToValue, SeenIsSound, StandIsSound, Unflagged, WorkerIsSound, IsPutting}
-use Rattle.ell_core.proofs.stages.LaterKeys.{insert_info, insert_key_later, insert_value_later, delete_info, delete_key_later, key_later, side_later, insert_node_key, insert_leaf_value}
+use Rattle.ell_core.proofs.stages.LaterKeys.{insert_info, insert_key_later, insert_value_later, putting_later, delete_info, delete_key_later, key_later, side_later, insert_node_key, insert_leaf_value}
 use Rattle.ell_core.proofs.keeping.going_on.Cards.{GoesOn, inner_on}
 use Rattle.ell_core.proofs.keeping.going_on.InHand.{SameGoal, same_place, unflagged_same, flagged_same}
 
@@ -49,18 +49,6 @@ module _ (old new : Words) (stage stages : Stages) (h : GoesOn old new stage sta
     deep = λ outer real. was.deep outer (let key = key_later old new stage h.sound h.words x x refl was.born in omega arith);
   }
 
-  -- a card adds its key still, or replaces a leaf of its key and of that value
-  putting_on : (c : ℕ) → is_insert (stage c) ≡ true → (was : Option ℕ) → IsPutting old c was → IsPutting new c was
-  putting_on c e None is = (
-      let left = insert_node_key old new stage h.sound h.words c e (left_leaf c) (omega arith) in
-      let right = insert_node_key old new stage h.sound h.words c e (right_leaf c) (omega arith) in
-      omega arith)
-  putting_on c e (Some was) is = (
-      insert_node_key old new stage h.sound h.words c e (left_leaf c) (omega arith)
-      ∙ (is.0 ∙ sym (insert_node_key old new stage h.sound h.words c e (right_leaf c) (omega arith))),
-      insert_leaf_value old new stage h.sound h.words c e ∙ is.1,
-  )
-
   -- a card goes where it went, for the key and the value that it had
   pub goal_on : (c : ℕ) → SameGoal old new stage c
   goal_on c = record {
@@ -70,7 +58,7 @@ module _ (old new : Words) (stage stages : Stages) (h : GoesOn old new stage sta
       insert_value_later old new stage h.sound h.words c e,
     );
     delete = λ e. (delete_info old new stage h.sound h.words c e, delete_key_later old new stage h.sound h.words c e);
-    kind = λ e was is. putting_on c e was is;
+    kind = λ e. putting_later old new stage h.sound h.words c e;
   }
 
   -- a worker stays sound, if the walk for a key of its own leads where it led, and the card that it has in hand without its flag keeps
