@@ -1,10 +1,12 @@
 //! The table, and its one atomic step of each kind.
 ghost use Rattle.std.specs.Prelude.{◌≡◌, ℕ, ◌<◌, ◌≤◌, ◌+◌, ◌==◌, [], OnOk};
+ghost use Rattle.ell_core.specs.declared.fact.Fact.{Fact};
+ghost use Rattle.ell_core.specs.state.Facts.{card_of_fact};
 ghost use prog.Atomic.{either};
 ghost use Rattle.atomic_table.specs.Table.{Allows};
 ghost use Rattle.ell_word.specs.Node.{greatest_card};
 ghost use Rattle.ell_core.specs.state.Layout.{address, table_size};
-ghost use Rattle.ell_cards.specs.Models.{TableModel, Steps};
+ghost use Rattle.ell_cards.specs.Models.{Knows, TableModel, Steps};
 ghost use Rattle.ell_cards.specs.Changes.{after_fill};
 ghost use Rattle.ell_cards.specs.Naming.{IsNamed};
 ghost use Rattle.ell_cards.specs.Guards.{MayFill};
@@ -49,6 +51,16 @@ impl<A: Allocator + Copy> CardTable<A> {
     pub fn claims_stay_inside(&self, pass: &Pass<A>)
         requires own { pass.now.table ≡ self.now.id }
         ensures { pass.now.view.next_at_least ≤ self.now.plan.last_card + 1 }
+    {
+        self.names(pass);
+    }
+
+    /// A law, as the one before: each card of which a pass knows something is one of the table.
+    #[inline(always)]
+    pub fn facts_stay_inside(&self, pass: &Pass<A>)
+        requires own { pass.now.table ≡ self.now.id }
+        ensures cards { (fact : Fact) → Knows pass.now.view fact → card_of_fact fact ≤ self.now.plan.last_card }
+        ensures room { self.now.plan.last_card ≤ greatest_card }
     {
         self.names(pass);
     }

@@ -14,3 +14,5 @@ pub mod Presence
 pub mod Rising
 -- Sets of keys against std's ordered sets, whose tests compare where ours look for equal numbers.
 pub mod Sets
+-- What a swap makes of a value.
+pub mod Swaps

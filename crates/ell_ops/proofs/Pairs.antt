@@ -8,6 +8,7 @@ use Rattle.std.specs.Ordering.{nat_cmp}
 use Rattle.ell_ops.specs.Contents.{Contents, contents_of, with_pair, with_swap, swapped, without, ListsPairs}
 use Rattle.ell_ops.proofs.Rising.{Over, Rises, over_less, rises}
 use Rattle.ell_ops.proofs.Sets.{is_at-nat, eqb-swap}
+use Rattle.ell_ops.proofs.Swaps.{swapped_same, swapped_other}
 
 -- a map of std has the contents of its list
 pub get-contents_of : (pairs : List (ℕ × ℕ)) (q : ℕ) → lookup (is_at (nat_cmp q)) pairs ≡ contents_of pairs q
@@ -15,7 +16,7 @@ get-contents_of [] q = refl
 get-contents_of (e ∷ es) q =
     ap (λ b. cond b (Some e.1) (lookup (is_at (nat_cmp q)) es)) (is_at-nat q e.0) ∙ ap (cond (eqb q e.0) (Some e.1)) (get-contents_of es q)
 
--- what an insert or a delete does to std's map, key by key, it does to its contents
+-- what an insert, a delete or a swap does to std's map, key by key, it does to its contents
 changed : (old new : List (ℕ × ℕ)) (key : ℕ) (w : Option ℕ)
     → ((q : ℕ) → lookup (is_at (nat_cmp q)) new ≡ cond (is_at (nat_cmp key) q) w (lookup (is_at (nat_cmp q)) old))
     → (q : ℕ) → contents_of new q ≡ cond (eqb q key) w (contents_of old q)
@@ -50,20 +51,15 @@ contents_of-swapped old new key was value had h = λ t q. (changed old new key (
   where
     by : (q : ℕ) (b : Bool) → (q == key) ≡ b
         → cond b (Some value) (contents_of old q) ≡ (if b then swapped (contents_of old q) was value else contents_of old q)
-    by q true same = sym (ap (λ o. swapped o was value) (ap (contents_of old) (eqb-true q key same) ∙ had)
-        ∙ ap (λ t. Some (if t then value else was)) (eq-eqb was was refl))
+    by q true same = sym (ap (λ o. swapped o was value) (ap (contents_of old) (eqb-true q key same) ∙ had) ∙ swapped_same was value)
     by q false other = refl
 
 -- any other keeps its value
 pub contents_of-unswapped : (old : List (ℕ × ℕ)) (key was value : ℕ) → contents_of old key ≢ Some was → contents_of old ≡ with_swap (contents_of old) key was value
 contents_of-unswapped old key was value other = λ t q. by q (q == key) refl t
   where
-    stays : (o : Option ℕ) → o ≢ Some was → o ≡ swapped o was value
-    stays None n = refl
-    stays (Some v) n = ap Some (sym (ap (λ t. if t then value else v) (ne_eqb v was (λ e. n (ap Some e)))))
-
     by : (q : ℕ) (b : Bool) → (q == key) ≡ b → contents_of old q ≡ (if b then swapped (contents_of old q) was value else contents_of old q)
-    by q true same = stays (contents_of old q) (λ e. other (ap (contents_of old) (sym (eqb-true q key same)) ∙ e))
+    by q true same = sym (swapped_other (contents_of old q) was value (λ e. other (ap (contents_of old) (sym (eqb-true q key same)) ∙ e)))
     by q false different = refl
 
 pub contents_of-remove : (old new : List (ℕ × ℕ)) (key : ℕ)

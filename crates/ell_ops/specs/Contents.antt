@@ -14,12 +14,12 @@ nothing = λ _. None
 abbrev pub with_pair : Contents → ℕ → ℕ → Contents
 with_pair there key value = λ q. if q == key then Some (unwrap_or (there q) value) else there q
 
--- a value after a swap of one value for another
+-- a key's value after a swap: the first of two values becomes the second, and any other stays
 abbrev pub swapped : Option ℕ → ℕ → ℕ → Option ℕ
 swapped None was value = None
 swapped (Some v) was value = Some (if v == was then value else v)
 
--- with another value of the key, if it has the one
+-- with the key's value swapped
 abbrev pub with_swap : Contents → ℕ → ℕ → ℕ → Contents
 with_swap there key was value = λ q. if q == key then swapped (there q) was value else there q
 

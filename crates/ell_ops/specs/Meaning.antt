@@ -48,12 +48,12 @@ after (Insert key value) there = with_pair there key value
 after (Delete key) there = without there key
 after (Swap key was value) there = with_swap there key was value
 
--- the operation adds a key that is not there, or gives it another value
+-- the operation adds a key that is not there
 abbrev pub AddsKey : Op → Contents → Type 0
 AddsKey (Find key) there = ⊥
 AddsKey (Insert key value) there = there key ≡ None
 AddsKey (Delete key) there = ⊥
-AddsKey (Swap key was value) there = there key ≡ Some was
+AddsKey (Swap key was value) there = ⊥
 
 -- the reply of each operation of a list, in order, where this is there at first
 abbrev pub replies : Contents → List Op → List Reply

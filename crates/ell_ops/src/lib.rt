@@ -1,4 +1,4 @@
-//! Finds, inserts and deletes on a map from keys to values, and what one thread answers for a list of them.
+//! Finds, inserts, deletes and swaps on a map from keys to values, and what one thread answers for a list of them.
 //!
 //! This is the plain meaning that every other way of running a list is measured by.
 #![tactic(auto)]

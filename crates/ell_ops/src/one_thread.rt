@@ -12,9 +12,9 @@ use crate::reply::Reply;
 use std::alloc::Allocator;
 use std::collections::BTreeMap;
 
-/// Applies one operation to an ordered map. Find answers the key's value if the key is present, insert whether it was absent,
-/// delete whether it was present; an insert of a present key leaves its value. Only an insert of an absent key can meet
-/// `NoMemory`, and then the map is as it was.
+/// Applies one operation to an ordered map. Find and swap answer the key's value if the key is present, insert whether it was
+/// absent, delete whether it was present. An insert of a present key leaves its value, and a swap changes the value only if it
+/// is the one that the swap names. Only an insert of an absent key can meet `NoMemory`, and then the map is as it was.
 pub fn apply<A: Allocator + Copy>(
     map: &mut BTreeMap<u64, u64, A>,
     op: Op,
@@ -28,7 +28,7 @@ pub fn apply<A: Allocator + Copy>(
         Op::Find(key) => Ok(Reply::found(map.get(&key).copied())),
         Op::Insert(key, value) => insert(map, key, value),
         Op::Delete(key) => Ok(Reply::yes_if(map.remove(&key).is_some())),
-        Op::Swap(key, was, value) => swap(map, key, was, value),
+        Op::Swap(key, was, value) => Ok(swap(map, key, was, value)),
     }
 }
 
@@ -50,23 +50,24 @@ fn insert<A: Allocator + Copy>(
     Ok(Reply::Yes)
 }
 
-// Gives a key another value, if it has the first one.
+// Changes a key's value from one to another, if the key has the first one. Answers the value that was found.
 fn swap<A: Allocator + Copy>(
     map: &mut BTreeMap<u64, u64, A>,
     key: u64,
     was: u64,
     value: u64,
-) -> Result<Reply, NoMemory>
-    ensures reply { IfOk result (λ reply. reply ≡ reply_of (Swap key was value) (contents_of map.old.entries)) }
-    ensures after { OnOk result (contents_of map.new.entries ≡ after (Swap key was value) (contents_of map.old.entries)) }
-    ensures err { OnErr result (map.new.entries ≡ map.old.entries) }
-    ensures refused { OnErr result (AddsKey (Swap key was value) (contents_of map.old.entries)) }
+) -> Reply
+    ensures reply { result ≡ reply_of (Swap key was value) (contents_of map.old.entries) }
+    ensures after { contents_of map.new.entries ≡ after (Swap key was value) (contents_of map.old.entries) }
 {
-    let found = map.get(&key).copied();
-    if found == Some(was) {
-        map.insert(key, value)?;
+    let Some(there) = map.get_mut(&key) else {
+        return Reply::No;
+    };
+    let found = *there;
+    if found == was {
+        *there = value;
     }
-    Ok(Reply::found(found))
+    Reply::Found(found)
 }
 
 /// Applies a list of operations to the empty map, one after the other. Answers the reply of each operation, in their order, and

@@ -13,7 +13,7 @@ pub enum Op {
     Insert(u64, u64),
     /// Removes the key; was it present?
     Delete(u64),
-    /// What is the key's value? If it is the first one, it becomes the second one.
+    /// What is the key's value, if the key is present? If it is the first of the two values, it becomes the second.
     Swap(u64, u64, u64),
 }
 

@@ -1,12 +1,15 @@
 use Rattle.std.proofs.Common.{◌≡◌, ℕ, Option, Some, List, [], sym, ◌∙◌, ap, subst, max, min}
 use Rattle.ell_ops.specs.declared.op.Op.{Op}
-use Rattle.ell_ops.specs.declared.op.Op.TheVariants.{Insert, Delete, Swap}
+use Rattle.ell_ops.specs.declared.op.Op.TheVariants.{Delete}
 use Rattle.ell_word.specs.declared.update.State.TheVariants as state
 use Rattle.ell_word.specs.Word.{packed}
 use Rattle.ell_core.specs.declared.fact.Fact.TheVariants as fact
 use Rattle.ell_core.specs.declared.field.Field.{Field}
 use Rattle.ell_core.specs.declared.field.Field.TheVariants as field
 use Rattle.ell_core.specs.declared.view.Search.{Search}
+use Rattle.ell_core.specs.declared.put.Put.{Put}
+use Rattle.ell_core.specs.acts.Searching.{put_of}
+use Rattle.ell_cards.proofs.stepping.Claiming.{put_filling}
 use Rattle.ell_core.specs.state.Cards.{insert_filling, delete_filling}
 use Rattle.ell_cards.specs.declared.view.Told.{Told}
 use Rattle.ell_cards.specs.declared.view.Told.TheVariants.{Met, Info}
@@ -30,17 +33,13 @@ filling_there : (c : ℕ) (op : Op) (v : View) (place : Place) → Does v op →
 filling_there c op v place busy at = filling_at v op c place.leaf place.key (seen place.parent) (seen_any place.grandparent) busy
     (ap (λ (s : Search). s.node) at.search) at.told (ap (λ (s : Search). s.parent) at.search) (ap (λ (s : Search). s.grandparent) at.search)
 
--- for an insert
-pub insert_fills : (c k value : ℕ) (v : View) (place : Place) → Does v (Insert k value) → IsAt v place
-    → filling_of c v ≡ insert_filling c k value place.parent.node place.leaf place.key place.value
-insert_fills c k value v place busy at =
-    filling_there c (Insert k value) v place busy at ∙ ap (insert_filling c k value place.parent.node place.leaf place.key) at.value
-
--- for a swap
-pub swap_fills : (c k was value : ℕ) (v : View) (place : Place) → Does v (Swap k was value) → IsAt v place
-    → filling_of c v ≡ insert_filling c k value place.parent.node place.leaf place.key place.value
-swap_fills c k was value v place busy at =
-    filling_there c (Swap k was value) v place busy at ∙ ap (insert_filling c k value place.parent.node place.leaf place.key) at.value
+-- for an insert or a swap
+pub put_fills : (c : ℕ) (op : Op) (what : Put) (v : View) (place : Place) → put_of op ≡ Some what → Does v op → IsAt v place
+    → filling_of c v ≡ insert_filling c what.key what.value place.parent.node place.leaf place.key place.value
+put_fills c op what v place is busy at =
+    filling_there c op v place busy at
+    ∙ (sym (put_filling op what is c place.leaf (seen place.parent) (seen_any place.grandparent) place.key (told_value v.told))
+    ∙ ap (insert_filling c what.key what.value place.parent.node place.leaf place.key) at.value)
 
 -- a delete wants a card at a leaf of its key whose grandparent was read clean
 pub delete_wants : (v : View) (k : ℕ) (place : Place) (above : Passed) → IsAt v place → place.key ≡ k → place.grandparent ≡ Some above
@@ -53,30 +52,23 @@ module _ (v t f : View) (c : ℕ) (op : Op) (place : Place) (busy : Does v op) (
   told_by_card : (filling : List (Field × ℕ)) → filling_of c v ≡ filling → (e : Told) → Has (told_filling c filling []) e → IsTold f e
   told_by_card filling is e has = keeps.told e (h.told e (subst (λ (fs : List (Field × ℕ)). Has (told_filling c fs []) e) (sym is) has))
 
-module _ (v t f : View) (c k : ℕ) (place : Place) (keeps : LosesNothing t f) where
-  puts_told : (op : Op) (value : ℕ) → Does v op → IsAt v place → filling_of c v ≡ insert_filling c k value place.parent.node place.leaf place.key place.value
-      → HasCard op place (filling_of c v) t c → Knows f (fact.IFlagged c) → IsTold t (Met place.parent.node)
-      → IsInsert f c place.parent.node place.leaf (max k place.key) (min k place.key)
-  puts_told op value busy at fills h knows met =
+module _ (v t f : View) (c : ℕ) (place : Place) (keeps : LosesNothing t f) where
+  pub is_insert : (op : Op) (what : Put) → put_of op ≡ Some what → Does v op → IsAt v place → HasCard op place (filling_of c v) t c
+      → Knows f (fact.IFlagged c) → IsTold t (Met place.parent.node)
+      → IsInsert f c place.parent.node place.leaf (max what.key place.key) (min what.key place.key)
+  is_insert op what is busy at h knows met =
       let tells = told_by_card v t f c op place busy at h keeps
-      (insert_filling c k value place.parent.node place.leaf place.key place.value) fills in
+      (insert_filling c what.key what.value place.parent.node place.leaf place.key place.value) (put_fills c op what v place is busy at) in
       record {
         knows = knows;
         met = keeps.told (Met place.parent.node) met;
         parent = tells (Info c field.P place.parent.node) (latest _ _);
         leaf = tells (Info c field.L place.leaf) (earlier _ _ _ (latest _ _));
-        key = tells (Info c field.Key (max k place.key)) (earlier _ _ _ (earlier _ _ _ (latest _ _)));
-        left_key = tells (Info c field.LeftLeafKey (min k place.key)) (earlier _ _ _ (earlier _ _ _ (earlier _ _ _ (latest _ _))));
+        key = tells (Info c field.Key (max what.key place.key)) (earlier _ _ _ (earlier _ _ _ (latest _ _)));
+        left_key = tells (Info c field.LeftLeafKey (min what.key place.key)) (earlier _ _ _ (earlier _ _ _ (earlier _ _ _ (latest _ _))));
       }
 
-  pub is_insert : (value : ℕ) → Does v (Insert k value) → IsAt v place → HasCard (Insert k value) place (filling_of c v) t c → Knows f (fact.IFlagged c) → IsTold t (Met place.parent.node)
-      → IsInsert f c place.parent.node place.leaf (max k place.key) (min k place.key)
-  is_insert value busy at h knows met = puts_told (Insert k value) value busy at (insert_fills c k value v place busy at) h knows met
-
-  pub is_swap : (was value : ℕ) → Does v (Swap k was value) → IsAt v place → HasCard (Swap k was value) place (filling_of c v) t c → Knows f (fact.IFlagged c)
-      → IsTold t (Met place.parent.node) → IsInsert f c place.parent.node place.leaf (max k place.key) (min k place.key)
-  is_swap was value busy at h knows met = puts_told (Swap k was value) value busy at (swap_fills c k was value v place busy at) h knows met
-
+module _ (v t f : View) (c k : ℕ) (place : Place) (keeps : LosesNothing t f) where
   module _ (above : Passed) (is : place.grandparent ≡ Some above) (busy : Does v (Delete k)) (at : IsAt v place) (h : HasCard (Delete k) place (filling_of c v) t c) where
     delete_tells : (e : Told) → Has (told_filling c (delete_filling above.node place.parent.node place.leaf (packed place.parent.update)) []) e → IsTold f e
     delete_tells = told_by_card v t f c (Delete k) place busy at h keeps (delete_filling above.node place.parent.node place.leaf (packed place.parent.update))

@@ -1,12 +1,12 @@
 use Rattle.std.proofs.Common.{◌≡◌, ℕ, ◌+◌, ◌≤◌, true, false, Some, Result, Ok, Err, IfErr, List, ◌∷◌, refl, sym, ◌∙◌, ap, subst, is_ok, arith, None}
-use Rattle.ell_ops.specs.declared.op.Op.{Op}
-use Rattle.ell_ops.specs.declared.op.Op.TheVariants.{Insert, Delete}
+use Rattle.ell_core.specs.declared.put.Put.{Put}
+use Rattle.ell_ops.specs.declared.op.Op.TheVariants.{Delete}
 use Rattle.ell_word.specs.declared.gate.Kind.{Kind}
 use Rattle.ell_word.specs.declared.update.Update.{Update}
 use Rattle.ell_word.specs.Word.{packed}
 use Rattle.ell_core.specs.declared.fact.Fact.{Fact}
 use Rattle.ell_core.specs.declared.field.Field.{Field}
-use Rattle.ell_core.specs.state.Cards.{insert_filling, delete_filling}
+use Rattle.ell_core.specs.state.Cards.{delete_filling}
 use Rattle.ell_cards.specs.declared.view.Told.TheVariants.{Met}
 use Rattle.ell_cards.specs.declared.view.Hindrance.TheVariants.{Found}
 use Rattle.ell_cards.specs.declared.view.View.{View}
@@ -22,7 +22,7 @@ use Rattle.ell_tree.specs.CardsTaken.{is_claim, claims_in, TakesNoCard}
 use Rattle.ell_tree.specs.Counts.{Took}
 use Rattle.ell_tree.specs.Keeping.{LosesNothing, Goes, IsInnerMet}
 use Rattle.ell_tree.specs.Searches.{seen, seen_any}
-use Rattle.ell_tree.specs.Tries.{HasCard, Puts, Fills, Flags, IsFlagged, IsUnflagged}
+use Rattle.ell_tree.specs.Tries.{HasCard, HasCardToPut, Fills, Flags, IsFlagged, IsUnflagged}
 use Rattle.ell_tree.proofs.Counting.{took_one, took_trans}
 use Rattle.ell_tree.proofs.Keeping.{place_told}
 use Rattle.ell_tree.proofs.Taking.{no_claims}
@@ -35,19 +35,17 @@ may_fill_still a b n c fills may = record {
 }
 
 -- an insert's card that is filled may flag the parent
-pub may_iflag : (a b : PassModel) (n c : ℕ) (op : Op) (k value : ℕ) (place : Place) → Puts op k value → HasCard op place (insert_filling c k value place.parent.node place.leaf place.key place.value) a.view c
-    → Fills a b n → MayIFlag b.view c place.parent.node place.parent.update
-may_iflag a b n c op k value place puts h fills = record {
-  op = op;
-  key = k;
-  value = value;
-  was = puts.was;
-  puts = puts.is;
+pub may_iflag : (a b : PassModel) (n c : ℕ) (what : Put) (place : Place) → HasCardToPut what place a.view c → Fills a b n
+    → MayIFlag b.view c place.parent.node place.parent.update
+may_iflag a b n c what place h fills = record {
+  op = h.op;
+  what = what;
+  puts = h.puts;
   leaf = place.leaf;
-  busy = ap (λ (u : View). u.worker.operation) fills.view ∙ h.busy;
-  may = may_fill_still a b n c fills h.may;
-  stands = ap (λ (u : View). u.worker.search.node) fills.view ∙ h.stands;
-  behind = ap (λ (u : View). u.worker.search.parent) fills.view ∙ h.behind;
+  busy = ap (λ (u : View). u.worker.operation) fills.view ∙ h.card.busy;
+  may = may_fill_still a b n c fills h.card.may;
+  stands = ap (λ (u : View). u.worker.search.node) fills.view ∙ h.card.stands;
+  behind = ap (λ (u : View). u.worker.search.parent) fills.view ∙ h.card.behind;
   filled = fills.filled;
 }
 

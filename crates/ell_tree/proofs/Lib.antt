@@ -36,3 +36,5 @@ pub mod Glances
 pub mod Hindering
 -- how many moves of cards a pass knows of, and why each try that is hindered shows it one more
 pub mod Moving
+-- an insert or a swap where its search ended, and once it is done
+pub mod Putting

@@ -6,8 +6,9 @@ use Rattle.ell_word.specs.declared.update.State.TheVariants as state
 use Rattle.ell_word.specs.declared.update.Update.{Update}
 use Rattle.ell_word.specs.Word.{packed, unpacked, number_of, state_of}
 use Rattle.ell_core.specs.declared.fact.Fact.TheVariants as fact
+use Rattle.ell_core.specs.declared.put.Put.{Put}
 use Rattle.ell_core.specs.declared.view.Search.{Search}
-use Rattle.ell_core.specs.acts.Searching.{at_root}
+use Rattle.ell_core.specs.acts.Searching.{at_root, put_of}
 use Rattle.ell_cards.specs.declared.view.Hindrance.{Hindrance}
 use Rattle.ell_cards.specs.declared.view.Hindrance.TheVariants.{Claim, Found}
 use Rattle.ell_cards.specs.declared.view.View.{View}
@@ -119,16 +120,14 @@ first_unclean state.Clean c hs n = absurd (n refl)
 clean_way : (s : State) (c : ℕ) → s ≡ state.Clean → unless_clean s c ≡ []
 clean_way s c e = ap (λ t. unless_clean t c) e
 
--- what an insert's search read in its way, where it stands below a parent
-pub insert_way : (k value leaf : ℕ) (x : Passed) (above : Option Passed) (v : View) → v.worker.search ≡ below leaf x (seen_any above)
-    → way_of (Insert k value) v ≡ unless_clean x.update.state x.update.card
-insert_way k value leaf x above v e =
+-- what an insert's or a swap's search read in its way, where it stands below a parent
+pub put_way : (op : Op) (what : Put) → put_of op ≡ Some what → (leaf : ℕ) (x : Passed) (above : Option Passed) (v : View)
+    → v.worker.search ≡ below leaf x (seen_any above) → way_of op v ≡ unless_clean x.update.state x.update.card
+put_way (Find k) what is leaf x above v e = absurd cc
+put_way (Insert k value) what is leaf x above v e =
     subst (λ (s : Search). in_the_way (Some (Insert k value)) s.node s.parent s.grandparent ≡ unless_clean x.update.state x.update.card) (sym e) (passed_way x)
-
--- a swap's likewise
-pub swap_way : (k was value leaf : ℕ) (x : Passed) (above : Option Passed) (v : View) → v.worker.search ≡ below leaf x (seen_any above)
-    → way_of (Swap k was value) v ≡ unless_clean x.update.state x.update.card
-swap_way k was value leaf x above v e =
+put_way (Delete k) what is leaf x above v e = absurd cc
+put_way (Swap k was value) what is leaf x above v e =
     subst (λ (s : Search). in_the_way (Some (Swap k was value)) s.node s.parent s.grandparent ≡ unless_clean x.update.state x.update.card) (sym e) (passed_way x)
 
 -- what a delete's search read in its way, where it stands below a grandparent and a parent

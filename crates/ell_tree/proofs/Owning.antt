@@ -1,13 +1,17 @@
-use Rattle.std.proofs.Common.{◌≡◌, ◌≢◌, ℕ, if◌then◌else◌, Option, Some, None, List, not, is_some, sym, ap, ◌∙◌, eq-eqb, ◌+◌}
+use Rattle.std.proofs.Common.{◌≡◌, ◌≢◌, ℕ, if◌then◌else◌, Option, Some, None, List, not, is_some, sym, ap, ◌∙◌, subst, eq-eqb, ◌+◌}
 use Rattle.std.proofs.lemmas.Bool.{ne_eqb}
 use Rattle.ell_ops.specs.declared.op.Op.{Op}
-use Rattle.ell_ops.specs.declared.op.Op.TheVariants.{Find, Insert, Delete}
+use Rattle.ell_ops.specs.declared.op.Op.TheVariants.{Find, Insert, Delete, Swap}
 use Rattle.ell_ops.specs.declared.reply.Reply.{Reply}
-use Rattle.ell_ops.specs.declared.reply.Reply.TheVariants.{Yes}
-use Rattle.ell_ops.specs.Meaning.{key_of, reply_of, after, yes_if}
+use Rattle.ell_ops.specs.declared.reply.Reply.TheVariants.{Yes, Found}
+use Rattle.ell_ops.specs.Meaning.{key_of, reply_of, after, yes_if, found}
 use Rattle.ell_core.specs.declared.view.Entry.{Entry}
 use Rattle.ell_core.specs.state.Machine.{ledger_of}
-use Rattle.ell_core.specs.statements.Effects.{contents_in}
+use Rattle.ell_core.specs.statements.Effects.{contents_in, reply_of_change}
+use Rattle.std.proofs.lemmas.Option.{same_Some}
+use Rattle.ell_core.specs.declared.put.Put.{Put}
+use Rattle.ell_core.specs.acts.Searching.{put_of, TakesPut}
+use Rattle.ell_core.proofs.keeping.Puts.{added, replacing}
 use Rattle.ell_cards.specs.Models.{PassModel, ledger}
 use Rattle.ell_cards.specs.Stepping.{SameShare}
 use Rattle.ell_tree.specs.declared.searching.Place.{Place}
@@ -24,8 +28,8 @@ pub still_owned : (k : ℕ) (p q : PassModel) → q.view.worker.ledger ≡ p.vie
 still_owned k p q same owns none = owns (sym (ap (λ (l : List (ℕ × Entry)). ledger_of l k) same) ∙ none)
 
 -- what would have been changed would have been before, where the ledger was the same
-pub would_before : (op : Op) (p q : PassModel) → q.view.worker.ledger ≡ p.view.worker.ledger → (Owns q (key_of op) → reply_of op (present_in q) ≡ Yes)
-    → Owns p (key_of op) → reply_of op (present_in p) ≡ Yes
+pub would_before : (op : Op) (p q : PassModel) → q.view.worker.ledger ≡ p.view.worker.ledger → (Owns q (key_of op) → reply_of op (present_in q) ≡ reply_of_change op)
+    → Owns p (key_of op) → reply_of op (present_in p) ≡ reply_of_change op
 would_before op p q same would owns =
     sym (ap (λ (l : List (ℕ × Entry)). reply_of op (contents_in (ledger_of l))) same) ∙ would (still_owned (key_of op) p q same owns)
 
@@ -61,20 +65,38 @@ pub moves_before : (t : TreeModel) (op : Op) (moved : Option ℕ) (p q r : PassM
 moves_before t (Find key) moved p q r same h = tt
 moves_before t (Insert key value) moved p q r same h = tt
 moves_before t (Delete key) moved p q r same h = takes_before t key moved p q r same h
+moves_before t (Swap key was value) moved p q r same h = tt
 
 pub goes_answers : (t : TreeModel) (op : Op) (said : Reply) (p q r : PassModel) (n : ℕ) → Goes p q n → Answers t op said q r → Answers t op said p r
 goes_answers t op said p q r n goes h = answers_before t op said p q r goes.table goes.label goes.view.ledger goes.view.answers goes.view.share h
 
--- an insert whose search ended at another key would add its own; a delete whose search ended at its key would take it away
+-- an insert whose search ended at another key would add its own; a swap whose search ended at its key and its first value would swap it; a delete
+-- whose search ended at its key would take it away
 module _ (cards : ℕ) (p q : PassModel) (same : q.view.worker.ledger ≡ p.view.worker.ledger) (place : Place) where
   there : (op : Op) → EndsAt cards q.view op place → Owns p (key_of op) → present_in p (key_of op) ≡ there_at place (key_of op)
   there op ends owns =
       sym (ap (λ (l : List (ℕ × Entry)). contents_in (ledger_of l) (key_of op)) same) ∙ ends.there (still_owned (key_of op) p q same owns)
 
-  pub would_insert : (key value : ℕ) → EndsAt cards q.view (Insert key value) place → place.key ≢ key → Owns p key
+  would_insert : (key value : ℕ) → EndsAt cards q.view (Insert key value) place → place.key ≢ key → Owns p key
       → reply_of (Insert key value) (present_in p) ≡ Yes
   would_insert key value ends other owns =
       ap (λ o. yes_if (not (is_some o))) (there (Insert key value) ends owns ∙ ap (λ b. if b then Some place.value else None) (ne_eqb place.key key other))
+
+  would_swap : (key was value : ℕ) → EndsAt cards q.view (Swap key was value) place → place.key ≡ key → place.value ≡ was → Owns p key
+      → reply_of (Swap key was value) (present_in p) ≡ Found was
+  would_swap key was value ends own same_value owns =
+      ap found (there (Swap key was value) ends owns
+      ∙ (ap (λ b. if b then Some place.value else None) (eq-eqb place.key key own) ∙ ap Some same_value))
+
+  pub would_put : (op : Op) (what : Put) → put_of op ≡ Some what → EndsAt cards q.view op place → TakesPut what place.key place.value → Owns p (key_of op)
+      → reply_of op (present_in p) ≡ reply_of_change op
+  would_put (Find key) what is ends takes owns = absurd cc
+  would_put (Insert key value) what is ends takes owns =
+      would_insert key value ends (subst (λ (t : Put). TakesPut t place.key place.value) (sym (same_Some (added key value) what is)) takes) owns
+  would_put (Delete key) what is ends takes owns = absurd cc
+  would_put (Swap key was value) what is ends takes owns =
+      let at = subst (λ (t : Put). TakesPut t place.key place.value) (sym (same_Some (replacing key was value) what is)) takes in
+      would_swap key was value ends at.0 at.1 owns
 
   -- what it took was there, and nothing was where its search ended at another key
   pub had_value : (key : ℕ) → EndsAt cards q.view (Delete key) place → place.key ≡ key → Owns p key → Some place.value ≡ present_in p key

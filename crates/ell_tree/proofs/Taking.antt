@@ -1,19 +1,21 @@
-use Rattle.std.proofs.Common.{◌≡◌, ℕ, zero, suc, ◌+◌, ◌≤◌, ◌++◌, if◌then◌else◌, Bool, true, false, Option, Some, None, is_some, List, [], ◌∷◌, Ok, refl, ◌∙◌, ap, arith, Result}
+use Rattle.std.proofs.Common.{◌≡◌, ◌≢◌, eq-eqb, subst, sym, ℕ, zero, suc, ◌+◌, ◌≤◌, ◌++◌, if◌then◌else◌, Bool, true, false, Option, Some, None, is_some, List, [], ◌∷◌, Ok, refl, ◌∙◌, ap, arith, Result}
 use Rattle.ell_ops.specs.declared.op.Op.{Op}
-use Rattle.ell_ops.specs.declared.reply.Reply.TheVariants.{Yes}
-use Rattle.ell_ops.specs.Meaning.{key_of, yes_if, reply_of}
+use Rattle.ell_ops.specs.declared.op.Op.TheVariants.{Find, Insert, Delete, Swap}
+use Rattle.ell_tree.specs.Tries.{IsChange}
+use Rattle.std.proofs.lemmas.Bool.{false≢true}
+use Rattle.ell_ops.specs.Meaning.{key_of, reply_of}
 use Rattle.ell_word.specs.declared.gate.Kind.{Kind}
 use Rattle.ell_core.specs.declared.fact.Fact.{Fact}
 use Rattle.ell_core.specs.declared.view.Entry.{Entry}
 use Rattle.ell_core.specs.state.Machine.{ledger_of}
-use Rattle.ell_core.specs.statements.Effects.{contents_in}
+use Rattle.ell_core.specs.statements.Effects.{contents_in, reply_of_change}
 use Rattle.ell_cards.specs.declared.view.View.{View}
 use Rattle.ell_cards.specs.Models.{PassModel, Steps}
 use Rattle.ell_cards.specs.Changes.{learning, if_won, exchanged}
 use Rattle.ell_tree.specs.declared.operations.Held.{Held}
 use Rattle.ell_tree.specs.declared.trying.Tried.TheVariants.{Answered}
-use Rattle.ell_tree.specs.CardsTaken.{is_claim, claims_in, cards_taken, TakesNoCard, TakesAtMost, TakesCards, TryTakes}
-use Rattle.ell_tree.specs.Ends.{Answers}
+use Rattle.ell_tree.specs.CardsTaken.{is_claim, claims_in, cards_taken, TakesNoCard, TakesAtMost, TakesCards, TakesOneIf, TryTakes}
+use Rattle.ell_tree.specs.Ends.{Answers, changes_by, reply_by}
 use Rattle.ell_tree.specs.Ledgers.{Owns, TreeModel, present_in}
 use Rattle.ell_tree.proofs.Owning.{still_owned}
 use Rattle.ell_tree.specs.Keeping.{Walks}
@@ -46,33 +48,50 @@ learning_walks old new won k c n f other s =
 pub takes_none : (old new : PassModel) (v : View) → Steps old new v → claims_in v.won ≡ claims_in old.view.won → TakesNoCard old new
 takes_none old new v s same = ap (λ (p : PassModel). cards_taken p) s ∙ same
 
+-- an answer that changes nothing is not that of a change
+reply_unchanged : (op : Op) (moved : Option ℕ) → IsChange op → changes_by op moved ≡ false → reply_by op moved ≢ reply_of_change op
+reply_unchanged (Find k) moved is none e = is
+reply_unchanged (Insert k value) (Some v) is none e = absurd cc
+reply_unchanged (Insert k value) None is none e = absurd cc
+reply_unchanged (Delete k) (Some v) is none e = absurd cc
+reply_unchanged (Delete k) None is none e = absurd cc
+reply_unchanged (Swap k was value) (Some there) is none e = let same : there ≡ was = cc in false≢true (sym none ∙ eq-eqb there was same)
+reply_unchanged (Swap k was value) None is none e = absurd cc
+
 -- a try that changes nothing of an own key is the first one
-pub answers_first : (t : TreeModel) (said : Bool) (op : Op) (round : ℕ) (first begun after : PassModel) → Answers t op (yes_if said) begun after
-    → begun.view.worker.ledger ≡ first.view.worker.ledger → (1 ≤ round → Owns first (key_of op) → reply_of op (present_in first) ≡ Yes)
-    → Owns first (key_of op) → said ≡ false → round ≡ 0
-answers_first t said op zero first begun after answers ledger would owns other = refl
-answers_first t true op (suc r) first begun after answers ledger would owns other = absurd cc
-answers_first t false op (suc r) first begun after answers ledger would owns other =
+pub answers_first : (t : TreeModel) (op : Op) (moved : Option ℕ) (round : ℕ) (first begun after : PassModel) → IsChange op
+    → Answers t op (reply_by op moved) begun after → begun.view.worker.ledger ≡ first.view.worker.ledger
+    → (1 ≤ round → Owns first (key_of op) → reply_of op (present_in first) ≡ reply_of_change op)
+    → Owns first (key_of op) → changes_by op moved ≡ false → round ≡ 0
+answers_first t op moved zero first begun after is answers ledger would owns none = refl
+answers_first t op moved (suc r) first begun after is answers ledger would owns none =
     let says = answers.says (still_owned (key_of op) first begun ledger owns) in
-    let yes = says ∙ (ap (λ (l : List (ℕ × Entry)). reply_of op (contents_in (ledger_of l))) ledger ∙ would (omega arith) owns) in
-    absurd cc
+    absurd (reply_unchanged op moved is none
+    (says ∙ (ap (λ (l : List (ℕ × Entry)). reply_of op (contents_in (ledger_of l))) ledger ∙ would (omega arith) owns)))
 
 -- the cards of an operation that was answered at this try
-pub answered_most : (moved : Option ℕ) (begun after : PassModel) → TryTakes begun after (Answered moved) → TakesAtMost 1 begun after
-answered_most (Some value) begun after h = record { least = omega (arith, h); most = omega (arith, h) }
-answered_most None begun after h = record { least = omega (arith, h); most = omega (arith, h) }
+one_at_most : (changed : Bool) (begun after : PassModel) → TakesOneIf changed begun after → TakesAtMost 1 begun after
+one_at_most true begun after h = record { least = omega (arith, h); most = omega (arith, h) }
+one_at_most false begun after h = record { least = omega (arith, h); most = omega (arith, h) }
 
-pub answered_cards : (moved : Option ℕ) (round : ℕ) (first before begun after : PassModel) → TakesAtMost round first before → TakesNoCard before begun
-    → TryTakes begun after (Answered moved) → after.view.hindered ≡ first.view.hindered + round
-    → TakesCards {E = Held} first after (Ok (is_some moved))
-answered_cards (Some value) round first before begun after many same one hindered =
+pub answered_most : (op : Op) (moved : Option ℕ) (begun after : PassModel) → TryTakes op begun after (Answered moved) → TakesAtMost 1 begun after
+answered_most op moved begun after h = one_at_most (changes_by op moved) begun after h
+
+cards_if : (changed : Bool) (round : ℕ) (first before begun after : PassModel) → TakesAtMost round first before → TakesNoCard before begun
+    → TakesOneIf changed begun after → after.view.hindered ≡ first.view.hindered + round → TakesCards {E = Held} first after (Ok changed)
+cards_if true round first before begun after many same one hindered =
     record { one = omega (arith, many.least, same, one); more = omega (arith, many.most, same, one, hindered) }
-answered_cards None round first before begun after many same none hindered = omega (arith, many.most, same, none, hindered)
+cards_if false round first before begun after many same none hindered = omega (arith, many.most, same, none, hindered)
 
-pub taken_none : (moved : Option ℕ) (begun after : PassModel) → TryTakes begun after (Answered moved) → ◌≡◌ {A = Result Bool Held} (Ok (is_some moved)) (Ok false)
+pub answered_cards : (op : Op) (moved : Option ℕ) (round : ℕ) (first before begun after : PassModel) → TakesAtMost round first before
+    → TakesNoCard before begun → TryTakes op begun after (Answered moved) → after.view.hindered ≡ first.view.hindered + round
+    → TakesCards {E = Held} first after (Ok (changes_by op moved))
+answered_cards op moved round first before begun after many same one hindered =
+    cards_if (changes_by op moved) round first before begun after many same one hindered
+
+pub taken_none : (op : Op) (moved : Option ℕ) (begun after : PassModel) → TryTakes op begun after (Answered moved) → changes_by op moved ≡ false
     → TakesNoCard begun after
-taken_none (Some value) begun after h none = absurd cc
-taken_none None begun after h none = h
+taken_none op moved begun after h none = subst (λ b. TakesOneIf b begun after) none h
 
 pub same_Ok : (said : Bool) → ◌≡◌ {A = Result Bool Held} (Ok said) (Ok false) → said ≡ false
 same_Ok true e = absurd cc

@@ -1,7 +1,9 @@
 use Rattle.std.specs.Prelude.{◌≡◌, ℕ, ◌+◌, ◌≤◌, if◌then◌else◌, Bool, true, false, Some, None, List, [], ◌∷◌, Result, Ok, Err}
 use Rattle.ell_word.specs.declared.gate.Kind.{Kind}
 use Rattle.ell_word.specs.declared.gate.Kind.TheVariants.{Claim}
+use Rattle.ell_ops.specs.declared.op.Op.{Op}
 use Rattle.ell_cards.specs.Models.{PassModel}
+use Rattle.ell_tree.specs.Ends.{changes_by}
 use Rattle.ell_tree.specs.declared.trying.Claimed.{Claimed}
 use Rattle.ell_tree.specs.declared.trying.Claimed.TheVariants as claimed
 use Rattle.ell_tree.specs.declared.trying.Tried.{Tried}
@@ -43,18 +45,22 @@ pub record TakesOneAndByHindered (old new : PassModel) : Type 0 where
   pub one : cards_taken old + 1 ≤ cards_taken new
   pub more : cards_taken new + old.view.hindered ≤ cards_taken old + 1 + new.view.hindered
 
--- which cards an insert or a delete takes: one, and more only for hindered tries, if it changes the map; else only those for hindered tries
+-- which cards an insert, a delete or a swap takes: one, and more only for hindered tries, if it changes the map; else only those for hindered tries
 abbrev pub TakesCards : {E : Type 0} → PassModel → PassModel → Result Bool E → Type 0
 TakesCards old new (Ok false) = TakesByHindered old new
 TakesCards old new (Ok true) = TakesOneAndByHindered old new
 TakesCards old new (Err why) = TakesByHindered old new
 
--- which cards a try takes
-abbrev pub TryTakes : PassModel → PassModel → Tried → Type 0
-TryTakes old new (tried.Answered None) = TakesNoCard old new
-TryTakes old new (tried.Answered (Some value)) = TakesOneCard old new
-TryTakes old new tried.Spent = TakesNoCard old new
-TryTakes old new tried.Hindered = TakesAtMost 1 old new
+-- one card, or none
+abbrev pub TakesOneIf : Bool → PassModel → PassModel → Type 0
+TakesOneIf true old new = TakesOneCard old new
+TakesOneIf false old new = TakesNoCard old new
+
+-- which cards a try takes: one, if it was answered and has changed the map
+abbrev pub TryTakes : Op → PassModel → PassModel → Tried → Type 0
+TryTakes op old new (tried.Answered moved) = TakesOneIf (changes_by op moved) old new
+TryTakes op old new tried.Spent = TakesNoCard old new
+TryTakes op old new tried.Hindered = TakesAtMost 1 old new
 
 -- which cards it takes to ask for one
 abbrev pub AskTakes : PassModel → PassModel → Claimed → Type 0

@@ -1,9 +1,8 @@
-use Rattle.std.specs.Prelude.{◌≡◌, ℕ, ◌+◌, ◌*◌, ◌≤◌, ◌↔◌, Bool, Option, None, Some, is_some, IfSome, Result, Ok, Err}
-use Rattle.ell_cards.specs.Guards.{reply_of_change}
+use Rattle.std.specs.Prelude.{◌≡◌, ℕ, ◌+◌, ◌*◌, ◌≤◌, ◌↔◌, ◌==◌, Bool, false, Option, None, Some, is_some, IfSome, Result, Ok, Err}
+use Rattle.ell_core.specs.statements.Effects.{reply_of_change}
 use Rattle.ell_ops.specs.declared.op.Op.{Op}
-use Rattle.ell_ops.specs.declared.op.Op.TheVariants.{Find, Insert, Delete}
+use Rattle.ell_ops.specs.declared.op.Op.TheVariants.{Find, Insert, Delete, Swap}
 use Rattle.ell_ops.specs.declared.reply.Reply.{Reply}
-use Rattle.ell_ops.specs.declared.reply.Reply.TheVariants.{Yes}
 use Rattle.ell_ops.specs.Meaning.{key_of, yes_if, reply_of, after, found}
 use Rattle.ell_cards.specs.Answering.{IsAnsweredInRuns}
 use Rattle.ell_cards.specs.LayingDown.{IsLaidDownInRuns}
@@ -37,13 +36,9 @@ pub record LaidDown (t : TreeModel) (op : Op) (old new : PassModel) : Type 0 whe
   pub label : new.label ≡ old.label
   pub ledger : new.view.worker.ledger ≡ old.view.worker.ledger
   pub answered : answers new ≡ answers old
-<<<<<<< HEAD
   pub share : SameShare old.view new.view
-  pub would : Owns old (key_of op) → reply_of op (present_in old) ≡ Yes
+  pub would : Owns old (key_of op) → reply_of op (present_in old) ≡ reply_of_change op
   pub nothing : IsLaidDownInRuns t.plan new.view op
-=======
-  pub would : reply_of op (present_in old) ≡ reply_of_change op
->>>>>>> swap
   pub idle : IsIdle new
   pub no_card : new.view.worker.card ≡ None
 
@@ -62,11 +57,43 @@ abbrev pub replied : Result Bool Held → Result Reply Held
 replied (Ok said) = Ok (yes_if said)
 replied (Err why) = Err why
 
-<<<<<<< HEAD
 -- whether it changes the map, by the value that it adds or takes away
 abbrev pub whether : Result (Option ℕ) Held → Result Bool Held
 whether (Ok moved) = Ok (is_some moved)
 whether (Err why) = Err why
+
+-- what a swap says, as a reply
+abbrev pub found_or_held : Result (Option ℕ) Held → Result Reply Held
+found_or_held (Ok there) = Ok (found there)
+found_or_held (Err why) = Err why
+
+-- whether it swapped: it found its first value
+abbrev pub is_value : ℕ → Option ℕ → Bool
+is_value was None = false
+is_value was (Some there) = there == was
+
+abbrev pub whether_swapped : ℕ → Result (Option ℕ) Held → Result Bool Held
+whether_swapped was (Ok there) = Ok (is_value was there)
+whether_swapped was (Err why) = Err why
+
+-- what an operation says by a value: an insert by the one that it adds, a delete by the one that it takes away, if it changes the map, and a
+-- swap by the one that it finds
+abbrev pub reply_by : Op → Option ℕ → Reply
+reply_by (Swap key was value) there = found there
+reply_by _ moved = yes_if (is_some moved)
+
+abbrev pub replied_by : Op → Result (Option ℕ) Held → Result Reply Held
+replied_by op (Ok moved) = Ok (reply_by op moved)
+replied_by op (Err why) = Err why
+
+-- and whether it changes the map
+abbrev pub changes_by : Op → Option ℕ → Bool
+changes_by (Swap key was value) there = is_value was there
+changes_by _ moved = is_some moved
+
+abbrev pub changed_by : Op → Result (Option ℕ) Held → Result Bool Held
+changed_by op (Ok moved) = Ok (changes_by op moved)
+changed_by op (Err why) = Err why
 
 -- the value that a delete of a key took, if it took one: of an own key, just that which the pass had. Whoever may change the key, in every run
 -- of the tree in which the pass now knows this, the key had just this value at the call's point
@@ -74,19 +101,14 @@ pub record TakesValue (t : TreeModel) (key : ℕ) (old new : PassModel) (taken :
   pub mine : Owns old key → taken ≡ present_in old key
   pub took : IfSome taken (IsTakenInRuns t.plan new.view key)
 
--- the value that an insert or a delete added or took: what is promised of a delete's
+-- the value that a change added, took or found: what is promised of a delete's
 abbrev pub Moves : TreeModel → Op → PassModel → PassModel → Option ℕ → Type 0
 Moves t (Find key) old new moved = Unit {0}
 Moves t (Insert key value) old new moved = Unit {0}
 Moves t (Delete key) old new moved = TakesValue t key old new moved
-=======
--- what a swap says, as a reply
-abbrev pub swapped : Result (Option ℕ) Held → Result Reply Held
-swapped (Ok there) = Ok (found there)
-swapped (Err why) = Err why
->>>>>>> swap
+Moves t (Swap key was value) old new there = Unit {0}
 
--- how an insert or a delete ends; whatever was in its way is over
+-- how an insert, a delete or a swap ends; whatever was in its way is over
 abbrev pub Ends : TreeModel → ℕ → Op → PassModel → PassModel → Result Reply Held → Type 0
 Ends t tries op old new (Ok said) = Answers t op said old new × Meets old.view new.view
 Ends t tries op old new (Err why) = LaidDown t op old new × HeldFor t.plan.last_card tries old new why × Meets old.view new.view
@@ -95,7 +117,7 @@ Ends t tries op old new (Err why) = LaidDown t op old new × HeldFor t.plan.last
 abbrev pub find_steps : ℕ → ℕ
 find_steps cards = 3 * cards + 7
 
--- the most steps of one try of an insert or a delete, helping included
+-- the most steps of one try of an insert, a delete or a swap, helping included
 abbrev pub try_steps : ℕ → ℕ
 try_steps cards = 7 * cards + 27
 

@@ -1,11 +1,14 @@
-use Rattle.std.specs.Prelude.{◌≡◌, ℕ, ◌+◌, ◌≤◌, ◌++◌, true, Some, None, is_some, List, [], ◌∷◌, Result, Ok, Err, length, Option}
+use Rattle.std.specs.Prelude.{◌≡◌, ℕ, ◌+◌, ◌≤◌, ◌++◌, true, Some, None, List, [], ◌∷◌, Result, Ok, Err, length, Option}
 use Rattle.ell_ops.specs.declared.op.Op.{Op}
 use Rattle.ell_ops.specs.declared.op.Op.TheVariants.{Find, Insert, Delete, Swap}
-use Rattle.ell_ops.specs.Meaning.{key_of, reply_of, yes_if, found}
-use Rattle.ell_tree.specs.declared.swapping.SwapTried.{SwapTried}
-use Rattle.ell_tree.specs.declared.swapping.SwapTried.TheVariants as swapped
+use Rattle.ell_ops.specs.Meaning.{key_of, reply_of}
+use Rattle.ell_ops.specs.declared.reply.Reply.{Reply}
+use Rattle.ell_ops.specs.declared.reply.Reply.TheVariants.{Yes}
+use Rattle.ell_ops.specs.declared.reply.Reply.TheVariants as replaced
+use Rattle.ell_core.specs.declared.put.Put.{Put}
 use Rattle.ell_core.specs.acts.Searching.{put_of}
-use Rattle.ell_cards.specs.Guards.{reply_of_change}
+use Rattle.ell_core.specs.state.Cards.{insert_filling}
+use Rattle.ell_core.specs.statements.Effects.{reply_of_change}
 use Rattle.ell_word.specs.declared.update.Update.{Update}
 use Rattle.ell_core.specs.declared.fact.Fact.{Fact}
 use Rattle.ell_core.specs.declared.fact.Fact.TheVariants as fact
@@ -26,19 +29,18 @@ use Rattle.ell_tree.specs.Ledgers.{TreeModel, Owns, present_in, IsIdle}
 use Rattle.ell_cards.specs.Stepping.{SameShare}
 use Rattle.ell_tree.specs.Counts.{Took}
 use Rattle.ell_tree.specs.CardsTaken.{TakesNoCard}
-use Rattle.ell_tree.specs.Ends.{Answers, TakesValue}
+use Rattle.ell_tree.specs.Ends.{Answers, TakesValue, reply_by}
 use Rattle.ell_tree.specs.Hindrances.{AreOver, Meets, StillKnows, way_of}
 use Rattle.ell_tree.specs.Keeping.{IsSeenAt}
 use Rattle.ell_tree.specs.Moves.{GivesOut, SeesMove}
-use Rattle.ell_tree.specs.Searches.{AtRoot, seen, seen_any}
-use Rattle.ell_ops.specs.declared.reply.Reply.TheVariants.{Yes}
+use Rattle.ell_tree.specs.Searches.{AtRoot, seen, seen_any, there_at}
 
--- an operation that may change the map: an insert or a delete
+-- an operation that may change the map: an insert, a delete or a swap
 abbrev pub IsChange : Op → Type 0
 IsChange (Find key) = ⊥
 IsChange (Insert key value) = Unit {0}
 IsChange (Delete key) = Unit {0}
-IsChange (Swap key was value) = ⊥
+IsChange (Swap key was value) = Unit {0}
 
 -- an operation starts, or starts anew, at the root; what came to be in its way before, and how many tries were hindered
 pub record Begins (op : Op) (met : List Hindrance) (tries : ℕ) (old new : PassModel) : Type 0 where
@@ -91,17 +93,13 @@ pub record Halts (op : Op) (old new : PassModel) : Type 0 where
   pub meets : Meets old.view new.view
   pub in_try : new.view.hindrances ≡ new.view.met ++ old.view.hindrances
   pub way : AreOver new.view (way_of op new.view)
-<<<<<<< HEAD
-  pub would : Owns old (key_of op) → reply_of op (present_in old) ≡ Yes
-=======
-  pub would : reply_of op (present_in old) ≡ reply_of_change op
->>>>>>> swap
+  pub would : Owns old (key_of op) → reply_of op (present_in old) ≡ reply_of_change op
   pub stops : Stops op new.view
 
 -- how a try ends
 abbrev pub TryEnds : TreeModel → Op → PassModel → PassModel → Tried → Type 0
 TryEnds t op old new (tried.Answered moved) =
-    Answers t op (yes_if (is_some moved)) old new × Meets old.view new.view × (new.view.next_at_least ≤ t.plan.last_card + 1)
+    Answers t op (reply_by op moved) old new × Meets old.view new.view × (new.view.next_at_least ≤ t.plan.last_card + 1)
 TryEnds t op old new tried.Spent = Halts op old new × (new.view.next ≡ Some (t.plan.last_card + 1))
 TryEnds t op old new tried.Hindered =
     Halts op old new × (length old.view.hindrances + 1 ≤ length (way_of op new.view) + length new.view.hindrances)
@@ -113,23 +111,12 @@ TryTook t key old new (tried.Answered taken) = TakesValue t key old new taken
 TryTook t key old new tried.Spent = Unit {0}
 TryTook t key old new tried.Hindered = Unit {0}
 
--- what a try added or took
+-- what a try added, took or found
 abbrev pub TryMoves : TreeModel → Op → PassModel → PassModel → Tried → Type 0
 TryMoves t (Find key) old new ended = Unit {0}
 TryMoves t (Insert key value) old new ended = Unit {0}
 TryMoves t (Delete key) old new ended = TryTook t key old new ended
-
--- how a try of a swap ends
-abbrev pub SwapEnds : ℕ → Op → PassModel → PassModel → SwapTried → Type 0
-SwapEnds cards op old new (swapped.Answered there) = Answers op (found there) old new × Meets old.view new.view × (new.view.next_at_least ≤ cards + 1)
-SwapEnds cards op old new swapped.Spent = Halts op old new × (new.view.next ≡ Some (cards + 1))
-SwapEnds cards op old new swapped.Hindered =
-    Halts op old new × (length old.view.hindrances + 1 ≤ length (way_of op new.view) + length new.view.hindrances) × SeesMove cards old.view new.view
-
--- an operation that puts this value at this key: an insert, or a swap
-pub record Puts (op : Op) (key value : ℕ) : Type 0 where
-  pub was : Option ℕ
-  pub is : put_of op ≡ Some (key, value, was)
+TryMoves t (Swap key was value) old new ended = Unit {0}
 
 -- a card was taken for an operation whose search ended at a place: it is to say this, nothing of it was stored, and its words
 -- that never change are told
@@ -142,6 +129,25 @@ pub record HasCard (op : Op) (place : Place) (filling : List (Field × ℕ)) (v 
   pub says : v.planned ≡ filling
   pub empty : v.stores ≡ []
   pub told : (e : Told) → Has (told_filling c filling []) e → IsTold v e
+
+abbrev pub found_for : Option ℕ → Option ℕ → Option ℕ
+found_for None there = None
+found_for (Some was) there = there
+
+-- what is told of its key to whoever puts this, where a search ended: to a swap its value, if it is there; to an insert nothing
+abbrev pub found_by : Put → Place → Option ℕ
+found_by what place = found_for what.was (there_at place what.key)
+
+-- and what is said once it is done: yes, or the value that was replaced
+abbrev pub put_reply : Option ℕ → Reply
+put_reply None = Yes
+put_reply (Some was) = replaced.Found was
+
+-- one was taken for an insert or a swap, that puts this
+pub record HasCardToPut (what : Put) (place : Place) (v : View) (c : ℕ) : Type 0 where
+  pub op : Op
+  pub puts : put_of op ≡ Some what
+  pub card : HasCard op place (insert_filling c what.key what.value place.parent.node place.leaf place.key place.value) v c
 
 -- no card was taken, and the search stands where it stood
 pub record HasNone (old new : PassModel) : Type 0 where

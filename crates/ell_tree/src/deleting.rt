@@ -40,7 +40,7 @@ pub(crate) fn try_delete<A: Allocator + Copy, G: StepGate>(
     ensures made { pass.new.view.made + 1 ≤ pass.old.view.made + try_steps table.now.plan.last_card }
     ensures ends { TryEnds table.now (Delete key) pass.old pass.new result }
     ensures took { TryTook table.now key pass.old pass.new result }
-    ensures taken { TryTakes pass.old pass.new result }
+    ensures taken { TryTakes (Delete key) pass.old pass.new result }
     ensures least { pass.old.view.next_at_least ≤ pass.new.view.next_at_least }
     ensures hindered { pass.new.view.hindered ≡ pass.old.view.hindered }
 {

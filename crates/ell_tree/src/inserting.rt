@@ -1,47 +1,47 @@
-//! Inserts (paper of 2010, figure 8: Insert).
-ghost use Rattle.std.specs.Prelude.{◌≡◌, ◌≤◌, ◌+◌};
-ghost use Rattle.ell_ops.specs.declared.op.Op.TheVariants.{Insert};
+//! Inserts (paper of 2010, figure 8: Insert), and swaps, which go the same way.
+ghost use Rattle.std.specs.Prelude.{◌≡◌, ◌≤◌, ◌+◌, Some};
 ghost use Rattle.ell_word.specs.Node.{greatest_card};
+ghost use Rattle.ell_core.specs.acts.Searching.{put_of};
 ghost use Rattle.ell_core.specs.declared.fact.Fact.TheVariants.{IFlagged};
-ghost use Rattle.ell_core.specs.state.Cards.{insert_filling};
 ghost use Rattle.ell_tree.specs.CardsTaken.{TakesNoCard, TryTakes};
 ghost use Rattle.ell_tree.specs.Ends.{try_steps};
 ghost use Rattle.ell_tree.specs.Keeping.{Goes, IsInnerMet};
 ghost use Rattle.ell_tree.specs.Searches.{AtRoot};
-ghost use Rattle.ell_tree.specs.Tries.{Fills, Flags, HasCard, Puts, TryEnds};
+ghost use Rattle.ell_tree.specs.Tries.{found_by, put_reply, Fills, Flags, HasCardToPut, TryEnds};
 
 use crate::helping::{finish_insert, help};
 use crate::searching::{Passed, Place, search};
 use crate::steps::answer;
 use crate::trying::{Claimed, Tried, fill, take_card};
 use ell_cards::{CardTable, Pass};
-use ell_core::{Field, update_word};
+use ell_core::{Field, Put, update_word};
 use ell_ops::{Op, Reply};
 use ell_word::{Kind, State, StepGate, Update, left_leaf_of, right_leaf_of};
 use std::alloc::Allocator;
 
-/// One try of an insert.
-pub(crate) fn try_insert<A: Allocator + Copy, G: StepGate>(
+/// One try of an insert or a swap, that puts this.
+pub(crate) fn try_put<A: Allocator + Copy, G: StepGate>(
     table: &CardTable<A>,
     pass: &mut Pass<A>,
-    key: u64,
-    value: u64,
+    op: Op,
+    what: Put,
     gate: &G,
 ) -> Tried
     requires own { pass.old.table ≡ table.now.id }
-    requires root { AtRoot (Insert key value) pass.old.view }
+    requires puts { put_of op ≡ Some what }
+    requires root { AtRoot op pass.old.view }
     ensures steps { pass.new.steps + 1 ≤ pass.old.steps + try_steps table.now.plan.last_card }
     ensures made { pass.new.view.made + 1 ≤ pass.old.view.made + try_steps table.now.plan.last_card }
-    ensures ends { TryEnds table.now (Insert key value) pass.old pass.new result }
-    ensures taken { TryTakes pass.old pass.new result }
+    ensures ends { TryEnds table.now op pass.old pass.new result }
+    ensures taken { TryTakes op pass.old pass.new result }
     ensures least { pass.old.view.next_at_least ≤ pass.new.view.next_at_least }
     ensures hindered { pass.new.view.hindered ≡ pass.old.view.hindered }
 {
-    let op = Op::Insert(key, value);
     let place = search(table, pass, op, gate);
-    if place.key == key {
-        answer(table, pass, Reply::No, gate);
-        return Tried::Answered(None);
+    if !what.may_replace(place.key, place.value) {
+        let found = found_by(what, place);
+        answer(table, pass, Reply::found(found), gate);
+        return Tried::Answered(found);
     }
     let Passed {
         node: parent,
@@ -56,13 +56,12 @@ pub(crate) fn try_insert<A: Allocator + Copy, G: StepGate>(
         Claimed::NoneLeft => return Tried::Spent,
         Claimed::Lost => return Tried::Hindered,
     };
-    match flag_insert(table, pass, op, card, key, value, place, gate) {
+    match flag_insert(table, pass, card, what, place, gate) {
         Ok(()) => {
-            let card_key = key.max(place.key);
-            let left_key = key.min(place.key);
+            let (left_key, card_key) = (what.key.min(place.key), what.key.max(place.key));
             finish_insert(table, pass, card, parent, place.leaf, card_key, left_key, gate);
-            answer(table, pass, Reply::Yes, gate);
-            Tried::Answered(Some(value))
+            answer(table, pass, reply_once_done(what), gate);
+            Tried::Answered(Some(what.was.unwrap_or(what.value)))
         }
         Err(found) => {
             help(table, pass, parent, found, gate);
@@ -71,33 +70,44 @@ pub(crate) fn try_insert<A: Allocator + Copy, G: StepGate>(
     }
 }
 
+// What a swap finds of its key where its search ended; an insert is told nothing.
+fn found_by(what: Put, place: Place) -> Option<u64>
+    ensures { result ≡ found_by what place }
+{
+    match what.was {
+        Some(_) if place.key == what.key => Some(place.value),
+        _ => None,
+    }
+}
+
+// What an insert or a swap answers that has changed the map.
+fn reply_once_done(what: Put) -> Reply
+    ensures { result ≡ put_reply what.was }
+{
+    match what.was {
+        None => Reply::Yes,
+        Some(was) => Reply::Found(was),
+    }
+}
+
 // Fills the card of an insert or a swap, and flags the parent with it.
-pub(crate) fn flag_insert<A: Allocator + Copy, G: StepGate>(
+fn flag_insert<A: Allocator + Copy, G: StepGate>(
     table: &CardTable<A>,
     pass: &mut Pass<A>,
-    op: Op,
     card: u64,
-    key: u64,
-    value: u64,
+    what: Put,
     place: Place,
     gate: &G,
 ) -> Result<(), Update>
     requires own { pass.old.table ≡ table.now.id }
     requires limit { card ≤ greatest_card }
-<<<<<<< HEAD
-    requires card { HasCard (Insert key value) place
-        (insert_filling card key value place.parent.node place.leaf place.key place.value) pass.old.view card }
+    requires card { HasCardToPut what place pass.old.view card }
     requires node { IsInnerMet table.now.plan.last_card pass.old.view place.parent.node }
-=======
-    requires card { HasCard op place (insert_filling card key value place.parent.node place.leaf place.key place.value) pass.old.view card }
-    requires puts { Puts op key value }
-    requires node { IsInnerMet table.now.last_card pass.old.view place.parent.node }
->>>>>>> swap
     ensures goes { Goes pass.old pass.new 11 }
     ensures taken { TakesNoCard pass.old pass.new }
     ensures flags { Flags table.now.plan.last_card IFlagged card place.parent.node pass.old pass.new result }
 {
-    fill_insert(table, pass, op, card, key, value, place, gate);
+    fill_insert(table, pass, card, what, place, gate);
     gate.before(pass.label(), Kind::IFlag);
     table.iflag(pass, card, place.parent.node, place.parent.update)
 }
@@ -107,23 +117,17 @@ pub(crate) fn flag_insert<A: Allocator + Copy, G: StepGate>(
 fn fill_insert<A: Allocator + Copy, G: StepGate>(
     table: &CardTable<A>,
     pass: &mut Pass<A>,
-    op: Op,
     card: u64,
-    key: u64,
-    value: u64,
+    what: Put,
     place: Place,
     gate: &G,
 )
     requires own { pass.old.table ≡ table.now.id }
     requires limit { card ≤ greatest_card }
-<<<<<<< HEAD
-    requires card { HasCard (Insert key value) place
-        (insert_filling card key value place.parent.node place.leaf place.key place.value) pass.old.view card }
-=======
-    requires card { HasCard op place (insert_filling card key value place.parent.node place.leaf place.key place.value) pass.old.view card }
->>>>>>> swap
+    requires card { HasCardToPut what place pass.old.view card }
     ensures { Fills pass.old pass.new 10 }
 {
+    let Put { key, value, was: _ } = what;
     let (lesser, greater) = (key.min(place.key), key.max(place.key));
     let (left_value, right_value) = if key < place.key {
         (value, place.value)

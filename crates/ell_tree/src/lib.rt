@@ -10,7 +10,6 @@ mod operations;
 mod reading;
 mod searching;
 mod steps;
-mod swapping;
 mod tree;
 mod trying;
 

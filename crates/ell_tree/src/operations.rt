@@ -1,33 +1,33 @@
-//! The operations: find, insert and delete.
+//! The operations: find, insert, delete and swap.
 ghost use Rattle.std.specs.Prelude.{◌≡◌, ◌≢◌, ◌<◌, ◌≤◌, ◌+◌, ◌*◌, true, Err, IfOk};
 ghost use Rattle.ell_ops.specs.declared.op.Op.{Op};
-ghost use Rattle.ell_ops.specs.declared.op.Op.TheVariants.{Swap, Find};
+ghost use Rattle.ell_ops.specs.declared.op.Op.TheVariants.{Find};
 ghost use Rattle.ell_ops.specs.Meaning.{key_of, found};
 ghost use Rattle.ell_cards.specs.Changes.{tries_hindered};
 ghost use Rattle.ell_cards.specs.Guards.{MayStop};
 ghost use Rattle.ell_cards.specs.Models.{Does};
 ghost use Rattle.ell_tree.specs.CardsTaken.{TakesNoCard, TryTakes};
-ghost use Rattle.ell_tree.specs.Counts.{Took, IsAmortized};
-ghost use Rattle.ell_tree.specs.Ends.{Answers, Ends, Moves, find_steps, replied, try_steps, whether, swapped, CountsTries, change_steps};
-ghost use Rattle.ell_tree.specs.Hindrances.{way_of, Meets};
+ghost use Rattle.ell_tree.specs.Counts.{Took};
+ghost use Rattle.ell_tree.specs.Ends.{Answers, Ends, Moves, changed_by, find_steps, replied_by, try_steps};
+ghost use Rattle.ell_tree.specs.Hindrances.{way_of};
 ghost use Rattle.ell_tree.specs.declared.operations.Held.TheVariants.{Busy};
 ghost use Rattle.ell_tree.specs.Promises.{IsOthersDoing, IsQuiet, IsWithin, MayDo, SpendsCards};
 ghost use Rattle.ell_tree.specs.Searches.{AtRoot};
 ghost use Rattle.ell_tree.specs.Tries.{Begins, IsChange, TryEnds, TryMoves};
 
 use crate::deleting::try_delete;
-use crate::inserting::try_insert;
+use crate::inserting::try_put;
 use crate::searching::search;
 use crate::steps::{again, answer, begin, leave};
-use crate::swapping::{SwapTried, try_swap};
 use crate::trying::Tried;
 use ell_cards::{CardTable, Pass};
+use ell_core::Put;
 use ell_ops::{Op, Reply};
 use ell_word::{Kind, StepGate};
 use std::alloc::Allocator;
 use thiserror::Error;
 
-/// Why an insert or a delete has no answer. The map is as it was before, and nothing of the call is under way.
+/// Why an insert, a delete or a swap has no answer. The map is as it was before, and nothing of the call is under way.
 #[derive(Clone, Copy, Debug, PartialEq, Eq, Error)]
 pub enum Held {
     /// All tries ended without an answer: something was in the way of each.
@@ -62,8 +62,8 @@ pub(crate) fn find<A: Allocator + Copy, G: StepGate>(
     there
 }
 
-/// Takes an insert or a delete in hand, and tries it until a try is answered or finds no card, at most so many times: the value that it adds
-/// or takes away, if it changes the map. The gate is told of its start and its end.
+/// Takes an insert, a delete or a swap in hand, and tries it until a try is answered or finds no card, at most so many times: the value that
+/// an insert adds or a delete takes away, if it changes the map, or that a swap finds. The gate is told of its start and its end.
 pub(crate) fn change<A: Allocator + Copy, G: StepGate>(
     table: &CardTable<A>,
     pass: &mut Pass<A>,
@@ -74,11 +74,11 @@ pub(crate) fn change<A: Allocator + Copy, G: StepGate>(
     requires may { MayDo table.now (key_of op) pass.old }
     requires change { IsChange op }
     requires tries { 1 ≤ tries }
-    ensures ends { Ends table.now tries op pass.old pass.new (replied (whether result)) }
+    ensures ends { Ends table.now tries op pass.old pass.new (replied_by op result) }
     ensures moves { IfOk result (Moves table.now op pass.old pass.new) }
     ensures others { result ≡ Err Busy → IsOthersDoing table.now tries pass.old pass.new }
     ensures steps { IsWithin table.now tries pass.old pass.new }
-    ensures cards { SpendsCards (key_of op) tries pass.old pass.new (whether result) }
+    ensures cards { SpendsCards (key_of op) tries pass.old pass.new (changed_by op result) }
     ensures enough { 2 * table.now.plan.last_card < tries → result ≢ Err Busy }
 {
     let label = pass.label();
@@ -122,7 +122,7 @@ fn restart<A: Allocator + Copy, G: StepGate>(
     }
 }
 
-// One try of an insert or a delete.
+// One try of an insert, a delete or a swap.
 fn try_once<A: Allocator + Copy, G: StepGate>(
     table: &CardTable<A>,
     pass: &mut Pass<A>,
@@ -136,62 +136,17 @@ fn try_once<A: Allocator + Copy, G: StepGate>(
     ensures made { pass.new.view.made + 1 ≤ pass.old.view.made + try_steps table.now.plan.last_card }
     ensures ends { TryEnds table.now op pass.old pass.new result }
     ensures moves { TryMoves table.now op pass.old pass.new result }
-    ensures taken { TryTakes pass.old pass.new result }
+    ensures taken { TryTakes op pass.old pass.new result }
     ensures least { pass.old.view.next_at_least ≤ pass.new.view.next_at_least }
     ensures hindered { pass.new.view.hindered ≡ pass.old.view.hindered }
 {
     match op {
-        Op::Insert(key, value) => try_insert(table, pass, key, value, gate),
+        Op::Insert(key, value) => try_put(table, pass, op, Put { key, value, was: None }, gate),
+        Op::Swap(key, was, value) => {
+            let was = Some(was);
+            try_put(table, pass, op, Put { key, value, was }, gate)
+        }
         Op::Delete(key) => try_delete(table, pass, key, gate),
-        Op::Find(_) | Op::Swap(_, _, _) => unreachable!(),
-    }
-}
-
-/// One try of a swap, from its start to its end: the value that the key had, if it was present.
-pub(crate) fn swap_once<A: Allocator + Copy, G: StepGate>(
-    table: &CardTable<A>,
-    pass: &mut Pass<A>,
-    key: u64,
-    was: u64,
-    value: u64,
-    gate: &G,
-) -> Result<Option<u64>, Held>
-    requires own { pass.old.table ≡ table.now.id }
-    requires idle { IsIdle pass.old }
-    requires owned { Owns pass.old key }
-    ensures ends { Ends table.now.last_card 1 (Swap key was value) pass.old pass.new (swapped result) }
-{
-    let label = pass.label();
-    gate.before(label, Kind::Begin);
-    let ended = take_swap(table, pass, key, was, value, gate);
-    gate.after(label, ended.is_ok());
-    ended
-}
-
-// Takes a swap in hand, and tries it once.
-fn take_swap<A: Allocator + Copy, G: StepGate>(
-    table: &CardTable<A>,
-    pass: &mut Pass<A>,
-    key: u64,
-    was: u64,
-    value: u64,
-    gate: &G,
-) -> Result<Option<u64>, Held>
-    requires own { pass.old.table ≡ table.now.id }
-    requires idle { IsIdle pass.old }
-    requires owned { Owns pass.old key }
-    ensures ends { Ends table.now.last_card 1 (Swap key was value) pass.old pass.new (swapped result) }
-{
-    begin(table, pass, Op::Swap(key, was, value), gate);
-    match try_swap(table, pass, key, was, value, gate) {
-        SwapTried::Answered(there) => Ok(there),
-        SwapTried::Spent => {
-            leave(table, pass, gate);
-            Err(Held::Spent)
-        }
-        SwapTried::Hindered => {
-            leave(table, pass, gate);
-            Err(Held::Busy)
-        }
+        Op::Find(_) => unreachable!(),
     }
 }

@@ -20,7 +20,7 @@ ghost use Rattle.ell_tree.specs.Keeping.{Walks, Works};
 ghost use Rattle.ell_tree.specs.Tries.{Begins, Lays};
 
 use ell_cards::{CardTable, Pass};
-use ell_core::Field;
+use ell_core::{Field, brought_node};
 use ell_ops::{Op, Reply};
 use ell_word::{Kind, State, StepGate, Update};
 use std::alloc::Allocator;
@@ -159,7 +159,7 @@ pub(crate) fn look_child<A: Allocator + Copy, G: StepGate>(
     table.frozen_child(pass, card, parent, right)
 }
 
-/// Makes the child exchange of an insert.
+/// Makes the child exchange of an insert or a swap.
 pub(crate) fn change_child<A: Allocator + Copy, G: StepGate>(
     table: &CardTable<A>,
     pass: &mut Pass<A>,
@@ -181,9 +181,10 @@ pub(crate) fn change_child<A: Allocator + Copy, G: StepGate>(
     ensures changed { Knows pass.new.view (fact.IChanged card) }
 {
     gate.before(pass.label(), Kind::IChild);
+    table.facts_stay_inside(pass);
+    let node = brought_node(card, left_key, card_key);
     let right = parent.key <= card_key;
-    let replaces = left_key == card_key;
-    let _ = table.ichild(pass, card, parent.node, leaf, replaces, right);
+    let _ = table.ichild(pass, card, parent.node, leaf, node, right);
 }
 
 /// Takes the flag of an insert away.

@@ -13,8 +13,7 @@ ghost use Rattle.ell_tree.specs.CardsLeft.{AreLeftAtMost, ReadsCardsLeft};
 ghost use Rattle.ell_tree.specs.CardsTaken.{TakesNoCard};
 ghost use Rattle.ell_tree.specs.Closing.{ClosesTo};
 ghost use Rattle.ell_tree.specs.Counts.{Took};
-ghost use Rattle.ell_tree.specs.Ends.{Answers, Ends, TakesValue, find_steps, replied, whether, swapped, CountsTries, change_steps, try_steps};
-ghost use Rattle.ell_tree.specs.Hindrances.{Meets};
+ghost use Rattle.ell_tree.specs.Ends.{Answers, Ends, TakesValue, find_steps, found_or_held, replied, whether, whether_swapped};
 ghost use Rattle.ell_tree.specs.Moves.{moves_known};
 ghost use Rattle.ell_tree.specs.declared.operations.Held.TheVariants.{Busy};
 ghost use Rattle.ell_tree.specs.Ledgers.{IsIdlePassOf, Owns, TreeModel, present_in};
@@ -25,9 +24,6 @@ ghost use Rattle.ell_tree.specs.Promises.{IsOthersDoing, IsQuiet, IsWithin, MayD
 use crate::operations::{Held, change, find};
 use crate::reading::{cards_left, look};
 use ell_cards::{CardFault, CardTable, Pass, SplitFault};
-use crate::operations::{Held, find, make_change, swap_once};
-use crate::reading::look;
-use ell_cards::{CardFault, CardTable, Pass};
 use ell_core::pairs_of_tree;
 use ell_ops::{NoMemory, Op};
 use ell_word::StepGate;
@@ -269,30 +265,30 @@ impl<A: Allocator + Copy> Tree<A> {
         Ok(change(&self.table, pass, Op::Insert(key, value), tries, gate)?.is_some())
     }
 
-<<<<<<< HEAD
-    /// Takes a key of the pass, or a shared one, away, with its value: whether it was present. Tries, steps, cards and errors are as of `insert`.
-=======
-    /// Gives a key of the pass another value, by one atomic exchange, if it has the first one: the value that it had, if it was present. One
-    /// try.
+    /// Gives a key of the pass, or a shared one, another value, if it has the value `was`, in one atomic step: the value that it had, if it was
+    /// present. So it was swapped exactly if that is `was`. A key that is absent, or has another value, is left as it is. Tries, steps, cards
+    /// and errors are as of `insert`.
     pub fn swap<G: StepGate>(
         &self,
         pass: &mut Pass<A>,
         key: u64,
         was: u64,
         value: u64,
+        tries: u32,
         gate: &G,
     ) -> Result<Option<u64>, Held>
-        requires own { pass.old.table ≡ self.now.id }
-        requires idle { IsIdle pass.old }
-        requires owned { Owns pass.old key }
-        ensures ends { Ends self.now.last_card 1 (Swap key was value) pass.old pass.new (swapped result) }
+        requires may { MayDo self.now key pass.old }
+        requires tries { 1 ≤ tries }
+        ensures ends { Ends self.now tries (Swap key was value) pass.old pass.new (found_or_held result) }
+        ensures others { result ≡ Err Busy → IsOthersDoing self.now tries pass.old pass.new }
+        ensures steps { IsWithin self.now tries pass.old pass.new }
+        ensures cards { SpendsCards key tries pass.old pass.new (whether_swapped was result) }
+        ensures enough { 2 * self.now.plan.last_card < tries → result ≢ Err Busy }
     {
-        swap_once(&self.table, pass, key, was, value, gate)
+        Ok(change(&self.table, pass, Op::Swap(key, was, value), tries, gate)?)
     }
 
-    /// Takes a key of the pass away, with its value: whether it was present. Tries, steps and errors are as of `insert`.
-    #[tactic(auto, using(ell_cards::proofs::runs::Tries::more_tries))]
->>>>>>> swap
+    /// Takes a key of the pass, or a shared one, away, with its value: whether it was present. Tries, steps, cards and errors are as of `insert`.
     pub fn delete<G: StepGate>(
         &self,
         pass: &mut Pass<A>,
@@ -329,7 +325,7 @@ impl<A: Allocator + Copy> Tree<A> {
         ensures cards { SpendsCards key tries pass.old pass.new (whether result) }
         ensures enough { 2 * self.now.plan.last_card < tries → result ≢ Err Busy }
     {
-        change(&self.table, pass, Op::Delete(key), tries, gate)
+        Ok(change(&self.table, pass, Op::Delete(key), tries, gate)?)
     }
 
     /// A law, the contract of a function that does nothing: a pass of the tree knows of two moves of each card at most, whatever it did.

@@ -1,4 +1,4 @@
-//! One try of an insert or a delete: how it ends, and its card.
+//! One try of an insert, a delete or a swap: how it ends, and its card.
 ghost use Rattle.std.specs.Prelude.{◌≡◌, ◌≤◌, None};
 ghost use Rattle.ell_word.specs.declared.update.State.TheVariants.{Clean};
 ghost use Rattle.ell_word.specs.Node.{greatest_card};
@@ -20,7 +20,7 @@ use std::alloc::Allocator;
 /// How a try ended.
 #[derive(Clone, Copy)]
 pub(crate) enum Tried {
-    /// An answer: the value that it adds or takes away, if it changes the map.
+    /// An answer: the value that an insert adds or a delete takes away, if it changes the map, or that a swap finds.
     Answered(Option<u64>),
     /// No card is left.
     Spent,

@@ -15,7 +15,7 @@ returns g c =
     let right = c.right_leaf_of.result in
     let update = c.update_word-clean.result in
     let values = c.if-key-place.left_value in
-    let s1 = stores_more a a c.fill.new.pass _ 0 field.P place.parent.node (stores_none a c.requires.card.empty) c.fill.ensures in
+    let s1 = stores_more a a c.fill.new.pass _ 0 field.P place.parent.node (stores_none a c.requires.card.card.empty) c.fill.ensures in
     let s2 = stores_more a c.fill.new.pass c.fill-2.new.pass _ 1 field.L place.leaf s1 c.fill-2.ensures in
     let s3 = stores_more a c.fill-2.new.pass c.fill-3.new.pass _ 2 field.Key greater s2 c.fill-3.ensures in
     let s4 = stores_more a c.fill-3.new.pass c.fill-4.new.pass _ 3 field.Left left s3 c.fill-4.ensures in
@@ -25,21 +25,21 @@ returns g c =
     let s8 = stores_more a c.fill-7.new.pass c.fill-8.new.pass _ 7 field.RightLeafKey greater s7 c.fill-8.ensures in
     let s9 = stores_more a c.fill-8.new.pass c.fill-9.new.pass _ 8 field.LeftValue values.0 s8 c.fill-9.ensures in
     let s10 = stores_more a c.fill-9.new.pass c.fill-10.new.pass _ 9 field.RightValue values.1 s9 c.fill-10.ensures in
-    fills_insert a c.fill-10.new.pass c.args.card c.args.key c.args.value place.parent.node place.leaf place.key place.value
-    lesser greater left right update values.0 values.1 s10 c.requires.card.says
+    fills_insert a c.fill-10.new.pass c.args.card c.args.what.key c.args.what.value place.parent.node place.leaf place.key place.value
+    lesser greater left right update values.0 values.1 s10 c.requires.card.card.says
     c.min-lesser.ensures c.max-greater.ensures c.left_leaf_of.ensures c.right_leaf_of.ensures c.update_word-clean.ensures sides.0 sides.1
   where
-    sides : (c.if-key-place.left_value.0 ≡ (if nat_lt c.args.key c.args.place.key then c.args.value else c.args.place.value))
-        × (c.if-key-place.left_value.1 ≡ (if nat_lt c.args.key c.args.place.key then c.args.place.value else c.args.value))
+    sides : (c.if-key-place.left_value.0 ≡ (if nat_lt c.args.what.key c.args.place.key then c.args.what.value else c.args.place.value))
+        × (c.if-key-place.left_value.1 ≡ (if nat_lt c.args.what.key c.args.place.key then c.args.place.value else c.args.what.value))
     sides = elim c.if-key-place.branch [
-      | then-key-place w ↦ let less : c.args.key < c.args.place.key = omega (arith, w.if-key-place) in
-          let test = lt-ltb c.args.key c.args.place.key less in (
-            ap (λ (v : ℕ × ℕ). v.0) w.left_value-is ∙ sym (ap (λ t. if t then c.args.value else c.args.place.value) test),
-            ap (λ (v : ℕ × ℕ). v.1) w.left_value-is ∙ sym (ap (λ t. if t then c.args.place.value else c.args.value) test),
+      | then-key-place w ↦ let less : c.args.what.key < c.args.place.key = omega (arith, w.if-key-place) in
+          let test = lt-ltb c.args.what.key c.args.place.key less in (
+            ap (λ (v : ℕ × ℕ). v.0) w.left_value-is ∙ sym (ap (λ t. if t then c.args.what.value else c.args.place.value) test),
+            ap (λ (v : ℕ × ℕ). v.1) w.left_value-is ∙ sym (ap (λ t. if t then c.args.place.value else c.args.what.value) test),
           )
-      | else-key-place w ↦ let past : c.args.place.key ≤ c.args.key = omega (arith, w.if-key-place) in
-          let test = le-ltb c.args.key c.args.place.key past in (
-            ap (λ (v : ℕ × ℕ). v.0) w.left_value-is ∙ sym (ap (λ t. if t then c.args.value else c.args.place.value) test),
-            ap (λ (v : ℕ × ℕ). v.1) w.left_value-is ∙ sym (ap (λ t. if t then c.args.place.value else c.args.value) test),
+      | else-key-place w ↦ let past : c.args.place.key ≤ c.args.what.key = omega (arith, w.if-key-place) in
+          let test = le-ltb c.args.what.key c.args.place.key past in (
+            ap (λ (v : ℕ × ℕ). v.0) w.left_value-is ∙ sym (ap (λ t. if t then c.args.what.value else c.args.place.value) test),
+            ap (λ (v : ℕ × ℕ). v.1) w.left_value-is ∙ sym (ap (λ t. if t then c.args.place.value else c.args.what.value) test),
           )
     ]

@@ -5,7 +5,7 @@ use Rattle.ell_tree.proofs.Flagging.{may_iflag, flag_goes, flag_takes, flag_ends
 use Rattle.ell_tree.proofs.inserting.flag_insert.Goals as goal
 
 pub iflag-requires-clause-may : goal.iflag-requires-clause-may
-iflag-requires-clause-may g c = may_iflag c.args.pass.now c.fill_insert.new.pass 10 c.args.card c.args.op c.args.key c.args.value c.args.place c.requires.puts c.requires.card c.fill_insert.ensures
+iflag-requires-clause-may g c = may_iflag c.args.pass.now c.fill_insert.new.pass 10 c.args.card c.args.what c.args.place c.requires.card c.fill_insert.ensures
 
 pub returns : goal.returns
 returns g c =
@@ -15,5 +15,5 @@ returns g c =
       goes = flag_goes kind.IFlag IFlagged c.args.card parent.node parent.update c.args.pass.now f.new.pass c.iflag.new.pass 10 c.iflag.result f.ensures c.iflag.ensures.step;
       taken = flag_takes kind.IFlag IFlagged c.args.card parent.node parent.update c.args.pass.now f.new.pass c.iflag.new.pass 10 c.iflag.result f.ensures c.iflag.ensures.step refl;
       flags = flag_ends kind.IFlag IFlagged c.args.card parent.node parent.update c.args.pass.now f.new.pass c.iflag.new.pass 10 c.iflag.result f.ensures c.iflag.ensures.step
-          c.args.table.now.plan.last_card c.requires.card.may.holds c.requires.node c.iflag.ensures.card;
+          c.args.table.now.plan.last_card c.requires.card.card.may.holds c.requires.node c.iflag.ensures.card;
     }

@@ -1,7 +1,7 @@
 use Rattle.std.proofs.Common.{◌≡◌, ◌+◌, ◌*◌, ◌∙◌, is_some, ap, arith, rules, eq-eqb, eqb-true}
 use Rattle.ell_cards.proofs.runs.Tries.{more_tries}
 use Rattle.ell_cards.proofs.runs.LayingDown.{laid_down_last_changes_nothing}
-use Rattle.ell_tree.specs.Ends.{try_steps}
+use Rattle.ell_tree.specs.Ends.{changes_by, try_steps}
 use Rattle.ell_tree.specs.Hindrances.{way_of}
 use Rattle.ell_tree.proofs.Counting.{took_within, took_trans, rounds_first, rounds_later, round_steps, rounds_steps}
 use Rattle.ell_tree.proofs.Halting.{begun_meets, begun_count}
@@ -260,18 +260,18 @@ returns-in-Answered-clause-cards g c =
     let begun = c.restart.new.pass in
     let after = c.try_once.new.pass in
     let begins = c.restart.ensures.begins op i.stops.busy (λ none. i.root (eqb-true l.round 0 none)) in
-    let one = answered_most moved begun after c.in-Answered.ensures.taken in
+    let one = answered_most op moved begun after c.in-Answered.ensures.taken in
     record {
       most = record {
         least = omega (arith, one.least, begins.taken, i.taken.least);
         most = omega (arith, one.most, begins.taken, i.taken.most, c.loop-round-test.true);
       };
-      each = answered_cards moved l.round c.args.pass.now l.pass begun after i.taken begins.taken c.in-Answered.ensures.taken
+      each = answered_cards op moved l.round c.args.pass.now l.pass begun after i.taken begins.taken c.in-Answered.ensures.taken
           (omega (arith, c.try_once.ensures.hindered, begins.hindered, i.hindered));
       unchanged = λ owns none. unchanged_cards l.round c.args.pass.now l.pass begun after i.taken begins.taken
-          (taken_none moved begun after c.in-Answered.ensures.taken none)
-          (answers_first c.args.table.now (is_some moved) op l.round c.args.pass.now begun after c.in-Answered.ensures.ends.0 (begins.ledger ∙ i.ledger) i.would owns
-          (same_Ok (is_some moved) none));
+          (taken_none op moved begun after c.in-Answered.ensures.taken (same_Ok (changes_by op moved) none))
+          (answers_first c.args.table.now op moved l.round c.args.pass.now begun after c.requires.change c.in-Answered.ensures.ends.0 (begins.ledger ∙ i.ledger)
+          i.would owns (same_Ok (changes_by op moved) none));
     }
 
 pub returns-in-Spent-clause-cards : goal.returns-in-Spent-clause-cards

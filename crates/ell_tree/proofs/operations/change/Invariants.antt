@@ -11,7 +11,7 @@ use Rattle.ell_tree.specs.Tries.{Stops}
 use Rattle.ell_tree.specs.Moves.{moves_known}
 use Rattle.ell_tree.proofs.Counting.{TookRounds}
 use Rattle.ell_tree.proofs.operations.change.Given as goal
-use Rattle.ell_ops.specs.declared.reply.Reply.TheVariants.{Yes}
+use Rattle.ell_core.specs.statements.Effects.{reply_of_change}
 
 -- each try so far met something in its way
 abbrev pub invariant-loop-round : goal.invariant-loop-round
@@ -24,7 +24,7 @@ invariant-loop-round g l = record {
   share : SameShare l.fn.pass.view l.pass.view;
   stops : Stops l.op l.pass.view;
   root : l.round ≡ 0 → AtRoot l.op l.pass.view;
-  would : 1 ≤ l.round → Owns l.fn.pass (key_of l.op) → reply_of l.op (present_in l.fn.pass) ≡ Yes;
+  would : 1 ≤ l.round → Owns l.fn.pass (key_of l.op) → reply_of l.op (present_in l.fn.pass) ≡ reply_of_change l.op;
   meets : Meets l.fn.pass.view l.pass.view;
   way : AreOver l.pass.view (way_of l.op l.pass.view);
   hindrances : length l.fn.pass.view.hindrances + l.round ≤ length (way_of l.op l.pass.view) + length l.pass.view.hindrances;

@@ -1,40 +1,48 @@
-use Rattle.std.proofs.Common.{◌+◌, ◌≡◌, ◌≢◌, ℕ, if◌then◌else◌, Some, None, List, length, eq-eqb, ap, ◌∙◌, subst, rules, arith}
-use Rattle.ell_ops.specs.declared.op.Op.TheVariants.{Insert}
-use Rattle.ell_ops.specs.declared.reply.Reply.TheVariants.{No}
-use Rattle.ell_core.specs.acts.Searching.{leaf_answer}
+use Rattle.std.proofs.Common.{◌+◌, ◌≡◌, ◌≢◌, ℕ, Some, List, length, inr, sym, ap, ◌∙◌, subst, rules, arith}
 use Rattle.ell_word.specs.declared.update.State.TheVariants.{Clean}
 use Rattle.ell_core.specs.declared.view.Search.{Search}
 use Rattle.ell_cards.specs.declared.view.Told.TheVariants.{Met}
 use Rattle.ell_core.specs.declared.field.Field.{Field}
-use Rattle.ell_tree.specs.CardsTaken.{cards_taken}
+use Rattle.std.proofs.lemmas.Bool.{false≢true}
+use Rattle.ell_ops.specs.Meaning.{found}
+use Rattle.ell_tree.specs.CardsTaken.{cards_taken, TakesOneCard, TakesOneIf}
+use Rattle.ell_tree.specs.Ends.{Answers, changes_by, reply_by}
 use Rattle.ell_tree.specs.Hindrances.{way_of}
 use Rattle.ell_tree.specs.Tries.{HasCard}
 use Rattle.ell_tree.proofs.Descending.{may_answer}
-use Rattle.ell_tree.proofs.Filling.{insert_fills, is_insert}
+use Rattle.ell_tree.proofs.Filling.{put_fills, is_insert}
 use Rattle.ell_tree.proofs.Keeping.{share_trans}
-use Rattle.ell_tree.proofs.Owning.{goes_answers, would_insert}
-use Rattle.ell_tree.proofs.Meeting.{meets_trans, meets_more, insert_way, nowhere_way, way_over, way_free, no_way}
+use Rattle.ell_tree.proofs.Owning.{goes_answers, would_put}
+use Rattle.ell_tree.proofs.Meeting.{meets_trans, meets_more, put_way, nowhere_way, way_over, way_free, no_way}
 use Rattle.ell_tree.proofs.Halting.{goes_meets, seek_meets, walk_meets, said_meets, flag_lost}
 use Rattle.ell_tree.proofs.Hindering.{root_in_try}
+use Rattle.ell_tree.proofs.Putting.{put_wants, put_refused, put_done, put_over}
 use Rattle.ell_tree.proofs.Moving.{sees_end, gives_out}
-use Rattle.ell_tree.proofs.inserting.try_insert.Goals as goal
+use Rattle.ell_tree.proofs.inserting.try_put.Goals as goal
 
 pub take_card-requires-clause-wants : goal.take_card-requires-clause-wants
-take_card-requires-clause-wants g c = (c.if-place-key.false, (c.search-place.result.value, c.search-place.ensures.ends.at.value_told))
+take_card-requires-clause-wants g c =
+    let s = c.search-place in
+    put_wants s.result c.args.op c.args.what c.requires.puts s.new.pass.view s.ensures.ends.at (search rules)
 
 pub answer-requires-clause-may : goal.answer-requires-clause-may
 answer-requires-clause-may g c =
     let s = c.search-place in
-    let op = Insert c.args.key c.args.value in
-    may_answer s.new.pass.view op s.result No (s.ensures.seeks.goes.view.operation ∙ c.requires.root.busy) s.ensures.ends.at
-    (ap (λ t. leaf_answer op (if t then Some s.result.value else None)) (eq-eqb s.result.key c.args.key c.if-place-key.true))
+    let refused = put_refused s.result c.args.op c.args.what c.requires.puts
+    (λ takes. false≢true (sym c.if-not-may_replace.true ∙ c.may_replace.ensures.1 takes)) in
+    may_answer s.new.pass.view c.args.op s.result c.found.result (s.ensures.seeks.goes.view.operation ∙ c.requires.root.busy) s.ensures.ends.at
+    (refused.says ∙ ap Some (sym (c.found.ensures ∙ ap found c.found_by-found.ensures)))
 
 pub flag_insert-requires-clause-card : goal.flag_insert-requires-clause-card
 flag_insert-requires-clause-card g c =
-    let s = c.search-place in
-    subst (λ (es : List (Field × ℕ)). HasCard (Insert c.args.key c.args.value) s.result es c.take_card.new.pass.view c.in-Card.card)
-    (insert_fills c.in-Card.card c.args.key c.args.value s.new.pass.view s.result (s.ensures.seeks.goes.view.operation ∙ c.requires.root.busy) s.ensures.ends.at)
-    c.in-Card.ensures.claims.0
+    let s = c.search-place in record {
+      op = c.args.op;
+      puts = c.requires.puts;
+      card = subst (λ (es : List (Field × ℕ)). HasCard c.args.op s.result es c.take_card.new.pass.view c.in-Card.card)
+          (put_fills c.in-Card.card c.args.op c.args.what s.new.pass.view s.result c.requires.puts
+          (s.ensures.seeks.goes.view.operation ∙ c.requires.root.busy) s.ensures.ends.at)
+          c.in-Card.ensures.claims.0;
+    }
 
 pub finish_insert-requires-clause-insert : goal.finish_insert-requires-clause-insert
 finish_insert-requires-clause-insert g c =
@@ -43,22 +51,34 @@ finish_insert-requires-clause-insert g c =
     let ends = s.ensures.ends in
     rw c.max-card_key.ensures
     rw c.min-left_key.ensures
-    (is_insert s.new.pass.view c.take_card.new.pass.view c.flag_insert.new.pass.view c.in-Card.card c.args.key place c.flag_insert.ensures.goes.view c.args.value
-    (s.ensures.seeks.goes.view.operation ∙ c.requires.root.busy) ends.at c.in-Card.ensures.claims.0 c.in-Ok.ensures.flags.knows
-    (c.take_card.ensures.goes.view.told (Met place.parent.node) ends.passed.node.met))
+    (is_insert s.new.pass.view c.take_card.new.pass.view c.flag_insert.new.pass.view c.in-Card.card place c.flag_insert.ensures.goes.view
+    c.args.op c.args.what c.requires.puts (s.ensures.seeks.goes.view.operation ∙ c.requires.root.busy) ends.at c.in-Card.ensures.claims.0
+    c.in-Ok.ensures.flags.knows (c.take_card.ensures.goes.view.told (Met place.parent.node) ends.passed.node.met))
 
--- the key was there
-pub returns-then-place-key-clause-ends : goal.returns-then-place-key-clause-ends
-returns-then-place-key-clause-ends g c =
+-- there was no place for it
+pub returns-then-not-may_replace-clause-ends : goal.returns-then-not-may_replace-clause-ends
+returns-then-not-may_replace-clause-ends g c =
     let a = c.args.pass.now in
     let s = c.search-place in
     let said = c.answer in
-    let answers = said.ensures.answers (Insert c.args.key c.args.value) (s.ensures.seeks.goes.view.operation ∙ c.requires.root.busy) in (
-      goes_answers c.args.table.now (Insert c.args.key c.args.value) _ a s.new.pass said.new.pass _ s.ensures.seeks.goes answers,
+    let refused = put_refused s.result c.args.op c.args.what c.requires.puts
+    (λ takes. false≢true (sym c.if-not-may_replace.true ∙ c.may_replace.ensures.1 takes)) in
+    let reply : c.found.result ≡ reply_by c.args.op c.found_by-found.result =
+    c.found.ensures ∙ (ap found c.found_by-found.ensures ∙ (refused.reply ∙ ap (reply_by c.args.op) (sym c.found_by-found.ensures))) in
+    let answers = said.ensures.answers c.args.op (s.ensures.seeks.goes.view.operation ∙ c.requires.root.busy) in (
+      subst (λ r. Answers c.args.table.now c.args.op r a said.new.pass) reply
+          (goes_answers c.args.table.now c.args.op _ a s.new.pass said.new.pass _ s.ensures.seeks.goes answers),
       meets_trans a.view s.new.pass.view said.new.pass.view (seek_meets a s.new.pass _ s.ensures.seeks)
           (said_meets s.new.pass.view said.new.pass.view said.ensures.hindrances said.ensures.facts),
       said.ensures.room,
     )
+
+pub returns-then-not-may_replace-clause-taken : goal.returns-then-not-may_replace-clause-taken
+returns-then-not-may_replace-clause-taken g c =
+    let refused = put_refused c.search-place.result c.args.op c.args.what c.requires.puts
+    (λ takes. false≢true (sym c.if-not-may_replace.true ∙ c.may_replace.ensures.1 takes)) in
+    subst (λ b. TakesOneIf b c.args.pass.now c.answer.new.pass) (sym (ap (changes_by c.args.op) c.found_by-found.ensures ∙ refused.changes))
+    (c.answer.ensures.taken ∙ c.search-place.ensures.seeks.taken)
 
 -- a flag or a mark stood at the parent
 pub returns-then-ne-clause-ends : goal.returns-then-ne-clause-ends
@@ -70,8 +90,8 @@ returns-then-ne-clause-ends g c =
     let new = c.help.new.pass in
     let stands : update.state ≢ Clean = search rules in
     let meets = meets_trans a.view s.new.pass.view new.view (seek_meets a s.new.pass _ s.ensures.seeks) c.help.ensures.meets in
-    let way = way_over new.view update.state update.card (way_of (Insert c.args.key c.args.value) new.view)
-    (insert_way c.args.key c.args.value place.leaf place.parent place.grandparent new.view (c.help.ensures.works.search ∙ s.ensures.ends.at.search)) stands
+    let way = way_over new.view update.state update.card (way_of c.args.op new.view)
+    (put_way c.args.op c.args.what c.requires.puts place.leaf place.parent place.grandparent new.view (c.help.ensures.works.search ∙ s.ensures.ends.at.search)) stands
     c.help.ensures.ended in
     let more = meets_more a.view new.view meets in (
       record {
@@ -81,9 +101,9 @@ returns-then-ne-clause-ends g c =
         answers = search rules;
         share = share_trans a.view s.new.pass.view new.view s.ensures.seeks.goes.view.share c.help.ensures.works.goes.view.share;
         meets = meets;
-        in_try = c.help.ensures.works.goes.view.earlier a.view.hindrances (s.ensures.seeks.goes.view.earlier a.view.hindrances (root_in_try (Insert c.args.key c.args.value) a.view c.requires.root));
+        in_try = c.help.ensures.works.goes.view.earlier a.view.hindrances (s.ensures.seeks.goes.view.earlier a.view.hindrances (root_in_try c.args.op a.view c.requires.root));
         way = way.0;
-        would = would_insert c.args.table.now.plan.last_card a s.new.pass s.ensures.seeks.goes.view.ledger s.result c.args.key c.args.value s.ensures.ends (search rules);
+        would = would_put c.args.table.now.plan.last_card a s.new.pass s.ensures.seeks.goes.view.ledger s.result c.args.op c.args.what c.requires.puts s.ensures.ends (search rules);
         stops = search rules;
       },
       omega (arith, way.1, more),
@@ -104,8 +124,8 @@ returns-in-NoneLeft-clause-ends g c =
     let calm : update.state ≡ Clean = search rules in
     let meets = meets_trans a.view s.new.pass.view new.view (seek_meets a s.new.pass _ s.ensures.seeks)
     (goes_meets s.new.pass new 2 c.in-NoneLeft.ensures.goes claims.2) in
-    let way = way_free new.view update.state update.card (way_of (Insert c.args.key c.args.value) new.view)
-    (insert_way c.args.key c.args.value place.leaf place.parent place.grandparent new.view (claims.0.search ∙ s.ensures.ends.at.search)) calm in (
+    let way = way_free new.view update.state update.card (way_of c.args.op new.view)
+    (put_way c.args.op c.args.what c.requires.puts place.leaf place.parent place.grandparent new.view (claims.0.search ∙ s.ensures.ends.at.search)) calm in (
       record {
         table = search rules;
         label = search rules;
@@ -113,9 +133,9 @@ returns-in-NoneLeft-clause-ends g c =
         answers = search rules;
         share = share_trans a.view s.new.pass.view new.view s.ensures.seeks.goes.view.share c.take_card.ensures.goes.view.share;
         meets = meets;
-        in_try = c.take_card.ensures.goes.view.earlier a.view.hindrances (s.ensures.seeks.goes.view.earlier a.view.hindrances (root_in_try (Insert c.args.key c.args.value) a.view c.requires.root));
+        in_try = c.take_card.ensures.goes.view.earlier a.view.hindrances (s.ensures.seeks.goes.view.earlier a.view.hindrances (root_in_try c.args.op a.view c.requires.root));
         way = way;
-        would = would_insert c.args.table.now.plan.last_card a s.new.pass s.ensures.seeks.goes.view.ledger s.result c.args.key c.args.value s.ensures.ends (search rules);
+        would = would_put c.args.table.now.plan.last_card a s.new.pass s.ensures.seeks.goes.view.ledger s.result c.args.op c.args.what c.requires.puts s.ensures.ends (search rules);
         stops = search rules;
       },
       claims.1,
@@ -132,8 +152,8 @@ returns-in-Lost-clause-ends g c =
     let claims = c.in-Lost.ensures.claims in
     let calm : update.state ≡ Clean = search rules in
     let meets = meets_trans a.view s.new.pass.view new.view (seek_meets a s.new.pass _ s.ensures.seeks) claims.1 in
-    let way = way_free new.view update.state update.card (way_of (Insert c.args.key c.args.value) new.view)
-    (insert_way c.args.key c.args.value place.leaf place.parent place.grandparent new.view (claims.0.search ∙ s.ensures.ends.at.search)) calm in
+    let way = way_free new.view update.state update.card (way_of c.args.op new.view)
+    (put_way c.args.op c.args.what c.requires.puts place.leaf place.parent place.grandparent new.view (claims.0.search ∙ s.ensures.ends.at.search)) calm in
     let quiet = ap length s.ensures.seeks.hindrances in (
       record {
         table = search rules;
@@ -142,16 +162,16 @@ returns-in-Lost-clause-ends g c =
         answers = search rules;
         share = share_trans a.view s.new.pass.view new.view s.ensures.seeks.goes.view.share c.take_card.ensures.goes.view.share;
         meets = meets;
-        in_try = c.take_card.ensures.goes.view.earlier a.view.hindrances (s.ensures.seeks.goes.view.earlier a.view.hindrances (root_in_try (Insert c.args.key c.args.value) a.view c.requires.root));
+        in_try = c.take_card.ensures.goes.view.earlier a.view.hindrances (s.ensures.seeks.goes.view.earlier a.view.hindrances (root_in_try c.args.op a.view c.requires.root));
         way = way;
-        would = would_insert c.args.table.now.plan.last_card a s.new.pass s.ensures.seeks.goes.view.ledger s.result c.args.key c.args.value s.ensures.ends (search rules);
+        would = would_put c.args.table.now.plan.last_card a s.new.pass s.ensures.seeks.goes.view.ledger s.result c.args.op c.args.what c.requires.puts s.ensures.ends (search rules);
         stops = search rules;
       },
       omega (arith, quiet, claims.2),
       gives_out c.args.table.now.plan.last_card a.view s.new.pass.view new.view new.view s.ensures.seeks.goes.view.least claims.3 (omega arith),
     )
 
--- the key was added
+-- it was put
 pub returns-in-Ok-clause-ends : goal.returns-in-Ok-clause-ends
 returns-in-Ok-clause-ends g c =
     let a = c.args.pass.now in
@@ -164,11 +184,15 @@ returns-in-Ok-clause-ends g c =
     (goes_meets s.new.pass t 2 c.take_card.ensures.goes c.in-Card.ensures.claims.2) in
     let flagged = meets_trans a.view t.view f.view taken (goes_meets t f 11 c.flag_insert.ensures.goes c.in-Ok.ensures.flags.hindrances) in
     let finished = meets_trans a.view f.view m.view flagged (walk_meets f m 3 c.finish_insert.ensures.walks) in
-    let answers = said.ensures.answers (Insert c.args.key c.args.value) (search rules) in (
-      goes_answers c.args.table.now (Insert c.args.key c.args.value) _ a s.new.pass said.new.pass _ s.ensures.seeks.goes
-          (goes_answers c.args.table.now (Insert c.args.key c.args.value) _ s.new.pass t said.new.pass _ c.take_card.ensures.goes
-          (goes_answers c.args.table.now (Insert c.args.key c.args.value) _ t f said.new.pass _ c.flag_insert.ensures.goes
-          (goes_answers c.args.table.now (Insert c.args.key c.args.value) _ f m said.new.pass _ c.finish_insert.ensures.walks.goes answers))),
+    let done = put_done c.args.op c.args.what c.requires.puts in
+    let reply : c.reply_once_done.result ≡ reply_by c.args.op (Some c.unwrap_or.result) =
+    c.reply_once_done.ensures ∙ (done.reply ∙ ap (λ v. reply_by c.args.op (Some v)) (sym (search rules))) in
+    let answers = said.ensures.answers c.args.op (search rules) in (
+      subst (λ r. Answers c.args.table.now c.args.op r a said.new.pass) reply
+          (goes_answers c.args.table.now c.args.op _ a s.new.pass said.new.pass _ s.ensures.seeks.goes
+          (goes_answers c.args.table.now c.args.op _ s.new.pass t said.new.pass _ c.take_card.ensures.goes
+          (goes_answers c.args.table.now c.args.op _ t f said.new.pass _ c.flag_insert.ensures.goes
+          (goes_answers c.args.table.now c.args.op _ f m said.new.pass _ c.finish_insert.ensures.walks.goes answers)))),
       meets_trans a.view m.view said.new.pass.view finished (said_meets m.view said.new.pass.view said.ensures.hindrances said.ensures.facts),
       said.ensures.room,
     )
@@ -188,9 +212,9 @@ returns-in-Err-clause-ends g c =
     let lost = flag_lost c.args.table.now.plan.last_card s.result.parent.node c.in-Err.found t.view f.view new.view flags c.flag_insert.ensures.goes.view.knows
     help.ensures.meets help.ensures.ended in
     let meets = meets_trans a.view t.view new.view taken lost.0 in
-    let way = no_way new.view (way_of (Insert c.args.key c.args.value) new.view)
-    (nowhere_way (Insert c.args.key c.args.value) new.view (ap (λ (r : Search). r.node) help.ensures.works.search ∙ flags.nowhere)) in
-    let searched = s.ensures.seeks.goes.view.earlier a.view.hindrances (root_in_try (Insert c.args.key c.args.value) a.view c.requires.root) in
+    let way = no_way new.view (way_of c.args.op new.view)
+    (nowhere_way c.args.op new.view (ap (λ (r : Search). r.node) help.ensures.works.search ∙ flags.nowhere)) in
+    let searched = s.ensures.seeks.goes.view.earlier a.view.hindrances (root_in_try c.args.op a.view c.requires.root) in
     let in_try = help.ensures.works.goes.view.earlier a.view.hindrances (c.flag_insert.ensures.goes.view.earlier a.view.hindrances
     (c.take_card.ensures.goes.view.earlier a.view.hindrances searched)) in
     let more = meets_more a.view t.view taken in (
@@ -204,7 +228,7 @@ returns-in-Err-clause-ends g c =
         meets = meets;
         in_try = in_try;
         way = way;
-        would = would_insert c.args.table.now.plan.last_card a s.new.pass s.ensures.seeks.goes.view.ledger s.result c.args.key c.args.value s.ensures.ends (search rules);
+        would = would_put c.args.table.now.plan.last_card a s.new.pass s.ensures.seeks.goes.view.ledger s.result c.args.op c.args.what c.requires.puts s.ensures.ends (search rules);
         stops = search rules;
       },
       omega (arith, lost.1, more),
@@ -225,7 +249,11 @@ returns-in-Lost-clause-taken g c =
 
 pub returns-in-Ok-clause-taken : goal.returns-in-Ok-clause-taken
 returns-in-Ok-clause-taken g c =
-    omega (arith, c.answer-in-Ok.ensures.taken, c.finish_insert.ensures.walks.taken, c.flag_insert.ensures.taken, c.in-Card.ensures.taken, c.search-place.ensures.seeks.taken)
+    let taken : TakesOneCard c.args.pass.now c.answer-in-Ok.new.pass =
+    omega (arith, c.answer-in-Ok.ensures.taken, c.finish_insert.ensures.walks.taken, c.flag_insert.ensures.taken, c.in-Card.ensures.taken, c.search-place.ensures.seeks.taken) in
+    let done = put_done c.args.op c.args.what c.requires.puts in
+    subst (λ b. TakesOneIf b c.args.pass.now c.answer-in-Ok.new.pass)
+    (sym (ap (λ v. changes_by c.args.op (Some v)) (search rules) ∙ done.changes)) taken
 
 pub returns-in-Err-clause-taken : goal.returns-in-Err-clause-taken
 returns-in-Err-clause-taken g c =
