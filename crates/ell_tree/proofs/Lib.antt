@@ -38,3 +38,5 @@ pub mod Hindering
 pub mod Moving
 -- an insert or a swap where its search ended, and once it is done
 pub mod Putting
+-- calls that are made of several operations
+pub mod Concluding

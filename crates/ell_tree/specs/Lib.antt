@@ -2,6 +2,8 @@
 pub mod Ledgers
 -- how an operation ends
 pub mod Ends
+-- how a call ends that is made of several operations
+pub mod Computing
 -- how passes begin, part and come together
 pub mod PassParts
 -- how a tree ends

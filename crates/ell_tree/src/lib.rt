@@ -2,6 +2,7 @@
 //! (PODC 2010). No writer waits for another; a writer that stalls is finished by its neighbours.
 #![tactic(auto)]
 
+mod computing;
 mod deleting;
 mod helping;
 mod inserting;

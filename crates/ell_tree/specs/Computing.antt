@@ -1,0 +1,133 @@
+use Rattle.std.specs.Prelude.{◌≡◌, ◌≢◌, ℕ, ◌+◌, ◌*◌, ◌<◌, ◌≤◌, ◌↔◌, ◌⊎◌, ◌%◌, ◌^◌, true, false, Bool, Option, Some, None, is_some, Result, Ok, Err}
+use Rattle.ell_ops.specs.declared.op.Op.{Op}
+use Rattle.ell_ops.specs.declared.op.Op.TheVariants.{Find, Insert, Swap}
+use Rattle.ell_ops.specs.declared.reply.Reply.{Reply}
+use Rattle.ell_ops.specs.declared.reply.Reply.TheVariants.{Yes, Found}
+use Rattle.ell_ops.specs.Meaning.{key_of, reply_of, after, found}
+use Rattle.ell_core.specs.statements.Effects.{reply_of_change}
+use Rattle.ell_cards.specs.Answering.{IsAnsweredInRuns}
+use Rattle.ell_cards.specs.LayingDown.{IsLaidDownInRuns}
+use Rattle.ell_cards.specs.declared.view.View.{View}
+use Rattle.ell_cards.specs.Models.{PassModel}
+use Rattle.ell_cards.specs.Stepping.{SameShare}
+use Rattle.ell_tree.specs.declared.computing.Computed.{Computed}
+use Rattle.ell_tree.specs.declared.computing.Replaced.{Replaced}
+use Rattle.ell_tree.specs.declared.computing.Replaced.TheVariants.{Done, Lost}
+use Rattle.ell_tree.specs.declared.operations.Held.{Held}
+use Rattle.ell_tree.specs.declared.operations.Held.TheVariants.{Busy, Spent}
+use Rattle.ell_tree.specs.Ends.{Answers, LaidDown, find_steps, try_steps}
+use Rattle.ell_tree.specs.Ledgers.{TreeModel, present_in, Owns, answers, IsIdle}
+
+-- a pass has the keys that it had, present with their values or absent as they were, and nothing in hand
+pub record IsUntouched (old new : PassModel) : Type 0 where
+  pub table : new.table ≡ old.table
+  pub label : new.label ≡ old.label
+  pub map : (key : ℕ) → present_in new key ≡ present_in old key
+  pub owned : (key : ℕ) → Owns new key ↔ Owns old key
+  pub answered : answers old ≤ answers new
+  pub share : SameShare old.view new.view
+  pub idle : IsIdle new
+
+-- a call that is made of several operations has ended by this one, which was answered so, and those before it have changed nothing of what the
+-- pass has. On a key of the pass's own: as a map answers it that has the pass's keys present with their values, which becomes the map after it.
+-- Whoever may change the key, this last operation had its point: in every run of the tree in which the pass now knows this, its answer is that of
+-- one thread that made all operations by which the tree was changed till then
+pub record Concludes (t : TreeModel) (op : Op) (said : Reply) (old new : PassModel) : Type 0 where
+  pub table : new.table ≡ old.table
+  pub label : new.label ≡ old.label
+  pub says : Owns old (key_of op) → said ≡ reply_of op (present_in old)
+  pub map : Owns old (key_of op) → (key : ℕ) → present_in new key ≡ after op (present_in old) key
+  pub stays : ¬ Owns old (key_of op) → (key : ℕ) → present_in new key ≡ present_in old key
+  pub point : IsAnsweredInRuns t.plan new.view op said
+  pub owned : (key : ℕ) → Owns new key ↔ Owns old key
+  pub answered : answers old < answers new
+  pub share : SameShare old.view new.view
+  pub idle : IsIdle new
+
+-- what puts a value at a key, by what was there of it: an insert, where the key was absent, or a swap of the value that it had
+abbrev pub put_by : ℕ → ℕ → Option ℕ → Op
+put_by key value None = Insert key value
+put_by key value (Some was) = Swap key was value
+
+-- the key had this value, or none, at the point of a find, or of a swap of another value, which changes nothing
+abbrev pub ReadsValue : TreeModel → ℕ → Option ℕ → PassModel → PassModel → Type 0
+ReadsValue t key was old new = Concludes t (Find key) (found was) old new
+    ⊎ ((other value : ℕ) × (was ≢ Some other) × Concludes t (Swap key other value) (found was) old new)
+
+-- a value was put at a key, in one step, in the place of what was there of it
+abbrev pub PutsValue : TreeModel → ℕ → ℕ → PassModel → PassModel → Option ℕ → Type 0
+PutsValue t key value old new was = Concludes t (put_by key value was) (reply_of_change (put_by key value was)) old new
+
+-- what was found of a key has become this, if it has become anything
+abbrev pub Computes : TreeModel → ℕ → PassModel → PassModel → Option ℕ → Option ℕ → Type 0
+Computes t key old new was None = ReadsValue t key was old new
+Computes t key old new was (Some value) = PutsValue t key value old new was
+
+-- a value was updated by what a closure made of it, in one step; a key that was absent is left so
+abbrev pub UpdatesValue : TreeModel → ℕ → (ℕ → ℕ → Type 0) → PassModel → PassModel → Option ℕ → Type 0
+UpdatesValue t key makes old new None = ReadsValue t key None old new
+UpdatesValue t key makes old new (Some was) = (value : ℕ) × makes was value × PutsValue t key value old new (Some was)
+
+-- a sum of 64 bits, which starts again at 0 past its greatest
+abbrev pub wrapping_sum : ℕ → ℕ → ℕ
+wrapping_sum one other = (one + other) % 2 ^ 64
+
+abbrev pub IsSum : ℕ → ℕ → ℕ → Type 0
+IsSum addend was value = value ≡ wrapping_sum was addend
+
+-- the last operation of a call on a key has changed nothing, and never will: it was laid down, or answered by what is no change's answer
+pub record LastChangesNothing (t : TreeModel) (key : ℕ) (v : View) : Type 0 where
+  pub op : Op
+  pub on : key_of op ≡ key
+  pub nothing : IsLaidDownInRuns t.plan v op
+      ⊎ ((said : Reply) × (said ≢ reply_of_change op) × IsAnsweredInRuns t.plan v op said)
+
+-- why a call of several operations has no answer: each of its tries was hindered, or another pass had changed the key; or the claim word says that
+-- all cards are given out
+abbrev pub HeldBackFor : ℕ → PassModel → Held → Type 0
+HeldBackFor cards new Busy = Unit {0}
+HeldBackFor cards new Spent = new.view.next ≡ Some (cards + 1)
+
+-- a call of several operations on a key has ended without an answer, and has changed nothing
+pub record HoldsBack (t : TreeModel) (key : ℕ) (old new : PassModel) (held : Held) : Type 0 where
+  pub untouched : IsUntouched old new
+  pub last : LastChangesNothing t key new.view
+  pub why : HeldBackFor t.plan.last_card new held
+
+-- what comes of one try to put a value in the place of what was found of a key
+abbrev pub Replaces : TreeModel → ℕ → Option ℕ → ℕ → PassModel → PassModel → Result Replaced Held → Type 0
+Replaces t key was value old new (Ok Done) = Answers t (put_by key value was) (reply_of_change (put_by key value was)) old new
+Replaces t key was value old new (Ok (Lost there)) =
+    IsUntouched old new × ReadsValue t key there old new × (Owns old key → present_in old key ≢ was)
+Replaces t key was value old new (Err why) = LaidDown t (put_by key value was) old new × HeldBackFor t.plan.last_card new why
+
+-- whether it put it
+abbrev pub is_done : Replaced → Bool
+is_done Done = true
+is_done (Lost there) = false
+
+abbrev pub whether_done : Result Replaced Held → Result Bool Held
+whether_done (Ok replaced) = Ok (is_done replaced)
+whether_done (Err why) = Err why
+
+-- whether a call has put anything
+abbrev pub whether_made : Result Computed Held → Result Bool Held
+whether_made (Ok computed) = Ok (is_some computed.made)
+whether_made (Err why) = Err why
+
+-- whether a call has put what it always puts
+abbrev pub whether_put : Result (Option ℕ) Held → Result Bool Held
+whether_put (Ok was) = Ok true
+whether_put (Err why) = Err why
+
+-- the most steps of one round: a try with its end, and a find
+abbrev pub round_steps : ℕ → ℕ
+round_steps cards = try_steps cards + find_steps cards + 1
+
+-- the most steps of a call that tries so often: a find, and its rounds
+abbrev pub update_steps : ℕ → ℕ → ℕ
+update_steps cards tries = find_steps cards + tries * round_steps cards
+
+-- this bound is at most 64 (t + 1) (c + 2) with t tries, where c is the number of the last card
+abbrev pub UpdatesAreShort : Type 0
+UpdatesAreShort = (cards tries : ℕ) → update_steps cards tries ≤ 64 * (tries + 1) * (cards + 2)

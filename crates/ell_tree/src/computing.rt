@@ -1,0 +1,122 @@
+//! Calls that compute what becomes of a key from what is there of it, and do that in one atomic step.
+ghost use Rattle.std.specs.Prelude.{◌≡◌, ◌≢◌, ◌<◌, ◌≤◌, ◌*◌, None, Err, IfOk, IfErr};
+ghost use Rattle.ell_tree.specs.Computing.{Computes, HoldsBack, Replaces, round_steps, update_steps, whether_done, whether_made};
+ghost use Rattle.ell_tree.specs.Counts.{Took};
+ghost use Rattle.ell_tree.specs.Ends.{CountsTries};
+ghost use Rattle.ell_tree.specs.Ledgers.{Owns};
+ghost use Rattle.ell_tree.specs.Promises.{IsOthersDoing, MayDo, SpendsCards};
+ghost use Rattle.ell_tree.specs.declared.operations.Held.TheVariants.{Busy};
+
+use crate::operations::{Held, change, find};
+use ell_cards::{CardTable, Pass};
+use ell_ops::Op;
+use ell_word::StepGate;
+use std::alloc::Allocator;
+
+/// What a call found of its key, and the value that it has put there in the place of that, if it has put any.
+#[derive(Clone, Copy)]
+pub(crate) struct Computed {
+    pub was: Option<u64>,
+    pub made: Option<u64>,
+}
+
+/// What came of a try to put a value in the place of what was found.
+#[derive(Clone, Copy)]
+pub(crate) enum Replaced {
+    /// It is there.
+    Done,
+    /// Another pass had changed the key, which has this now.
+    Lost(Option<u64>),
+}
+
+/// Reads a key, makes of what it finds what is to become of it, and puts that there, if it is anything, unless another pass has changed the
+/// key meanwhile: then it makes that anew of what is there now. At most so many tries; each begins with what is there.
+pub(crate) fn compute<A: Allocator + Copy, G: StepGate, F: Fn(Option<u64>) -> Option<u64>>(
+    table: &CardTable<A>,
+    pass: &mut Pass<A>,
+    key: u64,
+    make: F,
+    tries: u32,
+    gate: &G,
+) -> Result<Computed, Held>
+    requires may { MayDo table.now key pass.old }
+    requires tries { 1 ≤ tries }
+    requires make { F.IsAlwaysCallable make }
+    ensures computes { IfOk result (λ done. Computes table.now key pass.old pass.new done.was done.made) }
+    ensures makes { IfOk result (λ done. F.post make done.was done.made) }
+    ensures held { IfErr result (HoldsBack table.now key pass.old pass.new) }
+    ensures others { Owns pass.old key → result ≡ Err Busy → IsOthersDoing table.now tries pass.old pass.new }
+    ensures steps { Took pass.old pass.new (update_steps table.now.plan.last_card tries) }
+    ensures counted { CountsTries tries pass.old pass.new }
+    ensures cards { SpendsCards key tries pass.old pass.new (whether_made result) }
+    ensures enough { Owns pass.old key → 2 * table.now.plan.last_card < tries → result ≢ Err Busy }
+{
+    let mut was = find(table, pass, key, gate);
+    let mut made = make(was);
+    for _round in 0..tries {
+        let Some(value) = made else {
+            return Ok(Computed { was, made });
+        };
+        match replace(table, pass, key, was, value, gate) {
+            Ok(Replaced::Done) => return Ok(Computed { was, made }),
+            Ok(Replaced::Lost(there)) => {
+                was = there;
+                made = make(was);
+            }
+            Err(Held::Busy) => {}
+            Err(Held::Spent) => return Err(Held::Spent),
+        }
+    }
+    if made.is_some() {
+        return Err(Held::Busy);
+    }
+    Ok(Computed { was, made })
+}
+
+// One try to put a value in the place of what was found of a key.
+fn replace<A: Allocator + Copy, G: StepGate>(
+    table: &CardTable<A>,
+    pass: &mut Pass<A>,
+    key: u64,
+    was: Option<u64>,
+    value: u64,
+    gate: &G,
+) -> Result<Replaced, Held>
+    requires may { MayDo table.now key pass.old }
+    ensures replaces { Replaces table.now key was value pass.old pass.new result }
+    ensures others { result ≡ Err Busy → IsOthersDoing table.now 1 pass.old pass.new }
+    ensures steps { Took pass.old pass.new (round_steps table.now.plan.last_card) }
+    ensures counted { CountsTries 1 pass.old pass.new }
+    ensures cards { SpendsCards key 1 pass.old pass.new (whether_done result) }
+{
+    let Some(was) = was else {
+        return add(table, pass, key, value, gate);
+    };
+    let there = change(table, pass, Op::Swap(key, was, value), 1, gate)?;
+    if there == Some(was) {
+        Ok(Replaced::Done)
+    } else {
+        Ok(Replaced::Lost(there))
+    }
+}
+
+// The same, where the key was absent.
+fn add<A: Allocator + Copy, G: StepGate>(
+    table: &CardTable<A>,
+    pass: &mut Pass<A>,
+    key: u64,
+    value: u64,
+    gate: &G,
+) -> Result<Replaced, Held>
+    requires may { MayDo table.now key pass.old }
+    ensures replaces { Replaces table.now key None value pass.old pass.new result }
+    ensures others { result ≡ Err Busy → IsOthersDoing table.now 1 pass.old pass.new }
+    ensures steps { Took pass.old pass.new (round_steps table.now.plan.last_card) }
+    ensures counted { CountsTries 1 pass.old pass.new }
+    ensures cards { SpendsCards key 1 pass.old pass.new (whether_done result) }
+{
+    match change(table, pass, Op::Insert(key, value), 1, gate)? {
+        Some(_) => Ok(Replaced::Done),
+        None => Ok(Replaced::Lost(find(table, pass, key, gate))),
+    }
+}
