@@ -78,7 +78,7 @@ taking c es v = record v {
 }
 
 -- what fills a card for an operation that puts something
-put_filling : (op : Op) (what : Put) → put_of op ≡ Some what → (c leaf : ℕ) (parent : Seen) (above : Option Seen) (key : ℕ) (value_of : ℕ → ℕ)
+pub put_filling : (op : Op) (what : Put) → put_of op ≡ Some what → (c leaf : ℕ) (parent : Seen) (above : Option Seen) (key : ℕ) (value_of : ℕ → ℕ)
     → insert_filling c what.key what.value parent.node leaf key (value_of leaf) ≡ filling_for c (Some op) (Some leaf) (Some parent) above key value_of
 put_filling (Find k) what e c leaf parent above key value_of = absurd cc
 put_filling (Insert k value) what e c leaf parent above key value_of =
