@@ -3,8 +3,8 @@ use Rattle.std.specs.Prelude.{filter, ◌==◌, is_some}
 use Rattle.std.proofs.lemmas.Bool.{cases_Bool, ne_eqb, eqb-false, cond-true, cond-false}
 use Rattle.std.proofs.lemmas.List.Elements.{All-head, All-tail, All-weaker, filter-append}
 use Rattle.ell_ops.specs.declared.Op.{Op}
-use Rattle.ell_ops.specs.declared.Op.TheVariants.{Find, Insert, Delete}
-use Rattle.ell_ops.specs.Contents.{Contents}
+use Rattle.ell_ops.specs.declared.Op.TheVariants.{Find, Insert, Delete, Swap}
+use Rattle.ell_ops.specs.Contents.{Contents, swapped}
 use Rattle.ell_ops.specs.Meaning.{key_of, reply_of, after, replies, final, yes_if, found}
 
 -- the operations on a key
@@ -16,12 +16,14 @@ pub after_alike : (op : Op) (s t : Contents) (key : ℕ) → s key ≡ t key →
 after_alike (Find k) s t key same = same
 after_alike (Insert k value) s t key same = ap (λ o. cond (eqb key k) (Some (unwrap_or o value)) o) same
 after_alike (Delete k) s t key same = ap (cond (eqb key k) None) same
+after_alike (Swap k was value) s t key same = ap (λ o. cond (eqb key k) (swapped o was value) o) same
 
 -- an operation on another key leaves the key as it is
 after_other : (op : Op) (s : Contents) (key : ℕ) → eqb (key_of op) key ≡ false → after op s key ≡ s key
 after_other (Find k) s key other = refl
 after_other (Insert k value) s key other = cond-false (eqb key k) (Some (unwrap_or (s key) value)) (s key) (ne_eqb key k (λ e. eqb-false k key other (sym e)))
 after_other (Delete k) s key other = cond-false (eqb key k) None (s key) (ne_eqb key k (λ e. eqb-false k key other (sym e)))
+after_other (Swap k was value) s key other = cond-false (eqb key k) (swapped (s key) was value) (s key) (ne_eqb key k (λ e. eqb-false k key other (sym e)))
 
 pub final_on_key : (ops : List Op) (s t : Contents) (key : ℕ) → s key ≡ t key → final s ops key ≡ final t (on_key key ops) key
 final_on_key [] s t key same = same
@@ -48,6 +50,7 @@ pub reply_alike : (op : Op) (s t : Contents) → s (key_of op) ≡ t (key_of op)
 reply_alike (Find k) s t same = ap found same
 reply_alike (Insert k value) s t same = ap (λ o. yes_if (not (is_some o))) same
 reply_alike (Delete k) s t same = ap (λ o. yes_if (is_some o)) same
+reply_alike (Swap k was value) s t same = ap found same
 
 -- so maps that agree at a key agree there after a list
 pub final_agree : (ops : List Op) (s t : Contents) (key : ℕ) → s key ≡ t key → final s ops key ≡ final t ops key
