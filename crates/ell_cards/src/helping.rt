@@ -16,7 +16,7 @@ use crate::pass::Pass;
 use crate::places::{child_at, update_at};
 use crate::table::CardTable;
 use ell_core::{Field, update_word};
-use ell_word::{State, Update, internal_of, unpack};
+use ell_word::{State, Update};
 use std::alloc::Allocator;
 
 impl<A: Allocator + Copy> CardTable<A> {

@@ -4,7 +4,7 @@ use Rattle.std.proofs.lemmas.Bool.{cases_Bool, ne_eqb, eqb-false, cond-true, con
 use Rattle.std.proofs.lemmas.List.Elements.{All-head, All-tail, All-weaker, filter-append}
 use Rattle.ell_ops.specs.declared.Op.{Op}
 use Rattle.ell_ops.specs.declared.Op.TheVariants.{Find, Insert, Delete, Swap}
-use Rattle.ell_ops.specs.Contents.{swapped, Contents}
+use Rattle.ell_ops.specs.Contents.{Contents, swapped}
 use Rattle.ell_ops.specs.Meaning.{key_of, reply_of, after, replies, final, yes_if, found}
 
 -- the operations on a key

@@ -2,7 +2,7 @@ use Rattle.std.specs.Prelude.{ℕ, ◌*◌, nat_lt, Bool, true, false, List, cou
 use Rattle.ell_ops.specs.declared.op.Op.{Op}
 use Rattle.ell_ops.specs.declared.op.Op.TheVariants.{Find, Insert, Delete, Swap}
 
--- whether an operation may take a card: one that is no find, one at each try at most
+-- whether an operation may take a card: an insert, a delete or a swap, one at each try at most
 abbrev pub is_change : Op → Bool
 is_change (Find key) = false
 is_change (Insert key value) = true

@@ -18,7 +18,7 @@ const LINE_MIN: usize = 7;
 const SAMPLES: usize = 64;
 
 // The cards to reserve where so many workers are busy: those asked for, but no more than the operations can take, and at least
-// the one that a tree must have. An insert or a delete takes one at each try at most, and where one worker alone is busy,
+// the one that a tree must have. An insert, a delete or a swap takes one at each try at most, and where one worker alone is busy,
 // nothing is in the way of its first try.
 pub(crate) fn cards_to_reserve(ops: &[Op], busy: usize, limits: Limits) -> u64
     requires { AreLimits limits }
@@ -76,7 +76,7 @@ fn has_change(part: &[u8]) -> bool {
     }
 }
 
-// How many operations are inserts or deletes. A sum has no branch that the processor could guess wrong.
+// How many operations are inserts, deletes or swaps. A sum has no branch that the processor could guess wrong.
 fn count_changes(ops: &[Op]) -> u64
     ensures { result ≡ count_by is_change ops.now }
 {

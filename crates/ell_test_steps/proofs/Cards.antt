@@ -1,16 +1,22 @@
-use Rattle.std.proofs.Common.{◌≡◌, ℕ, Some, None, refl, sym, ◌∙◌, ap}
+use Rattle.std.proofs.Common.{◌≡◌, ℕ, Some, None, refl, sym, ◌∙◌, ap, subst}
+use Rattle.std.proofs.lemmas.Option.{same_Some}
 use Rattle.ell_ops.specs.declared.op.Op.{Op}
-use Rattle.ell_ops.specs.declared.op.Op.TheVariants.{Insert}
+use Rattle.ell_ops.specs.declared.op.Op.TheVariants.{Find, Insert, Delete, Swap}
 use Rattle.ell_word.specs.declared.update.State.TheVariants as state
 use Rattle.ell_core.specs.declared.field.Field.{Field}
 use Rattle.ell_core.specs.declared.field.Field.TheVariants as field
+use Rattle.ell_core.specs.declared.put.Put.{Put}
 use Rattle.ell_core.specs.state.Cards.{stored, insert_filling}
+use Rattle.ell_core.specs.acts.Searching.{TakesPut, put_of}
+use Rattle.ell_core.proofs.keeping.Puts.{added, replacing}
+use Rattle.ell_cards.specs.declared.view.Told.TheVariants.{Value}
 use Rattle.ell_cards.specs.declared.view.View.{View}
-use Rattle.ell_cards.specs.Models.{PassModel, Steps, Does, stored_at}
+use Rattle.ell_cards.specs.Models.{PassModel, Steps, Does, IsTold, stored_at}
 use Rattle.ell_cards.specs.Changes.{after_next, told_value, filling_for, filling_of, with_stores}
 use Rattle.ell_cards.specs.Guards.{IsFilled, MayClaim, Wants}
 use Rattle.ell_cards.proofs.words.Updates.{clean_word}
 use Rattle.ell_cards.proofs.views.Searches.{may_claim, filling_at}
+use Rattle.ell_cards.proofs.stepping.Claiming.{put_filling}
 use Rattle.ell_test_steps.specs.declared.filling.Place.{Place}
 use Rattle.ell_test_steps.specs.Claims.{EndsAt, IsFresh, insert_stores}
 use Rattle.ell_test_steps.specs.Fitting.{seen, seen_any}
@@ -28,11 +34,24 @@ pub filling_there : (v : View) (c : ℕ) (op : Op) (place : Place) → Does v op
 filling_there v c op place busy e =
     filling_at v op c place.leaf place.key (seen place.parent) (seen_any place.grandparent) busy e.stands e.told e.behind e.above
 
--- and that of an insert
-pub insert_fills : (v : View) (c k value : ℕ) (place : Place) → Does v (Insert k value) → EndsAt v place
-    → filling_of c v ≡ insert_filling c k value place.parent.node place.leaf place.key place.value
-insert_fills v c k value place busy e =
-    filling_there v c (Insert k value) place busy e ∙ ap (insert_filling c k value place.parent.node place.leaf place.key) e.value
+-- and that of one that puts something
+pub put_fills : (v : View) (c : ℕ) (op : Op) (what : Put) (place : Place) → put_of op ≡ Some what → Does v op → EndsAt v place
+    → filling_of c v ≡ insert_filling c what.key what.value place.parent.node place.leaf place.key place.value
+put_fills v c op what place puts busy e =
+    filling_there v c op place busy e
+    ∙ (sym (put_filling op what puts c place.leaf (seen place.parent) (seen_any place.grandparent) place.key (told_value v.told))
+    ∙ ap (insert_filling c what.key what.value place.parent.node place.leaf place.key) e.value)
+
+-- where a search ended at a place that takes what an operation puts, a claim is wanted
+pub wants_put : (v : View) (op : Op) (what : Put) (place : Place) → put_of op ≡ Some what → EndsAt v place → TakesPut what place.key place.value
+    → Wants v op place.leaf place.key
+wants_put v (Find k) what place puts e takes = absurd cc
+wants_put v (Insert k value) what place puts e takes =
+    (subst (λ t. TakesPut t place.key place.value) (sym (same_Some (added k value) what puts)) takes, (place.value, e.value_told))
+wants_put v (Delete k) what place puts e takes = absurd cc
+wants_put v (Swap k was value) what place puts e takes =
+    let there = subst (λ t. TakesPut t place.key place.value) (sym (same_Some (replacing k was value) what puts)) takes in
+    (there.0, subst (λ n. IsTold v (Value place.leaf n)) there.1 e.value_told)
 
 -- what is stored of an insert's card is what it is to say
 stored_of_insert : (c k value : ℕ) (place : Place) (f : Field)

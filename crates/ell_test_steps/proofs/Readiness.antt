@@ -1,7 +1,7 @@
 use Rattle.std.proofs.Common.{◌≡◌, ℕ, ◌≤◌, ◌==◌, eq-eqb, eqb-true, Bool, true, false, true≢false, nat_le, if◌then◌else◌, List, [], ◌∷◌, Option, Some, None, Result, Ok, Err, is_ok, IfSome, MatchBool, refl, sym, ◌∙◌, ap, subst, inl, inr}
 use Rattle.std.specs.Bool.{then_some}
 use Rattle.ell_ops.specs.declared.op.Op.{Op}
-use Rattle.ell_ops.specs.declared.op.Op.TheVariants.{Insert, Delete}
+use Rattle.ell_ops.specs.declared.op.Op.TheVariants.{Delete}
 use Rattle.ell_ops.specs.Meaning.{key_of}
 use Rattle.ell_word.specs.declared.gate.Kind.{Kind}
 use Rattle.ell_word.specs.declared.gate.Kind.TheVariants as kind
@@ -16,7 +16,9 @@ use Rattle.ell_core.specs.declared.view.Search.{Search}
 use Rattle.ell_core.specs.declared.view.WorkerView.{WorkerView}
 use Rattle.std.proofs.lemmas.List.Elements.{All-replicate}
 use Rattle.ell_core.specs.state.Facts.{told_by_state}
-use Rattle.ell_core.specs.acts.Searching.{IsLeaf, leaf_answer}
+use Rattle.ell_core.specs.acts.Searching.{IsLeaf, leaf_answer, put_of}
+use Rattle.ell_core.specs.declared.put.Put.{Put}
+use Rattle.ell_core.specs.statements.Effects.{reply_of_change}
 use Rattle.ell_cards.specs.declared.view.View.{View}
 use Rattle.ell_cards.specs.declared.view.Told.TheVariants.{Value}
 use Rattle.ell_cards.specs.Models.{PassModel, TableModel, Steps, latest, IsTold, Knows}
@@ -34,7 +36,6 @@ use Rattle.ell_cards.proofs.views.Searches.{told_here}
 use Rattle.ell_test_steps.proofs.Asides.{mark_aside}
 use Rattle.ell_test_steps.proofs.Fittings.{fits_aside, fits_known, fits_root, fits_claimed, fits_flag_won, fits_flag_lost, facts_by_new}
 use Rattle.ell_ops.specs.declared.reply.Reply.{Reply}
-use Rattle.ell_ops.specs.declared.reply.Reply.TheVariants.{Yes}
 
 pub ready_aside : (t : TableModel) (a b : PassModel) (m : Remembered) → IsReady t a m → StepsAside a b → IsReady t b m
 ready_aside t a b m h s = record { own = s.table ∙ h.own; fits = fits_aside a b m h.fits s }
@@ -133,13 +134,14 @@ leaf_may a b d m op x key value k (Some said) h s s' busy at outer same e =
       });
     })
 
-pub may_iflag_by : (v : View) (m : Remembered) (k value l c : ℕ) (parent : Passed) → Fits v m → m.op ≡ Some (Insert k value) → m.node ≡ Some l
-    → m.parent ≡ Some parent → m.card ≡ Some c → m.flagged ≡ false → MayIFlag v c parent.node parent.update
-may_iflag_by v m k value l c parent h busy at behind holds unflagged = record {
-  key = k;
-  value = value;
+pub may_iflag_by : (v : View) (m : Remembered) (op : Op) (what : Put) (l c : ℕ) (parent : Passed) → Fits v m → m.op ≡ Some op → put_of op ≡ Some what
+    → m.node ≡ Some l → m.parent ≡ Some parent → m.card ≡ Some c → m.flagged ≡ false → MayIFlag v c parent.node parent.update
+may_iflag_by v m op what l c parent h busy puts at behind holds unflagged = record {
+  op = op;
+  what = what;
   leaf = l;
   busy = h.operation ∙ busy;
+  puts = puts;
   may = record { holds = h.card ∙ holds; unflagged = h.flagged ∙ unflagged };
   stands = ap (λ (z : Search). z.node) h.search ∙ at;
   behind = ap (λ (z : Search). z.parent) h.search ∙ ap seen_any behind;
@@ -234,11 +236,11 @@ ready_marked t a b m n c x w u (Err found) h s more =
 
 -- the answer by the card in hand, which is remembered over
 pub card_may : (v : View) (m : Remembered) (op is : Op) (c : ℕ) → op ≡ is → m.card ≡ Some c → m.flagged ≡ true → (KnowsAll v m.known → IsOver v is c) → Fits v m → m.op ≡ Some op
-    → MayAnswer v Yes
+    → MayAnswer v (reply_of_change is)
 card_may v m op is c same holds flagged over h busy = record {
   op = is;
   busy = h.operation ∙ (busy ∙ ap Some same);
-  answers = inr (record { card = c; holds = h.card ∙ holds; flagged = h.flagged ∙ flagged; over = over h.knows; yes = refl });
+  answers = inr (record { card = c; holds = h.card ∙ holds; flagged = h.flagged ∙ flagged; over = over h.knows; says = refl });
 }
 
 -- a pass with nothing in hand fits where nothing is remembered

@@ -1,7 +1,8 @@
 //! The acts by which an operation takes a card and sets its flag, each where what it needs is remembered.
 ghost use Rattle.std.specs.Prelude.{◌≡◌, is_ok, IfSome, Some};
-ghost use Rattle.ell_ops.specs.declared.op.Op.TheVariants.{Insert, Delete};
+ghost use Rattle.ell_ops.specs.declared.op.Op.TheVariants.{Delete};
 ghost use Rattle.ell_word.specs.declared.update.State.TheVariants.{Clean};
+ghost use Rattle.ell_core.specs.acts.Searching.{put_of};
 ghost use Rattle.ell_test_steps.specs.Claims.{ClaimsAt};
 ghost use Rattle.ell_test_steps.specs.Fitting.{IsReady, ended_search};
 ghost use Rattle.ell_test_steps.specs.Remembering.{KnowsAny, Learns, flag_tells};
@@ -9,7 +10,7 @@ ghost use Rattle.ell_test_steps.specs.Remembering.{KnowsAny, Learns, flag_tells}
 use crate::filling::{Place, fill_delete, fill_insert, take_card};
 use crate::memory::{Passed, Remembered, fact_of, remember};
 use ell_cards::{CardTable, Pass};
-use ell_core::{Fact, Stepped};
+use ell_core::{Fact, Put, Stepped};
 use ell_ops::Op;
 use ell_word::{CARD_MAX, State, Update, is_internal};
 use std::alloc::Allocator;
@@ -42,29 +43,29 @@ pub(crate) fn claim<A: Allocator + Copy>(
         grandparent: memory.grandparent,
     };
     match op {
-        Op::Find(_) => None,
-        Op::Insert(key, value) => claim_for_insert(table, pass, memory, key, value, place),
         Op::Delete(key) => claim_for_delete(table, pass, memory, key, place),
+        _ => claim_for_put(table, pass, memory, op, Put::of(op)?, place),
     }
 }
 
-fn claim_for_insert<A: Allocator + Copy>(
+fn claim_for_put<A: Allocator + Copy>(
     table: &CardTable<A>,
     pass: &mut Pass<A>,
     memory: &mut Remembered,
-    key: u64,
-    value: u64,
+    op: Op,
+    what: Put,
     place: Place,
 ) -> Option<Stepped>
     requires ready { IsReady table.now pass.old memory.old }
-    requires at { ClaimsAt pass.old.view (Insert key value) place }
+    requires puts { put_of op ≡ Some what }
+    requires at { ClaimsAt pass.old.view op place }
     ensures { IsReady table.now pass.new memory.new }
 {
-    if place.key == key {
+    if !what.may_replace(place.key, place.value) {
         return None;
     }
-    let card = take_card(table, pass, Op::Insert(key, value), place)?;
-    fill_insert(table, pass, card, key, value, place);
+    let card = take_card(table, pass, op, place)?;
+    fill_insert(table, pass, card, what.key, what.value, place);
     memory.card = Some(card);
     memory.flagged = false;
     Some(Stepped::Moved)
@@ -126,7 +127,7 @@ fn end_search(memory: &mut Remembered, flag: Result<(), Update>, new: Fact) -> S
     }
 }
 
-/// Flags the parent for the insert whose card is in hand.
+/// Flags the parent for the insert or swap whose card is in hand.
 pub(crate) fn iflag<A: Allocator + Copy>(
     table: &CardTable<A>,
     pass: &mut Pass<A>,
@@ -136,9 +137,7 @@ pub(crate) fn iflag<A: Allocator + Copy>(
     ensures { IsReady table.now pass.new memory.new }
 {
     let op = memory.op?;
-    let Op::Insert(_, _) = op else {
-        return None;
-    };
+    let _ = Put::of(op)?;
     let _ = memory.node?;
     let parent = memory.parent?;
     let card = memory.card?;

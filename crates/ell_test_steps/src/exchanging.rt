@@ -9,7 +9,7 @@ use crate::helping::{change_child, clear_delete, clear_insert, cut_parent, go_ba
 use crate::memory::{Remembered, fact_of, remember, remembers};
 use ell_cards::{CardTable, Pass};
 use ell_core::{Fact, Field, Stepped};
-use ell_word::{State, Update};
+use ell_word::{CARD_MAX, State, Update};
 use std::alloc::Allocator;
 
 // An exchange that was won or lost.
@@ -17,7 +17,7 @@ fn won_or_lost(won: bool) -> Stepped {
     if won { Stepped::Won } else { Stepped::Lost }
 }
 
-/// Makes the child exchange of an insert.
+/// Makes the child exchange of an insert or a swap.
 pub(crate) fn ichild<A: Allocator + Copy>(
     table: &CardTable<A>,
     pass: &mut Pass<A>,
@@ -27,7 +27,7 @@ pub(crate) fn ichild<A: Allocator + Copy>(
     requires { IsReady table.now pass.old memory.old }
     ensures { IsReady table.now pass.new memory.new }
 {
-    if !remembers(memory, Fact::IFlagged(card)) {
+    if card > CARD_MAX || !remembers(memory, Fact::IFlagged(card)) {
         return None;
     }
     let won = change_child(table, pass, card);
@@ -35,7 +35,7 @@ pub(crate) fn ichild<A: Allocator + Copy>(
     Some(won_or_lost(won))
 }
 
-/// Takes an insert's flag away.
+/// Takes an insert's or a swap's flag away.
 pub(crate) fn iunflag<A: Allocator + Copy>(
     table: &CardTable<A>,
     pass: &mut Pass<A>,

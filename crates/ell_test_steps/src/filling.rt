@@ -53,7 +53,7 @@ pub(crate) fn take_card<A: Allocator + Copy>(
     Some(card)
 }
 
-/// Fills the card of an insert of a key with its value at a place.
+/// Fills the card of an insert or swap that puts a key with its value at a place.
 pub(crate) fn fill_insert<A: Allocator + Copy>(
     table: &CardTable<A>,
     pass: &mut Pass<A>,

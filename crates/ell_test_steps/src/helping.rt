@@ -1,17 +1,18 @@
 //! Steps beside the search that exchange, each by the words of a card that the pass reads first.
 #![tactic(auto, using(crate::proofs::Asides::asides))]
 
-ghost use Rattle.std.specs.Prelude.{◌≡◌};
+ghost use Rattle.std.specs.Prelude.{◌≡◌, ◌≤◌};
+ghost use Rattle.ell_word.specs.Node.{greatest_card};
 ghost use Rattle.ell_core.specs.declared.fact.Fact.TheVariants as fact;
 ghost use Rattle.ell_cards.specs.Models.{Knows, KnowsCard};
 ghost use Rattle.ell_test_steps.specs.Fitting.{StepsAside};
 
 use crate::asking::{look_info, look_key, look_sibling};
 use ell_cards::{CardTable, Pass};
-use ell_core::Field;
+use ell_core::{Field, brought_node};
 use std::alloc::Allocator;
 
-/// Makes the child exchange of an insert's card: whether it won.
+/// Makes the child exchange of an insert's or a swap's card: whether it won. Condition: the card is at most `CARD_MAX`.
 pub(crate) fn change_child<A: Allocator + Copy>(
     table: &CardTable<A>,
     pass: &mut Pass<A>,
@@ -19,18 +20,21 @@ pub(crate) fn change_child<A: Allocator + Copy>(
 ) -> bool
     requires own { pass.old.table ≡ table.now.id }
     requires knows { Knows pass.old.view (fact.IFlagged card) }
+    requires limit { card ≤ greatest_card }
     ensures aside { StepsAside pass.old pass.new }
     ensures learns { Knows pass.new.view (fact.IChanged card) }
 {
     let parent = look_info(table, pass, card, Field::P);
     let leaf = look_info(table, pass, card, Field::L);
     let card_key = look_info(table, pass, card, Field::Key);
+    let left_key = look_info(table, pass, card, Field::LeftLeafKey);
     let parent_key = look_key(table, pass, parent);
+    let node = brought_node(card, left_key, card_key);
     let right = parent_key <= card_key;
-    table.ichild(pass, card, parent, leaf, right).is_ok()
+    table.ichild(pass, card, parent, leaf, node, right).is_ok()
 }
 
-/// Takes an insert's flag away: whether it won.
+/// Takes an insert's or a swap's flag away: whether it won.
 pub(crate) fn clear_insert<A: Allocator + Copy>(
     table: &CardTable<A>,
     pass: &mut Pass<A>,

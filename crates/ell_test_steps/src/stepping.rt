@@ -217,6 +217,7 @@ fn card_said(memory: &Remembered, op: Op) -> Option<Reply>
     match op {
         Op::Insert(_, _) if remembers(memory, Fact::IOver(card)) => Some(Reply::Yes),
         Op::Delete(_) if remembers(memory, Fact::DOver(card)) => Some(Reply::Yes),
+        Op::Swap(_, was, _) if remembers(memory, Fact::IOver(card)) => Some(Reply::Found(was)),
         _ => None,
     }
 }

@@ -23,7 +23,7 @@ pub(crate) enum LineFault {
     BadValue,
 }
 
-/// What an operation does, without its key.
+/// What an operation of a text does, without its key. No text has a swap.
 #[derive(Clone, Copy)]
 pub(crate) enum OpKind {
     Find,

@@ -1,7 +1,7 @@
 use Rattle.std.proofs.Common.{None, ◌≡◌}
 use Rattle.ell_test_steps.specs.Claims.{insert_stores}
 use Rattle.ell_test_steps.proofs.Readiness.{ready_aside, ready_claimed}
-use Rattle.ell_test_steps.proofs.claiming.claim_for_insert.Goals as goal
+use Rattle.ell_test_steps.proofs.claiming.claim_for_put.Goals as goal
 
 pub returns-in_err-card : goal.returns-in_err-card
 returns-in_err-card g c =
@@ -11,5 +11,5 @@ returns-in_err-card g c =
 pub returns : goal.returns
 returns g c =
     ready_claimed c.args.table.now c.args.pass.now c.take_card.new.pass c.fill_insert.new.pass c.args.memory.now c.in_ok-card.card
-    (insert_stores c.in_ok-card.card c.args.key c.args.value c.args.place) c.requires.ready c.take_card.ensures.own c.fill_insert.ensures.own
+    (insert_stores c.in_ok-card.card c.args.what.key c.args.what.value c.args.place) c.requires.ready c.take_card.ensures.own c.fill_insert.ensures.own
     c.in_ok-card.ensures.taken c.fill_insert.ensures.view c.fill_insert.ensures.filled
