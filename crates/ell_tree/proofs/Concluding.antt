@@ -1,19 +1,22 @@
 use Rattle.std.proofs.Common.{◌≡◌, ◌≢◌, ◌≤◌, ℕ, ◌==◌, if◌then◌else◌, Bool, true, false, not, Option, Some, None, is_some, inl, inr, refl, sym, ap, ◌∙◌, subst, arith}
-use Rattle.std.proofs.lemmas.Bool.{ne_eqb}
+use Rattle.std.proofs.lemmas.Bool.{ne_eqb, eq-eqb, false≢true}
+use Rattle.std.proofs.Common.{eqb}
+use Rattle.std.specs.Option.{option_eq}
 use Rattle.ell_ops.specs.declared.op.Op.{Op}
 use Rattle.ell_ops.specs.declared.op.Op.TheVariants.{Find, Insert, Swap}
 use Rattle.ell_ops.specs.declared.reply.Reply.{Reply}
-use Rattle.ell_ops.specs.declared.reply.Reply.TheVariants.{No, Found}
+use Rattle.ell_ops.specs.declared.reply.Reply.TheVariants.{No, Yes, Found}
 use Rattle.ell_ops.specs.Contents.{Contents}
 use Rattle.ell_ops.specs.Meaning.{key_of, reply_of, after, found, yes_if}
-use Rattle.ell_core.specs.state.Machine.{ledger_of}
+use Rattle.ell_core.specs.state.Machine.{ledger_of, shared_of}
 use Rattle.ell_core.specs.statements.Effects.{contents_in}
 use Rattle.ell_core.proofs.outcomes.Decide.{cases_option, some_not_none}
 use Rattle.ell_core.proofs.following.AnswerMeaning.{key_kept, swap_lacked, swap_other}
 use Rattle.ell_cards.specs.Models.{PassModel, ledger}
 use Rattle.ell_tree.specs.Ledgers.{TreeModel, present_in, Owns, IsIdle, answers}
 use Rattle.ell_tree.specs.Ends.{Answers, LaidDown}
-use Rattle.ell_tree.specs.Computing.{IsUntouched, Concludes, ReadsValue}
+use Rattle.ell_tree.specs.Computing.{IsUntouched, Concludes, LastChangesNothing, ReadsValue, put_by}
+use Rattle.ell_tree.specs.Promises.{MayDo}
 use Rattle.ell_tree.proofs.Keeping.{share_trans}
 
 -- an operation that leaves what a pass has, if the key is its own
@@ -150,3 +153,57 @@ reads_leave t key was p q (inr h) =
     reads_keep t (Swap key h.0 h.1) (found was) p q
     (λ owns k. left_by (present_in p) key h.0 h.1 (present_in p key) refl
     (λ e. h.2 (found_one was (present_in p key) (h.3.says owns) ∙ e)) k) h.3
+
+-- a pass is as it is
+pub untouched_self : (p : PassModel) → IsIdle p → IsUntouched p p
+untouched_self p idle = record {
+  table = refl;
+  label = refl;
+  map = λ key. refl;
+  owned = λ key. (λ owns. owns, λ owns. owns);
+  answered = omega arith;
+  share = record { share = refl; ownable = refl };
+  idle = idle;
+}
+
+-- where an insert of an own key answers no, the key was there
+is_there : (o : Option ℕ) → No ≡ yes_if (not (is_some o)) → o ≢ None
+is_there None says e = absurd cc
+is_there (Some had) says e = absurd cc
+
+pub not_there : (t : TreeModel) (key value : ℕ) (p q : PassModel) → Answers t (Insert key value) No p q → Owns p key → present_in p key ≢ None
+not_there t key value p q h owns = is_there (present_in p key) (h.says owns)
+
+-- a test that finds an option to be no certain value
+pub not_one : (o : Option ℕ) (was : ℕ) → option_eq eqb o (Some was) ≡ false → o ≢ Some was
+not_one o was test e = false≢true (sym test ∙ (ap (λ a. option_eq eqb a (Some was)) e ∙ eq-eqb was was refl))
+
+-- what a pass may change it still may
+pub may_still : (t : TreeModel) (key : ℕ) (p q : PassModel) → IsUntouched p q → MayDo t key p → MayDo t key q
+may_still t key p q g h = record {
+  own = g.table ∙ h.own;
+  idle = g.idle;
+  may = elim h.may [
+    | inl owns ↦ inl ((g.owned key).1 owns)
+    | inr shared ↦ inr (ap (λ o. shared_of o key) g.share.ownable ∙ shared)
+  ];
+}
+
+-- a find is no change's answer, and neither is what a swap finds that is not its first value
+found_not_yes : (o : Option ℕ) → found o ≢ Yes
+found_not_yes None e = absurd cc
+found_not_yes (Some v) e = absurd cc
+
+pub reads_last : (t : TreeModel) (key : ℕ) (was : Option ℕ) (p q : PassModel) → ReadsValue t key was p q → LastChangesNothing t key q.view
+reads_last t key was p q (inl h) =
+    record { op = Find key; on = refl; nothing = inr (found was, found_not_yes was, h.point) }
+reads_last t key was p q (inr h) =
+    record { op = Swap key h.0 h.1; on = refl; nothing = inr (found was, λ e. h.2 (found_one was (Some h.0) e), h.3.point) }
+
+-- what puts a value at a key is on that key
+pub put_on : (key value : ℕ) (was : Option ℕ) → key_of (put_by key value was) ≡ key
+put_on key value None = refl
+put_on key value (Some was) = refl
+
+pub laid_last : (t : TreeModel) (key value : ℕ) (was : Option ℕ) (p q : PassModel) → LaidDown t (put_by key value was) p q → LastChangesNothing t key q.view
+laid_last t key value was p q h = record { op = put_by key value was; on = put_on key value was; nothing = inl h.nothing }

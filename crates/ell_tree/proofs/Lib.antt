@@ -40,3 +40,5 @@ pub mod Moving
 pub mod Putting
 -- calls that are made of several operations
 pub mod Concluding
+-- the steps of the rounds of such a call
+pub mod Rounds

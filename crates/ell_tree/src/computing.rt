@@ -68,6 +68,7 @@ pub(crate) fn compute<A: Allocator + Copy, G: StepGate, F: Fn(Option<u64>) -> Op
         }
     }
     if made.is_some() {
+        table.claims_stay_inside(pass);
         return Err(Held::Busy);
     }
     Ok(Computed { was, made })

@@ -1,9 +1,11 @@
 //! Laws of the tree's bounds. Each is the contract of a function that does nothing.
+ghost use Rattle.ell_tree.specs.Computing.{UpdatesAreShort};
 ghost use Rattle.ell_tree.specs.Ends.{ChangesAreShort, FindsAreShort};
 
 /// With the number of the last card `c` and so many tries `t`, the bound on the steps of a find is at most `64 * (c + 2)`, and that of an
-/// insert or a delete at most `64 * (t + 1) * (c + 2)`.
+/// insert, a delete, a swap, a put or an update at most `64 * (t + 1) * (c + 2)`.
 pub fn bounds_in_short()
     ensures find { FindsAreShort }
     ensures change { ChangesAreShort }
+    ensures update { UpdatesAreShort }
 {}

@@ -12,8 +12,9 @@ ghost use Rattle.ell_cards.specs.Models.{IsCardCount, MayPart, Refuses, SplitRef
 ghost use Rattle.ell_tree.specs.CardsLeft.{AreLeftAtMost, ReadsCardsLeft};
 ghost use Rattle.ell_tree.specs.CardsTaken.{TakesNoCard};
 ghost use Rattle.ell_tree.specs.Closing.{ClosesTo};
+ghost use Rattle.ell_tree.specs.Computing.{HoldsBack, IsSum, PutsValue, UpdatesValue, update_steps, whether_put};
 ghost use Rattle.ell_tree.specs.Counts.{Took};
-ghost use Rattle.ell_tree.specs.Ends.{Answers, Ends, TakesValue, find_steps, found_or_held, replied, whether, whether_swapped};
+ghost use Rattle.ell_tree.specs.Ends.{Answers, CountsTries, Ends, TakesValue, find_steps, found_or_held, replied, whether, whether_swapped};
 ghost use Rattle.ell_tree.specs.Moves.{moves_known};
 ghost use Rattle.ell_tree.specs.declared.operations.Held.TheVariants.{Busy};
 ghost use Rattle.ell_tree.specs.Ledgers.{IsIdlePassOf, Owns, TreeModel, present_in};
@@ -21,6 +22,7 @@ ghost use Rattle.ell_tree.specs.Looks.{IsFoundIn, OnlyLooks, look_steps};
 ghost use Rattle.ell_tree.specs.PassParts.{IsFirst, IsLeftPart, IsRightPart, IsUnion};
 ghost use Rattle.ell_tree.specs.Promises.{IsOthersDoing, IsQuiet, IsWithin, MayDo, SpendsCards};
 
+use crate::computing::compute;
 use crate::operations::{Held, change, find};
 use crate::reading::{cards_left, look};
 use ell_cards::{CardFault, CardTable, Pass, SplitFault};
@@ -286,6 +288,90 @@ impl<A: Allocator + Copy> Tree<A> {
         ensures enough { 2 * self.now.plan.last_card < tries → result ≢ Err Busy }
     {
         Ok(change(&self.table, pass, Op::Swap(key, was, value), tries, gate)?)
+    }
+
+    /// Gives a key of the pass, or a shared one, this value, whether it was present or not, in one atomic step: the value that it had, if it was
+    /// present. It reads the key, and then makes at least one try and at most `tries`. A try ends without success if something was in its way,
+    /// as for `insert`, or if another pass has changed the key since it was read, which is then read anew. `Busy` comes if all tries end so, and
+    /// `Spent` if a try finds all cards given out: after either the call has changed nothing, and nothing of it is under way.
+    ///
+    /// A call takes at most `3 * cards + 7` steps, and `10 * cards + 35` more for each try, where `cards` is the number of the last card. Of a
+    /// key of the pass no other pass changes anything, so that with more than `2 * cards` tries it is never `Busy`; of a shared key each try that
+    /// finds it changed is the success of another call. A call that ends takes one card, and at most one more for each try that something
+    /// hindered.
+    pub fn put<G: StepGate>(
+        &self,
+        pass: &mut Pass<A>,
+        key: u64,
+        value: u64,
+        tries: u32,
+        gate: &G,
+    ) -> Result<Option<u64>, Held>
+        requires may { MayDo self.now key pass.old }
+        requires tries { 1 ≤ tries }
+        ensures puts { IfOk result (PutsValue self.now key value pass.old pass.new) }
+        ensures held { IfErr result (HoldsBack self.now key pass.old pass.new) }
+        ensures others { Owns pass.old key → result ≡ Err Busy → IsOthersDoing self.now tries pass.old pass.new }
+        ensures steps { Took pass.old pass.new (update_steps self.now.plan.last_card tries) }
+        ensures counted { CountsTries tries pass.old pass.new }
+        ensures cards { SpendsCards key tries pass.old pass.new (whether_put result) }
+        ensures enough { Owns pass.old key → 2 * self.now.plan.last_card < tries → result ≢ Err Busy }
+    {
+        let done = compute(&self.table, pass, key, |_| Some(value), tries, gate)?;
+        Ok(done.was)
+    }
+
+    /// Gives a key of the pass, or a shared one, the value that `f` makes of the one that it has, in one atomic step: the value that it had. A key
+    /// that is absent is left so. `f` is called anew for each value that is found; no other value has been there between the one that it was
+    /// called with last and what it made of that. Tries, steps, cards and errors are as of `put`.
+    pub fn update<G: StepGate, F: Fn(u64) -> u64>(
+        &self,
+        pass: &mut Pass<A>,
+        key: u64,
+        f: F,
+        tries: u32,
+        gate: &G,
+    ) -> Result<Option<u64>, Held>
+        requires may { MayDo self.now key pass.old }
+        requires tries { 1 ≤ tries }
+        requires f { F.IsAlwaysCallable f }
+        ensures updates { IfOk result (UpdatesValue self.now key (F.post f) pass.old pass.new) }
+        ensures held { IfErr result (HoldsBack self.now key pass.old pass.new) }
+        ensures others { Owns pass.old key → result ≡ Err Busy → IsOthersDoing self.now tries pass.old pass.new }
+        ensures steps { Took pass.old pass.new (update_steps self.now.plan.last_card tries) }
+        ensures counted { CountsTries tries pass.old pass.new }
+        ensures cards { SpendsCards key tries pass.old pass.new (whether result) }
+        ensures enough { Owns pass.old key → 2 * self.now.plan.last_card < tries → result ≢ Err Busy }
+    {
+        let made = |there: Option<u64>| match there {
+            Some(value) => Some(f(value)),
+            None => None,
+        };
+        let done = compute(&self.table, pass, key, made, tries, gate)?;
+        Ok(done.was)
+    }
+
+    /// Adds to the value of a key of the pass, or of a shared one, in one atomic step: the value that it had. A sum past the greatest number of
+    /// 64 bits starts again at 0. A key that is absent is left so. Tries, steps, cards and errors are as of `put`.
+    pub fn fetch_add<G: StepGate>(
+        &self,
+        pass: &mut Pass<A>,
+        key: u64,
+        addend: u64,
+        tries: u32,
+        gate: &G,
+    ) -> Result<Option<u64>, Held>
+        requires may { MayDo self.now key pass.old }
+        requires tries { 1 ≤ tries }
+        ensures adds { IfOk result (UpdatesValue self.now key (IsSum addend) pass.old pass.new) }
+        ensures held { IfErr result (HoldsBack self.now key pass.old pass.new) }
+        ensures others { Owns pass.old key → result ≡ Err Busy → IsOthersDoing self.now tries pass.old pass.new }
+        ensures steps { Took pass.old pass.new (update_steps self.now.plan.last_card tries) }
+        ensures counted { CountsTries tries pass.old pass.new }
+        ensures cards { SpendsCards key tries pass.old pass.new (whether result) }
+        ensures enough { Owns pass.old key → 2 * self.now.plan.last_card < tries → result ≢ Err Busy }
+    {
+        self.update(pass, key, |value: u64| value.wrapping_add(addend), tries, gate)
     }
 
     /// Takes a key of the pass, or a shared one, away, with its value: whether it was present. Tries, steps, cards and errors are as of `insert`.

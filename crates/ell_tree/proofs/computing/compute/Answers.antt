@@ -1,0 +1,163 @@
+use Rattle.std.proofs.Common.{rules, ◌≡◌, ◌≢◌, ◌<◌, ◌≤◌, ◌*◌, ◌+◌, None, Some, Ok, Err, ℕ, Option, inl, refl, sym, ap, ◌∙◌, subst, arith, is_some}
+use Rattle.ell_ops.specs.declared.op.Op.TheVariants.{Find}
+use Rattle.ell_ops.specs.Meaning.{found}
+use Rattle.ell_core.specs.statements.Effects.{reply_of_change}
+use Rattle.ell_cards.proofs.runs.Tries.{more_tries}
+use Rattle.ell_tree.specs.Computing.{IsUntouched, ReadsValue, put_by, round_steps}
+use Rattle.ell_tree.specs.Ends.{Answers, LaidDown, find_steps}
+use Rattle.ell_tree.specs.Ledgers.{Owns, present_in}
+use Rattle.ell_tree.specs.Promises.{IsOthersDoing}
+use Rattle.ell_tree.specs.CardsTaken.{TakesByHindered}
+use Rattle.ell_core.proofs.outcomes.Decide.{some_not_none}
+use Rattle.ell_tree.proofs.Concluding.{untouched_by, untouched_laid, untouched_self, untouched_trans, concludes, find_leaves, reads_own, reads_after, reads_last, laid_last, may_still}
+use Rattle.ell_tree.proofs.Counting.{took_within, took_trans}
+use Rattle.ell_tree.proofs.Moving.{moves_most}
+use Rattle.ell_tree.proofs.Rounds.{rounds_within, one_round_more, spends_none, by_rounds, not_some}
+use Rattle.ell_tree.proofs.computing.compute.Goals as goal
+use Rattle.ell_tree.proofs.computing.compute.Goals.{in-Ok-Lost, in-Err-Busy}
+
+pub loop-round-init : goal.loop-round-init
+loop-round-init g c =
+    let t = c.args.table.now in
+    let key = c.args.key in
+    let old = c.args.pass.now in
+    let new = c.find-was.new.pass in
+    let was = c.find-was.result in
+    let finds = c.find-was.ensures in
+    let left = untouched_by t (Find key) (found was) old new (find_leaves key old) finds.answers in
+    let reads : ReadsValue t key was old new =
+    inl (concludes t (Find key) (found was) old old new (untouched_self old c.requires.may.idle) finds.answers) in
+    record {
+      same = (refl, refl, refl, refl);
+      may = may_still t key old new left c.requires.may;
+      untouched = left;
+      reads = λ none. reads;
+      makes = search rules;
+      own = reads_own t key was old new reads;
+      last = λ some. absurd (omega arith);
+      took = took_within old new (find_steps t.plan.last_card) _ finds.steps (omega arith);
+      counted = record { least = omega (arith, finds.quiet.hindered); most = omega (arith, finds.quiet.hindered) };
+      hindered = λ owns. omega (arith, finds.quiet.hindered);
+      moved = λ owns. omega (arith, finds.quiet.moved);
+      tried = λ owns some. absurd (omega arith);
+      cards = record { least = omega (arith, finds.cards); most = omega (arith, finds.cards) };
+      few = omega (arith, finds.cards, finds.quiet.hindered);
+    }
+
+-- another pass had changed the key, which is not the pass's own: what is there now was read
+pub loop-round-preserved : goal.loop-round-preserved
+loop-round-preserved g c = elim c.match-replace.branch [
+  | in-Ok-Lost w ↦
+      let t = c.args.table.now in
+      let key = c.args.key in
+      let cards = t.plan.last_card in
+      let old = c.args.pass.now in
+      let l = c.loop-round in
+      let i = l.invariant in
+      let new = c.replace.new.pass in
+      let there = c.match-replace.was in
+      let lost : IsUntouched l.pass new × ReadsValue t key there l.pass new × (Owns l.pass key → present_in l.pass key ≢ l.was) = rw w.was-is (search rules) in
+      let reads = reads_after t key there old l.pass new i.untouched lost.1 in
+      let kept = untouched_trans old l.pass new i.untouched lost.0 in
+      let apart : ¬ Owns old key = λ owns. lost.2 ((i.untouched.owned key).1 owns) (i.untouched.map key ∙ i.own owns) in
+      let spends = c.replace.ensures.cards in
+      let counts = c.replace.ensures.counted in
+      let each : TakesByHindered l.pass new = search rules in
+      record {
+        same = (refl, refl, refl, refl);
+        may = may_still t key old new kept c.requires.may;
+        untouched = kept;
+        reads = λ none. reads;
+        makes = rw (w.was-is, w.made-is) w.make-made-in-Ok-Lost.ensures;
+        own = λ owns. absurd (apart owns);
+        last = λ some made. reads_last t key there old new reads;
+        took = took_trans old l.pass new (find_steps cards + l._round * round_steps cards) (round_steps cards) _ i.took c.replace.ensures.steps (one_round_more cards l._round);
+        counted = record { least = omega (arith, counts.least, i.counted.least); most = omega (arith, counts.most, i.counted.most) };
+        hindered = λ owns. absurd (apart owns);
+        moved = λ owns. absurd (apart owns);
+        tried = λ owns. absurd (apart owns);
+        cards = record { least = omega (arith, spends.most.least, i.cards.least); most = omega (arith, spends.most.most, i.cards.most) };
+        few = omega (arith, each, i.few);
+      }
+  | in-Err-Busy w ↦
+      let t = c.args.table.now in
+      let key = c.args.key in
+      let cards = t.plan.last_card in
+      let old = c.args.pass.now in
+      let l = c.loop-round in
+      let i = l.invariant in
+      let new = c.replace.new.pass in
+      let op = put_by key c.in-Some.value l.was in
+      let laid : LaidDown t op l.pass new = search rules in
+      let others : IsOthersDoing t 1 l.pass new = c.replace.ensures.others (search rules) in
+      let kept = untouched_trans old l.pass new i.untouched (untouched_laid t op l.pass new laid) in
+      let some : c.match-replace.made ≢ None = λ none. some_not_none w.made-is none in
+      let spends = c.replace.ensures.cards in
+      let counts = c.replace.ensures.counted in
+      let each : TakesByHindered l.pass new = search rules in
+      record {
+        same = (refl, refl, refl, refl);
+        may = may_still t key old new kept c.requires.may;
+        untouched = kept;
+        reads = λ none. absurd (some none);
+        makes = rw (w.was-is, w.made-is, ← c.in-Some.is) i.makes;
+        own = λ owns. i.own owns ∙ sym w.was-is;
+        last = λ more made. laid_last t key c.in-Some.value l.was l.pass new laid;
+        took = took_trans old l.pass new (find_steps cards + l._round * round_steps cards) (round_steps cards) _ i.took c.replace.ensures.steps (one_round_more cards l._round);
+        counted = record { least = omega (arith, counts.least, i.counted.least); most = omega (arith, counts.most, i.counted.most) };
+        hindered = λ owns. omega (arith, others.each, i.hindered owns);
+        moved = λ owns. omega (arith, others.moved, i.moved owns);
+        tried = λ owns more. some;
+        cards = record { least = omega (arith, spends.most.least, i.cards.least); most = omega (arith, spends.most.most, i.cards.most) };
+        few = omega (arith, each, i.few);
+      }
+]
+
+-- it is there now
+pub returns-in-Ok-Done-clause-computes : goal.returns-in-Ok-Done-clause-computes
+returns-in-Ok-Done-clause-computes g c =
+    let l = c.loop-round in
+    let op = put_by c.args.key c.in-Some.value l.was in
+    concludes c.args.table.now op (reply_of_change op) c.args.pass.now l.pass c.replace.new.pass l.invariant.untouched (search rules)
+
+pub returns-in-Ok-Done-clause-steps : goal.returns-in-Ok-Done-clause-steps
+returns-in-Ok-Done-clause-steps g c =
+    let l = c.loop-round in
+    let cards = c.args.table.now.plan.last_card in
+    took_trans c.args.pass.now l.pass c.replace.new.pass (find_steps cards + l._round * round_steps cards) (round_steps cards) _ l.invariant.took
+    c.replace.ensures.steps (rounds_within cards l._round c.args.tries c.loop-round-test.true)
+
+-- what was found last is to stay as it is
+pub returns-in_default-clause-cards : goal.returns-in_default-clause-cards
+returns-in_default-clause-cards g c =
+    let i = c.loop-round.invariant in
+    spends_none c.args.key c.args.tries c.loop-round._round c.args.pass.now c.loop-round.pass c.loop-round.made i.cards i.few
+    (omega (arith, c.loop-round-test.true)) (search rules) (λ owns. by_rounds c.loop-round._round (i.tried owns) (search rules))
+
+pub returns-clause-cards : goal.returns-clause-cards
+returns-clause-cards g c =
+    let i = c.loop-round.invariant in
+    let none : c.loop-round.made ≡ None = not_some c.loop-round.made (sym c.is_some.ensures ∙ c.if-is_some.false) in
+    spends_none c.args.key c.args.tries c.loop-round._round c.args.pass.now c.loop-round.pass c.loop-round.made i.cards i.few
+    (omega (arith, c.loop-round.auto._round-end)) none (λ owns. by_rounds c.loop-round._round (i.tried owns) none)
+
+-- all tries were hindered
+pub returns-then-is_some-clause-others : goal.returns-then-is_some-clause-others
+returns-then-is_some-clause-others g c = λ owns held.
+    let t = c.args.table.now in
+    let l = c.loop-round in
+    let all : l._round ≡ c.args.tries = omega (arith, c.loop-round-test.false, l.auto._round-end) in
+    let each : l.pass.view.hindered ≡ c.args.pass.now.view.hindered + c.args.tries = omega (arith, all, l.invariant.hindered owns) in
+    record {
+      each = each;
+      moved = omega (arith, all, l.invariant.moved owns);
+      by_others = more_tries t.plan c.args.pass.now.view.hindered l.pass.view c.args.tries each;
+    }
+
+pub returns-then-is_some-clause-enough : goal.returns-then-is_some-clause-enough
+returns-then-is_some-clause-enough g c = λ owns many held.
+    let l = c.loop-round in
+    let cards = c.args.table.now.plan.last_card in
+    let all : l._round ≡ c.args.tries = omega (arith, c.loop-round-test.false, l.auto._round-end) in
+    let most = moves_most cards l.pass.view c.claims_stay_inside.ensures in
+    omega (arith, many, most, all, l.invariant.moved owns)

@@ -1,0 +1,29 @@
+use Rattle.std.proofs.Common.{◌≡◌, ◌≢◌, ◌≤◌, ◌*◌, ◌+◌, None}
+use Rattle.ell_tree.specs.CardsTaken.{TakesAtMost, TakesByHindered}
+use Rattle.ell_tree.specs.Computing.{IsUntouched, LastChangesNothing, ReadsValue, round_steps}
+use Rattle.ell_tree.specs.Counts.{Took}
+use Rattle.ell_tree.specs.Ends.{CountsTries, find_steps}
+use Rattle.ell_tree.specs.Ledgers.{Owns, present_in}
+use Rattle.ell_tree.specs.Moves.{moves_known}
+use Rattle.ell_tree.specs.Promises.{MayDo}
+use Rattle.ell_tree.proofs.computing.compute.Given as goal
+
+-- each try so far was hindered, or another pass had changed the key; what was found last is there, and what is to become of it was made of it
+abbrev pub invariant-loop-round : goal.invariant-loop-round
+invariant-loop-round g l = record {
+  same : (l.key ≡ l.fn.key) × (l.table ≡ l.fn.table) × (l.tries ≡ l.fn.tries) × (l.make ≡ l.fn.make);
+  may : MayDo l.table l.key l.pass;
+  untouched : IsUntouched l.fn.pass l.pass;
+  reads : l.made ≡ None → ReadsValue l.fn.table l.fn.key l.was l.fn.pass l.pass;
+  makes : goal.F-post g l.fn.make l.was l.made;
+  own : Owns l.fn.pass l.fn.key → present_in l.fn.pass l.fn.key ≡ l.was;
+  last : 1 ≤ l._round → l.made ≢ None → LastChangesNothing l.fn.table l.fn.key l.pass.view;
+  took : Took l.fn.pass l.pass (find_steps l.fn.table.plan.last_card + l._round * round_steps l.fn.table.plan.last_card);
+  counted : CountsTries l._round l.fn.pass l.pass;
+  hindered : Owns l.fn.pass l.fn.key → l.pass.view.hindered ≡ l.fn.pass.view.hindered + l._round;
+  moved : Owns l.fn.pass l.fn.key
+      → moves_known l.fn.table.plan.last_card l.fn.pass.view + l._round ≤ moves_known l.fn.table.plan.last_card l.pass.view;
+  tried : Owns l.fn.pass l.fn.key → 1 ≤ l._round → l.made ≢ None;
+  cards : TakesAtMost l._round l.fn.pass l.pass;
+  few : TakesByHindered l.fn.pass l.pass;
+}
