@@ -38,7 +38,7 @@ pub enum Call {
     Fill(u64, Field, u64),
     /// Flags the parent for an insert: card, parent, the update that was read there.
     IFlag(u64, u64, Update),
-    /// Exchanges a child for an insert or a swap: card, parent, leaf, the node that the card brings, side.
+    /// Exchanges a child for an insert, which adds a leaf or replaces one: card, parent, leaf, the node that the card brings, side.
     IChild(u64, u64, u64, u64, bool),
     /// Takes an insert's flag away: card, parent.
     IUnflag(u64, u64),

@@ -28,11 +28,14 @@ impl Made {
     fn after(&self, value: Option<u64>) -> Option<Option<u64>> {
         match (self.op, self.said, value) {
             (Op::Find(_), Reply::Found(said), Some(there)) if said == there => Some(value),
-            (Op::Find(_) | Op::Delete(_), Reply::No, None) => Some(None),
+            (Op::Find(_) | Op::Delete(_) | Op::Swap(_, _, _), Reply::No, None) => Some(None),
             (Op::Insert(_, _), Reply::No, Some(_)) => Some(value),
             (Op::Insert(_, new), Reply::Yes, None) => Some(Some(new)),
             (Op::Delete(_), Reply::Yes, Some(_)) => Some(None),
             (Op::Delete(_), Reply::Found(said), Some(there)) if said == there => Some(None),
+            (Op::Swap(_, was, new), Reply::Found(said), Some(there)) if said == there => {
+                Some(Some(if there == was { new } else { there }))
+            }
             _ => None,
         }
     }
@@ -146,7 +149,7 @@ impl Orders {
     }
 }
 
-// The calls, where inserts whose values no call found all add one value, which no call found: so they are alike.
+// The calls, where inserts and swaps whose new values no call found all put one value, which no call found: so they are alike.
 fn with_found_values(alloc: Global, calls: &[Made]) -> Result<Vec<Made>, AllocError> {
     let mut found = BTreeSet::new(alloc);
     for call in calls {
@@ -160,6 +163,9 @@ fn with_found_values(alloc: Global, calls: &[Made]) -> Result<Vec<Made>, AllocEr
         let op = match (call.op, other) {
             (Op::Insert(key, value), Some(other)) if !found.contains(&value) => {
                 Op::Insert(key, other)
+            }
+            (Op::Swap(key, was, value), Some(other)) if !found.contains(&value) => {
+                Op::Swap(key, was, other)
             }
             (op, _) => op,
         };

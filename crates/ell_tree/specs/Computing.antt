@@ -101,6 +101,10 @@ Replaces t key was value old new (Ok (Lost there)) =
     IsUntouched old new × ReadsValue t key there old new × (Owns old key → present_in old key ≢ was)
 Replaces t key was value old new (Err why) = LaidDown t (put_by key value was) old new × HeldBackFor t.plan.last_card new why
 
+-- so many tries were made: each was hindered, or was answered by what another pass had changed; and the key was read before
+abbrev pub AreTried : ℕ → PassModel → PassModel → Type 0
+AreTried tries old new = old.view.hindered + answers old + tries < new.view.hindered + answers new
+
 -- whether it put it
 abbrev pub is_done : Replaced → Bool
 is_done Done = true

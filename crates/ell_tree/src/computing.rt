@@ -1,6 +1,6 @@
 //! Calls that compute what becomes of a key from what is there of it, and do that in one atomic step.
 ghost use Rattle.std.specs.Prelude.{◌≡◌, ◌≢◌, ◌<◌, ◌≤◌, ◌*◌, None, Err, IfOk, IfErr};
-ghost use Rattle.ell_tree.specs.Computing.{Computes, HoldsBack, Replaces, round_steps, update_steps, whether_done, whether_made};
+ghost use Rattle.ell_tree.specs.Computing.{AreTried, Computes, HoldsBack, Replaces, round_steps, update_steps, whether_done, whether_made};
 ghost use Rattle.ell_tree.specs.Counts.{Took};
 ghost use Rattle.ell_tree.specs.Ends.{CountsTries};
 ghost use Rattle.ell_tree.specs.Ledgers.{Owns};
@@ -45,6 +45,7 @@ pub(crate) fn compute<A: Allocator + Copy, G: StepGate, F: Fn(Option<u64>) -> Op
     ensures computes { IfOk result (λ done. Computes table.now key pass.old pass.new done.was done.made) }
     ensures makes { IfOk result (λ done. F.post make done.was done.made) }
     ensures held { IfErr result (HoldsBack table.now key pass.old pass.new) }
+    ensures tried { result ≡ Err Busy → AreTried tries pass.old pass.new }
     ensures others { Owns pass.old key → result ≡ Err Busy → IsOthersDoing table.now tries pass.old pass.new }
     ensures steps { Took pass.old pass.new (update_steps table.now.plan.last_card tries) }
     ensures counted { CountsTries tries pass.old pass.new }

@@ -12,7 +12,7 @@ ghost use Rattle.ell_cards.specs.Models.{IsCardCount, MayPart, Refuses, SplitRef
 ghost use Rattle.ell_tree.specs.CardsLeft.{AreLeftAtMost, ReadsCardsLeft};
 ghost use Rattle.ell_tree.specs.CardsTaken.{TakesNoCard};
 ghost use Rattle.ell_tree.specs.Closing.{ClosesTo};
-ghost use Rattle.ell_tree.specs.Computing.{HoldsBack, IsSum, PutsValue, UpdatesValue, update_steps, whether_put};
+ghost use Rattle.ell_tree.specs.Computing.{AreTried, HoldsBack, IsSum, PutsValue, UpdatesValue, update_steps, whether_put};
 ghost use Rattle.ell_tree.specs.Counts.{Took};
 ghost use Rattle.ell_tree.specs.Ends.{Answers, CountsTries, Ends, TakesValue, find_steps, found_or_held, replied, whether, whether_swapped};
 ghost use Rattle.ell_tree.specs.Moves.{moves_known};
@@ -311,6 +311,7 @@ impl<A: Allocator + Copy> Tree<A> {
         requires tries { 1 ≤ tries }
         ensures puts { IfOk result (PutsValue self.now key value pass.old pass.new) }
         ensures held { IfErr result (HoldsBack self.now key pass.old pass.new) }
+        ensures tried { result ≡ Err Busy → AreTried tries pass.old pass.new }
         ensures others { Owns pass.old key → result ≡ Err Busy → IsOthersDoing self.now tries pass.old pass.new }
         ensures steps { Took pass.old pass.new (update_steps self.now.plan.last_card tries) }
         ensures counted { CountsTries tries pass.old pass.new }
@@ -337,6 +338,7 @@ impl<A: Allocator + Copy> Tree<A> {
         requires f { F.IsAlwaysCallable f }
         ensures updates { IfOk result (UpdatesValue self.now key (F.post f) pass.old pass.new) }
         ensures held { IfErr result (HoldsBack self.now key pass.old pass.new) }
+        ensures tried { result ≡ Err Busy → AreTried tries pass.old pass.new }
         ensures others { Owns pass.old key → result ≡ Err Busy → IsOthersDoing self.now tries pass.old pass.new }
         ensures steps { Took pass.old pass.new (update_steps self.now.plan.last_card tries) }
         ensures counted { CountsTries tries pass.old pass.new }
@@ -365,6 +367,7 @@ impl<A: Allocator + Copy> Tree<A> {
         requires tries { 1 ≤ tries }
         ensures adds { IfOk result (UpdatesValue self.now key (IsSum addend) pass.old pass.new) }
         ensures held { IfErr result (HoldsBack self.now key pass.old pass.new) }
+        ensures tried { result ≡ Err Busy → AreTried tries pass.old pass.new }
         ensures others { Owns pass.old key → result ≡ Err Busy → IsOthersDoing self.now tries pass.old pass.new }
         ensures steps { Took pass.old pass.new (update_steps self.now.plan.last_card tries) }
         ensures counted { CountsTries tries pass.old pass.new }

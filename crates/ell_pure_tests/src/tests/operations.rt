@@ -1,8 +1,9 @@
 //! Worked lists of operations, with the replies and the pairs that a person gave them.
 use super::shared::have_texts;
 use ell_ops::Reply::{self, Found, No, Yes};
-use ell_ops::{KEY_MAX, NoMemory, Op, apply_all, apply_from, united_keys};
+use ell_ops::{KEY_MAX, NoMemory, Op, apply, apply_all, apply_from, united_keys};
 use std::alloc::AllocError;
+use std::collections::BTreeMap;
 
 // Whether a list of operations came to these replies, and to these keys with their values.
 fn is_done(
@@ -32,8 +33,10 @@ fn keys_fit_up_to_the_greatest(rt: HostRuntime) {
         (Op::Insert(u64::MAX - 2, u64::MAX), u64::MAX - 2, true),
         (Op::Delete(u64::MAX - 1), u64::MAX - 1, false),
         (Op::Find(u64::MAX), u64::MAX, false),
+        (Op::Swap(u64::MAX - 2, u64::MAX, 0), u64::MAX - 2, true),
+        (Op::Swap(u64::MAX - 1, 0, 1), u64::MAX - 1, false),
     ];
-    for row in 0..4 {
+    for row in 0..6 {
         let (op, key, fits) = rows[row];
         assert!(rt; op.key() == key && op.fits() == fits, "row {row}");
     }
@@ -82,6 +85,63 @@ fn a_key_has_the_value_that_found_it_absent(rt: HostRuntime) {
     let replies = [Yes, Found(0), Yes, Yes, No, Found(u64::MAX), No, Yes, Yes];
     let pairs = [(5, u64::MAX), (8, 81)];
     assert!(rt; is_done(apply_from(rt.alloc(), &[(8, 79)], &ops), &replies, &pairs));
+}
+
+#[test]
+fn a_swap_changes_the_value_that_it_finds(rt: HostRuntime) {
+    let ops = [
+        Op::Swap(5, 50, 51),
+        Op::Find(5),
+        Op::Swap(5, 50, 52),
+        Op::Find(5),
+        Op::Swap(6, 0, 60),
+        Op::Find(6),
+        Op::Swap(7, 70, u64::MAX),
+        Op::Swap(7, u64::MAX, u64::MAX),
+    ];
+    let replies = [
+        Found(50),
+        Found(51),
+        Found(51),
+        Found(51),
+        No,
+        No,
+        Found(70),
+        Found(u64::MAX),
+    ];
+    let start = [(5, 50), (7, 70), (8, 50)];
+    let pairs = [(5, 51), (7, u64::MAX), (8, 50)];
+    assert!(rt; is_done(apply_from(rt.alloc(), &start, &ops), &replies, &pairs));
+}
+
+// Each operation with its reply, and the value that 5 has behind it: that of the last insert which found it absent, or of the last swap
+// which found its first value there, if no delete came since.
+const LAST_WRITERS: [(Op, Reply, Option<u64>); 14] = [
+    (Op::Swap(5, 0, 1), No, None),
+    (Op::Insert(5, 50), Yes, Some(50)),
+    (Op::Swap(5, 51, 52), Found(50), Some(50)),
+    (Op::Swap(5, 50, 52), Found(50), Some(52)),
+    (Op::Insert(5, 53), No, Some(52)),
+    (Op::Swap(5, 53, 54), Found(52), Some(52)),
+    (Op::Swap(6, 52, 54), No, Some(52)),
+    (Op::Find(5), Found(52), Some(52)),
+    (Op::Swap(5, 52, 50), Found(52), Some(50)),
+    (Op::Swap(5, 50, 50), Found(50), Some(50)),
+    (Op::Delete(5), Yes, None),
+    (Op::Swap(5, 50, 55), No, None),
+    (Op::Insert(5, 0), Yes, Some(0)),
+    (Op::Swap(5, 0, u64::MAX), Found(0), Some(u64::MAX)),
+];
+
+#[test]
+fn a_key_has_the_value_of_its_last_writer(rt: HostRuntime) {
+    let mut map = BTreeMap::new(rt.alloc());
+    for (at, (op, want, value)) in LAST_WRITERS.iter().enumerate() {
+        let said = apply(&mut map, *op).expect(&rt, "memory");
+        assert!(rt; said == *want, "row {at}");
+        assert!(rt; map.get(&5).copied() == *value, "row {at}");
+        assert!(rt; !map.contains_key(&6), "row {at}");
+    }
 }
 
 #[test]

@@ -128,7 +128,7 @@ fn faults_are_found(rt: HostRuntime) {
     let bad_operation = TextFault::BadOperation { line: 1 };
     let bad_key = TextFault::BadKey { line: 1 };
     let key_too_large = TextFault::KeyTooLarge { line: 1 };
-    let faults: [(&[u8], TextFault); 19] = [
+    let faults: [(&[u8], TextFault); 21] = [
         (b"insert 18446744073709551614\n", key_too_large),
         (b"insert 18446744073709551616\n", key_too_large),
         (
@@ -143,6 +143,11 @@ fn faults_are_found(rt: HostRuntime) {
         (b"find 5\r", bad_key),
         (b"find 5\r\r\n", bad_key),
         (b"Insert 7\n", bad_operation),
+        (b"swap 7\n", bad_operation),
+        (
+            b"version 2\nswap 7 70 71\n",
+            TextFault::BadOperation { line: 2 },
+        ),
         (b" insert 7\n", bad_operation),
         (b"insert\t7\n", bad_operation),
         (b"\r", bad_operation),
@@ -155,7 +160,7 @@ fn faults_are_found(rt: HostRuntime) {
             TextFault::BadKey { line: 4 },
         ),
     ];
-    for row in 0..19 {
+    for row in 0..21 {
         let (text, want) = faults[row];
         assert!(rt;
             read_bulk(rt.alloc(), text).err() == Some(want),

@@ -98,7 +98,7 @@ fn faults_behind_the_heads(rt: HostRuntime) {
     let bad_line = Some(ReplayFault::BadLine { line: 3 });
     let bad_number = Some(ReplayFault::BadNumber { line: 3 });
     let key_too_large = Some(ReplayFault::KeyTooLarge { line: 3 });
-    let faults: [(&[u8], Option<ReplayFault>); 33] = [
+    let faults: [(&[u8], Option<ReplayFault>); 34] = [
         (b"", None),
         (b"1 upd", None),
         (b"63 mark 1000000", None),
@@ -110,6 +110,7 @@ fn faults_behind_the_heads(rt: HostRuntime) {
         (b"0 mark", bad_line),
         (b"0 begin find", bad_line),
         (b"0 begin look 5", bad_line),
+        (b"0 begin swap 5", bad_line),
         (b"0 start find 5", bad_line),
         (b"0 begin find 5 ", bad_line),
         (b"own 0", bad_line),
@@ -133,7 +134,7 @@ fn faults_behind_the_heads(rt: HostRuntime) {
         (b"64 begin find 18446744073709551614", bad_number),
         (b"0 upd\nown 0 5", Some(ReplayFault::BadLine { line: 4 })),
     ];
-    for row in 0..33 {
+    for row in 0..34 {
         let (lines, want) = faults[row];
         assert!(rt; fault_behind(rt.alloc(), 0, lines) == want, "row {row}");
     }

@@ -1,5 +1,5 @@
 //! Histories of one key, right and wrong, as a person worked them out.
-use ell_ops::Op::{Delete, Find, Insert};
+use ell_ops::Op::{Delete, Find, Insert, Swap};
 use ell_ops::Reply::{Found, No, Yes};
 use ell_ops::{Op, Reply};
 use ell_test_gates::{Made, are_in_order, calls_on};
@@ -19,7 +19,7 @@ const fn call(worker: u32, op: Op, said: Reply, begun: u64, ended: u64) -> Made 
 type History<'a> = &'a [(u32, Op, Reply, u64, u64)];
 
 // From the key absent.
-const WRONG: [(&str, History<'static>); 17] = [
+const WRONG: [(&str, History<'static>); 22] = [
     (
         "two inserts add the key, and none takes it away between",
         &[(0, Insert(5, 50), Yes, 1, 4), (1, Insert(5, 51), Yes, 2, 3)],
@@ -134,9 +134,47 @@ const WRONG: [(&str, History<'static>); 17] = [
             (2, Delete(5), Found(50), 4, 8),
         ],
     ),
+    (
+        "two swaps both find the value that one of them has replaced",
+        &[
+            (0, Insert(5, 50), Yes, 1, 2),
+            (1, Swap(5, 50, 51), Found(50), 3, 6),
+            (2, Swap(5, 50, 52), Found(50), 4, 5),
+        ],
+    ),
+    (
+        "a swap is lost",
+        &[
+            (0, Insert(5, 50), Yes, 1, 2),
+            (1, Swap(5, 50, 51), Found(50), 3, 4),
+            (2, Find(5), Found(50), 5, 6),
+        ],
+    ),
+    (
+        "a swap that found another value changes it",
+        &[
+            (0, Insert(5, 50), Yes, 1, 2),
+            (1, Swap(5, 51, 52), Found(50), 3, 4),
+            (2, Find(5), Found(52), 5, 6),
+        ],
+    ),
+    (
+        "a swap adds a key that was never there",
+        &[
+            (0, Swap(5, 0, 50), No, 1, 2),
+            (1, Find(5), Found(50), 3, 4),
+        ],
+    ),
+    (
+        "a swap misses a key that was there all the time",
+        &[
+            (0, Insert(5, 50), Yes, 1, 2),
+            (1, Swap(5, 50, 51), No, 3, 4),
+        ],
+    ),
 ];
 
-const RIGHT: [(&str, History<'static>); 11] = [
+const RIGHT: [(&str, History<'static>); 14] = [
     ("nothing happens", &[]),
     (
         "calls come one after the other",
@@ -217,6 +255,35 @@ const RIGHT: [(&str, History<'static>); 11] = [
             (1, Insert(5, 51), Yes, 2, 7),
             (2, Delete(5), Found(51), 3, 6),
             (3, Delete(5), Found(50), 4, 5),
+        ],
+    ),
+    (
+        "swaps come one after the other",
+        &[
+            (0, Swap(5, 50, 51), No, 1, 2),
+            (0, Insert(5, 50), Yes, 3, 4),
+            (0, Swap(5, 51, 52), Found(50), 5, 6),
+            (0, Swap(5, 50, 51), Found(50), 7, 8),
+            (0, Find(5), Found(51), 9, 10),
+        ],
+    ),
+    (
+        "of two swaps at once of one value, one finds what the other has put",
+        &[
+            (0, Insert(5, 50), Yes, 1, 2),
+            (1, Swap(5, 50, 51), Found(50), 3, 6),
+            (2, Swap(5, 50, 52), Found(51), 4, 5),
+            (0, Find(5), Found(51), 7, 8),
+        ],
+    ),
+    (
+        "a find that goes on sees the value between two swaps, there and back",
+        &[
+            (0, Insert(5, 50), Yes, 1, 2),
+            (1, Find(5), Found(51), 3, 10),
+            (0, Swap(5, 50, 51), Found(50), 4, 5),
+            (0, Swap(5, 51, 50), Found(51), 6, 7),
+            (0, Find(5), Found(50), 8, 9),
         ],
     ),
 ];

@@ -1,4 +1,4 @@
-//! A schedule of 100,000 pseudo-random events of 8 workers on 64 keys, beside a plain map.
+//! A schedule of 150,000 pseudo-random events of 8 workers on 64 keys, beside a plain map.
 ghost use Rattle.std.specs.Prelude.{◌≡◌, ◌<◌};
 
 use super::scripts::{LOST, MOVED, WON, opened, show};
@@ -14,7 +14,7 @@ use ell_word::Kind;
 use std::collections::BTreeMap;
 use std::process::Abort;
 
-const EVENTS: usize = 100_000;
+const EVENTS: usize = 150_000;
 
 const WORKERS: u64 = 8;
 
@@ -47,13 +47,15 @@ fn eight_workers(rt: &(impl Abort + AllocGlobal)) -> World
     opened(rt, WORKERS as u32, &owned, CARDS).expect(rt, "an opening")
 }
 
-// What a schedule comes to by its answers: the map, the operations in hand, and how many of each kind answered yes or found a value.
+// What a schedule comes to by its answers: the map, the operations in hand, and how many of each kind answered yes, found a value, or, of
+// swaps, the one that they were to replace.
 #[derive(Drop)]
 struct Plain {
     map: BTreeMap<u64, u64>,
     operations: BTreeMap<u32, Op>,
     inserted: u64,
     deleted: u64,
+    swapped: u64,
     found: u64,
 }
 
@@ -64,6 +66,7 @@ impl Plain {
             operations: BTreeMap::new(rt.alloc()),
             inserted: 0,
             deleted: 0,
+            swapped: 0,
             found: 0,
         }
     }
@@ -94,6 +97,9 @@ impl Plain {
         match (op, said) {
             (Op::Insert(_, _), Reply::Yes) => self.inserted = self.inserted.wrapping_add(1),
             (Op::Delete(_), Reply::Yes) => self.deleted = self.deleted.wrapping_add(1),
+            (Op::Swap(_, was, _), Reply::Found(there)) if there == was => {
+                self.swapped = self.swapped.wrapping_add(1);
+            }
             (Op::Find(_), Reply::Found(_)) => self.found = self.found.wrapping_add(1),
             _ => {}
         }
@@ -185,18 +191,19 @@ impl Schedule {
     fn any_event(&mut self) -> Event {
         let worker = self.dice.below(WORKERS + 1) as u32;
         let key = self.dice.below(KEYS);
-        let act = match self.dice.below(24) {
+        let act = match self.dice.below(25) {
             0 => Begin(Op::Find(key)),
             1 => Begin(Op::Insert(key, self.value())),
             2 => Begin(Op::Delete(key)),
-            3 => Upd,
-            4 => Down,
-            5 => Claim,
-            6 => IFlag,
-            7 => DFlag,
-            8 => Again,
-            9 => Leave,
-            10 => Answer,
+            3 => Begin(Op::Swap(key, key, self.value())),
+            4 => Upd,
+            5 => Down,
+            6 => Claim,
+            7 => IFlag,
+            8 => DFlag,
+            9 => Again,
+            10 => Leave,
+            11 => Answer,
             _ => self.help(worker),
         };
         Event { worker, act }
@@ -225,17 +232,16 @@ impl Schedule {
         self.events.len() as u64
     }
 
-    // An operation on a key that the worker owns, and mostly one that will answer yes.
+    // An operation on a key that the worker owns, and mostly one that will answer yes, or swap the value.
     fn operation(&mut self, worker: u32) -> Op {
         let key = WORKERS * self.dice.below(KEYS / WORKERS) + worker as u64;
-        let roll = self.dice.below(16);
-        if roll == 0 {
-            return Op::Find(key);
-        }
-        if self.plain.map.contains_key(&key) == (roll == 1) {
-            Op::Insert(key, self.value())
-        } else {
-            Op::Delete(key)
+        let value = self.value();
+        match (self.dice.below(16), self.plain.map.get(&key).copied()) {
+            (0, _) => Op::Find(key),
+            (1, there) => Op::Swap(key, there.unwrap_or(0).wrapping_add(1), value),
+            (2, Some(_)) | (3.., None) => Op::Insert(key, value),
+            (3..=6, Some(there)) => Op::Swap(key, there, value),
+            (2, None) | (7.., Some(_)) => Op::Delete(key),
         }
     }
 
@@ -304,7 +310,7 @@ fn random_events_answer_as_a_map(rt: HostRuntime) {
     schedule.draw_all(&rt).expect(&rt, "a schedule");
     assert!(rt; is_rich(&schedule.exchanges));
     assert!(rt; schedule.plain.inserted >= 1000 && schedule.plain.deleted >= 1000);
-    assert!(rt; schedule.plain.found >= 10);
+    assert!(rt; schedule.plain.swapped >= 500 && schedule.plain.found >= 10);
     assert!(rt; schedule.plain.operations.is_empty());
 
     // Another world shows the same, and comes to the pairs of the plain map.

@@ -1,8 +1,8 @@
 //! Places, words and fillings of cards, and answers at leaves, that a person worked out.
 use ell_core::Fact::{DFlagged, IFlagged, Marked};
 use ell_core::{
-    Field, child_field, delete_filling, insert_filling, key_field, leaf_answer, table_size,
-    told_by, update_word, value_field,
+    Field, Put, brought_node, child_field, delete_filling, insert_filling, key_field, leaf_answer,
+    table_size, told_by, update_word, value_field,
 };
 use ell_ops::Op;
 use ell_ops::Reply::{Found, No};
@@ -81,6 +81,20 @@ fn a_card_is_filled_for_its_operation(rt: HostRuntime) {
         (Field::RightValue, 70),
     ];
     assert!(rt; insert_filling(2, 7, 70, 3, 4, 5, 50) == greater);
+    // A swap of 50 for 51 at that leaf: both leaves have its key, and the right one the new value.
+    let swap = [
+        (Field::P, 3),
+        (Field::L, 4),
+        (Field::Key, 5),
+        (Field::Left, 7),
+        (Field::Right, 8),
+        (Field::Update, 3),
+        (Field::LeftLeafKey, 5),
+        (Field::RightLeafKey, 5),
+        (Field::LeftValue, 50),
+        (Field::RightValue, 51),
+    ];
+    assert!(rt; insert_filling(2, 5, 51, 3, 4, 5, 50) == swap);
     let delete = [
         (Field::Gp, 0),
         (Field::P, 3),
@@ -88,6 +102,34 @@ fn a_card_is_filled_for_its_operation(rt: HostRuntime) {
         (Field::Was, 15),
     ];
     assert!(rt; delete_filling(0, 3, 4, 15) == delete);
+}
+
+#[test]
+fn a_card_brings_its_node_or_for_a_swap_its_right_leaf(rt: HostRuntime) {
+    assert!(rt; brought_node(1, 5, INF1) == 3 && brought_node(2, 5, 7) == 6);
+    assert!(rt; brought_node(2, 5, 5) == 8 && brought_node(4, 0, 0) == 14);
+}
+
+#[test]
+fn an_insert_goes_to_another_key_and_a_swap_to_its_value(rt: HostRuntime) {
+    // An operation, the key and the value of a leaf, and whether it puts something there.
+    let rows = [
+        (Op::Insert(5, 50), 7, 50, true),
+        (Op::Insert(5, 50), INF1, 0, true),
+        (Op::Insert(5, 50), 5, 50, false),
+        (Op::Insert(5, 50), 5, 0, false),
+        (Op::Swap(5, 50, 51), 5, 50, true),
+        (Op::Swap(5, 50, 51), 5, 51, false),
+        (Op::Swap(5, 50, 51), 7, 50, false),
+        (Op::Swap(5, 0, 51), INF1, 0, false),
+        (Op::Find(5), 5, 50, false),
+        (Op::Delete(5), 5, 50, false),
+    ];
+    for row in 0..10 {
+        let (op, leaf_key, leaf_value, want) = rows[row];
+        let goes = Put::of(op).is_some_and(|what| what.may_replace(leaf_key, leaf_value));
+        assert!(rt; goes == want, "row {row}");
+    }
 }
 
 #[test]
@@ -100,8 +142,11 @@ fn a_leaf_answers_where_nothing_is_to_do(rt: HostRuntime) {
         (Op::Insert(5, 51), None, None),
         (Op::Delete(5), Some(50), None),
         (Op::Delete(5), None, Some(No)),
+        (Op::Swap(5, 50, 51), Some(50), None),
+        (Op::Swap(5, 50, 51), Some(51), Some(Found(51))),
+        (Op::Swap(5, 0, 51), None, Some(No)),
     ];
-    for row in 0..7 {
+    for row in 0..10 {
         let (op, there, want) = rows[row];
         assert!(rt; leaf_answer(op, there) == want, "row {row}");
     }

@@ -9,7 +9,7 @@ use Rattle.ell_tree.specs.Ledgers.{Owns, present_in}
 use Rattle.ell_tree.specs.Promises.{IsOthersDoing}
 use Rattle.ell_tree.specs.CardsTaken.{TakesByHindered}
 use Rattle.ell_core.proofs.outcomes.Decide.{some_not_none}
-use Rattle.ell_tree.proofs.Concluding.{untouched_by, untouched_laid, untouched_self, untouched_trans, concludes, find_leaves, reads_own, reads_after, reads_last, laid_last, may_still}
+use Rattle.ell_tree.proofs.Concluding.{untouched_by, untouched_laid, untouched_self, untouched_trans, concludes, find_leaves, reads_own, reads_after, reads_last, reads_count, laid_last, may_still}
 use Rattle.ell_tree.proofs.Counting.{took_within, took_trans}
 use Rattle.ell_tree.proofs.Moving.{moves_most}
 use Rattle.ell_tree.proofs.Rounds.{rounds_within, one_round_more, spends_none, by_rounds, not_some}
@@ -40,6 +40,7 @@ loop-round-init g c =
       hindered = λ owns. omega (arith, finds.quiet.hindered);
       moved = λ owns. omega (arith, finds.quiet.moved);
       tried = λ owns some. absurd (omega arith);
+      made = omega (arith, finds.answers.answered, finds.quiet.hindered);
       cards = record { least = omega (arith, finds.cards); most = omega (arith, finds.cards) };
       few = omega (arith, finds.cards, finds.quiet.hindered);
     }
@@ -76,6 +77,7 @@ loop-round-preserved g c = elim c.match-replace.branch [
         hindered = λ owns. absurd (apart owns);
         moved = λ owns. absurd (apart owns);
         tried = λ owns. absurd (apart owns);
+        made = let one = reads_count t key there l.pass new lost.1 in omega (arith, one, counts.least, i.made);
         cards = record { least = omega (arith, spends.most.least, i.cards.least); most = omega (arith, spends.most.most, i.cards.most) };
         few = omega (arith, each, i.few);
       }
@@ -108,6 +110,7 @@ loop-round-preserved g c = elim c.match-replace.branch [
         hindered = λ owns. omega (arith, others.each, i.hindered owns);
         moved = λ owns. omega (arith, others.moved, i.moved owns);
         tried = λ owns more. some;
+        made = omega (arith, laid.answered, others.each, i.made);
         cards = record { least = omega (arith, spends.most.least, i.cards.least); most = omega (arith, spends.most.most, i.cards.most) };
         few = omega (arith, each, i.few);
       }
@@ -161,3 +164,9 @@ returns-then-is_some-clause-enough g c = λ owns many held.
     let all : l._round ≡ c.args.tries = omega (arith, c.loop-round-test.false, l.auto._round-end) in
     let most = moves_most cards l.pass.view c.claims_stay_inside.ensures in
     omega (arith, many, most, all, l.invariant.moved owns)
+
+pub returns-then-is_some-clause-tried : goal.returns-then-is_some-clause-tried
+returns-then-is_some-clause-tried g c = λ held.
+    let l = c.loop-round in
+    let all : l._round ≡ c.args.tries = omega (arith, c.loop-round-test.false, l.auto._round-end) in
+    omega (arith, all, l.invariant.made)
