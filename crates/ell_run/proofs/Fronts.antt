@@ -7,6 +7,7 @@ use Rattle.std.proofs.lemmas.Option.{slice_get_within, get_or_from_slice_get}
 use Rattle.ell_ops.specs.declared.op.Op.{Op}
 use Rattle.ell_ops.specs.Contents.{Contents}
 use Rattle.ell_ops.specs.Meaning.{key_of, reply_of, final}
+use Rattle.ell_tree.specs.Effects.{reply_of_change}
 use Rattle.ell_ops.specs.Meaning.{after as after_op}
 use Rattle.ell_tree.specs.declared.operations.Held.{Held}
 use Rattle.ell_tree.specs.Ends.{Answers, HeldFor, LaidDown}
@@ -118,7 +119,7 @@ front_held tree cards tries items i d before mid after piece why below owned h l
             ap (λ n. get_or items n d) (sym count) ∙ get_or_from_slice_get items (length piece) (position, op) d e in
             ap (λ l. reply_of op (final (present_in before) (ops_in l))) (sym same) ∙ ap (reply_of op) (sym h.map)
             ∙ ap (λ (x : ℕ × Op). reply_of x.1 (present_in mid)) (sym here)
-            ∙ l.would ((h.owned (key_of (get_or items i d).1)).1 (owned i d below));
+            ∙ (l.would ((h.owned (key_of (get_or items i d).1)).1 (owned i d below)) ∙ ap (λ (x : ℕ × Op). reply_of_change x.1) here);
       };
       map = kept ∙ h.map ∙ ap (λ l. final (present_in before) (ops_in l)) same;
       owned = λ key. let old = h.owned key in rw l.ledger old;

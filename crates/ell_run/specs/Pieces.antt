@@ -3,10 +3,10 @@ use Rattle.std.specs.List.{range_with_len, zip}
 use Rattle.ell_ops.specs.declared.op.Op.{Op}
 use Rattle.ell_ops.specs.Contents.{Contents}
 use Rattle.ell_ops.specs.Meaning.{reply_of, replies, final}
+use Rattle.ell_tree.specs.Effects.{reply_of_change}
 use Rattle.ell_parts.specs.PartedOps.{PartedOps, part}
 use Rattle.ell_run.specs.ByParts.{ops_in}
 use Rattle.ell_ops.specs.declared.reply.Reply.{Reply}
-use Rattle.ell_ops.specs.declared.reply.Reply.TheVariants.{Yes}
 
 -- replies, with the positions of the operations that they are for
 abbrev pub numbered : List (ℕ × Op) → List Reply → List (ℕ × Reply)
@@ -25,7 +25,7 @@ pub record IsPiece (set : Contents) (items : List (ℕ × Op)) (piece : List (�
   pub few : length piece ≤ length items
   pub done : piece ≡ piece_from set (front items piece)
   pub held : (position : ℕ) (op : Op) → slice_get items (length piece) ≡ Some (position, op) →
-      reply_of op (final set (ops_in (front items piece))) ≡ Yes
+      reply_of op (final set (ops_in (front items piece))) ≡ reply_of_change op
 
 -- one piece for each worker, in their order, each done from a map
 abbrev pub ArePieces : Contents → PartedOps → List ℕ → List (List (ℕ × Reply)) → Type 0

@@ -82,8 +82,7 @@ pub record LastChangesNothing (t : TreeModel) (key : ℕ) (v : View) : Type 0 wh
   pub nothing : IsLaidDownInRuns t.plan v op
       ⊎ ((said : Reply) × (said ≢ reply_of_change op) × IsAnsweredInRuns t.plan v op said)
 
--- why a call of several operations has no answer: each of its tries was hindered, or another pass had changed the key; or the claim word says that
--- all cards are given out
+-- why a call of several operations has no answer: all its tries were made, or the claim word says that all cards are given out
 abbrev pub HeldBackFor : ℕ → PassModel → Held → Type 0
 HeldBackFor cards new Busy = Unit {0}
 HeldBackFor cards new Spent = new.view.next ≡ Some (cards + 1)

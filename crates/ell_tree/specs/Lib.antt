@@ -34,6 +34,8 @@ pub use Rattle.ell_ops.specs.declared.reply.Reply
 pub use Rattle.ell_ops.specs.Meaning
 pub use Rattle.ell_ops.specs.Contents
 pub use Rattle.ell_ops.specs.KeySet
+-- what an operation answers that has changed the tree
+pub use Rattle.ell_core.specs.statements.Effects
 -- how many cards and start keys there may be
 pub use Rattle.ell_word.specs.Node
 pub use Rattle.ell_core.specs.state.Opening

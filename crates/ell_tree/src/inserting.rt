@@ -59,7 +59,9 @@ pub(crate) fn try_put<A: Allocator + Copy, G: StepGate>(
     match flag_insert(table, pass, card, what, place, gate) {
         Ok(()) => {
             let (left_key, card_key) = (what.key.min(place.key), what.key.max(place.key));
-            finish_insert(table, pass, card, parent, place.leaf, card_key, left_key, gate);
+            finish_insert(
+                table, pass, card, parent, place.leaf, card_key, left_key, gate,
+            );
             answer(table, pass, reply_once_done(what), gate);
             Tried::Answered(Some(what.was.unwrap_or(what.value)))
         }

@@ -140,13 +140,9 @@ fn try_once<A: Allocator + Copy, G: StepGate>(
     ensures least { pass.old.view.next_at_least ≤ pass.new.view.next_at_least }
     ensures hindered { pass.new.view.hindered ≡ pass.old.view.hindered }
 {
-    match op {
-        Op::Insert(key, value) => try_put(table, pass, op, Put { key, value, was: None }, gate),
-        Op::Swap(key, was, value) => {
-            let was = Some(was);
-            try_put(table, pass, op, Put { key, value, was }, gate)
-        }
-        Op::Delete(key) => try_delete(table, pass, key, gate),
-        Op::Find(_) => unreachable!(),
+    match (op, Put::of(op)) {
+        (_, Some(what)) => try_put(table, pass, op, what, gate),
+        (Op::Delete(key), None) => try_delete(table, pass, key, gate),
+        (_, None) => unreachable!(),
     }
 }

@@ -374,7 +374,13 @@ impl<A: Allocator + Copy> Tree<A> {
         ensures cards { SpendsCards key tries pass.old pass.new (whether result) }
         ensures enough { Owns pass.old key → 2 * self.now.plan.last_card < tries → result ≢ Err Busy }
     {
-        self.update(pass, key, |value: u64| value.wrapping_add(addend), tries, gate)
+        self.update(
+            pass,
+            key,
+            |value: u64| value.wrapping_add(addend),
+            tries,
+            gate,
+        )
     }
 
     /// Takes a key of the pass, or a shared one, away, with its value: whether it was present. Tries, steps, cards and errors are as of `insert`.

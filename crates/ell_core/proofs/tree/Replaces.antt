@@ -19,8 +19,10 @@ module _ (key : ℕ → ℕ) (child after : ℕ → Bool → ℕ) (top p : ℕ) 
       → Spans key child top y a b ⊎ ((y ≡ q) × Spans key child top l a b)
   replace_step x low high y a b t (inl r) i e f g = elim (shape.relinks.others x t) [
     | inl h ↦ (let there = shape.relinks.there in let was = shape.was in
-        inr (e ∙ (ap (λ v. after v t) h.0 ∙ (ap (after p) h.1 ∙ there)),
-        goes t r i (sym was ∙ (ap (child p) (sym h.1) ∙ ap (λ v. child v t) (sym h.0))) f g))
+        inr (
+          e ∙ (ap (λ v. after v t) h.0 ∙ (ap (after p) h.1 ∙ there)),
+          goes t r i (sym was ∙ (ap (child p) (sym h.1) ∙ ap (λ v. child v t) (sym h.0))) f g,
+        ))
     | inr h ↦ inl (goes t r i (e ∙ h) f g)
   ]
   replace_step x low high y a b t (inr h) i e f g = absurd (shape.node (subst IsInternal h.0 i))
