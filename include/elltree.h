@@ -7,13 +7,17 @@
    handle finds, inserts and deletes any key, and all finds, inserts and deletes together answer as if they were made one after the other.
    Such a tree cannot be renewed yet: its cards are for its whole life.
 
+   elltree_compare_exchange, elltree_put, elltree_fetch_add and elltree_update change the value of a key in place, each in one atomic step: no
+   call of another thread finds the key absent in between, or loses what this one stores.
+
    elltree_open makes a tree of keys that have owners. A handle owns some of them, and it alone finds, inserts and deletes these, so that its
    answers are those of a map of its own. The first handle owns all; elltree_split gives some of them to another handle, or none, for a handle
    that only looks.
 
    Any handle looks at any key of its tree.
 
-   Each call returns ELLTREE_YES, ELLTREE_NO, or a negative code that says why it was refused; elltree_text writes a text for each. A call
+   Each call returns ELLTREE_YES, ELLTREE_NO, elltree_compare_exchange also ELLTREE_OTHER_VALUE, or a negative code that says why it was
+   refused; elltree_text writes a text for each. A call
    that was refused has changed neither the map nor what a handle owns, and has written nothing but, for ELLTREE_NO_ROOM, pairs.
    elltree_open_shared, elltree_another, elltree_open, elltree_split, elltree_join, elltree_renew and elltree_renew_all ask for memory. No
    other call does.
@@ -70,7 +74,8 @@ struct elltree_pair {
 enum {
     ELLTREE_NO = 0,
     ELLTREE_YES = 1,
-    ELLTREE_BUSY = -1,        /* something was in the way of each try: call again */
+    ELLTREE_OTHER_VALUE = 2,  /* of elltree_compare_exchange: the key has another value */
+    ELLTREE_BUSY = -1,        /* something was in the way of each try, or changed the value first: call again */
     ELLTREE_SPENT = -2,       /* all cards are given out: finds and looks go on; elltree_renew_all makes fresh ones for owned keys */
     ELLTREE_FOREIGN = -3,     /* a key is neither the handle's own nor shared; no key above ELLTREE_KEY_MAX is */
     ELLTREE_NO_TRIES = -4,    /* tries is 0 */
@@ -107,6 +112,10 @@ ELLTREE_MUST_USE int32_t elltree_slot_find(struct elltree_slot *slot, uint64_t k
 ELLTREE_MUST_USE int32_t elltree_slot_look(struct elltree_slot *slot, uint64_t key, uint64_t *value);
 ELLTREE_MUST_USE int32_t elltree_slot_insert(struct elltree_slot *slot, uint64_t key, uint64_t value, uint32_t tries);
 ELLTREE_MUST_USE int32_t elltree_slot_delete(struct elltree_slot *slot, uint64_t key, uint32_t tries);
+ELLTREE_MUST_USE int32_t elltree_slot_compare_exchange(struct elltree_slot *slot, uint64_t key, uint64_t current, uint64_t desired,
+                                                       uint32_t tries, uint64_t *found);
+ELLTREE_MUST_USE int32_t elltree_slot_put(struct elltree_slot *slot, uint64_t key, uint64_t value, uint32_t tries, uint64_t *was);
+ELLTREE_MUST_USE int32_t elltree_slot_fetch_add(struct elltree_slot *slot, uint64_t key, uint64_t addend, uint32_t tries, uint64_t *was);
 ELLTREE_MUST_USE int32_t elltree_slot_keys(struct elltree_slot *slot, uint64_t *out, size_t room, size_t *count);
 ELLTREE_MUST_USE int32_t elltree_slot_owned(struct elltree_slot *slot, size_t *count);
 ELLTREE_MUST_USE int32_t elltree_slot_pairs(struct elltree_slot *slot, struct elltree_pair *out, size_t room, size_t *count);
@@ -265,12 +274,61 @@ ELLTREE_MUST_USE static inline int32_t elltree_insert(struct elltree_handle *han
 }
 
 /* Takes a shared key, or one of the handle's own, away: ELLTREE_YES if it was present, else ELLTREE_NO. Refused as elltree_insert is.
-   You change a value by a delete and an insert, which take two cards: ask elltree_cards_left before the delete. If the insert is refused by
-   ELLTREE_BUSY, make it again: until then the key is absent, unless it is shared and another thread has inserted it. If the insert is refused
-   by ELLTREE_SPENT, no card is left, not even to put the old value back: keep the value for fresh cards, or for a tree that you open anew. */
+   To change the value of a key, use elltree_put and the calls after it: they need one card, and the key is never absent in between. */
 ELLTREE_MUST_USE static inline int32_t elltree_delete(struct elltree_handle *handle, uint64_t key, uint32_t tries) {
     int32_t code = elltree_enter(handle);
     return code == ELLTREE_YES ? elltree_leave(handle, elltree_slot_delete(&handle->slot, key, tries)) : code;
+}
+
+/* Stores the desired value of a shared key, or of one of the handle's own, if its value is the expected one, in one atomic step, as
+   atomic_compare_exchange_strong of C11: ELLTREE_YES if it was exchanged. ELLTREE_OTHER_VALUE if the key has another value, which is written to
+   expected, and ELLTREE_NO if it is absent: then nothing has changed. An exchange takes a card.
+   ELLTREE_NULL, ELLTREE_IN_CALL, ELLTREE_CLOSED, ELLTREE_NO_TRIES, ELLTREE_FOREIGN, ELLTREE_BUSY, ELLTREE_SPENT. */
+ELLTREE_MUST_USE static inline int32_t elltree_compare_exchange(struct elltree_handle *handle, uint64_t key, uint64_t *expected,
+                                                                uint64_t desired, uint32_t tries) {
+    int32_t code = expected ? elltree_enter(handle) : ELLTREE_NULL;
+    if (code != ELLTREE_YES)
+        return code;
+    return elltree_leave(handle, elltree_slot_compare_exchange(&handle->slot, key, *expected, desired, tries, expected));
+}
+
+/* Stores the value of a shared key, or of one of the handle's own, whether the key is present or not, in one atomic step: ELLTREE_YES, with the
+   value that it had, if it was present, and ELLTREE_NO if it was absent and is added. A try fails also if another thread has changed the key
+   since it was read; ELLTREE_BUSY if all fail. A put takes a card. Refused as elltree_compare_exchange is. */
+ELLTREE_MUST_USE static inline int32_t elltree_put(struct elltree_handle *handle, uint64_t key, uint64_t value, uint32_t tries, uint64_t *was) {
+    int32_t code = was ? elltree_enter(handle) : ELLTREE_NULL;
+    return code == ELLTREE_YES ? elltree_leave(handle, elltree_slot_put(&handle->slot, key, value, tries, was)) : code;
+}
+
+/* Adds to the value of a shared key, or of one of the handle's own, in one atomic step: ELLTREE_YES with the value that it had, and ELLTREE_NO
+   if the key is absent, which is left so. A sum past UINT64_MAX wraps around. Tries, cards and refusals are as of elltree_put. */
+ELLTREE_MUST_USE static inline int32_t elltree_fetch_add(struct elltree_handle *handle, uint64_t key, uint64_t addend, uint32_t tries,
+                                                         uint64_t *was) {
+    int32_t code = was ? elltree_enter(handle) : ELLTREE_NULL;
+    return code == ELLTREE_YES ? elltree_leave(handle, elltree_slot_fetch_add(&handle->slot, key, addend, tries, was)) : code;
+}
+
+/* Stores what f makes of the value of a shared key, or of one of the handle's own, in one atomic step: ELLTREE_YES with the value that it had,
+   and ELLTREE_NO if the key is absent, which is left so. f gets the context, and is called before each try, with the value that the key has then;
+   the handle is in this call meanwhile, so that f calls nothing on it. f has to return, and not by an exception. Tries, cards and refusals are as
+   of elltree_put; ELLTREE_NULL also if f is null. */
+ELLTREE_MUST_USE static inline int32_t elltree_update(struct elltree_handle *handle, uint64_t key, uint64_t (*f)(uint64_t value, void *context),
+                                                      void *context, uint32_t tries, uint64_t *was) {
+    uint64_t found = 0;
+    int32_t code = f && was ? elltree_enter(handle) : ELLTREE_NULL;
+    if (code != ELLTREE_YES)
+        return code;
+    if (!tries) /* refused without a look at the key, by the library */
+        return elltree_leave(handle, elltree_slot_fetch_add(&handle->slot, key, 0, 0, was));
+    code = elltree_slot_find(&handle->slot, key, &found);
+    if (code != ELLTREE_YES)
+        return elltree_leave(handle, code);
+    do
+        code = elltree_slot_compare_exchange(&handle->slot, key, found, f(found, context), 1, &found);
+    while ((code == ELLTREE_OTHER_VALUE || code == ELLTREE_BUSY) && --tries);
+    if (code == ELLTREE_YES)
+        *was = found;
+    return elltree_leave(handle, code == ELLTREE_OTHER_VALUE ? ELLTREE_BUSY : code);
 }
 
 /* How many keys the handle owns. ELLTREE_NULL, ELLTREE_IN_CALL, ELLTREE_CLOSED. */

@@ -4,6 +4,8 @@ use Rattle.ell_tree.specs.Promises.{IsQuiet, IsWithin, SpendsCards}
 use Rattle.ell_tree.proofs.Counting.{took_none}
 use Rattle.ell_tree.proofs.Meeting.{meets_none}
 use Rattle.ell_tree.proofs.Moving.{amortized}
+use Rattle.ell_handle.specs.Values.{TookRounds}
+use Rattle.ell_handle.specs.declared.handle.Handle.{Handle}
 
 -- a call that does nothing keeps to the bounds
 pub within_same : (t : TreeModel) (tries : ℕ) (p : PassModel) → IsWithin t tries p p
@@ -28,4 +30,11 @@ quiet_same t p = record {
   meets = meets_none p.view p.view refl (λ f h. h);
   hindered = refl;
   moved = omega arith;
+}
+
+-- nor does it take a step
+pub rounds_same : (tries : ℕ) (h : Handle) → TookRounds tries h h
+rounds_same tries h = record {
+  steps = took_none h.pass _;
+  counted = record { least = omega arith; most = omega arith };
 }

@@ -12,3 +12,5 @@ pub mod Groups
 pub mod Reads
 -- when a change is tried, how it ends without an answer, and what it takes
 pub mod Tries
+-- what is answered of values that are compared, put and updated in place, and how such a call ends without an answer
+pub mod Values

@@ -103,7 +103,7 @@ impl Handle {
     }
 
     // Whether a change of a key may be tried.
-    fn may_change(&self, key: u64, tries: u32) -> Result<(), Refusal>
+    pub(crate) fn may_change(&self, key: u64, tries: u32) -> Result<(), Refusal>
         ensures may { OnOk result (MayChange key tries self.now) }
         ensures why { IfErr result (TryRefuses key tries self.now) }
     {

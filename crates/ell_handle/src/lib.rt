@@ -10,6 +10,7 @@ mod merging;
 mod opening;
 mod refusal;
 mod renewing;
+mod replacing;
 mod using;
 
 pub use grouping::renew_all;

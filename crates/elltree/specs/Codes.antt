@@ -2,12 +2,16 @@ use Rattle.std.specs.Prelude.{◌≡◌, ◌⊎◌, ℤ, pos, negsuc, List, [], 
 use Rattle.ell_handle.specs.declared.refusal.Refusal.{Refusal}
 use Rattle.ell_handle.specs.declared.refusal.Refusal.TheVariants.{Foreign, NoTries, Busy, Spent, BadCards, BadKey, BadStart, OtherTree, TooManyHandles, SharedKeys, NoMemory}
 
--- what a call answers: yes and no are answers, and all others refusals
+-- what a call answers: yes, no and another value are answers, and all others refusals
 abbrev pub said_no : ℤ
 said_no = pos 0
 
 abbrev pub said_yes : ℤ
 said_yes = pos 1
+
+-- of a compare-exchange: the key has another value
+abbrev pub said_other_value : ℤ
+said_other_value = pos 2
 
 -- something was in the way of each try
 abbrev pub said_busy : ℤ

@@ -5,3 +5,4 @@ pub mod Told
 pub mod Texts
 pub mod Groups
 pub mod Slots
+pub mod Values

@@ -1,12 +1,13 @@
 use Rattle.std.specs.Prelude.{◌≡◌, ◌-◌, ◌+◌, ◌<◌, ℕ, ℤ, min, Some, List, length, take, drop, slice_get, codes, if◌then◌else◌}
 use Rattle.std.specs.Ordering.{int_eq}
-use Rattle.elltree.specs.Codes.{said_bad_cards, said_bad_key, said_bad_start, said_busy, said_closed, said_foreign, said_in_call, said_no, said_no_memory, said_no_room, said_no_tries, said_null, said_open, said_other_tree, said_same, said_shared_keys, said_spent, said_too_many, said_yes}
+use Rattle.elltree.specs.Codes.{said_bad_cards, said_bad_key, said_bad_start, said_busy, said_closed, said_foreign, said_in_call, said_no, said_no_memory, said_no_room, said_no_tries, said_null, said_open, said_other_tree, said_other_value, said_same, said_shared_keys, said_spent, said_too_many, said_yes}
 
 -- what a code says, as the bytes of a text
 abbrev pub text_of : ℤ → List ℕ
 text_of code =
     if int_eq code said_no then codes "no" else
     if int_eq code said_yes then codes "yes" else
+    if int_eq code said_other_value then codes "the key has another value" else
     if int_eq code said_busy then codes "something was in the way of each try" else
     if int_eq code said_spent then codes "all cards are given out" else
     if int_eq code said_foreign then codes "the key is neither the handle's own nor shared" else

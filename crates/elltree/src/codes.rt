@@ -1,13 +1,15 @@
 //! What the exported functions answer.
 ghost use Rattle.std.specs.Prelude.{◌≡◌, ◌≢◌};
 ghost use Rattle.ell_handle.specs.declared.refusal.Refusal.TheVariants.{Foreign, NoTries, Busy, Spent, BadCards, BadKey, BadStart, NoMemory, OtherTree, SharedKeys, TooManyHandles};
-ghost use Rattle.elltree.specs.Codes.{code_of, said_bad_cards, said_bad_key, said_bad_start, said_busy, said_closed, said_foreign, said_no, said_no_memory, said_no_room, said_no_tries, said_open, said_other_tree, said_shared_keys, said_spent, said_too_many, said_yes};
+ghost use Rattle.elltree.specs.Codes.{code_of, said_bad_cards, said_bad_key, said_bad_start, said_busy, said_closed, said_foreign, said_no, said_no_memory, said_no_room, said_no_tries, said_open, said_other_tree, said_other_value, said_shared_keys, said_spent, said_too_many, said_yes};
 
 use ell_handle::Refusal;
 
 pub const NO: i32 = 0;
 
 pub const YES: i32 = 1;
+
+pub const OTHER_VALUE: i32 = 2;
 
 pub const BUSY: i32 = -1;
 
@@ -49,6 +51,7 @@ pub fn code_of_refusal(refusal: Refusal) -> i32
     ensures code { result ≡ code_of refusal }
     ensures yes { result ≢ said_yes }
     ensures no { result ≢ said_no }
+    ensures other_value { result ≢ said_other_value }
     ensures closed { result ≢ said_closed }
     ensures opened { result ≢ said_open }
     ensures no_room { result ≢ said_no_room }

@@ -12,6 +12,7 @@ pub mod opening;
 mod parts;
 pub mod reading;
 pub mod renewing;
+pub mod replacing;
 pub mod sharing;
 mod slot;
 mod starting;

@@ -4,13 +4,14 @@ use crate::calls::{
     elltree_slot_delete, elltree_slot_find, elltree_slot_insert, elltree_slot_look,
 };
 use crate::codes::{
-    BAD_CARDS, BAD_KEY, BAD_START, CLOSED, FOREIGN, NO, OPEN, OTHER_TREE, SHARED_KEYS, SPENT,
-    TOO_MANY_HANDLES, YES,
+    BAD_CARDS, BAD_KEY, BAD_START, CLOSED, FOREIGN, NO, NO_TRIES, OPEN, OTHER_TREE, OTHER_VALUE,
+    SHARED_KEYS, SPENT, TOO_MANY_HANDLES, YES,
 };
 use crate::grouping::elltree_slots_renew;
 use crate::opening::{elltree_slot_free, elltree_slot_join, elltree_slot_open, elltree_slot_split};
 use crate::reading::{elltree_slot_cards_left, elltree_slot_owned, elltree_slot_pairs};
 use crate::renewing::elltree_slot_renew;
+use crate::replacing::{elltree_slot_compare_exchange, elltree_slot_fetch_add, elltree_slot_put};
 use crate::sharing::{elltree_slot_another, elltree_slot_open_shared};
 use crate::slot::Slot;
 use crate::texts::elltree_code_text;
@@ -196,13 +197,47 @@ fn a_slot_tells_how_many_cards_are_left(rt: HostRuntime) {
 }
 
 #[test]
+fn a_slot_changes_values_in_place(rt: HostRuntime) {
+    let alloc: Global = rt.alloc();
+    let mut one = Slot::empty(alloc);
+    let (mut value, mut left) = (7, 0);
+    assert!(rt; elltree_slot_put(alloc, &mut one, 2, 21, 9, &mut value) == CLOSED);
+    assert!(rt; elltree_slot_open_shared(alloc, &mut one, &START, 4, 1) == YES);
+    assert!(rt; elltree_slot_compare_exchange(alloc, &mut one, 3, 20, 21, 9, &mut value) == NO);
+    assert!(rt; value == 7);
+    assert!(rt; elltree_slot_compare_exchange(alloc, &mut one, 2, 20, 21, 9, &mut value) == YES);
+    assert!(rt; value == 20);
+    assert!(rt;
+        elltree_slot_compare_exchange(alloc, &mut one, 2, 20, 22, 9, &mut value) == OTHER_VALUE
+    );
+    assert!(rt; value == 21);
+    assert!(rt; elltree_slot_fetch_add(alloc, &mut one, 2, u64::MAX, 9, &mut value) == YES);
+    assert!(rt; value == 21);
+    assert!(rt; elltree_slot_fetch_add(alloc, &mut one, 3, 5, 9, &mut value) == NO);
+    assert!(rt; elltree_slot_put(alloc, &mut one, 2, 30, 9, &mut value) == YES);
+    assert!(rt; value == 20);
+    assert!(rt; elltree_slot_put(alloc, &mut one, 3, 31, 9, &mut value) == NO);
+    assert!(rt; value == 20);
+    assert!(rt; elltree_slot_find(alloc, &mut one, 3, &mut value) == YES);
+    assert!(rt; value == 31);
+    assert!(rt; elltree_slot_cards_left(alloc, &mut one, &mut left) == YES);
+    assert!(rt; left == 0);
+    assert!(rt; elltree_slot_put(alloc, &mut one, 3, 32, 9, &mut value) == SPENT);
+    assert!(rt; elltree_slot_fetch_add(alloc, &mut one, KEY_MAX + 1, 1, 0, &mut value) == NO_TRIES);
+    assert!(rt; elltree_slot_fetch_add(alloc, &mut one, KEY_MAX + 1, 1, 9, &mut value) == FOREIGN);
+    assert!(rt; elltree_slot_find(alloc, &mut one, 2, &mut value) == YES);
+    assert!(rt; value == 30);
+    assert!(rt; elltree_slot_free(alloc, &mut one) == YES);
+}
+
+#[test]
 fn codes_have_texts(rt: HostRuntime) {
     let mut out = [b'.'; 32];
     assert!(rt; elltree_code_text(OTHER_TREE, &mut out) == 28);
     assert!(rt; out == *b"the handles are of two trees\0...");
     assert!(rt; elltree_code_text(SPENT, &mut out[..4]) == 23);
     assert!(rt; out == *b"all\0handles are of two trees\0...");
-    assert!(rt; elltree_code_text(YES + 1, &mut out) == 18);
+    assert!(rt; elltree_code_text(YES + 2, &mut out) == 18);
     assert!(rt; out == *b"no code of elltree\0two trees\0...");
     assert!(rt; elltree_code_text(YES, &mut out[..0]) == 3);
     assert!(rt; out == *b"no code of elltree\0two trees\0...");

@@ -4,7 +4,7 @@ ghost use Rattle.elltree.specs.Texts.{WritesText, text_of};
 
 use crate::codes::{
     BAD_CARDS, BAD_KEY, BAD_START, BUSY, CLOSED, FOREIGN, IN_CALL, NO, NO_MEMORY, NO_ROOM,
-    NO_TRIES, NULL, OPEN, OTHER_TREE, SAME, SHARED_KEYS, SPENT, TOO_MANY_HANDLES, YES,
+    NO_TRIES, NULL, OPEN, OTHER_TREE, OTHER_VALUE, SAME, SHARED_KEYS, SPENT, TOO_MANY_HANDLES, YES,
 };
 
 /// Writes what a code says to the front of an array, with a 0 behind it, and returns how many bytes the whole text has, without the 0. As
@@ -40,6 +40,7 @@ fn text_of(code: i32) -> &'static [u8]
     match code {
         NO => b"no",
         YES => b"yes",
+        OTHER_VALUE => b"the key has another value",
         BUSY => b"something was in the way of each try",
         SPENT => b"all cards are given out",
         FOREIGN => b"the key is neither the handle's own nor shared",

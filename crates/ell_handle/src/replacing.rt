@@ -1,0 +1,119 @@
+//! Compares, puts and updates values in place, each in one atomic step.
+ghost use Rattle.std.specs.Prelude.{◌≡◌, IfOk, IfErr, OnOk, OnErr};
+ghost use Rattle.ell_ops.specs.declared.op.Op.TheVariants.{Swap};
+ghost use Rattle.ell_ops.specs.Meaning.{found};
+ghost use Rattle.ell_tree.specs.Computing.{IsSum, PutsValue, UpdatesValue};
+ghost use Rattle.ell_tree.specs.Ends.{Answers};
+ghost use Rattle.ell_tree.specs.Promises.{SpendsCards};
+ghost use Rattle.ell_handle.specs.Groups.{StaysPut};
+ghost use Rattle.ell_handle.specs.Reads.{KeepsKeys, tree_of};
+ghost use Rattle.ell_handle.specs.Tries.{ChangeRefuses, MayChange, TookTries};
+ghost use Rattle.ell_handle.specs.Values.{SaysIfExchanged, TookRounds, ValueRefuses, value_seen, whether_exchanged, whether_put, whether_updated};
+
+use crate::handle::Handle;
+use crate::refusal::Refusal;
+use ell_tree::NoGate;
+
+impl Handle {
+    /// Stores `new` as the value of a key of the handle's own, or of a shared one, if its value is `current`. Returns `Ok(current)` if it was
+    /// exchanged, and else what is there: `Err(Some(value))` if the key has another value, and `Err(None)` if it is absent. Either way comparing
+    /// and storing are one atomic step. Refusals, tries and cards are as of `insert`: an exchange takes a card.
+    #[tactic(auto, using(crate::proofs::Trying::within_same, crate::proofs::Trying::spends_none, crate::proofs::May::may_do))]
+    pub fn compare_exchange(
+        &mut self,
+        key: u64,
+        current: u64,
+        new: u64,
+        tries: u32,
+    ) -> Result<Result<u64, Option<u64>>, Refusal>
+        ensures answers { IfOk result (λ said.
+            Answers (tree_of self.old) (Swap key current new) (found (value_seen said)) self.old.pass self.new.pass) }
+        ensures exchanged { IfOk result (SaysIfExchanged current) }
+        ensures may { OnOk result (MayChange key tries self.old) }
+        ensures why { IfErr result (ChangeRefuses (Swap key current new) tries self.old self.new) }
+        ensures refused { OnErr result (StaysPut self.old self.new) }
+        ensures keeps { KeepsKeys self.old self.new }
+        ensures took { TookTries tries self.old self.new }
+        ensures cards { SpendsCards key tries self.old.pass self.new.pass (whether_exchanged result) }
+    {
+        self.may_change(key, tries)?;
+        let there = self
+            .shared
+            .tree
+            .swap(&mut self.pass, key, current, new, tries, &NoGate)?;
+        if there == Some(current) {
+            Ok(Ok(current))
+        } else {
+            Ok(Err(there))
+        }
+    }
+
+    /// Stores a value of a key of the handle's own, or of a shared one, whether the key was present or not, in one atomic step. Returns the value
+    /// that it had, if it was present. `NoTries` and `Foreign` are as of `insert`. A try fails if something was in its way, or if another handle
+    /// has changed the key since it was read: `Busy` if all tries fail so, and `Spent` if a try finds all cards given out. A put takes a card,
+    /// and at most one more for each try that something hindered.
+    #[tactic(auto, using(crate::proofs::Trying::rounds_same, crate::proofs::Trying::spends_none, crate::proofs::May::may_do))]
+    pub fn put(&mut self, key: u64, value: u64, tries: u32) -> Result<Option<u64>, Refusal>
+        ensures puts { IfOk result (PutsValue (tree_of self.old) key value self.old.pass self.new.pass) }
+        ensures may { OnOk result (MayChange key tries self.old) }
+        ensures why { IfErr result (ValueRefuses key tries self.old self.new) }
+        ensures refused { OnErr result (StaysPut self.old self.new) }
+        ensures keeps { KeepsKeys self.old self.new }
+        ensures took { TookRounds tries self.old self.new }
+        ensures cards { SpendsCards key tries self.old.pass self.new.pass (whether_put result) }
+    {
+        self.may_change(key, tries)?;
+        Ok(
+            self.shared
+                .tree
+                .put(&mut self.pass, key, value, tries, &NoGate)?,
+        )
+    }
+
+    /// Stores the value that `f` makes of the one that a key of the handle's own, or a shared one, has, in one atomic step. Returns the value that
+    /// it had. A key that is absent is left so, and takes no card of an own key. `f` is called anew for each value that is found. Refusals are as
+    /// of `put`.
+    #[tactic(auto, using(crate::proofs::Trying::rounds_same, crate::proofs::Trying::spends_none, crate::proofs::May::may_do, crate::proofs::Values::update_leaves))]
+    pub fn update<F: Fn(u64) -> u64>(
+        &mut self,
+        key: u64,
+        f: F,
+        tries: u32,
+    ) -> Result<Option<u64>, Refusal>
+        requires f { F.IsAlwaysCallable f }
+        ensures updates { IfOk result (UpdatesValue (tree_of self.old) key (F.post f) self.old.pass self.new.pass) }
+        ensures may { OnOk result (MayChange key tries self.old) }
+        ensures why { IfErr result (ValueRefuses key tries self.old self.new) }
+        ensures refused { OnErr result (StaysPut self.old self.new) }
+        ensures keeps { KeepsKeys self.old self.new }
+        ensures took { TookRounds tries self.old self.new }
+        ensures cards { SpendsCards key tries self.old.pass self.new.pass (whether_updated result) }
+    {
+        self.may_change(key, tries)?;
+        Ok(
+            self.shared
+                .tree
+                .update(&mut self.pass, key, f, tries, &NoGate)?,
+        )
+    }
+
+    /// Adds to the value of a key of the handle's own, or of a shared one, in one atomic step, and returns the value that it had. A sum past
+    /// `u64::MAX` wraps around. A key that is absent is left so. Refusals are as of `put`.
+    #[tactic(auto, using(crate::proofs::Trying::rounds_same, crate::proofs::Trying::spends_none, crate::proofs::May::may_do, crate::proofs::Values::update_leaves))]
+    pub fn fetch_add(&mut self, key: u64, addend: u64, tries: u32) -> Result<Option<u64>, Refusal>
+        ensures adds { IfOk result (UpdatesValue (tree_of self.old) key (IsSum addend) self.old.pass self.new.pass) }
+        ensures may { OnOk result (MayChange key tries self.old) }
+        ensures why { IfErr result (ValueRefuses key tries self.old self.new) }
+        ensures refused { OnErr result (StaysPut self.old self.new) }
+        ensures keeps { KeepsKeys self.old self.new }
+        ensures took { TookRounds tries self.old self.new }
+        ensures cards { SpendsCards key tries self.old.pass self.new.pass (whether_updated result) }
+    {
+        self.may_change(key, tries)?;
+        Ok(
+            self.shared
+                .tree
+                .fetch_add(&mut self.pass, key, addend, tries, &NoGate)?,
+        )
+    }
+}

@@ -1,0 +1,167 @@
+//! Compares, puts and sums of values in place.
+ghost use Rattle.std.specs.Prelude.{◌≡◌, ◌≢◌, ◌↔◌, [], ◌∷◌, None, Some, Ok, Err, IfErr, OnOk};
+ghost use Rattle.elltree.specs.Codes.{IsOneOf, code_of, said_closed, said_no, said_other_value, said_yes};
+ghost use Rattle.elltree.specs.Maps.{handle_of};
+ghost use Rattle.elltree.specs.Slots.{OfHandlesIfAny};
+ghost use Rattle.elltree.specs.Values.{TellsExchange, TellsPut, TellsSum};
+
+use crate::codes::{CLOSED, NO, OTHER_VALUE, YES, code_of_refusal};
+use crate::slot::Slot;
+use ell_handle::{Handle, Refusal};
+use std::alloc::Global;
+
+/// Stores `new` as the value of a key of the slot's if its value is `current`: whether it was exchanged, and else whether the key is absent or has
+/// another value. The value that was found is written, if there was one.
+#[unsafe(no_mangle)]
+pub extern "C" fn elltree_slot_compare_exchange(
+    alloc: Global,
+    slot: &mut Slot,
+    key: u64,
+    current: u64,
+    new: u64,
+    tries: u32,
+    found: &mut u64,
+) -> i32
+    ensures closed { (result ≡ said_closed) ↔ (handle_of slot.old.raw.inside ≡ None) }
+    ensures tells { OfHandlesIfAny (TellsExchange key current new tries result found.new) (handle_of slot.old.raw.inside)
+        (handle_of slot.new.raw.inside) }
+    ensures kept { result ≢ said_yes → result ≢ said_other_value → found.new ≡ found.old }
+{
+    let Some(mut place) = slot.take(alloc) else {
+        return CLOSED;
+    };
+    let code = match &mut place.handle {
+        Some(handle) => compare_exchange(handle, key, current, new, tries, found),
+        None => CLOSED,
+    };
+    slot.put(place);
+    code
+}
+
+// A compare-exchange as a code.
+fn compare_exchange(
+    handle: &mut Handle,
+    key: u64,
+    current: u64,
+    new: u64,
+    tries: u32,
+    found: &mut u64,
+) -> i32
+    ensures tells { TellsExchange key current new tries result found.new handle.old handle.new }
+    ensures kept { result ≢ said_yes → result ≢ said_other_value → found.new ≡ found.old }
+    ensures open { result ≢ said_closed }
+{
+    exchanged(handle.compare_exchange(key, current, new, tries), found)
+}
+
+// What a compare-exchange has answered, as a code: a value that was found is written.
+fn exchanged(answer: Result<Result<u64, Option<u64>>, Refusal>, found: &mut u64) -> i32
+    ensures yes { result ≡ said_yes → answer ≡ Ok (Ok found.new) }
+    ensures no { result ≡ said_no → answer ≡ Ok (Err None) }
+    ensures other { result ≡ said_other_value → answer ≡ Ok (Err (Some found.new)) }
+    ensures answered { OnOk answer (IsOneOf (said_yes ∷ said_no ∷ said_other_value ∷ []) result) }
+    ensures refused { IfErr answer (λ why. result ≡ code_of why) }
+    ensures kept { result ≢ said_yes → result ≢ said_other_value → found.new ≡ found.old }
+{
+    match answer {
+        Ok(Ok(had)) => {
+            *found = had;
+            YES
+        }
+        Ok(Err(Some(there))) => {
+            *found = there;
+            OTHER_VALUE
+        }
+        Ok(Err(None)) => NO,
+        Err(refusal) => code_of_refusal(refusal),
+    }
+}
+
+/// Stores a value of a key of the slot's, whether the key was present or not: whether it was, and then the value that it had is written.
+#[unsafe(no_mangle)]
+pub extern "C" fn elltree_slot_put(
+    alloc: Global,
+    slot: &mut Slot,
+    key: u64,
+    value: u64,
+    tries: u32,
+    was: &mut u64,
+) -> i32
+    ensures closed { (result ≡ said_closed) ↔ (handle_of slot.old.raw.inside ≡ None) }
+    ensures tells { OfHandlesIfAny (TellsPut key value tries result was.new) (handle_of slot.old.raw.inside)
+        (handle_of slot.new.raw.inside) }
+    ensures kept { result ≢ said_yes → was.new ≡ was.old }
+{
+    let Some(mut place) = slot.take(alloc) else {
+        return CLOSED;
+    };
+    let code = match &mut place.handle {
+        Some(handle) => put(handle, key, value, tries, was),
+        None => CLOSED,
+    };
+    slot.put(place);
+    code
+}
+
+// A put as a code.
+fn put(handle: &mut Handle, key: u64, value: u64, tries: u32, was: &mut u64) -> i32
+    ensures tells { TellsPut key value tries result was.new handle.old handle.new }
+    ensures kept { result ≢ said_yes → was.new ≡ was.old }
+    ensures open { result ≢ said_closed }
+{
+    replaced(handle.put(key, value, tries), was)
+}
+
+/// Adds to the value of a key of the slot's, modulo 2^64: whether the key is present, and then the value that it had is written. A key that is absent
+/// is left so.
+#[unsafe(no_mangle)]
+pub extern "C" fn elltree_slot_fetch_add(
+    alloc: Global,
+    slot: &mut Slot,
+    key: u64,
+    addend: u64,
+    tries: u32,
+    was: &mut u64,
+) -> i32
+    ensures closed { (result ≡ said_closed) ↔ (handle_of slot.old.raw.inside ≡ None) }
+    ensures tells { OfHandlesIfAny (TellsSum key addend tries result was.new) (handle_of slot.old.raw.inside)
+        (handle_of slot.new.raw.inside) }
+    ensures kept { result ≢ said_yes → was.new ≡ was.old }
+{
+    let Some(mut place) = slot.take(alloc) else {
+        return CLOSED;
+    };
+    let code = match &mut place.handle {
+        Some(handle) => fetch_add(handle, key, addend, tries, was),
+        None => CLOSED,
+    };
+    slot.put(place);
+    code
+}
+
+// A sum as a code.
+fn fetch_add(handle: &mut Handle, key: u64, addend: u64, tries: u32, was: &mut u64) -> i32
+    ensures tells { TellsSum key addend tries result was.new handle.old handle.new }
+    ensures kept { result ≢ said_yes → was.new ≡ was.old }
+    ensures open { result ≢ said_closed }
+{
+    replaced(handle.fetch_add(key, addend, tries), was)
+}
+
+// What a put or a sum has answered, as a code: a value that the key had is written.
+fn replaced(answer: Result<Option<u64>, Refusal>, was: &mut u64) -> i32
+    ensures yes { result ≡ said_yes → answer ≡ Ok (Some was.new) }
+    ensures no { result ≡ said_no → answer ≡ Ok None }
+    ensures answered { OnOk answer (IsOneOf (said_yes ∷ said_no ∷ []) result) }
+    ensures refused { IfErr answer (λ why. result ≡ code_of why) }
+    ensures kept { result ≢ said_yes → was.new ≡ was.old }
+{
+    match answer {
+        Ok(Some(had)) => {
+            *was = had;
+            YES
+        }
+        Ok(None) => NO,
+        Err(refusal) => code_of_refusal(refusal),
+    }
+}
