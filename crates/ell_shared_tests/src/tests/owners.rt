@@ -5,7 +5,7 @@ use super::calling::Call::{self, Ask, Look, Take};
 use super::calling::{answer, check, check_key, close};
 use super::holding::{Meeting, meet};
 use super::parting::{joined, parted};
-use super::working::{Load, owner_of, run};
+use super::working::{Load, Mix, owner_of, run};
 use ell_ops::Op::{Delete, Find, Insert};
 use ell_ops::Reply;
 use ell_ops::Reply::{Found, No, Yes};
@@ -51,6 +51,7 @@ fn owners_are_answered_as_private_maps_among_shared_keys(rt: HostRuntime) {
                 owned: &OWNED,
                 calls: 500,
                 seed,
+                mix: Mix::All,
             };
             let (calls, pairs) = run(&rt, workers, &START, load, &Jostling::new(seed));
             check(&rt, KEYS, &START, &calls, &pairs);
@@ -124,30 +125,30 @@ const OWNER_ADDS: Meeting = Meeting {
     owned: &[5],
     by_zero: &[5],
     start: &[(6, 60)],
-    held: (Insert(5, 50), Yes),
+    held: (Ask(Insert(5, 50)), Yes),
     rows: &[
-        (Insert(4, 40), Yes),
-        (Delete(6), Yes),
-        (Find(4), Found(40)),
-        (Insert(6, 61), Yes),
-        (Delete(4), Yes),
-        (Insert(4, 41), Yes),
-        (Delete(4), Yes),
-        (Insert(7, 70), Yes),
+        (Ask(Insert(4, 40)), Yes),
+        (Ask(Delete(6)), Yes),
+        (Ask(Find(4)), Found(40)),
+        (Ask(Insert(6, 61)), Yes),
+        (Ask(Delete(4)), Yes),
+        (Ask(Insert(4, 41)), Yes),
+        (Ask(Delete(4)), Yes),
+        (Ask(Insert(7, 70)), Yes),
     ],
     end: &[(5, 50), (6, 61), (7, 70)],
 };
 
 const OWNER_DELETES: Meeting = Meeting {
     start: &[(4, 40), (5, 50), (6, 60)],
-    held: (Delete(5), Yes),
+    held: (Ask(Delete(5)), Yes),
     rows: &[
-        (Delete(4), Yes),
-        (Insert(4, 41), Yes),
-        (Delete(6), Yes),
-        (Find(6), No),
-        (Delete(4), Yes),
-        (Insert(6, 61), Yes),
+        (Ask(Delete(4)), Yes),
+        (Ask(Insert(4, 41)), Yes),
+        (Ask(Delete(6)), Yes),
+        (Ask(Find(6)), No),
+        (Ask(Delete(4)), Yes),
+        (Ask(Insert(6, 61)), Yes),
     ],
     end: &[(6, 61)],
     ..OWNER_ADDS
@@ -159,14 +160,14 @@ const GUEST_ADDS: Meeting = Meeting {
     owned: &[4, 6],
     end: &[(5, 50), (6, 61)],
     rows: &[
-        (Insert(4, 40), Yes),
-        (Delete(6), Yes),
-        (Delete(6), No),
-        (Find(4), Found(40)),
-        (Insert(6, 61), Yes),
-        (Insert(6, 62), No),
-        (Delete(4), Yes),
-        (Find(4), No),
+        (Ask(Insert(4, 40)), Yes),
+        (Ask(Delete(6)), Yes),
+        (Ask(Delete(6)), No),
+        (Ask(Find(4)), Found(40)),
+        (Ask(Insert(6, 61)), Yes),
+        (Ask(Insert(6, 62)), No),
+        (Ask(Delete(4)), Yes),
+        (Ask(Find(4)), No),
     ],
     ..OWNER_ADDS
 };
