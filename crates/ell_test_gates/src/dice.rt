@@ -32,14 +32,20 @@ impl Dice {
         self.state
     }
 
-    /// A find, an insert or a delete of a key. An insert has a value of 64 bits.
+    /// One of four values, spread over 64 bits: so few that swaps often find the one that they replace.
+    pub fn one_of_four(&mut self) -> u64 {
+        self.below(4).wrapping_mul(0x5555_5555_5555_5555)
+    }
+
+    /// A find, an insert, a delete or a swap of a key. Its values are each one of four.
     pub fn operation(&mut self, key: u64) -> Op
         ensures { key_of result ≡ key }
     {
-        match self.below(3) {
+        match self.below(4) {
             0 => Op::Find(key),
-            1 => Op::Insert(key, self.value()),
-            _ => Op::Delete(key),
+            1 => Op::Insert(key, self.one_of_four()),
+            2 => Op::Delete(key),
+            _ => Op::Swap(key, self.one_of_four(), self.one_of_four()),
         }
     }
 }

@@ -34,6 +34,9 @@ fn answer_of<A: Allocator + Copy>(tree: &Tree<A>, pass: &mut Pass<A>, op: Op) ->
         Op::Find(key) => Ok(Reply::found(tree.find(pass, key, &NoGate))),
         Op::Insert(key, value) => Ok(Reply::yes_if(tree.insert(pass, key, value, 1, &NoGate)?)),
         Op::Delete(key) => Ok(Reply::yes_if(tree.delete(pass, key, 1, &NoGate)?)),
+        Op::Swap(key, was, value) => {
+            Ok(Reply::found(tree.swap(pass, key, was, value, 1, &NoGate)?))
+        }
     }
 }
 

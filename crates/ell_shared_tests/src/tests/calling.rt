@@ -19,15 +19,41 @@ pub enum Call {
     Ask(Op),
     Take(u64),
     Look(u64),
+    /// Puts the second number at the key that the first one is.
+    Put(u64, u64),
+    /// Adds the second number to the value of that key.
+    Add(u64, u64),
+    /// Updates the value of a key to the one that `next_value` makes of it.
+    Update(u64),
+}
+
+/// What an update makes of a value: another one.
+pub fn next_value(value: u64) -> u64 {
+    value.wrapping_mul(3).wrapping_add(1)
 }
 
 impl Call {
-    // As what it stands in a history.
-    fn op(self) -> Op {
+    /// The key.
+    pub fn key(self) -> u64 {
         match self {
-            Call::Ask(op) => op,
-            Call::Take(key) => Op::Delete(key),
-            Call::Look(key) => Op::Find(key),
+            Call::Ask(op) => op.key(),
+            Call::Take(key) | Call::Look(key) | Call::Update(key) => key,
+            Call::Put(key, _) | Call::Add(key, _) => key,
+        }
+    }
+
+    // As what it stands in a history, and what it answers there, if it answers this.
+    fn told(self, said: Reply) -> (Op, Reply) {
+        match (self, said) {
+            (Call::Ask(op), _) => (op, said),
+            (Call::Take(key), _) => (Op::Delete(key), said),
+            (Call::Put(key, value), Reply::Found(was)) => (Op::Swap(key, was, value), said),
+            (Call::Put(key, value), _) => (Op::Insert(key, value), Reply::Yes),
+            (Call::Add(key, addend), Reply::Found(was)) => {
+                (Op::Swap(key, was, was.wrapping_add(addend)), said)
+            }
+            (Call::Update(key), Reply::Found(was)) => (Op::Swap(key, was, next_value(was)), said),
+            (Call::Look(key) | Call::Add(key, _) | Call::Update(key), _) => (Op::Find(key), said),
         }
     }
 }
@@ -47,17 +73,23 @@ pub fn ask<G: StepGate>(
     pass: &mut Pass<Global>,
     owned: &[u64],
     op: Op,
+    tries: u32,
     gate: &G,
 ) -> Result<Reply, Held>
-    requires { IsMember owned.now tree.now pass.old }
+    requires member { IsMember owned.now tree.now pass.old }
+    requires tries { 1 ≤ tries }
     ensures { IsMember owned.now tree.now pass.new }
 {
     let key = op.key();
     assert!(rt; pass.owns(key) || (key <= KEY_MAX && !is_among(key, owned)));
     match op {
         Op::Find(key) => Ok(Reply::found(tree.find(pass, key, gate))),
-        Op::Insert(key, value) => Ok(Reply::yes_if(tree.insert(pass, key, value, TRIES, gate)?)),
-        Op::Delete(key) => Ok(Reply::yes_if(tree.delete(pass, key, TRIES, gate)?)),
+        Op::Insert(key, value) => Ok(Reply::yes_if(tree.insert(pass, key, value, tries, gate)?)),
+        Op::Delete(key) => Ok(Reply::yes_if(tree.delete(pass, key, tries, gate)?)),
+        Op::Swap(key, was, value) => {
+            let there = tree.swap(pass, key, was, value, tries, gate)?;
+            Ok(Reply::found(there))
+        }
     }
 }
 
@@ -69,17 +101,114 @@ fn take<G: StepGate>(
     pass: &mut Pass<Global>,
     owned: &[u64],
     key: u64,
+    tries: u32,
     gate: &G,
 ) -> Result<Option<u64>, Held>
-    requires { IsMember owned.now tree.now pass.old }
+    requires member { IsMember owned.now tree.now pass.old }
+    requires tries { 1 ≤ tries }
     ensures { IsMember owned.now tree.now pass.new }
 {
     assert!(rt; pass.owns(key) || (key <= KEY_MAX && !is_among(key, owned)));
-    tree.take(pass, key, TRIES, gate)
+    tree.take(pass, key, tries, gate)
 }
 
-/// Makes a call: what it answers, of a look as a find does, and of a take that it found the value.
+// Puts a value at such a key: the value that it had.
+#[tactic(auto, using(crate::proofs::Sharers::may_own, crate::proofs::Sharers::may_share, crate::proofs::Sharers::member_put, crate::proofs::Sharers::member_held_back))]
+fn put<G: StepGate>(
+    rt: &impl Abort,
+    tree: &Tree<Global>,
+    pass: &mut Pass<Global>,
+    owned: &[u64],
+    key: u64,
+    value: u64,
+    tries: u32,
+    gate: &G,
+) -> Result<Option<u64>, Held>
+    requires member { IsMember owned.now tree.now pass.old }
+    requires tries { 1 ≤ tries }
+    ensures { IsMember owned.now tree.now pass.new }
+{
+    assert!(rt; pass.owns(key) || (key <= KEY_MAX && !is_among(key, owned)));
+    tree.put(pass, key, value, tries, gate)
+}
+
+// Adds to the value of such a key: the value that it had.
+#[tactic(auto, using(crate::proofs::Sharers::may_own, crate::proofs::Sharers::may_share, crate::proofs::Sharers::member_updated, crate::proofs::Sharers::member_held_back))]
+fn add<G: StepGate>(
+    rt: &impl Abort,
+    tree: &Tree<Global>,
+    pass: &mut Pass<Global>,
+    owned: &[u64],
+    key: u64,
+    addend: u64,
+    tries: u32,
+    gate: &G,
+) -> Result<Option<u64>, Held>
+    requires member { IsMember owned.now tree.now pass.old }
+    requires tries { 1 ≤ tries }
+    ensures { IsMember owned.now tree.now pass.new }
+{
+    assert!(rt; pass.owns(key) || (key <= KEY_MAX && !is_among(key, owned)));
+    tree.fetch_add(pass, key, addend, tries, gate)
+}
+
+/// Updates the value of such a key to the one that `next_value` makes of it, and counts how often it is called: the value that it had.
+#[tactic(auto, using(crate::proofs::Sharers::may_own, crate::proofs::Sharers::may_share, crate::proofs::Sharers::member_updated, crate::proofs::Sharers::member_held_back))]
+pub fn update<G: StepGate>(
+    rt: &impl Abort,
+    tree: &Tree<Global>,
+    pass: &mut Pass<Global>,
+    owned: &[u64],
+    key: u64,
+    called: &AtomicU64,
+    tries: u32,
+    gate: &G,
+) -> Result<Option<u64>, Held>
+    requires member { IsMember owned.now tree.now pass.old }
+    requires tries { 1 ≤ tries }
+    ensures { IsMember owned.now tree.now pass.new }
+{
+    assert!(rt; pass.owns(key) || (key <= KEY_MAX && !is_among(key, owned)));
+    let next = |value: u64| {
+        called.fetch_add(1, Ordering::SeqCst);
+        next_value(value)
+    };
+    tree.update(pass, key, next, tries, gate)
+}
+
+/// Makes a call with so many tries: what it answers, of a look as a find does, and of one that answers a value that it found that.
 #[tactic(auto, using(crate::proofs::Sharers::member_looking))]
+pub fn answer_by<G: StepGate>(
+    rt: &impl Abort,
+    tree: &Tree<Global>,
+    pass: &mut Pass<Global>,
+    owned: &[u64],
+    call: Call,
+    tries: u32,
+    gate: &G,
+) -> Result<Reply, Held>
+    requires member { IsMember owned.now tree.now pass.old }
+    requires tries { 1 ≤ tries }
+    ensures { IsMember owned.now tree.now pass.new }
+{
+    let there = match call {
+        Call::Ask(op) => return ask(rt, tree, pass, owned, op, tries, gate),
+        Call::Take(key) => take(rt, tree, pass, owned, key, tries, gate)?,
+        Call::Look(key) => {
+            assert!(rt; key <= KEY_MAX);
+            tree.look(pass, key, gate)
+        }
+        Call::Put(key, value) => put(rt, tree, pass, owned, key, value, tries, gate)?,
+        Call::Add(key, addend) => add(rt, tree, pass, owned, key, addend, tries, gate)?,
+        Call::Update(key) => {
+            let called = AtomicU64::new(0);
+            update(rt, tree, pass, owned, key, &called, tries, gate)?
+        }
+    };
+    Ok(Reply::found(there))
+}
+
+/// Makes a call with many tries.
 pub fn answer<G: StepGate>(
     rt: &impl Abort,
     tree: &Tree<Global>,
@@ -91,19 +220,24 @@ pub fn answer<G: StepGate>(
     requires { IsMember owned.now tree.now pass.old }
     ensures { IsMember owned.now tree.now pass.new }
 {
-    match call {
-        Call::Ask(op) => ask(rt, tree, pass, owned, op, gate),
-        Call::Take(key) => Ok(Reply::found(take(rt, tree, pass, owned, key, gate)?)),
-        Call::Look(key) => {
-            assert!(rt; key <= KEY_MAX);
-            Ok(Reply::found(tree.look(pass, key, gate)))
-        }
-    }
+    answer_by(rt, tree, pass, owned, call, TRIES, gate)
 }
 
 /// The next moment of a clock that all workers read.
 pub fn tick(clock: &AtomicU64) -> u64 {
     clock.fetch_add(1, Ordering::SeqCst)
+}
+
+/// What a history says of a call of a worker.
+pub fn made(worker: u32, call: Call, said: Reply, begun: u64, ended: u64) -> Made {
+    let (op, said) = call.told(said);
+    Made {
+        worker,
+        op,
+        said,
+        begun,
+        ended,
+    }
 }
 
 /// Makes a call: what a history says of it, if it was answered.
@@ -122,13 +256,7 @@ pub fn make<G: StepGate>(
     let begun = tick(clock);
     let said = answer(rt, tree, pass, owned, call, gate).ok()?;
     let ended = tick(clock);
-    Some(Made {
-        worker: pass.label(),
-        op: call.op(),
-        said,
-        begun,
-        ended,
-    })
+    Some(made(pass.label(), call, said, begun, ended))
 }
 
 /// Ends a tree, by the pass that is to own all keys that may have owners, and to have the whole share: the keys with their values.

@@ -19,7 +19,7 @@ const fn call(worker: u32, op: Op, said: Reply, begun: u64, ended: u64) -> Made 
 type History<'a> = &'a [(u32, Op, Reply, u64, u64)];
 
 // From the key absent.
-const WRONG: [(&str, History<'static>); 22] = [
+const WRONG: [(&str, History<'static>); 29] = [
     (
         "two inserts add the key, and none takes it away between",
         &[(0, Insert(5, 50), Yes, 1, 4), (1, Insert(5, 51), Yes, 2, 3)],
@@ -135,7 +135,32 @@ const WRONG: [(&str, History<'static>); 22] = [
         ],
     ),
     (
-        "two swaps both find the value that one of them has replaced",
+        "a swap answers a value that never was",
+        &[
+            (0, Insert(5, 50), Yes, 1, 2),
+            (1, Swap(5, 51, 52), Found(51), 3, 4),
+        ],
+    ),
+    (
+        "a swap that swaps nothing answers a value that never was",
+        &[
+            (0, Insert(5, 50), Yes, 1, 2),
+            (1, Swap(5, 50, 52), Found(51), 3, 4),
+        ],
+    ),
+    (
+        "a swap finds a key that was never there",
+        &[(0, Swap(5, 50, 51), Found(50), 1, 2)],
+    ),
+    (
+        "a swap misses a key that was there all the time",
+        &[
+            (0, Insert(5, 50), Yes, 1, 2),
+            (1, Swap(5, 51, 52), No, 3, 4),
+        ],
+    ),
+    (
+        "two swaps of one value both swap it",
         &[
             (0, Insert(5, 50), Yes, 1, 2),
             (1, Swap(5, 50, 51), Found(50), 3, 6),
@@ -143,7 +168,16 @@ const WRONG: [(&str, History<'static>); 22] = [
         ],
     ),
     (
-        "a swap is lost",
+        "two sums both add to one value",
+        &[
+            (0, Insert(5, 50), Yes, 1, 2),
+            (1, Swap(5, 50, 51), Found(50), 3, 6),
+            (2, Swap(5, 50, 51), Found(50), 4, 5),
+            (0, Find(5), Found(51), 7, 8),
+        ],
+    ),
+    (
+        "a find finds the old value behind a swap that ended before it began",
         &[
             (0, Insert(5, 50), Yes, 1, 2),
             (1, Swap(5, 50, 51), Found(50), 3, 4),
@@ -151,7 +185,7 @@ const WRONG: [(&str, History<'static>); 22] = [
         ],
     ),
     (
-        "a swap that found another value changes it",
+        "a find finds the value of a swap that swapped nothing",
         &[
             (0, Insert(5, 50), Yes, 1, 2),
             (1, Swap(5, 51, 52), Found(50), 3, 4),
@@ -159,22 +193,44 @@ const WRONG: [(&str, History<'static>); 22] = [
         ],
     ),
     (
-        "a swap adds a key that was never there",
+        "a swap is lost that ended before another one of the old value began",
         &[
-            (0, Swap(5, 0, 50), No, 1, 2),
-            (1, Find(5), Found(50), 3, 4),
+            (0, Insert(5, 50), Yes, 1, 2),
+            (1, Swap(5, 50, 51), Found(50), 3, 4),
+            (2, Swap(5, 50, 52), Found(50), 5, 6),
         ],
     ),
     (
-        "a swap misses a key that was there all the time",
+        "a swap adds a key that was deleted",
         &[
             (0, Insert(5, 50), Yes, 1, 2),
-            (1, Swap(5, 50, 51), No, 3, 4),
+            (1, Delete(5), Yes, 3, 4),
+            (2, Swap(5, 50, 51), No, 5, 6),
+            (0, Find(5), Found(51), 7, 8),
+        ],
+    ),
+    (
+        "a take takes the old value behind a swap",
+        &[
+            (0, Insert(5, 50), Yes, 1, 2),
+            (1, Swap(5, 50, 51), Found(50), 3, 4),
+            (2, Delete(5), Found(50), 5, 6),
+        ],
+    ),
+    (
+        "two finds see two swaps in two orders",
+        &[
+            (0, Insert(5, 50), Yes, 1, 2),
+            (1, Swap(5, 50, 51), Found(50), 3, 20),
+            (2, Swap(5, 51, 50), Found(51), 4, 19),
+            (3, Find(5), Found(51), 5, 6),
+            (3, Find(5), Found(50), 7, 8),
+            (3, Find(5), Found(51), 9, 10),
         ],
     ),
 ];
 
-const RIGHT: [(&str, History<'static>); 14] = [
+const RIGHT: [(&str, History<'static>); 16] = [
     ("nothing happens", &[]),
     (
         "calls come one after the other",
@@ -264,26 +320,47 @@ const RIGHT: [(&str, History<'static>); 14] = [
             (0, Insert(5, 50), Yes, 3, 4),
             (0, Swap(5, 51, 52), Found(50), 5, 6),
             (0, Swap(5, 50, 51), Found(50), 7, 8),
+            (0, Swap(5, 51, 51), Found(51), 9, 10),
+            (0, Find(5), Found(51), 11, 12),
+            (0, Delete(5), Yes, 13, 14),
+        ],
+    ),
+    (
+        "of two swaps of one value at once one finds what the other one put",
+        &[
+            (0, Insert(5, 50), Yes, 1, 2),
+            (1, Swap(5, 50, 51), Found(52), 3, 6),
+            (2, Swap(5, 50, 52), Found(50), 4, 5),
+            (0, Find(5), Found(52), 7, 8),
+        ],
+    ),
+    (
+        "two swaps of one value both swap it where a third one brings it back",
+        &[
+            (0, Insert(5, 50), Yes, 1, 2),
+            (1, Swap(5, 50, 51), Found(50), 3, 8),
+            (2, Swap(5, 50, 51), Found(50), 4, 7),
+            (3, Swap(5, 51, 50), Found(51), 5, 6),
             (0, Find(5), Found(51), 9, 10),
         ],
     ),
     (
-        "of two swaps at once of one value, one finds what the other has put",
+        "a find finds the old value beside a swap that goes on",
         &[
             (0, Insert(5, 50), Yes, 1, 2),
-            (1, Swap(5, 50, 51), Found(50), 3, 6),
-            (2, Swap(5, 50, 52), Found(51), 4, 5),
-            (0, Find(5), Found(51), 7, 8),
+            (1, Swap(5, 50, 51), Found(50), 3, 8),
+            (2, Find(5), Found(50), 4, 5),
+            (2, Find(5), Found(51), 6, 7),
         ],
     ),
     (
-        "a find that goes on sees the value between two swaps, there and back",
+        "three sums at once add up, the last one to begin first",
         &[
             (0, Insert(5, 50), Yes, 1, 2),
-            (1, Find(5), Found(51), 3, 10),
-            (0, Swap(5, 50, 51), Found(50), 4, 5),
-            (0, Swap(5, 51, 50), Found(51), 6, 7),
-            (0, Find(5), Found(50), 8, 9),
+            (1, Swap(5, 52, 53), Found(52), 3, 8),
+            (2, Swap(5, 51, 52), Found(51), 4, 7),
+            (3, Swap(5, 50, 51), Found(50), 5, 6),
+            (0, Find(5), Found(53), 9, 10),
         ],
     ),
 ];

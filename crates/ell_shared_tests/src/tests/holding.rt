@@ -7,13 +7,13 @@ ghost use Rattle.ell_tree.specs.Meaning.{greatest_key};
 ghost use Rattle.ell_tree.specs.Node.{most_start};
 ghost use Rattle.ell_shared_tests.specs.Sharing.{IsMember};
 
-use super::calling::Call::Ask;
-use super::calling::{check, close, make};
+use super::calling::Call::{self, Ask};
+use super::calling::{answer, check, close, made, tick};
 use super::parting::{joined, parted};
 use super::working::Done;
 use ell_ops::Op::{Delete, Find, Insert};
+use ell_ops::Reply;
 use ell_ops::Reply::{Found, No, Yes};
-use ell_ops::{Op, Reply};
 use ell_test_gates::{Holding, Turn, Turns, Until, two_threads_meet};
 use ell_tree::{Kind, Pass, StepGate, Tree};
 use std::alloc::Global;
@@ -22,7 +22,7 @@ use std::sync::atomic::AtomicU64;
 use std::thread::{Threads, join};
 
 /// A call, and what it answers.
-pub type Row = (Op, Reply);
+pub type Row = (Call, Reply);
 
 /// Makes calls one after the other, each of which is to be answered as its row says.
 pub fn play<G: StepGate>(
@@ -39,11 +39,13 @@ pub fn play<G: StepGate>(
 {
     let mut pass = pass;
     let mut calls = Vec::new(rt.alloc());
-    for (number, (op, said)) in rows.iter().enumerate() {
-        let label = pass.label();
-        let made = make(rt, tree, &mut pass, owned, clock, Ask(*op), gate).expect(rt, "answer");
-        assert!(rt; made.said == *said, "row {number} of worker {label}");
-        calls.push(made).expect(rt, "memory");
+    for (number, (call, want)) in rows.iter().enumerate() {
+        let (label, begun) = (pass.label(), tick(clock));
+        let said = answer(rt, tree, &mut pass, owned, *call, gate);
+        assert!(rt; said == Ok(*want), "row {number} of worker {label}");
+        let ended = tick(clock);
+        let call = made(label, *call, *want, begun, ended);
+        calls.push(call).expect(rt, "memory");
     }
     Done { pass, calls }
 }
@@ -69,9 +71,26 @@ pub fn meet<R: Threads + Abort + AllocGlobal + Sync>(rt: &R, at: Kind, meeting: 
     requires owned_real { All (λ k. k ≤ greatest_key) meeting.owned.now }
     requires by_zero { IsStrictlyIncreasing meeting.by_zero.now }
 {
-    let gate = Holding::until(at, meeting.rows.len() as u64);
+    meet_until(rt, at, meeting.rows.len() as u64, meeting);
+}
+
+/// The same, where worker 0 is held until worker 1 has ended so many operations, of which a put or an update makes two or more.
+pub fn meet_until<R: Threads + Abort + AllocGlobal + Sync>(
+    rt: &R,
+    at: Kind,
+    ends: u64,
+    meeting: Meeting,
+)
+    requires ascending { IsStrictlyIncreasing (keys_of meeting.start.now) }
+    requires real { All (λ k. k ≤ greatest_key) (keys_of meeting.start.now) }
+    requires few { length meeting.start.now ≤ most_start }
+    requires owned { IsStrictlyIncreasing meeting.owned.now }
+    requires owned_real { All (λ k. k ≤ greatest_key) meeting.owned.now }
+    requires by_zero { IsStrictlyIncreasing meeting.by_zero.now }
+{
+    let gate = Holding::until(at, ends);
     meet_under(rt, &gate, meeting);
-    assert!(rt; gate.has_held());
+    assert!(rt; gate.has_held(), "{at:?}");
 }
 
 // Has the two make their calls under a gate.
@@ -114,41 +133,41 @@ const BEFORE_ITS_FLAG: Meeting = Meeting {
     owned: &[],
     by_zero: &[],
     start: &[],
-    held: (Insert(5, 50), No),
+    held: (Ask(Insert(5, 50)), No),
     rows: &[
-        (Find(5), No),
-        (Insert(5, 51), Yes),
-        (Find(5), Found(51)),
-        (Delete(5), Yes),
-        (Find(5), No),
-        (Insert(5, 52), Yes),
+        (Ask(Find(5)), No),
+        (Ask(Insert(5, 51)), Yes),
+        (Ask(Find(5)), Found(51)),
+        (Ask(Delete(5)), Yes),
+        (Ask(Find(5)), No),
+        (Ask(Insert(5, 52)), Yes),
     ],
     end: &[(5, 52)],
 };
 
 // Its flag stands: a change on the same key makes its exchange for it, and finds the key.
 const BEHIND_ITS_FLAG: Meeting = Meeting {
-    held: (Insert(5, 50), Yes),
+    held: (Ask(Insert(5, 50)), Yes),
     rows: &[
-        (Find(5), No),
-        (Insert(5, 51), No),
-        (Find(5), Found(50)),
-        (Delete(5), Yes),
-        (Find(5), No),
-        (Insert(5, 52), Yes),
+        (Ask(Find(5)), No),
+        (Ask(Insert(5, 51)), No),
+        (Ask(Find(5)), Found(50)),
+        (Ask(Delete(5)), Yes),
+        (Ask(Find(5)), No),
+        (Ask(Insert(5, 52)), Yes),
     ],
     ..BEFORE_ITS_FLAG
 };
 
 // Its exchange is made.
 const BEHIND_ITS_EXCHANGE: Meeting = Meeting {
-    held: (Insert(5, 50), Yes),
+    held: (Ask(Insert(5, 50)), Yes),
     rows: &[
-        (Find(5), Found(50)),
-        (Insert(5, 51), No),
-        (Delete(5), Yes),
-        (Delete(5), No),
-        (Insert(5, 52), Yes),
+        (Ask(Find(5)), Found(50)),
+        (Ask(Insert(5, 51)), No),
+        (Ask(Delete(5)), Yes),
+        (Ask(Delete(5)), No),
+        (Ask(Insert(5, 52)), Yes),
     ],
     ..BEFORE_ITS_FLAG
 };
@@ -177,28 +196,28 @@ const BEFORE_ITS_DELETE: Meeting = Meeting {
     owned: &[],
     by_zero: &[],
     start: &[(3, 30), (5, 50), (7, 70)],
-    held: (Delete(5), No),
+    held: (Ask(Delete(5)), No),
     rows: &[
-        (Find(5), Found(50)),
-        (Insert(5, 51), No),
-        (Delete(5), Yes),
-        (Find(5), No),
-        (Insert(5, 52), Yes),
-        (Find(5), Found(52)),
-        (Delete(5), Yes),
+        (Ask(Find(5)), Found(50)),
+        (Ask(Insert(5, 51)), No),
+        (Ask(Delete(5)), Yes),
+        (Ask(Find(5)), No),
+        (Ask(Insert(5, 52)), Yes),
+        (Ask(Find(5)), Found(52)),
+        (Ask(Delete(5)), Yes),
     ],
     end: &[(3, 30), (7, 70)],
 };
 
 // Its flag stands, and its mark too: another delete ends it, and finds no key.
 const BEHIND_ITS_DELETE_FLAG: Meeting = Meeting {
-    held: (Delete(5), Yes),
+    held: (Ask(Delete(5)), Yes),
     rows: &[
-        (Find(5), Found(50)),
-        (Delete(5), No),
-        (Find(5), No),
-        (Insert(5, 51), Yes),
-        (Find(5), Found(51)),
+        (Ask(Find(5)), Found(50)),
+        (Ask(Delete(5)), No),
+        (Ask(Find(5)), No),
+        (Ask(Insert(5, 51)), Yes),
+        (Ask(Find(5)), Found(51)),
     ],
     end: &[(3, 30), (5, 51), (7, 70)],
     ..BEFORE_ITS_DELETE
@@ -207,10 +226,10 @@ const BEHIND_ITS_DELETE_FLAG: Meeting = Meeting {
 // Its parent is cut out.
 const BEHIND_ITS_CUT: Meeting = Meeting {
     rows: &[
-        (Find(5), No),
-        (Delete(5), No),
-        (Insert(5, 51), Yes),
-        (Find(5), Found(51)),
+        (Ask(Find(5)), No),
+        (Ask(Delete(5)), No),
+        (Ask(Insert(5, 51)), Yes),
+        (Ask(Find(5)), Found(51)),
     ],
     ..BEHIND_ITS_DELETE_FLAG
 };
@@ -239,13 +258,13 @@ fn others_go_past_a_delete_of_their_key(rt: HostRuntime) {
 // Between the flag of worker 0 and its mark, worker 1 adds a neighbor at its place: so the mark is lost. Worker 0 is held again before it takes
 // its flag back, and then deletes what it finds.
 const BEHIND_A_LOST_MARK: Meeting = Meeting {
-    held: (Delete(5), Yes),
+    held: (Ask(Delete(5)), Yes),
     rows: &[
-        (Insert(6, 60), Yes),
-        (Find(5), Found(50)),
-        (Delete(5), Yes),
-        (Find(5), No),
-        (Insert(5, 51), Yes),
+        (Ask(Insert(6, 60)), Yes),
+        (Ask(Find(5)), Found(50)),
+        (Ask(Delete(5)), Yes),
+        (Ask(Find(5)), No),
+        (Ask(Insert(5, 51)), Yes),
     ],
     end: &[(3, 30), (6, 60), (7, 70)],
     ..BEFORE_ITS_DELETE

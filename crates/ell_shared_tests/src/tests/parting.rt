@@ -2,7 +2,8 @@
 ghost use Rattle.std.specs.List.Sorted.{IsStrictlyIncreasing};
 ghost use Rattle.ell_shared_tests.specs.Sharing.{IsMember, IsSharer};
 
-use super::calling::{ask, close, is_among};
+use super::calling::Call::Ask;
+use super::calling::{answer, close, is_among};
 use ell_cards::SplitFault;
 use ell_ops::Op::{Delete, Find, Insert};
 use ell_ops::Reply::{Found, No, Yes};
@@ -78,8 +79,8 @@ fn refused(rt: &impl Abort, tree: &Tree<Global>, pass: Pass<Global>) -> Pass<Glo
 {
     let (mut pass, why) = tree.split(pass, &[]).err().expect(rt, "refusal");
     assert!(rt; why == SplitFault::TooManyPasses);
-    assert!(rt; ask(rt, tree, &mut pass, &[], Insert(5, 50), &NoGate) == Ok(Yes));
-    assert!(rt; ask(rt, tree, &mut pass, &[], Find(5), &NoGate) == Ok(Found(50)));
+    assert!(rt; answer(rt, tree, &mut pass, &[], Ask(Insert(5, 50)), &NoGate) == Ok(Yes));
+    assert!(rt; answer(rt, tree, &mut pass, &[], Ask(Find(5)), &NoGate) == Ok(Found(50)));
     pass
 }
 
@@ -105,13 +106,13 @@ fn each_part_sees_what_the_others_change(rt: HostRuntime) {
     let (tree, pass) = made.expect(&rt, "tree");
     assert!(rt; pass.keys().is_empty() && pass.has_whole_share());
     let (mut one, mut other) = parted(&rt, &tree, pass, &[], &[]);
-    assert!(rt; ask(&rt, &tree, &mut one, &[], Delete(2), &NoGate) == Ok(Yes));
-    assert!(rt; ask(&rt, &tree, &mut other, &[], Delete(2), &NoGate) == Ok(No));
-    assert!(rt; ask(&rt, &tree, &mut other, &[], Insert(2, 22), &NoGate) == Ok(Yes));
-    assert!(rt; ask(&rt, &tree, &mut one, &[], Insert(2, 21), &NoGate) == Ok(No));
-    assert!(rt; ask(&rt, &tree, &mut one, &[], Find(2), &NoGate) == Ok(Found(22)));
-    assert!(rt; ask(&rt, &tree, &mut one, &[], Insert(1 << 40, 1), &NoGate) == Ok(Yes));
-    assert!(rt; ask(&rt, &tree, &mut other, &[], Find(4), &NoGate) == Ok(Found(40)));
+    assert!(rt; answer(&rt, &tree, &mut one, &[], Ask(Delete(2)), &NoGate) == Ok(Yes));
+    assert!(rt; answer(&rt, &tree, &mut other, &[], Ask(Delete(2)), &NoGate) == Ok(No));
+    assert!(rt; answer(&rt, &tree, &mut other, &[], Ask(Insert(2, 22)), &NoGate) == Ok(Yes));
+    assert!(rt; answer(&rt, &tree, &mut one, &[], Ask(Insert(2, 21)), &NoGate) == Ok(No));
+    assert!(rt; answer(&rt, &tree, &mut one, &[], Ask(Find(2)), &NoGate) == Ok(Found(22)));
+    assert!(rt; answer(&rt, &tree, &mut one, &[], Ask(Insert(1 << 40, 1)), &NoGate) == Ok(Yes));
+    assert!(rt; answer(&rt, &tree, &mut other, &[], Ask(Find(4)), &NoGate) == Ok(Found(40)));
     let pass = joined(&rt, &tree, &[], other, one);
     let left = [(2, 22), (4, 40), (1 << 40, 1)];
     assert!(rt; close(&rt, tree, pass, &[]).as_slice() == left.as_slice());

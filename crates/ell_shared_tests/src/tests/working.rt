@@ -9,7 +9,7 @@ ghost use Rattle.ell_shared_tests.specs.Sharing.{IsMember};
 
 use super::calling::{Call, check, close, is_among, make};
 use super::parting::{joined, parted};
-use ell_ops::distinct_keys;
+use ell_ops::{Op, Reply, distinct_keys};
 use ell_test_gates::{Dice, Jostling, Made};
 use ell_tree::{NoGate, Pass, StepGate, Tree};
 use std::alloc::{AllocError, Global};
@@ -19,6 +19,19 @@ use std::thread::{Threads, map_vec};
 
 const CARDS: u64 = 1_000_000;
 
+/// What calls workers make.
+#[derive(Clone, Copy, Debug, PartialEq, Eq)]
+pub enum Mix {
+    /// All kinds.
+    All,
+    /// Puts and operations of four values.
+    Few,
+    /// Sums of 1.
+    Adds,
+    /// Worker 0 puts the number of its call, from 1 on, and the others look and find.
+    Rises,
+}
+
 /// What each of some workers does: so many calls, on keys below a number, of which these may have owners, drawn by a seed.
 #[derive(Clone, Copy)]
 pub struct Load<'a> {
@@ -26,6 +39,7 @@ pub struct Load<'a> {
     pub owned: &'a [u64],
     pub calls: u32,
     pub seed: u64,
+    pub mix: Mix,
 }
 
 /// What workers leave: their pass, and the calls that were answered.
@@ -40,14 +54,47 @@ pub fn owner_of(key: u64, workers: u32) -> u64 {
     key % workers.max(1) as u64
 }
 
-// Draws a call: of five one is a look and one a take, and a key that another worker owns is looked for.
-fn draw(dice: &mut Dice, load: Load, pass: &Pass<Global>) -> Call {
-    let key = dice.below(load.keys.max(1));
+// A key and its value, as a worker found it last.
+type Seen = (u64, u64);
+
+// Draws a call of all kinds, at times on the key that the worker found last, whose value is the one that a swap replaces. All other values are of 64
+// bits, so that one is hardly put twice. A key that another worker owns is looked for.
+fn draw_any(dice: &mut Dice, load: Load, seen: Seen, pass: &Pass<Global>) -> Call {
+    let any = dice.below(load.keys.max(1));
+    let key = if dice.below(2) == 0 { seen.0 } else { any };
     let may = pass.owns(key) || !is_among(key, load.owned);
-    match dice.below(5) {
+    match dice.below(10) {
         1 if may => Call::Take(key),
-        2.. if may => Call::Ask(dice.operation(key)),
+        2 if may => Call::Put(key, dice.value()),
+        3 if may => Call::Add(key, dice.value()),
+        4 if may => Call::Update(key),
+        5 | 6 if may => Call::Ask(Op::Swap(key, seen.1, dice.value())),
+        7 if may => Call::Ask(Op::Insert(key, dice.value())),
+        8 if may => Call::Ask(Op::Delete(key)),
+        9 if may => Call::Ask(Op::Find(key)),
         _ => Call::Look(key),
+    }
+}
+
+// Draws a put, or an operation, whose values are each one of four.
+fn draw_few(dice: &mut Dice, key: u64) -> Call {
+    if dice.below(4) == 0 {
+        Call::Put(key, dice.one_of_four())
+    } else {
+        Call::Ask(dice.operation(key))
+    }
+}
+
+// Draws the call of this number.
+fn draw(dice: &mut Dice, load: Load, number: u32, seen: Seen, pass: &Pass<Global>) -> Call {
+    let key = dice.below(load.keys.max(1));
+    match load.mix {
+        Mix::All => draw_any(dice, load, seen, pass),
+        Mix::Few => draw_few(dice, key),
+        Mix::Adds => Call::Add(key, 1),
+        Mix::Rises if pass.label() == 0 => Call::Put(key, number as u64 + 1),
+        Mix::Rises if dice.below(2) == 0 => Call::Look(key),
+        Mix::Rises => Call::Ask(Op::Find(key)),
     }
 }
 
@@ -66,10 +113,14 @@ fn work<G: StepGate>(
     let mut pass = pass;
     let mut calls = Vec::new(rt.alloc());
     let mut dice = Dice::new(load.seed.wrapping_mul(64).wrapping_add(pass.label() as u64));
-    for _ in 0..load.calls {
-        let call = draw(&mut dice, load, &pass);
+    let mut seen = (0, 0);
+    for number in 0..load.calls {
+        let call = draw(&mut dice, load, number, seen, &pass);
         let made = make(rt, tree, &mut pass, load.owned, clock, call, gate);
         if let Some(made) = made {
+            if let Reply::Found(value) = made.said {
+                seen = (call.key(), value);
+            }
             calls.push(made).expect(rt, "memory");
         }
     }
@@ -198,6 +249,7 @@ fn check_all<R: Threads + Abort + AllocGlobal + Sync, G: StepGate + Sync>(rt: &R
                 owned: &[],
                 calls: calls_of(workers),
                 seed: keys,
+                mix: Mix::All,
             };
             let (calls, pairs) = run(rt, workers, &[], load, gate);
             check(rt, keys, &[], &calls, &pairs);
@@ -216,6 +268,23 @@ fn calls_of_many_threads_that_stumble_are_in_order(rt: HostRuntime) {
 }
 
 #[test]
+fn calls_of_few_values_are_in_order(rt: HostRuntime) {
+    for workers in [1, 2, 4] {
+        for keys in [1, 2, 8] {
+            let load = Load {
+                keys,
+                owned: &[],
+                calls: 500,
+                seed: keys,
+                mix: Mix::Few,
+            };
+            let (calls, pairs) = run(&rt, workers, &[], load, &Jostling::new(3));
+            check(&rt, keys, &[], &calls, &pairs);
+        }
+    }
+}
+
+#[test]
 fn calls_over_start_keys_are_in_order(rt: HostRuntime) {
     for workers in WORKERS {
         let load = Load {
@@ -223,6 +292,7 @@ fn calls_over_start_keys_are_in_order(rt: HostRuntime) {
             owned: &[],
             calls: calls_of(workers),
             seed: 5,
+            mix: Mix::All,
         };
         let (calls, pairs) = run(&rt, workers, &START, load, &Jostling::new(5));
         check(&rt, load.keys, &START, &calls, &pairs);

@@ -49,8 +49,8 @@ const INSERT_MADE: &[Call] = &[
     After(true),
 ];
 
-// Two words of the card are read, and the key of the parent.
-const INSERT_HELPED: &[Call] = &[Before(Look, 3), Before(IChild, 1), Before(IUnflag, 1)];
+// Three words of the card are read, and the key of the parent.
+const INSERT_HELPED: &[Call] = &[Before(Look, 4), Before(IChild, 1), Before(IUnflag, 1)];
 
 // A card for a delete has four words. Behind the mark its leaf is read, the right child, and the keys of the sibling and of the
 // grandparent.

@@ -31,6 +31,9 @@ pub fn ask<G: StepGate>(
         Op::Find(key) => Ok(Reply::found(tree.find(pass, key, gate))),
         Op::Insert(key, value) => Ok(Reply::yes_if(tree.insert(pass, key, value, tries, gate)?)),
         Op::Delete(key) => Ok(Reply::yes_if(tree.delete(pass, key, tries, gate)?)),
+        Op::Swap(key, was, value) => {
+            Ok(Reply::found(tree.swap(pass, key, was, value, tries, gate)?))
+        }
     }
 }
 

@@ -20,7 +20,21 @@ pub fn apply_plainly(map: &mut PlainMap, op: Op) -> Reply {
             *value = None;
             Reply::Yes
         }
+        (Op::Swap(_, was, new), Some(found)) => {
+            if found == was {
+                *value = Some(new);
+            }
+            Reply::Found(found)
+        }
         _ => Reply::No,
+    }
+}
+
+/// Whether an operation that answers this changes the map, and so takes a card.
+pub fn is_change(op: Op, said: Reply) -> bool {
+    match op {
+        Op::Swap(_, was, _) => said == Reply::Found(was),
+        _ => said == Reply::Yes,
     }
 }
 

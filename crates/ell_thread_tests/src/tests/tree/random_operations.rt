@@ -3,9 +3,9 @@ ghost use Rattle.std.specs.Prelude.{◌≡◌};
 ghost use Rattle.ell_tree.specs.Ledgers.{IsIdle};
 
 use super::asking::{ask, close};
-use super::plain_map::{PlainMap, apply_plainly, are_pairs_of};
+use super::plain_map::{PlainMap, apply_plainly, are_pairs_of, is_change};
 use crate::tests::keys::keys_below;
-use ell_ops::{Op, Reply};
+use ell_ops::Op;
 use ell_test_gates::Dice;
 use ell_tree::{Held, Pass, Tree};
 use ell_word::NoGate;
@@ -32,7 +32,8 @@ fn changes() -> u64 {
     let mut changes: u64 = 0;
     for _ in 0..OPERATIONS {
         let op = draw(&mut dice);
-        if apply_plainly(&mut plain, op) == Reply::Yes {
+        let said = apply_plainly(&mut plain, op);
+        if is_change(op, said) {
             changes = changes.saturating_add(1);
         }
     }

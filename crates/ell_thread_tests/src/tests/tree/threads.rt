@@ -86,11 +86,11 @@ const INSERTED: &[Call] = &[
     After(true),
 ];
 
-// The flag is met: two words of its card are read, and the key of the parent.
+// The flag is met: three words of its card are read, and the key of the parent.
 const INSERT_HELPED: &[Call] = &[
     Before(Begin, 1),
     Before(Note, 1),
-    Before(Look, 8),
+    Before(Look, 9),
     Before(IChild, 1),
     Before(IUnflag, 1),
 ];
