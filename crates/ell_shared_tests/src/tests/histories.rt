@@ -160,10 +160,7 @@ const WRONG: [(&str, History<'static>); 22] = [
     ),
     (
         "a swap adds a key that was never there",
-        &[
-            (0, Swap(5, 0, 50), No, 1, 2),
-            (1, Find(5), Found(50), 3, 4),
-        ],
+        &[(0, Swap(5, 0, 50), No, 1, 2), (1, Find(5), Found(50), 3, 4)],
     ),
     (
         "a swap misses a key that was there all the time",

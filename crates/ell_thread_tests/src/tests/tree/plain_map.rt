@@ -20,6 +20,12 @@ pub fn apply_plainly(map: &mut PlainMap, op: Op) -> Reply {
             *value = None;
             Reply::Yes
         }
+        (Op::Swap(_, was, new), Some(found)) => {
+            if found == was {
+                *value = Some(new);
+            }
+            Reply::Found(found)
+        }
         _ => Reply::No,
     }
 }
