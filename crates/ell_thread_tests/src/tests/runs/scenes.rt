@@ -41,7 +41,8 @@ pub struct Scene<'a> {
 fn is_done(op: Op, reply: Reply) -> bool {
     match op {
         Op::Find(key) => reply == Reply::Found(key.wrapping_mul(10)),
-        _ => reply == Reply::Yes,
+        Op::Swap(_, was, _) => reply == Reply::Found(was),
+        Op::Insert(_, _) | Op::Delete(_) => reply == Reply::Yes,
     }
 }
 

@@ -15,8 +15,8 @@ use ell_core::Act::{
     Again, Answer, Backtrack, Begin, Claim, DChild, DFlag, DUnflag, Down, IChild, IFlag, IUnflag,
     Leave, Mark, Upd,
 };
-use ell_core::{Act, Event, Fact, World};
-use ell_ops::Op;
+use ell_core::{Act, Event, Fact, Stepped, World};
+use ell_ops::{Op, Reply};
 use ell_test_gates::Dice;
 use ell_test_steps::{FACTS, Remembered, nothing, step};
 use std::alloc::Global;
@@ -42,11 +42,14 @@ const OWNED: [(u32, u64); 8] = [
     (3, 7),
 ];
 
-// Draws acts, and counts those that were done.
+// Draws acts, and counts those that were done, and the swaps among them that changed a value.
 #[derive(Drop)]
 struct Drawing {
     dice: Dice,
     done: u64,
+    swapped: u64,
+    // The value of each key, if it is there: the last one that an answer told.
+    values: [u64; 8],
 }
 
 impl Drawing {
@@ -72,13 +75,34 @@ impl Drawing {
         }
     }
 
-    // An operation on a key of a worker; an insert has a value of its own.
+    // An operation on a key of a worker. An insert has a value of its own, and so has a swap, mostly for the value that the key has.
     fn operation(&mut self, worker: u32) -> Op {
         let key = (worker % 4) as u64 * 2 + self.dice.below(2);
-        match self.dice.below(5) {
+        let value = self.values[key as usize];
+        match self.dice.below(7) {
             0 => Op::Find(key),
             1 | 2 => Op::Insert(key, self.done),
+            3 => Op::Swap(key, value, self.done),
+            4 => Op::Swap(key, value.wrapping_add(self.dice.below(2)), self.done),
             _ => Op::Delete(key),
+        }
+    }
+
+    // Counts an act that was done for an operation, and notes the value that its answer tells.
+    fn count(&mut self, op: Option<Op>, said: Stepped) {
+        self.done = self.done.wrapping_add(1);
+        let (Some(op), Stepped::Answered(said)) = (op, said) else {
+            return;
+        };
+        let value = &mut self.values[(op.key() % 8) as usize];
+        match (op, said) {
+            (Op::Insert(_, new), Reply::Yes) => *value = new,
+            (Op::Swap(_, was, new), Reply::Found(there)) if there == was => {
+                *value = new;
+                self.swapped = self.swapped.wrapping_add(1);
+            }
+            (_, Reply::Found(there)) => *value = there,
+            _ => {}
         }
     }
 
@@ -120,10 +144,11 @@ fn both_step(
     ensures ready { IsReady table.now pass.new memory.new }
     ensures world { world.new.last_card ≡ world.old.last_card }
 {
+    let op = memory.op;
     let Some(said) = step(table, pass, memory, event.act) else {
         return;
     };
-    drawing.done = drawing.done.wrapping_add(1);
+    drawing.count(op, said);
     assert!(rt; world.step(event) == Ok(said), "act {}", drawing.done);
 }
 
@@ -231,6 +256,8 @@ fn random_acts(
     let mut drawing = Drawing {
         dice: Dice::new(2010),
         done: 0,
+        swapped: 0,
+        values: [0; 8],
     };
     for _ in 0..ROUNDS {
         if drawing.done >= ACTS {
@@ -241,7 +268,7 @@ fn random_acts(
         third = turn(rt, table, third, &mut three, world, &mut drawing, 2);
         fourth = turn(rt, table, fourth, &mut four, world, &mut drawing, 3);
     }
-    assert!(rt; drawing.done >= ACTS);
+    assert!(rt; drawing.done >= ACTS && drawing.swapped >= 500);
     finish(rt, table, &mut first, &mut one, world, &mut drawing, 0);
     finish(rt, table, &mut second, &mut two, world, &mut drawing, 1);
     finish(rt, table, &mut third, &mut three, world, &mut drawing, 2);

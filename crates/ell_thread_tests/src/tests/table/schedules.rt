@@ -48,6 +48,48 @@ fn a_helper_finishes_a_stalled_insert(rt: HostRuntime) {
     played(&rt, &STALLED_INSERT);
 }
 
+const FOUND_51: Shown = Shown::Step(Stepped::Answered(Reply::Found(51)));
+
+// Worker 1 brings the leaf with 51. A swap of 50 finds 51 then, and one of 6, which is absent, nothing.
+const STALLED_SWAP: [Turn; 17] = [
+    (0, &[Begin(Op::Insert(5, 50)), Upd, Down, Claim], MOVED),
+    (0, &[IFlag, IChild(1), IUnflag(1)], WON),
+    (0, &[Answer], YES),
+    (
+        0,
+        &[Begin(Op::Swap(5, 50, 51)), Upd, Down, Upd, Down, Claim],
+        MOVED,
+    ),
+    (0, &[IFlag], WON),
+    (1, &[Begin(Op::Insert(7, 70)), Upd, Down, Upd, Down], MOVED),
+    (1, &[IChild(2), IUnflag(2)], WON),
+    (0, &[IChild(2), IUnflag(2)], LOST),
+    (0, &[Answer], FOUND_50),
+    (
+        0,
+        &[Begin(Op::Swap(5, 50, 52)), Upd, Down, Upd, Down],
+        MOVED,
+    ),
+    (0, &[Claim], NOT_NOW),
+    (0, &[Answer], FOUND_51),
+    (1, &[Again, Upd, Down, Upd, Down, Claim], MOVED),
+    (1, &[IFlag, IChild(3), IUnflag(3)], WON),
+    (1, &[Answer], YES),
+    (
+        0,
+        &[Begin(Op::Swap(6, 0, 60)), Upd, Down, Upd, Down, Upd, Down],
+        MOVED,
+    ),
+    (0, &[Answer], NO),
+];
+
+#[test]
+fn a_helper_finishes_a_stalled_swap(rt: HostRuntime) {
+    let closed = played(&rt, &STALLED_SWAP);
+    assert!(rt; closed.last_card() == 5 && closed.word(1, Field::Left) == 9);
+    assert!(rt; closed.word(3, Field::LeftValue) == 51);
+}
+
 const LOST_FLAG: [Turn; 13] = [
     (0, &[Begin(Op::Insert(5, 50)), Upd, Down], MOVED),
     (1, &[Begin(Op::Insert(7, 70)), Upd, Down], MOVED),
