@@ -1,6 +1,7 @@
 //! Measures elltree, as a program in Rust has it, with owned keys and with shared ones, beside the same tree over bare atomic words and
 //! as libcds has it, `BTreeMap`s behind locks, one or 16 of them, and a private `BTreeMap` for each owner. Takes the seconds of an
-//! interval, the number of rounds, and a file, to which it writes all figures; the tables go to standard output.
+//! interval, the number of rounds, a file, to which it writes all figures, and what it measures, a kind or `all`; the tables go to
+//! standard output.
 
 #[path = "../plain/bare_tree.rs"]
 mod bare_tree;
@@ -15,9 +16,12 @@ use record::{Figure, Record};
 use std::process::ExitCode;
 use std::time::Duration;
 use std::{env, fs};
-use work::{expect_stops, latencies, speeds, stops, Latencies, Random, Work};
+use work::{adds, expect_stops, latencies, speeds, stops, Latencies, Random, Work};
 
 const KEYS: [u64; 3] = [64, 4_096, 262_144];
+
+/// How many counters there are.
+const COUNTERS: [u64; 3] = [1, 64, 4_096];
 
 /// How many times longer an interval is if latencies are measured.
 const LONGER: u32 = 3;
@@ -35,6 +39,8 @@ pub enum Kind {
     Running,
     /// Latencies beside an owner that is stopped at times.
     Stopped,
+    /// Adds to the values of keys that all owners share.
+    Counters,
 }
 
 /// What is measured of each peer, one after the other.
@@ -45,10 +51,24 @@ pub struct Case {
 }
 
 impl Kind {
+    const ALL: [Kind; 6] = [Kind::Operations, Kind::Shared, Kind::Looks, Kind::Running, Kind::Stopped, Kind::Counters];
+
+    pub fn name(self) -> &'static str {
+        match self {
+            Kind::Operations => "operations",
+            Kind::Shared => "shared",
+            Kind::Looks => "looks",
+            Kind::Running => "running",
+            Kind::Stopped => "stopped",
+            Kind::Counters => "counters",
+        }
+    }
+
     pub fn peers(self) -> Vec<Peer> {
         match self {
             Kind::Looks => vec![Peer::Elltree, Peer::Bare, Peer::RwLock, Peer::RwLocks],
             Kind::Shared => Peer::ALL.iter().copied().filter(|peer| peer.can_share()).collect(),
+            Kind::Counters => Peer::COUNTING.to_vec(),
             _ => Peer::ALL.to_vec(),
         }
     }
@@ -59,19 +79,29 @@ impl Kind {
             Kind::Operations | Kind::Shared => vec![(1, 0), (2, 0), (4, 0)],
             Kind::Looks => [1, 2, 4].into_iter().flat_map(|readers| [0, 1, 3].map(|owners| (owners, readers))).collect(),
             Kind::Running | Kind::Stopped => vec![(2, 1)],
+            Kind::Counters => vec![(1, 0), (4, 0)],
         }
+    }
+
+    /// How many keys there are.
+    fn keys(self) -> [u64; 3] {
+        match self {
+            Kind::Counters => COUNTERS,
+            _ => KEYS,
+        }
+    }
+
+    /// The cases of this kind with so many keys.
+    fn cases(self, keys: u64) -> impl Iterator<Item = Case> {
+        let shared = matches!(self, Kind::Shared | Kind::Counters);
+        let sizes = self.crews().into_iter().map(move |(owners, readers)| Sizes { keys, owners, readers, shared });
+        sizes.map(move |sizes| Case { kind: self, sizes })
     }
 }
 
-fn cases() -> Vec<Case> {
-    let all = |keys| {
-        [Kind::Operations, Kind::Shared, Kind::Looks, Kind::Running, Kind::Stopped].into_iter().flat_map(move |kind| {
-            let shared = kind == Kind::Shared;
-            let sizes = kind.crews().into_iter().map(move |(owners, readers)| Sizes { keys, owners, readers, shared });
-            sizes.map(move |sizes| Case { kind, sizes })
-        })
-    };
-    KEYS.into_iter().flat_map(all).collect()
+/// All cases of these kinds: those with the fewest keys of each kind first.
+fn cases(kinds: &[Kind]) -> Vec<Case> {
+    (0..3).flat_map(|at| kinds.iter().flat_map(move |kind| kind.cases(kind.keys()[at]))).collect()
 }
 
 fn shuffle<T>(items: &mut [T], random: &mut Random) {
@@ -106,6 +136,7 @@ fn measure(case: Case, peer: Peer, interval: Duration) -> Vec<(Figure, f64)> {
             let Latencies { owners, readers } = latencies(peer, sizes, kind == Kind::Stopped, LONGER * interval);
             [spread(readers, Figure::OF_LOOKS), spread(owners, Figure::OF_OPERATIONS)].concat()
         }
+        Kind::Counters => adds(peer, sizes, interval).map(|it| (Figure::Add, it)).into_iter().collect(),
     }
 }
 
@@ -137,12 +168,13 @@ fn agree() -> bool {
     })
 }
 
-/// Measures every case in each round, the peers of a case in turn, in another order each time.
-fn measure_all(interval: Duration, rounds: usize) -> Record {
-    let mut record = Record::new(cases());
+/// Measures every case of these kinds in each round, the peers of a case in turn, in another order each time.
+fn measure_all(kinds: &[Kind], interval: Duration, rounds: usize) -> Record {
+    let cases = cases(kinds);
+    let mut record = Record::new(cases.clone());
     let mut random = Random::new(2);
     for _ in 0..rounds {
-        for (at, case) in cases().into_iter().enumerate() {
+        for (at, case) in cases.iter().copied().enumerate() {
             let mut peers = case.kind.peers();
             shuffle(&mut peers, &mut random);
             for peer in peers {
@@ -153,23 +185,37 @@ fn measure_all(interval: Duration, rounds: usize) -> Record {
     record
 }
 
-fn main() -> ExitCode {
-    let words: Vec<String> = env::args().skip(1).collect();
-    let [seconds, rounds, file] = words.as_slice() else {
-        eprintln!("hosts: give seconds, rounds and a file");
-        return ExitCode::from(2);
+/// What the words of the command ask for: an interval, the number of rounds, the file, and the kinds.
+fn wanted(words: &[String]) -> Result<(Duration, usize, &str, Vec<Kind>), String> {
+    let [seconds, rounds, file, what] = words else {
+        return Err("give seconds, rounds, a file, and a kind or all".into());
     };
     let interval = seconds.parse().ok().and_then(|it| Duration::try_from_secs_f64(it).ok());
     let (Some(interval), Ok(rounds @ 1..)) = (interval, rounds.parse()) else {
-        eprintln!("hosts: not seconds and a number of rounds: {seconds} {rounds}");
-        return ExitCode::from(2);
+        return Err(format!("not seconds and a number of rounds: {seconds} {rounds}"));
+    };
+    let kinds: Vec<Kind> = Kind::ALL.into_iter().filter(|kind| what == "all" || what == kind.name()).collect();
+    if kinds.is_empty() {
+        return Err(format!("not a kind: {what}"));
+    }
+    Ok((interval, rounds, file, kinds))
+}
+
+fn main() -> ExitCode {
+    let words: Vec<String> = env::args().skip(1).collect();
+    let (interval, rounds, file, kinds) = match wanted(&words) {
+        Ok(wanted) => wanted,
+        Err(why) => {
+            eprintln!("hosts: {why}");
+            return ExitCode::from(2);
+        }
     };
     if !agree() {
         eprintln!("hosts: the answers differ");
         return ExitCode::FAILURE;
     }
     expect_stops();
-    let record = measure_all(interval, rounds);
+    let record = measure_all(&kinds, interval, rounds);
     println!("{}\nThreads were stopped {} times.", record.tables(), stops());
     match fs::write(file, record.rows()) {
         Ok(()) => ExitCode::SUCCESS,

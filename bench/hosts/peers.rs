@@ -1,10 +1,10 @@
 //! The maps that are measured. Each is parted among owners, which find, insert and delete keys of their own, or all keys if these are
-//! shared, and readers of any key.
+//! shared, and readers of any key. Or its values are counters, and all owners add to any.
 
 use crate::bare_tree::BareTree;
 #[cfg(libcds)]
 use crate::libcds::{EllenTree, Reclaim};
-use elltree::{Handle, Tree, CARDS_MAX};
+use elltree::{Handle, Refused, Tree, CARDS_MAX};
 use std::array;
 use std::collections::btree_map::{BTreeMap, Entry};
 use std::sync::{Arc, Mutex, RwLock};
@@ -34,7 +34,7 @@ pub struct Stripe {
 }
 
 impl Stripe {
-    fn keys(self) -> impl Iterator<Item = u64> {
+    pub fn keys(self) -> impl Iterator<Item = u64> {
         (0..self.count).map(move |index| self.key(index))
     }
 
@@ -66,6 +66,11 @@ impl Sizes {
         let owners = self.owners.max(1);
         (0..self.keys).filter(move |key| key / owners % 2 == 0).map(|key| (key, key + 7))
     }
+
+    /// All keys, each with the value 0.
+    fn zeros(self) -> Vec<(u64, u64)> {
+        self.all().keys().map(|key| (key, 0)).collect()
+    }
 }
 
 /// What one thread has of a map: it alone finds and changes keys of its own, and it looks at any key. A key that is present keeps its
@@ -83,6 +88,12 @@ pub trait View: Send {
     fn delete(&mut self, key: u64) -> bool;
 }
 
+/// What one thread has of a map of counters: the values of keys that are all present, and that all threads share.
+pub trait Counters: View {
+    /// Adds 1 to the value of a key: the value that it had, or none if no card is left, and then nothing was added.
+    fn add(&mut self, key: u64) -> Option<u64>;
+}
+
 impl View for Handle {
     fn find(&mut self, key: u64) -> Option<u64> {
         Handle::find(self, key).unwrap()
@@ -98,6 +109,16 @@ impl View for Handle {
 
     fn delete(&mut self, key: u64) -> bool {
         Handle::delete(self, key, TRIES).unwrap()
+    }
+}
+
+impl Counters for Handle {
+    fn add(&mut self, key: u64) -> Option<u64> {
+        match self.fetch_add(key, 1, TRIES) {
+            Ok(Some(was)) => Some(was),
+            Err(Refused::Spent) => None,
+            other => panic!("an add to the value of {key} answered {other:?}"),
+        }
     }
 }
 
@@ -188,8 +209,8 @@ fn shard_of<const COUNT: usize>(key: u64) -> usize {
 }
 
 impl<L: Lock, const COUNT: usize> Shards<L, COUNT> {
-    fn start(sizes: Sizes) -> Self {
-        let part = |at| sizes.start().filter(|pair| shard_of::<COUNT>(pair.0) == at).collect();
+    fn start(pairs: &[(u64, u64)]) -> Self {
+        let part = |at| pairs.iter().copied().filter(|pair| shard_of::<COUNT>(pair.0) == at).collect();
         Shards(array::from_fn(|at| Shard(L::around(part(at)))))
     }
 
@@ -209,6 +230,16 @@ impl<L: Lock, const COUNT: usize> View for Arc<Shards<L, COUNT>> {
 
     fn delete(&mut self, key: u64) -> bool {
         self.shard(key).write(|map| map.remove(&key).is_some())
+    }
+}
+
+impl<L: Lock, const COUNT: usize> Counters for Arc<Shards<L, COUNT>> {
+    fn add(&mut self, key: u64) -> Option<u64> {
+        self.shard(key).write(|map| {
+            let value = map.get_mut(&key).expect("a counter");
+            *value += 1;
+            Some(*value - 1)
+        })
     }
 }
 
@@ -253,7 +284,7 @@ impl Crew {
     }
 
     fn of_locks<L: Lock + 'static, const COUNT: usize>(sizes: Sizes) -> Crew {
-        Crew::sharing(Arc::new(Shards::<L, COUNT>::start(sizes)), sizes)
+        Crew::sharing(Arc::new(Shards::<L, COUNT>::start(&sizes.start().collect::<Vec<_>>())), sizes)
     }
 
     fn sharing<V: View + Clone + 'static>(map: V, sizes: Sizes) -> Crew {
@@ -267,6 +298,24 @@ impl Crew {
         let owners = (0..sizes.owners).map(|first| own(first).collect::<Map>());
         Crew { owners: boxed(owners), readers: Vec::new() }
     }
+
+    pub fn threads(&self) -> usize {
+        self.owners.len() + self.readers.len()
+    }
+}
+
+/// The owners of a map of counters: one for each thread.
+type Adders = Vec<Box<dyn Counters>>;
+
+/// The handles of a tree of counters.
+fn counters_in_tree(sizes: Sizes) -> elltree::Result<Adders> {
+    let mut first = Handle::open_shared(&sizes.zeros(), CARDS_MAX)?;
+    (0..sizes.owners).map(|_| Ok(Box::new(first.another()?) as Box<dyn Counters>)).collect()
+}
+
+fn counters_in_locks<L: Lock + 'static, const COUNT: usize>(sizes: Sizes) -> Adders {
+    let map = Arc::new(Shards::<L, COUNT>::start(&sizes.zeros()));
+    (0..sizes.owners).map(|_| Box::new(map.clone()) as Box<dyn Counters>).collect()
 }
 
 /// What is measured.
@@ -299,6 +348,9 @@ impl Peer {
         Peer::RwLocks,
         Peer::Private,
     ];
+
+    /// Those of which values are counters.
+    pub const COUNTING: [Peer; 3] = [Peer::SharedElltree, Peer::Mutex, Peer::Mutexes];
 
     pub fn name(self) -> &'static str {
         match self {
@@ -344,6 +396,16 @@ impl Peer {
             Peer::Mutexes => Crew::of_locks::<Mutex<Map>, SHARDS>(sizes),
             Peer::RwLocks => Crew::of_locks::<RwLock<Map>, SHARDS>(sizes),
             Peer::Private => Crew::of_private_maps(sizes),
+        }
+    }
+
+    /// A new map of this kind, of counters that are 0. Only the `COUNTING` have them.
+    pub fn counters(self, sizes: Sizes) -> Adders {
+        match self {
+            Peer::SharedElltree => counters_in_tree(sizes).expect("a tree"),
+            Peer::Mutex => counters_in_locks::<Mutex<Map>, 1>(sizes),
+            Peer::Mutexes => counters_in_locks::<Mutex<Map>, SHARDS>(sizes),
+            _ => unreachable!("{} has no counters", self.name()),
         }
     }
 }

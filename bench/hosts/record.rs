@@ -11,6 +11,7 @@ pub enum Figure {
     Operation,
     Look,
     Change,
+    Add,
     LookMedian,
     Look99,
     LookWorst,
@@ -28,6 +29,7 @@ impl Figure {
             Figure::Operation => "operation",
             Figure::Look => "look",
             Figure::Change => "change",
+            Figure::Add => "add",
             Figure::LookMedian => "look: median",
             Figure::Look99 => "look: 99 %",
             Figure::LookWorst => "look: worst",
@@ -86,18 +88,12 @@ impl Record {
         let mut rows = String::from("kind,keys,owners,readers,peer,figure,least,median,rounds\n");
         for ((at, figure, peer), rounds) in &self.times {
             let Case { kind, sizes } = self.cases[*at];
-            let kind = match kind {
-                Kind::Operations => "operations",
-                Kind::Shared => "shared",
-                Kind::Looks => "looks",
-                Kind::Running => "running",
-                Kind::Stopped => "stopped",
-            };
             let (least, median) = least_and_median(rounds);
             let all = rounds.iter().map(|it| format!("{it:.0}")).collect::<Vec<_>>().join(" ");
             let _ = writeln!(
                 rows,
-                "{kind},{},{},{},{peer},{},{least:.0},{median:.0},{all}",
+                "{},{},{},{},{peer},{},{least:.0},{median:.0},{all}",
+                kind.name(),
                 sizes.keys,
                 sizes.owners,
                 sizes.readers,
@@ -124,26 +120,35 @@ impl Record {
         Some(format!("{:.2}", least_and_median(&ratios).1))
     }
 
-    /// The table of these kinds, with such a cell for each peer.
+    /// The table of these kinds, with such a cell for each peer, if there is any row.
     fn table(&self, title: &str, kinds: &[Kind], cell: impl Fn(usize, Peer) -> Option<String>) -> String {
         let peers = kinds[0].peers();
+        let rows = self.table_rows(&peers, kinds, cell);
+        if rows.is_empty() {
+            return rows;
+        }
         let names: Vec<&str> = peers.iter().map(|peer| peer.name()).collect();
         let rule = "--:|".repeat(names.len());
-        let mut table = format!("\n{title}\n\n| keys | owners | readers | {} |\n|--:|--:|--:|{rule}\n", names.join(" | "));
+        format!("\n{title}\n\n| keys | owners | readers | {} |\n|--:|--:|--:|{rule}\n{rows}", names.join(" | "))
+    }
+
+    /// The rows of that table.
+    fn table_rows(&self, peers: &[Peer], kinds: &[Kind], cell: impl Fn(usize, Peer) -> Option<String>) -> String {
+        let mut rows = String::new();
         for (at, case) in self.cases.iter().enumerate().filter(|(_, case)| kinds.contains(&case.kind)) {
             let cells: Vec<_> = peers.iter().map(|peer| cell(at, *peer)).collect();
             if cells.iter().all(Option::is_none) {
                 continue;
             }
             let note = match case.kind {
-                Kind::Shared => ", all keys shared",
+                Kind::Shared | Kind::Counters => ", all keys shared",
                 Kind::Stopped => ", one stopped",
                 _ => "",
             };
             let cells: Vec<String> = cells.into_iter().map(|it| it.unwrap_or("–".into())).collect();
             let sizes = case.sizes;
             let _ = writeln!(
-                table,
+                rows,
                 "| {} | {}{note} | {} | {} |",
                 counted(sizes.keys),
                 sizes.owners,
@@ -151,7 +156,7 @@ impl Record {
                 cells.join(" | ")
             );
         }
-        table
+        rows
     }
 
     /// The table of these kinds, with these figures of each peer.
@@ -175,6 +180,7 @@ impl Record {
             ),
             self.times("Latency of a look: median, 99 %, worst", &latencies, &Figure::OF_LOOKS),
             self.times("Latency of another owner's operation: median, 99 %, worst", &latencies, &Figure::OF_OPERATIONS),
+            self.times("An add to a counter: median of the rounds, and least", &[Kind::Counters], &[Figure::Add]),
         ]
         .concat()
     }

@@ -1,6 +1,6 @@
 //! What threads do with a map, and how long it takes.
 
-use crate::peers::{Crew, Peer, Sizes, Stripe, View};
+use crate::peers::{Counters, Peer, Sizes, Stripe, View};
 use std::hint::{black_box, spin_loop};
 use std::sync::atomic::{AtomicBool, AtomicUsize, Ordering};
 use std::sync::Barrier;
@@ -77,9 +77,9 @@ struct Stage {
 }
 
 impl Stage {
-    /// A stage for these threads and the one that makes it.
-    fn of(crew: &Crew) -> Stage {
-        Stage { begin: Barrier::new(crew.owners.len() + crew.readers.len() + 1), is_over: AtomicBool::new(false) }
+    /// A stage for so many threads and the one that makes it.
+    fn of(threads: usize) -> Stage {
+        Stage { begin: Barrier::new(threads + 1), is_over: AtomicBool::new(false) }
     }
 
     fn is_over(&self) -> bool {
@@ -106,6 +106,23 @@ impl Stage {
         (took, done)
     }
 
+    /// Adds to random ones of these keys without pause until the interval is over, and ends it if no card is left: how long it took, and
+    /// how many adds were answered.
+    fn add(&self, seed: u64, owner: &mut dyn Counters, keys: Stripe) -> (Duration, u64) {
+        let mut added = 0;
+        let (took, _) = self.drive(seed, u64::MAX, |random| match owner.add(keys.random_key(random)) {
+            Some(was) => {
+                added += 1;
+                was
+            }
+            None => {
+                self.end();
+                0
+            }
+        });
+        (took, added)
+    }
+
     /// Acts once each `PACE` until the interval is over: how long after it was due each act had been done, in nanoseconds.
     fn pace<T>(&self, seed: u64, mut act: impl FnMut(u64) -> T) -> Vec<u64> {
         let (mut random, mut due) = (Random::new(seed), Duration::ZERO);
@@ -124,10 +141,14 @@ impl Stage {
     }
 }
 
-/// Nanoseconds an act, of the acts of all these threads.
-fn mean(threads: Vec<ScopedJoinHandle<(Duration, u64)>>) -> Option<f64> {
+/// How long all these threads took, and how many acts they made.
+fn total(threads: Vec<ScopedJoinHandle<(Duration, u64)>>) -> (Duration, u64) {
     let ended = threads.into_iter().map(|thread| thread.join().unwrap());
-    let (took, done) = ended.fold((Duration::ZERO, 0), |sum, it| (sum.0 + it.0, sum.1 + it.1));
+    ended.fold((Duration::ZERO, 0), |sum, it| (sum.0 + it.0, sum.1 + it.1))
+}
+
+/// Nanoseconds an act, of acts that took so long.
+fn mean((took, done): (Duration, u64)) -> Option<f64> {
     (done > 0).then(|| took.as_nanos() as f64 / done as f64)
 }
 
@@ -142,7 +163,7 @@ pub struct Speeds {
 /// Has all owners do this work without pause for so long, and all readers look at any key.
 pub fn speeds(peer: Peer, sizes: Sizes, work: Work, interval: Duration) -> Speeds {
     let crew = peer.crew(sizes);
-    let stage = &Stage::of(&crew);
+    let stage = &Stage::of(crew.threads());
     let most = work.most(peer) / sizes.owners.max(1);
     thread::scope(|scope| {
         let mut seeds = 0..;
@@ -157,8 +178,27 @@ pub fn speeds(peer: Peer, sizes: Sizes, work: Work, interval: Duration) -> Speed
         stage.begin.wait();
         thread::sleep(interval);
         stage.end();
-        Speeds { owners: mean(owners), readers: mean(readers) }
+        Speeds { owners: mean(total(owners)), readers: mean(total(readers)) }
     })
+}
+
+/// Has all owners add to any counters without pause for so long, or until no card is left: nanoseconds an add. The sum of the counters
+/// has to be the number of adds that were answered.
+pub fn adds(peer: Peer, sizes: Sizes, interval: Duration) -> Option<f64> {
+    let mut owners = peer.counters(sizes);
+    let stage = &Stage::of(owners.len());
+    let keys = sizes.all();
+    let (took, added) = thread::scope(|scope| {
+        let threads = owners.iter_mut().zip(0..).map(|(owner, seed)| scope.spawn(move || stage.add(seed, &mut **owner, keys)));
+        let threads = threads.collect();
+        stage.begin.wait();
+        thread::sleep(interval);
+        stage.end();
+        total(threads)
+    });
+    let counted: u64 = keys.keys().map(|key| owners[0].find(key).expect("a counter")).sum();
+    assert_eq!(counted, added, "the counters of {} and its answers", peer.name());
+    mean((took, added))
 }
 
 static STOPS: AtomicUsize = AtomicUsize::new(0);
@@ -206,7 +246,7 @@ pub struct Latencies {
 /// make an operation each `PACE`.
 pub fn latencies(peer: Peer, sizes: Sizes, is_stopped: bool, interval: Duration) -> Latencies {
     let crew = peer.crew(sizes);
-    let stage = &Stage::of(&crew);
+    let stage = &Stage::of(crew.threads());
     let first_thread = &AtomicUsize::new(0);
     let mut owners = crew.owners.into_iter().zip(sizes.stripes());
     let (mut first, first_stripe) = owners.next().expect("an owner");
