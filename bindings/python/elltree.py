@@ -30,7 +30,7 @@ import warnings
 
 __version__ = "0.1.0"
 
-NO, YES, BUSY, SPENT, FOREIGN, NO_TRIES, BAD_CARDS, BAD_KEY = 0, 1, -1, -2, -3, -4, -5, -6
+NO, YES, OTHER_VALUE, BUSY, SPENT, FOREIGN, NO_TRIES, BAD_CARDS, BAD_KEY = 0, 1, 2, -1, -2, -3, -4, -5, -6
 BAD_START, NO_ROOM, NO_MEMORY, CLOSED, OPEN, OTHER_TREE, NULL, SAME, IN_CALL = -7, -8, -9, -10, -11, -12, -13, -14, -15
 TOO_MANY_HANDLES, SHARED_KEYS = -16, -17
 
@@ -52,14 +52,14 @@ class Refused(Exception):
 
 
 class Busy(Refused):
-    """Something was in the way of each try of an insert or a delete: the same call may be made again."""
+    """Something was in the way of each try of a change, or another handle changed the value first: the same call may be made again."""
 
     def __init__(self, code=BUSY):
         super().__init__(code)
 
 
 class Spent(Refused):
-    """All cards are given out, and the insert or the delete needs one: renew_all makes fresh ones for owned keys. cards_left tells beforehand."""
+    """All cards are given out, and the change needs one: renew_all makes fresh ones for owned keys. cards_left tells beforehand."""
 
     def __init__(self, code=SPENT):
         super().__init__(code)
@@ -94,6 +94,9 @@ def _load():
         "look": [at(_Slot), u64, at(u64)],
         "insert": [at(_Slot), u64, u64, u32],
         "delete": [at(_Slot), u64, u32],
+        "compare_exchange": [at(_Slot), u64, u64, u64, u32, at(u64)],
+        "put": [at(_Slot), u64, u64, u32, at(u64)],
+        "fetch_add": [at(_Slot), u64, u64, u32, at(u64)],
         "keys": [at(_Slot), at(u64), size, at(size)],
         "owned": [at(_Slot), at(size)],
         "pairs": [at(_Slot), at(_Pair), size, at(size)],
@@ -237,15 +240,18 @@ class Handle:
         if list(self._calls)[0] is not call:
             raise Refused(IN_CALL)
 
-    def _call(self, name, *args):
-        """The same as _call_on does, on this handle."""
+    def _code(self, call_library):
+        """The code of calls of the library that are made on this handle as one call, as _call_on makes them."""
         call = object()
         try:
             self._enter(call)
-            code = _library[name](self._slot, *args)
+            return call_library(self._slot)
         finally:
             self._calls.pop(call, None)
-        return _answer(code)
+
+    def _call(self, name, *args):
+        """Whether a call of the library on this handle says yes."""
+        return _answer(self._code(lambda slot: _library[name](slot, *args)))
 
     def _part(self, call_library):
         """A handle that a call of the library makes of this one."""
@@ -294,10 +300,49 @@ class Handle:
         return self._call("insert", _key(key), _value(value), _tries(tries))
 
     def delete(self, key, tries=1000):
-        """Takes a shared key, or one of the handle's own, away, and returns whether it was present. You change a value by a delete and an insert,
-        which take two cards: ask cards_left before the delete. If the insert raises Spent all the same, as others have taken the cards, keep
-        the value, renew, and insert it. In between, another thread may insert a shared key: then the insert returns False."""
+        """Takes a shared key, or one of the handle's own, away, and returns whether it was present."""
         return self._call("delete", _key(key), _tries(tries))
+
+    def compare_exchange(self, key, current, new, tries=1000):
+        """Stores new as the value of a shared key, or of one of the handle's own, if its value is current, in one atomic step. Returns the value
+        that was found, or None if the key is absent: it was exchanged if and only if that is current. An exchange takes a card."""
+        found, args = ctypes.c_uint64(), (_key(key), _value(current), _value(new), _tries(tries))
+        code = self._code(lambda slot: _library["compare_exchange"](slot, *args, found))
+        return found.value if _answer(code) or code == OTHER_VALUE else None
+
+    def put(self, key, value, tries=1000):
+        """Stores the value of a shared key, or of one of the handle's own, whether the key is present or not, in one atomic step. Returns the
+        value that it had, or None if it was absent. A put takes a card. Raises Busy if others were in the way of each try or changed the key
+        first."""
+        was = ctypes.c_uint64()
+        return was.value if self._call("put", _key(key), _value(value), _tries(tries), was) else None
+
+    def update(self, key, f, tries=1000):
+        """Stores what f makes of the value of a shared key, or of one of the handle's own, in one atomic step. Returns the value that it had, or
+        None if the key is absent, which is left so. f is called before each try, with the value that the key has then; the handle is in this call
+        meanwhile. An exception of f ends the call, which has changed nothing. Raises Busy as put does."""
+        found, key, tries = ctypes.c_uint64(), _key(key), _tries(tries)
+
+        def call_library(slot):
+            if tries == 0:
+                return _library["fetch_add"](slot, key, 0, 0, found)  # refused without a look at the key
+            code = _library["find"](slot, key, found)
+            if code != YES:
+                return code
+            for _ in range(tries):
+                value = found.value
+                code = _library["compare_exchange"](slot, key, value, _value(f(value)), 1, found)
+                if code not in (OTHER_VALUE, BUSY):
+                    return code
+            return BUSY
+
+        return found.value if _answer(self._code(call_library)) else None
+
+    def fetch_add(self, key, addend, tries=1000):
+        """Adds to the value of a shared key, or of one of the handle's own, in one atomic step. Returns the value that it had, or None if the key is
+        absent, which is left so. A sum past 2**64 - 1 wraps around. Raises Busy as put does."""
+        was = ctypes.c_uint64()
+        return was.value if self._call("fetch_add", _key(key), _whole(addend, 64, "an addend"), _tries(tries), was) else None
 
     def owned(self):
         """How many keys the handle owns."""

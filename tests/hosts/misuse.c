@@ -64,6 +64,11 @@ static void opening(void) {
     IS(elltree_free(&h), ELLTREE_YES);
 }
 
+static uint64_t same(uint64_t value, void *context) {
+    (void)context;
+    return value;
+}
+
 static void closed(void) {
     struct elltree_handle none = ELLTREE_EMPTY, other = ELLTREE_EMPTY, *at = &none;
     struct elltree_pair pair;
@@ -75,6 +80,11 @@ static void closed(void) {
     IS(elltree_look(&none, 1, &value), ELLTREE_CLOSED);
     IS(elltree_insert(&none, 1, 1, 1), ELLTREE_CLOSED);
     IS(elltree_delete(&none, 1, 1), ELLTREE_CLOSED);
+    IS(elltree_compare_exchange(&none, 1, &value, 1, 1), ELLTREE_CLOSED);
+    IS(elltree_put(&none, 1, 1, 1, &value), ELLTREE_CLOSED);
+    IS(elltree_fetch_add(&none, 1, 1, 1, &value), ELLTREE_CLOSED);
+    IS(elltree_update(&none, 1, same, NULL, 1, &value), ELLTREE_CLOSED);
+    IS(elltree_update(&none, 1, same, NULL, 0, &value), ELLTREE_CLOSED);
     IS(elltree_keys(&none, &steps, 1, &count), ELLTREE_CLOSED);
     IS(elltree_owned(&none, &count), ELLTREE_CLOSED);
     IS(elltree_pairs(&none, &pair, 1, &count), ELLTREE_CLOSED);
@@ -89,7 +99,7 @@ static void closed(void) {
 static void nulls(struct elltree_handle *h) {
     struct elltree_handle other = ELLTREE_EMPTY;
     struct elltree_pair pair;
-    uint64_t value, steps;
+    uint64_t value = 0, steps;
     size_t count;
     IS(elltree_split(NULL, &other, keys, 1), ELLTREE_NULL);
     IS(elltree_split(h, NULL, keys, 1), ELLTREE_NULL);
@@ -102,6 +112,15 @@ static void nulls(struct elltree_handle *h) {
     IS(elltree_look(h, 1, NULL), ELLTREE_NULL);
     IS(elltree_insert(NULL, 1, 1, 1), ELLTREE_NULL);
     IS(elltree_delete(NULL, 1, 1), ELLTREE_NULL);
+    IS(elltree_compare_exchange(NULL, 1, &value, 1, 1), ELLTREE_NULL);
+    IS(elltree_compare_exchange(h, 1, NULL, 1, 1), ELLTREE_NULL);
+    IS(elltree_put(NULL, 1, 1, 1, &value), ELLTREE_NULL);
+    IS(elltree_put(h, 1, 1, 1, NULL), ELLTREE_NULL);
+    IS(elltree_fetch_add(NULL, 1, 1, 1, &value), ELLTREE_NULL);
+    IS(elltree_fetch_add(h, 1, 1, 1, NULL), ELLTREE_NULL);
+    IS(elltree_update(NULL, 1, same, NULL, 1, &value), ELLTREE_NULL);
+    IS(elltree_update(h, 1, NULL, NULL, 1, &value), ELLTREE_NULL);
+    IS(elltree_update(h, 1, same, NULL, 1, NULL), ELLTREE_NULL);
     IS(elltree_keys(NULL, &value, 1, &count), ELLTREE_NULL);
     IS(elltree_keys(h, NULL, 1, &count), ELLTREE_NULL);
     IS(elltree_keys(h, &value, 1, NULL), ELLTREE_NULL);
@@ -123,7 +142,7 @@ static void nulls(struct elltree_handle *h) {
 static void in_call(struct elltree_handle *h) {
     struct elltree_handle other = ELLTREE_EMPTY;
     struct elltree_pair pair;
-    uint64_t value, steps;
+    uint64_t value = 0, steps;
     size_t count;
     IS(elltree_enter(h), ELLTREE_YES);
     IS(elltree_open(h, keys, 6, start, 2, 9), ELLTREE_IN_CALL);
@@ -135,6 +154,10 @@ static void in_call(struct elltree_handle *h) {
     IS(elltree_look(h, 1, &value), ELLTREE_IN_CALL);
     IS(elltree_insert(h, 1, 1, 1), ELLTREE_IN_CALL);
     IS(elltree_delete(h, 1, 1), ELLTREE_IN_CALL);
+    IS(elltree_compare_exchange(h, 1, &value, 1, 1), ELLTREE_IN_CALL);
+    IS(elltree_put(h, 1, 1, 1, &value), ELLTREE_IN_CALL);
+    IS(elltree_fetch_add(h, 1, 1, 1, &value), ELLTREE_IN_CALL);
+    IS(elltree_update(h, 1, same, NULL, 1, &value), ELLTREE_IN_CALL);
     IS(elltree_keys(h, &value, 1, &count), ELLTREE_IN_CALL);
     IS(elltree_owned(h, &count), ELLTREE_IN_CALL);
     IS(elltree_pairs(h, &pair, 1, &count), ELLTREE_IN_CALL);
@@ -154,6 +177,14 @@ static void keys_and_tries(struct elltree_handle *low, struct elltree_handle *hi
     IS(elltree_find(low, 99, &value), ELLTREE_FOREIGN);
     IS(elltree_insert(low, 4, 1, 9), ELLTREE_FOREIGN);
     IS(elltree_delete(low, 4, 9), ELLTREE_FOREIGN);
+    IS(elltree_compare_exchange(low, 4, &value, 1, 9), ELLTREE_FOREIGN);
+    IS(elltree_put(low, 4, 1, 9, &value), ELLTREE_FOREIGN);
+    IS(elltree_fetch_add(low, 4, 1, 9, &value), ELLTREE_FOREIGN);
+    IS(elltree_update(low, 4, same, NULL, 9, &value), ELLTREE_FOREIGN);
+    IS(elltree_compare_exchange(low, 2, &value, 1, 0), ELLTREE_NO_TRIES);
+    IS(elltree_put(low, 2, 1, 0, &value), ELLTREE_NO_TRIES);
+    IS(elltree_fetch_add(low, 4, 1, 0, &value), ELLTREE_NO_TRIES);
+    IS(elltree_update(low, 4, same, NULL, 0, &value), ELLTREE_NO_TRIES);
     IS(elltree_insert(low, 1, 1, 0), ELLTREE_NO_TRIES);
     IS(elltree_delete(low, 2, 0), ELLTREE_NO_TRIES);
     IS(elltree_look(low, ELLTREE_KEY_MAX + 1, &value), ELLTREE_BAD_KEY);
@@ -196,6 +227,17 @@ static void spent_and_other_tree(struct elltree_handle *low) {
     IS(elltree_delete(&small, 2, 9), ELLTREE_SPENT);
     IS(elltree_insert(&small, 2, 5, 9), ELLTREE_NO);
     IS(elltree_delete(&small, 3, 9), ELLTREE_NO);
+    IS(elltree_compare_exchange(&small, 3, &value, 5, 9), ELLTREE_NO);
+    IS(elltree_fetch_add(&small, 3, 1, 9, &value), ELLTREE_NO);
+    IS(elltree_update(&small, 3, same, NULL, 9, &value), ELLTREE_NO);
+    IS(elltree_put(&small, 2, 5, 9, &value), ELLTREE_SPENT);
+    IS(elltree_put(&small, 3, 5, 9, &value), ELLTREE_SPENT);
+    IS(elltree_fetch_add(&small, 2, 1, 9, &value), ELLTREE_SPENT);
+    IS(elltree_update(&small, 2, same, NULL, 9, &value), ELLTREE_SPENT);
+    faults += value != 0;
+    IS(elltree_compare_exchange(&small, 2, &value, 5, 9), ELLTREE_OTHER_VALUE);
+    IS(elltree_compare_exchange(&small, 2, &value, 5, 9), ELLTREE_SPENT);
+    faults += value != 9;
     IS(elltree_find(&small, 2, &value), ELLTREE_YES);
     faults += value != 9;
     IS(elltree_join(low, &small), ELLTREE_OTHER_TREE);
@@ -430,12 +472,12 @@ static void least_share(void) {
 /* Each code has a text of its own. It is cut off and ended by a 0 where there is no room for all, and what is behind the 0 stays. */
 static void texts(void) {
     char one[ELLTREE_TEXT_ROOM], two[ELLTREE_TEXT_ROOM], cut[] = ".....";
-    for (int32_t code = ELLTREE_SHARED_KEYS - 1; code <= ELLTREE_YES + 1; code++)
-        for (int32_t other = code + 1; other <= ELLTREE_YES + 1; other++)
+    for (int32_t code = ELLTREE_SHARED_KEYS - 1; code <= ELLTREE_OTHER_VALUE + 1; code++)
+        for (int32_t other = code + 1; other <= ELLTREE_OTHER_VALUE + 1; other++)
             faults += !strcmp(elltree_text(code, one, sizeof one), elltree_text(other, two, sizeof two)) &&
-                      (code != ELLTREE_SHARED_KEYS - 1 || other != ELLTREE_YES + 1);
+                      (code != ELLTREE_SHARED_KEYS - 1 || other != ELLTREE_OTHER_VALUE + 1);
     faults += strcmp(elltree_text(ELLTREE_SPENT, one, sizeof one), "all cards are given out") != 0;
-    faults += strcmp(elltree_text(ELLTREE_YES + 1, two, sizeof two), "no code of elltree") != 0;
+    faults += strcmp(elltree_text(ELLTREE_OTHER_VALUE + 1, two, sizeof two), "no code of elltree") != 0;
     faults += elltree_code_text(ELLTREE_SPENT, cut, 4) != strlen(one) || memcmp(cut, "all\0.", sizeof cut);
     faults += *elltree_text(ELLTREE_SPENT, cut, 0) || *elltree_text(ELLTREE_SPENT, NULL, 4) || memcmp(cut, "all\0.", sizeof cut);
 }

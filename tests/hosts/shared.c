@@ -1,6 +1,8 @@
 /* Two threads of a host, and then four, that insert and delete the same few keys of a tree of shared keys. Each yes is matched: of each key,
    the inserts that answered yes are as many as the deletes that did, or one more where the key is present at the end, counting a start key as
-   an insert. Then four threads insert one absent key at once, and delete it at once, again and again: each time just one of them answers yes. */
+   an insert. Then four threads insert one absent key at once, and delete it at once, again and again: each time just one of them answers yes. Four
+   threads add to counters in each way that there is, and no addition is lost. While a thread puts ascending values, the others find one each time,
+   and never a lower one than before. */
 #include "elltree.h"
 #include <pthread.h>
 #include <stdio.h>
@@ -137,8 +139,107 @@ static long race(void) {
     return wrong;
 }
 
+enum { ADDED, UPDATED, EXCHANGED, COUNTERS, ADDITIONS = 4000, PUTS = 20000 };
+
+struct counting {
+    struct elltree_handle handle;
+    int number;
+    long calls, wrong;
+};
+
+/* What elltree_update calls: it counts its calls. */
+static uint64_t one_more(uint64_t value, void *calls) {
+    ++*(long *)calls;
+    return value + 1;
+}
+
+/* Adds one by a find and as many exchanges as it takes. */
+static int32_t exchange_one_more(struct elltree_handle *handle, uint64_t key) {
+    uint64_t value = 0;
+    int32_t said = elltree_find(handle, key, &value);
+    if (said != ELLTREE_YES)
+        return said;
+    do
+        said = elltree_compare_exchange(handle, key, &value, value + 1, TRIES);
+    while (said == ELLTREE_OTHER_VALUE);
+    return said;
+}
+
+static void *add(void *given) {
+    struct counting *c = given;
+    uint64_t was = 0;
+    for (int i = 0; i < ADDITIONS; i++) {
+        c->wrong += elltree_fetch_add(&c->handle, key_at(ADDED), 1, TRIES, &was) != ELLTREE_YES;
+        c->wrong += elltree_update(&c->handle, key_at(UPDATED), one_more, &c->calls, TRIES, &was) != ELLTREE_YES;
+        c->wrong += exchange_one_more(&c->handle, key_at(EXCHANGED)) != ELLTREE_YES;
+    }
+    return NULL;
+}
+
+/* The first puts, and the others find. */
+static void *put_or_find(void *given) {
+    struct counting *c = given;
+    uint64_t last = 0, was = 0;
+    for (uint64_t i = 1; i <= PUTS && c->number == 0; i++)
+        c->wrong += elltree_put(&c->handle, key_at(ADDED), i, TRIES, &was) != ELLTREE_YES || was != i - 1;
+    for (int i = 0; i < PUTS && c->number != 0; i++) {
+        int32_t said = i % 2 ? elltree_find(&c->handle, key_at(ADDED), &was) : elltree_look(&c->handle, key_at(ADDED), &was);
+        c->wrong += said != ELLTREE_YES || was < last;
+        last = was;
+    }
+    return NULL;
+}
+
+/* Four threads work on counters that are 0 at the start; at the end these have the values. */
+static long count(void *(*work_on)(void *), const uint64_t *values) {
+    static struct counting c[MOST];
+    const struct elltree_pair start[COUNTERS] = {{key_at(ADDED), 0}, {key_at(UPDATED), 0}, {key_at(EXCHANGED), 0}};
+    pthread_t running[MOST];
+    uint64_t got = 0;
+    long wrong = elltree_open_shared(&c[0].handle, start, COUNTERS, CARDS) != ELLTREE_YES, calls = 0;
+    for (int t = 0; t < MOST; t++) {
+        c[t].number = t;
+        c[t].calls = c[t].wrong = 0;
+        wrong += t != 0 && elltree_another(&c[0].handle, &c[t].handle) != ELLTREE_YES;
+    }
+    for (int t = 0; t < MOST; t++)
+        pthread_create(&running[t], NULL, work_on, &c[t]);
+    for (int t = 0; t < MOST; t++)
+        pthread_join(running[t], NULL);
+    for (uint64_t place = 0; place < COUNTERS; place++)
+        wrong += elltree_find(&c[0].handle, key_at(place), &got) != ELLTREE_YES || got != values[place];
+    for (int t = 0; t < MOST; t++) {
+        wrong += c[t].wrong + (elltree_free(&c[t].handle) != ELLTREE_YES);
+        calls += c[t].calls;
+    }
+    printf("%d threads, the last value %llu, %ld wrong\n", MOST, (unsigned long long)got, wrong);
+    return wrong + (calls < (long)values[UPDATED]);
+}
+
+/* What is answered of values in place: the old value, or the other one; and an absent key is left so, but by a put. */
+static long answers(void) {
+    struct elltree_handle h = ELLTREE_EMPTY;
+    const struct elltree_pair start = {2, 20};
+    uint64_t value = 19;
+    long calls = 0, wrong = elltree_open_shared(&h, &start, 1, 9) != ELLTREE_YES;
+    wrong += elltree_compare_exchange(&h, 2, &value, 21, 9) != ELLTREE_OTHER_VALUE || value != 20;
+    wrong += elltree_compare_exchange(&h, 2, &value, 21, 9) != ELLTREE_YES || value != 20;
+    wrong += elltree_compare_exchange(&h, 3, &value, 31, 9) != ELLTREE_NO || value != 20;
+    wrong += elltree_put(&h, 2, 22, 9, &value) != ELLTREE_YES || value != 21;
+    wrong += elltree_put(&h, 3, 30, 9, &value) != ELLTREE_NO || value != 21;
+    wrong += elltree_fetch_add(&h, 3, UINT64_MAX, 9, &value) != ELLTREE_YES || value != 30;
+    wrong += elltree_fetch_add(&h, 4, 1, 9, &value) != ELLTREE_NO || value != 30;
+    wrong += elltree_update(&h, 3, one_more, &calls, 9, &value) != ELLTREE_YES || value != 29 || calls != 1;
+    wrong += elltree_update(&h, 4, one_more, &calls, 9, &value) != ELLTREE_NO || calls != 1;
+    wrong += elltree_update(&h, 3, one_more, &calls, 0, &value) != ELLTREE_NO_TRIES;
+    wrong += elltree_update(&h, ELLTREE_KEY_MAX + 1, one_more, &calls, 9, &value) != ELLTREE_FOREIGN || value != 29 || calls != 1;
+    wrong += elltree_find(&h, 3, &value) != ELLTREE_YES || value != 30;
+    return wrong + (elltree_free(&h) != ELLTREE_YES);
+}
+
 int main(void) {
-    long wrong = run(2) + run(MOST) + race();
+    const uint64_t sums[COUNTERS] = {MOST * ADDITIONS, MOST * ADDITIONS, MOST * ADDITIONS}, last[COUNTERS] = {PUTS, 0, 0};
+    long wrong = run(2) + run(MOST) + race() + count(add, sums) + count(put_or_find, last) + answers();
     printf("%ld wrong\n", wrong);
     return wrong != 0;
 }

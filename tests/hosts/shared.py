@@ -1,6 +1,7 @@
 """Two threads of Python, and then four, that insert and delete the same few keys of a tree of shared keys: of each key, the inserts that answered
-yes are as many as the deletes that did, or one more where the key is present at the end, counting a start key as an insert. Then what is
-refused in such a tree. The binding is found by PYTHONPATH."""
+yes are as many as the deletes that did, or one more where the key is present at the end, counting a start key as an insert. Then four threads add
+to counters in each way that there is, and no addition is lost; what is answered of values in place; and what is refused in such a tree. The binding
+is found by PYTHONPATH."""
 
 import random
 import sys
@@ -8,7 +9,7 @@ import threading
 
 import elltree
 
-KEYS, CALLS, START = 5, 10000, {1: 11, 3: 33}
+KEYS, CALLS, START, ADDITIONS = 5, 10000, {1: 11, 3: 33}, 2000
 
 
 def work(handle, more, faults, number):
@@ -42,6 +43,51 @@ def run(number):
     return sum(faults) + (there != found)
 
 
+def add(handle, faults, number):
+    for _ in range(ADDITIONS):
+        handle.fetch_add(0, 1)
+        handle.update(1, lambda value: value + 1)
+        value = handle.find(2)
+        while (there := handle.compare_exchange(2, value, value + 1)) != value:
+            value = there
+        faults[number] += handle.put(3, number) is None or handle.look(3) is None
+
+
+def count(number):
+    handles = [elltree.open_shared({key: 0 for key in range(4)}, cards=400000)]
+    handles += [handles[0].another() for _ in range(1, number)]
+    faults = [0] * number
+    threads = [threading.Thread(target=add, args=(handles[n], faults, n)) for n in range(number)]
+    for thread in threads:
+        thread.start()
+    for thread in threads:
+        thread.join()
+    sums = [handles[0].find(key) for key in range(3)]
+    print(f"{number} threads, the sums {sums}")
+    for handle in handles:
+        handle.close()
+    return sum(faults) + (sums != [number * ADDITIONS] * 3)
+
+
+def answers():
+    handle = elltree.open_shared({2: 20}, cards=9)
+    said = [handle.compare_exchange(2, 19, 21), handle.compare_exchange(2, 20, 21), handle.compare_exchange(3, 19, 21)]
+    said += [handle.put(2, 22), handle.put(3, 30), handle.fetch_add(3, 2**64 - 1), handle.fetch_add(4, 1)]
+    said += [handle.update(3, lambda value: value * 2), handle.update(4, lambda value: value * 2), handle.find(3)]
+    faults = said != [20, 20, None, 21, None, 30, None, 29, None, 58]
+    faults += refused(elltree.IN_CALL, handle.update, 3, lambda value: handle.find(2))
+    faults += refused(elltree.NO_TRIES, handle.update, elltree.KEY_MAX + 1, abs, 0) + refused(elltree.FOREIGN, handle.put, elltree.KEY_MAX + 1, 1)
+    for call, error in ((lambda: handle.update(3, lambda value: value << 64), OverflowError), (lambda: handle.update(3, lambda _: None), TypeError)):
+        try:
+            call()
+        except error:
+            continue
+        faults += 1
+    faults += handle.find(3) != 58
+    handle.close()
+    return faults + refused(elltree.CLOSED, handle.update, 3, abs)
+
+
 def refused(code, call, *args):
     try:
         call(*args)
@@ -68,7 +114,7 @@ def refusals():
 
 
 def main():
-    faults = run(2) + run(4) + refusals()
+    faults = run(2) + run(4) + count(4) + answers() + refusals()
     print(f"{faults} faults")
     sys.exit(faults != 0)
 

@@ -1,7 +1,8 @@
 //! Threads of Rust, 2 to 64, that find, insert and delete the same few keys of a tree of shared keys. Each call is noted with its begin and its
 //! end by one clock, and the calls on each key are to be in order: each has a point between its begin and its end, and one map gives their
 //! answers in the order of these points. At the end of each round each key is as the last of them leave it. Then all threads at once insert one
-//! key, and delete it, again and again: each time one of them answers yes. With `--seconds=N` it makes rounds, with new seeds, for so long. The
+//! key, and delete it, again and again: each time one of them answers yes. All threads add to counters in each way that there is, and no addition
+//! is lost; beside a thread that puts ascending values, the others find one each time, and never a lower one than before. With `--seconds=N` it makes rounds, with new seeds, for so long. The
 //! check of the order is tried first, on histories that a person worked out.
 use elltree::{Handle, Refused};
 use std::collections::{BTreeSet, HashSet};
@@ -13,6 +14,7 @@ const TRIES: u32 = 100_000;
 const CARDS: u64 = 100_000;
 const START: [(u64, u64); 2] = [(1, 901), (3, 903)];
 const RACES: u64 = 20;
+const ADDITIONS: u64 = 2_000;
 
 /// A call, with what it answered.
 #[derive(Clone, Copy, Debug, PartialEq)]
@@ -221,6 +223,62 @@ fn race(threads: u32) -> Result<(), Refused> {
     Ok(())
 }
 
+/// Adds one by a find and as many exchanges as it takes.
+fn exchange_one_more(handle: &mut Handle, key: u64) -> Result<(), Refused> {
+    let mut value = handle.find(key)?.unwrap();
+    while let Err(there) = handle.compare_exchange(key, value, value + 1, TRIES)? {
+        value = there.unwrap();
+    }
+    Ok(())
+}
+
+/// All threads add to three counters: each ends at the sum.
+fn count(threads: u32) -> Result<(), Refused> {
+    let mut handles = open(threads, &[(1, 0), (2, 0), (3, 0)])?;
+    let each = ADDITIONS / u64::from(threads);
+    let calls: u64 = in_threads(&mut handles, |handle, _| {
+        let mut calls = 0;
+        for _ in 0..each {
+            handle.fetch_add(1, 1, TRIES)?.unwrap();
+            let called = |value| {
+                calls += 1;
+                value + 1
+            };
+            handle.update(2, called, TRIES)?.unwrap();
+            exchange_one_more(handle, 3)?;
+        }
+        Ok(calls)
+    })
+    .into_iter()
+    .sum();
+    let sum = each * u64::from(threads);
+    for key in 1..=3 {
+        assert_eq!(handles[0].find(key)?, Some(sum), "counter {key} of {threads} threads");
+    }
+    assert!(calls >= sum);
+    Ok(())
+}
+
+/// The first thread puts ascending values, and the others find them.
+fn put_and_find(threads: u32) -> Result<(), Refused> {
+    let mut handles = open(threads, &[(5, 0)])?;
+    in_threads(&mut handles, |handle, worker| {
+        let mut last = 0;
+        for value in 1..=ADDITIONS {
+            if worker == 0 {
+                assert_eq!(handle.put(5, value, TRIES)?, Some(value - 1));
+                continue;
+            }
+            let there = if value % 2 == 0 { handle.find(5)? } else { handle.look(5)? };
+            assert!(there.is_some_and(|there| there >= last), "{there:?} after {last}");
+            last = there.unwrap();
+        }
+        Ok(())
+    });
+    assert_eq!((handles[0].find(5)?, handles[0].put(6, 1, TRIES)?, handles[0].fetch_add(7, 1, TRIES)?), (Some(ADDITIONS), None, None));
+    Ok(())
+}
+
 fn main() -> Result<(), Refused> {
     let seconds = std::env::args().nth(1).map_or(0, |word| word.strip_prefix("--seconds=").expect("--seconds=N").parse().expect("a number"));
     let begun = Instant::now();
@@ -234,6 +292,8 @@ fn main() -> Result<(), Refused> {
                 (rounds, calls, left) = (rounds + 1, calls + made, left + there);
             }
             race(threads)?;
+            count(threads)?;
+            put_and_find(threads)?;
         }
     }
     println!("{rounds} rounds, {calls} calls in order, {left} keys at the ends, {} s", begun.elapsed().as_secs());

@@ -106,6 +106,9 @@ unsafe extern "C" {
     fn elltree_slot_look(slot: &mut Slot, key: u64, value: &mut u64) -> i32;
     fn elltree_slot_insert(slot: &mut Slot, key: u64, value: u64, tries: u32) -> i32;
     fn elltree_slot_delete(slot: &mut Slot, key: u64, tries: u32) -> i32;
+    fn elltree_slot_compare_exchange(slot: &mut Slot, key: u64, current: u64, new: u64, tries: u32, found: &mut u64) -> i32;
+    fn elltree_slot_put(slot: &mut Slot, key: u64, value: u64, tries: u32, was: &mut u64) -> i32;
+    fn elltree_slot_fetch_add(slot: &mut Slot, key: u64, addend: u64, tries: u32, was: &mut u64) -> i32;
     fn elltree_slot_keys(slot: &mut Slot, out: *mut u64, room: usize, count: &mut usize) -> i32;
     fn elltree_slot_owned(slot: &mut Slot, count: &mut usize) -> i32;
     fn elltree_slot_pairs(slot: &mut Slot, out: *mut Pair, room: usize, count: &mut usize) -> i32;
@@ -121,7 +124,7 @@ unsafe extern "C" {
 #[derive(Clone, Copy, Debug, PartialEq, Eq, Hash)]
 #[non_exhaustive]
 pub enum Refused {
-    /// Something was in the way of each try.
+    /// Something was in the way of each try, or changed the value first.
     Busy,
     /// All cards of the tree are given out: [`renew_all`] makes fresh ones for owned keys, and [`Handle::cards_left`] tells beforehand.
     Spent,
@@ -217,6 +220,9 @@ fn answer(code: i32) -> Result<bool> {
         _ => Err(NAMED.into_iter().find(|why| why.code() == code).unwrap_or(Refused::Other(code))),
     }
 }
+
+// The code of a compare-exchange that has found another value.
+const OTHER_VALUE: i32 = 2;
 
 // A slot that holds nothing.
 const EMPTY: Slot = Slot { at: std::ptr::null_mut(), is_open: false };
@@ -409,25 +415,98 @@ impl Handle {
     }
 
     /// Takes a shared key, or one of the handle's own, away, and returns whether it was present. Refused as an insert is.
-    ///
-    /// You change a value by a delete and an insert, which take two cards: ask [`Handle::cards_left`] before the delete. Until the insert is made,
-    /// the key is absent (unless it is shared and another thread inserts it), so a `?` that returns by its `Spent` loses the value. If other
-    /// handles of the tree may have taken the cards meanwhile, keep the value, renew, and insert it.
-    ///
-    /// ```
-    /// use elltree::{Handle, Refused};
-    /// let mut handle = Handle::open(&[], &[(1, 10)], 1)?; // one card too few
-    /// if handle.cards_left() < 2 {
-    ///     handle.renew(2)?;
-    /// }
-    /// handle.delete(1, 9)?;
-    /// handle.insert(1, 11, 9)?;
-    /// assert_eq!((handle.find(1)?, handle.cards_left()), (Some(11), 0));
-    /// # Ok::<(), Refused>(())
-    /// ```
     pub fn delete(&mut self, key: u64, tries: u32) -> Result<bool> {
         // SAFETY: the slot is this handle's.
         answer(unsafe { elltree_slot_delete(&mut self.0, key, tries) })
+    }
+
+    /// Stores `new` as the value of a shared key, or of one of the handle's own, if its value is `current`, in one atomic step. Returns
+    /// `Ok(current)` if it was exchanged, and else what is there: `Err(Some(value))` if the key has another value, and `Err(None)` if it is
+    /// absent. An exchange takes a card. Refused as an insert is.
+    ///
+    /// ```
+    /// let mut handle = elltree::Handle::open_shared(&[(1, 10)], 9)?;
+    /// assert_eq!(handle.compare_exchange(1, 10, 11, 9)?, Ok(10));
+    /// assert_eq!(handle.compare_exchange(1, 10, 12, 9)?, Err(Some(11)));
+    /// assert_eq!(handle.compare_exchange(2, 10, 12, 9)?, Err(None));
+    /// # Ok::<(), elltree::Refused>(())
+    /// ```
+    pub fn compare_exchange(
+        &mut self,
+        key: u64,
+        current: u64,
+        new: u64,
+        tries: u32,
+    ) -> Result<std::result::Result<u64, Option<u64>>> {
+        let mut found = 0;
+        // SAFETY: the slot is this handle's.
+        let code = unsafe { elltree_slot_compare_exchange(&mut self.0, key, current, new, tries, &mut found) };
+        if code == OTHER_VALUE {
+            return Ok(Err(Some(found)));
+        }
+        Ok(if answer(code)? { Ok(found) } else { Err(None) })
+    }
+
+    /// Stores the value of a shared key, or of one of the handle's own, whether the key is present or not, in one atomic step. Returns the value
+    /// that it had, or `None` if it was absent. A put takes a card. Refused as an insert is; a try fails also if another handle has changed the
+    /// key since it was read, and `Busy` comes if all fail.
+    ///
+    /// ```
+    /// let mut handle = elltree::Handle::open_shared(&[(1, 10)], 9)?;
+    /// assert_eq!((handle.put(1, 11, 9)?, handle.put(2, 20, 9)?), (Some(10), None));
+    /// assert_eq!((handle.find(1)?, handle.find(2)?), (Some(11), Some(20)));
+    /// # Ok::<(), elltree::Refused>(())
+    /// ```
+    pub fn put(&mut self, key: u64, value: u64, tries: u32) -> Result<Option<u64>> {
+        let mut was = 0;
+        // SAFETY: the slot is this handle's.
+        let there = answer(unsafe { elltree_slot_put(&mut self.0, key, value, tries, &mut was) })?;
+        Ok(there.then_some(was))
+    }
+
+    /// Stores what `f` makes of the value of a shared key, or of one of the handle's own, in one atomic step. Returns the value that it had, or
+    /// `None` if the key is absent, which is left so. `f` is called before each try, with the value that the key has then. Refused as
+    /// [`Handle::put`] is.
+    ///
+    /// ```
+    /// let mut handle = elltree::Handle::open_shared(&[(1, 10)], 9)?;
+    /// assert_eq!((handle.update(1, |value| value * 2, 9)?, handle.update(2, |value| value * 2, 9)?), (Some(10), None));
+    /// assert_eq!((handle.find(1)?, handle.find(2)?), (Some(20), None));
+    /// # Ok::<(), elltree::Refused>(())
+    /// ```
+    pub fn update<F: FnMut(u64) -> u64>(&mut self, key: u64, mut f: F, tries: u32) -> Result<Option<u64>> {
+        if tries == 0 {
+            return Err(Refused::NoTries);
+        }
+        let Some(mut value) = self.find(key)? else {
+            return Ok(None);
+        };
+        for _ in 0..tries {
+            match self.compare_exchange(key, value, f(value), 1) {
+                Ok(Ok(was)) => return Ok(Some(was)),
+                Ok(Err(Some(there))) => value = there,
+                Ok(Err(None)) => return Ok(None),
+                Err(Refused::Busy) => {}
+                Err(why) => return Err(why),
+            }
+        }
+        Err(Refused::Busy)
+    }
+
+    /// Adds to the value of a shared key, or of one of the handle's own, in one atomic step. Returns the value that it had, or `None` if the key
+    /// is absent, which is left so. A sum past `u64::MAX` wraps around. Refused as [`Handle::put`] is.
+    ///
+    /// ```
+    /// let mut handle = elltree::Handle::open_shared(&[(1, 10)], 9)?;
+    /// assert_eq!((handle.fetch_add(1, 5, 9)?, handle.fetch_add(1, u64::MAX, 9)?, handle.fetch_add(2, 5, 9)?), (Some(10), Some(15), None));
+    /// assert_eq!(handle.find(1)?, Some(14));
+    /// # Ok::<(), elltree::Refused>(())
+    /// ```
+    pub fn fetch_add(&mut self, key: u64, addend: u64, tries: u32) -> Result<Option<u64>> {
+        let mut was = 0;
+        // SAFETY: the slot is this handle's.
+        let there = answer(unsafe { elltree_slot_fetch_add(&mut self.0, key, addend, tries, &mut was) })?;
+        Ok(there.then_some(was))
     }
 
     /// How many keys the handle owns.
