@@ -56,7 +56,7 @@ impl Seen {
     }
 }
 
-// Adds points to the score of a player of the pass. Between the two changes a look finds no score.
+// Adds points to the score of a player of the pass, in one atomic step: a look finds the old score or the new one.
 fn add(board: &Tree<Global>, pass: Pass<Global>, player: u64, points: u64) -> Result<Pass<Global>>
     requires own { pass.table ≡ board.now.id }
     requires idle { IsIdle pass }
@@ -68,11 +68,7 @@ fn add(board: &Tree<Global>, pass: Pass<Global>, player: u64, points: u64) -> Re
     let Some(sum) = score.checked_add(points) else {
         bail!("player {player} has too many points");
     };
-    board.delete(&mut pass, player, TRIES, &NoGate)?;
-    if let Err(held) = board.insert(&mut pass, player, sum, TRIES, &NoGate) {
-        // No score of the player is in the map now: the error has it.
-        bail!("player {player} has {sum} points, which did not go in: {held}");
-    }
+    board.put(&mut pass, player, sum, TRIES, &NoGate)?;
     Ok(pass)
 }
 

@@ -52,12 +52,7 @@ fn add_up(scores: &Tree<Global>, pass: Pass<Global>) -> Result<Pass<Global>>
         let Some(sum) = score.checked_add(points) else {
             bail!("player {player} has too many points");
         };
-        // A key that is present keeps its value, so it is taken away first.
-        scores.delete(&mut pass, player, TRIES, &NoGate)?;
-        if let Err(held) = scores.insert(&mut pass, player, sum, TRIES, &NoGate) {
-            // No score of the player is in the map now: the error has it.
-            bail!("player {player} has {sum} points, which did not go in: {held}");
-        }
+        scores.put(&mut pass, player, sum, TRIES, &NoGate)?;
     }
     Ok(pass)
 }
