@@ -51,8 +51,8 @@ member_put owned t key value p q was h a = member_concluded owned t _ _ p q h a
 pub member_updated : (owned : List ℕ) (t : TreeModel) (key : ℕ) (makes : ℕ → ℕ → Type 0) (p q : PassModel) (was : Option ℕ) → IsMember owned t p
     → UpdatesValue t key makes p q was → IsMember owned t q
 member_updated owned t key makes p q None h (inl a) = member_concluded owned t _ _ p q h a
-member_updated owned t key makes p q None h (inr (other, value, (differs, a))) = member_concluded owned t _ _ p q h a
-member_updated owned t key makes p q (Some was) h (value, (made, a)) = member_concluded owned t _ _ p q h a
+member_updated owned t key makes p q None h (inr (other, value, differs, a)) = member_concluded owned t _ _ p q h a
+member_updated owned t key makes p q (Some was) h (value, made, a) = member_concluded owned t _ _ p q h a
 
 -- and one that has changed nothing
 pub member_held_back : (owned : List ℕ) (t : TreeModel) (key : ℕ) (p q : PassModel) (why : Held) → IsMember owned t p
