@@ -1,4 +1,4 @@
-use Rattle.std.proofs.Common.{◌≡◌, ℕ, ◌+◌, ◌≤◌, true, false, Some, Result, Ok, Err, IfErr, List, ◌∷◌, refl, sym, ◌∙◌, ap, subst, is_ok, arith, None}
+use Rattle.std.proofs.Common.{◌≡◌, ℕ, ◌+◌, ◌≤◌, true, false, Some, Result, Ok, Err, IfErr, List, ◌∷◌, refl, sym, ◌∙◌, ap, subst, is_ok, arith}
 use Rattle.ell_core.specs.declared.put.Put.{Put}
 use Rattle.ell_ops.specs.declared.op.Op.TheVariants.{Delete}
 use Rattle.ell_word.specs.declared.gate.Kind.{Kind}

@@ -1,10 +1,10 @@
-use Rattle.std.proofs.Common.{◌≡◌, ◌==◌, ℕ, if◌then◌else◌, true, false, Option, Some, None, inl, inr, eq-eqb, refl, sym, ap, ◌∙◌, subst}
+use Rattle.std.proofs.Common.{◌≡◌, ℕ, if◌then◌else◌, true, false, Some, None, inl, inr, eq-eqb, refl, sym, ap, ◌∙◌, subst}
 use Rattle.std.specs.Prelude.{unwrap_or}
 use Rattle.std.proofs.lemmas.Bool.{cases_eq, ne_eqb}
 use Rattle.std.proofs.lemmas.Option.{same_Some}
 use Rattle.ell_ops.specs.declared.op.Op.{Op}
 use Rattle.ell_ops.specs.declared.op.Op.TheVariants.{Find, Insert, Delete, Swap}
-use Rattle.ell_ops.specs.declared.reply.Reply.TheVariants.{No, Found}
+use Rattle.ell_ops.specs.declared.reply.Reply.TheVariants.{Found}
 use Rattle.ell_ops.specs.Meaning.{key_of, found}
 use Rattle.ell_core.specs.declared.fact.Fact.TheVariants.{IOver}
 use Rattle.ell_core.specs.declared.put.Put.{Put}

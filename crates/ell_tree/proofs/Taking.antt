@@ -1,4 +1,4 @@
-use Rattle.std.proofs.Common.{◌≡◌, ◌≢◌, eq-eqb, subst, sym, ℕ, zero, suc, ◌+◌, ◌≤◌, ◌++◌, if◌then◌else◌, Bool, true, false, Option, Some, None, is_some, List, [], ◌∷◌, Ok, refl, ◌∙◌, ap, arith, Result}
+use Rattle.std.proofs.Common.{◌≡◌, ◌≢◌, eq-eqb, subst, sym, ℕ, zero, suc, ◌+◌, ◌≤◌, ◌++◌, if◌then◌else◌, Bool, true, false, Option, Some, None, List, [], ◌∷◌, Ok, refl, ◌∙◌, ap, arith, Result}
 use Rattle.ell_ops.specs.declared.op.Op.{Op}
 use Rattle.ell_ops.specs.declared.op.Op.TheVariants.{Find, Insert, Delete, Swap}
 use Rattle.ell_tree.specs.Tries.{IsChange}

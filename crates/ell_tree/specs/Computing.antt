@@ -2,7 +2,6 @@ use Rattle.std.specs.Prelude.{◌≡◌, ◌≢◌, ℕ, ◌+◌, ◌*◌, ◌<�
 use Rattle.ell_ops.specs.declared.op.Op.{Op}
 use Rattle.ell_ops.specs.declared.op.Op.TheVariants.{Find, Insert, Swap}
 use Rattle.ell_ops.specs.declared.reply.Reply.{Reply}
-use Rattle.ell_ops.specs.declared.reply.Reply.TheVariants.{Yes, Found}
 use Rattle.ell_ops.specs.Meaning.{key_of, reply_of, after, found}
 use Rattle.ell_core.specs.statements.Effects.{reply_of_change}
 use Rattle.ell_cards.specs.Answering.{IsAnsweredInRuns}

@@ -1,4 +1,4 @@
-use Rattle.std.proofs.Common.{◌≡◌, ◌≢◌, None, inl, refl, subst, rules}
+use Rattle.std.proofs.Common.{inl, rules}
 use Rattle.ell_ops.specs.declared.op.Op.TheVariants.{Find, Insert}
 use Rattle.ell_ops.specs.declared.reply.Reply.TheVariants.{No}
 use Rattle.ell_ops.specs.Meaning.{found}

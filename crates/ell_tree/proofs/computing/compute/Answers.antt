@@ -1,10 +1,10 @@
-use Rattle.std.proofs.Common.{rules, ◌≡◌, ◌≢◌, ◌<◌, ◌≤◌, ◌*◌, ◌+◌, None, Some, Ok, Err, ℕ, Option, inl, refl, sym, ap, ◌∙◌, subst, arith, is_some}
+use Rattle.std.proofs.Common.{rules, ◌≡◌, ◌≢◌, ◌*◌, ◌+◌, None, inl, refl, sym, ◌∙◌, arith}
 use Rattle.ell_ops.specs.declared.op.Op.TheVariants.{Find}
 use Rattle.ell_ops.specs.Meaning.{found}
 use Rattle.ell_core.specs.statements.Effects.{reply_of_change}
 use Rattle.ell_cards.proofs.runs.Tries.{more_tries}
 use Rattle.ell_tree.specs.Computing.{IsUntouched, ReadsValue, put_by, round_steps}
-use Rattle.ell_tree.specs.Ends.{Answers, LaidDown, find_steps}
+use Rattle.ell_tree.specs.Ends.{LaidDown, find_steps}
 use Rattle.ell_tree.specs.Ledgers.{Owns, present_in}
 use Rattle.ell_tree.specs.Promises.{IsOthersDoing}
 use Rattle.ell_tree.specs.CardsTaken.{TakesByHindered}

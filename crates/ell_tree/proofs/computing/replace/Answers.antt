@@ -1,4 +1,4 @@
-use Rattle.std.proofs.Common.{◌≡◌, ◌≢◌, Some, inr, refl, sym, ◌∙◌, subst, rules}
+use Rattle.std.proofs.Common.{◌≢◌, Some, inr, sym, ◌∙◌, rules}
 use Rattle.ell_ops.specs.declared.op.Op.TheVariants.{Swap}
 use Rattle.ell_ops.specs.Meaning.{found}
 use Rattle.ell_tree.specs.Ends.{Answers}

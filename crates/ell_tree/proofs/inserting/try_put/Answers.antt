@@ -1,4 +1,4 @@
-use Rattle.std.proofs.Common.{◌+◌, ◌≡◌, ◌≢◌, ℕ, Some, List, length, inr, sym, ap, ◌∙◌, subst, rules, arith}
+use Rattle.std.proofs.Common.{◌+◌, ◌≡◌, ◌≢◌, ℕ, Some, List, length, sym, ap, ◌∙◌, subst, rules, arith}
 use Rattle.ell_word.specs.declared.update.State.TheVariants.{Clean}
 use Rattle.ell_core.specs.declared.view.Search.{Search}
 use Rattle.ell_cards.specs.declared.view.Told.TheVariants.{Met}
@@ -16,7 +16,7 @@ use Rattle.ell_tree.proofs.Owning.{goes_answers, would_put}
 use Rattle.ell_tree.proofs.Meeting.{meets_trans, meets_more, put_way, nowhere_way, way_over, way_free, no_way}
 use Rattle.ell_tree.proofs.Halting.{goes_meets, seek_meets, walk_meets, said_meets, flag_lost}
 use Rattle.ell_tree.proofs.Hindering.{root_in_try}
-use Rattle.ell_tree.proofs.Putting.{put_wants, put_refused, put_done, put_over}
+use Rattle.ell_tree.proofs.Putting.{put_wants, put_refused, put_done}
 use Rattle.ell_tree.proofs.Moving.{sees_end, gives_out}
 use Rattle.ell_tree.proofs.inserting.try_put.Goals as goal
 

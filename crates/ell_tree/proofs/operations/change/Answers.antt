@@ -1,4 +1,4 @@
-use Rattle.std.proofs.Common.{◌≡◌, ◌+◌, ◌*◌, ◌∙◌, is_some, ap, arith, rules, eq-eqb, eqb-true}
+use Rattle.std.proofs.Common.{◌≡◌, ◌+◌, ◌*◌, ◌∙◌, ap, arith, rules, eq-eqb, eqb-true}
 use Rattle.ell_cards.proofs.runs.Tries.{more_tries}
 use Rattle.ell_cards.proofs.runs.LayingDown.{laid_down_last_changes_nothing}
 use Rattle.ell_tree.specs.Ends.{changes_by, try_steps}
