@@ -19,8 +19,16 @@ impl Put {
         ensures { result ≡ put_of op }
     {
         match op {
-            Op::Insert(key, value) => Some(Put { key, value, was: None }),
-            Op::Swap(key, was, value) => Some(Put { key, value, was: Some(was) }),
+            Op::Insert(key, value) => Some(Put {
+                key,
+                value,
+                was: None,
+            }),
+            Op::Swap(key, was, value) => Some(Put {
+                key,
+                value,
+                was: Some(was),
+            }),
             Op::Find(_) | Op::Delete(_) => None,
         }
     }

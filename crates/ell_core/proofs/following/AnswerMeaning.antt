@@ -115,7 +115,6 @@ leaf_answers (Delete k) (Some had) reply ledger h e = absurd (some_not_none e re
 leaf_answers (Delete k) None reply ledger h e =
     subst (λ b. AnswersTheMap (Delete k) b ledger (ledger_after (Delete k) b ledger)) (same_value refl e)
     (record { reply_is = ap (λ o. yes_if (is_some o)) h; map_is = key_lacked (contents_in ledger) k (sym h) })
-
 leaf_answers (Swap k was value) None reply ledger h e =
     subst (λ b. AnswersTheMap (Swap k was value) b ledger (ledger_after (Swap k was value) b ledger)) (same_value refl e)
     (record { reply_is = ap found h; map_is = swap_lacked (contents_in ledger) k was value (sym h) })

@@ -85,8 +85,8 @@ module _ (old new : Words) (stage : Stages) (sound : WordsAreSound old stage) (w
         let right = insert_node_key (right_leaf c) (omega arith) in
         omega arith)
     putting_later (Some was) is = (
-        insert_node_key (left_leaf c) (omega arith) ∙ (is.0 ∙ sym (insert_node_key (right_leaf c) (omega arith))),
-        insert_leaf_value ∙ is.1,
+      insert_node_key (left_leaf c) (omega arith) ∙ (is.0 ∙ sym (insert_node_key (right_leaf c) (omega arith))),
+      insert_leaf_value ∙ is.1,
     )
 
     pub insert_side_later : insert_side new c ≡ insert_side old c

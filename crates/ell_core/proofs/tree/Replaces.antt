@@ -1,6 +1,6 @@
-use Rattle.std.proofs.Common.{◌≡◌, ◌≢◌, ℕ, ◌%◌, ◌<◌, ◌≤◌, Bool, nat_le, refl, sym, ap, ◌∙◌, subst, inl, inr, ◌⊎◌, arith}
+use Rattle.std.proofs.Common.{◌≡◌, ◌≢◌, ℕ, ◌<◌, ◌≤◌, Bool, nat_le, refl, sym, ap, ◌∙◌, subst, inl, inr, ◌⊎◌}
 use Rattle.ell_word.specs.Node.{IsInternal}
-use Rattle.ell_core.specs.tree.Ranges.{next_node, low_of, high_of, Spans, root, goes, Meets, at_leaf, below, IsOrdered, Relinked, OnCourse, here, off, dead}
+use Rattle.ell_core.specs.tree.Ranges.{low_of, high_of, Spans, root, goes, Meets, at_leaf, below, IsOrdered, Relinked, OnCourse, here, off, dead}
 use Rattle.ell_core.proofs.tree.Bounds.{leaf_key, Meets-up}
 use Rattle.ell_core.proofs.tree.OneRange.{two_leaves}
 
@@ -19,8 +19,10 @@ module _ (key : ℕ → ℕ) (child after : ℕ → Bool → ℕ) (top p : ℕ) 
       → Spans key child top y a b ⊎ ((y ≡ q) × Spans key child top l a b)
   replace_step x low high y a b t (inl r) i e f g = elim (shape.relinks.others x t) [
     | inl h ↦ (let there = shape.relinks.there in let was = shape.was in
-        inr (e ∙ (ap (λ v. after v t) h.0 ∙ (ap (after p) h.1 ∙ there)),
-        goes t r i (sym was ∙ (ap (child p) (sym h.1) ∙ ap (λ v. child v t) (sym h.0))) f g))
+        inr (
+          e ∙ (ap (λ v. after v t) h.0 ∙ (ap (after p) h.1 ∙ there)),
+          goes t r i (sym was ∙ (ap (child p) (sym h.1) ∙ ap (λ v. child v t) (sym h.0))) f g,
+        ))
     | inr h ↦ inl (goes t r i (e ∙ h) f g)
   ]
   replace_step x low high y a b t (inr h) i e f g = absurd (shape.node (subst IsInternal h.0 i))

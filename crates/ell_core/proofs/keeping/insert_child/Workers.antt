@@ -1,4 +1,4 @@
-use Rattle.std.proofs.Common.{◌≡◌, ℕ, ◌⊎◌, true, Some, inl, inr, subst, sym, ap, ◌∙◌}
+use Rattle.std.proofs.Common.{◌≡◌, ℕ, ◌⊎◌, true, Some, inl, subst, sym, ap, ◌∙◌}
 use Rattle.std.proofs.lemmas.Bool.{false≢true}
 use Rattle.ell_ops.specs.declared.op.Op.{Op}
 use Rattle.ell_ops.specs.declared.op.Op.TheVariants.{Find, Insert, Delete, Swap}
@@ -21,10 +21,16 @@ ichild_machine m c q = record m { words = ichild_words m.words c q }
 waiting_own : (w : Words) (stage : Stages) (c : ℕ) → stage c ≡ IFlagged → (now : Stage) → (now ≡ IChanged) ⊎ (now ≡ RChanged) → (v : Worker) (op : Op)
     → Flagged w stage v op c → (key_of op ≡ insert_key w c) × (made_by_stage op now ≡ Some (Present (insert_value w c)))
 waiting_own w stage c flagged now fresh v (Find k) h = absurd h
-waiting_own w stage c flagged now fresh v (Insert k value) h = (sym h.1, just_changed (λ s. made_by_stage (Insert k value) s ≡ Some (Present (insert_value w c))) now fresh
-    (ap (λ n. Some (Present n)) (sym h.2)) (ap (λ n. Some (Present n)) (sym h.2)))
-waiting_own w stage c flagged now fresh v (Swap k was value) h = (sym h.1, just_changed (λ s. made_by_stage (Swap k was value) s ≡ Some (Present (insert_value w c))) now fresh
-    (ap (λ n. Some (Present n)) (sym h.2)) (ap (λ n. Some (Present n)) (sym h.2)))
+waiting_own w stage c flagged now fresh v (Insert k value) h = (
+  sym h.1,
+  just_changed (λ s. made_by_stage (Insert k value) s ≡ Some (Present (insert_value w c))) now fresh
+      (ap (λ n. Some (Present n)) (sym h.2)) (ap (λ n. Some (Present n)) (sym h.2)),
+)
+waiting_own w stage c flagged now fresh v (Swap k was value) h = (
+  sym h.1,
+  just_changed (λ s. made_by_stage (Swap k was value) s ≡ Some (Present (insert_value w c))) now fresh
+      (ap (λ n. Some (Present n)) (sym h.2)) (ap (λ n. Some (Present n)) (sym h.2)),
+)
 waiting_own w stage c flagged now fresh v (Delete k) h = absurd (false≢true (ap delete_won (sym flagged) ∙ h.0))
 
 -- the workers are sound after the exchange, which settles the card's key as present

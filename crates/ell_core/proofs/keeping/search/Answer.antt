@@ -42,7 +42,6 @@ leaf_answer-ledger (Insert k value) (Some v) reply ledger e = ap (λ b. ledger_a
 leaf_answer-ledger (Insert k value) None reply ledger e = absurd (some_not_none e refl)
 leaf_answer-ledger (Delete k) (Some v) reply ledger e = absurd (some_not_none e refl)
 leaf_answer-ledger (Delete k) None reply ledger e = ap (λ b. ledger_after (Delete k) b ledger) (sym (same_value refl e))
-
 leaf_answer-ledger (Swap k was value) None reply ledger e = ap (λ b. ledger_after (Swap k was value) b ledger) (sym (same_value refl e))
 leaf_answer-ledger (Swap k was value) (Some v) reply ledger e =
     let g = gives_else (v == was) (Found v) reply e in
