@@ -2,7 +2,7 @@ use Rattle.std.specs.Prelude.{◌≡◌, ℕ, if◌then◌else◌, Bool, true, S
 use mathlib.Core.Option.{some}
 use lib.ListN.{get_elem?}
 use Rattle.ell_ops.specs.declared.op.Op.{Op}
-use Rattle.ell_ops.specs.declared.op.Op.TheVariants.{Insert, Delete, Swap}
+use Rattle.ell_ops.specs.declared.op.Op.TheVariants.{Delete}
 use Rattle.ell_word.specs.declared.gate.Kind.{Kind}
 use Rattle.ell_word.specs.declared.gate.Kind.TheVariants as kind
 use Rattle.ell_core.specs.state.Words.{Words, words_of}

@@ -11,7 +11,6 @@ use Rattle.ell_core.specs.state.Words.{put}
 use Rattle.ell_core.specs.state.Facts.{known_of, same_fact}
 use Rattle.ell_core.specs.state.Machine.{Worker, nobody, worker_of, ledger_of, shared_of}
 use Rattle.ell_core.specs.state.Moves.{WorkerIsIdle, AreParted, Join}
-use Rattle.ell_core.specs.history.Stages.{is_born}
 use Rattle.ell_core.specs.soundness.Sound.{WorkerOwns}
 use Rattle.ell_core.proofs.following.Lawful.{joins_lawful}
 use Rattle.ell_core.proofs.outcomes.Decide.{some_not_none}

@@ -9,7 +9,6 @@ use Rattle.ell_core.specs.state.Words.{Words, word}
 use Rattle.ell_core.specs.state.Opening.{start_words, last_card}
 use Rattle.ell_core.specs.state.Machine.{idle, worker_of, ledger_of, shared_of}
 use Rattle.ell_core.specs.soundness.Sound.{WorkerOwns}
-use Rattle.ell_core.specs.history.Stages.{is_born}
 use Rattle.ell_core.specs.history.Invariant.{Invariant}
 use Rattle.ell_core.specs.statements.RunLaws.{IsOpening}
 use Rattle.ell_core.specs.state.Opening.{first_alone, keys_at_start, opening_of_one}

@@ -7,7 +7,7 @@ use Rattle.ell_core.specs.state.Words.{Words, key_field, value_field, child_fiel
 use Rattle.ell_core.specs.state.Cards.{child_for}
 use Rattle.ell_core.specs.acts.Searching.{IsLeaf}
 use Rattle.ell_core.specs.tree.Tree.{OnWalk, here, next, Finds, Leads, Below, Reached, IsTreeKey, HasGrandparent, LeftIsLawful, IsLawful}
-use Rattle.ell_core.specs.history.Stages.{Stages, is_born, waits, Born}
+use Rattle.ell_core.specs.history.Stages.{Stages, waits, Born}
 use Rattle.ell_core.specs.history.Invariant.{WordsAreSound}
 use Rattle.ell_core.specs.history.Later.{SaysTheSame}
 use Rattle.ell_core.specs.statements.Effects.{SamePairs}

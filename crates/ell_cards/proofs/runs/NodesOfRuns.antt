@@ -1,19 +1,13 @@
-use Rattle.std.proofs.Common.{◌≡◌, ◌%◌, ◌≢◌, ℕ, ◌<◌, ◌⊎◌, Bool, true, false, List, refl, sym, ap, ◌∙◌, inl, inr, arith}
+use Rattle.std.proofs.Common.{◌≡◌, ◌%◌, ℕ, Bool, List, sym, ◌∙◌, arith}
 use Rattle.ell_core.specs.history.Later.{StagesLater}
-use Rattle.std.proofs.lemmas.Bool.{cases_Bool}
-use Rattle.ell_word.specs.Node.{IsInternal, card, internal}
+use Rattle.ell_word.specs.Node.{IsInternal, card}
 use Rattle.ell_word.specs.Word.{unpacked}
 use Rattle.ell_word.specs.declared.update.State.TheVariants as state
 use Rattle.ell_word.specs.declared.gate.Kind.{Kind}
-use Rattle.ell_core.specs.state.Machine.{Machine}
-use Rattle.ell_core.specs.state.Cards.{marked, clean}
 use Rattle.ell_core.specs.tree.Tree.{Reached}
-use Rattle.ell_core.specs.history.Stages.{Stage, Stages, is_start, is_born, is_insert, is_delete, Born}
-use Rattle.ell_core.specs.history.Invariant.{Invariant}
+use Rattle.ell_core.specs.history.Stages.{Born}
 use Rattle.ell_core.proofs.following.Sound.{word_by_state}
-use Rattle.ell_core.proofs.stages.Order.{born-claimed, all-born, inner-born}
-use Rattle.ell_core.proofs.stages.Waiting.{start-born}
-use Rattle.ell_core.proofs.tree.Reached.{Spans-reached}
+use Rattle.ell_core.proofs.stages.Order.{born-claimed}
 use Rattle.ell_cards.specs.States.{TableState}
 use Rattle.ell_cards.specs.Machines.{HasMachine}
 use Rattle.ell_cards.specs.Laws.{machine_of_table}

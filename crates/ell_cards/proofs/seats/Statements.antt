@@ -1,5 +1,4 @@
 use Rattle.std.specs.Prelude.{◌≡◌, ◌≢◌, ℕ, ◌<◌, ◌↔◌, Some, None, List, length, false}
-use Rattle.ell_word.specs.Node.{IsInternal}
 use mathlib.Core.Option.{some}
 use lib.ListN.{get_elem?}
 use Rattle.ell_core.specs.declared.view.Entry.TheVariants.{Present}

@@ -1,4 +1,4 @@
-use Rattle.std.proofs.Common.{◌≡◌, ◌∷◌, ℕ, ◌<◌, Bool, true, List, get_or, refl, sym, ap, subst, inl, inr, arith}
+use Rattle.std.proofs.Common.{◌≡◌, ◌∷◌, ℕ, ◌<◌, Bool, true, List, get_or, refl, sym, subst, inl, inr, arith}
 use Rattle.ell_core.proofs.stages.LaterKeys.{root_born}
 use mathlib.Core.Option.{some}
 use lib.ListN.{get_elem?}
@@ -8,7 +8,7 @@ use Rattle.ell_core.specs.declared.field.Field.{Field}
 use Rattle.ell_core.specs.declared.field.Field.TheVariants as field
 use Rattle.ell_core.specs.state.Layout.{address}
 use Rattle.ell_core.specs.state.Words.{word}
-use Rattle.ell_core.specs.history.Stages.{Born, is_born}
+use Rattle.ell_core.specs.history.Stages.{Born}
 use Rattle.ell_cards.specs.declared.call.Call.TheVariants as call
 use Rattle.ell_cards.specs.declared.view.Told.{Told}
 use Rattle.ell_cards.specs.declared.view.Told.TheVariants.{Met, Key, Info, Frozen}

@@ -12,7 +12,6 @@ use Rattle.ell_core.specs.state.Facts.{known_of}
 use Rattle.ell_core.specs.state.Machine.{Worker, Ledger, worker_of, ledger_of}
 use Rattle.ell_core.specs.acts.Searching.{leaf_answer, value_at, card_answer, settled, ledger_after, HasAnswer}
 use Rattle.ell_core.specs.acts.Events.{Happens}
-use Rattle.ell_core.specs.history.Stages.{is_born}
 use Rattle.ell_core.specs.statements.Effects.{reply_of_change, AnswersAsMap}
 use Rattle.ell_core.proofs.outcomes.Decide.{some_not_none}
 use Rattle.ell_core.proofs.following.Lawful.{events_lawful}
@@ -24,7 +23,7 @@ use Rattle.ell_cards.specs.Models.{Has}
 use Rattle.ell_cards.specs.Changes.{with_entry as with_entry_for, after_begin, after_again, after_leave, after_answer, answered_ledger, with_entry as put_entry}
 use Rattle.ell_cards.specs.Guards.{MayBegin, MayStop, MayAnswer, TellsOf, KnowsAnswerAtLeaf, KnowsAnswerByCard, IsOver}
 use Rattle.ell_cards.specs.Models.{Knows, KnewBefore}
-use Rattle.ell_core.specs.state.Words.{Words, put}
+use Rattle.ell_core.specs.state.Words.{Words}
 use Rattle.ell_core.specs.declared.fact.Fact.{Fact}
 use Rattle.ell_core.specs.declared.fact.Fact.TheVariants.{DOver}
 use Rattle.ell_core.specs.history.Stages.{Stages, Born}

@@ -1,4 +1,4 @@
-use Rattle.std.proofs.Common.{◌≡◌, ◌%◌, ◌==◌, if◌then◌else◌, ℕ, Bool, List, nat_le, refl, sym, ap, ◌∙◌, subst}
+use Rattle.std.proofs.Common.{◌≡◌, ◌%◌, ◌==◌, ℕ, Bool, List, nat_le, refl, sym, ap, ◌∙◌, subst}
 use Rattle.ell_core.proofs.keeping.insert_child.IChild.{brought_side}
 use mathlib.Core.Option.{some}
 use lib.ListN.{get_elem?}

@@ -22,7 +22,7 @@ use Rattle.ell_core.proofs.keeping.Seats.{split_keeps, join_keeps}
 use Rattle.ell_core.specs.declared.view.Entry.{Entry}
 use Rattle.ell_core.specs.declared.view.Entry.TheVariants.{Present, Absent}
 use Rattle.ell_ops.specs.declared.reply.Reply.{Reply}
-use Rattle.ell_ops.specs.declared.reply.Reply.TheVariants.{Yes, No, Found}
+use Rattle.ell_ops.specs.declared.reply.Reply.TheVariants.{Yes, Found}
 
 -- the same keys are owned where an owned key gets an entry
 put_owned : (ledger : Ledger) (k : ℕ) (present : Entry) → ledger k ≢ None → (key : ℕ)

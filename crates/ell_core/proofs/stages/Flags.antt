@@ -1,5 +1,5 @@
 use Rattle.std.proofs.Common.{◌≡◌, ℕ, ◌⊎◌, ◌||◌, Bool, true, false, arith}
-use Rattle.ell_core.specs.history.Stages.{Stage, is_claimed, is_start, is_born, is_node_born, is_changed, insert_won, insert_open, delete_won, delete_open, delete_waits, is_marked, is_cut, is_backed}
+use Rattle.ell_core.specs.history.Stages.{Stage, is_claimed, is_start, is_node_born, is_changed, insert_won, insert_open, delete_won, delete_open, delete_waits, is_marked, is_cut, is_backed}
 use Rattle.ell_core.specs.statements.Since.{has_ended}
 
 -- whether the flag of a card was won

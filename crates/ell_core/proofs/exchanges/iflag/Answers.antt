@@ -1,4 +1,4 @@
-use Rattle.std.proofs.Common.{rules, ◌≡◌, ℕ, false, Option, Some, None, refl, inl, inr}
+use Rattle.std.proofs.Common.{rules, ◌≡◌, ℕ, false, Some, refl, inl, inr}
 use Rattle.ell_ops.specs.declared.op.Op.{Op}
 use Rattle.ell_core.specs.acts.Searching.{put_of}
 use Rattle.ell_core.proofs.outcomes.Decide.{cases_put}

@@ -1,5 +1,5 @@
 use Rattle.std.proofs.Common.{◌≡◌, ℕ, ◌==◌, if◌then◌else◌, Bool, true, false, not, inl, inr, sym, ap, ◌∙◌, subst, arith}
-use Rattle.ell_word.specs.Node.{card, left_leaf, right_leaf}
+use Rattle.ell_word.specs.Node.{left_leaf, right_leaf}
 use Rattle.ell_core.specs.state.Words.{Words}
 use Rattle.ell_core.specs.state.Cards.{exchange_side, sibling}
 use Rattle.ell_core.specs.history.Stages.{Stages, is_born, is_delete, insert_won, insert_open, insert_over, insert_waits, is_changed, delete_won, delete_open, delete_past, delete_waits, is_markable, is_unmarkable, is_marked, is_cut, Born}

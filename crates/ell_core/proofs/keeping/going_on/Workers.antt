@@ -1,5 +1,4 @@
-use Rattle.std.proofs.Common.{◌≡◌, ℕ, ◌<◌, ◌↔◌, true, false, Option, Some, None, refl, sym, ap, ◌∙◌, arith}
-use Rattle.ell_word.specs.Node.{card, left_leaf, right_leaf}
+use Rattle.std.proofs.Common.{◌≡◌, ℕ, ◌↔◌, false, Some, refl, sym, ap, ◌∙◌, arith}
 use Rattle.ell_ops.specs.declared.op.Op.{Op}
 use Rattle.ell_ops.specs.Meaning.{key_of}
 use Rattle.ell_core.specs.declared.view.Seen.{Seen}
@@ -8,9 +7,9 @@ use Rattle.ell_core.specs.state.Facts.{card_of_fact}
 use Rattle.ell_core.specs.state.Machine.{Worker}
 use Rattle.ell_core.specs.state.Cards.{is_right, child_for}
 use Rattle.ell_core.specs.soundness.Sound.{WorkerOwns}
-use Rattle.ell_core.specs.history.Stages.{Stages, Born, is_insert}
-use Rattle.ell_core.specs.history.Invariant.{LeadsToValue, SeenIsSound, StandIsSound, Unflagged, WorkerIsSound, IsPutting}
-use Rattle.ell_core.proofs.stages.LaterKeys.{insert_info, insert_key_later, insert_value_later, putting_later, delete_info, delete_key_later, key_later, side_later, insert_node_key, insert_leaf_value}
+use Rattle.ell_core.specs.history.Stages.{Stages, Born}
+use Rattle.ell_core.specs.history.Invariant.{LeadsToValue, SeenIsSound, StandIsSound, Unflagged, WorkerIsSound}
+use Rattle.ell_core.proofs.stages.LaterKeys.{insert_info, insert_key_later, insert_value_later, putting_later, delete_info, delete_key_later, key_later, side_later}
 use Rattle.ell_core.proofs.keeping.going_on.Cards.{GoesOn, inner_on}
 use Rattle.ell_core.proofs.keeping.going_on.InHand.{SameGoal, same_place, unflagged_same, flagged_same}
 

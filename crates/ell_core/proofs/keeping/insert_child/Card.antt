@@ -7,7 +7,6 @@ use Rattle.ell_core.specs.history.Stages.{Stage, Stages, IFlagged, IChanged, RCh
 use Rattle.ell_core.specs.history.Invariant.{top, IsIn, IsOut, LeadsToValue, IsOnCourse, insert_key, insert_value, insert_side, InsertCard, Unborn, ChildrenAreSound, WordsAreSound}
 use Rattle.ell_core.proofs.words.Later.{child_there, child_elsewhere}
 use Rattle.ell_core.proofs.words.Sides.{insert_key-side}
-use Rattle.ell_core.proofs.stages.Order.{inner-born}
 use Rattle.ell_core.proofs.tree.Bounds.{side_within}
 use Rattle.ell_core.proofs.tree.OneRange.{unique}
 use Rattle.ell_core.proofs.tree.Courses.{OnCourse-range}

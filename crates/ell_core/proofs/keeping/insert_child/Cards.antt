@@ -1,7 +1,7 @@
 use Rattle.std.proofs.Common.{◌≡◌, ◌≢◌, ℕ, ◌%◌, ◌<◌, Bool, true, false, inl, inr, refl, sym, ap, ◌∙◌, subst, arith}
 use Rattle.std.proofs.lemmas.Bool.{cases_eq, false≢true}
-use Rattle.ell_word.specs.Node.{card, internal}
-use Rattle.ell_core.specs.state.Words.{Words, put}
+use Rattle.ell_word.specs.Node.{card}
+use Rattle.ell_core.specs.state.Words.{Words}
 use Rattle.ell_core.specs.state.Cards.{iflag}
 use Rattle.ell_core.specs.history.Stages.{Stage, Stages, IFlagged, IChanged, RChanged, is_claimed, is_insert, is_delete, is_born, insert_over, insert_waits, delete_won}
 use Rattle.ell_core.specs.history.Invariant.{insert_side, delete_side, CardIsSound, InsertStage, DeleteStage, WordsAreSound}

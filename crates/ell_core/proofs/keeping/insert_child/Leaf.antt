@@ -1,15 +1,14 @@
-use Rattle.std.proofs.Common.{◌≡◌, ◌≢◌, ℕ, ◌%◌, ◌<◌, ◌≤◌, ◌==◌, ◌⊎◌, ◌↔◌, if◌then◌else◌, Bool, true, false, not, inl, inr, refl, sym, ap, ◌∙◌, subst, arith}
-use Rattle.std.proofs.lemmas.Bool.{cases_eq, false≢true}
+use Rattle.std.proofs.Common.{◌≡◌, ◌≢◌, ℕ, ◌%◌, ◌==◌, ◌⊎◌, ◌↔◌, if◌then◌else◌, true, not, inl, inr, refl, sym, ap, ◌∙◌, subst, arith}
+use Rattle.std.proofs.lemmas.Bool.{cases_eq}
 use Rattle.std.proofs.lemmas.Bool.Decides.{nat_tests}
-use Rattle.ell_word.specs.Node.{IsInternal, card, internal, left_leaf, right_leaf}
+use Rattle.ell_word.specs.Node.{IsInternal, left_leaf, right_leaf}
 use Rattle.ell_core.specs.state.Words.{Words}
 use Rattle.ell_core.specs.state.Cards.{is_replace_card}
-use Rattle.ell_core.specs.tree.Ranges.{Spans, IsOrdered}
 use Rattle.ell_core.specs.history.Stages.{Stages, IFlagged, RChanged, is_node_born, Born}
 use Rattle.ell_core.specs.history.Invariant.{top, IsIn, IsOut, LeadsToValue, IsOnCourse, insert_key, insert_value, insert_side, InsertCard, WordsAreSound}
 use Rattle.ell_core.proofs.tree.Reached.{one_value}
 use Rattle.ell_core.proofs.tree.Replaces.{Replaces, Spans-still, IsOrdered-replace, Meets-replaced, Meets-unreplaced, Meets-old, Meets-new, OnCourse-replace, stays_out}
-use Rattle.ell_core.proofs.keeping.insert_child.Card.{Brings, NewInner, ichild_words, ichild_stages, its_card, its_child, its_relinks, parent_in, closed, not_born}
+use Rattle.ell_core.proofs.keeping.insert_child.Card.{Brings, ichild_words, ichild_stages, its_card, its_child, its_relinks, parent_in, closed, not_born}
 
 -- numbers that a test finds to be one
 one_of : (a b : ℕ) → (a == b) ≡ true → a ≡ b

@@ -1,9 +1,9 @@
 use Rattle.std.proofs.Common.{◌≡◌, ◌≢◌, ℕ, ◌%◌, ◌<◌, ◌≤◌, ◌==◌, ◌↔◌, if◌then◌else◌, Bool, true, false, not, nat_le, inl, inr, ◌⊎◌, refl, sym, ap, ◌∙◌, subst, arith}
-use Rattle.std.proofs.lemmas.Bool.{cases_eq, false≢true, eq-eqb, ne_eqb}
+use Rattle.std.proofs.lemmas.Bool.{cases_eq, eq-eqb, ne_eqb}
 use Rattle.std.proofs.lemmas.Bool.Decides.{nat_tests}
 use Rattle.ell_word.specs.Node.{IsInternal, card, internal, left_leaf, right_leaf}
 use Rattle.ell_core.specs.state.Words.{Words}
-use Rattle.ell_core.specs.state.Cards.{is_replace_card, clean}
+use Rattle.ell_core.specs.state.Cards.{is_replace_card}
 use Rattle.ell_core.specs.tree.Ranges.{Spans, goes, IsOrdered, low_of, high_of}
 use Rattle.ell_core.specs.history.Stages.{Stages, IFlagged, IChanged, is_node_born, Born}
 use Rattle.ell_core.specs.history.Invariant.{top, IsIn, IsOut, LeadsTo, LeadsToValue, IsOnCourse, insert_key, insert_value, insert_side, InsertCard, Unborn, ChildrenAreSound, WordsAreSound}

@@ -8,7 +8,7 @@ use Rattle.ell_core.specs.state.Machine.{Ledger, Worker, Machine, with_scene}
 use Rattle.ell_core.specs.acts.Searching.{begun, ended, MayStop}
 use Rattle.ell_core.specs.acts.Events.{LacksKey}
 use Rattle.ell_core.specs.soundness.Sound.{WorkerOwns, MayChange}
-use Rattle.ell_core.specs.history.Stages.{Stages, is_born, insert_open, delete_open, is_backed, effective_at, is_node_born}
+use Rattle.ell_core.specs.history.Stages.{Stages, insert_open, delete_open, is_backed, effective_at, is_node_born}
 use Rattle.ell_core.specs.history.Invariant.{top, StandIsSound, Invariant}
 use Rattle.ell_core.specs.history.Later.{Follows, KeepsInvariant}
 use Rattle.ell_core.specs.acts.Wins.{wins_by}

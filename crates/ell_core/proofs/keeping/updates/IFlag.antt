@@ -3,7 +3,6 @@ use Rattle.std.proofs.lemmas.Bool.{false≢true, cases_eq, eq-eqb, ne_eqb}
 use Rattle.std.proofs.lemmas.Bool.Decides.{nat_tests}
 use Rattle.ell_ops.specs.declared.op.Op.{Op}
 use Rattle.ell_ops.specs.declared.op.Op.TheVariants.{Find, Insert, Delete, Swap}
-use Rattle.ell_ops.specs.Meaning.{key_of}
 use Rattle.ell_core.specs.tree.Ranges.{at_leaf}
 use Rattle.ell_word.specs.Node.{left_leaf, right_leaf}
 use Rattle.ell_word.specs.declared.gate.Kind.TheVariants as kind
@@ -13,8 +12,8 @@ use Rattle.ell_core.specs.declared.event.Stepped.TheVariants.{Won, Lost}
 use Rattle.ell_core.specs.declared.fact.Fact.TheVariants as fact
 use Rattle.ell_core.specs.declared.put.Put.{Put}
 use Rattle.ell_core.specs.declared.view.Seen.{Seen}
-use Rattle.ell_core.specs.state.Words.{Words, put, with_update}
-use Rattle.ell_core.specs.state.Machine.{Worker, Machine, Scene, scene, with_scene, entry_of}
+use Rattle.ell_core.specs.state.Words.{put, with_update}
+use Rattle.ell_core.specs.state.Machine.{Machine, Scene, scene, with_scene, entry_of}
 use Rattle.ell_core.specs.state.Cards.{iflag, is_right}
 use Rattle.ell_core.specs.acts.Searching.{IsClean, put_of}
 use Rattle.ell_core.specs.acts.Exchanges.{won_or_lost, flags, flagged_worker}

@@ -1,5 +1,5 @@
 use Rattle.std.proofs.Common.{◌≡◌, None, Some, ap, ◌∙◌, rules}
-use Rattle.ell_ops.specs.declared.op.Op.TheVariants.{Insert, Delete}
+use Rattle.ell_ops.specs.declared.op.Op.TheVariants.{Delete}
 use Rattle.ell_core.specs.acts.Searching.{IsLeaf}
 use Rattle.ell_word.specs.declared.update.State.TheVariants as state
 use Rattle.ell_cards.specs.declared.view.Told.TheVariants.{Met}
