@@ -88,20 +88,17 @@ impl Drawing {
         }
     }
 
-    // Counts an act that was done for an operation, and notes the value that its answer tells.
-    fn count(&mut self, op: Option<Op>, said: Stepped) {
-        self.done = self.done.wrapping_add(1);
-        let (Some(op), Stepped::Answered(said)) = (op, said) else {
-            return;
-        };
-        let value = &mut self.values[(op.key() % 8) as usize];
+    // Notes the value that the answer of an operation tells, and counts a swap that has changed it.
+    fn note(&mut self, op: Op, said: Reply) {
+        let place = (op.key() % 8) as usize;
         match (op, said) {
-            (Op::Insert(_, new), Reply::Yes) => *value = new,
-            (Op::Swap(_, was, new), Reply::Found(there)) if there == was => {
-                *value = new;
-                self.swapped = self.swapped.wrapping_add(1);
+            (Op::Find(_), Reply::Found(there)) => self.values[place] = there,
+            (Op::Insert(_, new), Reply::Yes) => self.values[place] = new,
+            (Op::Swap(_, was, new), Reply::Found(there)) => {
+                let swaps = there == was;
+                self.values[place] = if swaps { new } else { there };
+                self.swapped = self.swapped.wrapping_add(u64::from(swaps));
             }
-            (_, Reply::Found(there)) => *value = there,
             _ => {}
         }
     }
@@ -148,7 +145,10 @@ fn both_step(
     let Some(said) = step(table, pass, memory, event.act) else {
         return;
     };
-    drawing.count(op, said);
+    drawing.done = drawing.done.wrapping_add(1);
+    if let (Some(op), Stepped::Answered(said)) = (op, said) {
+        drawing.note(op, said);
+    }
     assert!(rt; world.step(event) == Ok(said), "act {}", drawing.done);
 }
 
