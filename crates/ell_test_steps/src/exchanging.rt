@@ -27,6 +27,7 @@ pub(crate) fn ichild<A: Allocator + Copy>(
     requires { IsReady table.now pass.old memory.old }
     ensures { IsReady table.now pass.new memory.new }
 {
+    // A number above `CARD_MAX` is no card's.
     if card > CARD_MAX || !remembers(memory, Fact::IFlagged(card)) {
         return None;
     }
