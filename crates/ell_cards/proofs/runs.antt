@@ -10,8 +10,10 @@ pub mod NodesOfRuns
 pub mod Starting
 -- what a turn makes of a pass that begins nothing by it
 pub mod OwnSeat
--- a look goes by nodes that have been on its walk since it began
-pub mod Looking
+-- the nodes by which the walk for a key came since a state
+pub mod Walked
+-- the nodes to which a look has come, and by which keys it did since it began
+pub mod Glances
 -- where the searches of operations come to in runs
 pub mod Searched
 -- the point of each call

@@ -23,9 +23,9 @@ use Rattle.ell_cards.specs.declared.call.Call.{Call}
 use Rattle.ell_cards.specs.declared.call.Call.TheVariants as call
 use Rattle.ell_cards.specs.declared.view.Told.TheVariants.{Met, Info}
 use Rattle.ell_cards.specs.declared.view.View.{View}
-use Rattle.ell_cards.specs.Models.{IsTold, Does, StandsAt, InTable, KnowsDelete, EndWasUnknown}
-use Rattle.ell_cards.specs.Changes.{learning, if_won, exchanged, after_begin, after_again, after_leave, after_answer, after_upd, after_down, after_next, after_key_of, after_value_of, after_info, after_frozen_child, after_look_for, after_look_down, after_claim, after_fill, after_flag, after_mark}
-use Rattle.ell_cards.specs.Guards.{MayBegin, MayStop, MayAnswer, MayRead, MayGoDown, MayAsk, MaySee, MayLookFor, MayLookDown, MayClaim, MayFill, MayIFlag, MayDFlag, MayIChild, MayIUnflag, MayMark, MayDChild, MayDUnflag, MayBacktrack}
+use Rattle.ell_cards.specs.Models.{IsTold, IsFree, Does, StandsAt, InTable, KnowsDelete, EndWasUnknown}
+use Rattle.ell_cards.specs.Changes.{learning, if_won, exchanged, after_begin, after_again, after_leave, after_answer, after_upd, after_down, after_next, after_key_of, after_value_of, after_info, after_frozen_child, after_look, after_look_down, after_claim, after_fill, after_flag, after_mark}
+use Rattle.ell_cards.specs.Guards.{MayBegin, MayStop, MayAnswer, MayRead, MayGoDown, MayAsk, MaySee, MayLookDown, MayClaim, MayFill, MayIFlag, MayDFlag, MayIChild, MayIUnflag, MayMark, MayDChild, MayDUnflag, MayBacktrack}
 
 -- the address of the update word of a node
 abbrev pub update_at : ℕ → ℕ
@@ -56,8 +56,8 @@ word_of (call.KeyOf x) = key_at x
 word_of (call.ValueOf x) = value_at x
 word_of (call.Info c f) = address c f
 word_of (call.FrozenChild c p right) = child_at p right
-word_of (call.LookFor key) = child_at 0 false
-word_of (call.LookDown x right) = child_at x right
+word_of call.Look = child_at 0 false
+word_of (call.LookDown from key right) = child_at from.node right
 word_of (call.Claim c) = 0
 word_of (call.Fill c f value) = address c f
 word_of (call.IFlag c p from) = update_at p
@@ -113,8 +113,8 @@ after (call.KeyOf x) n v = after_key_of x n v
 after (call.ValueOf x) n v = after_value_of x n v
 after (call.Info c f) n v = after_info c f n v
 after (call.FrozenChild c p right) n v = after_frozen_child c right n v
-after (call.LookFor key) n v = after_look_for key n v
-after (call.LookDown x right) n v = after_look_down n v
+after call.Look n v = after_look n v
+after (call.LookDown from key right) n v = after_look_down from key right n v
 after (call.Claim c) n v = after_claim (n == c) c v
 after (call.Fill c f value) n v = after_fill f value v
 after (call.IFlag c p from) n v = exchanged (if_won (n == packed from) kind.IFlag c) n (after_flag (n == packed from) (fact.IFlagged c) p (unpacked n) v)
@@ -139,8 +139,8 @@ May cards (call.KeyOf x) v = IsTold v (Met x)
 May cards (call.ValueOf x) v = IsTold v (Met x) × IsLeaf x
 May cards (call.Info c f) v = MayAsk v c f
 May cards (call.FrozenChild c p right) v = MaySee v c p
-May cards (call.LookFor key) v = MayLookFor v key
-May cards (call.LookDown x right) v = MayLookDown v x right
+May cards call.Look v = IsFree v
+May cards (call.LookDown from key right) v = MayLookDown v from key
 May cards (call.Claim c) v = MayClaim v c × (c ≤ cards)
 May cards (call.Fill c f value) v = MayFill v c
 May cards (call.IFlag c p from) v = MayIFlag v c p from
@@ -227,8 +227,8 @@ Tells cards (call.KeyOf x) v n = TellsLeaf v x n
 Tells cards (call.ValueOf x) v n = TellsValue v x n
 Tells cards (call.Info c f) v n = TellsNode cards f n × TellsDepth v c f n
 Tells cards (call.FrozenChild c p right) v n = (p < n) × InTable cards n
-Tells cards (call.LookFor key) v n = (0 < n) × InTable cards n
-Tells cards (call.LookDown x right) v n = (x < n) × InTable cards n
+Tells cards call.Look v n = (0 < n) × InTable cards n
+Tells cards (call.LookDown from key right) v n = (from.node < n) × InTable cards n
 Tells cards (call.IFlag c p from) v n = (unpacked n).card ≤ cards
 Tells cards (call.DFlag c gp from) v n = (unpacked n).card ≤ cards
 Tells cards (call.Mark c p was) v n = (unpacked n).card ≤ cards

@@ -1,4 +1,5 @@
 use Rattle.std.specs.Prelude.{ℕ, ◌+◌, ◌==◌, ◌++◌, ◌&&◌, if◌then◌else◌, Bool, true, false, Option, Some, None, List, [], ◌∷◌, unwrap_or, nat_lt, max, Result, Ok, Err, ◌-◌, ◌%◌, ◌^◌}
+use Rattle.ell_ops.specs.Meaning.{greatest_key}
 use Rattle.ell_ops.specs.KeySet.{set_of}
 use Rattle.ell_ops.specs.declared.op.Op.{Op}
 use Rattle.ell_ops.specs.declared.op.Op.TheVariants.{Insert, Delete, Swap}
@@ -19,11 +20,12 @@ use Rattle.ell_core.specs.state.Machine.{no_search}
 use Rattle.ell_core.specs.state.Cards.{insert_filling, delete_filling}
 use Rattle.ell_core.specs.acts.Searching.{with_read, at_root}
 use Rattle.ell_core.specs.state.Opening.{keys_at_start}
+use Rattle.ell_core.specs.statements.Readers.{from_of, upto_of}
 use Rattle.ell_cards.specs.declared.view.Told.{Told}
 use Rattle.ell_cards.specs.declared.view.Told.TheVariants.{Met, Key, Value, Info, Frozen}
 use Rattle.ell_cards.specs.declared.view.Hindrance.{Hindrance}
 use Rattle.ell_cards.specs.declared.view.Hindrance.TheVariants.{Claim, Found}
-use Rattle.ell_cards.specs.declared.view.Looking.{Looking}
+use Rattle.ell_cards.specs.declared.glance.Glance.{Glance}
 use Rattle.ell_cards.specs.declared.view.View.{View}
 use Rattle.ell_cards.specs.Models.{TablePlan, knows_end, whole_share, given_share}
 use Rattle.ell_core.specs.declared.view.Entry.{Entry}
@@ -158,7 +160,7 @@ abbrev pub after_begin : Option Op → View → View
 after_begin op v = record v {
   worker = record (v.worker) { operation = op; search = at_root; card = None; flagged = false };
   told = Met 0 ∷ v.told;
-  looking = None;
+  glances = [];
   answered = None;
   laid_down = None;
   here = None;
@@ -283,23 +285,26 @@ after_info c f x v = record v { told = told_info c f x v.told; made = v.made + 1
 abbrev pub after_frozen_child : ℕ → Bool → ℕ → View → View
 after_frozen_child c right x v = record v { told = Frozen c right x ∷ Met x ∷ v.told; made = v.made + 1 }
 
--- look_for: a look for a key has come to the root's left child, which the pass has met
-abbrev pub after_look_for : ℕ → ℕ → View → View
-after_look_for key child v = record v {
+-- look: a look has come to the root's left child, which the pass has met, by all real keys
+abbrev pub after_look : ℕ → View → View
+after_look child v = record v {
   told = Met child ∷ v.told;
-  looking = Some (record { key = key; node = child });
+  glances = record { node = child; low = 0; high = greatest_key + 1 } ∷ [];
   looks = v.looks + 1;
   made = v.made + 1;
 }
 
--- a look that has come to a child
-abbrev pub looked_down : ℕ → Option Looking → Option Looking
-looked_down child None = None
-looked_down child (Some look) = Some (record { key = look.key; node = child })
+-- where those keys have come that go from a node with this key to this child, which is on this side
+abbrev pub gone_down : Glance → ℕ → Bool → ℕ → Glance
+gone_down g key right child = record { node = child; low = from_of right g.low key; high = upto_of right g.high key }
 
 -- look_down: the look has come to this child, which the pass has met
-abbrev pub after_look_down : ℕ → View → View
-after_look_down child v = record v { told = Met child ∷ v.told; looking = looked_down child v.looking; made = v.made + 1 }
+abbrev pub after_look_down : Glance → ℕ → Bool → ℕ → View → View
+after_look_down g key right child v = record v {
+  told = Met child ∷ v.told;
+  glances = gone_down g key right child ∷ v.glances;
+  made = v.made + 1;
+}
 
 -- the value that was told of a leaf the last time, or 0
 abbrev pub told_value : List Told → ℕ → ℕ
@@ -432,7 +437,7 @@ idle_view share ownable ledger = record {
   hindrances = [];
   met = [];
   hindered = 0;
-  looking = None;
+  glances = [];
   looks = 0;
   made = 0;
 }
@@ -474,7 +479,7 @@ part_view share ledger v = record v {
   stores = [];
   found = None;
   met = [];
-  looking = None;
+  glances = [];
   answered = None;
   laid_down = None;
   share = share;
@@ -529,7 +534,7 @@ joined_view v w = record {
   hindrances = v.hindrances ++ w.hindrances;
   met = [];
   hindered = v.hindered + w.hindered;
-  looking = None;
+  glances = [];
   looks = v.looks + w.looks;
   made = v.made + w.made + 1;
 }

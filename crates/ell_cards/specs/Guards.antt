@@ -1,7 +1,7 @@
-use Rattle.std.specs.Prelude.{◌≡◌, ◌≢◌, ℕ, ◌≤◌, ◌⊎◌, ◌==◌, nat_le, Bool, true, false, Option, Some, None}
+use Rattle.std.specs.Prelude.{◌≡◌, ◌≢◌, ℕ, ◌⊎◌, ◌==◌, nat_le, Bool, true, false, Option, Some, None}
 use Rattle.ell_ops.specs.declared.op.Op.{Op}
 use Rattle.ell_ops.specs.declared.op.Op.TheVariants.{Find, Insert, Delete, Swap}
-use Rattle.ell_ops.specs.Meaning.{greatest_key, key_of}
+use Rattle.ell_ops.specs.Meaning.{key_of}
 use Rattle.ell_word.specs.declared.update.Update.{Update}
 use Rattle.ell_word.specs.Node.{IsInternal}
 use Rattle.ell_word.specs.Word.{packed}
@@ -14,9 +14,9 @@ use Rattle.ell_core.specs.state.Machine.{worker_of}
 use Rattle.ell_core.specs.state.Cards.{stored, brought_by}
 use Rattle.ell_core.specs.acts.Searching.{put_of, IsLeaf, IsClean, leaf_answer}
 use Rattle.ell_cards.specs.declared.view.Told.TheVariants.{Met, Key, Value, Info, Frozen}
-use Rattle.ell_cards.specs.declared.view.Looking.{Looking}
+use Rattle.ell_cards.specs.declared.glance.Glance.{Glance}
 use Rattle.ell_cards.specs.declared.view.View.{View}
-use Rattle.ell_cards.specs.Models.{IsTold, Knows, KnowsCard, Does, StandsAt, IsFree, stored_at}
+use Rattle.ell_cards.specs.Models.{IsTold, Knows, KnowsCard, Does, StandsAt, IsFree, HasCome, stored_at}
 use Rattle.ell_ops.specs.declared.reply.Reply.{Reply}
 use Rattle.ell_core.specs.soundness.Sound.{MayChange}
 use Rattle.ell_core.specs.statements.Effects.{reply_of_change}
@@ -109,21 +109,12 @@ pub record MayAsk (v : View) (c : ℕ) (f : Field) : Type 0 where
   pub knows : KnowsCard v c
   pub asked : IsAsked f
 
--- look_for: nothing is in hand; the key may be any pass's
-pub record MayLookFor (v : View) (key : ℕ) : Type 0 where
-  pub free : IsFree v
-  pub real : key ≤ greatest_key
-
--- look_down: a look has come to this internal node, which the pass has met and whose key it was told, and this is the side of the look's key
-pub record MayLookDown (v : View) (x : ℕ) (right : Bool) : Type 0 where
-  pub look : Looking
-  pub key : ℕ
-  pub looks : v.looking ≡ Some look
-  pub there : look.node ≡ x
-  pub met : IsTold v (Met x)
-  pub inner : IsInternal x
-  pub told : IsTold v (Key x key)
-  pub side : right ≡ nat_le key look.key
+-- look_down: a look has come to this internal node by these keys, and the pass has met it and was told its key
+pub record MayLookDown (v : View) (from : Glance) (key : ℕ) : Type 0 where
+  pub come : HasCome v from.node from.low from.high
+  pub met : IsTold v (Met from.node)
+  pub inner : IsInternal from.node
+  pub told : IsTold v (Key from.node key)
 
 -- frozen_child: the card is known marked, and this is its parent
 pub record MaySee (v : View) (c p : ℕ) : Type 0 where
@@ -164,7 +155,8 @@ pub record MayFill (v : View) (c : ℕ) : Type 0 where
 abbrev pub IsFilled : View → Type 0
 IsFilled v = (f : Field) → stored_at v.stores f ≡ stored v.planned f 0
 
--- iflag: an insert's or a swap's card is in hand, filled and not flagged, and this is the parent with the update that was read there
+-- iflag: an insert's or a swap's card is in hand, filled and not flagged, and this is the parent with the update that
+-- was read there
 pub record MayIFlag (v : View) (c p : ℕ) (from : Update) : Type 0 where
   pub op : Op
   pub what : Put
@@ -188,8 +180,8 @@ pub record MayDFlag (v : View) (c gp : ℕ) (from : Update) : Type 0 where
   pub above : v.worker.search.grandparent ≡ Some (record { node = gp; word = packed from })
   pub filled : IsFilled v
 
--- ichild: the card is known flagged; these are its parent and leaf, the node that it brings, by its two leaf keys, and the side of its key at
--- the parent
+-- ichild: the card is known flagged; these are its parent and leaf, the node that it brings, by its two leaf keys, and
+-- the side of its key at the parent
 pub record MayIChild (v : View) (c p l node : ℕ) (right : Bool) : Type 0 where
   pub parent_key : ℕ
   pub card_key : ℕ

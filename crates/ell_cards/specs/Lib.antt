@@ -70,3 +70,5 @@ pub use Rattle.ell_core.specs.state.Opening
 pub use Rattle.ell_core.specs.state.Words
 pub use Rattle.ell_core.specs.acts.Searching
 pub use Rattle.ell_core.specs.statements.Effects
+-- which keys go to a child
+pub use Rattle.ell_core.specs.statements.Readers

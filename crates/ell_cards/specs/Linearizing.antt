@@ -88,8 +88,8 @@ pub record IsPending (cards : ℕ) (s : TableState) (turns : List Turn) (item : 
 abbrev pub IsMade : ℕ → TableState → List Turn → Item → Type 0
 IsMade cards s turns item = ((end : ℕ) × IsAnswered turns item.begin end item.op item.reply) ⊎ IsPending cards s turns item
 
--- which calls the sequence of a run has: each that has ended, with its answer; each that has changed the tree, with the answer of a change; no
--- other; and each once
+-- which calls the sequence of a run has: each that has ended, with its answer; each that has changed the tree, with the
+-- answer of a change; no other; and each once
 pub record HasTheCalls (cards : ℕ) (s : TableState) (turns : List Turn) (order : List Item) : Type 0 where
   pub ended : (begin end : ℕ) (op : Op) (said : Reply) → IsAnswered turns begin end op said → IsIn order (record { begin = begin; op = op; reply = said })
   pub changed : (begin change : ℕ) (op : Op) → ChangesAt cards s turns begin change op → IsIn order (record { begin = begin; op = op; reply = reply_of_change op })
@@ -126,12 +126,13 @@ abbrev pub CallsChangeOnce : ℕ → TableState → List Turn → Type 0
 CallsChangeOnce cards s turns = (begin change again : ℕ) (op o : Op) → ChangesAt cards s turns begin change op → ChangesAt cards s turns begin again o
     → change ≡ again
 
--- A run of a table is linearizable, as Herlihy and Wing define it in "Linearizability: a correctness condition for concurrent objects" (1990),
--- section 2, of the object that is a finite map. There is one sequence of calls, as if one thread made one after the other. It has each call of
--- the run that has ended, with its answer; of those that have not ended, it has each that has changed the tree, as if that had answered yes, or
--- a swap the value that it has replaced; and it has each once. Of two calls, of which one ended before the other began, it has that one first. Its replies are those of the map that has
--- the start keys first, and what they leave is the tree. Each answer of the run is of one of its calls, and so is each change of the tree; and
--- no call changes it twice.
+-- A run of a table is linearizable, as Herlihy and Wing define it in "Linearizability: a correctness condition for
+-- concurrent objects" (1990), section 2, of the object that is a finite map. There is one sequence of calls, as if one
+-- thread made one after the other. It has each call of the run that has ended, with its answer; of those that have not
+-- ended, it has each that has changed the tree, as if that had answered yes, or a swap the value that it has replaced;
+-- and it has each once. Of two calls, of which one ended before the other began, it has that one first. Its replies are
+-- those of the map that has the start keys first, and what they leave is the tree. Each answer of the run is of one of
+-- its calls, and so is each change of the tree; and no call changes it twice.
 pub record IsLinearized (plan : TablePlan) (opened : TableState) (turns : List Turn) (s' : TableState) : Type 0 where
   pub order : List Item
   pub calls : HasTheCalls plan.last_card opened turns order

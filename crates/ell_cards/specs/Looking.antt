@@ -1,4 +1,4 @@
-use Rattle.std.specs.Prelude.{◌≡◌, ◌≢◌, ℕ, Option, Some, None, List, [], ◌∷◌, suc, take, drop}
+use Rattle.std.specs.Prelude.{◌≡◌, ◌≢◌, ℕ, ◌+◌, ◌<◌, ◌≤◌, ◌⊎◌, Option, Some, None, List, [], ◌∷◌, suc, take, drop}
 use mathlib.Core.Option.{some}
 use lib.ListN.{get_elem?}
 use Rattle.ell_core.specs.state.Words.{Words}
@@ -8,9 +8,9 @@ use Rattle.ell_core.specs.tree.Tree.{IsTreeKey, IsTreePair}
 use Rattle.ell_core.specs.statements.Effects.{contents_in}
 use Rattle.ell_cards.specs.declared.call.Call.{Call}
 use Rattle.ell_cards.specs.declared.call.Call.TheVariants as call
-use Rattle.ell_cards.specs.declared.view.Told.TheVariants.{Key}
+use Rattle.ell_cards.specs.declared.view.Told.TheVariants.{Key, Value}
 use Rattle.ell_cards.specs.declared.view.View.{View}
-use Rattle.ell_cards.specs.Models.{TablePlan, IsTold}
+use Rattle.ell_cards.specs.Models.{TablePlan, IsTold, HasCome}
 use Rattle.ell_cards.specs.Guards.{TellsOf}
 use Rattle.ell_cards.specs.States.{TableState}
 use Rattle.ell_cards.specs.Turns.{Turn, Makes, Splits, Joins, CallIsMade, TableRun}
@@ -34,19 +34,19 @@ pub record WasSo (cards : ℕ) (s : TableState) (turns : List Turn) (s' : TableS
   pub amid : IsAmid cards s turns s' state
   pub so : HasThere (own_words state) key there
 
--- what a pass has found by its look for a key: the look has come to a leaf, of which it was told the key and, if that is the look's, the
--- value
+-- what a pass has found of a key by its look: the look has come to a leaf by the key, maybe with others, and the pass was told the leaf's key
+-- and, if that is this key, its value
 pub record HasFound (v : View) (key : ℕ) (there : Option ℕ) : Type 0 where
   pub leaf : ℕ
   pub leaf_key : ℕ
-  pub looks : v.looking ≡ Some (record { key = key; node = leaf })
+  pub comes : HasCome v leaf key (key + 1)
   pub outer : IsLeaf leaf
   pub told : IsTold v (Key leaf leaf_key)
   pub tells : TellsOf v leaf leaf_key key there
 
 -- a step call that begins neither a look nor an operation
 abbrev pub BeginsNothing : Call → Type 0
-BeginsNothing (call.LookFor key) = ⊥
+BeginsNothing call.Look = ⊥
 BeginsNothing (call.Begin op) = ⊥
 BeginsNothing _ = Unit {0}
 
@@ -58,18 +58,18 @@ LooksOn seat (Splits other left ∷ ts) = (other ≢ seat) × LooksOn seat ts
 LooksOn seat (Joins one other ∷ ts) = (one ≢ seat) × (other ≢ seat) × LooksOn seat ts
 
 -- the last look of the pass in a seat began here in a run: the pass made its call, and has begun nothing since
-pub record Began (cards : ℕ) (s : TableState) (turns : List Turn) (s' : TableState) (seat key : ℕ) : Type 0 where
+pub record Began (cards : ℕ) (s : TableState) (turns : List Turn) (s' : TableState) (seat : ℕ) : Type 0 where
   pub first : ℕ
   pub from : TableState
   pub to : TableState
   pub before : TableRun cards s (take first turns) from
-  pub call : CallIsMade cards from seat (call.LookFor key) to
+  pub call : CallIsMade cards from seat call.Look to
   pub after : TableRun cards to (drop (suc first) turns) s'
   pub on : LooksOn seat (drop (suc first) turns)
 
--- and what it has found was so in one state of the run since
+-- and what it has found of a key was so in one state of the run since
 pub record FoundInRun (cards : ℕ) (s : TableState) (turns : List Turn) (s' : TableState) (seat key : ℕ) (there : Option ℕ) : Type 0 where
-  pub began : Began cards s turns s' seat key
+  pub began : Began cards s turns s' seat
   pub so : WasSo cards began.to (drop (suc began.first) turns) s' key there
 
 -- so it is in every run of a table with this plan, from its start to a state in which a pass knows this
@@ -78,23 +78,77 @@ IsFoundInRuns plan v key there = (s : TableState) → Starts plan s
     → (turns : List Turn) (s' : TableState) → TableRun plan.last_card s turns s' → (seat : ℕ) → get_elem? s'.views seat ≡ some v
     → FoundInRun plan.last_card s turns s' seat key there
 
--- what any pass has found by its last look for any key, whoever owns it, whatever turns of whatever passes came meanwhile
+-- what any pass has found of any key by its last look, whoever owns it, whatever turns of whatever passes came meanwhile
 abbrev pub LooksAreOfOneState : Type 0
 LooksAreOfOneState = (plan : TablePlan) (v : View) (key : ℕ) (there : Option ℕ) → HasFound v key there
     → IsFoundInRuns plan v key there
 
--- two looks, by one pass or by two, of one key or of two, of which the second began after the first had come to its end: the first
+-- of the keys from low on and below high the tree of these words has this one with its value and no other, or none
+abbrev pub HasBetween : Words → ℕ → ℕ → Option (ℕ × ℕ) → Type 0
+HasBetween w low high None = (key : ℕ) → low ≤ key → key < high → ¬ IsTreeKey w key
+HasBetween w low high (Some pair) = (low ≤ pair.0) × (pair.0 < high) × IsTreePair w pair.0 pair.1
+    × ((key : ℕ) → low ≤ key → key < high → pair.0 ≢ key → ¬ IsTreeKey w key)
+
+-- what a pass was told of a leaf, with this key, about a stretch of keys: the leaf's key is one of them, with this value, or none of them
+abbrev pub TellsBetween : View → ℕ → ℕ → ℕ → ℕ → Option (ℕ × ℕ) → Type 0
+TellsBetween v leaf leaf_key low high None = (leaf_key < low) ⊎ (high ≤ leaf_key)
+TellsBetween v leaf leaf_key low high (Some pair) =
+    (leaf_key ≡ pair.0) × (low ≤ pair.0) × (pair.0 < high) × IsTold v (Value leaf pair.1)
+
+-- what a pass has found of a stretch of keys by its look: the look has come to a leaf by all of them
+pub record HasFoundBetween (v : View) (low high : ℕ) (there : Option (ℕ × ℕ)) : Type 0 where
+  pub leaf : ℕ
+  pub leaf_key : ℕ
+  pub comes : HasCome v leaf low high
+  pub outer : IsLeaf leaf
+  pub told : IsTold v (Key leaf leaf_key)
+  pub tells : TellsBetween v leaf leaf_key low high there
+
+-- so it was with all keys of the stretch in ONE state of a run
+pub record WasSoBetween (cards : ℕ) (s : TableState) (turns : List Turn) (s' : TableState) (low high : ℕ) (there : Option (ℕ × ℕ)) : Type 0 where
+  pub state : TableState
+  pub amid : IsAmid cards s turns s' state
+  pub so : HasBetween (own_words state) low high there
+
+-- and that is a state since the last look of the pass in a seat began
+pub record FoundBetweenInRun (cards : ℕ) (s : TableState) (turns : List Turn) (s' : TableState) (seat low high : ℕ) (there : Option (ℕ × ℕ)) : Type 0 where
+  pub began : Began cards s turns s' seat
+  pub so : WasSoBetween cards began.to (drop (suc began.first) turns) s' low high there
+
+-- so it is in every run of a table with this plan, from its start to a state in which a pass knows this
+abbrev pub IsFoundBetweenInRuns : TablePlan → View → ℕ → ℕ → Option (ℕ × ℕ) → Type 0
+IsFoundBetweenInRuns plan v low high there = (s : TableState) → Starts plan s
+    → (turns : List Turn) (s' : TableState) → TableRun plan.last_card s turns s' → (seat : ℕ) → get_elem? s'.views seat ≡ some v
+    → FoundBetweenInRun plan.last_card s turns s' seat low high there
+
+-- what any pass has found of any stretch of keys by its last look
+abbrev pub StretchesAreOfOneState : Type 0
+StretchesAreOfOneState = (plan : TablePlan) (v : View) (low high : ℕ) (there : Option (ℕ × ℕ)) → HasFoundBetween v low high there
+    → IsFoundBetweenInRuns plan v low high there
+
+-- two looks, by one pass or by two, of one stretch of keys or of two, of which the second began after the first had come to its end: the first
 -- found what was so before the second began, and the second what was so since
+abbrev pub StretchesAreInOrder : Type 0
+StretchesAreInOrder = (plan : TablePlan) (s : TableState) → Starts plan s
+    → (turns : List Turn) (ended : TableState) → TableRun plan.last_card s turns ended
+    → (seat : ℕ) (v : View) → get_elem? ended.views seat ≡ some v
+    → (low high : ℕ) (there : Option (ℕ × ℕ)) → HasFoundBetween v low high there
+    → (other : ℕ) (begun : TableState) → CallIsMade plan.last_card ended other call.Look begun
+    → (more : List Turn) (s' : TableState) → TableRun plan.last_card begun more s' → LooksOn other more
+    → (w : View) → get_elem? s'.views other ≡ some w → (least upto : ℕ) (there' : Option (ℕ × ℕ)) → HasFoundBetween w least upto there'
+    → FoundBetweenInRun plan.last_card s turns ended seat low high there × WasSoBetween plan.last_card begun more s' least upto there'
+
+-- so it is of two looks of one key or of two
 abbrev pub LooksAreInOrder : Type 0
 LooksAreInOrder = (plan : TablePlan) (s : TableState) → Starts plan s
     → (turns : List Turn) (ended : TableState) → TableRun plan.last_card s turns ended
     → (seat : ℕ) (v : View) → get_elem? ended.views seat ≡ some v → (key : ℕ) (there : Option ℕ) → HasFound v key there
-    → (other next : ℕ) (begun : TableState) → CallIsMade plan.last_card ended other (call.LookFor next) begun
+    → (other : ℕ) (begun : TableState) → CallIsMade plan.last_card ended other call.Look begun
     → (more : List Turn) (s' : TableState) → TableRun plan.last_card begun more s' → LooksOn other more
-    → (w : View) → get_elem? s'.views other ≡ some w → (there' : Option ℕ) → HasFound w next there'
+    → (w : View) → get_elem? s'.views other ≡ some w → (next : ℕ) (there' : Option ℕ) → HasFound w next there'
     → FoundInRun plan.last_card s turns ended seat key there × WasSo plan.last_card begun more s' next there'
 
--- what a pass has found by a look for a key of its own is what its ledger has: it reads its own changes
+-- what a pass has found by a look of a key of its own is what its ledger has: it reads its own changes
 abbrev pub ReadsItsOwn : View → Type 0
 ReadsItsOwn v = (key : ℕ) (there : Option ℕ) → HasFound v key there → ledger_of v.worker.ledger key ≢ None
     → there ≡ contents_in (ledger_of v.worker.ledger) key

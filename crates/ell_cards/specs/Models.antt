@@ -15,6 +15,7 @@ use Rattle.ell_cards.specs.declared.fault.CardFault.TheVariants.{BadCards, NoMem
 use Rattle.ell_cards.specs.declared.fault.SplitFault.{SplitFault}
 use Rattle.ell_cards.specs.declared.fault.SplitFault.TheVariants.{TooManyPasses}
 use Rattle.ell_cards.specs.declared.fault.SplitFault.TheVariants as split_fault
+use Rattle.ell_cards.specs.declared.glance.Glance.{Glance}
 use Rattle.ell_cards.specs.declared.view.Told.{Told}
 use Rattle.ell_cards.specs.declared.view.View.{View}
 
@@ -74,6 +75,19 @@ pub data Has : List Told → Told → Type 0 where
 -- the pass was told this
 abbrev pub IsTold : View → Told → Type 0
 IsTold v e = Has v.told e
+
+-- of these glances one is this
+pub data HasGlance : List Glance → Glance → Type 0 where
+  last : (g : Glance) (gs : List Glance) → HasGlance (g ∷ gs) g
+  before : (g d : Glance) (gs : List Glance) → HasGlance gs g → HasGlance (d ∷ gs) g
+
+-- the look that a pass began last has come to a node by all keys from low on and below high: by these, or by more
+pub record HasCome (v : View) (node low high : ℕ) : Type 0 where
+  pub glance : Glance
+  pub among : HasGlance v.glances glance
+  pub there : glance.node ≡ node
+  pub from : glance.low ≤ low
+  pub upto : high ≤ glance.high
 
 -- the pass knows a fact
 abbrev pub Knows : View → Fact → Type 0

@@ -7,6 +7,7 @@ use Rattle.ell_word.specs.declared.update.State.TheVariants as state
 use Rattle.ell_word.specs.declared.gate.Kind.TheVariants as kind
 use Rattle.ell_core.specs.declared.field.Field.TheVariants as field
 use Rattle.ell_core.specs.declared.view.Entry.TheVariants.{Absent, Present}
+use Rattle.ell_core.specs.tree.Tree.{infinity1}
 use Rattle.ell_cards.specs.declared.call.Call.TheVariants as call
 use Rattle.ell_cards.specs.declared.view.View.{View}
 use Rattle.ell_cards.specs.Models.{TablePlan}
@@ -75,7 +76,7 @@ delete_ends =
 -- seat 1 looks for key 7, and finds its value
 abbrev pub look : List Turn
 look =
-    Makes 1 (call.LookFor 7) ∷ Makes 1 (call.LookDown 3 false) ∷ Makes 1 (call.KeyOf 11) ∷ Makes 1 (call.ValueOf 11) ∷ []
+    Makes 1 call.Look ∷ Makes 1 (call.LookDown (record { node = 3; low = 7; high = 8 }) infinity1 false) ∷ Makes 1 (call.KeyOf 11) ∷ Makes 1 (call.ValueOf 11) ∷ []
 
 -- it lays a find down, and both passes become one
 abbrev pub ending : List Turn

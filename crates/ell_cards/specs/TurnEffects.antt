@@ -32,9 +32,9 @@ pub record IsHeld (v : View) (c : ℕ) : Type 0 where
   pub holds : v.worker.card ≡ Some c
   pub flagged : v.worker.flagged ≡ true
 
--- what a call does to the keys of the tree and their values, by whether it is a won exchange: a won ichild adds its card's key with
--- its value, or gives its key this value in place of the leaf's; a won dchild takes its card's key with its value away; and nothing else
--- changes them
+-- what a call does to the keys of the tree and their values, by whether it is a won exchange: a won ichild adds its
+-- card's key with its value, or gives its key this value in place of the leaf's; a won dchild takes its card's key with
+-- its value away; and nothing else changes them
 abbrev pub PairsChangeBy : Call → Bool → Words → Words → Type 0
 PairsChangeBy (call.IChild c p l q right) true old new = MakesChange (op_of_card old c) old new
 PairsChangeBy (call.DChild c gp p s right) true old new = TakesPair old new (card_key old c) (card_value old c)
@@ -55,7 +55,8 @@ pub record IsAtWork (s : TableState) (c : ℕ) (op : Op) : Type 0 where
   pub does : Does view op
   pub held : IsHeld view c
 
--- whose a won child exchange is: a won ichild is of an insert or a swap of its card's key and value that is in hand, a won dchild of a delete
+-- whose a won child exchange is: a won ichild is of an insert or a swap of its card's key and value that is in hand, a
+-- won dchild of a delete
 abbrev pub ChangeIsOf : Call → Bool → TableState → Type 0
 ChangeIsOf (call.IChild c p l q right) true s = IsAtWork s c (op_of_card (own_words s) c)
 ChangeIsOf (call.DChild c gp p y right) true s = IsAtWork s c (Delete (card_key (own_words s) c))

@@ -1,4 +1,5 @@
 //! The step calls as data, so that a law can speak of all of them.
+use crate::glance::Glance;
 use ell_core::Field;
 use ell_ops::{Op, Reply};
 use ell_word::Update;
@@ -28,17 +29,18 @@ pub enum Call {
     Info(u64, Field),
     /// Reads a child, the right one or the left one, of the parent of a card: card, parent, side.
     FrozenChild(u64, u64, bool),
-    /// Begins a look for a key, whoever owns it: reads the root's left child.
-    LookFor(u64),
-    /// Goes down in a look from a node, to the right child or to the left one.
-    LookDown(u64, bool),
+    /// Begins a look: reads the root's left child.
+    Look,
+    /// Goes down in a look from a node to which it has come, whose key is this, to the right child or to the left one.
+    LookDown(Glance, u64, bool),
     /// Takes a card.
     Claim(u64),
     /// Stores a word of a card.
     Fill(u64, Field, u64),
     /// Flags the parent for an insert: card, parent, the update that was read there.
     IFlag(u64, u64, Update),
-    /// Exchanges a child for an insert, which adds a leaf or replaces one: card, parent, leaf, the node that the card brings, side.
+    /// Exchanges a child for an insert, which adds a leaf or replaces one: card, parent, leaf, the node that the card
+    /// brings, side.
     IChild(u64, u64, u64, u64, bool),
     /// Takes an insert's flag away: card, parent.
     IUnflag(u64, u64),

@@ -48,8 +48,8 @@ impl<A: Allocator + Copy> CardTable<A> {
         self.load(pass, call, child_at(parent, right))
     }
 
-    /// Exchanges the child of an insert's parent, from the leaf to the node that the card brings. Else the error is the child that was
-    /// found. Either way the pass knows the card changed.
+    /// Exchanges the child of an insert's parent, from the leaf to the node that the card brings. Else the error is the
+    /// child that was found. Either way the pass knows the card changed.
     #[inline(always)]
     pub fn ichild(
         &self,

@@ -11,7 +11,7 @@ ghost use Rattle.ell_cards.specs.Readings.{ReadingsArePast, ClaimsAreTold};
 ghost use Rattle.ell_cards.specs.Contention.{TriesAreHinderedByOthers};
 ghost use Rattle.ell_cards.specs.Stretches.{FewFlagsWithoutAChange, TablesHaveHeights};
 ghost use Rattle.ell_cards.specs.Meanwhile.{SearchesBeginThere, SearchesReadMeanwhile, SearchesMeetMeanwhile, KnownMovesWereMade};
-ghost use Rattle.ell_cards.specs.Looking.{LooksAreOfOneState, LooksAreInOrder, LooksReadTheirOwn};
+ghost use Rattle.ell_cards.specs.Looking.{LooksAreOfOneState, LooksAreInOrder, LooksReadTheirOwn, StretchesAreOfOneState, StretchesAreInOrder};
 ghost use Rattle.ell_cards.specs.Changing.{CallsHaveTheirPoint, CallsAnswerAsAMap, CallsHaveTheirOwnCards, TreesAreMaps, TreesAreOfOneThread, CallsReplyAsOneThread};
 ghost use Rattle.ell_cards.specs.Linearizing.{RunsAreLinearizable, LastAnswersAreOfCalls};
 ghost use Rattle.ell_cards.specs.LayingDown.{LaidDownCallsChangeNothing, LaidDownLastChangesNothing};
@@ -157,6 +157,14 @@ pub fn looks_are_of_one_state()
     ensures each { LooksAreOfOneState }
     ensures order { LooksAreInOrder }
     ensures own { LooksReadTheirOwn }
+{}
+
+/// What a pass finds by a look of a whole stretch of keys was so in ONE state of the table since the look began: of these keys the tree had one,
+/// with its value, or none. A look may keep the nodes to which it has come, and go on from them later: what it then finds is of a state since it
+/// began too. Of two looks, of which the second begins after the first has ended, the second is of no earlier state.
+pub fn stretches_are_of_one_state()
+    ensures each { StretchesAreOfOneState }
+    ensures order { StretchesAreInOrder }
 {}
 
 /// A call of any pass, on a key of its own or on a shared one, has one point within its span, whatever turns of whatever passes

@@ -1,4 +1,5 @@
 //! What a pass knows, as contracts see it.
+use crate::glance::Glance;
 use ell_core::{Fact, Field, WorkerView};
 use ell_ops::{Op, Reply};
 use ell_word::{Kind, Update};
@@ -28,13 +29,6 @@ pub enum Hindrance {
     Claim(u64),
     /// This update stood where the operation was to act: its search had read it there, or a lost flag or mark found it.
     Found(Update),
-}
-
-/// A look for a key, whoever owns it, and the node that it has come to.
-#[derive(Clone, Copy)]
-pub struct Looking {
-    pub key: u64,
-    pub node: u64,
 }
 
 /// An operation and what was answered to it.
@@ -85,8 +79,8 @@ pub struct View {
     pub met: LinkedList<Hindrance>,
     /// How many tries it gave up that something hindered which was over by then.
     pub hindered: u64,
-    /// The look that it began last, until an operation begins, or the pass is split or joined.
-    pub looking: Option<Looking>,
+    /// Where the look that it began last has come to, the last first: nowhere once an operation begins, or the pass is split or joined.
+    pub glances: LinkedList<Glance>,
     /// How many looks it began.
     pub looks: u64,
     /// How many step calls it made. A split is a step of its left part, and the right part begins with none. A join is a step too: it

@@ -4,13 +4,14 @@ ghost use Rattle.ell_core.specs.state.Machine.{ledger_of, worker_of};
 ghost use Rattle.ell_core.specs.acts.Searching.{IsLeaf};
 ghost use Rattle.ell_core.specs.statements.Effects.{AnswersAsMap};
 ghost use Rattle.ell_cards.specs.declared.view.Told.TheVariants.{Met};
-ghost use Rattle.ell_cards.specs.Models.{Steps, IsTold, InTable, EndWasUnknown};
-ghost use Rattle.ell_cards.specs.Changes.{after_begin, after_again, after_leave, after_answer, after_upd, after_down, after_next, after_key_of, after_value_of, after_look_for, after_look_down};
-ghost use Rattle.ell_cards.specs.Guards.{MayBegin, MayStop, MayAnswer, MayRead, MayGoDown, MayLookFor, MayLookDown};
+ghost use Rattle.ell_cards.specs.Models.{Steps, IsTold, InTable, EndWasUnknown, IsFree};
+ghost use Rattle.ell_cards.specs.Changes.{after_begin, after_again, after_leave, after_answer, after_upd, after_down, after_next, after_key_of, after_value_of, after_look, after_look_down};
+ghost use Rattle.ell_cards.specs.Guards.{MayBegin, MayStop, MayAnswer, MayRead, MayGoDown, MayLookDown};
 ghost use Rattle.ell_cards.specs.Calls.{TellsLeaf, TellsValue};
 ghost use Rattle.ell_cards.specs.Looking.{ReadsItsOwn};
 
 use crate::call::Call;
+use crate::glance::Glance;
 use crate::pass::Pass;
 use crate::places::{child_at, key_at, update_at, value_at};
 use crate::table::CardTable;
@@ -101,30 +102,31 @@ impl<A: Allocator + Copy> CardTable<A> {
         self.load(pass, Call::Next, 0)
     }
 
-    /// Begins a look for a key, whoever owns it, at the root's left child, a node of the table: the root's key is above every real one.
+    /// Begins a look at the root's left child, a node of the table: the root's key is above every real one, so that all of these come there.
     #[inline(always)]
-    pub fn look_for(&self, pass: &mut Pass<A>, key: u64) -> u64
+    pub fn look(&self, pass: &mut Pass<A>) -> u64
         requires own { pass.old.table ≡ self.now.id }
-        requires may { MayLookFor pass.old.view key }
-        ensures step { Steps pass.old pass.new (after_look_for key result pass.old.view) }
+        requires free { IsFree pass.old.view }
+        ensures step { Steps pass.old pass.new (after_look result pass.old.view) }
         ensures greater { 0 < result }
         ensures there { InTable self.now.plan.last_card result }
     {
         self.names(pass);
-        self.load(pass, Call::LookFor(key), child_at(0, false))
+        self.load(pass, Call::Look, child_at(0, false))
     }
 
-    /// Goes down in a look from the internal node that it has come to, to the child on its key's side: a greater node of the table.
+    /// Goes down in a look from an internal node to which it has come, now or earlier, with the node's key, to the child on a side: a greater
+    /// node of the table, to which those of the keys have come that go to this side.
     #[inline(always)]
-    pub fn look_down(&self, pass: &mut Pass<A>, node: u64, right: bool) -> u64
+    pub fn look_down(&self, pass: &mut Pass<A>, from: Glance, key: u64, right: bool) -> u64
         requires own { pass.old.table ≡ self.now.id }
-        requires may { MayLookDown pass.old.view node right }
-        ensures step { Steps pass.old pass.new (after_look_down result pass.old.view) }
-        ensures greater { node < result }
+        requires may { MayLookDown pass.old.view from key }
+        ensures step { Steps pass.old pass.new (after_look_down from key right result pass.old.view) }
+        ensures greater { from.node < result }
         ensures there { InTable self.now.plan.last_card result }
     {
         self.names(pass);
-        self.load(pass, Call::LookDown(node, right), child_at(node, right))
+        self.load(pass, Call::LookDown(from, key, right), child_at(from.node, right))
     }
 
     /// Reads the key of a node that the pass has met. Of the leaf where it stands it is the operation's exactly where the pass

@@ -41,3 +41,5 @@ pub mod Early
 pub mod Children
 -- What is on course for a key stays so, and where its child on the key's side changes, it is on the walk from the root.
 pub mod Looks
+-- So it is for all keys of a stretch at once.
+pub mod Stretches

@@ -14,3 +14,5 @@ pub mod SmallRun
 pub mod Wins
 -- A look for a key finds what was so in one state of the run.
 pub mod Looks
+-- A reader finds how all keys of a stretch were in one state of the run.
+pub mod Stretches

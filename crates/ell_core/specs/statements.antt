@@ -24,3 +24,5 @@ pub mod Refuted
 pub mod Since
 -- A reader of any key, who only loads, finds what was so in one state of the run meanwhile.
 pub mod Looks
+-- A reader, who may keep nodes and go on from them, finds how all keys of a stretch were in one state.
+pub mod Readers

@@ -112,8 +112,8 @@ fn flag<A: Allocator + Copy>(
     Ok(won_or_lost(outcome))
 }
 
-/// Exchanges the child of an insert's parent, from the leaf to the node that the card brings: its internal node, or, where
-/// it replaces a leaf of its key, its right leaf.
+/// Exchanges the child of an insert's parent, from the leaf to the node that the card brings: its internal node, or,
+/// where it replaces a leaf of its key, its right leaf.
 pub(crate) fn ichild<A: Allocator + Copy>(
     memory: &mut Memory<A>,
     worker: &mut Worker<A>,

@@ -39,8 +39,8 @@ pub fn insert_filling(
     ]
 }
 
-/// The node that an insert's card brings to the parent, by the keys of its two leaves: where they are one, it replaces a leaf of
-/// that key, by its right leaf; else it brings its internal node. Condition: the card is at most `CARD_MAX`.
+/// The node that an insert's card brings to the parent, by the keys of its two leaves: where they are one, it replaces
+/// a leaf of that key, by its right leaf; else it brings its internal node. Condition: the card is at most `CARD_MAX`.
 pub fn brought_node(card: u64, left_leaf_key: u64, right_leaf_key: u64) -> u64
     requires { card ≤ greatest_card }
     ensures { result ≡ brought_by card (left_leaf_key == right_leaf_key) }

@@ -20,7 +20,8 @@ pub use premises::{
 pub use refuted::{events_promise_no_more, runs_promise_no_more};
 pub use schedules::{
     answers_are_the_maps, claimed_cards_are_fixed, every_state_is_sound, facts_last,
-    marked_nodes_are_frozen, pairs_change_at_wins, wins_are_in_order, words_rise,
+    looks_are_of_one_state, marked_nodes_are_frozen, pairs_change_at_wins,
+    stretches_are_of_one_state, wins_are_in_order, words_rise,
 };
 pub use steps::{
     cards_wait, events_are_lawful, invariant_is_sound, moves_are_lawful, owner_finds_clean,

@@ -33,8 +33,8 @@ impl Put {
         }
     }
 
-    /// Whether it may go where a search has ended at a leaf with this key and this value: at a leaf of another key, or, for a
-    /// swap, at one of its key that has the value.
+    /// Whether it may go where a search has ended at a leaf with this key and this value: at a leaf of another key, or,
+    /// for a swap, at one of its key that has the value.
     pub fn may_replace(&self, leaf_key: u64, leaf_value: u64) -> bool
         ensures { IsTrue result ↔ TakesPut self.now leaf_key leaf_value }
     {

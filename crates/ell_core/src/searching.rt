@@ -6,6 +6,7 @@ ghost use Rattle.ell_core.specs.declared.event.Act.TheVariants as act;
 ghost use Rattle.ell_core.specs.declared.view.Seen.{Seen};
 ghost use Rattle.ell_core.specs.acts.Searching.{begun, ended, MayStop, put_of, AtCleanLeaf, IsClean, IsLeaf, value_at, leaf_answer, card_answer, HasAnswer, ledger_after};
 ghost use Rattle.ell_core.specs.inside.Fits.{IsNode};
+ghost use Rattle.ell_core.specs.statements.Effects.{reply_of_change};
 ghost use Rattle.ell_core.specs.inside.Inside.{words_in, worker_in, scene_in, IsReady, IsSized, TakesTurn};
 
 use crate::event::{CoreFault, Stepped};
@@ -276,6 +277,16 @@ pub fn leaf_answer(op: Op, there: Option<u64>) -> Option<Reply>
     }
 }
 
+/// What an operation answers that has changed the tree: yes, and a swap the value that it has replaced. A find changes nothing.
+pub fn reply_of_change(op: Op) -> Reply
+    ensures { result ≡ reply_of_change op }
+{
+    match op {
+        Op::Swap(_, was, _) => Reply::Found(was),
+        _ => Reply::Yes,
+    }
+}
+
 // The value of a key at a leaf, if the leaf has the key.
 fn value_at<A: Allocator + Copy>(memory: &Memory<A>, leaf: u64, key: u64) -> Option<u64>
     requires sized { IsSized memory.now }
@@ -294,13 +305,16 @@ fn value_at<A: Allocator + Copy>(memory: &Memory<A>, leaf: u64, key: u64) -> Opt
 fn card_answer<A: Allocator + Copy>(worker: &Worker<A>, op: Op, card: u64) -> Option<Reply>
     ensures { result ≡ card_answer op card (worker_in worker.now).knows }
 {
-    let (over, reply) = match op {
-        Op::Find(_) => (false, Reply::No),
-        Op::Insert(_, _) => (worker.knows(Fact::IOver(card)), Reply::Yes),
-        Op::Delete(_) => (worker.knows(Fact::DOver(card)), Reply::Yes),
-        Op::Swap(_, was, _) => (worker.knows(Fact::IOver(card)), Reply::Found(was)),
+    let over = match op {
+        Op::Find(_) => false,
+        Op::Insert(_, _) | Op::Swap(_, _, _) => worker.knows(Fact::IOver(card)),
+        Op::Delete(_) => worker.knows(Fact::DOver(card)),
     };
-    if over { Some(reply) } else { None }
+    if over {
+        Some(reply_of_change(op))
+    } else {
+        None
+    }
 }
 
 // The operation's answer: at a leaf if it has one there, else by its card.

@@ -37,13 +37,14 @@ abbrev pub whether_updated : {E : Type 0} → Result (Option ℕ) E → Result B
 whether_updated (Ok was) = Ok (is_some was)
 whether_updated (Err why) = Err why
 
--- a call that reads a key and then makes so many tries at most kept to its bounds, on its steps and on the tries that it counts as hindered
+-- a call that reads a key and then makes so many tries at most kept to its bounds, on its steps and on the tries that
+-- it counts as hindered
 pub record TookRounds (tries : ℕ) (old new : Handle) : Type 0 where
   pub steps : Took old.pass new.pass (update_steps (last_card_of old) tries)
   pub counted : CountsTries tries old.pass new.pass
 
--- such a call has changed nothing, as something was in the way of each try, or another handle had changed the key. On a key of the handle's own
--- it is the former, which is others' doing; and the tries are no more than twice the cards
+-- such a call has changed nothing, as something was in the way of each try, or another handle had changed the key. On a
+-- key of the handle's own it is the former, which is others' doing; and the tries are no more than twice the cards
 pub record IsHeldBusy (key tries : ℕ) (old new : Handle) : Type 0 where
   pub holds : HoldsBack (tree_of old) key old.pass new.pass held.Busy
   pub others : Owns old.pass key → IsOthersDoing (tree_of old) tries old.pass new.pass

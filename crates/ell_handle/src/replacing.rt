@@ -15,9 +15,10 @@ use crate::refusal::Refusal;
 use ell_tree::NoGate;
 
 impl Handle {
-    /// Stores `new` as the value of a key of the handle's own, or of a shared one, if its value is `current`. Returns `Ok(current)` if it was
-    /// exchanged, and else what is there: `Err(Some(value))` if the key has another value, and `Err(None)` if it is absent. Either way comparing
-    /// and storing are one atomic step. Refusals, tries and cards are as of `insert`: an exchange takes a card.
+    /// Stores `new` as the value of a key of the handle's own, or of a shared one, if its value is `current`. Returns
+    /// `Ok(current)` if it was exchanged, and else what is there: `Err(Some(value))` if the key has another value, and
+    /// `Err(None)` if it is absent. Either way comparing and storing are one atomic step. Refusals, tries and cards are
+    /// as of `insert`: an exchange takes a card.
     #[tactic(auto, using(crate::proofs::Trying::within_same, crate::proofs::Trying::spends_none, crate::proofs::May::may_do))]
     pub fn compare_exchange(
         &mut self,
@@ -48,10 +49,11 @@ impl Handle {
         }
     }
 
-    /// Stores a value of a key of the handle's own, or of a shared one, whether the key was present or not, in one atomic step. Returns the value
-    /// that it had, if it was present. `NoTries` and `Foreign` are as of `insert`. A try fails if something was in its way, or if another handle
-    /// has changed the key since it was read: `Busy` if all tries fail so, and `Spent` if a try finds all cards given out. A put takes a card,
-    /// and at most one more for each try that something hindered.
+    /// Stores a value of a key of the handle's own, or of a shared one, whether the key was present or not, in one
+    /// atomic step. Returns the value that it had, if it was present. `NoTries` and `Foreign` are as of `insert`. A try
+    /// fails if something was in its way, or if another handle has changed the key since it was read: `Busy` if all
+    /// tries fail so, and `Spent` if a try finds all cards given out. A put takes a card, and at most one more for each
+    /// try that something hindered.
     #[tactic(auto, using(crate::proofs::Trying::rounds_same, crate::proofs::Trying::spends_none, crate::proofs::May::may_do))]
     pub fn put(&mut self, key: u64, value: u64, tries: u32) -> Result<Option<u64>, Refusal>
         ensures puts { IfOk result (PutsValue (tree_of self.old) key value self.old.pass self.new.pass) }
@@ -70,9 +72,9 @@ impl Handle {
         )
     }
 
-    /// Stores the value that `f` makes of the one that a key of the handle's own, or a shared one, has, in one atomic step. Returns the value that
-    /// it had. A key that is absent is left so, and takes no card of an own key. `f` is called anew for each value that is found. Refusals are as
-    /// of `put`.
+    /// Stores the value that `f` makes of the one that a key of the handle's own, or a shared one, has, in one atomic
+    /// step. Returns the value that it had. A key that is absent is left so, and takes no card of an own key. `f` is
+    /// called anew for each value that is found. Refusals are as of `put`.
     #[tactic(auto, using(crate::proofs::Trying::rounds_same, crate::proofs::Trying::spends_none, crate::proofs::May::may_do, crate::proofs::Values::update_leaves))]
     pub fn update<F: Fn(u64) -> u64>(
         &mut self,
@@ -97,8 +99,8 @@ impl Handle {
         )
     }
 
-    /// Adds to the value of a key of the handle's own, or of a shared one, in one atomic step, and returns the value that it had. A sum past
-    /// `u64::MAX` wraps around. A key that is absent is left so. Refusals are as of `put`.
+    /// Adds to the value of a key of the handle's own, or of a shared one, in one atomic step, and returns the value
+    /// that it had. A sum past `u64::MAX` wraps around. A key that is absent is left so. Refusals are as of `put`.
     #[tactic(auto, using(crate::proofs::Trying::rounds_same, crate::proofs::Trying::spends_none, crate::proofs::May::may_do, crate::proofs::Values::update_leaves))]
     pub fn fetch_add(&mut self, key: u64, addend: u64, tries: u32) -> Result<Option<u64>, Refusal>
         ensures adds { IfOk result (UpdatesValue (tree_of self.old) key (IsSum addend) self.old.pass self.new.pass) }

@@ -16,9 +16,11 @@ NoDelete ops key low high = (j : ℕ) → low ≤ j → j < high → slice_get o
 
 -- nor a swap of it from this value to another
 abbrev pub NoSwapAway : List Op → ℕ → ℕ → ℕ → ℕ → Type 0
-NoSwapAway ops key value low high = (j other : ℕ) → low ≤ j → j < high → other ≢ value → slice_get ops j ≢ Some (Swap key value other)
+NoSwapAway ops key value low high =
+    (j other : ℕ) → low ≤ j → j < high → other ≢ value → slice_get ops j ≢ Some (Swap key value other)
 
--- the key's value stays from position low up to position high: there the key is not deleted, nor swapped from this value to another
+-- the key's value stays from position low up to position high: there the key is not deleted, nor swapped from this
+-- value to another
 pub record ValueStays (ops : List Op) (key value low high : ℕ) : Type 0 where
   pub no_delete : NoDelete ops key low high
   pub no_swap : NoSwapAway ops key value low high
@@ -39,7 +41,8 @@ pub record IsMissing (there : Contents) (ops : List Op) (key i : ℕ) : Type 0 w
 abbrev pub IsAbsent : Contents → List Op → ℕ → ℕ → Type 0
 IsAbsent there ops key i = IsDeleted ops key i ⊎ IsMissing there ops key i
 
--- some insert of the key with this value stands before position i where the key was absent, and from it up to i the value stays
+-- some insert of the key with this value stands before position i where the key was absent, and from it up to i the
+-- value stays
 pub record IsInserted (there : Contents) (ops : List Op) (key i value : ℕ) : Type 0 where
   pub at : ℕ
   pub before : at < i
@@ -56,9 +59,10 @@ pub record IsKept (there : Contents) (ops : List Op) (key i value : ℕ) : Type 
 pub data HasValue (there : Contents) (ops : List Op) (key : ℕ) : ℕ → ℕ → Type 0 where
   at_first : {i value : ℕ} → IsKept there ops key i value → HasValue there ops key i value
   by_insert : {i value : ℕ} → IsInserted there ops key i value → HasValue there ops key i value
-  -- some swap of the key, from the value that it had there to this one, stands before i, and from it up to i the value stays
-  by_swap : {i value : ℕ} (at was : ℕ) → at < i → slice_get ops at ≡ Some (Swap key was value) → HasValue there ops key at was
-      → ValueStays ops key value at i → HasValue there ops key i value
+  -- some swap of the key, from the value that it had there to this one, stands before i, and from it up to i the value
+  -- stays
+  by_swap : {i value : ℕ} (at was : ℕ) → at < i → slice_get ops at ≡ Some (Swap key was value)
+      → HasValue there ops key at was → ValueStays ops key value at i → HasValue there ops key i value
 
 -- the key is present before position i
 abbrev pub IsPresent : Contents → List Op → ℕ → ℕ → Type 0
@@ -66,10 +70,11 @@ IsPresent there ops key i = (value : ℕ) × HasValue there ops key i value
 
 -- the reply tells the key's value before position i, or that the key is absent
 abbrev pub TellsValue : Contents → List Op → ℕ → ℕ → Reply → Type 0
-TellsValue there ops key i reply = ((value : ℕ) → (reply ≡ Found value) ↔ HasValue there ops key i value) × ((reply ≡ No) ↔ IsAbsent there ops key i)
+TellsValue there ops key i reply =
+    ((value : ℕ) → (reply ≡ Found value) ↔ HasValue there ops key i value) × ((reply ≡ No) ↔ IsAbsent there ops key i)
 
--- the reply of an operation by its key before its position: of a find or a swap the value, if the key is present; of an insert yes
--- exactly where it is absent; of a delete yes exactly where it is present
+-- the reply of an operation by its key before its position: of a find or a swap the value, if the key is present; of an
+-- insert yes exactly where it is absent; of a delete yes exactly where it is present
 abbrev pub GoesByPresence : Contents → List Op → ℕ → Op → Reply → Type 0
 GoesByPresence there ops i (Find key) reply = TellsValue there ops key i reply
 GoesByPresence there ops i (Insert key value) reply = ((reply ≡ Yes) ↔ IsAbsent there ops key i) × ((reply ≡ No) ↔ IsPresent there ops key i)

@@ -12,9 +12,10 @@ use crate::reply::Reply;
 use std::alloc::Allocator;
 use std::collections::BTreeMap;
 
-/// Applies one operation to an ordered map. Find and swap answer the key's value if the key is present, insert whether it was
-/// absent, delete whether it was present. An insert of a present key leaves its value, and a swap changes the value only if it
-/// is the one that the swap names. Only an insert of an absent key can meet `NoMemory`, and then the map is as it was.
+/// Applies one operation to an ordered map. Find and swap answer the key's value if the key is present, insert whether
+/// it was absent, delete whether it was present. An insert of a present key leaves its value, and a swap changes the
+/// value only if it is the one that the swap names. Only an insert of an absent key can meet `NoMemory`, and then the
+/// map is as it was.
 pub fn apply<A: Allocator + Copy>(
     map: &mut BTreeMap<u64, u64, A>,
     op: Op,

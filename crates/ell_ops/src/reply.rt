@@ -2,8 +2,8 @@
 ghost use Rattle.std.specs.Prelude.{◌≡◌};
 ghost use Rattle.ell_ops.specs.Meaning.{found, yes_if};
 
-/// What an operation answers: a find and a swap the value of their key, if it is present, an insert whether it was absent, a
-/// delete whether it was present.
+/// What an operation answers: a find and a swap the value of their key, if it is present, an insert whether it was
+/// absent, a delete whether it was present.
 #[derive(Clone, Copy, Debug, PartialEq, Eq)]
 pub enum Reply {
     /// Nothing was found, and nothing was changed.

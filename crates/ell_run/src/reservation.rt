@@ -17,9 +17,9 @@ const LINE_MIN: usize = 7;
 // How many lines of a text are looked at for a guess.
 const SAMPLES: usize = 64;
 
-// The cards to reserve where so many workers are busy: those asked for, but no more than the operations can take, and at least
-// the one that a tree must have. An insert, a delete or a swap takes one at each try at most, and where one worker alone is busy,
-// nothing is in the way of its first try.
+// The cards to reserve where so many workers are busy: those asked for, but no more than the operations can take, and
+// at least the one that a tree must have. An insert, a delete or a swap takes one at each try at most, and where one
+// worker alone is busy, nothing is in the way of its first try.
 pub(crate) fn cards_to_reserve(ops: &[Op], busy: usize, limits: Limits) -> u64
     requires { AreLimits limits }
     ensures value { result ≡ min limits.cards (max 1 (most_taken ops.now busy limits.tries)) }

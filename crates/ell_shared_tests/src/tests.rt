@@ -1,5 +1,5 @@
-//! Histories, calls that up to 64 threads make at once, counters, ones that a gate holds, owners beside shared keys, and how passes part and
-//! come together.
+//! Histories, calls that up to 64 threads make at once, counters, ones that a gate holds, owners beside shared keys,
+//! and how passes part and come together.
 mod adding;
 mod calling;
 mod histories;

@@ -6,9 +6,9 @@ use ell_ops::{Op, Reply};
 use std::alloc::{AllocError, Global};
 use std::collections::BTreeSet;
 
-/// A call that was answered, with its begin and its end by a clock that all workers read. A look counts as a find, a take as a delete that
-/// found the value which it took, and a put or an update as a swap of the value that it found, or as an insert, if it found none. A call
-/// that is held changes nothing, and stands in no history.
+/// A call that was answered, with its begin and its end by a clock that all workers read. A look counts as a find, a
+/// take as a delete that found the value which it took, and a put or an update as a swap of the value that it found, or
+/// as an insert, if it found none. A call that is held changes nothing, and stands in no history.
 #[derive(Clone, Copy, Debug, PartialEq, Eq)]
 pub struct Made {
     /// Who made it, by a number below 64: a worker makes one call at a time.
@@ -150,8 +150,8 @@ impl Orders {
     }
 }
 
-// The calls, where inserts and swaps whose values no call found all add one value, which no call found: so they are alike. A swap that does
-// not find the value which it replaces is as a find.
+// The calls, where inserts and swaps whose values no call found all add one value, which no call found: so they are
+// alike. A swap that does not find the value which it replaces is as a find.
 fn with_found_values(alloc: Global, calls: &[Made]) -> Result<Vec<Made>, AllocError> {
     let mut found = BTreeSet::new(alloc);
     for call in calls {

@@ -45,7 +45,8 @@ pub record TakesOneAndByHindered (old new : PassModel) : Type 0 where
   pub one : cards_taken old + 1 ≤ cards_taken new
   pub more : cards_taken new + old.view.hindered ≤ cards_taken old + 1 + new.view.hindered
 
--- which cards an insert, a delete or a swap takes: one, and more only for hindered tries, if it changes the map; else only those for hindered tries
+-- which cards an insert, a delete or a swap takes: one, and more only for hindered tries, if it changes the map; else
+-- only those for hindered tries
 abbrev pub TakesCards : {E : Type 0} → PassModel → PassModel → Result Bool E → Type 0
 TakesCards old new (Ok false) = TakesByHindered old new
 TakesCards old new (Ok true) = TakesOneAndByHindered old new

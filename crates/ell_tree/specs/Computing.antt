@@ -27,10 +27,11 @@ pub record IsUntouched (old new : PassModel) : Type 0 where
   pub share : SameShare old.view new.view
   pub idle : IsIdle new
 
--- a call that is made of several operations has ended by this one, which was answered so, and those before it have changed nothing of what the
--- pass has. On a key of the pass's own: as a map answers it that has the pass's keys present with their values, which becomes the map after it.
--- Whoever may change the key, this last operation had its point: in every run of the tree in which the pass now knows this, its answer is that of
--- one thread that made all operations by which the tree was changed till then
+-- a call that is made of several operations has ended by this one, which was answered so, and those before it have
+-- changed nothing of what the pass has. On a key of the pass's own: as a map answers it that has the pass's keys
+-- present with their values, which becomes the map after it. Whoever may change the key, this last operation had its
+-- point: in every run of the tree in which the pass now knows this, its answer is that of one thread that made all
+-- operations by which the tree was changed till then
 pub record Concludes (t : TreeModel) (op : Op) (said : Reply) (old new : PassModel) : Type 0 where
   pub table : new.table ≡ old.table
   pub label : new.label ≡ old.label
@@ -43,7 +44,8 @@ pub record Concludes (t : TreeModel) (op : Op) (said : Reply) (old new : PassMod
   pub share : SameShare old.view new.view
   pub idle : IsIdle new
 
--- what puts a value at a key, by what was there of it: an insert, where the key was absent, or a swap of the value that it had
+-- what puts a value at a key, by what was there of it: an insert, where the key was absent, or a swap of the value that
+-- it had
 abbrev pub put_by : ℕ → ℕ → Option ℕ → Op
 put_by key value None = Insert key value
 put_by key value (Some was) = Swap key was value
@@ -74,14 +76,16 @@ wrapping_sum one other = (one + other) % 2 ^ 64
 abbrev pub IsSum : ℕ → ℕ → ℕ → Type 0
 IsSum addend was value = value ≡ wrapping_sum was addend
 
--- the last operation of a call on a key has changed nothing, and never will: it was laid down, or answered by what is no change's answer
+-- the last operation of a call on a key has changed nothing, and never will: it was laid down, or answered by what is
+-- no change's answer
 pub record LastChangesNothing (t : TreeModel) (key : ℕ) (v : View) : Type 0 where
   pub op : Op
   pub on : key_of op ≡ key
   pub nothing : IsLaidDownInRuns t.plan v op
       ⊎ ((said : Reply) × (said ≢ reply_of_change op) × IsAnsweredInRuns t.plan v op said)
 
--- why a call of several operations has no answer: all its tries were made, or the claim word says that all cards are given out
+-- why a call of several operations has no answer: all its tries were made, or the claim word says that all cards are
+-- given out
 abbrev pub HeldBackFor : ℕ → PassModel → Held → Type 0
 HeldBackFor cards new Busy = Unit {0}
 HeldBackFor cards new Spent = new.view.next ≡ Some (cards + 1)
@@ -99,7 +103,8 @@ Replaces t key was value old new (Ok (Lost there)) =
     IsUntouched old new × ReadsValue t key there old new × (Owns old key → present_in old key ≢ was)
 Replaces t key was value old new (Err why) = LaidDown t (put_by key value was) old new × HeldBackFor t.plan.last_card new why
 
--- so many tries were made: each was hindered, or was answered by what another pass had changed; and the key was read before
+-- so many tries were made: each was hindered, or was answered by what another pass had changed; and the key was read
+-- before
 abbrev pub AreTried : ℕ → PassModel → PassModel → Type 0
 AreTried tries old new = old.view.hindered + answers old + tries < new.view.hindered + answers new
 

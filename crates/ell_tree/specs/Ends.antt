@@ -76,8 +76,8 @@ abbrev pub whether_swapped : ℕ → Result (Option ℕ) Held → Result Bool He
 whether_swapped was (Ok there) = Ok (is_value was there)
 whether_swapped was (Err why) = Err why
 
--- what an operation says by a value: an insert by the one that it adds, a delete by the one that it takes away, if it changes the map, and a
--- swap by the one that it finds
+-- what an operation says by a value: an insert by the one that it adds, a delete by the one that it takes away, if it
+-- changes the map, and a swap by the one that it finds
 abbrev pub reply_by : Op → Option ℕ → Reply
 reply_by (Swap key was value) there = found there
 reply_by _ moved = yes_if (is_some moved)

@@ -51,5 +51,9 @@ pub use Rattle.ell_core.specs.state.Words
 pub use Rattle.ell_core.specs.tree.Tree
 -- what a look for any key leaves of a pass
 pub mod Looks
+-- what scans find
+pub mod Scans
+-- where a look goes on
+pub mod Cursors
 -- that what a look found was so in one state of every run that can have led there
 pub use Rattle.ell_cards.specs.Looking

@@ -33,6 +33,10 @@ pub record OnlyLooks (old new : PassModel) (n : ℕ) : Type 0 where
 abbrev pub look_steps : ℕ → ℕ
 look_steps cards = 2 * cards + 3
 
+-- of these one begins the look, and the others go down
+abbrev pub stretch_steps : ℕ → ℕ
+stretch_steps cards = 2 * cards + 2
+
 -- what a look found of a key was so in one state of the tree since it began, in every run in which its pass now knows this
 abbrev pub IsFoundIn : TreeModel → View → ℕ → Option ℕ → Type 0
 IsFoundIn t v key there = IsFoundInRuns t.plan v key there

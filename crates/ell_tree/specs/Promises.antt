@@ -15,8 +15,8 @@ pub record MayDo (t : TreeModel) (key : ℕ) (p : PassModel) : Type 0 where
   pub idle : IsIdle p
   pub may : MayChange (worker_of p.view.worker) key
 
--- an insert, a delete or a swap kept to its bounds: it took no more steps than so many tries take; no more than one try takes, and another for each
--- move that its pass came to know of; and it counted no more tries as hindered than these
+-- an insert, a delete or a swap kept to its bounds: it took no more steps than so many tries take; no more than one try
+-- takes, and another for each move that its pass came to know of; and it counted no more tries as hindered than these
 pub record IsWithin (t : TreeModel) (tries : ℕ) (old new : PassModel) : Type 0 where
   pub most : Took old new (change_steps t.plan.last_card tries)
   pub amortized : IsAmortized t.plan.last_card old new
@@ -29,7 +29,8 @@ pub record IsOthersDoing (t : TreeModel) (tries : ℕ) (old new : PassModel) : T
   pub moved : moves_known t.plan.last_card old.view + tries ≤ moves_known t.plan.last_card new.view
   pub by_others : AreHinderedByOthers t.plan old.view.hindered new.view tries
 
--- the cards that an insert, a delete or a swap of a key took: one a try at most; by how it ended; and none, if it changed nothing of a key of its own
+-- the cards that an insert, a delete or a swap of a key took: one a try at most; by how it ended; and none, if it
+-- changed nothing of a key of its own
 pub record SpendsCards {E : Type 0} (key tries : ℕ) (old new : PassModel) (result : Result Bool E) : Type 0 where
   pub most : TakesAtMost tries old new
   pub each : TakesCards old new result

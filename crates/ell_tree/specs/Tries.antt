@@ -134,7 +134,8 @@ abbrev pub found_for : Option ℕ → Option ℕ → Option ℕ
 found_for None there = None
 found_for (Some was) there = there
 
--- what is told of its key to whoever puts this, where a search ended: to a swap its value, if it is there; to an insert nothing
+-- what is told of its key to whoever puts this, where a search ended: to a swap its value, if it is there; to an insert
+-- nothing
 abbrev pub found_by : Put → Place → Option ℕ
 found_by what place = found_for what.was (there_at place what.key)
 

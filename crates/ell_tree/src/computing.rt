@@ -29,8 +29,9 @@ pub(crate) enum Replaced {
     Lost(Option<u64>),
 }
 
-/// Reads a key, makes of what it finds what is to become of it, and puts that there, if it is anything, unless another pass has changed the
-/// key meanwhile: then it makes that anew of what is there now. At most so many tries; each begins with what is there.
+/// Reads a key, makes of what it finds what is to become of it, and puts that there, if it is anything, unless another
+/// pass has changed the key meanwhile: then it makes that anew of what is there now. At most so many tries; each begins
+/// with what is there.
 pub(crate) fn compute<A: Allocator + Copy, G: StepGate, F: Fn(Option<u64>) -> Option<u64>>(
     table: &CardTable<A>,
     pass: &mut Pass<A>,

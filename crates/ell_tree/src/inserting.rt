@@ -114,8 +114,8 @@ fn flag_insert<A: Allocator + Copy, G: StepGate>(
     table.iflag(pass, card, place.parent.node, place.parent.update)
 }
 
-// Fills the card of an insert or a swap: an internal node, and below it the leaf of the key and a copy of the old leaf, the lesser key left,
-// each with its value.
+// Fills the card of an insert or a swap: an internal node, and below it the leaf of the key and a copy of the old leaf,
+// the lesser key left, each with its value.
 fn fill_insert<A: Allocator + Copy, G: StepGate>(
     table: &CardTable<A>,
     pass: &mut Pass<A>,

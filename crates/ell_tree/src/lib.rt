@@ -3,21 +3,25 @@
 #![tactic(auto)]
 
 mod computing;
+mod cursor;
 mod deleting;
 mod helping;
 mod inserting;
 mod laws;
 mod operations;
 mod reading;
+mod scanning;
 mod searching;
 mod steps;
 mod tree;
 mod trying;
 
+pub use cursor::About;
 pub use ell_cards::{CardFault, Pass, SplitFault};
 pub use ell_core::table_size;
 pub use ell_ops::{KEY_MAX, NoMemory, distinct_keys};
 pub use ell_word::{CARDS_MAX, Kind, NoGate, START_MAX, StepGate};
 pub use laws::bounds_in_short;
 pub use operations::Held;
+pub use scanning::{Pair, Scanned};
 pub use tree::Tree;

@@ -62,8 +62,9 @@ pub(crate) fn find<A: Allocator + Copy, G: StepGate>(
     there
 }
 
-/// Takes an insert, a delete or a swap in hand, and tries it until a try is answered or finds no card, at most so many times: the value that
-/// an insert adds or a delete takes away, if it changes the map, or that a swap finds. The gate is told of its start and its end.
+/// Takes an insert, a delete or a swap in hand, and tries it until a try is answered or finds no card, at most so many
+/// times: the value that an insert adds or a delete takes away, if it changes the map, or that a swap finds. The gate
+/// is told of its start and its end.
 pub(crate) fn change<A: Allocator + Copy, G: StepGate>(
     table: &CardTable<A>,
     pass: &mut Pass<A>,

@@ -1,12 +1,14 @@
 //! Calls that only read: the look for any key, whoever owns it, and how many cards are left. They change nothing and help nobody.
 ghost use Rattle.std.specs.Prelude.{◌≡◌, ◌≤◌, ◌+◌};
 ghost use Rattle.ell_ops.specs.Meaning.{greatest_key};
-ghost use Rattle.ell_cards.specs.Looking.{HasFound};
+ghost use Rattle.ell_cards.specs.Looking.{HasFound, HasFoundBetween};
 ghost use Rattle.ell_tree.specs.CardsLeft.{ReadsCardsLeft};
 ghost use Rattle.ell_tree.specs.Ledgers.{IsIdlePassOf, Owns, present_in};
 ghost use Rattle.ell_tree.specs.Looks.{OnlyLooks, look_steps};
+ghost use Rattle.ell_tree.specs.Scans.{IsAbout, TellsItsOwn, value_there};
 
-use ell_cards::{CardTable, Pass};
+use crate::cursor::{About, Cursor};
+use ell_cards::{CardTable, Glance, Pass};
 use ell_word::{Kind, StepGate, is_internal};
 use std::alloc::Allocator;
 
@@ -27,12 +29,12 @@ pub(crate) fn look<A: Allocator + Copy, G: StepGate>(
 {
     let label = pass.label();
     gate.before(label, Kind::Look);
-    let mut node = table.look_for(pass, key);
+    let mut node = table.look(pass);
     while is_internal(node) {
         gate.before(label, Kind::Look);
         let node_key = table.key_of(pass, node);
         gate.before(label, Kind::Look);
-        node = table.look_down(pass, node, node_key <= key);
+        node = table.look_down(pass, by_key(node, key), node_key, node_key <= key);
     }
     gate.before(label, Kind::Look);
     let leaf_key = table.key_of(pass, node);
@@ -41,6 +43,38 @@ pub(crate) fn look<A: Allocator + Copy, G: StepGate>(
     }
     gate.before(label, Kind::Look);
     Some(table.value_of(pass, node))
+}
+
+// A node to which a look has come by one key.
+#[inline(always)]
+fn by_key(node: u64, key: u64) -> Glance
+    requires { key ≤ greatest_key }
+    ensures { result ≡ record { node = node; low = key; high = key + 1 } }
+{
+    Glance {
+        node,
+        low: key,
+        high: key + 1,
+    }
+}
+
+/// What is about a key, in one state: the look goes down once.
+pub(crate) fn look_about<A: Allocator + Copy, G: StepGate>(
+    table: &CardTable<A>,
+    pass: &mut Pass<A>,
+    key: u64,
+    gate: &G,
+) -> About
+    requires may { IsIdlePassOf table.now pass.old }
+    requires real { key ≤ greatest_key }
+    ensures found { HasFoundBetween pass.new.view result.low result.high result.found }
+    ensures about { IsAbout key result }
+    ensures one { pass.new.view.looks ≡ pass.old.view.looks + 1 }
+    ensures mine { TellsItsOwn pass.old result.low result.high (value_there result.found) }
+    ensures only { OnlyLooks pass.old pass.new (look_steps table.now.plan.last_card) }
+{
+    let mut cursor = Cursor::begin(table, pass, gate);
+    cursor.about(table, pass, key, gate)
 }
 
 /// How many cards are not given out yet: those from the claim word on.

@@ -1,5 +1,5 @@
 //! The tree.
-ghost use Rattle.std.specs.Prelude.{◌≡◌, ◌≢◌, ◌<◌, ◌≤◌, ◌+◌, ◌*◌, [], true, false, length, Err, IfOk, IfErr, OnOk, vec_capacity};
+ghost use Rattle.std.specs.Prelude.{◌≡◌, ◌≢◌, ◌<◌, ◌≤◌, ◌+◌, ◌*◌, [], true, false, length, Err, IfOk, IfErr, IfSome, OnOk, drop, vec_capacity};
 ghost use Rattle.std.specs.List.{All};
 ghost use Rattle.std.specs.List.Sorted.{IsStrictlyIncreasing};
 ghost use Rattle.std.specs.Map.{keys_of};
@@ -19,15 +19,19 @@ ghost use Rattle.ell_tree.specs.Moves.{moves_known};
 ghost use Rattle.ell_tree.specs.declared.operations.Held.TheVariants.{Busy};
 ghost use Rattle.ell_tree.specs.Ledgers.{IsIdlePassOf, Owns, TreeModel, present_in};
 ghost use Rattle.ell_tree.specs.Looks.{IsFoundIn, OnlyLooks, look_steps};
+ghost use Rattle.ell_tree.specs.Scans.{AreFoundIn, AreInOrder, IsAbout, IsFoundAboutIn, IsLastIn, IsNextIn, TellsItsOwn, end_of, scan_steps, value_there, written};
+ghost use Rattle.ell_ops.specs.Contents.{contents_of};
 ghost use Rattle.ell_tree.specs.PassParts.{IsFirst, IsLeftPart, IsRightPart, IsUnion};
 ghost use Rattle.ell_tree.specs.Promises.{IsOthersDoing, IsQuiet, IsWithin, MayDo, SpendsCards};
 
 use crate::computing::compute;
+use crate::cursor::About;
 use crate::operations::{Held, change, find};
-use crate::reading::{cards_left, look};
+use crate::reading::{cards_left, look, look_about};
+use crate::scanning::{Pair, Scanned, last_below, next_from, scan};
 use ell_cards::{CardFault, CardTable, Pass, SplitFault};
 use ell_core::pairs_of_tree;
-use ell_ops::{NoMemory, Op};
+use ell_ops::{KEY_MAX, NoMemory, Op};
 use ell_word::StepGate;
 use std::alloc::{AllocError, Allocator};
 use std::marker::Model;
@@ -206,6 +210,125 @@ impl<A: Allocator + Copy> Tree<A> {
         look(&self.table, pass, key, gate)
     }
 
+    /// What is about a key, whoever owns the keys: of ONE state of the tree between the first step of the look and its last it tells all keys of a
+    /// stretch, from `low` on and below `high`, between which the key lies. Of these the key in `found` was present, with this value, and no
+    /// other; or none was. So who asks again about `high` comes by every key in order, and about `low - 1` downwards. Steps, cards and gate are
+    /// as of `look`.
+    pub fn look_about<G: StepGate>(&self, pass: &mut Pass<A>, key: u64, gate: &G) -> About
+        requires may { IsIdlePassOf self.now pass.old }
+        requires real { key ≤ greatest_key }
+        ensures so { IsFoundAboutIn self.now pass.new.view result }
+        ensures about { IsAbout key result }
+        ensures one { pass.new.view.looks ≡ pass.old.view.looks + 1 }
+        ensures mine { TellsItsOwn pass.old result.low result.high (value_there result.found) }
+        ensures only { OnlyLooks pass.old pass.new (look_steps self.now.plan.last_card) }
+        ensures cards { TakesNoCard pass.old pass.new }
+    {
+        look_about(&self.table, pass, key, gate)
+    }
+
+    /// Writes the pairs of the keys from `from` on and below `upto`, whoever owns them, strictly ascending, into `room`, as far as there is room:
+    /// how many they are, and, if there may be more, the key where to go on. The rest of `room` is left as it is. Each key of the range, as far as
+    /// the scan came, is answered as by a look at it in one state of the tree between the first step of the scan and its last (`so`): what was
+    /// present all along is written, what was absent all along is not, and each pair was there. Two keys may be of two states: a scan is no
+    /// snapshot. It writes nothing to the tree, helps nobody and waits for nobody. It takes about the steps of a walk over the part of the tree
+    /// that has these keys, and in every schedule at most `(cards + 1) * (2 * cards + 2) + 1`. It takes no card. The gate is told each step, as
+    /// `Look`.
+    pub fn scan<G: StepGate>(
+        &self,
+        pass: &mut Pass<A>,
+        from: u64,
+        upto: u64,
+        room: &mut [Pair],
+        gate: &G,
+    ) -> Scanned
+        requires may { IsIdlePassOf self.now pass.old }
+        requires real { upto ≤ greatest_key + 1 }
+        ensures so { AreFoundIn self.now pass.new.view from (end_of upto result) (contents_of (written room.new result)) }
+        ensures ordered { AreInOrder from (end_of upto result) (written room.new result) }
+        ensures count { result.count ≤ length room.old }
+        ensures next { IfSome result.next (λ next. (from ≤ next) × (next < upto) × (result.count ≡ length room.old)) }
+        ensures rest { drop result.count room.new ≡ drop result.count room.old }
+        ensures one { pass.new.view.looks ≡ pass.old.view.looks + 1 }
+        ensures mine { TellsItsOwn pass.old from (end_of upto result) (contents_of (written room.new result)) }
+        ensures only { OnlyLooks pass.old pass.new (scan_steps self.now.plan.last_card) }
+        ensures cards { TakesNoCard pass.old pass.new }
+    {
+        scan(&self.table, pass, from, upto, room, gate)
+    }
+
+    /// The least key from `key` on that is present, with its value: it was present in one state of the tree during the call, and each key before it
+    /// was absent in one. Steps, cards and gate are as of `scan`.
+    pub fn next_at_least<G: StepGate>(&self, pass: &mut Pass<A>, key: u64, gate: &G) -> Option<(u64, u64)>
+        requires may { IsIdlePassOf self.now pass.old }
+        requires real { key ≤ greatest_key }
+        ensures so { IsNextIn self.now pass.new.view key result }
+        ensures one { pass.new.view.looks ≡ pass.old.view.looks + 1 }
+        ensures only { OnlyLooks pass.old pass.new (scan_steps self.now.plan.last_card) }
+        ensures cards { TakesNoCard pass.old pass.new }
+    {
+        next_from(&self.table, pass, key, gate)
+    }
+
+    /// The least key above `key` that is present, with its value, as of `next_at_least`.
+    pub fn next_after<G: StepGate>(&self, pass: &mut Pass<A>, key: u64, gate: &G) -> Option<(u64, u64)>
+        requires may { IsIdlePassOf self.now pass.old }
+        requires real { key ≤ greatest_key }
+        ensures so { IsNextIn self.now pass.new.view (key + 1) result }
+        ensures one { pass.new.view.looks ≡ pass.old.view.looks + 1 }
+        ensures only { OnlyLooks pass.old pass.new (scan_steps self.now.plan.last_card) }
+        ensures cards { TakesNoCard pass.old pass.new }
+    {
+        next_from(&self.table, pass, key + 1, gate)
+    }
+
+    /// The least key that is present, with its value, as of `next_at_least`.
+    pub fn first<G: StepGate>(&self, pass: &mut Pass<A>, gate: &G) -> Option<(u64, u64)>
+        requires may { IsIdlePassOf self.now pass.old }
+        ensures so { IsNextIn self.now pass.new.view 0 result }
+        ensures one { pass.new.view.looks ≡ pass.old.view.looks + 1 }
+        ensures only { OnlyLooks pass.old pass.new (scan_steps self.now.plan.last_card) }
+        ensures cards { TakesNoCard pass.old pass.new }
+    {
+        next_from(&self.table, pass, 0, gate)
+    }
+
+    /// The greatest key up to `key` that is present, with its value: it was present in one state of the tree during the call, and each key after it
+    /// was absent in one. Steps, cards and gate are as of `scan`.
+    pub fn last_at_most<G: StepGate>(&self, pass: &mut Pass<A>, key: u64, gate: &G) -> Option<(u64, u64)>
+        requires may { IsIdlePassOf self.now pass.old }
+        requires real { key ≤ greatest_key }
+        ensures so { IsLastIn self.now pass.new.view (key + 1) result }
+        ensures one { pass.new.view.looks ≡ pass.old.view.looks + 1 }
+        ensures only { OnlyLooks pass.old pass.new (scan_steps self.now.plan.last_card) }
+        ensures cards { TakesNoCard pass.old pass.new }
+    {
+        last_below(&self.table, pass, key + 1, gate)
+    }
+
+    /// The greatest key below `key` that is present, with its value, as of `last_at_most`.
+    pub fn last_before<G: StepGate>(&self, pass: &mut Pass<A>, key: u64, gate: &G) -> Option<(u64, u64)>
+        requires may { IsIdlePassOf self.now pass.old }
+        requires real { key ≤ greatest_key }
+        ensures so { IsLastIn self.now pass.new.view key result }
+        ensures one { pass.new.view.looks ≡ pass.old.view.looks + 1 }
+        ensures only { OnlyLooks pass.old pass.new (scan_steps self.now.plan.last_card) }
+        ensures cards { TakesNoCard pass.old pass.new }
+    {
+        last_below(&self.table, pass, key, gate)
+    }
+
+    /// The greatest key that is present, with its value, as of `last_at_most`.
+    pub fn last<G: StepGate>(&self, pass: &mut Pass<A>, gate: &G) -> Option<(u64, u64)>
+        requires may { IsIdlePassOf self.now pass.old }
+        ensures so { IsLastIn self.now pass.new.view (greatest_key + 1) result }
+        ensures one { pass.new.view.looks ≡ pass.old.view.looks + 1 }
+        ensures only { OnlyLooks pass.old pass.new (scan_steps self.now.plan.last_card) }
+        ensures cards { TakesNoCard pass.old pass.new }
+    {
+        last_below(&self.table, pass, KEY_MAX + 1, gate)
+    }
+
     /// How many cards are not given out yet, 0 if all are, in one step: as it was at that step, while other passes went on. No more are left
     /// ever after. An insert or a delete that changes the map takes one, and one more at most for each try that something hinders; with none
     /// left it is `Spent`. The gate is told the step, as `Look`.
@@ -267,9 +390,9 @@ impl<A: Allocator + Copy> Tree<A> {
         Ok(change(&self.table, pass, Op::Insert(key, value), tries, gate)?.is_some())
     }
 
-    /// Gives a key of the pass, or a shared one, another value, if it has the value `was`, in one atomic step: the value that it had, if it was
-    /// present. So it was swapped exactly if that is `was`. A key that is absent, or has another value, is left as it is. Tries, steps, cards
-    /// and errors are as of `insert`.
+    /// Gives a key of the pass, or a shared one, another value, if it has the value `was`, in one atomic step: the
+    /// value that it had, if it was present. So it was swapped exactly if that is `was`. A key that is absent, or has
+    /// another value, is left as it is. Tries, steps, cards and errors are as of `insert`.
     pub fn swap<G: StepGate>(
         &self,
         pass: &mut Pass<A>,
@@ -290,15 +413,16 @@ impl<A: Allocator + Copy> Tree<A> {
         Ok(change(&self.table, pass, Op::Swap(key, was, value), tries, gate)?)
     }
 
-    /// Gives a key of the pass, or a shared one, this value, whether it was present or not, in one atomic step: the value that it had, if it was
-    /// present. It reads the key, and then makes at least one try and at most `tries`. A try ends without success if something was in its way,
-    /// as for `insert`, or if another pass has changed the key since it was read, which is then read anew. `Busy` comes if all tries end so, and
-    /// `Spent` if a try finds all cards given out: after either the call has changed nothing, and nothing of it is under way.
+    /// Gives a key of the pass, or a shared one, this value, whether it was present or not, in one atomic step: the
+    /// value that it had, if it was present. It reads the key, and then makes at least one try and at most `tries`. A
+    /// try ends without success if something was in its way, as for `insert`, or if another pass has changed the key
+    /// since it was read, which is then read anew. `Busy` comes if all tries end so, and `Spent` if a try finds all
+    /// cards given out: after either the call has changed nothing, and nothing of it is under way.
     ///
-    /// A call takes at most `3 * cards + 7` steps, and `10 * cards + 35` more for each try, where `cards` is the number of the last card. Of a
-    /// key of the pass no other pass changes anything, so that with more than `2 * cards` tries it is never `Busy`; of a shared key each try that
-    /// finds it changed is the success of another call. A call that ends takes one card, and at most one more for each try that something
-    /// hindered.
+    /// A call takes at most `3 * cards + 7` steps, and `10 * cards + 35` more for each try, where `cards` is the number
+    /// of the last card. Of a key of the pass no other pass changes anything, so that with more than `2 * cards` tries
+    /// it is never `Busy`; of a shared key each try that finds it changed is the success of another call. A call that
+    /// ends takes one card, and at most one more for each try that something hindered.
     pub fn put<G: StepGate>(
         &self,
         pass: &mut Pass<A>,
@@ -322,9 +446,10 @@ impl<A: Allocator + Copy> Tree<A> {
         Ok(done.was)
     }
 
-    /// Gives a key of the pass, or a shared one, the value that `f` makes of the one that it has, in one atomic step: the value that it had. A key
-    /// that is absent is left so. `f` is called anew for each value that is found; no other value has been there between the one that it was
-    /// called with last and what it made of that. Tries, steps, cards and errors are as of `put`.
+    /// Gives a key of the pass, or a shared one, the value that `f` makes of the one that it has, in one atomic step:
+    /// the value that it had. A key that is absent is left so. `f` is called anew for each value that is found; no
+    /// other value has been there between the one that it was called with last and what it made of that. Tries, steps,
+    /// cards and errors are as of `put`.
     pub fn update<G: StepGate, F: Fn(u64) -> u64>(
         &self,
         pass: &mut Pass<A>,
@@ -353,8 +478,9 @@ impl<A: Allocator + Copy> Tree<A> {
         Ok(done.was)
     }
 
-    /// Adds to the value of a key of the pass, or of a shared one, in one atomic step: the value that it had. A sum past the greatest number of
-    /// 64 bits starts again at 0. A key that is absent is left so. Tries, steps, cards and errors are as of `put`.
+    /// Adds to the value of a key of the pass, or of a shared one, in one atomic step: the value that it had. A sum
+    /// past the greatest number of 64 bits starts again at 0. A key that is absent is left so. Tries, steps, cards and
+    /// errors are as of `put`.
     pub fn fetch_add<G: StepGate>(
         &self,
         pass: &mut Pass<A>,

@@ -13,8 +13,9 @@ use Rattle.ell_handle.specs.declared.handle.Handle.{Handle}
 use Rattle.elltree.specs.Codes.{IsOneOf, said_busy, said_foreign, said_no, said_no_tries, said_other_value, said_spent, said_yes}
 use Rattle.elltree.specs.Told.{SpendsBy}
 
--- what the code of a compare-exchange tells of a handle, with the value that it has left in its place: that the key had the expected value, and has
--- the new one; that it is absent; that it has just this other value; or why there is no answer, each exactly if it is so, and then the map is as it was
+-- what the code of a compare-exchange tells of a handle, with the value that it has left in its place: that the key had
+-- the expected value, and has the new one; that it is absent; that it has just this other value; or why there is no
+-- answer, each exactly if it is so, and then the map is as it was
 pub record TellsExchange (key current value tries : ℕ) (said : ℤ) (found : ℕ) (old new : Handle) : Type 0 where
   pub codes : IsOneOf (said_yes ∷ said_no ∷ said_other_value ∷ said_no_tries ∷ said_foreign ∷ said_busy ∷ said_spent ∷ []) said
   pub yes : said ≡ said_yes → Answers (tree_of old) (Swap key current value) (Found current) old.pass new.pass
@@ -34,15 +35,16 @@ pub record TellsExchange (key current value tries : ℕ) (said : ℤ) (found : �
   pub cards : SpendsBy key tries said old new
   pub spares : said ≡ said_other_value → Owns old.pass key → TakesNoCard old.pass new.pass
 
--- the cards that a put took, by its code: one a try at most; if it is answered, one, and more only for tries that something hindered; else only
--- those
+-- the cards that a put took, by its code: one a try at most; if it is answered, one, and more only for tries that
+-- something hindered; else only those
 pub record SpendsByPut (tries : ℕ) (said : ℤ) (old new : Handle) : Type 0 where
   pub most : TakesAtMost tries old.pass new.pass
   pub put : said ≡ said_yes ⊎ said ≡ said_no → TakesOneAndByHindered old.pass new.pass
   pub refused : said ≢ said_yes → said ≢ said_no → TakesByHindered old.pass new.pass
 
--- what the code of a put tells of a handle, with the value that it has left in its place: that the key has the value now, and had this one, or was
--- absent; or why there is no answer, each exactly if it is so, and then the map is as it was
+-- what the code of a put tells of a handle, with the value that it has left in its place: that the key has the value
+-- now, and had this one, or was absent; or why there is no answer, each exactly if it is so, and then the map is as it
+-- was
 pub record TellsPut (key value tries : ℕ) (said : ℤ) (was : ℕ) (old new : Handle) : Type 0 where
   pub codes : IsOneOf (said_yes ∷ said_no ∷ said_no_tries ∷ said_foreign ∷ said_busy ∷ said_spent ∷ []) said
   pub yes : said ≡ said_yes → PutsValue (tree_of old) key value old.pass new.pass (Some was)

@@ -10,8 +10,8 @@ use crate::slot::Slot;
 use ell_handle::{Handle, Refusal};
 use std::alloc::Global;
 
-/// Stores `new` as the value of a key of the slot's if its value is `current`: whether it was exchanged, and else whether the key is absent or has
-/// another value. The value that was found is written, if there was one.
+/// Stores `new` as the value of a key of the slot's if its value is `current`: whether it was exchanged, and else
+/// whether the key is absent or has another value. The value that was found is written, if there was one.
 #[unsafe(no_mangle)]
 pub extern "C" fn elltree_slot_compare_exchange(
     alloc: Global,
@@ -77,7 +77,8 @@ fn exchanged(answer: Result<Result<u64, Option<u64>>, Refusal>, found: &mut u64)
     }
 }
 
-/// Stores a value of a key of the slot's, whether the key was present or not: whether it was, and then the value that it had is written.
+/// Stores a value of a key of the slot's, whether the key was present or not: whether it was, and then the value that
+/// it had is written.
 #[unsafe(no_mangle)]
 pub extern "C" fn elltree_slot_put(
     alloc: Global,
@@ -112,8 +113,8 @@ fn put(handle: &mut Handle, key: u64, value: u64, tries: u32, was: &mut u64) -> 
     replaced(handle.put(key, value, tries), was)
 }
 
-/// Adds to the value of a key of the slot's, modulo 2^64: whether the key is present, and then the value that it had is written. A key that is absent
-/// is left so.
+/// Adds to the value of a key of the slot's, modulo 2^64: whether the key is present, and then the value that it had is
+/// written. A key that is absent is left so.
 #[unsafe(no_mangle)]
 pub extern "C" fn elltree_slot_fetch_add(
     alloc: Global,

@@ -56,8 +56,8 @@ after_told (call.KeyOf x) n v e h = earlier e (Key x n) v.told h
 after_told (call.ValueOf x) n v e h = earlier e (Value x n) v.told h
 after_told (call.Info c f) n v e h = info_more c f n v.told e h
 after_told (call.FrozenChild c p right) n v e h = earlier e (Frozen c right n) (Met n ∷ v.told) (earlier e (Met n) v.told h)
-after_told (call.LookFor key) n v e h = earlier e (Met n) v.told h
-after_told (call.LookDown x right) n v e h = earlier e (Met n) v.told h
+after_told call.Look n v e h = earlier e (Met n) v.told h
+after_told (call.LookDown from key right) n v e h = earlier e (Met n) v.told h
 after_told (call.Claim c) n v e h = claim_told (n == c) c v e h
 after_told (call.IFlag c p from) n v e h = flag_told (n == packed from) (fact.IFlagged c) p (unpacked n) v e h
 after_told (call.DFlag c gp from) n v e h = flag_told (n == packed from) (fact.DFlagged c) gp (unpacked n) v e h

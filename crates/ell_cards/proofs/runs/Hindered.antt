@@ -522,8 +522,8 @@ module _ (keys : List ℕ) (cards : ℕ) (m0 : Machine) (stage : Stages) (first 
   call_hindered (call.ValueOf x) keeps may = quiet _ refl refl refl refl refl refl (λ seen h. h)
   call_hindered (call.Info c f) keeps may = quiet _ refl refl refl refl refl refl (λ seen h. h)
   call_hindered (call.FrozenChild c p right) keeps may = quiet _ refl refl refl refl refl refl (λ seen h. h)
-  call_hindered (call.LookFor key) keeps may = quiet _ refl refl refl refl refl refl (λ seen h. h)
-  call_hindered (call.LookDown x right) keeps may = quiet _ refl refl refl refl refl refl (λ seen h. h)
+  call_hindered call.Look keeps may = quiet _ refl refl refl refl refl refl (λ seen h. h)
+  call_hindered (call.LookDown from key right) keeps may = quiet _ refl refl refl refl refl refl (λ seen h. h)
   call_hindered (call.Claim c) keeps may = claim_hindered c may (found_by s (call.Claim c) == c) refl
   call_hindered (call.Fill c f value) keeps may = quiet _ refl refl refl refl refl refl (λ seen h. h)
   call_hindered (call.IFlag c p from) keeps may = iflag_hindered c p from may

@@ -33,7 +33,7 @@ use Rattle.ell_cards.proofs.runs.Searched.{first_keeps}
 -- a pass with nothing in hand has nothing in hand after a call that takes no operation in hand
 keeps_free : (cards : ℕ) (c : Call) (n : ℕ) (v : View) → KeepsOn c → May cards c v → IsFree v → IsFree (after c n v)
 keeps_free cards (call.Begin op) n v keeps may free = absurd keeps
-keeps_free cards (call.LookFor key) n v keeps may free = free
+keeps_free cards call.Look n v keeps may free = free
 keeps_free cards c n v keeps may free = (call_free cards c n v keeps may free).free
 
 -- nor after a run in which it takes none

@@ -50,16 +50,16 @@ looks_read_their_own plan s h seat v at key there found owns =
     let f = looks_are_of_one_state plan v key there found h.first h.starts h.turns s h.run seat at in
     let b = f.began in
     let so = f.so in
-    let begun = view_after b.from b.call.view (call.LookFor key) in
+    let begun = view_after b.from b.call.view call.Look in
     let begun_there : get_elem? b.to.views seat ≡ some begun =
     ap (λ (t : TableState). get_elem? t.views seat) b.call.gives ∙ set_there b.from.views seat begun b.call.view b.call.there in
     let turns = drop (suc b.first) h.turns in
-    let mid = run_free plan.last_card b.to seat begun begun_there b.call.may.free (take so.amid.first turns) so.state so.amid.before (looks_first seat so.amid.first turns b.on) in
-    let end = run_free plan.last_card b.to seat begun begun_there b.call.may.free turns s b.after b.on in
+    let mid = run_free plan.last_card b.to seat begun begun_there b.call.may (take so.amid.first turns) so.state so.amid.before (looks_first seat so.amid.first turns b.on) in
+    let end = run_free plan.last_card b.to seat begun begun_there b.call.may turns s b.after b.on in
     let same = ap (λ (u : View). u.worker.ledger) (some-injective end.view v (sym end.there ∙ at)) in
     let ledger : mid.view.worker.ledger ≡ v.worker.ledger = mid.still.ledger ∙ (sym end.still.ledger ∙ same) in
     let from = (runs_are_lawful plan.keys plan.last_card h.first first (take b.first h.turns) b.from b.before).kept in
-    let kept = (runs_are_lawful plan.keys plan.last_card b.from from (Makes seat (call.LookFor key) ∷ take so.amid.first turns) so.state (b.to, b.call, so.amid.before)).kept in
+    let kept = (runs_are_lawful plan.keys plan.last_card b.from from (Makes seat call.Look ∷ take so.amid.first turns) so.state (b.to, b.call, so.amid.before)).kept in
     by_ledger plan.keys plan.last_card so.state kept seat mid.view mid.there mid.still.free key there
     (subst (λ l. ledger_of l key ≢ None) (sym ledger) owns) so.so
     ∙ ap (λ l. contents_in (ledger_of l) key) ledger

@@ -44,7 +44,7 @@ mark_free false c x u v w same free = by (is_mark_of c u.state u.card) same
 -- so it stays by every call that begins nothing
 pub call_free : (cards : ℕ) (c : Call) (n : ℕ) (v : View) → BeginsNothing c → May cards c v → IsFree v → StaysFree v (after c n v)
 call_free cards (call.Begin op) n v begins may free = absurd begins
-call_free cards (call.LookFor key) n v begins may free = absurd begins
+call_free cards call.Look n v begins may free = absurd begins
 call_free cards call.Again n v begins may free = absurd (some_not_none may.busy free)
 call_free cards call.Leave n v begins may free = absurd (some_not_none may.busy free)
 call_free cards (call.Answer said) n v begins may free = absurd (some_not_none may.busy free)

@@ -22,14 +22,8 @@ use Rattle.ell_cards.proofs.seats.Named.{kept_named}
 use Rattle.ell_cards.proofs.seats.Taken.{keys_stay, same_share}
 use Rattle.ell_cards.proofs.stepping.AllCalls.{steps_are_events}
 use Rattle.ell_cards.proofs.runs.Starting.{starts_are_kept, runs_from_starts}
-use Rattle.ell_cards.proofs.runs.TurnsOfRuns.{runs_are_lawful}
+use Rattle.ell_cards.proofs.runs.TurnsOfRuns.{one_more_turn, runs_are_lawful}
 use Rattle.ell_cards.proofs.runs.OwnLooks.{looks_read_their_own}
-
--- a run, and a turn after it
-pub one_more_turn : (last : ℕ) (s : TableState) (turns : List Turn) (s' : TableState) (t : Turn) (s'' : TableState) → TableRun last s turns s'
-    → TableTurns last s' t s'' → TableRun last s (turns ++ t ∷ []) s''
-one_more_turn last s [] s' t s'' run turn = (s'', subst (λ x. TableTurns last x t s'') run turn, refl)
-one_more_turn last s (u ∷ us) s' t s'' run turn = (run.0, run.1, one_more_turn last run.0 us s' t s'' run.2 turn)
 
 -- a new table is where no turn has led
 pub reached_first : (plan : TablePlan) (words : List ℕ) → MayStart plan → length words ≡ table_size plan.last_card

@@ -44,7 +44,7 @@ use Rattle.ell_cards.proofs.seats.Seats.{set_there, relied_born}
 use Rattle.ell_cards.proofs.runs.OwnSeat.{Only, SeatGoesOn, turn_seat}
 use Rattle.ell_cards.proofs.stepping.Looks.{child_listed, here_key}
 use Rattle.ell_cards.proofs.runs.TurnsOfRuns.{turn_lawful}
-use Rattle.ell_cards.proofs.runs.Looking.{gone_by, WasOn, was_first, was_later}
+use Rattle.ell_cards.proofs.runs.Walked.{gone_by, WasOn, was_first, was_later}
 use Rattle.ell_cards.proofs.runs.GoingOn.{run_goes}
 
 -- a search for an operation stands after a call where it stood, if it is still that operation's, and stands anywhere
@@ -157,8 +157,8 @@ module _ (keys : List ℕ) (cards : ℕ) (seat key : ℕ) (real : key ≤ greate
                 (λ op x d e. (sym (ap (λ k. k.operation) same) ∙ d, sym (ap (λ k. k.search.node) same) ∙ e))
             by false same = stays w (λ op d. sym (ap (λ k. k.operation) same) ∙ d)
                 (λ op x d e. (sym (ap (λ k. k.operation) same) ∙ d, sym (ap (λ k. k.search.node) same) ∙ e))
-    goes_by (call.LookFor other) keeps may = stays _ (λ op d. d) (λ op x d e. (d, e))
-    goes_by (call.LookDown x right) keeps may = stays _ (λ op d. d) (λ op x d e. (d, e))
+    goes_by call.Look keeps may = stays _ (λ op d. d) (λ op x d e. (d, e))
+    goes_by (call.LookDown from k right) keeps may = stays _ (λ op d. d) (λ op x d e. (d, e))
     goes_by (call.Upd x) keeps may = stays _ (λ op d. d) (λ op x d e. (d, e))
     goes_by call.Next keeps may = stays _ (λ op d. d) (λ op x d e. (d, e))
     goes_by (call.KeyOf x) keeps may = stays _ (λ op d. d) (λ op x d e. (d, e))

@@ -1,4 +1,4 @@
-use Rattle.std.proofs.Common.{None, ◌≡◌, ◌≢◌, ℕ, ◌≤◌, zero, suc, true, Some, List, [], ◌∷◌, ◌++◌, inl, inr, refl, subst, arith, ◌⊎◌}
+use Rattle.std.proofs.Common.{None, ◌≡◌, ◌≢◌, ℕ, ◌≤◌, zero, suc, true, Some, List, [], ◌∷◌, ◌++◌, ◌+◌, inl, inr, refl, subst, arith, ◌⊎◌}
 use Rattle.std.specs.List.{All}
 use Rattle.std.specs.List.Sorted.{IsStrictlyIncreasing}
 use Rattle.std.specs.Map.{keys_of}
@@ -16,7 +16,7 @@ use Rattle.ell_core.specs.acts.Searching.{IsLeaf}
 use Rattle.ell_core.proofs.outcomes.Decide.{some_not_none}
 use Rattle.ell_cards.specs.declared.view.Told.{Told}
 use Rattle.ell_cards.specs.declared.view.View.{View}
-use Rattle.ell_cards.specs.Models.{Has, latest, earlier, IsFree, Knows, stored_at, MayPart}
+use Rattle.ell_cards.specs.Models.{Has, latest, earlier, last, IsFree, Knows, stored_at, MayPart}
 use Rattle.ell_cards.specs.Changes.{first_of, spent_view}
 use Rattle.ell_cards.specs.Calls.{May}
 use Rattle.ell_cards.specs.States.{TableState}
@@ -307,8 +307,8 @@ at_8 = run_leads at_7 delete_ends
 -- seat 1 looks for key 7, and finds its value
 look_asks : RunAsks 4 at_8 look
 look_asks =
-    (refl, record { free = refl; real = omega arith })
-    ▸ (refl, record { look = record { key = 7; node = 3 }; key = infinity1; looks = refl; there = refl; met = told_at 0 _ _ refl; inner = refl; told = told_at 11 _ _ refl; side = refl })
+    (refl, refl)
+    ▸ (refl, record { come = record { glance = record { node = 3; low = 0; high = greatest_key + 1 }; among = last _ _; there = refl; from = omega arith; upto = omega arith }; met = told_at 0 _ _ refl; inner = refl; told = told_at 11 _ _ refl })
     ▸ (refl, told_at 0 _ _ refl)
     ▸ (refl, (told_at 1 _ _ refl, leaf_11))
     ▸ tt

@@ -32,7 +32,8 @@ use Rattle.ell_cards.specs.Starts.{Starts, IsReached}
 use Rattle.ell_cards.specs.Turns.{Turn, Makes, Splits, Joins, TableTurns, TableRun, found_by, view_after}
 use Rattle.ell_cards.specs.TurnEffects.{run_wins}
 use Rattle.ell_cards.proofs.views.Facts.{test_ended}
-use Rattle.ell_cards.proofs.runs.Reaching.{one_more_turn, reached_kept, reached_on}
+use Rattle.ell_cards.proofs.runs.Reaching.{reached_kept, reached_on}
+use Rattle.ell_cards.proofs.runs.TurnsOfRuns.{one_more_turn, run_append}
 use Rattle.ell_cards.proofs.runs.Readings.{claim_word_rises}
 use Rattle.ell_cards.proofs.runs.OwnSeat.{Only, SeatGoesOn, turn_seat}
 use Rattle.ell_cards.proofs.runs.Hindered.{held_is}
@@ -43,12 +44,6 @@ use Rattle.ell_cards.proofs.runs.Abandoned.{ends, ends_in, ends_rise, no_end, so
 use Rattle.ell_cards.proofs.runs.HowMany.{one, many_shared, held_by, held_there, hands_hold}
 use Rattle.ell_cards.proofs.runs.Contended.{given, ended, is_given, was_ended, done_since, Grows, grows_same, grows_on, done_more, one_given, one_ended}
 use Rattle.ell_cards.proofs.runs.Meanwhile.{searches_read_meanwhile, searches_meet_meanwhile}
-
--- a run, and another after it
-run_append : (last : ℕ) (s : TableState) (turns : List Turn) (s' : TableState) (more : List Turn) (s'' : TableState) → TableRun last s turns s'
-    → TableRun last s' more s'' → TableRun last s (turns ++ more) s''
-run_append last s [] s' more s'' run rest = subst (λ x. TableRun last x more s'') run rest
-run_append last s (t ∷ ts) s' more s'' run rest = (run.0, run.1, run_append last run.0 ts s' more s'' run.2 rest)
 
 keep_more : (seat : ℕ) (turns : List Turn) (t : Turn) → KeepOn seat turns → Only KeepsOn seat t → KeepOn seat (turns ++ t ∷ [])
 keep_more seat [] (Makes other c) h on = (on, tt)

@@ -1,9 +1,9 @@
-use Rattle.std.proofs.Common.{◌≡◌, ℕ, ◌<◌, List, [], ◌∷◌, refl, sym, subst}
+use Rattle.std.proofs.Common.{◌≡◌, ℕ, ◌<◌, List, [], ◌∷◌, ◌++◌, refl, sym, subst}
 use Rattle.ell_cards.specs.States.{TableState}
 use Rattle.ell_cards.specs.Machines.{HasMachine}
 use Rattle.ell_cards.specs.Calls.{word_of}
 use Rattle.ell_cards.specs.Laws.{machine_of_table}
-use Rattle.ell_cards.specs.Turns.{Turn, Makes, Splits, Joins, TableTurns, state_after, state_split, state_joined}
+use Rattle.ell_cards.specs.Turns.{Turn, Makes, Splits, Joins, TableTurns, TableRun, state_after, state_split, state_joined}
 use Rattle.ell_cards.specs.Runs.{TurnIsLawful, RunsAreLawful}
 use Rattle.ell_cards.proofs.seats.Statements.{InsideByMachine}
 use Rattle.ell_cards.proofs.stepping.AllCalls.{steps_are_events}
@@ -13,6 +13,18 @@ use Rattle.ell_cards.proofs.lifetimes.Splits.{splits_are_moves}
 use Rattle.ell_cards.proofs.lifetimes.Joins.{joins_are_moves}
 use Rattle.ell_cards.proofs.own_words.OwnWords.{own_words_are_sound}
 use Rattle.ell_cards.proofs.own_words.OwnKeys.{table_pairs_change_at_wins}
+
+-- a run, and another after it
+pub run_append : (last : ℕ) (s : TableState) (turns : List Turn) (s' : TableState) (more : List Turn) (s'' : TableState) → TableRun last s turns s'
+    → TableRun last s' more s'' → TableRun last s (turns ++ more) s''
+run_append last s [] s' more s'' run rest = subst (λ x. TableRun last x more s'') run rest
+run_append last s (t ∷ ts) s' more s'' run rest = (run.0, run.1, run_append last run.0 ts s' more s'' run.2 rest)
+
+-- a run, and a turn after it
+pub one_more_turn : (last : ℕ) (s : TableState) (turns : List Turn) (s' : TableState) (t : Turn) (s'' : TableState) → TableRun last s turns s'
+    → TableTurns last s' t s'' → TableRun last s (turns ++ t ∷ []) s''
+one_more_turn last s [] s' t s'' run turn = (s'', subst (λ x. TableTurns last x t s'') run turn, refl)
+one_more_turn last s (u ∷ us) s' t s'' run turn = (run.0, run.1, one_more_turn last run.0 us s' t s'' run.2 turn)
 
 -- the word that a step call touches is in the table
 pub steps_stay_inside : InsideByMachine

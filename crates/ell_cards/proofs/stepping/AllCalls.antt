@@ -3,7 +3,7 @@ use Rattle.ell_cards.specs.Laws.{StepsAreEvents}
 use Rattle.ell_cards.proofs.stepping.Begins.{keeps_begin, keeps_again, keeps_leave, keeps_answer}
 use Rattle.ell_cards.proofs.stepping.Looks.{keeps_upd, keeps_down, keeps_next, keeps_key_of, keeps_value_of}
 use Rattle.ell_cards.proofs.stepping.Asking.{keeps_info, keeps_frozen_child}
-use Rattle.ell_cards.proofs.stepping.Looking.{keeps_look_for, keeps_look_down}
+use Rattle.ell_cards.proofs.stepping.Looking.{keeps_look, keeps_look_down}
 use Rattle.ell_cards.proofs.stepping.Claiming.{keeps_claim}
 use Rattle.ell_cards.proofs.stepping.Filling.{keeps_fill}
 use Rattle.ell_cards.proofs.stepping.Flags.{keeps_iflag, keeps_dflag}
@@ -22,8 +22,8 @@ steps_are_events keys cards s r id v (call.KeyOf x) here may = keeps_key_of keys
 steps_are_events keys cards s r id v (call.ValueOf x) here may = keeps_value_of keys cards s r id v here x may.0 may.1
 steps_are_events keys cards s r id v (call.Info c f) here may = keeps_info keys cards s r id v here c f may
 steps_are_events keys cards s r id v (call.FrozenChild c p right) here may = keeps_frozen_child keys cards s r id v here c p right may
-steps_are_events keys cards s r id v (call.LookFor key) here may = keeps_look_for keys cards s r id v here key may
-steps_are_events keys cards s r id v (call.LookDown x right) here may = keeps_look_down keys cards s r id v here x right may
+steps_are_events keys cards s r id v call.Look here may = keeps_look keys cards s r id v here may
+steps_are_events keys cards s r id v (call.LookDown from key right) here may = keeps_look_down keys cards s r id v here from key right may
 steps_are_events keys cards s r id v (call.Claim c) here may = keeps_claim keys cards s r id v here c may.0 may.1
 steps_are_events keys cards s r id v (call.Fill c f value) here may = keeps_fill keys cards s r id v here c f value may
 steps_are_events keys cards s r id v (call.IFlag c p from) here may = keeps_iflag keys cards s r id v here c p from may

@@ -34,7 +34,7 @@ walk_born w stage sound key born (next {x = x} inner on) =
     walk_born w stage sound key ((sound.children x inner born).born (is_right w x key)) on
 
 -- and all nodes on a walk from one that is on course are
-walk_course : (w : Words) (stage : Stages) → WordsAreSound w stage → (key : ℕ) {x y : ℕ} → IsOnCourse w key x → OnWalk w key x y → IsOnCourse w key y
+pub walk_course : (w : Words) (stage : Stages) → WordsAreSound w stage → (key : ℕ) {x y : ℕ} → IsOnCourse w key x → OnWalk w key x y → IsOnCourse w key y
 walk_course w stage sound key course (here e) = subst (IsOnCourse w key) (sym e) course
 walk_course w stage sound key course (next inner on) =
     walk_course w stage sound key (OnCourse-down w.key w.child top sound.tree.ordered course inner) on
@@ -80,91 +80,3 @@ event_met m stage e said m' stages key met invariant steps sound later real were
 
   goes : (x : ℕ) → met x → IsOnCourse m'.words key x × (IsInternal x → (child_for m'.words key x ≡ child_for m.words key x) ⊎ OnWalk m'.words key 0 x)
   goes x was = courses_go_on m stage e said m' invariant steps key x (were.born x was) (were.course x was)
-
--- a look goes along its run
-look_runs : (key : ℕ) {m m' : Machine} {events : List Event} {answers : List Shown} {x y : ℕ} → Looks key m events answers m' x y
-    → Run m events answers m'
-look_runs key (ends same e) = same
-look_runs key (loads inner look) = look_runs key look
-look_runs key (stays {between = between} shows look) = (between, shows, look_runs key look)
-
--- in a state of a run the walk for the key comes by a node
-record WasOn (key : ℕ) (m : Machine) (events : List Event) (answers : List Shown) (m' : Machine) (x : ℕ) : Type 0 where
-  pub state : Machine
-  pub amid : IsAmid m events answers m' state
-  pub on : OnWalk state.words key 0 x
-
--- it does so in the first
-was_first : (key : ℕ) (m : Machine) (events : List Event) (answers : List Shown) (m' : Machine) (x : ℕ) → Run m events answers m'
-    → OnWalk m.words key 0 x → WasOn key m events answers m' x
-was_first key m events answers m' x run on = record { state = m; amid = record { first = 0; before = refl; after = run }; on = on }
-
--- or in a later one
-was_later : (key : ℕ) (m between : Machine) (e : Event) (said : Shown) (events : List Event) (answers : List Shown) (m' : Machine) (x : ℕ) → Shows m e said between
-    → WasOn key between events answers m' x → WasOn key m (e ∷ events) (said ∷ answers) m' x
-was_later key m between e said events answers m' x shows was = record {
-  state = was.state;
-  amid = record { first = suc was.amid.first; before = (between, shows, was.amid.before); after = was.amid.after };
-  on = was.on;
-}
-
--- a look from a node that was met ends at one that was, or at one that the walk came by since
-look_met : (key : ℕ) → key ≤ greatest_key → {m m' : Machine} {events : List Event} {answers : List Shown} {x y : ℕ} → Looks key m events answers m' x y
-    → (stage : Stages) (met : ℕ → Type 0) → Invariant m stage → AreMet m.words stage key met → met x → met y ⊎ WasOn key m events answers m' y
-look_met key real (ends same e) stage met invariant are was = inl (subst met (sym e) was)
-look_met key real (loads inner look) stage met invariant are was = look_met key real look stage met invariant are (are.child _ was inner)
-look_met key real {m = m} {m' = m'} {y = y} (stays {between = between} {e = e} {said = shown.Step said} {events = events} {answers = answers} steps look)
-    stage met invariant are was =
-    let first = (events_lawful m stage e said between invariant steps).follows in
-    elim (look_met key real look first.stages (λ x. met x ⊎ OnWalk between.words key 0 x) first.invariant
-    (event_met m stage e said between first.stages key met invariant steps first.invariant.words first.later.born real are) (inl was)) [
-      | inl (inl met) ↦ inl met
-      | inl (inr on) ↦ inr (was_later key m between e (shown.Step said) events answers m' y steps
-          (was_first key between events answers m' y (look_runs key look) on))
-      | inr later ↦ inr (was_later key m between e (shown.Step said) events answers m' y steps later)
-    ]
-look_met key real {m = m} {m' = m'} {x = x} {y = y} (stays {between = between} {e = e} {said = shown.Refused fault} {events = events} {answers = answers} refuses look)
-    stage met invariant are was =
-    elim (look_met key real look stage met (subst (λ n. Invariant n stage) (sym refuses.1) invariant)
-    (subst (λ (n : Machine). AreMet n.words stage key met) (sym refuses.1) are) was) [
-      | inl met ↦ inl met
-      | inr later ↦ inr (was_later key m between e (shown.Refused fault) events answers m' y refuses later)
-    ]
-
--- a look that begins at the root
-look_was : (key : ℕ) (m : Machine) (events : List Event) (answers : List Shown) (m' : Machine) (y : ℕ) → IsPassed m → key ≤ greatest_key
-    → Looks key m events answers m' 0 y → WasOn key m events answers m' y
-look_was key m events answers m' y passed real look =
-    let has = passed_has m passed in
-    elim (look_met key real look has.stages (OnWalk m.words key 0) has.invariant (walk_met m.words has.stages has.invariant.words key real) (here refl)) [
-      | inl on ↦ was_first key m events answers m' y (look_runs key look) on
-      | inr was ↦ was
-    ]
-
--- so what it finds is of one state
-pub looks_of_one_state : LooksAreOfOneState
-looks_of_one_state key m events answers m' leaf passed real look outer =
-    let has = passed_has m passed in
-    let was = look_was key m events answers m' leaf passed real look in
-    let w = was.state.words in
-    let before = ran m has.stages _ _ was.state has.invariant was.amid.before in
-    let after = ran was.state before.stages _ _ m' before.invariant was.amid.after in
-    let sound = before.invariant.words in
-    let born = walk_born w before.stages sound key (root_born w before.stages sound) was.on in
-    let below : card leaf < w.next = (sound.cards (card leaf)).claimed.0 (born-claimed (before.stages (card leaf)) (leaf % 3) born) in
-    let same = after.words.key leaf below in
-    record {
-      state = was.state;
-      amid = was.amid;
-      on = was.on;
-      present = λ e. record {
-        leaf = leaf;
-        reached = OnWalk-below w key was.on;
-        outer = outer;
-        has = sym same ∙ e;
-        says = sym (after.words.value leaf below);
-        real = real;
-      };
-      absent = λ n there. n (same ∙ walk_ends w key was.on outer (tree_key_leads w sound.tree.ordered key there));
-      claimed = let rise = after.words.next in omega arith;
-    }

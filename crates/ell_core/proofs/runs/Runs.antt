@@ -26,6 +26,14 @@ run_more m [] (y ∷ ys) between after e x h shows = absurd h
 run_more m (f ∷ fs) [] between after e x h shows = absurd h
 run_more m (f ∷ fs) (y ∷ ys) between after e x h shows = (h.0, h.1, run_more h.0 fs ys between after e x h.2 shows)
 
+-- a run and another from its end on
+pub run_append : (m : Machine) (es : List Event) (xs : List Shown) (between : Machine) (fs : List Event) (ys : List Shown) (after : Machine)
+    → Run m es xs between → Run between fs ys after → Run m (es ++ fs) (xs ++ ys) after
+run_append m [] [] between fs ys after h rest = subst (λ s. Run s fs ys after) h rest
+run_append m [] (x ∷ xs) between fs ys after h rest = absurd h
+run_append m (e ∷ es) [] between fs ys after h rest = absurd h
+run_append m (e ∷ es) (x ∷ xs) between fs ys after h rest = (h.0, h.1, run_append h.0 es xs between fs ys after h.2 rest)
+
 -- what a run keeps: the invariant, later words and stages, knowledge, facts; and each card's wins grow by those of the run
 pub record Ran (m : Machine) (stage : Stages) (m' : Machine) (won : ℕ → List Kind) : Type 0 where
   pub stages : Stages

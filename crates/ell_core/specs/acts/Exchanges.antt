@@ -60,7 +60,8 @@ flags s seen new fact = record {
   worker = flagged_worker s.worker (s.words.update seen.node == seen.word) fact (s.words.update seen.node);
 }
 
--- iflag: an insert or a swap has a card in hand that is not flagged; it exchanges the parent's update word to the card's flag
+-- iflag: an insert or a swap has a card in hand that is not flagged; it exchanges the parent's update word to the
+-- card's flag
 pub record IFlag (s : Scene) (said : Stepped) (after : Scene) : Type 0 where
   pub op : Op
   pub what : Put

@@ -99,13 +99,15 @@ claims s filling = record {
   worker = record (s.worker) { card = Some s.words.next; flagged = false };
 }
 
--- what an operation puts into the tree, if it puts anything: its key with its value, where the key is absent, or has a certain value
+-- what an operation puts into the tree, if it puts anything: its key with its value, where the key is absent, or has a
+-- certain value
 abbrev pub put_of : Op → Option Put
 put_of (Insert key value) = Some (record { key = key; value = value; was = None })
 put_of (Swap key was value) = Some (record { key = key; value = value; was = Some was })
 put_of _ = None
 
--- at a leaf of this key and this value there is place for a key: the leaf has another key, or this one with the value that is to go
+-- at a leaf of this key and this value there is place for a key: the leaf has another key, or this one with the value
+-- that is to go
 abbrev pub HasPlace : ℕ → Option ℕ → ℕ → ℕ → Type 0
 HasPlace key None leaf_key leaf_value = leaf_key ≢ key
 HasPlace key (Some was) leaf_key leaf_value = (leaf_key ≡ key) × (leaf_value ≡ was)
@@ -125,7 +127,8 @@ pub record ClaimPut (s : Scene) (said : Stepped) (after : Scene) : Type 0 where
   pub at : AtCleanLeaf s.worker leaf parent
   pub takes : TakesPut what (s.words.key leaf) (s.words.value leaf)
   pub says : said ≡ Moved
-  pub gives : after ≡ claims s (insert_filling s.words.next what.key what.value parent.node leaf (s.words.key leaf) (s.words.value leaf))
+  pub gives : after ≡ claims s
+      (insert_filling s.words.next what.key what.value parent.node leaf (s.words.key leaf) (s.words.value leaf))
 
 -- claim for a delete: at such a leaf of its key, with a grandparent whose update word it read clean
 pub record ClaimDelete (s : Scene) (said : Stepped) (after : Scene) : Type 0 where
@@ -204,7 +207,8 @@ settled ledger key entry (Some old) = put ledger key (Some entry)
 abbrev pub ledger_after : Op → Reply → Ledger → Ledger
 ledger_after (Insert key value) Yes ledger = settled ledger key (Present value) (ledger key)
 ledger_after (Delete key) Yes ledger = settled ledger key Absent (ledger key)
-ledger_after (Swap key was value) (Found there) ledger = if there == was then settled ledger key (Present value) (ledger key) else ledger
+ledger_after (Swap key was value) (Found there) ledger =
+    if there == was then settled ledger key (Present value) (ledger key) else ledger
 ledger_after _ _ ledger = ledger
 
 -- answer: an operation is in hand and has an answer; it is said, the ledger goes by it, and nothing is in hand any more

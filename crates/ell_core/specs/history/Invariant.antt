@@ -234,7 +234,8 @@ abbrev pub IsPutting : Words → ℕ → Option ℕ → Type 0
 IsPutting w c None = w.key (left_leaf c) < w.key (right_leaf c)
 IsPutting w c (Some was) = (w.key (left_leaf c) ≡ w.key (right_leaf c)) × (w.value (w.l c) ≡ was)
 
--- an insert's or swap's card in hand that is not flagged says what its worker's search saw, and has the operation's key and value
+-- an insert's or swap's card in hand that is not flagged says what its worker's search saw, and has the operation's key
+-- and value
 pub record InsertInHand (w : Words) (stage : Stages) (v : Worker) (what : Put) (c : ℕ) : Type 0 where
   pub parent : Seen
   pub claimed : (is_insert (stage c) ≡ true) × (insert_won (stage c) ≡ false)
@@ -275,8 +276,8 @@ FlaggedPut w stage v what c =
     (insert_won (stage c) ≡ true) × (insert_key w c ≡ what.key) × (insert_value w c ≡ what.value)
     × (WorkerOwns v what.key → v.ledger what.key ≡ Some (entry_of what.was)) × IsPutting w c what.was
 
--- a card in hand that is flagged is of the operation's kind, key and value; an own key is absent for an insert, present for a delete, and present
--- with its first value for a swap
+-- a card in hand that is flagged is of the operation's kind, key and value; an own key is absent for an insert, present
+-- for a delete, and present with its first value for a swap
 abbrev pub Flagged : Words → Stages → Worker → Op → ℕ → Type 0
 Flagged w stage v (Find k) c = ⊥
 Flagged w stage v (Insert k value) c = FlaggedPut w stage v (record { key = k; value = value; was = None }) c

@@ -8,9 +8,10 @@ use Rattle.ell_core.specs.state.Machine.{Ledger, Worker}
 use Rattle.ell_core.specs.soundness.Holds.{made, with_made}
 use Rattle.ell_core.specs.declared.view.Entry.{Entry}
 
--- a card's stage: not claimed; one of the opening tree's; claimed for an insert, and then as far as its flag, child exchange and
--- unflag were won, which brings in its nodes, or its right leaf alone, in the place of a leaf of its key; the same for a delete, whose flag is followed by mark, child exchange and unflag, or, once the mark can't be
--- set any more, by the unflag that takes it back
+-- a card's stage: not claimed; one of the opening tree's; claimed for an insert, and then as far as its flag, child
+-- exchange and unflag were won, which brings in its nodes, or its right leaf alone, in the place of a leaf of its key;
+-- the same for a delete, whose flag is followed by mark, child exchange and unflag, or, once the mark can't be set any
+-- more, by the unflag that takes it back
 pub data Stage : Type 0 where
   Unclaimed : Stage
   Opening : Stage
@@ -70,7 +71,8 @@ is_born IChanged = true
 is_born IOver = true
 is_born _ = false
 
--- one of the card's nodes came into the tree, by its place among them: of a card that replaces a leaf its right leaf alone
+-- one of the card's nodes came into the tree, by its place among them: of a card that replaces a leaf its right leaf
+-- alone
 abbrev pub is_node_born : Stage → ℕ → Bool
 is_node_born Opening place = true
 is_node_born IChanged place = true

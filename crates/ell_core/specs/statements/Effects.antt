@@ -29,7 +29,8 @@ pub record TakesPair (old new : Words) (key value : ℕ) : Type 0 where
   pub present : IsTreePair old key value
   pub pairs : (k v : ℕ) → IsTreePair new k v ↔ (IsTreePair old k v × (k ≢ key))
 
--- the tree has the same keys, and the same values but that of this one, which it had with a value, and now has with this one
+-- the tree has the same keys, and the same values but that of this one, which it had with a value, and now has with
+-- this one
 pub record ReplacesPair (old new : Words) (key was value : ℕ) : Type 0 where
   pub present : IsTreePair old key was
   pub pairs : (k v : ℕ) → IsTreePair new k v ↔ ((IsTreePair old k v × (k ≢ key)) ⊎ ((k ≡ key) × (v ≡ value)))
@@ -46,7 +47,8 @@ abbrev pub reply_of_change : Op → Reply
 reply_of_change (Swap key was value) = Found was
 reply_of_change _ = Yes
 
--- what is put of a key with a value: by a swap, where a leaf of the key is replaced, that had a value, or else by an insert
+-- what is put of a key with a value: by a swap, where a leaf of the key is replaced, that had a value, or else by an
+-- insert
 abbrev pub op_brought : Bool → ℕ → ℕ → ℕ → Op
 op_brought true key was value = Swap key was value
 op_brought false key was value = Insert key value
@@ -59,9 +61,9 @@ op_of_card w c = op_brought (is_replace_card w c) (card_key w c) (w.value (w.l c
 abbrev pub SamePairs : Words → Words → Type 0
 SamePairs old new = (k v : ℕ) → IsTreePair new k v ↔ IsTreePair old k v
 
--- what an act does to the keys of the tree and their values: a won ichild adds its card's key with its value, or gives its key this value in
--- place of the one that its leaf has; a won dchild takes its card's key with its value away; and nothing else changes them (paper of 2010: an
--- update takes effect at its child exchange)
+-- what an act does to the keys of the tree and their values: a won ichild adds its card's key with its value, or gives
+-- its key this value in place of the one that its leaf has; a won dchild takes its card's key with its value away; and
+-- nothing else changes them (paper of 2010: an update takes effect at its child exchange)
 abbrev pub PairsChange : Act → Stepped → Words → Words → Type 0
 PairsChange (act.IChild c) Won old new = MakesChange (op_of_card old c) old new
 PairsChange (act.DChild c) Won old new = TakesPair old new (card_key old c) (card_value old c)

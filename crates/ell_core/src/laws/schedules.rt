@@ -2,6 +2,7 @@
 //! who come back long after an operation has ended, are schedules too. Each law is the contract of a function that does nothing.
 ghost use Rattle.ell_core.specs.statements.RunLaws.{EveryStateHasInvariant, EveryStateIsSound, PairsChangeAtWins, AnswersAreTheMaps, WinsAreInOrder, MarkedNodesAreFrozen, WordsRise, KnowledgeIsNeverLost, ClaimedCardsAreFixed, StagesRise};
 ghost use Rattle.ell_core.specs.statements.Looks.{LooksAreOfOneState};
+ghost use Rattle.ell_core.specs.statements.Readers.{StretchesAreOfOneState};
 
 /// Every state of a run is sound, since the invariant holds of it.
 pub fn every_state_is_sound()
@@ -52,4 +53,10 @@ pub fn claimed_cards_are_fixed()
 /// before he began and not after he ended, was the end of the walk for the key. So what he finds was so in that state.
 pub fn looks_are_of_one_state()
     ensures { LooksAreOfOneState }
+{}
+
+/// A reader who only loads, and may keep nodes and go on from them later, finds at a leaf how in one state of the run all keys of a stretch
+/// were: those that went the same way wherever he went down. Of these the tree had in that state the leaf's key, or none.
+pub fn stretches_are_of_one_state()
+    ensures { StretchesAreOfOneState }
 {}

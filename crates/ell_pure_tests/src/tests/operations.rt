@@ -114,8 +114,8 @@ fn a_swap_changes_the_value_that_it_finds(rt: HostRuntime) {
     assert!(rt; is_done(apply_from(rt.alloc(), &start, &ops), &replies, &pairs));
 }
 
-// Each operation with its reply, and the value that 5 has behind it: that of the last insert which found it absent, or of the last swap
-// which found its first value there, if no delete came since.
+// Each operation with its reply, and the value that 5 has behind it: that of the last insert which found it absent, or
+// of the last swap which found its first value there, if no delete came since.
 const LAST_WRITERS: [(Op, Reply, Option<u64>); 14] = [
     (Op::Swap(5, 0, 1), No, None),
     (Op::Insert(5, 50), Yes, Some(50)),

@@ -23,8 +23,8 @@ fn found_on(rt: &(impl Abort + AllocGlobal), key: u64, calls: &[Made]) -> Vec<u6
     found
 }
 
-// So many workers add 1 so often, each to one of so many counters that begin at 0. Each call that was answered found another value: the ones
-// from 0 on, up to the sum at the end.
+// So many workers add 1 so often, each to one of so many counters that begin at 0. Each call that was answered found
+// another value: the ones from 0 on, up to the sum at the end.
 fn count<R: Threads + Abort + AllocGlobal + Sync, G: StepGate + Sync>(
     rt: &R,
     workers: u32,
@@ -74,8 +74,8 @@ fn counters_that_many_threads_add_to_have_the_exact_sums_and_answer_no_value_twi
     }
 }
 
-// Worker 0 puts rising values at a key that is there from the first on, and the others only read: each of them finds the key each time, and
-// no value below one that it found before.
+// Worker 0 puts rising values at a key that is there from the first on, and the others only read: each of them finds
+// the key each time, and no value below one that it found before.
 fn watch<R: Threads + Abort + AllocGlobal + Sync, G: StepGate + Sync>(
     rt: &R,
     workers: u32,

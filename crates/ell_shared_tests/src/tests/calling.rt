@@ -152,7 +152,8 @@ fn add<G: StepGate>(
     tree.fetch_add(pass, key, addend, tries, gate)
 }
 
-/// Updates the value of such a key to the one that `next_value` makes of it, and counts how often it is called: the value that it had.
+/// Updates the value of such a key to the one that `next_value` makes of it, and counts how often it is called: the
+/// value that it had.
 #[tactic(auto, using(crate::proofs::Sharers::may_own, crate::proofs::Sharers::may_share, crate::proofs::Sharers::member_updated, crate::proofs::Sharers::member_held_back))]
 pub fn update<G: StepGate>(
     rt: &impl Abort,
@@ -176,7 +177,8 @@ pub fn update<G: StepGate>(
     tree.update(pass, key, next, tries, gate)
 }
 
-/// Makes a call with so many tries: what it answers, of a look as a find does, and of one that answers a value that it found that.
+/// Makes a call with so many tries: what it answers, of a look as a find does, and of one that answers a value that it
+/// found that.
 #[tactic(auto, using(crate::proofs::Sharers::member_looking))]
 pub fn answer_by<G: StepGate>(
     rt: &impl Abort,

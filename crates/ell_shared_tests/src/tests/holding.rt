@@ -74,7 +74,8 @@ pub fn meet<R: Threads + Abort + AllocGlobal + Sync>(rt: &R, at: Kind, meeting: 
     meet_until(rt, at, meeting.rows.len() as u64, meeting);
 }
 
-/// The same, where worker 0 is held until worker 1 has ended so many operations, of which a put or an update makes two or more.
+/// The same, where worker 0 is held until worker 1 has ended so many operations, of which a put or an update makes two
+/// or more.
 pub fn meet_until<R: Threads + Abort + AllocGlobal + Sync>(
     rt: &R,
     at: Kind,

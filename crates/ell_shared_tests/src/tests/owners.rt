@@ -90,8 +90,8 @@ fn take_turns(
     (owner, guest)
 }
 
-// The owner of keys 1 and 3 and a guest take turns on a tree of so many cards, where keys 1 and 2 are there from the first on, with values 10 and
-// 20: these keys with their values are there at the end.
+// The owner of keys 1 and 3 and a guest take turns on a tree of so many cards, where keys 1 and 2 are there from the
+// first on, with values 10 and 20: these keys with their values are there at the end.
 fn take_turns_to(rt: &(impl Abort + AllocGlobal), cards: u64, turns: &[Turn], end: &[(u64, u64)]) {
     let (owned, start) = ([1, 3], [(1, 10), (2, 20)]);
     let made = Tree::reserve_shared(rt.alloc(), &start, &owned, cards);

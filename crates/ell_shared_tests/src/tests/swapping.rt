@@ -140,7 +140,8 @@ const HELPED_BY_AN_INSERT: Meeting = Meeting {
     ..BEHIND_ITS_FLAG
 };
 
-// A put makes it, and puts its own value there: it finds the old one first, meets the flag, finds the new one, and replaces that.
+// A put makes it, and puts its own value there: it finds the old one first, meets the flag, finds the new one, and
+// replaces that.
 const HELPED_BY_A_PUT: Meeting = Meeting {
     rows: &[(Put(5, 52), Found(55)), (Ask(Find(5)), Found(52))],
     end: &[(3, 30), (5, 52), (7, 70)],
@@ -270,8 +271,8 @@ fn run_once<G: StepGate>(
     (pass, said)
 }
 
-// Worker 0 updates key 5 from 50, and is held at a kind of step, while worker 1 makes a call of one try, in so many operations: what both
-// answer, how often the closure was called, and the value at the end.
+// Worker 0 updates key 5 from 50, and is held at a kind of step, while worker 1 makes a call of one try, in so many
+// operations: what both answer, how often the closure was called, and the value at the end.
 fn meet_update<R: Threads + Abort + AllocGlobal + Sync>(
     rt: &R,
     at: Kind,

@@ -57,8 +57,9 @@ pub fn owner_of(key: u64, workers: u32) -> u64 {
 // A key and its value, as a worker found it last.
 type Seen = (u64, u64);
 
-// Draws a call of all kinds, at times on the key that the worker found last, whose value is the one that a swap replaces. All other values are of 64
-// bits, so that one is hardly put twice. A key that another worker owns is looked for.
+// Draws a call of all kinds, at times on the key that the worker found last, whose value is the one that a swap
+// replaces. All other values are of 64 bits, so that one is hardly put twice. A key that another worker owns is looked
+// for.
 fn draw_any(dice: &mut Dice, load: Load, seen: Seen, pass: &Pass<Global>) -> Call {
     let any = dice.below(load.keys.max(1));
     let key = if dice.below(2) == 0 { seen.0 } else { any };

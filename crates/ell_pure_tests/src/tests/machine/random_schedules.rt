@@ -47,8 +47,8 @@ fn eight_workers(rt: &(impl Abort + AllocGlobal)) -> World
     opened(rt, WORKERS as u32, &owned, CARDS).expect(rt, "an opening")
 }
 
-// What a schedule comes to by its answers: the map, the operations in hand, and how many of each kind answered yes, found a value, or, of
-// swaps, the one that they were to replace.
+// What a schedule comes to by its answers: the map, the operations in hand, and how many of each kind answered yes,
+// found a value, or, of swaps, the one that they were to replace.
 #[derive(Drop)]
 struct Plain {
     map: BTreeMap<u64, u64>,

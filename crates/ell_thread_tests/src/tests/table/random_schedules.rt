@@ -75,7 +75,8 @@ impl Drawing {
         }
     }
 
-    // An operation on a key of a worker. An insert has a value of its own, and so has a swap, mostly for the value that the key has.
+    // An operation on a key of a worker. An insert has a value of its own, and so has a swap, mostly for the value that
+    // the key has.
     fn operation(&mut self, worker: u32) -> Op {
         let key = (worker % 4) as u64 * 2 + self.dice.below(2);
         let value = self.values[key as usize];

@@ -1,0 +1,67 @@
+use Rattle.std.specs.Prelude.{◌≡◌, ℕ, ◌+◌, ◌<◌, ◌≤◌, ◌⊎◌, get_or}
+use Rattle.ell_ops.specs.Meaning.{greatest_key}
+use Rattle.ell_word.specs.Node.{IsInternal}
+use Rattle.ell_cards.specs.declared.glance.Glance.{Glance}
+use Rattle.ell_cards.specs.declared.view.Told.TheVariants.{Met, Key}
+use Rattle.ell_cards.specs.declared.view.View.{View}
+use Rattle.ell_cards.specs.Looking.{HasFoundBetween, ReadsItsOwn}
+use Rattle.ell_cards.specs.Models.{HasCome, HasGlance, InTable, IsTold, PassModel}
+use Rattle.ell_tree.specs.declared.cursor.About.{About}
+use Rattle.ell_tree.specs.declared.cursor.Cursor.{Cursor}
+use Rattle.ell_tree.specs.Looks.{OnlyLooks}
+use Rattle.ell_tree.specs.Scans.{IsAbout}
+
+-- a pass was told of an inner node beside the root that has this key
+pub record IsNodeKey (cards : ℕ) (v : View) (key : ℕ) : Type 0 where
+  pub node : ℕ
+  pub inner : IsInternal node
+  pub there : InTable cards node
+  pub below : 0 < node
+  pub told : IsTold v (Key node key)
+
+-- where a stretch begins: at the key of such a node, or at the first key; and where it ends: at one, or after the last real key
+abbrev pub IsLower : ℕ → View → ℕ → Type 0
+IsLower cards v low = (low ≡ 0) ⊎ IsNodeKey cards v low
+
+abbrev pub IsUpper : ℕ → View → ℕ → Type 0
+IsUpper cards v high = (high ≡ greatest_key + 1) ⊎ IsNodeKey cards v high
+
+-- from a node that a look has come to it may go on
+pub record IsKept (cards : ℕ) (v : View) (g : Glance) : Type 0 where
+  pub come : HasCome v g.node g.low g.high
+  pub met : IsTold v (Met g.node)
+  pub there : InTable cards g.node
+  pub below : 0 < g.node
+  pub lower : IsLower cards v g.low
+  pub upper : IsUpper cards v g.high
+  pub real : g.high ≤ greatest_key + 1
+
+-- so it may from where a cursor began, to which all real keys come, and from each node that it keeps
+pub record AreKept (cards : ℕ) (v : View) (c : Cursor) : Type 0 where
+  pub first : IsKept cards v c.first
+  pub least : c.first.low ≡ 0
+  pub most : c.first.high ≡ greatest_key + 1
+  pub each : (i : ℕ) → i < 32 → IsKept cards v (get_or c.kept i c.first)
+
+-- a glance is one of a cursor's
+abbrev pub IsAmong : Cursor → Glance → Type 0
+IsAmong c g = (g ≡ c.first) ⊎ ((i : ℕ) × (i < 32) × (g ≡ get_or c.kept i c.first))
+
+-- a look goes on: it only looks, and what it has come to it has come to
+pub record LooksOn (old new : PassModel) (n : ℕ) : Type 0 where
+  pub only : OnlyLooks old new n
+  pub glances : (g : Glance) → HasGlance old.view.glances g → HasGlance new.view.glances g
+  pub looks : new.view.looks ≡ old.view.looks
+
+-- a look begins
+pub record BeginsALook (old new : PassModel) : Type 0 where
+  pub only : OnlyLooks old new 1
+  pub one : new.view.looks ≡ old.view.looks + 1
+
+-- what a look has found about a key
+pub record FindsAbout (cards : ℕ) (v : View) (key : ℕ) (about : About) : Type 0 where
+  pub about : IsAbout key about
+  pub found : HasFoundBetween v about.low about.high about.found
+  pub lower : IsLower cards v about.low
+  pub upper : IsUpper cards v about.high
+  pub own : ReadsItsOwn v

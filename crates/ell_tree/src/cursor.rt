@@ -1,0 +1,152 @@
+//! A look that goes on from stretch to stretch of keys. It keeps the nodes at which it last went left, so that a stretch begins where the one
+//! before it turned, and a whole range takes the time of a walk in order.
+ghost use Rattle.std.specs.Prelude.{◌≡◌, ◌<◌, ◌≤◌, ◌+◌, ◌%◌, slice_set};
+ghost use Rattle.ell_ops.specs.Meaning.{greatest_key};
+ghost use Rattle.ell_core.specs.acts.Searching.{IsLeaf};
+ghost use Rattle.ell_tree.specs.Ledgers.{IsIdlePassOf};
+ghost use Rattle.ell_tree.specs.Looks.{stretch_steps};
+ghost use Rattle.ell_tree.specs.Cursors.{AreKept, BeginsALook, FindsAbout, IsAmong, IsKept, LooksOn};
+
+use ell_cards::{CardTable, Glance, Pass};
+use ell_ops::KEY_MAX;
+use ell_word::{Kind, StepGate, is_internal};
+use std::alloc::Allocator;
+
+// How many nodes a cursor keeps. In a balanced tree of 4,000,000 keys no search goes left more often.
+const KEPT: usize = 32;
+
+/// What a look has found about a key, in one state of the tree: of all keys from `low` on and below `high`, between which the key lies, this one
+/// is present, with this value, and no other; or none is.
+#[derive(Clone, Copy)]
+pub struct About {
+    pub low: u64,
+    pub high: u64,
+    pub found: Option<(u64, u64)>,
+}
+
+/// A look that goes on: where it began, and the last of the nodes at which it went left.
+pub(crate) struct Cursor {
+    first: Glance,
+    kept: [Glance; KEPT],
+    count: usize,
+}
+
+impl Cursor {
+    /// Begins a look.
+    pub(crate) fn begin<A: Allocator + Copy, G: StepGate>(
+        table: &CardTable<A>,
+        pass: &mut Pass<A>,
+        gate: &G,
+    ) -> Cursor
+        requires may { IsIdlePassOf table.now pass.old }
+        ensures begins { BeginsALook pass.old pass.new }
+        ensures kept { AreKept table.now.plan.last_card pass.new.view result }
+    {
+        gate.before(pass.label(), Kind::Look);
+        let first = Glance {
+            node: table.look(pass),
+            low: 0,
+            high: KEY_MAX + 1,
+        };
+        Cursor {
+            first,
+            kept: [first; KEPT],
+            count: 0,
+        }
+    }
+
+    /// Looks for a key, from the last kept node to which it comes too: what is about it.
+    pub(crate) fn about<A: Allocator + Copy, G: StepGate>(
+        &mut self,
+        table: &CardTable<A>,
+        pass: &mut Pass<A>,
+        key: u64,
+        gate: &G,
+    ) -> About
+        requires own { pass.old.table ≡ table.now.id }
+        requires real { key ≤ greatest_key }
+        requires kept { AreKept table.now.plan.last_card pass.old.view self.old }
+        ensures found { FindsAbout table.now.plan.last_card pass.new.view key result }
+        ensures kept { AreKept table.now.plan.last_card pass.new.view self.new }
+        ensures on { LooksOn pass.old pass.new (stretch_steps table.now.plan.last_card) }
+    {
+        let label = pass.label();
+        let mut here = self.start(key);
+        while is_internal(here.node) {
+            gate.before(label, Kind::Look);
+            let node_key = table.key_of(pass, here.node);
+            let right = node_key <= key;
+            if !right {
+                self.keep(here);
+            }
+            gate.before(label, Kind::Look);
+            let child = table.look_down(pass, here, node_key, right);
+            here = here.down(node_key, right, child);
+        }
+        found_at(table, pass, key, here, gate)
+    }
+
+    // The last kept node to which a key comes, which is kept no longer, nor are those after it; or where the look began.
+    fn start(&mut self, key: u64) -> Glance
+        requires least { self.old.first.low ≡ 0 }
+        requires most { key < self.old.first.high }
+        ensures first { self.new.first ≡ self.old.first }
+        ensures kept { self.new.kept ≡ self.old.kept }
+        ensures among { IsAmong self.old result }
+        ensures from { result.low ≤ key }
+        ensures upto { key < result.high }
+    {
+        while self.count > 0 {
+            self.count -= 1;
+            let kept = self.kept[self.count % KEPT];
+            if kept.low <= key && key < kept.high {
+                return kept;
+            }
+        }
+        self.first
+    }
+
+    // Keeps a node, in the place of the one that was kept longest.
+    fn keep(&mut self, glance: Glance)
+        ensures first { self.new.first ≡ self.old.first }
+        ensures kept { self.new.kept ≡ slice_set self.old.kept (self.old.count % 32) glance }
+    {
+        self.kept[self.count % KEPT] = glance;
+        self.count = self.count.wrapping_add(1);
+    }
+}
+
+// What is about a key at a leaf to which a look has come by it and others.
+fn found_at<A: Allocator + Copy, G: StepGate>(
+    table: &CardTable<A>,
+    pass: &mut Pass<A>,
+    key: u64,
+    leaf: Glance,
+    gate: &G,
+) -> About
+    requires own { pass.old.table ≡ table.now.id }
+    requires outer { IsLeaf leaf.node }
+    requires kept { IsKept table.now.plan.last_card pass.old.view leaf }
+    requires from { leaf.low ≤ key }
+    requires upto { key < leaf.high }
+    ensures found { FindsAbout table.now.plan.last_card pass.new.view key result }
+    ensures on { LooksOn pass.old pass.new 2 }
+{
+    gate.before(pass.label(), Kind::Look);
+    let leaf_key = table.key_of(pass, leaf.node);
+    let Glance { node, low, high } = leaf;
+    if leaf_key < low || high <= leaf_key {
+        return About {
+            low,
+            high,
+            found: None,
+        };
+    }
+    gate.before(pass.label(), Kind::Look);
+    let value = table.value_of(pass, node);
+    About {
+        low,
+        high,
+        found: Some((leaf_key, value)),
+    }
+}

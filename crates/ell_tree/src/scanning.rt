@@ -1,0 +1,116 @@
+//! Scans: the keys of a range in order, and the next one above or below a key.
+ghost use Rattle.std.specs.Prelude.{◌≡◌, ◌<◌, ◌≤◌, ◌+◌, IfSome, drop, length};
+ghost use Rattle.ell_ops.specs.Contents.{contents_of};
+ghost use Rattle.ell_ops.specs.Meaning.{greatest_key};
+ghost use Rattle.ell_tree.specs.Ledgers.{IsIdlePassOf};
+ghost use Rattle.ell_tree.specs.Looks.{OnlyLooks};
+ghost use Rattle.ell_tree.specs.Scans.{AreInOrder, HaveFound, HasFoundLast, HasFoundNext, TellsItsOwn, end_of, scan_steps, written};
+
+use crate::cursor::Cursor;
+use ell_cards::{CardTable, Pass};
+use ell_ops::KEY_MAX;
+use ell_word::StepGate;
+use std::alloc::Allocator;
+
+/// A key with its value, as they lie in memory for programs in C too.
+#[repr(C)]
+#[derive(Clone, Copy)]
+pub struct Pair {
+    pub key: u64,
+    pub value: u64,
+}
+
+/// How far a scan has come: how many pairs it has written, and where to go on if there was no room for more.
+#[derive(Clone, Copy)]
+pub struct Scanned {
+    pub count: usize,
+    pub next: Option<u64>,
+}
+
+/// The pairs of a range of keys, from one on and below another, ascending, as far as there is room.
+pub(crate) fn scan<A: Allocator + Copy, G: StepGate>(
+    table: &CardTable<A>,
+    pass: &mut Pass<A>,
+    from: u64,
+    upto: u64,
+    room: &mut [Pair],
+    gate: &G,
+) -> Scanned
+    requires may { IsIdlePassOf table.now pass.old }
+    requires real { upto ≤ greatest_key + 1 }
+    ensures found { HaveFound pass.new.view from (end_of upto result) (contents_of (written room.new result)) }
+    ensures ordered { AreInOrder from (end_of upto result) (written room.new result) }
+    ensures count { result.count ≤ length room.old }
+    ensures next { IfSome result.next (λ next. (from ≤ next) × (next < upto) × (result.count ≡ length room.old)) }
+    ensures rest { drop result.count room.new ≡ drop result.count room.old }
+    ensures mine { TellsItsOwn pass.old from (end_of upto result) (contents_of (written room.new result)) }
+    ensures one { pass.new.view.looks ≡ pass.old.view.looks + 1 }
+    ensures only { OnlyLooks pass.old pass.new (scan_steps table.now.plan.last_card) }
+{
+    let mut cursor = Cursor::begin(table, pass, gate);
+    let mut at = from;
+    let mut count = 0;
+    while at < upto && count < room.len() {
+        let about = cursor.about(table, pass, at, gate);
+        if let Some((key, value)) = about.found
+            && at <= key
+            && key < upto
+        {
+            room[count] = Pair { key, value };
+            count += 1;
+        }
+        at = about.high;
+    }
+    Scanned {
+        count,
+        next: if at < upto { Some(at) } else { None },
+    }
+}
+
+/// The least present key from one on, with its value.
+pub(crate) fn next_from<A: Allocator + Copy, G: StepGate>(
+    table: &CardTable<A>,
+    pass: &mut Pass<A>,
+    from: u64,
+    gate: &G,
+) -> Option<(u64, u64)>
+    requires may { IsIdlePassOf table.now pass.old }
+    ensures found { HasFoundNext pass.new.view from result }
+    ensures one { pass.new.view.looks ≡ pass.old.view.looks + 1 }
+    ensures only { OnlyLooks pass.old pass.new (scan_steps table.now.plan.last_card) }
+{
+    let mut room = [Pair { key: 0, value: 0 }];
+    let scanned = scan(table, pass, from, KEY_MAX + 1, &mut room, gate);
+    if scanned.count == 0 {
+        return None;
+    }
+    let Pair { key, value } = room[0];
+    Some((key, value))
+}
+
+/// The greatest present key below one, with its value.
+pub(crate) fn last_below<A: Allocator + Copy, G: StepGate>(
+    table: &CardTable<A>,
+    pass: &mut Pass<A>,
+    upto: u64,
+    gate: &G,
+) -> Option<(u64, u64)>
+    requires may { IsIdlePassOf table.now pass.old }
+    requires real { upto ≤ greatest_key + 1 }
+    ensures found { HasFoundLast pass.new.view upto result }
+    ensures one { pass.new.view.looks ≡ pass.old.view.looks + 1 }
+    ensures only { OnlyLooks pass.old pass.new (scan_steps table.now.plan.last_card) }
+{
+    let mut cursor = Cursor::begin(table, pass, gate);
+    let mut below = upto;
+    while below > 0 {
+        let about = cursor.about(table, pass, below - 1, gate);
+        if let Some((key, value)) = about.found
+            && key < below
+        {
+            return Some((key, value));
+        }
+        below = about.low;
+    }
+    None
+}
