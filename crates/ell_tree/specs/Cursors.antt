@@ -60,7 +60,7 @@ pub record BeginsALook (old new : PassModel) : Type 0 where
 
 -- what a look has found about a key
 pub record FindsAbout (cards : ℕ) (v : View) (key : ℕ) (about : About) : Type 0 where
-  pub about : IsAbout key about
+  pub within : IsAbout key about
   pub found : HasFoundBetween v about.low about.high about.found
   pub lower : IsLower cards v about.low
   pub upper : IsUpper cards v about.high

@@ -25,6 +25,7 @@ pub struct About {
 }
 
 /// A look that goes on: where it began, and the last of the nodes at which it went left.
+#[derive(Drop)]
 pub(crate) struct Cursor {
     first: Glance,
     kept: [Glance; KEPT],
