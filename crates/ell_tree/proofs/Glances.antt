@@ -42,6 +42,29 @@ only_trans a b c m n k h h' le = record {
   made = omega (arith, h.made, h'.made, le);
 }
 
+pub only_none_yet : (a : PassModel) → OnlyLooks a a 0
+only_none_yet a = record {
+  table = refl;
+  label = refl;
+  worker = refl;
+  answers = refl;
+  answered = refl;
+  share = refl;
+  hindrances = refl;
+  met = refl;
+  hindered = refl;
+  next = refl;
+  knew_before = refl;
+  next_at_least = refl;
+  won = refl;
+  found = refl;
+  planned = refl;
+  stores = refl;
+  told = λ e h. h;
+  steps = omega arith;
+  made = omega arith;
+}
+
 -- a step that tells more, and moves no more than the look
 only_step : (old new : PassModel) (told : List Told) (here : Option ℕ) (glances : List Glance) (looks : ℕ)
     → Steps old new (record (old.view) { told = told; here = here; glances = glances; looks = looks; made = old.view.made + 1 }) → ((e : Told) → IsTold old.view e → Has told e)
