@@ -175,7 +175,7 @@ const TO_AND_FRO: [Op; 14] = [
 // many operations were made while it was held.
 fn hold_at_each<R: Threads + Abort + AllocGlobal + Sync>(rt: &R, ops: &[Op], ask: Ask) {
     for first in 1..=steps_of(rt, &START, ask) {
-        for distance in [0, 1, 2, 5] {
+        for distance in [0, 1, 3] {
             let gate = Weaving::new(first, distance, ops.len() as u64);
             let (mut calls, (sight, begun, ended)) = meet(rt, &START, ops, ask, &gate);
             assert!(rt; gate.woven().is_some_and(|woven| 1 <= woven), "{first}");

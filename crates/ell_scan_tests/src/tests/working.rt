@@ -153,39 +153,38 @@ fn run<R: Threads + Abort + AllocGlobal + Sync, G: StepGate + Sync>(
     calls
 }
 
-// Workers make their calls on few keys, and on more, over start keys and over none.
+// Workers make their calls, few of them on few keys and more on more, over start keys or none.
 fn check_all<R: Threads + Abort + AllocGlobal + Sync, G: StepGate + Sync>(
     rt: &R,
+    start: &[(u64, u64)],
     gate: &G,
     still: u64,
 ) {
-    for workers in [2, 4, 8] {
-        for keys in [10, 16, 64] {
-            let load = Load {
-                keys,
-                calls: 1_000 / workers,
-                seed: keys,
-                still,
-            };
-            let calls = run(rt, workers, &START, load, gate);
-            check(rt, keys, &START, &calls, "over start keys");
-            let calls = run(rt, workers, &[], load, gate);
-            check(rt, keys, &[], &calls, "over none");
-        }
+    for (workers, keys) in [(2, 10), (4, 16), (8, 64)] {
+        let load = Load {
+            keys,
+            calls: 400 / workers,
+            seed: keys,
+            still,
+        };
+        let calls = run(rt, workers, start, load, gate);
+        check(rt, keys, start, &calls, "beside changes");
     }
 }
 
 #[test]
 fn each_key_that_is_told_beside_changes_is_as_a_look_at_it_would_find_it(rt: HostRuntime) {
     if four_threads_meet(&rt) {
-        check_all(&rt, &NoGate, 1_000);
+        check_all(&rt, &START, &NoGate, 1_000);
+        check_all(&rt, &[], &NoGate, 1_000);
     }
 }
 
 #[test]
-fn so_it_is_where_threads_stumble(rt: HostRuntime) {
+fn told_keys_are_as_looks_would_find_them_where_threads_stumble(rt: HostRuntime) {
     if four_threads_meet(&rt) {
-        check_all(&rt, &Jostling::new(4), 1_000);
+        check_all(&rt, &START, &Jostling::new(4), 1_000);
+        check_all(&rt, &[], &Jostling::new(5), 1_000);
     }
 }
 
@@ -193,7 +192,7 @@ fn so_it_is_where_threads_stumble(rt: HostRuntime) {
 #[test]
 fn keys_that_nobody_changes_are_told_as_they_are(rt: HostRuntime) {
     if four_threads_meet(&rt) {
-        check_all(&rt, &Jostling::new(5), 2);
-        check_all(&rt, &NoGate, 3);
+        check_all(&rt, &START, &Jostling::new(6), 2);
+        check_all(&rt, &START, &NoGate, 3);
     }
 }
