@@ -2,8 +2,8 @@
 ghost use Rattle.ell_shared_tests.specs.Sharing.{IsSharer};
 
 use super::telling::Ask::{self, About, After, First, Scan};
-use super::telling::{make, opened, tell};
-use ell_ops::{KEY_MAX, Op, Reply};
+use super::telling::{insert_all, list, opened, tell};
+use ell_ops::KEY_MAX;
 use ell_test_gates::Counting;
 use ell_tree::{Kind, NoGate, Pass, Tree};
 use std::alloc::Global;
@@ -13,14 +13,6 @@ const END: u64 = KEY_MAX + 1;
 
 // How many start keys, which are the multiples of 3.
 const KEYS: u64 = 4_096;
-
-fn start_keys(rt: &(impl Abort + AllocGlobal)) -> Vec<(u64, u64)> {
-    let mut start = Vec::new(rt.alloc());
-    for number in 0..KEYS {
-        start.push((number * 3, number)).expect(rt, "memory");
-    }
-    start
-}
 
 // How many steps a call takes, by the pass and by the gate, which are to agree.
 fn steps_of(
@@ -45,7 +37,7 @@ fn steps_of(
 // Each inner node is come to twice, by two steps, and each leaf is read by two: a search from the root for each key would take 28.
 #[test]
 fn a_scan_of_balanced_keys_takes_6_steps_a_key(rt: HostRuntime) {
-    let start = start_keys(&rt);
+    let start = list(&rt, KEYS, true);
     let (tree, mut pass) = opened(&rt, &start, 1);
     let steps = steps_of(&rt, &tree, &mut pass, Scan(0, END, 5_000), KEYS as usize);
     assert!(rt; steps <= 6 * KEYS, "{steps}");
@@ -58,7 +50,7 @@ fn a_scan_of_balanced_keys_takes_6_steps_a_key(rt: HostRuntime) {
 // One step to begin, and two for each of twelve or thirteen inner nodes, and two for the leaf.
 #[test]
 fn a_call_for_one_of_balanced_keys_takes_about_30_steps(rt: HostRuntime) {
-    let start = start_keys(&rt);
+    let start = list(&rt, KEYS, true);
     let (tree, mut pass) = opened(&rt, &start, 1);
     for key in [0, 1, 6_000, 6_001, 12_284] {
         let steps = steps_of(&rt, &tree, &mut pass, About(key), 1);
@@ -72,32 +64,33 @@ fn a_call_for_one_of_balanced_keys_takes_about_30_steps(rt: HostRuntime) {
 // As many keys are inserted as there are cards, so that the tree is a list.
 const CARDS: u64 = 100;
 
+// A tree that is a list, and its pass.
+fn grown(rt: &(impl Abort + AllocGlobal), upwards: bool) -> (Tree<Global>, Pass<Global>)
+    ensures { IsSharer result.0 result.1 }
+{
+    let (tree, mut pass) = opened(rt, &[], CARDS);
+    let pairs = list(rt, CARDS, upwards);
+    insert_all(rt, &tree, &mut pass, &pairs);
+    (tree, pass)
+}
+
 // Each look is for the key at the end of the list, where the bound is reached.
 #[test]
 fn a_look_at_the_end_of_a_list_takes_2_steps_a_card_and_3(rt: HostRuntime) {
-    for upwards in [true, false] {
-        let (tree, mut pass) = opened(&rt, &[], CARDS);
-        for number in 1..=CARDS {
-            let key = if upwards { number } else { CARDS - number };
-            assert!(rt; make(&rt, &tree, &mut pass, Op::Insert(key, 1), &NoGate) == Reply::Yes);
-        }
-        let key = if upwards { CARDS } else { 0 };
+    for (upwards, key) in [(true, 3 * CARDS - 3), (false, 0)] {
+        let (tree, mut pass) = grown(&rt, upwards);
         let before = pass.steps();
-        assert!(rt; tree.look(&mut pass, key, &NoGate) == Some(1));
+        assert!(rt; tree.look(&mut pass, key, &NoGate).is_some());
         assert!(rt; pass.steps().saturating_sub(before) == 2 * CARDS + 3);
         assert!(rt; steps_of(&rt, &tree, &mut pass, About(key), 1) == 2 * CARDS + 3);
     }
 }
 
-// Downwards, the list is deeper than the nodes that a scan keeps: so it begins anew at times, once for each 32 keys.
+// Downwards the list is deeper than the nodes that a scan keeps: so it begins anew at times, once for each 32 keys.
 #[test]
 fn a_scan_of_a_list_takes_less_than_a_search_for_each_key(rt: HostRuntime) {
     for upwards in [true, false] {
-        let (tree, mut pass) = opened(&rt, &[], CARDS);
-        for number in 0..CARDS {
-            let key = if upwards { number } else { CARDS - number };
-            assert!(rt; make(&rt, &tree, &mut pass, Op::Insert(key, 1), &NoGate) == Reply::Yes);
-        }
+        let (tree, mut pass) = grown(&rt, upwards);
         let steps = steps_of(&rt, &tree, &mut pass, Scan(0, END, 200), CARDS as usize);
         assert!(rt; steps <= 10 * CARDS, "{steps}");
     }

@@ -3,7 +3,7 @@ ghost use Rattle.std.specs.Prelude.{◌≡◌};
 ghost use Rattle.ell_shared_tests.specs.Sharing.{IsSharer};
 
 use super::telling::Ask::{self, About, After, AtLeast, AtMost, Before, First, Last, Scan};
-use super::telling::{Sight, make, opened, tell};
+use super::telling::{Sight, insert_all, list, make, opened, tell};
 use ell_ops::{KEY_MAX, Op, Reply};
 use ell_test_gates::Dice;
 use ell_tree::{NoGate, Pass, Tree};
@@ -112,27 +112,51 @@ fn draw(dice: &mut Dice, keys: u64) -> Ask {
     }
 }
 
-// Changes a tree and the map at random, so often, and makes a call after each change, and one scan of all at the end.
+// Changes a tree and the map at random, and makes a call after each change.
 fn play(
     rt: &(impl Abort + AllocGlobal),
-    start: &[(u64, u64)],
+    tree: &Tree<Global>,
+    pass: &mut Pass<Global>,
+    map: &mut Map,
     keys: u64,
     seed: u64,
-) {
-    let (tree, mut pass) = opened(rt, start, CARDS);
-    let (mut map, mut dice) = (map_of(rt, start), Dice::new(seed));
+)
+    requires { IsSharer tree.now pass.old }
+    ensures { IsSharer tree.now pass.new }
+{
+    let mut dice = Dice::new(seed);
     for _ in 0..3_000 {
         let key = dice.below(keys.max(1));
         let op = dice.operation(key);
-        let want = apply(rt, &mut map, op);
-        assert!(rt; make(rt, &tree, &mut pass, op, &NoGate) == want);
+        let want = apply(rt, map, op);
+        assert!(rt; make(rt, tree, pass, op, &NoGate) == want);
         let ask = draw(&mut dice, keys);
-        compare(rt, &tree, &mut pass, &map, ask);
+        compare(rt, tree, pass, map, ask);
     }
+}
+
+// Scans all keys with rooms of several sizes.
+fn go_on_all(
+    rt: &(impl Abort + AllocGlobal),
+    tree: &Tree<Global>,
+    pass: &mut Pass<Global>,
+    map: &Map,
+)
+    requires { IsSharer tree.now pass.old }
+    ensures { IsSharer tree.now pass.new }
+{
     for room in [1, 2, 7, 1_000] {
-        let count = go_on(rt, &tree, &mut pass, &map, 0, END, room);
+        let count = go_on(rt, tree, pass, map, 0, END, room);
         assert!(rt; count == map.len());
     }
+}
+
+// Compares a tree that has these start keys with a map.
+fn play_from(rt: &(impl Abort + AllocGlobal), start: &[(u64, u64)], keys: u64, seed: u64) {
+    let (tree, mut pass) = opened(rt, start, CARDS);
+    let mut map = map_of(rt, start);
+    play(rt, &tree, &mut pass, &mut map, keys, seed);
+    go_on_all(rt, &tree, &mut pass, &map);
 }
 
 fn map_of(rt: &(impl Abort + AllocGlobal), pairs: &[(u64, u64)]) -> Map {
@@ -147,8 +171,8 @@ fn map_of(rt: &(impl Abort + AllocGlobal), pairs: &[(u64, u64)]) -> Map {
 fn scans_between_random_changes_tell_what_a_plain_map_has(rt: HostRuntime) {
     let start = [(1, 10), (2, 20), (3, 30), (5, 50), (7, 70)];
     for (seed, keys) in [(1, 2), (2, 8), (3, 40), (4, 300), (5, 5_000)] {
-        play(&rt, &[], keys, seed);
-        play(&rt, &start, keys, seed);
+        play_from(&rt, &[], keys, seed);
+        play_from(&rt, &start, keys, seed);
     }
 }
 
@@ -241,11 +265,6 @@ fn the_edges_of_ranges_are_told(rt: HostRuntime) {
     look_up(&rt, &AT_THE_ENDS, &OF_ENDS);
 }
 
-// How many keys the deep trees have, and the distance of two.
-const DEPTH: u64 = 240;
-
-const DISTANCE: u64 = 3;
-
 // Goes from key to key, up or down, and comes by all keys of the map.
 fn walk(
     rt: &(impl Abort + AllocGlobal),
@@ -270,30 +289,34 @@ fn walk(
     assert!(rt; count == map.len());
 }
 
-// Inserts keys in the order of their numbers, upwards or downwards, which makes a list of the tree: all calls tell what the map has.
-fn go_deep(rt: &(impl Abort + AllocGlobal), upwards: bool) {
-    let (tree, mut pass) = opened(rt, &[], CARDS);
-    let (mut map, mut dice) = (map_of(rt, &[]), Dice::new(9));
-    for number in 0..DEPTH {
-        let place = if upwards { number } else { DEPTH - number };
-        let op = Op::Insert(place * DISTANCE, number);
-        assert!(rt; apply(rt, &mut map, op) == Reply::Yes);
-        assert!(rt; make(rt, &tree, &mut pass, op, &NoGate) == Reply::Yes);
-    }
-    for room in [1, 10, 1_000] {
-        let count = go_on(rt, &tree, &mut pass, &map, 0, END, room);
-        assert!(rt; count == map.len());
-    }
+// Makes calls about keys below a number.
+fn ask_often(
+    rt: &(impl Abort + AllocGlobal),
+    tree: &Tree<Global>,
+    pass: &mut Pass<Global>,
+    map: &Map,
+    keys: u64,
+)
+    requires { IsSharer tree.now pass.old }
+    ensures { IsSharer tree.now pass.new }
+{
+    let mut dice = Dice::new(9);
     for _ in 0..2_000 {
-        let ask = draw(&mut dice, DEPTH * DISTANCE);
-        compare(rt, &tree, &mut pass, &map, ask);
+        let ask = draw(&mut dice, keys);
+        compare(rt, tree, pass, map, ask);
     }
-    walk(rt, &tree, &mut pass, &map, true);
-    walk(rt, &tree, &mut pass, &map, false);
 }
 
 #[test]
 fn keys_that_came_ascending_or_descending_are_all_told(rt: HostRuntime) {
-    go_deep(&rt, true);
-    go_deep(&rt, false);
+    for upwards in [true, false] {
+        let pairs = list(&rt, 240, upwards);
+        let (tree, mut pass) = opened(&rt, &[], CARDS);
+        insert_all(&rt, &tree, &mut pass, &pairs);
+        let map = map_of(&rt, &pairs);
+        go_on_all(&rt, &tree, &mut pass, &map);
+        ask_often(&rt, &tree, &mut pass, &map, 1_000);
+        walk(&rt, &tree, &mut pass, &map, true);
+        walk(&rt, &tree, &mut pass, &map, false);
+    }
 }

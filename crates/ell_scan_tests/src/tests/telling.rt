@@ -6,7 +6,7 @@ ghost use Rattle.ell_tree.specs.Meaning.{greatest_key};
 
 use ell_ops::{KEY_MAX, Op, Reply, all_fit, ascend};
 use ell_test_gates::{Made, are_in_order, calls_on};
-use ell_tree::{About, Pair, Pass, START_MAX, StepGate, Tree};
+use ell_tree::{About, NoGate, Pair, Pass, START_MAX, StepGate, Tree};
 use std::alloc::Global;
 use std::process::Abort;
 use std::sync::atomic::{AtomicU64, Ordering};
@@ -43,6 +43,7 @@ pub struct Sight {
 }
 
 /// A tree in which all keys are shared, with these start keys, and its pass.
+#[tactic(auto, using(crate::proofs::Starts::start_real))]
 pub fn opened(
     rt: &(impl Abort + AllocGlobal),
     start: &[(u64, u64)],
@@ -101,6 +102,33 @@ pub fn make<G: StepGate>(
         }
     };
     done.ok().expect(rt, "cards")
+}
+
+/// So many keys with their values, ascending or descending: the multiples of 3 from 0 on.
+pub fn list(rt: &(impl Abort + AllocGlobal), count: u64, upwards: bool) -> Vec<(u64, u64)> {
+    let mut pairs = Vec::new(rt.alloc());
+    for number in 0..count {
+        let place = if upwards { number } else { count - 1 - number };
+        let key = place.wrapping_mul(3);
+        pairs.push((key, place)).expect(rt, "memory");
+    }
+    pairs
+}
+
+/// Inserts keys, which are to be absent.
+pub fn insert_all(
+    rt: &impl Abort,
+    tree: &Tree<Global>,
+    pass: &mut Pass<Global>,
+    pairs: &[(u64, u64)],
+)
+    requires { IsSharer tree.now pass.old }
+    ensures { IsSharer tree.now pass.new }
+{
+    for (key, value) in pairs {
+        let said = make(rt, tree, pass, Op::Insert(*key, *value), &NoGate);
+        assert!(rt; said == Reply::Yes, "{key}");
+    }
 }
 
 // What a scan tells.

@@ -1,0 +1,2 @@
+-- start keys that are real
+pub mod Starts
