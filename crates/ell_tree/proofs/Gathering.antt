@@ -1,4 +1,4 @@
-use Rattle.std.proofs.Common.{◌≡◌, ◌≢◌, ◌==◌, ℕ, zero, suc, ◌+◌, ◌-◌, nat_le, ◌<◌, ◌≤◌, ◌⊎◌, inl, inr, if◌then◌else◌, cond, Bool, true, false, Option, Some, None, List, [], ◌∷◌, ◌++◌, length, get_or, take, drop, set, map, refl, sym, ap, ◌∙◌, subst, arith, eq-eqb, eqb-true}
+use Rattle.std.proofs.Common.{◌≡◌, ◌≢◌, ◌==◌, IfSome, unwrap_or, ℕ, zero, suc, ◌+◌, ◌-◌, nat_le, ◌<◌, ◌≤◌, ◌⊎◌, inl, inr, if◌then◌else◌, cond, Bool, true, false, Option, Some, None, List, [], ◌∷◌, ◌++◌, length, get_or, take, drop, set, map, refl, sym, ap, ◌∙◌, subst, arith, eq-eqb, eqb-true}
 use Rattle.std.specs.List.{All}
 use Rattle.std.specs.List.Sorted.{IsStrictlyIncreasing}
 use Rattle.std.specs.Map.{keys_of, lookup}
@@ -312,3 +312,41 @@ module _ (cards : ℕ) (old now new : PassModel) (below upto : ℕ) (d : Descend
 
       least : HasFoundBetween new.view about.low about.high (Some pair) → about.low ≤ pair.0
       least f = f.tells.1
+
+-- a stretch that has one key tells of another that it is absent
+pub other_absent : (found : Option (ℕ × ℕ)) (pair : ℕ × ℕ) (key : ℕ) → found ≡ Some pair → pair.0 ≢ key → value_there found key ≡ None
+other_absent found pair key is other =
+    ap (λ (o : Option (ℕ × ℕ)). value_there o key) is ∙ ap (λ (b : Bool). if b then Some pair.1 else None) (ne_eqb pair.0 key other)
+
+-- and one that has none, of each
+pub none_there : (found : Option (ℕ × ℕ)) (key : ℕ) → found ≡ None → value_there found key ≡ None
+none_there found key is = ap (λ (o : Option (ℕ × ℕ)). value_there o key) is
+
+-- where a scan had room for one pair and wrote none, no key of its range was present
+pub next_none : (v : View) (from upto count : ℕ) (next : Option ℕ) (room : List Pair)
+    → HaveFound v from (unwrap_or next upto) (contents_of (gathered count room)) → IfSome next (λ n. (from ≤ n) × (n < upto) × (count ≡ 1)) → count ≡ 0
+    → HaveFound v from upto (λ key. None)
+next_none v from upto count None room found full none = λ key low less.
+    subst (λ (n : ℕ). HasFound v key (contents_of (gathered n room) key)) none (found key low less)
+next_none v from upto count (Some n) room found full none = λ key low less. absurd (omega (arith, full.2, none))
+
+-- and where it wrote one, that is the first
+pub next_pair : (v : View) (from end count : ℕ) (room : List Pair) (d : Pair) → HaveFound v from end (contents_of (gathered count room))
+    → AreInOrder from end (gathered count room) → length room ≡ 1 → count ≡ 1
+    → HasFoundNext v from (Some ((get_or room 0 d).key, (get_or room 0 d).value))
+next_pair v from end count [] d found order long one = absurd (omega arith)
+next_pair v from end count (p ∷ q ∷ ps) d found order long one = absurd (omega arith)
+next_pair v from end count (p ∷ []) d found order long one = (
+      at.0,
+      subst (λ (o : Option ℕ). HasFound v p.key o) (lookup_head (λ k. p.key == k) (p.key, p.value) [] (eq-eqb p.key p.key refl)) (here p.key at.0 at.1),
+      λ key low less.
+      subst (λ (o : Option ℕ). HasFound v key o) (lookup_tail (λ k. key == k) (p.key, p.value) [] (ne_eqb key p.key (λ same. absurd (omega arith))))
+      (here key low (let upto = at.1 in omega arith)),
+    )
+  where
+    here : HaveFound v from end (contents_of ((p.key, p.value) ∷ []))
+    here = subst (λ (n : ℕ). HaveFound v from end (contents_of (gathered n (p ∷ [])))) one found
+
+    at : (from ≤ p.key) × (p.key < end)
+    at = let ordered : AreInOrder from end ((p.key, p.value) ∷ []) = subst (λ (n : ℕ). AreInOrder from end (gathered n (p ∷ []))) one order in
+        ordered.within 0 0 (omega arith)
