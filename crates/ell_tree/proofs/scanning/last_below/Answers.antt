@@ -1,4 +1,4 @@
-use Rattle.std.proofs.Common.{arith}
+use Rattle.std.proofs.Common.{arith, rules}
 use Rattle.ell_tree.proofs.Gathering.{descends_pair, descends_past, none_there, one_down, other_absent}
 use Rattle.ell_tree.proofs.Stretching.{stretches_steps}
 use Rattle.ell_tree.proofs.scanning.last_below.Goals as goal
@@ -28,7 +28,7 @@ loop-below-preserved g c =
       descends = descends_past c.args.table.now.plan.last_card c.args.pass.now l.pass about.new.pass l.below c.args.upto l.invariant.descends about.result
           c.loop-below-test.true about.ensures.found about.ensures.fixed about.ensures.on
           (λ key low. elim c.in_default.branch [
-            | in_default-via-in-None-1 w ↦ none_there about.result.found key ?
+            | in_default-via-in-None-1 w ↦ none_there about.result.found key (search rules)
             | in_default-via-in-Some+else-key-below w ↦ other_absent about.result.found (w.in-Some.key, w.in-Some.value) key w.in-Some.is
                 (λ same. let above = w.if-key-below.false in absurd (omega arith))
           ]);

@@ -1,4 +1,4 @@
-use Rattle.std.proofs.Common.{arith}
+use Rattle.std.proofs.Common.{arith, rules}
 use Rattle.ell_tree.proofs.Gathering.{none_there, other_absent, scans_pair, scans_past}
 use Rattle.ell_tree.proofs.Stretching.{stretches_steps}
 use Rattle.ell_tree.proofs.scanning.scan.Goals as goal
@@ -23,7 +23,7 @@ loop-at-preserved g c =
       scans = scans_past c.args.table.now.plan.last_card c.args.pass.now l.pass about.new.pass c.args.from l.at c.args.upto l.count c.args.room.now l.room
           l.invariant.scans about.result c.loop-at-test.true c.requires.real about.ensures.found about.ensures.fixed about.ensures.on
           (λ key after less. elim c.in_default.branch [
-            | in_default-via-in-None-1 w ↦ none_there about.result.found key ?
+            | in_default-via-in-None-1 w ↦ none_there about.result.found key (search rules)
             | in_default-via-in-Some+else-at-key w ↦ other_absent about.result.found (w.in-Some.key, w.in-Some.value) key w.in-Some.is
                 (λ same. let before = w.if-at-key.false in absurd (omega arith))
             | in_default-via-in-Some+then-at-key+else-key-upto w ↦ other_absent about.result.found (w.in-Some.key, w.in-Some.value) key w.in-Some.is
