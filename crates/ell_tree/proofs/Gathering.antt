@@ -17,12 +17,13 @@ use Rattle.ell_cards.specs.declared.view.View.{View}
 use Rattle.ell_cards.specs.Guards.{TellsOf}
 use Rattle.ell_cards.specs.Looking.{HasFound, HasFoundBetween, KeysAreFixed, ReadsItsOwn}
 use Rattle.ell_cards.specs.Models.{HasCome, HasGlance, PassModel}
+use Rattle.ell_cards.proofs.runs.Beginnings.{looks_are_of_one_state}
 use Rattle.ell_tree.specs.declared.scanning.Pair.{Pair}
 use Rattle.ell_tree.specs.declared.cursor.About.{About}
 use Rattle.ell_tree.specs.Cursors.{BeginsALook, FindsAbout, IsLower, IsNodeKey, IsUpper, LooksOn}
-use Rattle.ell_tree.specs.Ledgers.{Owns, present_in}
+use Rattle.ell_tree.specs.Ledgers.{TreeModel}
 use Rattle.ell_tree.specs.Looks.{stretch_steps}
-use Rattle.ell_tree.specs.Scans.{AreInOrder, HaveFound, HasFoundLast, HasFoundNext, TellsItsOwn, value_there}
+use Rattle.ell_tree.specs.Scans.{AreFoundIn, AreInOrder, HaveFound, HasFoundLast, HasFoundNext, IsLastIn, IsNextIn, value_there}
 use Rattle.ell_tree.proofs.Cursors.{come_on}
 use Rattle.ell_tree.proofs.Glances.{come_part}
 use Rattle.ell_tree.proofs.Stretching.{Stretches, stretches_none, stretches_more, stretches_steps}
@@ -350,3 +351,19 @@ next_pair v from end count (p ∷ []) d found order long one = (
     at : (from ≤ p.key) × (p.key < end)
     at = let ordered : AreInOrder from end ((p.key, p.value) ∷ []) = subst (λ (n : ℕ). AreInOrder from end (gathered n (p ∷ []))) one order in
         ordered.within 0 0 (omega arith)
+
+-- what a look has found of each of these keys was so in one state each
+pub each_in : (t : TreeModel) (v : View) (from upto : ℕ) (there : Contents) → HaveFound v from upto there → AreFoundIn t v from upto there
+each_in t v from upto there found key low less = looks_are_of_one_state t.plan v key (there key) (found key low less)
+
+-- so it is of the next key and the keys before it
+pub next_in : (t : TreeModel) (v : View) (from : ℕ) (there : Option (ℕ × ℕ)) → HasFoundNext v from there → IsNextIn t v from there
+next_in t v from None found = each_in t v from (greatest_key + 1) (λ key. None) found
+next_in t v from (Some pair) found =
+    (found.0, looks_are_of_one_state t.plan v pair.0 (Some pair.1) found.1, each_in t v from pair.0 (λ key. None) found.2)
+
+-- and of the last one and the keys after it
+pub last_in : (t : TreeModel) (v : View) (upto : ℕ) (there : Option (ℕ × ℕ)) → HasFoundLast v upto there → IsLastIn t v upto there
+last_in t v upto None found = each_in t v 0 upto (λ key. None) found
+last_in t v upto (Some pair) found =
+    (found.0, looks_are_of_one_state t.plan v pair.0 (Some pair.1) found.1, each_in t v (pair.0 + 1) upto (λ key. None) found.2)

@@ -12,11 +12,12 @@ use Rattle.ell_tree.specs.Looks.{OnlyLooks, stretch_steps}
 use Rattle.ell_tree.specs.Scans.{scan_steps}
 use Rattle.ell_tree.proofs.Glances.{only_none_yet, only_trans}
 
--- both of two tests
+-- where both of two tests pass, each does
 both : (a b : Bool) → (a && b) ≡ true → (a ≡ true) × (b ≡ true)
 both true b h = (refl, h)
 both false b h = absurd (false≢true h)
 
+-- and the other way round
 joined : (a b : Bool) → a ≡ true → b ≡ true → (a && b) ≡ true
 joined true b first second = second
 joined false b first second = absurd (false≢true first)
