@@ -1,22 +1,18 @@
-use Rattle.std.proofs.Common.{◌≡◌, ◌≢◌, ◌==◌, IfSome, unwrap_or, ℕ, zero, suc, ◌+◌, ◌-◌, nat_le, ◌<◌, ◌≤◌, ◌⊎◌, inl, inr, if◌then◌else◌, cond, Bool, true, false, Option, Some, None, List, [], ◌∷◌, ◌++◌, length, get_or, take, drop, set, map, refl, sym, ap, ◌∙◌, subst, arith, eq-eqb, eqb-true}
+use Rattle.std.proofs.Common.{◌≡◌, ◌≢◌, ◌==◌, IfSome, unwrap_or, ℕ, suc, ◌+◌, ◌-◌, nat_le, ◌<◌, ◌≤◌, ◌⊎◌, inl, inr, if◌then◌else◌, cond, Bool, true, false, Option, Some, None, List, [], ◌∷◌, ◌++◌, length, get_or, take, drop, set, map, refl, sym, ap, ◌∙◌, subst, arith, eq-eqb, eqb-true}
 use Rattle.std.specs.List.{All}
 use Rattle.std.specs.List.Sorted.{IsStrictlyIncreasing}
-use Rattle.std.specs.Map.{keys_of, lookup}
+use Rattle.std.specs.Map.{keys_of}
 use Rattle.std.proofs.lemmas.Bool.{cases_eq, cases_lt, false≢true, le-leb, leb-true, lt-leb, ne_eqb}
 use Rattle.std.proofs.lemmas.List.{drop-drop, drop-set-lt, get_or_append_left, get_or_push, length-set, length_push, map_push, take_more_set}
 use Rattle.std.proofs.lemmas.List.Elements.{All-push}
 use Rattle.std.proofs.lemmas.Map.Entries.{lookup_head, lookup_tail}
 use Rattle.ell_ops.specs.Contents.{Contents, contents_of}
 use Rattle.ell_ops.specs.Meaning.{greatest_key}
-use Rattle.ell_core.specs.declared.view.WorkerView.{WorkerView}
-use Rattle.ell_core.specs.state.Machine.{ledger_of}
-use Rattle.ell_core.specs.statements.Effects.{contents_in}
-use Rattle.ell_cards.specs.declared.glance.Glance.{Glance}
 use Rattle.ell_cards.specs.declared.view.Told.TheVariants.{Key, Value}
 use Rattle.ell_cards.specs.declared.view.View.{View}
 use Rattle.ell_cards.specs.Guards.{TellsOf}
 use Rattle.ell_cards.specs.Looking.{HasFound, HasFoundBetween, KeysAreFixed, ReadsItsOwn}
-use Rattle.ell_cards.specs.Models.{HasCome, HasGlance, PassModel}
+use Rattle.ell_cards.specs.Models.{PassModel}
 use Rattle.ell_cards.proofs.runs.Beginnings.{looks_are_of_one_state}
 use Rattle.ell_tree.specs.declared.scanning.Pair.{Pair}
 use Rattle.ell_tree.specs.declared.cursor.About.{About}
@@ -26,7 +22,7 @@ use Rattle.ell_tree.specs.Looks.{stretch_steps}
 use Rattle.ell_tree.specs.Scans.{AreFoundIn, AreInOrder, HaveFound, HasFoundLast, HasFoundNext, IsLastIn, IsNextIn, value_there}
 use Rattle.ell_tree.proofs.Cursors.{come_on}
 use Rattle.ell_tree.proofs.Glances.{come_part}
-use Rattle.ell_tree.proofs.Stretching.{Stretches, stretches_none, stretches_more, stretches_steps}
+use Rattle.ell_tree.proofs.Stretching.{Stretches, stretches_none, stretches_more}
 
 -- what a look has found of a key stays found while it goes on
 pub found_on : (old new : PassModel) (n key : ℕ) (there : Option ℕ) → LooksOn old new n → HasFound old.view key there → HasFound new.view key there
@@ -293,17 +289,17 @@ module _ (cards : ℕ) (old now new : PassModel) (below upto : ℕ) (d : Descend
   -- where one is
   pub descends_pair : (pair : ℕ × ℕ) → about.found ≡ Some pair → pair.0 < below → HasFoundLast new.view upto (Some pair)
   descends_pair pair is low = let most = d.most in (
-      omega arith,
-      subst (λ (o : Option ℕ). HasFound new.view pair.0 o) (here ∙ ap (λ (b : Bool). if b then Some pair.1 else None) (eq-eqb pair.0 pair.0 refl))
-          (found_down pair.0 (least (subst (λ (o : Option (ℕ × ℕ)). HasFoundBetween new.view about.low about.high o) is finds.found)) low),
-      λ key after less. elim (cases_lt key below) [
-        | inl inner ↦
-            subst (λ (o : Option ℕ). HasFound new.view key o)
-            (there key ∙ ap (λ (b : Bool). if b then Some pair.1 else None) (ne_eqb pair.0 key (λ same. absurd (omega arith))))
-            (found_down key (let from = least (subst (λ (o : Option (ℕ × ℕ)). HasFoundBetween new.view about.low about.high o) is finds.found) in omega arith) inner)
-        | inr before ↦ found_on now new (stretch_steps cards) key None on (d.found key before less)
-      ],
-    )
+    omega arith,
+    subst (λ (o : Option ℕ). HasFound new.view pair.0 o) (here ∙ ap (λ (b : Bool). if b then Some pair.1 else None) (eq-eqb pair.0 pair.0 refl))
+        (found_down pair.0 (least (subst (λ (o : Option (ℕ × ℕ)). HasFoundBetween new.view about.low about.high o) is finds.found)) low),
+    λ key after less. elim (cases_lt key below) [
+      | inl inner ↦
+          subst (λ (o : Option ℕ). HasFound new.view key o)
+          (there key ∙ ap (λ (b : Bool). if b then Some pair.1 else None) (ne_eqb pair.0 key (λ same. absurd (omega arith))))
+          (found_down key (let from = least (subst (λ (o : Option (ℕ × ℕ)). HasFoundBetween new.view about.low about.high o) is finds.found) in omega arith) inner)
+      | inr before ↦ found_on now new (stretch_steps cards) key None on (d.found key before less)
+    ],
+  )
     where
       there : (key : ℕ) → value_there about.found key ≡ value_there (Some pair) key
       there key = ap (λ (o : Option (ℕ × ℕ)). value_there o key) is
@@ -338,12 +334,12 @@ pub next_pair : (v : View) (from end count : ℕ) (room : List Pair) (d : Pair) 
 next_pair v from end count [] d found order long one = absurd (omega arith)
 next_pair v from end count (p ∷ q ∷ ps) d found order long one = absurd (omega arith)
 next_pair v from end count (p ∷ []) d found order long one = (
-      at.0,
-      subst (λ (o : Option ℕ). HasFound v p.key o) (lookup_head (λ k. p.key == k) (p.key, p.value) [] (eq-eqb p.key p.key refl)) (here p.key at.0 at.1),
-      λ key low less.
+  at.0,
+  subst (λ (o : Option ℕ). HasFound v p.key o) (lookup_head (λ k. p.key == k) (p.key, p.value) [] (eq-eqb p.key p.key refl)) (here p.key at.0 at.1),
+  λ key low less.
       subst (λ (o : Option ℕ). HasFound v key o) (lookup_tail (λ k. key == k) (p.key, p.value) [] (ne_eqb key p.key (λ same. absurd (omega arith))))
       (here key low (let upto = at.1 in omega arith)),
-    )
+)
   where
     here : HaveFound v from end (contents_of ((p.key, p.value) ∷ []))
     here = subst (λ (n : ℕ). HaveFound v from end (contents_of (gathered n (p ∷ [])))) one found

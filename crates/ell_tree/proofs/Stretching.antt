@@ -85,7 +85,7 @@ keys_more : (cards : ℕ) (old new : PassModel) (was is : ℕ → Bool) → ((e 
 keys_more cards old new was is more passes fixed key at before after =
     many_most cards cards (λ c. told_key was (3 * (c + 1)) old.view.told) (λ c. told_key is (3 * (c + 1)) new.view.told) (omega arith)
     (λ c low told. let t = told_there was (3 * (c + 1)) old.view.told told in
-      told_so is (3 * (c + 1)) t.0 new.view.told (more (Key (3 * (c + 1)) t.0) t.1) (passes t.0 t.2))
+    told_so is (3 * (c + 1)) t.0 new.view.told (more (Key (3 * (c + 1)) t.0) t.1) (passes t.0 t.2))
     card low (told_so is (3 * (card + 1)) key new.view.told told after)
     (λ less. none (told_key was (3 * (card + 1)) old.view.told) refl)
   where
