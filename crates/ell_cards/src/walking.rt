@@ -126,7 +126,8 @@ impl<A: Allocator + Copy> CardTable<A> {
         ensures there { InTable self.now.plan.last_card result }
     {
         self.names(pass);
-        self.load(pass, Call::LookDown(from, key, right), child_at(from.node, right))
+        let word = child_at(from.node, right);
+        self.load(pass, Call::LookDown(from, key, right), word)
     }
 
     /// Reads the key of a node that the pass has met. Of the leaf where it stands it is the operation's exactly where the pass

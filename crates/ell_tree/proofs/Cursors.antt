@@ -292,8 +292,13 @@ module _ (cards : ℕ) (a b : PassModel) (key : ℕ) (leaf : Glance) (k : ℕ) (
           comes = there.come;
           outer = outer;
           told = on.only.told (Key leaf.node k) key_told;
-          tells = (refl, low, high, subst (λ (v : View). IsTold v (Value leaf.node value)) (sym (view_after b d (after_value_of leaf.node value b.view) s))
-              (latest (Value leaf.node value) b.view.told));
+          tells = (
+            refl,
+            low,
+            high,
+            subst (λ (v : View). IsTold v (Value leaf.node value)) (sym (view_after b d (after_value_of leaf.node value b.view) s))
+                (latest (Value leaf.node value) b.view.told),
+          );
         };
         lower = there.lower;
         upper = there.upper;

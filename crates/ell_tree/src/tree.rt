@@ -259,7 +259,12 @@ impl<A: Allocator + Copy> Tree<A> {
 
     /// The least key from `key` on that is present, with its value: it was present in one state of the tree during the call, and each key before it
     /// was absent in one. Steps, cards and gate are as of `scan`.
-    pub fn next_at_least<G: StepGate>(&self, pass: &mut Pass<A>, key: u64, gate: &G) -> Option<(u64, u64)>
+    pub fn next_at_least<G: StepGate>(
+        &self,
+        pass: &mut Pass<A>,
+        key: u64,
+        gate: &G,
+    ) -> Option<(u64, u64)>
         requires may { IsIdlePassOf self.now pass.old }
         requires real { key ≤ greatest_key }
         ensures so { IsNextIn self.now pass.new.view key result }
@@ -271,7 +276,12 @@ impl<A: Allocator + Copy> Tree<A> {
     }
 
     /// The least key above `key` that is present, with its value, as of `next_at_least`.
-    pub fn next_after<G: StepGate>(&self, pass: &mut Pass<A>, key: u64, gate: &G) -> Option<(u64, u64)>
+    pub fn next_after<G: StepGate>(
+        &self,
+        pass: &mut Pass<A>,
+        key: u64,
+        gate: &G,
+    ) -> Option<(u64, u64)>
         requires may { IsIdlePassOf self.now pass.old }
         requires real { key ≤ greatest_key }
         ensures so { IsNextIn self.now pass.new.view (key + 1) result }
@@ -295,7 +305,12 @@ impl<A: Allocator + Copy> Tree<A> {
 
     /// The greatest key up to `key` that is present, with its value: it was present in one state of the tree during the call, and each key after it
     /// was absent in one. Steps, cards and gate are as of `scan`.
-    pub fn last_at_most<G: StepGate>(&self, pass: &mut Pass<A>, key: u64, gate: &G) -> Option<(u64, u64)>
+    pub fn last_at_most<G: StepGate>(
+        &self,
+        pass: &mut Pass<A>,
+        key: u64,
+        gate: &G,
+    ) -> Option<(u64, u64)>
         requires may { IsIdlePassOf self.now pass.old }
         requires real { key ≤ greatest_key }
         ensures so { IsLastIn self.now pass.new.view (key + 1) result }
@@ -307,7 +322,12 @@ impl<A: Allocator + Copy> Tree<A> {
     }
 
     /// The greatest key below `key` that is present, with its value, as of `last_at_most`.
-    pub fn last_before<G: StepGate>(&self, pass: &mut Pass<A>, key: u64, gate: &G) -> Option<(u64, u64)>
+    pub fn last_before<G: StepGate>(
+        &self,
+        pass: &mut Pass<A>,
+        key: u64,
+        gate: &G,
+    ) -> Option<(u64, u64)>
         requires may { IsIdlePassOf self.now pass.old }
         requires real { key ≤ greatest_key }
         ensures so { IsLastIn self.now pass.new.view key result }
