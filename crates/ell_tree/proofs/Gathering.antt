@@ -1,8 +1,8 @@
-use Rattle.std.proofs.Common.{◌≡◌, ◌≢◌, ◌==◌, IfSome, unwrap_or, ℕ, suc, ◌+◌, ◌-◌, nat_le, ◌<◌, ◌≤◌, ◌⊎◌, inl, inr, if◌then◌else◌, cond, Bool, true, false, Option, Some, None, List, [], ◌∷◌, ◌++◌, length, get_or, take, drop, set, map, refl, sym, ap, ◌∙◌, subst, arith, eq-eqb, eqb-true}
+use Rattle.std.proofs.Common.{◌≡◌, ◌≢◌, ◌==◌, IfSome, unwrap_or, ℕ, suc, ◌+◌, ◌-◌, nat_le, ◌<◌, ◌≤◌, ◌⊎◌, inl, inr, if◌then◌else◌, cond, Bool, Option, Some, None, List, [], ◌∷◌, ◌++◌, length, get_or, take, drop, set, map, refl, sym, ap, ◌∙◌, subst, arith, eq-eqb}
 use Rattle.std.specs.List.{All}
 use Rattle.std.specs.List.Sorted.{IsStrictlyIncreasing}
 use Rattle.std.specs.Map.{keys_of}
-use Rattle.std.proofs.lemmas.Bool.{cases_eq, cases_lt, false≢true, le-leb, leb-true, lt-leb, ne_eqb}
+use Rattle.std.proofs.lemmas.Bool.{cases_eq, cases_lt, le-leb, leb-true, lt-leb, ne_eqb}
 use Rattle.std.proofs.lemmas.List.{drop-drop, drop-set-lt, get_or_append_left, get_or_push, length-set, length_push, map_push, take_more_set}
 use Rattle.std.proofs.lemmas.List.Elements.{All-push}
 use Rattle.std.proofs.lemmas.Map.Entries.{lookup_head, lookup_tail}
@@ -20,8 +20,7 @@ use Rattle.ell_tree.specs.Cursors.{BeginsALook, FindsAbout, IsLower, IsNodeKey, 
 use Rattle.ell_tree.specs.Ledgers.{TreeModel}
 use Rattle.ell_tree.specs.Looks.{stretch_steps}
 use Rattle.ell_tree.specs.Scans.{AreFoundIn, AreInOrder, HaveFound, HasFoundLast, HasFoundNext, IsLastIn, IsNextIn, value_there}
-use Rattle.ell_tree.proofs.Cursors.{come_on}
-use Rattle.ell_tree.proofs.Glances.{come_part}
+use Rattle.ell_tree.proofs.Cursors.{come_on, found_of_key}
 use Rattle.ell_tree.proofs.Stretching.{Stretches, stretches_none, stretches_more}
 
 -- what a look has found of a key stays found while it goes on
@@ -38,30 +37,6 @@ found_on old new n key there on f = record {
     by : (there : Option ℕ) → TellsOf old.view f.leaf f.leaf_key key there → TellsOf new.view f.leaf f.leaf_key key there
     by None tells = tells
     by (Some value) tells = (tells.0, on.only.told (Value f.leaf value) tells.1)
-
--- what it has found of a stretch it has found of each key of it
-pub found_of_key : (v : View) (low high key : ℕ) (there : Option (ℕ × ℕ)) → HasFoundBetween v low high there → low ≤ key → key < high
-    → HasFound v key (value_there there key)
-found_of_key v low high key None f from upto = record {
-  leaf = f.leaf;
-  leaf_key = f.leaf_key;
-  comes = come_part v f.leaf low high key (key + 1) from (omega arith) f.comes;
-  outer = f.outer;
-  told = f.told;
-  tells = λ same. elim f.tells [ inl less ↦ absurd (omega arith) | inr more ↦ absurd (omega arith) ];
-}
-found_of_key v low high key (Some pair) f from upto = record {
-  leaf = f.leaf;
-  leaf_key = f.leaf_key;
-  comes = come_part v f.leaf low high key (key + 1) from (omega arith) f.comes;
-  outer = f.outer;
-  told = f.told;
-  tells = by (pair.0 == key) refl;
-}
-  where
-    by : (b : Bool) → (pair.0 == key) ≡ b → TellsOf v f.leaf f.leaf_key key (if b then Some pair.1 else None)
-    by true is = (f.tells.0 ∙ eqb-true pair.0 key is, f.tells.3)
-    by false is = λ same. absurd (false≢true (sym is ∙ eq-eqb pair.0 key (sym f.tells.0 ∙ same)))
 
 -- a key that none of these pairs has is not among them
 pub none_gathered : (pairs : List (ℕ × ℕ)) (key : ℕ) → All (λ k. k ≢ key) (keys_of pairs) → contents_of pairs key ≡ None
