@@ -30,7 +30,10 @@ fn steps_of(
     let sight = tell(rt, tree, pass, ask, &gate);
     let steps = pass.steps().saturating_sub(before);
     assert!(rt; sight.pairs.len() == count, "{ask:?}");
-    assert!(rt; gate.told(0).steps == steps && gate.count(0, Kind::Look) == steps, "{ask:?}");
+    assert!(rt;
+        gate.told(0).steps == steps && gate.count(0, Kind::Look) == steps,
+        "{ask:?}"
+    );
     steps
 }
 

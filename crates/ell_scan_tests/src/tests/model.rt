@@ -125,7 +125,7 @@ fn play(
     ensures { IsSharer tree.now pass.new }
 {
     let mut dice = Dice::new(seed);
-    for _ in 0..3_000 {
+    for _ in 0..1_500 {
         let key = dice.below(keys.max(1));
         let op = dice.operation(key);
         let want = apply(rt, map, op);
@@ -301,7 +301,7 @@ fn ask_often(
     ensures { IsSharer tree.now pass.new }
 {
     let mut dice = Dice::new(9);
-    for _ in 0..2_000 {
+    for _ in 0..1_000 {
         let ask = draw(&mut dice, keys);
         compare(rt, tree, pass, map, ask);
     }

@@ -163,7 +163,7 @@ fn check_all<R: Threads + Abort + AllocGlobal + Sync, G: StepGate + Sync>(
     for (workers, keys) in [(2, 10), (4, 16), (8, 64)] {
         let load = Load {
             keys,
-            calls: 400 / workers,
+            calls: 240 / workers,
             seed: keys,
             still,
         };
