@@ -157,3 +157,7 @@ ReadsItsOwn v = (key : ℕ) (there : Option ℕ) → HasFound v key there → le
 abbrev pub LooksReadTheirOwn : Type 0
 LooksReadTheirOwn = (plan : TablePlan) (s : TableState) → IsReached plan s → (seat : ℕ) (v : View)
     → get_elem? s.views seat ≡ some v → ReadsItsOwn v
+
+-- a pass was told no two keys of one node: the key of a node never changes
+abbrev pub KeysAreFixed : View → Type 0
+KeysAreFixed v = (node key other : ℕ) → IsTold v (Key node key) → IsTold v (Key node other) → key ≡ other

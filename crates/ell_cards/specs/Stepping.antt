@@ -9,7 +9,7 @@ use Rattle.ell_cards.specs.Changes.{keys_of}
 use Rattle.ell_cards.specs.Naming.{IsNamed}
 use Rattle.ell_cards.specs.Calls.{after, Tells}
 use Rattle.ell_cards.specs.Starts.{IsReached}
-use Rattle.ell_cards.specs.Looking.{ReadsItsOwn}
+use Rattle.ell_cards.specs.Looking.{KeysAreFixed, ReadsItsOwn}
 use Rattle.ell_cards.specs.declared.share.Share.{Share}
 use Rattle.ell_cards.specs.Inside.{HasShare}
 
@@ -65,11 +65,12 @@ pub record StepsBy (old new : PassModel) : Type 0 where
   pub label : new.label ≡ old.label
 
 -- what a step call that found this word leaves of a pass: what it knows is as the call says, and what the call tells is so; what a
--- look has found of its own keys is what its ledger has; the pass owns the keys and has the share that it did, and names what is in its table
+-- look has found of its own keys is what its ledger has; it was told no two keys of one node; the pass owns the keys and has the share that it did, and names what is in its table
 pub record IsTaken (cards : ℕ) (c : Call) (v : View) (n : ℕ) (w : View) : Type 0 where
   pub view : w ≡ after c n v
   pub tells : Tells cards c v n
   pub own : ReadsItsOwn w
+  pub fixed : KeysAreFixed w
   pub keys : keys_of w.worker.ledger ≡ keys_of v.worker.ledger
   pub share : SameShare v w
   pub named : IsNamed cards w

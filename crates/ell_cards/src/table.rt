@@ -11,7 +11,7 @@ ghost use Rattle.ell_cards.specs.Changes.{after_fill};
 ghost use Rattle.ell_cards.specs.Naming.{IsNamed};
 ghost use Rattle.ell_cards.specs.Guards.{MayFill};
 ghost use Rattle.ell_cards.specs.Calls.{word_of, atomic_of, Load, Exchange, after, May, Tells};
-ghost use Rattle.ell_cards.specs.Looking.{ReadsItsOwn};
+ghost use Rattle.ell_cards.specs.Looking.{KeysAreFixed, ReadsItsOwn};
 ghost use Rattle.ell_cards.specs.Stepping.{MayLoad, MayStore, MayExchange, KeepsPass, StepsBy};
 
 use crate::call::Call;
@@ -102,6 +102,7 @@ impl<A: Allocator + Copy> CardTable<A> {
         ensures step { Steps pass.old pass.new (after call result pass.old.view) }
         ensures tells { Tells self.now.plan.last_card call pass.old.view result }
         ensures looked { ReadsItsOwn pass.new.view }
+        ensures fixed { KeysAreFixed pass.new.view }
     {
         self.load_as::<Brand>(pass, call, word)
     }

@@ -8,7 +8,7 @@ ghost use Rattle.ell_cards.specs.Models.{Steps, IsTold, InTable, EndWasUnknown, 
 ghost use Rattle.ell_cards.specs.Changes.{after_begin, after_again, after_leave, after_answer, after_upd, after_down, after_next, after_key_of, after_value_of, after_look, after_look_down};
 ghost use Rattle.ell_cards.specs.Guards.{MayBegin, MayStop, MayAnswer, MayRead, MayGoDown, MayLookDown};
 ghost use Rattle.ell_cards.specs.Calls.{TellsLeaf, TellsValue};
-ghost use Rattle.ell_cards.specs.Looking.{ReadsItsOwn};
+ghost use Rattle.ell_cards.specs.Looking.{KeysAreFixed, ReadsItsOwn};
 
 use crate::call::Call;
 use crate::glance::Glance;
@@ -131,7 +131,7 @@ impl<A: Allocator + Copy> CardTable<A> {
 
     /// Reads the key of a node that the pass has met. Of the leaf where it stands it is the operation's exactly where the pass
     /// has that present, and then the leaf has a grandparent. If a look has come to its end by that, of a key of the pass's own, it has
-    /// found what the pass has there.
+    /// found what the pass has there. The key of a node never changes, so the pass was told no two of one node (`fixed`).
     #[inline(always)]
     pub fn key_of(&self, pass: &mut Pass<A>, node: u64) -> u64
         requires own { pass.old.table ≡ self.now.id }
@@ -139,6 +139,7 @@ impl<A: Allocator + Copy> CardTable<A> {
         ensures step { Steps pass.old pass.new (after_key_of node result pass.old.view) }
         ensures leaf { TellsLeaf pass.old.view node result }
         ensures looked { ReadsItsOwn pass.new.view }
+        ensures fixed { KeysAreFixed pass.new.view }
     {
         self.names(pass);
         self.load(pass, Call::KeyOf(node), key_at(node))
@@ -154,6 +155,7 @@ impl<A: Allocator + Copy> CardTable<A> {
         ensures step { Steps pass.old pass.new (after_value_of leaf result pass.old.view) }
         ensures value { TellsValue pass.old.view leaf result }
         ensures looked { ReadsItsOwn pass.new.view }
+        ensures fixed { KeysAreFixed pass.new.view }
     {
         self.names(pass);
         self.load(pass, Call::ValueOf(leaf), value_at(leaf))

@@ -32,6 +32,8 @@ pub mod Splitting
 pub mod Closing
 -- what the steps of a look leave of a pass
 pub mod Glances
+-- a look that goes on, from the nodes that it keeps
+pub mod Cursors
 -- a try that something hindered is counted once it is given up
 pub mod Hindering
 -- how many moves of cards a pass knows of, and why each try that is hindered shows it one more

@@ -1,4 +1,4 @@
-use Rattle.std.specs.Prelude.{◌≡◌, ℕ, ◌+◌, ◌<◌, ◌≤◌, ◌⊎◌, get_or}
+use Rattle.std.specs.Prelude.{◌≡◌, ℕ, ◌+◌, ◌<◌, ◌≤◌, ◌⊎◌, length, slice_index_or}
 use Rattle.ell_ops.specs.Meaning.{greatest_key}
 use Rattle.ell_word.specs.Node.{IsInternal}
 use Rattle.ell_cards.specs.declared.glance.Glance.{Glance}
@@ -36,16 +36,21 @@ pub record IsKept (cards : ℕ) (v : View) (g : Glance) : Type 0 where
   pub upper : IsUpper cards v g.high
   pub real : g.high ≤ greatest_key + 1
 
+-- a node that a cursor keeps, by its place
+abbrev pub kept_at : Cursor → ℕ → Glance
+kept_at c i = slice_index_or c.kept i (record { node = 0; low = 0; high = 0 })
+
 -- so it may from where a cursor began, to which all real keys come, and from each node that it keeps
 pub record AreKept (cards : ℕ) (v : View) (c : Cursor) : Type 0 where
+  pub many : length c.kept ≡ 32
   pub first : IsKept cards v c.first
   pub least : c.first.low ≡ 0
   pub most : c.first.high ≡ greatest_key + 1
-  pub each : (i : ℕ) → i < 32 → IsKept cards v (get_or c.kept i c.first)
+  pub each : (i : ℕ) → i < 32 → IsKept cards v (kept_at c i)
 
 -- a glance is one of a cursor's
 abbrev pub IsAmong : Cursor → Glance → Type 0
-IsAmong c g = (g ≡ c.first) ⊎ ((i : ℕ) × (i < 32) × (g ≡ get_or c.kept i c.first))
+IsAmong c g = (g ≡ c.first) ⊎ ((i : ℕ) × (i < 32) × (g ≡ kept_at c i))
 
 -- a look goes on: it only looks, and what it has come to it has come to
 pub record LooksOn (old new : PassModel) (n : ℕ) : Type 0 where

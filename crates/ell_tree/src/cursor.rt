@@ -3,6 +3,7 @@
 ghost use Rattle.std.specs.Prelude.{◌≡◌, ◌<◌, ◌≤◌, ◌+◌, ◌%◌, slice_set};
 ghost use Rattle.ell_ops.specs.Meaning.{greatest_key};
 ghost use Rattle.ell_core.specs.acts.Searching.{IsLeaf};
+ghost use Rattle.ell_cards.specs.Looking.{KeysAreFixed};
 ghost use Rattle.ell_tree.specs.Ledgers.{IsIdlePassOf};
 ghost use Rattle.ell_tree.specs.Looks.{stretch_steps};
 ghost use Rattle.ell_tree.specs.Cursors.{AreKept, BeginsALook, FindsAbout, IsAmong, IsKept, LooksOn};
@@ -69,6 +70,7 @@ impl Cursor {
         requires kept { AreKept table.now.plan.last_card pass.old.view self.old }
         ensures found { FindsAbout table.now.plan.last_card pass.new.view key result }
         ensures kept { AreKept table.now.plan.last_card pass.new.view self.new }
+        ensures fixed { KeysAreFixed pass.new.view }
         ensures on { LooksOn pass.old pass.new (stretch_steps table.now.plan.last_card) }
     {
         let label = pass.label();
@@ -131,6 +133,7 @@ fn found_at<A: Allocator + Copy, G: StepGate>(
     requires from { leaf.low ≤ key }
     requires upto { key < leaf.high }
     ensures found { FindsAbout table.now.plan.last_card pass.new.view key result }
+    ensures fixed { KeysAreFixed pass.new.view }
     ensures on { LooksOn pass.old pass.new 2 }
 {
     gate.before(pass.label(), Kind::Look);

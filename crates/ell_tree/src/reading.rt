@@ -34,7 +34,12 @@ pub(crate) fn look<A: Allocator + Copy, G: StepGate>(
         gate.before(label, Kind::Look);
         let node_key = table.key_of(pass, node);
         gate.before(label, Kind::Look);
-        node = table.look_down(pass, by_key(node, key), node_key, node_key <= key);
+        let here = Glance {
+            node,
+            low: key,
+            high: key + 1,
+        };
+        node = table.look_down(pass, here, node_key, node_key <= key);
     }
     gate.before(label, Kind::Look);
     let leaf_key = table.key_of(pass, node);
@@ -43,19 +48,6 @@ pub(crate) fn look<A: Allocator + Copy, G: StepGate>(
     }
     gate.before(label, Kind::Look);
     Some(table.value_of(pass, node))
-}
-
-// A node to which a look has come by one key.
-#[inline(always)]
-fn by_key(node: u64, key: u64) -> Glance
-    requires { key ≤ greatest_key }
-    ensures { result ≡ record { node = node; low = key; high = key + 1 } }
-{
-    Glance {
-        node,
-        low: key,
-        high: key + 1,
-    }
 }
 
 /// What is about a key, in one state: the look goes down once.

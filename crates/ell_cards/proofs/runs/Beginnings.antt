@@ -208,8 +208,3 @@ looks_are_in_order plan s starts turns ended run seat v at key there found other
     let both = stretches_are_in_order plan s starts turns ended run seat v at key (key + 1) (with_key key there) (one_key v key there found)
     other begun call more s' run' on w at' next (next + 1) (with_key next there') (one_key w next there' found') in
     (first, was_of_key plan.last_card begun more s' next there' both.1)
-
--- what was found of a stretch was found of each of its keys
-abbrev pub value_at : Option (ℕ × ℕ) → ℕ → Option ℕ
-value_at None key = None
-value_at (Some pair) key = if pair.0 == key then Some pair.1 else None

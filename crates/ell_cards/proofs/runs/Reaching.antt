@@ -1,5 +1,7 @@
 use Rattle.std.proofs.Common.{◌≡◌, ◌==◌, ℕ, if◌then◌else◌, Bool, true, false, List, [], ◌∷◌, ◌++◌, get_or, set, length, refl, sym, ap, ◌∙◌, subst}
 use prog.Atomic.{either}
+use lib.ListN.{get_elem?}
+use mathlib.Core.Option.{some}
 use Rattle.atomic_table.specs.Table.{Allows, opening, keeps}
 use Rattle.atomic_table.proofs.Lists.{set_else}
 use Rattle.ell_core.specs.declared.field.Field.{Field}
@@ -8,6 +10,7 @@ use Rattle.ell_core.specs.state.Words.{words_of}
 use Rattle.ell_core.specs.state.Opening.{start_words}
 use Rattle.ell_cards.specs.declared.call.Call.{Call}
 use Rattle.ell_cards.specs.declared.call.Call.TheVariants as call
+use Rattle.ell_cards.specs.declared.view.Told.TheVariants.{Key}
 use Rattle.ell_cards.specs.declared.view.View.{View}
 use Rattle.ell_cards.specs.Models.{TablePlan, IsFree, MayPart}
 use Rattle.ell_cards.specs.Changes.{first_of, left_view, right_view, joined_view, spent_view}
@@ -16,6 +19,7 @@ use Rattle.ell_cards.specs.States.{TableState}
 use Rattle.ell_cards.specs.Machines.{HasMachine}
 use Rattle.ell_cards.specs.Turns.{Turn, Makes, Splits, Joins, TableTurns, TableRun}
 use Rattle.ell_cards.specs.Starts.{MayStart, Starts, IsReached, RunFromStart}
+use Rattle.ell_cards.specs.Looking.{KeysAreFixed}
 use Rattle.ell_cards.specs.Stepping.{MayLoad, MayStore, MayExchange, MaySplit, MayJoin, IsTaken}
 use Rattle.ell_cards.proofs.seats.Seats.{set_there}
 use Rattle.ell_cards.proofs.seats.Named.{kept_named}
@@ -62,6 +66,12 @@ module _ (plan : TablePlan) where
       run = one_more_turn plan.last_card h.first h.turns s t s' h.run turn;
     }
 
+  -- no pass was told two keys of one node
+  told_once : (s : TableState) → IsReached plan s → (id : ℕ) (v : View) → get_elem? s.views id ≡ some v → KeysAreFixed v
+  told_once s h id v here node key other told told' =
+      let holds = (reached_kept s h).views id v here in
+      sym (holds.entries (Key node key) told).1 ∙ (holds.entries (Key node other) told').1
+
   -- a step call is a turn, wherever turns have led the table, and leaves of its pass what the call says
   taken : (c : Call) (v : View) (f : ℕ → ℕ) → ((n : ℕ) → f n ≡ left_by (atomic_of c) n) → May plan.last_card c v
       → (id : ℕ) → Allows (IsReached plan) 0 id (v, []) (word_of c) f (λ n me. IsTaken plan.last_card c v n me.0 × (me.1 ≡ []))
@@ -84,6 +94,7 @@ module _ (plan : TablePlan) where
             view = refl;
             tells = (steps_are_events plan.keys plan.last_card s (reached_kept s h) id v c here may).tells;
             own = looks_read_their_own plan s' on id w (set_there s.views id w v here);
+            fixed = told_once s' on id w (set_there s.views id w v here);
             keys = keys_stay c n v;
             share = same_share c n v;
             named = kept_named plan.keys plan.last_card s' (reached_kept s' on) id w (set_there s.views id w v here);
@@ -106,7 +117,7 @@ module _ (plan : TablePlan) where
       (λ id s h homes here small.
       let x = taken (call.Fill c f value) v (λ n. value) (λ n. refl) may id s h homes here small in
       let t = x.4.0 in
-      (x.0, x.1, x.2, x.3, (record { view = t.view; tells = tt; own = t.own; keys = t.keys; share = t.share; named = t.named }, x.4.1)))
+      (x.0, x.1, x.2, x.3, (record { view = t.view; tells = tt; own = t.own; fixed = t.fixed; keys = t.keys; share = t.share; named = t.named }, x.4.1)))
 
   either_is : (b : Bool) (x y : ℕ) → either b x y ≡ (if b then x else y)
   either_is true x y = refl

@@ -265,13 +265,13 @@ record LookComes (key : ℕ) (m : Machine) (events : List Event) (answers : List
   upto : key < high
   comes : Comes m events answers m' y low high
 
-key_from : (n low key : ℕ) → low ≤ key → from_of (nat_le n key) low n ≤ key
+pub key_from : (n low key : ℕ) → low ≤ key → from_of (nat_le n key) low n ≤ key
 key_from n low key a = elim (cases_lt key n) [
   | inl less ↦ subst (λ s. from_of s low n ≤ key) (sym (lt-leb n key less)) a
   | inr most ↦ subst (λ s. from_of s low n ≤ key) (sym (le-leb n key most)) (grind (arith, nat_tests))
 ]
 
-key_upto : (n high key : ℕ) → key < high → key < upto_of (nat_le n key) high n
+pub key_upto : (n high key : ℕ) → key < high → key < upto_of (nat_le n key) high n
 key_upto n high key b = elim (cases_lt key n) [
   | inl less ↦ subst (λ s. key < upto_of s high n) (sym (lt-leb n key less)) (grind (arith, nat_tests))
   | inr most ↦ subst (λ s. key < upto_of s high n) (sym (le-leb n key most)) b

@@ -6,8 +6,8 @@ use Rattle.ell_tree.proofs.reading.look.Goals as goal
 
 pub loop-pass-init : goal.loop-pass-init
 loop-pass-init g c =
-    let f = c.look_for-node in
-    comes_first c.args.table.now.plan.last_card c.args.pass.now f.new.pass c.args.key f.result f.ensures.step f.ensures.greater f.ensures.there
+    let f = c.look-node in
+    comes_first c.args.table.now.plan.last_card c.args.pass.now f.new.pass c.args.key f.result c.requires.real f.ensures.step f.ensures.greater f.ensures.there
 
 pub key_of-node_key-requires-clause-own : goal.key_of-node_key-requires-clause-own
 key_of-node_key-requires-clause-own g c = c.loop-pass.invariant.only.table ∙ c.requires.may.0

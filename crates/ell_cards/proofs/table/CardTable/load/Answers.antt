@@ -22,3 +22,6 @@ returns-clause-tells g c = c.load_as.ensures.told.tells
 
 pub returns-clause-looked : goal.returns-clause-looked
 returns-clause-looked g c = c.load_as.ensures.told.own
+
+pub returns-clause-fixed : goal.returns-clause-fixed
+returns-clause-fixed g c = c.load_as.ensures.told.fixed

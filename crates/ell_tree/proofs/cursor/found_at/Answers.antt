@@ -1,0 +1,34 @@
+use Rattle.std.proofs.Common.{◌<◌, ◌≤◌, ◌⊎◌, inl, inr, arith, rules}
+use Rattle.ell_tree.proofs.Cursors.{finds_none, finds_one, key_on, leaf_stands, on_more, on_trans, value_on}
+use Rattle.ell_tree.proofs.cursor.found_at.Goals as goal
+
+pub returns-then-leaf_key-low-clause-found : goal.returns-then-leaf_key-low-clause-found
+returns-then-leaf_key-low-clause-found g c =
+    let k = c.key_of-leaf_key in
+    finds_none c.args.table.now.plan.last_card c.args.pass.now k.new.pass c.args.key c.args.leaf k.result c.requires.kept c.requires.from c.requires.upto
+    c.requires.outer k.ensures.step k.ensures.looked (elim c.then-leaf_key-low.either [ inl less ↦ inl less | inr h ↦ inr h.1 ])
+
+pub returns-then-leaf_key-low-clause-on : goal.returns-then-leaf_key-low-clause-on
+returns-then-leaf_key-low-clause-on g c =
+    let k = c.key_of-leaf_key in
+    on_more c.args.pass.now k.new.pass 1 2 (omega arith) (key_on c.args.pass.now k.new.pass c.args.leaf.node k.result k.ensures.step)
+
+pub value_of-value-requires-clause-met : goal.value_of-value-requires-clause-met
+value_of-value-requires-clause-met g c =
+    let k = c.key_of-leaf_key in
+    (leaf_stands c.args.table.now.plan.last_card c.args.pass.now k.new.pass c.args.key c.args.leaf k.result c.requires.kept c.requires.from c.requires.upto
+    c.requires.outer k.ensures.step).met
+
+pub returns-clause-found : goal.returns-clause-found
+returns-clause-found g c =
+    let k = c.key_of-leaf_key in
+    let v = c.value_of-value in
+    finds_one c.args.table.now.plan.last_card c.args.pass.now k.new.pass c.args.key c.args.leaf k.result c.requires.kept c.requires.from c.requires.upto
+    c.requires.outer k.ensures.step v.new.pass v.result v.ensures.step v.ensures.looked (search rules) (search rules)
+
+pub returns-clause-on : goal.returns-clause-on
+returns-clause-on g c =
+    let k = c.key_of-leaf_key in
+    let v = c.value_of-value in
+    on_trans c.args.pass.now k.new.pass v.new.pass 1 1 2 (key_on c.args.pass.now k.new.pass c.args.leaf.node k.result k.ensures.step)
+    (value_on k.new.pass v.new.pass c.args.leaf.node v.result v.ensures.step) (omega arith)
