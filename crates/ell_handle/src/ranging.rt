@@ -38,7 +38,7 @@ impl Handle {
 
     /// The least key from `key` on that is present, with its value, whoever owns it: it was present in one state of the tree during the call, and
     /// each key before it was absent in one. `None` for a key above `KEY_MAX`.
-    #[tactic(auto, using(crate::proofs::Ranging::none_above, crate::proofs::Ranging::looks_none, crate::proofs::Ranging::scans_none))]
+    #[tactic(auto, using(crate::proofs::Beyond::none_above, crate::proofs::Beyond::looks_none, crate::proofs::Beyond::scans_none))]
     pub fn next_at_least(&mut self, key: u64) -> Option<(u64, u64)>
         ensures so { IsNextIn (tree_of self.old) self.new.pass.view key result }
         ensures only { OnlyLooks self.old.pass self.new.pass (scan_steps (last_card_of self.old)) }
@@ -53,7 +53,7 @@ impl Handle {
     }
 
     /// The least key above `key` that is present, with its value, as of `next_at_least`.
-    #[tactic(auto, using(crate::proofs::Ranging::none_above, crate::proofs::Ranging::looks_none, crate::proofs::Ranging::scans_none))]
+    #[tactic(auto, using(crate::proofs::Beyond::none_above, crate::proofs::Beyond::looks_none, crate::proofs::Beyond::scans_none))]
     pub fn next_after(&mut self, key: u64) -> Option<(u64, u64)>
         ensures so { IsNextIn (tree_of self.old) self.new.pass.view (key + 1) result }
         ensures only { OnlyLooks self.old.pass self.new.pass (scan_steps (last_card_of self.old)) }
