@@ -1,4 +1,4 @@
-use Rattle.std.proofs.Common.{◌≡◌, ◌+◌, ◌<◌, ◌≤◌, ℕ, None, refl, arith}
+use Rattle.std.proofs.Common.{◌<◌, ℕ, None, refl, arith}
 use Rattle.ell_ops.specs.Meaning.{greatest_key}
 use Rattle.ell_cards.specs.declared.view.View.{View}
 use Rattle.ell_tree.proofs.Counting.{took_none}
