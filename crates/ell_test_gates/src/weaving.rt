@@ -81,7 +81,8 @@ impl StepGate for Weaving {
         if worker == 0 {
             self.ended.fetch_add(1, Ordering::SeqCst);
         } else {
-            self.woven.store(self.ended.load(Ordering::SeqCst), Ordering::SeqCst);
+            self.woven
+                .store(self.ended.load(Ordering::SeqCst), Ordering::SeqCst);
             self.come.store(ALL, Ordering::SeqCst);
         }
     }
