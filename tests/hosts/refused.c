@@ -90,7 +90,7 @@ static void refuse(const char *name, int32_t (*call)(void), long (*differs_befor
 
 /* Calls that ask for no memory. */
 static void frugal(void) {
-    uint64_t value, steps, left;
+    uint64_t key, value, steps, left;
     size_t count;
     char text[ELLTREE_TEXT_ROOM];
     static struct elltree_pair out[KEYS];
@@ -98,6 +98,9 @@ static void frugal(void) {
     asked = 0;
     faults += elltree_find(&a, 4, &value) != ELLTREE_YES;
     faults += elltree_look(&a, 201, &value) != ELLTREE_NO;
+    faults += elltree_range(&a, 3, 7, out, KEYS, &count, &key) != ELLTREE_YES || count != 2 || out[1].key != 6;
+    faults += elltree_next_after(&a, 4, &key, &value) != ELLTREE_YES || key != 6 || value != 3;
+    faults += elltree_last_before(&a, 4, &key, &value) != ELLTREE_YES || key != 2 || value != 1;
     faults += elltree_insert(&a, 1, 1, 5) != ELLTREE_YES;
     faults += elltree_delete(&a, 1, 5) != ELLTREE_YES;
     faults += elltree_owned(&a, &count) != ELLTREE_YES;
@@ -106,7 +109,7 @@ static void frugal(void) {
     faults += elltree_steps(&a, &steps) != ELLTREE_YES;
     faults += elltree_cards_left(&a, &left) != ELLTREE_YES;
     faults += elltree_text(ELLTREE_NO_MEMORY, text, sizeof text) != text;
-    printf("find, look, insert, delete, owned, keys, pairs, steps, cards_left, text: %ld allocations\n", asked);
+    printf("find, look, range, next_after, last_before, insert, delete, owned, keys, pairs, steps, cards_left, text: %ld allocations\n", asked);
     faults += asked != 0;
 }
 

@@ -34,8 +34,8 @@ pub record WasSo (cards : ℕ) (s : TableState) (turns : List Turn) (s' : TableS
   pub amid : IsAmid cards s turns s' state
   pub so : HasThere (own_words state) key there
 
--- what a pass has found of a key by its look: the look has come to a leaf by the key, maybe with others, and the pass was told the leaf's key
--- and, if that is this key, its value
+-- what a pass has found of a key by its look: the look has come to a leaf by the key, maybe with others, and the pass
+-- was told the leaf's key and, if that is this key, its value
 pub record HasFound (v : View) (key : ℕ) (there : Option ℕ) : Type 0 where
   pub leaf : ℕ
   pub leaf_key : ℕ
@@ -75,10 +75,12 @@ pub record FoundInRun (cards : ℕ) (s : TableState) (turns : List Turn) (s' : T
 -- so it is in every run of a table with this plan, from its start to a state in which a pass knows this
 abbrev pub IsFoundInRuns : TablePlan → View → ℕ → Option ℕ → Type 0
 IsFoundInRuns plan v key there = (s : TableState) → Starts plan s
-    → (turns : List Turn) (s' : TableState) → TableRun plan.last_card s turns s' → (seat : ℕ) → get_elem? s'.views seat ≡ some v
+    → (turns : List Turn) (s' : TableState) → TableRun plan.last_card s turns s'
+    → (seat : ℕ) → get_elem? s'.views seat ≡ some v
     → FoundInRun plan.last_card s turns s' seat key there
 
--- what any pass has found of any key by its last look, whoever owns it, whatever turns of whatever passes came meanwhile
+-- what any pass has found of any key by its last look, whoever owns it, whatever turns of whatever passes came
+-- meanwhile
 abbrev pub LooksAreOfOneState : Type 0
 LooksAreOfOneState = (plan : TablePlan) (v : View) (key : ℕ) (there : Option ℕ) → HasFound v key there
     → IsFoundInRuns plan v key there
@@ -89,7 +91,8 @@ HasBetween w low high None = (key : ℕ) → low ≤ key → key < high → ¬ I
 HasBetween w low high (Some pair) = (low ≤ pair.0) × (pair.0 < high) × IsTreePair w pair.0 pair.1
     × ((key : ℕ) → low ≤ key → key < high → pair.0 ≢ key → ¬ IsTreeKey w key)
 
--- what a pass was told of a leaf, with this key, about a stretch of keys: the leaf's key is one of them, with this value, or none of them
+-- what a pass was told of a leaf, with this key, about a stretch of keys: the leaf's key is one of them, with this
+-- value, or none of them
 abbrev pub TellsBetween : View → ℕ → ℕ → ℕ → ℕ → Option (ℕ × ℕ) → Type 0
 TellsBetween v leaf leaf_key low high None = (leaf_key < low) ⊎ (high ≤ leaf_key)
 TellsBetween v leaf leaf_key low high (Some pair) =
@@ -105,29 +108,32 @@ pub record HasFoundBetween (v : View) (low high : ℕ) (there : Option (ℕ × �
   pub tells : TellsBetween v leaf leaf_key low high there
 
 -- so it was with all keys of the stretch in ONE state of a run
-pub record WasSoBetween (cards : ℕ) (s : TableState) (turns : List Turn) (s' : TableState) (low high : ℕ) (there : Option (ℕ × ℕ)) : Type 0 where
+pub record WasSoBetween (cards : ℕ) (s : TableState) (turns : List Turn) (s' : TableState)
+    (low high : ℕ) (there : Option (ℕ × ℕ)) : Type 0 where
   pub state : TableState
   pub amid : IsAmid cards s turns s' state
   pub so : HasBetween (own_words state) low high there
 
 -- and that is a state since the last look of the pass in a seat began
-pub record FoundBetweenInRun (cards : ℕ) (s : TableState) (turns : List Turn) (s' : TableState) (seat low high : ℕ) (there : Option (ℕ × ℕ)) : Type 0 where
+pub record FoundBetweenInRun (cards : ℕ) (s : TableState) (turns : List Turn) (s' : TableState)
+    (seat low high : ℕ) (there : Option (ℕ × ℕ)) : Type 0 where
   pub began : Began cards s turns s' seat
   pub so : WasSoBetween cards began.to (drop (suc began.first) turns) s' low high there
 
 -- so it is in every run of a table with this plan, from its start to a state in which a pass knows this
 abbrev pub IsFoundBetweenInRuns : TablePlan → View → ℕ → ℕ → Option (ℕ × ℕ) → Type 0
 IsFoundBetweenInRuns plan v low high there = (s : TableState) → Starts plan s
-    → (turns : List Turn) (s' : TableState) → TableRun plan.last_card s turns s' → (seat : ℕ) → get_elem? s'.views seat ≡ some v
+    → (turns : List Turn) (s' : TableState) → TableRun plan.last_card s turns s'
+    → (seat : ℕ) → get_elem? s'.views seat ≡ some v
     → FoundBetweenInRun plan.last_card s turns s' seat low high there
 
 -- what any pass has found of any stretch of keys by its last look
 abbrev pub StretchesAreOfOneState : Type 0
-StretchesAreOfOneState = (plan : TablePlan) (v : View) (low high : ℕ) (there : Option (ℕ × ℕ)) → HasFoundBetween v low high there
-    → IsFoundBetweenInRuns plan v low high there
+StretchesAreOfOneState = (plan : TablePlan) (v : View) (low high : ℕ) (there : Option (ℕ × ℕ))
+    → HasFoundBetween v low high there → IsFoundBetweenInRuns plan v low high there
 
--- two looks, by one pass or by two, of one stretch of keys or of two, of which the second began after the first had come to its end: the first
--- found what was so before the second began, and the second what was so since
+-- two looks, by one pass or by two, of one stretch of keys or of two, of which the second began after the first had
+-- come to its end: the first found what was so before the second began, and the second what was so since
 abbrev pub StretchesAreInOrder : Type 0
 StretchesAreInOrder = (plan : TablePlan) (s : TableState) → Starts plan s
     → (turns : List Turn) (ended : TableState) → TableRun plan.last_card s turns ended
@@ -135,8 +141,10 @@ StretchesAreInOrder = (plan : TablePlan) (s : TableState) → Starts plan s
     → (low high : ℕ) (there : Option (ℕ × ℕ)) → HasFoundBetween v low high there
     → (other : ℕ) (begun : TableState) → CallIsMade plan.last_card ended other call.Look begun
     → (more : List Turn) (s' : TableState) → TableRun plan.last_card begun more s' → LooksOn other more
-    → (w : View) → get_elem? s'.views other ≡ some w → (least upto : ℕ) (there' : Option (ℕ × ℕ)) → HasFoundBetween w least upto there'
-    → FoundBetweenInRun plan.last_card s turns ended seat low high there × WasSoBetween plan.last_card begun more s' least upto there'
+    → (w : View) → get_elem? s'.views other ≡ some w
+    → (least upto : ℕ) (there' : Option (ℕ × ℕ)) → HasFoundBetween w least upto there'
+    → FoundBetweenInRun plan.last_card s turns ended seat low high there
+    × WasSoBetween plan.last_card begun more s' least upto there'
 
 -- so it is of two looks of one key or of two
 abbrev pub LooksAreInOrder : Type 0

@@ -64,8 +64,9 @@ pub record StepsBy (old new : PassModel) : Type 0 where
   pub steps : new.steps ≡ one_more old.steps
   pub label : new.label ≡ old.label
 
--- what a step call that found this word leaves of a pass: what it knows is as the call says, and what the call tells is so; what a
--- look has found of its own keys is what its ledger has; it was told no two keys of one node; the pass owns the keys and has the share that it did, and names what is in its table
+-- what a step call that found this word leaves of a pass: what it knows is as the call says, and what the call tells is
+-- so; what a look has found of its own keys is what its ledger has; it was told no two keys of one node; the pass owns
+-- the keys and has the share that it did, and names what is in its table
 pub record IsTaken (cards : ℕ) (c : Call) (v : View) (n : ℕ) (w : View) : Type 0 where
   pub view : w ≡ after c n v
   pub tells : Tells cards c v n

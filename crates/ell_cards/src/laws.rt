@@ -159,9 +159,10 @@ pub fn looks_are_of_one_state()
     ensures own { LooksReadTheirOwn }
 {}
 
-/// What a pass finds by a look of a whole stretch of keys was so in ONE state of the table since the look began: of these keys the tree had one,
-/// with its value, or none. A look may keep the nodes to which it has come, and go on from them later: what it then finds is of a state since it
-/// began too. Of two looks, of which the second begins after the first has ended, the second is of no earlier state.
+/// What a pass finds by a look of a whole stretch of keys was so in ONE state of the table since the look began: of
+/// these keys the tree had one, with its value, or none. A look may keep the nodes to which it has come, and go on from
+/// them later: what it then finds is of a state since it began too. Of two looks, of which the second begins after the
+/// first has ended, the second is of no earlier state.
 pub fn stretches_are_of_one_state()
     ensures each { StretchesAreOfOneState }
     ensures order { StretchesAreInOrder }

@@ -102,7 +102,8 @@ impl<A: Allocator + Copy> CardTable<A> {
         self.load(pass, Call::Next, 0)
     }
 
-    /// Begins a look at the root's left child, a node of the table: the root's key is above every real one, so that all of these come there.
+    /// Begins a look at the root's left child, a node of the table: the root's key is above every real one, so that all
+    /// of these come there.
     #[inline(always)]
     pub fn look(&self, pass: &mut Pass<A>) -> u64
         requires own { pass.old.table ≡ self.now.id }
@@ -115,8 +116,8 @@ impl<A: Allocator + Copy> CardTable<A> {
         self.load(pass, Call::Look, child_at(0, false))
     }
 
-    /// Goes down in a look from an internal node to which it has come, now or earlier, with the node's key, to the child on a side: a greater
-    /// node of the table, to which those of the keys have come that go to this side.
+    /// Goes down in a look from an internal node to which it has come, now or earlier, with the node's key, to the
+    /// child on a side: a greater node of the table, to which those of the keys have come that go to this side.
     #[inline(always)]
     pub fn look_down(&self, pass: &mut Pass<A>, from: Glance, key: u64, right: bool) -> u64
         requires own { pass.old.table ≡ self.now.id }
@@ -126,12 +127,14 @@ impl<A: Allocator + Copy> CardTable<A> {
         ensures there { InTable self.now.plan.last_card result }
     {
         self.names(pass);
-        self.load(pass, Call::LookDown(from, key, right), child_at(from.node, right))
+        let word = child_at(from.node, right);
+        self.load(pass, Call::LookDown(from, key, right), word)
     }
 
-    /// Reads the key of a node that the pass has met. Of the leaf where it stands it is the operation's exactly where the pass
-    /// has that present, and then the leaf has a grandparent. If a look has come to its end by that, of a key of the pass's own, it has
-    /// found what the pass has there. The key of a node never changes, so the pass was told no two of one node (`fixed`).
+    /// Reads the key of a node that the pass has met. Of the leaf where it stands it is the operation's exactly where
+    /// the pass has that present, and then the leaf has a grandparent. If a look has come to its end by that, of a key
+    /// of the pass's own, it has found what the pass has there. The key of a node never changes, so the pass was told
+    /// no two of one node (`fixed`).
     #[inline(always)]
     pub fn key_of(&self, pass: &mut Pass<A>, node: u64) -> u64
         requires own { pass.old.table ≡ self.now.id }

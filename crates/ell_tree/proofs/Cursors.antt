@@ -1,5 +1,5 @@
-use Rattle.std.proofs.Common.{◌≡◌, ◌≢◌, ℕ, ◌+◌, ◌*◌, ◌/◌, ◌<◌, ◌≤◌, ◌⊎◌, inl, inr, Bool, true, false, nat_le, min, max, if◌then◌else◌, Option, Some, None, List, length, get_or, set, replicate, rules, refl, sym, ap, ◌∙◌, subst, arith, get_or-set_other, get_or-set_same}
-use Rattle.std.proofs.lemmas.Bool.{cases_eq, cases_lt, eq-eqb, ne_eqb}
+use Rattle.std.proofs.Common.{◌≡◌, ℕ, ◌+◌, ◌*◌, ◌/◌, ◌<◌, ◌≤◌, ◌⊎◌, inl, inr, Bool, true, false, nat_le, min, max, if◌then◌else◌, Option, Some, None, List, length, get_or, set, replicate, refl, sym, ap, ◌∙◌, subst, arith, eq-eqb, eqb-true, ◌==◌, get_or-set_other, get_or-set_same}
+use Rattle.std.proofs.lemmas.Bool.{cases_eq, cases_lt, false≢true}
 use Rattle.std.proofs.lemmas.List.{get_or-replicate, length-replicate, length-set}
 use Rattle.std.proofs.Math.Nat.{max-eq_left, max-eq_right, min-eq_left, min-eq_right}
 use Rattle.ell_ops.specs.Meaning.{greatest_key}
@@ -13,13 +13,13 @@ use Rattle.ell_cards.specs.declared.view.Told.TheVariants.{Met, Key, Value}
 use Rattle.ell_cards.specs.declared.view.View.{View}
 use Rattle.ell_cards.specs.Changes.{after_look, after_look_down, after_key_of, after_value_of, gone_down}
 use Rattle.ell_cards.specs.Guards.{MayLookDown, TellsOf}
-use Rattle.ell_cards.specs.Looking.{HasFound, HasFoundBetween, TellsBetween, ReadsItsOwn}
+use Rattle.ell_cards.specs.Looking.{HasFound, HasFoundBetween, ReadsItsOwn}
 use Rattle.ell_cards.specs.Models.{PassModel, Steps, HasGlance, HasCome, last, before, latest, IsTold, InTable}
 use Rattle.ell_cards.proofs.views.Steps.{view_after}
 use Rattle.ell_tree.specs.declared.cursor.About.{About}
 use Rattle.ell_tree.specs.declared.cursor.Cursor.{Cursor}
 use Rattle.ell_tree.specs.Cursors.{AreKept, BeginsALook, FindsAbout, IsAmong, IsKept, kept_at, IsLower, IsNodeKey, IsUpper, LooksOn}
-use Rattle.ell_tree.specs.Looks.{OnlyLooks, stretch_steps}
+use Rattle.ell_tree.specs.Looks.{stretch_steps}
 use Rattle.ell_tree.specs.Scans.{TellsItsOwn, value_there}
 use Rattle.ell_tree.proofs.Glances.{come_part, reads_mine, only_trans, only_none_yet, look_only, down_only, key_only, value_only}
 
@@ -292,8 +292,13 @@ module _ (cards : ℕ) (a b : PassModel) (key : ℕ) (leaf : Glance) (k : ℕ) (
           comes = there.come;
           outer = outer;
           told = on.only.told (Key leaf.node k) key_told;
-          tells = (refl, low, high, subst (λ (v : View). IsTold v (Value leaf.node value)) (sym (view_after b d (after_value_of leaf.node value b.view) s))
-              (latest (Value leaf.node value) b.view.told));
+          tells = (
+            refl,
+            low,
+            high,
+            subst (λ (v : View). IsTold v (Value leaf.node value)) (sym (view_after b d (after_value_of leaf.node value b.view) s))
+                (latest (Value leaf.node value) b.view.told),
+          );
         };
         lower = there.lower;
         upper = there.upper;
@@ -306,29 +311,32 @@ pub goes_found : (cards : ℕ) (old a b : PassModel) (key : ℕ) (here : Glance)
 goes_found cards old a b key here cursor at on =
     on_trans old a b at.count 2 (stretch_steps cards) at.on on (let few = at.few in let room = at.stands.there in omega arith)
 
--- what a look has found of a stretch it has found of each of its keys
-pub found_of : (v : View) (low high : ℕ) (there : Option (ℕ × ℕ)) → HasFoundBetween v low high there → (key : ℕ) → low ≤ key → key < high
+-- what a look has found of a stretch it has found of each key of it
+pub found_of_key : (v : View) (low high key : ℕ) (there : Option (ℕ × ℕ)) → HasFoundBetween v low high there → low ≤ key → key < high
     → HasFound v key (value_there there key)
-found_of v low high there found key a b = record {
-  leaf = found.leaf;
-  leaf_key = found.leaf_key;
-  comes = come_part v found.leaf low high key (key + 1) a (omega (arith, b)) found.comes;
-  outer = found.outer;
-  told = found.told;
-  tells = by there found.tells;
+found_of_key v low high key None f from upto = record {
+  leaf = f.leaf;
+  leaf_key = f.leaf_key;
+  comes = come_part v f.leaf low high key (key + 1) from (omega arith) f.comes;
+  outer = f.outer;
+  told = f.told;
+  tells = λ same. elim f.tells [ inl less ↦ absurd (omega arith) | inr more ↦ absurd (omega arith) ];
+}
+found_of_key v low high key (Some pair) f from upto = record {
+  leaf = f.leaf;
+  leaf_key = f.leaf_key;
+  comes = come_part v f.leaf low high key (key + 1) from (omega arith) f.comes;
+  outer = f.outer;
+  told = f.told;
+  tells = by (pair.0 == key) refl;
 }
   where
-    by : (o : Option (ℕ × ℕ)) → TellsBetween v found.leaf found.leaf_key low high o → TellsOf v found.leaf found.leaf_key key (value_there o key)
-    by None tells = λ is. elim tells [ inl less ↦ omega (arith, less, a, is) | inr most ↦ omega (arith, most, b, is) ]
-    by (Some pair) tells = elim (cases_eq pair.0 key) [
-      | inl same ↦ subst (TellsOf v found.leaf found.leaf_key key) (sym (ap (λ t. if t then Some pair.1 else None) (eq-eqb pair.0 key same)))
-          (tells.0 ∙ same, tells.3)
-      | inr other ↦ subst (TellsOf v found.leaf found.leaf_key key) (sym (ap (λ t. if t then Some pair.1 else None) (ne_eqb pair.0 key other)))
-          (λ is. other (sym tells.0 ∙ is))
-    ]
+    by : (b : Bool) → (pair.0 == key) ≡ b → TellsOf v f.leaf f.leaf_key key (if b then Some pair.1 else None)
+    by true is = (f.tells.0 ∙ eqb-true pair.0 key is, f.tells.3)
+    by false is = λ same. absurd (false≢true (sym is ∙ eq-eqb pair.0 key (sym f.tells.0 ∙ same)))
 
 -- of its own keys in a stretch it has found what the pass has
 pub about_mine : (cards : ℕ) (old new : PassModel) (key : ℕ) (about : About) → FindsAbout cards new.view key about → new.view.worker ≡ old.view.worker
     → TellsItsOwn old about.low about.high (value_there about.found)
 about_mine cards old new key about f same k a b owns =
-    reads_mine old new k (value_there about.found k) f.own (found_of new.view about.low about.high about.found f.found k a b) same owns
+    reads_mine old new k (value_there about.found k) f.own (found_of_key new.view about.low about.high k about.found f.found a b) same owns

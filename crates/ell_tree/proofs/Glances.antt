@@ -8,7 +8,7 @@ use Rattle.ell_cards.specs.declared.view.Told.{Told}
 use Rattle.ell_cards.specs.declared.view.Told.TheVariants.{Met, Key, Value}
 use Rattle.ell_cards.specs.declared.glance.Glance.{Glance}
 use Rattle.ell_cards.specs.declared.view.View.{View}
-use Rattle.ell_cards.specs.Models.{PassModel, Steps, Has, HasGlance, HasCome, last, before, latest, earlier, IsTold, InTable}
+use Rattle.ell_cards.specs.Models.{PassModel, Steps, Has, HasCome, last, latest, earlier, IsTold, InTable}
 use Rattle.ell_cards.specs.Changes.{after_look, after_look_down, after_key_of, after_value_of}
 use Rattle.ell_cards.specs.Guards.{MayLookDown}
 use Rattle.ell_cards.specs.Looking.{HasFound, ReadsItsOwn}

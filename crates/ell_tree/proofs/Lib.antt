@@ -44,3 +44,7 @@ pub mod Putting
 pub mod Concluding
 -- the steps of the rounds of such a call
 pub mod Rounds
+-- how many stretches of keys a look goes through that goes on
+pub mod Stretching
+-- what a scan has found and gathered as it goes on
+pub mod Gathering

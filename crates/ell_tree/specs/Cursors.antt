@@ -19,7 +19,8 @@ pub record IsNodeKey (cards : ℕ) (v : View) (key : ℕ) : Type 0 where
   pub below : 0 < node
   pub told : IsTold v (Key node key)
 
--- where a stretch begins: at the key of such a node, or at the first key; and where it ends: at one, or after the last real key
+-- where a stretch begins: at the key of such a node, or at the first key; and where it ends: at one, or after the last
+-- real key
 abbrev pub IsLower : ℕ → View → ℕ → Type 0
 IsLower cards v low = (low ≡ 0) ⊎ IsNodeKey cards v low
 

@@ -2,7 +2,7 @@ use Rattle.std.specs.Prelude.{◌≡◌, ℕ, ◌+◌, ◌*◌, ◌==◌, ◌<�
 use Rattle.std.specs.Map.{keys_of}
 use Rattle.std.specs.List.{All}
 use Rattle.std.specs.List.Sorted.{IsStrictlyIncreasing}
-use Rattle.ell_ops.specs.Contents.{Contents, contents_of}
+use Rattle.ell_ops.specs.Contents.{Contents}
 use Rattle.ell_ops.specs.Meaning.{greatest_key}
 use Rattle.ell_cards.specs.declared.view.View.{View}
 use Rattle.ell_cards.specs.Looking.{HasFound, IsFoundBetweenInRuns}
@@ -18,8 +18,8 @@ pub record IsAbout (key : ℕ) (about : About) : Type 0 where
   pub upto : key < about.high
   pub real : about.high ≤ greatest_key + 1
 
--- what a look has found of a stretch of keys was so, of all of them, in ONE state of the tree since it began, in every run in which its pass
--- now knows this
+-- what a look has found of a stretch of keys was so, of all of them, in ONE state of the tree since it began, in every
+-- run in which its pass now knows this
 abbrev pub IsFoundAboutIn : TreeModel → View → About → Type 0
 IsFoundAboutIn t v about = IsFoundBetweenInRuns t.plan v about.low about.high about.found
 
@@ -40,8 +40,8 @@ written room said = map (λ pair. (pair.key, pair.value)) (take said.count room)
 abbrev pub end_of : ℕ → Scanned → ℕ
 end_of upto said = unwrap_or said.next upto
 
--- each key from one on and below another is answered as by a look at it: in some state since the look began it was present with its value, if
--- it is among these pairs, and else absent
+-- each key from one on and below another is answered as by a look at it: in some state since the look began it was
+-- present with its value, if it is among these pairs, and else absent
 abbrev pub AreFoundIn : TreeModel → View → ℕ → ℕ → Contents → Type 0
 AreFoundIn t v from upto there = (key : ℕ) → from ≤ key → key < upto → IsFoundIn t v key (there key)
 
@@ -50,8 +50,8 @@ pub record AreInOrder (from upto : ℕ) (pairs : List (ℕ × ℕ)) : Type 0 whe
   pub ascending : IsStrictlyIncreasing (keys_of pairs)
   pub within : All (λ key. (from ≤ key) × (key < upto)) (keys_of pairs)
 
--- the most steps of a scan in a tree of so many cards: one to begin, and for each stretch at most two for each inner node beside the root, and two
--- for a leaf; there are no more stretches than one for each card and one more
+-- the most steps of a scan in a tree of so many cards: one to begin, and for each stretch at most two for each inner
+-- node beside the root, and two for a leaf; there are no more stretches than one for each card and one more
 abbrev pub scan_steps : ℕ → ℕ
 scan_steps cards = (cards + 1) * stretch_steps cards + 1
 
@@ -62,19 +62,23 @@ HaveFound v from upto there = (key : ℕ) → from ≤ key → key < upto → Ha
 -- what it has found where it sought the least present key from one on, or the greatest below one
 abbrev pub HasFoundNext : View → ℕ → Option (ℕ × ℕ) → Type 0
 HasFoundNext v from None = HaveFound v from (greatest_key + 1) (λ key. None)
-HasFoundNext v from (Some pair) = (from ≤ pair.0) × HasFound v pair.0 (Some pair.1) × HaveFound v from pair.0 (λ key. None)
+HasFoundNext v from (Some pair) =
+    (from ≤ pair.0) × HasFound v pair.0 (Some pair.1) × HaveFound v from pair.0 (λ key. None)
 
 abbrev pub HasFoundLast : View → ℕ → Option (ℕ × ℕ) → Type 0
 HasFoundLast v upto None = HaveFound v 0 upto (λ key. None)
-HasFoundLast v upto (Some pair) = (pair.0 < upto) × HasFound v pair.0 (Some pair.1) × HaveFound v (pair.0 + 1) upto (λ key. None)
+HasFoundLast v upto (Some pair) =
+    (pair.0 < upto) × HasFound v pair.0 (Some pair.1) × HaveFound v (pair.0 + 1) upto (λ key. None)
 
--- the least present key from one on, with its value, or that there is none: it was present in a state since the look began, and each key before
--- it was absent in some state since
+-- the least present key from one on, with its value, or that there is none: it was present in a state since the look
+-- began, and each key before it was absent in some state since
 abbrev pub IsNextIn : TreeModel → View → ℕ → Option (ℕ × ℕ) → Type 0
 IsNextIn t v from None = AreFoundIn t v from (greatest_key + 1) (λ key. None)
-IsNextIn t v from (Some pair) = (from ≤ pair.0) × IsFoundIn t v pair.0 (Some pair.1) × AreFoundIn t v from pair.0 (λ key. None)
+IsNextIn t v from (Some pair) =
+    (from ≤ pair.0) × IsFoundIn t v pair.0 (Some pair.1) × AreFoundIn t v from pair.0 (λ key. None)
 
 -- so the greatest present key below one, and each key after it
 abbrev pub IsLastIn : TreeModel → View → ℕ → Option (ℕ × ℕ) → Type 0
 IsLastIn t v upto None = AreFoundIn t v 0 upto (λ key. None)
-IsLastIn t v upto (Some pair) = (pair.0 < upto) × IsFoundIn t v pair.0 (Some pair.1) × AreFoundIn t v (pair.0 + 1) upto (λ key. None)
+IsLastIn t v upto (Some pair) =
+    (pair.0 < upto) × IsFoundIn t v pair.0 (Some pair.1) × AreFoundIn t v (pair.0 + 1) upto (λ key. None)

@@ -1,5 +1,5 @@
-//! A look that goes on from stretch to stretch of keys. It keeps the nodes at which it last went left, so that a stretch begins where the one
-//! before it turned, and a whole range takes the time of a walk in order.
+//! A look that goes on from stretch to stretch of keys. It keeps the nodes at which it last went left, so that a
+//! stretch begins where the one before it turned, and a whole range takes the time of a walk in order.
 ghost use Rattle.std.specs.Prelude.{◌≡◌, ◌<◌, ◌≤◌, ◌+◌, ◌%◌, slice_set};
 ghost use Rattle.ell_ops.specs.Meaning.{greatest_key};
 ghost use Rattle.ell_core.specs.acts.Searching.{IsLeaf};
@@ -16,8 +16,8 @@ use std::alloc::Allocator;
 // How many nodes a cursor keeps. In a balanced tree of 4,000,000 keys no search goes left more often.
 const KEPT: usize = 32;
 
-/// What a look has found about a key, in one state of the tree: of all keys from `low` on and below `high`, between which the key lies, this one
-/// is present, with this value, and no other; or none is.
+/// What a look has found about a key, in one state of the tree: of all keys from `low` on and below `high`, between
+/// which the key lies, this one is present, with this value, and no other; or none is.
 #[derive(Clone, Copy)]
 pub struct About {
     pub low: u64,
@@ -89,7 +89,8 @@ impl Cursor {
         found_at(table, pass, key, here, gate)
     }
 
-    // The last kept node to which a key comes, which is kept no longer, nor are those after it; or where the look began.
+    // The last kept node to which a key comes, which is kept no longer, nor are those after it; or where the look
+    // began.
     fn start(&mut self, key: u64) -> Glance
         requires least { self.old.first.low ≡ 0 }
         requires most { key < self.old.first.high }

@@ -1,4 +1,5 @@
-//! Calls that only read: the look for any key, whoever owns it, and how many cards are left. They change nothing and help nobody.
+//! Calls that only read: the look for any key, whoever owns it, what is about a key, and how many cards are left. They
+//! change nothing and help nobody.
 ghost use Rattle.std.specs.Prelude.{◌≡◌, ◌≤◌, ◌+◌};
 ghost use Rattle.ell_ops.specs.Meaning.{greatest_key};
 ghost use Rattle.ell_cards.specs.Looking.{HasFound, HasFoundBetween};

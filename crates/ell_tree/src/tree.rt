@@ -210,10 +210,10 @@ impl<A: Allocator + Copy> Tree<A> {
         look(&self.table, pass, key, gate)
     }
 
-    /// What is about a key, whoever owns the keys: of ONE state of the tree between the first step of the look and its last it tells all keys of a
-    /// stretch, from `low` on and below `high`, between which the key lies. Of these the key in `found` was present, with this value, and no
-    /// other; or none was. So who asks again about `high` comes by every key in order, and about `low - 1` downwards. Steps, cards and gate are
-    /// as of `look`.
+    /// What is about a key, whoever owns the keys: of ONE state of the tree between the first step of the look and its
+    /// last it tells all keys of a stretch, from `low` on and below `high`, between which the key lies. Of these the
+    /// key in `found` was present, with this value, and no other; or none was. So who asks again about `high` comes by
+    /// every key in order, and about `low - 1` downwards. Steps, cards and gate are as of `look`.
     pub fn look_about<G: StepGate>(&self, pass: &mut Pass<A>, key: u64, gate: &G) -> About
         requires may { IsIdlePassOf self.now pass.old }
         requires real { key ≤ greatest_key }
@@ -227,13 +227,14 @@ impl<A: Allocator + Copy> Tree<A> {
         look_about(&self.table, pass, key, gate)
     }
 
-    /// Writes the pairs of the keys from `from` on and below `upto`, whoever owns them, strictly ascending, into `room`, as far as there is room:
-    /// how many they are, and, if there may be more, the key where to go on. The rest of `room` is left as it is. Each key of the range, as far as
-    /// the scan came, is answered as by a look at it in one state of the tree between the first step of the scan and its last (`so`): what was
-    /// present all along is written, what was absent all along is not, and each pair was there. Two keys may be of two states: a scan is no
-    /// snapshot. It writes nothing to the tree, helps nobody and waits for nobody. It takes about the steps of a walk over the part of the tree
-    /// that has these keys, and in every schedule at most `(cards + 1) * (2 * cards + 2) + 1`. It takes no card. The gate is told each step, as
-    /// `Look`.
+    /// Writes the pairs of the keys from `from` on and below `upto`, whoever owns them, strictly ascending, into
+    /// `room`, as far as there is room: how many they are, and, if there may be more, the key where to go on. The rest
+    /// of `room` is left as it is. Each key of the range, as far as the scan came, is answered as by a look at it in
+    /// one state of the tree between the first step of the scan and its last (`so`): what was present all along is
+    /// written, what was absent all along is not, and each pair was there. Two keys may be of two states: a scan is no
+    /// snapshot. It writes nothing to the tree, helps nobody and waits for nobody. It takes about the steps of a walk
+    /// over the part of the tree that has these keys, and in every schedule at most `(cards + 1) * (2 * cards + 2) +
+    /// 1`. It takes no card. The gate is told each step, as `Look`.
     pub fn scan<G: StepGate>(
         &self,
         pass: &mut Pass<A>,
@@ -257,9 +258,14 @@ impl<A: Allocator + Copy> Tree<A> {
         scan(&self.table, pass, from, upto, room, gate)
     }
 
-    /// The least key from `key` on that is present, with its value: it was present in one state of the tree during the call, and each key before it
-    /// was absent in one. Steps, cards and gate are as of `scan`.
-    pub fn next_at_least<G: StepGate>(&self, pass: &mut Pass<A>, key: u64, gate: &G) -> Option<(u64, u64)>
+    /// The least key from `key` on that is present, with its value: it was present in one state of the tree during the
+    /// call, and each key before it was absent in one. Steps, cards and gate are as of `scan`.
+    pub fn next_at_least<G: StepGate>(
+        &self,
+        pass: &mut Pass<A>,
+        key: u64,
+        gate: &G,
+    ) -> Option<(u64, u64)>
         requires may { IsIdlePassOf self.now pass.old }
         requires real { key ≤ greatest_key }
         ensures so { IsNextIn self.now pass.new.view key result }
@@ -271,7 +277,12 @@ impl<A: Allocator + Copy> Tree<A> {
     }
 
     /// The least key above `key` that is present, with its value, as of `next_at_least`.
-    pub fn next_after<G: StepGate>(&self, pass: &mut Pass<A>, key: u64, gate: &G) -> Option<(u64, u64)>
+    pub fn next_after<G: StepGate>(
+        &self,
+        pass: &mut Pass<A>,
+        key: u64,
+        gate: &G,
+    ) -> Option<(u64, u64)>
         requires may { IsIdlePassOf self.now pass.old }
         requires real { key ≤ greatest_key }
         ensures so { IsNextIn self.now pass.new.view (key + 1) result }
@@ -293,9 +304,14 @@ impl<A: Allocator + Copy> Tree<A> {
         next_from(&self.table, pass, 0, gate)
     }
 
-    /// The greatest key up to `key` that is present, with its value: it was present in one state of the tree during the call, and each key after it
-    /// was absent in one. Steps, cards and gate are as of `scan`.
-    pub fn last_at_most<G: StepGate>(&self, pass: &mut Pass<A>, key: u64, gate: &G) -> Option<(u64, u64)>
+    /// The greatest key up to `key` that is present, with its value: it was present in one state of the tree during the
+    /// call, and each key after it was absent in one. Steps, cards and gate are as of `scan`.
+    pub fn last_at_most<G: StepGate>(
+        &self,
+        pass: &mut Pass<A>,
+        key: u64,
+        gate: &G,
+    ) -> Option<(u64, u64)>
         requires may { IsIdlePassOf self.now pass.old }
         requires real { key ≤ greatest_key }
         ensures so { IsLastIn self.now pass.new.view (key + 1) result }
@@ -307,7 +323,12 @@ impl<A: Allocator + Copy> Tree<A> {
     }
 
     /// The greatest key below `key` that is present, with its value, as of `last_at_most`.
-    pub fn last_before<G: StepGate>(&self, pass: &mut Pass<A>, key: u64, gate: &G) -> Option<(u64, u64)>
+    pub fn last_before<G: StepGate>(
+        &self,
+        pass: &mut Pass<A>,
+        key: u64,
+        gate: &G,
+    ) -> Option<(u64, u64)>
         requires may { IsIdlePassOf self.now pass.old }
         requires real { key ≤ greatest_key }
         ensures so { IsLastIn self.now pass.new.view key result }

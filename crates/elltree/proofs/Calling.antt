@@ -1,10 +1,12 @@
-use Rattle.std.proofs.Common.{◌≡◌, ◌<◌, ◌≤◌, ℕ, Option, Some, None, Result, IfOk, IfErr, IfSome, OnOk, ap, subst, sym}
+use Rattle.std.proofs.Common.{◌≡◌, ◌+◌, ◌<◌, ◌≤◌, ℕ, Option, Some, None, Result, IfOk, IfErr, IfSome, OnOk, ap, subst, sym}
 use Rattle.ell_ops.specs.Meaning.{greatest_key}
 use Rattle.ell_tree.specs.Ledgers.{Owns, present_in}
 use Rattle.ell_handle.specs.declared.refusal.Refusal.{Refusal}
 use Rattle.ell_handle.specs.declared.refusal.Refusal.TheVariants.{BadKey}
 use Rattle.std.specs.Arc.{arc_value}
 use Rattle.ell_tree.specs.Looks.{IsFoundIn}
+use Rattle.ell_tree.specs.Scans.{IsLastIn, IsNextIn}
+use Rattle.ell_handle.specs.Ranges.{OnlyScans, real_end}
 use Rattle.ell_handle.specs.Reads.{OnlyLooksUp, tree_of}
 use Rattle.ell_handle.specs.declared.handle.Handle.{Handle}
 use Rattle.ell_handle.specs.declared.handle.SharedTree.{SharedTree}
@@ -35,3 +37,13 @@ pub record Looked (key : ℕ) (answer : Result (Option ℕ) Refusal) (old new : 
   pub real : OnOk answer (key ≤ greatest_key)
   pub bad_key : IfErr answer (λ why. (why ≡ BadKey) × (greatest_key < key))
   pub reads : OnlyLooksUp old new
+
+-- what the next key from one on that is found tells of a handle
+pub record SoughtNext (key : ℕ) (there : Option (ℕ × ℕ)) (old new : Handle) : Type 0 where
+  pub so : IsNextIn (tree_of old) new.pass.view key there
+  pub reads : OnlyScans old new
+
+-- and the last key up to one
+pub record SoughtLast (key : ℕ) (there : Option (ℕ × ℕ)) (old new : Handle) : Type 0 where
+  pub so : IsLastIn (tree_of old) new.pass.view (real_end (key + 1)) there
+  pub reads : OnlyScans old new

@@ -8,9 +8,9 @@ use Rattle.ell_handle.specs.declared.handle.Handle.{Handle}
 use Rattle.elltree.specs.Codes.{IsOneOf, said_no, said_yes}
 use Rattle.elltree.specs.Maps.{as_pairs}
 
--- what the code of a scan tells of a handle, with so many pairs that it has written, and the key where to go on: of each key from one on and
--- below that one what it found in one state of the tree, on keys of the handle's own what its map has; the range is told to its end, or there
--- was no room for more
+-- what the code of a scan tells of a handle, with so many pairs that it has written, and the key where to go on: of
+-- each key from one on and below that one what it found in one state of the tree, on keys of the handle's own what its
+-- map has; the range is told to its end, or there was no room for more
 pub record TellsRange (from upto : ℕ) (said : ℤ) (count next : ℕ) (before after : List Pair) (old new : Handle) : Type 0 where
   pub codes : said ≡ said_yes
   pub found : AreFoundIn (tree_of old) new.pass.view from (real_end next) (contents_of (as_pairs (take count after)))
@@ -22,7 +22,8 @@ pub record TellsRange (from upto : ℕ) (said : ℤ) (count next : ℕ) (before 
   pub others : drop count after ≡ drop count before
   pub reads : OnlyScans old new
 
--- what the code of a search for the next key from one on tells of a handle, with the key and the value that it has left in their places
+-- what the code of a search for the next key from one on tells of a handle, with the key and the value that it has left
+-- in their places
 pub record TellsNext (key : ℕ) (said : ℤ) (found value : ℕ) (old new : Handle) : Type 0 where
   pub codes : IsOneOf (said_yes ∷ said_no ∷ []) said
   pub yes : said ≡ said_yes → IsNextIn (tree_of old) new.pass.view key (Some (found, value))

@@ -11,9 +11,9 @@ use crate::slot::Slot;
 use ell_handle::Handle;
 use std::alloc::Global;
 
-/// Writes the pairs of the keys from `from` on and below `upto`, whoever owns them, ascending, as far as there is room, how many they are, and
-/// the key where to go on: `upto`, if the range is told to its end. Each key is told as it was in one state of the tree during the call: two keys
-/// may be of two states.
+/// Writes the pairs of the keys from `from` on and below `upto`, whoever owns them, ascending, as far as there is room,
+/// how many they are, and the key where to go on: `upto`, if the range is told to its end. Each key is told as it was
+/// in one state of the tree during the call: two keys may be of two states.
 #[unsafe(no_mangle)]
 pub extern "C" fn elltree_slot_range(
     alloc: Global,
@@ -25,8 +25,8 @@ pub extern "C" fn elltree_slot_range(
     next: &mut u64,
 ) -> i32
     ensures closed { (result ≡ said_closed) ↔ (handle_of slot.old.raw.inside ≡ None) }
-    ensures tells { OfHandlesIfAny (TellsRange from upto result count.new next.new out.old out.new) (handle_of slot.old.raw.inside)
-        (handle_of slot.new.raw.inside) }
+    ensures tells { OfHandlesIfAny (TellsRange from upto result count.new next.new out.old out.new)
+        (handle_of slot.old.raw.inside) (handle_of slot.new.raw.inside) }
     ensures kept { result ≢ said_yes → (out.new ≡ out.old) × ((count.new ≡ count.old) × (next.new ≡ next.old)) }
 {
     let Some(mut place) = slot.take(alloc) else {
@@ -49,7 +49,7 @@ fn range(
     count: &mut usize,
     next: &mut u64,
 ) -> i32
-    ensures { TellsRange from upto result count.new next.new out.old out.new handle.old handle.new }
+    ensures tells { TellsRange from upto result count.new next.new out.old out.new handle.old handle.new }
 {
     let scanned = handle.scan(from, upto, out);
     *count = scanned.count;
@@ -57,8 +57,8 @@ fn range(
     YES
 }
 
-/// Whether a key from `key` on is present, whoever owns it, and the least of them with its value: it was present in one state of the tree during
-/// the call, and each key before it was absent in one.
+/// Whether a key from `key` on is present, whoever owns it, and the least of them with its value: it was present in one
+/// state of the tree during the call, and each key before it was absent in one.
 #[unsafe(no_mangle)]
 pub extern "C" fn elltree_slot_next_at_least(
     alloc: Global,
@@ -78,8 +78,8 @@ pub extern "C" fn elltree_slot_next_at_least(
     told(there, found, value)
 }
 
-/// Whether a key up to `key` is present, whoever owns it, and the greatest of them with its value: it was present in one state of the tree during
-/// the call, and each key after it was absent in one.
+/// Whether a key up to `key` is present, whoever owns it, and the greatest of them with its value: it was present in
+/// one state of the tree during the call, and each key after it was absent in one.
 #[unsafe(no_mangle)]
 pub extern "C" fn elltree_slot_last_at_most(
     alloc: Global,

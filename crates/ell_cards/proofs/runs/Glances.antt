@@ -236,7 +236,7 @@ module _ (keys : List ℕ) (cards : ℕ) where
           let course : AllOnCourse w x low high = λ i l u. let r = c.real in walk_course w c.kept.stages sound i (OnCourse-start w.key w.child top sound.tree.ordered i (omega arith)) (c.come i l u) in
           let down : (y : Words) → AllCome y x low high → y.key x ≡ k → n ≡ y.child x right → AllCome y n j (upto_of right high k) =
           λ y come key child. subst (λ z. AllCome y z j (upto_of right high k)) (sym child)
-              (subst (λ m. AllCome y (y.child x right) (from_of right low m) (upto_of right high m)) key (all_come_down y x low high right inner come)) in
+          (subst (λ m. AllCome y (y.child x right) (from_of right low m) (upto_of right high m)) key (all_come_down y x low high right inner come)) in
           let since = same_or_since x low high j right inner a b keys cards c.state c.kept born course side c.after s c.last in
           let is = sym (listed since.0 ((since.0.views seat v there).entries (Key x k) told).0) in
           elim since.1 [

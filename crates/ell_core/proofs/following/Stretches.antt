@@ -1,24 +1,20 @@
-use Rattle.std.proofs.Common.{◌≡◌, ◌%◌, ℕ, ◌+◌, ◌<◌, ◌≤◌, ◌⊎◌, inl, inr, Bool, true, false, nat_le, min, max, refl, sym, ap, ◌∙◌, subst, arith}
+use Rattle.std.proofs.Common.{◌≡◌, ◌%◌, ℕ, ◌<◌, ◌≤◌, ◌⊎◌, inl, inr, Bool, true, false, nat_le, refl, sym, ap, ◌∙◌, subst, arith}
 use Rattle.std.proofs.lemmas.Bool.Decides.{nat_tests}
 use Rattle.std.proofs.Math.Nat.{min-le_left, min-le_right}
-use Rattle.ell_ops.specs.Meaning.{greatest_key}
 use Rattle.ell_word.specs.Node.{IsInternal, card}
 use Rattle.ell_core.specs.declared.event.Event.{Event}
 use Rattle.ell_core.specs.declared.event.Stepped.{Stepped}
 use Rattle.ell_core.specs.state.Words.{Words}
 use Rattle.ell_core.specs.state.Machine.{Machine}
-use Rattle.ell_core.specs.state.Cards.{is_right, child_for}
+use Rattle.ell_core.specs.state.Cards.{is_right}
 use Rattle.ell_core.specs.acts.Events.{Steps}
-use Rattle.ell_core.specs.tree.Tree.{OnWalk, here, next}
+use Rattle.ell_core.specs.tree.Tree.{OnWalk, here}
 use Rattle.ell_core.specs.history.Stages.{Stages, Born}
-use Rattle.ell_core.specs.history.Invariant.{top, IsOnCourse, WordsAreSound, Invariant}
+use Rattle.ell_core.specs.history.Invariant.{IsOnCourse, WordsAreSound, Invariant}
 use Rattle.ell_core.specs.history.Later.{WordsLater}
 use Rattle.ell_core.specs.statements.Readers.{AllCome, from_of, upto_of}
-use Rattle.ell_core.proofs.tree.Courses.{OnCourse-start, OnCourse-down}
 use Rattle.ell_core.proofs.tree.Reached.{OnWalk-below, joins_walk}
 use Rattle.ell_core.proofs.stages.Order.{born-claimed}
-use Rattle.ell_core.proofs.stages.LaterKeys.{root_born}
-use Rattle.ell_core.proofs.following.Lawful.{events_lawful}
 use Rattle.ell_core.proofs.following.Looks.{OnWalk-down, courses_go_on}
 
 -- the keys that go to a child are among those that come to its node, and are on its side

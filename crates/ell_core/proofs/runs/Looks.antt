@@ -1,31 +1,21 @@
-use Rattle.std.proofs.Common.{◌≡◌, ◌%◌, ℕ, suc, ◌<◌, ◌≤◌, ◌⊎◌, inl, inr, List, ◌∷◌, refl, sym, ◌∙◌, subst, arith}
+use Rattle.std.proofs.Common.{◌≡◌, ℕ, ◌≤◌, ◌⊎◌, inl, inr, sym, subst, arith}
 use Rattle.ell_ops.specs.Meaning.{greatest_key}
-use Rattle.ell_word.specs.Node.{IsInternal, card}
+use Rattle.ell_word.specs.Node.{IsInternal}
 use Rattle.ell_core.specs.declared.event.Event.{Event}
-use Rattle.ell_core.specs.declared.event.Shown.{Shown}
-use Rattle.ell_core.specs.declared.event.Shown.TheVariants as shown
 use Rattle.ell_core.specs.declared.event.Stepped.{Stepped}
 use Rattle.ell_core.specs.state.Words.{Words}
 use Rattle.ell_core.specs.state.Machine.{Machine}
 use Rattle.ell_core.specs.state.Cards.{is_right, child_for}
 use Rattle.ell_core.specs.acts.Searching.{IsLeaf}
 use Rattle.ell_core.specs.acts.Events.{Steps}
-use Rattle.ell_core.specs.acts.Runs.{Shows, Run}
 use Rattle.ell_core.specs.tree.Tree.{OnWalk, here, next}
 use Rattle.ell_core.specs.tree.Ranges.{at_leaf, below}
 use Rattle.ell_core.specs.history.Stages.{Stages, Born}
 use Rattle.ell_core.specs.history.Invariant.{top, LeadsTo, IsOnCourse, WordsAreSound, Invariant}
-use Rattle.ell_core.specs.statements.RunLaws.{IsPassed}
-use Rattle.ell_core.specs.statements.Looks.{Looks, ends, loads, stays, IsAmid, LooksAreOfOneState}
 use Rattle.ell_core.proofs.tree.Bounds.{leaf_key}
 use Rattle.ell_core.proofs.tree.Courses.{OnCourse-start, OnCourse-down}
-use Rattle.ell_core.proofs.tree.Reached.{OnWalk-below, tree_key_leads}
-use Rattle.ell_core.proofs.stages.Order.{born-claimed}
 use Rattle.ell_core.proofs.stages.LaterKeys.{root_born}
-use Rattle.ell_core.proofs.following.Lawful.{events_lawful}
 use Rattle.ell_core.proofs.following.Looks.{OnWalk-down, courses_go_on}
-use Rattle.ell_core.proofs.runs.Runs.{ran}
-use Rattle.ell_core.proofs.runs.Lawful.{passed_has}
 
 -- all nodes on a walk from a node that came into the tree came too
 pub walk_born : (w : Words) (stage : Stages) → WordsAreSound w stage → (key : ℕ) {x y : ℕ} → Born stage x → OnWalk w key x y → Born stage y

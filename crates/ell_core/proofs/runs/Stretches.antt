@@ -11,15 +11,13 @@ use Rattle.ell_core.specs.declared.event.Shown.TheVariants as shown
 use Rattle.ell_core.specs.state.Words.{Words}
 use Rattle.ell_core.specs.state.Machine.{Machine}
 use Rattle.ell_core.specs.state.Cards.{is_right}
-use Rattle.ell_core.specs.acts.Searching.{IsLeaf}
 use Rattle.ell_core.specs.acts.Runs.{Shows, Run}
-use Rattle.ell_core.specs.tree.Tree.{OnWalk, IsTreePair, here}
+use Rattle.ell_core.specs.tree.Tree.{IsTreePair, here}
 use Rattle.ell_core.specs.history.Stages.{Stages, Born}
-use Rattle.ell_core.specs.history.Invariant.{top, Invariant, WordsAreSound}
-use Rattle.ell_core.specs.statements.RunLaws.{IsPassed}
+use Rattle.ell_core.specs.history.Invariant.{top, Invariant}
 use Rattle.ell_core.specs.statements.Looks.{Looks, ends, loads, IsAmid, LooksAreOfOneState}
 use Rattle.ell_core.specs.statements.Looks.{stays as look_stays}
-use Rattle.ell_core.specs.statements.Readers.{AllCome, from_of, upto_of, Comes, begins, stays, goes, StretchIsOfOneState, StretchesAreOfOneState}
+use Rattle.ell_core.specs.statements.Readers.{AllCome, from_of, upto_of, Comes, begins, stays, goes, StretchesAreOfOneState}
 use Rattle.ell_core.proofs.tree.Courses.{OnCourse-start}
 use Rattle.ell_core.proofs.tree.Reached.{OnWalk-below, tree_key_leads}
 use Rattle.ell_core.proofs.stages.Order.{born-claimed}
@@ -174,9 +172,9 @@ module _ (m : Machine) (stage : Stages) (holds : Invariant m stage) where
         let side : is_right w x k ≡ right = ap (λ n. nat_le n k) (sym same) ∙ goes_side right low high (m'.words.key x) k (omega arith) some in
         let course : AllOnCourse w x low high = λ j l u. let r = c.real in walk_course w before.stages sound j (OnCourse-start w.key w.child top sound.tree.ordered j (omega arith)) (c.come j l u) in
         let down : (v : Words) → AllCome v x low high → v.key x ≡ m'.words.key x → m'.words.child x right ≡ v.child x right
-            → AllCome v (m'.words.child x right) k (upto_of right high (m'.words.key x)) =
-            λ v come key child. subst (λ y. AllCome v y k (upto_of right high (m'.words.key x))) (sym child)
-            (subst (λ n. AllCome v (v.child x right) (from_of right low n) (upto_of right high n)) key (all_come_down v x low high right inner come)) in
+        → AllCome v (m'.words.child x right) k (upto_of right high (m'.words.key x)) =
+        λ v come key child. subst (λ y. AllCome v y k (upto_of right high (m'.words.key x))) (sym child)
+        (subst (λ n. AllCome v (v.child x right) (from_of right low n) (upto_of right high n)) key (all_come_down v x low high right inner come)) in
         elim (same_or_since x low high k right inner a b c.state before.stages before.invariant born course side c.by.after c.by.rest m' c.by.last) [
           | inl still ↦ record {
             state = c.state;

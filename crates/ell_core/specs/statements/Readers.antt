@@ -25,31 +25,35 @@ abbrev pub upto_of : Bool → ℕ → ℕ → ℕ
 upto_of true high key = high
 upto_of false high key = min high key
 
--- in a run a reader, who only loads, has come to a node by all keys of a stretch: to node 0 by all real keys; and from a node to which he had
--- come, now or earlier, to the child on a side, as it is when he loads it, by those of the keys that go to that side. He may keep a node, and
--- go on from it later, whatever came between
+-- in a run a reader, who only loads, has come to a node by all keys of a stretch: to node 0 by all real keys; and from
+-- a node to which he had come, now or earlier, to the child on a side, as it is when he loads it, by those of the keys
+-- that go to that side. He may keep a node, and go on from it later, whatever came between
 pub data Comes (m : Machine) : List Event → List Shown → Machine → ℕ → ℕ → ℕ → Type 0 where
-  begins : {events : List Event} {answers : List Shown} {m' : Machine} {x low high : ℕ} → Run m events answers m' → x ≡ 0 → low ≡ 0
-      → high ≡ greatest_key + 1 → Comes m events answers m' x low high
-  stays : {events both : List Event} {answers all : List Shown} {between m' : Machine} {x low high : ℕ} (more : List Event) (others : List Shown)
-      → Comes m events answers between x low high → Run between more others m' → both ≡ events ++ more → all ≡ answers ++ others
+  begins : {events : List Event} {answers : List Shown} {m' : Machine} {x low high : ℕ} → Run m events answers m'
+      → x ≡ 0 → low ≡ 0 → high ≡ greatest_key + 1 → Comes m events answers m' x low high
+  stays : {events both : List Event} {answers all : List Shown} {between m' : Machine} {x low high : ℕ}
+      (more : List Event) (others : List Shown) → Comes m events answers between x low high
+      → Run between more others m' → both ≡ events ++ more → all ≡ answers ++ others
       → Comes m both all m' x low high
   goes : {events : List Event} {answers : List Shown} {m' : Machine} {x low high y from upto : ℕ} (right : Bool)
-      → Comes m events answers m' x low high → IsInternal x → y ≡ m'.words.child x right → from ≡ from_of right low (m'.words.key x)
-      → upto ≡ upto_of right high (m'.words.key x) → Comes m events answers m' y from upto
+      → Comes m events answers m' x low high → IsInternal x → y ≡ m'.words.child x right
+      → from ≡ from_of right low (m'.words.key x) → upto ≡ upto_of right high (m'.words.key x) → Comes m events answers m' y from upto
 
--- a leaf is the end of the walks for all keys of a stretch in ONE state of a run; so by the leaf's key and value, as the run's end has them, the
--- tree had of these keys in that state the leaf's with that value, if it is one of them, and no other
-pub record StretchIsOfOneState (m : Machine) (events : List Event) (answers : List Shown) (m' : Machine) (leaf low high : ℕ) : Type 0 where
+-- a leaf is the end of the walks for all keys of a stretch in ONE state of a run; so by the leaf's key and value, as
+-- the run's end has them, the tree had of these keys in that state the leaf's with that value, if it is one of them,
+-- and no other
+pub record StretchIsOfOneState (m : Machine) (events : List Event) (answers : List Shown) (m' : Machine)
+    (leaf low high : ℕ) : Type 0 where
   pub state : Machine
   pub amid : IsAmid m events answers m' state
   pub on : AllCome state.words leaf low high
-  pub present : low ≤ m'.words.key leaf → m'.words.key leaf < high → IsTreePair state.words (m'.words.key leaf) (m'.words.value leaf)
+  pub present : low ≤ m'.words.key leaf → m'.words.key leaf < high
+      → IsTreePair state.words (m'.words.key leaf) (m'.words.value leaf)
   pub absent : (key : ℕ) → low ≤ key → key < high → m'.words.key leaf ≢ key → ¬ IsTreeKey state.words key
   pub real : high ≤ greatest_key + 1
   pub claimed : low < high → card leaf < m'.words.next
 
 -- so it is with each leaf to which a reader has come, whatever the events were, whoever owns the keys
 abbrev pub StretchesAreOfOneState : Type 0
-StretchesAreOfOneState = (m : Machine) (events : List Event) (answers : List Shown) (m' : Machine) (leaf low high : ℕ) → IsPassed m
-    → Comes m events answers m' leaf low high → IsLeaf leaf → StretchIsOfOneState m events answers m' leaf low high
+StretchesAreOfOneState = (m : Machine) (events : List Event) (answers : List Shown) (m' : Machine) (leaf low high : ℕ)
+    → IsPassed m → Comes m events answers m' leaf low high → IsLeaf leaf → StretchIsOfOneState m events answers m' leaf low high

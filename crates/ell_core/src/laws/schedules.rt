@@ -55,8 +55,9 @@ pub fn looks_are_of_one_state()
     ensures { LooksAreOfOneState }
 {}
 
-/// A reader who only loads, and may keep nodes and go on from them later, finds at a leaf how in one state of the run all keys of a stretch
-/// were: those that went the same way wherever he went down. Of these the tree had in that state the leaf's key, or none.
+/// A reader who only loads, and may keep nodes and go on from them later, finds at a leaf how in one state of the run
+/// all keys of a stretch were: those that went the same way wherever he went down. Of these the tree had in that state
+/// the leaf's key, or none.
 pub fn stretches_are_of_one_state()
     ensures { StretchesAreOfOneState }
 {}

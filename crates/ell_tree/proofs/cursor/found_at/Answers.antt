@@ -1,4 +1,4 @@
-use Rattle.std.proofs.Common.{◌<◌, ◌≤◌, ◌⊎◌, inl, inr, arith, rules}
+use Rattle.std.proofs.Common.{inl, inr, arith, rules}
 use Rattle.ell_tree.proofs.Cursors.{finds_none, finds_one, key_on, leaf_stands, on_more, on_trans, value_on}
 use Rattle.ell_tree.proofs.cursor.found_at.Goals as goal
 

@@ -1,10 +1,8 @@
-use Rattle.std.proofs.Common.{◌≡◌, ◌%◌, Bool, nat_le, refl, ap, sym, ◌∙◌, subst, arith, rules}
+use Rattle.std.proofs.Common.{◌%◌, nat_le, refl, ap, sym, ◌∙◌, subst, arith, rules}
 use Rattle.ell_word.specs.Node.{IsInternal}
-use Rattle.ell_core.specs.acts.Searching.{IsLeaf}
 use Rattle.ell_cards.specs.declared.glance.Glance.{Glance}
-use Rattle.ell_cards.specs.Changes.{gone_down}
 use Rattle.ell_tree.specs.Cursors.{AreKept}
-use Rattle.ell_tree.proofs.Cursors.{Goes, goes_first, goes_down, goes_found, key_on, kept_still, may_go_down, one_kept, same_kept, stands_still}
+use Rattle.ell_tree.proofs.Cursors.{Goes, goes_first, goes_down, key_on, kept_still, may_go_down, one_kept, stands_still}
 use Rattle.ell_tree.proofs.cursor.Cursor.about.Goals as goal
 use Rattle.ell_tree.proofs.cursor.Cursor.about.Goals.{then-not-right, else-not-right}
 

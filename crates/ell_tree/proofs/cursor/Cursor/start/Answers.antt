@@ -1,4 +1,4 @@
-use Rattle.std.proofs.Common.{ℕ, ◌%◌, ◌-◌, ◌<◌, inr, ap, arith, slice_index_or}
+use Rattle.std.proofs.Common.{◌%◌, ◌-◌, inr, ap, arith, slice_index_or}
 use Rattle.ell_cards.specs.declared.glance.Glance.{Glance}
 use Rattle.ell_tree.proofs.cursor.Cursor.start.Goals as goal
 

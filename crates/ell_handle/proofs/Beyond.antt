@@ -1,0 +1,42 @@
+use Rattle.std.proofs.Common.{◌<◌, ℕ, None, refl, arith}
+use Rattle.ell_ops.specs.Meaning.{greatest_key}
+use Rattle.ell_cards.specs.declared.view.View.{View}
+use Rattle.ell_tree.proofs.Counting.{took_none}
+use Rattle.ell_tree.specs.Ledgers.{PassModel, TreeModel}
+use Rattle.ell_tree.specs.Looks.{OnlyLooks}
+use Rattle.ell_tree.specs.Scans.{IsNextIn}
+use Rattle.ell_handle.proofs.Together.{stays_put}
+use Rattle.ell_handle.specs.Ranges.{OnlyScans}
+use Rattle.ell_handle.specs.declared.handle.Handle.{Handle}
+
+-- no key is above the greatest
+pub none_above : (t : TreeModel) (v : View) (from : ℕ) → greatest_key < from → IsNextIn t v from None
+none_above t v from above key low high = absurd (omega arith)
+
+-- a call that does nothing only looks
+pub looks_none : (p : PassModel) (n : ℕ) → OnlyLooks p p n
+looks_none p n = record {
+  table = refl;
+  label = refl;
+  worker = refl;
+  answers = refl;
+  answered = refl;
+  share = refl;
+  hindrances = refl;
+  met = refl;
+  hindered = refl;
+  next = refl;
+  knew_before = refl;
+  next_at_least = refl;
+  won = refl;
+  found = refl;
+  planned = refl;
+  stores = refl;
+  told = λ e is. is;
+  steps = omega arith;
+  made = omega arith;
+}
+
+-- and takes no more than a scan takes
+pub scans_none : (h : Handle) → OnlyScans h h
+scans_none h = record { stays = stays_put h; took = took_none h.pass _; taken = refl; calm = refl }

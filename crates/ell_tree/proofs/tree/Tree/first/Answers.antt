@@ -1,0 +1,6 @@
+-- What was found of the next key, and of each before it, was so in one state since the look began.
+use Rattle.ell_tree.proofs.Gathering.{next_in}
+use Rattle.ell_tree.proofs.tree.Tree.first.Goals as goal
+
+pub returns-clause-so : goal.returns-clause-so
+returns-clause-so g c = next_in c.args.self.now c.next_from.new.pass.view 0 c.next_from.result c.next_from.ensures.found

@@ -1,0 +1,6 @@
+-- What was found of the last key, and of each after it, was so in one state since the look began.
+use Rattle.ell_tree.proofs.Gathering.{last_in}
+use Rattle.ell_tree.proofs.tree.Tree.last_before.Goals as goal
+
+pub returns-clause-so : goal.returns-clause-so
+returns-clause-so g c = last_in c.args.self.now c.last_below.new.pass.view c.args.key c.last_below.result c.last_below.ensures.found
