@@ -1,24 +1,32 @@
 //! Measures elltree, as a program in Rust has it, with owned keys and with shared ones, beside the same tree over bare atomic words and
-//! as libcds has it, `BTreeMap`s behind locks, one or 16 of them, and a private `BTreeMap` for each owner. Takes the seconds of an
-//! interval, the number of rounds, a file, to which it writes all figures, and what it measures, a kind or `all`; the tables go to
-//! standard output.
+//! as libcds has it, `BTreeMap`s behind locks, one or 16 of them, and a private `BTreeMap` for each owner; of ranges also as a program in
+//! C has it, beside Java's skip list. Takes the seconds of an interval, the number of rounds, a file, to which it writes all figures, and
+//! what it measures, a kind or `all`; the tables go to standard output.
 
+mod array;
 #[path = "../plain/bare_tree.rs"]
 mod bare_tree;
+#[cfg(java)]
+mod java;
 #[cfg(libcds)]
 mod libcds;
 mod peers;
+mod ranges;
 mod record;
 mod work;
 
 use peers::{Crew, Peer, Sizes};
+use ranges::{write, Hold, Span, Told, Way};
 use record::{Figure, Record};
 use std::process::ExitCode;
 use std::time::Duration;
 use std::{env, fs};
-use work::{adds, expect_stops, latencies, speeds, stops, Latencies, Random, Work};
+use work::{adds, expect_stops, latencies, scans, speeds, stops, Latencies, Random, Speeds, Work};
 
 const KEYS: [u64; 3] = [64, 4_096, 262_144];
+
+/// How many keys a map has of which ranges are told.
+const RANGED: [u64; 2] = [4_096, 262_144];
 
 /// How many counters there are.
 const COUNTERS: [u64; 3] = [1, 64, 4_096];
@@ -41,6 +49,8 @@ pub enum Kind {
     Stopped,
     /// Adds to the values of keys that all owners share.
     Counters,
+    /// Ranges told to readers, and writes of owners, each on all keys.
+    Ranges,
 }
 
 /// What is measured of each peer, one after the other.
@@ -51,7 +61,8 @@ pub struct Case {
 }
 
 impl Kind {
-    const ALL: [Kind; 6] = [Kind::Operations, Kind::Shared, Kind::Looks, Kind::Running, Kind::Stopped, Kind::Counters];
+    const ALL: [Kind; 7] =
+        [Kind::Operations, Kind::Shared, Kind::Looks, Kind::Running, Kind::Stopped, Kind::Counters, Kind::Ranges];
 
     pub fn name(self) -> &'static str {
         match self {
@@ -61,6 +72,7 @@ impl Kind {
             Kind::Running => "running",
             Kind::Stopped => "stopped",
             Kind::Counters => "counters",
+            Kind::Ranges => "ranges",
         }
     }
 
@@ -69,6 +81,7 @@ impl Kind {
             Kind::Looks => vec![Peer::Elltree, Peer::Bare, Peer::RwLock, Peer::RwLocks],
             Kind::Shared => Peer::ALL.iter().copied().filter(|peer| peer.can_share()).collect(),
             Kind::Counters => Peer::COUNTING.to_vec(),
+            Kind::Ranges => Way::ALL.iter().copied().map(Peer::Ranging).collect(),
             _ => Peer::ALL.to_vec(),
         }
     }
@@ -80,20 +93,27 @@ impl Kind {
             Kind::Looks => [1, 2, 4].into_iter().flat_map(|readers| [0, 1, 3].map(|owners| (owners, readers))).collect(),
             Kind::Running | Kind::Stopped => vec![(2, 1)],
             Kind::Counters => vec![(1, 0), (4, 0)],
+            Kind::Ranges => vec![(0, 1), (3, 0), (3, 1)],
         }
     }
 
     /// How many keys there are.
-    fn keys(self) -> [u64; 3] {
+    fn keys(self) -> &'static [u64] {
         match self {
-            Kind::Counters => COUNTERS,
-            _ => KEYS,
+            Kind::Counters => &COUNTERS,
+            Kind::Ranges => &RANGED,
+            _ => &KEYS,
         }
+    }
+
+    /// Whether all owners change the same keys.
+    pub fn is_of_shared_keys(self) -> bool {
+        matches!(self, Kind::Shared | Kind::Counters | Kind::Ranges)
     }
 
     /// The cases of this kind with so many keys.
     fn cases(self, keys: u64) -> impl Iterator<Item = Case> {
-        let shared = matches!(self, Kind::Shared | Kind::Counters);
+        let shared = self.is_of_shared_keys();
         let sizes = self.crews().into_iter().map(move |(owners, readers)| Sizes { keys, owners, readers, shared });
         sizes.map(move |sizes| Case { kind: self, sizes })
     }
@@ -101,7 +121,8 @@ impl Kind {
 
 /// All cases of these kinds: those with the fewest keys of each kind first.
 fn cases(kinds: &[Kind]) -> Vec<Case> {
-    (0..3).flat_map(|at| kinds.iter().flat_map(move |kind| kind.cases(kind.keys()[at]))).collect()
+    let of = |at| kinds.iter().filter_map(move |kind| Some(kind.cases(*kind.keys().get(at)?)));
+    (0..3).flat_map(|at| of(at).flatten()).collect()
 }
 
 fn shuffle<T>(items: &mut [T], random: &mut Random) {
@@ -137,7 +158,28 @@ fn measure(case: Case, peer: Peer, interval: Duration) -> Vec<(Figure, f64)> {
             [spread(readers, Figure::OF_LOOKS), spread(owners, Figure::OF_OPERATIONS)].concat()
         }
         Kind::Counters => adds(peer, sizes, interval).map(|it| (Figure::Add, it)).into_iter().collect(),
+        Kind::Ranges => match peer {
+            Peer::Ranging(way) => measure_ranges(way, sizes, interval),
+            _ => unreachable!("no ranges of {} are measured", peer.name()),
+        },
     }
+}
+
+/// What answers to each span take, and writes beside readers that ask for it; or without readers the writes alone.
+fn measure_ranges(way: Way, sizes: Sizes, interval: Duration) -> Vec<(Figure, f64)> {
+    let took = |span| match way {
+        #[cfg(java)]
+        Way::SkipList => java::SkipList::scans(sizes, span, interval),
+        _ => scans(way, sizes, span, interval),
+    };
+    if sizes.readers == 0 {
+        return took(Span::Next).owners.map(|it| (Figure::Write, it)).into_iter().collect();
+    }
+    let figures = |span| {
+        let Speeds { owners, readers } = took(span);
+        [readers.map(|it| (Figure::Told(span), it)), owners.map(|it| (Figure::WriteBeside(span), it))]
+    };
+    Span::ALL.into_iter().flat_map(figures).flatten().collect()
 }
 
 /// What the owners of a map answer to a fixed sequence of operations, in turn, and what its readers say of a key after each.
@@ -165,6 +207,38 @@ fn agree() -> bool {
             let [operations, looks] = answers(*peer, sizes);
             operations == expected[0] && (looks == expected[1] || *peer == Peer::Private)
         })
+    })
+}
+
+/// What the threads of a map answer.
+#[derive(Default, PartialEq)]
+struct Answers {
+    writes: Vec<Option<u64>>,
+    ranges: Vec<Told>,
+    next_keys: Vec<Option<(u64, u64)>>,
+}
+
+/// What the owners of a map answer to a fixed sequence of writes, in turn, and what its readers are told of a range and a next key after
+/// each.
+fn answers_of_ranges(way: Way, sizes: Sizes) -> Answers {
+    let Crew { mut owners, mut readers } = way.crew(sizes);
+    let (mut random, mut answers) = (Random::new(3), Answers::default());
+    for turn in 0..20_000 {
+        let (at, reader_at) = (turn % owners.len(), turn % readers.len());
+        let (owner, reader) = (&mut *owners[at], &mut *readers[reader_at]);
+        answers.writes.push(write(owner, sizes.all(), random.next()));
+        let span = if turn % 5_000 == 0 { Span::All } else { [Span::Of10, Span::Of100][turn / 2 % 2] };
+        answers.ranges.push(span.range(reader, sizes, random.next()));
+        answers.next_keys.push(reader.next_at_least(sizes.all().random_key(random.next())));
+    }
+    answers
+}
+
+/// Whether all maps of which ranges are told answer alike.
+fn ranges_agree() -> bool {
+    RANGED.map(|keys| Sizes { keys, owners: 4, readers: 2, shared: true }).into_iter().all(|sizes| {
+        let expected = answers_of_ranges(Way::Mutex(Hold::Range), sizes);
+        Way::ALL.iter().all(|way| answers_of_ranges(*way, sizes) == expected)
     })
 }
 
@@ -210,7 +284,7 @@ fn main() -> ExitCode {
             return ExitCode::from(2);
         }
     };
-    if !agree() {
+    if !agree() || kinds.contains(&Kind::Ranges) && !ranges_agree() {
         eprintln!("hosts: the answers differ");
         return ExitCode::FAILURE;
     }

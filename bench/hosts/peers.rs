@@ -1,20 +1,22 @@
 //! The maps that are measured. Each is parted among owners, which find, insert and delete keys of their own, or all keys if these are
-//! shared, and readers of any key. Or its values are counters, and all owners add to any.
+//! shared, and readers of any key. Or its values are counters, and all owners add to any. Those of which ranges are told are in `ranges`.
 
 use crate::bare_tree::BareTree;
 #[cfg(libcds)]
 use crate::libcds::{EllenTree, Reclaim};
+use crate::ranges::Way;
 use elltree::{Handle, Refused, Tree, CARDS_MAX};
 use std::array;
 use std::collections::btree_map::{BTreeMap, Entry};
+use std::ops::Deref;
 use std::sync::{Arc, Mutex, RwLock};
 
-type Map = BTreeMap<u64, u64>;
+pub type Map = BTreeMap<u64, u64>;
 
-const SHARDS: usize = 16;
+pub const SHARDS: usize = 16;
 
 /// How many tries a change has: enough that something is never in the way of all.
-const TRIES: u32 = 1_000_000;
+pub const TRIES: u32 = 1_000_000;
 
 /// How many keys a map has, the numbers below this, how many owners and readers, and whether all owners share all keys.
 #[derive(Clone, Copy)]
@@ -62,9 +64,9 @@ impl Sizes {
     }
 
     /// The keys that are present at first, ascending, with their values: every other one of each owner.
-    fn start(self) -> impl Iterator<Item = (u64, u64)> {
+    pub fn start(self) -> impl Iterator<Item = (u64, u64)> {
         let owners = self.owners.max(1);
-        (0..self.keys).filter(move |key| key / owners % 2 == 0).map(|key| (key, key + 7))
+        (0..self.keys).filter(move |key| (key / owners).is_multiple_of(2)).map(|key| (key, key + 7))
     }
 
     /// All keys, each with the value 0.
@@ -163,10 +165,15 @@ impl View for Map {
 }
 
 /// A lock around a map.
-trait Lock: Send + Sync {
+pub trait Lock: Send + Sync {
     fn around(map: Map) -> Self;
-    fn read<T>(&self, act: impl FnOnce(&Map) -> T) -> T;
+    /// The map, to be read, and the lock until what is returned goes.
+    fn hold(&self) -> impl Deref<Target = Map>;
     fn write<T>(&self, act: impl FnOnce(&mut Map) -> T) -> T;
+
+    fn read<T>(&self, act: impl FnOnce(&Map) -> T) -> T {
+        act(&self.hold())
+    }
 }
 
 impl Lock for Mutex<Map> {
@@ -174,8 +181,8 @@ impl Lock for Mutex<Map> {
         Mutex::new(map)
     }
 
-    fn read<T>(&self, act: impl FnOnce(&Map) -> T) -> T {
-        act(&self.lock().unwrap())
+    fn hold(&self) -> impl Deref<Target = Map> {
+        self.lock().unwrap()
     }
 
     fn write<T>(&self, act: impl FnOnce(&mut Map) -> T) -> T {
@@ -188,8 +195,8 @@ impl Lock for RwLock<Map> {
         RwLock::new(map)
     }
 
-    fn read<T>(&self, act: impl FnOnce(&Map) -> T) -> T {
-        act(&RwLock::read(self).unwrap())
+    fn hold(&self) -> impl Deref<Target = Map> {
+        RwLock::read(self).unwrap()
     }
 
     fn write<T>(&self, act: impl FnOnce(&mut Map) -> T) -> T {
@@ -202,20 +209,24 @@ impl Lock for RwLock<Map> {
 struct Shard<L>(L);
 
 /// A map in so many parts, each behind a lock of its own.
-struct Shards<L, const COUNT: usize>([Shard<L>; COUNT]);
+pub struct Shards<L, const COUNT: usize>([Shard<L>; COUNT]);
 
 fn shard_of<const COUNT: usize>(key: u64) -> usize {
     (key.wrapping_mul(0x9E37_79B9_7F4A_7C15) >> 32) as usize % COUNT
 }
 
 impl<L: Lock, const COUNT: usize> Shards<L, COUNT> {
-    fn start(pairs: &[(u64, u64)]) -> Self {
+    pub fn start(pairs: &[(u64, u64)]) -> Self {
         let part = |at| pairs.iter().copied().filter(|pair| shard_of::<COUNT>(pair.0) == at).collect();
         Shards(array::from_fn(|at| Shard(L::around(part(at)))))
     }
 
-    fn shard(&self, key: u64) -> &L {
+    pub fn shard(&self, key: u64) -> &L {
         &self.0[shard_of::<COUNT>(key)].0
+    }
+
+    pub fn locks(&self) -> [&L; COUNT] {
+        self.0.each_ref().map(|shard| &shard.0)
     }
 }
 
@@ -244,13 +255,20 @@ impl<L: Lock, const COUNT: usize> Counters for Arc<Shards<L, COUNT>> {
 }
 
 /// The owners of a map, in the order of their stripes, and its readers: one for each thread.
-pub struct Crew {
-    pub owners: Vec<Box<dyn View>>,
-    pub readers: Vec<Box<dyn View>>,
+pub struct Crew<V: ?Sized = dyn View> {
+    pub owners: Vec<Box<V>>,
+    pub readers: Vec<Box<V>>,
 }
 
 fn boxed<V: View + 'static>(views: impl IntoIterator<Item = V>) -> Vec<Box<dyn View>> {
     views.into_iter().map(|it| Box::new(it) as Box<dyn View>).collect()
+}
+
+/// The tree over bare atomic words. All its memory is there before it is used, as elltree's is.
+pub fn bare_tree(sizes: Sizes) -> Arc<BareTree> {
+    let tree = BareTree::reserve(&sizes.start().collect::<Vec<_>>(), CARDS_MAX);
+    tree.take_memory();
+    Arc::new(tree)
 }
 
 impl Crew {
@@ -269,13 +287,6 @@ impl Crew {
         let mut first = Handle::open_shared(&sizes.start().collect::<Vec<_>>(), CARDS_MAX)?;
         let mut others = |count| (0..count).map(|_| first.another()).collect::<elltree::Result<Vec<_>>>();
         Ok(Crew { owners: boxed(others(sizes.owners)?), readers: boxed(others(sizes.readers)?) })
-    }
-
-    /// The tree over bare atomic words. All its memory is there before it is used, as elltree's is.
-    fn of_bare_tree(sizes: Sizes) -> Crew {
-        let tree = BareTree::reserve(&sizes.start().collect::<Vec<_>>(), CARDS_MAX);
-        tree.take_memory();
-        Crew::sharing(Arc::new(tree), sizes)
     }
 
     #[cfg(libcds)]
@@ -331,6 +342,8 @@ pub enum Peer {
     Mutexes,
     RwLocks,
     Private,
+    /// A map of which ranges alone are measured.
+    Ranging(Way),
 }
 
 impl Peer {
@@ -366,6 +379,7 @@ impl Peer {
             Peer::Mutexes => "16 Mutex",
             Peer::RwLocks => "16 RwLock",
             Peer::Private => "private maps",
+            Peer::Ranging(way) => way.name(),
         }
     }
 
@@ -377,9 +391,14 @@ impl Peer {
     /// How many changes may be asked of a map in all: half of them change it, and take a card each if there are cards. The other cards
     /// are for tries that fail.
     pub fn most_changes(self) -> u64 {
-        match self {
-            Peer::Elltree | Peer::SharedElltree | Peer::Bare => 1_400_000,
-            _ => u64::MAX / 2,
+        let takes_cards = match self {
+            Peer::Ranging(way) => way.takes_cards(),
+            _ => matches!(self, Peer::Elltree | Peer::SharedElltree | Peer::Bare),
+        };
+        if takes_cards {
+            1_400_000
+        } else {
+            u64::MAX / 2
         }
     }
 
@@ -388,7 +407,7 @@ impl Peer {
         match self {
             Peer::Elltree => Crew::of_handles(sizes).expect("a tree"),
             Peer::SharedElltree => Crew::of_sharing_handles(sizes).expect("a tree"),
-            Peer::Bare => Crew::of_bare_tree(sizes),
+            Peer::Bare => Crew::sharing(bare_tree(sizes), sizes),
             #[cfg(libcds)]
             Peer::Libcds(reclaim) => Crew::of_libcds(reclaim, sizes),
             Peer::Mutex => Crew::of_locks::<Mutex<Map>, 1>(sizes),
@@ -396,6 +415,7 @@ impl Peer {
             Peer::Mutexes => Crew::of_locks::<Mutex<Map>, SHARDS>(sizes),
             Peer::RwLocks => Crew::of_locks::<RwLock<Map>, SHARDS>(sizes),
             Peer::Private => Crew::of_private_maps(sizes),
+            Peer::Ranging(way) => unreachable!("of {} only ranges are measured", way.name()),
         }
     }
 

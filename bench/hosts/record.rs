@@ -1,6 +1,7 @@
 //! What was measured, as tables in Markdown and as rows of a file.
 
 use crate::peers::Peer;
+use crate::ranges::Span;
 use crate::{Case, Kind};
 use std::collections::BTreeMap;
 use std::fmt::Write;
@@ -18,6 +19,12 @@ pub enum Figure {
     OperationMedian,
     Operation99,
     OperationWorst,
+    /// A key of a range, or a next key.
+    Told(Span),
+    /// A write without readers.
+    Write,
+    /// A write beside readers of such ranges.
+    WriteBeside(Span),
 }
 
 impl Figure {
@@ -36,6 +43,15 @@ impl Figure {
             Figure::OperationMedian => "operation: median",
             Figure::Operation99 => "operation: 99 %",
             Figure::OperationWorst => "operation: worst",
+            Figure::Told(Span::Of10) => "key of a range of 10",
+            Figure::Told(Span::Of100) => "key of a range of 100",
+            Figure::Told(Span::All) => "key of a range of all",
+            Figure::Told(Span::Next) => "next key",
+            Figure::Write => "write",
+            Figure::WriteBeside(Span::Of10) => "write beside ranges of 10",
+            Figure::WriteBeside(Span::Of100) => "write beside ranges of 100",
+            Figure::WriteBeside(Span::All) => "write beside ranges of all",
+            Figure::WriteBeside(Span::Next) => "write beside next keys",
         }
     }
 }
@@ -120,6 +136,13 @@ impl Record {
         Some(format!("{:.2}", least_and_median(&ratios).1))
     }
 
+    /// How many writes all owners of a peer made in a second, by the median of the rounds.
+    fn rate(&self, at: usize, peer: Peer, figure: Figure) -> Option<String> {
+        let (_, median) = least_and_median(self.times.get(&(at, figure, peer.name()))?);
+        let rate = self.cases[at].sizes.owners as f64 * 1e9 / median;
+        Some(format!("{:.2} M", rate / 1e6))
+    }
+
     /// The table of these kinds, with such a cell for each peer, if there is any row.
     fn table(&self, title: &str, kinds: &[Kind], cell: impl Fn(usize, Peer) -> Option<String>) -> String {
         let peers = kinds[0].peers();
@@ -141,8 +164,8 @@ impl Record {
                 continue;
             }
             let note = match case.kind {
-                Kind::Shared | Kind::Counters => ", all keys shared",
                 Kind::Stopped => ", one stopped",
+                kind if kind.is_of_shared_keys() => ", all keys shared",
                 _ => "",
             };
             let cells: Vec<String> = cells.into_iter().map(|it| it.unwrap_or("–".into())).collect();
@@ -181,7 +204,23 @@ impl Record {
             self.times("Latency of a look: median, 99 %, worst", &latencies, &Figure::OF_LOOKS),
             self.times("Latency of another owner's operation: median, 99 %, worst", &latencies, &Figure::OF_OPERATIONS),
             self.times("An add to a counter: median of the rounds, and least", &[Kind::Counters], &[Figure::Add]),
+            self.tables_of_ranges(),
         ]
         .concat()
+    }
+
+    /// The tables of ranges.
+    fn tables_of_ranges(&self) -> String {
+        let told = |figure: Figure| {
+            let title = format!("A {}, in the mean: median of the rounds, and least", figure.name());
+            self.times(&title, &[Kind::Ranges], &[figure])
+        };
+        let writes = |figure: Figure| {
+            let title = format!("Writes a second by all owners ({}), in millions: median of the rounds", figure.name());
+            self.table(&title, &[Kind::Ranges], |at, peer| self.rate(at, peer, figure))
+        };
+        let told = Span::ALL.map(|span| told(Figure::Told(span)));
+        let writes_beside = Span::ALL.map(|span| writes(Figure::WriteBeside(span)));
+        [told.concat(), writes(Figure::Write), writes_beside.concat()].concat()
     }
 }

@@ -1,6 +1,7 @@
 //! What threads do with a map, and how long it takes.
 
-use crate::peers::{Counters, Peer, Sizes, Stripe, View};
+use crate::peers::{Counters, Crew, Peer, Sizes, Stripe, View};
+use crate::ranges::{write, Span, Way};
 use std::hint::{black_box, spin_loop};
 use std::sync::atomic::{AtomicBool, AtomicUsize, Ordering};
 use std::sync::Barrier;
@@ -123,6 +124,19 @@ impl Stage {
         (took, added)
     }
 
+    /// Asks without pause until the interval is over: how long it took, and how many answers there were.
+    fn ask(&self, seed: u64, mut ask: impl FnMut(u64) -> u64) -> (Duration, u64) {
+        let (mut random, mut answers) = (Random::new(seed), 0);
+        self.begin.wait();
+        let begun = Instant::now();
+        loop {
+            answers += ask(random.next());
+            if self.is_over() {
+                return (begun.elapsed(), answers);
+            }
+        }
+    }
+
     /// Acts once each `PACE` until the interval is over: how long after it was due each act had been done, in nanoseconds.
     fn pace<T>(&self, seed: u64, mut act: impl FnMut(u64) -> T) -> Vec<u64> {
         let (mut random, mut due) = (Random::new(seed), Duration::ZERO);
@@ -199,6 +213,37 @@ pub fn adds(peer: Peer, sizes: Sizes, interval: Duration) -> Option<f64> {
     let counted: u64 = keys.keys().map(|key| owners[0].find(key).expect("a counter")).sum();
     assert_eq!(counted, added, "the counters of {} and its answers", peer.name());
     mean((took, added))
+}
+
+/// Has all owners write at random without pause, and all readers ask for such ranges, for so long. Then the owners go on until each reader
+/// has its last answer. If the owners have made as many writes as they may, all end early. The map is a worn one.
+pub fn scans(way: Way, sizes: Sizes, span: Span, interval: Duration) -> Speeds {
+    let Crew { owners, readers } = way.worn_crew(sizes);
+    let (writing, reading) = (&Stage::of(owners.len()), &Stage::of(readers.len()));
+    let most = way.most_writes(sizes) / sizes.owners.max(1);
+    thread::scope(|scope| {
+        let mut seeds = 0..;
+        let owners = owners.into_iter().zip(&mut seeds).map(|(mut owner, seed)| {
+            scope.spawn(move || {
+                let took = writing.drive(seed, most, |random| write(&mut *owner, sizes.all(), random));
+                reading.end();
+                took
+            })
+        });
+        let owners = owners.collect();
+        let readers = readers
+            .into_iter()
+            .zip(seeds)
+            .map(|(mut reader, seed)| scope.spawn(move || reading.ask(seed, |random| span.ask(&mut *reader, sizes, random))));
+        let readers = readers.collect();
+        writing.begin.wait();
+        reading.begin.wait();
+        thread::sleep(interval);
+        reading.end();
+        let readers = mean(total(readers));
+        writing.end();
+        Speeds { owners: mean(total(owners)), readers }
+    })
 }
 
 static STOPS: AtomicUsize = AtomicUsize::new(0);

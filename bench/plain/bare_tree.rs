@@ -9,6 +9,9 @@ const INF1: u64 = u64::MAX - 1;
 const INF2: u64 = u64::MAX;
 const TRIES: u32 = 1_000_000;
 
+/// How many nodes a range keeps.
+const KEPT: usize = 32;
+
 /// The twelve words of a card, in their order.
 #[derive(Clone, Copy)]
 enum Field {
@@ -53,7 +56,7 @@ fn is_clean(update: u64) -> bool {
 }
 
 fn is_internal(node: u64) -> bool {
-    node % 3 == 0
+    node.is_multiple_of(3)
 }
 
 /// A node that a search passed, with the update word that it read there.
@@ -72,11 +75,30 @@ struct Place {
     grandparent: Option<Passed>,
 }
 
-/// How a try ended.
-enum Tried {
-    Answered(bool),
+/// How a try ended: with an answer, if not without a card or hindered.
+enum Tried<T> {
+    Answered(T),
     Spent,
     Hindered,
+}
+
+/// A node of a look, and the keys that come to it: those from the one on and below the other.
+#[derive(Clone, Copy)]
+struct Glance {
+    node: u64,
+    low: u64,
+    high: u64,
+}
+
+/// Tells the pairs of a range, ascending, each as it was at one moment since the range was made. As the cursors of `ell_tree` do, it goes on
+/// from the last of the nodes at which it went left.
+#[allow(dead_code)]
+pub struct Range<'a> {
+    tree: &'a BareTree,
+    at: u64,
+    upto: u64,
+    kept: [Glance; KEPT],
+    count: usize,
 }
 
 /// What came of asking for a card.
@@ -239,6 +261,29 @@ impl BareTree {
         (self.key(node) == key).then(|| self.value(node))
     }
 
+    /// Goes over the keys from one on and below another, ascending, with their values.
+    #[allow(dead_code)]
+    pub fn range(&self, from: u64, upto: u64) -> Range<'_> {
+        let first = self.first_glance();
+        Range {
+            tree: self,
+            at: from,
+            upto: upto.min(INF1),
+            kept: [first; KEPT],
+            count: 0,
+        }
+    }
+
+    /// Where a look begins: no key comes to the root's right child.
+    #[allow(dead_code)]
+    fn first_glance(&self) -> Glance {
+        Glance {
+            node: self.child(0, false).load(SeqCst),
+            low: 0,
+            high: INF1,
+        }
+    }
+
     /// The keys of the leaves with their values, the keys ascending, when no thread is at work.
     #[allow(dead_code)]
     pub fn pairs(&self) -> Vec<(u64, u64)> {
@@ -265,7 +310,13 @@ impl BareTree {
         self.try_often(|| self.try_delete(key))
     }
 
-    fn try_often(&self, try_once: impl Fn() -> Tried) -> Option<bool> {
+    /// Replaces the value of a key, if it is present: the value that it had, and none if it is absent. None where no card is left.
+    #[allow(dead_code)]
+    pub fn swap(&self, key: u64, value: u64) -> Option<Option<u64>> {
+        self.try_often(|| self.try_swap(key, value))
+    }
+
+    fn try_often<T>(&self, try_once: impl Fn() -> Tried<T>) -> Option<T> {
         self.touch();
         for round in 0..TRIES {
             if round > 0 {
@@ -292,12 +343,26 @@ impl BareTree {
         }
     }
 
-    fn try_insert(&self, key: u64, value: u64) -> Tried {
+    fn try_insert(&self, key: u64, value: u64) -> Tried<bool> {
         let place = self.search(key);
         if place.key == key {
             self.touch();
             return Tried::Answered(false);
         }
+        self.try_to_put(key, value, &place, true)
+    }
+
+    fn try_swap(&self, key: u64, value: u64) -> Tried<Option<u64>> {
+        let place = self.search(key);
+        if place.key != key {
+            self.touch();
+            return Tried::Answered(None);
+        }
+        self.try_to_put(key, value, &place, Some(place.value))
+    }
+
+    /// Puts a key with a value where its search ended, as an insert or a swap. It has this answer, if it is made.
+    fn try_to_put<T>(&self, key: u64, value: u64, place: &Place, answer: T) -> Tried<T> {
         let parent = place.parent;
         if !is_clean(parent.update) {
             self.help(parent.node, parent.update);
@@ -308,7 +373,7 @@ impl BareTree {
             Claimed::NoneLeft => return Tried::Spent,
             Claimed::Lost => return Tried::Hindered,
         };
-        self.fill_insert(card, key, value, &place);
+        self.fill_insert(card, key, value, place);
         let flag = update_word(State::IFlag, card);
         if let Err(found) = exchange(self.update(parent.node), parent.update, flag) {
             self.help(parent.node, found);
@@ -316,7 +381,7 @@ impl BareTree {
         }
         self.finish_insert(card, parent.node, place.leaf, key.max(place.key));
         self.touch();
-        Tried::Answered(true)
+        Tried::Answered(answer)
     }
 
     fn fill_insert(&self, card: u64, key: u64, value: u64, place: &Place) {
@@ -338,7 +403,7 @@ impl BareTree {
         self.fill(card, Field::RightValue, right_value);
     }
 
-    fn try_delete(&self, key: u64) -> Tried {
+    fn try_delete(&self, key: u64) -> Tried<bool> {
         let place = self.search(key);
         if place.key != key {
             self.touch();
@@ -402,8 +467,21 @@ impl BareTree {
         let right = self.key(parent) <= card_key;
         let flag = update_word(State::IFlag, card);
         let clean = update_word(State::Clean, card);
-        let _ = exchange(self.child(parent, right), leaf, 3 * card);
+        let _ = exchange(
+            self.child(parent, right),
+            leaf,
+            self.brought(card, card_key),
+        );
         let _ = exchange(self.update(parent), flag, clean);
+    }
+
+    /// The node that a card puts in the place of a leaf: an insert's has two keys, and a swap's has one, in both of its leaves.
+    fn brought(&self, card: u64, card_key: u64) -> u64 {
+        if self.word(card, Field::LeftLeafKey) == card_key {
+            3 * card + 2
+        } else {
+            3 * card
+        }
     }
 
     /// Whether the parent was cut out.
@@ -442,6 +520,65 @@ impl BareTree {
         let clean = update_word(State::Clean, card);
         let _ = exchange(self.child(grandparent, right), parent, sibling);
         let _ = exchange(self.update(grandparent), flag, clean);
+    }
+}
+
+impl Range<'_> {
+    /// The next pair, or none of keys to which a leaf says that they are absent, up to the end of the range. The leaf may have a key that does
+    /// not come to it this way, since nodes were cut out meanwhile.
+    fn next_leaf(&mut self) -> Option<Option<(u64, u64)>> {
+        if self.at >= self.upto {
+            return None;
+        }
+        let leaf = self.descend();
+        let key = self.tree.key(leaf.node);
+        let is_told = self.at <= key && key < self.upto.min(leaf.high);
+        self.at = leaf.high;
+        Some(is_told.then(|| (key, self.tree.value(leaf.node))))
+    }
+
+    /// The leaf to which the next key comes.
+    fn descend(&mut self) -> Glance {
+        let mut here = self.start();
+        while is_internal(here.node) {
+            let node_key = self.tree.key(here.node);
+            let right = node_key <= self.at;
+            if !right {
+                self.kept[self.count % KEPT] = here;
+                self.count += 1;
+            }
+            here.node = self.tree.child(here.node, right).load(SeqCst);
+            if right {
+                here.low = here.low.max(node_key);
+            } else {
+                here.high = here.high.min(node_key);
+            }
+        }
+        here
+    }
+
+    /// The last kept node to which the next key comes, or where a look begins.
+    fn start(&mut self) -> Glance {
+        while self.count > 0 {
+            self.count -= 1;
+            let kept = self.kept[self.count % KEPT];
+            if kept.low <= self.at && self.at < kept.high {
+                return kept;
+            }
+        }
+        self.tree.first_glance()
+    }
+}
+
+impl Iterator for Range<'_> {
+    type Item = (u64, u64);
+
+    fn next(&mut self) -> Option<(u64, u64)> {
+        loop {
+            if let Some(pair) = self.next_leaf()? {
+                return Some(pair);
+            }
+        }
     }
 }
 

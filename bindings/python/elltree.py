@@ -42,7 +42,8 @@ KEY_MAX = 2**64 - 3
 _TEXT_ROOM = 64
 
 # How many pairs of a range are asked for first, and at most: it doubles in between, so that a short range is cheap.
-_FIRST_FILL, _MOST_FILL = 8, 256
+_FIRST_FILL = 8
+_MOST_FILL = 256
 
 # The end of a range that has none: no key is so great.
 _NO_END = 2**64 - 1

@@ -12,17 +12,17 @@ pub told_end : (from upto count room : ℕ) (next : Option ℕ) → GoesOn from 
 told_end from upto count room None so = refl
 told_end from upto count room (Some n) so =
     let below = min-le_right upto (greatest_key + 1) in
-    let before = so.1.0 in min-eq_left (omega arith)
+    let before = so.1 in min-eq_left (omega arith)
 
 -- it is not behind the end of the range
 pub told_within : (from upto count room : ℕ) (next : Option ℕ) → GoesOn from upto count room next → unwrap_or next upto ≤ upto
 told_within from upto count room None so = omega arith
 told_within from upto count room (Some n) so =
     let below = min-le_left upto (greatest_key + 1) in
-    let before = so.1.0 in omega arith
+    let before = so.1 in omega arith
 
 -- and before it only if there was no room for more
 pub told_full : (from upto count room : ℕ) (next : Option ℕ) → GoesOn from upto count room next → unwrap_or next upto < upto
     → (from ≤ unwrap_or next upto) × (count ≡ room)
 told_full from upto count room None so low = absurd (omega arith)
-told_full from upto count room (Some n) so low = (so.0, so.1.1)
+told_full from upto count room (Some n) so low = (so.0, so.2)
