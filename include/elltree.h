@@ -14,7 +14,9 @@
    answers are those of a map of its own. The first handle owns all; elltree_split gives some of them to another handle, or none, for a handle
    that only looks.
 
-   Any handle looks at any key of its tree.
+   Any handle looks at any key of its tree. It also lists the keys of a range, by elltree_range, and finds the key next to another, by
+   elltree_next_at_least, elltree_last_at_most and the calls after them, whoever owns the keys. None of these waits for another thread. They are no
+   snapshot: each key is told as it was at one moment of the call, and two keys may be told as of two moments.
 
    Each call returns ELLTREE_YES, ELLTREE_NO, elltree_compare_exchange also ELLTREE_OTHER_VALUE, or a negative code that says why it was
    refused; elltree_text writes a text for each. A call
@@ -110,6 +112,10 @@ ELLTREE_MUST_USE int32_t elltree_slot_split(struct elltree_slot *from, struct el
 ELLTREE_MUST_USE int32_t elltree_slot_join(struct elltree_slot *into, struct elltree_slot *from);
 ELLTREE_MUST_USE int32_t elltree_slot_find(struct elltree_slot *slot, uint64_t key, uint64_t *value);
 ELLTREE_MUST_USE int32_t elltree_slot_look(struct elltree_slot *slot, uint64_t key, uint64_t *value);
+ELLTREE_MUST_USE int32_t elltree_slot_range(struct elltree_slot *slot, uint64_t from, uint64_t upto, struct elltree_pair *out, size_t room,
+                                            size_t *count, uint64_t *next);
+ELLTREE_MUST_USE int32_t elltree_slot_next_at_least(struct elltree_slot *slot, uint64_t key, uint64_t *found, uint64_t *value);
+ELLTREE_MUST_USE int32_t elltree_slot_last_at_most(struct elltree_slot *slot, uint64_t key, uint64_t *found, uint64_t *value);
 ELLTREE_MUST_USE int32_t elltree_slot_insert(struct elltree_slot *slot, uint64_t key, uint64_t value, uint32_t tries);
 ELLTREE_MUST_USE int32_t elltree_slot_delete(struct elltree_slot *slot, uint64_t key, uint32_t tries);
 ELLTREE_MUST_USE int32_t elltree_slot_compare_exchange(struct elltree_slot *slot, uint64_t key, uint64_t current, uint64_t desired,
@@ -265,6 +271,64 @@ ELLTREE_MUST_USE static inline int32_t elltree_look(struct elltree_handle *handl
     return code == ELLTREE_YES ? elltree_leave(handle, elltree_slot_look(&handle->slot, key, value)) : code;
 }
 
+/* The keys from one on and below another that are present, ascending, with their values, whoever owns them, as many as the array has room for:
+   ELLTREE_YES with how many they are, and with where to go on, which is upto if the range is told to its end. So a whole range is
+
+       for (next = from; next < upto;)
+           if ((code = elltree_range(handle, next, upto, out, room, &count, &next)) == ELLTREE_YES)
+               .. the first count pairs of out ..
+
+   with a room of at least 1, and a way out if it is refused. It is no snapshot, but each key is told as it was at a moment of the call: a key that
+   was present all along is among them, one that was absent all along is not, and each pair was there. No key is above ELLTREE_KEY_MAX, so with upto
+   UINT64_MAX the range has no end. One that ends where it begins, or before, has no keys. Without room the array may be null.
+   ELLTREE_NULL, ELLTREE_IN_CALL, ELLTREE_CLOSED. */
+ELLTREE_MUST_USE static inline int32_t elltree_range(struct elltree_handle *handle, uint64_t from, uint64_t upto, struct elltree_pair *out,
+                                                     size_t room, size_t *count, uint64_t *next) {
+    struct elltree_pair none;
+    int32_t code = count && next && (out || !room) ? elltree_enter(handle) : ELLTREE_NULL;
+    if (code != ELLTREE_YES)
+        return code;
+    return elltree_leave(handle, elltree_slot_range(&handle->slot, from, upto, out ? out : &none, room, count, next));
+}
+
+/* The least key from this one on that is present, whoever owns it: ELLTREE_YES with it and its value, else ELLTREE_NO. It was present at a moment
+   of the call, and each key before it was absent at one.
+   ELLTREE_NULL, ELLTREE_IN_CALL, ELLTREE_CLOSED. */
+ELLTREE_MUST_USE static inline int32_t elltree_next_at_least(struct elltree_handle *handle, uint64_t key, uint64_t *found, uint64_t *value) {
+    int32_t code = found && value ? elltree_enter(handle) : ELLTREE_NULL;
+    return code == ELLTREE_YES ? elltree_leave(handle, elltree_slot_next_at_least(&handle->slot, key, found, value)) : code;
+}
+
+/* The least key above this one that is present, as of elltree_next_at_least. */
+ELLTREE_MUST_USE static inline int32_t elltree_next_after(struct elltree_handle *handle, uint64_t key, uint64_t *found, uint64_t *value) {
+    return elltree_next_at_least(handle, key < UINT64_MAX ? key + 1 : key, found, value); /* UINT64_MAX is no key */
+}
+
+/* The least key that is present, as of elltree_next_at_least. */
+ELLTREE_MUST_USE static inline int32_t elltree_first(struct elltree_handle *handle, uint64_t *found, uint64_t *value) {
+    return elltree_next_at_least(handle, 0, found, value);
+}
+
+/* The greatest key up to this one that is present, whoever owns it: ELLTREE_YES with it and its value, else ELLTREE_NO. It was present at a moment
+   of the call, and each key after it was absent at one.
+   ELLTREE_NULL, ELLTREE_IN_CALL, ELLTREE_CLOSED. */
+ELLTREE_MUST_USE static inline int32_t elltree_last_at_most(struct elltree_handle *handle, uint64_t key, uint64_t *found, uint64_t *value) {
+    int32_t code = found && value ? elltree_enter(handle) : ELLTREE_NULL;
+    return code == ELLTREE_YES ? elltree_leave(handle, elltree_slot_last_at_most(&handle->slot, key, found, value)) : code;
+}
+
+/* The greatest key below this one that is present, as of elltree_last_at_most. */
+ELLTREE_MUST_USE static inline int32_t elltree_last_before(struct elltree_handle *handle, uint64_t key, uint64_t *found, uint64_t *value) {
+    if (!key) /* none is below it, nor is any from UINT64_MAX on */
+        return elltree_next_at_least(handle, UINT64_MAX, found, value);
+    return elltree_last_at_most(handle, key - 1, found, value);
+}
+
+/* The greatest key that is present, as of elltree_last_at_most. */
+ELLTREE_MUST_USE static inline int32_t elltree_last(struct elltree_handle *handle, uint64_t *found, uint64_t *value) {
+    return elltree_last_at_most(handle, ELLTREE_KEY_MAX, found, value);
+}
+
 /* Adds a shared key, or one of the handle's own: ELLTREE_YES if it was absent, else ELLTREE_NO, and the key keeps its value. Before
    ELLTREE_SPENT comes, elltree_cards_left tells how many cards are left.
    ELLTREE_NULL, ELLTREE_IN_CALL, ELLTREE_CLOSED, ELLTREE_NO_TRIES, ELLTREE_FOREIGN, ELLTREE_BUSY, ELLTREE_SPENT. */
@@ -345,7 +409,8 @@ ELLTREE_MUST_USE static inline int32_t elltree_keys(struct elltree_handle *handl
     return code == ELLTREE_YES ? elltree_leave(handle, elltree_slot_keys(&handle->slot, out ? out : &none, room, count)) : code;
 }
 
-/* The keys of the handle's own that are present, ascending, with their values, and how many they are: shared keys are not among them.
+/* The keys of the handle's own that are present, ascending, with their values, and how many they are: shared keys are not among them, but
+   elltree_range tells of any.
    elltree_owned tells how many there can be; without room the array may be null.
    ELLTREE_NULL, ELLTREE_IN_CALL, ELLTREE_CLOSED, ELLTREE_NO_ROOM. */
 ELLTREE_MUST_USE static inline int32_t elltree_pairs(struct elltree_handle *handle, struct elltree_pair *out, size_t room, size_t *count) {

@@ -5,6 +5,8 @@
     first.insert(3, 30)   # True
     second.insert(3, 31)  # False: the key is there
     second.delete(2)      # True: any handle changes any key
+    list(first.items())   # [(3, 30)]: the pairs of all keys, ascending
+    first.next_after(3)   # None: no key above 3 is there
 
     first = elltree.open(range(1000), {2: 20}, cards=100_000)   # keys that have owners
     second = first.split(range(500, 1000))
@@ -38,6 +40,12 @@ KEY_MAX = 2**64 - 3
 
 # Room for the text of each code, and the 0 behind it.
 _TEXT_ROOM = 64
+
+# How many pairs of a range are asked for first, and at most: it doubles in between, so that a short range is cheap.
+_FIRST_FILL, _MOST_FILL = 8, 256
+
+# The end of a range that has none: no key is so great.
+_NO_END = 2**64 - 1
 
 
 class Refused(Exception):
@@ -92,6 +100,9 @@ def _load():
         "join": [at(_Slot), at(_Slot)],
         "find": [at(_Slot), u64, at(u64)],
         "look": [at(_Slot), u64, at(u64)],
+        "range": [at(_Slot), u64, u64, at(_Pair), size, at(size), at(u64)],
+        "next_at_least": [at(_Slot), u64, at(u64), at(u64)],
+        "last_at_most": [at(_Slot), u64, at(u64), at(u64)],
         "insert": [at(_Slot), u64, u64, u32],
         "delete": [at(_Slot), u64, u32],
         "compare_exchange": [at(_Slot), u64, u64, u64, u32, at(u64)],
@@ -294,6 +305,59 @@ class Handle:
         value = ctypes.c_uint64()
         return value.value if self._call("look", _key(key), value) else None
 
+    def range(self, start=0, stop=None):
+        """A generator of the pairs of the keys from start on and below stop, ascending, whoever owns the keys; without stop, to the last key. It is no
+        snapshot, but each key is told as it was at one moment since the generator was first asked: a key that was present all along is among the
+        pairs, one that was absent all along is not, and each pair was there. It asks for some pairs at a time, and other calls on this handle may
+        come in between. A range that ends before it begins has no keys."""
+        return self._range(_key(start), _NO_END if stop is None else _key(stop))
+
+    def _range(self, start, stop):
+        room = _FIRST_FILL
+        count, following = ctypes.c_size_t(), ctypes.c_uint64()
+        while start < stop:
+            out = (_Pair * room)()
+            self._call("range", start, stop, out, room, count, following)
+            yield from [(pair.key, pair.value) for pair in out[: count.value]]
+            start, room = following.value, min(2 * room, _MOST_FILL)
+
+    def items(self):
+        """A generator of the pairs of all keys that are present, ascending, as range gives them."""
+        return self.range()
+
+    def _pair(self, name, key):
+        """The pair that a call of the library finds, or None."""
+        found, value = ctypes.c_uint64(), ctypes.c_uint64()
+        return (found.value, value.value) if self._call(name, key, found, value) else None
+
+    def next_at_least(self, key):
+        """The least key from this one on that is present, with its value, or None, whoever owns it: it was present at one moment of the call, and
+        each key before it was absent at one."""
+        return self._pair("next_at_least", _key(key))
+
+    def next_after(self, key):
+        """The least key above this one that is present, with its value, or None, as next_at_least finds it."""
+        return self._pair("next_at_least", min(_key(key) + 1, _NO_END))
+
+    def last_at_most(self, key):
+        """The greatest key up to this one that is present, with its value, or None, whoever owns it: it was present at one moment of the call, and
+        each key after it was absent at one."""
+        return self._pair("last_at_most", _key(key))
+
+    def last_before(self, key):
+        """The greatest key below this one that is present, with its value, or None, as last_at_most finds it."""
+        key = _key(key)
+        # None is below 0, nor is any from _NO_END on.
+        return self._pair("last_at_most", key - 1) if key else self._pair("next_at_least", _NO_END)
+
+    def first(self):
+        """The least key that is present, with its value, or None, as next_at_least finds it."""
+        return self._pair("next_at_least", 0)
+
+    def last(self):
+        """The greatest key that is present, with its value, or None, as last_at_most finds it."""
+        return self._pair("last_at_most", KEY_MAX)
+
     def insert(self, key, value, tries=1000):
         """Adds a shared key, or one of the handle's own, with its value, and returns whether it was absent. A key that is present keeps its value.
         Raises Spent if it needs a card and none is left: cards_left tells how many are."""
@@ -358,7 +422,7 @@ class Handle:
         return out[: count.value]
 
     def pairs(self):
-        """The keys of the handle's own that are present, ascending, with their values: shared keys are not among them."""
+        """The keys of the handle's own that are present, ascending, with their values: shared keys are not among them, but range tells of any."""
         room, count = self.owned(), ctypes.c_size_t()
         out = (_Pair * max(1, room))()
         self._call("pairs", out, room, count)

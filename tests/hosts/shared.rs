@@ -1,6 +1,6 @@
-//! Threads of Rust, 2 to 64, that find, insert and delete the same few keys of a tree of shared keys. Each call is noted with its begin and its
-//! end by one clock, and the calls on each key are to be in order: each has a point between its begin and its end, and one map gives their
-//! answers in the order of these points. At the end of each round each key is as the last of them leave it. Then all threads at once insert one
+//! Threads of Rust, 2 to 64, that find, insert, delete and exchange the same few keys of a tree of shared keys, and go over ranges of them, both
+//! ways. Each call is noted with its begin and its end by one clock, and the calls on each key are to be in order: each has a point between its
+//! begin and its end, and one map gives their answers in the order of these points. A range is noted as a find of each of its keys. At the end of each round each key is as the last of them leave it. Then all threads at once insert one
 //! key, and delete it, again and again: each time one of them answers yes. All threads add to counters in each way that there is, and no addition
 //! is lost; beside a thread that puts ascending values, the others find one each time, and never a lower one than before. With `--seconds=N` it makes rounds, with new seeds, for so long. The
 //! check of the order is tried first, on histories that a person worked out.
@@ -22,6 +22,8 @@ enum Call {
     Find(Option<u64>),
     Insert(u64, bool),
     Delete(bool),
+    /// An exchange of one value for another, with the value that it found.
+    Exchange(u64, u64, Option<u64>),
 }
 
 impl Call {
@@ -32,6 +34,7 @@ impl Call {
             (Call::Insert(_, false), Some(_)) | (Call::Delete(false), None) => Some(value),
             (Call::Insert(new, true), None) => Some(Some(new)),
             (Call::Delete(true), Some(_)) => Some(None),
+            (Call::Exchange(current, new, said), _) if said == value => Some(if said == Some(current) { Some(new) } else { value }),
             _ => None,
         }
     }
@@ -72,7 +75,8 @@ fn explore(standing: Standing, going: &[Made], last: u32, seen: &mut HashSet<Sta
 
 /// The calls, where inserts whose values no call finds all add one value, which no call finds.
 fn with_found_values(calls: &[Made]) -> Vec<Made> {
-    let found: HashSet<u64> = calls.iter().filter_map(|made| if let Call::Find(said) = made.call { said } else { None }).collect();
+    let found_by = |call: Call| if let Call::Find(said) | Call::Exchange(_, _, said) = call { said } else { None };
+    let found: HashSet<u64> = calls.iter().filter_map(|made| found_by(made.call)).collect();
     let other = (0..).find(|value| !found.contains(value)).unwrap();
     let with_found = |call: Call| match call {
         Call::Insert(value, said) if !found.contains(&value) => Call::Insert(other, said),
@@ -105,7 +109,7 @@ fn are_in_order(start: Option<u64>, calls: &[Made]) -> bool {
 /// Tries the check on histories of calls by workers 0, 1 and so on, each with its begin and its end, from the key absent.
 fn try_the_check() {
     use Call::*;
-    let wrong: [&[(Call, u64, u64)]; 9] = [
+    let wrong: [&[(Call, u64, u64)]; 12] = [
         &[(Insert(50, true), 1, 4), (Insert(51, true), 2, 3)],
         &[(Insert(50, false), 1, 2)],
         &[(Find(Some(50)), 1, 2), (Insert(50, true), 3, 4)],
@@ -115,13 +119,18 @@ fn try_the_check() {
         &[(Insert(50, true), 1, 10), (Find(Some(50)), 2, 3), (Find(None), 4, 5)],
         &[(Insert(50, true), 1, 2), (Delete(true), 3, 6), (Delete(true), 4, 5)],
         &[(Insert(50, true), 1, 2), (Delete(true), 3, 9), (Insert(51, true), 4, 8), (Find(Some(51)), 5, 6), (Find(Some(50)), 7, 10)],
+        &[(Insert(50, true), 1, 2), (Exchange(50, 51, Some(50)), 3, 4), (Find(Some(50)), 5, 6)],
+        &[(Insert(50, true), 1, 2), (Exchange(50, 51, Some(50)), 3, 6), (Exchange(50, 52, Some(50)), 4, 5)],
+        &[(Insert(50, true), 1, 2), (Exchange(49, 51, Some(50)), 3, 4), (Find(Some(51)), 5, 6)],
     ];
-    let right: [&[(Call, u64, u64)]; 5] = [
+    let right: [&[(Call, u64, u64)]; 7] = [
         &[(Insert(50, false), 1, 4), (Insert(51, true), 2, 3)],
         &[(Insert(50, true), 1, 10), (Find(Some(50)), 2, 3), (Find(Some(50)), 4, 5)],
         &[(Insert(50, true), 1, 10), (Find(None), 2, 5), (Find(Some(50)), 3, 4)],
         &[(Insert(50, true), 1, 6), (Insert(51, true), 2, 5), (Delete(true), 3, 4), (Find(Some(50)), 7, 8)],
         &[(Insert(50, true), 1, 9), (Delete(true), 2, 8), (Find(Some(50)), 3, 7), (Insert(51, false), 4, 6), (Find(None), 10, 11)],
+        &[(Insert(50, true), 1, 2), (Exchange(50, 51, Some(50)), 3, 8), (Find(Some(51)), 4, 5), (Exchange(50, 52, Some(51)), 6, 7)],
+        &[(Insert(50, true), 1, 2), (Exchange(50, 51, Some(50)), 3, 6), (Delete(true), 4, 5), (Exchange(51, 52, None), 7, 8)],
     ];
     for (histories, is_right) in [(&wrong[..], false), (&right[..], true)] {
         for history in histories {
@@ -138,20 +147,72 @@ fn next(seed: &mut u64) -> u64 {
     *seed
 }
 
-/// One worker makes so many calls on keys below a number. No two inserts have one value.
+/// The value of each key of a range, by its pairs, which strictly ascend.
+fn of_each(keys: std::ops::Range<u64>, pairs: &[(u64, u64)]) -> Vec<(u64, Option<u64>)> {
+    assert!(pairs.windows(2).all(|two| two[0].0 < two[1].0) && pairs.iter().all(|pair| keys.contains(&pair.0)), "{pairs:?} in {keys:?}");
+    keys.map(|key| (key, pairs.iter().find(|pair| pair.0 == key).map(|pair| pair.1))).collect()
+}
+
+/// Goes over a range of keys below a number, in one of the ways that there are: what it was told of each key.
+fn go_over(handle: &mut Handle, keys: u64, random: u64) -> Vec<(u64, Option<u64>)> {
+    let (from, upto) = ((random >> 24) % keys, (random >> 40) % keys + 1);
+    let upto = upto.max(from);
+    match random >> 12 & 7 {
+        0 => match handle.next_at_least(from) {
+            Some(pair) => of_each(from..pair.0 + 1, &[pair]),
+            None => of_each(from..keys, &[]),
+        },
+        1 => match handle.last_before(upto) {
+            Some(pair) => of_each(pair.0..upto, &[pair]),
+            None => of_each(0..upto, &[]),
+        },
+        2 | 3 => {
+            let mut pairs: Vec<_> = handle.range(from..upto).rev().collect();
+            pairs.reverse();
+            of_each(from..upto, &pairs)
+        }
+        4 => {
+            let mut range = handle.range(from..upto);
+            let (low, high) = (range.next(), range.next_back());
+            let pairs: Vec<_> = low.into_iter().chain(range).chain(high).collect();
+            of_each(from..upto, &pairs)
+        }
+        _ => of_each(from..upto, &handle.range(from..upto).collect::<Vec<_>>()),
+    }
+}
+
+/// Exchanges the value that the worker has seen last for another: what it found is what it has seen.
+fn exchange(handle: &mut Handle, key: u64, seen: &mut u64, new: u64) -> Result<Call, Refused> {
+    let (current, said) = (*seen, handle.compare_exchange(key, *seen, new, TRIES)?);
+    let found = said.map_or_else(|there| there, Some);
+    *seen = if said.is_ok() { new } else { found.unwrap_or(current) };
+    Ok(Call::Exchange(current, new, found))
+}
+
+/// One worker makes so many calls on keys below a number. No two values that are to be stored are the same.
 fn work(handle: &mut Handle, worker: u32, keys: u64, calls: u64, mut seed: u64, clock: &AtomicU64) -> Result<Vec<Made>, Refused> {
-    let mut all = Vec::new();
+    let (mut all, mut seen) = (Vec::new(), vec![0; keys as usize]);
     for number in 0..calls {
         let random = next(&mut seed);
         let (key, value) = ((random >> 20) % keys, u64::from(worker) << 32 | number);
         let begun = clock.fetch_add(1, SeqCst);
-        let call = match random % 5 {
-            0 | 1 => Call::Insert(value, handle.insert(key, value, TRIES)?),
-            2 | 3 => Call::Delete(handle.delete(key, TRIES)?),
+        let call = match random % 16 {
+            0..=4 => Call::Insert(value, handle.insert(key, value, TRIES)?),
+            5..=8 => Call::Delete(handle.delete(key, TRIES)?),
+            9 | 10 => exchange(handle, key, &mut seen[key as usize], value)?,
+            11 => {
+                let told = go_over(handle, keys, random);
+                let ended = clock.fetch_add(1, SeqCst);
+                all.extend(told.into_iter().map(|(key, value)| Made { worker, key, call: Call::Find(value), begun, ended }));
+                continue;
+            }
             _ if random & 1024 == 0 => Call::Find(handle.find(key)?),
             _ => Call::Find(handle.look(key)?),
         };
         let ended = clock.fetch_add(1, SeqCst);
+        if let Call::Find(Some(there)) = call {
+            seen[key as usize] = there;
+        }
         all.push(Made { worker, key, call, begun, ended });
     }
     Ok(all)

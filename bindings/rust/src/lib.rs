@@ -30,6 +30,16 @@
 //! # Ok::<(), elltree::Refused>(())
 //! ```
 //!
+//! Any handle goes over the keys of a range, whoever owns them, from either end, while other threads go on:
+//!
+//! ```
+//! let mut handle = elltree::Handle::open_shared(&[(2, 20), (4, 40), (6, 60)], 1_000)?;
+//! assert_eq!(handle.range(3..).collect::<Vec<_>>(), [(4, 40), (6, 60)]);
+//! assert_eq!(handle.range(..=4).rev().collect::<Vec<_>>(), [(4, 40), (2, 20)]);
+//! assert_eq!((handle.next_after(4), handle.last_before(2)), (Some((6, 60)), None));
+//! # Ok::<(), elltree::Refused>(())
+//! ```
+//!
 //! With threads, and a reader that owns no key:
 //!
 //! ```
@@ -57,6 +67,8 @@
 //! let handle = elltree::Handle::open(&[1], &[], 10).unwrap();
 //! shared(&handle);
 //! ```
+use std::iter::FusedIterator;
+use std::ops::{Bound, RangeBounds};
 use std::sync::atomic::{AtomicU64, Ordering};
 
 /// The greatest key that a tree may have.
@@ -104,6 +116,9 @@ unsafe extern "C" {
     fn elltree_slot_join(into: &mut Slot, from: &mut Slot) -> i32;
     fn elltree_slot_find(slot: &mut Slot, key: u64, value: &mut u64) -> i32;
     fn elltree_slot_look(slot: &mut Slot, key: u64, value: &mut u64) -> i32;
+    fn elltree_slot_range(slot: &mut Slot, from: u64, upto: u64, out: *mut Pair, room: usize, count: &mut usize, next: &mut u64) -> i32;
+    fn elltree_slot_next_at_least(slot: &mut Slot, key: u64, found: &mut u64, value: &mut u64) -> i32;
+    fn elltree_slot_last_at_most(slot: &mut Slot, key: u64, found: &mut u64, value: &mut u64) -> i32;
     fn elltree_slot_insert(slot: &mut Slot, key: u64, value: u64, tries: u32) -> i32;
     fn elltree_slot_delete(slot: &mut Slot, key: u64, tries: u32) -> i32;
     fn elltree_slot_compare_exchange(slot: &mut Slot, key: u64, current: u64, new: u64, tries: u32, found: &mut u64) -> i32;
@@ -220,6 +235,9 @@ fn answer(code: i32) -> Result<bool> {
         _ => Err(NAMED.into_iter().find(|why| why.code() == code).unwrap_or(Refused::Other(code))),
     }
 }
+
+// The code of a call that has found what it sought.
+const YES: i32 = 1;
 
 // The code of a compare-exchange that has found another value.
 const OTHER_VALUE: i32 = 2;
@@ -404,6 +422,107 @@ impl Handle {
         Ok(there.then_some(value))
     }
 
+    /// Goes over the pairs of a range of keys, ascending, whoever owns the keys: from the other end too, as by [`Iterator::rev`]. The two ends never
+    /// meet the same key, and a range without an end goes to the last key. The handle is borrowed meanwhile, and other handles go on.
+    ///
+    /// It is no snapshot, but each key is told as it was at one moment since the iterator was made: a key that was present all along is among the
+    /// pairs, one that was absent all along is not, and each pair was there.
+    ///
+    /// A range that ends before it begins has no keys. That is not so for a `BTreeMap`, which panics on it.
+    ///
+    /// ```
+    /// let mut handle = elltree::Handle::open_shared(&[(1, 10), (2, 20), (3, 30), (5, 50)], 9)?;
+    /// assert_eq!(handle.range(2..5).collect::<Vec<_>>(), [(2, 20), (3, 30)]);
+    /// assert_eq!(handle.range(2..=5).map(|pair| pair.1).sum::<u64>(), 100);
+    /// assert_eq!(handle.range(..).next_back(), Some((5, 50)));
+    /// assert_eq!(handle.range(4..2).next(), None);
+    /// let mut both_ways = handle.range(..);
+    /// assert_eq!((both_ways.next(), both_ways.next_back(), both_ways.next()), (Some((1, 10)), Some((5, 50)), Some((2, 20))));
+    /// # Ok::<(), elltree::Refused>(())
+    /// ```
+    pub fn range(&mut self, range: impl RangeBounds<u64>) -> Range<'_> {
+        let from = match range.start_bound() {
+            Bound::Included(&key) => Some(key),
+            Bound::Excluded(&key) => key.checked_add(1),
+            Bound::Unbounded => Some(0),
+        };
+        // No key is so great as u64::MAX, so that a range up to there has all keys from its start on.
+        let upto = match range.end_bound() {
+            Bound::Included(&key) => key.saturating_add(1),
+            Bound::Excluded(&key) => key,
+            Bound::Unbounded => u64::MAX,
+        };
+        Range::new(self, from.unwrap_or(upto), upto)
+    }
+
+    /// The least key from `key` on that is present, with its value, whoever owns it: it was present at one moment of the call, and each key before
+    /// it was absent at one.
+    ///
+    /// ```
+    /// let mut handle = elltree::Handle::open_shared(&[(2, 20), (4, 40)], 9)?;
+    /// assert_eq!((handle.next_at_least(2), handle.next_at_least(3), handle.next_at_least(5)), (Some((2, 20)), Some((4, 40)), None));
+    /// # Ok::<(), elltree::Refused>(())
+    /// ```
+    pub fn next_at_least(&mut self, key: u64) -> Option<(u64, u64)> {
+        let (mut found, mut value) = (0, 0);
+        // SAFETY: the slot is this handle's.
+        let code = unsafe { elltree_slot_next_at_least(&mut self.0, key, &mut found, &mut value) };
+        (code == YES).then_some((found, value))
+    }
+
+    /// The least key above `key` that is present, with its value, as [`Handle::next_at_least`] finds it.
+    ///
+    /// ```
+    /// let mut handle = elltree::Handle::open_shared(&[(2, 20), (4, 40)], 9)?;
+    /// assert_eq!((handle.next_after(1), handle.next_after(2), handle.next_after(4)), (Some((2, 20)), Some((4, 40)), None));
+    /// # Ok::<(), elltree::Refused>(())
+    /// ```
+    pub fn next_after(&mut self, key: u64) -> Option<(u64, u64)> {
+        self.next_at_least(key.checked_add(1)?)
+    }
+
+    /// The greatest key up to `key` that is present, with its value, whoever owns it: it was present at one moment of the call, and each key after it
+    /// was absent at one.
+    ///
+    /// ```
+    /// let mut handle = elltree::Handle::open_shared(&[(2, 20), (4, 40)], 9)?;
+    /// assert_eq!((handle.last_at_most(1), handle.last_at_most(3), handle.last_at_most(4)), (None, Some((2, 20)), Some((4, 40))));
+    /// # Ok::<(), elltree::Refused>(())
+    /// ```
+    pub fn last_at_most(&mut self, key: u64) -> Option<(u64, u64)> {
+        let (mut found, mut value) = (0, 0);
+        // SAFETY: the slot is this handle's.
+        let code = unsafe { elltree_slot_last_at_most(&mut self.0, key, &mut found, &mut value) };
+        (code == YES).then_some((found, value))
+    }
+
+    /// The greatest key below `key` that is present, with its value, as [`Handle::last_at_most`] finds it.
+    ///
+    /// ```
+    /// let mut handle = elltree::Handle::open_shared(&[(2, 20), (4, 40)], 9)?;
+    /// assert_eq!((handle.last_before(2), handle.last_before(4), handle.last_before(5)), (None, Some((2, 20)), Some((4, 40))));
+    /// # Ok::<(), elltree::Refused>(())
+    /// ```
+    pub fn last_before(&mut self, key: u64) -> Option<(u64, u64)> {
+        self.last_at_most(key.checked_sub(1)?)
+    }
+
+    /// The least key that is present, with its value, as [`Handle::next_at_least`] finds it.
+    ///
+    /// ```
+    /// let mut handle = elltree::Handle::open_shared(&[(2, 20), (4, 40)], 9)?;
+    /// assert_eq!((handle.first_key_value(), handle.last_key_value()), (Some((2, 20)), Some((4, 40))));
+    /// # Ok::<(), elltree::Refused>(())
+    /// ```
+    pub fn first_key_value(&mut self) -> Option<(u64, u64)> {
+        self.next_at_least(0)
+    }
+
+    /// The greatest key that is present, with its value, as [`Handle::last_at_most`] finds it.
+    pub fn last_key_value(&mut self) -> Option<(u64, u64)> {
+        self.last_at_most(KEY_MAX)
+    }
+
     /// Adds a shared key, or one of the handle's own, with its value, and returns whether the key was absent. A key that is present keeps its
     /// value.
     ///
@@ -558,7 +677,8 @@ impl Handle {
         left
     }
 
-    /// The keys of the handle's own that are present, ascending, with their values: shared keys are not among them.
+    /// The keys of the handle's own that are present, ascending, with their values: shared keys are not among them, but [`Handle::range`] tells of
+    /// any.
     pub fn pairs(&mut self) -> Result<Vec<(u64, u64)>> {
         let mut out = vec![Pair { key: 0, value: 0 }; self.owned()];
         let mut count = 0;
@@ -583,6 +703,76 @@ impl std::fmt::Debug for Handle {
     }
 }
 
+// How many pairs a range asks for first, and at most. It doubles in between, so that a short range is cheap.
+const FIRST_FILL: usize = 4;
+const MOST_FILL: usize = 64;
+
+/// The pairs of a range of keys, from either end: what [`Handle::range`] makes. Pairs that were found together wait here, so a pair may be from
+/// before the call that gives it, but not from before the iterator was made.
+pub struct Range<'a> {
+    handle: &'a mut Handle,
+    // Pairs that are found, and which of them are not given out yet.
+    found: [Pair; MOST_FILL],
+    left: std::ops::Range<usize>,
+    // The keys behind those pairs that nobody has asked for yet.
+    from: u64,
+    upto: u64,
+    fill: usize,
+}
+
+impl<'a> Range<'a> {
+    fn new(handle: &'a mut Handle, from: u64, upto: u64) -> Range<'a> {
+        Range { handle, found: [Pair { key: 0, value: 0 }; MOST_FILL], left: 0..0, from, upto, fill: FIRST_FILL }
+    }
+
+    // Asks for the next pairs, where none wait.
+    fn fill(&mut self) {
+        let (mut count, mut next) = (0, self.upto);
+        // SAFETY: the slot is this handle's, and the array has room for so many.
+        unsafe { elltree_slot_range(&mut self.handle.0, self.from, self.upto, self.found.as_mut_ptr(), self.fill, &mut count, &mut next) };
+        (self.left, self.from, self.fill) = (0..count, next, MOST_FILL.min(2 * self.fill));
+    }
+
+    // The pair at a place of those that wait.
+    fn pair(&self, place: usize) -> (u64, u64) {
+        (self.found[place].key, self.found[place].value)
+    }
+}
+
+impl Iterator for Range<'_> {
+    type Item = (u64, u64);
+
+    fn next(&mut self) -> Option<(u64, u64)> {
+        if self.left.is_empty() && self.from < self.upto {
+            self.fill();
+        }
+        let place = self.left.next()?;
+        Some(self.pair(place))
+    }
+}
+
+impl DoubleEndedIterator for Range<'_> {
+    fn next_back(&mut self) -> Option<(u64, u64)> {
+        if self.from < self.upto {
+            let last = self.handle.last_before(self.upto).filter(|pair| self.from <= pair.0);
+            self.upto = last.map_or(self.from, |pair| pair.0);
+            if last.is_some() {
+                return last;
+            }
+        }
+        let place = self.left.next_back()?;
+        Some(self.pair(place))
+    }
+}
+
+impl FusedIterator for Range<'_> {}
+
+impl std::fmt::Debug for Range<'_> {
+    fn fmt(&self, f: &mut std::fmt::Formatter<'_>) -> std::fmt::Result {
+        f.debug_struct("Range").finish_non_exhaustive()
+    }
+}
+
 /// Looks at any key of a tree, and owns none.
 #[derive(Debug)]
 pub struct Reader(Handle);
@@ -591,6 +781,19 @@ impl Reader {
     /// The value of any key of the tree, if it is present: as it was at one moment of the call. `BadKey` where the key is above [`KEY_MAX`].
     pub fn look(&mut self, key: u64) -> Result<Option<u64>> {
         self.0.look(key)
+    }
+
+    /// Goes over the pairs of a range of keys, as [`Handle::range`] does.
+    ///
+    /// ```
+    /// let mut tree = elltree::Tree::open(&[1, 2, 3], &[(2, 20)], 9)?;
+    /// let (mut owner, mut reader) = (tree.handle(&[1])?, tree.reader()?);
+    /// owner.insert(1, 10, 9)?;
+    /// assert_eq!(reader.range(..).collect::<Vec<_>>(), [(1, 10), (2, 20)]);
+    /// # Ok::<(), elltree::Refused>(())
+    /// ```
+    pub fn range(&mut self, range: impl RangeBounds<u64>) -> Range<'_> {
+        self.0.range(range)
     }
 
     /// How many cards of the tree are not given out yet, as [`Handle::cards_left`] tells it.

@@ -14,3 +14,5 @@ pub mod Reads
 pub mod Tries
 -- what is answered of values that are compared, put and updated in place, and how such a call ends without an answer
 pub mod Values
+-- where a range ends, and what a scan of it leaves of a handle
+pub mod Ranges

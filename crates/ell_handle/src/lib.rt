@@ -8,11 +8,13 @@ mod handle;
 mod keys;
 mod merging;
 mod opening;
+mod ranging;
 mod refusal;
 mod renewing;
 mod replacing;
 mod using;
 
+pub use ell_tree::{About, Pair, Scanned};
 pub use grouping::renew_all;
 pub use handle::{Handle, Place, SharedTree, sent};
 pub use refusal::Refusal;

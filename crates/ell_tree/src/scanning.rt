@@ -8,7 +8,7 @@ ghost use Rattle.ell_tree.specs.Scans.{AreInOrder, HaveFound, HasFoundLast, HasF
 
 use crate::cursor::Cursor;
 use ell_cards::{CardTable, Pass};
-use ell_ops::KEY_MAX;
+use ell_ops::{KEY_MAX, Keyed};
 use ell_word::StepGate;
 use std::alloc::Allocator;
 
@@ -18,6 +18,14 @@ use std::alloc::Allocator;
 pub struct Pair {
     pub key: u64,
     pub value: u64,
+}
+
+impl Keyed for Pair {
+    ghost key_of = { λ pair. pair.key };
+
+    fn key(&self) -> u64 {
+        self.key
+    }
 }
 
 /// How far a scan has come: how many pairs it has written, and where to go on if there was no room for more.

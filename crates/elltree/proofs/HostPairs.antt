@@ -4,7 +4,7 @@ use Rattle.std.proofs.lemmas.Simd.{map-map}
 use Rattle.std.specs.List.Sorted.{IsStrictlyIncreasing}
 use Rattle.std.specs.Map.{keys_of}
 use Rattle.ell_ops.specs.Meaning.{greatest_key}
-use Rattle.elltree.specs.declared.Pair.{Pair}
+use Rattle.ell_tree.specs.declared.scanning.Pair.{Pair}
 use Rattle.elltree.specs.Maps.{as_pairs}
 
 abbrev none : Pair

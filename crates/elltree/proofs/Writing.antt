@@ -1,6 +1,6 @@
 use Rattle.std.proofs.Common.{◌≡◌, ◌+◌, ◌<◌, ℕ, List, [], ◌∷◌, ◌++◌, take, drop, length, get_or, set, arith, ap, sym, ◌∙◌}
 use Rattle.std.proofs.lemmas.List.{drop-drop, drop-set-lt, map_push, take_more, take_more_set}
-use Rattle.elltree.specs.declared.Pair.{Pair}
+use Rattle.ell_tree.specs.declared.scanning.Pair.{Pair}
 use Rattle.elltree.specs.Maps.{as_pairs}
 
 -- one more pair at the end of what is written

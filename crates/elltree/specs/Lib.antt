@@ -6,3 +6,4 @@ pub mod Texts
 pub mod Groups
 pub mod Slots
 pub mod Values
+pub mod Ranges

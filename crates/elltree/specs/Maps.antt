@@ -9,7 +9,7 @@ use Rattle.ell_handle.specs.Parts.{MayJoin}
 use Rattle.ell_handle.specs.Reads.{tree_of}
 use Rattle.ell_handle.specs.declared.handle.Handle.{Handle}
 use Rattle.elltree.specs.Owned.{Inside}
-use Rattle.elltree.specs.declared.Pair.{Pair}
+use Rattle.ell_tree.specs.declared.scanning.Pair.{Pair}
 
 -- the handle of a slot
 abbrev pub handle_of : Option Inside → Option Handle

@@ -22,7 +22,7 @@ use Rattle.ell_handle.specs.declared.refusal.Refusal.TheVariants.{BadCards, BadK
 use Rattle.elltree.specs.Codes.{IsOneOf, said_bad_cards, said_bad_key, said_bad_start, said_busy, said_closed, said_foreign, said_no, said_no_memory, said_no_room, said_no_tries, said_open, said_other_tree, said_shared_keys, said_spent, said_too_many, said_yes}
 use Rattle.elltree.specs.Maps.{AreOfOneTree, IsFoundBy, IsJoined, NeedsMore, NumbersDiffer, OwnsIn, WritesKeys, WritesPairs}
 use Rattle.elltree.specs.Slots.{ArePartsIn, HasAnotherIn, OfHandle}
-use Rattle.elltree.specs.declared.Pair.{Pair}
+use Rattle.ell_tree.specs.declared.scanning.Pair.{Pair}
 
 -- what the code of a find tells of a handle, with the value that the find has left in its place: whether the key is present and has this
 -- value, on a key of the handle's own as its map has it; or exactly that the key is neither the handle's nor shared

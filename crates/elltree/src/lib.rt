@@ -10,6 +10,7 @@ mod codes;
 pub mod grouping;
 pub mod opening;
 mod parts;
+pub mod ranging;
 pub mod reading;
 pub mod renewing;
 pub mod replacing;
@@ -20,10 +21,4 @@ mod starting;
 mod tests;
 pub mod texts;
 
-/// A key with its value.
-#[repr(C)]
-#[derive(Clone, Copy)]
-pub struct Pair {
-    pub key: u64,
-    pub value: u64,
-}
+pub use ell_tree::Pair;

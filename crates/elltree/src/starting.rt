@@ -6,7 +6,7 @@ ghost use Rattle.elltree.specs.Maps.{as_pairs};
 use crate::Pair;
 use ell_cards::is_card_count;
 use ell_handle::Refusal;
-use ell_ops::{Keyed, all_fit, ascend};
+use ell_ops::{all_fit, ascend};
 use ell_tree::START_MAX;
 
 /// Why no tree is opened where memory for its start keys was refused: want of memory is named only where nothing else is wrong.
@@ -23,14 +23,6 @@ pub(crate) fn why_refused(keys: &[u64], start: &[Pair], cards: u64) -> Refusal
         return Refusal::BadCards;
     }
     Refusal::NoMemory
-}
-
-impl Keyed for Pair {
-    ghost key_of = { λ pair. pair.key };
-
-    fn key(&self) -> u64 {
-        self.key
-    }
 }
 
 // Whether a tree may begin with these start keys.

@@ -9,6 +9,7 @@ use crate::codes::{
 };
 use crate::grouping::elltree_slots_renew;
 use crate::opening::{elltree_slot_free, elltree_slot_join, elltree_slot_open, elltree_slot_split};
+use crate::ranging::{elltree_slot_last_at_most, elltree_slot_next_at_least, elltree_slot_range};
 use crate::reading::{elltree_slot_cards_left, elltree_slot_owned, elltree_slot_pairs};
 use crate::renewing::elltree_slot_renew;
 use crate::replacing::{elltree_slot_compare_exchange, elltree_slot_fetch_add, elltree_slot_put};
@@ -228,6 +229,152 @@ fn a_slot_changes_values_in_place(rt: HostRuntime) {
     assert!(rt; elltree_slot_find(alloc, &mut one, 2, &mut value) == YES);
     assert!(rt; value == 30);
     assert!(rt; elltree_slot_free(alloc, &mut one) == YES);
+}
+
+#[test]
+fn a_slot_tells_ranges(rt: HostRuntime) {
+    let alloc: Global = rt.alloc();
+    let mut one = Slot::empty(alloc);
+    let nothing = Pair { key: 7, value: 7 };
+    let (mut room, mut count, mut next) = ([nothing; 3], 7, 7);
+    assert!(rt;
+        elltree_slot_range(alloc, &mut one, 0, 9, &mut room, &mut count, &mut next) == CLOSED
+    );
+    assert!(rt; (count, next, room[0].key) == (7, 7, 7));
+    assert!(rt; elltree_slot_open_shared(alloc, &mut one, &[], 10, 1) == YES);
+    // An empty tree.
+    assert!(rt;
+        elltree_slot_range(
+            alloc,
+            &mut one,
+            0,
+            u64::MAX,
+            &mut room,
+            &mut count,
+            &mut next
+        ) == YES
+    );
+    assert!(rt; (count, next, room[0].key) == (0, u64::MAX, 7));
+    for key in [3, 4, 6, KEY_MAX] {
+        assert!(rt; elltree_slot_insert(alloc, &mut one, key, key % 1000, 9) == YES);
+    }
+    // More than there is room for, and the rest.
+    assert!(rt;
+        elltree_slot_range(
+            alloc,
+            &mut one,
+            0,
+            u64::MAX,
+            &mut room,
+            &mut count,
+            &mut next
+        ) == YES
+    );
+    assert!(rt; count == 3 && 6 < next && next <= KEY_MAX);
+    assert!(rt; (room[0].key, room[1].key, room[2].key) == (3, 4, 6));
+    assert!(rt; (room[0].value, room[1].value, room[2].value) == (3, 4, 6));
+    assert!(rt;
+        elltree_slot_range(
+            alloc,
+            &mut one,
+            next,
+            u64::MAX,
+            &mut room,
+            &mut count,
+            &mut next
+        ) == YES
+    );
+    assert!(rt; (count, next) == (1, u64::MAX));
+    assert!(rt; (room[0].key, room[0].value, room[1].key) == (KEY_MAX, 613, 4));
+    // The ends of a range: the first is in it, the second is not.
+    let mut room = [nothing; 3];
+    assert!(rt; elltree_slot_range(alloc, &mut one, 3, 6, &mut room, &mut count, &mut next) == YES);
+    assert!(rt; (count, next) == (2, 6));
+    assert!(rt; (room[0].key, room[1].key, room[2].key) == (3, 4, 7));
+    assert!(rt; elltree_slot_range(alloc, &mut one, 4, 5, &mut room, &mut count, &mut next) == YES);
+    assert!(rt; (count, next, room[0].key, room[1].key) == (1, 5, 4, 4));
+    assert!(rt; elltree_slot_range(alloc, &mut one, 5, 6, &mut room, &mut count, &mut next) == YES);
+    assert!(rt; (count, next, room[0].key) == (0, 6, 4));
+    // Ranges without keys.
+    for (from, upto) in [(4, 4), (6, 3), (KEY_MAX + 1, u64::MAX), (u64::MAX, 0)] {
+        assert!(rt;
+            elltree_slot_range(
+                alloc, &mut one, from, upto, &mut room, &mut count, &mut next
+            ) == YES
+        );
+        assert!(rt; (count, next, room[0].key) == (0, upto, 4));
+    }
+    // The greatest key, and no room.
+    assert!(rt;
+        elltree_slot_range(
+            alloc,
+            &mut one,
+            KEY_MAX,
+            KEY_MAX + 1,
+            &mut room,
+            &mut count,
+            &mut next
+        ) == YES
+    );
+    assert!(rt; (count, next, room[0].key) == (1, KEY_MAX + 1, KEY_MAX));
+    assert!(rt;
+        elltree_slot_range(alloc, &mut one, 4, 9, &mut room[..0], &mut count, &mut next) == YES
+    );
+    assert!(rt; (count, next) == (0, 4));
+    assert!(rt; elltree_slot_free(alloc, &mut one) == YES);
+}
+
+#[test]
+fn a_slot_tells_the_next_key_and_the_last(rt: HostRuntime) {
+    let alloc: Global = rt.alloc();
+    let mut one = Slot::empty(alloc);
+    let (mut found, mut value) = (7, 8);
+    assert!(rt; elltree_slot_next_at_least(alloc, &mut one, 0, &mut found, &mut value) == CLOSED);
+    assert!(rt; elltree_slot_last_at_most(alloc, &mut one, 0, &mut found, &mut value) == CLOSED);
+    assert!(rt; elltree_slot_open(alloc, &mut one, &[KEY_MAX, 0, 5], &[], 10, 1) == YES);
+    // An empty tree.
+    assert!(rt; elltree_slot_next_at_least(alloc, &mut one, 0, &mut found, &mut value) == NO);
+    assert!(rt; elltree_slot_last_at_most(alloc, &mut one, u64::MAX, &mut found, &mut value) == NO);
+    assert!(rt; (found, value) == (7, 8));
+    // One key, and keys beside it.
+    assert!(rt; elltree_slot_insert(alloc, &mut one, 5, 50, 9) == YES);
+    for key in [0, 4, 5] {
+        assert!(rt;
+            elltree_slot_next_at_least(alloc, &mut one, key, &mut found, &mut value) == YES
+        );
+        assert!(rt; (found, value) == (5, 50));
+        (found, value) = (7, 8);
+    }
+    for key in [5, 6, KEY_MAX, u64::MAX] {
+        assert!(rt; elltree_slot_last_at_most(alloc, &mut one, key, &mut found, &mut value) == YES);
+        assert!(rt; (found, value) == (5, 50));
+        (found, value) = (7, 8);
+    }
+    assert!(rt; elltree_slot_next_at_least(alloc, &mut one, 6, &mut found, &mut value) == NO);
+    assert!(rt; elltree_slot_last_at_most(alloc, &mut one, 4, &mut found, &mut value) == NO);
+    assert!(rt; (found, value) == (7, 8));
+    // The least key and the greatest.
+    assert!(rt; elltree_slot_insert(alloc, &mut one, 0, 1, 9) == YES);
+    assert!(rt; elltree_slot_insert(alloc, &mut one, KEY_MAX, 2, 9) == YES);
+    assert!(rt; elltree_slot_next_at_least(alloc, &mut one, 6, &mut found, &mut value) == YES);
+    assert!(rt; (found, value) == (KEY_MAX, 2));
+    assert!(rt; elltree_slot_last_at_most(alloc, &mut one, 4, &mut found, &mut value) == YES);
+    assert!(rt; (found, value) == (0, 1));
+    for key in [KEY_MAX + 1, u64::MAX] {
+        assert!(rt; elltree_slot_next_at_least(alloc, &mut one, key, &mut found, &mut value) == NO);
+        assert!(rt; elltree_slot_last_at_most(alloc, &mut one, key, &mut found, &mut value) == YES);
+        assert!(rt; (found, value) == (KEY_MAX, 2));
+        (found, value) = (0, 1);
+    }
+    // A key that is gone, and one of another owner.
+    let mut other = Slot::empty(alloc);
+    assert!(rt; elltree_slot_split(alloc, &mut one, &mut other, &[5]) == YES);
+    assert!(rt; elltree_slot_delete(alloc, &mut one, 0, 9) == YES);
+    assert!(rt; elltree_slot_next_at_least(alloc, &mut one, 0, &mut found, &mut value) == YES);
+    assert!(rt; (found, value) == (5, 50));
+    assert!(rt; elltree_slot_free(alloc, &mut one) == YES);
+    assert!(rt; elltree_slot_last_at_most(alloc, &mut other, 4, &mut found, &mut value) == NO);
+    assert!(rt; elltree_slot_free(alloc, &mut other) == YES);
 }
 
 #[test]

@@ -1,0 +1,130 @@
+//! Scans of a range, the next key above or below one, and looks that tell of whole stretches of keys, whoever owns them.
+ghost use Rattle.std.specs.Prelude.{◌≡◌, ◌<◌, ◌≤◌, ◌+◌, IfOk, IfErr, IfSome, OnOk, OnErr, drop, length};
+ghost use Rattle.ell_ops.specs.Contents.{contents_of};
+ghost use Rattle.ell_ops.specs.Meaning.{greatest_key};
+ghost use Rattle.ell_tree.specs.Looks.{OnlyLooks, look_steps};
+ghost use Rattle.ell_tree.specs.Scans.{AreFoundIn, AreInOrder, IsAbout, IsFoundAboutIn, IsLastIn, IsNextIn, TellsItsOwn, end_of, scan_steps, value_there, written};
+ghost use Rattle.ell_handle.specs.Ranges.{OnlyScans, real_end};
+ghost use Rattle.ell_handle.specs.Reads.{OnlyLooksUp, last_card_of, tree_of};
+ghost use Rattle.ell_handle.specs.declared.refusal.Refusal.TheVariants.{BadKey};
+
+use crate::handle::Handle;
+use crate::refusal::Refusal;
+use ell_tree::{About, KEY_MAX, NoGate, Pair, Scanned};
+
+impl Handle {
+    /// Writes the pairs of the keys from `from` on and below `upto`, whoever owns them, strictly ascending, into `room`, as far as there is
+    /// room: how many they are, and, if there may be more, the key where to go on. The rest of `room` is left as it is. No key is above
+    /// `KEY_MAX`, so an `upto` above `KEY_MAX + 1` means `KEY_MAX + 1`, and a range that ends where it begins, or before, has no keys. Each
+    /// key of the range, as far as the scan came, is answered as by a look at it in one state of the tree between the first step of the scan and
+    /// its last: what was present all along is written, what was absent all along is not, and each pair was there. Two keys may be of two
+    /// states: a scan is no snapshot. It waits for nobody.
+    pub fn scan(&mut self, from: u64, upto: u64, room: &mut [Pair]) -> Scanned
+        ensures so { AreFoundIn (tree_of self.old) self.new.pass.view from (end_of (real_end upto) result)
+            (contents_of (written room.new result)) }
+        ensures ordered { AreInOrder from (end_of (real_end upto) result) (written room.new result) }
+        ensures count { result.count ≤ length room.old }
+        ensures next { IfSome result.next (λ next.
+            (from ≤ next) × (next < real_end upto) × (result.count ≡ length room.old)) }
+        ensures rest { drop result.count room.new ≡ drop result.count room.old }
+        ensures mine { TellsItsOwn self.old.pass from (end_of (real_end upto) result) (contents_of (written room.new result)) }
+        ensures only { OnlyLooks self.old.pass self.new.pass (scan_steps (last_card_of self.old)) }
+        ensures reads { OnlyScans self.old self.new }
+    {
+        self.shared
+            .tree
+            .scan(&mut self.pass, from, upto.min(KEY_MAX + 1), room, &NoGate)
+    }
+
+    /// The least key from `key` on that is present, with its value, whoever owns it: it was present in one state of the tree during the call, and
+    /// each key before it was absent in one. `None` for a key above `KEY_MAX`.
+    #[tactic(auto, using(crate::proofs::Ranging::none_above, crate::proofs::Ranging::looks_none, crate::proofs::Ranging::scans_none))]
+    pub fn next_at_least(&mut self, key: u64) -> Option<(u64, u64)>
+        ensures so { IsNextIn (tree_of self.old) self.new.pass.view key result }
+        ensures only { OnlyLooks self.old.pass self.new.pass (scan_steps (last_card_of self.old)) }
+        ensures reads { OnlyScans self.old self.new }
+    {
+        if key > KEY_MAX {
+            return None;
+        }
+        self.shared
+            .tree
+            .next_at_least(&mut self.pass, key, &NoGate)
+    }
+
+    /// The least key above `key` that is present, with its value, as of `next_at_least`.
+    #[tactic(auto, using(crate::proofs::Ranging::none_above, crate::proofs::Ranging::looks_none, crate::proofs::Ranging::scans_none))]
+    pub fn next_after(&mut self, key: u64) -> Option<(u64, u64)>
+        ensures so { IsNextIn (tree_of self.old) self.new.pass.view (key + 1) result }
+        ensures only { OnlyLooks self.old.pass self.new.pass (scan_steps (last_card_of self.old)) }
+        ensures reads { OnlyScans self.old self.new }
+    {
+        if key > KEY_MAX {
+            return None;
+        }
+        self.shared.tree.next_after(&mut self.pass, key, &NoGate)
+    }
+
+    /// The least key that is present, with its value, as of `next_at_least`.
+    pub fn first(&mut self) -> Option<(u64, u64)>
+        ensures so { IsNextIn (tree_of self.old) self.new.pass.view 0 result }
+        ensures only { OnlyLooks self.old.pass self.new.pass (scan_steps (last_card_of self.old)) }
+        ensures reads { OnlyScans self.old self.new }
+    {
+        self.shared.tree.first(&mut self.pass, &NoGate)
+    }
+
+    /// The greatest key up to `key` that is present, with its value, whoever owns it: it was present in one state of the tree during the call,
+    /// and each key after it was absent in one. For a key above `KEY_MAX` it is that of `last`.
+    pub fn last_at_most(&mut self, key: u64) -> Option<(u64, u64)>
+        ensures so { IsLastIn (tree_of self.old) self.new.pass.view (real_end (key + 1)) result }
+        ensures only { OnlyLooks self.old.pass self.new.pass (scan_steps (last_card_of self.old)) }
+        ensures reads { OnlyScans self.old self.new }
+    {
+        if key > KEY_MAX {
+            return self.last();
+        }
+        self.shared.tree.last_at_most(&mut self.pass, key, &NoGate)
+    }
+
+    /// The greatest key below `key` that is present, with its value, as of `last_at_most`.
+    pub fn last_before(&mut self, key: u64) -> Option<(u64, u64)>
+        ensures so { IsLastIn (tree_of self.old) self.new.pass.view (real_end key) result }
+        ensures only { OnlyLooks self.old.pass self.new.pass (scan_steps (last_card_of self.old)) }
+        ensures reads { OnlyScans self.old self.new }
+    {
+        if key > KEY_MAX {
+            return self.last();
+        }
+        self.shared.tree.last_before(&mut self.pass, key, &NoGate)
+    }
+
+    /// The greatest key that is present, with its value, as of `last_at_most`.
+    pub fn last(&mut self) -> Option<(u64, u64)>
+        ensures so { IsLastIn (tree_of self.old) self.new.pass.view (greatest_key + 1) result }
+        ensures only { OnlyLooks self.old.pass self.new.pass (scan_steps (last_card_of self.old)) }
+        ensures reads { OnlyScans self.old self.new }
+    {
+        self.shared.tree.last(&mut self.pass, &NoGate)
+    }
+
+    /// What is about a key, whoever owns the keys: of ONE state of the tree between the first step of the look and its last it tells all keys of
+    /// a stretch, from `low` on and below `high`, between which the key lies. Of these the key in `found` was present, with this value, and no
+    /// other; or none was. It waits for nobody. `BadKey` where the key is above `KEY_MAX`.
+    pub fn look_about(&mut self, key: u64) -> Result<About, Refusal>
+        ensures so { IfOk result (IsFoundAboutIn (tree_of self.old) self.new.pass.view) }
+        ensures about { IfOk result (IsAbout key) }
+        ensures mine { IfOk result (λ about.
+            TellsItsOwn self.old.pass about.low about.high (value_there about.found)) }
+        ensures only { OnOk result (OnlyLooks self.old.pass self.new.pass (look_steps (last_card_of self.old))) }
+        ensures real { OnOk result (key ≤ greatest_key) }
+        ensures bad_key { IfErr result (λ why. (why ≡ BadKey) × (greatest_key < key)) }
+        ensures reads { OnlyLooksUp self.old self.new }
+        ensures refused { OnErr result (self.new ≡ self.old) }
+    {
+        if key > KEY_MAX {
+            return Err(Refusal::BadKey);
+        }
+        Ok(self.shared.tree.look_about(&mut self.pass, key, &NoGate))
+    }
+}

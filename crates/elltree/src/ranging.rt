@@ -1,0 +1,114 @@
+//! Scans of a range, and the next key above or below one.
+ghost use Rattle.std.specs.Prelude.{◌≡◌, ◌≢◌, ◌↔◌, [], ◌∷◌, None, Some};
+ghost use Rattle.elltree.specs.Codes.{IsOneOf, said_closed, said_no, said_yes};
+ghost use Rattle.elltree.specs.Maps.{handle_of};
+ghost use Rattle.elltree.specs.Ranges.{TellsLast, TellsNext, TellsRange};
+ghost use Rattle.elltree.specs.Slots.{OfHandlesIfAny};
+
+use crate::Pair;
+use crate::codes::{CLOSED, NO, YES};
+use crate::slot::Slot;
+use ell_handle::Handle;
+use std::alloc::Global;
+
+/// Writes the pairs of the keys from `from` on and below `upto`, whoever owns them, ascending, as far as there is room, how many they are, and
+/// the key where to go on: `upto`, if the range is told to its end. Each key is told as it was in one state of the tree during the call: two keys
+/// may be of two states.
+#[unsafe(no_mangle)]
+pub extern "C" fn elltree_slot_range(
+    alloc: Global,
+    slot: &mut Slot,
+    from: u64,
+    upto: u64,
+    out: &mut [Pair],
+    count: &mut usize,
+    next: &mut u64,
+) -> i32
+    ensures closed { (result ≡ said_closed) ↔ (handle_of slot.old.raw.inside ≡ None) }
+    ensures tells { OfHandlesIfAny (TellsRange from upto result count.new next.new out.old out.new) (handle_of slot.old.raw.inside)
+        (handle_of slot.new.raw.inside) }
+    ensures kept { result ≢ said_yes → (out.new ≡ out.old) × ((count.new ≡ count.old) × (next.new ≡ next.old)) }
+{
+    let Some(mut place) = slot.take(alloc) else {
+        return CLOSED;
+    };
+    let code = match &mut place.handle {
+        Some(handle) => range(handle, from, upto, out, count, next),
+        None => CLOSED,
+    };
+    slot.put(place);
+    code
+}
+
+// A scan as a code.
+fn range(
+    handle: &mut Handle,
+    from: u64,
+    upto: u64,
+    out: &mut [Pair],
+    count: &mut usize,
+    next: &mut u64,
+) -> i32
+    ensures { TellsRange from upto result count.new next.new out.old out.new handle.old handle.new }
+{
+    let scanned = handle.scan(from, upto, out);
+    *count = scanned.count;
+    *next = scanned.next.unwrap_or(upto);
+    YES
+}
+
+/// Whether a key from `key` on is present, whoever owns it, and the least of them with its value: it was present in one state of the tree during
+/// the call, and each key before it was absent in one.
+#[unsafe(no_mangle)]
+pub extern "C" fn elltree_slot_next_at_least(
+    alloc: Global,
+    slot: &mut Slot,
+    key: u64,
+    found: &mut u64,
+    value: &mut u64,
+) -> i32
+    ensures closed { (result ≡ said_closed) ↔ (handle_of slot.old.raw.inside ≡ None) }
+    ensures tells { OfHandlesIfAny (TellsNext key result found.new value.new) (handle_of slot.old.raw.inside)
+        (handle_of slot.new.raw.inside) }
+    ensures kept { result ≢ said_yes → (found.new ≡ found.old) × (value.new ≡ value.old) }
+{
+    let Some(there) = slot.with_handle(alloc, |handle| handle.next_at_least(key)) else {
+        return CLOSED;
+    };
+    told(there, found, value)
+}
+
+/// Whether a key up to `key` is present, whoever owns it, and the greatest of them with its value: it was present in one state of the tree during
+/// the call, and each key after it was absent in one.
+#[unsafe(no_mangle)]
+pub extern "C" fn elltree_slot_last_at_most(
+    alloc: Global,
+    slot: &mut Slot,
+    key: u64,
+    found: &mut u64,
+    value: &mut u64,
+) -> i32
+    ensures closed { (result ≡ said_closed) ↔ (handle_of slot.old.raw.inside ≡ None) }
+    ensures tells { OfHandlesIfAny (TellsLast key result found.new value.new) (handle_of slot.old.raw.inside)
+        (handle_of slot.new.raw.inside) }
+    ensures kept { result ≢ said_yes → (found.new ≡ found.old) × (value.new ≡ value.old) }
+{
+    let Some(there) = slot.with_handle(alloc, |handle| handle.last_at_most(key)) else {
+        return CLOSED;
+    };
+    told(there, found, value)
+}
+
+// What was found, as a code: it is written.
+fn told(there: Option<(u64, u64)>, found: &mut u64, value: &mut u64) -> i32
+    ensures codes { IsOneOf (said_yes ∷ said_no ∷ []) result }
+    ensures yes { result ≡ said_yes → there ≡ Some (found.new, value.new) }
+    ensures no { result ≡ said_no → there ≡ None }
+    ensures kept { result ≢ said_yes → (found.new ≡ found.old) × (value.new ≡ value.old) }
+{
+    let Some(pair) = there else {
+        return NO;
+    };
+    (*found, *value) = pair;
+    YES
+}

@@ -1,0 +1,190 @@
+// Ranges in C++. One thread first, which changes keys at random and compares ranges, upwards and downwards, with a std::map. Then two threads that go
+// over ranges beside three that insert, delete and exchange, each its own of the keys. Each key of a range is to be told as it was at a moment between
+// the begin and the end of the range, by the begins and the ends of the changes.
+#include "elltree.h"
+#include <algorithm>
+#include <array>
+#include <atomic>
+#include <cstdio>
+#include <iterator>
+#include <map>
+#include <optional>
+#include <random>
+#include <thread>
+#include <vector>
+
+namespace {
+
+constexpr std::uint64_t KEYS = 20, WRITERS = 3;
+constexpr int CALLS = 3000, CHANGES = 12000;
+constexpr std::uint32_t TRIES = 100000;
+
+using Map = std::map<std::uint64_t, std::uint64_t>;
+using Random = std::mt19937_64;
+
+class Handle {
+public:
+    Handle() = default;
+    Handle(const Handle &) = delete;
+    Handle &operator=(const Handle &) = delete;
+    ~Handle() { elltree_free(&raw); }
+    elltree_handle raw = ELLTREE_EMPTY;
+};
+
+// The pairs of a range, by calls with room for so many. A call that is refused gives a pair that no map has.
+Map pairs_up(Handle &handle, std::uint64_t from, std::uint64_t upto, std::size_t room) {
+    std::vector<elltree_pair> out(room);
+    std::size_t count = 0;
+    Map all;
+    while (from < upto) {
+        if (elltree_range(&handle.raw, from, upto, out.data(), room, &count, &from) != ELLTREE_YES || count > room)
+            return {{UINT64_MAX, 0}};
+        for (std::size_t i = 0; i < count; i++)
+            all.emplace_hint(all.end(), out[i].key, out[i].value);
+    }
+    return all;
+}
+
+// The same by a search for each pair, from the last one to the first.
+Map pairs_down(Handle &handle, std::uint64_t from, std::uint64_t upto) {
+    std::uint64_t value = 0;
+    Map all;
+    while (elltree_last_before(&handle.raw, upto, &upto, &value) == ELLTREE_YES && from <= upto)
+        all.emplace(upto, value);
+    return all;
+}
+
+long alone() {
+    Random random(1);
+    Handle handle;
+    Map model;
+    long wrong = elltree_open_shared(&handle.raw, nullptr, 0, 4 * CALLS) != ELLTREE_YES;
+    for (std::uint64_t i = 0; i < CALLS; i++) {
+        std::uint64_t key = random() % KEYS, from = random() % KEYS, upto = random() % (KEYS + 1), was = 0;
+        if (random() % 2) {
+            wrong += elltree_put(&handle.raw, key, i, TRIES, &was) < 0;
+            model[key] = i;
+        } else {
+            wrong += elltree_delete(&handle.raw, key, TRIES) != static_cast<std::int32_t>(model.erase(key));
+        }
+        const auto first = model.lower_bound(from);
+        const Map wanted = from < upto ? Map(first, model.lower_bound(upto)) : Map();
+        wrong += pairs_up(handle, from, upto, 1 + random() % KEYS) != wanted;
+        wrong += pairs_down(handle, from, upto) != wanted;
+        const bool is_there = elltree_next_at_least(&handle.raw, from, &key, &was) == ELLTREE_YES;
+        wrong += is_there != (first != model.end()) || (is_there && (key != first->first || was != first->second));
+    }
+    std::printf("%d ranges of one thread, %ld wrong\n", CALLS, wrong);
+    return wrong;
+}
+
+struct Change {
+    std::uint64_t begun, ended;
+    std::optional<std::uint64_t> left;
+};
+
+struct Scan {
+    std::uint64_t begun, ended, from, upto;
+    Map told;
+};
+
+// Of each key the changes in their order: one thread alone makes them. The first is the start, where every other key is present.
+std::array<std::vector<Change>, KEYS> changes;
+std::atomic<std::uint64_t> clock_of_all{1};
+std::atomic<int> writing;
+
+// Changes keys that nobody else changes, so that each answer is certain: how many are wrong.
+long write_keys(Handle &handle, std::uint64_t id) {
+    Random random(id);
+    long wrong = 0;
+    for (std::uint64_t i = 0; i < CHANGES; i++) {
+        const std::uint64_t key = random() % (KEYS / WRITERS) * WRITERS + id, value = i * KEYS + key, how = random() % 3;
+        const std::optional<std::uint64_t> was = changes[key].back().left;
+        std::uint64_t found = was.value_or(0);
+        Change now{clock_of_all++, 0, value};
+        std::int32_t said = 0;
+        if (how == 0)
+            said = elltree_insert(&handle.raw, key, value, TRIES);
+        else if (how == 1)
+            said = elltree_compare_exchange(&handle.raw, key, &found, value, TRIES);
+        else
+            said = elltree_delete(&handle.raw, key, TRIES), now.left.reset();
+        now.ended = clock_of_all++;
+        wrong += said != (how == 0 ? !was.has_value() : was.has_value());
+        if (said == ELLTREE_YES)
+            changes[key].push_back(now);
+    }
+    writing--;
+    return wrong;
+}
+
+std::vector<Scan> go_over(Handle &handle, std::uint64_t id) {
+    Random random(id);
+    std::vector<Scan> scans;
+    while (writing > 0 && scans.size() < 6000) {
+        const std::uint64_t from = random() % KEYS, upto = from + random() % (KEYS - from + 1);
+        Scan scan{clock_of_all++, 0, from, upto, {}};
+        scan.told = random() % 2 ? pairs_up(handle, from, upto, 1 + random() % KEYS) : pairs_down(handle, from, upto);
+        scan.ended = clock_of_all++;
+        scans.push_back(scan);
+    }
+    return scans;
+}
+
+// Whether a key was so at a moment of a scan: some change left it so that had begun before the scan ended, and the next had not ended before it began.
+bool may_be(std::uint64_t key, std::optional<std::uint64_t> told, const Scan &scan) {
+    const auto &all = changes[key];
+    auto change = std::partition_point(all.begin(), all.end(), [&](const Change &one) { return one.ended <= scan.begun; });
+    for (change = std::prev(change); change != all.end() && change->begun < scan.ended; ++change)
+        if (change->left == told)
+            return true;
+    return false;
+}
+
+long untrue(const Scan &scan) {
+    long wrong = std::any_of(scan.told.begin(), scan.told.end(), [&](const auto &pair) { return pair.first < scan.from || pair.first >= scan.upto; });
+    for (std::uint64_t key = scan.from; key < scan.upto; key++) {
+        const auto there = scan.told.find(key);
+        wrong += !may_be(key, there == scan.told.end() ? std::nullopt : std::optional(there->second), scan);
+    }
+    return wrong;
+}
+
+long beside_threads(std::size_t readers) {
+    std::vector<elltree_pair> start;
+    for (std::uint64_t key = 0; key < KEYS; key++) {
+        const bool is_there = key % 2;
+        changes[key] = {{0, 0, is_there ? std::optional(key) : std::nullopt}};
+        if (is_there)
+            start.push_back({key, key});
+    }
+    std::vector<Handle> handles(WRITERS + readers);
+    std::vector<long> faults(WRITERS);
+    std::vector<std::vector<Scan>> scans(readers);
+    std::vector<std::thread> threads;
+    long wrong = elltree_open_shared(&handles[0].raw, start.data(), start.size(), 400000) != ELLTREE_YES, number = 0;
+    for (std::size_t id = 1; id < handles.size(); id++)
+        wrong += elltree_another(&handles[0].raw, &handles[id].raw) != ELLTREE_YES;
+    writing = WRITERS;
+    for (std::size_t id = 0; id < WRITERS; id++)
+        threads.emplace_back([&, id] { faults[id] = write_keys(handles[id], id); });
+    for (std::size_t id = 0; id < readers; id++)
+        threads.emplace_back([&, id] { scans[id] = go_over(handles[WRITERS + id], WRITERS + id); });
+    for (auto &thread : threads)
+        thread.join();
+    for (const long fault : faults)
+        wrong += fault;
+    for (const auto &made : scans)
+        for (const auto &scan : made)
+            wrong += untrue(scan), number++;
+    std::printf("%ld ranges beside %d threads, %ld wrong\n", number, static_cast<int>(WRITERS), wrong);
+    return wrong;
+}
+
+} // namespace
+
+int main() {
+    const long wrong = alone() + beside_threads(2);
+    std::printf("%ld wrong\n", wrong);
+    return wrong != 0;
+}
