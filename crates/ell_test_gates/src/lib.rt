@@ -12,6 +12,7 @@ mod jostling;
 mod listing;
 mod meeting;
 mod turns;
+mod weaving;
 
 pub use counting::{Counting, Told};
 pub use dice::Dice;
@@ -25,3 +26,4 @@ pub use meeting::{
     four_threads_meet, sixteen_threads_meet, sixty_four_threads_meet, two_threads_meet,
 };
 pub use turns::{Turn, Turns, Until};
+pub use weaving::Weaving;
