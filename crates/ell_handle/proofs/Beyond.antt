@@ -2,6 +2,7 @@ use Rattle.std.proofs.Common.{◌<◌, ℕ, None, refl, arith}
 use Rattle.ell_ops.specs.Meaning.{greatest_key}
 use Rattle.ell_cards.specs.declared.view.View.{View}
 use Rattle.ell_tree.proofs.Counting.{took_none}
+use Rattle.ell_tree.proofs.Glances.{only_none_yet, only_trans}
 use Rattle.ell_tree.specs.Ledgers.{PassModel, TreeModel}
 use Rattle.ell_tree.specs.Looks.{OnlyLooks}
 use Rattle.ell_tree.specs.Scans.{IsNextIn}
@@ -15,27 +16,7 @@ none_above t v from above key low high = absurd (omega arith)
 
 -- a call that does nothing only looks
 pub looks_none : (p : PassModel) (n : ℕ) → OnlyLooks p p n
-looks_none p n = record {
-  table = refl;
-  label = refl;
-  worker = refl;
-  answers = refl;
-  answered = refl;
-  share = refl;
-  hindrances = refl;
-  met = refl;
-  hindered = refl;
-  next = refl;
-  knew_before = refl;
-  next_at_least = refl;
-  won = refl;
-  found = refl;
-  planned = refl;
-  stores = refl;
-  told = λ e is. is;
-  steps = omega arith;
-  made = omega arith;
-}
+looks_none p n = only_trans p p p 0 0 n (only_none_yet p) (only_none_yet p) (omega arith)
 
 -- and takes no more than a scan takes
 pub scans_none : (h : Handle) → OnlyScans h h

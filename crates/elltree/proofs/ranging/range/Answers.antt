@@ -18,14 +18,16 @@ returns c =
     let next = c.unwrap_or.ensures in
     let on = c.scan-scanned.ensures.next in
     let same : real_end c.unwrap_or.result ≡ end_of (real_end upto) said = ap real_end next ∙ told_end from upto said.count room said.next on in
-    record { tells = record {
-      codes = refl;
-      found = subst (λ e. AreFoundIn (tree_of old) new.pass.view from e (contents_of pairs)) (sym same) c.scan-scanned.ensures.so;
-      ordered = subst (λ e. AreInOrder from e pairs) (sym same) c.scan-scanned.ensures.ordered;
-      own = subst (λ e. TellsItsOwn old.pass from e (contents_of pairs)) (sym same) c.scan-scanned.ensures.mine;
-      fits = c.scan-scanned.ensures.count;
-      ends = subst (λ n. n ≤ upto) (sym next) (told_within from upto said.count room said.next on);
-      full = subst (λ n. n < upto → (from ≤ n) × (said.count ≡ room)) (sym next) (told_full from upto said.count room said.next on);
-      others = c.scan-scanned.ensures.rest;
-      reads = c.scan-scanned.ensures.reads;
-    } }
+    record {
+      tells = record {
+        codes = refl;
+        found = subst (λ e. AreFoundIn (tree_of old) new.pass.view from e (contents_of pairs)) (sym same) c.scan-scanned.ensures.so;
+        ordered = subst (λ e. AreInOrder from e pairs) (sym same) c.scan-scanned.ensures.ordered;
+        own = subst (λ e. TellsItsOwn old.pass from e (contents_of pairs)) (sym same) c.scan-scanned.ensures.mine;
+        fits = c.scan-scanned.ensures.count;
+        ends = subst (λ n. n ≤ upto) (sym next) (told_within from upto said.count room said.next on);
+        full = subst (λ n. n < upto → (from ≤ n) × (said.count ≡ room)) (sym next) (told_full from upto said.count room said.next on);
+        others = c.scan-scanned.ensures.rest;
+        reads = c.scan-scanned.ensures.reads;
+      };
+    }
