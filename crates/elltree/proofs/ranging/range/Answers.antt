@@ -1,4 +1,4 @@
-use Rattle.std.proofs.Common.{◌≡◌, ◌<◌, ◌≤◌, length, refl, rules, ap, subst, sym, ◌∙◌}
+use Rattle.std.proofs.Common.{◌≡◌, ◌<◌, ◌≤◌, length, refl, ap, subst, sym, ◌∙◌}
 use Rattle.ell_ops.specs.Contents.{contents_of}
 use Rattle.ell_tree.specs.Scans.{AreFoundIn, AreInOrder, TellsItsOwn, end_of, written}
 use Rattle.ell_handle.specs.Ranges.{real_end}
