@@ -144,7 +144,17 @@ def edges():
     return faults
 
 
+def example():
+    """What the guide shows, as it stands there."""
+    handle = elltree.open_shared({99: 1, 100: 2, 200: 3, 201: 4}, cards=9)
+    for key, value in handle.range(100, 200):  # 100 is in it, and 200 is not
+        print(key, value)
+    print(handle.next_after(200), dict(handle.items()))
+    handle.close()
+
+
 def main():
+    example()
     faults = alone() + beside_threads(2) + edges()
     print(f"{faults} faults")
     sys.exit(faults != 0)
