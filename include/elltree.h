@@ -1,7 +1,9 @@
 /* elltree: a map from 64-bit keys to 64-bit values that threads share without locks.
 
    A handle begins as all zeros and holds nothing: struct elltree_handle h = ELLTREE_EMPTY. Calls on different handles may run at once. A
-   handle is in one call at a time, and may go from one thread to another.
+   handle is in one call at a time, and may go from one thread to another. Each call writes to its handle, so handles that are used by
+   different threads should stand in cache lines of their own: _Alignas(128) struct elltree_handle h in C, alignas(128) in C++, on a variable,
+   or on the first member of a struct, whose size is then a multiple of 128. What the library keeps of a handle has lines of its own.
 
    elltree_open_shared makes a tree in which every key is shared, and elltree_another makes a further handle of it, one for each thread. Any
    handle finds, inserts and deletes any key, and all finds, inserts and deletes together answer as if they were made one after the other.

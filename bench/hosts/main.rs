@@ -1,7 +1,7 @@
-//! Measures elltree, as a program in Rust has it, with owned keys and with shared ones, beside the same tree over bare atomic words and
+//! Measures elltree, as a program in Rust has it, with shared keys and with owned ones, beside the same tree over bare atomic words and
 //! as libcds has it, `BTreeMap`s behind locks, one or 16 of them, and a private `BTreeMap` for each owner; of ranges also as a program in
-//! C has it, beside Java's skip list. Takes the seconds of an interval, the number of rounds, a file, to which it writes all figures, and
-//! what it measures, a kind or `all`; the tables go to standard output.
+//! C has it, beside Java's skip list. A library that was built before a change may be one more. `bench/hosts/run` builds it, and says what
+//! its words are; the tables go to standard output.
 
 mod array;
 #[path = "../plain/bare_tree.rs"]
@@ -10,8 +10,10 @@ mod bare_tree;
 mod java;
 #[cfg(libcds)]
 mod libcds;
+mod library;
 mod peers;
 mod ranges;
+mod realtime;
 mod record;
 mod work;
 
@@ -21,7 +23,7 @@ use record::{Figure, Record};
 use std::process::ExitCode;
 use std::time::Duration;
 use std::{env, fs};
-use work::{adds, expect_stops, latencies, scans, speeds, stops, Latencies, Random, Speeds, Work};
+use work::{adds, expect_stops, latencies, scans, stops, Bursts, Latencies, Random, Speeds, Work};
 
 const KEYS: [u64; 3] = [64, 4_096, 262_144];
 
@@ -31,16 +33,23 @@ const RANGED: [u64; 2] = [4_096, 262_144];
 /// How many counters there are.
 const COUNTERS: [u64; 3] = [1, 64, 4_096];
 
-/// How many times longer an interval is if latencies are measured.
-const LONGER: u32 = 3;
+/// Latencies, and ranges, take longer intervals than other bursts, by so many times, and have fewer rounds, by such a part.
+const LATENCIES_LONGER: f64 = 15.0;
+const RANGES_LONGER: f64 = 2.5;
+const FEWER: usize = 4;
+
+/// For how many rounds a map is kept. Its memory may lie well or badly, by chance, for as long.
+const KEPT_FOR: usize = 3;
 
 /// What is measured.
 #[derive(Clone, Copy, PartialEq)]
 pub enum Kind {
+    /// Operations of threads, each on all keys.
+    Shared,
+    /// Looks of readers, and changes of threads, each of all keys.
+    SharedLooks,
     /// The operations of owners, each on keys of its own, without readers.
     Operations,
-    /// The same, each on all keys.
-    Shared,
     /// Looks of readers, and changes of owners.
     Looks,
     /// Latencies beside an owner without pause.
@@ -61,13 +70,22 @@ pub struct Case {
 }
 
 impl Kind {
-    const ALL: [Kind; 7] =
-        [Kind::Operations, Kind::Shared, Kind::Looks, Kind::Running, Kind::Stopped, Kind::Counters, Kind::Ranges];
+    const ALL: [Kind; 8] = [
+        Kind::Shared,
+        Kind::SharedLooks,
+        Kind::Operations,
+        Kind::Looks,
+        Kind::Running,
+        Kind::Stopped,
+        Kind::Counters,
+        Kind::Ranges,
+    ];
 
     pub fn name(self) -> &'static str {
         match self {
-            Kind::Operations => "operations",
             Kind::Shared => "shared",
+            Kind::SharedLooks => "shared-looks",
+            Kind::Operations => "operations",
             Kind::Looks => "looks",
             Kind::Running => "running",
             Kind::Stopped => "stopped",
@@ -77,20 +95,41 @@ impl Kind {
     }
 
     pub fn peers(self) -> Vec<Peer> {
+        let operating = |peer: &Peer| !matches!(peer, Peer::RwLock | Peer::RwLocks);
         match self {
-            Kind::Looks => vec![Peer::Elltree, Peer::Bare, Peer::RwLock, Peer::RwLocks],
-            Kind::Shared => Peer::ALL.iter().copied().filter(|peer| peer.can_share()).collect(),
+            Kind::Shared => Peer::ALL.iter().copied().filter(operating).filter(|peer| peer.can_share()).collect(),
+            Kind::SharedLooks => Peer::LOOKING_SHARED.to_vec(),
+            Kind::Operations => Peer::ALL.iter().copied().filter(operating).collect(),
+            Kind::Looks => Peer::LOOKING.to_vec(),
+            Kind::Running | Kind::Stopped => Peer::ALL.to_vec(),
             Kind::Counters => Peer::COUNTING.to_vec(),
             Kind::Ranges => Way::ALL.iter().copied().map(Peer::Ranging).collect(),
-            _ => Peer::ALL.to_vec(),
         }
     }
 
-    /// The numbers of owners and readers.
+    /// The peer that is compared with others.
+    pub fn ours(self) -> Peer {
+        match self {
+            Kind::Shared | Kind::SharedLooks | Kind::Counters => Peer::SharedElltree,
+            Kind::Operations | Kind::Looks | Kind::Running | Kind::Stopped => Peer::Elltree,
+            Kind::Ranges => Peer::Ranging(Way::Elltree),
+        }
+    }
+
+    /// The peer to whose times in the same round those of the others are compared.
+    pub fn reference(self) -> Option<Peer> {
+        match self {
+            Kind::Shared | Kind::Operations | Kind::Counters => Some(Peer::Mutexes),
+            Kind::SharedLooks | Kind::Looks => Some(Peer::RwLocks),
+            Kind::Running | Kind::Stopped | Kind::Ranges => None,
+        }
+    }
+
+    /// The numbers of owners and readers: no more than 4 threads.
     fn crews(self) -> Vec<(u64, u64)> {
         match self {
-            Kind::Operations | Kind::Shared => vec![(1, 0), (2, 0), (4, 0)],
-            Kind::Looks => [1, 2, 4].into_iter().flat_map(|readers| [0, 1, 3].map(|owners| (owners, readers))).collect(),
+            Kind::Shared | Kind::Operations => vec![(1, 0), (2, 0), (4, 0)],
+            Kind::SharedLooks | Kind::Looks => vec![(0, 1), (0, 4), (1, 2), (3, 1)],
             Kind::Running | Kind::Stopped => vec![(2, 1)],
             Kind::Counters => vec![(1, 0), (4, 0)],
             Kind::Ranges => vec![(0, 1), (3, 0), (3, 1)],
@@ -98,7 +137,7 @@ impl Kind {
     }
 
     /// How many keys there are.
-    fn keys(self) -> &'static [u64] {
+    pub fn keys(self) -> &'static [u64] {
         match self {
             Kind::Counters => &COUNTERS,
             Kind::Ranges => &RANGED,
@@ -107,8 +146,26 @@ impl Kind {
     }
 
     /// Whether all owners change the same keys.
-    pub fn is_of_shared_keys(self) -> bool {
-        matches!(self, Kind::Shared | Kind::Counters | Kind::Ranges)
+    fn is_of_shared_keys(self) -> bool {
+        matches!(self, Kind::Shared | Kind::SharedLooks | Kind::Counters | Kind::Ranges)
+    }
+
+    /// What owners do, if a map is kept from round to round.
+    fn work(self) -> Option<Work> {
+        match self {
+            Kind::Shared | Kind::Operations => Some(Work::Mixed),
+            Kind::SharedLooks | Kind::Looks => Some(Work::Changes),
+            Kind::Running | Kind::Stopped | Kind::Counters | Kind::Ranges => None,
+        }
+    }
+
+    /// How long an interval takes, and how many rounds there are, where a burst takes so long, and most kinds have so many.
+    fn extent(self, burst: Duration, rounds: usize) -> (Duration, usize) {
+        match self {
+            Kind::Running | Kind::Stopped => (burst.mul_f64(LATENCIES_LONGER), rounds.div_ceil(FEWER)),
+            Kind::Ranges => (burst.mul_f64(RANGES_LONGER), rounds.div_ceil(FEWER)),
+            _ => (burst, rounds),
+        }
     }
 
     /// The cases of this kind with so many keys.
@@ -119,10 +176,9 @@ impl Kind {
     }
 }
 
-/// All cases of these kinds: those with the fewest keys of each kind first.
+/// All cases of these kinds.
 fn cases(kinds: &[Kind]) -> Vec<Case> {
-    let of = |at| kinds.iter().filter_map(move |kind| Some(kind.cases(*kind.keys().get(at)?)));
-    (0..3).flat_map(|at| of(at).flatten()).collect()
+    kinds.iter().flat_map(|kind| kind.keys().iter().flat_map(|keys| kind.cases(*keys))).collect()
 }
 
 fn shuffle<T>(items: &mut [T], random: &mut Random) {
@@ -141,27 +197,41 @@ fn spread(mut latencies: Vec<u64>, figures: [Figure; 3]) -> Vec<(Figure, f64)> {
     figures.into_iter().zip([at(50), at(99), worst as f64]).collect()
 }
 
-fn measure(case: Case, peer: Peer, interval: Duration) -> Vec<(Figure, f64)> {
+/// A peer in a case, with its map, if that is kept from round to round.
+struct Measured {
+    case: Case,
+    peer: Peer,
+    kept: Option<Bursts>,
+}
+
+impl Measured {
+    fn of(case: Case, peer: Peer) -> Measured {
+        Measured { case, peer, kept: case.kind.work().map(|work| Bursts::new(peer, case.sizes, work)) }
+    }
+
+    /// What a round of this peer has.
+    fn round(&mut self, interval: Duration) -> Vec<(Figure, f64)> {
+        let sizes = self.case.sizes;
+        let Some(kept) = &mut self.kept else {
+            return measure_anew(self.case, self.peer, interval);
+        };
+        let Speeds { owners, readers } = kept.next(interval);
+        let of_owners = if sizes.readers == 0 { Figure::Operation } else { Figure::Change };
+        readers.map(|it| (Figure::Look, it)).into_iter().chain(owners.map(|it| (of_owners, it))).collect()
+    }
+}
+
+/// What an interval of a new map has.
+fn measure_anew(case: Case, peer: Peer, interval: Duration) -> Vec<(Figure, f64)> {
     let Case { kind, sizes } = case;
-    match kind {
-        Kind::Operations | Kind::Shared => {
-            let took = speeds(peer, sizes, Work::Mixed, interval);
-            took.owners.map(|it| (Figure::Operation, it)).into_iter().collect()
-        }
-        Kind::Looks => {
-            let took = speeds(peer, sizes, Work::Changes, interval);
-            let look = took.readers.map(|it| (Figure::Look, it));
-            look.into_iter().chain(took.owners.map(|it| (Figure::Change, it))).collect()
-        }
-        Kind::Running | Kind::Stopped => {
-            let Latencies { owners, readers } = latencies(peer, sizes, kind == Kind::Stopped, LONGER * interval);
+    match (kind, peer) {
+        (Kind::Running | Kind::Stopped, _) => {
+            let Latencies { owners, readers } = latencies(peer, sizes, kind == Kind::Stopped, interval);
             [spread(readers, Figure::OF_LOOKS), spread(owners, Figure::OF_OPERATIONS)].concat()
         }
-        Kind::Counters => adds(peer, sizes, interval).map(|it| (Figure::Add, it)).into_iter().collect(),
-        Kind::Ranges => match peer {
-            Peer::Ranging(way) => measure_ranges(way, sizes, interval),
-            _ => unreachable!("no ranges of {} are measured", peer.name()),
-        },
+        (Kind::Counters, _) => adds(peer, sizes, interval).map(|it| (Figure::Add, it)).into_iter().collect(),
+        (Kind::Ranges, Peer::Ranging(way)) => measure_ranges(way, sizes, interval),
+        _ => unreachable!("{} of {} have no new map each time", kind.name(), peer.name()),
     }
 }
 
@@ -242,59 +312,81 @@ fn ranges_agree() -> bool {
     })
 }
 
-/// Measures every case of these kinds in each round, the peers of a case in turn, in another order each time.
-fn measure_all(kinds: &[Kind], interval: Duration, rounds: usize) -> Record {
-    let cases = cases(kinds);
+/// Measures one case of these kinds after the other: in each round all of its peers, in another order each time.
+fn measure_all(wanted: &Wanted) -> Record {
+    let cases = cases(&wanted.kinds);
     let mut record = Record::new(cases.clone());
     let mut random = Random::new(2);
-    for _ in 0..rounds {
-        for (at, case) in cases.iter().copied().enumerate() {
-            let mut peers = case.kind.peers();
-            shuffle(&mut peers, &mut random);
-            for peer in peers {
-                record.add(at, peer, measure(case, peer, interval));
+    for (at, case) in cases.into_iter().enumerate() {
+        let (interval, rounds) = case.kind.extent(wanted.burst, wanted.rounds);
+        let (mut peers, mut measured) = (case.kind.peers(), Vec::new());
+        for round in 0..rounds {
+            if round % KEPT_FOR == 0 {
+                measured.clear();
+                shuffle(&mut peers, &mut random);
+                measured.extend(peers.iter().map(|peer| Measured::of(case, *peer)));
+            }
+            shuffle(&mut measured, &mut random);
+            for it in &mut measured {
+                record.add(at, it.peer, it.round(interval));
             }
         }
     }
     record
 }
 
-/// What the words of the command ask for: an interval, the number of rounds, the file, and the kinds.
-fn wanted(words: &[String]) -> Result<(Duration, usize, &str, Vec<Kind>), String> {
-    let [seconds, rounds, file, what] = words else {
-        return Err("give seconds, rounds, a file, and a kind or all".into());
-    };
-    let interval = seconds.parse().ok().and_then(|it| Duration::try_from_secs_f64(it).ok());
-    let (Some(interval), Ok(rounds @ 1..)) = (interval, rounds.parse()) else {
-        return Err(format!("not seconds and a number of rounds: {seconds} {rounds}"));
-    };
-    let kinds: Vec<Kind> = Kind::ALL.into_iter().filter(|kind| what == "all" || what == kind.name()).collect();
-    if kinds.is_empty() {
-        return Err(format!("not a kind: {what}"));
+/// What the words of the command ask for.
+struct Wanted<'a> {
+    burst: Duration,
+    rounds: usize,
+    kinds: Vec<Kind>,
+    /// Whether the real-time class is wanted.
+    in_real_time: bool,
+    /// After how many seconds this ends by a signal, if it has not ended.
+    limit: u32,
+    /// The file for the rows, and the name that the tables have for it.
+    file: &'a str,
+    name: &'a str,
+}
+
+impl Wanted<'_> {
+    fn of(words: &[String]) -> Option<Wanted<'_>> {
+        let [seconds, rounds, what, class, limit, file, name] = words else {
+            return None;
+        };
+        Some(Wanted {
+            burst: Duration::try_from_secs_f64(seconds.parse().ok()?).ok()?,
+            rounds: rounds.parse().ok().filter(|it| *it > 0)?,
+            kinds: Kind::ALL.into_iter().filter(|kind| what == "all" || what == kind.name()).collect(),
+            in_real_time: class == "real-time",
+            limit: limit.parse().ok()?,
+            file,
+            name,
+        })
     }
-    Ok((interval, rounds, file, kinds))
 }
 
 fn main() -> ExitCode {
     let words: Vec<String> = env::args().skip(1).collect();
-    let (interval, rounds, file, kinds) = match wanted(&words) {
-        Ok(wanted) => wanted,
-        Err(why) => {
-            eprintln!("hosts: {why}");
-            return ExitCode::from(2);
-        }
+    let Some(wanted) = Wanted::of(&words) else {
+        eprintln!(
+            "hosts: give seconds, rounds, a kind or all, real-time or normal, a limit in seconds, a file, and its name in tables"
+        );
+        return ExitCode::from(2);
     };
-    if !agree() || kinds.contains(&Kind::Ranges) && !ranges_agree() {
+    realtime::end_after(wanted.limit);
+    let class = realtime::begin(wanted.in_real_time);
+    if !agree() || wanted.kinds.contains(&Kind::Ranges) && !ranges_agree() {
         eprintln!("hosts: the answers differ");
         return ExitCode::FAILURE;
     }
     expect_stops();
-    let record = measure_all(&kinds, interval, rounds);
-    println!("{}\nThreads were stopped {} times.", record.tables(), stops());
-    match fs::write(file, record.rows()) {
+    let record = measure_all(&wanted);
+    println!("{}\nThe class of the threads: {class}. They were stopped {} times.", record.tables(wanted.name), stops());
+    match fs::write(wanted.file, format!("# class: {class}\n{}", record.rows())) {
         Ok(()) => ExitCode::SUCCESS,
         Err(why) => {
-            eprintln!("hosts: {file}: {why}");
+            eprintln!("hosts: {}: {why}", wanted.file);
             ExitCode::FAILURE
         }
     }

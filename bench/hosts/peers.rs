@@ -4,8 +4,9 @@
 use crate::bare_tree::BareTree;
 #[cfg(libcds)]
 use crate::libcds::{EllenTree, Reclaim};
+use crate::library;
 use crate::ranges::Way;
-use elltree::{Handle, Refused, Tree, CARDS_MAX};
+use elltree::CARDS_MAX;
 use std::array;
 use std::collections::btree_map::{BTreeMap, Entry};
 use std::ops::Deref;
@@ -70,7 +71,7 @@ impl Sizes {
     }
 
     /// All keys, each with the value 0.
-    fn zeros(self) -> Vec<(u64, u64)> {
+    pub fn zeros(self) -> Vec<(u64, u64)> {
         self.all().keys().map(|key| (key, 0)).collect()
     }
 }
@@ -94,34 +95,6 @@ pub trait View: Send {
 pub trait Counters: View {
     /// Adds 1 to the value of a key: the value that it had, or none if no card is left, and then nothing was added.
     fn add(&mut self, key: u64) -> Option<u64>;
-}
-
-impl View for Handle {
-    fn find(&mut self, key: u64) -> Option<u64> {
-        Handle::find(self, key).unwrap()
-    }
-
-    fn look(&mut self, key: u64) -> Option<u64> {
-        Handle::look(self, key).unwrap()
-    }
-
-    fn insert(&mut self, key: u64, value: u64) -> bool {
-        Handle::insert(self, key, value, TRIES).unwrap()
-    }
-
-    fn delete(&mut self, key: u64) -> bool {
-        Handle::delete(self, key, TRIES).unwrap()
-    }
-}
-
-impl Counters for Handle {
-    fn add(&mut self, key: u64) -> Option<u64> {
-        match self.fetch_add(key, 1, TRIES) {
-            Ok(Some(was)) => Some(was),
-            Err(Refused::Spent) => None,
-            other => panic!("an add to the value of {key} answered {other:?}"),
-        }
-    }
 }
 
 impl View for Arc<BareTree> {
@@ -260,7 +233,7 @@ pub struct Crew<V: ?Sized = dyn View> {
     pub readers: Vec<Box<V>>,
 }
 
-fn boxed<V: View + 'static>(views: impl IntoIterator<Item = V>) -> Vec<Box<dyn View>> {
+pub fn boxed<V: View + 'static>(views: impl IntoIterator<Item = V>) -> Vec<Box<dyn View>> {
     views.into_iter().map(|it| Box::new(it) as Box<dyn View>).collect()
 }
 
@@ -272,23 +245,6 @@ pub fn bare_tree(sizes: Sizes) -> Arc<BareTree> {
 }
 
 impl Crew {
-    /// The handles of a tree. Those of the readers own no key.
-    fn of_handles(sizes: Sizes) -> elltree::Result<Crew> {
-        let keys: Vec<u64> = sizes.all().keys().collect();
-        let mut tree = Tree::open(&keys, &sizes.start().collect::<Vec<_>>(), CARDS_MAX)?;
-        let mut handle = |keys: Vec<u64>| tree.handle(&keys);
-        let owners = sizes.stripes().map(|stripe| handle(stripe.keys().collect())).collect::<elltree::Result<Vec<_>>>()?;
-        let readers = (0..sizes.readers).map(|_| handle(Vec::new())).collect::<elltree::Result<Vec<_>>>()?;
-        Ok(Crew { owners: boxed(owners), readers: boxed(readers) })
-    }
-
-    /// The handles of a tree in which all keys are shared.
-    fn of_sharing_handles(sizes: Sizes) -> elltree::Result<Crew> {
-        let mut first = Handle::open_shared(&sizes.start().collect::<Vec<_>>(), CARDS_MAX)?;
-        let mut others = |count| (0..count).map(|_| first.another()).collect::<elltree::Result<Vec<_>>>();
-        Ok(Crew { owners: boxed(others(sizes.owners)?), readers: boxed(others(sizes.readers)?) })
-    }
-
     #[cfg(libcds)]
     fn of_libcds(reclaim: Reclaim, sizes: Sizes) -> Crew {
         Crew::sharing(Arc::new(EllenTree::start(reclaim, &sizes.start().collect::<Vec<_>>())), sizes)
@@ -316,13 +272,7 @@ impl Crew {
 }
 
 /// The owners of a map of counters: one for each thread.
-type Adders = Vec<Box<dyn Counters>>;
-
-/// The handles of a tree of counters.
-fn counters_in_tree(sizes: Sizes) -> elltree::Result<Adders> {
-    let mut first = Handle::open_shared(&sizes.zeros(), CARDS_MAX)?;
-    (0..sizes.owners).map(|_| Ok(Box::new(first.another()?) as Box<dyn Counters>)).collect()
-}
+pub type Adders = Vec<Box<dyn Counters>>;
 
 fn counters_in_locks<L: Lock + 'static, const COUNT: usize>(sizes: Sizes) -> Adders {
     let map = Arc::new(Shards::<L, COUNT>::start(&sizes.zeros()));
@@ -334,6 +284,11 @@ fn counters_in_locks<L: Lock + 'static, const COUNT: usize>(sizes: Sizes) -> Add
 pub enum Peer {
     Elltree,
     SharedElltree,
+    /// As these two, of the library that was built before a change.
+    #[cfg(before)]
+    Before,
+    #[cfg(before)]
+    SharedBefore,
     Bare,
     #[cfg(libcds)]
     Libcds(Reclaim),
@@ -350,6 +305,10 @@ impl Peer {
     pub const ALL: &[Peer] = &[
         Peer::Elltree,
         Peer::SharedElltree,
+        #[cfg(before)]
+        Peer::Before,
+        #[cfg(before)]
+        Peer::SharedBefore,
         Peer::Bare,
         #[cfg(libcds)]
         Peer::Libcds(Reclaim::HazardPointers),
@@ -363,12 +322,46 @@ impl Peer {
     ];
 
     /// Those of which values are counters.
-    pub const COUNTING: [Peer; 3] = [Peer::SharedElltree, Peer::Mutex, Peer::Mutexes];
+    pub const COUNTING: &[Peer] = &[
+        Peer::SharedElltree,
+        #[cfg(before)]
+        Peer::SharedBefore,
+        Peer::Mutex,
+        Peer::Mutexes,
+    ];
+
+    /// Those at whose keys readers look beside owners that change their own.
+    pub const LOOKING: &[Peer] = &[
+        Peer::Elltree,
+        #[cfg(before)]
+        Peer::Before,
+        Peer::Bare,
+        Peer::RwLock,
+        Peer::RwLocks,
+    ];
+
+    /// Those at whose keys readers look beside owners that change any.
+    pub const LOOKING_SHARED: &[Peer] = &[
+        Peer::SharedElltree,
+        #[cfg(before)]
+        Peer::SharedBefore,
+        Peer::Bare,
+        #[cfg(libcds)]
+        Peer::Libcds(Reclaim::HazardPointers),
+        #[cfg(libcds)]
+        Peer::Libcds(Reclaim::Rcu),
+        Peer::RwLock,
+        Peer::RwLocks,
+    ];
 
     pub fn name(self) -> &'static str {
         match self {
             Peer::Elltree => "elltree",
             Peer::SharedElltree => "shared elltree",
+            #[cfg(before)]
+            Peer::Before => "before",
+            #[cfg(before)]
+            Peer::SharedBefore => "shared before",
             Peer::Bare => "bare atomics",
             #[cfg(libcds)]
             Peer::Libcds(Reclaim::HazardPointers) => "libcds HP",
@@ -383,9 +376,27 @@ impl Peer {
         }
     }
 
+    /// The same kind of handles, of the library that was built before a change, if there is one.
+    pub fn before(self) -> Option<Peer> {
+        match self {
+            #[cfg(before)]
+            Peer::Elltree => Some(Peer::Before),
+            #[cfg(before)]
+            Peer::SharedElltree => Some(Peer::SharedBefore),
+            #[cfg(before)]
+            Peer::Ranging(Way::Elltree) => Some(Peer::Ranging(Way::Before)),
+            _ => None,
+        }
+    }
+
     /// Whether all owners may change the same keys.
     pub fn can_share(self) -> bool {
-        !matches!(self, Peer::Elltree | Peer::Private)
+        match self {
+            Peer::Elltree | Peer::Private => false,
+            #[cfg(before)]
+            Peer::Before => false,
+            _ => true,
+        }
     }
 
     /// How many changes may be asked of a map in all: half of them change it, and take a card each if there are cards. The other cards
@@ -393,7 +404,10 @@ impl Peer {
     pub fn most_changes(self) -> u64 {
         let takes_cards = match self {
             Peer::Ranging(way) => way.takes_cards(),
-            _ => matches!(self, Peer::Elltree | Peer::SharedElltree | Peer::Bare),
+            Peer::Elltree | Peer::SharedElltree | Peer::Bare => true,
+            #[cfg(before)]
+            Peer::Before | Peer::SharedBefore => true,
+            _ => false,
         };
         if takes_cards {
             1_400_000
@@ -405,8 +419,12 @@ impl Peer {
     /// A new map of this kind, parted.
     pub fn crew(self, sizes: Sizes) -> Crew {
         match self {
-            Peer::Elltree => Crew::of_handles(sizes).expect("a tree"),
-            Peer::SharedElltree => Crew::of_sharing_handles(sizes).expect("a tree"),
+            Peer::Elltree => library::elltree::owning(sizes).expect("a tree"),
+            Peer::SharedElltree => library::elltree::sharing(sizes).expect("a tree"),
+            #[cfg(before)]
+            Peer::Before => library::before::owning(sizes).expect("a tree"),
+            #[cfg(before)]
+            Peer::SharedBefore => library::before::sharing(sizes).expect("a tree"),
             Peer::Bare => Crew::sharing(bare_tree(sizes), sizes),
             #[cfg(libcds)]
             Peer::Libcds(reclaim) => Crew::of_libcds(reclaim, sizes),
@@ -422,7 +440,9 @@ impl Peer {
     /// A new map of this kind, of counters that are 0. Only the `COUNTING` have them.
     pub fn counters(self, sizes: Sizes) -> Adders {
         match self {
-            Peer::SharedElltree => counters_in_tree(sizes).expect("a tree"),
+            Peer::SharedElltree => library::elltree::counters(sizes).expect("a tree"),
+            #[cfg(before)]
+            Peer::SharedBefore => library::before::counters(sizes).expect("a tree"),
             Peer::Mutex => counters_in_locks::<Mutex<Map>, 1>(sizes),
             Peer::Mutexes => counters_in_locks::<Mutex<Map>, SHARDS>(sizes),
             _ => unreachable!("{} has no counters", self.name()),

@@ -4,9 +4,10 @@ use crate::array::ArrayHandle;
 use crate::bare_tree::BareTree;
 #[cfg(java)]
 use crate::java::SkipList;
-use crate::peers::{bare_tree, Crew, Lock, Map, Peer, Shards, Sizes, Stripe, View, SHARDS, TRIES};
+use crate::library;
+use crate::peers::{bare_tree, Crew, Lock, Map, Peer, Shards, Sizes, Stripe, View, SHARDS};
 use crate::work::Random;
-use elltree::{Handle, CARDS_MAX};
+use elltree::CARDS_MAX;
 use std::hint::black_box;
 use std::sync::{Arc, Mutex, RwLock};
 use std::{array, mem};
@@ -87,20 +88,6 @@ impl Span {
             return 1;
         }
         black_box(self.range(map, sizes, random)).count
-    }
-}
-
-impl Ranges for Handle {
-    fn range(&mut self, from: u64, upto: u64) -> Told {
-        told(Handle::range(self, from..upto))
-    }
-
-    fn next_at_least(&mut self, key: u64) -> Option<(u64, u64)> {
-        Handle::next_at_least(self, key)
-    }
-
-    fn swap(&mut self, key: u64, value: u64) -> Option<u64> {
-        self.update(key, |_| value, TRIES).unwrap()
     }
 }
 
@@ -244,6 +231,9 @@ const WORN: u64 = 2;
 pub enum Way {
     /// The tree, by the iterator of a program in Rust.
     Elltree,
+    /// The same, by the library that was built before a change.
+    #[cfg(before)]
+    Before,
     /// The tree, by a call of a program in C that fills an array.
     Array,
     Bare,
@@ -257,6 +247,8 @@ pub enum Way {
 impl Way {
     pub const ALL: &[Way] = &[
         Way::Elltree,
+        #[cfg(before)]
+        Way::Before,
         Way::Array,
         Way::Bare,
         Way::Mutex(Hold::Range),
@@ -273,6 +265,8 @@ impl Way {
     pub fn name(self) -> &'static str {
         match self {
             Way::Elltree => "shared elltree",
+            #[cfg(before)]
+            Way::Before => "shared before",
             Way::Array => "shared elltree array",
             Way::Bare => "bare atomics",
             Way::Mutex(Hold::Key) => "Mutex by key",
@@ -289,7 +283,12 @@ impl Way {
 
     /// Whether a change takes one of the cards, of which there are no more than `CARDS_MAX`.
     pub fn takes_cards(self) -> bool {
-        matches!(self, Way::Elltree | Way::Array | Way::Bare)
+        match self {
+            Way::Elltree | Way::Array | Way::Bare => true,
+            #[cfg(before)]
+            Way::Before => true,
+            _ => false,
+        }
     }
 
     /// A new map, with so many writes before that its nodes lie as those of a map in use.
@@ -311,7 +310,9 @@ impl Way {
     /// A new map.
     pub fn crew(self, sizes: Sizes) -> Crew<dyn Ranges> {
         match self {
-            Way::Elltree => of_handles(sizes).expect("a tree"),
+            Way::Elltree => library::elltree::ranging(sizes).expect("a tree"),
+            #[cfg(before)]
+            Way::Before => library::before::ranging(sizes).expect("a tree"),
             Way::Array => of_array_handles(sizes),
             Way::Bare => sharing(bare_tree(sizes), sizes),
             Way::Mutex(hold) => of_locks::<Mutex<Map>, 1>(hold, sizes),
@@ -327,11 +328,6 @@ impl Way {
 fn crew<R: Ranges + 'static>(sizes: Sizes, mut another: impl FnMut() -> R) -> Crew<dyn Ranges> {
     let mut views = |count| (0..count).map(|_| Box::new(another()) as Box<dyn Ranges>).collect::<Vec<_>>();
     Crew { owners: views(sizes.owners), readers: views(sizes.readers) }
-}
-
-fn of_handles(sizes: Sizes) -> elltree::Result<Crew<dyn Ranges>> {
-    let mut first = Handle::open_shared(&sizes.start().collect::<Vec<_>>(), CARDS_MAX)?;
-    Ok(crew(sizes, || first.another().expect("a handle")))
 }
 
 fn of_array_handles(sizes: Sizes) -> Crew<dyn Ranges> {

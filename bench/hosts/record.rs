@@ -1,7 +1,7 @@
 //! What was measured, as tables in Markdown and as rows of a file.
 
 use crate::peers::Peer;
-use crate::ranges::Span;
+use crate::ranges::{Span, Way};
 use crate::{Case, Kind};
 use std::collections::BTreeMap;
 use std::fmt::Write;
@@ -56,20 +56,11 @@ impl Figure {
     }
 }
 
-/// A time as a reader wants it.
-fn shown(nanoseconds: f64) -> String {
-    match nanoseconds {
-        it if it >= 1e6 => format!("{:.1} ms", it / 1e6),
-        it if it >= 1e4 => format!("{:.0} µs", it / 1e3),
-        it => format!("{it:.0} ns"),
-    }
-}
-
-/// A number of keys as a reader wants it.
-fn counted(keys: u64) -> String {
-    match keys {
-        1_000.. => format!("{},{:03}", keys / 1_000, keys % 1_000),
-        _ => keys.to_string(),
+/// A number with commas.
+fn counted(number: u64) -> String {
+    match number {
+        1_000.. => format!("{},{:03}", counted(number / 1_000), number % 1_000),
+        _ => number.to_string(),
     }
 }
 
@@ -78,6 +69,31 @@ fn least_and_median(rounds: &[f64]) -> (f64, f64) {
     let mut sorted = rounds.to_vec();
     sorted.sort_by(f64::total_cmp);
     (sorted[0], sorted[sorted.len() / 2])
+}
+
+/// A kind of tables.
+struct Form {
+    kind: Kind,
+    title: &'static str,
+    /// The heads of the columns that say what a row is of.
+    labels: &'static [&'static str],
+    /// Times are shown in milliseconds, and else in nanoseconds.
+    in_milliseconds: bool,
+}
+
+/// The kinds of which each case is a row of a table, and the titles of these.
+const TABLES_OF_CASES: [(Kind, &str); 5] = [
+    (Kind::Shared, "An operation on shared keys, in nanoseconds."),
+    (Kind::SharedLooks, "A look at a shared key; a change beside it, in nanoseconds."),
+    (Kind::Operations, "An operation on a key of its own, in nanoseconds."),
+    (Kind::Looks, "A look at any key; a change by an owner beside it, in nanoseconds."),
+    (Kind::Counters, "An add to a counter, in nanoseconds."),
+];
+
+/// What a row of a table is of, and what it shows of each peer, one behind the other: figures of cases by their places.
+struct Row {
+    labels: Vec<String>,
+    shown: Vec<(usize, Figure)>,
 }
 
 /// The times of all rounds, of each case by its place, of each peer by its name.
@@ -99,128 +115,202 @@ impl Record {
         }
     }
 
-    /// One row for each figure of each peer in each case.
+    fn median(&self, at: usize, figure: Figure, peer: Peer) -> Option<f64> {
+        Some(least_and_median(self.times.get(&(at, figure, peer.name()))?).1)
+    }
+
+    /// The median of how many times as long as another a peer took in the same round, by their names.
+    fn ratio(&self, at: usize, figure: Figure, peer: &'static str, other: &'static str) -> Option<f64> {
+        let times = |name| self.times.get(&(at, figure, name));
+        let ratios: Vec<f64> = times(peer)?.iter().zip(times(other)?).map(|(time, beside)| time / beside).collect();
+        Some(least_and_median(&ratios).1)
+    }
+
+    /// One row for each figure of each peer in each case: the least and the median of its rounds, the medians of its ratios within a round,
+    /// to the reference, and to the library before if that was measured, and the times of all rounds.
     pub fn rows(&self) -> String {
-        let mut rows = String::from("kind,keys,owners,readers,peer,figure,least,median,rounds\n");
+        let mut rows =
+            String::from("kind,keys,owners,readers,peer,figure,least,median,reference,to reference,to before,rounds\n");
         for ((at, figure, peer), rounds) in &self.times {
             let Case { kind, sizes } = self.cases[*at];
+            let reference = kind.reference().map_or("", Peer::name);
+            let before = kind.peers().into_iter().find(|it| it.name() == *peer).and_then(Peer::before).map_or("", Peer::name);
+            let ratio = |other| self.ratio(*at, *figure, peer, other).map_or(String::new(), |it| format!("{it:.2}"));
             let (least, median) = least_and_median(rounds);
             let all = rounds.iter().map(|it| format!("{it:.0}")).collect::<Vec<_>>().join(" ");
             let _ = writeln!(
                 rows,
-                "{},{},{},{},{peer},{},{least:.0},{median:.0},{all}",
+                "{},{},{},{},{peer},{},{least:.0},{median:.0},{reference},{},{},{all}",
                 kind.name(),
                 sizes.keys,
                 sizes.owners,
                 sizes.readers,
-                figure.name()
+                figure.name(),
+                ratio(reference),
+                ratio(before)
             );
         }
         rows
     }
 
-    /// What a table shows of a peer: the median of the rounds and the least if there is one figure, else the medians.
-    fn cell(&self, at: usize, peer: Peer, figures: &[Figure]) -> Option<String> {
-        let times = figures.iter().map(|figure| self.times.get(&(at, *figure, peer.name())));
-        let times: Vec<(f64, f64)> = times.map(|it| it.map(|it| least_and_median(it))).collect::<Option<_>>()?;
-        Some(match times[..] {
-            [(least, median)] => format!("{} ({})", shown(median), shown(least)),
-            _ => times.iter().map(|it| shown(it.1)).collect::<Vec<_>>().join(", "),
-        })
+    /// The cases of a kind, with their places.
+    fn cases_of(&self, kind: Kind) -> impl Iterator<Item = (usize, Case)> + '_ {
+        self.cases.iter().copied().enumerate().filter(move |(_, case)| case.kind == kind)
     }
 
-    /// The median of how many times as long as the locked shards a peer took in the same round.
-    fn ratio(&self, at: usize, peer: Peer) -> Option<String> {
-        let times = |peer: Peer| self.times.get(&(at, Figure::Operation, peer.name()));
-        let ratios: Vec<f64> = times(peer)?.iter().zip(times(Peer::Mutexes)?).map(|(time, shards)| time / shards).collect();
-        Some(format!("{:.2}", least_and_median(&ratios).1))
+    /// The peers of a kind of which this was measured.
+    fn peers(&self, kind: Kind, rows: &[Row]) -> Vec<Peer> {
+        let has =
+            |peer: Peer| rows.iter().flat_map(|row| &row.shown).any(|(at, figure)| self.median(*at, *figure, peer).is_some());
+        kind.peers().into_iter().filter(|peer| has(*peer)).collect()
     }
 
-    /// How many writes all owners of a peer made in a second, by the median of the rounds.
-    fn rate(&self, at: usize, peer: Peer, figure: Figure) -> Option<String> {
-        let (_, median) = least_and_median(self.times.get(&(at, figure, peer.name()))?);
-        let rate = self.cases[at].sizes.owners as f64 * 1e9 / median;
-        Some(format!("{:.2} M", rate / 1e6))
-    }
-
-    /// The table of these kinds, with such a cell for each peer, if there is any row.
-    fn table(&self, title: &str, kinds: &[Kind], cell: impl Fn(usize, Peer) -> Option<String>) -> String {
-        let peers = kinds[0].peers();
-        let rows = self.table_rows(&peers, kinds, cell);
-        if rows.is_empty() {
-            return rows;
+    /// A table as docs/SPEED.md has them, if anything was measured of it: the medians of each peer's times, and of the ratios.
+    fn table(&self, form: Form, file: &str, rows: Vec<Row>) -> String {
+        let peers = self.peers(form.kind, &rows);
+        if peers.is_empty() {
+            return String::new();
         }
-        let names: Vec<&str> = peers.iter().map(|peer| peer.name()).collect();
-        let rule = "--:|".repeat(names.len());
-        format!("\n{title}\n\n| keys | owners | readers | {} |\n|--:|--:|--:|{rule}\n{rows}", names.join(" | "))
-    }
-
-    /// The rows of that table.
-    fn table_rows(&self, peers: &[Peer], kinds: &[Kind], cell: impl Fn(usize, Peer) -> Option<String>) -> String {
-        let mut rows = String::new();
-        for (at, case) in self.cases.iter().enumerate().filter(|(_, case)| kinds.contains(&case.kind)) {
-            let cells: Vec<_> = peers.iter().map(|peer| cell(at, *peer)).collect();
-            if cells.iter().all(Option::is_none) {
-                continue;
-            }
-            let note = match case.kind {
-                Kind::Stopped => ", one stopped",
-                kind if kind.is_of_shared_keys() => ", all keys shared",
-                _ => "",
+        let compared = form.kind.compared();
+        let names = peers.iter().map(|peer| form.kind.title(*peer));
+        let names =
+            names.chain(compared.iter().map(|(one, other)| format!("{} to {}", form.kind.title(*one), form.kind.title(*other))));
+        let heads: Vec<String> = form.labels.iter().map(|it| it.to_string()).chain(names).collect();
+        let mut lines =
+            format!("\n{}\n\n<!-- {file} -->\n\n|{}|\n{}|\n", form.title, heads.join("|"), "|---".repeat(heads.len()));
+        for row in rows {
+            let times = peers.iter().map(|peer| row.cell(|at, figure| Some(form.shown(self.median(at, figure, *peer)?))));
+            let ratio = |(one, other): &(Peer, Peer)| {
+                row.cell(|at, figure| Some(format!("{:.2}", self.ratio(at, figure, one.name(), other.name())?)))
             };
-            let cells: Vec<String> = cells.into_iter().map(|it| it.unwrap_or("–".into())).collect();
-            let sizes = case.sizes;
-            let _ = writeln!(
-                rows,
-                "| {} | {}{note} | {} | {} |",
-                counted(sizes.keys),
-                sizes.owners,
-                sizes.readers,
-                cells.join(" | ")
-            );
+            let cells: Vec<String> = row.labels.iter().cloned().chain(times).chain(compared.iter().map(ratio)).collect();
+            let _ = writeln!(lines, "|{}|", cells.join("|"));
         }
-        rows
+        lines
     }
 
-    /// The table of these kinds, with these figures of each peer.
-    fn times(&self, title: &str, kinds: &[Kind], figures: &[Figure]) -> String {
-        self.table(title, kinds, |at, peer| self.cell(at, peer, figures))
-    }
-
-    /// All tables.
-    pub fn tables(&self) -> String {
-        let operations = [Kind::Operations, Kind::Shared];
-        let latencies = [Kind::Running, Kind::Stopped];
-        let beside_shards = "An operation of an owner, in times that of 16 Mutex: median of the ratios within each round";
-        [
-            self.times("An operation of an owner: median of the rounds, and least", &operations, &[Figure::Operation]),
-            self.table(beside_shards, &operations, |at, peer| self.ratio(at, peer)),
-            self.times("A look at any key: median of the rounds, and least", &[Kind::Looks], &[Figure::Look]),
-            self.times(
-                "A change by an owner beside these readers: median of the rounds, and least",
-                &[Kind::Looks],
-                &[Figure::Change],
-            ),
-            self.times("Latency of a look: median, 99 %, worst", &latencies, &Figure::OF_LOOKS),
-            self.times("Latency of another owner's operation: median, 99 %, worst", &latencies, &Figure::OF_OPERATIONS),
-            self.times("An add to a counter: median of the rounds, and least", &[Kind::Counters], &[Figure::Add]),
-            self.tables_of_ranges(),
-        ]
-        .concat()
-    }
-
-    /// The tables of ranges.
-    fn tables_of_ranges(&self) -> String {
-        let told = |figure: Figure| {
-            let title = format!("A {}, in the mean: median of the rounds, and least", figure.name());
-            self.times(&title, &[Kind::Ranges], &[figure])
+    /// A table of a kind in which each case is a row.
+    fn table_of_cases(&self, kind: Kind, title: &'static str, file: &str) -> String {
+        let (labels, figures): (&'static [&'static str], &[Figure]) = match kind {
+            Kind::SharedLooks | Kind::Looks => (&["Keys", "Readers", "Writers"], &[Figure::Look, Figure::Change]),
+            Kind::Counters => (&["Keys", "Threads"], &[Figure::Add]),
+            _ => (&["Keys", "Threads"], &[Figure::Operation]),
         };
-        let writes = |figure: Figure| {
-            let title = format!("Writes a second by all owners ({}), in millions: median of the rounds", figure.name());
-            self.table(&title, &[Kind::Ranges], |at, peer| self.rate(at, peer, figure))
+        let row = |(at, Case { sizes, .. }): (usize, Case)| {
+            let readers = labels.contains(&"Readers").then_some(sizes.readers);
+            let threads = [Some(sizes.keys), readers, Some(sizes.owners)];
+            Row {
+                labels: threads.into_iter().flatten().map(counted).collect(),
+                shown: figures.iter().map(|figure| (at, *figure)).collect(),
+            }
         };
-        let told = Span::ALL.map(|span| told(Figure::Told(span)));
-        let writes_beside = Span::ALL.map(|span| writes(Figure::WriteBeside(span)));
-        [told.concat(), writes(Figure::Write), writes_beside.concat()].concat()
+        let rows = self.cases_of(kind).map(row).collect();
+        self.table(Form { kind, title, labels, in_milliseconds: false }, file, rows)
+    }
+
+    /// All tables, for figures that stand in such a file.
+    pub fn tables(&self, file: &str) -> String {
+        let of_cases = TABLES_OF_CASES.map(|(kind, title)| self.table_of_cases(kind, title, file));
+        let others = [self.table_of_latencies(file), self.table_of_ranges(file), self.table_of_writes(file)];
+        [of_cases.concat(), others.concat()].concat()
+    }
+
+    /// The places of the cases of these kinds with so many keys.
+    fn places(&self, kinds: &[Kind], keys: u64) -> Vec<usize> {
+        let cases = kinds.iter().flat_map(|kind| self.cases_of(*kind));
+        cases.filter(|(_, case)| case.sizes.keys == keys).map(|(at, _)| at).collect()
+    }
+
+    fn table_of_latencies(&self, file: &str) -> String {
+        let row = |figure: Figure, name: &str, keys: u64| Row {
+            labels: vec![format!("{name}, {} keys, ms", counted(keys))],
+            shown: self.places(&[Kind::Running, Kind::Stopped], keys).into_iter().map(|at| (at, figure)).collect(),
+        };
+        let of = |figure, name| Kind::Running.keys().iter().map(move |keys| row(figure, name, *keys));
+        let rows = of(Figure::LookWorst, "look").chain(of(Figure::OperationWorst, "operation")).collect();
+        let title = "The worst latency beside a writer without pause; beside one that is stopped at times, in milliseconds.";
+        self.table(Form { kind: Kind::Running, title, labels: &[""], in_milliseconds: true }, file, rows)
+    }
+
+    /// The rows of ranges: of each number of keys those that are asked for, with figures of such cases.
+    fn rows_of_ranges(&self, lines: &[(&str, Figure)]) -> Vec<Row> {
+        let row = |keys: u64, (name, figure): (&str, Figure)| Row {
+            labels: vec![counted(keys), name.to_string()],
+            shown: self.places(&[Kind::Ranges], keys).into_iter().map(|at| (at, figure)).collect(),
+        };
+        Kind::Ranges.keys().iter().flat_map(|keys| lines.iter().map(move |line| row(*keys, *line))).collect()
+    }
+
+    fn table_of_ranges(&self, file: &str) -> String {
+        let lines = ["10", "100", "all", "next key"].into_iter().zip(Span::ALL.map(Figure::Told)).collect::<Vec<_>>();
+        let title = "A key of a range, or a next key, in nanoseconds: alone; beside three writers.";
+        let form = Form { kind: Kind::Ranges, title, labels: &["Keys", "Range"], in_milliseconds: false };
+        self.table(form, file, self.rows_of_ranges(&lines))
+    }
+
+    fn table_of_writes(&self, file: &str) -> String {
+        let names = ["ranges of 10", "ranges of 100", "ranges of all", "next keys"];
+        let beside = names.into_iter().zip(Span::ALL.map(Figure::WriteBeside));
+        let lines: Vec<_> = [("no range", Figure::Write)].into_iter().chain(beside).collect();
+        let title = "A write by one of three threads, in nanoseconds, beside a thread that asks for such ranges.";
+        let form = Form { kind: Kind::Ranges, title, labels: &["Keys", "Beside"], in_milliseconds: false };
+        self.table(form, file, self.rows_of_ranges(&lines))
+    }
+}
+
+impl Row {
+    /// The cell of a peer: what is shown of it, one behind the other.
+    fn cell(&self, show: impl Fn(usize, Figure) -> Option<String>) -> String {
+        self.shown.iter().filter_map(|(at, figure)| show(*at, *figure)).collect::<Vec<_>>().join("; ")
+    }
+}
+
+impl Form {
+    /// A time as the table has it: what the rows have, or that in milliseconds.
+    fn shown(&self, nanoseconds: f64) -> String {
+        let whole = nanoseconds.round_ties_even();
+        if self.in_milliseconds {
+            format!("{:.1}", whole / 1e6)
+        } else {
+            counted(whole as u64)
+        }
+    }
+}
+
+impl Kind {
+    /// The peers whose ratios within a round a table shows, each with the one that it is compared with.
+    fn compared(self) -> Vec<(Peer, Peer)> {
+        if matches!(self, Kind::Running | Kind::Stopped) {
+            return Vec::new();
+        }
+        let ours = self.ours();
+        let measured = |peer: &Peer| self.peers().contains(peer);
+        let before = ours.before().filter(measured);
+        let to_reference = self.reference().into_iter().flat_map(|reference| {
+            let compared = [Some(ours), before, Some(Peer::Bare)].into_iter().flatten().filter(measured);
+            compared.map(move |peer| (peer, reference))
+        });
+        to_reference.chain(before.map(|before| (ours, before))).collect()
+    }
+
+    /// What a table of this kind calls a peer.
+    fn title(self, peer: Peer) -> String {
+        let (ours, name) = (self.ours(), peer.name());
+        if peer == ours {
+            return "elltree".to_string();
+        }
+        if Some(peer) == ours.before() {
+            return "Before".to_string();
+        }
+        let name = match peer {
+            Peer::SharedElltree => "Shared",
+            #[cfg(before)]
+            Peer::SharedBefore => "Shared before",
+            Peer::Ranging(Way::Array) => "Array",
+            Peer::Bare | Peer::Ranging(Way::Bare) => "Bare atomics",
+            Peer::Private => "Private maps",
+            _ => name,
+        };
+        name.replace("Mutex", "`Mutex`").replace("RwLock", "`RwLock`")
     }
 }

@@ -2,8 +2,9 @@
 
 use crate::peers::{Counters, Crew, Peer, Sizes, Stripe, View};
 use crate::ranges::{write, Span, Way};
+use crate::realtime;
 use std::hint::{black_box, spin_loop};
-use std::sync::atomic::{AtomicBool, AtomicUsize, Ordering};
+use std::sync::atomic::{AtomicU8, AtomicUsize, Ordering};
 use std::sync::Barrier;
 use std::thread::{self, ScopedJoinHandle};
 use std::time::{Duration, Instant};
@@ -17,6 +18,9 @@ const PACE: Duration = Duration::from_micros(20);
 
 /// After how many operations a thread without pause sees whether the interval is over.
 const BATCH: u64 = 16;
+
+/// How many threads of a burst may have pseudo-random numbers of their own.
+const PLACES: u64 = 64;
 
 const SIGUSR1: i32 = 10;
 
@@ -71,47 +75,90 @@ impl Work {
     }
 }
 
-/// Where the threads of an interval begin together, and see that it is over.
+/// What a thread did without pause.
+#[derive(Clone, Copy, Default)]
+struct Done {
+    /// How long the acts took that count, and how many these were.
+    took: Duration,
+    counted: u64,
+    /// How many acts there were in all.
+    all: u64,
+}
+
+/// What acts are for: at first to fill the caches with what they need, since other maps were used before; then they count.
+#[derive(Clone, Copy)]
+enum Phase {
+    Leading,
+    Counted,
+    Over,
+}
+
+/// Where the threads of an interval begin together, and see how far it is.
 struct Stage {
     begin: Barrier,
-    is_over: AtomicBool,
+    phase: AtomicU8,
 }
 
 impl Stage {
     /// A stage for so many threads and the one that makes it.
     fn of(threads: usize) -> Stage {
-        Stage { begin: Barrier::new(threads + 1), is_over: AtomicBool::new(false) }
+        Stage { begin: Barrier::new(threads + 1), phase: AtomicU8::new(Phase::Leading as u8) }
+    }
+
+    fn has_begun(&self, phase: Phase) -> bool {
+        self.phase.load(Ordering::Relaxed) >= phase as u8
     }
 
     fn is_over(&self) -> bool {
-        self.is_over.load(Ordering::Relaxed)
+        self.has_begun(Phase::Over)
+    }
+
+    /// Begins a phase, unless it is later already.
+    fn enter(&self, phase: Phase) {
+        self.phase.fetch_max(phase as u8, Ordering::Relaxed);
     }
 
     fn end(&self) {
-        self.is_over.store(true, Ordering::Relaxed);
+        self.enter(Phase::Over);
     }
 
-    /// Acts without pause until the interval is over, and ends it after so many acts: how long it took, and how many acts there were.
-    fn drive<T>(&self, seed: u64, most: u64, mut act: impl FnMut(u64) -> T) -> (Duration, u64) {
-        let (mut random, mut done) = (Random::new(seed), 0);
-        self.begin.wait();
-        let begun = Instant::now();
-        while done < most && !self.is_over() {
+    /// Has the threads go through an interval.
+    fn conduct(&self, interval: Duration) {
+        realtime::rest(interval);
+        let _first = realtime::go_first();
+        lead(&[self], interval);
+        self.end();
+    }
+
+    /// Acts again and again until a phase has begun, or so many times: how long it took, and how many acts there were, one batch at least.
+    fn act_until<T>(&self, phase: Phase, most: u64, mut act: impl FnMut() -> T) -> (Duration, u64) {
+        let (begun, mut done) = (Instant::now(), 0);
+        loop {
             for _ in 0..BATCH {
-                black_box(act(random.next()));
+                black_box(act());
             }
             done += BATCH;
+            if done >= most || self.has_begun(phase) {
+                return (begun.elapsed(), done);
+            }
         }
-        let took = begun.elapsed();
-        self.end();
-        (took, done)
     }
 
-    /// Adds to random ones of these keys without pause until the interval is over, and ends it if no card is left: how long it took, and
-    /// how many adds were answered.
-    fn add(&self, seed: u64, owner: &mut dyn Counters, keys: Stripe) -> (Duration, u64) {
+    /// Acts without pause until the interval is over, and ends it after so many acts.
+    fn drive<T>(&self, seed: u64, most: u64, mut act: impl FnMut(u64) -> T) -> Done {
+        let mut random = Random::new(seed);
+        self.begin.wait();
+        let (_, led) = self.act_until(Phase::Counted, most, || act(random.next()));
+        let (took, counted) = self.act_until(Phase::Over, most.saturating_sub(led), || act(random.next()));
+        self.end();
+        Done { took, counted, all: led + counted }
+    }
+
+    /// Adds to random ones of these keys without pause until the interval is over, and ends it if no card is left: what it did, and how many
+    /// adds were answered.
+    fn add(&self, seed: u64, owner: &mut dyn Counters, keys: Stripe) -> (Done, u64) {
         let mut added = 0;
-        let (took, _) = self.drive(seed, u64::MAX, |random| match owner.add(keys.random_key(random)) {
+        let done = self.drive(seed, u64::MAX, |random| match owner.add(keys.random_key(random)) {
             Some(was) => {
                 added += 1;
                 was
@@ -121,20 +168,27 @@ impl Stage {
                 0
             }
         });
-        (took, added)
+        (done, added)
     }
 
-    /// Asks without pause until the interval is over: how long it took, and how many answers there were.
-    fn ask(&self, seed: u64, mut ask: impl FnMut(u64) -> u64) -> (Duration, u64) {
-        let (mut random, mut answers) = (Random::new(seed), 0);
-        self.begin.wait();
-        let begun = Instant::now();
+    /// Asks again and again until a phase has begun: how long it took, and how many answers there were.
+    fn ask_until(&self, phase: Phase, mut ask: impl FnMut() -> u64) -> (Duration, u64) {
+        let (begun, mut answers) = (Instant::now(), 0);
         loop {
-            answers += ask(random.next());
-            if self.is_over() {
+            answers += ask();
+            if self.has_begun(phase) {
                 return (begun.elapsed(), answers);
             }
         }
+    }
+
+    /// Asks without pause until the interval is over: an act is an answer.
+    fn ask(&self, seed: u64, mut ask: impl FnMut(u64) -> u64) -> Done {
+        let mut random = Random::new(seed);
+        self.begin.wait();
+        let (_, led) = self.ask_until(Phase::Counted, || ask(random.next()));
+        let (took, counted) = self.ask_until(Phase::Over, || ask(random.next()));
+        Done { took, counted, all: led + counted }
     }
 
     /// Acts once each `PACE` until the interval is over: how long after it was due each act had been done, in nanoseconds.
@@ -155,15 +209,32 @@ impl Stage {
     }
 }
 
-/// How long all these threads took, and how many acts they made.
-fn total(threads: Vec<ScopedJoinHandle<(Duration, u64)>>) -> (Duration, u64) {
-    let ended = threads.into_iter().map(|thread| thread.join().unwrap());
-    ended.fold((Duration::ZERO, 0), |sum, it| (sum.0 + it.0, sum.1 + it.1))
+/// Has the threads of these stages begin, lets their acts count after half of such an interval, and waits as long as it is.
+fn lead(stages: &[&Stage], interval: Duration) {
+    for stage in stages {
+        stage.begin.wait();
+    }
+    thread::sleep(interval / 2);
+    for stage in stages {
+        stage.enter(Phase::Counted);
+    }
+    thread::sleep(interval);
 }
 
-/// Nanoseconds an act, of acts that took so long.
-fn mean((took, done): (Duration, u64)) -> Option<f64> {
-    (done > 0).then(|| took.as_nanos() as f64 / done as f64)
+/// What all these threads did.
+fn total(threads: Vec<ScopedJoinHandle<Done>>) -> Done {
+    threads.into_iter().map(|thread| thread.join().unwrap()).fold(Done::default(), Done::and)
+}
+
+impl Done {
+    fn and(self, other: Done) -> Done {
+        Done { took: self.took + other.took, counted: self.counted + other.counted, all: self.all + other.all }
+    }
+
+    /// Nanoseconds an act.
+    fn mean(self) -> Option<f64> {
+        (self.counted > 0).then(|| self.took.as_nanos() as f64 / self.counted as f64)
+    }
 }
 
 /// How long operations take: none if nobody makes them.
@@ -174,26 +245,54 @@ pub struct Speeds {
     pub readers: Option<f64>,
 }
 
-/// Has all owners do this work without pause for so long, and all readers look at any key.
-pub fn speeds(peer: Peer, sizes: Sizes, work: Work, interval: Duration) -> Speeds {
-    let crew = peer.crew(sizes);
-    let stage = &Stage::of(crew.threads());
-    let most = work.most(peer) / sizes.owners.max(1);
-    thread::scope(|scope| {
-        let mut seeds = 0..;
-        let owners = crew.owners.into_iter().zip(sizes.stripes()).zip(&mut seeds).map(|((mut owner, stripe), seed)| {
-            scope.spawn(move || stage.drive(seed, most, |random| work.act(&mut *owner, stripe, random)))
+/// A map that goes through bursts, one after the other, in which all owners do this work without pause, and all readers look at any key. If
+/// it could have too few cards for the next burst, another takes its place.
+pub struct Bursts {
+    peer: Peer,
+    sizes: Sizes,
+    work: Work,
+    crew: Crew,
+    /// How many operations its owners may make yet, and how many they made in the last burst.
+    left: u64,
+    last: u64,
+    count: u64,
+}
+
+impl Bursts {
+    pub fn new(peer: Peer, sizes: Sizes, work: Work) -> Bursts {
+        Bursts { peer, sizes, work, crew: peer.crew(sizes), left: work.most(peer), last: 0, count: 0 }
+    }
+
+    fn renew_if_due(&mut self) {
+        if self.left / 2 < self.last {
+            *self = Bursts { count: self.count, ..Bursts::new(self.peer, self.sizes, self.work) };
+        }
+    }
+
+    /// The next burst, of which so long counts.
+    pub fn next(&mut self, interval: Duration) -> Speeds {
+        self.renew_if_due();
+        let Bursts { sizes, work, .. } = *self;
+        let stage = &Stage::of(self.crew.threads());
+        let most = self.left / sizes.owners.max(1);
+        let (mut places, seed) = (0.., PLACES * self.count);
+        let (owners, readers) = thread::scope(|scope| {
+            let owners = self.crew.owners.iter_mut().zip(sizes.stripes()).zip(&mut places).map(|((owner, stripe), place)| {
+                let act = move |random| work.act(&mut **owner, stripe, random);
+                realtime::spawn(scope, place, move || stage.drive(seed + place as u64, most, act))
+            });
+            let owners = owners.collect();
+            let readers = self.crew.readers.iter_mut().zip(places).map(|(reader, place)| {
+                let look = move |random| reader.look(sizes.all().random_key(random));
+                realtime::spawn(scope, place, move || stage.drive(seed + place as u64, u64::MAX, look))
+            });
+            let readers = readers.collect();
+            stage.conduct(interval);
+            (total(owners), total(readers))
         });
-        let owners = owners.collect();
-        let readers = crew.readers.into_iter().zip(seeds).map(|(mut reader, seed)| {
-            scope.spawn(move || stage.drive(seed, u64::MAX, |random| reader.look(sizes.all().random_key(random))))
-        });
-        let readers = readers.collect();
-        stage.begin.wait();
-        thread::sleep(interval);
-        stage.end();
-        Speeds { owners: mean(total(owners)), readers: mean(total(readers)) }
-    })
+        (self.last, self.left, self.count) = (owners.all, self.left.saturating_sub(owners.all), self.count + 1);
+        Speeds { owners: owners.mean(), readers: readers.mean() }
+    }
 }
 
 /// Has all owners add to any counters without pause for so long, or until no card is left: nanoseconds an add. The sum of the counters
@@ -202,17 +301,19 @@ pub fn adds(peer: Peer, sizes: Sizes, interval: Duration) -> Option<f64> {
     let mut owners = peer.counters(sizes);
     let stage = &Stage::of(owners.len());
     let keys = sizes.all();
-    let (took, added) = thread::scope(|scope| {
-        let threads = owners.iter_mut().zip(0..).map(|(owner, seed)| scope.spawn(move || stage.add(seed, &mut **owner, keys)));
-        let threads = threads.collect();
-        stage.begin.wait();
-        thread::sleep(interval);
-        stage.end();
-        total(threads)
+    let (done, added) = thread::scope(|scope| {
+        let threads = owners
+            .iter_mut()
+            .zip(0..)
+            .map(|(owner, place)| realtime::spawn(scope, place, move || stage.add(place as u64, &mut **owner, keys)));
+        let threads: Vec<_> = threads.collect();
+        stage.conduct(interval);
+        let ended = threads.into_iter().map(|thread| thread.join().unwrap());
+        ended.fold((Done::default(), 0), |(done, added), it| (done.and(it.0), added + it.1))
     });
     let counted: u64 = keys.keys().map(|key| owners[0].find(key).expect("a counter")).sum();
     assert_eq!(counted, added, "the counters of {} and its answers", peer.name());
-    mean((took, added))
+    done.mean()
 }
 
 /// Has all owners write at random without pause, and all readers ask for such ranges, for so long. Then the owners go on until each reader
@@ -221,28 +322,28 @@ pub fn scans(way: Way, sizes: Sizes, span: Span, interval: Duration) -> Speeds {
     let Crew { owners, readers } = way.worn_crew(sizes);
     let (writing, reading) = (&Stage::of(owners.len()), &Stage::of(readers.len()));
     let most = way.most_writes(sizes) / sizes.owners.max(1);
+    let mut places = 0..;
     thread::scope(|scope| {
-        let mut seeds = 0..;
-        let owners = owners.into_iter().zip(&mut seeds).map(|(mut owner, seed)| {
-            scope.spawn(move || {
-                let took = writing.drive(seed, most, |random| write(&mut *owner, sizes.all(), random));
+        let owners = owners.into_iter().zip(&mut places).map(|(mut owner, place)| {
+            realtime::spawn(scope, place, move || {
+                let done = writing.drive(place as u64, most, |random| write(&mut *owner, sizes.all(), random));
                 reading.end();
-                took
+                done
             })
         });
         let owners = owners.collect();
-        let readers = readers
-            .into_iter()
-            .zip(seeds)
-            .map(|(mut reader, seed)| scope.spawn(move || reading.ask(seed, |random| span.ask(&mut *reader, sizes, random))));
+        let readers = readers.into_iter().zip(places).map(|(mut reader, place)| {
+            let ask = move |random| span.ask(&mut *reader, sizes, random);
+            realtime::spawn(scope, place, move || reading.ask(place as u64, ask))
+        });
         let readers = readers.collect();
-        writing.begin.wait();
-        reading.begin.wait();
-        thread::sleep(interval);
+        realtime::rest(interval);
+        let _first = realtime::go_first();
+        lead(&[writing, reading], interval);
         reading.end();
-        let readers = mean(total(readers));
+        let readers = total(readers).mean();
         writing.end();
-        Speeds { owners: mean(total(owners)), readers }
+        Speeds { owners: total(owners).mean(), readers }
     })
 }
 
@@ -296,21 +397,26 @@ pub fn latencies(peer: Peer, sizes: Sizes, is_stopped: bool, interval: Duration)
     let mut owners = crew.owners.into_iter().zip(sizes.stripes());
     let (mut first, first_stripe) = owners.next().expect("an owner");
     thread::scope(|scope| {
-        let mut seeds = 0..;
-        let changing = scope.spawn(move || {
+        let changing = realtime::spawn(scope, 0, move || {
             // SAFETY: it asks nothing.
             first_thread.store(unsafe { pthread_self() }, Ordering::SeqCst);
-            stage.drive(99, Work::Changes.most(peer), |random| Work::Changes.act(&mut *first, first_stripe, random))
+            stage.drive(0, Work::Changes.most(peer), |random| Work::Changes.act(&mut *first, first_stripe, random))
         });
-        let owners = owners.zip(&mut seeds).map(|((mut owner, stripe), seed)| {
-            scope.spawn(move || stage.pace(seed, |random| Work::Mixed.act(&mut *owner, stripe, random)))
+        let mut places = 1..;
+        let owners = owners.zip(&mut places).map(|((mut owner, stripe), place)| {
+            let act = move |random| Work::Mixed.act(&mut *owner, stripe, random);
+            realtime::spawn(scope, place, move || stage.pace(place as u64, act))
         });
         let owners = owners.collect();
-        let readers = crew.readers.into_iter().zip(seeds).map(|(mut reader, seed)| {
-            scope.spawn(move || stage.pace(seed, |random| reader.look(sizes.all().random_key(random))))
+        let readers = crew.readers.into_iter().zip(places).map(|(mut reader, place)| {
+            let look = move |random| reader.look(sizes.all().random_key(random));
+            realtime::spawn(scope, place, move || stage.pace(place as u64, look))
         });
         let readers = readers.collect();
+        realtime::rest(interval);
+        let _first = realtime::go_first();
         stage.begin.wait();
+        stage.enter(Phase::Counted);
         if is_stopped {
             stop_at_times(first_thread.load(Ordering::SeqCst), interval);
         } else {

@@ -12,13 +12,19 @@ const TRIES: u32 = 1_000_000;
 /// How many nodes a range keeps.
 const KEPT: usize = 32;
 
-/// The twelve words of a card, in their order.
+/// How many words stand before those of the cards: the claim word, and others that are not used. So it has a cache line of its own, and
+/// no node lies in two lines, if the block begins 16 bytes behind a line, as large ones of glibc do.
+const FIRST: u64 = 6;
+
+/// How many cards are in a group.
+const GROUP: u64 = 64;
+
+/// How many words a card has in each part of its group: the internal nodes, the leaves, and the records.
+const PART: u64 = 4;
+
+/// The twelve words of a card, in the order of their places: those of its internal node, of its two leaves, and of its record.
 #[derive(Clone, Copy)]
 enum Field {
-    Gp,
-    P,
-    L,
-    Was,
     Key,
     Left,
     Right,
@@ -27,6 +33,45 @@ enum Field {
     RightLeafKey,
     LeftValue,
     RightValue,
+    Gp,
+    P,
+    L,
+    Was,
+}
+
+impl Field {
+    /// Where this word of a card stands among all words. The cards before it have `PART` words each in one part of their groups, and those of
+    /// whole groups also have the other two parts.
+    fn address(self, card: u64) -> usize {
+        let place = self as u64;
+        let cards_before = PART * card + 2 * GROUP * PART * (card / GROUP);
+        (FIRST + cards_before + GROUP * PART * (place / PART) + place % PART) as usize
+    }
+}
+
+/// How many words there are, if the last card has this number.
+fn table_size(last: u64) -> usize {
+    Field::Was.address(last) + 1
+}
+
+/// A node's number is four times its card, and one of these.
+#[derive(Clone, Copy)]
+enum Kind {
+    Internal,
+    LeftLeaf,
+    RightLeaf,
+}
+
+fn node(card: u64, kind: Kind) -> u64 {
+    4 * card + kind as u64
+}
+
+fn card_of(node: u64) -> u64 {
+    node / 4
+}
+
+fn is_internal(node: u64) -> bool {
+    node.is_multiple_of(4)
 }
 
 /// An update word is four times a card, and one of these.
@@ -53,10 +98,6 @@ fn state_of(update: u64) -> State {
 
 fn is_clean(update: u64) -> bool {
     state_of(update) == State::Clean
-}
-
-fn is_internal(node: u64) -> bool {
-    node.is_multiple_of(3)
 }
 
 /// A node that a search passed, with the update word that it read there.
@@ -108,7 +149,7 @@ enum Claimed {
     Lost,
 }
 
-/// The claim word, and then the words of each card.
+/// The claim word, and then the words of the cards.
 pub struct BareTree {
     words: Vec<AtomicU64>,
     cards: u64,
@@ -118,7 +159,7 @@ impl Index<(u64, Field)> for BareTree {
     type Output = AtomicU64;
 
     fn index(&self, (card, field): (u64, Field)) -> &AtomicU64 {
-        &self.words[(1 + 12 * card + field as u64) as usize]
+        &self.words[field.address(card)]
     }
 }
 
@@ -126,16 +167,17 @@ impl BareTree {
     /// The opening tree of some ascending keys with their values, and so many cards more, of which all words are 0.
     pub fn reserve(start: &[(u64, u64)], cards: u64) -> BareTree {
         let cards = start.len() as u64 + cards;
-        let words = (0..13 + 12 * cards).map(|_| AtomicU64::new(0)).collect();
+        let words = (0..table_size(cards)).map(|_| AtomicU64::new(0)).collect();
         let tree = BareTree { words, cards };
         tree.claimed().store(start.len() as u64 + 1, SeqCst);
         tree.fill(0, Field::Key, INF2);
-        tree.fill(0, Field::Left, if start.is_empty() { 1 } else { 3 });
-        tree.fill(0, Field::Right, 2);
+        tree.fill(0, Field::Left, node(0, Kind::LeftLeaf));
+        tree.fill(0, Field::Right, node(0, Kind::RightLeaf));
         tree.fill(0, Field::Update, update_word(State::Clean, 0));
         tree.fill(0, Field::LeftLeafKey, INF1);
         tree.fill(0, Field::RightLeafKey, INF2);
         if !start.is_empty() {
+            tree.fill(0, Field::Left, node(1, Kind::Internal));
             tree.fill_branch(1, &[start, &[(INF1, 0)]].concat());
         }
         tree
@@ -150,18 +192,18 @@ impl BareTree {
         if let [(key, value)] = left {
             self.fill(card, Field::LeftLeafKey, *key);
             self.fill(card, Field::LeftValue, *value);
-            self.fill(card, Field::Left, 3 * card + 1);
+            self.fill(card, Field::Left, node(card, Kind::LeftLeaf));
         } else {
-            self.fill(card, Field::Left, 3 * (card + 1));
+            self.fill(card, Field::Left, node(card + 1, Kind::Internal));
             self.fill_branch(card + 1, left);
         }
         if let [(key, value)] = right {
             self.fill(card, Field::RightLeafKey, *key);
             self.fill(card, Field::RightValue, *value);
-            self.fill(card, Field::Right, 3 * card + 2);
+            self.fill(card, Field::Right, node(card, Kind::RightLeaf));
         } else {
             let below = card + left.len() as u64;
-            self.fill(card, Field::Right, 3 * below);
+            self.fill(card, Field::Right, node(below, Kind::Internal));
             self.fill_branch(below, right);
         }
     }
@@ -178,34 +220,37 @@ impl BareTree {
         &self.words[0]
     }
 
-    /// The step that begins or ends an operation: a load that tells nothing.
+    /// The step that begins or ends an operation: a load that tells nothing, of a word that never changes.
     fn touch(&self) {
-        self.claimed().load(SeqCst);
+        self.word(0, Field::Key);
     }
 
     fn update(&self, node: u64) -> &AtomicU64 {
-        &self[(node / 3, Field::Update)]
+        &self[(card_of(node), Field::Update)]
     }
 
     fn child(&self, node: u64, right: bool) -> &AtomicU64 {
-        &self[(node / 3, if right { Field::Right } else { Field::Left })]
+        &self[(
+            card_of(node),
+            if right { Field::Right } else { Field::Left },
+        )]
     }
 
     fn key(&self, node: u64) -> u64 {
-        let field = match node % 3 {
+        let field = match node % 4 {
             0 => Field::Key,
             1 => Field::LeftLeafKey,
             _ => Field::RightLeafKey,
         };
-        self.word(node / 3, field)
+        self.word(card_of(node), field)
     }
 
     fn value(&self, leaf: u64) -> u64 {
-        let field = match leaf % 3 {
+        let field = match leaf % 4 {
             1 => Field::LeftValue,
             _ => Field::RightValue,
         };
-        self.word(leaf / 3, field)
+        self.word(card_of(leaf), field)
     }
 
     fn word(&self, card: u64, field: Field) -> u64 {
@@ -394,8 +439,8 @@ impl BareTree {
         self.fill(card, Field::P, place.parent.node);
         self.fill(card, Field::L, place.leaf);
         self.fill(card, Field::Key, greater);
-        self.fill(card, Field::Left, 3 * card + 1);
-        self.fill(card, Field::Right, 3 * card + 2);
+        self.fill(card, Field::Left, node(card, Kind::LeftLeaf));
+        self.fill(card, Field::Right, node(card, Kind::RightLeaf));
         self.fill(card, Field::Update, update_word(State::Clean, 0));
         self.fill(card, Field::LeftLeafKey, lesser);
         self.fill(card, Field::RightLeafKey, greater);
@@ -478,9 +523,9 @@ impl BareTree {
     /// The node that a card puts in the place of a leaf: an insert's has two keys, and a swap's has one, in both of its leaves.
     fn brought(&self, card: u64, card_key: u64) -> u64 {
         if self.word(card, Field::LeftLeafKey) == card_key {
-            3 * card + 2
+            node(card, Kind::RightLeaf)
         } else {
-            3 * card
+            node(card, Kind::Internal)
         }
     }
 

@@ -13,7 +13,7 @@
 enum { MOST = 4, KEYS = 6, CARDS = 600000, TRIES = 100000, RACES = 2000 };
 
 struct worker {
-    struct elltree_handle handle;
+    _Alignas(128) struct elltree_handle handle; /* in cache lines of its own */
     uint64_t seed;
     long inserted[KEYS], deleted[KEYS], found, wrong;
 };

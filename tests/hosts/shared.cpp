@@ -19,7 +19,7 @@ public:
     Handle(const Handle &) = delete;
     Handle &operator=(const Handle &) = delete;
     ~Handle() { elltree_free(&raw); }
-    elltree_handle raw = ELLTREE_EMPTY;
+    alignas(128) elltree_handle raw = ELLTREE_EMPTY;
 };
 
 struct Count {

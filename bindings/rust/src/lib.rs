@@ -257,7 +257,12 @@ fn host_pairs(pairs: &[(u64, u64)]) -> Vec<Pair> {
 }
 
 /// One thread's way to a tree: it finds, inserts and deletes shared keys, and keys of its own, which no other handle changes. It looks at any
-/// key.
+/// key. Each call writes to its handle, so a handle has cache lines of its own:
+///
+/// ```
+/// assert_eq!((size_of::<elltree::Handle>(), align_of::<elltree::Handle>()), (128, 128));
+/// ```
+#[repr(align(128))]
 pub struct Handle(Slot);
 
 // SAFETY: the library proves `Send` of what lies behind the pointer, and `&mut` gives a handle to one call at a time.

@@ -37,18 +37,18 @@ child_at x right = address (card x) (child_field right)
 
 -- the address of the key of a node
 abbrev pub key_at : ℕ → ℕ
-key_at x = address (card x) (key_field (x % 3))
+key_at x = address (card x) (key_field (x % 4))
 
 -- the address of the value of a leaf
 abbrev pub value_at : ℕ → ℕ
-value_at x = address (card x) (value_field (x % 3))
+value_at x = address (card x) (value_field (x % 4))
 
--- the word that a call touches
+-- the word that a call touches: of a call that only notes something it is the key of the root, which never changes
 abbrev pub word_of : Call → ℕ
-word_of (call.Begin op) = 0
-word_of call.Again = 0
-word_of call.Leave = 0
-word_of (call.Answer said) = 0
+word_of (call.Begin op) = key_at 0
+word_of call.Again = key_at 0
+word_of call.Leave = key_at 0
+word_of (call.Answer said) = key_at 0
 word_of (call.Upd x) = update_at x
 word_of (call.Down x right) = child_at x right
 word_of call.Next = 0

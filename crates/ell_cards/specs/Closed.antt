@@ -1,7 +1,7 @@
 use Rattle.std.specs.Prelude.{◌≡◌, ◌≢◌, ◌↔◌, ℕ, ◌≤◌, ◌⊎◌, List, length, Some, None, Contains}
 use mathlib.Core.Option.{some}
 use lib.ListN.{get_elem?}
-use Rattle.ell_word.specs.Node.{card, IsInternal}
+use Rattle.ell_word.specs.Node.{card, IsInternal, IsNode}
 use Rattle.ell_core.specs.state.Layout.{table_size}
 use Rattle.ell_core.specs.state.Words.{words_of}
 use Rattle.ell_core.specs.state.Machine.{ledger_of}
@@ -26,6 +26,7 @@ pub record ShowsMap (plan : TablePlan) (ledger : List (ℕ × Entry)) (t : Close
   pub size : length t.words ≡ table_size t.last_card
   pub tree : IsLawful (words_of t.words)
   pub nodes : (x : ℕ) → Reached (words_of t.words) x → card x ≤ t.last_card
+  pub numbers : (x : ℕ) → Reached (words_of t.words) x → IsNode x
   pub clean : (x : ℕ) → Reached (words_of t.words) x → IsInternal x → IsClean ((words_of t.words).update x)
   pub owned : (key : ℕ) → IsTreeKey (words_of t.words) key → Contains plan.keys key ⊎ IsSharedIn plan key
   pub listed : (key : ℕ) → ledger_of ledger key ≢ None → Contains plan.keys key

@@ -63,6 +63,18 @@ MayPart v = v.worker.ownable ≢ None → 2 ≤ v.share
 abbrev pub one_more : ℕ → ℕ
 one_more n = min (n + 1) 18446744073709551615
 
+-- so many steps more, but no more than 64 bits hold
+abbrev pub some_more : ℕ → ℕ → ℕ
+some_more n steps = min (steps + n) 18446744073709551615
+
+-- the pass made one step that it has not counted yet, and knows this now
+abbrev pub Sees : PassModel → PassModel → View → Type 0
+Sees old new v = new ≡ record { table = old.table; view = v; steps = old.steps; label = old.label }
+
+-- the pass counted so many steps, and made none
+abbrev pub Counts : PassModel → PassModel → ℕ → Type 0
+Counts old new n = new ≡ record old { steps = some_more n old.steps }
+
 -- the pass made one step, and knows this now
 abbrev pub Steps : PassModel → PassModel → View → Type 0
 Steps old new v = new ≡ record { table = old.table; view = v; steps = one_more old.steps; label = old.label }
@@ -131,7 +143,7 @@ IsFree v = v.worker.operation ≡ None
 
 -- a node of a table of so many cards
 abbrev pub InTable : ℕ → ℕ → Type 0
-InTable cards x = x ≤ 3 * cards + 2
+InTable cards x = x ≤ 4 * cards + 2
 
 -- the word that a list of stores, the last first, leaves in a field that had 0
 abbrev pub stored_at : List (Field × ℕ) → Field → ℕ

@@ -58,6 +58,12 @@ abbrev pub KeepsPass : ℕ → View → (ℕ → View → Type 0) → Type 0
 KeepsPass cards v then =
     (n : ℕ) (w : View) → then n w → (keys_of w.worker.ledger ≡ keys_of v.worker.ledger) × SameShare v w × IsNamed cards w
 
+-- a pass made one step that it has not counted yet: its table and its label are as they were
+pub record SeesBy (old new : PassModel) : Type 0 where
+  pub table : new.table ≡ old.table
+  pub steps : new.steps ≡ old.steps
+  pub label : new.label ≡ old.label
+
 -- a pass made one step: its table and its label are as they were
 pub record StepsBy (old new : PassModel) : Type 0 where
   pub table : new.table ≡ old.table

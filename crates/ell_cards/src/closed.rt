@@ -2,7 +2,7 @@
 ghost use Rattle.std.specs.Prelude.{◌≡◌, ◌≢◌, ◌≤◌, length, None, false, true};
 ghost use Rattle.std.specs.List.{All};
 ghost use Rattle.std.specs.Slots.{slots_items, slots_len, IsFull};
-ghost use Rattle.ell_word.specs.Node.{card, greatest_card};
+ghost use Rattle.ell_word.specs.Node.{card, greatest_card, IsNode};
 ghost use Rattle.ell_core.specs.state.Layout.{listed, table_size};
 ghost use Rattle.ell_core.specs.state.Words.{words_of};
 ghost use Rattle.ell_core.specs.state.Machine.{ledger_of};
@@ -86,7 +86,7 @@ impl<A: Allocator + Copy> Closed<A> {
 impl<A: Allocator + Copy> TreeWords for Closed<A> {
     ghost words = { λ c. words_of c.words };
 
-    ghost can_read = { λ c node. card node ≤ c.last_card };
+    ghost can_read = { λ c node. (card node ≤ c.last_card) × IsNode node };
 
     fn key(&self, node: u64) -> u64 {
         self.word(card_of(node), key_field(node))

@@ -2,7 +2,7 @@
 ghost use Rattle.std.specs.Prelude.{◌≡◌, ◌↔◌, ℕ, IsTrue, []};
 ghost use Rattle.std.specs.List.Sorted.{IsStrictlyIncreasing};
 ghost use Rattle.ell_core.specs.state.Layout.{table_size};
-ghost use Rattle.ell_cards.specs.Models.{MayPart, Owns, PassModel, one_more, whole_share};
+ghost use Rattle.ell_cards.specs.Models.{Counts, MayPart, Owns, PassModel, one_more, whole_share};
 ghost use Rattle.ell_cards.specs.Changes.{keys_of};
 ghost use Rattle.ell_cards.specs.Naming.{IsNamed};
 
@@ -87,7 +87,16 @@ impl<A: Allocator + Copy> Pass<A> {
         self.label = label;
     }
 
-    /// The atomic steps made through the pass. The count stays at the greatest `u64` once there.
+    /// Counts steps that were made and not counted: those of a search, which counts them once it has ended. The count
+    /// stays at the greatest `u64` once there.
+    #[inline(always)]
+    pub fn count(&mut self, steps: u64)
+        ensures { Counts self.old self.new steps }
+    {
+        self.steps = self.steps.saturating_add(steps);
+    }
+
+    /// The atomic steps that were made through the pass and counted. The count stays at the greatest `u64` once there.
     pub fn steps(&self) -> u64
         ensures { result ≡ self.now.steps }
     {

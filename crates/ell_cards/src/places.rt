@@ -43,3 +43,11 @@ pub(crate) fn value_at(leaf: u64) -> usize
 {
     value_field(leaf).address(card_of(leaf))
 }
+
+/// The address of the key of the root: a word that never changes, in a line that each search reads.
+#[inline(always)]
+pub(crate) fn root_key() -> usize
+    ensures { result ≡ key_at 0 }
+{
+    key_at(0)
+}

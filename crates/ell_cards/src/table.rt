@@ -6,13 +6,13 @@ ghost use prog.Atomic.{either};
 ghost use Rattle.atomic_table.specs.Table.{Allows};
 ghost use Rattle.ell_word.specs.Node.{greatest_card};
 ghost use Rattle.ell_core.specs.state.Layout.{address, table_size};
-ghost use Rattle.ell_cards.specs.Models.{Knows, TableModel, Steps};
+ghost use Rattle.ell_cards.specs.Models.{Knows, Sees, TableModel, Steps};
 ghost use Rattle.ell_cards.specs.Changes.{after_fill};
 ghost use Rattle.ell_cards.specs.Naming.{IsNamed};
 ghost use Rattle.ell_cards.specs.Guards.{MayFill};
 ghost use Rattle.ell_cards.specs.Calls.{word_of, atomic_of, Load, Exchange, after, May, Tells};
 ghost use Rattle.ell_cards.specs.Looking.{KeysAreFixed, ReadsItsOwn};
-ghost use Rattle.ell_cards.specs.Stepping.{MayLoad, MayStore, MayExchange, KeepsPass, StepsBy};
+ghost use Rattle.ell_cards.specs.Stepping.{MayLoad, MayStore, MayExchange, KeepsPass, SeesBy, StepsBy};
 
 use crate::call::Call;
 use crate::pass::{Pass, one_more};
@@ -76,7 +76,7 @@ impl<A: Allocator + Copy> CardTable<A> {
         let _ = &pass.seat;
     }
 
-    // Loads a word.
+    // Loads a word, a step that is not counted.
     #[inline(always)]
     fn load_as<J: Telling>(&self, pass: &mut Pass<A>, call: Call, word: usize) -> u64
         requires own { pass.old.table ≡ self.now.id }
@@ -84,12 +84,25 @@ impl<A: Allocator + Copy> CardTable<A> {
         requires rule { MayLoad self.now.plan pass.old.view word J.then }
         requires keeps { KeepsPass self.now.plan.last_card pass.old.view J.then }
         ensures told { J.then result pass.new.view }
-        ensures step { StepsBy pass.old pass.new }
+        ensures step { SeesBy pass.old pass.new }
     {
         let _ = call;
-        let found = self.table.shared.load::<By<J>>(&mut pass.seat, word);
-        pass.steps = one_more(pass.steps);
-        found
+        self.table.shared.load::<By<J>>(&mut pass.seat, word)
+    }
+
+    /// A step call that loads its word, and leaves the step to be counted by its caller.
+    #[inline(always)]
+    pub(crate) fn see(&self, pass: &mut Pass<A>, call: Call, word: usize) -> u64
+        requires own { pass.old.table ≡ self.now.id }
+        requires may { May self.now.plan.last_card call pass.old.view }
+        requires word { word ≡ word_of call }
+        requires atomic { atomic_of call ≡ Load }
+        ensures step { Sees pass.old pass.new (after call result pass.old.view) }
+        ensures tells { Tells self.now.plan.last_card call pass.old.view result }
+        ensures looked { ReadsItsOwn pass.new.view }
+        ensures fixed { KeysAreFixed pass.new.view }
+    {
+        self.load_as::<Brand>(pass, call, word)
     }
 
     /// A step call that loads its word.
@@ -101,10 +114,10 @@ impl<A: Allocator + Copy> CardTable<A> {
         requires atomic { atomic_of call ≡ Load }
         ensures step { Steps pass.old pass.new (after call result pass.old.view) }
         ensures tells { Tells self.now.plan.last_card call pass.old.view result }
-        ensures looked { ReadsItsOwn pass.new.view }
-        ensures fixed { KeysAreFixed pass.new.view }
     {
-        self.load_as::<Brand>(pass, call, word)
+        let found = self.see(pass, call, word);
+        pass.count(1);
+        found
     }
 
     // Stores a word.

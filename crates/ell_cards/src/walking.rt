@@ -1,10 +1,11 @@
-//! The step calls by which a pass begins, searches and ends its operation. Each is one atomic step.
+//! The step calls by which a pass begins, searches and ends its operation. Each is one atomic step. A search makes two or three at
+//! each node, so those calls leave it to their caller to count the step ([`Pass::count`]).
 ghost use Rattle.std.specs.Prelude.{◌≡◌, ◌≤◌, ◌<◌, ◌+◌, Some};
 ghost use Rattle.ell_core.specs.state.Machine.{ledger_of, worker_of};
 ghost use Rattle.ell_core.specs.acts.Searching.{IsLeaf};
 ghost use Rattle.ell_core.specs.statements.Effects.{AnswersAsMap};
 ghost use Rattle.ell_cards.specs.declared.view.Told.TheVariants.{Met};
-ghost use Rattle.ell_cards.specs.Models.{Steps, IsTold, InTable, EndWasUnknown, IsFree};
+ghost use Rattle.ell_cards.specs.Models.{Sees, Steps, IsTold, InTable, EndWasUnknown, IsFree};
 ghost use Rattle.ell_cards.specs.Changes.{after_begin, after_again, after_leave, after_answer, after_upd, after_down, after_next, after_key_of, after_value_of, after_look, after_look_down};
 ghost use Rattle.ell_cards.specs.Guards.{MayBegin, MayStop, MayAnswer, MayRead, MayGoDown, MayLookDown};
 ghost use Rattle.ell_cards.specs.Calls.{TellsLeaf, TellsValue};
@@ -13,7 +14,7 @@ ghost use Rattle.ell_cards.specs.Looking.{KeysAreFixed, ReadsItsOwn};
 use crate::call::Call;
 use crate::glance::Glance;
 use crate::pass::Pass;
-use crate::places::{child_at, key_at, update_at, value_at};
+use crate::places::{child_at, key_at, root_key, update_at, value_at};
 use crate::table::CardTable;
 use ell_ops::{Op, Reply};
 use ell_word::{Update, unpack};
@@ -27,7 +28,7 @@ impl<A: Allocator + Copy> CardTable<A> {
         requires may { MayBegin pass.old.view op }
         ensures step { Steps pass.old pass.new (after_begin (Some op) pass.old.view) }
     {
-        self.load(pass, Call::Begin(op), 0);
+        self.load(pass, Call::Begin(op), root_key());
     }
 
     /// Gives a try up and starts the search anew: what its search has read in the way of the operation was a hindrance. Condition: the
@@ -38,7 +39,7 @@ impl<A: Allocator + Copy> CardTable<A> {
         requires may { MayStop pass.old.view }
         ensures step { Steps pass.old pass.new (after_again pass.old.view) }
     {
-        self.load(pass, Call::Again, 0);
+        self.load(pass, Call::Again, root_key());
     }
 
     /// Gives a try up and lays the operation down without an answer. Hindrances and condition: as of `again`.
@@ -49,7 +50,7 @@ impl<A: Allocator + Copy> CardTable<A> {
         ensures step { Steps pass.old pass.new (after_leave pass.old.view) }
         ensures least { pass.old.view.next_at_least ≤ self.now.plan.last_card + 1 }
     {
-        self.load(pass, Call::Leave, 0);
+        self.load(pass, Call::Leave, root_key());
     }
 
     /// Answers the operation in hand. What is said is the map's answer on the pass's ledger, which becomes the map after it.
@@ -61,7 +62,7 @@ impl<A: Allocator + Copy> CardTable<A> {
         ensures least { pass.old.view.next_at_least ≤ self.now.plan.last_card + 1 }
         ensures reply { AnswersAsMap (worker_of pass.old.view.worker) (ledger_of pass.new.view.worker.ledger) said }
     {
-        self.load(pass, Call::Answer(said), 0);
+        self.load(pass, Call::Answer(said), root_key());
     }
 
     /// Reads the update word of the internal node where the pass stands.
@@ -69,12 +70,12 @@ impl<A: Allocator + Copy> CardTable<A> {
     pub fn upd(&self, pass: &mut Pass<A>, node: u64) -> Update
         requires own { pass.old.table ≡ self.now.id }
         requires may { MayRead pass.old.view node }
-        ensures step { Steps pass.old pass.new (after_upd node result pass.old.view) }
+        ensures step { Sees pass.old pass.new (after_upd node result pass.old.view) }
         ensures card { result.card ≤ self.now.plan.last_card }
         ensures unknown { EndWasUnknown pass.old.view result.state result.card }
     {
         self.names(pass);
-        unpack(self.load(pass, Call::Upd(node), update_at(node)))
+        unpack(self.see(pass, Call::Upd(node), update_at(node)))
     }
 
     /// Goes down from the internal node where the pass stands to the child on its key's side: a greater node of the table.
@@ -82,12 +83,12 @@ impl<A: Allocator + Copy> CardTable<A> {
     pub fn down(&self, pass: &mut Pass<A>, node: u64, right: bool) -> u64
         requires own { pass.old.table ≡ self.now.id }
         requires may { MayGoDown pass.old.view node right }
-        ensures step { Steps pass.old pass.new (after_down node result pass.old.view) }
+        ensures step { Sees pass.old pass.new (after_down node result pass.old.view) }
         ensures greater { node < result }
         ensures there { InTable self.now.plan.last_card result }
     {
         self.names(pass);
-        self.load(pass, Call::Down(node, right), child_at(node, right))
+        self.see(pass, Call::Down(node, right), child_at(node, right))
     }
 
     /// Reads the claim word: the number of the next card, one more than the number of the last card where all are claimed.
@@ -108,12 +109,12 @@ impl<A: Allocator + Copy> CardTable<A> {
     pub fn look(&self, pass: &mut Pass<A>) -> u64
         requires own { pass.old.table ≡ self.now.id }
         requires free { IsFree pass.old.view }
-        ensures step { Steps pass.old pass.new (after_look result pass.old.view) }
+        ensures step { Sees pass.old pass.new (after_look result pass.old.view) }
         ensures greater { 0 < result }
         ensures there { InTable self.now.plan.last_card result }
     {
         self.names(pass);
-        self.load(pass, Call::Look, child_at(0, false))
+        self.see(pass, Call::Look, child_at(0, false))
     }
 
     /// Goes down in a look from an internal node to which it has come, now or earlier, with the node's key, to the
@@ -122,13 +123,13 @@ impl<A: Allocator + Copy> CardTable<A> {
     pub fn look_down(&self, pass: &mut Pass<A>, from: Glance, key: u64, right: bool) -> u64
         requires own { pass.old.table ≡ self.now.id }
         requires may { MayLookDown pass.old.view from key }
-        ensures step { Steps pass.old pass.new (after_look_down from key right result pass.old.view) }
+        ensures step { Sees pass.old pass.new (after_look_down from key right result pass.old.view) }
         ensures greater { from.node < result }
         ensures there { InTable self.now.plan.last_card result }
     {
         self.names(pass);
         let word = child_at(from.node, right);
-        self.load(pass, Call::LookDown(from, key, right), word)
+        self.see(pass, Call::LookDown(from, key, right), word)
     }
 
     /// Reads the key of a node that the pass has met. Of the leaf where it stands it is the operation's exactly where
@@ -139,13 +140,13 @@ impl<A: Allocator + Copy> CardTable<A> {
     pub fn key_of(&self, pass: &mut Pass<A>, node: u64) -> u64
         requires own { pass.old.table ≡ self.now.id }
         requires met { IsTold pass.old.view (Met node) }
-        ensures step { Steps pass.old pass.new (after_key_of node result pass.old.view) }
+        ensures step { Sees pass.old pass.new (after_key_of node result pass.old.view) }
         ensures leaf { TellsLeaf pass.old.view node result }
         ensures looked { ReadsItsOwn pass.new.view }
         ensures fixed { KeysAreFixed pass.new.view }
     {
         self.names(pass);
-        self.load(pass, Call::KeyOf(node), key_at(node))
+        self.see(pass, Call::KeyOf(node), key_at(node))
     }
 
     /// Reads the value of a leaf that the pass has met. Of the leaf where it stands, whose key is known to be the operation's, it is
@@ -155,12 +156,12 @@ impl<A: Allocator + Copy> CardTable<A> {
         requires own { pass.old.table ≡ self.now.id }
         requires met { IsTold pass.old.view (Met leaf) }
         requires outer { IsLeaf leaf }
-        ensures step { Steps pass.old pass.new (after_value_of leaf result pass.old.view) }
+        ensures step { Sees pass.old pass.new (after_value_of leaf result pass.old.view) }
         ensures value { TellsValue pass.old.view leaf result }
         ensures looked { ReadsItsOwn pass.new.view }
         ensures fixed { KeysAreFixed pass.new.view }
     {
         self.names(pass);
-        self.load(pass, Call::ValueOf(leaf), value_at(leaf))
+        self.see(pass, Call::ValueOf(leaf), value_at(leaf))
     }
 }

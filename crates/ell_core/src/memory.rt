@@ -6,7 +6,7 @@ ghost use Rattle.ell_core.specs.state.Cards.{is_right, filled, claimed};
 ghost use Rattle.ell_core.specs.acts.Searching.{IsLeaf};
 ghost use Rattle.ell_core.specs.acts.Exchanges.{exchanged_update, exchanged_child, found_child};
 ghost use Rattle.ell_core.specs.state.Opening.{start_words};
-ghost use Rattle.ell_core.specs.inside.Fits.{IsNode, IsInner};
+ghost use Rattle.ell_core.specs.inside.Fits.{IsTableNode, IsInner};
 ghost use Rattle.ell_core.specs.inside.Inside.{words_in, IsSized, SameSize};
 
 use crate::field::{Field, child_field, key_field, table_size, value_field};
@@ -61,7 +61,7 @@ impl<A: Allocator + Copy> Memory<A> {
     /// The key of a node.
     pub fn key(&self, node: u64) -> u64
         requires sized { IsSized self.now }
-        requires node { IsNode self.now.last_card node }
+        requires node { IsTableNode self.now.last_card node }
         ensures { result ≡ (words_in self.now).key node }
     {
         self.read(card_of(node), key_field(node))
@@ -70,7 +70,7 @@ impl<A: Allocator + Copy> Memory<A> {
     /// The value of a leaf.
     pub fn value(&self, leaf: u64) -> u64
         requires sized { IsSized self.now }
-        requires node { IsNode self.now.last_card leaf }
+        requires node { IsTableNode self.now.last_card leaf }
         requires outer { IsLeaf leaf }
         ensures { result ≡ (words_in self.now).value leaf }
     {
@@ -98,7 +98,7 @@ impl<A: Allocator + Copy> Memory<A> {
     /// Whether a key is on the right side of a node.
     pub fn is_right(&self, node: u64, key: u64) -> bool
         requires sized { IsSized self.now }
-        requires node { IsNode self.now.last_card node }
+        requires node { IsTableNode self.now.last_card node }
         ensures { result ≡ is_right (words_in self.now) node key }
     {
         self.key(node) <= key
@@ -128,7 +128,7 @@ impl<A: Allocator + Copy> Memory<A> {
     pub fn exchange_child(&mut self, node: u64, expected: u64, new: u64) -> Result<(), u64>
         requires sized { IsSized self.old }
         requires node { IsInner self.old.last_card node }
-        requires new { IsNode self.old.last_card new }
+        requires new { IsTableNode self.old.last_card new }
         ensures won { OnOk result (found_child (words_in self.old) node new ≡ expected) }
         ensures lost { IfErr result (λ found. (found ≡ found_child (words_in self.old) node new) × (found ≢ expected)) }
         ensures words { words_in self.new ≡ exchanged_child (words_in self.old) node expected new }
@@ -182,7 +182,7 @@ impl<A: Allocator + Copy> Memory<A> {
 impl<A: Allocator + Copy> TreeWords for Memory<A> {
     ghost words = { words_in };
 
-    ghost can_read = { λ memory node. IsSized memory × IsNode memory.last_card node };
+    ghost can_read = { λ memory node. IsSized memory × IsTableNode memory.last_card node };
 
     fn key(&self, node: u64) -> u64 {
         Memory::key(self, node)

@@ -5,7 +5,7 @@ ghost use Rattle.ell_ops.specs.Meaning.{key_of};
 ghost use Rattle.ell_core.specs.declared.event.Act.TheVariants as act;
 ghost use Rattle.ell_core.specs.declared.view.Seen.{Seen};
 ghost use Rattle.ell_core.specs.acts.Searching.{begun, ended, MayStop, put_of, AtCleanLeaf, IsClean, IsLeaf, value_at, leaf_answer, card_answer, HasAnswer, ledger_after};
-ghost use Rattle.ell_core.specs.inside.Fits.{IsNode};
+ghost use Rattle.ell_core.specs.inside.Fits.{IsTableNode};
 ghost use Rattle.ell_core.specs.statements.Effects.{reply_of_change};
 ghost use Rattle.ell_core.specs.inside.Inside.{words_in, worker_in, scene_in, IsReady, IsSized, TakesTurn};
 
@@ -290,7 +290,7 @@ pub fn reply_of_change(op: Op) -> Reply
 // The value of a key at a leaf, if the leaf has the key.
 fn value_at<A: Allocator + Copy>(memory: &Memory<A>, leaf: u64, key: u64) -> Option<u64>
     requires sized { IsSized memory.now }
-    requires node { IsNode memory.now.last_card leaf }
+    requires node { IsTableNode memory.now.last_card leaf }
     requires outer { IsLeaf leaf }
     ensures { result ≡ value_at (words_in memory.now) leaf key }
 {

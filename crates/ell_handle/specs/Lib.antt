@@ -16,3 +16,5 @@ pub mod Tries
 pub mod Values
 -- where a range ends, and what a scan of it leaves of a handle
 pub mod Ranges
+-- which keys a handle's table has
+pub mod Tables

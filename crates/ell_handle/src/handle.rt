@@ -6,9 +6,12 @@ ghost use Rattle.std.specs.List.Sorted.{IsStrictlyIncreasing};
 ghost use Rattle.ell_ops.specs.Meaning.{greatest_key};
 ghost use Rattle.ell_cards.specs.Changes.{keys_of, ownable_if};
 ghost use Rattle.ell_tree.specs.Ledgers.{IsIdle, Owns};
+ghost use Rattle.ell_handle.specs.Tables.{HasKey};
 
+use crate::key_table::KeyTable;
 use ell_tree::{Pass, Tree};
 use std::alloc::Global;
+use std::marker::Model;
 use std::sync::Arc;
 
 /// A tree that handles share, with the keys that have owners, strictly ascending.
@@ -25,10 +28,44 @@ pub struct SharedTree {
     ghost alone: { is_shared ≡ true → tree.plan.keys ≡ [] },
 }
 
-/// A place for a handle, on which a handle can be put back without asking for memory.
+/// A place for a handle, on which a handle can be put back without asking for memory. A handle writes to its words at each step, so words that
+/// nobody uses stand on both sides of it: no cache line, nor the one that a processor fetches with it, has words of two handles.
 #[derive(Drop)]
 pub struct Place {
+    before: Unused,
     pub handle: Option<Handle>,
+    after: Unused,
+}
+
+// 128 bytes that nobody uses: no clause sees what is in them.
+#[derive(Drop)]
+struct Unused {
+    words: [u64; 16],
+}
+
+impl Model for Unused {
+    ghost Value = { Unit {0} };
+
+    ghost view = { λ _. tt };
+}
+
+impl Unused {
+    fn new() -> Unused {
+        Unused { words: [0; 16] }
+    }
+}
+
+impl Place {
+    /// A place with this handle, or an empty one.
+    pub fn of(handle: Option<Handle>) -> Place
+        ensures { result.handle ≡ handle }
+    {
+        Place {
+            before: Unused::new(),
+            handle,
+            after: Unused::new(),
+        }
+    }
 }
 
 /// A shared tree and a pass of it with nothing in hand. It may go from one thread to another.
@@ -36,11 +73,14 @@ pub struct Place {
 pub struct Handle {
     pub shared: Arc<SharedTree, Global>,
     pub pass: Pass<Global>,
+    /// Keys that the handle owns, by which most of them are known without a search of the list that the pass has.
+    pub table: KeyTable,
     ghost own: { pass.table ≡ (arc_value shared).tree.id },
     ghost idle: { IsIdle pass },
     ghost real: { (k : ℕ) → Owns pass k → k ≤ greatest_key },
     ghost knows: { pass.view.worker.ownable ≡
         ownable_if (arc_value shared).tree.plan.shared (arc_value shared).tree.plan.keys },
+    ghost mine: { (k : ℕ) → HasKey table k → Owns pass k },
 }
 
 impl Handle {
@@ -48,14 +88,14 @@ impl Handle {
     pub fn owns(&self, key: u64) -> bool
         ensures { IsTrue result ↔ Owns self.now.pass key }
     {
-        self.pass.owns(key)
+        self.table.has(key) || self.pass.owns(key)
     }
 
     /// Whether the handle owns each of these keys.
     pub fn owns_all(&self, keys: &[u64]) -> bool
         ensures { IsTrue result ↔ All (λ k. Owns self.now.pass k) keys.now }
     {
-        keys.iter().all(|key| self.pass.owns(*key))
+        keys.iter().all(|key| self.owns(*key))
     }
 
     /// The keys that the handle owns, strictly ascending.

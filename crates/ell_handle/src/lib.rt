@@ -5,6 +5,7 @@
 mod calls;
 mod grouping;
 mod handle;
+mod key_table;
 mod keys;
 mod merging;
 mod opening;
@@ -17,4 +18,5 @@ mod using;
 pub use ell_tree::{About, Pair, Scanned};
 pub use grouping::renew_all;
 pub use handle::{Handle, Place, SharedTree, sent};
+pub use key_table::KeyTable;
 pub use refusal::Refusal;

@@ -13,6 +13,7 @@ ghost use Rattle.ell_handle.specs.Parts.{AnotherRefuses, AreParts, IsLeast, Join
 ghost use Rattle.ell_handle.specs.declared.refusal.Refusal.TheVariants.{NoMemory};
 
 use crate::handle::{Handle, SharedTree};
+use crate::key_table::KeyTable;
 use crate::keys::{all_keys, are_keys, each_once, is_start};
 use crate::refusal::Refusal;
 use ell_cards::is_card_count;
@@ -48,7 +49,12 @@ impl Handle {
             number,
         };
         let shared = Arc::new(alloc, shared)?;
-        Ok(Handle { shared, pass })
+        let table = KeyTable::of_pass(alloc, &pass);
+        Ok(Handle {
+            shared,
+            pass,
+            table,
+        })
     }
 
     /// A tree of so many cards in which every key up to `KEY_MAX` is shared, and which has the start keys with their values, and its first
@@ -72,7 +78,12 @@ impl Handle {
             number,
         };
         let shared = Arc::new(alloc, shared)?;
-        Ok(Handle { shared, pass })
+        let table = KeyTable::of_pass(alloc, &pass);
+        Ok(Handle {
+            shared,
+            pass,
+            table,
+        })
     }
 
     /// This handle, with all its keys, and another of its tree, which has none: it changes shared keys, if the tree has them, and looks at any
@@ -120,17 +131,35 @@ impl Handle {
         let Ok(other) = Arc::try_clone(&self.shared) else {
             return Err((self, Refusal::NoMemory));
         };
-        let Handle { shared, pass } = self;
+        let Handle {
+            shared,
+            pass,
+            table,
+        } = self;
         match shared.tree.split(pass, &keys) {
             Ok((left, right)) => {
-                let left = Handle { shared, pass: left };
+                let table = KeyTable::of_pass(alloc, &left);
+                let others = KeyTable::of_pass(alloc, &right);
+                let left = Handle {
+                    shared,
+                    pass: left,
+                    table,
+                };
                 let right = Handle {
                     shared: other,
                     pass: right,
+                    table: others,
                 };
                 Ok((left, right))
             }
-            Err((pass, _)) => Err((Handle { shared, pass }, Refusal::NoMemory)),
+            Err((pass, _)) => {
+                let whole = Handle {
+                    shared,
+                    pass,
+                    table,
+                };
+                Err((whole, Refusal::NoMemory))
+            }
         }
     }
 
@@ -149,19 +178,37 @@ impl Handle {
         {
             return Err((self, other, Refusal::OtherTree));
         }
-        let Handle { shared, pass } = self;
+        let Handle {
+            shared,
+            pass,
+            table,
+        } = self;
         let Handle {
             shared: also,
             pass: added,
+            table: others,
         } = other;
         match shared.tree.join(pass, added) {
-            Ok(pass) => Ok(Handle { shared, pass }),
+            Ok(pass) => {
+                let table = KeyTable::of_pass(*table.entries.allocator(), &pass);
+                Ok(Handle {
+                    shared,
+                    pass,
+                    table,
+                })
+            }
             Err((pass, added, _)) => {
+                let one = Handle {
+                    shared,
+                    pass,
+                    table,
+                };
                 let other = Handle {
                     shared: also,
                     pass: added,
+                    table: others,
                 };
-                Err((Handle { shared, pass }, other, Refusal::NoMemory))
+                Err((one, other, Refusal::NoMemory))
             }
         }
     }

@@ -27,6 +27,10 @@ impl Handle {
     pub(crate) fn may_use(&self, key: u64) -> bool
         ensures { IsTrue result ↔ MayUse self.now key }
     {
-        self.pass.owns(key) || self.shared.is_shared && key <= KEY_MAX
+        if self.shared.is_shared {
+            key <= KEY_MAX
+        } else {
+            self.owns(key)
+        }
     }
 }

@@ -16,3 +16,5 @@ pub mod Dealing
 pub mod Turning
 -- Places sorted by their keys, and turns by their rounds.
 pub mod Sorting
+-- Elements in the order of a number that each has, those of one number as they stood.
+pub mod Buckets

@@ -6,8 +6,6 @@ pub mod ByParts
 pub mod Late
 -- What a run is told beside its list, and when it may be.
 pub mod Limits
--- Memory for a tree.
-pub mod Memory
 -- The pieces of workers: the replies of each to a front of its part.
 pub mod Pieces
 -- Which fault of a run each fault of a call within it is.

@@ -7,9 +7,7 @@ ghost use Rattle.ell_run.specs.RunFault.{of_input, of_text, of_write};
 ghost use Rattle.ell_run.specs.Settings.{AreSettings};
 ghost use Rattle.ell_run.specs.declared.bytes.RunFault.TheVariants.{NoMemory as no_memory};
 
-use crate::memory::{TreeMemory, fill_beside};
 use crate::ordered::run_in_order;
-use crate::reservation::{most_words, words_to_begin_with};
 use crate::settings::{Report, Settings};
 use ell_ops::NoMemory;
 use ell_text::{INPUT_MAX, InputFault, TextFault, WriteFault, read_all, read_bulk, write_answer};
@@ -108,11 +106,9 @@ pub fn run_bytes<
     ensures given { GivesFront (I.remaining reader.old) (I.remaining reader.new) }
 {
     let bytes = read_all(alloc, reader)?;
-    let ahead = words_to_begin_with(&bytes, settings);
-    let memory = TreeMemory::to_be_filled(alloc, ahead, most_words(bytes.len(), settings));
-    let (memory, bulk) = fill_beside(rt, memory, ahead, || read_bulk(alloc, &bytes));
-    let bulk = bulk?;
-    let outcome = run_in_order(rt, alloc, memory, &bulk.start, &bulk.ops, settings, gate)?;
+    let bulk = read_bulk(alloc, &bytes)?;
+    drop(bytes);
+    let outcome = run_in_order(rt, alloc, &bulk.start, &bulk.ops, settings, gate)?;
     write_answer(writer, bulk.version, &outcome.replies, &outcome.pairs)?;
     Ok(Report { late: outcome.late })
 }

@@ -6,7 +6,6 @@ mod bytes;
 mod faults;
 mod late;
 mod laws;
-mod memory;
 mod ordered;
 mod pieces;
 mod reservation;

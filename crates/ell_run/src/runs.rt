@@ -17,7 +17,6 @@ ghost use Rattle.ell_run.specs.Work.{IsUnsharedFrom};
 
 use crate::faults::{WorkFault, only_memory};
 use crate::late::{do_late, late_ops};
-use crate::memory::TreeMemory;
 use crate::pieces::Piece;
 use crate::reservation::cards_to_reserve;
 use crate::workers::{busy_workers, keys_for, work_apart};
@@ -66,33 +65,7 @@ pub fn run<R: Threads + Sync, A: Allocator + Copy + Send + Sync, G: StepGate + S
     requires runnable { IsRunnable start.now ops.now parts.now limits }
     ensures { IfOk result (IsOutcome (contents_of start.now) ops.now parts.now) }
 {
-    run_in(
-        rt,
-        alloc,
-        TreeMemory::none(alloc),
-        start,
-        ops,
-        parts,
-        limits,
-        gate,
-    )
-}
-
-// The same, of memory that was made ready for the tree.
-pub(crate) fn run_in<R: Threads + Sync, A: Allocator + Copy + Send + Sync, G: StepGate + Sync>(
-    rt: &R,
-    alloc: A,
-    memory: TreeMemory<A>,
-    start: &[(u64, u64)],
-    ops: &[Op],
-    parts: &Parts<'_, A>,
-    limits: Limits,
-    gate: &G,
-) -> Result<Outcome<A>, NoMemory>
-    requires runnable { IsRunnable start.now ops.now parts.now limits }
-    ensures { IfOk result (IsOutcome (contents_of start.now) ops.now parts.now) }
-{
-    let (pieces, pairs) = run_workers(rt, alloc, memory, start, ops, parts, limits, gate)?;
+    let (pieces, pairs) = run_workers(rt, alloc, start, ops, parts, limits, gate)?;
     finish(alloc, ops, parts, pieces, pairs)
 }
 
@@ -100,7 +73,6 @@ pub(crate) fn run_in<R: Threads + Sync, A: Allocator + Copy + Send + Sync, G: St
 fn run_workers<R: Threads + Sync, A: Allocator + Copy + Send + Sync, G: StepGate + Sync>(
     rt: &R,
     alloc: A,
-    memory: TreeMemory<A>,
     start: &[(u64, u64)],
     ops: &[Op],
     parts: &Parts<'_, A>,
@@ -115,7 +87,7 @@ fn run_workers<R: Threads + Sync, A: Allocator + Copy + Send + Sync, G: StepGate
     let workers = busy_workers(alloc, parts)?;
     let used = keys_for(alloc, parts, &workers)?;
     let cards = cards_to_reserve(ops, workers.len(), limits);
-    let (tree, pass) = reserve(alloc, memory, start, &used, cards)?;
+    let (tree, pass) = reserve(alloc, start, &used, cards)?;
     let worked = work_apart(rt, alloc, &tree, pass, &used, parts, limits.tries, gate);
     let (pass, pieces) = match worked {
         Ok(done) => done,
@@ -130,7 +102,6 @@ fn run_workers<R: Threads + Sync, A: Allocator + Copy + Send + Sync, G: StepGate
 // A tree that begins with the map of `start`, and a pass with its keys and these used ones.
 fn reserve<A: Allocator + Copy>(
     alloc: A,
-    memory: TreeMemory<A>,
     start: &[(u64, u64)],
     used: &[u64],
     cards: u64,
@@ -143,11 +114,9 @@ fn reserve<A: Allocator + Copy>(
     ensures pass { IfOk result (λ made. IsFirst made.0 made.1) }
     ensures owned { IfOk result (λ made. All (λ key. Owns made.1 key) used.now) }
 {
-    let TreeMemory { zeros, spare } = memory;
     let present = Vec::from_slice(alloc, start)?;
     let keys = all_keys(alloc, start, used)?;
-    drop(spare);
-    match Tree::reserve_with_zeros(alloc, zeros, present, keys, cards) {
+    match Tree::reserve_with_zeros(alloc, Vec::new(alloc), present, keys, cards) {
         Ok(made) => Ok(made),
         Err(fault) => Err(only_memory(fault, CardFault::NoMemory)),
     }

@@ -1,11 +1,12 @@
 //! How a bulk text is run, and what a run reports.
-ghost use Rattle.std.specs.Prelude.{◌≡◌, ◌≤◌, ◌+◌, ◌*◌, IfOk, length, unwrap_or};
+ghost use Rattle.std.specs.Prelude.{◌≡◌, ◌≤◌, IfOk, length, unwrap_or};
 ghost use Rattle.ell_text.specs.Limits.{most_operations};
 ghost use Rattle.ell_run.specs.Limits.{AreLimits};
-ghost use Rattle.ell_word.specs.Node.{most_cards};
-ghost use Rattle.ell_run.specs.Settings.{AreSettings, IsAllowed, IsPartedAs};
+ghost use Rattle.ell_run.specs.Reservation.{cards_by_default};
+ghost use Rattle.ell_run.specs.Settings.{AreSettings, IsPartedAs};
 
 use crate::faults::only_memory;
+use crate::reservation::cards_by_default;
 use crate::runs::Limits;
 use ell_ops::{NoMemory, Op};
 use ell_parts::{PartFault, Parts};
@@ -29,7 +30,7 @@ pub struct Settings {
     /// How many workers there are, 1 to `WORKERS_MAX`.
     pub workers: u32,
     pub parting: Parting,
-    /// The cards of the tree, 1 to `CARDS_MAX`; if none are given, 4 per operation and 64.
+    /// The cards of the tree, 1 to `CARDS_MAX`; if none are given, 9 for 8 inserts, deletes and swaps, rounded down, and 64.
     pub cards: Option<u64>,
     /// The tries of an insert or a delete, 1 to `TRIES_MAX`.
     pub tries: u32,
@@ -66,21 +67,11 @@ pub(crate) fn limits_for(ops: &[Op], settings: Settings) -> Limits
     requires settings { AreSettings settings }
     requires few { length ops.now ≤ most_operations }
     ensures limits { AreLimits result }
-    ensures cards { result.cards ≡ unwrap_or settings.cards (4 * length ops.now + 64) }
+    ensures cards { result.cards ≡ unwrap_or settings.cards (cards_by_default ops.now) }
     ensures tries { result.tries ≡ settings.tries }
 {
     Limits {
-        cards: cards_for(ops.len(), settings),
+        cards: settings.cards.unwrap_or(cards_by_default(ops)),
         tries: settings.tries,
     }
-}
-
-// The cards for so many operations.
-pub(crate) fn cards_for(count: usize, settings: Settings) -> u64
-    requires settings { AreSettings settings }
-    requires few { count ≤ most_operations }
-    ensures value { result ≡ unwrap_or settings.cards (4 * count + 64) }
-    ensures allowed { IsAllowed most_cards result }
-{
-    settings.cards.unwrap_or(4 * count as u64 + 64)
 }

@@ -5,6 +5,7 @@ ghost use Rattle.ell_cards.specs.Models.{IsTold};
 ghost use Rattle.ell_cards.specs.Guards.{IsSibling, MayAsk, MaySee, NamesNode};
 ghost use Rattle.ell_test_steps.specs.Fitting.{IsReady, StepsAside};
 
+use crate::counted;
 use crate::memory::Remembered;
 use ell_cards::{CardTable, Pass};
 use ell_core::Field;
@@ -12,7 +13,6 @@ use ell_word::is_internal;
 use std::alloc::Allocator;
 
 /// Reads the key of a node that the pass has met.
-#[tactic(auto, using(ell_cards::proofs::views::Steps::key_told))]
 pub(crate) fn look_key<A: Allocator + Copy>(
     table: &CardTable<A>,
     pass: &mut Pass<A>,
@@ -23,7 +23,7 @@ pub(crate) fn look_key<A: Allocator + Copy>(
     ensures aside { StepsAside pass.old pass.new }
     ensures told { IsTold pass.new.view (Key node result) }
 {
-    table.key_of(pass, node)
+    counted::key_of(table, pass, node)
 }
 
 /// Reads a word of a card that the pass knows flagged or marked.
@@ -96,5 +96,5 @@ pub fn leaf_value<A: Allocator + Copy>(
     if is_internal(leaf) {
         return None;
     }
-    Some(table.value_of(pass, leaf))
+    Some(counted::value_of(table, pass, leaf))
 }

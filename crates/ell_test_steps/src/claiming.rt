@@ -7,6 +7,7 @@ ghost use Rattle.ell_test_steps.specs.Claims.{ClaimsAt};
 ghost use Rattle.ell_test_steps.specs.Fitting.{IsReady, ended_search};
 ghost use Rattle.ell_test_steps.specs.Remembering.{KnowsAny, Learns, flag_tells};
 
+use crate::counted;
 use crate::filling::{Place, fill_delete, fill_insert, take_card};
 use crate::memory::{Passed, Remembered, fact_of, remember};
 use ell_cards::{CardTable, Pass};
@@ -33,8 +34,8 @@ pub(crate) fn claim<A: Allocator + Copy>(
     if parent.update.state != State::Clean || parent.update.card > CARD_MAX {
         return None;
     }
-    let key = table.key_of(pass, leaf);
-    let value = table.value_of(pass, leaf);
+    let key = counted::key_of(table, pass, leaf);
+    let value = counted::value_of(table, pass, leaf);
     let place = Place {
         leaf,
         key,

@@ -2,6 +2,7 @@
 ghost use Rattle.std.specs.Prelude.{◌≡◌};
 ghost use Rattle.ell_test_steps.specs.Fitting.{IsReady};
 
+use crate::counted;
 use crate::memory::Remembered;
 use ell_cards::{CardTable, Pass};
 use ell_ops::{Op, Reply};
@@ -37,9 +38,9 @@ pub fn end_find_below<A: Allocator + Copy>(
     if !is_internal(node) {
         return None;
     }
-    let key = table.key_of(pass, node);
-    let leaf = table.down(pass, node, key <= wanted);
-    let leaf_key = table.key_of(pass, leaf);
+    let key = counted::key_of(table, pass, node);
+    let leaf = counted::down(table, pass, node, key <= wanted);
+    let leaf_key = counted::key_of(table, pass, leaf);
     if is_internal(leaf) || leaf_key == wanted {
         return None;
     }

@@ -3,6 +3,7 @@
 
 mod asking;
 mod claiming;
+mod counted;
 mod exchanging;
 mod filling;
 mod finding;

@@ -6,6 +6,7 @@ ghost use Rattle.ell_cards.specs.Guards.{MayAnswer};
 ghost use Rattle.ell_test_steps.specs.Fitting.{Fits, IsReady, MayStopBy, idle_memory, root_memory};
 
 use crate::claiming::{claim, dflag, iflag};
+use crate::counted;
 use crate::exchanging::{backtrack, dchild, dunflag, ichild, iunflag, mark};
 use crate::memory::{Passed, Remembered, fact_of, nothing, remember, remembers};
 use ell_cards::{CardTable, Pass};
@@ -94,7 +95,7 @@ fn upd<A: Allocator + Copy>(
     if !is_internal(node) || memory.read.is_some() {
         return None;
     }
-    let update = table.upd(pass, node);
+    let update = counted::upd(table, pass, node);
     memory.read = Some(update);
     remember(memory, fact_of(update));
     Some(Stepped::Moved)
@@ -114,8 +115,8 @@ fn down<A: Allocator + Copy>(
     if !is_internal(node) {
         return None;
     }
-    let key = table.key_of(pass, node);
-    let child = table.down(pass, node, key <= op.key());
+    let key = counted::key_of(table, pass, node);
+    let child = counted::down(table, pass, node, key <= op.key());
     memory.node = Some(child);
     memory.read = None;
     memory.grandparent = memory.parent;
@@ -201,8 +202,8 @@ fn leaf_said<A: Allocator + Copy>(
     if is_internal(leaf) {
         return None;
     }
-    let key = table.key_of(pass, leaf);
-    let value = table.value_of(pass, leaf);
+    let key = counted::key_of(table, pass, leaf);
+    let value = counted::value_of(table, pass, leaf);
     leaf_answer(op, (key == op.key()).then_some(value))
 }
 

@@ -26,7 +26,7 @@ use Rattle.ell_tree.specs.Ledgers.{TreeModel, ledger, present_in}
 use Rattle.ell_tree.specs.Closing.{ClosesTo}
 use Rattle.ell_tree.proofs.Splitting.{there_same}
 use Rattle.std.proofs.lemmas.Bool.{cases_eq, false≢true}
-use Rattle.ell_word.specs.Node.{card}
+use Rattle.ell_word.specs.Node.{card, IsNode}
 use Rattle.ell_core.specs.acts.Searching.{IsLeaf}
 use Rattle.ell_cards.specs.Starts.{IsSharedIn}
 
@@ -75,7 +75,7 @@ key_of_pair w k v h = record { leaf = h.leaf; reached = h.reached; outer = h.out
 -- the keys of the leaves of the cards up to one
 leaf_keys : (ℕ → ℕ) → ℕ → List ℕ
 leaf_keys key zero = key 1 ∷ key 2 ∷ []
-leaf_keys key (suc n) = key (3 * suc n + 1) ∷ key (3 * suc n + 2) ∷ leaf_keys key n
+leaf_keys key (suc n) = key (4 * suc n + 1) ∷ key (4 * suc n + 2) ∷ leaf_keys key n
 
 leaf_keys_length : (key : ℕ → ℕ) (n : ℕ) → length (leaf_keys key n) ≡ 2 * n + 2
 unfolding leaf_keys
@@ -83,29 +83,29 @@ leaf_keys_length key zero = refl
 leaf_keys_length key (suc n) = let h = leaf_keys_length key n in omega arith
 
 -- each leaf of such a card has its key among them
-has_leaf : (key : ℕ → ℕ) (n c : ℕ) → c ≤ n → Contains (leaf_keys key n) (key (3 * c + 1)) × Contains (leaf_keys key n) (key (3 * c + 2))
+has_leaf : (key : ℕ → ℕ) (n c : ℕ) → c ≤ n → Contains (leaf_keys key n) (key (4 * c + 1)) × Contains (leaf_keys key n) (key (4 * c + 2))
 unfolding leaf_keys
 has_leaf key zero c low = let same : c ≡ 0 = omega arith in
-    subst (λ x. Contains (leaf_keys key zero) (key (3 * x + 1)) × Contains (leaf_keys key zero) (key (3 * x + 2))) (sym same)
+    subst (λ x. Contains (leaf_keys key zero) (key (4 * x + 1)) × Contains (leaf_keys key zero) (key (4 * x + 2))) (sym same)
     (Contains-first (key 1) (key 2 ∷ []), Contains-later (key 1) (key 2 ∷ []) (key 2) (Contains-first (key 2) []))
 has_leaf key (suc n) c low =
-    let first = key (3 * suc n + 1) in
-    let second = key (3 * suc n + 2) in
+    let first = key (4 * suc n + 1) in
+    let second = key (4 * suc n + 2) in
     let less = leaf_keys key n in
     elim (cases_eq c (suc n)) [
-      | inl same ↦ subst (λ x. Contains (leaf_keys key (suc n)) (key (3 * x + 1)) × Contains (leaf_keys key (suc n)) (key (3 * x + 2))) (sym same)
+      | inl same ↦ subst (λ x. Contains (leaf_keys key (suc n)) (key (4 * x + 1)) × Contains (leaf_keys key (suc n)) (key (4 * x + 2))) (sym same)
           (Contains-first first (second ∷ less), Contains-later first (second ∷ less) second (Contains-first second less))
       | inr apart ↦ let h = has_leaf key n c (omega arith) in (
-        Contains-later first (second ∷ less) (key (3 * c + 1)) (Contains-later second less (key (3 * c + 1)) h.0),
-        Contains-later first (second ∷ less) (key (3 * c + 2)) (Contains-later second less (key (3 * c + 2)) h.1),
+        Contains-later first (second ∷ less) (key (4 * c + 1)) (Contains-later second less (key (4 * c + 1)) h.0),
+        Contains-later first (second ∷ less) (key (4 * c + 2)) (Contains-later second less (key (4 * c + 2)) h.1),
       )
     ]
 
 -- so has each leaf of a card up to that one
-at_leaf : (key : ℕ → ℕ) (n x : ℕ) → card x ≤ n → IsLeaf x → Contains (leaf_keys key n) (key x)
-at_leaf key n x low outer = elim (cases_eq (x % 3) 1) [
-  | inl one ↦ subst (λ y. Contains (leaf_keys key n) (key y)) (omega arith) (has_leaf key n (x / 3) low).0
-  | inr other ↦ subst (λ y. Contains (leaf_keys key n) (key y)) (omega (arith, outer)) (has_leaf key n (x / 3) low).1
+at_leaf : (key : ℕ → ℕ) (n x : ℕ) → card x ≤ n → IsNode x → IsLeaf x → Contains (leaf_keys key n) (key x)
+at_leaf key n x low node outer = elim (cases_eq (x % 4) 1) [
+  | inl one ↦ subst (λ y. Contains (leaf_keys key n) (key y)) (omega arith) (has_leaf key n (x / 4) low).0
+  | inr other ↦ subst (λ y. Contains (leaf_keys key n) (key y)) (omega (arith, node, outer)) (has_leaf key n (x / 4) low).1
 ]
 
 -- room for the pairs, as it was asked for
@@ -133,7 +133,7 @@ module _ (t : TreeModel) (p : PassModel) (closed : ClosedModel) (ends : TableEnd
           let size = leaf_keys_length w.key closed.last_card in
           let few = no_longer keys (leaf_keys w.key closed.last_card) lists.ascending
           (λ k has. let there = (lists.each k).0 has in
-          subst (Contains (leaf_keys w.key closed.last_card)) there.has (at_leaf w.key closed.last_card there.leaf (ends.shows.nodes there.leaf there.reached) there.outer)) in
+          subst (Contains (leaf_keys w.key closed.last_card)) there.has (at_leaf w.key closed.last_card there.leaf (ends.shows.nodes there.leaf there.reached) (ends.shows.numbers there.leaf there.reached) there.outer)) in
           omega arith
       by false mode room =
           let few = no_longer keys (keys_of p.view.worker.ledger) lists.ascending

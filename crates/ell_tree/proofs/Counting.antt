@@ -1,8 +1,8 @@
 use Rattle.std.proofs.Math.Nat.{mul-le-mul_right}
-use Rattle.std.proofs.Common.{◌≡◌, ℕ, ◌+◌, ◌*◌, ◌≤◌, ◌<◌, zero, suc, refl, ap, arith}
+use Rattle.std.proofs.Common.{◌≡◌, ℕ, ◌+◌, ◌*◌, ◌≤◌, ◌<◌, zero, suc, refl, sym, ap, ap₂, ◌∙◌, ◌-◌, arith}
 use Rattle.ell_cards.specs.declared.view.View.{View}
-use Rattle.ell_cards.specs.Models.{PassModel, one_more}
-use Rattle.ell_tree.specs.Counts.{Took}
+use Rattle.ell_cards.specs.Models.{PassModel, Counts, Sees, one_more, some_more}
+use Rattle.ell_tree.specs.Counts.{CountsAll, HasUncounted, Took}
 
 -- no steps
 pub took_none : (a : PassModel) (n : ℕ) → Took a a n
@@ -11,6 +11,34 @@ took_none a n = record { steps = omega arith; made = omega arith }
 -- one step, to this view
 pub took_one : (a : PassModel) (v : View) → v.made ≡ a.view.made + 1 → Took a (record { table = a.table; view = v; steps = one_more a.steps; label = a.label }) 1
 took_one a v made = record { steps = omega arith; made = omega (arith, made) }
+
+-- one step to this view that is not counted yet
+pub took_unseen : (a : PassModel) (v : View) → v.made ≡ a.view.made + 1 → Took a (record { table = a.table; view = v; steps = a.steps; label = a.label }) 1
+took_unseen a v made = record { steps = omega arith; made = omega (arith, made) }
+
+-- steps that are not counted yet, one after the other
+pub uncounted_one : (a b : PassModel) (v : View) → Sees a b v → v.made ≡ a.view.made + 1 → HasUncounted a b 1
+uncounted_one a b v s made = record { steps = ap (λ (m : PassModel). m.steps) s; made = ap (λ (m : PassModel). m.view.made) s ∙ made }
+
+pub uncounted_none : (a : PassModel) → HasUncounted a a 0
+uncounted_none a = record { steps = refl; made = omega arith }
+
+pub uncounted_trans : (a b c : PassModel) (m n : ℕ) → HasUncounted a b m → HasUncounted b c n → HasUncounted a c (m + n)
+uncounted_trans a b c m n h h' = record { steps = h'.steps ∙ h.steps; made = omega (arith, h.made, h'.made) }
+
+-- once they are counted, no more are counted than were made, and no fewer
+pub took_counted : (a b c : PassModel) (n k : ℕ) → Took a b n → HasUncounted a b k → Counts b c k → Took a c n
+took_counted a b c n k h u s =
+    let steps = ap (λ (m : PassModel). m.steps) s in
+    let made = ap (λ (m : PassModel). m.view.made) s in
+    record { steps = omega (arith, h.made, u.steps, u.made, steps); made = omega (arith, h.made, made) }
+
+pub counted_all : (a b c : PassModel) (k : ℕ) → HasUncounted a b k → Counts b c k → CountsAll a c
+counted_all a b c k u s =
+    let steps = ap (λ (m : PassModel). m.steps) s in
+    let made = ap (λ (m : PassModel). m.view.made) s in
+    let many : c.view.made - a.view.made ≡ k = omega (arith, u.made, made) in
+    steps ∙ ap₂ some_more (sym many) u.steps
 
 pub took_within : (a b : PassModel) (m n : ℕ) → Took a b m → m ≤ n → Took a b n
 took_within a b m n h le = record { steps = omega (arith, h.steps, le); made = omega (arith, h.made, le) }

@@ -14,14 +14,16 @@ use Rattle.ell_cards.specs.declared.view.View.{View}
 use Rattle.ell_cards.specs.Changes.{after_look, after_look_down, after_key_of, after_value_of, gone_down}
 use Rattle.ell_cards.specs.Guards.{MayLookDown, TellsOf}
 use Rattle.ell_cards.specs.Looking.{HasFound, HasFoundBetween, ReadsItsOwn}
-use Rattle.ell_cards.specs.Models.{PassModel, Steps, HasGlance, HasCome, last, before, latest, IsTold, InTable}
-use Rattle.ell_cards.proofs.views.Steps.{view_after}
+use Rattle.ell_cards.specs.Models.{PassModel, Counts, Sees, HasGlance, HasCome, last, before, latest, IsTold, InTable}
+use Rattle.ell_cards.proofs.views.Steps.{view_seen}
+use Rattle.ell_tree.specs.Counts.{HasUncounted}
+use Rattle.ell_tree.proofs.Counting.{uncounted_one}
 use Rattle.ell_tree.specs.declared.cursor.About.{About}
 use Rattle.ell_tree.specs.declared.cursor.Cursor.{Cursor}
 use Rattle.ell_tree.specs.Cursors.{AreKept, BeginsALook, FindsAbout, IsAmong, IsKept, kept_at, IsLower, IsNodeKey, IsUpper, LooksOn}
 use Rattle.ell_tree.specs.Looks.{stretch_steps}
 use Rattle.ell_tree.specs.Scans.{TellsItsOwn, value_there}
-use Rattle.ell_tree.proofs.Glances.{come_part, reads_mine, only_trans, only_none_yet, look_only, down_only, key_only, value_only}
+use Rattle.ell_tree.proofs.Glances.{come_part, reads_mine, only_trans, only_none_yet, look_only, down_only, key_only, value_only, only_counted}
 
 -- a look that goes on, and on
 pub on_trans : (a b c : PassModel) (m n k : ℕ) → LooksOn a b m → LooksOn b c n → m + n ≤ k → LooksOn a c k
@@ -37,31 +39,41 @@ on_none a = record { only = only_none_yet a; glances = λ g has. has; looks = re
 pub on_more : (a b : PassModel) (m n : ℕ) → m ≤ n → LooksOn a b m → LooksOn a b n
 on_more a b m n le h = on_trans a b b m 0 n h (on_none b) (omega arith)
 
-pub key_on : (old new : PassModel) (x k : ℕ) → Steps old new (after_key_of x k old.view) → LooksOn old new 1
+pub key_on : (old new : PassModel) (x k : ℕ) → Sees old new (after_key_of x k old.view) → LooksOn old new 1
 key_on old new x k s =
-    let view = view_after old new (after_key_of x k old.view) s in
+    let view = view_seen old new (after_key_of x k old.view) s in
     record {
       only = key_only old new x k s;
       glances = λ g has. subst (λ (v : View). HasGlance v.glances g) (sym view) has;
       looks = ap (λ (v : View). v.looks) view;
     }
 
-pub value_on : (old new : PassModel) (x value : ℕ) → Steps old new (after_value_of x value old.view) → LooksOn old new 1
+pub value_on : (old new : PassModel) (x value : ℕ) → Sees old new (after_value_of x value old.view) → LooksOn old new 1
 value_on old new x value s =
-    let view = view_after old new (after_value_of x value old.view) s in
+    let view = view_seen old new (after_value_of x value old.view) s in
     record {
       only = value_only old new x value s;
       glances = λ g has. subst (λ (v : View). HasGlance v.glances g) (sym view) has;
       looks = ap (λ (v : View). v.looks) view;
     }
 
-pub down_on : (old new : PassModel) (from : Glance) (k : ℕ) (right : Bool) (child : ℕ) → Steps old new (after_look_down from k right child old.view) → LooksOn old new 1
+pub down_on : (old new : PassModel) (from : Glance) (k : ℕ) (right : Bool) (child : ℕ) → Sees old new (after_look_down from k right child old.view) → LooksOn old new 1
 down_on old new from k right child s =
-    let view = view_after old new (after_look_down from k right child old.view) s in
+    let view = view_seen old new (after_look_down from k right child old.view) s in
     record {
       only = down_only old new from k right child s;
       glances = λ g has. subst (λ (v : View). HasGlance v.glances g) (sym view) (before g (gone_down from k right child) old.view.glances has);
       looks = ap (λ (v : View). v.looks) view;
+    }
+
+-- a look that goes on, whose steps are counted at its end
+pub on_counted : (a b c : PassModel) (n k : ℕ) → LooksOn a b n → HasUncounted a b k → Counts b c k → LooksOn a c n
+on_counted a b c n k h u s =
+    let view = ap (λ (m : PassModel). m.view) s in
+    record {
+      only = only_counted a b c n k h.only u s;
+      glances = λ g has. subst (λ (v : View). HasGlance v.glances g) (sym view) (h.glances g has);
+      looks = ap (λ (v : View). v.looks) view ∙ h.looks;
     }
 
 -- the key of a node stays told
@@ -101,14 +113,16 @@ all_on cards p q n c h k = record {
 }
 
 -- a look begins at a node to which all real keys come
-pub begins_look : (old new : PassModel) (child : ℕ) → Steps old new (after_look child old.view) → BeginsALook old new
-begins_look old new child s =
-    record { only = look_only old new child s; one = ap (λ (v : View). v.looks) (view_after old new (after_look child old.view) s) }
+pub begins_look : (old seen new : PassModel) (child : ℕ) → Sees old seen (after_look child old.view) → Counts seen new 1 → BeginsALook old new
+begins_look old seen new child s counts = record {
+  only = only_counted old seen new 1 1 (look_only old seen child s) (uncounted_one old seen (after_look child old.view) s refl) counts;
+  one = ap (λ (m : PassModel). m.view.looks) counts ∙ ap (λ (v : View). v.looks) (view_seen old seen (after_look child old.view) s);
+}
 
-pub first_kept : (cards : ℕ) (old new : PassModel) (child : ℕ) → Steps old new (after_look child old.view) → 0 < child → InTable cards child
+pub first_kept : (cards : ℕ) (old new : PassModel) (child : ℕ) → Sees old new (after_look child old.view) → 0 < child → InTable cards child
     → IsKept cards new.view (record { node = child; low = 0; high = greatest_key + 1 })
 first_kept cards old new child s low there =
-    let view = view_after old new (after_look child old.view) s in
+    let view = view_seen old new (after_look child old.view) s in
     let g : Glance = record { node = child; low = 0; high = greatest_key + 1 } in
     record {
       come = subst (λ (v : View). HasCome v child 0 (greatest_key + 1)) (sym view)
@@ -172,7 +186,7 @@ one_kept cards v c d j g room first each new k = record {
 pub record Goes (cards : ℕ) (old new : PassModel) (key : ℕ) (here : Glance) (cursor : Cursor) : Type 0 where
   pub count : ℕ
   pub on : LooksOn old new count
-  pub few : count + 2 ≤ 2 * ((here.node + 2) / 3)
+  pub few : count + 2 ≤ 2 * ((here.node + 3) / 4)
   pub stands : IsKept cards new.view here
   pub from : here.low ≤ key
   pub upto : key < here.high
@@ -214,9 +228,9 @@ upper_down true cards v high k u n = u
 upper_down false cards v high k u n = upper_min cards v high k u n
 
 module _ (cards : ℕ) (old a b : PassModel) (key : ℕ) (here : Glance) (cursor : Cursor) (k : ℕ) (at : Goes cards old a key here cursor)
-    (asked : Steps a b (after_key_of here.node k a.view)) where
+    (asked : Sees a b (after_key_of here.node k a.view)) where
   asked_view : b.view ≡ after_key_of here.node k a.view
-  asked_view = view_after a b (after_key_of here.node k a.view) asked
+  asked_view = view_seen a b (after_key_of here.node k a.view) asked
 
   told_key : IsTold b.view (Key here.node k)
   told_key = subst (λ (v : View). IsTold v (Key here.node k)) (sym asked_view) (latest (Key here.node k) a.view.told)
@@ -233,10 +247,10 @@ module _ (cards : ℕ) (old a b : PassModel) (key : ℕ) (here : Glance) (cursor
   pub may_go_down : IsInternal here.node → MayLookDown b.view here k
   may_go_down inner = record { come = stands_still.come; met = stands_still.met; inner = inner; told = told_key }
 
-  pub goes_down : (d : PassModel) (right : Bool) (child : ℕ) (after : Cursor) → Steps b d (after_look_down here k right child b.view) → IsInternal here.node
+  pub goes_down : (d : PassModel) (right : Bool) (child : ℕ) (after : Cursor) → Sees b d (after_look_down here k right child b.view) → IsInternal here.node
       → here.node < child → InTable cards child → right ≡ nat_le k key → AreKept cards b.view after → Goes cards old d key (gone_down here k right child) after
   goes_down d right child after s inner deeper there side kept =
-      let view = view_after b d (after_look_down here k right child b.view) s in
+      let view = view_seen b d (after_look_down here k right child b.view) s in
       let on = down_on b d here k right child s in
       let is : IsNodeKey cards d.view k = record { node = here.node; inner = inner; there = at.stands.there; below = at.stands.below; told = on.only.told (Key here.node k) told_key } in
       record {
@@ -260,9 +274,9 @@ module _ (cards : ℕ) (old a b : PassModel) (key : ℕ) (here : Glance) (cursor
 
 -- what is found at a leaf
 module _ (cards : ℕ) (a b : PassModel) (key : ℕ) (leaf : Glance) (k : ℕ) (stands : IsKept cards a.view leaf) (from : leaf.low ≤ key) (upto : key < leaf.high)
-    (outer : IsLeaf leaf.node) (asked : Steps a b (after_key_of leaf.node k a.view)) where
+    (outer : IsLeaf leaf.node) (asked : Sees a b (after_key_of leaf.node k a.view)) where
   key_told : IsTold b.view (Key leaf.node k)
-  key_told = subst (λ (v : View). IsTold v (Key leaf.node k)) (sym (view_after a b (after_key_of leaf.node k a.view) asked)) (latest (Key leaf.node k) a.view.told)
+  key_told = subst (λ (v : View). IsTold v (Key leaf.node k)) (sym (view_seen a b (after_key_of leaf.node k a.view) asked)) (latest (Key leaf.node k) a.view.told)
 
   leaf_on : LooksOn a b 1
   leaf_on = key_on a b leaf.node k asked
@@ -279,7 +293,7 @@ module _ (cards : ℕ) (a b : PassModel) (key : ℕ) (leaf : Glance) (k : ℕ) (
     own = own;
   }
 
-  pub finds_one : (d : PassModel) (value : ℕ) → Steps b d (after_value_of leaf.node value b.view) → ReadsItsOwn d.view → leaf.low ≤ k → k < leaf.high
+  pub finds_one : (d : PassModel) (value : ℕ) → Sees b d (after_value_of leaf.node value b.view) → ReadsItsOwn d.view → leaf.low ≤ k → k < leaf.high
       → FindsAbout cards d.view key (record { low = leaf.low; high = leaf.high; found = Some (k, value) })
   finds_one d value s own low high =
       let on = value_on b d leaf.node value s in
@@ -296,7 +310,7 @@ module _ (cards : ℕ) (a b : PassModel) (key : ℕ) (leaf : Glance) (k : ℕ) (
             refl,
             low,
             high,
-            subst (λ (v : View). IsTold v (Value leaf.node value)) (sym (view_after b d (after_value_of leaf.node value b.view) s))
+            subst (λ (v : View). IsTold v (Value leaf.node value)) (sym (view_seen b d (after_value_of leaf.node value b.view) s))
                 (latest (Value leaf.node value) b.view.told),
           );
         };

@@ -10,12 +10,12 @@ use Rattle.ell_core.specs.state.Machine.{ledger_of}
 use Rattle.ell_core.specs.statements.Effects.{contents_in}
 use Rattle.ell_cards.specs.declared.view.Told.TheVariants.{Met}
 use Rattle.ell_cards.specs.declared.view.View.{View}
-use Rattle.ell_cards.specs.Models.{PassModel, Steps, latest, Does, IsTold, StandsAt, InTable, EndedBy, EndWasUnknown}
+use Rattle.ell_cards.specs.Models.{PassModel, Sees, latest, Does, IsTold, StandsAt, InTable, EndedBy, EndWasUnknown}
 use Rattle.ell_cards.specs.Changes.{after_upd, after_key_of, after_value_of, after_down, told_value}
 use Rattle.ell_cards.specs.Guards.{MayAnswer, TellsOf}
 use Rattle.ell_cards.specs.Calls.{TellsLeaf, TellsValue}
 use Rattle.ell_cards.proofs.views.Entries.{places_more}
-use Rattle.ell_cards.proofs.views.Steps.{view_after}
+use Rattle.ell_cards.proofs.views.Steps.{view_seen}
 use Rattle.ell_cards.proofs.views.Searches.{told_here}
 use Rattle.ell_tree.specs.declared.searching.Passed.{Passed}
 use Rattle.ell_tree.specs.declared.searching.Place.{Place}
@@ -23,35 +23,43 @@ use Rattle.ell_tree.specs.Keeping.{LosesNothing, Seeks, IsInnerMet}
 use Rattle.ell_word.specs.declared.update.State.TheVariants as state
 use Rattle.ell_core.specs.declared.fact.Fact.{Fact}
 use Rattle.ell_tree.specs.Searches.{seen_any, below, Passes, EndWasUnknownAt, Stands, IsAt, there_at, EndsAt}
-use Rattle.ell_tree.proofs.Keeping.{seeks_step, seeks_trans, upd_keeps, key_of_keeps, value_of_keeps, down_keeps, keeps_trans, seen_kept, place_told}
+use Rattle.ell_tree.specs.Counts.{HasUncounted}
+use Rattle.ell_tree.proofs.Counting.{uncounted_one, uncounted_trans}
+use Rattle.ell_tree.proofs.Keeping.{seeks_unseen, seeks_trans, upd_keeps, key_of_keeps, value_of_keeps, down_keeps, keeps_trans, seen_kept, place_told}
 
 -- an update is read in a step, and so are a key and a value
-pub upd_seeks : (old new : PassModel) (x : ℕ) (u : Update) → Steps old new (after_upd x u old.view) → Seeks old new 1
-upd_seeks old new x u s = seeks_step old new (after_upd x u old.view) s (upd_keeps x u old.view) refl refl refl refl refl
+pub upd_seeks : (old new : PassModel) (x : ℕ) (u : Update) → Sees old new (after_upd x u old.view) → Seeks old new 1
+upd_seeks old new x u s = seeks_unseen old new (after_upd x u old.view) s (upd_keeps x u old.view) refl refl refl refl refl
 
-pub key_seeks : (old new : PassModel) (x key : ℕ) → Steps old new (after_key_of x key old.view) → Seeks old new 1
-key_seeks old new x key s = seeks_step old new (after_key_of x key old.view) s (key_of_keeps x key old.view) refl refl refl refl refl
+pub key_seeks : (old new : PassModel) (x key : ℕ) → Sees old new (after_key_of x key old.view) → Seeks old new 1
+key_seeks old new x key s = seeks_unseen old new (after_key_of x key old.view) s (key_of_keeps x key old.view) refl refl refl refl refl
 
-pub value_seeks : (old new : PassModel) (x value : ℕ) → Steps old new (after_value_of x value old.view) → Seeks old new 1
-value_seeks old new x value s = seeks_step old new (after_value_of x value old.view) s (value_of_keeps x value old.view) refl refl refl refl refl
+pub value_seeks : (old new : PassModel) (x value : ℕ) → Sees old new (after_value_of x value old.view) → Seeks old new 1
+value_seeks old new x value s = seeks_unseen old new (after_value_of x value old.view) s (value_of_keeps x value old.view) refl refl refl refl refl
 
 -- a node goes by in three steps: its update, its key, its child
 module _ (a b d e : PassModel) (x : ℕ) (u : Update) (key child : ℕ)
-    (read : Steps a b (after_upd x u a.view)) (asked : Steps b d (after_key_of x key b.view)) (gone : Steps d e (after_down x child d.view)) where
+    (read : Sees a b (after_upd x u a.view)) (asked : Sees b d (after_key_of x key b.view)) (gone : Sees d e (after_down x child d.view)) where
   read_view : b.view ≡ after_upd x u a.view
-  read_view = view_after a b (after_upd x u a.view) read
+  read_view = view_seen a b (after_upd x u a.view) read
 
   asked_view : d.view ≡ after_key_of x key (after_upd x u a.view)
-  asked_view = view_after b d (after_key_of x key b.view) asked ∙ ap (after_key_of x key) read_view
+  asked_view = view_seen b d (after_key_of x key b.view) asked ∙ ap (after_key_of x key) read_view
 
   gone_view : e.view ≡ after_down x child (after_key_of x key (after_upd x u a.view))
-  gone_view = view_after d e (after_down x child d.view) gone ∙ ap (after_down x child) asked_view
+  gone_view = view_seen d e (after_down x child d.view) gone ∙ ap (after_down x child) asked_view
 
   pub descend_seeks : Seeks a e 3
   descend_seeks =
       seeks_trans a d e 2 1 3
       (seeks_trans a b d 1 1 2 (upd_seeks a b x u read) (key_seeks b d x key asked) (omega arith))
-      (seeks_step d e (after_down x child d.view) gone (down_keeps x child d.view) refl refl refl refl refl) (omega arith)
+      (seeks_unseen d e (after_down x child d.view) gone (down_keeps x child d.view) refl refl refl refl refl) (omega arith)
+
+  pub descend_uncounted : HasUncounted a e 3
+  descend_uncounted =
+      uncounted_trans a d e 2 1
+      (uncounted_trans a b d 1 1 (uncounted_one a b (after_upd x u a.view) read refl) (uncounted_one b d (after_key_of x key b.view) asked refl))
+      (uncounted_one d e (after_down x child d.view) gone refl)
 
   pub descend_search : e.view.worker.search ≡ below child (record { node = x; update = u }) a.view.worker.search.parent
   descend_search = ap (λ (v : View). v.worker.search) gone_view
@@ -123,8 +131,8 @@ there_by o place k some same = by (place.key == k) refl
     by false e = none o (some ∙ e)
 
 -- a search that stands at a leaf, whose key and value it asks, ends there
-pub search_ends : (cards : ℕ) (a b d : PassModel) (op : Op) (place : Place) → Steps a b (after_key_of place.leaf place.key a.view)
-    → Steps b d (after_value_of place.leaf place.value b.view) → Does a.view op
+pub search_ends : (cards : ℕ) (a b d : PassModel) (op : Op) (place : Place) → Sees a b (after_key_of place.leaf place.key a.view)
+    → Sees b d (after_value_of place.leaf place.value b.view) → Does a.view op
     → IsLeaf place.leaf → Stands cards a.view place.leaf place.parent place.grandparent → TellsLeaf a.view place.leaf place.key
     → TellsValue b.view place.leaf place.value → EndsAt cards d.view op place
 search_ends cards a b d op place s s' busy outer h tells says =
@@ -132,8 +140,8 @@ search_ends cards a b d op place s s' busy outer h tells says =
     let keyed = after_key_of place.leaf place.key a.view in
     let w = after_value_of place.leaf place.value keyed in
     let kept = keeps_trans a.view keyed w (key_of_keeps place.leaf place.key a.view) (value_of_keeps place.leaf place.value keyed) in
-    let asked = view_after a b keyed s in
-    let is : d.view ≡ w = view_after b d (after_value_of place.leaf place.value b.view) s' ∙ ap (after_value_of place.leaf place.value) asked in
+    let asked = view_seen a b keyed s in
+    let is : d.view ≡ w = view_seen b d (after_value_of place.leaf place.value b.view) s' ∙ ap (after_value_of place.leaf place.value) asked in
     let told = told_here a.view.worker.search.node a.view.here place.leaf place.key stands in
     subst (λ (y : View). EndsAt cards y op place) (sym is) (record {
       at = record {

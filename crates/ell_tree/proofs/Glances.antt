@@ -8,15 +8,17 @@ use Rattle.ell_cards.specs.declared.view.Told.{Told}
 use Rattle.ell_cards.specs.declared.view.Told.TheVariants.{Met, Key, Value}
 use Rattle.ell_cards.specs.declared.glance.Glance.{Glance}
 use Rattle.ell_cards.specs.declared.view.View.{View}
-use Rattle.ell_cards.specs.Models.{PassModel, Steps, Has, HasCome, last, latest, earlier, IsTold, InTable}
+use Rattle.ell_cards.specs.Models.{PassModel, Counts, Sees, some_more, Has, HasCome, last, latest, earlier, IsTold, InTable}
 use Rattle.ell_cards.specs.Changes.{after_look, after_look_down, after_key_of, after_value_of}
 use Rattle.ell_cards.specs.Guards.{MayLookDown}
 use Rattle.ell_cards.specs.Looking.{HasFound, ReadsItsOwn}
 use Rattle.ell_core.specs.declared.view.WorkerView.{WorkerView}
 use Rattle.ell_core.specs.state.Machine.{ledger_of}
 use Rattle.ell_core.specs.statements.Effects.{contents_in}
+use Rattle.ell_tree.specs.Counts.{HasUncounted}
+use Rattle.ell_tree.proofs.Counting.{took_counted}
 use Rattle.ell_tree.specs.Ledgers.{Owns, present_in}
-use Rattle.ell_cards.proofs.views.Steps.{view_after}
+use Rattle.ell_cards.proofs.views.Steps.{view_seen}
 use Rattle.ell_tree.specs.Looks.{OnlyLooks, look_steps}
 
 pub only_trans : (a b c : PassModel) (m n k : ℕ) → OnlyLooks a b m → OnlyLooks b c n → m + n ≤ k → OnlyLooks a c k
@@ -67,7 +69,7 @@ only_none_yet a = record {
 
 -- a step that tells more, and moves no more than the look
 only_step : (old new : PassModel) (told : List Told) (here : Option ℕ) (glances : List Glance) (looks : ℕ)
-    → Steps old new (record (old.view) { told = told; here = here; glances = glances; looks = looks; made = old.view.made + 1 }) → ((e : Told) → IsTold old.view e → Has told e)
+    → Sees old new (record (old.view) { told = told; here = here; glances = glances; looks = looks; made = old.view.made + 1 }) → ((e : Told) → IsTold old.view e → Has told e)
     → OnlyLooks old new 1
 only_step old new told here glances looks s more = subst (λ (m : PassModel). OnlyLooks old m 1) (sym s) (record {
   table = refl;
@@ -91,34 +93,60 @@ only_step old new told here glances looks s more = subst (λ (m : PassModel). On
   made = omega arith;
 })
 
+-- steps that are counted once they have been made
+pub only_counted : (a b c : PassModel) (n k : ℕ) → OnlyLooks a b n → HasUncounted a b k → Counts b c k → OnlyLooks a c n
+only_counted a b c n k h u s =
+    let took = took_counted a b (record b { steps = some_more k b.steps }) n k (record { steps = h.steps; made = h.made }) u refl in
+    subst (λ (m : PassModel). OnlyLooks a m n) (sym s) (record {
+      table = h.table;
+      label = h.label;
+      worker = h.worker;
+      answers = h.answers;
+      answered = h.answered;
+      share = h.share;
+      hindrances = h.hindrances;
+      met = h.met;
+      hindered = h.hindered;
+      next = h.next;
+      knew_before = h.knew_before;
+      next_at_least = h.next_at_least;
+      won = h.won;
+      found = h.found;
+      planned = h.planned;
+      stores = h.stores;
+      told = h.told;
+      steps = took.steps;
+      made = took.made;
+    })
+
 -- the steps of a look
-pub look_only : (old new : PassModel) (child : ℕ) → Steps old new (after_look child old.view) → OnlyLooks old new 1
+pub look_only : (old new : PassModel) (child : ℕ) → Sees old new (after_look child old.view) → OnlyLooks old new 1
 look_only old new child s = only_step old new _ _ _ _ s (λ e h. earlier e _ _ h)
 
-pub down_only : (old new : PassModel) (from : Glance) (k : ℕ) (right : Bool) (child : ℕ) → Steps old new (after_look_down from k right child old.view)
+pub down_only : (old new : PassModel) (from : Glance) (k : ℕ) (right : Bool) (child : ℕ) → Sees old new (after_look_down from k right child old.view)
     → OnlyLooks old new 1
 down_only old new from k right child s = only_step old new _ _ _ _ s (λ e h. earlier e _ _ h)
 
-pub key_only : (old new : PassModel) (x key : ℕ) → Steps old new (after_key_of x key old.view) → OnlyLooks old new 1
+pub key_only : (old new : PassModel) (x key : ℕ) → Sees old new (after_key_of x key old.view) → OnlyLooks old new 1
 key_only old new x key s = only_step old new _ _ _ _ s (λ e h. earlier e _ _ h)
 
-pub value_only : (old new : PassModel) (x value : ℕ) → Steps old new (after_value_of x value old.view) → OnlyLooks old new 1
+pub value_only : (old new : PassModel) (x value : ℕ) → Sees old new (after_value_of x value old.view) → OnlyLooks old new 1
 value_only old new x value s = only_step old new _ _ _ _ s (λ e h. earlier e _ _ h)
 
 -- a look for a key has come to a node, in at most two steps for each internal node that there is down to it
 pub record Comes (cards : ℕ) (old new : PassModel) (key node : ℕ) : Type 0 where
   pub count : ℕ
   pub only : OnlyLooks old new count
-  pub few : count + 1 ≤ 2 * ((node + 2) / 3)
+  pub few : count + 1 ≤ 2 * ((node + 3) / 4)
   pub come : HasCome new.view node key (key + 1)
   pub met : IsTold new.view (Met node)
   pub there : InTable cards node
   pub one : new.view.looks ≡ old.view.looks + 1
 
-pub comes_first : (cards : ℕ) (old new : PassModel) (key child : ℕ) → key ≤ greatest_key → Steps old new (after_look child old.view) → 0 < child
+pub comes_first : (cards : ℕ) (old new : PassModel) (key child : ℕ) → key ≤ greatest_key → Sees old new (after_look child old.view) → 0 < child
     → InTable cards child → Comes cards old new key child
 comes_first cards old new key child real s low there =
-    let view = view_after old new (after_look child old.view) s in
+    let view = view_seen old new (after_look child old.view) s in
     record {
       count = 1;
       only = look_only old new child s;
@@ -140,9 +168,9 @@ come_part v node low high from upto a b c = record {
   upto = (let u = c.upto in omega arith);
 }
 
-module _ (cards : ℕ) (old a b : PassModel) (key node k : ℕ) (at : Comes cards old a key node) (asked : Steps a b (after_key_of node k a.view)) where
+module _ (cards : ℕ) (old a b : PassModel) (key node k : ℕ) (at : Comes cards old a key node) (asked : Sees a b (after_key_of node k a.view)) where
   asked_view : b.view ≡ after_key_of node k a.view
-  asked_view = view_after a b (after_key_of node k a.view) asked
+  asked_view = view_seen a b (after_key_of node k a.view) asked
 
   come_still : HasCome b.view node key (key + 1)
   come_still = subst (λ (v : View). HasCome v node key (key + 1)) (sym asked_view) (record {
@@ -166,11 +194,11 @@ module _ (cards : ℕ) (old a b : PassModel) (key node k : ℕ) (at : Comes card
   may_down inner = record { come = come_still; met = met_still; inner = inner; told = told_key }
 
   pub comes_down : (d : PassModel) (child : ℕ)
-      → Steps b d (after_look_down (record { node = node; low = key; high = key + 1 }) k (nat_le k key) child b.view) → IsInternal node → node < child
+      → Sees b d (after_look_down (record { node = node; low = key; high = key + 1 }) k (nat_le k key) child b.view) → IsInternal node → node < child
       → InTable cards child → Comes cards old d key child
   comes_down d child s inner deeper there =
       let from : Glance = record { node = node; low = key; high = key + 1 } in
-      let view = view_after b d (after_look_down from k (nat_le k key) child b.view) s in
+      let view = view_seen b d (after_look_down from k (nat_le k key) child b.view) s in
       let next : Glance = record { node = child; low = from_of (nat_le k key) key k; high = upto_of (nat_le k key) (key + 1) k } in
       let low = key_from k key key (omega arith) in
       let high = key_upto k (key + 1) key (omega arith) in
@@ -193,9 +221,9 @@ module _ (cards : ℕ) (old a b : PassModel) (key node k : ℕ) (at : Comes card
   only_none = only_trans old a b at.count 1 (look_steps cards) at.only (key_only a b node k asked)
       (let few = at.few in let room = at.there in omega arith)
 
-  pub found_some : (d : PassModel) (value : ℕ) → Steps b d (after_value_of node value b.view) → IsLeaf node → k ≡ key → HasFound d.view key (Some value)
+  pub found_some : (d : PassModel) (value : ℕ) → Sees b d (after_value_of node value b.view) → IsLeaf node → k ≡ key → HasFound d.view key (Some value)
   found_some d value s outer same =
-      let view = view_after b d (after_value_of node value b.view) s in
+      let view = view_seen b d (after_value_of node value b.view) s in
       record {
         leaf = node;
         leaf_key = k;
@@ -211,13 +239,13 @@ module _ (cards : ℕ) (old a b : PassModel) (key node k : ℕ) (at : Comes card
         tells = (same, subst (λ (v : View). IsTold v (Value node value)) (sym view) (latest (Value node value) b.view.told));
       }
 
-  pub only_some : (d : PassModel) (value : ℕ) → Steps b d (after_value_of node value b.view) → OnlyLooks old d (look_steps cards)
+  pub only_some : (d : PassModel) (value : ℕ) → Sees b d (after_value_of node value b.view) → OnlyLooks old d (look_steps cards)
   only_some d value s = only_trans old a d at.count 2 (look_steps cards) at.only
       (only_trans a b d 1 1 2 (key_only a b node k asked) (value_only b d node value s) (omega arith))
       (let few = at.few in let room = at.there in omega arith)
 
-  pub one_some : (d : PassModel) (value : ℕ) → Steps b d (after_value_of node value b.view) → d.view.looks ≡ old.view.looks + 1
-  one_some d value s = ap (λ (v : View). v.looks) (view_after b d (after_value_of node value b.view) s) ∙ one_none
+  pub one_some : (d : PassModel) (value : ℕ) → Sees b d (after_value_of node value b.view) → d.view.looks ≡ old.view.looks + 1
+  one_some d value s = ap (λ (v : View). v.looks) (view_seen b d (after_value_of node value b.view) s) ∙ one_none
 
 -- what a look has found of a key of the pass's own is what its ledger had
 pub reads_mine : (old new : PassModel) (key : ℕ) (there : Option ℕ) → ReadsItsOwn new.view → HasFound new.view key there → new.view.worker ≡ old.view.worker

@@ -11,12 +11,13 @@ use Rattle.ell_core.specs.state.Facts.{known_of}
 use Rattle.ell_cards.specs.declared.view.Told.{Told}
 use Rattle.ell_cards.specs.declared.view.Told.TheVariants.{Met, Info}
 use Rattle.ell_cards.specs.declared.view.View.{View}
-use Rattle.ell_cards.specs.Models.{PassModel, Steps, Has, latest, earlier, IsTold, Knows}
+use Rattle.ell_cards.specs.Models.{PassModel, Counts, Sees, Steps, some_more, Has, latest, earlier, IsTold, Knows}
 use Rattle.ell_cards.specs.Changes.{facts_by, places_by, learning, exchanged, after_upd, after_down, after_key_of, after_value_of, after_info, after_frozen_child, after_next}
 use Rattle.ell_cards.proofs.views.Facts.{knows_new, knows_more, facts_by_more}
 use Rattle.ell_cards.proofs.views.Entries.{places_more, info_more}
 use Rattle.ell_cards.specs.Stepping.{SameShare}
-use Rattle.ell_tree.proofs.Counting.{took_none, took_one, took_within, took_trans}
+use Rattle.ell_tree.proofs.Counting.{took_none, took_one, took_unseen, took_counted, took_within, took_trans}
+use Rattle.ell_tree.specs.Counts.{HasUncounted}
 use Rattle.ell_tree.specs.CardsTaken.{claims_in}
 use Rattle.ell_tree.specs.Keeping.{LosesNothing, Goes, Seeks, Works, Walks, IsInnerMet, TellsPlace, IsSeenAt}
 
@@ -163,6 +164,24 @@ pub seeks_step : (old new : PassModel) (v : View) → Steps old new v → LosesN
 seeks_step old new v s k made taken card flagged hindrances =
     subst (λ (m : PassModel). Seeks old m 1) (sym s)
     (record { goes = record { table = refl; label = refl; view = k; took = took_one old v made }; taken = taken; card = card; flagged = flagged; hindrances = hindrances })
+
+-- a step that is not counted yet, to such a view
+pub seeks_unseen : (old new : PassModel) (v : View) → Sees old new v → LosesNothing old.view v → v.made ≡ old.view.made + 1 → claims_in v.won ≡ claims_in old.view.won → v.worker.card ≡ old.view.worker.card
+    → v.worker.flagged ≡ old.view.worker.flagged → v.hindrances ≡ old.view.hindrances → Seeks old new 1
+seeks_unseen old new v s k made taken card flagged hindrances =
+    subst (λ (m : PassModel). Seeks old m 1) (sym s)
+    (record { goes = record { table = refl; label = refl; view = k; took = took_unseen old v made }; taken = taken; card = card; flagged = flagged; hindrances = hindrances })
+
+-- a search whose steps are counted once it has ended
+pub seeks_counted : (a b c : PassModel) (n k : ℕ) → Seeks a b n → HasUncounted a b k → Counts b c k → Seeks a c n
+seeks_counted a b c n k h u s =
+    subst (λ (m : PassModel). Seeks a m n) (sym s) (record {
+      goes = record { table = h.goes.table; label = h.goes.label; view = h.goes.view; took = took_counted a b (record b { steps = some_more k b.steps }) n k h.goes.took u refl };
+      taken = h.taken;
+      card = h.card;
+      flagged = h.flagged;
+      hindrances = h.hindrances;
+    })
 
 pub works_step : (old new : PassModel) (v : View) → Steps old new v → LosesNothing old.view v → v.made ≡ old.view.made + 1 → claims_in v.won ≡ claims_in old.view.won → v.worker.card ≡ old.view.worker.card
     → v.worker.flagged ≡ old.view.worker.flagged → v.worker.search ≡ old.view.worker.search → Works old new 1

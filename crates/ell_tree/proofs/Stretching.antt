@@ -58,7 +58,7 @@ told_so test node key _ (earlier _ d es h) passes = or_right (tells_key test nod
 
 -- of how many cards these tell a key of the inner node that passes a test
 abbrev pub keys_told : ℕ → (ℕ → Bool) → List Told → ℕ
-keys_told cards test told = how_many cards (λ c. told_key test (3 * (c + 1)) told)
+keys_told cards test told = how_many cards (λ c. told_key test (4 * (c + 1)) told)
 
 -- of no more than there are
 how_many_most : (n : ℕ) (so : ℕ → Bool) → how_many n so ≤ n
@@ -73,9 +73,9 @@ how_many_most (suc n) so = by (so n) (how_many_most n so)
 keys_still : (cards : ℕ) (old new : PassModel) (was is : ℕ → Bool) → ((e : Told) → Has old.view.told e → Has new.view.told e)
     → ((key : ℕ) → was key ≡ true → is key ≡ true) → keys_told cards was old.view.told ≤ keys_told cards is new.view.told
 keys_still cards old new was is more passes =
-    many_where cards (λ c. told_key was (3 * (c + 1)) old.view.told) (λ c. told_key is (3 * (c + 1)) new.view.told) (λ c low told.
-    let t = told_there was (3 * (c + 1)) old.view.told told in
-    told_so is (3 * (c + 1)) t.0 new.view.told (more (Key (3 * (c + 1)) t.0) t.1) (passes t.0 t.2))
+    many_where cards (λ c. told_key was (4 * (c + 1)) old.view.told) (λ c. told_key is (4 * (c + 1)) new.view.told) (λ c low told.
+    let t = told_there was (4 * (c + 1)) old.view.told told in
+    told_so is (4 * (c + 1)) t.0 new.view.told (more (Key (4 * (c + 1)) t.0) t.1) (passes t.0 t.2))
 
 -- and where there is a key of an inner node that passes only now, they are more
 keys_more : (cards : ℕ) (old new : PassModel) (was is : ℕ → Bool) → ((e : Told) → Has old.view.told e → Has new.view.told e)
@@ -83,29 +83,29 @@ keys_more : (cards : ℕ) (old new : PassModel) (was is : ℕ → Bool) → ((e 
     → (key : ℕ) → IsNodeKey cards new.view key → was key ≡ false → is key ≡ true
     → keys_told cards was old.view.told + 1 ≤ keys_told cards is new.view.told
 keys_more cards old new was is more passes fixed key at before after =
-    many_most cards cards (λ c. told_key was (3 * (c + 1)) old.view.told) (λ c. told_key is (3 * (c + 1)) new.view.told) (omega arith)
-    (λ c low told. let t = told_there was (3 * (c + 1)) old.view.told told in
-    told_so is (3 * (c + 1)) t.0 new.view.told (more (Key (3 * (c + 1)) t.0) t.1) (passes t.0 t.2))
-    card low (told_so is (3 * (card + 1)) key new.view.told told after)
-    (λ less. none (told_key was (3 * (card + 1)) old.view.told) refl)
+    many_most cards cards (λ c. told_key was (4 * (c + 1)) old.view.told) (λ c. told_key is (4 * (c + 1)) new.view.told) (omega arith)
+    (λ c low told. let t = told_there was (4 * (c + 1)) old.view.told told in
+    told_so is (4 * (c + 1)) t.0 new.view.told (more (Key (4 * (c + 1)) t.0) t.1) (passes t.0 t.2))
+    card low (told_so is (4 * (card + 1)) key new.view.told told after)
+    (λ less. none (told_key was (4 * (card + 1)) old.view.told) refl)
   where
     card : ℕ
-    card = at.node / 3 - 1
+    card = at.node / 4 - 1
 
-    node_is : at.node ≡ 3 * (card + 1)
+    node_is : at.node ≡ 4 * (card + 1)
     node_is = let inner = at.inner in let below = at.below in omega arith
 
     low : card < cards
     low = let inner = at.inner in let below = at.below in let there = at.there in omega arith
 
-    told : Has new.view.told (Key (3 * (card + 1)) key)
+    told : Has new.view.told (Key (4 * (card + 1)) key)
     told = subst (λ x. Has new.view.told (Key x key)) node_is at.told
 
-    none : (b : Bool) → told_key was (3 * (card + 1)) old.view.told ≡ b → told_key was (3 * (card + 1)) old.view.told ≡ false
+    none : (b : Bool) → told_key was (4 * (card + 1)) old.view.told ≡ b → told_key was (4 * (card + 1)) old.view.told ≡ false
     none false e = e
     none true e =
-        let t = told_there was (3 * (card + 1)) old.view.told e in
-        let same : t.0 ≡ key = fixed (3 * (card + 1)) t.0 key (more (Key (3 * (card + 1)) t.0) t.1) told in
+        let t = told_there was (4 * (card + 1)) old.view.told e in
+        let same : t.0 ≡ key = fixed (4 * (card + 1)) t.0 key (more (Key (4 * (card + 1)) t.0) t.1) told in
         absurd (false≢true (sym before ∙ (ap was (sym same) ∙ t.2)))
 
 -- a look has gone on through some stretches of keys: through no more than there are cards of which it was told a key that passes a test, or,
@@ -147,7 +147,7 @@ stretches_more cards was is More Then old now new s more on passes fixed key end
 pub stretches_steps : (cards : ℕ) (test : ℕ → Bool) (More : Type 0) (old now : PassModel) → Stretches cards test More old now
     → OnlyLooks old now (scan_steps cards)
 stretches_steps cards test More old now s =
-    let most = how_many_most cards (λ c. told_key test (3 * (c + 1)) now.view.told) in
+    let most = how_many_most cards (λ c. told_key test (4 * (c + 1)) now.view.told) in
     let few = s.few in
     let count : s.count ≤ cards + 1 = omega arith in
     let all = mul-le-mul_right (stretch_steps cards) count in

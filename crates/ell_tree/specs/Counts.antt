@@ -1,5 +1,5 @@
-use Rattle.std.specs.Prelude.{ℕ, ◌+◌, ◌*◌, ◌≤◌}
-use Rattle.ell_cards.specs.Models.{PassModel}
+use Rattle.std.specs.Prelude.{◌≡◌, ℕ, ◌+◌, ◌-◌, ◌*◌, ◌≤◌}
+use Rattle.ell_cards.specs.Models.{PassModel, some_more}
 use Rattle.ell_tree.specs.Ends.{try_steps}
 use Rattle.ell_tree.specs.Moves.{moves_known}
 
@@ -8,6 +8,15 @@ use Rattle.ell_tree.specs.Moves.{moves_known}
 pub record Took (old new : PassModel) (n : ℕ) : Type 0 where
   pub steps : new.steps ≤ old.steps + n
   pub made : new.view.made ≤ old.view.made + n
+
+-- a pass has counted all steps that it made in between
+abbrev pub CountsAll : PassModel → PassModel → Type 0
+CountsAll old new = new.steps ≡ some_more (new.view.made - old.view.made) old.steps
+
+-- a pass has made so many steps in between, and counted none of them
+pub record HasUncounted (old new : PassModel) (n : ℕ) : Type 0 where
+  pub steps : new.steps ≡ old.steps
+  pub made : new.view.made ≡ old.view.made + n
 
 -- an insert or a delete took the steps of one try, and one step more, and those of another try only for each move that the pass came
 -- to know of

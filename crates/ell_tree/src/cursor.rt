@@ -4,6 +4,7 @@ ghost use Rattle.std.specs.Prelude.{◌≡◌, ◌<◌, ◌≤◌, ◌+◌, ◌%
 ghost use Rattle.ell_ops.specs.Meaning.{greatest_key};
 ghost use Rattle.ell_core.specs.acts.Searching.{IsLeaf};
 ghost use Rattle.ell_cards.specs.Looking.{KeysAreFixed};
+ghost use Rattle.ell_tree.specs.Counts.{CountsAll, HasUncounted};
 ghost use Rattle.ell_tree.specs.Ledgers.{IsIdlePassOf};
 ghost use Rattle.ell_tree.specs.Looks.{stretch_steps};
 ghost use Rattle.ell_tree.specs.Cursors.{AreKept, BeginsALook, FindsAbout, IsAmong, IsKept, LooksOn};
@@ -45,8 +46,10 @@ impl Cursor {
         ensures kept { AreKept table.now.plan.last_card pass.new.view result }
     {
         gate.before(pass.label(), Kind::Look);
+        let node = table.look(pass);
+        pass.count(1);
         let first = Glance {
-            node: table.look(pass),
+            node,
             low: 0,
             high: KEY_MAX + 1,
         };
@@ -57,7 +60,7 @@ impl Cursor {
         }
     }
 
-    /// Looks for a key, from the last kept node to which it comes too: what is about it.
+    /// Looks for a key, from the last kept node to which it comes too: what is about it. The steps are counted at its end.
     pub(crate) fn about<A: Allocator + Copy, G: StepGate>(
         &mut self,
         table: &CardTable<A>,
@@ -71,10 +74,13 @@ impl Cursor {
         ensures found { FindsAbout table.now.plan.last_card pass.new.view key result }
         ensures kept { AreKept table.now.plan.last_card pass.new.view self.new }
         ensures fixed { KeysAreFixed pass.new.view }
+        ensures counted { CountsAll pass.old pass.new }
         ensures on { LooksOn pass.old pass.new (stretch_steps table.now.plan.last_card) }
     {
+        table.facts_stay_inside(pass);
         let label = pass.label();
         let mut here = self.start(key);
+        let mut steps = 0;
         while is_internal(here.node) {
             gate.before(label, Kind::Look);
             let node_key = table.key_of(pass, here.node);
@@ -85,8 +91,11 @@ impl Cursor {
             gate.before(label, Kind::Look);
             let child = table.look_down(pass, here, node_key, right);
             here = here.down(node_key, right, child);
+            steps += 2;
         }
-        found_at(table, pass, key, here, gate)
+        let (about, at_the_leaf) = found_at(table, pass, key, here, gate);
+        pass.count(steps + at_the_leaf);
+        about
     }
 
     // The last kept node to which a key comes, which is kept no longer, nor are those after it; or where the look
@@ -120,38 +129,42 @@ impl Cursor {
     }
 }
 
-// What is about a key at a leaf to which a look has come by it and others.
+// What is about a key at a leaf to which a look has come by it and others, and in how many steps, which are not counted.
 fn found_at<A: Allocator + Copy, G: StepGate>(
     table: &CardTable<A>,
     pass: &mut Pass<A>,
     key: u64,
     leaf: Glance,
     gate: &G,
-) -> About
+) -> (About, u64)
     requires own { pass.old.table ≡ table.now.id }
     requires outer { IsLeaf leaf.node }
     requires kept { IsKept table.now.plan.last_card pass.old.view leaf }
     requires from { leaf.low ≤ key }
     requires upto { key < leaf.high }
-    ensures found { FindsAbout table.now.plan.last_card pass.new.view key result }
+    ensures found { FindsAbout table.now.plan.last_card pass.new.view key result.0 }
     ensures fixed { KeysAreFixed pass.new.view }
+    ensures uncounted { HasUncounted pass.old pass.new result.1 }
+    ensures few { result.1 ≤ 2 }
     ensures on { LooksOn pass.old pass.new 2 }
 {
     gate.before(pass.label(), Kind::Look);
     let leaf_key = table.key_of(pass, leaf.node);
     let Glance { node, low, high } = leaf;
     if leaf_key < low || high <= leaf_key {
-        return About {
+        let none = About {
             low,
             high,
             found: None,
         };
+        return (none, 1);
     }
     gate.before(pass.label(), Kind::Look);
     let value = table.value_of(pass, node);
-    About {
+    let one = About {
         low,
         high,
         found: Some((leaf_key, value)),
-    }
+    };
+    (one, 2)
 }

@@ -4,6 +4,7 @@ ghost use Rattle.std.specs.Prelude.{◌≡◌, ◌≤◌, ◌+◌};
 ghost use Rattle.ell_ops.specs.Meaning.{greatest_key};
 ghost use Rattle.ell_cards.specs.Looking.{HasFound, HasFoundBetween};
 ghost use Rattle.ell_tree.specs.CardsLeft.{ReadsCardsLeft};
+ghost use Rattle.ell_tree.specs.Counts.{CountsAll, HasUncounted};
 ghost use Rattle.ell_tree.specs.Ledgers.{IsIdlePassOf, Owns, present_in};
 ghost use Rattle.ell_tree.specs.Looks.{OnlyLooks, look_steps};
 ghost use Rattle.ell_tree.specs.Scans.{IsAbout, TellsItsOwn, value_there};
@@ -26,11 +27,35 @@ pub(crate) fn look<A: Allocator + Copy, G: StepGate>(
     ensures found { HasFound pass.new.view key result }
     ensures one { pass.new.view.looks ≡ pass.old.view.looks + 1 }
     ensures mine { Owns pass.old key → result ≡ present_in pass.old key }
+    ensures counted { CountsAll pass.old pass.new }
     ensures only { OnlyLooks pass.old pass.new (look_steps table.now.plan.last_card) }
 {
+    let (found, steps) = walk(table, pass, key, gate);
+    pass.count(steps);
+    found
+}
+
+// The same, but the steps are not counted: what is found, and how many steps there were.
+#[inline(always)]
+fn walk<A: Allocator + Copy, G: StepGate>(
+    table: &CardTable<A>,
+    pass: &mut Pass<A>,
+    key: u64,
+    gate: &G,
+) -> (Option<u64>, u64)
+    requires may { IsIdlePassOf table.now pass.old }
+    requires real { key ≤ greatest_key }
+    ensures found { HasFound pass.new.view key result.0 }
+    ensures one { pass.new.view.looks ≡ pass.old.view.looks + 1 }
+    ensures mine { Owns pass.old key → result.0 ≡ present_in pass.old key }
+    ensures uncounted { HasUncounted pass.old pass.new result.1 }
+    ensures only { OnlyLooks pass.old pass.new (look_steps table.now.plan.last_card) }
+{
+    table.facts_stay_inside(pass);
     let label = pass.label();
     gate.before(label, Kind::Look);
     let mut node = table.look(pass);
+    let mut steps = 1;
     while is_internal(node) {
         gate.before(label, Kind::Look);
         let node_key = table.key_of(pass, node);
@@ -41,14 +66,15 @@ pub(crate) fn look<A: Allocator + Copy, G: StepGate>(
             high: key + 1,
         };
         node = table.look_down(pass, here, node_key, node_key <= key);
+        steps += 2;
     }
     gate.before(label, Kind::Look);
     let leaf_key = table.key_of(pass, node);
     if leaf_key != key {
-        return None;
+        return (None, steps + 1);
     }
     gate.before(label, Kind::Look);
-    Some(table.value_of(pass, node))
+    (Some(table.value_of(pass, node)), steps + 2)
 }
 
 /// What is about a key, in one state: the look goes down once.

@@ -2,6 +2,7 @@
 ghost use Rattle.std.specs.Prelude.{◌≡◌, ◌<◌, ◌+◌, ◌*◌, None};
 ghost use Rattle.ell_cards.specs.Models.{Does, InTable, IsTold, StandsAt};
 ghost use Rattle.ell_cards.specs.declared.view.Told.TheVariants.{Met};
+ghost use Rattle.ell_tree.specs.Counts.{CountsAll, HasUncounted};
 ghost use Rattle.ell_tree.specs.Keeping.{IsInnerMet, Seeks};
 ghost use Rattle.ell_tree.specs.Searches.{AtRoot, EndsAt, EndWasUnknownAt, Passes, below};
 
@@ -9,6 +10,9 @@ use ell_cards::{CardTable, Pass};
 use ell_ops::Op;
 use ell_word::{Kind, StepGate, Update, is_internal};
 use std::alloc::Allocator;
+
+// A search reads the update word, the key and a child of each internal node that it passes.
+const STEPS_AT_A_NODE: u64 = 3;
 
 /// A node that a search passed, with the update that it read there.
 #[derive(Clone, Copy)]
@@ -27,7 +31,7 @@ pub(crate) struct Place {
     pub grandparent: Option<Passed>,
 }
 
-/// Searches for the operation's key from the root.
+/// Searches for the operation's key from the root. Its steps are counted once it has ended.
 pub(crate) fn search<A: Allocator + Copy, G: StepGate>(
     table: &CardTable<A>,
     pass: &mut Pass<A>,
@@ -37,28 +41,52 @@ pub(crate) fn search<A: Allocator + Copy, G: StepGate>(
     requires own { pass.old.table ≡ table.now.id }
     requires root { AtRoot op pass.old.view }
     ensures seeks { Seeks pass.old pass.new (3 * table.now.plan.last_card + 5) }
+    ensures counted { CountsAll pass.old pass.new }
     ensures ends { EndsAt table.now.plan.last_card pass.new.view op result }
 {
+    let (place, steps) = walk(table, pass, op, gate);
+    pass.count(steps);
+    place
+}
+
+// The same, but the steps are not counted: where it ended, and how many there were.
+#[inline(always)]
+fn walk<A: Allocator + Copy, G: StepGate>(
+    table: &CardTable<A>,
+    pass: &mut Pass<A>,
+    op: Op,
+    gate: &G,
+) -> (Place, u64)
+    requires own { pass.old.table ≡ table.now.id }
+    requires root { AtRoot op pass.old.view }
+    ensures seeks { Seeks pass.old pass.new (3 * table.now.plan.last_card + 5) }
+    ensures uncounted { HasUncounted pass.old pass.new result.1 }
+    ensures ends { EndsAt table.now.plan.last_card pass.new.view op result.0 }
+{
+    table.facts_stay_inside(pass);
     let (mut parent, mut node) = descend(table, pass, op, 0, gate);
     let mut grandparent = None;
+    let mut steps = STEPS_AT_A_NODE;
     while is_internal(node) {
         let (passed, child) = descend(table, pass, op, node, gate);
         grandparent = Some(anew(parent));
         parent = anew(passed);
         node = child;
+        steps += STEPS_AT_A_NODE;
     }
     let label = pass.label();
     gate.before(label, Kind::Look);
     let key = table.key_of(pass, node);
     gate.before(label, Kind::Look);
     let value = table.value_of(pass, node);
-    Place {
+    let place = Place {
         leaf: node,
         key,
         value,
         parent,
         grandparent,
-    }
+    };
+    (place, steps + 2)
 }
 
 // The same value, made from its parts. A move would copy the unused bytes beside the state too, for which the processor waits.
@@ -73,7 +101,8 @@ fn anew(passed: Passed) -> Passed
     }
 }
 
-// Goes down from an internal node, whose update it reads before the child: what it read there, and the child.
+// Goes down from an internal node, whose update it reads before the child: what it read there, and the child. The steps
+// are not counted.
 fn descend<A: Allocator + Copy, G: StepGate>(
     table: &CardTable<A>,
     pass: &mut Pass<A>,
@@ -87,6 +116,7 @@ fn descend<A: Allocator + Copy, G: StepGate>(
     requires unread { pass.old.view.worker.search.read ≡ None }
     requires node { IsInnerMet table.now.plan.last_card pass.old.view node }
     ensures seeks { Seeks pass.old pass.new 3 }
+    ensures uncounted { HasUncounted pass.old pass.new 3 }
     ensures here { result.0.node ≡ node }
     ensures deeper { node < result.1 }
     ensures there { InTable table.now.plan.last_card result.1 }

@@ -117,6 +117,7 @@ pub(crate) fn look_key<A: Allocator + Copy, G: StepGate>(
 {
     gate.before(pass.label(), Kind::Look);
     let key = table.key_of(pass, node);
+    pass.count(1);
     KeyedNode { node, key }
 }
 

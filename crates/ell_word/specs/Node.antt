@@ -1,4 +1,4 @@
-use Rattle.std.specs.Prelude.{◌≡◌, ℕ, ◌+◌, ◌-◌, ◌*◌, ◌/◌, ◌%◌, ◌^◌}
+use Rattle.std.specs.Prelude.{◌≡◌, ◌≢◌, ℕ, ◌+◌, ◌-◌, ◌*◌, ◌/◌, ◌%◌, ◌^◌}
 
 -- the greatest number of a card
 abbrev pub greatest_card : ℕ
@@ -20,18 +20,23 @@ infinity1 = 2 ^ 64 - 2
 abbrev pub infinity2 : ℕ
 infinity2 = 2 ^ 64 - 1
 
+-- Each card has the numbers of three nodes, and leaves one out: so a shift gives the card, and no division is to be made.
 abbrev pub internal : ℕ → ℕ
-internal card = 3 * card
+internal card = 4 * card
 
 abbrev pub left_leaf : ℕ → ℕ
-left_leaf card = 3 * card + 1
+left_leaf card = 4 * card + 1
 
 abbrev pub right_leaf : ℕ → ℕ
-right_leaf card = 3 * card + 2
+right_leaf card = 4 * card + 2
+
+-- the number of some node
+abbrev pub IsNode : ℕ → Type 0
+IsNode node = node % 4 ≢ 3
 
 abbrev pub IsInternal : ℕ → Type 0
-IsInternal node = node % 3 ≡ 0
+IsInternal node = node % 4 ≡ 0
 
 -- the card that a node stands on
 abbrev pub card : ℕ → ℕ
-card node = node / 3
+card node = node / 4

@@ -1,6 +1,10 @@
-//! Node numbers: each card has an internal node and two leaves.
+//! Node numbers: each card has an internal node and two leaves, and leaves one number of four out.
 ghost use Rattle.std.specs.Prelude.{◌≡◌, ◌≤◌, ◌↔◌, IsTrue};
 ghost use Rattle.ell_word.specs.Node.{greatest_card, most_cards, most_start, infinity1, infinity2, internal, left_leaf, right_leaf, IsInternal, card};
+
+// How far apart the numbers of two cards' internal nodes are: a power of two, so that the card of a node is a shift away,
+// which is asked at each node of a search.
+const NUMBERS_PER_CARD: u64 = 4;
 
 /// The greatest number of a card.
 pub const CARD_MAX: u64 = 1_200_000;
@@ -32,7 +36,7 @@ pub fn internal_of(card: u64) -> u64
     requires { card ≤ greatest_card }
     ensures { result ≡ internal card }
 {
-    3 * card
+    NUMBERS_PER_CARD * card
 }
 
 /// The left leaf of a card.
@@ -55,12 +59,12 @@ pub fn right_leaf_of(card: u64) -> u64
 pub fn is_internal(node: u64) -> bool
     ensures { IsTrue result ↔ IsInternal node }
 {
-    node % 3 == 0
+    node % NUMBERS_PER_CARD == 0
 }
 
 /// The card that a node stands on.
 pub fn card_of(node: u64) -> u64
     ensures { result ≡ card node }
 {
-    node / 3
+    node / NUMBERS_PER_CARD
 }

@@ -58,10 +58,7 @@ fn open(
         return Err(why_refused(keys, start, cards));
     };
     let handle = Handle::open(alloc, keys, &pairs, cards, number)?;
-    let place = Place {
-        handle: Some(handle),
-    };
-    Ok(Box::new(alloc, place)?)
+    Ok(Box::new(alloc, Place::of(Some(handle)))?)
 }
 
 /// The pairs of a host, as the tree has them.
@@ -117,7 +114,7 @@ fn split(alloc: Global, place: &mut Place, keys: &[u64]) -> Result<Box<Place, Gl
     let Some(handle) = place.handle.take() else {
         return Err(CLOSED);
     };
-    let Ok(mut part) = Box::new(alloc, Place { handle: None }) else {
+    let Ok(mut part) = Box::new(alloc, Place::of(None)) else {
         let code = if !handle.owns_all(keys) {
             FOREIGN
         } else if handle.has_least_share() {

@@ -57,10 +57,7 @@ fn open_shared(
         return Err(why_refused(&[], start, cards));
     };
     let handle = Handle::open_shared(alloc, &pairs, cards, number)?;
-    let place = Place {
-        handle: Some(handle),
-    };
-    Ok(Box::new(alloc, place)?)
+    Ok(Box::new(alloc, Place::of(Some(handle)))?)
 }
 
 /// Gives another slot, which is not open yet, a handle of the same tree: it changes shared keys, and looks at any key. A slot's own keys
@@ -102,7 +99,7 @@ fn another(alloc: Global, place: &mut Place) -> Result<Box<Place, Global>, i32>
     let Some(handle) = place.handle.take() else {
         return Err(CLOSED);
     };
-    let Ok(mut made) = Box::new(alloc, Place { handle: None }) else {
+    let Ok(mut made) = Box::new(alloc, Place::of(None)) else {
         let code = if handle.has_least_share() {
             TOO_MANY_HANDLES
         } else {

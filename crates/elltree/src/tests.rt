@@ -16,6 +16,7 @@ use crate::replacing::{elltree_slot_compare_exchange, elltree_slot_fetch_add, el
 use crate::sharing::{elltree_slot_another, elltree_slot_open_shared};
 use crate::slot::Slot;
 use crate::texts::elltree_code_text;
+use ell_handle::KeyTable;
 use ell_tree::KEY_MAX;
 use std::alloc::Global;
 
@@ -375,6 +376,31 @@ fn a_slot_tells_the_next_key_and_the_last(rt: HostRuntime) {
     assert!(rt; elltree_slot_free(alloc, &mut one) == YES);
     assert!(rt; elltree_slot_last_at_most(alloc, &mut other, 4, &mut found, &mut value) == NO);
     assert!(rt; elltree_slot_free(alloc, &mut other) == YES);
+}
+
+#[test]
+fn a_table_has_the_keys_of_its_list(rt: HostRuntime) {
+    let alloc: Global = rt.alloc();
+    let far = [0, 7, 1 << 40, u64::MAX / 3, KEY_MAX];
+    let table = KeyTable::of(alloc, &far);
+    for key in far {
+        assert!(rt; table.has(key));
+    }
+    for key in [1, 6, 1 << 41, KEY_MAX + 1, u64::MAX] {
+        assert!(rt; !table.has(key));
+    }
+    assert!(rt; !KeyTable::of(alloc, &[]).has(0));
+    // Keys of a stripe, and keys in a row.
+    let mut keys = [0; 1000];
+    for step in [1, 4, 64] {
+        for place in 0..1000 {
+            keys[place] = place as u64 * step;
+        }
+        let table = KeyTable::of(alloc, &keys);
+        for key in 0..64_000 {
+            assert!(rt; table.has(key) == (key % step == 0 && key < 1000 * step));
+        }
+    }
 }
 
 #[test]

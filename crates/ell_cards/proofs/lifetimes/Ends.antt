@@ -70,6 +70,7 @@ module _ (plan : TablePlan) (s : TableState) (h : IsReached plan s) (r : HasMach
         size = r.size;
         tree = is.tree;
         nodes = λ x h. let low = is.names.nodes x h in let next = same_next plan.keys plan.last_card s r in let room = r.invariant.limit in omega arith;
+        numbers = is.names.numbers;
         clean = λ x h inner. subst IsClean (sym (same_update x (reached_back x h) inner))
             (owner_finds_clean machine r.stages id r.invariant owns_all x (reached_back x h) inner);
         owned = λ k there. tree_key_is plan s h k (λ unshared. let by = is.ledgers.owned k there unshared in owned_listed by.worker k by.owns);

@@ -160,7 +160,7 @@ joins_are_moves keys cards s r id other v w here there apart free other_free =
             (rest_holds s.words r.words r.stages both (λ e told. elim (told_either v.told w.told e told) [ inl a ↦ h.entries e a | inr b ↦ g.entries e b ]) refl refl refl
             (later_most r.words.next v.next w.next h.read g.read) (let a = h.least in let b = g.least in omega arith) (λ f k. absurd (true≢false (sym k))))
             (rest_holds s.words r.words r.stages spent_view
-            (λ e told. met_root (EntryHolds r.words r.stages) (start_there r.words r.stages r.invariant.words 0 refl) e told) refl refl refl (λ n at. absurd (some_not_none at refl)) (omega arith) (λ f k. absurd (true≢false (sym k))))
+            (λ e told. met_root (EntryHolds r.words r.stages) (start_there r.words r.stages r.invariant.words 0 (omega arith) refl) e told) refl refl refl (λ n at. absurd (some_not_none at refl)) (omega arith) (λ f k. absurd (true≢false (sym k))))
             r.views;
         owned = λ j k. each_joined s.views id other v w here there turned both (λ u. WorkerOwns (worker_of u.worker) k → Contains keys k)
             (λ has. elim (ledger_united v.worker.ledger w.worker.ledger k) [

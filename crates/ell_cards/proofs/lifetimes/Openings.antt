@@ -114,7 +114,7 @@ opening_is_kept plan words may at =
         settled = λ c f calm. sym (words_are_listed words c f) ∙ ap (λ (v : Words). word v c f) at.are;
         views = each_first first (ViewHolds words w stages)
             (rest_holds words w stages first
-            (λ e told. met_root (EntryHolds w stages) (start_there w stages invariant.words 0 refl) e told) refl refl refl (λ n at. absurd (some_not_none at refl)) (omega arith) (λ f k. k));
+            (λ e told. met_root (EntryHolds w stages) (start_there w stages invariant.words 0 (omega arith) refl) e told) refl refl refl (λ n at. absurd (some_not_none at refl)) (omega arith) (λ f k. k));
         owned = λ j k. each_first first (λ v. WorkerOwns (worker_of v.worker) k → Contains plan.keys k)
             (λ owns. subst (λ (ks : List ℕ). Contains ks k) (keys_start plan.keys plan.start)
             (among_contains (keys_of (keys_at_start plan.keys plan.start)) k (owned_among (keys_at_start plan.keys plan.start) k owns))) j;

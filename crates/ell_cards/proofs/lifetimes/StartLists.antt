@@ -1,4 +1,4 @@
-use Rattle.std.proofs.Common.{◌≡◌, ℕ, zero, suc, ◌+◌, ◌≤◌, List, [], ◌∷◌, length, replicate, slice_set, length-set, refl, ap, ◌∙◌, arith}
+use Rattle.std.proofs.Common.{◌≡◌, ℕ, zero, suc, ◌+◌, ◌≤◌, List, ◌∷◌, ◌++◌, length, replicate, slice_set, length-set, refl, ap, ◌∙◌, arith}
 use Rattle.std.proofs.lemmas.List.{length-replicate}
 use Rattle.ell_word.specs.Node.{infinity1, infinity2}
 use Rattle.ell_core.specs.state.Layout.{table_size}
@@ -50,8 +50,13 @@ start_list_starts plan may = record {
   are = words_grow plan.start plan.last_card (length plan.start) may.room ∙ grown_up plan.start (length plan.start + 1) refl;
 }
 
--- the words of a table with one start key and three cards to give out
-pub small_list : start_list small_plan
-    ≡ 2 ∷ 0 ∷ 0 ∷ 0 ∷ 0 ∷ infinity2 ∷ 3 ∷ 2 ∷ 3 ∷ infinity1 ∷ infinity2 ∷ 0 ∷ 0 ∷ 0 ∷ 0 ∷ 0 ∷ 0 ∷ infinity1 ∷ 4 ∷ 5 ∷ 3 ∷ 5 ∷ infinity1 ∷ 50 ∷ 0 ∷ 0 ∷ 0 ∷ 0 ∷ 0 ∷ 0 ∷ 0 ∷ 0 ∷ 0 ∷ 0 ∷ 0 ∷ 0 ∷ 0 ∷ 0 ∷ 0 ∷ 0 ∷ 0 ∷ 0 ∷ 0 ∷ 0 ∷ 0 ∷ 0 ∷ 0 ∷ 0 ∷ 0 ∷ 0 ∷ 0 ∷ 0 ∷ 0 ∷ 0 ∷ 0 ∷ 0 ∷ 0 ∷ 0 ∷ 0 ∷ 0 ∷ 0 ∷ []
+-- the words of a table with one start key and three cards to give out: the nodes of cards 0 and 1, and their leaves
+abbrev pub small_words : List ℕ
+small_words =
+    2 ∷ replicate 5 0
+    ++ (infinity2 ∷ 4 ∷ 2 ∷ 3 ∷ infinity1 ∷ 5 ∷ 6 ∷ 3 ∷ replicate 248 0)
+    ++ (infinity1 ∷ infinity2 ∷ 0 ∷ 0 ∷ 5 ∷ infinity1 ∷ 50 ∷ 0 ∷ replicate 268 0)
+
+pub small_list : start_list small_plan ≡ small_words
 unfolding start_list listed_up_to descend
 small_list = refl

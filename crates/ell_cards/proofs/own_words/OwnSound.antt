@@ -78,6 +78,7 @@ module _ (m : Machine) (t : Words) (stage : Stages) (holds : Invariant m stage) 
   own_names : NamesAreSound t
   own_names = record {
     nodes = λ x reached. let below = was.names.nodes x ((reached_same m.words t stage holds.words same x).1 reached) in omega arith;
+    numbers = λ x reached. was.names.numbers x ((reached_same m.words t stage holds.words same x).1 reached);
     updates = λ x reached inner.
         let below = was.names.updates x ((reached_same m.words t stage holds.words same x).1 reached) inner in
         let is = ap (λ n. (unpacked n).card) (update_same m.words t stage holds.words same x inner (reached_born m.words t stage holds.words same x reached)) in

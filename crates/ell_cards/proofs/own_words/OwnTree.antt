@@ -11,6 +11,7 @@ use Rattle.ell_core.specs.history.Stages.{Stages, waits, Born}
 use Rattle.ell_core.specs.history.Invariant.{WordsAreSound}
 use Rattle.ell_core.specs.history.Later.{SaysTheSame}
 use Rattle.ell_core.specs.statements.Effects.{SamePairs}
+use Rattle.ell_core.proofs.stages.Order.{born_is_node}
 use Rattle.ell_core.proofs.words.Writes.{key_at_node, value_at_leaf, child_at_node, update_at_node}
 use Rattle.ell_core.proofs.stages.Waiting.{born-settled}
 use Rattle.ell_core.proofs.tree.Reached.{pair_key, key_pair}
@@ -26,13 +27,15 @@ same_keys old new same k = (
 module _ (w t : Words) (stage : Stages) (sound : WordsAreSound w stage) (same : (c : ℕ) → waits (stage c) ≡ false → SaysTheSame w t c) where
   -- a node that came into the tree is as it was
   at_card : (x : ℕ) → Born stage x → SaysTheSame w t (card x)
-  at_card x born = same (card x) (born-settled (stage (card x)) (x % 3) born)
+  at_card x born = same (card x) (born-settled (stage (card x)) (x % 4) born)
 
   pub key_same : (x : ℕ) → Born stage x → t.key x ≡ w.key x
-  key_same x born = key_at_node t x ∙ (at_card x born (key_field (x % 3)) ∙ sym (key_at_node w x))
+  key_same x born = let node = born_is_node stage x born in
+      key_at_node t x node ∙ (at_card x born (key_field (x % 4)) ∙ sym (key_at_node w x node))
 
   pub value_same : (x : ℕ) → IsLeaf x → Born stage x → t.value x ≡ w.value x
-  value_same x outer born = value_at_leaf t x outer ∙ (at_card x born (value_field (x % 3)) ∙ sym (value_at_leaf w x outer))
+  value_same x outer born = let node = born_is_node stage x born in
+      value_at_leaf t x node outer ∙ (at_card x born (value_field (x % 4)) ∙ sym (value_at_leaf w x node outer))
 
   pub child_same : (x : ℕ) (right : Bool) → IsInternal x → Born stage x → t.child x right ≡ w.child x right
   child_same x right inner born =
@@ -43,7 +46,7 @@ module _ (w t : Words) (stage : Stages) (sound : WordsAreSound w stage) (same : 
 
   -- the root came into the tree, and so do children
   pub root_born : Born stage 0
-  root_born = start_there w stage sound 0 refl
+  root_born = start_there w stage sound 0 (omega arith) refl
 
   pub child_born : (x : ℕ) (right : Bool) → IsInternal x → Born stage x → Born stage (w.child x right)
   child_born x right inner born = (sound.children x inner born).born right
@@ -207,6 +210,6 @@ module _ (w t : Words) (stage : Stages) (sound : WordsAreSound w stage) (same : 
         omega arith;
     root_key = key_same 0 root_born ∙ h.root_key;
     root_right = child_same 0 true refl root_born ∙ h.root_right;
-    right_key = key_same (right_leaf 0) (start_there w stage sound (right_leaf 0) refl) ∙ h.right_key;
+    right_key = key_same (right_leaf 0) (start_there w stage sound (right_leaf 0) (omega arith) refl) ∙ h.right_key;
     left = left_lawful h.left;
   }

@@ -87,7 +87,7 @@ module _ (keys : List ℕ) (cards : ℕ) (s : TableState) (r : HasMachine keys c
     settled = settled_card;
     reached = reached_same r.words (own_words s) r.stages r.invariant.words same_card;
     nodes = λ x reached. settled_card (card x)
-        (born-settled (r.stages (card x)) (x % 3) (reached_born r.words (own_words s) r.stages r.invariant.words same_card x reached));
+        (born-settled (r.stages (card x)) (x % 4) (reached_born r.words (own_words s) r.stages r.invariant.words same_card x reached));
     flags = λ x reached inner dirty.
         let hand = (sound_state.flags x reached inner dirty).in_hand in
         let c = (unpacked ((own_words s).update x)).card in

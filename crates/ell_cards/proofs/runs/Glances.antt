@@ -206,7 +206,7 @@ module _ (keys : List ℕ) (cards : ℕ) where
     key_there : (state : TableState) (kept : HasMachine keys cards state) (turns : List Turn) → TableRun cards state turns s → Born kept.stages x → kept.words.key x ≡ k
     key_there state kept turns run born =
         let goes = run_goes keys cards state kept kept.stages kept.invariant turns s run in
-        sym (goes.1.words.key x ((kept.invariant.words.cards (card x)).claimed.0 (born-claimed (kept.stages (card x)) (x % 3) born)))
+        sym (goes.1.words.key x ((kept.invariant.words.cards (card x)).claimed.0 (born-claimed (kept.stages (card x)) (x % 4) born)))
         ∙ ((goes.0.views seat v there).entries (Key x k) told).1
 
     -- those that go to its child came by that
@@ -425,7 +425,7 @@ module _ (keys : List ℕ) (cards : ℕ) (s0 : TableState) (turns : List Turn) (
       value_there : (value : ℕ) → IsTold v (Value found.leaf value) → Born c.kept.stages found.leaf → w.value found.leaf ≡ value
       value_there value told born' =
           let goes = run_goes keys cards c.state c.kept c.kept.stages c.kept.invariant c.after s c.last in
-          sym (goes.1.words.value found.leaf ((c.kept.invariant.words.cards (card found.leaf)).claimed.0 (born-claimed (c.kept.stages (card found.leaf)) (found.leaf % 3) born')))
+          sym (goes.1.words.value found.leaf ((c.kept.invariant.words.cards (card found.leaf)).claimed.0 (born-claimed (c.kept.stages (card found.leaf)) (found.leaf % 4) born')))
           ∙ ((goes.0.views seat v there).entries (Value found.leaf value) told).1
 
       by : (o : Option (ℕ × ℕ)) → TellsBetween v found.leaf found.leaf_key low high o → HasBetween (own_words c.state) low high o

@@ -17,7 +17,7 @@ first_inner w x [] y leads inner = subst IsInternal leads inner
 first_inner w x (right ∷ path) y leads inner = leads.0
 
 -- each step of it goes up by a card or more
-steps_rise : (w : Words) → IsLawful w → (x : ℕ) (path : List Bool) (y : ℕ) → Reached w x → Leads w x path y → IsInternal y → x + 3 * length path ≤ y
+steps_rise : (w : Words) → IsLawful w → (x : ℕ) (path : List Bool) (y : ℕ) → Reached w x → Leads w x path y → IsInternal y → x + 4 * length path ≤ y
 steps_rise w lawful x [] y reached leads inner = let same = leads in omega arith
 steps_rise w lawful x (right ∷ path) y reached leads inner =
     let up = lawful.rises x right reached leads.0 in
@@ -30,7 +30,7 @@ pub tables_have_heights : TablesHaveHeights
 tables_have_heights plan s reached path x leads inner =
     let rise = steps_rise (own_words s) (own_words_are_sound plan.keys plan.last_card s r).tree 0 path x (Below-refl (own_words s) 0) leads inner in
     let born = reached_born r.words (own_words s) r.stages r.invariant.words (same_card plan.keys plan.last_card s r) x (record { path = path; leads = leads }) in
-    let low = (r.invariant.words.cards (card x)).claimed.0 (born-claimed (r.stages (card x)) (x % 3) born) in
+    let low = (r.invariant.words.cards (card x)).claimed.0 (born-claimed (r.stages (card x)) (x % 4) born) in
     let limit = r.invariant.limit in
     omega arith
   where

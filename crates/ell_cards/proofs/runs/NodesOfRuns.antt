@@ -50,7 +50,7 @@ module _ (keys : List ℕ) (cards : ℕ) (s : TableState) (r : HasMachine keys c
   -- and go on as those do
   node_goes_on : NodeGoesOn (own_words s) (own_words s') x
   node_goes_on = record {
-    key = key_now ∙ (went.words.key x ((r.invariant.words.cards (card x)).claimed.0 (born-claimed (r.stages (card x)) (x % 3) born)) ∙ sym key_then);
+    key = key_now ∙ (went.words.key x ((r.invariant.words.cards (card x)).claimed.0 (born-claimed (r.stages (card x)) (x % 4) born)) ∙ sym key_then);
     children = λ inner right.
         let before = child_then inner right in
         let after = child_now inner right in

@@ -252,7 +252,7 @@ module _ (keys : List ℕ) (cards : ℕ) (seat key : ℕ) (real : key ≤ greate
       let goes = run_goes keys cards was.state r r.stages r.invariant _ s' was.amid.after in
       let last = goes.0 in
       let born = walk_born r.words r.stages sound key (root_born r.words r.stages sound) was.on in
-      let below : card leaf < r.words.next = (sound.cards (card leaf)).claimed.0 (born-claimed (r.stages (card leaf)) (leaf % 3) born) in
+      let below : card leaf < r.words.next = (sound.cards (card leaf)).claimed.0 (born-claimed (r.stages (card leaf)) (leaf % 4) born) in
       let has : r.words.key leaf ≡ has_key =
       sym (goes.1.words.key leaf below) ∙ here_key keys cards s' last seat v at leaf has_key stands told in
       record { state = was.state; amid = was.amid; so = by there tells has last.words last.stages (goes.1.words.value leaf below) (last.views seat v at).entries }

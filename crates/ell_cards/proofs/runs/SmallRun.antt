@@ -23,7 +23,7 @@ use Rattle.ell_cards.specs.States.{TableState}
 use Rattle.ell_cards.specs.Starts.{Starts, StartWords, MayStart, IsSharedIn}
 use Rattle.ell_cards.specs.Turns.{Turn, Makes, Splits, Joins, TableTurns, TableRun, state_after, state_split, state_joined}
 use Rattle.ell_cards.specs.SmallRun.{small_plan, small_run, SmallRunIsMade, parting, delete_flags, insert_claims, insert_flags, mark_is_lost, insert_ends, delete_begins_anew, delete_ends, look, ending}
-use Rattle.ell_cards.proofs.lifetimes.StartLists.{start_list_starts, small_list}
+use Rattle.ell_cards.proofs.lifetimes.StartLists.{start_list_starts, small_list, small_words}
 
 -- what the pass in a seat knows
 abbrev view_or : Option View → View
@@ -93,14 +93,14 @@ of_card : (P : ℕ → Type 0) (n c : ℕ) → Some n ≡ Some c → P n → P c
 of_card P n c is h = let same : ◌≡◌ {A = ℕ} n c = cc in subst P same h
 
 -- leaves
-leaf_4 : IsLeaf 4
-leaf_4 e = let h : ◌≡◌ {A = ℕ} 1 0 = e in omega arith
+leaf_5 : IsLeaf 5
+leaf_5 e = let h : ◌≡◌ {A = ℕ} 1 0 = e in omega arith
 
-leaf_10 : IsLeaf 10
-leaf_10 e = let h : ◌≡◌ {A = ℕ} 1 0 = e in omega arith
+leaf_13 : IsLeaf 13
+leaf_13 e = let h : ◌≡◌ {A = ℕ} 1 0 = e in omega arith
 
-leaf_11 : IsLeaf 11
-leaf_11 e = let h : ◌≡◌ {A = ℕ} 2 0 = e in omega arith
+leaf_14 : IsLeaf 14
+leaf_14 e = let h : ◌≡◌ {A = ℕ} 2 0 = e in omega arith
 
 -- what is stored of a delete's card, and of the insert's, is what it is to say
 filled_delete : (gp p l was : ℕ) (f : Field)
@@ -119,8 +119,8 @@ filled_delete gp p l was field.LeftValue = refl
 filled_delete gp p l was field.RightValue = refl
 
 filled_insert : (f : Field)
-    → stored_at ((field.RightValue, 70) ∷ (field.LeftValue, 50) ∷ (field.RightLeafKey, 7) ∷ (field.LeftLeafKey, 5) ∷ (field.Update, 3) ∷ (field.Right, 11)
-    ∷ (field.Left, 10) ∷ (field.Key, 7) ∷ (field.L, 4) ∷ (field.P, 3) ∷ []) f ≡ stored (insert_filling 3 7 70 3 4 5 50) f 0
+    → stored_at ((field.RightValue, 70) ∷ (field.LeftValue, 50) ∷ (field.RightLeafKey, 7) ∷ (field.LeftLeafKey, 5) ∷ (field.Update, 3) ∷ (field.Right, 14)
+    ∷ (field.Left, 13) ∷ (field.Key, 7) ∷ (field.L, 5) ∷ (field.P, 4) ∷ []) f ≡ stored (insert_filling 3 7 70 4 5 5 50) f 0
 filled_insert field.Gp = refl
 filled_insert field.P = refl
 filled_insert field.L = refl
@@ -137,7 +137,7 @@ filled_insert field.RightValue = refl
 -- the table as it starts
 abbrev at_0 : TableState
 at_0 = record {
-  words = 2 ∷ 0 ∷ 0 ∷ 0 ∷ 0 ∷ infinity2 ∷ 3 ∷ 2 ∷ 3 ∷ infinity1 ∷ infinity2 ∷ 0 ∷ 0 ∷ 0 ∷ 0 ∷ 0 ∷ 0 ∷ infinity1 ∷ 4 ∷ 5 ∷ 3 ∷ 5 ∷ infinity1 ∷ 50 ∷ 0 ∷ 0 ∷ 0 ∷ 0 ∷ 0 ∷ 0 ∷ 0 ∷ 0 ∷ 0 ∷ 0 ∷ 0 ∷ 0 ∷ 0 ∷ 0 ∷ 0 ∷ 0 ∷ 0 ∷ 0 ∷ 0 ∷ 0 ∷ 0 ∷ 0 ∷ 0 ∷ 0 ∷ 0 ∷ 0 ∷ 0 ∷ 0 ∷ 0 ∷ 0 ∷ 0 ∷ 0 ∷ 0 ∷ 0 ∷ 0 ∷ 0 ∷ 0 ∷ [];
+  words = small_words;
   homes = [];
   views = first_of small_plan ∷ [];
 }
@@ -189,12 +189,12 @@ delete_flags_asks =
     ▸ (refl, record { op = Delete 5; word = 3; key = infinity1; busy = refl; stands = refl; inner = refl; read = refl; told = refl; side = refl })
     ▸ (refl, told_at 0 _ _ refl)
     ▸ (refl, tt)
-    ▸ (refl, (record { op = Delete 5; leaf = 4; key = 5; parent = record { node = 3; word = 3 }; read = refl; no_card = refl; busy = refl; stands = refl; outer = leaf_4; told = refl; behind = refl; calm = refl; wants = (refl, (record { node = 0; word = 3 }, refl, refl)) }, omega arith))
+    ▸ (refl, (record { op = Delete 5; leaf = 5; key = 5; parent = record { node = 4; word = 3 }; read = refl; no_card = refl; busy = refl; stands = refl; outer = leaf_5; told = refl; behind = refl; calm = refl; wants = (refl, (record { node = 0; word = 3 }, refl, refl)) }, omega arith))
     ▸ (refl, record { holds = refl; unflagged = refl })
     ▸ (refl, record { holds = refl; unflagged = refl })
     ▸ (refl, record { holds = refl; unflagged = refl })
     ▸ (refl, record { holds = refl; unflagged = refl })
-    ▸ (refl, record { key = 5; leaf = 4; parent = record { node = 3; word = 3 }; busy = refl; may = record { holds = refl; unflagged = refl }; stands = refl; behind = refl; above = refl; filled = filled_delete 0 3 4 3 })
+    ▸ (refl, record { key = 5; leaf = 5; parent = record { node = 4; word = 3 }; busy = refl; may = record { holds = refl; unflagged = refl }; stands = refl; behind = refl; above = refl; filled = filled_delete 0 4 5 3 })
     ▸ tt
 
 abbrev at_2 : TableState
@@ -211,9 +211,9 @@ insert_claims_asks =
     ▸ (refl, told_at 0 _ _ refl)
     ▸ (refl, record { op = Insert 7 70; word = 3; key = infinity1; busy = refl; stands = refl; inner = refl; read = refl; told = refl; side = refl })
     ▸ (refl, told_at 0 _ _ refl)
-    ▸ (refl, (told_at 1 _ _ refl, leaf_4))
+    ▸ (refl, (told_at 1 _ _ refl, leaf_5))
     ▸ (refl, tt)
-    ▸ (refl, (record { op = Insert 7 70; leaf = 4; key = 5; parent = record { node = 3; word = 3 }; read = refl; no_card = refl; busy = refl; stands = refl; outer = leaf_4; told = refl; behind = refl; calm = refl; wants = ((λ e. let h : ◌≡◌ {A = ℕ} 5 7 = e in omega arith), (50, told_at 0 _ _ refl)) }, omega arith))
+    ▸ (refl, (record { op = Insert 7 70; leaf = 5; key = 5; parent = record { node = 4; word = 3 }; read = refl; no_card = refl; busy = refl; stands = refl; outer = leaf_5; told = refl; behind = refl; calm = refl; wants = ((λ e. let h : ◌≡◌ {A = ℕ} 5 7 = e in omega arith), (50, told_at 0 _ _ refl)) }, omega arith))
     ▸ tt
 
 abbrev at_3 : TableState
@@ -232,7 +232,7 @@ insert_flags_asks =
     ▸ (refl, record { holds = refl; unflagged = refl })
     ▸ (refl, record { holds = refl; unflagged = refl })
     ▸ (refl, record { holds = refl; unflagged = refl })
-    ▸ (refl, record { op = Insert 7 70; what = record { key = 7; value = 70; was = None }; leaf = 4; busy = refl; puts = refl; may = record { holds = refl; unflagged = refl }; stands = refl; behind = refl; filled = filled_insert })
+    ▸ (refl, record { op = Insert 7 70; what = record { key = 7; value = 70; was = None }; leaf = 5; busy = refl; puts = refl; may = record { holds = refl; unflagged = refl }; stands = refl; behind = refl; filled = filled_insert })
     ▸ tt
 
 abbrev at_4 : TableState
@@ -279,7 +279,7 @@ delete_begins_anew_asks =
     ▸ (refl, record { op = Delete 5; word = 3; key = 7; busy = refl; stands = refl; inner = refl; read = refl; told = refl; side = refl })
     ▸ (refl, told_at 0 _ _ refl)
     ▸ (refl, tt)
-    ▸ (refl, (record { op = Delete 5; leaf = 10; key = 5; parent = record { node = 9; word = 3 }; read = refl; no_card = refl; busy = refl; stands = refl; outer = leaf_10; told = refl; behind = refl; calm = refl; wants = (refl, (record { node = 3; word = 15 }, refl, refl)) }, omega arith))
+    ▸ (refl, (record { op = Delete 5; leaf = 13; key = 5; parent = record { node = 12; word = 3 }; read = refl; no_card = refl; busy = refl; stands = refl; outer = leaf_13; told = refl; behind = refl; calm = refl; wants = (refl, (record { node = 4; word = 15 }, refl, refl)) }, omega arith))
     ▸ tt
 
 abbrev at_7 : TableState
@@ -292,11 +292,11 @@ delete_ends_asks =
     ▸ (refl, record { holds = refl; unflagged = refl })
     ▸ (refl, record { holds = refl; unflagged = refl })
     ▸ (refl, record { holds = refl; unflagged = refl })
-    ▸ (refl, record { key = 5; leaf = 10; parent = record { node = 9; word = 3 }; busy = refl; may = record { holds = refl; unflagged = refl }; stands = refl; behind = refl; above = refl; filled = filled_delete 3 9 10 3 })
+    ▸ (refl, record { key = 5; leaf = 13; parent = record { node = 12; word = 3 }; busy = refl; may = record { holds = refl; unflagged = refl }; stands = refl; behind = refl; above = refl; filled = filled_delete 4 12 13 3 })
     ▸ (refl, record { knows = refl; parent = told_at 1 _ _ refl; read = told_at 3 _ _ refl })
     ▸ (refl, record { knows = refl; parent = told_at 1 _ _ refl })
     ▸ (refl, told_at 1 _ _ refl)
-    ▸ (refl, record { leaf = 10; grandparent_key = infinity1; sibling_key = 7; knows = refl; grandparent = told_at 3 _ _ refl; parent = told_at 4 _ _ refl; below = told_at 5 _ _ refl; sibling = inl (told_at 1 _ _ refl, λ e. let h : ◌≡◌ {A = ℕ} 11 10 = e in omega arith); told_grandparent = told_at 11 _ _ refl; told_sibling = told_at 0 _ _ refl; side = refl })
+    ▸ (refl, record { leaf = 13; grandparent_key = infinity1; sibling_key = 7; knows = refl; grandparent = told_at 3 _ _ refl; parent = told_at 4 _ _ refl; below = told_at 5 _ _ refl; sibling = inl (told_at 1 _ _ refl, λ e. let h : ◌≡◌ {A = ℕ} 14 13 = e in omega arith); told_grandparent = told_at 11 _ _ refl; told_sibling = told_at 0 _ _ refl; side = refl })
     ▸ (refl, record { knows = refl; grandparent = told_at 3 _ _ refl })
     ▸ (refl, record { op = Delete 5; busy = refl; answers = inr (record { card = 4; holds = refl; flagged = refl; over = refl; says = refl }) })
     ▸ tt
@@ -308,9 +308,9 @@ at_8 = run_leads at_7 delete_ends
 look_asks : RunAsks 4 at_8 look
 look_asks =
     (refl, refl)
-    ▸ (refl, record { come = record { glance = record { node = 3; low = 0; high = greatest_key + 1 }; among = last _ _; there = refl; from = omega arith; upto = omega arith }; met = told_at 0 _ _ refl; inner = refl; told = told_at 11 _ _ refl })
+    ▸ (refl, record { come = record { glance = record { node = 4; low = 0; high = greatest_key + 1 }; among = last _ _; there = refl; from = omega arith; upto = omega arith }; met = told_at 0 _ _ refl; inner = refl; told = told_at 11 _ _ refl })
     ▸ (refl, told_at 0 _ _ refl)
-    ▸ (refl, (told_at 1 _ _ refl, leaf_11))
+    ▸ (refl, (told_at 1 _ _ refl, leaf_14))
     ▸ tt
 
 abbrev at_9 : TableState

@@ -1,4 +1,4 @@
-use Rattle.std.proofs.Common.{◌≡◌, ◌%◌, ℕ, ◌+◌, ◌<◌, ◌≤◌, ◌&&◌, ◌||◌, ◌==◌, not, if◌then◌else◌, Bool, true, false, List, [], ◌∷◌, ◌++◌, length, inl, inr, refl, sym, ap, ◌∙◌, subst, arith}
+use Rattle.std.proofs.Common.{◌≡◌, ◌%◌, ℕ, ◌+◌, ◌<◌, ◌≤◌, ◌&&◌, ◌||◌, ◌==◌, not, if◌then◌else◌, nat_le, Bool, true, false, List, [], ◌∷◌, ◌++◌, length, inl, inr, refl, sym, ap, ◌∙◌, subst, arith}
 use Rattle.std.proofs.lemmas.Bool.{false≢true, false_from_ne_true, and_from, and_right, not_from_false}
 use Rattle.std.proofs.lemmas.List.{append_assoc, append-nil}
 use Rattle.ell_word.specs.Node.{card, left_leaf, right_leaf}
@@ -10,7 +10,7 @@ use Rattle.ell_core.specs.state.Machine.{Machine}
 use Rattle.ell_core.specs.history.Stages.{Stages, Born, is_born, is_delete, is_changed, delete_waits}
 use Rattle.ell_core.specs.history.Invariant.{Invariant, IsIn, delete_side}
 use Rattle.ell_core.specs.history.Later.{WordsLater, StagesLater, wins_of}
-use Rattle.ell_core.proofs.stages.Order.{delete-claimed, insert-claimed, born-claimed, changed_nodes, insert_won-insert, delete_won-delete, delete_waits-delete, delete_waits-open, changed-insert, cut-delete, marked-delete, backed-delete, one_kind}
+use Rattle.ell_core.proofs.stages.Order.{born-node, delete-claimed, insert-claimed, born-claimed, changed_nodes, insert_won-insert, delete_won-delete, delete_waits-delete, delete_waits-open, changed-insert, cut-delete, marked-delete, backed-delete, one_kind}
 use Rattle.ell_core.proofs.stages.Sums.{child_changes, all_flags, sum_by, sum_append, sum_same, changed-sum, sum-changed, unflagged-sum, sum-flagged, flags-once}
 use Rattle.ell_core.proofs.stages.Flags.{was_flagged, flagged_cases, insert-flagged, delete-flagged, flagged-claimed, born_cases, backed-won}
 use Rattle.ell_core.proofs.stages.Waiting.{start-born}
@@ -172,12 +172,12 @@ module _ (keys : List ℕ) (cards : ℕ) (s0 : TableState) (r0 : HasMachine keys
         let right = at.went.words.key (right_leaf c) (omega arith) in
         let alike : is_born (stage c) ≡ is_born (first c) =
         (at.went.invariant.words.inserts c).brings now ∙ ((λ t. not (left t == right t)) ∙ sym ((before.words.inserts c).brings had)) in
-        changed_nodes (first c) (x % 3) had ∙ ((λ t. sym alike t || (x % 3 == 2)) ∙ (sym (changed_nodes (stage c) (x % 3) now) ∙ born))
+        changed_nodes (first c) (x % 4) had ∙ ((λ t. (sym alike t && nat_le (x % 4) 2) || (x % 4 == 2)) ∙ (sym (changed_nodes (stage c) (x % 4) now) ∙ born))
 
     -- what came into the tree had come into it before
     born_before : (x : ℕ) → Born stage x → Born first x
-    born_before x born = elim (born_cases (stage (card x)) (x % 3) born) [
-      | inl start ↦ start-born (first (card x)) (x % 3) (sym (at.went.later.start (card x)) ∙ start)
+    born_before x born = elim (born_cases (stage (card x)) (x % 4) born) [
+      | inl start ↦ start-born (first (card x)) (x % 4) (born-node (stage (card x)) (x % 4) born) (sym (at.went.later.start (card x)) ∙ start)
       | inr changed ↦ changed_alike x changed born (unchanged_since first stage at.went.later (won (card x)) (card x) (at.went.wins (card x)) (quiet (card x)) changed)
     ]
 
@@ -188,7 +188,7 @@ module _ (keys : List ℕ) (cards : ℕ) (s0 : TableState) (r0 : HasMachine keys
         let says = (at.went.invariant.words.cards c).delete deletes in
         let side = delete_side m.words c in
         let born = born_before (m.words.gp c) says.grandparent.born in
-        let low = (before.words.cards (card (m.words.gp c))).claimed.0 (born-claimed (first (card (m.words.gp c))) ((m.words.gp c) % 3) born) in
+        let low = (before.words.cards (card (m.words.gp c))).claimed.0 (born-claimed (first (card (m.words.gp c))) ((m.words.gp c) % 4) born) in
         let flag = (at.went.invariant.words.deletes c).flag (delete_waits-open (stage c) waits) in
         moved info.gp info.p (record {
           right = side;

@@ -13,11 +13,11 @@ use Rattle.ell_cards.specs.declared.call.Call.{Call}
 use Rattle.ell_cards.specs.declared.call.Call.TheVariants as call
 use Rattle.ell_cards.specs.declared.view.View.{View}
 use Rattle.ell_cards.specs.declared.view.Told.TheVariants.{Met, Info}
-use Rattle.ell_cards.specs.Models.{KnowsCard, PassModel, Steps}
+use Rattle.ell_cards.specs.Models.{KnowsCard, PassModel, Sees, Steps}
 use Rattle.ell_cards.specs.Changes.{keys_of, with_entry, answered_ledger, after_claim, after_mark, after_flag, is_mark_of, learning, unmarking}
 use Rattle.ell_cards.specs.Calls.{word_of, after, May}
 use Rattle.ell_cards.specs.Naming.{IsNamed}
-use Rattle.ell_cards.specs.Stepping.{KeepsPass, StepsBy, IsTaken, SameShare}
+use Rattle.ell_cards.specs.Stepping.{KeepsPass, SeesBy, StepsBy, IsTaken, SameShare}
 use Rattle.ell_cards.proofs.seats.LedgersStay.{claim_ledger, flag_ledger, mark_ledger, claim_list, flag_list, mark_list}
 use Rattle.ell_core.specs.declared.view.Entry.{Entry}
 use Rattle.ell_core.specs.declared.view.Entry.TheVariants.{Present, Absent}
@@ -103,8 +103,8 @@ known_fits cards v c named (inr (inr k)) = named.facts (Marked c) k
 pub word_fits : (cards : ℕ) (c : Call) (v : View) → IsNamed cards v → May cards c v → word_of c < table_size cards
 word_fits cards (call.Upd x) v named may = address_fits cards (card x) field.Update (named.node x may.stands)
 word_fits cards (call.Down x right) v named may = address_fits cards (card x) (child_field right) (named.node x may.stands)
-word_fits cards (call.KeyOf x) v named may = address_fits cards (card x) (key_field (x % 3)) (named.entries (Met x) may)
-word_fits cards (call.ValueOf x) v named may = address_fits cards (card x) (value_field (x % 3)) (named.entries (Met x) may.0)
+word_fits cards (call.KeyOf x) v named may = address_fits cards (card x) (key_field (x % 4)) (named.entries (Met x) may)
+word_fits cards (call.ValueOf x) v named may = address_fits cards (card x) (value_field (x % 4)) (named.entries (Met x) may.0)
 word_fits cards (call.Info c f) v named may = address_fits cards c f (known_fits cards v c named may.knows)
 word_fits cards (call.FrozenChild c p right) v named may = address_fits cards (card p) (child_field right) (named.entries (Info c field.P p) may.parent).1
 word_fits cards call.Look v named may = address_fits cards 0 (child_field false) (omega arith)
@@ -121,6 +121,10 @@ word_fits cards (call.DChild c gp p sibling right) v named may =
 word_fits cards (call.DUnflag c gp) v named may = address_fits cards (card gp) field.Update (named.entries (Info c field.Gp gp) may.grandparent).1
 word_fits cards (call.Backtrack c gp) v named may = address_fits cards (card gp) field.Update (named.entries (Info c field.Gp gp) may.grandparent).1
 word_fits cards _ v named may = omega arith
+
+-- a pass after one step that took this call, before it counts the step
+pub sees_by : (old new : PassModel) (v : View) → SeesBy old new → new.view ≡ v → Sees old new v
+sees_by old new v by known = λ t. record { table = by.table t; view = known t; steps = by.steps t; label = by.label t }
 
 -- a pass after one step that took this call
 pub steps_by : (old new : PassModel) (v : View) → StepsBy old new → new.view ≡ v → Steps old new v

@@ -20,6 +20,7 @@ use Rattle.ell_cards.specs.declared.view.Told.{Told}
 use Rattle.ell_cards.specs.declared.view.Told.TheVariants.{Met, Value}
 use Rattle.ell_cards.specs.declared.view.View.{View}
 use Rattle.ell_cards.specs.Models.{Has}
+use Rattle.ell_cards.specs.Calls.{key_at}
 use Rattle.ell_cards.specs.Changes.{with_entry as with_entry_for, after_begin, after_again, after_leave, after_answer, answered_ledger, with_entry as put_entry}
 use Rattle.ell_cards.specs.Guards.{MayBegin, MayStop, MayAnswer, TellsOf, KnowsAnswerAtLeaf, KnowsAnswerByCard, IsOver}
 use Rattle.ell_cards.specs.Models.{Knows, KnewBefore}
@@ -66,12 +67,12 @@ bare w stage v after no_key no_card owns list read least before knew walk = reco
 module _ (keys : List ℕ) (cards : ℕ) (s : TableState) (r : HasMachine keys cards s) (id : ℕ) (v : View) (here : get_elem? s.views id ≡ some v) where
   -- what a pass that stands at the root was told
   root_entries : (e : Told) → Has (Met 0 ∷ v.told) e → EntryHolds r.words r.stages e
-  root_entries = with_entry (EntryHolds r.words r.stages) (Met 0) v.told (start_there r.words r.stages r.invariant.words 0 refl) (r.views id v here).entries
+  root_entries = with_entry (EntryHolds r.words r.stages) (Met 0) v.told (start_there r.words r.stages r.invariant.words 0 (omega arith) refl) (r.views id v here).entries
 
   -- where a search begins, its walk comes by nothing that was cut out
   root_walk : (op : Op) (x : ℕ) → Some 0 ≡ Some x → Born r.stages x × Avoids r.words (λ c. known_of v.worker.facts (DOver c)) (key_of op) x
   root_walk op x at = subst (λ y. Born r.stages y × Avoids r.words (λ c. known_of v.worker.facts (DOver c)) (key_of op) y) (same_Some 0 x at) (
-    start_there r.words r.stages r.invariant.words 0 refl,
+    start_there r.words r.stages r.invariant.words 0 (omega arith) refl,
     roots_avoid (machine keys cards s r id v here) r.stages (λ c. known_of v.worker.facts (DOver c)) (key_of op) r.invariant
         (λ c has. over-cut (r.stages c) ((mine_sound keys cards s r id v here).facts (DOver c) has)),
   )
@@ -87,7 +88,7 @@ module _ (keys : List ℕ) (cards : ℕ) (s : TableState) (r : HasMachine keys c
       } in
       is_event keys cards s r id v here (call.Begin op) (act.Begin op) Moved r.words
       (looks keys cards s r id v here (act.Begin op) Moved after happens (λ c. refl) root_entries
-      (bare r.words r.stages v after refl refl (λ k h. h) refl (λ n at. absurd (some_not_none at refl)) refl (λ f k. k) (λ f k. k) (λ o x busy at. root_walk o x at)) 0)
+      (bare r.words r.stages v after refl refl (λ k h. h) refl (λ n at. absurd (some_not_none at refl)) refl (λ f k. k) (λ f k. k) (λ o x busy at. root_walk o x at)) (key_at 0))
       refl refl tt
 
   -- again
@@ -101,7 +102,7 @@ module _ (keys : List ℕ) (cards : ℕ) (s : TableState) (r : HasMachine keys c
       } in
       is_event keys cards s r id v here call.Again act.Again Moved r.words
       (looks keys cards s r id v here act.Again Moved after happens (λ c. refl) root_entries
-      (bare r.words r.stages v after refl refl (λ k h. h) refl (λ n at. absurd (some_not_none at refl)) refl (λ f k. k) (λ f k. k) (λ o x busy at. root_walk o x at)) 0)
+      (bare r.words r.stages v after refl refl (λ k h. h) refl (λ n at. absurd (some_not_none at refl)) refl (λ f k. k) (λ f k. k) (λ o x busy at. root_walk o x at)) (key_at 0))
       refl refl tt
 
   -- leave
@@ -116,7 +117,7 @@ module _ (keys : List ℕ) (cards : ℕ) (s : TableState) (r : HasMachine keys c
       is_event keys cards s r id v here call.Leave act.Leave Moved r.words
       (looks keys cards s r id v here act.Leave Moved after happens (λ c. refl)
       (r.views id v here).entries
-      (bare r.words r.stages v after refl refl (λ k h. h) refl (λ n at. at) refl (r.views id v here).knew (r.views id v here).knew (λ o x busy at. absurd (some_not_none at refl))) 0)
+      (bare r.words r.stages v after refl refl (λ k h. h) refl (λ n at. at) refl (r.views id v here).knew (r.views id v here).knew (λ o x busy at. absurd (some_not_none at refl))) (key_at 0))
       refl refl (let low = (r.views id v here).least in let room = r.invariant.limit in omega arith)
 
 -- a ledger with an entry in place of that of a key, if it has the key, as a list and as the machine has it
@@ -207,5 +208,5 @@ module _ (keys : List ℕ) (cards : ℕ) (s : TableState) (r : HasMachine keys c
       (looks keys cards s r id v here act.Answer (Answered said) after happens (λ c. refl)
       (r.views id v here).entries
       (bare r.words r.stages v after refl refl (λ k has none. has ((set_now.owned k).1 none)) refl (λ n at. at) refl (r.views id v here).knew (r.views id v here).knew
-      (λ o x busy at. absurd (some_not_none at refl))) 0)
+      (λ o x busy at. absurd (some_not_none at refl))) (key_at 0))
       refl refl (set_now, (let low = (r.views id v here).least in let room = r.invariant.limit in omega arith))

@@ -117,7 +117,7 @@ module _ (keys : List ℕ) (cards : ℕ) (s : TableState) (r : HasMachine keys c
       } in
       is_event keys cards s r id v here (call.Mark c p was) a _ _
       (exchange_leads keys cards s r id v here a (card p) field.Update was (marked c) (λ b. exchanged (if_won b kind.Mark c) n (after_mark b c p (unpacked n) v))
-      (in_list keys cards s r id v here p field.Update born) (born-settled (r.stages (card p)) (p % 3) born) happens
+      (in_list keys cards s r id v here p field.Update born) (born-settled (r.stages (card p)) (p % 4) born) happens
       (λ stages led d f wait still. absurd (flags_never keys cards s r id v here a Won (written w (card p) field.Update (marked c))
       (exchanged (if_won true kind.Mark c) n (after_mark true c p (unpacked n) v)) stages led kind.Mark c (λ e. (cc)) (λ e. (cc)) (λ d. refl) d wait still))
       (λ d. refl) (mark_entries c p n reads is_p) (mark_on c p n))
@@ -154,7 +154,7 @@ module _ (keys : List ℕ) (cards : ℕ) (s : TableState) (r : HasMachine keys c
       let is = child_found keys cards s r id v here (w.gp c) gp right gp_is inner said.grandparent.born in
       is_event keys cards s r id v here (call.DChild c gp p y right) a _ _
       (teaches keys cards s r id v here a (card gp) g p y (Cut c) kind.DChild c
-      (in_list keys cards s r id v here gp g born) (born-settled (r.stages (card gp)) (gp % 3) born)
+      (in_list keys cards s r id v here gp g born) (born-settled (r.stages (card gp)) (gp % 4) born)
       (λ e. (cc)) (λ e. (cc)) (λ e. refl) (λ e. refl) (record {
         owned = λ h. h;
         row = record {

@@ -170,6 +170,6 @@ module _ (keys : List ℕ) (cards : ℕ) (s : TableState) (r : HasMachine keys c
       let born = subst (Born r.stages) same node.born in
       let is = update_found keys cards s r id v here x y same node.inner node.born in
       teaches keys cards s r id v here a (card y) field.Update flag (clean c) new k c
-      (in_list keys cards s r id v here y field.Update born) (born-settled (r.stages (card y)) (y % 3) born) not_i not_d wins none
+      (in_list keys cards s r id v here y field.Update born) (born-settled (r.stages (card y)) (y % 4) born) not_i not_d wins none
       (happens (update_says r.words x y flag (clean c) n same node.inner is)
       (λ t. record { words = update_exchanged r.words x y flag (clean c) n same node.inner is t; worker = worker_of (learning new v).worker }))

@@ -113,7 +113,7 @@ module _ (keys : List ℕ) (cards : ℕ) (s : TableState) (r : HasMachine keys c
       (won_or_lost (found_at keys cards s r id v here (card x) field.Update == update))
   flag_leads a x update value c new k reads may filled wins none happens =
       exchange_leads keys cards s r id v here a (card x) field.Update update value (flag_view new k c x)
-      (in_list keys cards s r id v here x field.Update reads.born) (born-settled (r.stages (card x)) (x % 3) reads.born)
+      (in_list keys cards s r id v here x field.Update reads.born) (born-settled (r.stages (card x)) (x % 4) reads.born)
       happens settles none (flag_entries new k c x reads) (flag_on new k c x)
     where
       settles : Settles keys cards s r id v here a (written r.words (card x) field.Update value) (flag_view new k c x true)

@@ -46,7 +46,7 @@ module _ (keys : List ℕ) (cards : ℕ) (s : TableState) (r : HasMachine keys c
       let is = child_found keys cards s r id v here (w.p c) p right p_is said.parent.inner said.parent.born in
       is_event keys cards s r id v here (call.IChild c p l q right) a _ _
       (teaches keys cards s r id v here a (card p) g l q (IChanged c) kind.IChild c
-      (in_list keys cards s r id v here p g born) (born-settled (r.stages (card p)) (p % 3) born)
+      (in_list keys cards s r id v here p g born) (born-settled (r.stages (card p)) (p % 4) born)
       (λ e. (cc)) (λ e. (cc)) (λ e. refl) (λ e. refl) (record {
         owned = λ h. h;
         row = record {

@@ -61,9 +61,9 @@ module _ (keys : List ℕ) (cards : ℕ) (s : TableState) (r : HasMachine keys c
   -- the update word of a node x that is y, as the list has it
   pub update_found : (x y : ℕ) → x ≡ y → IsInternal x → Born r.stages x → r.words.update x ≡ get_or s.words (update_at y) 0
   update_found x y same inner born = update_at_node r.words x inner ∙ (ap (λ z. word r.words (card z) field.Update) same
-      ∙ sym (r.settled (card y) field.Update (born-settled (r.stages (card y)) (y % 3) (subst (Born r.stages) same born))))
+      ∙ sym (r.settled (card y) field.Update (born-settled (r.stages (card y)) (y % 4) (subst (Born r.stages) same born))))
 
   -- a child of it
   pub child_found : (x y : ℕ) (right : Bool) → x ≡ y → IsInternal x → Born r.stages x → r.words.child x right ≡ get_or s.words (child_at y right) 0
   child_found x y right same inner born = child_at_node r.words x right inner ∙ (ap (λ z. word r.words (card z) (child_field right)) same
-      ∙ sym (r.settled (card y) (child_field right) (born-settled (r.stages (card y)) (y % 3) (subst (Born r.stages) same born))))
+      ∙ sym (r.settled (card y) (child_field right) (born-settled (r.stages (card y)) (y % 4) (subst (Born r.stages) same born))))

@@ -33,6 +33,7 @@ use Rattle.ell_core.specs.history.Stages.{Stage, Opening, Born, insert_open, del
 use Rattle.ell_core.specs.statements.StepLaws.{MayRead}
 use Rattle.ell_core.specs.statements.Effects.{value_in, contents_in}
 use Rattle.ell_core.proofs.outcomes.Decide.{some_not_none}
+use Rattle.ell_core.proofs.stages.Order.{born_is_node}
 use Rattle.ell_core.proofs.words.Writes.{update_at_node, child_at_node, key_at_node, value_at_leaf}
 use Rattle.ell_cards.specs.declared.call.Call.TheVariants as call
 use Rattle.ell_cards.specs.declared.view.Told.{Told}
@@ -74,25 +75,26 @@ some_if false value = refl
 module _ (keys : List ℕ) (cards : ℕ) (s : TableState) (r : HasMachine keys cards s) (id : ℕ) (v : View) (here : get_elem? s.views id ≡ some v) where
   -- a node that came into the tree has its key in the table
   pub key_listed : (x : ℕ) → Born r.stages x → r.words.key x ≡ get_or s.words (key_at x) 0
-  key_listed x born = key_at_node r.words x ∙ sym (r.settled (card x) (key_field (x % 3)) (born-settled (r.stages (card x)) (x % 3) born))
+  key_listed x born = key_at_node r.words x (born_is_node r.stages x born) ∙ sym (r.settled (card x) (key_field (x % 4)) (born-settled (r.stages (card x)) (x % 4) born))
 
   -- a leaf its value
   pub value_listed : (x : ℕ) → IsLeaf x → Born r.stages x → r.words.value x ≡ get_or s.words (value_at x) 0
   value_listed x outer born =
-      value_at_leaf r.words x outer ∙ sym (r.settled (card x) (value_field (x % 3)) (born-settled (r.stages (card x)) (x % 3) born))
+      value_at_leaf r.words x (born_is_node r.stages x born) outer ∙ sym (r.settled (card x) (value_field (x % 4)) (born-settled (r.stages (card x)) (x % 4) born))
 
   -- an internal one its children and its update word
   pub child_listed : (x : ℕ) (right : Bool) → IsInternal x → Born r.stages x → r.words.child x right ≡ get_or s.words (child_at x right) 0
   child_listed x right inner born =
-      child_at_node r.words x right inner ∙ sym (r.settled (card x) (child_field right) (born-settled (r.stages (card x)) (x % 3) born))
+      child_at_node r.words x right inner ∙ sym (r.settled (card x) (child_field right) (born-settled (r.stages (card x)) (x % 4) born))
 
   pub update_listed : (x : ℕ) → IsInternal x → Born r.stages x → r.words.update x ≡ get_or s.words (update_at x) 0
   update_listed x inner born =
-      update_at_node r.words x inner ∙ sym (r.settled (card x) field.Update (born-settled (r.stages (card x)) (x % 3) born))
+      update_at_node r.words x inner ∙ sym (r.settled (card x) field.Update (born-settled (r.stages (card x)) (x % 4) born))
 
   -- a node that came into the tree is one of the table
   pub born_in_table : (x : ℕ) → Born r.stages x → InTable cards x
-  born_in_table x born = let below = born_claimed keys cards s r id v here x born in let room = r.invariant.limit in omega arith
+  born_in_table x born = let below = born_claimed keys cards s r id v here x born in let room = r.invariant.limit in
+      let node = born_is_node r.stages x born in omega (arith, node)
 
   -- the key of the node where the pass stands
   pub here_key : (x key : ℕ) → StandsAt v x → v.here ≡ Some key → r.words.key x ≡ key

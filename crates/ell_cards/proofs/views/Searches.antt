@@ -7,10 +7,10 @@ use Rattle.ell_word.specs.Word.{packed}
 use Rattle.ell_core.specs.declared.view.Seen.{Seen}
 use Rattle.ell_core.specs.acts.Searching.{IsLeaf, IsClean}
 use Rattle.ell_cards.specs.declared.view.View.{View}
-use Rattle.ell_cards.specs.Models.{PassModel, Steps, Does, StandsAt}
+use Rattle.ell_cards.specs.Models.{PassModel, Sees, Steps, Does, StandsAt}
 use Rattle.ell_cards.specs.Changes.{after_upd, after_key_of, after_next, is_at, told_value, filling_for, filling_of}
 use Rattle.ell_cards.specs.Guards.{MayGoDown, MayClaim, Wants}
-use Rattle.ell_cards.proofs.views.Steps.{view_after}
+use Rattle.ell_cards.proofs.views.Steps.{view_after, view_seen}
 
 -- the key that was asked at the node where the pass stands is the key there
 pub told_here : (o here : Option ℕ) (x key : ℕ) → o ≡ Some x → (if is_at o x then Some key else here) ≡ Some key
@@ -19,11 +19,11 @@ told_here (Some y) here x key e =
     let same : (y == x) ≡ true = eq-eqb y x (cc) in rw same
 
 -- update word and key were read where the pass stands, and it may go down
-pub may_go_down : (a b d : PassModel) (op : Op) (x : ℕ) (u : Update) (key k : ℕ) → Steps a b (after_upd x u a.view) → Steps b d (after_key_of x key b.view)
+pub may_go_down : (a b d : PassModel) (op : Op) (x : ℕ) (u : Update) (key k : ℕ) → Sees a b (after_upd x u a.view) → Sees b d (after_key_of x key b.view)
     → k ≡ key_of op → Does a.view op → StandsAt a.view x → IsInternal x → MayGoDown d.view x (nat_le key k)
 may_go_down a b d op x u key k s s' same busy stands inner =
     subst (λ (w : View). MayGoDown w x (nat_le key k))
-    (sym (view_after b d (after_key_of x key b.view) s' ∙ ap (after_key_of x key) (view_after a b (after_upd x u a.view) s)))
+    (sym (view_seen b d (after_key_of x key b.view) s' ∙ ap (after_key_of x key) (view_seen a b (after_upd x u a.view) s)))
     (record {
       op = op;
       word = packed u;

@@ -2,7 +2,7 @@ use Rattle.std.proofs.Common.{◌≡◌, ℕ, Bool, sym, ap, subst}
 use Rattle.ell_core.specs.declared.field.Field.{Field}
 use Rattle.ell_cards.specs.declared.view.Told.TheVariants.{Met, Key, Info, Frozen}
 use Rattle.ell_cards.specs.declared.view.View.{View}
-use Rattle.ell_cards.specs.Models.{PassModel, Steps, latest, earlier, IsTold}
+use Rattle.ell_cards.specs.Models.{PassModel, Sees, Steps, latest, earlier, IsTold}
 use Rattle.ell_cards.specs.Changes.{after_key_of, after_info, after_frozen_child}
 use Rattle.ell_cards.specs.Guards.{NamesNode}
 use Rattle.ell_cards.proofs.views.Entries.{info_latest, info_node}
@@ -11,9 +11,13 @@ use Rattle.ell_cards.proofs.views.Entries.{info_latest, info_node}
 pub view_after : (old new : PassModel) (v : View) → Steps old new v → new.view ≡ v
 view_after old new v s = ap (λ (m : PassModel). m.view) s
 
+-- the view after a step that is not counted yet
+pub view_seen : (old new : PassModel) (v : View) → Sees old new v → new.view ≡ v
+view_seen old new v s = ap (λ (m : PassModel). m.view) s
+
 -- a key that was asked is told
-pub key_told : (old new : PassModel) (x key : ℕ) → Steps old new (after_key_of x key old.view) → IsTold new.view (Key x key)
-key_told old new x key s = subst (λ (w : View). IsTold w (Key x key)) (sym (view_after old new (after_key_of x key old.view) s)) (latest _ _)
+pub key_told : (old new : PassModel) (x key : ℕ) → Sees old new (after_key_of x key old.view) → IsTold new.view (Key x key)
+key_told old new x key s = subst (λ (w : View). IsTold w (Key x key)) (sym (view_seen old new (after_key_of x key old.view) s)) (latest _ _)
 
 -- so is a word of a card, and a node that it names is met
 pub info_told : (old new : PassModel) (c : ℕ) (f : Field) (x : ℕ) → Steps old new (after_info c f x old.view) → IsTold new.view (Info c f x)

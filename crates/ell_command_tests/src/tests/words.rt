@@ -177,7 +177,7 @@ static HELP_ON_COMMANDS: [Help<'static>; 3] = [
         &[
             "Usage: elltree run",
             "Workers that share the run, 1 to 64",
-            "Cards of a run, 1 to 1000000 [default: 4 per operation and 64]",
+            "Cards of a run, 1 to 1000000 [default: 9 for 8 inserts and deletes, and 64]",
             "Tries of an operation, 1 to 1000000",
             "lines `start K` before all\noperations give them, ascending.",
             "whose first line is `version 2`",

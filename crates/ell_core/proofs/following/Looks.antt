@@ -89,7 +89,7 @@ child_or_walk : (old new : Words) (stage : Stages) → WordsAreSound old stage �
 child_or_walk old new stage sound words after sound' key x born on moved = elim moved [
   | inl same ↦
       let side : is_right new x key ≡ is_right old x key =
-      ap (λ n. nat_le n key) (words.key x ((sound.cards (card x)).claimed.0 (born-claimed (stage (card x)) (x % 3) born))) in
+      ap (λ n. nat_le n key) (words.key x ((sound.cards (card x)).claimed.0 (born-claimed (stage (card x)) (x % 4) born))) in
       inl (ap (new.child x) side ∙ same)
   | inr there ↦ inr (joins_walk new sound'.tree.ordered key on (here refl) there)
 ]

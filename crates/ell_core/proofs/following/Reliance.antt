@@ -120,7 +120,7 @@ standing m stage i x invariant at = elim (cases_option (m.worker i).operation) [
 
 -- a node that came into the tree is on a claimed card
 in_table : (m : Machine) (stage : Stages) → Invariant m stage → (x : ℕ) → Born stage x → card x < m.words.next
-in_table m stage invariant x born = ((invariant.words.cards (card x)).claimed).0 (born-claimed (stage (card x)) (x % 3) born)
+in_table m stage invariant x born = ((invariant.words.cards (card x)).claimed).0 (born-claimed (stage (card x)) (x % 4) born)
 
 -- a down leads from a node to a greater one of the table
 goes_down : (m : Machine) (stage : Stages) (i : ℕ) (said : Stepped) (after : Scene) (x y : ℕ) → Invariant m stage → Down (scene m i) said after

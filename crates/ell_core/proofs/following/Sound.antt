@@ -13,7 +13,7 @@ use Rattle.ell_core.specs.history.Invariant.{IsOut, WordsAreSound, Invariant}
 use Rattle.ell_core.proofs.tree.Reached.{not_out, finds_iff, joins_walk, tree_key_leads, tree_pair_leads, leads_tree_pair}
 use Rattle.ell_core.proofs.tree.Lawful.{tree_lawful}
 use Rattle.ell_core.proofs.stages.Holding.{fact_holds, effective-at}
-use Rattle.ell_core.proofs.stages.Order.{born-claimed, marked_cases}
+use Rattle.ell_core.proofs.stages.Order.{born_is_node, born-claimed, marked_cases}
 
 -- the words are sound at these stages
 module _ (w : Words) (stage : Stages) (sound : WordsAreSound w stage) where
@@ -22,7 +22,7 @@ module _ (w : Words) (stage : Stages) (sound : WordsAreSound w stage) where
   reached_born x reached = by_path 0 reached.path root reached.leads
     where
       root : Born stage 0
-      root = ap (λ s. is_node_born s (0 % 3)) sound.opening
+      root = ap (λ s. is_node_born s (0 % 4)) sound.opening
 
       by_path : (y : ℕ) (p : List Bool) → Born stage y → Leads w y p x → Born stage x
       by_path y [] born leads = subst (Born stage) (sym leads) born
@@ -31,7 +31,8 @@ module _ (w : Words) (stage : Stages) (sound : WordsAreSound w stage) where
   -- the names of nodes and cards are of claimed cards
   names_sound : NamesAreSound w
   names_sound = record {
-    nodes = λ x reached. (sound.cards (card x)).claimed.0 (born-claimed (stage (card x)) (x % 3) (reached_born x reached));
+    nodes = λ x reached. (sound.cards (card x)).claimed.0 (born-claimed (stage (card x)) (x % 4) (reached_born x reached));
+    numbers = λ x reached. born_is_node stage x (reached_born x reached);
     updates = λ x reached inner. (sound.updates x inner (reached_born x reached)).named;
   }
 

@@ -68,4 +68,4 @@ stretch_goes_on m stage e said m' stages invariant steps sound words x low high 
     goes k a b = (courses_go_on m stage e said m' invariant steps k x born (course k a b)).0
 
     still : is_right m'.words x key ≡ right
-    still = ap (λ n. nat_le n key) (words.key x ((invariant.words.cards (card x)).claimed.0 (born-claimed (stage (card x)) (x % 3) born))) ∙ side
+    still = ap (λ n. nat_le n key) (words.key x ((invariant.words.cards (card x)).claimed.0 (born-claimed (stage (card x)) (x % 4) born))) ∙ side

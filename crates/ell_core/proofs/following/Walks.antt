@@ -46,7 +46,7 @@ module _ (old new : Words) (stage : Stages) (sound : WordsAreSound old stage) (w
   walk_back key {y = y} born (next {x = x} inner on) = elim (moved x (is_right new x key) inner born) [
     | inl same ↦
         let side : is_right new x key ≡ is_right old x key =
-        ap (λ n. nat_le n key) (words.key x ((sound.cards (card x)).claimed.0 (born-claimed (stage (card x)) (x % 3) born))) in
+        ap (λ n. nat_le n key) (words.key x ((sound.cards (card x)).claimed.0 (born-claimed (stage (card x)) (x % 4) born))) in
         let down : child_for new key x ≡ child_for old key x = same ∙ ap (old.child x) side in
         let child_born = subst (Born stage) (sym down) ((sound.children x inner born).born (is_right old x key)) in
         elim (walk_back key child_born on) [

@@ -8,8 +8,9 @@ use Rattle.ell_core.specs.state.Machine.{Machine, scene}
 use Rattle.ell_core.specs.state.Cards.{sibling}
 use Rattle.ell_core.specs.history.Stages.{Stages, Born}
 use Rattle.ell_core.specs.history.Invariant.{Blank, Invariant}
-use Rattle.ell_core.specs.inside.Fits.{IsNode, IsInner, SceneFits}
+use Rattle.ell_core.specs.inside.Fits.{IsTableNode, IsInner, SceneFits}
 use Rattle.ell_core.specs.statements.StepLaws.{MayRead, Reliance}
+use Rattle.ell_core.proofs.stages.Order.{born_is_node}
 use Rattle.ell_core.proofs.words.Sides.{sibling_cases}
 use Rattle.ell_core.proofs.following.facts.Claimed.{not_claimed}
 use Rattle.ell_core.proofs.following.Reliance.{may_rely}
@@ -24,8 +25,8 @@ module _ (m : Machine) (stage : Stages) (i : ℕ) (invariant : Invariant m stage
   in_table c below = let room = rely.room in omega arith
 
   -- a node that came into the tree is one of the table
-  born_node : (x : ℕ) → Born stage x → IsNode m.last_card x
-  born_node x born = in_table (card x) (rely.claimed x born)
+  born_node : (x : ℕ) → Born stage x → IsTableNode m.last_card x
+  born_node x born = (in_table (card x) (rely.claimed x born), born_is_node stage x born)
 
   -- a node that may be read is an internal one of the table
   read_inner : (x : ℕ) → MayRead m.words stage x → IsInner m.last_card x
@@ -33,7 +34,7 @@ module _ (m : Machine) (stage : Stages) (i : ℕ) (invariant : Invariant m stage
 
   -- the root is
   zero_inner : (x : ℕ) → x ≡ 0 → IsInner m.last_card x
-  zero_inner x e = (omega arith, subst IsInternal (sym e) refl)
+  zero_inner x e = ((omega arith, λ three. omega arith), subst IsInternal (sym e) refl)
 
   -- a card that was not claimed is blank
   past_blank : (c : ℕ) → m.words.next ≤ c → Blank m.words c
@@ -68,12 +69,12 @@ module _ (m : Machine) (stage : Stages) (i : ℕ) (invariant : Invariant m stage
       read_inner seen.node (rely.grandparent at.node at.parent seen at.stands at.behind above).node
 
   -- the sibling of the leaf of a claimed card
-  sibling_node : (c : ℕ) → c < m.words.next → IsNode m.last_card (sibling m.words c)
+  sibling_node : (c : ℕ) → c < m.words.next → IsTableNode m.last_card (sibling m.words c)
   sibling_node c below =
       let children = (rely.goes c below).parent.children in
       elim (sibling_cases m.words c) [
-        | inl e ↦ subst (IsNode m.last_card) (sym e) (born_node (m.words.child (m.words.p c) false) (children false).0)
-        | inr e ↦ subst (IsNode m.last_card) (sym e) (born_node (m.words.child (m.words.p c) true) (children true).0)
+        | inl e ↦ subst (IsTableNode m.last_card) (sym e) (born_node (m.words.child (m.words.p c) false) (children false).0)
+        | inr e ↦ subst (IsTableNode m.last_card) (sym e) (born_node (m.words.child (m.words.p c) true) (children true).0)
       ]
 
   -- by the invariant all that an event's code looks at is of the table

@@ -8,10 +8,10 @@ use Rattle.ell_core.specs.declared.field.Field.TheVariants.{Gp, P, L, Was, Key, 
 use Rattle.ell_core.specs.state.Layout.{address}
 use Rattle.ell_core.specs.state.Words.{Words, word, words_of, words_from}
 use Rattle.ell_core.specs.state.Cards.{clean, filled, stored}
-use Rattle.ell_core.proofs.words.Writes.{equal_words, made_word, made_inner_value, made_leaf_child, made_leaf_update}
-use Rattle.ell_core.proofs.words.Listed.{words_are_listed, listed_next, listed_inner_value, listed_leaf_child, listed_leaf_update}
+use Rattle.ell_core.proofs.words.Writes.{equal_words, made_word, made_no_key, made_no_value, made_inner_value, made_leaf_child, made_leaf_update}
+use Rattle.ell_core.proofs.words.Listed.{words_are_listed, listed_next, listed_no_key, listed_no_value, listed_inner_value, listed_leaf_child, listed_leaf_update}
 use Rattle.ell_core.proofs.words.Stored.{filled_stored, filled_elsewhere}
-use Rattle.ell_core.proofs.opening.NewWords.{filled_claim, filled_inner_value, filled_leaf_child, filled_leaf_update}
+use Rattle.ell_core.proofs.opening.NewWords.{filled_claim, filled_no_key, filled_no_value, filled_inner_value, filled_leaf_child, filled_leaf_update}
 use Rattle.ell_core.specs.declared.branch.Branch.{Branch}
 use Rattle.ell_core.specs.state.Branches.{root_branch, branch_of, left_child}
 use Rattle.ell_core.specs.state.Opening.{start_leaf, start_value, root_field, branch_field, start_field, start_words, root_filling, branch_filling}
@@ -85,6 +85,10 @@ module _ (start : List (ℕ × ℕ)) (size : ℕ) (some : 0 < size) where
   rooted_words = equal_words _ _ record {
     next = filled_claim (words_of begun) 0 (root_filling (length start)) ∙ (listed_next begun ∙ begun_next);
     word = λ c field. rooted c field ∙ sym (made_word (length start + 1) (grown start 1) c field);
+    no_key = λ x h. filled_no_key (words_of begun) 0 (root_filling (length start)) x h
+        ∙ (listed_no_key begun x h ∙ sym (made_no_key (length start + 1) (grown start 1) x h));
+    no_value = λ x h. filled_no_value (words_of begun) 0 (root_filling (length start)) x h
+        ∙ (listed_no_value begun x h ∙ sym (made_no_value (length start + 1) (grown start 1) x h));
     value = λ x h. filled_inner_value (words_of begun) 0 (root_filling (length start)) x h
         ∙ (listed_inner_value begun x h ∙ sym (made_inner_value (length start + 1) (grown start 1) x h));
     child = λ x right h. filled_leaf_child (words_of begun) 0 (root_filling (length start)) x right h
@@ -135,6 +139,10 @@ grows start n old new some is writes =
     writes ∙ (ap (λ (w : Words). filled w n fields) is ∙ equal_words _ _ record {
       next = filled_claim (growing start n) n fields;
       word = λ c field. by c field ∙ sym (made_word (length start + 1) (grown start (n + 1)) c field);
+      no_key = λ x h. filled_no_key (growing start n) n fields x h
+          ∙ (made_no_key (length start + 1) (grown start n) x h ∙ sym (made_no_key (length start + 1) (grown start (n + 1)) x h));
+      no_value = λ x h. filled_no_value (growing start n) n fields x h
+          ∙ (made_no_value (length start + 1) (grown start n) x h ∙ sym (made_no_value (length start + 1) (grown start (n + 1)) x h));
       value = λ x h. filled_inner_value (growing start n) n fields x h
           ∙ (made_inner_value (length start + 1) (grown start n) x h ∙ sym (made_inner_value (length start + 1) (grown start (n + 1)) x h));
       child = λ x right h. filled_leaf_child (growing start n) n fields x right h

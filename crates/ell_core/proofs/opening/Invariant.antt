@@ -5,11 +5,12 @@ use Rattle.std.proofs.lemmas.List.Folds.{Any-from_list_any, list_any_at}
 use Rattle.std.specs.List.{All, list_any}
 use Rattle.std.specs.List.Sorted.{IsStrictlyIncreasing}
 use Rattle.std.specs.Map.{keys_of}
+use Rattle.ell_core.proofs.stages.Order.{all-born}
 use Rattle.ell_core.proofs.tree.Reached.{leads_any, leads_some, one_value}
 use Rattle.ell_ops.specs.Contents.{contents_of}
 use Rattle.ell_ops.proofs.Pairs.{contents_at, place_in}
 use Rattle.ell_ops.specs.Meaning.{greatest_key}
-use Rattle.ell_word.specs.Node.{IsInternal, card, internal}
+use Rattle.ell_word.specs.Node.{IsInternal, IsNode, card, internal}
 use Rattle.ell_core.specs.state.Words.{Words}
 use Rattle.ell_core.specs.state.Cards.{iflag, dflag, marked, clean}
 use Rattle.ell_core.specs.state.Machine.{idle, entry_of}
@@ -21,7 +22,7 @@ use Rattle.ell_core.proofs.opening.Owners.{ledger_there, opening_one_owner, open
 use Rattle.ell_core.proofs.outcomes.Decide.{some_not_none}
 use Rattle.ell_core.specs.statements.RunLaws.{MayBeThere}
 use Rattle.ell_core.specs.state.Opening.{Setup, gives, Faultless, start_leaf, start_value, start_words, opening_ledger, opening, is_given, start_entry, shares}
-use Rattle.ell_core.proofs.opening.StartTree.{tree_ordered, card_reached, child_more, child_on, left_less, right_least, finds_leaf, finds_leaves_only}
+use Rattle.ell_core.proofs.opening.StartTree.{tree_ordered, card_reached, child_more, child_on, child_node, left_less, right_least, finds_leaf, finds_leaves_only}
 use Rattle.ell_core.proofs.opening.StartWords.{has_value, keys_length, leaf_key, leaf_last, leaf_root, leaves_rise, leaves_end, has_branches, clean_update, goes_none, later_blank}
 use Rattle.ell_core.specs.declared.view.Entry.TheVariants.{Present}
 use Rattle.ell_core.proofs.opening.KeyLists.{holds_present}
@@ -57,8 +58,8 @@ born_below end c place born = elim (start_cases end c) [
   | inr h ↦ absurd (false≢true (sym (ap (λ s. is_node_born s place) h.1) ∙ born))
 ]
 
-below_born : (end c place : ℕ) → c < end → is_node_born (start_stages end c) place ≡ true
-below_born end c place below = ap (λ s. is_node_born s place) (stage_there end c below)
+below_born : (end c place : ℕ) → place ≤ 2 → c < end → is_node_born (start_stages end c) place ≡ true
+below_born end c place low below = ap (λ s. is_node_born s place) (stage_there end c below) ∙ all-born Opening place low refl
 
 -- no card is an insert's, or a delete's
 no_insert_yet : (end c : ℕ) → is_insert (start_stages end c) ≡ false
@@ -117,6 +118,10 @@ module _ (start : List (ℕ × ℕ)) (ascending : IsStrictlyIncreasing (keys_of 
   on_card = child_on (length start + 1) some (start_leaf start) w.key w.child (has_value start) top (leaves_rise start ascending real) (leaves_end start ascending real)
       (has_branches start)
 
+  is_node : (c : ℕ) (right : Bool) → c < length start + 1 → IsNode (w.child (internal c) right)
+  is_node = child_node (length start + 1) some (start_leaf start) w.key w.child (has_value start) top (leaves_rise start ascending real) (leaves_end start ascending real)
+      (has_branches start)
+
   -- each leaf's key is found, with its value
   finds : (i : ℕ) → i ≤ length start + 1 → LeadsToValue w (start_leaf start i) (start_value start i) 0
   finds = finds_leaf (length start + 1) some (start_leaf start) w.key w.child (has_value start) top (leaves_rise start ascending real)
@@ -165,7 +170,8 @@ module _ (start : List (ℕ × ℕ)) (ascending : IsStrictlyIncreasing (keys_of 
 
   children_sound : (c : ℕ) → c < length start + 1 → ChildrenAreSound w (start_stages (length start + 1)) (internal c)
   children_sound c below = record {
-    born = λ right. below_born (length start + 1) (card (w.child (internal c) right)) (w.child (internal c) right % 3) (on_card c right below);
+    born = λ right. below_born (length start + 1) (card (w.child (internal c) right)) (w.child (internal c) right % 4)
+        (let node = is_node c right below in omega (arith, node)) (on_card c right below);
     rising = λ right. child_more (length start + 1) some (start_leaf start) w.key w.child (has_value start) top (leaves_rise start ascending real) (leaves_end start ascending real)
         (has_branches start) right c below;
     left_less = left_less (length start + 1) some (start_leaf start) w.key w.child (has_value start) top (leaves_rise start ascending real) (leaves_end start ascending real)
@@ -190,7 +196,7 @@ module _ (start : List (ℕ × ℕ)) (ascending : IsStrictlyIncreasing (keys_of 
     right_key = refl;
     last = subst (λ n. LeadsTo w n 0) (leaf_last start)
         (leads_any w (start_leaf start (length start)) (start_value start (length start)) 0 (finds (length start) (omega arith)));
-    there = λ x inner born calm. subst (IsIn w) (sym (node_of x inner)) (reached (card x) (born_below (length start + 1) (card x) (x % 3) born));
+    there = λ x inner born calm. subst (IsIn w) (sym (node_of x inner)) (reached (card x) (born_below (length start + 1) (card x) (x % 4) born));
   }
 
   -- the words at the start are sound
@@ -201,9 +207,9 @@ module _ (start : List (ℕ × ℕ)) (ascending : IsStrictlyIncreasing (keys_of 
     inserts = λ c. no_insert w (start_stages (length start + 1)) c (each_stage (λ s. insert_won s ≡ false) (length start + 1) c refl refl);
     deletes = λ c. no_delete w (start_stages (length start + 1)) c (each_stage (λ s. delete_won s ≡ false) (length start + 1) c refl refl);
     children = λ x inner born. subst (ChildrenAreSound w (start_stages (length start + 1))) (sym (node_of x inner))
-        (children_sound (card x) (born_below (length start + 1) (card x) (x % 3) born));
+        (children_sound (card x) (born_below (length start + 1) (card x) (x % 4) born));
     updates = λ x inner born. subst (UpdateIsSound w (start_stages (length start + 1))) (sym (node_of x inner))
-        (update_sound (card x) (born_below (length start + 1) (card x) (x % 3) born));
+        (update_sound (card x) (born_below (length start + 1) (card x) (x % 4) born));
     tree = tree_sound;
   }
 

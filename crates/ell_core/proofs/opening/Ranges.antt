@@ -65,7 +65,7 @@ opening_root x h = record { low = 0; high = top; spans = root h refl refl }
 
 -- the lesser infinity is in it
 pub opening_last : LeadsTo opening_words infinity1 0
-opening_last = below refl refl (at_leaf (λ (h : 1 % 3 ≡ 0). omega arith) refl tt)
+opening_last = below refl refl (at_leaf (λ (h : 1 % 4 ≡ 0). omega arith) refl tt)
 
 -- the root's child on a side is one of the leaves
 root_leaf : (right : Bool) → (opening_words.child 0 right ≡ 1) ⊎ (opening_words.child 0 right ≡ 2)
@@ -88,7 +88,7 @@ next_leaf k x y h e =
 
 -- no walk from the root finds a real key
 finds_none : (k x : ℕ) → k ≤ greatest_key → x ≡ 0 → LeadsTo opening_words k x → ⊥
-finds_none k x real h (at_leaf outer e _) = outer (ap (λ n. n % 3) h)
+finds_none k x real h (at_leaf outer e _) = outer (ap (λ n. n % 4) h)
 finds_none k x real h (below inner e rest) = no_leaf k _ real (next_leaf k x _ h e) rest
 
 -- the opening tree has no real key

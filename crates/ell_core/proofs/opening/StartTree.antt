@@ -1,6 +1,6 @@
 use Rattle.std.proofs.Common.{◌≡◌, ℕ, zero, suc, ◌+◌, ◌<◌, ◌≤◌, ◌⊎◌, inl, inr, Bool, true, false, if◌then◌else◌, nat_le, refl, sym, ap, ◌∙◌, subst, arith}
 use Rattle.std.proofs.lemmas.Bool.{cases_lt, cases_eq, eq-eqb, ne_eqb, le-leb, lt-leb}
-use Rattle.ell_word.specs.Node.{IsInternal, card, internal, left_leaf, right_leaf}
+use Rattle.ell_word.specs.Node.{IsInternal, IsNode, card, internal, left_leaf, right_leaf}
 use Rattle.ell_core.specs.declared.branch.Branch.{Branch}
 use Rattle.ell_core.specs.state.Branches.{left_branch, right_branch, descend, branch_of, left_child, right_child}
 use Rattle.ell_core.specs.tree.Ranges.{low_of, high_of, Spans, root, goes, Meets, at_leaf, below, IsOrdered, IsSpanned}
@@ -33,6 +33,7 @@ module _ (leaves : ℕ) (some : 0 < leaves) (leaf key : ℕ → ℕ) (child : �
   -- a leaf of the tree, between its keys
   record Outer (x low high : ℕ) : Type 0 where
     outer : ¬ IsInternal x
+    node : IsNode x
     on : card x < leaves
     at : ℕ
     inside : at ≤ leaves
@@ -63,6 +64,7 @@ module _ (leaves : ℕ) (some : 0 < leaves) (leaf key : ℕ → ℕ) (child : �
             let at = between b.first (omega arith) (omega arith) in
             inr (record {
               outer = λ e. omega arith;
+              node = λ e. omega arith;
               on = omega arith;
               at = b.first;
               inside = omega arith;
@@ -102,6 +104,7 @@ module _ (leaves : ℕ) (some : 0 < leaves) (leaf key : ℕ → ℕ) (child : �
             let k = w.node_key in
             inr (record {
               outer = λ e. omega arith;
+              node = λ e. omega arith;
               on = omega arith;
               at = b.first + b.left;
               inside = omega arith;
@@ -368,6 +371,16 @@ module _ (leaves : ℕ) (some : 0 < leaves) (leaf key : ℕ → ℕ) (child : �
   child_on c right inside =
       let at = child_reached (internal c) right (omega arith) (card_reached c inside) in
       reached_on (child (internal c) right) at.low at.high (places at.spans)
+
+  -- and its number is that of a node
+  reached_node : (x low high : ℕ) → Place x low high → IsNode x
+  reached_node x low high (inl at) = let is = at.is in λ e. omega arith
+  reached_node x low high (inr at) = at.node
+
+  pub child_node : (c : ℕ) (right : Bool) → c < leaves → IsNode (child (internal c) right)
+  child_node c right inside =
+      let at = child_reached (internal c) right (omega arith) (card_reached c inside) in
+      reached_node (child (internal c) right) at.low at.high (places at.spans)
 
   -- a child's key is on its side of its parent's
   pub left_less : (c : ℕ) → c < leaves → key (child (internal c) false) < key (internal c)

@@ -104,7 +104,7 @@ decides_clean update = decides_state (unpacked update).state
 
 -- a node is internal or is not
 pub decides_internal : (node : ℕ) → Decided (IsInternal node)
-decides_internal node = cases_eq (node % 3) 0
+decides_internal node = cases_eq (node % 4) 0
 
 -- two options with one name have one value
 pub same_value : {A : Type 0} {o : Option A} {x y : A} → o ≡ Some x → o ≡ Some y → x ≡ y

@@ -44,7 +44,7 @@ settles_upd_at s node stands unread = elim (decides_internal node) [
     row = record { node = node; stands = stands; internal = i; unread = unread; says = refl; gives = refl };
     only = λ other later r. (r.says, r.gives ∙ ap (read_at s) (same_value r.stands stands));
   })
-  | inr n ↦ inr (λ said after r. n (ap (λ x. x % 3) (same_value stands r.stands) ∙ r.internal))
+  | inr n ↦ inr (λ said after r. n (ap (λ x. x % 4) (same_value stands r.stands) ∙ r.internal))
 ]
 
 -- upd has one outcome or none
@@ -75,7 +75,7 @@ settles_down_at s op node word busy stands read = elim (decides_internal node) [
       r.gives ∙ ap2 (down_from s) (same_value r.busy busy) (same_seen r.seen node word (same_value r.stands stands) (same_value r.read read)),
     );
   })
-  | inr n ↦ inr (λ said after r. n (ap (λ x. x % 3) (same_value stands r.stands) ∙ r.internal))
+  | inr n ↦ inr (λ said after r. n (ap (λ x. x % 4) (same_value stands r.stands) ∙ r.internal))
 ]
 
 -- down has one outcome or none
@@ -102,7 +102,7 @@ record CleanLeaf (v : Worker) : Type 0 where
 clean_leaf_at : (v : Worker) (leaf : ℕ) (parent : Seen) → v.search.node ≡ Some leaf → v.search.parent ≡ Some parent → v.card ≡ None
     → CleanLeaf v ⊎ ((x : ℕ) (y : Seen) → ¬ AtCleanLeaf v x y)
 clean_leaf_at v leaf parent stands behind no_card = elim (decides_internal leaf) [
-  | inl i ↦ inr (λ x y a. a.outer (ap (λ z. z % 3) (same_value a.stands stands) ∙ i))
+  | inl i ↦ inr (λ x y a. a.outer (ap (λ z. z % 4) (same_value a.stands stands) ∙ i))
   | inr outer ↦ elim (decides_clean parent.word) [
     | inr n ↦ inr (λ x y a. n (subst (λ (z : Seen). IsClean z.word) (same_value a.behind behind) a.calm))
     | inl calm ↦ inl (record {
@@ -291,7 +291,7 @@ leaf_reply : (s : Scene) (op : Op) → Replies (AnswersAtLeaf s op)
 leaf_reply s op = elim (cases_option s.worker.search.node) [
   | inr e ↦ inr (λ reply r. some_not_none r.stands e)
   | inl n ↦ elim (decides_internal n.0) [
-    | inl i ↦ inr (λ reply r. r.outer (ap (λ x. x % 3) (same_value r.stands n.1) ∙ i))
+    | inl i ↦ inr (λ reply r. r.outer (ap (λ x. x % 4) (same_value r.stands n.1) ∙ i))
     | inr outer ↦ leaf_reply_at s op n.0 n.1 outer
   ]
 ]

@@ -42,7 +42,7 @@ pub not_frozen : ¬ FlaggedNodesAreFrozen
 not_frozen frozen =
     let later = follows flagged_state (by (act.IChild 1)) Won changed_state flagged_passed changes_child in
     let same = frozen flagged_state changed_state later 0 (λ e. let f : state.IFlag ≡ state.Clean = e in cc) in
-    let h : ◌≡◌ {A = ℕ} 3 1 = same.child false in omega arith
+    let h : ◌≡◌ {A = ℕ} 4 1 = same.child false in omega arith
 
 -- a won flag is known
 pub some_learnt : ¬ NothingIsLearnt
@@ -124,29 +124,29 @@ no_inner x outer (next inner on) = absurd (outer inner)
 leaf_one : IsLeaf 1
 leaf_one e = let h : ◌≡◌ {A = ℕ} 1 0 = e in omega arith
 
-leaf_four : IsLeaf 4
-leaf_four e = let h : ◌≡◌ {A = ℕ} 1 0 = e in omega arith
+leaf_five : IsLeaf 5
+leaf_five e = let h : ◌≡◌ {A = ℕ} 1 0 = e in omega arith
 
 -- a look of key 5 that loads the root's child before the exchange ends at the old leaf
 early_look : Looks 5 flagged_state (by (act.IChild 1) ∷ []) (shown.Step Won ∷ []) changed_state 0 1
 early_look = loads refl (stays changes_child (ends refl refl))
 
 -- one that loads it after the exchange ends at the new leaf
-late_look : Looks 5 flagged_state (by (act.IChild 1) ∷ []) (shown.Step Won ∷ []) changed_state 0 4
+late_look : Looks 5 flagged_state (by (act.IChild 1) ∷ []) (shown.Step Won ∷ []) changed_state 0 5
 late_look = stays changes_child (loads refl (loads refl (ends refl refl)))
 
 -- the old leaf is not on the walk afterwards
 not_later : (x y : ℕ) → OnWalk changed_state.words 5 x y → x ≡ 0 → y ≡ 1 → ⊥
 not_later x y (here e) root leaf = omega arith
 not_later x y (next inner (here e)) root leaf =
-    let h : y ≡ 3 = subst (λ n. y ≡ child_for changed_state.words 5 n) root e in omega arith
+    let h : y ≡ 4 = subst (λ n. y ≡ child_for changed_state.words 5 n) root e in omega arith
 not_later x y (next inner (next inner' on)) root leaf =
-    let down : OnWalk changed_state.words 5 4 y =
+    let down : OnWalk changed_state.words 5 5 y =
     subst (λ n. OnWalk changed_state.words 5 (child_for changed_state.words 5 (child_for changed_state.words 5 n)) y) root on in
-    let h = no_inner 4 leaf_four down in omega arith
+    let h = no_inner 5 leaf_five down in omega arith
 
 -- the new leaf was not on it before
-not_before : (x y : ℕ) → OnWalk flagged_state.words 5 x y → x ≡ 0 → y ≡ 4 → ⊥
+not_before : (x y : ℕ) → OnWalk flagged_state.words 5 x y → x ≡ 0 → y ≡ 5 → ⊥
 not_before x y (here e) root leaf = omega arith
 not_before x y (next inner on) root leaf =
     let down : OnWalk flagged_state.words 5 1 y = subst (λ n. OnWalk flagged_state.words 5 (child_for flagged_state.words 5 n) y) root on in
@@ -156,4 +156,4 @@ pub not_of_last : ¬ LooksAreOfTheLastState
 not_of_last law = not_later 0 1 (law 5 flagged_state (by (act.IChild 1) ∷ []) (shown.Step Won ∷ []) changed_state 1 flagged_passed (omega arith) early_look leaf_one) refl refl
 
 pub not_of_first : ¬ LooksAreOfTheFirstState
-not_of_first law = not_before 0 4 (law 5 flagged_state (by (act.IChild 1) ∷ []) (shown.Step Won ∷ []) changed_state 4 flagged_passed (omega arith) late_look leaf_four) refl refl
+not_of_first law = not_before 0 5 (law 5 flagged_state (by (act.IChild 1) ∷ []) (shown.Step Won ∷ []) changed_state 5 flagged_passed (omega arith) late_look leaf_five) refl refl

@@ -72,7 +72,7 @@ flagged_scene = record {
 -- it exchanges the root's left child
 abbrev pub changed_scene : Scene
 changed_scene = record {
-  words = with_child flagged_scene.words 0 false 3;
+  words = with_child flagged_scene.words 0 false 4;
   worker = knowing flagged_scene.worker (learned flagged_scene.worker.knows (IChanged 1));
 }
 

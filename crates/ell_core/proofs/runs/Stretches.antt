@@ -168,7 +168,7 @@ module _ (m : Machine) (stage : Stages) (holds : Invariant m stage) where
         let after = ran c.state before.stages _ _ m' before.invariant c.by.last in
         let sound = before.invariant.words in
         let born = walk_born w before.stages sound k (root_born w before.stages sound) (c.come k a b) in
-        let same : m'.words.key x ≡ w.key x = after.words.key x ((sound.cards (card x)).claimed.0 (born-claimed (before.stages (card x)) (x % 3) born)) in
+        let same : m'.words.key x ≡ w.key x = after.words.key x ((sound.cards (card x)).claimed.0 (born-claimed (before.stages (card x)) (x % 4) born)) in
         let side : is_right w x k ≡ right = ap (λ n. nat_le n k) (sym same) ∙ goes_side right low high (m'.words.key x) k (omega arith) some in
         let course : AllOnCourse w x low high = λ j l u. let r = c.real in walk_course w before.stages sound j (OnCourse-start w.key w.child top sound.tree.ordered j (omega arith)) (c.come j l u) in
         let down : (v : Words) → AllCome v x low high → v.key x ≡ m'.words.key x → m'.words.child x right ≡ v.child x right
@@ -184,7 +184,7 @@ module _ (m : Machine) (stage : Stages) (holds : Invariant m stage) where
           }
           | inr since ↦
               let mid = ran c.state before.stages _ _ since.state before.invariant since.by.first in
-              let kept = mid.words.key x ((sound.cards (card x)).claimed.0 (born-claimed (before.stages (card x)) (x % 3) born)) in
+              let kept = mid.words.key x ((sound.cards (card x)).claimed.0 (born-claimed (before.stages (card x)) (x % 4) born)) in
               record {
                 state = since.state;
                 by = by_later events answers m' c.state since.state c.by since.by;
@@ -237,7 +237,7 @@ stretches_of_one_state m events answers m' leaf low high passed comes outer =
     let after = ran was.state before.stages _ _ m' before.invariant was.by.last in
     let sound = before.invariant.words in
     let below : (k : ℕ) → low ≤ k → k < high → card leaf < w.next =
-    λ k a b. (sound.cards (card leaf)).claimed.0 (born-claimed (before.stages (card leaf)) (leaf % 3) (walk_born w before.stages sound k (root_born w before.stages sound) (was.come k a b))) in
+    λ k a b. (sound.cards (card leaf)).claimed.0 (born-claimed (before.stages (card leaf)) (leaf % 4) (walk_born w before.stages sound k (root_born w before.stages sound) (was.come k a b))) in
     record {
       state = was.state;
       amid = amid_by m events answers m' was.state was.by;

@@ -30,7 +30,7 @@ stages_put stage c new h = record {
   start = λ d. put_cases (λ s. is_start s ≡ is_start (stage d)) stage c new d (λ e. h.start ∙ ap (λ n. is_start (stage n)) (sym e)) (λ n. refl);
   insert = λ d g. put_cases (λ s. is_insert s ≡ true) stage c new d (λ e. h.insert (subst (λ n. is_insert (stage n) ≡ true) e g)) (λ n. g);
   delete = λ d g. put_cases (λ s. is_delete s ≡ true) stage c new d (λ e. h.delete (subst (λ n. is_delete (stage n) ≡ true) e g)) (λ n. g);
-  born = λ x g. put_cases (λ s. is_node_born s (x % 3) ≡ true) stage c new (card x) (λ e. h.born (x % 3) (subst (λ n. is_node_born (stage n) (x % 3) ≡ true) e g)) (λ n. g);
+  born = λ x g. put_cases (λ s. is_node_born s (x % 4) ≡ true) stage c new (card x) (λ e. h.born (x % 4) (subst (λ n. is_node_born (stage n) (x % 4) ≡ true) e g)) (λ n. g);
   told = λ fact d g. put_cases (λ s. allows fact s ≡ true) stage c new d (λ e. h.told fact (subst (λ n. allows fact (stage n) ≡ true) e g)) (λ n. g);
 }
 
@@ -83,7 +83,7 @@ iflag_kind = record { claimed = refl; insert = refl; delete = refl; born = λ pl
 
 -- its child exchange is made after that
 pub ichild_later : StageLater IFlagged IChanged
-ichild_later = record { start = refl; insert = λ h. refl; delete = λ h. absurd (false≢true h); born = λ place h. refl; told = told } where
+ichild_later = record { start = refl; insert = λ h. refl; delete = λ h. absurd (false≢true h); born = λ place h. absurd (false≢true h); told = told } where
   told : (f : Fact) → allows f IFlagged ≡ true → allows f IChanged ≡ true
   told f h = grind arith
 
@@ -103,7 +103,7 @@ runflag_kind = record { claimed = refl; insert = refl; delete = refl; born = λ 
 
 -- and it is over after that
 pub iunflag_later : StageLater IChanged IOver
-iunflag_later = record { start = refl; insert = λ h. refl; delete = λ h. absurd (false≢true h); born = λ place h. refl; told = told } where
+iunflag_later = record { start = refl; insert = λ h. refl; delete = λ h. absurd (false≢true h); born = λ place h. h; told = told } where
   told : (f : Fact) → allows f IChanged ≡ true → allows f IOver ≡ true
   told f h = grind arith
 

@@ -1,25 +1,25 @@
-use Rattle.std.proofs.Common.{◌≡◌, ℕ, ◌%◌, ◌<◌, nat_le, true, Option, Some, None, sym, ap, ◌∙◌, arith, ◌==◌, if◌then◌else◌}
-use Rattle.ell_word.specs.Node.{card, internal, left_leaf, right_leaf}
+use Rattle.std.proofs.Common.{◌≡◌, ℕ, ◌%◌, ◌<◌, nat_le, true, Option, Some, None, refl, sym, ap, ◌∙◌, arith, ◌==◌, if◌then◌else◌}
+use Rattle.ell_word.specs.Node.{card, internal, left_leaf, right_leaf, IsNode}
 use Rattle.ell_core.specs.state.Words.{Words}
 use Rattle.ell_core.specs.state.Cards.{is_right}
-use Rattle.ell_core.specs.history.Stages.{Stages, is_insert, is_delete, is_node_born, Born}
+use Rattle.ell_core.specs.history.Stages.{Stages, Opening, is_insert, is_delete, is_node_born, Born}
 use Rattle.ell_core.specs.history.Invariant.{insert_key, insert_value, delete_key, insert_side, delete_side, leaf_side, InsertCard, DeleteCard, IsPutting, WordsAreSound}
 use Rattle.ell_core.specs.history.Later.{WordsLater, SameInfo}
 use Rattle.ell_core.proofs.words.Sides.{key_of_three}
-use Rattle.ell_core.proofs.stages.Order.{born-claimed, insert-claimed, delete-claimed}
+use Rattle.ell_core.proofs.stages.Order.{all-born, born-claimed, insert-claimed, delete-claimed}
 
 module _ (w : Words) (stage : Stages) (sound : WordsAreSound w stage) where
   -- a node that came into the tree stands on a claimed card
   pub born_below : (x : ℕ) → Born stage x → card x < w.next
-  born_below x born = (sound.cards (card x)).claimed.0 (born-claimed (stage (card x)) (x % 3) born)
+  born_below x born = (sound.cards (card x)).claimed.0 (born-claimed (stage (card x)) (x % 4) born)
 
   -- so did each node of card 0
-  pub start_there : (x : ℕ) → card x ≡ 0 → Born stage x
-  start_there x e = ap (λ n. is_node_born (stage n) (x % 3)) e ∙ ap (λ s. is_node_born s (x % 3)) sound.opening
+  pub start_there : (x : ℕ) → IsNode x → card x ≡ 0 → Born stage x
+  start_there x node e = ap (λ n. is_node_born (stage n) (x % 4)) e ∙ (ap (λ s. is_node_born s (x % 4)) sound.opening ∙ all-born Opening (x % 4) (omega (arith, node)) refl)
 
   -- node 0 came into the tree
   pub root_born : Born stage 0
-  root_born = ap (λ s. is_node_born s (0 % 3)) sound.opening
+  root_born = ap (λ s. is_node_born s (0 % 4)) sound.opening
 
 -- later words than sound ones
 module _ (old new : Words) (stage : Stages) (sound : WordsAreSound old stage) (words : WordsLater old new) where

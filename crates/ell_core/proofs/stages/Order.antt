@@ -1,8 +1,9 @@
-use Rattle.std.proofs.Common.{◌≡◌, ◌≢◌, ℕ, ◌==◌, ◌||◌, ◌⊎◌, true, false, None, inl, inr, refl, sym, arith}
+use Rattle.std.proofs.Common.{◌≡◌, ◌≢◌, ◌≤◌, ℕ, ◌%◌, ◌==◌, ◌||◌, ◌&&◌, nat_le, ◌⊎◌, true, false, None, inl, inr, refl, sym, arith}
 use Rattle.std.proofs.lemmas.Bool.{false≢true}
 use Rattle.ell_ops.specs.declared.op.Op.{Op}
 use Rattle.ell_ops.specs.declared.op.Op.TheVariants.{Find, Insert, Delete, Swap}
-use Rattle.ell_core.specs.history.Stages.{Stage, Unclaimed, Opening, IClaimed, IFlagged, IChanged, IOver, RChanged, ROver, DClaimed, DFlagged, DUnmarkable, DMarked, DCut, DOver, DBacked, is_claimed, is_insert, is_delete, is_born, is_node_born, insert_won, insert_open, insert_waits, is_changed, insert_over, delete_won, delete_open, delete_waits, is_markable, is_unmarkable, is_marked, is_cut, delete_past, delete_over, is_backed, made_by_stage}
+use Rattle.ell_word.specs.Node.{card, IsNode}
+use Rattle.ell_core.specs.history.Stages.{Stage, Stages, Born, Unclaimed, Opening, IClaimed, IFlagged, IChanged, IOver, RChanged, ROver, DClaimed, DFlagged, DUnmarkable, DMarked, DCut, DOver, DBacked, is_claimed, is_insert, is_delete, is_born, is_node_born, insert_won, insert_open, insert_waits, is_changed, insert_over, delete_won, delete_open, delete_waits, is_markable, is_unmarkable, is_marked, is_cut, delete_past, delete_over, is_backed, made_by_stage}
 
 -- an insert whose flag stands has won it
 pub insert_open-won : (s : Stage) → insert_open s ≡ true → insert_won s ≡ true
@@ -116,16 +117,23 @@ delete-unborn s h = grind arith
 pub born-claimed : (s : Stage) (place : ℕ) → is_node_born s place ≡ true → is_claimed s ≡ true
 born-claimed s place h = grind arith
 
+-- what came into the tree is a node
+pub born-node : (s : Stage) (place : ℕ) → is_node_born s place ≡ true → place ≤ 2
+born-node s place h = grind arith
+
+pub born_is_node : (stage : Stages) (x : ℕ) → Born stage x → IsNode x
+born_is_node stage x born = let low = born-node (stage (card x)) (x % 4) born in λ none. omega arith
+
 -- a card's internal node came into the tree with all its nodes
 pub inner-born : (s : Stage) (place : ℕ) → place ≡ 0 → is_node_born s place ≡ true → is_born s ≡ true
 inner-born s place zero h = grind arith
 
 -- and each of its nodes with them
-pub all-born : (s : Stage) (place : ℕ) → is_born s ≡ true → is_node_born s place ≡ true
-all-born s place h = grind arith
+pub all-born : (s : Stage) (place : ℕ) → place ≤ 2 → is_born s ≡ true → is_node_born s place ≡ true
+all-born s place low h = grind arith
 
 -- the nodes of a changed card that came into the tree, by whether all did
-pub changed_nodes : (s : Stage) (place : ℕ) → is_changed s ≡ true → is_node_born s place ≡ (is_born s || (place == 2))
+pub changed_nodes : (s : Stage) (place : ℕ) → is_changed s ≡ true → is_node_born s place ≡ ((is_born s && nat_le place 2) || (place == 2))
 changed_nodes s place h = grind arith
 
 -- the nodes of a card that was not claimed did not come into the tree

@@ -1,4 +1,4 @@
-use Rattle.std.proofs.Common.{◌≡◌, ℕ, ◌⊎◌, true, false, List, [], ◌∷◌, ◌++◌, arith, refl}
+use Rattle.std.proofs.Common.{◌≡◌, ◌≤◌, ℕ, ◌⊎◌, true, false, List, [], ◌∷◌, ◌++◌, arith, refl}
 use Rattle.ell_word.specs.declared.gate.Kind.{Kind}
 use Rattle.ell_word.specs.declared.gate.Kind.TheVariants as kind
 use Rattle.ell_core.specs.history.Stages.{Stage, is_start, is_insert, is_delete, is_born, is_node_born, is_claimed, insert_won, delete_won, waits}
@@ -37,8 +37,8 @@ pub waits-no_start : (s : Stage) → waits s ≡ true → is_start s ≡ false
 waits-no_start s a = grind arith
 
 -- one of those came into the tree
-pub start-born : (s : Stage) (place : ℕ) → is_start s ≡ true → is_node_born s place ≡ true
-start-born s place a = grind arith
+pub start-born : (s : Stage) (place : ℕ) → place ≤ 2 → is_start s ≡ true → is_node_born s place ≡ true
+start-born s place low a = grind arith
 
 -- a card that was not claimed is none of them
 pub unclaimed-no_start : (s : Stage) → is_claimed s ≡ false → is_start s ≡ false

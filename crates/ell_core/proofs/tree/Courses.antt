@@ -67,7 +67,7 @@ module _ (key : ℕ → ℕ) (child : ℕ → Bool → ℕ) (top : ℕ) (ordered
     -- a node that came into the tree before stays on course
     pub OnCourse-insert : (j : ℕ) {x : ℕ} → Born x → OnCourse key child top j x → OnCourse key after top j x
     OnCourse-insert j c (here {x = x} r a b) = elim (Spans-stays key child after top p s l q k shape r) [
-      | inl e ↦ dead (λ i. shape.leaf (ap (λ v. v % 3) (sym e) ∙ i))
+      | inl e ↦ dead (λ i. shape.leaf (ap (λ v. v % 4) (sym e) ∙ i))
           (subst (λ v. (a b : ℕ) → ¬ Spans key after top v a b) (sym e) l_gone)
       | inr o ↦ here o a b
     ]

@@ -20,7 +20,7 @@ use Rattle.ell_core.proofs.tree.RealPairs.{inner, real, infinite, kind_of, real_
 -- the cards of the internal nodes among nodes
 unfoldable inner_cards : List ℕ → List ℕ
 inner_cards [] = []
-inner_cards (x ∷ xs) = if x % 3 == 0 then card x ∷ inner_cards xs else inner_cards xs
+inner_cards (x ∷ xs) = if x % 4 == 0 then card x ∷ inner_cards xs else inner_cards xs
 
 -- no node has no card
 inner_cards-none : inner_cards [] ≡ []
@@ -30,12 +30,12 @@ inner_cards-none = refl
 -- an internal node adds its card
 inner_cards-inner : (x : ℕ) (xs : List ℕ) → IsInternal x → inner_cards (x ∷ xs) ≡ card x ∷ inner_cards xs
 unfolding inner_cards
-inner_cards-inner x xs h = cond-true (x % 3 == 0) (card x ∷ inner_cards xs) (inner_cards xs) (eq-eqb (x % 3) 0 h)
+inner_cards-inner x xs h = cond-true (x % 4 == 0) (card x ∷ inner_cards xs) (inner_cards xs) (eq-eqb (x % 4) 0 h)
 
 -- a leaf adds none
 inner_cards-leaf : (x : ℕ) (xs : List ℕ) → IsLeaf x → inner_cards (x ∷ xs) ≡ inner_cards xs
 unfolding inner_cards
-inner_cards-leaf x xs h = cond-false (x % 3 == 0) (card x ∷ inner_cards xs) (inner_cards xs) (ne_eqb (x % 3) 0 h)
+inner_cards-leaf x xs h = cond-false (x % 4 == 0) (card x ∷ inner_cards xs) (inner_cards xs) (ne_eqb (x % 4) 0 h)
 
 -- the internal node of each of the cards is among the nodes
 inner_cards-only : (xs : List ℕ) (c : ℕ) → Contains (inner_cards xs) c → Contains xs (internal c)
@@ -117,15 +117,15 @@ no_longer w keys others first second =
 -- as many places as are enough for the nodes that wait are enough for the keys
 pub HoldsKeys-from_room : (w : Words) (places : ℕ) → IsLawful w → HasRoom w places → HoldsKeys w places
 HoldsKeys-from_room w places lawful room keys listed =
-    let inside : (x : ℕ) → Reached w x → x < 3 * places = λ x reached. let h = room x reached in omega arith in
-    let nodes = nodes_below w (3 * places) 0 in
+    let inside : (x : ℕ) → Reached w x → x < 4 * places = λ x reached. let h = room x reached in omega arith in
+    let nodes = nodes_below w (4 * places) 0 in
     let pairs = real_pairs w nodes in
-    let all = no_longer w keys (keys_of pairs) listed (ListsKeys-of_pairs w pairs (ListsTreePairs-all w (3 * places) lawful inside)) in
+    let all = no_longer w keys (keys_of pairs) listed (ListsKeys-of_pairs w pairs (ListsTreePairs-all w (4 * places) lawful inside)) in
     let same = length-keys_of pairs in
-    let few = few_keys w (3 * places) 0 in
+    let few = few_keys w (4 * places) 0 in
     let cards : length (inner_cards nodes) ≤ places - 1 =
     length-le_from_apart (inner_cards nodes) (places - 1)
-    (inner_cards-apart nodes (nodes_below-apart w (3 * places) lawful inside (3 * places) 0 (Below-refl w 0)))
-    (λ c h. let most = room (internal c) (nodes_below-only w (3 * places) 0 (internal c) (inner_cards-only nodes c h)) in omega arith) in
+    (inner_cards-apart nodes (nodes_below-apart w (4 * places) lawful inside (4 * places) 0 (Below-refl w 0)))
+    (λ c h. let most = room (internal c) (nodes_below-only w (4 * places) 0 (internal c) (inner_cards-only nodes c h)) in omega arith) in
     let some = room 0 (Below-refl w 0) in
     omega arith

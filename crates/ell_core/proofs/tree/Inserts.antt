@@ -112,7 +112,7 @@ module _ (key : ℕ → ℕ) (child after : ℕ → Bool → ℕ) (top p : ℕ) 
   -- what holds of the old leaf, and of its copy just where it holds of the old leaf
   module _ {holds : ℕ → Type 0} (copy : (t : Bool) → key (child q t) ≡ key l → holds (child q t) ↔ holds l) where
     other_leaf : (j : ℕ) → j ≢ k → (x : ℕ) → x ≡ q → Meets key after holds j x → (key l ≡ j) × holds l
-    other_leaf j ne x a (at_leaf h e p) = absurd (h (ap (λ v. v % 3) a ∙ shape.node))
+    other_leaf j ne x a (at_leaf h e p) = absurd (h (ap (λ v. v % 4) a ∙ shape.node))
     other_leaf j ne x a (below i e (at_leaf h d p)) =
         let t = nat_le (key x) j in
         let same = sym (kept t) ∙ (ap (λ v. after v t) (sym a) ∙ sym e) in
@@ -121,13 +121,13 @@ module _ (key : ℕ → ℕ) (child after : ℕ → Bool → ℕ) (top p : ℕ) 
     other_leaf j ne x a (below i e (below h d _)) =
         let t = nat_le (key x) j in
         let same = sym (kept t) ∙ (ap (λ v. after v t) (sym a) ∙ sym e) in
-        absurd (shape.leaves t (ap (λ v. v % 3) same ∙ h))
+        absurd (shape.leaves t (ap (λ v. v % 4) same ∙ h))
 
     -- the leaf of the new node on a key's side has the key, and so it is met there
     new_met : (j : ℕ) → key (next_node key child j q) ≡ j → holds (next_node key child j q) → Meets key after holds j q
     new_met j e p =
         let t = nat_le (key q) j in
-        below shape.node refl (at_leaf (λ h. shape.leaves t (ap (λ v. v % 3) (sym (kept t)) ∙ h)) (ap key (kept t) ∙ e) (subst holds (sym (kept t)) p))
+        below shape.node refl (at_leaf (λ h. shape.leaves t (ap (λ v. v % 4) (sym (kept t)) ∙ h)) (ap key (kept t) ∙ e) (subst holds (sym (kept t)) p))
 
     copied : (j : ℕ) → key l ≡ j → holds l → Meets key after holds j q
     copied j e p =
@@ -168,7 +168,7 @@ module _ (key : ℕ → ℕ) (child after : ℕ → Bool → ℕ) (top p : ℕ) 
     ]
       where
         new_leaf_met : holds (child q (nat_le (key q) k)) → Meets key after holds k (after q (nat_le (key q) k))
-        new_leaf_met p = at_leaf (λ h. shape.leaves (nat_le (key q) k) (ap (λ v. v % 3) (sym (kept (nat_le (key q) k))) ∙ h))
+        new_leaf_met p = at_leaf (λ h. shape.leaves (nat_le (key q) k) (ap (λ v. v % 4) (sym (kept (nat_le (key q) k))) ∙ h))
             (ap key (kept (nat_le (key q) k)) ∙ shape.new_key) (subst holds (sym (kept (nat_le (key q) k))) p)
 
     -- and was not before

@@ -12,20 +12,20 @@ use Rattle.ell_core.proofs.tree.Paths.{internal_or_leaf, Below-refl, Below-from_
 unfoldable pub nodes_below : Words → ℕ → ℕ → List ℕ
 nodes_below w zero x = []
 nodes_below w (suc fuel) x =
-    x ∷ (if x % 3 == 0 then nodes_below w fuel (w.child x false) ++ nodes_below w fuel (w.child x true) else [])
+    x ∷ (if x % 4 == 0 then nodes_below w fuel (w.child x false) ++ nodes_below w fuel (w.child x true) else [])
 
 -- below a leaf there is only the leaf
 pub nodes_below-leaf : (w : Words) (fuel x : ℕ) → IsLeaf x → nodes_below w (suc fuel) x ≡ x ∷ []
 unfolding nodes_below
 nodes_below-leaf w fuel x outer =
-    ap (λ rest. x ∷ rest) (cond-false (x % 3 == 0) (nodes_below w fuel (w.child x false) ++ nodes_below w fuel (w.child x true)) [] (ne_eqb (x % 3) 0 outer))
+    ap (λ rest. x ∷ rest) (cond-false (x % 4 == 0) (nodes_below w fuel (w.child x false) ++ nodes_below w fuel (w.child x true)) [] (ne_eqb (x % 4) 0 outer))
 
 -- below an internal node there are the node and the nodes below its children
 pub nodes_below-inner : (w : Words) (fuel x : ℕ) → IsInternal x →
     nodes_below w (suc fuel) x ≡ x ∷ (nodes_below w fuel (w.child x false) ++ nodes_below w fuel (w.child x true))
 unfolding nodes_below
 nodes_below-inner w fuel x inner =
-    ap (λ rest. x ∷ rest) (cond-true (x % 3 == 0) (nodes_below w fuel (w.child x false) ++ nodes_below w fuel (w.child x true)) [] (eq-eqb (x % 3) 0 inner))
+    ap (λ rest. x ∷ rest) (cond-true (x % 4 == 0) (nodes_below w fuel (w.child x false) ++ nodes_below w fuel (w.child x true)) [] (eq-eqb (x % 4) 0 inner))
 
 -- with no fuel there is no node
 pub nodes_below-none : (w : Words) (x : ℕ) → nodes_below w zero x ≡ []

@@ -54,7 +54,7 @@ module _ (key : ℕ → ℕ) (child : ℕ → Bool → ℕ) (top : ℕ) where
         let v = on_walk k r (omega arith) (omega arith) in
         let s = side_of key child top ordered (key x) k low high t (omega arith) (omega arith) in
         let u : move k (record { node = x; low = low; high = high }) ≡ record { node = _; low = _; high = _ } = cc in
-        (suc v.0, at_next k v.0 ∙ (ap (move k) v.1 ∙ u), inner_more k v.0 v.2 (ap (λ p. p.node % 3) v.1 ∙ i))
+        (suc v.0, at_next k v.0 ∙ (ap (move k) v.1 ∙ u), inner_more k v.0 v.2 (ap (λ p. p.node % 4) v.1 ∙ i))
 
     walk_spans : (k n : ℕ) → Inner k n → Spans key child top (walk k n).node (walk k n).low (walk k n).high
     walk_spans k zero h = let e = at_start k in root (ap (λ p. p.node) e) (ap (λ p. p.low) e) (ap (λ p. p.high) e)
@@ -130,6 +130,6 @@ module _ (key : ℕ → ℕ) (child : ℕ → Bool → ℕ) (top : ℕ) where
         let vy = ap (λ p. p.node) v.1 in
         elim (cases_order u.0 v.0) [
           | inl e ↦ sym ux ∙ (ap (λ n. (walk k n).node) e ∙ vy)
-          | inr (inl o) ↦ absurd (hx (ap (λ n. n % 3) (sym ux) ∙ v.2 u.0 o))
-          | inr (inr o) ↦ absurd (hy (ap (λ n. n % 3) (sym vy) ∙ u.2 v.0 o))
+          | inr (inl o) ↦ absurd (hx (ap (λ n. n % 4) (sym ux) ∙ v.2 u.0 o))
+          | inr (inr o) ↦ absurd (hy (ap (λ n. n % 4) (sym vy) ∙ u.2 v.0 o))
         ]

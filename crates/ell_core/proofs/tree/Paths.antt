@@ -8,7 +8,7 @@ use Rattle.ell_core.specs.tree.Tree.{Leads, Below, Reached, IsLawful}
 
 -- a node is internal or a leaf
 pub internal_or_leaf : (x : ℕ) → IsInternal x ⊎ IsLeaf x
-internal_or_leaf x = cases_eq (x % 3) 0
+internal_or_leaf x = cases_eq (x % 4) 0
 
 -- a path from x to y and one from y to z make a path from x to z
 pub Leads-append : (w : Words) (x y z : ℕ) (p q : List Bool) → Leads w x p y → Leads w y q z → Leads w x (p ++ q) z

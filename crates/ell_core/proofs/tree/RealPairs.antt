@@ -18,7 +18,7 @@ pair_at w x = (w.key x, w.value x)
 unfoldable pub real_pairs : Words → List ℕ → List (ℕ × ℕ)
 real_pairs w [] = []
 real_pairs w (x ∷ xs) =
-    if x % 3 == 0 then real_pairs w xs
+    if x % 4 == 0 then real_pairs w xs
     else (if nat_le (w.key x) greatest_key then pair_at w x ∷ real_pairs w xs else real_pairs w xs)
 
 -- no node has no pair
@@ -30,20 +30,20 @@ real_pairs-none w = refl
 pub real_pairs-inner : (w : Words) (x : ℕ) (xs : List ℕ) → IsInternal x → real_pairs w (x ∷ xs) ≡ real_pairs w xs
 unfolding real_pairs
 real_pairs-inner w x xs inner =
-    cond-true (x % 3 == 0) (real_pairs w xs) (if nat_le (w.key x) greatest_key then pair_at w x ∷ real_pairs w xs else real_pairs w xs) (eq-eqb (x % 3) 0 inner)
+    cond-true (x % 4 == 0) (real_pairs w xs) (if nat_le (w.key x) greatest_key then pair_at w x ∷ real_pairs w xs else real_pairs w xs) (eq-eqb (x % 4) 0 inner)
 
 -- a leaf adds its key with its value, if the key is real
 pub real_pairs-real : (w : Words) (x : ℕ) (xs : List ℕ) → IsLeaf x → w.key x ≤ greatest_key → real_pairs w (x ∷ xs) ≡ pair_at w x ∷ real_pairs w xs
 unfolding real_pairs
 real_pairs-real w x xs outer real =
-    cond-false (x % 3 == 0) (real_pairs w xs) (if nat_le (w.key x) greatest_key then pair_at w x ∷ real_pairs w xs else real_pairs w xs) (ne_eqb (x % 3) 0 outer)
+    cond-false (x % 4 == 0) (real_pairs w xs) (if nat_le (w.key x) greatest_key then pair_at w x ∷ real_pairs w xs else real_pairs w xs) (ne_eqb (x % 4) 0 outer)
     ∙ cond-true (nat_le (w.key x) greatest_key) (pair_at w x ∷ real_pairs w xs) (real_pairs w xs) (le-leb (w.key x) greatest_key real)
 
 -- a leaf of an infinite key adds none
 pub real_pairs-infinite : (w : Words) (x : ℕ) (xs : List ℕ) → IsLeaf x → greatest_key < w.key x → real_pairs w (x ∷ xs) ≡ real_pairs w xs
 unfolding real_pairs
 real_pairs-infinite w x xs outer infinite =
-    cond-false (x % 3 == 0) (real_pairs w xs) (if nat_le (w.key x) greatest_key then pair_at w x ∷ real_pairs w xs else real_pairs w xs) (ne_eqb (x % 3) 0 outer)
+    cond-false (x % 4 == 0) (real_pairs w xs) (if nat_le (w.key x) greatest_key then pair_at w x ∷ real_pairs w xs else real_pairs w xs) (ne_eqb (x % 4) 0 outer)
     ∙ cond-false (nat_le (w.key x) greatest_key) (pair_at w x ∷ real_pairs w xs) (real_pairs w xs) (lt-leb (w.key x) greatest_key infinite)
 
 -- the kinds of node: internal, a leaf of a real key, and a leaf of an infinite one

@@ -4,10 +4,10 @@ use Rattle.ell_word.specs.Node.{IsInternal, card}
 -- the node at place i of a stack, and those after it, are not too low for their places: node numbers rise on the way down
 abbrev pub Stacked : ℕ → List ℕ → Type 0
 Stacked i [] = Unit {0}
-Stacked i (x ∷ xs) = (3 * i < x + 3) × Stacked (i + 1) xs
+Stacked i (x ∷ xs) = (4 * i < x + 4) × Stacked (i + 1) xs
 
 -- a node that is not too low may be put on top
-pub Stacked-push : (i : ℕ) (xs : List ℕ) (x : ℕ) → Stacked i xs → 3 * (i + length xs) < x + 3 → Stacked i (xs ++ x ∷ [])
+pub Stacked-push : (i : ℕ) (xs : List ℕ) (x : ℕ) → Stacked i xs → 4 * (i + length xs) < x + 4 → Stacked i (xs ++ x ∷ [])
 Stacked-push i [] x stacked high = (omega arith, tt)
 Stacked-push i (y ∷ xs) x stacked high = (stacked.0, Stacked-push (i + 1) xs x stacked.1 (omega arith))
 
@@ -17,7 +17,7 @@ Stacked-rest i [] x stacked = tt
 Stacked-rest i (y ∷ xs) x stacked = (stacked.0, Stacked-rest (i + 1) xs x stacked.1)
 
 -- the top is not too low
-Stacked-top : (i : ℕ) (xs : List ℕ) (x : ℕ) → Stacked i (xs ++ x ∷ []) → 3 * (i + length xs) < x + 3
+Stacked-top : (i : ℕ) (xs : List ℕ) (x : ℕ) → Stacked i (xs ++ x ∷ []) → 4 * (i + length xs) < x + 4
 Stacked-top i [] x stacked = omega (arith, stacked.0)
 Stacked-top i (y ∷ xs) x stacked = let top = Stacked-top (i + 1) xs x stacked.1 in omega arith
 

@@ -7,7 +7,7 @@ use Rattle.ell_core.specs.state.Layout.{address, place, table_size, listed}
 use Rattle.ell_core.specs.state.Words.{Words, word, written, words_of}
 use Rattle.ell_core.specs.state.Cards.{filled, filled_list, claimed}
 use Rattle.ell_core.specs.statements.Laws.{SameAfterSameWrite, WordsAreListed, FilledListsAreFilled}
-use Rattle.ell_core.proofs.words.Writes.{equal_words, written_here, written_elsewhere, written_next, written_inner_value, written_leaf_child, written_leaf_update, made_word, made_inner_value, made_leaf_child, made_leaf_update}
+use Rattle.ell_core.proofs.words.Writes.{equal_words, written_here, written_elsewhere, written_next, written_no_key, written_no_value, written_inner_value, written_leaf_child, written_leaf_update, made_word, made_no_key, made_no_value, made_inner_value, made_leaf_child, made_leaf_update}
 
 -- The words that a list is have at each field the list's word.
 pub words_are_listed : WordsAreListed
@@ -19,18 +19,28 @@ pub listed_next : (words : List ℕ) → (words_of words).next ≡ slice_index w
 unfolding words_of
 listed_next words = refl
 
+-- What is no node has no key in the words that a list is.
+pub listed_no_key : (words : List ℕ) (x : ℕ) → x % 4 ≡ 3 → (words_of words).key x ≡ 0
+unfolding words_of
+listed_no_key words x h = made_no_key (slice_index words 0) (listed words) x h
+
+-- What is no node has no value in the words that a list is.
+pub listed_no_value : (words : List ℕ) (x : ℕ) → x % 4 ≡ 3 → (words_of words).value x ≡ 0
+unfolding words_of
+listed_no_value words x h = made_no_value (slice_index words 0) (listed words) x h
+
 -- An internal node has no value in the words that a list is.
-pub listed_inner_value : (words : List ℕ) (x : ℕ) → x % 3 ≡ 0 → (words_of words).value x ≡ 0
+pub listed_inner_value : (words : List ℕ) (x : ℕ) → x % 4 ≡ 0 → (words_of words).value x ≡ 0
 unfolding words_of
 listed_inner_value words x h = made_inner_value (slice_index words 0) (listed words) x h
 
 -- A leaf has no child in the words that a list is.
-pub listed_leaf_child : (words : List ℕ) (x : ℕ) (right : Bool) → x % 3 ≢ 0 → (words_of words).child x right ≡ 0
+pub listed_leaf_child : (words : List ℕ) (x : ℕ) (right : Bool) → x % 4 ≢ 0 → (words_of words).child x right ≡ 0
 unfolding words_of
 listed_leaf_child words x right h = made_leaf_child (slice_index words 0) (listed words) x right h
 
 -- A leaf has no update word in the words that a list is.
-pub listed_leaf_update : (words : List ℕ) (x : ℕ) → x % 3 ≢ 0 → (words_of words).update x ≡ 0
+pub listed_leaf_update : (words : List ℕ) (x : ℕ) → x % 4 ≢ 0 → (words_of words).update x ≡ 0
 unfolding words_of
 listed_leaf_update words x h = made_leaf_update (slice_index words 0) (listed words) x h
 
@@ -72,18 +82,18 @@ word_is_read words cards c field at found size h a e =
 
 -- The field that stands at a place.
 field_at : ℕ → Field
-field_at zero = Gp
-field_at (suc zero) = P
-field_at (suc (suc zero)) = L
-field_at (suc (suc (suc zero))) = Was
-field_at (suc (suc (suc (suc zero)))) = Key
-field_at (suc (suc (suc (suc (suc zero))))) = Left
-field_at (suc (suc (suc (suc (suc (suc zero)))))) = Right
-field_at (suc (suc (suc (suc (suc (suc (suc zero))))))) = Update
-field_at (suc (suc (suc (suc (suc (suc (suc (suc zero)))))))) = LeftLeafKey
-field_at (suc (suc (suc (suc (suc (suc (suc (suc (suc zero))))))))) = RightLeafKey
-field_at (suc (suc (suc (suc (suc (suc (suc (suc (suc (suc zero)))))))))) = LeftValue
-field_at (suc (suc (suc (suc (suc (suc (suc (suc (suc (suc (suc n))))))))))) = RightValue
+field_at zero = Key
+field_at (suc zero) = Left
+field_at (suc (suc zero)) = Right
+field_at (suc (suc (suc zero))) = Update
+field_at (suc (suc (suc (suc zero)))) = LeftLeafKey
+field_at (suc (suc (suc (suc (suc zero))))) = RightLeafKey
+field_at (suc (suc (suc (suc (suc (suc zero)))))) = LeftValue
+field_at (suc (suc (suc (suc (suc (suc (suc zero))))))) = RightValue
+field_at (suc (suc (suc (suc (suc (suc (suc (suc zero)))))))) = Gp
+field_at (suc (suc (suc (suc (suc (suc (suc (suc (suc zero))))))))) = P
+field_at (suc (suc (suc (suc (suc (suc (suc (suc (suc (suc zero)))))))))) = L
+field_at (suc (suc (suc (suc (suc (suc (suc (suc (suc (suc (suc n))))))))))) = Was
 
 -- The field at the place of a field is that field.
 field_of_place : (field : Field) → field_at (place field) ≡ field
@@ -154,6 +164,10 @@ words_after_write words d other value fits = equal_words _ _ record {
       ∙ (get_or-set_other words (address d other) 0 value 0 (omega arith) ∙ (sym (listed_next words) ∙ sym (written_next (words_of words) d other value)));
   word = λ c field. words_are_listed (slice_set words (address d other) value) c field
       ∙ same_after_same_write words (words_of words) c field d other value fits (sym (words_are_listed words c field));
+  no_key = λ x h. listed_no_key (slice_set words (address d other) value) x h
+      ∙ (sym (listed_no_key words x h) ∙ sym (written_no_key (words_of words) d other value x h));
+  no_value = λ x h. listed_no_value (slice_set words (address d other) value) x h
+      ∙ (sym (listed_no_value words x h) ∙ sym (written_no_value (words_of words) d other value x h));
   value = λ x h. listed_inner_value (slice_set words (address d other) value) x h
       ∙ (sym (listed_inner_value words x h) ∙ sym (written_inner_value (words_of words) d other value x h));
   child = λ x right h. listed_leaf_child (slice_set words (address d other) value) x right h
@@ -196,6 +210,8 @@ words_after_claim words value fits = equal_words _ _ record {
   next = listed_next (slice_set words 0 value) ∙ get_or-set_same words 0 value 0 fits;
   word = λ c field. words_are_listed (slice_set words 0 value) c field
       ∙ (get_or-set_other words 0 (address c field) value 0 (omega arith) ∙ (sym (words_are_listed words c field) ∙ same_but_next (words_of words) value c field));
+  no_key = λ x h. listed_no_key (slice_set words 0 value) x h ∙ sym (listed_no_key words x h);
+  no_value = λ x h. listed_no_value (slice_set words 0 value) x h ∙ sym (listed_no_value words x h);
   value = λ x h. listed_inner_value (slice_set words 0 value) x h ∙ sym (listed_inner_value words x h);
   child = λ x right h. listed_leaf_child (slice_set words 0 value) x right h ∙ sym (listed_leaf_child words x right h);
   update = λ x h. listed_leaf_update (slice_set words 0 value) x h ∙ sym (listed_leaf_update words x h);

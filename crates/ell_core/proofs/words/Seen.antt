@@ -54,7 +54,7 @@ words_are_written w c field value = record {
 pub nodes_are_on_cards : NodesAreOnCards
 nodes_are_on_cards w x = record {
   key = key_at_node w x;
-  value = λ outer. value_at_leaf w x outer;
+  value = λ node outer. value_at_leaf w x node outer;
   child = λ inner right. child_at_node w x right inner;
   update = λ inner. update_at_node w x inner;
 }

@@ -1,8 +1,8 @@
-use Rattle.std.proofs.Common.{◌≡◌, ◌≢◌, ℕ, zero, suc, ◌+◌, ◌*◌, ◌%◌, ◌<◌, ◌==◌, eq-eqb, ne_eqb, if◌then◌else◌, Bool, true, false, List, [], ◌∷◌, ◌++◌, length, take, get_or, inl, inr, refl, sym, ap, ◌∙◌, arith, subst}
+use Rattle.std.proofs.Common.{◌≡◌, ◌≢◌, ℕ, zero, suc, ◌+◌, ◌*◌, ◌%◌, ◌<◌, ◌==◌, eq-eqb, ne_eqb, if◌then◌else◌, Bool, true, false, List, [], ◌∷◌, ◌++◌, length, take, get_or, inl, inr, refl, sym, ap, ap₂, ◌||◌, ◌∙◌, arith, subst}
 use Rattle.std.proofs.lemmas.Bool.{cases_eq}
 use Rattle.std.proofs.lemmas.Bool.Decides.{nat_tests}
 use Rattle.std.proofs.lemmas.List.{take_more}
-use Rattle.ell_word.specs.Node.{card, internal, left_leaf, right_leaf}
+use Rattle.ell_word.specs.Node.{card, internal, left_leaf, right_leaf, IsNode}
 use Rattle.ell_core.specs.declared.field.Field.{Field}
 use Rattle.ell_core.specs.declared.field.Field.TheVariants.{Gp, P, L, Was, Key, Left, Right, Update, LeftLeafKey, RightLeafKey, LeftValue, RightValue}
 use Rattle.ell_core.specs.state.Layout.{address}
@@ -124,90 +124,114 @@ filled_next w before after c es i d e h g =
     ∙ sym (ap (filled w c) (take_more es i d h) ∙ filled_more w c (take i es) (get_or es i d)))
 
 -- A write leaves the children that the leaves have.
-pub written_leaf_child : (w : Words) (c : ℕ) (field : Field) (v x : ℕ) (right : Bool) → x % 3 ≢ 0
+pub written_leaf_child : (w : Words) (c : ℕ) (field : Field) (v x : ℕ) (right : Bool) → x % 4 ≢ 0
     → (written w c field v).child x right ≡ w.child x right
 written_leaf_child w c Left v x right h = ap (λ k. k right) (put_other w.child (internal c) (put_side (w.child (internal c)) false v) x (omega arith))
 written_leaf_child w c Right v x right h = ap (λ k. k right) (put_other w.child (internal c) (put_side (w.child (internal c)) true v) x (omega arith))
 written_leaf_child w c _ v x right h = refl
 
+-- A write leaves the keys that no node has.
+pub written_no_key : (w : Words) (c : ℕ) (field : Field) (v x : ℕ) → x % 4 ≡ 3 → (written w c field v).key x ≡ w.key x
+written_no_key w c Key v x h = put_other w.key (internal c) v x (omega arith)
+written_no_key w c LeftLeafKey v x h = put_other w.key (left_leaf c) v x (omega arith)
+written_no_key w c RightLeafKey v x h = put_other w.key (right_leaf c) v x (omega arith)
+written_no_key w c _ v x h = refl
+
+-- A write leaves the values that no node has.
+pub written_no_value : (w : Words) (c : ℕ) (field : Field) (v x : ℕ) → x % 4 ≡ 3 → (written w c field v).value x ≡ w.value x
+written_no_value w c LeftValue v x h = put_other w.value (left_leaf c) v x (omega arith)
+written_no_value w c RightValue v x h = put_other w.value (right_leaf c) v x (omega arith)
+written_no_value w c _ v x h = refl
+
 -- A write leaves the values that internal nodes have.
-pub written_inner_value : (w : Words) (c : ℕ) (field : Field) (v x : ℕ) → x % 3 ≡ 0
+pub written_inner_value : (w : Words) (c : ℕ) (field : Field) (v x : ℕ) → x % 4 ≡ 0
     → (written w c field v).value x ≡ w.value x
 written_inner_value w c LeftValue v x h = put_other w.value (left_leaf c) v x (omega arith)
 written_inner_value w c RightValue v x h = put_other w.value (right_leaf c) v x (omega arith)
 written_inner_value w c _ v x h = refl
 
 -- A write leaves the update words that the leaves have.
-pub written_leaf_update : (w : Words) (c : ℕ) (field : Field) (v x : ℕ) → x % 3 ≢ 0
+pub written_leaf_update : (w : Words) (c : ℕ) (field : Field) (v x : ℕ) → x % 4 ≢ 0
     → (written w c field v).update x ≡ w.update x
 written_leaf_update w c Update v x h = put_other w.update (internal c) v x (omega arith)
 written_leaf_update w c _ v x h = refl
 
 -- The key of a node, by the remainder of its number.
-key_by_remainder : (w : Words) (x c r : ℕ) → r < 3 → x ≡ 3 * c + r → w.key x ≡ word w c (key_field r)
+key_by_remainder : (w : Words) (x c r : ℕ) → r < 3 → x ≡ 4 * c + r → w.key x ≡ word w c (key_field r)
 key_by_remainder w x c zero h e = let i : x ≡ internal c = omega arith in ap w.key i
 key_by_remainder w x c (suc zero) h e = let i : x ≡ left_leaf c = omega arith in ap w.key i
 key_by_remainder w x c (suc (suc zero)) h e = let i : x ≡ right_leaf c = omega arith in ap w.key i
 key_by_remainder w x c (suc (suc (suc r))) h e = absurd (omega arith)
 
 -- The key of a node is a word of its card.
-pub key_at_node : (w : Words) (x : ℕ) → w.key x ≡ word w (card x) (key_field (x % 3))
-key_at_node w x = key_by_remainder w x (card x) (x % 3) (omega arith) (omega arith)
+pub key_at_node : (w : Words) (x : ℕ) → IsNode x → w.key x ≡ word w (card x) (key_field (x % 4))
+key_at_node w x node = key_by_remainder w x (card x) (x % 4) (omega (arith, node)) (omega arith)
 
 -- The value of a leaf, by the remainder of its number.
-value_by_remainder : (w : Words) (x c r : ℕ) → r < 3 → r ≢ 0 → x ≡ 3 * c + r → w.value x ≡ word w c (value_field r)
+value_by_remainder : (w : Words) (x c r : ℕ) → r < 3 → r ≢ 0 → x ≡ 4 * c + r → w.value x ≡ word w c (value_field r)
 value_by_remainder w x c zero h n e = absurd (n refl)
 value_by_remainder w x c (suc zero) h n e = let i : x ≡ left_leaf c = omega arith in ap w.value i
 value_by_remainder w x c (suc (suc zero)) h n e = let i : x ≡ right_leaf c = omega arith in ap w.value i
 value_by_remainder w x c (suc (suc (suc r))) h n e = absurd (omega arith)
 
 -- The value of a leaf is a word of its card.
-pub value_at_leaf : (w : Words) (x : ℕ) → x % 3 ≢ 0 → w.value x ≡ word w (card x) (value_field (x % 3))
-value_at_leaf w x n = value_by_remainder w x (card x) (x % 3) (omega arith) n (omega arith)
+pub value_at_leaf : (w : Words) (x : ℕ) → IsNode x → x % 4 ≢ 0 → w.value x ≡ word w (card x) (value_field (x % 4))
+value_at_leaf w x node n = value_by_remainder w x (card x) (x % 4) (omega (arith, node)) n (omega arith)
 
 -- An internal node is the internal node of its card.
-pub internal_at_node : (x : ℕ) → x % 3 ≡ 0 → x ≡ internal (card x)
+pub internal_at_node : (x : ℕ) → x % 4 ≡ 0 → x ≡ internal (card x)
 internal_at_node x h = omega arith
 
 -- The child of an internal node is a word of its card.
-pub child_at_node : (w : Words) (x : ℕ) (right : Bool) → x % 3 ≡ 0 → w.child x right ≡ word w (card x) (child_field right)
+pub child_at_node : (w : Words) (x : ℕ) (right : Bool) → x % 4 ≡ 0 → w.child x right ≡ word w (card x) (child_field right)
 child_at_node w x true h = ap (λ n. w.child n true) (internal_at_node x h)
 child_at_node w x false h = ap (λ n. w.child n false) (internal_at_node x h)
 
 -- The update word of an internal node is a word of its card.
-pub update_at_node : (w : Words) (x : ℕ) → x % 3 ≡ 0 → w.update x ≡ word w (card x) Update
+pub update_at_node : (w : Words) (x : ℕ) → x % 4 ≡ 0 → w.update x ≡ word w (card x) Update
 update_at_node w x h = ap w.update (internal_at_node x h)
 
 -- What makes two machines' words equal: the claim word, each field of each card, and what stands in no field.
 pub record SameWords (a b : Words) : Type 0 where
   pub next : a.next ≡ b.next
   pub word : (c : ℕ) (field : Field) → word a c field ≡ word b c field
-  pub value : (x : ℕ) → x % 3 ≡ 0 → a.value x ≡ b.value x
-  pub child : (x : ℕ) (right : Bool) → x % 3 ≢ 0 → a.child x right ≡ b.child x right
-  pub update : (x : ℕ) → x % 3 ≢ 0 → a.update x ≡ b.update x
+  pub no_key : (x : ℕ) → x % 4 ≡ 3 → a.key x ≡ b.key x
+  pub no_value : (x : ℕ) → x % 4 ≡ 3 → a.value x ≡ b.value x
+  pub value : (x : ℕ) → x % 4 ≡ 0 → a.value x ≡ b.value x
+  pub child : (x : ℕ) (right : Bool) → x % 4 ≢ 0 → a.child x right ≡ b.child x right
+  pub update : (x : ℕ) → x % 4 ≢ 0 → a.update x ≡ b.update x
 
 module _ (a b : Words) (h : SameWords a b) where
   -- Then the keys of a node are the same.
   same_key : (x : ℕ) → a.key x ≡ b.key x
-  same_key x = key_at_node a x ∙ (h.word (card x) (key_field (x % 3)) ∙ sym (key_at_node b x))
+  same_key x = elim (cases_eq (x % 4) 3) [
+    | inl e ↦ h.no_key x e
+    | inr node ↦ key_at_node a x node ∙ (h.word (card x) (key_field (x % 4)) ∙ sym (key_at_node b x node))
+  ]
 
   -- Then the values of a leaf are the same.
   same_value : (x : ℕ) → a.value x ≡ b.value x
-  same_value x = elim (cases_eq (x % 3) 0) [
+  same_value x = elim (cases_eq (x % 4) 0) [
     | inl e ↦ h.value x e
-    | inr n ↦ value_at_leaf a x n ∙ (h.word (card x) (value_field (x % 3)) ∙ sym (value_at_leaf b x n))
+    | inr n ↦ at_leaf n
   ]
+    where
+      at_leaf : x % 4 ≢ 0 → a.value x ≡ b.value x
+      at_leaf n = elim (cases_eq (x % 4) 3) [
+        | inl e ↦ h.no_value x e
+        | inr node ↦ value_at_leaf a x node n ∙ (h.word (card x) (value_field (x % 4)) ∙ sym (value_at_leaf b x node n))
+      ]
 
   -- Then the children of a node are the same.
   same_child : (x : ℕ) (right : Bool) → a.child x right ≡ b.child x right
-  same_child x right = elim (cases_eq (x % 3) 0) [
+  same_child x right = elim (cases_eq (x % 4) 0) [
     | inl e ↦ child_at_node a x right e ∙ (h.word (card x) (child_field right) ∙ sym (child_at_node b x right e))
     | inr n ↦ h.child x right n
   ]
 
   -- Then the update words of a node are the same.
   same_update : (x : ℕ) → a.update x ≡ b.update x
-  same_update x = elim (cases_eq (x % 3) 0) [
+  same_update x = elim (cases_eq (x % 4) 0) [
     | inl e ↦ update_at_node a x e ∙ (h.word (card x) Update ∙ sym (update_at_node b x e))
     | inr n ↦ h.update x n
   ]
@@ -227,25 +251,28 @@ module _ (a b : Words) (h : SameWords a b) where
   }
 
 -- The value of a function at a node's card and key field, by the card and the remainder.
-made_key : (at : ℕ → Field → ℕ) (x c r : ℕ) → card x ≡ c → x % 3 ≡ r → at (card x) (key_field (x % 3)) ≡ at c (key_field r)
-made_key at x c r e f = λ t. at (e t) (key_field (f t))
+made_key : (at : ℕ → Field → ℕ) (x c r : ℕ) → card x ≡ c → x % 4 ≡ r → r ≢ 3
+    → (if x % 4 == 3 then 0 else at (card x) (key_field (x % 4))) ≡ at c (key_field r)
+made_key at x c r e f n = ap (λ t. if t then 0 else at (card x) (key_field (x % 4))) (ap (λ k. k == 3) f ∙ ne_eqb r 3 n)
+    ∙ λ t. at (e t) (key_field (f t))
 
 -- The value of a function at a leaf's card and value field, by the card and the remainder.
-made_leaf : (at : ℕ → Field → ℕ) (x c r : ℕ) → card x ≡ c → x % 3 ≡ r → r ≢ 0
-    → (if x % 3 == 0 then 0 else at (card x) (value_field (x % 3))) ≡ at c (value_field r)
-made_leaf at x c r e f n = ap (λ t. if t then 0 else at (card x) (value_field (x % 3))) (ap (λ k. k == 0) f ∙ ne_eqb r 0 n)
+made_leaf : (at : ℕ → Field → ℕ) (x c r : ℕ) → card x ≡ c → x % 4 ≡ r → r ≢ 0 → r ≢ 3
+    → (if x % 4 == 0 || x % 4 == 3 then 0 else at (card x) (value_field (x % 4))) ≡ at c (value_field r)
+made_leaf at x c r e f n m = ap (λ t. if t then 0 else at (card x) (value_field (x % 4)))
+    (ap (λ k. k == 0 || k == 3) f ∙ ap₂ (λ p q. p || q) (ne_eqb r 0 n) (ne_eqb r 3 m))
     ∙ λ t. at (e t) (value_field (f t))
 
 -- What only internal nodes have, at an internal node.
-at_internal : (x v : ℕ) → x % 3 ≡ 0 → (if x % 3 == 0 then v else 0) ≡ v
+at_internal : (x v : ℕ) → x % 4 ≡ 0 → (if x % 4 == 0 then v else 0) ≡ v
 at_internal x v h = grind (arith, nat_tests)
 
 -- What only internal nodes have is 0 at a leaf.
-at_leaf : (x v : ℕ) → x % 3 ≢ 0 → (if x % 3 == 0 then v else 0) ≡ 0
+at_leaf : (x v : ℕ) → x % 4 ≢ 0 → (if x % 4 == 0 then v else 0) ≡ 0
 at_leaf x v h = grind (arith, nat_tests)
 
--- The number of a card's internal node is a multiple of three.
-is_internal_of : (c : ℕ) → internal c % 3 ≡ 0
+-- The number of a card's internal node is a multiple of four.
+is_internal_of : (c : ℕ) → internal c % 4 ≡ 0
 is_internal_of c = omega arith
 
 -- A card's internal node stands on that card.
@@ -258,23 +285,31 @@ made_word next at c Gp = refl
 made_word next at c P = refl
 made_word next at c L = refl
 made_word next at c Was = refl
-made_word next at c Key = made_key at (internal c) c 0 (omega arith) (omega arith)
-made_word next at c LeftLeafKey = made_key at (left_leaf c) c 1 (omega arith) (omega arith)
-made_word next at c RightLeafKey = made_key at (right_leaf c) c 2 (omega arith) (omega arith)
-made_word next at c LeftValue = made_leaf at (left_leaf c) c 1 (omega arith) (omega arith) (omega arith)
-made_word next at c RightValue = made_leaf at (right_leaf c) c 2 (omega arith) (omega arith) (omega arith)
+made_word next at c Key = made_key at (internal c) c 0 (omega arith) (omega arith) (omega arith)
+made_word next at c LeftLeafKey = made_key at (left_leaf c) c 1 (omega arith) (omega arith) (omega arith)
+made_word next at c RightLeafKey = made_key at (right_leaf c) c 2 (omega arith) (omega arith) (omega arith)
+made_word next at c LeftValue = made_leaf at (left_leaf c) c 1 (omega arith) (omega arith) (omega arith) (omega arith)
+made_word next at c RightValue = made_leaf at (right_leaf c) c 2 (omega arith) (omega arith) (omega arith) (omega arith)
 made_word next at c Left = at_internal (internal c) _ (is_internal_of c) ∙ ap (λ d. at d Left) (card_of_internal c)
 made_word next at c Right = at_internal (internal c) _ (is_internal_of c) ∙ ap (λ d. at d Right) (card_of_internal c)
 made_word next at c Update = at_internal (internal c) _ (is_internal_of c) ∙ ap (λ d. at d Update) (card_of_internal c)
 
 -- The words that are made of a function give an internal node no value.
-pub made_inner_value : (next : ℕ) (at : ℕ → Field → ℕ) (x : ℕ) → x % 3 ≡ 0 → (words_from next at).value x ≡ 0
-made_inner_value next at x h = ap (λ t. if t then 0 else at (card x) (value_field (x % 3))) (eq-eqb (x % 3) 0 h)
+pub made_inner_value : (next : ℕ) (at : ℕ → Field → ℕ) (x : ℕ) → x % 4 ≡ 0 → (words_from next at).value x ≡ 0
+made_inner_value next at x h = ap (λ t. if t || x % 4 == 3 then 0 else at (card x) (value_field (x % 4))) (eq-eqb (x % 4) 0 h)
+
+-- The words that are made of a function give what is no node no key.
+pub made_no_key : (next : ℕ) (at : ℕ → Field → ℕ) (x : ℕ) → x % 4 ≡ 3 → (words_from next at).key x ≡ 0
+made_no_key next at x h = ap (λ t. if t then 0 else at (card x) (key_field (x % 4))) (eq-eqb (x % 4) 3 h)
+
+-- The words that are made of a function give what is no node no value.
+pub made_no_value : (next : ℕ) (at : ℕ → Field → ℕ) (x : ℕ) → x % 4 ≡ 3 → (words_from next at).value x ≡ 0
+made_no_value next at x h = ap (λ k. if k == 0 || k == 3 then 0 else at (card x) (value_field (x % 4))) h
 
 -- The words that are made of a function give a leaf no child.
-pub made_leaf_child : (next : ℕ) (at : ℕ → Field → ℕ) (x : ℕ) (right : Bool) → x % 3 ≢ 0 → (words_from next at).child x right ≡ 0
+pub made_leaf_child : (next : ℕ) (at : ℕ → Field → ℕ) (x : ℕ) (right : Bool) → x % 4 ≢ 0 → (words_from next at).child x right ≡ 0
 made_leaf_child next at x right h = at_leaf x _ h
 
 -- The words that are made of a function give a leaf no update word.
-pub made_leaf_update : (next : ℕ) (at : ℕ → Field → ℕ) (x : ℕ) → x % 3 ≢ 0 → (words_from next at).update x ≡ 0
+pub made_leaf_update : (next : ℕ) (at : ℕ → Field → ℕ) (x : ℕ) → x % 4 ≢ 0 → (words_from next at).update x ≡ 0
 made_leaf_update next at x h = at_leaf x _ h

@@ -1,4 +1,4 @@
-use Rattle.std.specs.Prelude.{◌≡◌, ℕ, ◌%◌, ◌==◌, Bool, true, false, Option, Some}
+use Rattle.std.specs.Prelude.{◌≡◌, ℕ, ◌%◌, ◌==◌, nat_le, Bool, true, false, Option, Some}
 use Rattle.ell_ops.specs.declared.op.Op.{Op}
 use Rattle.ell_ops.specs.Meaning.{key_of}
 use Rattle.ell_word.specs.Node.{card}
@@ -71,12 +71,12 @@ is_born IChanged = true
 is_born IOver = true
 is_born _ = false
 
--- one of the card's nodes came into the tree, by its place among them: of a card that replaces a leaf its right leaf
--- alone
+-- one of the card's nodes came into the tree, by its place among them, of which there are three: of a card that
+-- replaces a leaf its right leaf alone
 abbrev pub is_node_born : Stage → ℕ → Bool
-is_node_born Opening place = true
-is_node_born IChanged place = true
-is_node_born IOver place = true
+is_node_born Opening place = nat_le place 2
+is_node_born IChanged place = nat_le place 2
+is_node_born IOver place = nat_le place 2
 is_node_born RChanged place = place == 2
 is_node_born ROver place = place == 2
 is_node_born _ place = false
@@ -201,7 +201,7 @@ allows (fact.Backed c) stage = is_backed stage
 
 -- a node came into the tree
 abbrev pub Born : Stages → ℕ → Type 0
-Born stage x = is_node_born (stage (card x)) (x % 3) ≡ true
+Born stage x = is_node_born (stage (card x)) (x % 4) ≡ true
 
 -- what an operation has made of its key by its card's stage
 abbrev pub made_by_stage : Op → Stage → Option Entry

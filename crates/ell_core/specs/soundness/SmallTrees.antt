@@ -13,16 +13,16 @@ five_filled = claimed opening_words (insert_filling 1 5 50 0 (left_leaf 0) infin
 abbrev pub five_linked : Words
 five_linked = with_child five_filled 0 false (internal 1)
 
--- the tree with key 5: the root's left child is node 3, with leaf 4 of key 5 and leaf 5 of the lesser infinity
+-- the tree with key 5: the root's left child is node 4, with leaf 5 of key 5 and leaf 6 of the lesser infinity
 abbrev pub five : Words
 five = with_update five_linked 0 (clean 1)
 
--- the tree with keys 5 and 7: node 3's left child is node 6, with leaf 7 of key 5 and leaf 8 of key 7
+-- the tree with keys 5 and 7: node 4's left child is node 8, with leaf 9 of key 5 and leaf 10 of key 7
 abbrev pub five_seven : Words
 five_seven = with_update (with_child (claimed five (insert_filling 2 7 70 (internal 1) (left_leaf 1) 5 50)) (internal 1) false (internal 2))
     (internal 1) (clean 2)
 
--- the tree with key 5, with card 2 filled to delete it: grandparent 0, parent 3, leaf 4
+-- the tree with key 5, with card 2 filled to delete it: grandparent 0, parent 4, leaf 5
 abbrev pub five_leaving : Words
 five_leaving = claimed five (delete_filling 0 (internal 1) (left_leaf 1) (clean 0))
 

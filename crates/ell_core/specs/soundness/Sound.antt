@@ -1,7 +1,7 @@
 use Rattle.std.specs.Prelude.{◌≡◌, ◌≢◌, ℕ, ◌<◌, ◌≤◌, ◌↔◌, ◌⊎◌, true, false, Some, None}
 use Rattle.ell_ops.specs.declared.op.Op.{Op}
 use Rattle.ell_ops.specs.Meaning.{key_of}
-use Rattle.ell_word.specs.Node.{IsInternal, card}
+use Rattle.ell_word.specs.Node.{IsInternal, IsNode, card}
 use Rattle.ell_word.specs.Word.{unpacked}
 use Rattle.ell_word.specs.declared.update.State.{State}
 use Rattle.ell_word.specs.declared.update.State.TheVariants as state
@@ -55,6 +55,7 @@ FactsAreSound m = (i : ℕ) (fact : Fact) → (m.worker i).knows fact ≡ true �
 -- no reached node is on a card at or past the claim word, and no update word of one names such a card
 pub record NamesAreSound (w : Words) : Type 0 where
   pub nodes : (x : ℕ) → Reached w x → card x < w.next
+  pub numbers : (x : ℕ) → Reached w x → IsNode x
   pub updates : (x : ℕ) → Reached w x → IsInternal x → (unpacked (w.update x)).card < w.next
 
 -- the node that a card flags or marks in a state

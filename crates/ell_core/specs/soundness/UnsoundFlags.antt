@@ -1,10 +1,10 @@
-use Rattle.std.specs.Prelude.{ℕ, Some}
-use Rattle.ell_core.specs.state.Words.{Words, with_update}
+use Rattle.std.specs.Prelude.{ℕ, Some, false}
+use Rattle.ell_core.specs.state.Words.{Words, with_child, with_update}
 use Rattle.ell_core.specs.state.Machine.{Machine}
 use Rattle.ell_core.specs.state.Cards.{iflag, dflag, marked, clean}
 use Rattle.ell_core.specs.state.Opening.{opening_words}
 use Rattle.ell_core.specs.soundness.Sound.{NamesAreSound, FlagsAreSound, IsSound}
-use Rattle.ell_core.specs.soundness.SmallTrees.{five_linked, five_updated}
+use Rattle.ell_core.specs.soundness.SmallTrees.{five, five_linked, five_updated}
 use Rattle.ell_core.specs.soundness.Unsound.{owner, holding, with_one}
 use Rattle.ell_core.specs.declared.view.Entry.TheVariants.{Present, Absent}
 
@@ -15,6 +15,10 @@ BreaksNames m = (¬ NamesAreSound m.words) × (¬ IsSound m)
 -- nodes: those of card 1 are in the tree, and card 1 was not claimed
 abbrev pub node_not_claimed : Machine
 node_not_claimed = with_one (record five_linked { next = 1 }) (owner 5 (Present 50))
+
+-- numbers: the root's left child has the number that card 1 leaves out
+abbrev pub number_left_out : Machine
+number_left_out = with_one (with_child five 0 false 7) (owner 5 Absent)
 
 -- updates: the root's update word names a card that was not claimed
 abbrev pub card_not_claimed : Machine
@@ -40,7 +44,7 @@ flag_of_another = with_one root_flagged (holding 2 (owner 5 Absent))
 abbrev pub flag_not_won : Machine
 flag_not_won = with_one root_flagged (record (owner 5 Absent) { card = Some 1 })
 
--- place: card 2, whose grandparent is the root and whose parent is node 3, is in hand and flagged, with these update words there
+-- place: card 2, whose grandparent is the root and whose parent is node 4, is in hand and flagged, with these update words there
 abbrev pub placed : ℕ → ℕ → Machine
 placed above behind = with_one (five_updated above behind) (holding 2 (owner 5 (Present 50)))
 

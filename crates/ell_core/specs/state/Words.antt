@@ -1,4 +1,4 @@
-use Rattle.std.specs.Prelude.{ℕ, ◌%◌, ◌==◌, if◌then◌else◌, Bool, true, false, zero, suc, List, slice_index}
+use Rattle.std.specs.Prelude.{ℕ, ◌%◌, ◌==◌, ◌||◌, if◌then◌else◌, Bool, true, false, zero, suc, List, slice_index}
 use Rattle.ell_word.specs.Node.{card, internal, left_leaf, right_leaf}
 use Rattle.ell_core.specs.state.Layout.{listed}
 use Rattle.ell_core.specs.declared.field.Field.{Field}
@@ -90,8 +90,8 @@ abbrev pub child_field : Bool → Field
 child_field true = Right
 child_field false = Left
 
--- the words that a claim word and the fields of the cards make: an internal node has no value, and a leaf no child and
--- no update word
+-- the words that a claim word and the fields of the cards make: an internal node has no value, a leaf no child and
+-- no update word, and what is no node has nothing
 abbrev pub words_from : ℕ → (ℕ → Field → ℕ) → Words
 words_from next at = record {
   next = next;
@@ -99,10 +99,10 @@ words_from next at = record {
   p = λ c. at c P;
   l = λ c. at c L;
   was = λ c. at c Was;
-  key = λ x. at (card x) (key_field (x % 3));
-  value = λ x. if x % 3 == 0 then 0 else at (card x) (value_field (x % 3));
-  child = λ x right. if x % 3 == 0 then at (card x) (child_field right) else 0;
-  update = λ x. if x % 3 == 0 then at (card x) Update else 0;
+  key = λ x. if x % 4 == 3 then 0 else at (card x) (key_field (x % 4));
+  value = λ x. if x % 4 == 0 || x % 4 == 3 then 0 else at (card x) (value_field (x % 4));
+  child = λ x right. if x % 4 == 0 then at (card x) (child_field right) else 0;
+  update = λ x. if x % 4 == 0 then at (card x) Update else 0;
 }
 
 -- the words that a list of all words is

@@ -1,5 +1,5 @@
 use Rattle.std.specs.Prelude.{◌≡◌, ◌≢◌, ◌%◌, Bool, slice_index, ℕ, ◌<◌, ◌≤◌, List, length, slice_set}
-use Rattle.ell_word.specs.Node.{IsInternal, card}
+use Rattle.ell_word.specs.Node.{IsInternal, IsNode, card}
 use Rattle.ell_core.specs.declared.event.Event.{Event}
 use Rattle.ell_core.specs.declared.event.Shown.{Shown}
 use Rattle.ell_core.specs.declared.field.Field.{Field}
@@ -84,8 +84,8 @@ WordsAreWritten = (w : Words) (c : ℕ) (field : Field) (value : ℕ) → WordIs
 
 -- the key of a node, the value of a leaf, and the children and the update word of an internal node are words of its card
 pub record NodeIsOnCard (w : Words) (x : ℕ) : Type 0 where
-  pub key : w.key x ≡ word w (card x) (key_field (x % 3))
-  pub value : IsLeaf x → w.value x ≡ word w (card x) (value_field (x % 3))
+  pub key : IsNode x → w.key x ≡ word w (card x) (key_field (x % 4))
+  pub value : IsNode x → IsLeaf x → w.value x ≡ word w (card x) (value_field (x % 4))
   pub child : IsInternal x → (right : Bool) → w.child x right ≡ word w (card x) (child_field right)
   pub update : IsInternal x → w.update x ≡ word w (card x) Update
 

@@ -5,7 +5,7 @@ ghost use Rattle.ell_core.specs.declared.fact.Fact.TheVariants.{IFlagged, IChang
 ghost use Rattle.ell_core.specs.soundness.Unsound.{BreaksLedgers, key_owned_twice, key_without_owner, key_missing_in_ledger, key_kept_in_ledger, key_with_other_value, BreaksSearches, key_found_too_early, key_not_found, search_astray, BreaksStrangers, key_of_stranger, busy_stranger, knowing_stranger};
 ghost use Rattle.ell_core.specs.soundness.UnsoundTrees.{BreaksTree, child_of_less_number, leaf_linked_twice, node_with_lesser_key, node_with_key_too_great, root_of_lesser_infinity, root_with_other_leaf, leaf_past_infinity, lesser_infinity_lost, lesser_infinity_of_no_leaf, infinity_on_the_left, leaf_below_the_root};
 ghost use Rattle.ell_core.specs.soundness.UnsoundFacts.{NoneHolds, not_an_insert, linked_unflagged, never_linked, insert_flag_stands, not_a_delete, mark_of_an_insert, cut_unflagged, passed_unflagged, never_marked, cut_unmarked, never_cut, cut_flag_stands, passed_flag_stands};
-ghost use Rattle.ell_core.specs.soundness.UnsoundFlags.{BreaksNames, node_not_claimed, card_not_claimed, BreaksFlags, flag_left_standing, flag_of_another, flag_not_won, iflag_elsewhere, dflag_elsewhere, mark_elsewhere};
+ghost use Rattle.ell_core.specs.soundness.UnsoundFlags.{BreaksNames, node_not_claimed, number_left_out, card_not_claimed, BreaksFlags, flag_left_standing, flag_of_another, flag_not_won, iflag_elsewhere, dflag_elsewhere, mark_elsewhere};
 
 /// No tree breaks one of the rules of a lawful one: numbers rise, one path leads to each node, keys are in order, the two
 /// infinities stand in their places, and every leaf of a real key has a grandparent.
@@ -57,9 +57,10 @@ pub fn no_fact_is_made_up()
     ensures backed { NoneHolds passed_flag_stands (Backed 2 ∷ []) }
 {}
 
-/// No node and no update word of the tree is of a card that was not claimed.
+/// No node and no update word of the tree is of a card that was not claimed, and no node has a number that its card leaves out.
 pub fn no_name_is_wrong()
     ensures nodes { BreaksNames node_not_claimed }
+    ensures numbers { BreaksNames number_left_out }
     ensures updates { BreaksNames card_not_claimed }
 {}
 

@@ -19,14 +19,14 @@ pub(crate) const START_KEYS: [u64; 3] = [2, 4, 6];
 pub(crate) const START_CARDS: u64 = 4;
 
 /// The words of the first card of an empty tree, in the order of `Field::ALL`.
-pub(crate) const ROOT: [u64; 12] = [0, 0, 0, 0, INF2, 1, 2, 3, INF1, INF2, 0, 0];
+pub(crate) const ROOT: [u64; 12] = [INF2, 1, 2, 3, INF1, INF2, 0, 0, 0, 0, 0, 0];
 
 /// The words of each card of a tree that opens with the start keys.
 pub(crate) const STARTED: [[u64; 12]; 8] = [
-    [0, 0, 0, 0, INF2, 3, 2, 3, INF1, INF2, 0, 0],
-    [0, 0, 0, 0, 6, 6, 9, 3, 0, 0, 0, 0],
-    [0, 0, 0, 0, 4, 7, 8, 3, 2, 4, 0, 0],
-    [0, 0, 0, 0, INF1, 10, 11, 3, 6, INF1, 0, 0],
+    [INF2, 4, 2, 3, INF1, INF2, 0, 0, 0, 0, 0, 0],
+    [6, 8, 12, 3, 0, 0, 0, 0, 0, 0, 0, 0],
+    [4, 9, 10, 3, 2, 4, 0, 0, 0, 0, 0, 0],
+    [INF1, 13, 14, 3, 6, INF1, 0, 0, 0, 0, 0, 0],
     [0; 12],
     [0; 12],
     [0; 12],

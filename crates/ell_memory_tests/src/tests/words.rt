@@ -21,9 +21,9 @@ fn words_and_nodes_want_no_memory(rt: HostRuntime) {
         let update = Update { state, card };
         assert!(rt; card < 4 && pack(update) == word && unpack(word) == update);
     }
-    assert!(rt; internal_of(4) == 12 && left_leaf_of(4) == 13 && right_leaf_of(4) == 14);
-    assert!(rt; is_internal(12) && !is_internal(13) && !is_internal(14));
-    assert!(rt; card_of(12) == 4 && card_of(13) == 4 && card_of(14) == 4);
+    assert!(rt; internal_of(4) == 16 && left_leaf_of(4) == 17 && right_leaf_of(4) == 18);
+    assert!(rt; is_internal(16) && !is_internal(17) && !is_internal(18));
+    assert!(rt; card_of(16) == 4 && card_of(17) == 4 && card_of(18) == 4);
     NoGate.before(0, Kind::Begin);
     NoGate.after(0, true);
     assert!(rt; heap.growths() == 0);

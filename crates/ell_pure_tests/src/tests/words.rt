@@ -22,7 +22,7 @@ fn words_are_packed(rt: HostRuntime) {
 
 #[test]
 fn a_card_has_a_node_and_two_leaves(rt: HostRuntime) {
-    assert!(rt; left_leaf_of(4) == 13 && right_leaf_of(4) == 14);
-    assert!(rt; card_of(14) == 4 && !is_internal(14) && is_internal(internal_of(4)));
+    assert!(rt; left_leaf_of(4) == 17 && right_leaf_of(4) == 18);
+    assert!(rt; card_of(18) == 4 && !is_internal(18) && is_internal(internal_of(4)));
     assert!(rt; INF1 == u64::MAX - 1 && INF2 == u64::MAX);
 }

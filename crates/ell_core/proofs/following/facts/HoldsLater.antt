@@ -37,7 +37,7 @@ counts_as_delete : (w : Words) (stage : Stages) (c : ℕ) → WordsAreSound w st
     → is_delete (stage c) ≡ true
 counts_as_delete w stage c sound kinds below h = elim (cases_Bool (is_start (stage c))) [
   | inl e ↦ absurd (let at : card (internal c) ≡ c = omega arith in
-      let born = ap (λ n. is_node_born (stage n) (internal c % 3)) at ∙ start-born (stage c) (internal c % 3) e in
+      let born = ap (λ n. is_node_born (stage n) (internal c % 4)) at ∙ start-born (stage c) (internal c % 4) (omega arith) e in
       let up = (sound.children (internal c) (omega arith) born).rising false in
       let none = eqb-true (w.child (internal c) false) 0 h in
       omega arith)

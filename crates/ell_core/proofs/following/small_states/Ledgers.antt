@@ -28,9 +28,9 @@ one_is_not_two e = omega arith
 zero_is_not_one : ◌≢◌ {A = ℕ} 0 1
 zero_is_not_one e = omega arith
 
--- node 4 is a leaf
-four_leaf : IsLeaf 4
-four_leaf e = zero_is_not_one (sym e)
+-- node 5 is a leaf
+leaf_five : IsLeaf 5
+leaf_five e = zero_is_not_one (sym e)
 
 -- two owners of one key
 pub twice_broken : BreaksLedgers key_owned_twice
@@ -40,9 +40,9 @@ twice_broken = breaks_ledgers key_owned_twice (λ sound. zero_is_not_one
 -- key 5 is in the tree with that key
 five_there : IsTreeKey five 5
 five_there = record {
-  leaf = 4;
+  leaf = 5;
   reached = record { path = false ∷ false ∷ []; leads = (refl, (refl, refl)) };
-  outer = four_leaf;
+  outer = leaf_five;
   has = refl;
   real = omega arith;
 }
@@ -50,9 +50,9 @@ five_there = record {
 -- with value 50
 fifty_there : IsTreePair five 5 50
 fifty_there = record {
-  leaf = 4;
+  leaf = 5;
   reached = record { path = false ∷ false ∷ []; leads = (refl, (refl, refl)) };
-  outer = four_leaf;
+  outer = leaf_five;
   has = refl;
   says = refl;
   real = omega arith;
@@ -90,8 +90,8 @@ other_value_broken = breaks_ledgers key_with_other_value (λ sound.
 -- a leaf of key 5, which is absent
 pub found_broken : BreaksSearches key_found_too_early
 found_broken = breaks_searches key_found_too_early (λ sound.
-    let found : Finds key_found_too_early.words 5 50 4 = record { leaf = 4; on = here refl; outer = four_leaf; has = refl; says = refl } in
-    let there : Some Absent ≡ Some (Present 50) = ((sound 0 (Find 5) 4 refl refl).finds (λ e. let f : Some Absent ≡ None = e in cc) 50).0 found in cc)
+    let found : Finds key_found_too_early.words 5 50 5 = record { leaf = 5; on = here refl; outer = leaf_five; has = refl; says = refl } in
+    let there : Some Absent ≡ Some (Present 50) = ((sound 0 (Find 5) 5 refl refl).finds (λ e. let f : Some Absent ≡ None = e in cc) 50).0 found in cc)
 
 -- the walk from leaf 1 stays there
 at_one : (x : ℕ) → OnWalk five 5 1 x → x ≡ 1

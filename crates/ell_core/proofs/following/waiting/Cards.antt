@@ -82,7 +82,7 @@ stages_tell_waiting m stage invariant = record {
     λ h. ((invariant.words.cards c).claimed.0 (waits-claimed (stage c) h), waits-no_start (stage c) h, waits-wins (stage c) h),
     λ h. claimed_waits m stage invariant c h.0 h.1 h.2,
   );
-  born = λ x h. born-settled (stage (card x)) (x % 3) h;
+  born = λ x h. born-settled (stage (card x)) (x % 4) h;
   hand = λ i c h. hand_waits m.words stage (m.worker i) c (invariant.workers.each i) h.holds h.unflagged;
   alone = one_hand m stage invariant;
   flagged = λ i c holds flagged. flagged_made m.words stage (m.worker i) c (invariant.workers.each i) holds flagged;

@@ -77,15 +77,15 @@ module _ (w after : Words) (stage : Stages) (new : Stage) (h : Claiming w after 
 
   -- a node that came into the tree is not on the card
   pub born_another : (x : ℕ) → Born stage x → card x ≢ w.next
-  born_another x born = another (λ s. is_node_born s (x % 3)) refl (card x) born
+  born_another x born = another (λ s. is_node_born s (x % 4)) refl (card x) born
 
   -- it came into the tree still
   pub born_kept : (x : ℕ) → Born stage x → Born (put stage w.next new) x
-  born_kept x born = kept (λ s. is_node_born s (x % 3)) refl (card x) born
+  born_kept x born = kept (λ s. is_node_born s (x % 4)) refl (card x) born
 
   -- no other did by the claim
   pub born_before : (x : ℕ) → Born (put stage w.next new) x → Born stage x
-  born_before x born = before (λ s. is_node_born s (x % 3)) refl refl (card x) born
+  born_before x born = before (λ s. is_node_born s (x % 4)) refl refl (card x) born
 
   -- so its key is as it was
   pub key_kept : (x : ℕ) → Born stage x → after.key x ≡ w.key x

@@ -109,7 +109,7 @@ module _ (w after : Words) (stage : Stages) (new : Stage) (h : Claiming w after 
         (key_kept w after stage new h) (child_kept w after stage new h) old.ordered;
     root_key = key_kept w after stage new h 0 zero_born ∙ old.root_key;
     root_right = child_kept w after stage new h 0 true zero_born ∙ old.root_right;
-    right_key = key_kept w after stage new h (right_leaf 0) (start_there w stage h.words (right_leaf 0) refl) ∙ old.right_key;
+    right_key = key_kept w after stage new h (right_leaf 0) (start_there w stage h.words (right_leaf 0) (omega arith) refl) ∙ old.right_key;
     last = let there = leads_some w infinity1 old.last in leads_any after infinity1 there.0 0 (leads_kept w after stage new h infinity1 there.0 0 zero_born there.1);
     there = λ x inner born calm. (let was_born = born_before w after stage new h x born in
         in_kept w after stage new h x

@@ -53,7 +53,7 @@ module _ (w : Words) (stage : Stages) (sound : WordsAreSound w stage) (c : ℕ) 
   pub unborn_says : (d : ℕ) → is_born (stage d) ≡ false → SaysTheSame w after d
   unborn_says d not_born = child_says w (w.gp c) (sibling w c) (delete_side w c) d
       (λ e. let same : card (w.gp c) ≡ d = omega arith in
-      false≢true (sym not_born ∙ subst (λ n. is_born (stage n) ≡ true) same (inner-born (stage (card (w.gp c))) (w.gp c % 3) at.grandparent.inner at.grandparent.born)))
+      false≢true (sym not_born ∙ subst (λ n. is_born (stage n) ≡ true) same (inner-born (stage (card (w.gp c))) (w.gp c % 4) at.grandparent.inner at.grandparent.born)))
 
   -- cards and workers go on
   pub cut_goes_on : GoesOn w after stage new
@@ -139,7 +139,7 @@ module _ (w : Words) (stage : Stages) (sound : WordsAreSound w stage) (c : ℕ) 
 
   -- the children of each node are sound
   children_after : (x : ℕ) → IsInternal x → Born new x → ChildrenAreSound after new x
-  children_after x inner born = let h = sound.children x inner (before (λ s. is_node_born s (x % 3)) refl (card x) born) in record {
+  children_after x inner born = let h = sound.children x inner (before (λ s. is_node_born s (x % 4)) refl (card x) born) in record {
     born = λ right. child_cases x right (Born new)
         (λ e f. later.born (sibling w c) sibling_born) (later.born (w.child x right) (h.born right));
     rising = λ right. (let up = (cut_words_later w stage c at).child x right in let more = h.rising right in omega arith);
@@ -149,7 +149,7 @@ module _ (w : Words) (stage : Stages) (sound : WordsAreSound w stage) (c : ℕ) 
 
   -- so is its update word
   updates_after : (x : ℕ) → IsInternal x → Born new x → UpdateIsSound after new x
-  updates_after x inner born = let h = sound.updates x inner (before (λ s. is_node_born s (x % 3)) refl (card x) born) in record {
+  updates_after x inner born = let h = sound.updates x inner (before (λ s. is_node_born s (x % 4)) refl (card x) born) in record {
     named = h.named;
     iflagged = λ d e. (stage_kept stage c now insert_open refl d ∙ (h.iflagged d e).0, (h.iflagged d e).1);
     dflagged = λ d e. (stage_kept stage c now delete_open refl d ∙ (h.dflagged d e).0, (h.dflagged d e).1);
@@ -177,7 +177,7 @@ module _ (w : Words) (stage : Stages) (sound : WordsAreSound w stage) (c : ℕ) 
     last = let there = leads_some w infinity1 sound.tree.last in
         leads_any after infinity1 there.0 0 ((tree.leads infinity1 there.0 0 (λ e. let real = at.real in omega arith)).1 there.1);
     there = λ x inner born calm. tree.stays x inner (λ e. calm c (ap w.update e ∙ at.mark))
-        (sound.tree.there x inner (before (λ s. is_node_born s (x % 3)) refl (card x) born) calm);
+        (sound.tree.there x inner (before (λ s. is_node_born s (x % 4)) refl (card x) born) calm);
   }
 
   no_opening : Opening ≢ DMarked

@@ -51,8 +51,8 @@ module _ (old new : Words) (stage stages : Stages) (h : GoesOn old new stage sta
       born_on : is_born (stage c) ≡ true → is_born (stages c) ≡ true
       born_on e = let same : card (internal c) ≡ c = omega arith in
           subst (λ n. is_born (stages n) ≡ true) same
-          (inner-born (stages (card (internal c))) (internal c % 3) (omega arith)
-          (h.later.born (internal c) (all-born (stage (card (internal c))) (internal c % 3) (subst (λ n. is_born (stage n) ≡ true) (sym same) e))))
+          (inner-born (stages (card (internal c))) (internal c % 4) (omega arith)
+          (h.later.born (internal c) (all-born (stage (card (internal c))) (internal c % 4) (omega arith) (subst (λ n. is_born (stage n) ≡ true) (sym same) e))))
 
       by : (b : Bool) → is_born (stage c) ≡ b → b ≡ false
       by true e = absurd (false≢true (sym out ∙ born_on e))

@@ -32,10 +32,10 @@ pub record Brings (w : Words) (stage : Stages) (c q : ℕ) (now : Stage) : Type 
   pub fresh : (now ≡ IChanged) ⊎ (now ≡ RChanged)
   pub above : w.l c < q
   pub on_card : card q ≡ c
-  pub born : is_node_born now (q % 3) ≡ true
+  pub born : is_node_born now (q % 4) ≡ true
   pub key : w.key q ≡ w.key (internal c)
   pub kind : is_born now ≡ not (is_replace_card w c)
-  pub inner : (x : ℕ) → IsInternal x → card x ≡ c → is_node_born now (x % 3) ≡ true → NewInner w (ichild_words w c q) (ichild_stages stage c now) x
+  pub inner : (x : ℕ) → IsInternal x → card x ≡ c → is_node_born now (x % 4) ≡ true → NewInner w (ichild_words w c q) (ichild_stages stage c now) x
   pub ordered : IsOrdered w.key (ichild_words w c q).child top
   pub course : (k x : ℕ) → Born stage x → IsOnCourse w k x → IsOnCourse (ichild_words w c q) k x
   pub out : (x : ℕ) → Born stage x → IsOut w x → IsOut (ichild_words w c q) x
@@ -113,4 +113,4 @@ module _ (w : Words) (stage : Stages) (sound : WordsAreSound w stage) (c : ℕ) 
 
   -- none of the card's nodes came into the tree before
   pub not_born : (x : ℕ) → card x ≡ c → ¬ Born stage x
-  not_born x e born = false≢true (sym (ap (λ s. is_node_born s (x % 3)) flagged) ∙ (ap (λ d. is_node_born (stage d) (x % 3)) (sym e) ∙ born))
+  not_born x e born = false≢true (sym (ap (λ s. is_node_born s (x % 4)) flagged) ∙ (ap (λ d. is_node_born (stage d) (x % 4)) (sym e) ∙ born))

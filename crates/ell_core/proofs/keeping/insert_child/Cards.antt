@@ -77,7 +77,7 @@ module _ (w : Words) (stage : Stages) (sound : WordsAreSound w stage) (c : ℕ) 
   unborn_says d unborn = child_says w (w.p c) q (insert_side w c) d (λ e.
       let parent = (its_card w stage sound c flagged).parent in
       let same : card (w.p c) ≡ d = omega arith in
-      false≢true (sym unborn ∙ (ap (λ n. is_born (stage n)) (sym same) ∙ inner-born (stage (card (w.p c))) (w.p c % 3) parent.inner parent.born)))
+      false≢true (sym unborn ∙ (ap (λ n. is_born (stage n)) (sym same) ∙ inner-born (stage (card (w.p c))) (w.p c % 4) parent.inner parent.born)))
 
   -- cards and workers go on
   pub ichild_goes_on : GoesOn w after stage stages

@@ -107,10 +107,10 @@ module _ (w : Words) (stage : Stages) (sound : WordsAreSound w stage) (c : ℕ) 
     fresh = inr refl;
     above = omega arith;
     on_card = omega arith;
-    born = place_two (right_leaf c % 3) (omega arith);
+    born = place_two (right_leaf c % 4) (omega arith);
     key = sym card_said.node_key;
     kind = ap not (sym one);
-    inner = λ x inner e born. absurd (no_inner (x % 3) inner born);
+    inner = λ x inner e born. absurd (no_inner (x % 4) inner born);
     ordered = IsOrdered-replace w.key w.child leaf_words.child top (w.p c) (insert_side w c) (w.l c) (right_leaf c) its_shape sound.tree.ordered;
     course = course_after;
     out = out_after;

@@ -1,12 +1,13 @@
 use Rattle.std.proofs.Common.{◌≡◌, ◌≢◌, ℕ, ◌%◌, ◌<◌, ◌≤◌, ◌==◌, ◌↔◌, if◌then◌else◌, Bool, true, false, not, nat_le, inl, inr, ◌⊎◌, refl, sym, ap, ◌∙◌, subst, arith}
 use Rattle.std.proofs.lemmas.Bool.{cases_eq, eq-eqb, ne_eqb}
 use Rattle.std.proofs.lemmas.Bool.Decides.{nat_tests}
-use Rattle.ell_word.specs.Node.{IsInternal, card, internal, left_leaf, right_leaf}
+use Rattle.ell_word.specs.Node.{IsInternal, IsNode, card, internal, left_leaf, right_leaf}
 use Rattle.ell_core.specs.state.Words.{Words}
 use Rattle.ell_core.specs.state.Cards.{is_replace_card}
 use Rattle.ell_core.specs.tree.Ranges.{Spans, goes, IsOrdered, low_of, high_of}
 use Rattle.ell_core.specs.history.Stages.{Stages, IFlagged, IChanged, is_node_born, Born}
 use Rattle.ell_core.specs.history.Invariant.{top, IsIn, IsOut, LeadsTo, LeadsToValue, IsOnCourse, insert_key, insert_value, insert_side, InsertCard, Unborn, ChildrenAreSound, WordsAreSound}
+use Rattle.ell_core.proofs.stages.Order.{all-born}
 use Rattle.ell_core.proofs.words.Writes.{put_same}
 use Rattle.ell_core.proofs.tree.Reached.{leads_any, one_value}
 use Rattle.ell_core.proofs.tree.Inserts.{Inserts, Spans-stays, IsOrdered-insert, Meets-inserted, Meets-before, Meets-new, absent_before}
@@ -241,8 +242,9 @@ module _ (w : Words) (stage : Stages) (sound : WordsAreSound w stage) (c : ℕ) 
   node_stages = ichild_stages stage c IChanged
 
   -- all nodes of the card came into the tree
-  born_here : (x : ℕ) → card x ≡ c → Born node_stages x
-  born_here x e = ap (λ n. is_node_born (node_stages n) (x % 3)) e ∙ ap (λ s. is_node_born s (x % 3)) (put_same stage c IChanged)
+  born_here : (x : ℕ) → IsNode x → card x ≡ c → Born node_stages x
+  born_here x node e = ap (λ n. is_node_born (node_stages n) (x % 4)) e
+      ∙ (ap (λ s. is_node_born s (x % 4)) (put_same stage c IChanged) ∙ all-born IChanged (x % 4) (omega (arith, node)) refl)
 
   new_kept : (right : Bool) → node_words.child (internal c) right ≡ w.child (internal c) right
   new_kept right = elim ((its_relinks w stage sound c flagged (internal c)).others (internal c) right) [
@@ -266,7 +268,7 @@ module _ (w : Words) (stage : Stages) (sound : WordsAreSound w stage) (c : ℕ) 
       let f = new_right in
       record {
         born = both (λ right. Born node_stages (node_words.child (internal c) right))
-            (born_here _ (omega arith)) (born_here _ (omega arith));
+            (born_here _ (omega arith) (omega arith)) (born_here _ (omega arith) (omega arith));
         rising = both (λ right. internal c < node_words.child (internal c) right) (omega arith) (omega arith);
         left_less = omega arith;
         right_more = omega arith;
@@ -276,7 +278,7 @@ module _ (w : Words) (stage : Stages) (sound : WordsAreSound w stage) (c : ℕ) 
       both P a b false = a
       both P a b true = b
 
-  inner_here : (x : ℕ) → IsInternal x → card x ≡ c → is_node_born IChanged (x % 3) ≡ true → NewInner w node_words node_stages x
+  inner_here : (x : ℕ) → IsInternal x → card x ≡ c → is_node_born IChanged (x % 4) ≡ true → NewInner w node_words node_stages x
   inner_here x inner e born = let same : internal c ≡ x = omega arith in
       subst (NewInner w node_words node_stages) same (record { children = children_here; calm = nodes_said.calm; there = node_in })
 
@@ -286,7 +288,7 @@ module _ (w : Words) (stage : Stages) (sound : WordsAreSound w stage) (c : ℕ) 
     fresh = inl refl;
     above = card_said.before;
     on_card = omega arith;
-    born = refl;
+    born = all-born IChanged (internal c % 4) (omega arith) refl;
     key = refl;
     kind = ap not (sym two);
     inner = inner_here;

@@ -35,13 +35,13 @@ module _ (w : Words) (stage : Stages) (sound : WordsAreSound w stage) (c : ℕ) 
 
   -- the node came into the tree
   born_here : Born stages q
-  born_here = ap (λ n. is_node_born (stages n) (q % 3)) b.on_card ∙ (ap (λ s. is_node_born s (q % 3)) (put_same stage c now) ∙ b.born)
+  born_here = ap (λ n. is_node_born (stages n) (q % 4)) b.on_card ∙ (ap (λ s. is_node_born s (q % 4)) (put_same stage c now) ∙ b.born)
 
   -- none but the card's did
-  born_back : (x : ℕ) → Born stages x → ((card x ≡ c) × (is_node_born now (x % 3) ≡ true)) ⊎ Born stage x
+  born_back : (x : ℕ) → Born stages x → ((card x ≡ c) × (is_node_born now (x % 4) ≡ true)) ⊎ Born stage x
   born_back x born = elim (cases_eq (card x) c) [
-    | inl e ↦ inl (e, ap (λ s. is_node_born s (x % 3)) (sym (put_same stage c now)) ∙ (ap (λ n. is_node_born (stages n) (x % 3)) (sym e) ∙ born))
-    | inr n ↦ inr (ap (λ s. is_node_born s (x % 3)) (sym (put_other stage c now (card x) n)) ∙ born)
+    | inl e ↦ inl (e, ap (λ s. is_node_born s (x % 4)) (sym (put_same stage c now)) ∙ (ap (λ n. is_node_born (stages n) (x % 4)) (sym e) ∙ born))
+    | inr n ↦ inr (ap (λ s. is_node_born s (x % 4)) (sym (put_other stage c now (card x) n)) ∙ born)
   ]
 
   born_child : (x : ℕ) (right : Bool) → IsInternal x → Born stage x

@@ -78,7 +78,7 @@ module _ (m : Machine) (stage : Stages) (i : ℕ) (sound : Invariant m stage) wh
   stands_at_root : (op : Op) → MayChange v (key_of op) → MayDrop stage v v.ledger
       → StandIsSound m.words stage (begun (Some op) v) (key_of op) 0
   stands_at_root op owns may = record {
-    born = ap (λ s. is_node_born s (0 % 3)) sound.words.opening;
+    born = ap (λ s. is_node_born s (0 % 4)) sound.words.opening;
     read = λ word e. absurd (some_not_none e refl);
     leads = λ owned value. (let present = sound.workers.present i (key_of op) value owned in
         (λ l. sym (may.counts (key_of op) owned) ∙ present.0 l, λ e. present.1 (may.counts (key_of op) owned ∙ e)));

@@ -39,7 +39,7 @@ module _ (w : Words) (stage : Stages) (x value c : ℕ) (new : Stage) (e : Excha
 
   -- a node that came into the tree did so before
   pub born_before : (y : ℕ) → Born (put stage c new) y → Born stage y
-  born_before y h = sym ((kind_of (card y)).born (y % 3)) ∙ h
+  born_before y h = sym ((kind_of (card y)).born (y % 4)) ∙ h
 
   -- a word that was not that of x stays
   pub word_stays : (y word : ℕ) → w.update y ≡ word → w.update x ≢ word → put w.update x value y ≡ word
@@ -64,7 +64,7 @@ module _ (w : Words) (stage : Stages) (x value c : ℕ) (new : Stage) (e : Excha
       on_card same = omega arith
 
       elsewhere : internal d ≢ x
-      elsewhere same = false≢true (sym h ∙ (ap (λ n. is_born (stage n)) (on_card same) ∙ inner-born (stage (card x)) (x % 3) e.place.inner e.place.born))
+      elsewhere same = false≢true (sym h ∙ (ap (λ n. is_born (stage n)) (on_card same) ∙ inner-born (stage (card x)) (x % 4) e.place.inner e.place.born))
 
   -- cards and workers go on
   pub update_goes_on : WordsAreSound w stage → GoesOn w (with_update w x value) stage (put stage c new)

@@ -13,4 +13,4 @@ invariant-loop-node g l = record {
 
 -- the nodes to come
 abbrev pub decreases-loop-node : goal.decreases-loop-node
-decreases-loop-node g l = length (pending (g.T.TreeWords.words l.fn.tree) (3 * vec_capacity l.fn.waiting) l.waiting.items)
+decreases-loop-node g l = length (pending (g.T.TreeWords.words l.fn.tree) (4 * vec_capacity l.fn.waiting) l.waiting.items)

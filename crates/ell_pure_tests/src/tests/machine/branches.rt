@@ -5,7 +5,11 @@ use std::process::Abort;
 
 // The cards over the keys 2, 4 and 6 and the one above all keys, of which card 2 has the leaves of 2 and 4: card, first leaf, how many
 // on its left and on its right, and its children.
-const THREE_KEYS: [[u64; 6]; 3] = [[1, 0, 2, 2, 6, 9], [2, 0, 1, 1, 7, 8], [3, 2, 1, 1, 10, 11]];
+const THREE_KEYS: [[u64; 6]; 3] = [
+    [1, 0, 2, 2, 8, 12],
+    [2, 0, 1, 1, 9, 10],
+    [3, 2, 1, 1, 13, 14],
+];
 
 fn branch(card: u64, first: u64, left: u64, right: u64) -> Branch {
     Branch {

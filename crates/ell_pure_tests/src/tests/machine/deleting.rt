@@ -8,7 +8,7 @@ use ell_core::Act::{
 use ell_core::Field;
 use ell_ops::Op;
 
-// Worker 1 inserts 7 by card 2, and flags node 3 by card 3 to delete it.
+// Worker 1 inserts 7 by card 2, and flags node 4 by card 3 to delete it.
 const FLAGGED_FOR_SEVEN: &[Line] = &[
     Searches(1, Begin(Op::Insert(7, 70)), 2),
     Does(1, &[Claim], MOVED),
@@ -16,17 +16,17 @@ const FLAGGED_FOR_SEVEN: &[Line] = &[
     Does(1, &[Answer], YES),
     Searches(1, Begin(Op::Delete(7)), 3),
     Does(1, &[Claim], MOVED),
-    Filled(3, [3, 6, 8, 3, 0, 0, 0, 0, 0, 0, 0, 0]),
+    Filled(3, [0, 0, 0, 0, 0, 0, 0, 0, 4, 8, 10, 3]),
     Has(1, Field::Update, 11),
     Does(1, &[DFlag], WON),
     Has(1, Field::Update, 13),
 ];
 
-// Worker 0 flags node 6 by card 4 to insert 6.
+// Worker 0 flags node 8 by card 4 to insert 6.
 const FLAGGED_FOR_SIX: &[Line] = &[
     Searches(0, Begin(Op::Insert(6, 60)), 3),
     Does(0, &[Claim], MOVED),
-    Filled(4, [0, 6, 7, 0, 6, 13, 14, 3, 5, 6, 50, 60]),
+    Filled(4, [6, 17, 18, 3, 5, 6, 50, 60, 0, 8, 9, 0]),
     Has(2, Field::Update, 3),
     Does(0, &[IFlag], WON),
     Has(2, Field::Update, 16),
@@ -35,9 +35,9 @@ const FLAGGED_FOR_SIX: &[Line] = &[
 // Worker 1 does not get its mark, helps the insert of 6, takes its flag away and begins anew.
 const BACKTRACKED: &[Line] = &[
     Does(1, &[Mark(3)], LOST),
-    Has(2, Field::Left, 7),
+    Has(2, Field::Left, 9),
     Does(1, &[IChild(4), IUnflag(4)], WON),
-    Has(2, Field::Left, 12),
+    Has(2, Field::Left, 16),
     Has(2, Field::Update, 19),
     Does(1, &[Backtrack(3)], WON),
     Has(1, Field::Update, 15),
@@ -48,9 +48,9 @@ const BACKTRACKED: &[Line] = &[
     Has(1, Field::Update, 21),
     Does(1, &[Mark(5)], WON),
     Has(2, Field::Update, 22),
-    Has(1, Field::Left, 6),
+    Has(1, Field::Left, 8),
     Does(1, &[DChild(5), DUnflag(5)], WON),
-    Has(1, Field::Left, 12),
+    Has(1, Field::Left, 16),
     Has(1, Field::Update, 23),
     Does(1, &[Answer], YES),
     Does(0, &[IChild(4), IUnflag(4)], LOST),
@@ -79,10 +79,10 @@ const A_LATE_CHILD_EXCHANGE: &[Line] = &[
     Has(1, Field::Update, 10),
     Searches(1, Begin(Op::Find(7)), 1),
     Does(1, &[Upd], MOVED),
-    Has(0, Field::Left, 3),
+    Has(0, Field::Left, 4),
     Lists(&[(5, 50)]),
     Does(1, &[DChild(2)], WON),
-    Has(0, Field::Left, 5),
+    Has(0, Field::Left, 6),
     Lists(&[]),
     Does(1, &[DChild(2)], LOST),
     Lists(&[]),
@@ -113,10 +113,10 @@ const A_HELPER: &[Line] = &[
     Does(1, &[Mark(2)], WON),
     Has(1, Field::Update, 10),
     Does(1, &[Backtrack(2)], NOT_NOW),
-    Has(0, Field::Left, 3),
+    Has(0, Field::Left, 4),
     Has(0, Field::Update, 9),
     Does(1, &[DChild(2), DUnflag(2)], WON),
-    Has(0, Field::Left, 5),
+    Has(0, Field::Left, 6),
     Has(0, Field::Update, 11),
     Does(0, &[Mark(2), DChild(2), DUnflag(2)], LOST),
     Does(0, &[Answer], YES),

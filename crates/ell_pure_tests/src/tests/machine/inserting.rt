@@ -17,7 +17,7 @@ const A_STALLED_INSERT: &[Line] = &[
     Searches(1, Begin(Op::Insert(7, 70)), 1),
     Has(0, Field::Left, 1),
     Does(1, &[IChild(1)], WON),
-    Has(0, Field::Left, 3),
+    Has(0, Field::Left, 4),
     Does(1, &[IUnflag(1)], WON),
     Has(0, Field::Update, 7),
     Lists(&[(5, 50)]),
@@ -26,9 +26,9 @@ const A_STALLED_INSERT: &[Line] = &[
     Has(1, Field::Update, 3),
     Does(1, &[IFlag], WON),
     Has(1, Field::Update, 8),
-    Has(1, Field::Left, 4),
+    Has(1, Field::Left, 5),
     Does(1, &[IChild(2), IUnflag(2)], WON),
-    Has(1, Field::Left, 6),
+    Has(1, Field::Left, 8),
     Has(1, Field::Update, 11),
     Does(1, &[Answer], YES),
     Lists(&[(5, 50), (7, 70)]),
@@ -46,7 +46,7 @@ const A_FILLED_CARD: &[Line] = &[
     Searches(0, Begin(Op::Insert(5, 50)), 1),
     Does(0, &[Claim], MOVED),
     Next(2),
-    Filled(1, [0, 0, 1, 0, INF1, 4, 5, 3, 5, INF1, 50, 0]),
+    Filled(1, [INF1, 5, 6, 3, 5, INF1, 50, 0, 0, 0, 1, 0]),
     Filled(2, [0; 12]),
     Lists(&[]),
 ];
@@ -56,11 +56,11 @@ fn an_insert_fills_a_node_and_two_leaves(rt: HostRuntime) {
     played(&rt, 1, &[(0, 5)], 2, &[A_FILLED_CARD]);
 }
 
-// Beside the leaf of 5, which is leaf 4 at node 3: its copy is the left leaf of node 6, and then the right one.
+// Beside the leaf of 5, which is leaf 5 at node 4: its copy is the left leaf of node 8, and then the right one.
 const A_GREATER_KEY: &[Line] = &[
     Searches(0, Begin(Op::Insert(7, 70)), 2),
     Does(0, &[Claim], MOVED),
-    Filled(2, [0, 3, 4, 0, 7, 7, 8, 3, 5, 7, 50, 70]),
+    Filled(2, [7, 9, 10, 3, 5, 7, 50, 70, 0, 4, 5, 0]),
     Does(0, &[IFlag, IChild(2), IUnflag(2)], WON),
     Does(0, &[Answer], YES),
     Lists(&[(5, 50), (7, 70)]),
@@ -69,25 +69,25 @@ const A_GREATER_KEY: &[Line] = &[
 const A_LESSER_KEY: &[Line] = &[
     Searches(0, Begin(Op::Insert(3, 30)), 2),
     Does(0, &[Claim], MOVED),
-    Filled(2, [0, 3, 4, 0, 5, 7, 8, 3, 3, 5, 30, 50]),
+    Filled(2, [5, 9, 10, 3, 3, 5, 30, 50, 0, 4, 5, 0]),
     Does(0, &[IFlag, IChild(2), IUnflag(2)], WON),
     Does(0, &[Answer], YES),
     Lists(&[(3, 30), (5, 50)]),
 ];
 
-// 6 comes between the two, at leaf 7, the copy of 5's leaf; and then 5 goes, whose leaf is leaf 10, below nodes 6 and 9.
+// 6 comes between the two, at leaf 9, the copy of 5's leaf; and then 5 goes, whose leaf is leaf 13, below nodes 8 and 12.
 const A_COPY_OF_A_COPY: &[Line] = &[
     Searches(0, Begin(Op::Insert(6, 60)), 3),
     Does(0, &[Claim], MOVED),
-    Filled(3, [0, 6, 7, 0, 6, 10, 11, 3, 5, 6, 50, 60]),
+    Filled(3, [6, 13, 14, 3, 5, 6, 50, 60, 0, 8, 9, 0]),
     Does(0, &[IFlag, IChild(3), IUnflag(3)], WON),
     Does(0, &[Answer], YES),
     Searches(0, Begin(Op::Delete(5)), 4),
     Does(0, &[Claim], MOVED),
-    Filled(4, [6, 9, 10, 3, 0, 0, 0, 0, 0, 0, 0, 0]),
+    Filled(4, [0, 0, 0, 0, 0, 0, 0, 0, 8, 12, 13, 3]),
     Does(0, &[DFlag, Mark(4), DChild(4), DUnflag(4)], WON),
     Does(0, &[Answer], YES),
-    Has(2, Field::Left, 11),
+    Has(2, Field::Left, 14),
     Has(3, Field::RightValue, 60),
     Lists(&[(6, 60), (7, 70)]),
 ];

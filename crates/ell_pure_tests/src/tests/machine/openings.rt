@@ -6,7 +6,7 @@ use ell_word::{INF1, INF2};
 
 const OPENING: &[Line] = &[
     Next(1),
-    Filled(0, [0, 0, 0, 0, INF2, 1, 2, 3, INF1, INF2, 0, 0]),
+    Filled(0, [INF2, 1, 2, 3, INF1, INF2, 0, 0, 0, 0, 0, 0]),
     Filled(1, [0; 12]),
     Lists(&[]),
 ];

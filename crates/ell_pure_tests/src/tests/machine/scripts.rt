@@ -36,8 +36,8 @@ pub enum Line {
     Searches(u32, Act, u32),
     /// The field of the card has this word.
     Has(u64, Field, u64),
-    /// The fields of the card have these words: Gp, P, L, Was, Key, Left, Right, Update, LeftLeafKey, RightLeafKey,
-    /// LeftValue, RightValue.
+    /// The fields of the card have these words: Key, Left, Right, Update, LeftLeafKey, RightLeafKey, LeftValue,
+    /// RightValue, Gp, P, L, Was.
     Filled(u64, [u64; 12]),
     /// The worker looks for this key, goes down so many times, and finds this value, or that the key is absent.
     Finds(u32, u64, u32, Option<u64>),

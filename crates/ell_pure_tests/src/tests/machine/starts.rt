@@ -17,10 +17,10 @@ use std::process::Abort;
 // The words over the start keys 2, 4 and 6, with four cards to claim.
 const THREE_KEYS: &[Line] = &[
     Next(4),
-    Filled(0, [0, 0, 0, 0, INF2, 3, 2, 3, INF1, INF2, 0, 0]),
-    Filled(1, [0, 0, 0, 0, 6, 6, 9, 3, 0, 0, 0, 0]),
-    Filled(2, [0, 0, 0, 0, 4, 7, 8, 3, 2, 4, 21, 43]),
-    Filled(3, [0, 0, 0, 0, INF1, 10, 11, 3, 6, INF1, 67, 0]),
+    Filled(0, [INF2, 4, 2, 3, INF1, INF2, 0, 0, 0, 0, 0, 0]),
+    Filled(1, [6, 8, 12, 3, 0, 0, 0, 0, 0, 0, 0, 0]),
+    Filled(2, [4, 9, 10, 3, 2, 4, 21, 43, 0, 0, 0, 0]),
+    Filled(3, [INF1, 13, 14, 3, 6, INF1, 67, 0, 0, 0, 0, 0]),
     Filled(4, [0; 12]),
     Filled(7, [0; 12]),
     Lists(&[(2, 21), (4, 43), (6, 67)]),
@@ -35,14 +35,14 @@ const FOUR_CARDS: &[Line] = &[
     Finds(0, 5, 3, None),
     Searches(0, Begin(Op::Delete(4)), 3),
     Does(0, &[Claim], MOVED),
-    Filled(4, [3, 6, 8, 3, 0, 0, 0, 0, 0, 0, 0, 0]),
+    Filled(4, [0, 0, 0, 0, 0, 0, 0, 0, 4, 8, 10, 3]),
     Does(0, &[DFlag, Mark(4), DChild(4), DUnflag(4)], WON),
     Does(0, &[Answer], YES),
-    Has(1, Field::Left, 7),
+    Has(1, Field::Left, 9),
     Lists(&[(2, 21), (6, 67)]),
     Searches(0, Begin(Op::Insert(5, 50)), 2),
     Does(0, &[Claim], MOVED),
-    Filled(5, [0, 3, 7, 0, 5, 16, 17, 3, 2, 5, 21, 50]),
+    Filled(5, [5, 21, 22, 3, 2, 5, 21, 50, 0, 4, 9, 0]),
     Does(0, &[IFlag, IChild(5), IUnflag(5)], WON),
     Does(0, &[Answer], YES),
     Lists(&[(2, 21), (5, 50), (6, 67)]),
@@ -144,19 +144,19 @@ impl Halves {
     }
 
     fn fields(&self, leaves: &[(u64, u64)]) -> [u64; 12] {
-        let node = self.card.wrapping_mul(3);
+        let node = self.card.wrapping_mul(4);
         let middle = leaves.get(self.middle).copied().unwrap_or((0, 0));
         let first = leaves.get(self.first).copied().unwrap_or((0, 0));
         let (left, on_left) = match self.has_one_leaf_left() {
             true => (node.wrapping_add(1), first),
-            false => (self.left().card.wrapping_mul(3), (0, 0)),
+            false => (self.left().card.wrapping_mul(4), (0, 0)),
         };
         let (right, on_right) = match self.has_one_leaf_right() {
             true => (node.wrapping_add(2), middle),
-            false => (self.right().card.wrapping_mul(3), (0, 0)),
+            false => (self.right().card.wrapping_mul(4), (0, 0)),
         };
         [
-            0, 0, 0, 0, middle.0, left, right, 3, on_left.0, on_right.0, on_left.1, on_right.1,
+            middle.0, left, right, 3, on_left.0, on_right.0, on_left.1, on_right.1, 0, 0, 0, 0,
         ]
     }
 }
@@ -175,8 +175,8 @@ fn is_as_by_halves(rt: &(impl Abort + AllocGlobal), world: &World, pairs: &[(u64
     let many = pairs.len() as u64;
     let mut leaves = Vec::from_slice(rt.alloc(), pairs).expect(rt, "memory");
     leaves.push((INF1, 0)).expect(rt, "memory");
-    let below_root = if many == 0 { 1 } else { 3 };
-    let root = [0, 0, 0, 0, INF2, below_root, 2, 3, INF1, INF2, 0, 0];
+    let below_root = if many == 0 { 1 } else { 4 };
+    let root = [INF2, below_root, 2, 3, INF1, INF2, 0, 0, 0, 0, 0, 0];
     let mut waiting = Vec::new(rt.alloc());
     waiting
         .push(halves_of(1, 0, leaves.len()))

@@ -18,13 +18,13 @@ const FOUND_21: Shown = Shown::Step(Stepped::Answered(Reply::Found(21)));
 
 const FOUND_43: Shown = Shown::Step(Stepped::Answered(Reply::Found(43)));
 
-// Worker 0 swaps 50 for 51 by card 2, alone: leaf 8 comes in the place of leaf 4, and node 6 stays outside the tree.
+// Worker 0 swaps 50 for 51 by card 2, alone: leaf 10 comes in the place of leaf 5, and node 8 stays outside the tree.
 const FIVE_SWAPPED: &[Line] = &[
     Searches(0, Begin(Op::Swap(5, 50, 51)), 2),
     Does(0, &[Claim], MOVED),
-    Filled(2, [0, 3, 4, 0, 5, 7, 8, 3, 5, 5, 50, 51]),
+    Filled(2, [5, 9, 10, 3, 5, 5, 50, 51, 0, 4, 5, 0]),
     Does(0, &[IFlag, IChild(2), IUnflag(2)], WON),
-    Has(1, Field::Left, 8),
+    Has(1, Field::Left, 10),
     Has(1, Field::Update, 11),
     Does(0, &[Answer], FOUND_50),
     Lists(&[(5, 51)]),
@@ -34,9 +34,9 @@ const FOUND_AGAIN: &[Line] = &[
     Finds(0, 5, 2, Some(51)),
     Searches(0, Begin(Op::Swap(5, 51, 51)), 2),
     Does(0, &[Claim], MOVED),
-    Filled(3, [0, 3, 8, 0, 5, 10, 11, 3, 5, 5, 51, 51]),
+    Filled(3, [5, 13, 14, 3, 5, 5, 51, 51, 0, 4, 10, 0]),
     Does(0, &[IFlag, IChild(3), IUnflag(3)], WON),
-    Has(1, Field::Left, 11),
+    Has(1, Field::Left, 14),
     Does(0, &[Answer], FOUND_51),
     Finds(0, 5, 2, Some(51)),
     Lists(&[(5, 51)]),
@@ -83,7 +83,7 @@ const A_STALLED_SWAP: &[Line] = &[
     Searches(1, Begin(Op::Insert(7, 70)), 2),
     Does(1, &[Claim], NOT_NOW),
     Does(1, &[IChild(2)], WON),
-    Has(1, Field::Left, 8),
+    Has(1, Field::Left, 10),
     Lists(&[(5, 51)]),
     Does(0, &[Answer], NOT_NOW),
     Does(0, &[IChild(2)], LOST),
@@ -104,7 +104,7 @@ fn a_helper_finishes_a_stalled_swap(rt: HostRuntime) {
     played(&rt, 2, &[(0, 5), (1, 7)], 4, &scripts);
 }
 
-// Worker 1 flags node 3 first, by card 3. Worker 0 helps it, and then finds its key one node further down, at leaf 10.
+// Worker 1 flags node 4 first, by card 3. Worker 0 helps it, and then finds its key one node further down, at leaf 13.
 const A_LOST_FLAG: &[Line] = &[
     Searches(0, Begin(Op::Swap(5, 50, 51)), 2),
     Does(0, &[Claim], MOVED),
@@ -116,13 +116,13 @@ const A_LOST_FLAG: &[Line] = &[
     Does(0, &[IChild(2), Answer], NOT_NOW),
     Has(1, Field::Update, 12),
     Does(0, &[IChild(3), IUnflag(3)], WON),
-    Has(1, Field::Left, 9),
+    Has(1, Field::Left, 12),
     Lists(&[(5, 50), (7, 70)]),
     Searches(0, Again, 3),
     Does(0, &[Claim], MOVED),
-    Filled(4, [0, 9, 10, 0, 5, 13, 14, 3, 5, 5, 50, 51]),
+    Filled(4, [5, 17, 18, 3, 5, 5, 50, 51, 0, 12, 13, 0]),
     Does(0, &[IFlag, IChild(4), IUnflag(4)], WON),
-    Has(3, Field::Left, 14),
+    Has(3, Field::Left, 18),
     Has(3, Field::Update, 19),
     Does(0, &[Answer], FOUND_50),
     Does(1, &[IChild(3), IUnflag(3)], LOST),
@@ -136,7 +136,7 @@ fn a_swap_that_lost_its_flag_is_tried_anew(rt: HostRuntime) {
     played(&rt, 2, &[(0, 5), (1, 7)], 4, &[FIVE_INSERTED, A_LOST_FLAG]);
 }
 
-// Worker 1 reads the flag of card 2. Then 5 has 51, by leaf 8, and 50 again, by leaf 11, which the insert of 7 copies.
+// Worker 1 reads the flag of card 2. Then 5 has 51, by leaf 10, and 50 again, by leaf 14, which the insert of 7 copies.
 const THERE_AND_BACK: &[Line] = &[
     Searches(0, Begin(Op::Swap(5, 50, 51)), 2),
     Does(0, &[Claim], MOVED),
@@ -147,7 +147,7 @@ const THERE_AND_BACK: &[Line] = &[
     Lists(&[(5, 51)]),
     Searches(0, Begin(Op::Swap(5, 51, 50)), 2),
     Does(0, &[Claim], MOVED),
-    Filled(3, [0, 3, 8, 0, 5, 10, 11, 3, 5, 5, 51, 50]),
+    Filled(3, [5, 13, 14, 3, 5, 5, 51, 50, 0, 4, 10, 0]),
     Does(0, &[IFlag, IChild(3), IUnflag(3)], WON),
     Does(0, &[Answer], FOUND_51),
     Lists(&[(5, 50)]),
@@ -155,14 +155,14 @@ const THERE_AND_BACK: &[Line] = &[
 
 const A_LATE_HELPER: &[Line] = &[
     Does(1, &[IChild(2), IUnflag(2)], LOST),
-    Has(1, Field::Left, 11),
+    Has(1, Field::Left, 14),
     Has(1, Field::Update, 15),
     Lists(&[(5, 50)]),
     Does(1, &[Down], MOVED),
     Does(1, &[Claim], NOT_NOW),
     Searches(1, Again, 2),
     Does(1, &[Claim], MOVED),
-    Filled(4, [0, 3, 11, 0, 7, 13, 14, 3, 5, 7, 50, 70]),
+    Filled(4, [7, 17, 18, 3, 5, 7, 50, 70, 0, 4, 14, 0]),
     Does(1, &[IFlag, IChild(4), IUnflag(4)], WON),
     Does(1, &[Answer], YES),
     Lists(&[(5, 50), (7, 70)]),
@@ -177,10 +177,10 @@ fn a_late_helper_of_a_swap_changes_nothing(rt: HostRuntime) {
 const A_DELETE: &[Line] = &[
     Searches(0, Begin(Op::Delete(5)), 2),
     Does(0, &[Claim], MOVED),
-    Filled(3, [0, 3, 8, 11, 0, 0, 0, 0, 0, 0, 0, 0]),
+    Filled(3, [0, 0, 0, 0, 0, 0, 0, 0, 0, 4, 10, 11]),
     Does(0, &[DFlag, Mark(3), DChild(3), DUnflag(3)], WON),
     Does(0, &[Answer], YES),
-    Has(0, Field::Left, 5),
+    Has(0, Field::Left, 6),
     Has(0, Field::Update, 15),
     Has(1, Field::Update, 14),
     Lists(&[]),
@@ -200,20 +200,20 @@ fn a_key_whose_value_was_swapped_is_deleted(rt: HostRuntime) {
     );
 }
 
-// 4 is at the right leaf of node 6, and 2 at the left one. For a third swap there is no card.
+// 4 is at the right leaf of node 8, and 2 at the left one. For a third swap there is no card.
 const START_VALUES: &[Line] = &[
     Searches(0, Begin(Op::Swap(4, 43, 44)), 3),
     Does(0, &[Claim], MOVED),
-    Filled(4, [0, 6, 8, 0, 4, 13, 14, 3, 4, 4, 43, 44]),
+    Filled(4, [4, 17, 18, 3, 4, 4, 43, 44, 0, 8, 10, 0]),
     Does(0, &[IFlag, IChild(4), IUnflag(4)], WON),
-    Has(2, Field::Right, 14),
+    Has(2, Field::Right, 18),
     Does(0, &[Answer], FOUND_43),
     Lists(&[(2, 21), (4, 44), (6, 67)]),
     Searches(0, Begin(Op::Swap(2, 21, 22)), 3),
     Does(0, &[Claim], MOVED),
-    Filled(5, [0, 6, 7, 0, 2, 16, 17, 3, 2, 2, 21, 22]),
+    Filled(5, [2, 21, 22, 3, 2, 2, 21, 22, 0, 8, 9, 0]),
     Does(0, &[IFlag, IChild(5), IUnflag(5)], WON),
-    Has(2, Field::Left, 17),
+    Has(2, Field::Left, 22),
     Does(0, &[Answer], FOUND_21),
     Searches(0, Begin(Op::Swap(6, 67, 68)), 3),
     Does(0, &[Claim], NO_CARDS),

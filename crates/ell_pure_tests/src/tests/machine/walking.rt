@@ -1,6 +1,6 @@
 //! The keys of a world's tree with their values, by the walk that any words can be walked by, which are read here by card and field.
 ghost use Rattle.std.specs.Prelude.{◌≡◌, ◌≤◌, IfOk};
-ghost use Rattle.ell_word.specs.Node.{card, greatest_card};
+ghost use Rattle.ell_word.specs.Node.{card, greatest_card, IsNode};
 ghost use Rattle.ell_core.specs.inside.World.{machine_of};
 ghost use Rattle.ell_core.specs.tree.Tree.{ListsTreePairs};
 
@@ -21,7 +21,7 @@ struct ByWords<'a> {
 impl TreeWords for ByWords<'_> {
     ghost words = { λ tree. (machine_of tree.world.now).words };
 
-    ghost can_read = { λ tree node. card node ≤ tree.world.now.last_card };
+    ghost can_read = { λ tree node. (card node ≤ tree.world.now.last_card) × IsNode node };
 
     fn key(&self, node: u64) -> u64 {
         self.world.word(card_of(node), key_field(node))

@@ -9,25 +9,28 @@ use ell_ops::Reply::{Found, No};
 use ell_word::{INF1, State};
 
 #[test]
-fn a_card_has_twelve_words_after_the_claim_word(rt: HostRuntime) {
+fn a_card_has_four_words_in_each_part_of_its_group(rt: HostRuntime) {
     let places = [
-        (Field::Gp.address(0), 1),
-        (Field::RightLeafKey.address(0), 10),
-        (Field::LeftValue.address(0), 11),
-        (Field::RightValue.address(0), 12),
-        (Field::Gp.address(1), 13),
-        (Field::Key.address(2), 29),
-        (table_size(2), 37),
+        (Field::Key.address(0), 6),
+        (Field::Update.address(2), 17),
+        (Field::RightLeafKey.address(0), 263),
+        (Field::RightValue.address(63), 517),
+        (Field::Gp.address(0), 518),
+        (Field::Was.address(63), 773),
+        (Field::Key.address(64), 774),
+        (Field::Gp.address(65), 1290),
+        (table_size(2), 530),
+        (table_size(64), 1290),
     ];
-    for row in 0..7 {
+    for row in 0..10 {
         assert!(rt; places[row].0 == places[row].1, "row {row}");
     }
     let fields = [
-        (key_field(6), Field::Key),
-        (key_field(7), Field::LeftLeafKey),
-        (key_field(8), Field::RightLeafKey),
-        (value_field(7), Field::LeftValue),
-        (value_field(8), Field::RightValue),
+        (key_field(8), Field::Key),
+        (key_field(9), Field::LeftLeafKey),
+        (key_field(10), Field::RightLeafKey),
+        (value_field(9), Field::LeftValue),
+        (value_field(10), Field::RightValue),
         (child_field(false), Field::Left),
         (child_field(true), Field::Right),
     ];
@@ -53,13 +56,13 @@ fn flags_and_marks_tell_a_fact(rt: HostRuntime) {
 
 #[test]
 fn a_card_is_filled_for_its_operation(rt: HostRuntime) {
-    // Key 5 at the left leaf of the opening tree: node 3 over leaves 4 and 5.
+    // Key 5 at the left leaf of the opening tree: node 4 over leaves 5 and 6.
     let insert = [
         (Field::P, 0),
         (Field::L, 1),
         (Field::Key, INF1),
-        (Field::Left, 4),
-        (Field::Right, 5),
+        (Field::Left, 5),
+        (Field::Right, 6),
         (Field::Update, 3),
         (Field::LeftLeafKey, 5),
         (Field::RightLeafKey, INF1),
@@ -67,47 +70,47 @@ fn a_card_is_filled_for_its_operation(rt: HostRuntime) {
         (Field::RightValue, 0),
     ];
     assert!(rt; insert_filling(1, 5, 50, 0, 1, INF1, 0) == insert);
-    // Key 7 at the leaf of key 5: node 6 over leaves 7 and 8, the old leaf's copy on the left.
+    // Key 7 at the leaf of key 5: node 8 over leaves 9 and 10, the old leaf's copy on the left.
     let greater = [
-        (Field::P, 3),
-        (Field::L, 4),
+        (Field::P, 4),
+        (Field::L, 5),
         (Field::Key, 7),
-        (Field::Left, 7),
-        (Field::Right, 8),
+        (Field::Left, 9),
+        (Field::Right, 10),
         (Field::Update, 3),
         (Field::LeftLeafKey, 5),
         (Field::RightLeafKey, 7),
         (Field::LeftValue, 50),
         (Field::RightValue, 70),
     ];
-    assert!(rt; insert_filling(2, 7, 70, 3, 4, 5, 50) == greater);
+    assert!(rt; insert_filling(2, 7, 70, 4, 5, 5, 50) == greater);
     // A swap of 50 for 51 at that leaf: both leaves have its key, and the right one the new value.
     let swap = [
-        (Field::P, 3),
-        (Field::L, 4),
+        (Field::P, 4),
+        (Field::L, 5),
         (Field::Key, 5),
-        (Field::Left, 7),
-        (Field::Right, 8),
+        (Field::Left, 9),
+        (Field::Right, 10),
         (Field::Update, 3),
         (Field::LeftLeafKey, 5),
         (Field::RightLeafKey, 5),
         (Field::LeftValue, 50),
         (Field::RightValue, 51),
     ];
-    assert!(rt; insert_filling(2, 5, 51, 3, 4, 5, 50) == swap);
+    assert!(rt; insert_filling(2, 5, 51, 4, 5, 5, 50) == swap);
     let delete = [
         (Field::Gp, 0),
-        (Field::P, 3),
-        (Field::L, 4),
+        (Field::P, 4),
+        (Field::L, 5),
         (Field::Was, 15),
     ];
-    assert!(rt; delete_filling(0, 3, 4, 15) == delete);
+    assert!(rt; delete_filling(0, 4, 5, 15) == delete);
 }
 
 #[test]
 fn a_card_brings_its_node_or_for_a_swap_its_right_leaf(rt: HostRuntime) {
-    assert!(rt; brought_node(1, 5, INF1) == 3 && brought_node(2, 5, 7) == 6);
-    assert!(rt; brought_node(2, 5, 5) == 8 && brought_node(4, 0, 0) == 14);
+    assert!(rt; brought_node(1, 5, INF1) == 4 && brought_node(2, 5, 7) == 8);
+    assert!(rt; brought_node(2, 5, 5) == 10 && brought_node(4, 0, 0) == 18);
 }
 
 #[test]

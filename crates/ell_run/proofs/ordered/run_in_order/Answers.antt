@@ -6,8 +6,8 @@ use Rattle.ell_run.specs.Settings.{IsPartedAs}
 use Rattle.ell_run.proofs.Reordering.{fits_ran, late_of, length_said, listed_back, told_back}
 use Rattle.ell_run.proofs.ordered.run_in_order.Goals as goal
 
-pub run_in-requires-clause-runnable : goal.run_in-requires-clause-runnable
-run_in-requires-clause-runnable g c =
+pub run-requires-clause-runnable : goal.run-requires-clause-runnable
+run-requires-clause-runnable g c =
     let order = c.in_ok-order.order in
     let ordered : IsRunOrder c.args.ops.now order.items = search rules in
     let fits : All Fits c.ops-ordered.result.now = fits_ran c.args.ops.now order.items ordered c.ops-ordered.result.now c.ops-ordered.ensures.ops c.requires.fits in

@@ -86,7 +86,7 @@ const STALLED_SWAP: [Turn; 17] = [
 #[test]
 fn a_helper_finishes_a_stalled_swap(rt: HostRuntime) {
     let closed = played(&rt, &STALLED_SWAP);
-    assert!(rt; closed.last_card() == 5 && closed.word(1, Field::Left) == 9);
+    assert!(rt; closed.last_card() == 5 && closed.word(1, Field::Left) == 12);
     assert!(rt; closed.word(3, Field::LeftValue) == 51);
 }
 
@@ -227,7 +227,7 @@ const FOUND_0: Shown = Shown::Step(Stepped::Answered(Reply::Found(0)));
 #[test]
 fn the_root_has_a_leaf_again_once_the_one_key_is_gone(rt: HostRuntime) {
     let closed = played(&rt, &ONE_KEY);
-    assert!(rt; closed.last_card() == 5 && closed.word(0, Field::Left) == 5);
+    assert!(rt; closed.last_card() == 5 && closed.word(0, Field::Left) == 6);
     assert!(rt; closed.word(1, Field::RightLeafKey) == 18_446_744_073_709_551_614);
     assert!(rt; closed.word(3, Field::Key) == 0);
 }

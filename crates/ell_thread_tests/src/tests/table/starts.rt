@@ -32,10 +32,10 @@ const INF2: u64 = 18_446_744_073_709_551_615;
 
 // The words of each card, in the order of `Field::ALL`.
 const OPENING: [[u64; 12]; 8] = [
-    [0, 0, 0, 0, INF2, 3, 2, 3, INF1, INF2, 0, 0],
-    [0, 0, 0, 0, 6, 6, 9, 3, 0, 0, 0, 0],
-    [0, 0, 0, 0, 4, 7, 8, 3, 2, 4, 200, 400],
-    [0, 0, 0, 0, INF1, 10, 11, 3, 6, INF1, 600, 0],
+    [INF2, 4, 2, 3, INF1, INF2, 0, 0, 0, 0, 0, 0],
+    [6, 8, 12, 3, 0, 0, 0, 0, 0, 0, 0, 0],
+    [4, 9, 10, 3, 2, 4, 200, 400, 0, 0, 0, 0],
+    [INF1, 13, 14, 3, 6, INF1, 600, 0, 0, 0, 0, 0],
     [0; 12],
     [0; 12],
     [0; 12],
@@ -66,7 +66,7 @@ fn no_start_keys_open_as_a_plain_table(rt: HostRuntime) {
     let (table, mut pass) = made.expect(&rt, "table");
     assert!(rt; table.last_card() == CARDS && table.next(&mut pass) == 1);
     let closed = closed(&rt, table, pass, &START_KEYS);
-    let root = [0, 0, 0, 0, INF2, 1, 2, 3, INF1, INF2, 0, 0];
+    let root = [INF2, 1, 2, 3, INF1, INF2, 0, 0, 0, 0, 0, 0];
     assert!(rt; has_words(&closed, 0, &root));
     for card in 1..=closed.last_card() {
         assert!(rt; has_words(&closed, card, &[0; 12]), "card {card}");

@@ -1,4 +1,6 @@
-use Rattle.std.proofs.Common.{inl, inr, arith, rules}
+use Rattle.std.proofs.Common.{inl, inr, refl, arith, rules}
+use Rattle.ell_cards.specs.Changes.{after_key_of, after_value_of}
+use Rattle.ell_tree.proofs.Counting.{uncounted_one, uncounted_trans}
 use Rattle.ell_tree.proofs.Cursors.{finds_none, finds_one, key_on, leaf_stands, on_more, on_trans, value_on}
 use Rattle.ell_tree.proofs.cursor.found_at.Goals as goal
 
@@ -32,3 +34,16 @@ returns-clause-on g c =
     let v = c.value_of-value in
     on_trans c.args.pass.now k.new.pass v.new.pass 1 1 2 (key_on c.args.pass.now k.new.pass c.args.leaf.node k.result k.ensures.step)
     (value_on k.new.pass v.new.pass c.args.leaf.node v.result v.ensures.step) (omega arith)
+
+pub returns-then-leaf_key-low-clause-uncounted : goal.returns-then-leaf_key-low-clause-uncounted
+returns-then-leaf_key-low-clause-uncounted g c =
+    let k = c.key_of-leaf_key in
+    uncounted_one c.args.pass.now k.new.pass (after_key_of c.args.leaf.node k.result c.args.pass.now.view) k.ensures.step refl
+
+pub returns-clause-uncounted : goal.returns-clause-uncounted
+returns-clause-uncounted g c =
+    let k = c.key_of-leaf_key in
+    let v = c.value_of-value in
+    uncounted_trans c.args.pass.now k.new.pass v.new.pass 1 1
+    (uncounted_one c.args.pass.now k.new.pass (after_key_of c.args.leaf.node k.result c.args.pass.now.view) k.ensures.step refl)
+    (uncounted_one k.new.pass v.new.pass (after_value_of c.args.leaf.node v.result k.new.pass.view) v.ensures.step refl)

@@ -17,4 +17,4 @@ invariant-loop-next g l = record {
 }
 
 abbrev pub decreases-loop-next : goal.decreases-loop-next
-decreases-loop-next g l = 3 * l.table.plan.last_card + 3 - l.flag.grandparent
+decreases-loop-next g l = 4 * l.table.plan.last_card + 4 - l.flag.grandparent

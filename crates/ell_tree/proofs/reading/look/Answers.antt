@@ -1,132 +1,21 @@
-use Rattle.std.proofs.Common.{◌≡◌, ◌≢◌, Some, None, ◌∙◌, arith, rules}
-use Rattle.ell_word.specs.Node.{IsInternal}
-use Rattle.ell_core.specs.acts.Searching.{IsLeaf}
-use Rattle.ell_tree.proofs.Glances.{comes_first, met_still, may_down, comes_down, found_none, only_none, found_some, only_some, one_none, one_some, key_only, reads_mine}
+-- What a look that counts its steps at its end has done.
+use Rattle.std.proofs.Common.{sym, ap, subst, ◌∙◌}
+use Rattle.ell_cards.specs.Looking.{HasFound}
+use Rattle.ell_cards.specs.Models.{PassModel}
+use Rattle.ell_cards.specs.declared.view.View.{View}
+use Rattle.ell_tree.specs.Looks.{look_steps}
+use Rattle.ell_tree.proofs.Counting.{counted_all}
+use Rattle.ell_tree.proofs.Glances.{only_counted}
 use Rattle.ell_tree.proofs.reading.look.Goals as goal
 
-pub loop-pass-init : goal.loop-pass-init
-loop-pass-init g c =
-    let f = c.look-node in
-    comes_first c.args.table.now.plan.last_card c.args.pass.now f.new.pass c.args.key f.result c.requires.real f.ensures.step f.ensures.greater f.ensures.there
-
-pub key_of-node_key-requires-clause-own : goal.key_of-node_key-requires-clause-own
-key_of-node_key-requires-clause-own g c = c.loop-pass.invariant.only.table ∙ c.requires.may.0
-
-pub key_of-node_key-requires-clause-met : goal.key_of-node_key-requires-clause-met
-key_of-node_key-requires-clause-met g c = c.loop-pass.invariant.met
-
-pub look_down-node-requires-clause-own : goal.look_down-node-requires-clause-own
-look_down-node-requires-clause-own g c =
-    let l = c.loop-pass in
-    let k = c.key_of-node_key in
-    (key_only l.pass k.new.pass l.node k.result k.ensures.step).table ∙ (l.invariant.only.table ∙ c.requires.may.0)
-
-pub look_down-node-requires-clause-may : goal.look_down-node-requires-clause-may
-look_down-node-requires-clause-may g c =
-    let l = c.loop-pass in
-    let k = c.key_of-node_key in
-    let inner : IsInternal l.node = search rules in
-    may_down c.args.table.now.plan.last_card c.args.pass.now l.pass k.new.pass c.args.key l.node k.result l.invariant k.ensures.step inner
-
-pub loop-pass-smaller : goal.loop-pass-smaller
-loop-pass-smaller g c =
-    let d = c.look_down-node in
-    let deeper = d.ensures.greater in
-    let room = d.ensures.there in
-    omega arith
-
-pub loop-pass-preserved : goal.loop-pass-preserved
-loop-pass-preserved g c =
-    let l = c.loop-pass in
-    let k = c.key_of-node_key in
-    let d = c.look_down-node in
-    let inner : IsInternal l.node = search rules in
-    comes_down c.args.table.now.plan.last_card c.args.pass.now l.pass k.new.pass c.args.key l.node k.result l.invariant k.ensures.step
-    d.new.pass d.result d.ensures.step inner d.ensures.greater d.ensures.there
-
-pub key_of-leaf_key-requires-clause-own : goal.key_of-leaf_key-requires-clause-own
-key_of-leaf_key-requires-clause-own g c = c.loop-pass.invariant.only.table ∙ c.requires.may.0
-
-pub key_of-leaf_key-requires-clause-met : goal.key_of-leaf_key-requires-clause-met
-key_of-leaf_key-requires-clause-met g c = c.loop-pass.invariant.met
-
-pub returns-then-leaf_key-key-clause-found : goal.returns-then-leaf_key-key-clause-found
-returns-then-leaf_key-key-clause-found g c =
-    let l = c.loop-pass in
-    let k = c.key_of-leaf_key in
-    let outer : IsLeaf l.node = search rules in
-    let other : k.result ≢ c.args.key = search rules in
-    found_none c.args.table.now.plan.last_card c.args.pass.now l.pass k.new.pass c.args.key l.node k.result l.invariant k.ensures.step outer other
-
-pub returns-then-leaf_key-key-clause-only : goal.returns-then-leaf_key-key-clause-only
-returns-then-leaf_key-key-clause-only g c =
-    let l = c.loop-pass in
-    let k = c.key_of-leaf_key in
-    only_none c.args.table.now.plan.last_card c.args.pass.now l.pass k.new.pass c.args.key l.node k.result l.invariant k.ensures.step
-
-pub value_of-requires-clause-own : goal.value_of-requires-clause-own
-value_of-requires-clause-own g c =
-    let l = c.loop-pass in
-    let k = c.key_of-leaf_key in
-    (key_only l.pass k.new.pass l.node k.result k.ensures.step).table ∙ (l.invariant.only.table ∙ c.requires.may.0)
-
-pub value_of-requires-clause-met : goal.value_of-requires-clause-met
-value_of-requires-clause-met g c =
-    let l = c.loop-pass in
-    let k = c.key_of-leaf_key in
-    met_still c.args.table.now.plan.last_card c.args.pass.now l.pass k.new.pass c.args.key l.node k.result l.invariant k.ensures.step
-
-pub returns-clause-found : goal.returns-clause-found
-returns-clause-found g c =
-    let l = c.loop-pass in
-    let k = c.key_of-leaf_key in
-    let v = c.value_of in
-    let outer : IsLeaf l.node = search rules in
-    let same : k.result ≡ c.args.key = search rules in
-    found_some c.args.table.now.plan.last_card c.args.pass.now l.pass k.new.pass c.args.key l.node k.result l.invariant k.ensures.step
-    v.new.pass v.result v.ensures.step outer same
-
-pub returns-clause-only : goal.returns-clause-only
-returns-clause-only g c =
-    let l = c.loop-pass in
-    let k = c.key_of-leaf_key in
-    let v = c.value_of in
-    only_some c.args.table.now.plan.last_card c.args.pass.now l.pass k.new.pass c.args.key l.node k.result l.invariant k.ensures.step
-    v.new.pass v.result v.ensures.step
-
-pub returns-then-leaf_key-key-clause-one : goal.returns-then-leaf_key-key-clause-one
-returns-then-leaf_key-key-clause-one g c =
-    let l = c.loop-pass in
-    let k = c.key_of-leaf_key in
-    one_none c.args.table.now.plan.last_card c.args.pass.now l.pass k.new.pass c.args.key l.node k.result l.invariant k.ensures.step
-
-pub returns-clause-one : goal.returns-clause-one
-returns-clause-one g c =
-    let l = c.loop-pass in
-    let k = c.key_of-leaf_key in
-    let v = c.value_of in
-    one_some c.args.table.now.plan.last_card c.args.pass.now l.pass k.new.pass c.args.key l.node k.result l.invariant k.ensures.step
-    v.new.pass v.result v.ensures.step
-
-pub returns-then-leaf_key-key-clause-mine : goal.returns-then-leaf_key-key-clause-mine
-returns-then-leaf_key-key-clause-mine g c =
-    let l = c.loop-pass in
-    let k = c.key_of-leaf_key in
-    let outer : IsLeaf l.node = search rules in
-    let other : k.result ≢ c.args.key = search rules in
-    reads_mine c.args.pass.now k.new.pass c.args.key None k.ensures.looked
-    (found_none c.args.table.now.plan.last_card c.args.pass.now l.pass k.new.pass c.args.key l.node k.result l.invariant k.ensures.step outer other)
-    (only_none c.args.table.now.plan.last_card c.args.pass.now l.pass k.new.pass c.args.key l.node k.result l.invariant k.ensures.step).worker
-
-pub returns-clause-mine : goal.returns-clause-mine
-returns-clause-mine g c =
-    let l = c.loop-pass in
-    let k = c.key_of-leaf_key in
-    let v = c.value_of in
-    let outer : IsLeaf l.node = search rules in
-    let same : k.result ≡ c.args.key = search rules in
-    reads_mine c.args.pass.now v.new.pass c.args.key (Some v.result) v.ensures.looked
-    (found_some c.args.table.now.plan.last_card c.args.pass.now l.pass k.new.pass c.args.key l.node k.result l.invariant k.ensures.step
-    v.new.pass v.result v.ensures.step outer same)
-    (only_some c.args.table.now.plan.last_card c.args.pass.now l.pass k.new.pass c.args.key l.node k.result l.invariant k.ensures.step
-    v.new.pass v.result v.ensures.step).worker
+pub returns : goal.returns
+returns g c =
+    let w = c.walk-found in
+    let same = ap (λ (m : PassModel). m.view) c.count.ensures in
+    record {
+      found = subst (λ (v : View). HasFound v c.args.key w.result.0) (sym same) w.ensures.found;
+      one = ap (λ (v : View). v.looks) same ∙ w.ensures.one;
+      mine = w.ensures.mine;
+      counted = counted_all c.args.pass.now w.new.pass c.count.new.self w.result.1 w.ensures.uncounted c.count.ensures;
+      only = only_counted c.args.pass.now w.new.pass c.count.new.self (look_steps c.args.table.now.plan.last_card) w.result.1 w.ensures.only w.ensures.uncounted c.count.ensures;
+    }

@@ -1,7 +1,7 @@
 use Rattle.std.proofs.Common.{refl}
 use Rattle.ell_cards.specs.declared.view.Told.TheVariants.{Met}
 use Rattle.ell_cards.proofs.views.Searches.{may_go_down}
-use Rattle.ell_tree.proofs.Descending.{upd_seeks, descend_seeks, descend_search, descend_met, descend_passed, descend_unknown}
+use Rattle.ell_tree.proofs.Descending.{upd_seeks, descend_seeks, descend_uncounted, descend_search, descend_met, descend_passed, descend_unknown}
 use Rattle.ell_tree.proofs.searching.descend.Goals as goal
 
 pub key_of-node_key-requires-clause-met : goal.key_of-node_key-requires-clause-met
@@ -25,6 +25,7 @@ returns g c =
     let gone = c.down-child.ensures.step in
     record {
       seeks = descend_seeks a b d e c.args.node c.upd-update.result c.key_of-node_key.result c.down-child.result read asked gone;
+      uncounted = descend_uncounted a b d e c.args.node c.upd-update.result c.key_of-node_key.result c.down-child.result read asked gone;
       here = refl;
       deeper = c.down-child.ensures.greater;
       there = c.down-child.ensures.there;

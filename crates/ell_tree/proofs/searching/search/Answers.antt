@@ -1,45 +1,18 @@
-use Rattle.std.proofs.Common.{◌+◌, ◌*◌, refl, ◌∙◌, arith, rules}
-use Rattle.ell_word.specs.Node.{IsInternal}
-use Rattle.ell_core.specs.acts.Searching.{IsLeaf}
-use Rattle.ell_cards.specs.declared.view.Told.TheVariants.{Met}
-use Rattle.ell_tree.proofs.Keeping.{seeks_trans}
-use Rattle.ell_tree.proofs.Descending.{key_seeks, value_seeks, stands_next, search_ends}
+-- What a search that counts its steps at its end has done.
+use Rattle.std.proofs.Common.{◌+◌, ◌*◌, sym, ap, subst}
+use Rattle.ell_cards.specs.Models.{PassModel}
+use Rattle.ell_cards.specs.declared.view.View.{View}
+use Rattle.ell_tree.specs.Searches.{EndsAt}
+use Rattle.ell_tree.proofs.Counting.{counted_all}
+use Rattle.ell_tree.proofs.Keeping.{seeks_counted}
 use Rattle.ell_tree.proofs.searching.search.Goals as goal
-
-pub loop-grandparent-preserved : goal.loop-grandparent-preserved
-loop-grandparent-preserved g c =
-    let l = c.loop-grandparent in
-    let i = l.invariant in
-    let d = c.descend-child in
-    let inner : IsInternal l.node = search rules in
-    rw (c.anew.ensures, c.anew-parent.ensures) (record {
-      same = (refl, refl);
-      stands = stands_next c.args.table.now.plan.last_card l.pass.view d.new.pass.view l.node d.result.1 l.parent d.result.0 l.grandparent
-          d.ensures.seeks.goes.view i.stands d.ensures.search d.ensures.met d.ensures.there d.ensures.passed d.ensures.unknown;
-      down = omega (arith, d.ensures.here, d.ensures.deeper);
-      seeks = seeks_trans c.args.pass.now l.pass d.new.pass (l.parent.node + 3) 3 (d.result.0.node + 3) i.seeks d.ensures.seeks
-          (omega (arith, i.down, i.stands.passed.node.inner, inner, d.ensures.here));
-    })
-
-pub value_of-value-requires-clause-met : goal.value_of-value-requires-clause-met
-value_of-value-requires-clause-met g c =
-    let l = c.loop-grandparent in
-    let k = c.key_of-key in
-    (key_seeks l.pass k.new.pass l.node k.result k.ensures.step).goes.view.told (Met l.node) l.invariant.stands.met
 
 pub returns : goal.returns
 returns g c =
-    let l = c.loop-grandparent in
-    let i = l.invariant in
-    let k = c.key_of-key in
-    let v = c.value_of-value in
-    let outer : IsLeaf l.node = search rules in
+    let w = c.walk-steps in
     record {
-      seeks = seeks_trans c.args.pass.now l.pass v.new.pass (l.parent.node + 3) 2 (3 * c.args.table.now.plan.last_card + 5) i.seeks
-          (seeks_trans l.pass k.new.pass v.new.pass 1 1 2 (key_seeks l.pass k.new.pass l.node k.result k.ensures.step)
-          (value_seeks k.new.pass v.new.pass l.node v.result v.ensures.step) (omega arith))
-          (omega (arith, i.stands.passed.node.inner, i.stands.passed.node.there));
-      ends = search_ends c.args.table.now.plan.last_card l.pass k.new.pass v.new.pass c.args.op
-          (record { leaf = l.node; key = k.result; value = v.result; parent = l.parent; grandparent = l.grandparent }) k.ensures.step v.ensures.step
-          (i.seeks.goes.view.operation ∙ c.requires.root.busy) outer i.stands k.ensures.leaf v.ensures.value;
+      seeks = seeks_counted c.args.pass.now w.new.pass c.count.new.self (3 * c.args.table.now.plan.last_card + 5) w.result.1 w.ensures.seeks w.ensures.uncounted c.count.ensures;
+      counted = counted_all c.args.pass.now w.new.pass c.count.new.self w.result.1 w.ensures.uncounted c.count.ensures;
+      ends = subst (λ (v : View). EndsAt c.args.table.now.plan.last_card v c.args.op w.result.0)
+          (sym (ap (λ (m : PassModel). m.view) c.count.ensures)) w.ensures.ends;
     }

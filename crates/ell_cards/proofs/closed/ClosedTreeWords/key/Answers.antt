@@ -5,4 +5,4 @@ use Rattle.ell_cards.proofs.closed.ClosedTreeWords.key.Goals as goal
 pub returns : goal.returns
 returns g c =
     let words = c.args.self.now.words in
-    read_at words _ _ _ _ c.key_field.result c.word.ensures c.card_of.ensures (c.key_field.ensures.word (words_of words))
+    read_at words _ _ _ _ c.key_field.result c.word.ensures c.card_of.ensures (c.key_field.ensures.word (words_of words) c.requires.1)

@@ -1,27 +1,7 @@
-use Rattle.std.proofs.Common.{ℕ, ◌<◌, sym, subst}
-use Rattle.ell_core.specs.state.Layout.{table_size}
-use Rattle.ell_cards.proofs.seats.Taken.{taken_keeps, word_fits, steps_by}
-use Rattle.ell_cards.proofs.runs.Reaching.{may_load}
+-- A load that is counted.
+use Rattle.std.proofs.Common.{ap, ◌∙◌}
+use Rattle.ell_cards.specs.Models.{PassModel, some_more}
 use Rattle.ell_cards.proofs.table.CardTable.load.Goals as goal
 
-pub load_as-requires-clause-word : goal.load_as-requires-clause-word
-load_as-requires-clause-word g c = λ named. subst (λ (i : ℕ). i < table_size c.args.self.now.plan.last_card) (sym c.requires.word)
-    (word_fits c.args.self.now.plan.last_card c.args.call c.args.pass.now.view named c.requires.may)
-
-pub load_as-requires-clause-rule : goal.load_as-requires-clause-rule
-load_as-requires-clause-rule g c = may_load c.args.self.now.plan c.args.call c.args.pass.now.view c.args.word c.requires.word c.requires.atomic c.requires.may
-
-pub load_as-requires-clause-keeps : goal.load_as-requires-clause-keeps
-load_as-requires-clause-keeps g c = taken_keeps c.args.self.now.plan.last_card c.args.call c.args.pass.now.view
-
 pub returns-clause-step : goal.returns-clause-step
-returns-clause-step g c = steps_by c.args.pass.now c.load_as.new.pass _ c.load_as.ensures.step c.load_as.ensures.told.view
-
-pub returns-clause-tells : goal.returns-clause-tells
-returns-clause-tells g c = c.load_as.ensures.told.tells
-
-pub returns-clause-looked : goal.returns-clause-looked
-returns-clause-looked g c = c.load_as.ensures.told.own
-
-pub returns-clause-fixed : goal.returns-clause-fixed
-returns-clause-fixed g c = c.load_as.ensures.told.fixed
+returns-clause-step g c = c.count.ensures ∙ ap (λ (m : PassModel). record m { steps = some_more 1 m.steps }) c.see-found.ensures.step

@@ -4,7 +4,7 @@ use Rattle.std.specs.Prelude.{vec_capacity}
 use Rattle.ell_core.specs.declared.world.World.TheInside.{Inside}
 use Rattle.ell_core.specs.tree.Tree.{Reached, IsLawful, ListsTreePairs}
 use Rattle.ell_core.specs.tree.Room.{HasRoom}
-use Rattle.ell_core.specs.inside.Fits.{IsNode}
+use Rattle.ell_core.specs.inside.Fits.{IsTableNode}
 use Rattle.ell_core.specs.inside.Inside.{words_in}
 use Rattle.ell_core.specs.inside.World.{WorldValue, machine_of}
 use Rattle.ell_core.specs.inside.WorldInside.{value_in, InsideFits}
@@ -20,18 +20,19 @@ lawful world fits =
     (sound (machine_of (value_in world)) fits.lawful.stages fits.lawful.invariant).tree
 
 -- a reached node is one of the table
-node : {A : Type 0} (world : Inside A) → InsideFits world → (x : ℕ) → Reached (words_in world.memory) x → IsNode world.memory.last_card x
+node : {A : Type 0} (world : Inside A) → InsideFits world → (x : ℕ) → Reached (words_in world.memory) x → IsTableNode world.memory.last_card x
 node world fits x reached =
     let value = value_in world in
     let names = (sound (machine_of value) fits.lawful.stages fits.lawful.invariant).names in
-    let below = names.nodes x (subst (λ w. Reached w x) (words_are world.memory world.workers.items) reached) in
+    let there = subst (λ w. Reached w x) (words_are world.memory world.workers.items) reached in
+    let below = names.nodes x there in
     let limit = fits.lawful.invariant.limit in
     let cards = cards_are world.memory world.workers.items in
-    omega arith
+    (omega arith, names.numbers x there)
 
 -- two places more than the number of cards are room
 room : {A : Type 0} (world : Inside A) (places : ℕ) → InsideFits world → world.memory.last_card + 2 ≤ places → HasRoom (words_in world.memory) places
-room world places fits enough x reached = let inside = node world fits x reached in omega arith
+room world places fits enough x reached = let inside = (node world fits x reached).0 in omega arith
 
 pub pairs_of_tree-requires-clause-lawful : goal.pairs_of_tree-requires-clause-lawful
 pairs_of_tree-requires-clause-lawful g c = lawful c.self.inside c.self.invariant

@@ -1,23 +1,31 @@
-use Rattle.std.proofs.Common.{◌%◌, nat_le, refl, ap, sym, ◌∙◌, subst, arith, rules}
+use Rattle.std.proofs.Common.{◌+◌, ◌%◌, nat_le, refl, ap, sym, ◌∙◌, subst, arith, rules}
 use Rattle.ell_word.specs.Node.{IsInternal}
 use Rattle.ell_cards.specs.declared.glance.Glance.{Glance}
-use Rattle.ell_tree.specs.Cursors.{AreKept}
-use Rattle.ell_tree.proofs.Cursors.{Goes, goes_first, goes_down, key_on, kept_still, may_go_down, one_kept, stands_still}
+use Rattle.ell_cards.specs.Looking.{KeysAreFixed}
+use Rattle.ell_cards.specs.Models.{PassModel}
+use Rattle.ell_cards.specs.declared.view.View.{View}
+use Rattle.ell_tree.specs.Cursors.{AreKept, FindsAbout}
+use Rattle.ell_tree.specs.Looks.{stretch_steps}
+use Rattle.ell_tree.proofs.Counting.{counted_all, uncounted_none, uncounted_one, uncounted_trans}
+use Rattle.ell_tree.proofs.Cursors.{Goes, all_on, goes_first, goes_down, goes_found, on_counted, key_on, kept_still, may_go_down, one_kept, stands_still}
 use Rattle.ell_tree.proofs.cursor.Cursor.about.Goals as goal
 use Rattle.ell_tree.proofs.cursor.Cursor.about.Goals.{then-not-right, else-not-right}
 
 pub loop-pass-init : goal.loop-pass-init
 loop-pass-init g c =
     let s = c.start-here in
-    goes_first c.args.table.now.plan.last_card c.args.pass.now c.args.key s.result c.args.self.now s.new.self c.requires.kept s.ensures.among s.ensures.from s.ensures.upto
-    s.ensures.first s.ensures.kept
+    record {
+      goes = goes_first c.args.table.now.plan.last_card c.args.pass.now c.args.key s.result c.args.self.now s.new.self c.requires.kept s.ensures.among s.ensures.from s.ensures.upto
+          s.ensures.first s.ensures.kept;
+      uncounted = uncounted_none c.args.pass.now;
+    }
 
 pub look_down-child-requires-clause-may : goal.look_down-child-requires-clause-may
 look_down-child-requires-clause-may g c =
     let l = c.loop-pass in
     let k = c.key_of-node_key in
     let inner : IsInternal l.here.node = search rules in
-    may_go_down c.args.table.now.plan.last_card c.args.pass.now l.pass k.new.pass c.args.key l.here l.self k.result l.invariant k.ensures.step inner
+    may_go_down c.args.table.now.plan.last_card c.args.pass.now l.pass k.new.pass c.args.key l.here l.self k.result l.invariant.goes k.ensures.step inner
 
 pub loop-pass-preserved : goal.loop-pass-preserved
 loop-pass-preserved g c =
@@ -26,17 +34,21 @@ loop-pass-preserved g c =
     let d = c.look_down-child in
     let cards = c.args.table.now.plan.last_card in
     let inner : IsInternal l.here.node = search rules in
-    let still = kept_still cards c.args.pass.now l.pass k.new.pass c.args.key l.here l.self k.result l.invariant k.ensures.step in
-    let stands = stands_still cards c.args.pass.now l.pass k.new.pass c.args.key l.here l.self k.result l.invariant k.ensures.step in
+    let still = kept_still cards c.args.pass.now l.pass k.new.pass c.args.key l.here l.self k.result l.invariant.goes k.ensures.step in
+    let stands = stands_still cards c.args.pass.now l.pass k.new.pass c.args.key l.here l.self k.result l.invariant.goes k.ensures.step in
     let kept : AreKept cards k.new.pass.view c.if-not-right.self = elim c.if-not-right.branch [
       | then-not-right w ↦
           subst (AreKept cards k.new.pass.view) (sym w.self-is)
           (one_kept cards k.new.pass.view l.self w.keep.new.self (l.self.count % 32) l.here (omega arith) w.keep.ensures.first w.keep.ensures.kept stands still)
       | else-not-right w ↦ subst (AreKept cards k.new.pass.view) (sym w.self-is) still
     ] in
-    subst (λ h. Goes cards c.args.pass.now d.new.pass c.args.key h c.if-not-right.self) (sym c.down-here.ensures)
-    (goes_down cards c.args.pass.now l.pass k.new.pass c.args.key l.here l.self k.result l.invariant k.ensures.step d.new.pass (nat_le k.result c.args.key)
-    d.result c.if-not-right.self d.ensures.step inner d.ensures.greater d.ensures.there refl kept)
+    record {
+      goes = subst (λ h. Goes cards c.args.pass.now d.new.pass c.args.key h c.if-not-right.self) (sym c.down-here.ensures)
+          (goes_down cards c.args.pass.now l.pass k.new.pass c.args.key l.here l.self k.result l.invariant.goes k.ensures.step d.new.pass (nat_le k.result c.args.key)
+          d.result c.if-not-right.self d.ensures.step inner d.ensures.greater d.ensures.there refl kept);
+      uncounted = uncounted_trans c.args.pass.now l.pass d.new.pass l.steps 2 l.invariant.uncounted
+          (uncounted_trans l.pass k.new.pass d.new.pass 1 1 (uncounted_one l.pass k.new.pass _ k.ensures.step refl) (uncounted_one k.new.pass d.new.pass _ d.ensures.step refl));
+    }
 
 pub loop-pass-smaller : goal.loop-pass-smaller
 loop-pass-smaller g c =
@@ -47,13 +59,36 @@ loop-pass-smaller g c =
     omega arith
 
 pub key_of-node_key-requires-clause-own : goal.key_of-node_key-requires-clause-own
-key_of-node_key-requires-clause-own g c = c.loop-pass.invariant.on.only.table ∙ c.requires.own
+key_of-node_key-requires-clause-own g c = c.loop-pass.invariant.goes.on.only.table ∙ c.requires.own
 
 pub key_of-node_key-requires-clause-met : goal.key_of-node_key-requires-clause-met
-key_of-node_key-requires-clause-met g c = c.loop-pass.invariant.stands.met
+key_of-node_key-requires-clause-met g c = c.loop-pass.invariant.goes.stands.met
 
 pub look_down-child-requires-clause-own : goal.look_down-child-requires-clause-own
 look_down-child-requires-clause-own g c =
     let l = c.loop-pass in
     let k = c.key_of-node_key in
-    (key_on l.pass k.new.pass l.here.node k.result k.ensures.step).only.table ∙ (l.invariant.on.only.table ∙ c.requires.own)
+    (key_on l.pass k.new.pass l.here.node k.result k.ensures.step).only.table ∙ (l.invariant.goes.on.only.table ∙ c.requires.own)
+
+pub returns : goal.returns
+returns g c =
+    let l = c.loop-pass in
+    let f = c.found_at-at_the_leaf in
+    let cards = c.args.table.now.plan.last_card in
+    let steps = l.steps + f.result.1 in
+    let all = uncounted_trans c.args.pass.now l.pass f.new.pass l.steps f.result.1 l.invariant.uncounted f.ensures.uncounted in
+    let view = ap (λ (m : PassModel). m.view) c.count.ensures in
+    record {
+      found = subst (λ (v : View). FindsAbout cards v c.args.key f.result.0) (sym view) f.ensures.found;
+      kept = subst (λ (v : View). AreKept cards v l.self) (sym view) (all_on cards l.pass f.new.pass 2 l.self f.ensures.on l.invariant.goes.kept);
+      fixed = subst KeysAreFixed (sym view) f.ensures.fixed;
+      counted = counted_all c.args.pass.now f.new.pass c.count.new.self steps all c.count.ensures;
+      on = on_counted c.args.pass.now f.new.pass c.count.new.self (stretch_steps cards) steps
+          (goes_found cards c.args.pass.now l.pass f.new.pass c.args.key l.here l.self l.invariant.goes f.ensures.on) all c.count.ensures;
+    }
+
+pub overflow_add-steps-2 : goal.overflow_add-steps-2
+overflow_add-steps-2 g c =
+    let i = c.loop-pass.invariant in
+    let room = c.facts_stay_inside.ensures.room in
+    omega (arith, i.uncounted.made, i.goes.on.only.made, i.goes.few, i.goes.stands.there, c.found_at-at_the_leaf.ensures.few, room)

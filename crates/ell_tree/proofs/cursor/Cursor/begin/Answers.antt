@@ -1,11 +1,19 @@
-use Rattle.std.proofs.Common.{refl}
+use Rattle.std.proofs.Common.{◌+◌, refl, sym, ap, subst}
+use Rattle.ell_ops.specs.Meaning.{greatest_key}
+use Rattle.ell_cards.specs.Models.{PassModel}
+use Rattle.ell_cards.specs.declared.view.View.{View}
+use Rattle.ell_tree.specs.Cursors.{IsKept}
 use Rattle.ell_tree.proofs.Cursors.{begins_look, begin_kept, first_kept}
 use Rattle.ell_tree.proofs.cursor.Cursor.begin.Goals as goal
 
 pub returns-clause-begins : goal.returns-clause-begins
-returns-clause-begins g c = begins_look c.args.pass.now c.look.new.pass c.look.result c.look.ensures.step
+returns-clause-begins g c =
+    begins_look c.args.pass.now c.look-node.new.pass c.count.new.self c.look-node.result c.look-node.ensures.step c.count.ensures
 
 pub returns-clause-kept : goal.returns-clause-kept
 returns-clause-kept g c =
-    begin_kept c.args.table.now.plan.last_card c.look.new.pass.view _ _ refl refl refl refl
-    (first_kept c.args.table.now.plan.last_card c.args.pass.now c.look.new.pass c.look.result c.look.ensures.step c.look.ensures.greater c.look.ensures.there)
+    let l = c.look-node in
+    let cards = c.args.table.now.plan.last_card in
+    begin_kept cards c.count.new.self.view _ _ refl refl refl refl
+    (subst (λ (v : View). IsKept cards v (record { node = l.result; low = 0; high = greatest_key + 1 })) (sym (ap (λ (m : PassModel). m.view) c.count.ensures))
+    (first_kept cards c.args.pass.now l.new.pass l.result l.ensures.step l.ensures.greater l.ensures.there))

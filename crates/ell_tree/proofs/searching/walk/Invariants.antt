@@ -1,7 +1,9 @@
 use Rattle.std.proofs.Common.{◌≡◌, ◌+◌, ◌*◌, ◌<◌, ◌-◌}
+use Rattle.ell_word.specs.Node.{card}
+use Rattle.ell_tree.specs.Counts.{HasUncounted}
 use Rattle.ell_tree.specs.Keeping.{Seeks}
 use Rattle.ell_tree.specs.Searches.{Stands}
-use Rattle.ell_tree.proofs.searching.search.Given as goal
+use Rattle.ell_tree.proofs.searching.walk.Given as goal
 
 -- the steps so far are three for each internal node that there is down to the parent
 abbrev pub invariant-loop-grandparent : goal.invariant-loop-grandparent
@@ -9,8 +11,9 @@ invariant-loop-grandparent g l = record {
   same : (l.op ≡ l.fn.op) × (l.table ≡ l.fn.table);
   stands : Stands l.table.plan.last_card l.pass.view l.node l.parent l.grandparent;
   down : l.parent.node < l.node;
-  seeks : Seeks l.fn.pass l.pass (l.parent.node + 3);
+  seeks : Seeks l.fn.pass l.pass (3 * card l.parent.node + 3);
+  uncounted : HasUncounted l.fn.pass l.pass l.steps;
 }
 
 abbrev pub decreases-loop-grandparent : goal.decreases-loop-grandparent
-decreases-loop-grandparent g l = 3 * l.table.plan.last_card + 3 - l.node
+decreases-loop-grandparent g l = 4 * l.table.plan.last_card + 4 - l.node

@@ -1,0 +1,170 @@
+use Rattle.std.proofs.Common.{◌≡◌, ◌≢◌, refl, Some, None, ◌∙◌, arith, rules}
+use Rattle.ell_word.specs.Node.{IsInternal}
+use Rattle.ell_core.specs.acts.Searching.{IsLeaf}
+use Rattle.ell_cards.specs.Changes.{after_look, after_key_of, after_value_of}
+use Rattle.ell_tree.proofs.Counting.{uncounted_one, uncounted_trans}
+use Rattle.ell_tree.proofs.Glances.{comes_first, met_still, may_down, comes_down, found_none, only_none, found_some, only_some, one_none, one_some, key_only, reads_mine}
+use Rattle.ell_tree.proofs.reading.walk.Goals as goal
+
+pub loop-pass-init : goal.loop-pass-init
+loop-pass-init g c =
+    let f = c.look-node in
+    record {
+      comes = comes_first c.args.table.now.plan.last_card c.args.pass.now f.new.pass c.args.key f.result c.requires.real f.ensures.step f.ensures.greater f.ensures.there;
+      uncounted = uncounted_one c.args.pass.now f.new.pass (after_look f.result c.args.pass.now.view) f.ensures.step refl;
+    }
+
+pub key_of-node_key-requires-clause-own : goal.key_of-node_key-requires-clause-own
+key_of-node_key-requires-clause-own g c = c.loop-pass.invariant.comes.only.table ∙ c.requires.may.0
+
+pub key_of-node_key-requires-clause-met : goal.key_of-node_key-requires-clause-met
+key_of-node_key-requires-clause-met g c = c.loop-pass.invariant.comes.met
+
+pub look_down-node-requires-clause-own : goal.look_down-node-requires-clause-own
+look_down-node-requires-clause-own g c =
+    let l = c.loop-pass in
+    let k = c.key_of-node_key in
+    (key_only l.pass k.new.pass l.node k.result k.ensures.step).table ∙ (l.invariant.comes.only.table ∙ c.requires.may.0)
+
+pub look_down-node-requires-clause-may : goal.look_down-node-requires-clause-may
+look_down-node-requires-clause-may g c =
+    let l = c.loop-pass in
+    let k = c.key_of-node_key in
+    let inner : IsInternal l.node = search rules in
+    may_down c.args.table.now.plan.last_card c.args.pass.now l.pass k.new.pass c.args.key l.node k.result l.invariant.comes k.ensures.step inner
+
+pub loop-pass-smaller : goal.loop-pass-smaller
+loop-pass-smaller g c =
+    let d = c.look_down-node in
+    let deeper = d.ensures.greater in
+    let room = d.ensures.there in
+    omega arith
+
+pub loop-pass-preserved : goal.loop-pass-preserved
+loop-pass-preserved g c =
+    let l = c.loop-pass in
+    let k = c.key_of-node_key in
+    let d = c.look_down-node in
+    let inner : IsInternal l.node = search rules in
+    record {
+      comes = comes_down c.args.table.now.plan.last_card c.args.pass.now l.pass k.new.pass c.args.key l.node k.result l.invariant.comes k.ensures.step
+          d.new.pass d.result d.ensures.step inner d.ensures.greater d.ensures.there;
+      uncounted = uncounted_trans c.args.pass.now l.pass d.new.pass l.steps 2 l.invariant.uncounted
+          (uncounted_trans l.pass k.new.pass d.new.pass 1 1 (uncounted_one l.pass k.new.pass (after_key_of l.node k.result l.pass.view) k.ensures.step refl)
+          (uncounted_one k.new.pass d.new.pass _ d.ensures.step refl));
+    }
+
+pub key_of-leaf_key-requires-clause-own : goal.key_of-leaf_key-requires-clause-own
+key_of-leaf_key-requires-clause-own g c = c.loop-pass.invariant.comes.only.table ∙ c.requires.may.0
+
+pub key_of-leaf_key-requires-clause-met : goal.key_of-leaf_key-requires-clause-met
+key_of-leaf_key-requires-clause-met g c = c.loop-pass.invariant.comes.met
+
+pub returns-then-leaf_key-key-clause-found : goal.returns-then-leaf_key-key-clause-found
+returns-then-leaf_key-key-clause-found g c =
+    let l = c.loop-pass in
+    let k = c.key_of-leaf_key in
+    let outer : IsLeaf l.node = search rules in
+    let other : k.result ≢ c.args.key = search rules in
+    found_none c.args.table.now.plan.last_card c.args.pass.now l.pass k.new.pass c.args.key l.node k.result l.invariant.comes k.ensures.step outer other
+
+pub returns-then-leaf_key-key-clause-only : goal.returns-then-leaf_key-key-clause-only
+returns-then-leaf_key-key-clause-only g c =
+    let l = c.loop-pass in
+    let k = c.key_of-leaf_key in
+    only_none c.args.table.now.plan.last_card c.args.pass.now l.pass k.new.pass c.args.key l.node k.result l.invariant.comes k.ensures.step
+
+pub value_of-requires-clause-own : goal.value_of-requires-clause-own
+value_of-requires-clause-own g c =
+    let l = c.loop-pass in
+    let k = c.key_of-leaf_key in
+    (key_only l.pass k.new.pass l.node k.result k.ensures.step).table ∙ (l.invariant.comes.only.table ∙ c.requires.may.0)
+
+pub value_of-requires-clause-met : goal.value_of-requires-clause-met
+value_of-requires-clause-met g c =
+    let l = c.loop-pass in
+    let k = c.key_of-leaf_key in
+    met_still c.args.table.now.plan.last_card c.args.pass.now l.pass k.new.pass c.args.key l.node k.result l.invariant.comes k.ensures.step
+
+pub returns-clause-found : goal.returns-clause-found
+returns-clause-found g c =
+    let l = c.loop-pass in
+    let k = c.key_of-leaf_key in
+    let v = c.value_of in
+    let outer : IsLeaf l.node = search rules in
+    let same : k.result ≡ c.args.key = search rules in
+    found_some c.args.table.now.plan.last_card c.args.pass.now l.pass k.new.pass c.args.key l.node k.result l.invariant.comes k.ensures.step
+    v.new.pass v.result v.ensures.step outer same
+
+pub returns-clause-only : goal.returns-clause-only
+returns-clause-only g c =
+    let l = c.loop-pass in
+    let k = c.key_of-leaf_key in
+    let v = c.value_of in
+    only_some c.args.table.now.plan.last_card c.args.pass.now l.pass k.new.pass c.args.key l.node k.result l.invariant.comes k.ensures.step
+    v.new.pass v.result v.ensures.step
+
+pub returns-then-leaf_key-key-clause-one : goal.returns-then-leaf_key-key-clause-one
+returns-then-leaf_key-key-clause-one g c =
+    let l = c.loop-pass in
+    let k = c.key_of-leaf_key in
+    one_none c.args.table.now.plan.last_card c.args.pass.now l.pass k.new.pass c.args.key l.node k.result l.invariant.comes k.ensures.step
+
+pub returns-clause-one : goal.returns-clause-one
+returns-clause-one g c =
+    let l = c.loop-pass in
+    let k = c.key_of-leaf_key in
+    let v = c.value_of in
+    one_some c.args.table.now.plan.last_card c.args.pass.now l.pass k.new.pass c.args.key l.node k.result l.invariant.comes k.ensures.step
+    v.new.pass v.result v.ensures.step
+
+pub returns-then-leaf_key-key-clause-mine : goal.returns-then-leaf_key-key-clause-mine
+returns-then-leaf_key-key-clause-mine g c =
+    let l = c.loop-pass in
+    let k = c.key_of-leaf_key in
+    let outer : IsLeaf l.node = search rules in
+    let other : k.result ≢ c.args.key = search rules in
+    reads_mine c.args.pass.now k.new.pass c.args.key None k.ensures.looked
+    (found_none c.args.table.now.plan.last_card c.args.pass.now l.pass k.new.pass c.args.key l.node k.result l.invariant.comes k.ensures.step outer other)
+    (only_none c.args.table.now.plan.last_card c.args.pass.now l.pass k.new.pass c.args.key l.node k.result l.invariant.comes k.ensures.step).worker
+
+pub returns-clause-mine : goal.returns-clause-mine
+returns-clause-mine g c =
+    let l = c.loop-pass in
+    let k = c.key_of-leaf_key in
+    let v = c.value_of in
+    let outer : IsLeaf l.node = search rules in
+    let same : k.result ≡ c.args.key = search rules in
+    reads_mine c.args.pass.now v.new.pass c.args.key (Some v.result) v.ensures.looked
+    (found_some c.args.table.now.plan.last_card c.args.pass.now l.pass k.new.pass c.args.key l.node k.result l.invariant.comes k.ensures.step
+    v.new.pass v.result v.ensures.step outer same)
+    (only_some c.args.table.now.plan.last_card c.args.pass.now l.pass k.new.pass c.args.key l.node k.result l.invariant.comes k.ensures.step
+    v.new.pass v.result v.ensures.step).worker
+
+pub returns-then-leaf_key-key-clause-uncounted : goal.returns-then-leaf_key-key-clause-uncounted
+returns-then-leaf_key-key-clause-uncounted g c =
+    let l = c.loop-pass in
+    let k = c.key_of-leaf_key in
+    uncounted_trans c.args.pass.now l.pass k.new.pass l.steps 1 l.invariant.uncounted
+    (uncounted_one l.pass k.new.pass (after_key_of l.node k.result l.pass.view) k.ensures.step refl)
+
+pub returns-clause-uncounted : goal.returns-clause-uncounted
+returns-clause-uncounted g c =
+    let l = c.loop-pass in
+    let k = c.key_of-leaf_key in
+    let v = c.value_of in
+    uncounted_trans c.args.pass.now l.pass v.new.pass l.steps 2 l.invariant.uncounted
+    (uncounted_trans l.pass k.new.pass v.new.pass 1 1 (uncounted_one l.pass k.new.pass (after_key_of l.node k.result l.pass.view) k.ensures.step refl)
+    (uncounted_one k.new.pass v.new.pass (after_value_of l.node v.result k.new.pass.view) v.ensures.step refl))
+
+pub overflow_add-result : goal.overflow_add-result
+overflow_add-result g c =
+    let i = c.loop-pass.invariant in
+    let room = c.facts_stay_inside.ensures.room in
+    omega (arith, i.uncounted.made, i.comes.only.made, i.comes.few, i.comes.there, room)
+
+pub overflow_add-result-2 : goal.overflow_add-result-2
+overflow_add-result-2 g c =
+    let i = c.loop-pass.invariant in
+    let room = c.facts_stay_inside.ensures.room in
+    omega (arith, i.uncounted.made, i.comes.only.made, i.comes.few, i.comes.there, room)
