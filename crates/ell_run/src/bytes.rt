@@ -106,7 +106,7 @@ pub fn run_bytes<
     ensures given { GivesFront (I.remaining reader.old) (I.remaining reader.new) }
 {
     let bytes = read_all(alloc, reader)?;
-    let bulk = read_bulk(alloc, &bytes)?;
+    let bulk = read_bulk(rt, alloc, &bytes)?;
     drop(bytes);
     let outcome = run_in_order(rt, alloc, &bulk.start, &bulk.ops, settings, gate)?;
     write_answer(writer, bulk.version, &outcome.replies, &outcome.pairs)?;

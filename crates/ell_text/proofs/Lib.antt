@@ -4,10 +4,14 @@ pub mod Bulks
 pub mod Versions
 -- The first fault of a text, and what its lines say, a line at a time.
 pub mod Operations
+-- Operations that lines say behind others, and a text that is read to its end by them.
+pub mod ReadingOn
 -- The draft of the lines that are not skipped, a line at a time.
 pub mod Drafts
 -- What a reader's known bytes say of what it gave.
 pub mod Reading
+-- The lines of a text that is cut behind a line feed.
+pub mod Halves
 -- The lines of a text are those that bstr cuts.
 pub mod CutLines
 -- The first line of a text, and what one says that is spelt plainly.

@@ -12,6 +12,8 @@ pub mod Line
 pub mod Lines
 -- Numbers in decimal digits, as a text spells them.
 pub mod Number
+-- The operations that lines say which stand behind an operation.
+pub mod Operations
 -- What a step of an `Output` does.
 pub mod Output
 -- Bytes on their way to a writer, and the count of those that it took.

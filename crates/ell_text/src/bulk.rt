@@ -1,15 +1,19 @@
 //! The version, the start keys and the operations of a bulk text.
-ghost use Rattle.std.specs.Prelude.{◌≡◌, ◌≢◌, IfErr, IfOk, IfSome, IsSome, None, OnErr, OnOk, Some};
+ghost use Rattle.std.specs.Prelude.{◌≡◌, ◌≢◌, IfErr, IfOk, IfSome, IsFalse, IsSome, IsTrue, None, OnErr, OnOk, Some};
 ghost use Rattle.ell_text.specs.Bulk.{BulkFits, HasSoundLine, bulk, bulk_value, fault_of, fault_of_said, located, next_section, nothing_said, spoken_in, with_line, with_read};
 ghost use Rattle.ell_text.specs.Line.{LineFits};
 ghost use Rattle.ell_text.specs.Lines.{lines};
+ghost use Rattle.ell_text.specs.Operations.{IsReadOn};
+ghost use Rattle.ell_text.specs.declared.line.Section.TheVariants.{Operations};
 ghost use Rattle.ell_text.specs.Version.{version_numbered};
 
+use crate::halving::read_operations;
 use crate::limits::OPERATIONS_MAX;
 use crate::line::{Line, LineFault, Section, read_first_line};
 use crate::version::Version;
 use ell_ops::{NoMemory, Op};
 use std::alloc::{Allocator, Global};
+use std::thread::Threads;
 use thiserror::Error;
 
 /// What a bulk text says.
@@ -52,9 +56,20 @@ pub enum TextFault {
     NoMemory,
 }
 
-/// Reads the version, the start keys with their values, and the operations of a bulk text. A fault is that of the first
-/// line that has one. `NoMemory` comes only at a line that says a start key or an operation, where no line so far has a fault.
-pub fn read_bulk<A: Allocator + Copy>(alloc: A, bytes: &[u8]) -> Result<Bulk<A>, TextFault>
+// How many times a long text is halved among threads.
+const HALVINGS: u32 = 2;
+
+// The fewest bytes of a long text, which take much longer to read than threads take to begin.
+const LONG: usize = 131_072;
+
+/// Reads the version, the start keys with their values, and the operations of a bulk text. The operations of a long text are read by
+/// four threads, where they can be made. A fault is that of the first line that has one. `NoMemory` comes only at a line that says a
+/// start key or an operation, where no line so far has a fault.
+pub fn read_bulk<R: Threads + Sync, A: Allocator + Copy + Send + Sync>(
+    rt: &R,
+    alloc: A,
+    bytes: &[u8],
+) -> Result<Bulk<A>, TextFault>
     ensures ok { IfOk result (λ found. bulk bytes.now ≡ Ok (bulk_value found)) }
     ensures fault { IfErr result (λ fault. fault ≢ TextFault.NoMemory → bulk bytes.now ≡ Err fault) }
     ensures no_memory { IfErr result (λ fault. fault ≡ TextFault.NoMemory → HasSoundLine (lines bytes.now)) }
@@ -64,15 +79,19 @@ pub fn read_bulk<A: Allocator + Copy>(alloc: A, bytes: &[u8]) -> Result<Bulk<A>,
     let mut rest = bytes;
     let mut number = 0;
     'lines: while !rest.is_empty() {
-        let (read, behind) = read_first_line(bulk.version(), bulk.section(), rest);
+        let section = bulk.section();
+        let (read, behind) = read_first_line(bulk.version(), section, rest);
         number += 1;
         bulk.append_read(read, number)?;
         rest = behind;
+        if bulk.read_on(rt, alloc, section, rest) {
+            return Ok(bulk);
+        }
     }
     Ok(bulk)
 }
 
-impl<A: Allocator + Copy> Bulk<A> {
+impl<A: Allocator + Copy + Send + Sync> Bulk<A> {
     fn new(alloc: A) -> Bulk<A>
         ensures value { bulk_value result ≡ nothing_said }
         ensures fits { BulkFits (bulk_value result) }
@@ -129,6 +148,30 @@ impl<A: Allocator + Copy> Bulk<A> {
             return Err(fault);
         }
         self.append(said).map_err(|_| TextFault::NoMemory)
+    }
+
+    // Appends all operations that the rest of a text says, if it is long and begins behind the first operation; `before` is the section of
+    // the line before it. Answers whether it did. If not, as where a line of the rest is at fault, or memory is refused, each line
+    // is to be read in its turn.
+    fn read_on<R: Threads + Sync>(&mut self, rt: &R, alloc: A, before: Section, rest: &[u8]) -> bool
+        requires fits { BulkFits (bulk_value self.old) }
+        ensures behind { IsTrue result → next_section (bulk_value self.old) ≡ Operations }
+        ensures read { IsTrue result → IsReadOn (bulk_value self.old) (lines rest.now) (bulk_value self.new) }
+        ensures fits { BulkFits (bulk_value self.new) }
+        ensures stays { IsFalse result → bulk_value self.new ≡ bulk_value self.old }
+    {
+        let begins = before != Section::Operations && self.section() == Section::Operations;
+        if !begins || rest.len() < LONG {
+            return false;
+        }
+        let version = self.version();
+        match read_operations(rt, alloc, version, &self.ops, rest, HALVINGS) {
+            Some(ops) if self.start.len() + ops.len() <= OPERATIONS_MAX => {
+                self.ops = ops;
+                true
+            }
+            _ => false,
+        }
     }
 
     // The fault of what the line of this number says, if it has one.

@@ -12,6 +12,7 @@
 mod answer;
 mod bulk;
 mod bytes;
+mod halving;
 mod input;
 mod limits;
 mod line;

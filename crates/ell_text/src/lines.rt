@@ -1,5 +1,5 @@
 //! The lines of a text, and the parts of one line.
-ghost use Rattle.std.specs.Prelude.{◌≡◌, ◌<◌, ◌≤◌, [], ◌∷◌, length, position, MatchOption};
+ghost use Rattle.std.specs.Prelude.{◌≡◌, ◌<◌, ◌≤◌, [], ◌∷◌, ◌++◌, length, position, MatchOption};
 ghost use Rattle.std.specs.List.{after_first, before_first, slice_split};
 ghost use Rattle.std.specs.Str.Lines.{strip_carriage_return};
 ghost use Rattle.ell_text.specs.Lines.{is_blank, is_skipped, is_space, lines};
@@ -23,6 +23,17 @@ pub(crate) fn cut_first_line(text: &[u8]) -> (&[u8], &[u8])
 {
     match text.find_byte(b'\n') {
         Some(at) => (without_carriage_return(&text[..at]), &text[at + 1..]),
+        None => (text, &[]),
+    }
+}
+
+/// A text in two, cut behind the first line feed at or behind a place; the second part is empty if there is none.
+pub(crate) fn cut_behind_line(text: &[u8], place: usize) -> (&[u8], &[u8])
+    requires { place ≤ length text.now }
+    ensures { lines text.now ≡ lines result.0.now ++ lines result.1.now }
+{
+    match (&text[place..]).find_byte(b'\n') {
+        Some(at) => text.split_at(place + at + 1),
         None => (text, &[]),
     }
 }

@@ -9,6 +9,7 @@ use ell_text::{
     replay_bytes, write_answer, write_trace,
 };
 use std::alloc::{AllocError, Allocator, Global};
+use std::thread::Threads;
 
 const LINE: &[u8] = b"insert 5\n";
 
@@ -40,7 +41,8 @@ fn read_input(heap: &Heap, refusal: Refusal, text: &[u8]) -> Ended {
 }
 
 // Reads a text of a version, with these start keys and operations.
-fn read_operations(
+fn read_operations<R: Threads + Sync>(
+    rt: &R,
     heap: &Heap,
     refusal: Refusal,
     text: &[u8],
@@ -49,7 +51,7 @@ fn read_operations(
     ops: &[Op],
 ) -> Ended {
     heap.refuse(refusal);
-    let read = read_bulk(heap, text);
+    let read = read_bulk(rt, heap, text);
     heap.stop();
     match read {
         Ok(bulk) => Ended::answered(
@@ -133,20 +135,30 @@ fn inputs_are_read_or_there_is_no_memory(rt: HostRuntime) {
 fn operations_are_read_or_there_is_no_memory(rt: HostRuntime) {
     sweep(
         &rt,
-        |heap, refusal| read_operations(heap, refusal, FOUR_LINES, 1, &[], &FOUR),
+        |heap, refusal| read_operations(&rt, heap, refusal, FOUR_LINES, 1, &[], &FOUR),
     );
     let text = lines(rt.alloc(), b"start 3\n", LINE, 100).expect(&rt, "no memory");
     let ops = [Op::Insert(5, 0); 100];
     sweep(
         &rt,
-        |heap, refusal| read_operations(heap, refusal, &text, 1, &[(3, 0)], &ops),
+        |heap, refusal| read_operations(&rt, heap, refusal, &text, 1, &[(3, 0)], &ops),
     );
     let front = b"version 2\nstart 3 33\n";
     let text = lines(rt.alloc(), front, LINE_WITH_VALUE, 100).expect(&rt, "no memory");
     let ops = [Op::Insert(5, 50); 100];
     sweep(
         &rt,
-        |heap, refusal| read_operations(heap, refusal, &text, 2, &[(3, 33)], &ops),
+        |heap, refusal| read_operations(&rt, heap, refusal, &text, 2, &[(3, 33)], &ops),
+    );
+}
+
+#[test]
+fn long_texts_are_read_or_there_is_no_memory(rt: HostRuntime) {
+    let text = lines(rt.alloc(), b"", LINE, LINES).expect(&rt, "no memory");
+    let ops = vec![in rt.alloc(); Op::Insert(5, 0); LINES].expect(&rt, "no memory");
+    sweep(
+        &rt,
+        |heap, refusal| read_operations(&rt, heap, refusal, &text, 1, &[], &ops),
     );
 }
 
@@ -169,7 +181,7 @@ fn memory_is_wanted_at_a_start_key_or_an_operation(rt: HostRuntime) {
     let heap = Heap::new(rt.alloc());
     for (text, want, growths) in texts {
         heap.refuse(Refusal::From(1));
-        assert!(rt; read_bulk(&heap, text).err() == Some(want));
+        assert!(rt; read_bulk(&rt, &heap, text).err() == Some(want));
         assert!(rt; growths <= heap.growths());
     }
 }

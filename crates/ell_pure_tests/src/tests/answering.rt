@@ -1,11 +1,12 @@
 //! Bulk texts of both versions that one thread answers, from bytes to bytes.
 use ell_ops::apply_from;
 use ell_text::{read_bulk, write_answer};
-use std::alloc::Global;
+use std::thread::Threads;
 
 // Whether one thread answers a text so.
-fn is_answered(alloc: Global, text: &[u8], want: &[u8]) -> bool {
-    let Ok(bulk) = read_bulk(alloc, text) else {
+fn is_answered(rt: &(impl Threads + AllocGlobal + Sync), text: &[u8], want: &[u8]) -> bool {
+    let alloc = rt.alloc();
+    let Ok(bulk) = read_bulk(rt, alloc, text) else {
         return false;
     };
     let Ok((replies, pairs)) = apply_from(alloc, &bulk.start, &bulk.ops) else {
@@ -42,7 +43,7 @@ fn values_are_kept(rt: HostRuntime) {
     ];
     for row in 0..5 {
         let (text, want) = answers[row];
-        assert!(rt; is_answered(rt.alloc(), text, want), "row {row}");
+        assert!(rt; is_answered(&rt, text, want), "row {row}");
     }
 }
 
@@ -61,6 +62,6 @@ fn version_1_shows_no_value(rt: HostRuntime) {
     ];
     for row in 0..3 {
         let (text, want) = answers[row];
-        assert!(rt; is_answered(rt.alloc(), text, want), "row {row}");
+        assert!(rt; is_answered(&rt, text, want), "row {row}");
     }
 }

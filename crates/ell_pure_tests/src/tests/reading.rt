@@ -5,10 +5,17 @@ use ell_text::{INPUT_MAX, InputFault, TextFault, read_all, read_bulk};
 use std::alloc::{AllocError, Global};
 use std::io::{self, ErrorKind, Read, Write};
 use std::process::Abort;
+use std::thread::Threads;
 
 // Whether a text has this version, these start keys with their values, and these operations.
-fn is_read(alloc: Global, text: &[u8], version: u8, start: &[(u64, u64)], ops: &[Op]) -> bool {
-    match read_bulk(alloc, text) {
+fn is_read(
+    rt: &(impl Threads + AllocGlobal + Sync),
+    text: &[u8],
+    version: u8,
+    start: &[(u64, u64)],
+    ops: &[Op],
+) -> bool {
+    match read_bulk(rt, rt.alloc(), text) {
         Ok(bulk) => {
             bulk.version == version && bulk.start.as_slice() == start && bulk.ops.as_slice() == ops
         }
@@ -39,7 +46,7 @@ fn operations_are_read(rt: HostRuntime) {
     ];
     for row in 0..8 {
         let (text, want) = readings[row];
-        assert!(rt; is_read(rt.alloc(), text, 1, &[], want), "row {row}");
+        assert!(rt; is_read(&rt, text, 1, &[], want), "row {row}");
     }
 }
 
@@ -70,7 +77,7 @@ fn start_keys_are_read(rt: HostRuntime) {
     ];
     for row in 0..5 {
         let (text, start, ops) = readings[row];
-        assert!(rt; is_read(rt.alloc(), text, 1, start, ops), "row {row}");
+        assert!(rt; is_read(&rt, text, 1, start, ops), "row {row}");
     }
 }
 
@@ -119,7 +126,7 @@ fn values_are_read(rt: HostRuntime) {
     ];
     for row in 0..8 {
         let (text, start, ops) = readings[row];
-        assert!(rt; is_read(rt.alloc(), text, 2, start, ops), "row {row}");
+        assert!(rt; is_read(&rt, text, 2, start, ops), "row {row}");
     }
 }
 
@@ -163,7 +170,7 @@ fn faults_are_found(rt: HostRuntime) {
     for row in 0..21 {
         let (text, want) = faults[row];
         assert!(rt;
-            read_bulk(rt.alloc(), text).err() == Some(want),
+            read_bulk(&rt, rt.alloc(), text).err() == Some(want),
             "row {row}"
         );
     }
@@ -209,7 +216,7 @@ fn faults_of_start_lines_are_found(rt: HostRuntime) {
     for row in 0..19 {
         let (text, want) = faults[row];
         assert!(rt;
-            read_bulk(rt.alloc(), text).err() == Some(want),
+            read_bulk(&rt, rt.alloc(), text).err() == Some(want),
             "row {row}"
         );
     }
@@ -246,7 +253,7 @@ fn faults_of_the_version_are_found(rt: HostRuntime) {
     for row in 0..20 {
         let (text, want) = faults[row];
         assert!(rt;
-            read_bulk(rt.alloc(), text).err() == Some(want),
+            read_bulk(&rt, rt.alloc(), text).err() == Some(want),
             "row {row}"
         );
     }
@@ -301,23 +308,74 @@ fn faults_of_values_are_found(rt: HostRuntime) {
     for row in 0..27 {
         let (text, want) = faults[row];
         assert!(rt;
-            read_bulk(rt.alloc(), text).err() == Some(want),
+            read_bulk(&rt, rt.alloc(), text).err() == Some(want),
             "row {row}"
         );
     }
 }
 
 // How many start keys and operations there are together, or the fault.
-fn count(alloc: Global, text: &[u8]) -> Result<usize, TextFault> {
-    let bulk = read_bulk(alloc, text)?;
+fn count(rt: &(impl Threads + AllocGlobal + Sync), text: &[u8]) -> Result<usize, TextFault> {
+    let bulk = read_bulk(rt, rt.alloc(), text)?;
     Ok(bulk.start.len() + bulk.ops.len())
 }
 
 // How many operations there are, behind 200,000, or the fault.
-fn read_behind_the_limit(alloc: Global, ending: &[u8]) -> Result<usize, TextFault> {
-    match repeated(alloc, b"find 0\n", 200_000, ending) {
-        Ok(text) => count(alloc, &text),
+fn read_behind_the_limit(
+    rt: &(impl Threads + AllocGlobal + Sync),
+    ending: &[u8],
+) -> Result<usize, TextFault> {
+    match repeated(rt.alloc(), b"find 0\n", 200_000, ending) {
+        Ok(text) => count(rt, &text),
         Err(AllocError) => Err(TextFault::NoMemory),
+    }
+}
+
+// So many lines insert a key in a long text.
+const MANY: u64 = 12_000;
+
+// A long text: the keys below `MANY`, ascending, are inserted with their doubles, every third line has a carriage return before its line
+// feed, and a comment stands behind each of the others. At the end stand other bytes.
+fn long_text(rt: &(impl Abort + AllocGlobal), ending: &[u8]) -> Vec<u8> {
+    let mut text = Vec::new(rt.alloc());
+    text.extend_from_slice(b"version 2\n").expect(rt, "memory");
+    for key in 0..MANY {
+        let end = if key % 3 == 0 {
+            "\r\n"
+        } else {
+            "\n# insert 0 0\n"
+        };
+        write!(text, "insert {key} {double}{end}", double = 2 * key).expect(rt, "memory");
+    }
+    text.extend_from_slice(ending).expect(rt, "memory");
+    text
+}
+
+#[test]
+fn operations_of_a_long_text_are_read_in_order(rt: HostRuntime) {
+    let bulk = read_bulk(&rt, rt.alloc(), &long_text(&rt, b"delete 7")).expect(&rt, "sound");
+    assert!(rt; bulk.version == 2 && bulk.start.is_empty());
+    assert!(rt; bulk.ops.len() as u64 == MANY + 1);
+    for (key, op) in (0..MANY).zip(&bulk.ops) {
+        assert!(rt; *op == Op::Insert(key, 2 * key), "operation {key}");
+    }
+    assert!(rt; bulk.ops.last() == Some(&Op::Delete(7)));
+}
+
+#[test]
+fn a_fault_at_the_end_of_a_long_text_has_its_line(rt: HostRuntime) {
+    let line = 1 + MANY as usize + 2 * MANY as usize / 3 + 1;
+    let faults: [(&[u8], TextFault); 3] = [
+        (b"start 7 7\n", TextFault::BadOperation { line }),
+        (b"insert 7\n", TextFault::BadValue { line }),
+        (b"insert 07 7", TextFault::BadKey { line }),
+    ];
+    for row in 0..3 {
+        let (ending, want) = faults[row];
+        assert!(rt;
+            count(&rt, &long_text(&rt, ending)) == Err(want),
+            "row {row}"
+        );
     }
 }
 
@@ -341,10 +399,7 @@ fn the_limit_of_operations(rt: HostRuntime) {
     ];
     for row in 0..4 {
         let (ending, want) = endings[row];
-        assert!(rt;
-            read_behind_the_limit(rt.alloc(), ending) == want,
-            "row {row}"
-        );
+        assert!(rt; read_behind_the_limit(&rt, ending) == want, "row {row}");
     }
 }
 
@@ -368,7 +423,7 @@ fn the_line_of_the_version_is_no_operation(rt: HostRuntime) {
     for row in 0..3 {
         let (ending, want) = endings[row];
         let text = with_values_to_the_limit(rt.alloc(), ending).expect(&rt, "memory");
-        assert!(rt; count(rt.alloc(), &text) == want, "row {row}");
+        assert!(rt; count(&rt, &text) == want, "row {row}");
     }
 }
 
@@ -391,7 +446,7 @@ fn the_limit_of_start_keys_and_operations(rt: HostRuntime) {
         let (ending, want) = endings[row];
         text.truncate(front);
         text.extend_from_slice(ending).expect(&rt, "memory");
-        assert!(rt; count(rt.alloc(), &text) == want, "row {row}");
+        assert!(rt; count(&rt, &text) == want, "row {row}");
     }
 }
 

@@ -3,6 +3,7 @@
 use ell_test_gates::Dice;
 use ell_text::{Bulk, TextFault, read_bulk};
 use std::alloc::{AllocError, Global};
+use std::thread::Threads;
 
 const LINES: usize = 100_000;
 
@@ -55,16 +56,16 @@ fn random_line(alloc: Global, dice: &mut Dice) -> Result<Vec<u8>, AllocError> {
 
 // What a head, a line and an end are read as, together.
 fn read(
-    alloc: Global,
+    rt: &(impl Threads + AllocGlobal + Sync),
     head: &[u8],
     line: &[u8],
     end: &[u8],
 ) -> Result<Result<Bulk, TextFault>, AllocError> {
-    let mut text = Vec::new(alloc);
+    let mut text = Vec::new(rt.alloc());
     text.extend_from_slice(head)?;
     text.extend_from_slice(line)?;
     text.extend_from_slice(end)?;
-    Ok(read_bulk(alloc, &text))
+    Ok(read_bulk(rt, rt.alloc(), &text))
 }
 
 fn are_alike(one: &Result<Bulk, TextFault>, other: &Result<Bulk, TextFault>) -> bool {
@@ -86,9 +87,9 @@ fn a_line_reads_alike_with_each_end(rt: HostRuntime) {
     for number in 0..LINES {
         let head = HEADS[dice.below(3) as usize];
         let line = random_line(rt.alloc(), &mut dice).expect(&rt, "memory");
-        let plain = read(rt.alloc(), head, &line, b"\n").expect(&rt, "memory");
-        let carried = read(rt.alloc(), head, &line, b"\r\n").expect(&rt, "memory");
-        let unended = read(rt.alloc(), head, &line, b"").expect(&rt, "memory");
+        let plain = read(&rt, head, &line, b"\n").expect(&rt, "memory");
+        let carried = read(&rt, head, &line, b"\r\n").expect(&rt, "memory");
+        let unended = read(&rt, head, &line, b"").expect(&rt, "memory");
         assert!(rt;
             are_alike(&plain, &carried) && are_alike(&plain, &unended),
             "line {number}"
