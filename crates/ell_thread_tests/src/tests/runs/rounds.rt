@@ -82,3 +82,12 @@ fn a_short_list_is_run_as_it_stands(rt: HostRuntime) -> Result<(), Fail> {
     assert!(rt; back.as_slice() == replies.as_slice());
     Ok(())
 }
+
+#[test]
+fn a_long_list_without_inserts_is_run_as_it_stands(rt: HostRuntime) -> Result<(), Fail> {
+    let first = [Op::Delete(14), Op::Find(16), Op::Delete(11)];
+    let list = with_finds(&first, 1_000, &rt)?;
+    let order = RunOrder::of(&rt, rt.alloc(), &list)?;
+    assert!(rt; order.ops() == list.as_slice());
+    Ok(())
+}
