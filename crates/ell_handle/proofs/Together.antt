@@ -303,6 +303,10 @@ pub stay_more : (olds hs : List Handle) (i : ℕ) (d new : Handle) → i < lengt
 stay_more olds hs i d new low stay map owned tree =
     zip_set StaysPut olds hs i d new low (stays_more (get_or olds i d) (get_or hs i d) new (AllZip-get_or StaysPut olds hs i d d stay low) map owned tree) stay
 
+-- where the first handle alone has looked, each is as it was
+pub first_looks : (hs : List Handle) (d new : Handle) → 0 < length hs → StaysPut (get_or hs 0 d) new → AllZip StaysPut hs (set hs 0 new)
+first_looks hs d new some stays = stay_more hs hs 0 d new some (zip_same StaysPut stays_put hs) stays.same.map stays.same.owned stays.tree
+
 -- the next handle's pairs are those that it had
 pub lists_next : (olds hs : List Handle) (i : ℕ) (d : Handle) (left right both : List (ℕ × ℕ)) → i < length olds → AllZip StaysPut olds hs
     → ListsPairs (present_in_all (take i olds)) left → ListsPairs (present_in (get_or hs i d).pass) right → ListsPairs (or_there (contents_of left) (contents_of right)) both

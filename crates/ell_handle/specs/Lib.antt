@@ -8,6 +8,8 @@ pub mod Renewal
 pub mod Parts
 -- handles that come to fresh cards together
 pub mod Groups
+-- handles of a tree of shared keys that come to fresh cards together
+pub mod Fresh
 -- what a call that only reads leaves of a handle
 pub mod Reads
 -- when a change is tried, how it ends without an answer, and what it takes

@@ -47,7 +47,7 @@ pub fn renew_all(
 }
 
 // Whether the trees of handles have one number.
-fn have_one_number(handles: &[Handle]) -> bool
+pub(crate) fn have_one_number(handles: &[Handle]) -> bool
     ensures { IsTrue result ↔ AllPairs HaveNumber handles.now }
 {
     for place in 1..handles.len() {
@@ -135,7 +135,7 @@ fn part_of(whole: Handle, alloc: Global, handle: &Handle) -> Result<(Handle, Han
 }
 
 // Puts handles into the places of others.
-fn put_all(handles: &mut [Handle], mut parts: Vec<Handle>)
+pub(crate) fn put_all(handles: &mut [Handle], mut parts: Vec<Handle>)
     requires count { length parts.items ≡ length handles.old }
     ensures { handles.new ≡ parts.items }
 {

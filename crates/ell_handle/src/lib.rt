@@ -3,6 +3,7 @@
 #![tactic(auto)]
 
 mod calls;
+mod fresh;
 mod grouping;
 mod handle;
 mod key_table;
@@ -16,6 +17,7 @@ mod replacing;
 mod using;
 
 pub use ell_tree::{About, Pair, Scanned};
+pub use fresh::renew_all_shared;
 pub use grouping::renew_all;
 pub use handle::{Handle, Place, SharedTree, sent};
 pub use key_table::KeyTable;

@@ -4,6 +4,7 @@ pub mod Codes
 pub mod Told
 pub mod Texts
 pub mod Groups
+pub mod Fresh
 pub mod Slots
 pub mod Values
 pub mod Ranges

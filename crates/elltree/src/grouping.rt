@@ -46,7 +46,7 @@ pub extern "C" fn elltree_slots_renew(
 }
 
 // Takes the handles out of slots, up to the first slot that has none: whether all have one.
-fn take_all(alloc: Global, slots: &mut [Slot], handles: &mut Vec<Handle>) -> bool
+pub(crate) fn take_all(alloc: Global, slots: &mut [Slot], handles: &mut Vec<Handle>) -> bool
     requires none { handles.old.items ≡ [] }
     requires room { length slots.old ≤ vec_capacity handles.old }
     ensures taken { AreTaken slots.old slots.new handles.new.items }
@@ -91,7 +91,7 @@ fn renew(alloc: Global, handles: &mut Vec<Handle>, cards: u64, number: u64) -> i
 }
 
 // Puts handles into the first slots, whose boxes have none.
-fn put_all(alloc: Global, slots: &mut [Slot], mut handles: Vec<Handle>)
+pub(crate) fn put_all(alloc: Global, slots: &mut [Slot], mut handles: Vec<Handle>)
     requires emptied { AreEmptied slots.old handles.items }
     ensures { AreFilled slots.old handles.items slots.new }
 {

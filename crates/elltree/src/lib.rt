@@ -7,6 +7,7 @@
 
 pub mod calls;
 mod codes;
+pub mod fresh;
 pub mod grouping;
 pub mod opening;
 mod parts;

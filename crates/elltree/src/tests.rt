@@ -7,6 +7,7 @@ use crate::codes::{
     BAD_CARDS, BAD_KEY, BAD_START, CLOSED, FOREIGN, NO, NO_TRIES, OPEN, OTHER_TREE, OTHER_VALUE,
     SHARED_KEYS, SPENT, TOO_MANY_HANDLES, YES,
 };
+use crate::fresh::elltree_slots_renew_shared;
 use crate::grouping::elltree_slots_renew;
 use crate::opening::{elltree_slot_free, elltree_slot_join, elltree_slot_open, elltree_slot_split};
 use crate::ranging::{elltree_slot_last_at_most, elltree_slot_next_at_least, elltree_slot_range};
@@ -196,6 +197,42 @@ fn a_slot_tells_how_many_cards_are_left(rt: HostRuntime) {
     assert!(rt; left == 0);
     assert!(rt; elltree_slot_free(alloc, &mut low) == YES);
     assert!(rt; elltree_slot_free(alloc, &mut high) == YES);
+}
+
+#[test]
+fn slots_of_shared_keys_are_renewed_together(rt: HostRuntime) {
+    let alloc: Global = rt.alloc();
+    let (mut one, mut other) = (Slot::empty(alloc), Slot::empty(alloc));
+    let (mut value, mut left) = (0, 0);
+    assert!(rt; elltree_slots_renew_shared(alloc, &mut [Slot::empty(alloc)], 3, 2) == CLOSED);
+    assert!(rt; elltree_slot_open_shared(alloc, &mut one, &START, 3, 1) == YES);
+    assert!(rt; elltree_slot_another(alloc, &mut one, &mut other) == YES);
+    assert!(rt; elltree_slot_insert(alloc, &mut other, 3, 30, 9) == YES);
+    assert!(rt; elltree_slot_insert(alloc, &mut one, KEY_MAX, 7, 9) == YES);
+    assert!(rt; elltree_slot_delete(alloc, &mut one, 2, 9) == YES);
+    assert!(rt; elltree_slot_insert(alloc, &mut one, 4, 40, 9) == SPENT);
+    let mut slots = [one, other];
+    assert!(rt; elltree_slots_renew_shared(alloc, &mut slots, 0, 2) == BAD_CARDS);
+    assert!(rt; elltree_slots_renew_shared(alloc, &mut slots, 2, 2) == YES);
+    let [mut one, mut other] = slots;
+    assert!(rt; elltree_slot_cards_left(alloc, &mut other, &mut left) == YES);
+    assert!(rt; left == 2);
+    assert!(rt; elltree_slot_insert(alloc, &mut one, 4, 40, 9) == YES);
+    assert!(rt; elltree_slot_find(alloc, &mut other, 4, &mut value) == YES);
+    assert!(rt; value == 40);
+    assert!(rt; elltree_slot_find(alloc, &mut other, 3, &mut value) == YES);
+    assert!(rt; value == 30);
+    assert!(rt; elltree_slot_find(alloc, &mut other, KEY_MAX, &mut value) == YES);
+    assert!(rt; value == 7);
+    assert!(rt; elltree_slot_find(alloc, &mut other, 2, &mut value) == NO);
+    assert!(rt; elltree_slot_free(alloc, &mut other) == YES);
+    assert!(rt; elltree_slot_open(alloc, &mut other, &KEYS, &START, 10, 2) == YES);
+    let mut slots = [one, other];
+    assert!(rt; elltree_slots_renew_shared(alloc, &mut slots, 2, 3) == OTHER_TREE);
+    let [mut one, mut other] = slots;
+    assert!(rt; elltree_slot_free(alloc, &mut one) == YES);
+    assert!(rt; elltree_slot_free(alloc, &mut other) == YES);
+    assert!(rt; elltree_slots_renew_shared(alloc, &mut [], 0, 3) == YES);
 }
 
 #[test]

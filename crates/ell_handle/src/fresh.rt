@@ -1,0 +1,142 @@
+//! How handles of one tree of shared keys come to fresh cards together.
+ghost use Rattle.std.specs.Prelude.{◌≡◌, ◌<◌, ◌≤◌, ◌↔◌, ℕ, None, Some, IsTrue, IfErr, IfOk, IfSome, OnErr, OnOk, length, map, slice_get};
+ghost use Rattle.std.specs.List.{AllZip};
+ghost use Rattle.std.specs.Arc.{arc_value};
+ghost use Rattle.ell_tree.specs.Moves.{moves_known};
+ghost use Rattle.ell_handle.specs.Fresh.{AnotherFails, AreOfOneShared, AreOpenedShared, AreRenewedShared, HasFoundAll, HasFoundMany, MayBegin, OpeningRefuses, PairsRefuse, SharedGroupRefuses};
+ghost use Rattle.ell_handle.specs.Groups.{StaysPut};
+ghost use Rattle.ell_handle.specs.Reads.{tree_of};
+
+use crate::grouping::{have_one_number, put_all};
+use crate::handle::Handle;
+use crate::refusal::Refusal;
+use ell_tree::{KEY_MAX, Pair, START_MAX};
+use std::alloc::{AllocError, Global};
+
+// So many pairs are asked for at first: few trees have more, and room for all that a tree may begin with costs some time.
+const FEW: usize = 8_192;
+
+/// Makes the cards of handles of one tree of shared keys fresh: all of them go to one new tree of so many cards, in which every key is shared
+/// too. It begins with what a scan of the old tree finds, which is all that is there, unless a handle of the old tree changes a key meanwhile.
+/// Handles that are not among them stay with the old tree. Trees that are open at once have different numbers. `OtherTree` if the numbers of
+/// their trees differ, or the keys of one's tree are not shared, `BadStart` if the scan finds more keys than `START_MAX`, `BadCards` if the
+/// cards are not 1 to 1,000,000, `TooManyHandles` if they are more than a tree gives shares to, and `NoMemory`: then each handle has its old
+/// tree. Without handles nothing happens.
+pub fn renew_all_shared(
+    handles: &mut [Handle],
+    alloc: Global,
+    cards: u64,
+    number: u64,
+) -> Result<(), Refusal>
+    ensures renewed { OnOk result ((first : Handle) → slice_get handles.old 0 ≡ Some first → AreRenewedShared first cards number handles.new) }
+    ensures count { length handles.new ≡ length handles.old }
+    ensures one { OnOk result (AreOfOneShared handles.old) }
+    ensures why { IfErr result (SharedGroupRefuses handles.old cards) }
+    ensures refused { OnErr result (AllZip StaysPut handles.old handles.new) }
+    ensures some { OnErr result (0 < length handles.old) }
+{
+    if handles.is_empty() {
+        return Ok(());
+    }
+    if !are_of_one(handles) {
+        return Err(Refusal::OtherTree);
+    }
+    let pairs = all_pairs(&mut handles[0], alloc)?;
+    let fresh = opened(alloc, handles.len(), &pairs, cards, number)?;
+    put_all(handles, fresh);
+    Ok(())
+}
+
+// Whether the trees of handles have one number, and all their keys are shared.
+fn are_of_one(handles: &[Handle]) -> bool
+    ensures { IsTrue result ↔ AreOfOneShared handles.now }
+{
+    have_one_number(handles) && handles.iter().all(|handle| handle.has_shared_keys())
+}
+
+// What a scan finds of all keys of a handle's tree.
+fn all_pairs(handle: &mut Handle, alloc: Global) -> Result<Vec<(u64, u64)>, Refusal>
+    ensures found { IfOk result (λ pairs. HasFoundAll (tree_of handle.old) handle.new.pass.view pairs.items) }
+    ensures may { IfOk result (λ pairs. MayBegin pairs.items) }
+    ensures why { IfErr result (PairsRefuse (tree_of handle.old) handle.new.pass.view) }
+    ensures stays { StaysPut handle.old handle.new }
+{
+    if let Some(pairs) = pairs_within(handle, alloc, FEW)? {
+        return Ok(pairs);
+    }
+    let Some(pairs) = pairs_within(handle, alloc, START_MAX + 1)? else {
+        return Err(Refusal::BadStart);
+    };
+    if pairs.len() > START_MAX {
+        return Err(Refusal::BadStart);
+    }
+    Ok(pairs)
+}
+
+// The same, if there is room for as many pairs, and `None` if there may be more.
+fn pairs_within(
+    handle: &mut Handle,
+    alloc: Global,
+    room: usize,
+) -> Result<Option<Vec<(u64, u64)>>, AllocError>
+    ensures found { IfOk result (λ found. IfSome found (λ pairs. HasFoundAll (tree_of handle.old) handle.new.pass.view pairs.items)) }
+    ensures within { IfOk result (λ found. IfSome found (λ pairs. length pairs.items ≤ room)) }
+    ensures more { IfOk result (λ found. found ≡ None → HasFoundMany (tree_of handle.old) handle.new.pass.view room) }
+    ensures stays { StaysPut handle.old handle.new }
+{
+    let mut pairs = vec![in alloc; Pair { key: 0, value: 0 }; room]?;
+    let scanned = handle.scan(0, KEY_MAX + 1, &mut pairs);
+    if scanned.next.is_some() {
+        return Ok(None);
+    }
+    Ok(Some(each(alloc, &pairs[..scanned.count])?))
+}
+
+// Each pair as its key and its value.
+fn each(alloc: Global, pairs: &[Pair]) -> Result<Vec<(u64, u64)>, AllocError>
+    ensures { IfOk result (λ each. each.items ≡ map (λ pair. (pair.key, pair.value)) pairs.now) }
+{
+    pairs
+        .iter()
+        .map(|pair| (pair.key, pair.value))
+        .collect(alloc)
+}
+
+// So many handles, at least one, of a new tree of shared keys with these start keys.
+fn opened(
+    alloc: Global,
+    count: usize,
+    start: &[(u64, u64)],
+    cards: u64,
+    number: u64,
+) -> Result<Vec<Handle>, Refusal>
+    requires some { 0 < count }
+    requires may { MayBegin start.now }
+    ensures opened { IfOk result (λ handles. AreOpenedShared start.now cards number handles.items) }
+    ensures count { IfOk result (λ handles. length handles.items ≡ count) }
+    ensures why { IfErr result (OpeningRefuses cards) }
+{
+    let mut whole = Handle::open_shared(alloc, start, cards, number)?;
+    let mut handles = Vec::with_capacity(alloc, count)?;
+    for _ in 1..count {
+        let (rest, other) = another_of(whole, alloc)?;
+        handles.push(other)?;
+        whole = rest;
+    }
+    handles.push(whole)?;
+    Ok(handles)
+}
+
+// A handle, and another of its tree.
+fn another_of(whole: Handle, alloc: Global) -> Result<(Handle, Handle), Refusal>
+    ensures first { IfOk result (λ both. arc_value both.0.shared ≡ arc_value whole.shared) }
+    ensures second { IfOk result (λ both. arc_value both.1.shared ≡ arc_value whole.shared) }
+    ensures first_moves { IfOk result (λ both. (most : ℕ) → moves_known most both.0.pass.view ≡ moves_known most whole.pass.view) }
+    ensures second_moves { IfOk result (λ both. (most : ℕ) → moves_known most both.1.pass.view ≡ moves_known most whole.pass.view) }
+    ensures why { IfErr result AnotherFails }
+{
+    match whole.another(alloc) {
+        Ok(both) => Ok(both),
+        Err((_, why)) => Err(why),
+    }
+}
