@@ -80,7 +80,7 @@ enum {
     ELLTREE_YES = 1,
     ELLTREE_OTHER_VALUE = 2,  /* of elltree_compare_exchange: the key has another value */
     ELLTREE_BUSY = -1,        /* something was in the way of each try, or changed the value first: call again */
-    ELLTREE_SPENT = -2,       /* all cards are given out: finds and looks go on; elltree_renew_all makes fresh ones for owned keys */
+    ELLTREE_SPENT = -2,       /* all cards are given out: finds and looks go on, and a renewal makes fresh ones */
     ELLTREE_FOREIGN = -3,     /* a key is neither the handle's own nor shared; no key above ELLTREE_KEY_MAX is */
     ELLTREE_NO_TRIES = -4,    /* tries is 0 */
     ELLTREE_BAD_CARDS = -5,   /* cards are not 1 to ELLTREE_CARDS_MAX */
@@ -95,7 +95,7 @@ enum {
     ELLTREE_SAME = -14,       /* the same handle is given twice */
     ELLTREE_IN_CALL = -15,    /* the handle is in another call */
     ELLTREE_TOO_MANY_HANDLES = -16, /* the handle has the least share of a tree of shared keys */
-    ELLTREE_SHARED_KEYS = -17       /* a tree of shared keys is not renewed */
+    ELLTREE_SHARED_KEYS = -17       /* handles of a tree of shared keys are renewed by elltree_renew_all_shared alone */
 };
 
 /* Room for the text of each code, and the 0 behind it. */
@@ -131,6 +131,7 @@ ELLTREE_MUST_USE int32_t elltree_slot_steps(struct elltree_slot *slot, uint64_t 
 ELLTREE_MUST_USE int32_t elltree_slot_cards_left(struct elltree_slot *slot, uint64_t *left);
 ELLTREE_MUST_USE int32_t elltree_slot_renew(struct elltree_slot *slot, uint64_t cards, uint64_t number);
 ELLTREE_MUST_USE int32_t elltree_slots_renew(struct elltree_slot *slots, size_t count, uint64_t cards, uint64_t number);
+ELLTREE_MUST_USE int32_t elltree_slots_renew_shared(struct elltree_slot *slots, size_t count, uint64_t cards, uint64_t number);
 int32_t elltree_slot_free(struct elltree_slot *slot);
 size_t elltree_code_text(int32_t code, char *out, size_t room);
 
@@ -187,8 +188,8 @@ static inline int32_t elltree_leave_all(struct elltree_handle *const *handles, s
 
 /* Opens a tree in which every key up to ELLTREE_KEY_MAX is shared. The start keys, which ascend strictly, are present with their values. Each
    insert or delete that changes the map takes one of the cards, a try that another thread hinders may take one too, and no card is given
-   back; elltree_cards_left tells how many are left, and no call makes fresh ones. A card and a start key take 96 bytes each. An array without
-   items may be null.
+   back; elltree_cards_left tells how many are left, and elltree_renew_all_shared makes fresh ones. A card and a start key take 96 bytes each. An
+   array without items may be null.
    ELLTREE_NULL, ELLTREE_IN_CALL, ELLTREE_OPEN, ELLTREE_BAD_START, ELLTREE_BAD_KEY, ELLTREE_BAD_CARDS, ELLTREE_NO_MEMORY. */
 ELLTREE_MUST_USE static inline int32_t elltree_open_shared(struct elltree_handle *handle, const struct elltree_pair *start,
                                                            size_t start_count, uint64_t cards) {
@@ -437,7 +438,7 @@ ELLTREE_MUST_USE static inline int32_t elltree_cards_left(struct elltree_handle 
 
 /* Makes the cards fresh: the handle goes to a new tree with this number of cards, and takes along the keys that it owns, which are present
    with their values or absent as they were. Other handles of the tree stay behind in the old tree, which does not change any more but by them:
-   elltree_renew_all takes handles along that are to stay together. A tree of shared keys is not renewed.
+   elltree_renew_all takes handles along that are to stay together. A handle of a tree of shared keys is refused.
    ELLTREE_NULL, ELLTREE_IN_CALL, ELLTREE_CLOSED, ELLTREE_SHARED_KEYS, ELLTREE_BAD_START (more than ELLTREE_START_MAX keys are present),
    ELLTREE_BAD_CARDS, ELLTREE_NO_MEMORY: then the handle is where it was. */
 ELLTREE_MUST_USE static inline int32_t elltree_renew(struct elltree_handle *handle, uint64_t cards) {
@@ -453,14 +454,9 @@ ELLTREE_MUST_USE static inline int32_t elltree_renew(struct elltree_handle *hand
 #define ELLTREE_AS_SLOTS(memory) (memory)
 #endif
 
-/* Makes the cards of handles of one tree fresh, also of handles without keys, which only look: all of them go to one new tree with this
-   number of cards, each with the keys that it owns, which are present with their values or absent as they were. Other handles stay behind in the old
-   tree, with their keys: the new one has those of the handles in the array alone. It takes time for each card, for each key that is present,
-   and about 0.7 microseconds for each key that a handle owns, also an absent one. Without handles nothing happens. The first handle in the
-   array that is null, stands there twice, or is in another call is refused. A tree of shared keys is not renewed.
-   ELLTREE_NULL, ELLTREE_SAME, ELLTREE_IN_CALL, ELLTREE_CLOSED, ELLTREE_OTHER_TREE, ELLTREE_SHARED_KEYS, ELLTREE_BAD_START (more than
-   ELLTREE_START_MAX keys are present in all), ELLTREE_BAD_CARDS, ELLTREE_NO_MEMORY: then each handle is where it was. */
-ELLTREE_MUST_USE static inline int32_t elltree_renew_all(struct elltree_handle *const *handles, size_t count, uint64_t cards) {
+/* Has one of the two functions below renew the slots of handles, each of which stands in the array once. */
+ELLTREE_MUST_USE static inline int32_t elltree_renew_by(int32_t (*renew)(struct elltree_slot *, size_t, uint64_t, uint64_t),
+                                                        struct elltree_handle *const *handles, size_t count, uint64_t cards) {
     struct elltree_slot *slots;
     int32_t code;
     size_t i;
@@ -476,11 +472,32 @@ ELLTREE_MUST_USE static inline int32_t elltree_renew_all(struct elltree_handle *
         return elltree_leave_all(handles, count, ELLTREE_NO_MEMORY);
     for (i = 0; i < count; i++)
         slots[i] = handles[i]->slot;
-    code = elltree_slots_renew(slots, count, cards, __atomic_add_fetch(&elltree_trees, 1, __ATOMIC_SEQ_CST));
+    code = renew(slots, count, cards, __atomic_add_fetch(&elltree_trees, 1, __ATOMIC_SEQ_CST));
     for (i = 0; i < count; i++)
         handles[i]->slot = slots[i];
     free(slots);
     return elltree_leave_all(handles, count, code);
+}
+
+/* Makes the cards of handles of one tree fresh, also of handles without keys, which only look: all of them go to one new tree with this
+   number of cards, each with the keys that it owns, which are present with their values or absent as they were. Other handles stay behind in the old
+   tree, with their keys: the new one has those of the handles in the array alone. It takes time for each card, for each key that is present,
+   and about 0.7 microseconds for each key that a handle owns, also an absent one. Without handles nothing happens. The first handle in the
+   array that is null, stands there twice, or is in another call is refused. Handles of a tree of shared keys are refused.
+   ELLTREE_NULL, ELLTREE_SAME, ELLTREE_IN_CALL, ELLTREE_CLOSED, ELLTREE_OTHER_TREE, ELLTREE_SHARED_KEYS, ELLTREE_BAD_START (more than
+   ELLTREE_START_MAX keys are present in all), ELLTREE_BAD_CARDS, ELLTREE_NO_MEMORY: then each handle is where it was. */
+ELLTREE_MUST_USE static inline int32_t elltree_renew_all(struct elltree_handle *const *handles, size_t count, uint64_t cards) {
+    return elltree_renew_by(elltree_slots_renew, handles, count, cards);
+}
+
+/* The same for handles of a tree of shared keys, in whose new tree every key is shared too. It begins with the keys that a range over the old tree
+   tells, with their values. If the array has all handles of the old tree, that is all that is there, since none of them is in another call.
+   Other handles stay behind in the old tree, and a change that one of them makes meanwhile may be in the new tree or not.
+   ELLTREE_NULL, ELLTREE_SAME, ELLTREE_IN_CALL, ELLTREE_CLOSED, ELLTREE_OTHER_TREE (the handles are of two trees, or of one whose keys are not
+   shared), ELLTREE_BAD_START (more than ELLTREE_START_MAX keys are present), ELLTREE_BAD_CARDS, ELLTREE_TOO_MANY_HANDLES (they are more than
+   a tree has shares for), ELLTREE_NO_MEMORY: then each handle is where it was. */
+ELLTREE_MUST_USE static inline int32_t elltree_renew_all_shared(struct elltree_handle *const *handles, size_t count, uint64_t cards) {
+    return elltree_renew_by(elltree_slots_renew_shared, handles, count, cards);
 }
 
 /* Ends a handle, and with the last handle the tree. The keys that it owned stay as they are: they can be looked at, but no handle changes them

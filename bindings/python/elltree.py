@@ -14,8 +14,8 @@
     second.look(3)        # 30: any handle looks at any key
     second.find(3)        # Refused: elltree.FOREIGN, another handle owns the key
 
-With shared keys, all finds, inserts and deletes together answer as if they were made one after the other. Such a tree cannot be renewed yet:
-its cards are for its whole life.
+With shared keys, all finds, inserts and deletes together answer as if they were made one after the other. renew_all_shared gives all handles of
+such a tree fresh cards together.
 
 A handle is in one call at a time: a second call meanwhile is refused. An exception of a signal, as KeyboardInterrupt, that cuts a call off
 leaves the handle free for the next one; whether the call had its effect is not told. It needs Python 3.10. The library is the file in
@@ -68,7 +68,7 @@ class Busy(Refused):
 
 
 class Spent(Refused):
-    """All cards are given out, and the change needs one: renew_all makes fresh ones for owned keys. cards_left tells beforehand."""
+    """All cards are given out, and the change needs one: renew_all and renew_all_shared make fresh ones. cards_left tells beforehand."""
 
     def __init__(self, code=SPENT):
         super().__init__(code)
@@ -116,9 +116,10 @@ def _load():
         "cards_left": [at(_Slot), at(u64)],
         "renew": [at(_Slot), u64, u64],
         "renew_all": [at(_Slot), size, u64, u64],
+        "renew_all_shared": [at(_Slot), size, u64, u64],
         "free": [at(_Slot)],
     }.items():
-        call = calls[name] = getattr(lib, f"elltree_slot_{name}" if name != "renew_all" else "elltree_slots_renew")
+        call = calls[name] = getattr(lib, {"renew_all": "elltree_slots_renew", "renew_all_shared": "elltree_slots_renew_shared"}.get(name, f"elltree_slot_{name}"))
         call.argtypes, call.restype = types, ctypes.c_int32
     lib.elltree_code_text.argtypes, lib.elltree_code_text.restype = [ctypes.c_int32, ctypes.c_char_p, size], size
     return calls, lib.elltree_code_text
@@ -484,6 +485,17 @@ def renew_all(handles, cards=1_000_000):
     with the keys that it owns, which are present or absent as they were. Others stay in the old tree, and the new one has none of their keys. It
     takes about 0.7 microseconds for each key that they own, besides the time for cards and present keys. Handles of a tree of shared keys are
     refused. Where it is refused, each handle is where it was."""
+    _renew_by("renew_all", handles, cards)
+
+
+def renew_all_shared(handles, cards=1_000_000):
+    """Makes the cards of handles of one tree of shared keys fresh: all of them go to one new tree with this number of cards, in which every key is
+    shared too. It begins with the keys that a range over the old tree tells, with their values: if these are all handles of the old tree, that is
+    all that is there. Others stay in the old tree. Where it is refused, each handle is where it was."""
+    _renew_by("renew_all_shared", handles, cards)
+
+
+def _renew_by(name, handles, cards):
     handles, cards = list(handles), _cards(cards)
 
     def call_library():
@@ -491,6 +503,6 @@ def renew_all(handles, cards=1_000_000):
         # From here on each handle has its place in the array, so that nothing has to be copied back from it.
         for handle, slot in zip(handles, slots):
             handle._slot = slot
-        return _library["renew_all"](slots, len(handles), cards, next(_numbers))
+        return _library[name](slots, len(handles), cards, next(_numbers))
 
     _call_on(handles, call_library)

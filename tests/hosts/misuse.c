@@ -429,8 +429,17 @@ static void sharing(void) {
     IS(elltree_split(&one, &owner, keys, 1), ELLTREE_FOREIGN);
     IS(elltree_renew(&one, 9), ELLTREE_SHARED_KEYS);
     IS(elltree_renew_all(both, 2, 9), ELLTREE_SHARED_KEYS);
+    IS(elltree_renew_all_shared(both, 2, 0), ELLTREE_BAD_CARDS);
+    IS(elltree_renew_all_shared(NULL, 2, 9), ELLTREE_NULL);
+    IS(elltree_renew_all_shared(NULL, 0, 0), ELLTREE_YES);
+    IS(elltree_renew_all_shared((struct elltree_handle *[]){&one, &one}, 2, 9), ELLTREE_SAME);
+    IS(elltree_renew_all_shared((struct elltree_handle *[]){&one, &owner}, 2, 9), ELLTREE_CLOSED);
+    IS(elltree_renew_all_shared(both, 2, 9), ELLTREE_YES);
+    IS(elltree_find(&one, ELLTREE_KEY_MAX, &value), ELLTREE_YES);
+    IS(elltree_look(&one, 4, &value), ELLTREE_NO);
     HAS(&one, 0, start, 0);
     IS(elltree_open(&owner, keys, 6, start, 2, 9), ELLTREE_YES);
+    IS(elltree_renew_all_shared((struct elltree_handle *[]){&one, &owner}, 2, 9), ELLTREE_OTHER_TREE);
     IS(elltree_join(&owner, &two), ELLTREE_OTHER_TREE);
     IS(elltree_join(&one, &two), ELLTREE_YES);
     IS(elltree_another(&owner, &two), ELLTREE_YES);

@@ -103,6 +103,9 @@ def refusals():
     faults += refused(elltree.FOREIGN, first.insert, elltree.KEY_MAX + 1, 1) + refused(elltree.FOREIGN, first.split, [1])
     faults += refused(elltree.BAD_START, elltree.open_shared, [(2, 0), (1, 0)]) + refused(elltree.BAD_CARDS, elltree.open_shared, (), 0)
     faults += second.insert(elltree.KEY_MAX, 7) is not True or first.find(elltree.KEY_MAX) != 7
+    faults += refused(elltree.BAD_CARDS, elltree.renew_all_shared, [first, second], 0)
+    elltree.renew_all_shared([first, second], 1)
+    faults += first.cards_left() != 1 or second.find(elltree.KEY_MAX) != 7 or first.insert(8, 80) is not True or second.find(8) != 80
     faults += (first.owned(), first.pairs()) != (0, [])
     owner = elltree.open([1], cards=9)
     other = owner.another()

@@ -2,7 +2,7 @@
 //!
 //! [`Handle::open_shared`] makes a tree in which every key is shared, and [`Handle::another`] makes a further handle of it for each thread. Any
 //! handle finds, inserts and deletes any key and never waits for another, and all finds, inserts and deletes together answer as if they were
-//! made one after the other. Such a tree cannot be renewed yet: its cards are for its whole life.
+//! made one after the other. [`renew_all_shared`] gives all handles of such a tree fresh cards together.
 //!
 //! ```
 //! let mut first = elltree::Handle::open_shared(&[(2, 20)], 1_000)?; // pairs to start with, cards
@@ -131,6 +131,7 @@ unsafe extern "C" {
     fn elltree_slot_cards_left(slot: &mut Slot, left: &mut u64) -> i32;
     fn elltree_slot_renew(slot: &mut Slot, cards: u64, number: u64) -> i32;
     fn elltree_slots_renew(slots: *mut Slot, count: usize, cards: u64, number: u64) -> i32;
+    fn elltree_slots_renew_shared(slots: *mut Slot, count: usize, cards: u64, number: u64) -> i32;
     fn elltree_slot_free(slot: &mut Slot) -> i32;
     fn elltree_code_text(code: i32, out: *mut u8, room: usize) -> usize;
 }
@@ -141,7 +142,7 @@ unsafe extern "C" {
 pub enum Refused {
     /// Something was in the way of each try, or changed the value first.
     Busy,
-    /// All cards of the tree are given out: [`renew_all`] makes fresh ones for owned keys, and [`Handle::cards_left`] tells beforehand.
+    /// All cards of the tree are given out: [`renew_all`] and [`renew_all_shared`] make fresh ones, and [`Handle::cards_left`] tells beforehand.
     Spent,
     /// A key of the call is neither the handle's own nor shared. No key above [`KEY_MAX`] is.
     Foreign,
@@ -159,7 +160,7 @@ pub enum Refused {
     OtherTree,
     /// The handle has the least share of a tree of shared keys, so it makes no other: see [`Handle::another`].
     TooManyHandles,
-    /// A tree of shared keys is not renewed.
+    /// Handles of a tree of shared keys are renewed by [`renew_all_shared`] alone.
     SharedKeys,
     /// Another code of the library.
     Other(i32),
@@ -931,12 +932,42 @@ impl member::HasHandle for Tree {
 /// # Ok::<(), Refused>(())
 /// ```
 pub fn renew_all(members: &mut [&mut dyn Member], cards: u64) -> Result<()> {
-    let take = |member: &mut &mut dyn Member| std::mem::replace(&mut member.handle().0, EMPTY);
-    let mut slots: Vec<Slot> = members.iter_mut().map(take).collect();
+    let mut handles: Vec<&mut Handle> = members.iter_mut().map(|member| member.handle()).collect();
     // SAFETY: the slots are those of the members, the array is as long as said, and no other tree has the number.
-    let code = unsafe { elltree_slots_renew(slots.as_mut_ptr(), slots.len(), cards, next_number()) };
-    for (member, slot) in members.iter_mut().zip(slots) {
-        member.handle().0 = slot;
+    renew_by(&mut handles, |slots| unsafe { elltree_slots_renew(slots.as_mut_ptr(), slots.len(), cards, next_number()) })
+}
+
+/// Makes the cards of handles of one tree of shared keys fresh: all of them go to one new tree with this number of cards, in which every key is
+/// shared too. It begins with the keys that a range over the old tree tells, with their values. If these are all handles of the old tree, that
+/// is all that is there, since nobody else changes it. Other handles stay behind in the old tree, and a change that one of them makes meanwhile
+/// may be in the new tree or not. Without handles nothing happens.
+///
+/// `OtherTree` if the handles are of two trees, or of one whose keys are not shared, `BadStart` if more than [`START_MAX`] keys are present,
+/// `BadCards` if the cards are not 1 to [`CARDS_MAX`], `TooManyHandles` if they are more than a tree has shares for: then each handle is where it
+/// was.
+///
+/// ```
+/// use elltree::{renew_all_shared, Handle, Refused};
+/// let mut one = Handle::open_shared(&[(2, 20)], 1)?;
+/// let mut other = one.another()?;
+/// other.insert(3, 30, 9)?;
+/// assert_eq!(one.insert(4, 40, 9), Err(Refused::Spent));
+/// renew_all_shared(&mut [&mut one, &mut other], 1_000)?;
+/// assert!(one.insert(4, 40, 9)?);
+/// assert_eq!((other.find(2)?, other.find(3)?, other.find(4)?), (Some(20), Some(30), Some(40)));
+/// # Ok::<(), Refused>(())
+/// ```
+pub fn renew_all_shared(handles: &mut [&mut Handle], cards: u64) -> Result<()> {
+    // SAFETY: the slots are those of the handles, the array is as long as said, and no other tree has the number.
+    renew_by(handles, |slots| unsafe { elltree_slots_renew_shared(slots.as_mut_ptr(), slots.len(), cards, next_number()) })
+}
+
+// Has a function renew the slots of handles, and puts them back.
+fn renew_by(handles: &mut [&mut Handle], renew: impl FnOnce(&mut [Slot]) -> i32) -> Result<()> {
+    let mut slots: Vec<Slot> = handles.iter_mut().map(|handle| std::mem::replace(&mut handle.0, EMPTY)).collect();
+    let code = renew(&mut slots);
+    for (handle, slot) in handles.iter_mut().zip(slots) {
+        handle.0 = slot;
     }
     answer(code)?;
     Ok(())
