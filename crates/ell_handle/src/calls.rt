@@ -1,14 +1,15 @@
 //! Finds, looks, inserts and deletes, and how many cards are left.
-ghost use Rattle.std.specs.Prelude.{◌≡◌, ◌<◌, ◌≤◌, IfOk, IfErr, OnOk, OnErr};
+ghost use Rattle.std.specs.Prelude.{◌≡◌, ◌<◌, ◌≤◌, IfOk, IfErr, OnOk, OnErr, is_some};
 ghost use Rattle.ell_ops.specs.declared.op.Op.TheVariants.{Find, Insert, Delete};
 ghost use Rattle.ell_ops.specs.Meaning.{found, greatest_key, yes_if};
-ghost use Rattle.ell_tree.specs.Ends.{Answers};
+ghost use Rattle.ell_tree.specs.Ends.{Answers, TakesValue};
 ghost use Rattle.ell_tree.specs.Ledgers.{Owns, present_in};
 ghost use Rattle.ell_tree.specs.Looks.{IsFoundIn, OnlyLooks, look_steps};
 ghost use Rattle.ell_tree.specs.Promises.{SpendsCards};
 ghost use Rattle.ell_handle.specs.Groups.{StaysPut};
 ghost use Rattle.ell_handle.specs.Reads.{KeepsKeys, MayUse, OnlyAsks, OnlyFinds, OnlyLooksUp, TellsCardsLeft, last_card_of, tree_of};
 ghost use Rattle.ell_handle.specs.Tries.{ChangeRefuses, MayChange, TookTries, TryRefuses};
+ghost use Rattle.ell_handle.specs.Values.{whether_updated};
 ghost use Rattle.ell_handle.specs.declared.refusal.Refusal.TheVariants.{BadKey, Foreign};
 
 use crate::handle::Handle;
@@ -90,6 +91,24 @@ impl Handle {
                 .tree
                 .delete(&mut self.pass, key, tries, &NoGate)?,
         )
+    }
+
+    /// Takes a key of the handle's own, or a shared one, away, and returns the value that it took, if the key was present. Nobody else took that
+    /// value: at one point of the call the key had just this value, and has none after it. Refusals are as of `insert`.
+    #[tactic(auto, using(crate::proofs::Trying::within_same, crate::proofs::Trying::spends_none, crate::proofs::May::may_do))]
+    pub fn take(&mut self, key: u64, tries: u32) -> Result<Option<u64>, Refusal>
+        ensures answers { IfOk result (λ taken.
+            Answers (tree_of self.old) (Delete key) (yes_if (is_some taken)) self.old.pass self.new.pass) }
+        ensures takes { IfOk result (TakesValue (tree_of self.old) key self.old.pass self.new.pass) }
+        ensures may { OnOk result (MayChange key tries self.old) }
+        ensures why { IfErr result (ChangeRefuses (Delete key) tries self.old self.new) }
+        ensures refused { OnErr result (StaysPut self.old self.new) }
+        ensures keeps { KeepsKeys self.old self.new }
+        ensures took { TookTries tries self.old self.new }
+        ensures cards { SpendsCards key tries self.old.pass self.new.pass (whether_updated result) }
+    {
+        self.may_change(key, tries)?;
+        Ok(self.shared.tree.take(&mut self.pass, key, tries, &NoGate)?)
     }
 
     /// How many cards of the tree are not given out yet, 0 if all are: as it was at one step of the call, while other handles went on. No more

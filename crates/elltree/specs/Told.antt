@@ -2,13 +2,13 @@ use Rattle.std.specs.Prelude.{◌≡◌, ◌≢◌, ◌<◌, ◌≤◌, ◌⊎�
 use Rattle.std.specs.Arc.{arc_value}
 use Rattle.ell_ops.specs.declared.op.Op.{Op}
 use Rattle.ell_ops.specs.declared.reply.Reply.TheVariants.{Found, No, Yes}
-use Rattle.ell_ops.specs.declared.op.Op.TheVariants.{Find}
+use Rattle.ell_ops.specs.declared.op.Op.TheVariants.{Delete, Find}
 use Rattle.ell_ops.specs.Contents.{contents_of}
 use Rattle.ell_ops.specs.Meaning.{greatest_key, key_of}
 use Rattle.ell_cards.specs.Changes.{keys_of}
 use Rattle.ell_cards.specs.Models.{IsCardCount}
 use Rattle.ell_tree.specs.CardsTaken.{TakesAtMost, TakesByHindered, TakesNoCard, TakesOneAndByHindered}
-use Rattle.ell_tree.specs.Ends.{Answers}
+use Rattle.ell_tree.specs.Ends.{Answers, TakesValue}
 use Rattle.ell_tree.specs.Ledgers.{Owns, present_in}
 use Rattle.ell_handle.specs.Groups.{HasSame, StaysPut}
 use Rattle.std.specs.List.{All}
@@ -71,6 +71,11 @@ pub record TellsChange (op : Op) (tries : ℕ) (said : ℤ) (old new : Handle) :
   pub keeps : KeepsKeys old new
   pub took : TookTries tries old new
   pub cards : SpendsBy (key_of op) tries said old new
+
+-- what the code of a take and the value that it wrote tell of a handle: what that of a delete tells; and that this value was taken
+pub record TellsTake (key tries : ℕ) (said : ℤ) (taken : ℕ) (old new : Handle) : Type 0 where
+  pub change : TellsChange (Delete key) tries said old new
+  pub takes : said ≡ said_yes → TakesValue (tree_of old) key old.pass new.pass (Some taken)
 
 -- what the code of a renewal tells of a handle, which keeps its keys and its map: that it is the first of a new tree; or why it has its
 -- old tree still, as exactly that the keys of this are shared; want of memory is named only if nothing else is wrong

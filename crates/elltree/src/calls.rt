@@ -5,7 +5,7 @@ ghost use Rattle.ell_handle.specs.declared.refusal.Refusal.TheVariants.{BadKey, 
 ghost use Rattle.elltree.specs.Codes.{IsOneOf, code_of, said_bad_key, said_closed, said_foreign, said_no, said_yes};
 ghost use Rattle.elltree.specs.Maps.{handle_of};
 ghost use Rattle.elltree.specs.Slots.{OfHandlesIfAny};
-ghost use Rattle.elltree.specs.Told.{TellsChange, TellsFind, TellsLook};
+ghost use Rattle.elltree.specs.Told.{TellsChange, TellsFind, TellsLook, TellsTake};
 
 use crate::codes::{CLOSED, NO, YES, code_of_refusal};
 use crate::slot::Slot;
@@ -50,7 +50,7 @@ pub extern "C" fn elltree_slot_look(
     told(answer, value)
 }
 
-// What a find or a look has answered, as a code: a value that was found is written.
+// What a find, a look or a take has answered, as a code: a value that was found is written.
 fn told(answer: Result<Option<u64>, Refusal>, value: &mut u64) -> i32
     ensures yes { result ≡ said_yes → answer ≡ Ok (Some value.new) }
     ensures no { result ≡ said_no → answer ≡ Ok None }
@@ -98,6 +98,31 @@ pub extern "C" fn elltree_slot_delete(alloc: Global, slot: &mut Slot, key: u64, 
         .unwrap_or(CLOSED)
 }
 
+/// Takes a key of the slot's away: whether it was present, and then the value that was taken is written. Nobody else took that value.
+#[unsafe(no_mangle)]
+pub extern "C" fn elltree_slot_take(
+    alloc: Global,
+    slot: &mut Slot,
+    key: u64,
+    tries: u32,
+    taken: &mut u64,
+) -> i32
+    ensures closed { (result ≡ said_closed) ↔ (handle_of slot.old.raw.inside ≡ None) }
+    ensures tells { OfHandlesIfAny (TellsTake key tries result taken.new) (handle_of slot.old.raw.inside)
+        (handle_of slot.new.raw.inside) }
+    ensures kept { result ≢ said_yes → taken.new ≡ taken.old }
+{
+    let Some(mut place) = slot.take(alloc) else {
+        return CLOSED;
+    };
+    let code = match &mut place.handle {
+        Some(handle) => take(handle, key, tries, taken),
+        None => CLOSED,
+    };
+    slot.put(place);
+    code
+}
+
 // An insert as a code.
 fn insert(handle: &mut Handle, key: u64, value: u64, tries: u32) -> i32
     ensures { TellsChange (Insert key value) tries result handle.old handle.new }
@@ -110,6 +135,15 @@ fn delete(handle: &mut Handle, key: u64, tries: u32) -> i32
     ensures { TellsChange (Delete key) tries result handle.old handle.new }
 {
     changed(handle.delete(key, tries))
+}
+
+// A take as a code.
+fn take(handle: &mut Handle, key: u64, tries: u32, taken: &mut u64) -> i32
+    ensures tells { TellsTake key tries result taken.new handle.old handle.new }
+    ensures kept { result ≢ said_yes → taken.new ≡ taken.old }
+    ensures open { result ≢ said_closed }
+{
+    told(handle.take(key, tries), taken)
 }
 
 // What an insert or a delete has answered, as a code.

@@ -2,6 +2,7 @@
 use crate::Pair;
 use crate::calls::{
     elltree_slot_delete, elltree_slot_find, elltree_slot_insert, elltree_slot_look,
+    elltree_slot_take,
 };
 use crate::codes::{
     BAD_CARDS, BAD_KEY, BAD_START, CLOSED, FOREIGN, NO, NO_TRIES, OPEN, OTHER_TREE, OTHER_VALUE,
@@ -266,6 +267,24 @@ fn a_slot_changes_values_in_place(rt: HostRuntime) {
     assert!(rt; elltree_slot_fetch_add(alloc, &mut one, KEY_MAX + 1, 1, 9, &mut value) == FOREIGN);
     assert!(rt; elltree_slot_find(alloc, &mut one, 2, &mut value) == YES);
     assert!(rt; value == 30);
+    assert!(rt; elltree_slot_free(alloc, &mut one) == YES);
+}
+
+#[test]
+fn a_slot_takes_a_value(rt: HostRuntime) {
+    let alloc: Global = rt.alloc();
+    let mut one = Slot::empty(alloc);
+    let mut value = 7;
+    assert!(rt; elltree_slot_take(alloc, &mut one, 2, 9, &mut value) == CLOSED);
+    assert!(rt; elltree_slot_open_shared(alloc, &mut one, &START, 1, 1) == YES);
+    assert!(rt; elltree_slot_take(alloc, &mut one, 3, 9, &mut value) == NO);
+    assert!(rt; elltree_slot_take(alloc, &mut one, 2, 0, &mut value) == NO_TRIES);
+    assert!(rt; elltree_slot_take(alloc, &mut one, KEY_MAX + 1, 9, &mut value) == FOREIGN);
+    assert!(rt; value == 7);
+    assert!(rt; elltree_slot_take(alloc, &mut one, 2, 9, &mut value) == YES);
+    assert!(rt; value == 20);
+    assert!(rt; elltree_slot_take(alloc, &mut one, 2, 9, &mut value) == NO);
+    assert!(rt; elltree_slot_insert(alloc, &mut one, 2, 21, 9) == SPENT);
     assert!(rt; elltree_slot_free(alloc, &mut one) == YES);
 }
 
