@@ -1,5 +1,15 @@
 """A map from 64-bit keys to 64-bit values that threads share without locks, over libelltree.so by ctypes.
 
+    m = elltree.Map({2: 20})   # one map, which any thread uses at any time as a dict of numbers
+    m[3] = 30
+    m.insert(3, 31)      # False: the key is there
+    m.fetch_add(2, 1)    # 20: the value that it had
+    m.pop(3)             # 30
+    list(m.items())      # [(2, 21)]: the pairs of all keys, ascending
+
+A Map renews its cards by itself, and other threads wait meanwhile. What it stands on can also be used by itself, without these pauses, through
+handles, one for each thread:
+
     first = elltree.open_shared({2: 20}, cards=100_000)   # every key is shared
     second = first.another()                              # for another thread
     first.insert(3, 30)   # True
@@ -24,11 +34,13 @@ ELLTREE_LIBRARY, or else lib/libelltree.so of the prefix that this file is insta
 
 import array
 import collections
+import collections.abc
 import ctypes
 import itertools
 import operator
 import os
 import warnings
+import weakref
 
 __version__ = "0.1.0"
 
@@ -36,7 +48,11 @@ NO, YES, OTHER_VALUE, BUSY, SPENT, FOREIGN, NO_TRIES, BAD_CARDS, BAD_KEY = 0, 1,
 BAD_START, NO_ROOM, NO_MEMORY, CLOSED, OPEN, OTHER_TREE, NULL, SAME, IN_CALL = -7, -8, -9, -10, -11, -12, -13, -14, -15
 TOO_MANY_HANDLES, SHARED_KEYS = -16, -17
 
+# Of a Map alone: it has MAP_KEYS_MAX keys, and the call would add one.
+MAP_FULL = -100
+
 KEY_MAX = 2**64 - 3
+MAP_KEYS_MAX = 200_000
 
 # Room for the text of each code, and the 0 behind it.
 _TEXT_ROOM = 64
@@ -86,6 +102,25 @@ class _Pair(ctypes.Structure):
     _fields_ = [("key", ctypes.c_uint64), ("value", ctypes.c_uint64)]
 
 
+class _MapSettings(ctypes.Structure):
+    _fields_ = [
+        ("cards", ctypes.c_uint64),
+        ("pause_percent", ctypes.c_uint32),
+        ("pause_microseconds", ctypes.c_uint32),
+        ("calls", ctypes.c_uint32),
+    ]
+
+
+class _MapCounts(ctypes.Structure):
+    _fields_ = [
+        ("cards", ctypes.c_uint64),
+        ("renewals", ctypes.c_uint64),
+        ("early_renewals", ctypes.c_uint64),
+        ("pause_nanoseconds", ctypes.c_uint64),
+        ("longest_nanoseconds", ctypes.c_uint64),
+    ]
+
+
 def _load():
     here = os.path.dirname(os.path.abspath(__file__))
     near = os.path.join(here, "../../../lib/libelltree.so")
@@ -121,11 +156,39 @@ def _load():
     }.items():
         call = calls[name] = getattr(lib, {"renew_all": "elltree_slots_renew", "renew_all_shared": "elltree_slots_renew_shared"}.get(name, f"elltree_slot_{name}"))
         call.argtypes, call.restype = types, ctypes.c_int32
-    lib.elltree_code_text.argtypes, lib.elltree_code_text.restype = [ctypes.c_int32, ctypes.c_char_p, size], size
-    return calls, lib.elltree_code_text
+    lib.elltree_map_text.argtypes, lib.elltree_map_text.restype = [ctypes.c_int32, ctypes.c_char_p, size], ctypes.c_char_p
+    return calls, _load_map(lib), lib.elltree_map_text
 
 
-_library, _write_text = _load()
+def _load_map(lib):
+    """The functions of a map, by their names without elltree_map_."""
+    u64, size, at, it = ctypes.c_uint64, ctypes.c_size_t, ctypes.POINTER, ctypes.c_void_p
+    calls = {}
+    for name, types in {
+        "from_sorted": [at(it), at(_Pair), size, at(_MapSettings)],
+        "get": [it, u64, at(u64)],
+        "insert": [it, u64, u64],
+        "put": [it, u64, u64, at(u64)],
+        "remove": [it, u64, at(u64)],
+        "delete": [it, u64],
+        "compare_exchange": [it, u64, at(u64), u64],
+        "fetch_add": [it, u64, u64, at(u64)],
+        "range": [it, u64, u64, at(_Pair), size, at(size), at(u64)],
+        "next_at_least": [it, u64, at(u64), at(u64)],
+        "last_at_most": [it, u64, at(u64), at(u64)],
+        "len": [it, at(size)],
+        "pairs": [it, at(_Pair), size, at(size)],
+        "renew": [it],
+        "counts": [it, at(_MapCounts)],
+    }.items():
+        call = calls[name] = getattr(lib, f"elltree_map_{name}")
+        call.argtypes, call.restype = types, ctypes.c_int32
+    calls["free"] = lib.elltree_map_free
+    calls["free"].argtypes, calls["free"].restype = [it], None
+    return calls
+
+
+_library, _map_library, _write_text = _load()
 _numbers = itertools.count(1)
 
 # Takes all items of an iterator, in one call of C.
@@ -506,3 +569,266 @@ def _renew_by(name, handles, cards):
         return _library[name](slots, len(handles), cards, next(_numbers))
 
     _call_on(handles, call_library)
+
+
+class _Items(collections.abc.ItemsView):
+    """The pairs of a map, which are found a few at a time, so that a key that another thread takes away is no error."""
+
+    __slots__ = ()
+
+    def __iter__(self):
+        return self._mapping.range()
+
+
+class _Values(collections.abc.ValuesView):
+    __slots__ = ()
+
+    def __iter__(self):
+        return (value for _, value in self._mapping.range())
+
+
+# The maps of this process, by their ids, so that a forked child forgets them.
+_maps = weakref.WeakValueDictionary()
+
+
+def _forget_maps():
+    """In a forked child: a call on a map of the parent is refused (NULL), where it might wait for ever for a thread that is not here."""
+    for map_ in list(_maps.values()):
+        map_._at = None
+
+
+os.register_at_fork(after_in_child=_forget_maps)
+
+
+class Map(collections.abc.MutableMapping):
+    """A dict of numbers that all threads share: keys are 0 to KEY_MAX, values 0 to 2**64 - 1, and keys ascend in iterations.
+
+    Any thread makes any call at any time. The calls that find or change one key answer as if they were made one after the other. An iteration is no
+    snapshot, as pairs is: each key is told as it was at one moment since it began, and changes meanwhile are no error. The map renews the cards of
+    the tree that it stands on by itself, and all calls wait meanwhile; counts tells how long. docs/GATE.md says how: that part is tested and not
+    proved.
+
+    A map is not copied or pickled, and a forked child can't use it: calls are refused there (NULL)."""
+
+    __slots__ = ("_at", "__weakref__")
+
+    def __init__(self, start=(), cards=0, pause_percent=0, pause_microseconds=0, calls=0):
+        """A map with the pairs of start, a dict or pairs in any order. cards is about how many changes there will be soon; the map tries to pause
+        for at most pause_percent of the time (5), and asks for no more cards than pause_microseconds allow (5,000); so many calls may be under way
+        at once. What is 0 is left to the map."""
+        self._at = None
+        settings = _MapSettings(
+            cards=_cards(cards),
+            pause_percent=_whole(pause_percent, 32, "pause_percent"),
+            pause_microseconds=_whole(pause_microseconds, 32, "pause_microseconds"),
+            calls=_whole(calls, 32, "calls"),
+        )
+        at = ctypes.c_void_p()
+        _answer(_map_library["from_sorted"](at, *_pairs(dict(start)), settings))
+        self._at = at.value
+        _maps[id(self)] = self
+
+    def __reduce_ex__(self, _):
+        raise TypeError("a map is not copied or pickled: dict(map) is a copy of its pairs")
+
+    def __del__(self, free=_map_library["free"]):
+        # Whoever is in a call has the map too, so that no call is under way.
+        at, self._at = getattr(self, "_at", None), None
+        free(at)
+
+    def _call(self, name, *args):
+        """Whether a call of the library on this map says yes."""
+        return _answer(_map_library[name](self._at, *args))
+
+    def _value_told(self, name, *args):
+        """The value that a call of the library tells, or None."""
+        value = ctypes.c_uint64()
+        return value.value if self._call(name, *args, value) else None
+
+    def get(self, key, default=None):
+        """The value of the key, or the default if it is absent."""
+        key = operator.index(key)
+        value = self._value_told("get", key) if 0 <= key <= KEY_MAX else None
+        return default if value is None else value
+
+    def __getitem__(self, key):
+        value = self.get(key)
+        if value is None:
+            raise KeyError(key)
+        return value
+
+    def __contains__(self, key):
+        return self.get(key) is not None
+
+    def __setitem__(self, key, value):
+        self.put(key, value)
+
+    def __delitem__(self, key):
+        if not self.delete(key):
+            raise KeyError(key)
+
+    def __len__(self):
+        """How many keys are present: exactly so if no change is under way, and else as many as the changes so far make."""
+        count = ctypes.c_size_t()
+        self._call("len", count)
+        return count.value
+
+    def __iter__(self):
+        return (key for key, _ in self.range())
+
+    def __reversed__(self):
+        pair = self.last()
+        while pair is not None:
+            yield pair[0]
+            pair = self.last_before(pair[0])
+
+    def __repr__(self):
+        return f"<elltree.Map of {len(self)} keys>"
+
+    def items(self):
+        return _Items(self)
+
+    def values(self):
+        return _Values(self)
+
+    def insert(self, key, value):
+        """Adds a key that is absent, and returns whether it was. A key that is present keeps its value."""
+        return self._call("insert", _key(key), _value(value))
+
+    def put(self, key, value):
+        """Stores the value of a key, present or not, in one atomic step. Returns the value that it had, or None if it was absent."""
+        return self._value_told("put", _key(key), _value(value))
+
+    def delete(self, key):
+        """Takes a key away, and returns whether it was present."""
+        return self._call("delete", _key(key))
+
+    def remove(self, key):
+        """Takes a key away, and returns the value that was taken, or None if the key was absent. Other calls wait for it, as long as the library has
+        no function that tells which value a delete took: delete is faster."""
+        return self._value_told("remove", _key(key))
+
+    def pop(self, key, *default):
+        """Takes a key away, and returns the value that was taken, or the default if the key was absent; without a default it raises KeyError."""
+        if len(default) > 1:
+            raise TypeError(f"pop takes one default, not {len(default)}")
+        value = self.remove(key)
+        if value is not None:
+            return value
+        if not default:
+            raise KeyError(key)
+        return default[0]
+
+    def popitem(self):
+        """Takes the least key away, and returns it with the value that was taken, or raises KeyError if there is none."""
+        while (pair := self.first()) is not None:
+            value = self.remove(pair[0])
+            if value is not None:
+                return pair[0], value
+        raise KeyError("the map is empty")
+
+    def setdefault(self, key, default):
+        """The value of the key, which is added with the default if it is absent."""
+        while not self.insert(key, default):
+            value = self.get(key)
+            if value is not None:
+                return value
+        return default
+
+    def clear(self):
+        """Takes each key away, one after the other."""
+        for key in self:
+            self.delete(key)
+
+    def compare_exchange(self, key, current, new):
+        """Stores new as the value of a key if its value is current, in one atomic step. Returns the value that was found, or None if the key is
+        absent: it was exchanged if and only if that is current."""
+        found = ctypes.c_uint64(_value(current))
+        code = _map_library["compare_exchange"](self._at, _key(key), found, _value(new))
+        return found.value if _answer(code) or code == OTHER_VALUE else None
+
+    def fetch_add(self, key, addend):
+        """Adds to the value of a key in one atomic step. Returns the value that it had, or None if the key is absent, which is left so. A sum past
+        2**64 - 1 wraps around."""
+        return self._value_told("fetch_add", _key(key), _whole(addend, 64, "an addend"))
+
+    def modify(self, key, f):
+        """Stores what f makes of the value of a key, in one atomic step. Returns the value that it had, or None if the key is absent, which is left
+        so. f is called again if another thread has changed the value meanwhile; it may call the map. A handle's update does this, while the
+        update of a map is that of a dict."""
+        value = self._value_told("get", _key(key))
+        while value is not None:
+            there = self.compare_exchange(key, value, f(value))
+            if there == value:
+                break
+            value = there
+        return value
+
+    def range(self, start=0, stop=None):
+        """A generator of the pairs of the keys from start on and below stop, ascending; without stop, to the last key. It asks for some pairs at a
+        time, and each key is told as it was at one moment since it was first asked. A range that ends before it begins has no keys."""
+        return self._range(_key(start), _NO_END if stop is None else _key(stop))
+
+    def _range(self, start, stop):
+        room = _FIRST_FILL
+        count, following = ctypes.c_size_t(), ctypes.c_uint64()
+        while start < stop:
+            out = (_Pair * room)()
+            self._call("range", start, stop, out, room, count, following)
+            yield from [(pair.key, pair.value) for pair in out[: count.value]]
+            start, room = following.value, min(2 * room, _MOST_FILL)
+
+    def _pair(self, name, key):
+        """The pair that a call of the library finds, or None."""
+        found, value = ctypes.c_uint64(), ctypes.c_uint64()
+        return (found.value, value.value) if self._call(name, key, found, value) else None
+
+    def next_at_least(self, key):
+        """The least key from this one on that is present, with its value, or None: it was present at one moment of the call, and each key before
+        it was absent at one."""
+        return self._pair("next_at_least", _key(key))
+
+    def next_after(self, key):
+        """The least key above this one that is present, with its value, or None, as next_at_least finds it."""
+        return self._pair("next_at_least", min(_key(key) + 1, _NO_END))
+
+    def last_at_most(self, key):
+        """The greatest key up to this one that is present, with its value, or None: it was present at one moment of the call, and each key after
+        it was absent at one."""
+        return self._pair("last_at_most", _key(key))
+
+    def last_before(self, key):
+        """The greatest key below this one that is present, with its value, or None, as last_at_most finds it."""
+        key = _key(key)
+        # None is below 0, nor is any from _NO_END on.
+        return self._pair("last_at_most", key - 1) if key else self._pair("next_at_least", _NO_END)
+
+    def first(self):
+        """The least key that is present, with its value, or None, as next_at_least finds it."""
+        return self._pair("next_at_least", 0)
+
+    def last(self):
+        """The greatest key that is present, with its value, or None, as last_at_most finds it."""
+        return self._pair("last_at_most", KEY_MAX)
+
+    def pairs(self):
+        """A list of all pairs, ascending, as they are at one moment: a snapshot. All other calls wait meanwhile."""
+        count = ctypes.c_size_t(len(self))
+        while True:
+            room = max(1, count.value + count.value // 8)  # others may add some before the moment comes
+            out = (_Pair * room)()
+            code = _map_library["pairs"](self._at, out, room, count)
+            if code != NO_ROOM:
+                _answer(code)
+                return [(pair.key, pair.value) for pair in out[: count.value]]
+
+    def renew(self):
+        """Renews the map now, so that a program has the pause at a moment of its choice."""
+        self._call("renew")
+
+    def counts(self):
+        """What has happened to the map so far: a dict with cards, of the present tree; renewals; early_renewals, those of a tree that had grown deep;
+        pause_nanoseconds, the sum of the pauses; and longest_nanoseconds, the longest."""
+        counts = _MapCounts()
+        self._call("counts", counts)
+        return {name: getattr(counts, name) for name, _ in _MapCounts._fields_}

@@ -18,7 +18,7 @@ const ADDITIONS: u64 = 2_000;
 
 /// A call, with what it answered.
 #[derive(Clone, Copy, Debug, PartialEq)]
-enum Call {
+pub enum Call {
     Find(Option<u64>),
     Insert(u64, bool),
     Delete(bool),
@@ -42,12 +42,12 @@ impl Call {
 
 /// A call with its worker, below 64, its key, and its begin and its end. A worker makes one call at a time.
 #[derive(Clone, Copy, Debug)]
-struct Made {
-    worker: u32,
-    key: u64,
-    call: Call,
-    begun: u64,
-    ended: u64,
+pub struct Made {
+    pub worker: u32,
+    pub key: u64,
+    pub call: Call,
+    pub begun: u64,
+    pub ended: u64,
 }
 
 /// What an order of points comes to: which workers have had the points of their calls that go on, by bits, and the value of the key.
@@ -86,7 +86,7 @@ fn with_found_values(calls: &[Made]) -> Vec<Made> {
 }
 
 /// Whether calls on one key are in order, from its value at the start.
-fn are_in_order(start: Option<u64>, calls: &[Made]) -> bool {
+pub fn are_in_order(start: Option<u64>, calls: &[Made]) -> bool {
     let calls = with_found_values(calls);
     let mut moments: Vec<(u64, bool, &Made)> = calls.iter().flat_map(|made| [(made.begun, false, made), (made.ended, true, made)]).collect();
     moments.sort_by_key(|&(time, ends, _)| (time, ends));
@@ -140,7 +140,7 @@ fn try_the_check() {
     }
 }
 
-fn next(seed: &mut u64) -> u64 {
+pub fn next(seed: &mut u64) -> u64 {
     *seed ^= *seed << 13;
     *seed ^= *seed >> 7;
     *seed ^= *seed << 17;
@@ -148,7 +148,7 @@ fn next(seed: &mut u64) -> u64 {
 }
 
 /// The value of each key of a range, by its pairs, which strictly ascend.
-fn of_each(keys: std::ops::Range<u64>, pairs: &[(u64, u64)]) -> Vec<(u64, Option<u64>)> {
+pub fn of_each(keys: std::ops::Range<u64>, pairs: &[(u64, u64)]) -> Vec<(u64, Option<u64>)> {
     assert!(pairs.windows(2).all(|two| two[0].0 < two[1].0) && pairs.iter().all(|pair| keys.contains(&pair.0)), "{pairs:?} in {keys:?}");
     keys.map(|key| (key, pairs.iter().find(|pair| pair.0 == key).map(|pair| pair.1))).collect()
 }

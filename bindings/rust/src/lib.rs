@@ -1,5 +1,23 @@
 //! A map from `u64` to `u64` that threads share without locks, over `libelltree.a`.
 //!
+//! [`Map`] is one object that any thread uses at any time:
+//!
+//! ```
+//! let map = elltree::Map::new()?;
+//! std::thread::scope(|threads| {
+//!     for _ in 0..4 {
+//!         threads.spawn(|| {
+//!             map.insert(7, 0).unwrap(); // one of the four adds the key
+//!             map.fetch_add(7, 1).unwrap(); // and all of them count
+//!         });
+//!     }
+//! });
+//! assert_eq!(map.remove(7)?, Some(4));
+//! assert!(map.is_empty());
+//! # Ok::<(), elltree::MapError>(())
+//! ```
+//!
+//! What it stands on can also be used by itself, through handles, without the pauses in which a map renews its cards.
 //! [`Handle::open_shared`] makes a tree in which every key is shared, and [`Handle::another`] makes a further handle of it for each thread. Any
 //! handle finds, inserts and deletes any key and never waits for another, and all finds, inserts and deletes together answer as if they were
 //! made one after the other. [`renew_all_shared`] gives all handles of such a tree fresh cards together.
@@ -70,6 +88,9 @@
 use std::iter::FusedIterator;
 use std::ops::{Bound, RangeBounds};
 use std::sync::atomic::{AtomicU64, Ordering};
+
+mod map;
+pub use map::{Map, MapCounts, MapError, MapRange, MapResult, MapSettings};
 
 /// The greatest key that a tree may have.
 pub const KEY_MAX: u64 = u64::MAX - 2;

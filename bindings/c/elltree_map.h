@@ -1,0 +1,182 @@
+/* One map of 64-bit keys and values that all threads of a program share: no handles, no cards to count, no tries.
+
+       struct elltree_map *map;
+       uint64_t was;
+       if (elltree_map_new(&map, 0) != ELLTREE_YES)
+           return 1;
+       .. any thread, at any time ..
+       code = elltree_map_put(map, 7, 70, &was);
+       .. at the end, when no thread calls any more ..
+       elltree_map_free(map);
+
+   Any thread may call any function on a map at any time, but for elltree_map_free, which comes last and once. All calls that find or change one
+   key together answer as if they were made one after the other, each at a moment between its begin and its end. No call answers
+   ELLTREE_BUSY or ELLTREE_SPENT: a call tries until it is done, and the map makes fresh cards by itself.
+
+   The map stands on a tree of shared keys (elltree.h). Each change takes one of the tree's cards. When all cards are given out, the thread that
+   notices it makes a new tree with the same pairs and fresh cards. This is a renewal, and it is the one pause that the map has: all calls wait
+   until it is over. It waits itself for the calls that are under way, but never for a thread that is between two calls, awake or not. The map
+   also renews when its tree has grown deep, as it does if keys are inserted in order: the new tree is balanced. docs/GATE.md describes how
+   calls and renewals keep out of each other's way. That part is code of this binding. It is tested and not proved, while the functions of the
+   tree that it calls are proved.
+
+   Each function returns ELLTREE_YES, ELLTREE_NO, elltree_map_compare_exchange also ELLTREE_OTHER_VALUE, or a negative code that says why the call
+   was refused. A call that was refused has changed nothing and has written nothing, unless it says so. These are the refusals of all calls:
+   - ELLTREE_NULL: a pointer is null that must not be.
+   - ELLTREE_BAD_KEY: the key is above ELLTREE_KEY_MAX.
+   - ELLTREE_NO_MEMORY: memory was refused when the map was made, or at a renewal that the call needed. The map is as it was, and the same
+     call may be made again. Calls that only read need no renewal and never give this answer.
+   - ELLTREE_MAP_FULL: the call would add a key to a map that has ELLTREE_MAP_KEYS_MAX keys, the most that a tree can be renewed with, or would have
+     them if the calls that are under way added theirs. All other calls go on, and once a key is taken away, there is room for another.
+
+   What the caller owes, which nothing tests:
+   - elltree_map_free is called once, when no other call is under way or comes later.
+   - A pointer that is not null points to what the call says, and no other thread writes to what a running call reads, or reads what it writes.
+   - No call comes from a signal handler, or from the forked child of a process that has used the map. A thread that is in a call is not ended
+     alone, as by pthread_cancel with asynchronous cancellation: the next renewal would wait for it for ever. */
+#ifndef ELLTREE_MAP_H
+#define ELLTREE_MAP_H
+#include "elltree.h"
+#ifdef __cplusplus
+extern "C" {
+#endif
+
+/* The most keys that a map may have. */
+#define ELLTREE_MAP_KEYS_MAX ELLTREE_START_MAX
+
+/* The code of a refusal that only a map gives: it has ELLTREE_MAP_KEYS_MAX keys. */
+#define ELLTREE_MAP_FULL (-100)
+
+struct elltree_map;
+
+/* How a map is set up. A member that is 0 leaves the choice to the map, so that all zeros are the usual settings. */
+struct elltree_map_settings {
+    uint64_t cards;              /* of the first tree, up to ELLTREE_CARDS_MAX; if 0, 16,384. A card takes 96 bytes */
+    uint32_t pause_percent;      /* the map tries to pause for at most this part of the time; if 0, 5 */
+    uint32_t pause_microseconds; /* and asks for no more cards than a pause of this length allows, besides the time for keys; if 0, 5,000 */
+    uint32_t calls;              /* how many calls may be under way at once, up to 4,096; if 0, 8 for each processor, and at least 64 */
+};
+#define ELLTREE_MAP_SETTINGS {0, 0, 0, 0}
+
+/* What has happened to a map, as elltree_map_counts tells it. */
+struct elltree_map_counters {
+    uint64_t cards;               /* of the present tree */
+    uint64_t renewals;            /* how many there were */
+    uint64_t early_renewals;      /* how many of these there were because the tree had grown deep */
+    uint64_t pause_nanoseconds;   /* the sum of the pauses */
+    uint64_t longest_nanoseconds; /* the longest of them */
+};
+
+/* Makes an empty map and writes it to *map. The hint is the number of cards of its first tree, about as many as there will be changes soon: 0
+   leaves it to the map, and a hint above ELLTREE_CARDS_MAX counts as that. Later trees have as many cards as the map finds useful.
+   ELLTREE_NULL, ELLTREE_NO_MEMORY. */
+ELLTREE_MUST_USE int32_t elltree_map_new(struct elltree_map **map, uint64_t cards_hint);
+
+/* Makes a map with these pairs, whose keys ascend strictly, and writes it to *map. Null settings are those of all zeros, and an array without
+   pairs may be null.
+   ELLTREE_NULL, ELLTREE_BAD_START (the keys do not ascend strictly, or are more than ELLTREE_MAP_KEYS_MAX), ELLTREE_BAD_KEY, ELLTREE_NO_MEMORY. */
+ELLTREE_MUST_USE int32_t elltree_map_from_sorted(struct elltree_map **map, const struct elltree_pair *pairs, size_t count,
+                                                 const struct elltree_map_settings *settings);
+
+/* Ends a map and gives its memory back. No call may be under way, and none may come later. Nothing happens if the map is null. */
+void elltree_map_free(struct elltree_map *map);
+
+/* ELLTREE_YES with the value of the key if it is present, else ELLTREE_NO. ELLTREE_NULL, ELLTREE_BAD_KEY. */
+ELLTREE_MUST_USE int32_t elltree_map_get(struct elltree_map *map, uint64_t key, uint64_t *value);
+
+/* Adds a key that is absent: ELLTREE_YES if it was, else ELLTREE_NO, and the key keeps its value.
+   ELLTREE_NULL, ELLTREE_BAD_KEY, ELLTREE_NO_MEMORY, ELLTREE_MAP_FULL. */
+ELLTREE_MUST_USE int32_t elltree_map_insert(struct elltree_map *map, uint64_t key, uint64_t value);
+
+/* Stores the value of a key, present or not, in one atomic step: ELLTREE_YES, with the value that it had, if it was present, and ELLTREE_NO if it
+   was absent and is added. ELLTREE_NULL, ELLTREE_BAD_KEY, ELLTREE_NO_MEMORY, ELLTREE_MAP_FULL. */
+ELLTREE_MUST_USE int32_t elltree_map_put(struct elltree_map *map, uint64_t key, uint64_t value, uint64_t *was);
+
+/* Takes a key away: ELLTREE_YES, with the value that was taken, if it was present, else ELLTREE_NO. As long as the library has no function that
+   tells which value a delete took, this call closes the gate as a renewal does, so that other calls wait for it. elltree_map_delete does not.
+   ELLTREE_NULL, ELLTREE_BAD_KEY, ELLTREE_NO_MEMORY. */
+ELLTREE_MUST_USE int32_t elltree_map_remove(struct elltree_map *map, uint64_t key, uint64_t *was);
+
+/* Takes a key away without its value: ELLTREE_YES if it was present, else ELLTREE_NO. ELLTREE_NULL, ELLTREE_BAD_KEY, ELLTREE_NO_MEMORY. */
+ELLTREE_MUST_USE int32_t elltree_map_delete(struct elltree_map *map, uint64_t key);
+
+/* Stores the desired value of a key if its value is the expected one, in one atomic step, as atomic_compare_exchange_strong of C11: ELLTREE_YES if
+   it was exchanged; ELLTREE_OTHER_VALUE if the key has another value, which is written to expected; ELLTREE_NO if the key is absent.
+   ELLTREE_NULL, ELLTREE_BAD_KEY, ELLTREE_NO_MEMORY. */
+ELLTREE_MUST_USE int32_t elltree_map_compare_exchange(struct elltree_map *map, uint64_t key, uint64_t *expected, uint64_t desired);
+
+/* Adds to the value of a key in one atomic step: ELLTREE_YES with the value that it had, and ELLTREE_NO if the key is absent, which is left so. A
+   sum past UINT64_MAX wraps around. ELLTREE_NULL, ELLTREE_BAD_KEY, ELLTREE_NO_MEMORY. */
+ELLTREE_MUST_USE int32_t elltree_map_fetch_add(struct elltree_map *map, uint64_t key, uint64_t addend, uint64_t *was);
+
+/* Stores what f makes of the value of a key, in one atomic step: ELLTREE_YES with the value that it had, and ELLTREE_NO if the key is absent, which
+   is left so. f gets the context, and is called again with the new value if another thread has changed it meanwhile. f may take its time and
+   call the map: the thread counts as between two calls while f runs, so that no renewal waits for f.
+   ELLTREE_NULL, ELLTREE_BAD_KEY, ELLTREE_NO_MEMORY. */
+ELLTREE_MUST_USE int32_t elltree_map_update(struct elltree_map *map, uint64_t key, uint64_t (*f)(uint64_t value, void *context), void *context,
+                                            uint64_t *was);
+
+/* The keys from one on and below another that are present, ascending, with their values, as many as the array has room for: ELLTREE_YES with how
+   many they are, and with where to go on, which is upto if the range is told to its end. So a whole range is
+
+       for (next = from; next < upto;)
+           if ((code = elltree_map_range(map, next, upto, out, room, &count, &next)) == ELLTREE_YES)
+               .. the first count pairs of out ..
+
+   with a room of at least 1, and a way out if it is refused. It is no snapshot, but each key is told as it was at a moment of the call: a key
+   that was present all along is among them, one that was absent all along is not, and each pair was there. With upto UINT64_MAX the range has
+   no end. One that ends where it begins, or before, has no keys. Without room the array may be null. ELLTREE_NULL. */
+ELLTREE_MUST_USE int32_t elltree_map_range(struct elltree_map *map, uint64_t from, uint64_t upto, struct elltree_pair *out, size_t room,
+                                           size_t *count, uint64_t *next);
+
+/* The least key from this one on that is present: ELLTREE_YES with it and its value, else ELLTREE_NO. It was present at a moment of the call, and
+   each key before it was absent at one. ELLTREE_NULL. */
+ELLTREE_MUST_USE int32_t elltree_map_next_at_least(struct elltree_map *map, uint64_t key, uint64_t *found, uint64_t *value);
+
+/* The least key above this one that is present, as of elltree_map_next_at_least. */
+ELLTREE_MUST_USE int32_t elltree_map_next_after(struct elltree_map *map, uint64_t key, uint64_t *found, uint64_t *value);
+
+/* The least key that is present, as of elltree_map_next_at_least. */
+ELLTREE_MUST_USE int32_t elltree_map_first(struct elltree_map *map, uint64_t *found, uint64_t *value);
+
+/* The greatest key up to this one that is present: ELLTREE_YES with it and its value, else ELLTREE_NO. It was present at a moment of the call, and
+   each key after it was absent at one. ELLTREE_NULL. */
+ELLTREE_MUST_USE int32_t elltree_map_last_at_most(struct elltree_map *map, uint64_t key, uint64_t *found, uint64_t *value);
+
+/* The greatest key below this one that is present, as of elltree_map_last_at_most. */
+ELLTREE_MUST_USE int32_t elltree_map_last_before(struct elltree_map *map, uint64_t key, uint64_t *found, uint64_t *value);
+
+/* The greatest key that is present, as of elltree_map_last_at_most. */
+ELLTREE_MUST_USE int32_t elltree_map_last(struct elltree_map *map, uint64_t *found, uint64_t *value);
+
+/* How many keys are present. The number is exact if no change is under way. While others write it is a sum of what each has done so far, which the
+   map may never have had at any one moment: each change that ended before the call is counted, and each that began after it is not.
+   ELLTREE_NULL. */
+ELLTREE_MUST_USE int32_t elltree_map_len(struct elltree_map *map, size_t *count);
+
+/* ELLTREE_YES if a search for the least key finds none, else ELLTREE_NO. While others write, ELLTREE_YES means that each key was absent at a
+   moment of the call, and ELLTREE_NO that one was present at a moment of it. ELLTREE_NULL. */
+ELLTREE_MUST_USE int32_t elltree_map_is_empty(struct elltree_map *map);
+
+/* Puts these pairs one after the other, in any order. It is not one atomic step: other threads see some of them first. If it is refused, *done
+   pairs are put, and the one behind them is at fault. An array without pairs may be null.
+   ELLTREE_NULL, ELLTREE_BAD_KEY, ELLTREE_NO_MEMORY, ELLTREE_MAP_FULL. */
+ELLTREE_MUST_USE int32_t elltree_map_extend(struct elltree_map *map, const struct elltree_pair *pairs, size_t count, size_t *done);
+
+/* All pairs, ascending, as they are at one moment, and how many they are: a snapshot. All other calls wait meanwhile, as at a renewal. If there
+   is no room for all, ELLTREE_NO_ROOM comes, with how many they are. Without room the array may be null. ELLTREE_NULL, ELLTREE_NO_ROOM. */
+ELLTREE_MUST_USE int32_t elltree_map_pairs(struct elltree_map *map, struct elltree_pair *out, size_t room, size_t *count);
+
+/* Renews the map now, so that a program has the pause at a moment of its choice. ELLTREE_NULL, ELLTREE_NO_MEMORY. */
+ELLTREE_MUST_USE int32_t elltree_map_renew(struct elltree_map *map);
+
+/* What has happened to the map so far. ELLTREE_NULL. */
+ELLTREE_MUST_USE int32_t elltree_map_counts(struct elltree_map *map, struct elltree_map_counters *counts);
+
+/* As elltree_text, which has no text for ELLTREE_MAP_FULL. */
+const char *elltree_map_text(int32_t code, char *out, size_t room);
+
+#ifdef __cplusplus
+}
+#endif
+#endif

@@ -1,0 +1,472 @@
+/* Threads over one map object, which renews itself every few thousand changes. Each thread has keys of its own, by which it knows each answer, and
+   all add to shared counters, which lose nothing; ranges go on meanwhile, and a thread sleeps between two calls. Four threads at work and then 64;
+   at the end no memory is left over. Then values that are put and taken and are told once each; snapshots of two keys that change one after the
+   other; a map with as many keys as it may have; keys in order, which make no list; and each answer and refusal of one thread. */
+#define _GNU_SOURCE
+#include "elltree_map.h"
+#include <pthread.h>
+#include <stdio.h>
+#include <string.h>
+#include <time.h>
+#include <unistd.h>
+
+#ifndef OPS
+#define OPS 200000
+#endif
+/* The address sanitizer keeps memory that is freed. */
+#ifndef __has_feature
+#define __has_feature(it) 0
+#endif
+#if defined(__SANITIZE_ADDRESS__) || __has_feature(address_sanitizer)
+#define KEEPS_FREED 1
+#else
+#define KEEPS_FREED 0
+#endif
+enum { MOST = 64, KEYS = 32, COUNTERS = 4, CARDS = 3000, STEADY = 40, TOKENS = 8, MANY = 20000, CROWD = 4 };
+
+static struct elltree_map *map;
+static int working; /* how many threads share the map, and part the keys among them */
+
+static uint64_t next(uint64_t *seed) { return *seed ^= *seed << 13, *seed ^= *seed >> 7, *seed ^= *seed << 17; }
+
+/* A map with few cards, which keeps so few: pauses may take all of the time. */
+static long make_map(uint64_t cards, uint32_t calls, const struct elltree_pair *pairs, size_t count) {
+    struct elltree_map_settings settings = ELLTREE_MAP_SETTINGS;
+    settings.cards = cards;
+    settings.pause_percent = 100;
+    settings.calls = calls;
+    return elltree_map_from_sorted(&map, pairs, count, &settings) != ELLTREE_YES;
+}
+
+/* Ends the map, and tells how often it was renewed, which is to be this often at least. */
+static long end_map(const char *what, long wrong, uint64_t renewals) {
+    struct elltree_map_counters counts = {0, 0, 0, 0, 0};
+    wrong += elltree_map_counts(map, &counts) != ELLTREE_YES || counts.renewals < renewals;
+    printf("%s: %llu renewals, %llu early, the longest pause %.2f ms, %ld wrong\n", what, (unsigned long long)counts.renewals,
+           (unsigned long long)counts.early_renewals, (double)counts.longest_nanoseconds / 1e6, wrong);
+    elltree_map_free(map);
+    return wrong;
+}
+
+/* Starts threads on workers that lie so far apart, and waits for their end. */
+static void run_threads(void *(*work)(void *), void *workers, size_t size, int count) {
+    pthread_t running[MOST];
+    for (int t = 0; t < count; t++)
+        pthread_create(&running[t], NULL, work, (char *)workers + (size_t)t * size);
+    for (int t = 0; t < count; t++)
+        pthread_join(running[t], NULL);
+}
+
+/* Keys of their own, counters and ranges. */
+
+struct worker {
+    uint64_t seed, value[KEYS];
+    long added[COUNTERS], keys, wrong;
+    int number, there[KEYS];
+};
+
+/* Behind the counters and the keys that nobody changes, the keys of the threads lie between each other. */
+static uint64_t key_of(const struct worker *w, int place) { return 1000 + (uint64_t)place * MOST + (uint64_t)w->number; }
+
+static void change(struct worker *w, int place, uint64_t value) {
+    uint64_t was = w->value[place], told = was;
+    const uint64_t key = key_of(w, place);
+    int32_t said = ELLTREE_NO;
+    const int there = w->there[place];
+    switch (next(&w->seed) >> 30 & 3) {
+    case 0:
+        said = elltree_map_insert(map, key, value);
+        w->wrong += said != (there ? ELLTREE_NO : ELLTREE_YES);
+        w->value[place] = there ? was : value;
+        w->there[place] = 1;
+        break;
+    case 1:
+        w->wrong += elltree_map_put(map, key, value, &told) != (there ? ELLTREE_YES : ELLTREE_NO) || told != was;
+        w->value[place] = value;
+        w->there[place] = 1;
+        break;
+    case 2:
+        w->wrong += elltree_map_delete(map, key) != (there ? ELLTREE_YES : ELLTREE_NO);
+        w->there[place] = 0;
+        break;
+    default:
+        said = elltree_map_compare_exchange(map, key, &told, value);
+        w->wrong += said != (there ? ELLTREE_YES : ELLTREE_NO) || told != was;
+        w->value[place] = there ? value : was;
+    }
+    w->keys += w->there[place] - there;
+}
+
+static void look(struct worker *w, int place) {
+    uint64_t told = 0, found = 0;
+    const int32_t said = elltree_map_get(map, key_of(w, place), &told);
+    w->wrong += said != (w->there[place] ? ELLTREE_YES : ELLTREE_NO) || (said == ELLTREE_YES && told != w->value[place]);
+    if (w->there[place])
+        w->wrong += elltree_map_next_at_least(map, key_of(w, place), &found, &told) != ELLTREE_YES || found != key_of(w, place) ||
+                    elltree_map_last_at_most(map, key_of(w, place), &found, &told) != ELLTREE_YES || told != w->value[place];
+}
+
+/* A range of all keys tells those that nobody changes and those of this thread as they are, and ascends. */
+static void range(struct worker *w) {
+    static const size_t rooms[] = {1, 7, 64, 5000};
+    static _Thread_local struct elltree_pair out[5000];
+    const size_t room = rooms[next(&w->seed) >> 20 & 3];
+    uint64_t from = COUNTERS, last = 0;
+    long steady = 0, own = 0;
+    while (from < UINT64_MAX) {
+        size_t count = 0;
+        w->wrong += elltree_map_range(map, from, UINT64_MAX, out, room, &count, &from) != ELLTREE_YES || count > room;
+        for (size_t i = 0; i < count; last = out[i++].key) {
+            const uint64_t behind = out[i].key - 1000;
+            w->wrong += out[i].key <= last;
+            steady += out[i].key < 1000 && out[i].value == out[i].key * 3;
+            own += out[i].key >= 1000 && behind % MOST == (uint64_t)w->number && out[i].value == w->value[behind / MOST];
+        }
+    }
+    w->wrong += steady != STEADY || own != w->keys;
+}
+
+static void *work(void *given) {
+    struct worker *w = given;
+    uint64_t was;
+    for (int i = 0; i < OPS / working; i++) {
+        const uint64_t random = next(&w->seed) >> 10;
+        const int place = (int)(random % KEYS);
+        if (random >> 20 & 1)
+            change(w, place, random);
+        else
+            look(w, place);
+        if (i % 4 == 0) {
+            w->wrong += elltree_map_fetch_add(map, random % COUNTERS, 1, &was) != ELLTREE_YES;
+            w->added[random % COUNTERS]++;
+        }
+        if (i % 1024 == 0)
+            range(w);
+    }
+    return NULL;
+}
+
+/* A thread that sleeps between two calls holds up nobody: the others renew meanwhile. */
+static void *sleep_between(void *given) {
+    struct worker *w = given;
+    struct elltree_map_counters before = {0, 0, 0, 0, 0}, after = before;
+    const struct timespec while_ = {1, 0};
+    change(w, 0, 1);
+    w->wrong += elltree_map_counts(map, &before) != ELLTREE_YES;
+    nanosleep(&while_, NULL);
+    w->wrong += elltree_map_counts(map, &after) != ELLTREE_YES || after.renewals == before.renewals;
+    look(w, 0);
+    return NULL;
+}
+
+static void *work_or_sleep(void *given) {
+    const struct worker *w = given;
+    return w->number ? work(given) : sleep_between(given);
+}
+
+static long compare(const struct worker *w, int count) {
+    long wrong = 0, keys = STEADY + COUNTERS;
+    size_t length = 0;
+    for (int t = 0; t < count; t++) {
+        wrong += w[t].wrong;
+        keys += w[t].keys;
+    }
+    wrong += elltree_map_len(map, &length) != ELLTREE_YES || length != (size_t)keys;
+    for (uint64_t c = 0; c < COUNTERS; c++) {
+        uint64_t told = 0, sum = 0;
+        for (int t = 0; t < count; t++)
+            sum += (uint64_t)w[t].added[c];
+        wrong += elltree_map_get(map, c, &told) != ELLTREE_YES || told != sum;
+    }
+    return wrong;
+}
+
+static long share(int count, uint32_t calls) {
+    static struct worker w[MOST];
+    struct elltree_pair start[COUNTERS + STEADY];
+    char name[32];
+    long wrong;
+    for (uint64_t i = 0; i < COUNTERS + STEADY; i++) {
+        start[i].key = i < COUNTERS ? i : i + 100;
+        start[i].value = i < COUNTERS ? 0 : start[i].key * 3;
+    }
+    wrong = make_map(CARDS, calls, start, COUNTERS + STEADY);
+    memset(w, 0, sizeof w);
+    for (int t = 0; t < count; t++) {
+        w[t].number = t;
+        w[t].seed = 88172645463325252u + (uint64_t)t * 7919;
+    }
+    working = count - 1;
+    run_threads(work_or_sleep, w, sizeof *w, count);
+    snprintf(name, sizeof name, "%d threads", count);
+    return end_map(name, wrong + compare(w, count), 10);
+}
+
+/* The pages that the process has in memory. */
+static long pages(void) {
+    long all = 0, resident = 0;
+    FILE *file = fopen("/proc/self/statm", "r");
+    if (!file)
+        return 0;
+    if (fscanf(file, "%ld %ld", &all, &resident) != 2)
+        resident = 0;
+    fclose(file);
+    return resident;
+}
+
+/* Rounds and rounds take no more memory than the first ones. */
+static long memory_is_flat(int rounds) {
+    long wrong = share(4, 0), before = pages(), after;
+    for (int i = 0; i < rounds; i++)
+        wrong += share(4, 0);
+    after = pages();
+    printf("%ld pages at first, %ld after %d rounds\n", before, after, rounds);
+    return wrong + (after > before + before / 4 + 256 && !KEEPS_FREED);
+}
+
+/* Values that are told once each: by the put that replaces it, by the remove that takes it, or by the snapshot at the end. */
+
+struct teller {
+    uint64_t number, put, told, seed;
+    long wrong;
+};
+
+static void *put_and_remove(void *given) {
+    struct teller *t = given;
+    for (uint64_t i = 1; i <= OPS / 40; i++) {
+        const uint64_t token = i << 8 | t->number, key = next(&t->seed) % 3;
+        uint64_t was = 0;
+        int32_t said;
+        if (next(&t->seed) & 1) {
+            said = elltree_map_put(map, key, token, &was);
+            t->put += token;
+        } else {
+            said = elltree_map_remove(map, key, &was);
+        }
+        t->wrong += said < 0;
+        t->told += was;
+    }
+    return NULL;
+}
+
+static long tokens(void) {
+    static struct teller t[TOKENS];
+    struct elltree_pair left[3];
+    size_t count = 0;
+    uint64_t put = 0, told = 0;
+    long wrong = make_map(CARDS, 0, NULL, 0);
+    for (uint64_t i = 0; i < TOKENS; i++)
+        t[i] = (struct teller){i, 0, 0, 9973 + i, 0};
+    run_threads(put_and_remove, t, sizeof *t, TOKENS);
+    wrong += elltree_map_pairs(map, left, 3, &count) != ELLTREE_YES;
+    for (size_t i = 0; i < count; i++)
+        told += left[i].value;
+    for (int i = 0; i < TOKENS; i++) {
+        put += t[i].put;
+        told += t[i].told;
+        wrong += t[i].wrong;
+    }
+    return end_map("values told once", wrong + (put != told), 1);
+}
+
+/* One thread changes two keys, one after the other; the others take snapshots, in which the second is never ahead. */
+
+struct taker {
+    int number;
+    long wrong;
+};
+
+static void *write_or_list(void *given) {
+    struct taker *t = given;
+    uint64_t was = 0;
+    for (uint64_t i = 1; i <= OPS / 20 && !t->number; i++)
+        t->wrong += elltree_map_put(map, 1, i, &was) < 0 || elltree_map_put(map, 2, i, &was) < 0;
+    for (int i = 0; i < OPS / 100 && t->number; i++) {
+        struct elltree_pair out[3];
+        size_t count = 0;
+        t->wrong += elltree_map_pairs(map, out, 3, &count) != ELLTREE_YES || count != 2;
+        t->wrong += out[0].value - out[1].value > 1;
+    }
+    return NULL;
+}
+
+static long snapshots(void) {
+    const struct elltree_pair start[2] = {{1, 0}, {2, 0}};
+    struct taker t[3] = {{0, 0}, {1, 0}, {2, 0}};
+    const long wrong = make_map(CARDS, 0, start, 2);
+    run_threads(write_or_list, t, sizeof *t, 3);
+    return end_map("snapshots", wrong + t[0].wrong + t[1].wrong + t[2].wrong, 1);
+}
+
+/* Threads add keys until the map is full: each key is there or was refused. */
+
+struct adder {
+    uint64_t number;
+    size_t added, refused;
+    long wrong;
+};
+
+static void *add_keys(void *given) {
+    struct adder *a = given;
+    for (uint64_t i = 0; i < 1000; i++) {
+        uint64_t was;
+        const uint64_t key = UINT64_C(10000000) + i * CROWD + a->number;
+        const int32_t said = i & 1 ? elltree_map_insert(map, key, 1) : elltree_map_put(map, key, 1, &was);
+        a->added += said == (i & 1 ? ELLTREE_YES : ELLTREE_NO);
+        a->refused += said == ELLTREE_MAP_FULL;
+        a->wrong += said != ELLTREE_MAP_FULL && said != (i & 1 ? ELLTREE_YES : ELLTREE_NO);
+    }
+    return NULL;
+}
+
+/* What is answered by a full map. */
+static long answers_full(void) {
+    uint64_t was = 0;
+    long wrong = elltree_map_insert(map, 0, 9) != ELLTREE_NO; /* it is there */
+    wrong += elltree_map_insert(map, UINT64_C(90000000), 9) != ELLTREE_MAP_FULL;
+    wrong += elltree_map_put(map, UINT64_C(90000000), 9, &was) != ELLTREE_MAP_FULL;
+    wrong += elltree_map_put(map, 0, 9, &was) != ELLTREE_YES || was != 0;
+    wrong += elltree_map_fetch_add(map, 0, 1, &was) != ELLTREE_YES || was != 9;
+    wrong += elltree_map_renew(map) != ELLTREE_YES;
+    wrong += elltree_map_insert(map, UINT64_C(90000000), 9) != ELLTREE_MAP_FULL;
+    wrong += elltree_map_remove(map, 3, &was) != ELLTREE_YES || was != 1;
+    wrong += elltree_map_insert(map, UINT64_C(90000000), 9) != ELLTREE_YES;
+    wrong += elltree_map_insert(map, UINT64_C(90000001), 9) != ELLTREE_MAP_FULL;
+    wrong += elltree_map_delete(map, UINT64_C(90000000)) != ELLTREE_YES;
+    wrong += elltree_map_put(map, UINT64_C(90000001), 9, &was) != ELLTREE_NO;
+    return wrong;
+}
+
+static long full(void) {
+    static struct elltree_pair start[ELLTREE_MAP_KEYS_MAX - 1500];
+    const size_t count = sizeof start / sizeof *start;
+    struct adder a[CROWD] = {{0, 0, 0, 0}, {1, 0, 0, 0}, {2, 0, 0, 0}, {3, 0, 0, 0}};
+    size_t length = 0, added = 0, refused = 0;
+    long wrong;
+    for (size_t i = 0; i < count; i++)
+        start[i] = (struct elltree_pair){3 * i, i};
+    wrong = make_map(CARDS, 0, start, count);
+    run_threads(add_keys, a, sizeof *a, CROWD);
+    for (int t = 0; t < CROWD; t++) {
+        added += a[t].added;
+        refused += a[t].refused;
+        wrong += a[t].wrong;
+    }
+    /* Several inserts at once may be refused for one key's room, which one of them has and gives back; none does here. */
+    wrong += added != 1500 || refused != 2500;
+    wrong += elltree_map_len(map, &length) != ELLTREE_YES || length != ELLTREE_MAP_KEYS_MAX;
+    return end_map("full", wrong + answers_full(), 1);
+}
+
+/* Keys in order make the tree deep, so that it is renewed before its cards are used; keys in random order don't, but for a time or two by chance. */
+
+static uint64_t ascending(uint64_t i) { return 5 * i; }
+static uint64_t descending(uint64_t i) { return 5 * (MANY - i); }
+static uint64_t shuffled(uint64_t i) {
+    i = (i + 1) * UINT64_C(0x9e3779b97f4a7c15);
+    i = (i ^ i >> 30) * UINT64_C(0xbf58476d1ce4e5b9);
+    return (i ^ i >> 27) >> 1;
+}
+
+static long add_many(const char *what, uint64_t (*key)(uint64_t i), uint64_t least, uint64_t most) {
+    struct elltree_map_counters counts = {0, 0, 0, 0, 0};
+    size_t length = 0;
+    uint64_t value = 0;
+    long wrong = elltree_map_new(&map, ELLTREE_CARDS_MAX) != ELLTREE_YES;
+    for (uint64_t i = 0; i < MANY; i++)
+        wrong += elltree_map_insert(map, key(i), i) != ELLTREE_YES;
+    for (uint64_t i = 0; i < MANY; i++)
+        wrong += elltree_map_get(map, key(i), &value) != ELLTREE_YES || value != i;
+    wrong += elltree_map_len(map, &length) != ELLTREE_YES || length != MANY;
+    wrong += elltree_map_counts(map, &counts) != ELLTREE_YES || counts.early_renewals < least || counts.early_renewals > most;
+    return end_map(what, wrong, 0);
+}
+
+static long add_in_orders(void) {
+    return add_many("ascending", ascending, 2, MANY) + add_many("descending", descending, 2, MANY) + add_many("shuffled", shuffled, 0, 3);
+}
+
+/* One thread. */
+
+/* A function for elltree_map_update, which calls the map itself. */
+static uint64_t one_more(uint64_t value, void *calls) {
+    uint64_t was;
+    if (elltree_map_put(map, 100, value, &was) >= 0)
+        ++*(long *)calls;
+    return value + 1;
+}
+
+static long answers(void) {
+    uint64_t value = 19, found = 0;
+    long calls = 0, wrong = make_map(0, 0, NULL, 0);
+    wrong += elltree_map_is_empty(map) != ELLTREE_YES || elltree_map_first(map, &found, &value) != ELLTREE_NO;
+    wrong += elltree_map_insert(map, 2, 20) != ELLTREE_YES || elltree_map_insert(map, 2, 21) != ELLTREE_NO;
+    wrong += elltree_map_is_empty(map) != ELLTREE_NO;
+    wrong += elltree_map_compare_exchange(map, 2, &value, 21) != ELLTREE_OTHER_VALUE || value != 20;
+    wrong += elltree_map_compare_exchange(map, 2, &value, 21) != ELLTREE_YES || value != 20;
+    wrong += elltree_map_compare_exchange(map, 3, &value, 31) != ELLTREE_NO || value != 20;
+    wrong += elltree_map_put(map, 2, 22, &value) != ELLTREE_YES || value != 21;
+    wrong += elltree_map_put(map, 3, 30, &value) != ELLTREE_NO || value != 21;
+    wrong += elltree_map_fetch_add(map, 3, UINT64_MAX, &value) != ELLTREE_YES || value != 30;
+    wrong += elltree_map_fetch_add(map, 4, 1, &value) != ELLTREE_NO || value != 30;
+    wrong += elltree_map_update(map, 3, one_more, &calls, &value) != ELLTREE_YES || value != 29 || calls != 1;
+    wrong += elltree_map_update(map, 4, one_more, &calls, &value) != ELLTREE_NO || value != 29 || calls != 1;
+    wrong += elltree_map_next_after(map, 3, &found, &value) != ELLTREE_YES || found != 100 || value != 29;
+    wrong += elltree_map_last_before(map, 3, &found, &value) != ELLTREE_YES || found != 2 || value != 22;
+    wrong += elltree_map_last_before(map, 0, &found, &value) != ELLTREE_NO || elltree_map_next_after(map, UINT64_MAX, &found, &value) != ELLTREE_NO;
+    wrong += elltree_map_last(map, &found, &value) != ELLTREE_YES || found != 100;
+    wrong += elltree_map_remove(map, 3, &value) != ELLTREE_YES || value != 30 || elltree_map_remove(map, 3, &value) != ELLTREE_NO;
+    wrong += elltree_map_delete(map, 100) != ELLTREE_YES || elltree_map_delete(map, 100) != ELLTREE_NO;
+    wrong += elltree_map_get(map, 2, &value) != ELLTREE_YES || value != 22 || elltree_map_get(map, 3, &value) != ELLTREE_NO;
+    return end_map("answers", wrong, 0);
+}
+
+static long lists(void) {
+    struct elltree_pair pairs[4] = {{4, 40}, {2, 20}, {ELLTREE_KEY_MAX, 60}, {2, 21}}, out[4];
+    size_t count = 9, done = 0;
+    uint64_t following = 0;
+    long wrong = make_map(0, 0, NULL, 0);
+    wrong += elltree_map_pairs(map, NULL, 0, &count) != ELLTREE_YES || count != 0;
+    wrong += elltree_map_extend(map, pairs, 4, &done) != ELLTREE_YES || done != 4;
+    wrong += elltree_map_pairs(map, out, 2, &count) != ELLTREE_NO_ROOM || count != 3;
+    wrong += elltree_map_renew(map) != ELLTREE_YES;
+    wrong += elltree_map_pairs(map, out, 3, &count) != ELLTREE_YES || count != 3 || out[0].value != 21 || out[2].key != ELLTREE_KEY_MAX;
+    wrong += elltree_map_range(map, 0, 4, out, 4, &count, &following) != ELLTREE_YES || count != 1 || following != 4;
+    wrong += elltree_map_range(map, 0, UINT64_MAX, out, 2, &count, &following) != ELLTREE_YES || count != 2 || following <= 4;
+    wrong += elltree_map_range(map, following, UINT64_MAX, out, 2, &count, &following) != ELLTREE_YES || count != 1 || following != UINT64_MAX;
+    wrong += elltree_map_range(map, 7, 3, NULL, 0, &count, &following) != ELLTREE_YES || count != 0 || following != 3;
+    wrong += elltree_map_range(map, 1, 3, NULL, 0, &count, &following) != ELLTREE_YES || count != 0 || following != 1;
+    pairs[1].key = ELLTREE_KEY_MAX + 1;
+    wrong += elltree_map_extend(map, pairs, 4, &done) != ELLTREE_BAD_KEY || done != 1;
+    return end_map("lists", wrong, 1);
+}
+
+static long refusals(void) {
+    const struct elltree_pair twice[2] = {{1, 1}, {1, 2}}, above = {ELLTREE_KEY_MAX + 1, 0};
+    struct elltree_map *none = NULL;
+    char text[ELLTREE_TEXT_ROOM];
+    uint64_t value = 7;
+    size_t count;
+    long wrong = elltree_map_from_sorted(&none, twice, 2, NULL) != ELLTREE_BAD_START || none;
+    wrong += elltree_map_from_sorted(&none, &above, 1, NULL) != ELLTREE_BAD_KEY || elltree_map_from_sorted(&none, NULL, 1, NULL) != ELLTREE_NULL;
+    wrong += elltree_map_new(NULL, 0) != ELLTREE_NULL || elltree_map_get(NULL, 1, &value) != ELLTREE_NULL;
+    wrong += make_map(0, 0, NULL, 0);
+    wrong += elltree_map_get(map, 1, NULL) != ELLTREE_NULL || elltree_map_put(map, 1, 1, NULL) != ELLTREE_NULL;
+    wrong += elltree_map_remove(map, 1, NULL) != ELLTREE_NULL || elltree_map_update(map, 1, NULL, NULL, &value) != ELLTREE_NULL;
+    wrong += elltree_map_get(map, above.key, &value) != ELLTREE_BAD_KEY || elltree_map_insert(map, above.key, 1) != ELLTREE_BAD_KEY;
+    wrong += elltree_map_delete(map, above.key) != ELLTREE_BAD_KEY || elltree_map_put(map, above.key, 1, &value) != ELLTREE_BAD_KEY;
+    wrong += elltree_map_len(map, NULL) != ELLTREE_NULL || elltree_map_pairs(map, NULL, 1, &count) != ELLTREE_NULL;
+    wrong += !strstr(elltree_map_text(ELLTREE_MAP_FULL, text, sizeof text), "as many keys") || value != 7;
+    elltree_map_free(NULL);
+    return end_map("refusals", wrong, 0);
+}
+
+int main(void) {
+    long wrong = answers() + lists() + refusals();
+    wrong += memory_is_flat(4);
+    wrong += share(MOST, 0);
+    wrong += share(MOST, 2); /* more threads than places */
+    wrong += tokens() + snapshots() + full() + add_in_orders();
+    printf("%ld wrong\n", wrong);
+    return wrong != 0;
+}

@@ -1,0 +1,113 @@
+/* Threads of C++ over one elltree::map, which renews itself every few thousand changes, and each member of the class. */
+#include "elltree_map.hpp"
+#include <cstdio>
+#include <map>
+#include <thread>
+
+#ifndef OPS
+#define OPS 40000
+#endif
+
+static long wrong;
+
+static void expect(bool is_so, const char *what) {
+    if (!is_so)
+        std::printf("not so: %s\n", what);
+    wrong += !is_so;
+}
+#define EXPECT(it) expect(it, #it)
+
+static elltree::map few_cards() {
+    elltree_map_settings settings = ELLTREE_MAP_SETTINGS;
+    settings.cards = 2000;
+    settings.pause_percent = 100;
+    return elltree::map({{0, 0}, {1, 0}}, settings);
+}
+
+/* Stands for no value. */
+static const uint64_t NONE = UINT64_MAX;
+
+/* Keys of its own beside a std::map, and two shared counters. */
+static long work(elltree::map &map, uint64_t number, uint64_t threads) {
+    std::map<uint64_t, uint64_t> own;
+    uint64_t seed = 88172645463325252u + number * 7919;
+    long differ = 0;
+    for (uint64_t i = 0; i < OPS / threads; i++) {
+        seed ^= seed << 13, seed ^= seed >> 7, seed ^= seed << 17;
+        const uint64_t key = 100 + (seed >> 20) % 50 * threads + number;
+        const auto at = own.find(key);
+        const uint64_t there = at == own.end() ? NONE : at->second;
+        switch (seed >> 40 & 3) {
+        case 0:
+            differ += map.put(key, i).value_or(NONE) != there;
+            own[key] = i;
+            break;
+        case 1:
+            differ += map.insert(key, i) != (there == NONE);
+            own.emplace(key, i);
+            break;
+        case 2:
+            differ += map.erase(key) == (there == NONE);
+            own.erase(key);
+            break;
+        default:
+            differ += map.get(key).value_or(NONE) != there;
+        }
+        map.fetch_add(0, 1);
+        map.update(1, [](uint64_t value) { return value + 2; });
+    }
+    for (const auto &pair : own)
+        differ += map.remove(pair.first) != pair.second;
+    return differ;
+}
+
+static void share(uint64_t count) {
+    elltree::map map = few_cards();
+    std::vector<std::thread> threads;
+    std::vector<long> differ(count * 16);
+    for (uint64_t number = 0; number < count; number++)
+        threads.emplace_back([&, number] { differ[number * 16] = work(map, number, count); });
+    for (auto &thread : threads)
+        thread.join();
+    for (const long it : differ)
+        wrong += it;
+    EXPECT(map.get(0) == OPS / count * count && map.get(1) == 2 * (OPS / count * count));
+    EXPECT(map.size() == 2 && map.pairs().size() == 2 && map.counts().renewals > 5);
+    std::printf("%llu threads, %llu renewals\n", static_cast<unsigned long long>(count), static_cast<unsigned long long>(map.counts().renewals));
+}
+
+template <class F> static int32_t code_of(F f) {
+    try {
+        f();
+    } catch (const elltree::refused &why) {
+        return why.code();
+    }
+    return ELLTREE_YES;
+}
+
+static void members() {
+    elltree::map map, other;
+    uint64_t value = 1, sum = 0;
+    EXPECT(map.empty() && !map.first() && map.insert(2, 20) && !map.insert(2, 21) && map.contains(2));
+    EXPECT(map.compare_exchange(2, value, 22) == elltree::exchanged::other_value && value == 20);
+    EXPECT(map.compare_exchange(2, value, 22) == elltree::exchanged::yes && map.compare_exchange(3, value, 1) == elltree::exchanged::absent);
+    EXPECT(map.put(4, 40) == std::nullopt && map.put(4, 41) == 41 - 1 && map.fetch_add(5, 1) == std::nullopt);
+    EXPECT(map.update(4, [&](uint64_t was) { return was + *map.get(2); }) == 41u && map.get(4) == 63u && !map.update(5, [](uint64_t was) { return was; }));
+    EXPECT(map.first()->key == 2 && map.last()->value == 63 && map.next_after(2)->key == 4 && map.last_before(4)->key == 2 && !map.next_at_least(5));
+    map.for_each(0, UINT64_MAX, [&](uint64_t key, uint64_t of_key) { sum += key * of_key; });
+    EXPECT(sum == 2 * 22 + 4 * 63);
+    other = std::move(map);
+    EXPECT(other.size() == 2 && other.remove(2) == 22u && !other.remove(2) && other.erase(4) && other.empty());
+    EXPECT(code_of([&] { other.put(ELLTREE_KEY_MAX + 1, 0); }) == ELLTREE_BAD_KEY);
+    EXPECT(code_of([] { elltree::map wrong_order({{2, 0}, {1, 0}}); }) == ELLTREE_BAD_START);
+    other.renew();
+    EXPECT(std::string(elltree::refused(ELLTREE_MAP_FULL).what()).find("as many keys") != std::string::npos);
+}
+
+int main() {
+    members();
+    share(4);
+    share(32);
+    std::printf("%ld wrong\n", wrong);
+    return wrong != 0;
+}
