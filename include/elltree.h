@@ -120,6 +120,7 @@ ELLTREE_MUST_USE int32_t elltree_slot_next_at_least(struct elltree_slot *slot, u
 ELLTREE_MUST_USE int32_t elltree_slot_last_at_most(struct elltree_slot *slot, uint64_t key, uint64_t *found, uint64_t *value);
 ELLTREE_MUST_USE int32_t elltree_slot_insert(struct elltree_slot *slot, uint64_t key, uint64_t value, uint32_t tries);
 ELLTREE_MUST_USE int32_t elltree_slot_delete(struct elltree_slot *slot, uint64_t key, uint32_t tries);
+ELLTREE_MUST_USE int32_t elltree_slot_take(struct elltree_slot *slot, uint64_t key, uint32_t tries, uint64_t *taken);
 ELLTREE_MUST_USE int32_t elltree_slot_compare_exchange(struct elltree_slot *slot, uint64_t key, uint64_t current, uint64_t desired,
                                                        uint32_t tries, uint64_t *found);
 ELLTREE_MUST_USE int32_t elltree_slot_put(struct elltree_slot *slot, uint64_t key, uint64_t value, uint32_t tries, uint64_t *was);
@@ -345,6 +346,13 @@ ELLTREE_MUST_USE static inline int32_t elltree_insert(struct elltree_handle *han
 ELLTREE_MUST_USE static inline int32_t elltree_delete(struct elltree_handle *handle, uint64_t key, uint32_t tries) {
     int32_t code = elltree_enter(handle);
     return code == ELLTREE_YES ? elltree_leave(handle, elltree_slot_delete(&handle->slot, key, tries)) : code;
+}
+
+/* Takes a key away as elltree_delete does, and writes the value that it took. Of all threads only this one took that value: the key had it at one
+   moment of the call, and was absent after it. */
+ELLTREE_MUST_USE static inline int32_t elltree_take(struct elltree_handle *handle, uint64_t key, uint32_t tries, uint64_t *taken) {
+    int32_t code = taken ? elltree_enter(handle) : ELLTREE_NULL;
+    return code == ELLTREE_YES ? elltree_leave(handle, elltree_slot_take(&handle->slot, key, tries, taken)) : code;
 }
 
 /* Stores the desired value of a shared key, or of one of the handle's own, if its value is the expected one, in one atomic step, as

@@ -52,7 +52,7 @@ struct elltree_map {
     _Alignas(LINE) _Atomic uint64_t excess; /* steps beyond these since the last renewal */
     _Atomic int64_t room;         /* in a crowded map, how many keys may be added */
     _Alignas(LINE) struct elltree_map_settings settings;
-    struct elltree_slot *fresh;   /* for the slots of the next tree */
+    struct elltree_slot *fresh;   /* the slots of all places, while they are renewed */
     uint64_t opened_at;           /* when the gate was opened last */
     uint64_t pause;               /* how long it was closed for the last renewal */
     uint64_t effort;              /* and how long a processor was at work on that, in nanoseconds */
@@ -262,27 +262,15 @@ static int32_t open_slots(struct elltree_map *map, struct elltree_slot *slots, c
     return code;
 }
 
-/* Writes all pairs. There has to be room for one more, so that the range is told to its end. */
-static int32_t list_pairs(struct elltree_map *map, struct elltree_pair *pairs, size_t room, size_t *count) {
-    uint64_t next = 0;
-    const int32_t code = elltree_slot_range(&map->places[0].slot, 0, UINT64_MAX, pairs, room, count, &next);
-    return code == ELLTREE_YES && next != UINT64_MAX ? ELLTREE_NO_ROOM : code;
-}
-
-/* Step 3 of a renewal: all slots go to a new tree with the same pairs and so many cards. If it is refused, all is as it was. This function is all that
-   knows how that is done: a function of the library may take its place. */
+/* Step 3 of a renewal: all slots go to a new tree with the same pairs and so many cards. If it is refused, all is as it was. */
 static int32_t renew_all_slots(struct elltree_map *map, uint64_t cards) {
-    size_t count = 0;
-    const size_t room = (size_t)count_keys(map) + 1;
-    struct elltree_pair *pairs = malloc(room * sizeof *pairs);
-    int32_t code = pairs ? list_pairs(map, pairs, room, &count) : ELLTREE_NO_MEMORY;
-    if (code == ELLTREE_YES)
-        code = open_slots(map, map->fresh, pairs, count, cards);
-    free(pairs);
-    for (uint32_t i = 0; i <= map->mask && code == ELLTREE_YES; i++) {
-        elltree_slot_free(&map->places[i].slot);
+    const uint64_t number = __atomic_add_fetch(&elltree_trees, 1, __ATOMIC_SEQ_CST);
+    int32_t code;
+    for (uint32_t i = 0; i <= map->mask; i++)
+        map->fresh[i] = map->places[i].slot;
+    code = elltree_slots_renew_shared(map->fresh, map->mask + (size_t)1, cards, number);
+    for (uint32_t i = 0; i <= map->mask; i++)
         map->places[i].slot = map->fresh[i];
-    }
     return code;
 }
 
@@ -461,32 +449,12 @@ static int32_t fetch_add_at(struct elltree_map *map, struct place *place, struct
     return elltree_slot_fetch_add(&place->slot, request->key, request->value, TRIES, &request->other);
 }
 
-#ifdef ELLTREE_HAS_TAKE
 static int32_t take_at(struct elltree_map *map, struct place *place, struct request *request) {
     const int32_t code = elltree_slot_take(&place->slot, request->key, TRIES, &request->other);
     if (code == ELLTREE_YES)
         count_taken(map, place);
     return code;
 }
-
-static int32_t take_key(struct elltree_map *map, struct request *request) { return call(map, take_at, request); }
-#else
-/* The library has no call that tells which value a delete took. So no other call is at work between a find and the delete. */
-static int32_t take_key(struct elltree_map *map, struct request *request) {
-    struct place *place = &map->places[0];
-    int32_t code;
-    stop_calls(map);
-    do {
-        code = elltree_slot_find(&place->slot, request->key, &request->other);
-        if (code == ELLTREE_YES)
-            code = delete_at(map, place, request);
-        if (code == ELLTREE_SPENT)
-            code = renew_closed(map, now(), false) == ELLTREE_YES ? ELLTREE_BUSY : ELLTREE_NO_MEMORY;
-    } while (code == ELLTREE_BUSY);
-    open_gate(map);
-    return code;
-}
-#endif
 
 int32_t elltree_map_get(struct elltree_map *map, uint64_t key, uint64_t *value) {
     struct request request = {key, 0, 0};
@@ -513,7 +481,7 @@ int32_t elltree_map_put(struct elltree_map *map, uint64_t key, uint64_t value, u
 int32_t elltree_map_remove(struct elltree_map *map, uint64_t key, uint64_t *was) {
     struct request request = {key, 0, 0};
     int32_t code = check(map, was, key);
-    if (code == ELLTREE_YES && (code = take_key(map, &request)) == ELLTREE_YES)
+    if (code == ELLTREE_YES && (code = call(map, take_at, &request)) == ELLTREE_YES)
         *was = request.other;
     return code;
 }

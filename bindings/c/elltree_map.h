@@ -92,8 +92,7 @@ ELLTREE_MUST_USE int32_t elltree_map_insert(struct elltree_map *map, uint64_t ke
    was absent and is added. ELLTREE_NULL, ELLTREE_BAD_KEY, ELLTREE_NO_MEMORY, ELLTREE_MAP_FULL. */
 ELLTREE_MUST_USE int32_t elltree_map_put(struct elltree_map *map, uint64_t key, uint64_t value, uint64_t *was);
 
-/* Takes a key away: ELLTREE_YES, with the value that was taken, if it was present, else ELLTREE_NO. As long as the library has no function that
-   tells which value a delete took, this call closes the gate as a renewal does, so that other calls wait for it. elltree_map_delete does not.
+/* Takes a key away: ELLTREE_YES, with the value that was taken, if it was present, else ELLTREE_NO. No other thread took that value.
    ELLTREE_NULL, ELLTREE_BAD_KEY, ELLTREE_NO_MEMORY. */
 ELLTREE_MUST_USE int32_t elltree_map_remove(struct elltree_map *map, uint64_t key, uint64_t *was);
 

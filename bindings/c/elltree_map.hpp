@@ -72,7 +72,7 @@ public:
         return told(elltree_map_put(map_, key, value, &was), was);
     }
 
-    /* Takes a key away: the value that was taken. erase is faster, and says whether the key was present. */
+    /* Takes a key away: the value that was taken. erase says whether the key was present. */
     std::optional<uint64_t> remove(uint64_t key) {
         uint64_t was = 0;
         return told(elltree_map_remove(map_, key, &was), was);

@@ -141,6 +141,7 @@ def _load():
         "last_at_most": [at(_Slot), u64, at(u64), at(u64)],
         "insert": [at(_Slot), u64, u64, u32],
         "delete": [at(_Slot), u64, u32],
+        "take": [at(_Slot), u64, u32, at(u64)],
         "compare_exchange": [at(_Slot), u64, u64, u64, u32, at(u64)],
         "put": [at(_Slot), u64, u64, u32, at(u64)],
         "fetch_add": [at(_Slot), u64, u64, u32, at(u64)],
@@ -432,6 +433,11 @@ class Handle:
         """Takes a shared key, or one of the handle's own, away, and returns whether it was present."""
         return self._call("delete", _key(key), _tries(tries))
 
+    def take(self, key, tries=1000):
+        """Takes a key away as delete does, and returns the value that it took, or None if the key was absent. No other handle took that value."""
+        taken, args = ctypes.c_uint64(), (_key(key), _tries(tries))
+        return taken.value if self._call("take", *args, taken) else None
+
     def compare_exchange(self, key, current, new, tries=1000):
         """Stores new as the value of a shared key, or of one of the handle's own, if its value is current, in one atomic step. Returns the value
         that was found, or None if the key is absent: it was exchanged if and only if that is current. An exchange takes a card."""
@@ -704,8 +710,7 @@ class Map(collections.abc.MutableMapping):
         return self._call("delete", _key(key))
 
     def remove(self, key):
-        """Takes a key away, and returns the value that was taken, or None if the key was absent. Other calls wait for it, as long as the library has
-        no function that tells which value a delete took: delete is faster."""
+        """Takes a key away, and returns the value that was taken, or None if the key was absent. No other thread took that value."""
         return self._value_told("remove", _key(key))
 
     def pop(self, key, *default):

@@ -428,6 +428,11 @@ static void sharing(void) {
     IS(elltree_look(&two, ELLTREE_KEY_MAX + 1, &value), ELLTREE_BAD_KEY);
     IS(elltree_split(&one, &owner, keys, 1), ELLTREE_FOREIGN);
     IS(elltree_renew(&one, 9), ELLTREE_SHARED_KEYS);
+    IS(elltree_take(&two, 5, 9, &value), ELLTREE_NO);
+    IS(elltree_take(&two, 5, 0, &value), ELLTREE_NO_TRIES);
+    IS(elltree_take(&two, ELLTREE_KEY_MAX + 1, 9, &value), ELLTREE_FOREIGN);
+    IS(elltree_take(&two, 5, 9, NULL), ELLTREE_NULL);
+    IS(elltree_take(&owner, 5, 9, &value), ELLTREE_CLOSED);
     IS(elltree_renew_all(both, 2, 9), ELLTREE_SHARED_KEYS);
     IS(elltree_renew_all_shared(both, 2, 0), ELLTREE_BAD_CARDS);
     IS(elltree_renew_all_shared(NULL, 2, 9), ELLTREE_NULL);

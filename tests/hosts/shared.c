@@ -234,6 +234,7 @@ static long answers(void) {
     wrong += elltree_update(&h, 3, one_more, &calls, 0, &value) != ELLTREE_NO_TRIES;
     wrong += elltree_update(&h, ELLTREE_KEY_MAX + 1, one_more, &calls, 9, &value) != ELLTREE_FOREIGN || value != 29 || calls != 1;
     wrong += elltree_find(&h, 3, &value) != ELLTREE_YES || value != 30;
+    wrong += elltree_take(&h, 3, 9, &value) != ELLTREE_YES || value != 30 || elltree_take(&h, 3, 9, &value) != ELLTREE_NO;
     return wrong + (elltree_free(&h) != ELLTREE_YES);
 }
 

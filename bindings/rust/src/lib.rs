@@ -142,6 +142,7 @@ unsafe extern "C" {
     fn elltree_slot_last_at_most(slot: &mut Slot, key: u64, found: &mut u64, value: &mut u64) -> i32;
     fn elltree_slot_insert(slot: &mut Slot, key: u64, value: u64, tries: u32) -> i32;
     fn elltree_slot_delete(slot: &mut Slot, key: u64, tries: u32) -> i32;
+    fn elltree_slot_take(slot: &mut Slot, key: u64, tries: u32, taken: &mut u64) -> i32;
     fn elltree_slot_compare_exchange(slot: &mut Slot, key: u64, current: u64, new: u64, tries: u32, found: &mut u64) -> i32;
     fn elltree_slot_put(slot: &mut Slot, key: u64, value: u64, tries: u32, was: &mut u64) -> i32;
     fn elltree_slot_fetch_add(slot: &mut Slot, key: u64, addend: u64, tries: u32, was: &mut u64) -> i32;
@@ -564,6 +565,21 @@ impl Handle {
     pub fn delete(&mut self, key: u64, tries: u32) -> Result<bool> {
         // SAFETY: the slot is this handle's.
         answer(unsafe { elltree_slot_delete(&mut self.0, key, tries) })
+    }
+
+    /// Takes a key away as [`Handle::delete`] does, and returns the value that it took, if the key was present. No other handle took that value:
+    /// the key had it at one moment of the call, and was absent after it.
+    ///
+    /// ```
+    /// let mut handle = elltree::Handle::open_shared(&[(2, 20)], 10)?;
+    /// assert_eq!((handle.take(2, 9)?, handle.take(2, 9)?), (Some(20), None));
+    /// # Ok::<(), elltree::Refused>(())
+    /// ```
+    pub fn take(&mut self, key: u64, tries: u32) -> Result<Option<u64>> {
+        let mut taken = 0;
+        // SAFETY: the slot is this handle's.
+        let there = answer(unsafe { elltree_slot_take(&mut self.0, key, tries, &mut taken) })?;
+        Ok(there.then_some(taken))
     }
 
     /// Stores `new` as the value of a shared key, or of one of the handle's own, if its value is `current`, in one atomic step. Returns

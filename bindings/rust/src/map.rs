@@ -291,8 +291,7 @@ impl Map {
         Ok(there.then_some(was))
     }
 
-    /// Takes a key away, and returns the value that was taken, or `None` if the key was absent. As long as the library has no function that tells
-    /// which value a delete took, other calls wait for this one, as for a renewal: [`Map::delete`] is faster.
+    /// Takes a key away, and returns the value that was taken, or `None` if the key was absent. No other thread took that value.
     ///
     /// # Errors
     ///
