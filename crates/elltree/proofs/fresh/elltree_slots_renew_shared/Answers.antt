@@ -3,7 +3,6 @@ use Rattle.std.specs.Prelude.{slice_get}
 use Rattle.std.proofs.lemmas.Int.{to_z-of_z}
 use mir.Val.{SFits}
 use Rattle.ell_handle.specs.Fresh.{AreRenewedShared}
-use Rattle.ell_handle.specs.declared.handle.Handle.{Handle}
 use Rattle.elltree.specs.Fresh.{SaysOfShared}
 use Rattle.elltree.proofs.Grouped.{again_trees, all_have, filled_all, keep_trees, other_trees, taken_all, taken_count, taken_emptied}
 use Rattle.elltree.proofs.fresh.elltree_slots_renew_shared.Goals as goal
