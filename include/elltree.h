@@ -7,7 +7,7 @@
 
    elltree_open_shared makes a tree in which every key is shared, and elltree_another makes a further handle of it, one for each thread. Any
    handle finds, inserts and deletes any key, and all finds, inserts and deletes together answer as if they were made one after the other.
-   Such a tree cannot be renewed yet: its cards are for its whole life.
+   Its cards are for its whole life; elltree_renew_all_shared takes handles of it to a new tree with fresh ones.
 
    elltree_compare_exchange, elltree_put, elltree_fetch_add and elltree_update change the value of a key in place, each in one atomic step: no
    call of another thread finds the key absent in between, or loses what this one stores.
@@ -49,6 +49,9 @@ extern "C" {
 #endif
 
 #define ELLTREE_VERSION "0.1.0"
+#define ELLTREE_VERSION_MAJOR 0
+#define ELLTREE_VERSION_MINOR 1
+#define ELLTREE_VERSION_PATCH 0
 
 /* What the library keeps of a handle, and the handle: do not touch the members. */
 struct elltree_slot {
@@ -73,7 +76,7 @@ struct elltree_pair {
 
 #define ELLTREE_KEY_MAX UINT64_C(18446744073709551613)
 #define ELLTREE_CARDS_MAX 1000000
-#define ELLTREE_START_MAX 200000
+#define ELLTREE_START_MAX 1000000
 
 enum {
     ELLTREE_NO = 0,

@@ -1,7 +1,7 @@
 //! The library as a program in Rust has it: the one that is built here, and, if there is one, another that was built before a change, whose
 //! functions have other names.
 
-use crate::peers::{boxed, Adders, Counters, Crew, Sizes, View, TRIES};
+use crate::peers::{boxed, Counters, Crew, Sizes, View, TRIES};
 use crate::ranges::{told, Ranges, Told};
 
 /// A module for a library: what a thread does with a handle, and new trees.
@@ -60,7 +60,7 @@ macro_rules! library {
                 let mut handle = |keys: Vec<u64>| tree.handle(&keys);
                 let owners = sizes.stripes().map(|stripe| handle(stripe.keys().collect())).collect::<Result<Vec<_>>>()?;
                 let readers = (0..sizes.readers).map(|_| handle(Vec::new())).collect::<Result<Vec<_>>>()?;
-                Ok(Crew { owners: boxed(owners), readers: boxed(readers) })
+                Ok(Crew::of(boxed(owners), boxed(readers)))
             }
 
             /// So many handles of a tree in which all keys are shared, with these pairs.
@@ -73,7 +73,7 @@ macro_rules! library {
             pub fn sharing(sizes: Sizes) -> Result<Crew> {
                 let mut owners = handles(&sizes.start().collect::<Vec<_>>(), sizes.owners + sizes.readers)?;
                 let readers = owners.split_off(sizes.owners as usize);
-                Ok(Crew { owners: boxed(owners), readers: boxed(readers) })
+                Ok(Crew::of(boxed(owners), boxed(readers)))
             }
 
             /// The same, of which ranges are told.
@@ -81,13 +81,13 @@ macro_rules! library {
                 let mut handles = handles(&sizes.start().collect::<Vec<_>>(), sizes.owners + sizes.readers)?.into_iter();
                 let mut boxed =
                     |count: u64| handles.by_ref().take(count as usize).map(|it| Box::new(it) as Box<dyn Ranges>).collect();
-                Ok(Crew { owners: boxed(sizes.owners), readers: boxed(sizes.readers) })
+                Ok(Crew::of(boxed(sizes.owners), boxed(sizes.readers)))
             }
 
             /// The handles of a tree of counters.
-            pub fn counters(sizes: Sizes) -> Result<Adders> {
+            pub fn counters(sizes: Sizes) -> Result<Crew<dyn Counters>> {
                 let handles = handles(&sizes.zeros(), sizes.owners)?;
-                Ok(handles.into_iter().map(|it| Box::new(it) as Box<dyn Counters>).collect())
+                Ok(Crew::of(handles.into_iter().map(|it| Box::new(it) as Box<dyn Counters>).collect(), Vec::new()))
             }
         }
     };

@@ -1,22 +1,27 @@
-//! Measures elltree, as a program in Rust has it, with shared keys and with owned ones, beside the same tree over bare atomic words and
-//! as libcds has it, `BTreeMap`s behind locks, one or 16 of them, and a private `BTreeMap` for each owner; of ranges also as a program in
-//! C has it, beside Java's skip list. A library that was built before a change may be one more. `bench/hosts/run` builds it, and says what
-//! its words are; the tables go to standard output.
+//! Measures elltree, as a program in Rust has it, with shared keys, through handles and as one map, and with owned ones, beside the same
+//! tree over bare atomic words and as libcds has it, `BTreeMap`s behind locks, one or 16 of them, and a private `BTreeMap` for each owner;
+//! of ranges also as a program in C has it, beside Java's skip list. A library that was built before a change may be one more.
+//! `bench/hosts/run` builds it, and says what its words are; the tables go to standard output.
 
 mod array;
 #[path = "../plain/bare_tree.rs"]
 mod bare_tree;
+mod inserts;
 #[cfg(java)]
 mod java;
 #[cfg(libcds)]
 mod libcds;
 mod library;
+mod one_map;
+mod pauses;
 mod peers;
 mod ranges;
 mod realtime;
 mod record;
 mod work;
 
+use inserts::{inserts, Order};
+use pauses::pauses;
 use peers::{Crew, Peer, Sizes};
 use ranges::{write, Hold, Span, Told, Way};
 use record::{Figure, Record};
@@ -33,7 +38,13 @@ const RANGED: [u64; 2] = [4_096, 262_144];
 /// How many counters there are.
 const COUNTERS: [u64; 3] = [1, 64, 4_096];
 
-/// Latencies, and ranges, take longer intervals than other bursts, by so many times, and have fewer rounds, by such a part.
+/// How many keys are inserted into a map that was empty.
+const INSERTED: [u64; 2] = [200_000, 1_000_000];
+
+/// How many keys a map has of which the pauses are told.
+const PAUSING: [u64; 3] = [1_000, 65_536, 262_144];
+
+/// Latencies, and ranges, take longer intervals than other bursts, by so many times, and have fewer rounds, by such a part, as inserts do.
 const LATENCIES_LONGER: f64 = 15.0;
 const RANGES_LONGER: f64 = 2.5;
 const FEWER: usize = 4;
@@ -60,6 +71,10 @@ pub enum Kind {
     Counters,
     /// Ranges told to readers, and writes of owners, each on all keys.
     Ranges,
+    /// Inserts of all keys into a map without keys.
+    Inserts,
+    /// The pauses of a map that renews itself, for some seconds.
+    Pauses,
 }
 
 /// What is measured of each peer, one after the other.
@@ -70,7 +85,7 @@ pub struct Case {
 }
 
 impl Kind {
-    const ALL: [Kind; 8] = [
+    const ALL: [Kind; 10] = [
         Kind::Shared,
         Kind::SharedLooks,
         Kind::Operations,
@@ -79,6 +94,8 @@ impl Kind {
         Kind::Stopped,
         Kind::Counters,
         Kind::Ranges,
+        Kind::Inserts,
+        Kind::Pauses,
     ];
 
     pub fn name(self) -> &'static str {
@@ -91,19 +108,25 @@ impl Kind {
             Kind::Stopped => "stopped",
             Kind::Counters => "counters",
             Kind::Ranges => "ranges",
+            Kind::Inserts => "inserts",
+            Kind::Pauses => "pauses",
         }
     }
 
     pub fn peers(self) -> Vec<Peer> {
+        let all = Peer::ALL.iter().copied();
         let operating = |peer: &Peer| !matches!(peer, Peer::RwLock | Peer::RwLocks);
+        let parted = |peer: &Peer| *peer != Peer::OneMap;
         match self {
-            Kind::Shared => Peer::ALL.iter().copied().filter(operating).filter(|peer| peer.can_share()).collect(),
+            Kind::Shared => all.filter(operating).filter(|peer| peer.can_share()).collect(),
             Kind::SharedLooks => Peer::LOOKING_SHARED.to_vec(),
-            Kind::Operations => Peer::ALL.iter().copied().filter(operating).collect(),
+            Kind::Operations => all.filter(operating).filter(parted).collect(),
             Kind::Looks => Peer::LOOKING.to_vec(),
-            Kind::Running | Kind::Stopped => Peer::ALL.to_vec(),
+            Kind::Running | Kind::Stopped => all.filter(parted).collect(),
             Kind::Counters => Peer::COUNTING.to_vec(),
             Kind::Ranges => Way::ALL.iter().copied().map(Peer::Ranging).collect(),
+            Kind::Inserts => vec![Peer::OneMap, Peer::Mutex, Peer::Mutexes],
+            Kind::Pauses => vec![Peer::OneMap],
         }
     }
 
@@ -113,15 +136,16 @@ impl Kind {
             Kind::Shared | Kind::SharedLooks | Kind::Counters => Peer::SharedElltree,
             Kind::Operations | Kind::Looks | Kind::Running | Kind::Stopped => Peer::Elltree,
             Kind::Ranges => Peer::Ranging(Way::Elltree),
+            Kind::Inserts | Kind::Pauses => Peer::OneMap,
         }
     }
 
     /// The peer to whose times in the same round those of the others are compared.
     pub fn reference(self) -> Option<Peer> {
         match self {
-            Kind::Shared | Kind::Operations | Kind::Counters => Some(Peer::Mutexes),
+            Kind::Shared | Kind::Operations | Kind::Counters | Kind::Inserts => Some(Peer::Mutexes),
             Kind::SharedLooks | Kind::Looks => Some(Peer::RwLocks),
-            Kind::Running | Kind::Stopped | Kind::Ranges => None,
+            Kind::Running | Kind::Stopped | Kind::Ranges | Kind::Pauses => None,
         }
     }
 
@@ -131,8 +155,9 @@ impl Kind {
             Kind::Shared | Kind::Operations => vec![(1, 0), (2, 0), (4, 0)],
             Kind::SharedLooks | Kind::Looks => vec![(0, 1), (0, 4), (1, 2), (3, 1)],
             Kind::Running | Kind::Stopped => vec![(2, 1)],
-            Kind::Counters => vec![(1, 0), (4, 0)],
+            Kind::Counters | Kind::Inserts => vec![(1, 0), (4, 0)],
             Kind::Ranges => vec![(0, 1), (3, 0), (3, 1)],
+            Kind::Pauses => vec![(4, 0)],
         }
     }
 
@@ -141,13 +166,21 @@ impl Kind {
         match self {
             Kind::Counters => &COUNTERS,
             Kind::Ranges => &RANGED,
+            Kind::Inserts => &INSERTED,
+            Kind::Pauses => &PAUSING,
             _ => &KEYS,
         }
     }
 
     /// Whether all owners change the same keys.
     fn is_of_shared_keys(self) -> bool {
-        matches!(self, Kind::Shared | Kind::SharedLooks | Kind::Counters | Kind::Ranges)
+        !matches!(self, Kind::Operations | Kind::Looks | Kind::Running | Kind::Stopped)
+    }
+
+    /// Whether an interval may take seconds. Then its threads are in the normal class, since those of the real-time class lose their
+    /// processors for a part of each second.
+    fn takes_seconds(self) -> bool {
+        matches!(self, Kind::Inserts | Kind::Pauses)
     }
 
     /// What owners do, if a map is kept from round to round.
@@ -155,15 +188,18 @@ impl Kind {
         match self {
             Kind::Shared | Kind::Operations => Some(Work::Mixed),
             Kind::SharedLooks | Kind::Looks => Some(Work::Changes),
-            Kind::Running | Kind::Stopped | Kind::Counters | Kind::Ranges => None,
+            _ => None,
         }
     }
 
-    /// How long an interval takes, and how many rounds there are, where a burst takes so long, and most kinds have so many.
-    fn extent(self, burst: Duration, rounds: usize) -> (Duration, usize) {
+    /// How long an interval takes, unless it takes as long as inserts do, and how many rounds there are.
+    fn extent(self, wanted: &Wanted) -> (Duration, usize) {
+        let &Wanted { burst, rounds, pauses, .. } = wanted;
         match self {
             Kind::Running | Kind::Stopped => (burst.mul_f64(LATENCIES_LONGER), rounds.div_ceil(FEWER)),
             Kind::Ranges => (burst.mul_f64(RANGES_LONGER), rounds.div_ceil(FEWER)),
+            Kind::Inserts => (burst, rounds.div_ceil(FEWER)),
+            Kind::Pauses => (pauses, 1),
             _ => (burst, rounds),
         }
     }
@@ -179,12 +215,6 @@ impl Kind {
 /// All cases of these kinds.
 fn cases(kinds: &[Kind]) -> Vec<Case> {
     kinds.iter().flat_map(|kind| kind.keys().iter().flat_map(|keys| kind.cases(*keys))).collect()
-}
-
-fn shuffle<T>(items: &mut [T], random: &mut Random) {
-    for last in (1..items.len()).rev() {
-        items.swap(last, (random.next() >> 32) as usize % (last + 1));
-    }
 }
 
 /// The median, 99 % and worst of latencies, if there are any.
@@ -231,6 +261,8 @@ fn measure_anew(case: Case, peer: Peer, interval: Duration) -> Vec<(Figure, f64)
         }
         (Kind::Counters, _) => adds(peer, sizes, interval).map(|it| (Figure::Add, it)).into_iter().collect(),
         (Kind::Ranges, Peer::Ranging(way)) => measure_ranges(way, sizes, interval),
+        (Kind::Inserts, _) => Order::ALL.into_iter().flat_map(|order| inserts(peer, sizes, order)).collect(),
+        (Kind::Pauses, _) => pauses(peer, sizes, interval),
         _ => unreachable!("{} of {} have no new map each time", kind.name(), peer.name()),
     }
 }
@@ -254,7 +286,7 @@ fn measure_ranges(way: Way, sizes: Sizes, interval: Duration) -> Vec<(Figure, f6
 
 /// What the owners of a map answer to a fixed sequence of operations, in turn, and what its readers say of a key after each.
 fn answers(peer: Peer, sizes: Sizes) -> [Vec<Option<u64>>; 2] {
-    let Crew { mut owners, mut readers } = peer.crew(sizes);
+    let Crew { mut owners, mut readers, .. } = peer.crew(sizes);
     let stripes: Vec<_> = sizes.stripes().collect();
     let mut random = Random::new(1);
     let [mut operations, mut looks] = [Vec::new(), Vec::new()];
@@ -291,7 +323,7 @@ struct Answers {
 /// What the owners of a map answer to a fixed sequence of writes, in turn, and what its readers are told of a range and a next key after
 /// each.
 fn answers_of_ranges(way: Way, sizes: Sizes) -> Answers {
-    let Crew { mut owners, mut readers } = way.crew(sizes);
+    let Crew { mut owners, mut readers, .. } = way.crew(sizes);
     let (mut random, mut answers) = (Random::new(3), Answers::default());
     for turn in 0..20_000 {
         let (at, reader_at) = (turn % owners.len(), turn % readers.len());
@@ -318,15 +350,15 @@ fn measure_all(wanted: &Wanted) -> Record {
     let mut record = Record::new(cases.clone());
     let mut random = Random::new(2);
     for (at, case) in cases.into_iter().enumerate() {
-        let (interval, rounds) = case.kind.extent(wanted.burst, wanted.rounds);
+        let (interval, rounds) = case.kind.extent(wanted);
         let (mut peers, mut measured) = (case.kind.peers(), Vec::new());
         for round in 0..rounds {
             if round % KEPT_FOR == 0 {
                 measured.clear();
-                shuffle(&mut peers, &mut random);
+                random.shuffle(&mut peers);
                 measured.extend(peers.iter().map(|peer| Measured::of(case, *peer)));
             }
-            shuffle(&mut measured, &mut random);
+            random.shuffle(&mut measured);
             for it in &mut measured {
                 record.add(at, it.peer, it.round(interval));
             }
@@ -339,6 +371,8 @@ fn measure_all(wanted: &Wanted) -> Record {
 struct Wanted<'a> {
     burst: Duration,
     rounds: usize,
+    /// For how long each case of pauses is measured.
+    pauses: Duration,
     kinds: Vec<Kind>,
     /// Whether the real-time class is wanted.
     in_real_time: bool,
@@ -351,12 +385,14 @@ struct Wanted<'a> {
 
 impl Wanted<'_> {
     fn of(words: &[String]) -> Option<Wanted<'_>> {
-        let [seconds, rounds, what, class, limit, file, name] = words else {
+        let [seconds, rounds, pauses, what, class, limit, file, name] = words else {
             return None;
         };
+        let duration = |seconds: &str| Duration::try_from_secs_f64(seconds.parse().ok()?).ok();
         Some(Wanted {
-            burst: Duration::try_from_secs_f64(seconds.parse().ok()?).ok()?,
+            burst: duration(seconds)?,
             rounds: rounds.parse().ok().filter(|it| *it > 0)?,
+            pauses: duration(pauses)?,
             kinds: Kind::ALL.into_iter().filter(|kind| what == "all" || what == kind.name()).collect(),
             in_real_time: class == "real-time",
             limit: limit.parse().ok()?,
@@ -366,16 +402,31 @@ impl Wanted<'_> {
     }
 }
 
+/// The class of the threads that are measured, in words.
+fn class_of(wanted: &Wanted) -> String {
+    let normal = wanted.kinds.iter().filter(|kind| kind.takes_seconds()).count();
+    if normal == wanted.kinds.len() {
+        return "normal, since an interval takes seconds".to_string();
+    }
+    let class = realtime::begin(wanted.in_real_time);
+    if normal == 0 {
+        class.to_string()
+    } else {
+        format!("{class}; normal for inserts and pauses")
+    }
+}
+
 fn main() -> ExitCode {
     let words: Vec<String> = env::args().skip(1).collect();
     let Some(wanted) = Wanted::of(&words) else {
         eprintln!(
-            "hosts: give seconds, rounds, a kind or all, real-time or normal, a limit in seconds, a file, and its name in tables"
+            "hosts: give seconds, rounds, seconds for pauses, a kind or all, real-time or normal, a limit in seconds, a file, and its \
+             name in tables"
         );
         return ExitCode::from(2);
     };
     realtime::end_after(wanted.limit);
-    let class = realtime::begin(wanted.in_real_time);
+    let class = class_of(&wanted);
     if !agree() || wanted.kinds.contains(&Kind::Ranges) && !ranges_agree() {
         eprintln!("hosts: the answers differ");
         return ExitCode::FAILURE;

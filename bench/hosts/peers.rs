@@ -5,6 +5,7 @@ use crate::bare_tree::BareTree;
 #[cfg(libcds)]
 use crate::libcds::{EllenTree, Reclaim};
 use crate::library;
+use crate::one_map;
 use crate::ranges::Way;
 use elltree::CARDS_MAX;
 use std::array;
@@ -231,6 +232,19 @@ impl<L: Lock, const COUNT: usize> Counters for Arc<Shards<L, COUNT>> {
 pub struct Crew<V: ?Sized = dyn View> {
     pub owners: Vec<Box<V>>,
     pub readers: Vec<Box<V>>,
+    /// The map, if it renews itself while the owners change it.
+    pub renewing: Option<Arc<elltree::Map>>,
+}
+
+impl<V: ?Sized> Crew<V> {
+    /// Those of a map that never renews itself.
+    pub fn of(owners: Vec<Box<V>>, readers: Vec<Box<V>>) -> Crew<V> {
+        Crew { owners, readers, renewing: None }
+    }
+
+    pub fn threads(&self) -> usize {
+        self.owners.len() + self.readers.len()
+    }
 }
 
 pub fn boxed<V: View + 'static>(views: impl IntoIterator<Item = V>) -> Vec<Box<dyn View>> {
@@ -256,27 +270,20 @@ impl Crew {
 
     fn sharing<V: View + Clone + 'static>(map: V, sizes: Sizes) -> Crew {
         let views = |count| boxed((0..count).map(|_| map.clone()));
-        Crew { owners: views(sizes.owners), readers: views(sizes.readers) }
+        Crew::of(views(sizes.owners), views(sizes.readers))
     }
 
     /// A map for each owner, and none for a reader.
     fn of_private_maps(sizes: Sizes) -> Crew {
         let own = |first| sizes.start().filter(move |pair| pair.0 % sizes.owners == first);
         let owners = (0..sizes.owners).map(|first| own(first).collect::<Map>());
-        Crew { owners: boxed(owners), readers: Vec::new() }
-    }
-
-    pub fn threads(&self) -> usize {
-        self.owners.len() + self.readers.len()
+        Crew::of(boxed(owners), Vec::new())
     }
 }
 
-/// The owners of a map of counters: one for each thread.
-pub type Adders = Vec<Box<dyn Counters>>;
-
-fn counters_in_locks<L: Lock + 'static, const COUNT: usize>(sizes: Sizes) -> Adders {
+fn counters_in_locks<L: Lock + 'static, const COUNT: usize>(sizes: Sizes) -> Crew<dyn Counters> {
     let map = Arc::new(Shards::<L, COUNT>::start(&sizes.zeros()));
-    (0..sizes.owners).map(|_| Box::new(map.clone()) as Box<dyn Counters>).collect()
+    Crew::of((0..sizes.owners).map(|_| Box::new(map.clone()) as Box<dyn Counters>).collect(), Vec::new())
 }
 
 /// What is measured.
@@ -284,6 +291,8 @@ fn counters_in_locks<L: Lock + 'static, const COUNT: usize>(sizes: Sizes) -> Add
 pub enum Peer {
     Elltree,
     SharedElltree,
+    /// The one map that all threads share, without handles, which renews itself.
+    OneMap,
     /// As these two, of the library that was built before a change.
     #[cfg(before)]
     Before,
@@ -305,6 +314,7 @@ impl Peer {
     pub const ALL: &[Peer] = &[
         Peer::Elltree,
         Peer::SharedElltree,
+        Peer::OneMap,
         #[cfg(before)]
         Peer::Before,
         #[cfg(before)]
@@ -324,6 +334,7 @@ impl Peer {
     /// Those of which values are counters.
     pub const COUNTING: &[Peer] = &[
         Peer::SharedElltree,
+        Peer::OneMap,
         #[cfg(before)]
         Peer::SharedBefore,
         Peer::Mutex,
@@ -343,6 +354,7 @@ impl Peer {
     /// Those at whose keys readers look beside owners that change any.
     pub const LOOKING_SHARED: &[Peer] = &[
         Peer::SharedElltree,
+        Peer::OneMap,
         #[cfg(before)]
         Peer::SharedBefore,
         Peer::Bare,
@@ -358,6 +370,7 @@ impl Peer {
         match self {
             Peer::Elltree => "elltree",
             Peer::SharedElltree => "shared elltree",
+            Peer::OneMap => "elltree map",
             #[cfg(before)]
             Peer::Before => "before",
             #[cfg(before)]
@@ -400,7 +413,7 @@ impl Peer {
     }
 
     /// How many changes may be asked of a map in all: half of them change it, and take a card each if there are cards. The other cards
-    /// are for tries that fail.
+    /// are for tries that fail. A map that renews itself has no end of cards.
     pub fn most_changes(self) -> u64 {
         let takes_cards = match self {
             Peer::Ranging(way) => way.takes_cards(),
@@ -421,6 +434,7 @@ impl Peer {
         match self {
             Peer::Elltree => library::elltree::owning(sizes).expect("a tree"),
             Peer::SharedElltree => library::elltree::sharing(sizes).expect("a tree"),
+            Peer::OneMap => one_map::sharing(sizes).expect("a map"),
             #[cfg(before)]
             Peer::Before => library::before::owning(sizes).expect("a tree"),
             #[cfg(before)]
@@ -438,9 +452,10 @@ impl Peer {
     }
 
     /// A new map of this kind, of counters that are 0. Only the `COUNTING` have them.
-    pub fn counters(self, sizes: Sizes) -> Adders {
+    pub fn counters(self, sizes: Sizes) -> Crew<dyn Counters> {
         match self {
             Peer::SharedElltree => library::elltree::counters(sizes).expect("a tree"),
+            Peer::OneMap => one_map::counters(sizes).expect("a map"),
             #[cfg(before)]
             Peer::SharedBefore => library::before::counters(sizes).expect("a tree"),
             Peer::Mutex => counters_in_locks::<Mutex<Map>, 1>(sizes),

@@ -5,6 +5,7 @@ use crate::bare_tree::BareTree;
 #[cfg(java)]
 use crate::java::SkipList;
 use crate::library;
+use crate::one_map;
 use crate::peers::{bare_tree, Crew, Lock, Map, Peer, Shards, Sizes, Stripe, View, SHARDS};
 use crate::work::Random;
 use elltree::CARDS_MAX;
@@ -236,6 +237,8 @@ pub enum Way {
     Before,
     /// The tree, by a call of a program in C that fills an array.
     Array,
+    /// The one map of the library, by its iterator in Rust.
+    OneMap,
     Bare,
     Mutex(Hold),
     RwLock(Hold),
@@ -250,6 +253,7 @@ impl Way {
         #[cfg(before)]
         Way::Before,
         Way::Array,
+        Way::OneMap,
         Way::Bare,
         Way::Mutex(Hold::Range),
         Way::Mutex(Hold::Key),
@@ -268,6 +272,7 @@ impl Way {
             #[cfg(before)]
             Way::Before => "shared before",
             Way::Array => "shared elltree array",
+            Way::OneMap => "elltree map",
             Way::Bare => "bare atomics",
             Way::Mutex(Hold::Key) => "Mutex by key",
             Way::Mutex(_) => "Mutex",
@@ -281,7 +286,7 @@ impl Way {
         }
     }
 
-    /// Whether a change takes one of the cards, of which there are no more than `CARDS_MAX`.
+    /// Whether a change takes one of the cards, of which there are no more than `CARDS_MAX`, since nobody renews them.
     pub fn takes_cards(self) -> bool {
         match self {
             Way::Elltree | Way::Array | Way::Bare => true,
@@ -314,6 +319,7 @@ impl Way {
             #[cfg(before)]
             Way::Before => library::before::ranging(sizes).expect("a tree"),
             Way::Array => of_array_handles(sizes),
+            Way::OneMap => one_map::ranging(sizes).expect("a map"),
             Way::Bare => sharing(bare_tree(sizes), sizes),
             Way::Mutex(hold) => of_locks::<Mutex<Map>, 1>(hold, sizes),
             Way::RwLock(hold) => of_locks::<RwLock<Map>, 1>(hold, sizes),
@@ -327,7 +333,7 @@ impl Way {
 /// What each thread has of a map.
 fn crew<R: Ranges + 'static>(sizes: Sizes, mut another: impl FnMut() -> R) -> Crew<dyn Ranges> {
     let mut views = |count| (0..count).map(|_| Box::new(another()) as Box<dyn Ranges>).collect::<Vec<_>>();
-    Crew { owners: views(sizes.owners), readers: views(sizes.readers) }
+    Crew::of(views(sizes.owners), views(sizes.readers))
 }
 
 fn of_array_handles(sizes: Sizes) -> Crew<dyn Ranges> {

@@ -1,12 +1,14 @@
 //! What was measured, as tables in Markdown and as rows of a file.
 
+use crate::inserts::Order;
+use crate::pauses::{Load, Said};
 use crate::peers::Peer;
 use crate::ranges::{Span, Way};
 use crate::{Case, Kind};
 use std::collections::BTreeMap;
 use std::fmt::Write;
 
-/// What a number of nanoseconds says.
+/// What a number says: of nanoseconds, but for some of `Pauses`.
 #[derive(Clone, Copy, PartialEq, Eq, PartialOrd, Ord)]
 pub enum Figure {
     Operation,
@@ -25,14 +27,20 @@ pub enum Figure {
     Write,
     /// A write beside readers of such ranges.
     WriteBeside(Span),
+    /// An insert into a map in which all keys are inserted in such an order.
+    Insert(Order),
+    /// What is told of the pauses of a map under such a load.
+    Pauses(Load, Said),
 }
 
 impl Figure {
     pub const OF_LOOKS: [Figure; 3] = [Figure::LookMedian, Figure::Look99, Figure::LookWorst];
     pub const OF_OPERATIONS: [Figure; 3] = [Figure::OperationMedian, Figure::Operation99, Figure::OperationWorst];
 
-    fn name(self) -> &'static str {
-        match self {
+    fn name(self) -> String {
+        let name = match self {
+            Figure::Insert(order) => return format!("{} insert", order.name()),
+            Figure::Pauses(load, said) => return format!("{}: {}", load.name(), said.name()),
             Figure::Operation => "operation",
             Figure::Look => "look",
             Figure::Change => "change",
@@ -52,6 +60,15 @@ impl Figure {
             Figure::WriteBeside(Span::Of100) => "write beside ranges of 100",
             Figure::WriteBeside(Span::All) => "write beside ranges of all",
             Figure::WriteBeside(Span::Next) => "write beside next keys",
+        };
+        name.to_string()
+    }
+
+    /// How many digits of such a number are told behind its point.
+    fn digits(self) -> usize {
+        match self {
+            Figure::Pauses(_, Said::Part) => 1,
+            _ => 0,
         }
     }
 }
@@ -134,13 +151,15 @@ impl Record {
         for ((at, figure, peer), rounds) in &self.times {
             let Case { kind, sizes } = self.cases[*at];
             let reference = kind.reference().map_or("", Peer::name);
+            let reference = if self.times.contains_key(&(*at, *figure, reference)) { reference } else { "" };
             let before = kind.peers().into_iter().find(|it| it.name() == *peer).and_then(Peer::before).map_or("", Peer::name);
             let ratio = |other| self.ratio(*at, *figure, peer, other).map_or(String::new(), |it| format!("{it:.2}"));
             let (least, median) = least_and_median(rounds);
-            let all = rounds.iter().map(|it| format!("{it:.0}")).collect::<Vec<_>>().join(" ");
+            let digits = figure.digits();
+            let all = rounds.iter().map(|it| format!("{it:.digits$}")).collect::<Vec<_>>().join(" ");
             let _ = writeln!(
                 rows,
-                "{},{},{},{},{peer},{},{least:.0},{median:.0},{reference},{},{},{all}",
+                "{},{},{},{},{peer},{},{least:.digits$},{median:.digits$},{reference},{},{},{all}",
                 kind.name(),
                 sizes.keys,
                 sizes.owners,
@@ -211,7 +230,14 @@ impl Record {
     /// All tables, for figures that stand in such a file.
     pub fn tables(&self, file: &str) -> String {
         let of_cases = TABLES_OF_CASES.map(|(kind, title)| self.table_of_cases(kind, title, file));
-        let others = [self.table_of_latencies(file), self.table_of_ranges(file), self.table_of_writes(file)];
+        let others = [
+            self.table_of_latencies(file),
+            self.table_of_ranges(file),
+            self.table_of_writes(file),
+            self.table_of_inserts(file),
+            self.table_of_pauses(Kind::Inserts, file),
+            self.table_of_pauses(Kind::Pauses, file),
+        ];
         [of_cases.concat(), others.concat()].concat()
     }
 
@@ -256,6 +282,66 @@ impl Record {
         let form = Form { kind: Kind::Ranges, title, labels: &["Keys", "Beside"], in_milliseconds: false };
         self.table(form, file, self.rows_of_ranges(&lines))
     }
+
+    fn table_of_inserts(&self, file: &str) -> String {
+        let row = |(at, Case { sizes, .. }): (usize, Case), order: Order| Row {
+            labels: vec![counted(sizes.keys), counted(sizes.owners), order.name().to_string()],
+            shown: vec![(at, Figure::Insert(order))],
+        };
+        let rows = self.cases_of(Kind::Inserts).flat_map(|case| Order::ALL.map(|order| row(case, order))).collect();
+        let title = "An insert into a map that was empty, in nanoseconds of the time of all threads together.";
+        let form = Form { kind: Kind::Inserts, title, labels: &["Keys", "Threads", "Order"], in_milliseconds: false };
+        self.table(form, file, rows)
+    }
+
+    /// What is told of the pauses of the one map in the cases of a kind, if they were measured: a row for each load.
+    fn table_of_pauses(&self, kind: Kind, file: &str) -> String {
+        let (title, columns): (_, &[Said]) = match kind {
+            Kind::Inserts => ("The renewals and pauses of the one map while it is filled so.", &Said::OF_INSERTS),
+            _ => ("The renewals and pauses of the one map while four threads work without pause.", &Said::OF_CHANGES),
+        };
+        let told = |at, load, said| self.median(at, Figure::Pauses(load, said), Peer::OneMap);
+        let cases = self.cases_of(kind).flat_map(|case| Load::ALL.map(|load| (case, load)));
+        let mut lines = String::new();
+        for ((at, Case { sizes, .. }), load) in cases.filter(|((at, _), load)| told(*at, *load, Said::Renewals).is_some()) {
+            let cells = columns.iter().map(|said| told(at, load, *said).map_or(String::new(), |it| said.shown(it)));
+            let labels = [counted(sizes.keys), counted(sizes.owners), load.name().to_string()];
+            let _ = writeln!(lines, "|{}|", labels.into_iter().chain(cells).collect::<Vec<_>>().join("|"));
+        }
+        if lines.is_empty() {
+            return lines;
+        }
+        let heads: Vec<_> = ["Keys", "Threads", "Load"].into_iter().chain(columns.iter().map(|said| said.head())).collect();
+        format!("\n{title}\n\n<!-- {file} -->\n\n|{}|\n{}|\n{lines}", heads.join("|"), "|---".repeat(heads.len()))
+    }
+}
+
+impl Said {
+    const OF_INSERTS: [Said; 4] = [Said::Renewals, Said::EarlyRenewals, Said::Part, Said::Longest];
+    const OF_CHANGES: [Said; 6] = [Said::ChangesASecond, Said::Renewals, Said::Part, Said::Mean, Said::Longest, Said::Cards];
+
+    /// The head of its column.
+    fn head(self) -> &'static str {
+        match self {
+            Said::ChangesASecond => "Changes a second",
+            Said::Renewals => "Renewals",
+            Said::EarlyRenewals => "Early ones",
+            Said::Part => "Time in pauses, %",
+            Said::Mean => "Mean pause",
+            Said::Longest => "Longest pause",
+            Said::Cards => "Cards",
+        }
+    }
+
+    /// A number as its column has it.
+    fn shown(self, number: f64) -> String {
+        let whole = number.round_ties_even();
+        match self {
+            Said::Part => format!("{number:.1}"),
+            Said::Mean | Said::Longest => format!("{:.1} ms", whole / 1e6),
+            _ => counted(whole as u64),
+        }
+    }
 }
 
 impl Row {
@@ -287,7 +373,8 @@ impl Kind {
         let measured = |peer: &Peer| self.peers().contains(peer);
         let before = ours.before().filter(measured);
         let to_reference = self.reference().into_iter().flat_map(|reference| {
-            let compared = [Some(ours), before, Some(Peer::Bare)].into_iter().flatten().filter(measured);
+            let one_map = Some(Peer::OneMap).filter(|it| *it != ours);
+            let compared = [Some(ours), before, one_map, Some(Peer::Bare)].into_iter().flatten().filter(measured);
             compared.map(move |peer| (peer, reference))
         });
         to_reference.chain(before.map(|before| (ours, before))).collect()
@@ -295,21 +382,18 @@ impl Kind {
 
     /// What a table of this kind calls a peer.
     fn title(self, peer: Peer) -> String {
-        let (ours, name) = (self.ours(), peer.name());
-        if peer == ours {
-            return "elltree".to_string();
-        }
-        if Some(peer) == ours.before() {
-            return "Before".to_string();
-        }
+        let ours = self.ours();
         let name = match peer {
+            Peer::OneMap | Peer::Ranging(Way::OneMap) => "One map",
+            _ if peer == ours => "elltree",
+            _ if Some(peer) == ours.before() => "Before",
             Peer::SharedElltree => "Shared",
             #[cfg(before)]
             Peer::SharedBefore => "Shared before",
             Peer::Ranging(Way::Array) => "Array",
             Peer::Bare | Peer::Ranging(Way::Bare) => "Bare atomics",
             Peer::Private => "Private maps",
-            _ => name,
+            _ => peer.name(),
         };
         name.replace("Mutex", "`Mutex`").replace("RwLock", "`RwLock`")
     }

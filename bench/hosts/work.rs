@@ -1,8 +1,10 @@
 //! What threads do with a map, and how long it takes.
 
+use crate::one_map;
 use crate::peers::{Counters, Crew, Peer, Sizes, Stripe, View};
 use crate::ranges::{write, Span, Way};
 use crate::realtime;
+use elltree::Map;
 use std::hint::{black_box, spin_loop};
 use std::sync::atomic::{AtomicU8, AtomicUsize, Ordering};
 use std::sync::Barrier;
@@ -44,40 +46,59 @@ impl Random {
         self.0 ^= self.0 << 17;
         self.0
     }
+
+    pub fn shuffle<T>(&mut self, items: &mut [T]) {
+        for last in (1..items.len()).rev() {
+            items.swap(last, (self.next() >> 32) as usize % (last + 1));
+        }
+    }
 }
 
 /// What an owner does: operations on random keys.
-#[derive(Clone, Copy)]
+#[derive(Clone, Copy, PartialEq, Eq, PartialOrd, Ord)]
 pub enum Work {
     /// A half are finds, a quarter inserts, and a quarter deletes.
     Mixed,
     /// A half are inserts, and a half deletes.
     Changes,
+    /// Nine tenths are finds, a twentieth inserts, and a twentieth deletes.
+    FewChanges,
 }
 
 impl Work {
+    /// Of how many operations one is an insert, and one a delete.
+    fn one_in(self) -> u64 {
+        match self {
+            Work::Mixed => 4,
+            Work::Changes => 2,
+            Work::FewChanges => 20,
+        }
+    }
+
+    /// Whether the operation that a random number stands for is an insert or a delete.
+    pub fn is_change(self, random: u64) -> bool {
+        random % self.one_in() < 2
+    }
+
     /// The operation that a random number stands for.
     pub fn act(self, owner: &mut dyn View, stripe: Stripe, random: u64) -> Option<u64> {
         let key = stripe.random_key(random);
-        match (self, random % 4) {
-            (_, 0) | (Work::Changes, 2) => Some(owner.insert(key, random).into()),
-            (_, 1) | (Work::Changes, 3) => Some(owner.delete(key).into()),
+        match random % self.one_in() {
+            0 => Some(owner.insert(key, random).into()),
+            1 => Some(owner.delete(key).into()),
             _ => owner.find(key),
         }
     }
 
     /// How many operations all owners of a map may make.
     fn most(self, peer: Peer) -> u64 {
-        match self {
-            Work::Mixed => 2 * peer.most_changes(),
-            Work::Changes => peer.most_changes(),
-        }
+        peer.most_changes().saturating_mul(self.one_in() / 2)
     }
 }
 
 /// What a thread did without pause.
 #[derive(Clone, Copy, Default)]
-struct Done {
+pub struct Done {
     /// How long the acts took that count, and how many these were.
     took: Duration,
     counted: u64,
@@ -94,14 +115,14 @@ enum Phase {
 }
 
 /// Where the threads of an interval begin together, and see how far it is.
-struct Stage {
+pub struct Stage {
     begin: Barrier,
     phase: AtomicU8,
 }
 
 impl Stage {
     /// A stage for so many threads and the one that makes it.
-    fn of(threads: usize) -> Stage {
+    pub fn of(threads: usize) -> Stage {
         Stage { begin: Barrier::new(threads + 1), phase: AtomicU8::new(Phase::Leading as u8) }
     }
 
@@ -118,15 +139,21 @@ impl Stage {
         self.phase.fetch_max(phase as u8, Ordering::Relaxed);
     }
 
-    fn end(&self) {
+    /// Has the threads begin. All that they do counts.
+    pub fn begin_to_count(&self) {
+        self.begin.wait();
+        self.enter(Phase::Counted);
+    }
+
+    pub fn end(&self) {
         self.enter(Phase::Over);
     }
 
-    /// Has the threads go through an interval.
-    fn conduct(&self, interval: Duration) {
+    /// Has the threads go through an interval. The map may be one that renews itself.
+    fn conduct(&self, interval: Duration, renewing: Option<&Map>) {
         realtime::rest(interval);
         let _first = realtime::go_first();
-        lead(&[self], interval);
+        lead(&[self], interval, renewing);
         self.end();
     }
 
@@ -145,7 +172,7 @@ impl Stage {
     }
 
     /// Acts without pause until the interval is over, and ends it after so many acts.
-    fn drive<T>(&self, seed: u64, most: u64, mut act: impl FnMut(u64) -> T) -> Done {
+    pub fn drive<T>(&self, seed: u64, most: u64, mut act: impl FnMut(u64) -> T) -> Done {
         let mut random = Random::new(seed);
         self.begin.wait();
         let (_, led) = self.act_until(Phase::Counted, most, || act(random.next()));
@@ -209,16 +236,23 @@ impl Stage {
     }
 }
 
-/// Has the threads of these stages begin, lets their acts count after half of such an interval, and waits as long as it is.
-fn lead(stages: &[&Stage], interval: Duration) {
+/// Has the threads of these stages begin, lets their acts count after half of such an interval, and waits as long as it is. If the map
+/// renews itself, what counts begins and ends with the end of a renewal: so each tree of it has its renewal beside it.
+fn lead(stages: &[&Stage], interval: Duration, renewing: Option<&Map>) {
     for stage in stages {
         stage.begin.wait();
     }
     thread::sleep(interval / 2);
+    if let Some(map) = renewing {
+        one_map::settle(map);
+    }
     for stage in stages {
         stage.enter(Phase::Counted);
     }
     thread::sleep(interval);
+    if let Some(map) = renewing {
+        one_map::wait_for_renewal(map);
+    }
 }
 
 /// What all these threads did.
@@ -246,7 +280,7 @@ pub struct Speeds {
 }
 
 /// A map that goes through bursts, one after the other, in which all owners do this work without pause, and all readers look at any key. If
-/// it could have too few cards for the next burst, another takes its place.
+/// it could have too few cards for the next burst, another takes its place, unless it renews itself.
 pub struct Bursts {
     peer: Peer,
     sizes: Sizes,
@@ -269,9 +303,18 @@ impl Bursts {
         }
     }
 
+    /// Renews a map that renews itself. It chooses the number of its cards by how long the last ones lasted, and that is not to contain the
+    /// time in which other maps were measured.
+    fn forget_turns(&self) {
+        if let Some(map) = &self.crew.renewing {
+            map.renew().expect("memory for a renewal");
+        }
+    }
+
     /// The next burst, of which so long counts.
     pub fn next(&mut self, interval: Duration) -> Speeds {
         self.renew_if_due();
+        self.forget_turns();
         let Bursts { sizes, work, .. } = *self;
         let stage = &Stage::of(self.crew.threads());
         let most = self.left / sizes.owners.max(1);
@@ -287,7 +330,7 @@ impl Bursts {
                 realtime::spawn(scope, place, move || stage.drive(seed + place as u64, u64::MAX, look))
             });
             let readers = readers.collect();
-            stage.conduct(interval);
+            stage.conduct(interval, self.crew.renewing.as_deref());
             (total(owners), total(readers))
         });
         (self.last, self.left, self.count) = (owners.all, self.left.saturating_sub(owners.all), self.count + 1);
@@ -298,7 +341,7 @@ impl Bursts {
 /// Has all owners add to any counters without pause for so long, or until no card is left: nanoseconds an add. The sum of the counters
 /// has to be the number of adds that were answered.
 pub fn adds(peer: Peer, sizes: Sizes, interval: Duration) -> Option<f64> {
-    let mut owners = peer.counters(sizes);
+    let Crew { mut owners, renewing, .. } = peer.counters(sizes);
     let stage = &Stage::of(owners.len());
     let keys = sizes.all();
     let (done, added) = thread::scope(|scope| {
@@ -307,7 +350,7 @@ pub fn adds(peer: Peer, sizes: Sizes, interval: Duration) -> Option<f64> {
             .zip(0..)
             .map(|(owner, place)| realtime::spawn(scope, place, move || stage.add(place as u64, &mut **owner, keys)));
         let threads: Vec<_> = threads.collect();
-        stage.conduct(interval);
+        stage.conduct(interval, renewing.as_deref());
         let ended = threads.into_iter().map(|thread| thread.join().unwrap());
         ended.fold((Done::default(), 0), |(done, added), it| (done.and(it.0), added + it.1))
     });
@@ -319,7 +362,7 @@ pub fn adds(peer: Peer, sizes: Sizes, interval: Duration) -> Option<f64> {
 /// Has all owners write at random without pause, and all readers ask for such ranges, for so long. Then the owners go on until each reader
 /// has its last answer. If the owners have made as many writes as they may, all end early. The map is a worn one.
 pub fn scans(way: Way, sizes: Sizes, span: Span, interval: Duration) -> Speeds {
-    let Crew { owners, readers } = way.worn_crew(sizes);
+    let Crew { owners, readers, renewing } = way.worn_crew(sizes);
     let (writing, reading) = (&Stage::of(owners.len()), &Stage::of(readers.len()));
     let most = way.most_writes(sizes) / sizes.owners.max(1);
     let mut places = 0..;
@@ -339,7 +382,7 @@ pub fn scans(way: Way, sizes: Sizes, span: Span, interval: Duration) -> Speeds {
         let readers = readers.collect();
         realtime::rest(interval);
         let _first = realtime::go_first();
-        lead(&[writing, reading], interval);
+        lead(&[writing, reading], interval, renewing.as_deref());
         reading.end();
         let readers = total(readers).mean();
         writing.end();
@@ -415,8 +458,7 @@ pub fn latencies(peer: Peer, sizes: Sizes, is_stopped: bool, interval: Duration)
         let readers = readers.collect();
         realtime::rest(interval);
         let _first = realtime::go_first();
-        stage.begin.wait();
-        stage.enter(Phase::Counted);
+        stage.begin_to_count();
         if is_stopped {
             stop_at_times(first_thread.load(Ordering::SeqCst), interval);
         } else {

@@ -52,6 +52,8 @@ def answers():
     assert (m.first(), m.last(), m.next_after(2), m.last_before(4), m.last_before(0), m.next_at_least(5)) == ((2, 44), (4, 40), (4, 40), (2, 44), None, None)
     assert (list(m.range(3)), list(m.range(0, 3)), list(m.range(4, 2)), m.pairs()) == ([(4, 40)], [(2, 44)], [], [(2, 44), (4, 40)])
     assert (m.remove(4), m.remove(4), m.popitem(), m.get(2**70), -1 in m) == (40, None, (2, 44), None, False)
+    assert (repr(elltree.Map()), repr(elltree.Map({1: 10, 2: 20}))) == ("<elltree.Map of 0 keys>", "<elltree.Map of 2 keys>")
+    assert (20 in elltree.Map({1: 10, 2: 20}).values(), 30 in elltree.Map({1: 10, 2: 20}).values()) == (True, False)
     raises(KeyError, m.popitem)
     raises(KeyError, m.pop, 1)
     raises(KeyError, m.__getitem__, 1)
@@ -109,7 +111,7 @@ def fork():
         try:
             m.get(1)
         except elltree.Refused as refused:
-            os._exit(0 if refused.code == elltree.NULL else 1)
+            os._exit(0 if refused.code == elltree.NULL and repr(m) == f"<elltree.Map: {refused}>" else 1)
         os._exit(2)
     assert os.waitpid(child, 0)[1] == 0 and m[1] == 10
 

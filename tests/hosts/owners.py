@@ -44,6 +44,15 @@ class Handles(unittest.TestCase):
             self.handle.close()
         self.assertEqual(text_of(self.handle.look, 1), (elltree.Refused, "the handle holds nothing"))
 
+    def test_shows_what_it_has(self):
+        self.assertEqual(repr(self.handle), "<elltree.Handle: 3 keys of its own, 9 cards left>")
+        with self.handle.split([3]) as part:
+            self.assertEqual(repr(part), "<elltree.Handle: 1 keys of its own, 9 cards left>")
+            self.handle._calls.setdefault(None)
+            self.assertEqual(repr(self.handle), "<elltree.Handle: the handle is in another call>")
+            self.handle._calls.clear()
+        self.assertEqual((repr(part), repr(elltree.Handle())), ("<elltree.Handle: the handle holds nothing>",) * 2)
+
     def test_ends_a_block_that_joined_it_away(self):
         with self.handle.split([3]) as part:
             self.handle.join(part)
@@ -109,6 +118,15 @@ class Handles(unittest.TestCase):
             self.assertEqual((type(again), again.code, str(again), elltree.text(why.code)), (type(why), why.code, text, text))
         self.assertEqual((elltree.Busy().code, elltree.Spent().code), (elltree.BUSY, elltree.SPENT))
 
+    def test_has_codes_by_name_and_by_number(self):
+        for code in elltree.Code:
+            self.assertIs(getattr(elltree, code.name), code)
+            self.assertIs(elltree.Refused(int(code)).code, code)
+            self.assertEqual((str(code), f"{code}", f"{code:+d}"), (str(code.value), str(code.value), f"{code.value:+d}"))
+        self.assertEqual((elltree.BUSY, elltree.MAP_FULL, {-3: 1}[elltree.FOREIGN]), (-1, -100, 1))
+        self.assertEqual({"__version__", "open", "Map", "Refused", "KEY_MAX"} - set(elltree.__all__), set())
+        self.assertEqual([name for name in elltree.__all__ if not hasattr(elltree, name)], [])
+
     def test_tells_how_many_cards_are_left(self):
         part = self.handle.split([3])
         self.assertEqual((self.handle.cards_left(), part.cards_left()), (9, 9))
@@ -148,6 +166,11 @@ class Handles(unittest.TestCase):
         self.assertEqual((self.handle.insert(One(), True), self.handle.find(True)), (True, 1))
         with self.handle.split(iter([One(), 2])) as part:
             self.assertEqual(part.keys(), [1, 2])
+
+    def test_takes_pairs_of_any_mapping(self):
+        for start in ({7: 70, 5: 50}, elltree.Map({7: 70, 5: 50}), [(5, 50), (7, 70)]):
+            with elltree.open_shared(start, cards=9) as shared:
+                self.assertEqual(list(shared.items()), [(5, 50), (7, 70)])
 
     def test_is_in_one_call_at_a_time(self):
         answers = []

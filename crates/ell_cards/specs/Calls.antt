@@ -1,7 +1,7 @@
 use Rattle.std.specs.Prelude.{◌≡◌, ◌≢◌, ℕ, ◌+◌, ◌<◌, ◌≤◌, ◌==◌, ◌%◌, if◌then◌else◌, Bool, false, Option, Some, None, is_some}
 use Rattle.ell_ops.specs.declared.op.Op.{Op}
 use Rattle.ell_ops.specs.Meaning.{key_of}
-use Rattle.ell_word.specs.declared.gate.Kind.TheVariants as kind
+use Rattle.ell_core.specs.declared.exchange.Exchange.TheVariants as exchange
 use Rattle.ell_word.specs.Node.{IsInternal, card}
 use Rattle.ell_word.specs.Word.{packed, unpacked}
 use Rattle.ell_core.specs.declared.event.Act.{Act}
@@ -9,13 +9,12 @@ use Rattle.ell_core.specs.declared.event.Act.TheVariants as act
 use Rattle.ell_core.specs.declared.event.Stepped.{Stepped}
 use Rattle.ell_core.specs.declared.event.Stepped.TheVariants.{Moved, Answered}
 use Rattle.ell_core.specs.declared.fact.Fact.TheVariants as fact
-use Rattle.ell_core.specs.declared.field.Field.{Field}
-use Rattle.ell_core.specs.declared.field.Field.TheVariants as field
-use Rattle.ell_core.specs.state.Layout.{address}
-use Rattle.ell_core.specs.state.Words.{key_field, value_field, child_field}
+use Rattle.ell_layout.specs.declared.field.Field.{Field}
+use Rattle.ell_layout.specs.declared.field.Field.TheVariants as field
+use Rattle.ell_layout.specs.Layout.{address}
+use Rattle.ell_layout.specs.Words.{key_field, value_field, child_field, IsLeaf}
 use Rattle.ell_core.specs.state.Machine.{Machine, ledger_of, worker_of}
-use Rattle.ell_core.specs.state.Cards.{iflag, dflag, marked, clean}
-use Rattle.ell_core.specs.acts.Searching.{IsLeaf}
+use Rattle.ell_layout.specs.Cards.{iflag, dflag, marked, clean}
 use Rattle.ell_core.specs.acts.Exchanges.{won_or_lost}
 use Rattle.ell_core.specs.acts.Events.{Steps}
 use Rattle.ell_core.specs.statements.Effects.{AnswersAsMap, contents_in}
@@ -117,14 +116,19 @@ after call.Look n v = after_look n v
 after (call.LookDown from key right) n v = after_look_down from key right n v
 after (call.Claim c) n v = after_claim (n == c) c v
 after (call.Fill c f value) n v = after_fill f value v
-after (call.IFlag c p from) n v = exchanged (if_won (n == packed from) kind.IFlag c) n (after_flag (n == packed from) (fact.IFlagged c) p (unpacked n) v)
-after (call.IChild c p l q right) n v = exchanged (if_won (n == l) kind.IChild c) n (learning (fact.IChanged c) v)
-after (call.IUnflag c p) n v = exchanged (if_won (n == iflag c) kind.IUnflag c) n (learning (fact.IOver c) v)
-after (call.DFlag c gp from) n v = exchanged (if_won (n == packed from) kind.DFlag c) n (after_flag (n == packed from) (fact.DFlagged c) gp (unpacked n) v)
-after (call.Mark c p was) n v = exchanged (if_won (n == was) kind.Mark c) n (after_mark (n == was) c p (unpacked n) v)
-after (call.DChild c gp p s right) n v = exchanged (if_won (n == p) kind.DChild c) n (learning (fact.Cut c) v)
-after (call.DUnflag c gp) n v = exchanged (if_won (n == dflag c) kind.DUnflag c) n (learning (fact.DOver c) v)
-after (call.Backtrack c gp) n v = exchanged (if_won (n == dflag c) kind.Backtrack c) n (learning (fact.Backed c) v)
+after (call.IFlag c p from) n v =
+    exchanged (if_won (n == packed from) exchange.IFlag c) n
+    (after_flag (n == packed from) (fact.IFlagged c) p (unpacked n) v)
+after (call.IChild c p l q right) n v = exchanged (if_won (n == l) exchange.IChild c) n (learning (fact.IChanged c) v)
+after (call.IUnflag c p) n v = exchanged (if_won (n == iflag c) exchange.IUnflag c) n (learning (fact.IOver c) v)
+after (call.DFlag c gp from) n v =
+    exchanged (if_won (n == packed from) exchange.DFlag c) n
+    (after_flag (n == packed from) (fact.DFlagged c) gp (unpacked n) v)
+after (call.Mark c p was) n v =
+    exchanged (if_won (n == was) exchange.Mark c) n (after_mark (n == was) c p (unpacked n) v)
+after (call.DChild c gp p s right) n v = exchanged (if_won (n == p) exchange.DChild c) n (learning (fact.Cut c) v)
+after (call.DUnflag c gp) n v = exchanged (if_won (n == dflag c) exchange.DUnflag c) n (learning (fact.DOver c) v)
+after (call.Backtrack c gp) n v = exchanged (if_won (n == dflag c) exchange.Backtrack c) n (learning (fact.Backed c) v)
 
 -- what a call asks of what the pass knows
 abbrev pub May : ℕ → Call → View → Type 0

@@ -3,21 +3,21 @@ use Rattle.ell_ops.specs.Meaning.{greatest_key}
 use Rattle.ell_ops.specs.KeySet.{set_of}
 use Rattle.ell_ops.specs.declared.op.Op.{Op}
 use Rattle.ell_ops.specs.declared.op.Op.TheVariants.{Insert, Delete, Swap}
-use Rattle.ell_word.specs.declared.gate.Kind.{Kind}
-use Rattle.ell_word.specs.declared.gate.Kind.TheVariants as kind
+use Rattle.ell_core.specs.declared.exchange.Exchange.{Exchange}
+use Rattle.ell_core.specs.declared.exchange.Exchange.TheVariants as exchange
 use Rattle.ell_word.specs.declared.update.Update.{Update}
 use Rattle.ell_word.specs.declared.update.State.{State}
 use Rattle.ell_word.specs.declared.update.State.TheVariants as state
 use Rattle.ell_word.specs.Word.{packed, unpacked}
 use Rattle.ell_core.specs.declared.fact.Fact.{Fact}
 use Rattle.ell_core.specs.declared.fact.Fact.TheVariants as fact
-use Rattle.ell_core.specs.declared.field.Field.{Field}
-use Rattle.ell_core.specs.declared.field.Field.TheVariants.{Gp, P, L, Left, Right, Update as UpdateField}
+use Rattle.ell_layout.specs.declared.field.Field.{Field}
+use Rattle.ell_layout.specs.declared.field.Field.TheVariants.{Gp, P, L, Left, Right, Update as UpdateField}
 use Rattle.ell_core.specs.declared.view.Search.{Search}
 use Rattle.ell_core.specs.declared.view.Seen.{Seen}
 use Rattle.ell_core.specs.declared.view.WorkerView.{WorkerView}
 use Rattle.ell_core.specs.state.Machine.{no_search}
-use Rattle.ell_core.specs.state.Cards.{insert_filling, delete_filling}
+use Rattle.ell_layout.specs.Cards.{insert_filling, delete_filling}
 use Rattle.ell_core.specs.acts.Searching.{with_read, at_root}
 use Rattle.ell_core.specs.state.Opening.{keys_at_start}
 use Rattle.ell_core.specs.statements.Readers.{from_of, upto_of}
@@ -119,12 +119,12 @@ abbrev pub learning : Fact → View → View
 learning new v = record v { worker = record (v.worker) { facts = new ∷ v.worker.facts } }
 
 -- an exchange of a kind for a card, if it was won
-abbrev pub if_won : Bool → Kind → ℕ → List (Kind × ℕ)
+abbrev pub if_won : Bool → Exchange → ℕ → List (Exchange × ℕ)
 if_won true k c = (k, c) ∷ []
 if_won false k c = []
 
 -- an exchange found this word, and won this
-abbrev pub exchanged : List (Kind × ℕ) → ℕ → View → View
+abbrev pub exchanged : List (Exchange × ℕ) → ℕ → View → View
 exchanged wins n v = record v { found = Some n; won = wins ++ v.won; made = v.made + 1 }
 
 -- what an exchange of an update word that found this answers
@@ -346,7 +346,7 @@ after_claim true c v = record v {
   told = told_filling c (filling_of c v) v.told;
   planned = filling_of c v;
   stores = [];
-  won = (kind.Claim, c) ∷ v.won;
+  won = (exchange.Claim, c) ∷ v.won;
   next_at_least = c + 1;
   made = v.made + 1;
 }

@@ -5,9 +5,9 @@ use Rattle.ell_ops.specs.declared.op.Op.{Op}
 use Rattle.ell_ops.specs.declared.op.Op.TheVariants.{Find, Insert, Delete, Swap}
 use Rattle.ell_ops.specs.declared.reply.Reply.{Reply}
 use Rattle.ell_ops.specs.Meaning.{key_of, reply_of, after, final}
-use Rattle.ell_word.specs.declared.gate.Kind.{Kind}
-use Rattle.ell_word.specs.declared.gate.Kind.TheVariants as kind
-use Rattle.ell_core.specs.state.Words.{Words}
+use Rattle.ell_core.specs.declared.exchange.Exchange.{Exchange}
+use Rattle.ell_core.specs.declared.exchange.Exchange.TheVariants as exchange
+use Rattle.ell_layout.specs.Words.{Words}
 use Rattle.ell_core.specs.acts.Searching.{leaf_answer}
 use Rattle.ell_core.specs.statements.Effects.{reply_of_change, MakesChange, op_of_card}
 use Rattle.ell_cards.specs.declared.view.View.{View}
@@ -20,7 +20,7 @@ use Rattle.ell_cards.specs.Looking.{WasSo}
 use Rattle.ell_ops.specs.Contents.{Contents, contents_of}
 use Rattle.ell_core.specs.tree.Tree.{IsTreePair}
 use Rattle.ell_cards.specs.Starts.{Starts}
-use Rattle.ell_core.specs.state.Cards.{card_key, card_value}
+use Rattle.ell_layout.specs.Cards.{card_key, card_value}
 use Rattle.ell_cards.specs.declared.call.Call.{Call}
 use Rattle.ell_cards.specs.declared.call.Call.TheVariants as call
 use Rattle.ell_cards.specs.Calls.{is_won, atomic_of}
@@ -42,11 +42,11 @@ pub record SaysWhatWas (cards : ℕ) (op : Op) (begun : TableState) (turns : Lis
   pub so : WasSo cards begun turns s' (key_of op) there
 
 -- the win by which a card's operation changes the tree
-abbrev pub change_of : Op → List Kind
+abbrev pub change_of : Op → List Exchange
 change_of (Find key) = []
-change_of (Insert key value) = kind.IChild ∷ []
-change_of (Delete key) = kind.DChild ∷ []
-change_of (Swap key was value) = kind.IChild ∷ []
+change_of (Insert key value) = exchange.IChild ∷ []
+change_of (Delete key) = exchange.DChild ∷ []
+change_of (Swap key was value) = exchange.IChild ∷ []
 
 -- a delete finds its key with the value that goes with its card
 abbrev pub FindsItsValue : Op → ℕ → Words → Type 0

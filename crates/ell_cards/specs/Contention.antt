@@ -1,6 +1,6 @@
 use Rattle.std.specs.Prelude.{◌≡◌, ℕ, zero, suc, ◌+◌, ◌*◌, ◌≤◌, ◌==◌, ◌&&◌, ◌||◌, not, nat_le, if◌then◌else◌, Bool, true, false, is_some, List, [], ◌∷◌}
-use Rattle.ell_word.specs.declared.gate.Kind.{Kind}
-use Rattle.ell_word.specs.declared.gate.Kind.TheVariants as kind
+use Rattle.ell_core.specs.declared.exchange.Exchange.{Exchange}
+use Rattle.ell_core.specs.declared.exchange.Exchange.TheVariants as exchange
 use Rattle.ell_cards.specs.declared.view.View.{View}
 use Rattle.ell_cards.specs.TurnEffects.{own_words}
 use Rattle.ell_cards.specs.Meanwhile.{SearchRun}
@@ -12,11 +12,11 @@ how_many zero so = 0
 how_many (suc n) so = (if so n then 1 else 0) + how_many n so
 
 -- whether the claim of a card is among these wins
-abbrev pub is_claim : Kind → Bool
-is_claim kind.Claim = true
+abbrev pub is_claim : Exchange → Bool
+is_claim exchange.Claim = true
 is_claim _ = false
 
-abbrev pub has_claimed : List (Kind × ℕ) → ℕ → Bool
+abbrev pub has_claimed : List (Exchange × ℕ) → ℕ → Bool
 has_claimed [] c = false
 has_claimed (win ∷ wins) c = (is_claim win.0 && (c == win.1)) || has_claimed wins c
 

@@ -6,13 +6,14 @@ use Rattle.ell_word.specs.declared.update.Update.{Update}
 use Rattle.ell_word.specs.Node.{IsInternal}
 use Rattle.ell_word.specs.Word.{packed}
 use Rattle.ell_core.specs.declared.fact.Fact.TheVariants.{IFlagged, IChanged, IOver, DFlagged, Marked, Unmarkable, Cut, DOver, Backed}
-use Rattle.ell_core.specs.declared.field.Field.{Field}
-use Rattle.ell_core.specs.declared.field.Field.TheVariants as field
+use Rattle.ell_layout.specs.declared.field.Field.{Field}
+use Rattle.ell_layout.specs.declared.field.Field.TheVariants as field
 use Rattle.ell_core.specs.declared.put.Put.{Put}
 use Rattle.ell_core.specs.declared.view.Seen.{Seen}
 use Rattle.ell_core.specs.state.Machine.{worker_of}
-use Rattle.ell_core.specs.state.Cards.{stored, brought_by}
-use Rattle.ell_core.specs.acts.Searching.{put_of, IsLeaf, IsClean, leaf_answer}
+use Rattle.ell_layout.specs.Cards.{stored, brought_by}
+use Rattle.ell_core.specs.acts.Searching.{put_of, IsClean, leaf_answer}
+use Rattle.ell_layout.specs.Words.{IsLeaf}
 use Rattle.ell_cards.specs.declared.view.Told.TheVariants.{Met, Key, Value, Info, Frozen}
 use Rattle.ell_cards.specs.declared.glance.Glance.{Glance}
 use Rattle.ell_cards.specs.declared.view.View.{View}

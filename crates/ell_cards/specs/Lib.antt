@@ -63,11 +63,11 @@ pub use Rattle.ell_ops.specs.KeySet
 pub use Rattle.ell_ops.specs.Meaning
 pub use Rattle.ell_word.specs.Node
 pub use Rattle.ell_word.specs.Word
-pub use Rattle.ell_core.specs.state.Cards
-pub use Rattle.ell_core.specs.state.Layout
+pub use Rattle.ell_layout.specs.Cards
+pub use Rattle.ell_layout.specs.Layout
 pub use Rattle.ell_core.specs.state.Machine
 pub use Rattle.ell_core.specs.state.Opening
-pub use Rattle.ell_core.specs.state.Words
+pub use Rattle.ell_layout.specs.Words
 pub use Rattle.ell_core.specs.acts.Searching
 pub use Rattle.ell_core.specs.statements.Effects
 -- which keys go to a child

@@ -5,13 +5,13 @@ use Rattle.ell_ops.specs.declared.op.Op.{Op}
 use Rattle.ell_ops.specs.Meaning.{key_of}
 use Rattle.ell_core.specs.declared.fact.Fact.TheVariants.{DOver}
 use Rattle.ell_core.specs.declared.fact.Fact.{Fact}
-use Rattle.ell_core.specs.declared.field.Field.TheVariants.{Left, Right, Update}
-use Rattle.ell_core.specs.declared.field.Field.{Field}
-use Rattle.ell_core.specs.state.Layout.{listed, table_size}
-use Rattle.ell_core.specs.state.Words.{Words, word}
+use Rattle.ell_layout.specs.declared.field.Field.TheVariants.{Left, Right, Update}
+use Rattle.ell_layout.specs.declared.field.Field.{Field}
+use Rattle.ell_layout.specs.Layout.{listed, table_size}
+use Rattle.ell_layout.specs.Words.{Words, word}
 use Rattle.ell_core.specs.state.Facts.{known_of}
 use Rattle.ell_core.specs.state.Machine.{worker_of}
-use Rattle.ell_core.specs.state.Cards.{marked, stored}
+use Rattle.ell_layout.specs.Cards.{marked, stored}
 use Rattle.ell_core.specs.soundness.Sound.{WorkerOwns}
 use Rattle.ell_core.specs.history.Invariant.{Invariant}
 use Rattle.ell_core.specs.history.Stages.{Stages, Born, waits}

@@ -3,8 +3,8 @@ use mathlib.Core.Option.{some}
 use lib.ListN.{get_elem?}
 use Rattle.ell_word.specs.Word.{unpacked}
 use Rattle.ell_word.specs.declared.update.State.TheVariants as state
-use Rattle.ell_word.specs.declared.gate.Kind.{Kind}
-use Rattle.ell_word.specs.declared.gate.Kind.TheVariants as kind
+use Rattle.ell_core.specs.declared.exchange.Exchange.{Exchange}
+use Rattle.ell_core.specs.declared.exchange.Exchange.TheVariants as exchange
 use Rattle.ell_core.specs.declared.view.Seen.{Seen}
 use Rattle.ell_core.specs.acts.Searching.{at_root}
 use Rattle.ell_cards.specs.declared.call.Call.{Call}
@@ -20,14 +20,14 @@ use Rattle.ell_cards.specs.TurnEffects.{own_words, run_wins}
 use Rattle.ell_cards.specs.Starts.{Starts}
 
 -- whether a win ends what its card was for: it takes the card's flag away
-abbrev pub is_end : Kind → Bool
-is_end kind.IUnflag = true
-is_end kind.DUnflag = true
-is_end kind.Backtrack = true
+abbrev pub is_end : Exchange → Bool
+is_end exchange.IUnflag = true
+is_end exchange.DUnflag = true
+is_end exchange.Backtrack = true
 is_end _ = false
 
 -- whether one of these wins does
-abbrev pub has_end : List Kind → Bool
+abbrev pub has_end : List Exchange → Bool
 has_end [] = false
 has_end (k ∷ ks) = is_end k || has_end ks
 

@@ -6,8 +6,8 @@ use Rattle.ell_word.specs.declared.update.State.{State}
 use Rattle.ell_word.specs.declared.update.State.TheVariants as state
 use Rattle.ell_core.specs.declared.fact.Fact.{Fact}
 use Rattle.ell_core.specs.declared.fact.Fact.TheVariants.{IFlagged, DFlagged, Marked, IOver, DOver, Backed}
-use Rattle.ell_core.specs.declared.field.Field.{Field}
-use Rattle.ell_core.specs.state.Layout.{place}
+use Rattle.ell_layout.specs.declared.field.Field.{Field}
+use Rattle.ell_layout.specs.Layout.{place}
 use Rattle.ell_core.specs.state.Facts.{known_of}
 use Rattle.ell_core.specs.state.Machine.{Ledger, ledger_of}
 use Rattle.ell_cards.specs.declared.fault.CardFault.{CardFault}

@@ -1,5 +1,5 @@
 use Rattle.std.specs.Prelude.{◌≡◌, ℕ, ◌≤◌, List, [], ◌++◌}
-use Rattle.ell_word.specs.declared.gate.Kind.{Kind}
+use Rattle.ell_core.specs.declared.exchange.Exchange.{Exchange}
 use Rattle.ell_core.specs.history.Later.{wins_of}
 use Rattle.ell_core.specs.acts.Wins.{InOrder}
 use Rattle.ell_core.specs.statements.RunLaws.{IsOpening}
@@ -12,7 +12,8 @@ use Rattle.ell_cards.specs.Laws.{machine_of_table}
 use Rattle.ell_cards.specs.Models.{TablePlan}
 
 -- what was won for a card up to a state that has a machine, by its stage there
-abbrev pub won_before : (keys : List ℕ) (cards : ℕ) (s : TableState) → HasMachine keys cards s → ℕ → List Kind
+abbrev pub won_before :
+    (keys : List ℕ) (cards : ℕ) (s : TableState) → HasMachine keys cards s → ℕ → List Exchange
 won_before keys cards s r c = wins_of (r.stages c)
 
 -- what was won for each card before, none for card 0 and for one that is yet to be claimed, goes on in order in every run

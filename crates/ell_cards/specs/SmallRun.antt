@@ -4,10 +4,10 @@ use lib.ListN.{get_elem?}
 use Rattle.ell_ops.specs.declared.op.Op.TheVariants.{Find, Insert, Delete}
 use Rattle.ell_ops.specs.declared.reply.Reply.TheVariants.{Yes}
 use Rattle.ell_word.specs.declared.update.State.TheVariants as state
-use Rattle.ell_word.specs.declared.gate.Kind.TheVariants as kind
-use Rattle.ell_core.specs.declared.field.Field.TheVariants as field
+use Rattle.ell_core.specs.declared.exchange.Exchange.TheVariants as exchange
+use Rattle.ell_layout.specs.declared.field.Field.TheVariants as field
 use Rattle.ell_core.specs.declared.view.Entry.TheVariants.{Absent, Present}
-use Rattle.ell_core.specs.tree.Tree.{infinity1}
+use Rattle.ell_word.specs.Node.{infinity1}
 use Rattle.ell_cards.specs.declared.call.Call.TheVariants as call
 use Rattle.ell_cards.specs.declared.view.View.{View}
 use Rattle.ell_cards.specs.Models.{TablePlan}
@@ -95,9 +95,12 @@ pub record SmallRunIsMade : Type 0 where
   pub starts : Starts small_plan first
   pub last : TableState
   pub run : TableRun small_plan.last_card first small_run last
-  pub delete_lost : run_wins small_plan.last_card first small_run last run 2 ≡ kind.DFlag ∷ kind.Backtrack ∷ []
-  pub insert_made : run_wins small_plan.last_card first small_run last run 3 ≡ kind.IFlag ∷ kind.IChild ∷ kind.IUnflag ∷ []
-  pub delete_made : run_wins small_plan.last_card first small_run last run 4 ≡ kind.DFlag ∷ kind.Mark ∷ kind.DChild ∷ kind.DUnflag ∷ []
+  pub delete_lost :
+    run_wins small_plan.last_card first small_run last run 2 ≡ exchange.DFlag ∷ exchange.Backtrack ∷ []
+  pub insert_made :
+    run_wins small_plan.last_card first small_run last run 3 ≡ exchange.IFlag ∷ exchange.IChild ∷ exchange.IUnflag ∷ []
+  pub delete_made :
+    run_wins small_plan.last_card first small_run last run 4 ≡ exchange.DFlag ∷ exchange.Mark ∷ exchange.DChild ∷ exchange.DUnflag ∷ []
   pub view : View
   pub there : get_elem? last.views 0 ≡ some view
   pub ledger : view.worker.ledger ≡ (5, Absent) ∷ (7, Present 70) ∷ []

@@ -7,9 +7,9 @@ use Rattle.ell_ops.specs.declared.op.Op.{Op}
 use Rattle.ell_ops.specs.KeySet.{set_of}
 use Rattle.ell_ops.specs.Contents.{contents_of}
 use Rattle.ell_ops.specs.Meaning.{greatest_key, key_of}
-use Rattle.ell_core.specs.state.Layout.{table_size}
-use Rattle.ell_core.specs.state.Words.{words_of}
-use Rattle.ell_core.specs.state.Opening.{start_words}
+use Rattle.ell_layout.specs.Layout.{table_size}
+use Rattle.ell_layout.specs.Words.{words_of}
+use Rattle.ell_layout.specs.Start.{start_words}
 use Rattle.ell_core.specs.tree.Tree.{IsTreePair}
 use Rattle.ell_core.specs.soundness.Sound.{IsSound}
 use Rattle.ell_core.specs.acts.Wins.{InOrder}

@@ -2,7 +2,7 @@ use Rattle.std.specs.Prelude.{ℕ, List, length}
 use mathlib.Core.Option.{Option, some, none}
 use lib.ListN.{get_elem?}
 use Rattle.atomic_table.specs.Table.{State}
-use Rattle.ell_core.specs.state.Words.{Words}
+use Rattle.ell_layout.specs.Words.{Words}
 use Rattle.ell_core.specs.state.Machine.{Worker, Machine, nobody, worker_of}
 use Rattle.ell_cards.specs.declared.view.View.{View}
 

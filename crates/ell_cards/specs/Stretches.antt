@@ -1,6 +1,6 @@
 use Rattle.std.specs.Prelude.{◌≡◌, ℕ, ◌+◌, ◌*◌, ◌≤◌, ◌&&◌, if◌then◌else◌, Bool, true, false, List, [], ◌∷◌, is_some, length}
 use Rattle.ell_word.specs.Node.{IsInternal}
-use Rattle.ell_core.specs.state.Words.{Words}
+use Rattle.ell_layout.specs.Words.{Words}
 use Rattle.ell_core.specs.tree.Tree.{Leads}
 use Rattle.ell_cards.specs.declared.call.Call.{Call}
 use Rattle.ell_cards.specs.declared.call.Call.TheVariants as call

@@ -3,11 +3,11 @@ use mathlib.Core.Option.{some}
 use lib.ListN.{get_elem?}
 use Rattle.ell_ops.specs.declared.op.Op.{Op}
 use Rattle.ell_ops.specs.declared.op.Op.TheVariants.{Delete}
-use Rattle.ell_word.specs.declared.gate.Kind.{Kind}
-use Rattle.ell_word.specs.declared.gate.Kind.TheVariants as kind
-use Rattle.ell_core.specs.state.Words.{Words, words_of}
+use Rattle.ell_core.specs.declared.exchange.Exchange.{Exchange}
+use Rattle.ell_core.specs.declared.exchange.Exchange.TheVariants as exchange
+use Rattle.ell_layout.specs.Words.{Words, words_of}
 use Rattle.ell_core.specs.state.Machine.{Machine, ledger_of, worker_of}
-use Rattle.ell_core.specs.state.Cards.{card_key, card_value}
+use Rattle.ell_layout.specs.Cards.{card_key, card_value}
 use Rattle.ell_core.specs.soundness.Sound.{IsSound}
 use Rattle.ell_core.specs.acts.Wins.{win_for}
 use Rattle.ell_core.specs.statements.Effects.{MakesChange, op_of_card, TakesPair, SamePairs, AnswersAsMap}
@@ -93,23 +93,24 @@ TurnsDo cards s [] s' run = Unit {0}
 TurnsDo cards s (t ∷ ts) s' run = TurnDoes cards s t run.0 run.1 × TurnsDo cards run.0 ts s' run.2
 
 -- what a call wins for a card, if it is a won exchange
-abbrev pub win_of : Call → ℕ → List Kind
-win_of (call.IFlag c p from) d = win_for (Some c) kind.IFlag d
-win_of (call.IChild c p l q right) d = win_for (Some c) kind.IChild d
-win_of (call.IUnflag c p) d = win_for (Some c) kind.IUnflag d
-win_of (call.DFlag c gp from) d = win_for (Some c) kind.DFlag d
-win_of (call.Mark c p was) d = win_for (Some c) kind.Mark d
-win_of (call.DChild c gp p s right) d = win_for (Some c) kind.DChild d
-win_of (call.DUnflag c gp) d = win_for (Some c) kind.DUnflag d
-win_of (call.Backtrack c gp) d = win_for (Some c) kind.Backtrack d
+abbrev pub win_of : Call → ℕ → List Exchange
+win_of (call.IFlag c p from) d = win_for (Some c) exchange.IFlag d
+win_of (call.IChild c p l q right) d = win_for (Some c) exchange.IChild d
+win_of (call.IUnflag c p) d = win_for (Some c) exchange.IUnflag d
+win_of (call.DFlag c gp from) d = win_for (Some c) exchange.DFlag d
+win_of (call.Mark c p was) d = win_for (Some c) exchange.Mark d
+win_of (call.DChild c gp p s right) d = win_for (Some c) exchange.DChild d
+win_of (call.DUnflag c gp) d = win_for (Some c) exchange.DUnflag d
+win_of (call.Backtrack c gp) d = win_for (Some c) exchange.Backtrack d
 win_of _ d = []
 
 -- what a turn wins for a card
-abbrev pub turn_wins : TableState → Turn → ℕ → List Kind
+abbrev pub turn_wins : TableState → Turn → ℕ → List Exchange
 turn_wins s (Makes seat c) d = if is_won (atomic_of c) (found_by s c) then win_of c d else []
 turn_wins s _ d = []
 
 -- what a run wins for a card, in its order
-abbrev pub run_wins : (cards : ℕ) (s : TableState) (turns : List Turn) (s' : TableState) → TableRun cards s turns s' → ℕ → List Kind
+abbrev pub run_wins :
+    (cards : ℕ) (s : TableState) (turns : List Turn) (s' : TableState) → TableRun cards s turns s' → ℕ → List Exchange
 run_wins cards s [] s' run d = []
 run_wins cards s (t ∷ ts) s' run d = turn_wins s t d ++ run_wins cards run.0 ts s' run.2 d

@@ -1,6 +1,6 @@
 //! The step calls as data, so that a law can speak of all of them.
 use crate::glance::Glance;
-use ell_core::Field;
+use ell_layout::Field;
 use ell_ops::{Op, Reply};
 use ell_word::Update;
 

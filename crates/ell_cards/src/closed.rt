@@ -3,15 +3,16 @@ ghost use Rattle.std.specs.Prelude.{◌≡◌, ◌≢◌, ◌≤◌, length, Non
 ghost use Rattle.std.specs.List.{All};
 ghost use Rattle.std.specs.Slots.{slots_items, slots_len, IsFull};
 ghost use Rattle.ell_word.specs.Node.{card, greatest_card, IsNode};
-ghost use Rattle.ell_core.specs.state.Layout.{listed, table_size};
-ghost use Rattle.ell_core.specs.state.Words.{words_of};
+ghost use Rattle.ell_layout.specs.Layout.{listed, table_size};
+ghost use Rattle.ell_layout.specs.Words.{words_of};
 ghost use Rattle.ell_core.specs.state.Machine.{ledger_of};
 ghost use Rattle.ell_cards.specs.Models.{IsFree, whole_share};
 ghost use Rattle.ell_cards.specs.Closed.{ClosedModel, TableEnds};
 
 use crate::pass::Pass;
 use crate::table::CardTable;
-use ell_core::{Field, TreeWords, child_field, key_field, value_field};
+use ell_core::TreeWords;
+use ell_layout::{Field, child_field, key_field, value_field};
 use ell_word::card_of;
 use std::alloc::Allocator;
 use std::marker::Model;
@@ -42,7 +43,10 @@ impl<A: Allocator + Copy> CardTable<A> {
         requires free { IsFree pass.view }
         requires whole { self.plan.shared ≡ true → pass.view.share ≡ whole_share }
         requires all { All (λ k. ledger_of pass.view.worker.ledger k ≢ None) self.plan.keys }
+        // A run from the table's start led to the words. Of the keys that have owners their tree has those that the
+        // pass has present, with their values; its other keys are shared.
         ensures ends { TableEnds self.plan pass.view result }
+        // The number of the last card stays.
         ensures cards { result.last_card ≡ self.plan.last_card }
     {
         let CardTable {
@@ -68,6 +72,7 @@ impl<A: Allocator + Copy> CardTable<A> {
 impl<A: Allocator + Copy> Closed<A> {
     /// The number of the last card, at most `CARD_MAX`.
     pub fn last_card(&self) -> u64
+        // Returns the number of the last card.
         ensures cards { result ≡ self.now.last_card }
         ensures limit { result ≤ greatest_card }
     {
@@ -77,6 +82,7 @@ impl<A: Allocator + Copy> Closed<A> {
     /// A word of a card.
     pub fn word(&self, card: u64, field: Field) -> u64
         requires { card ≤ self.now.last_card }
+        // Returns the word in the card's field.
         ensures { result ≡ listed self.now.words card field }
     {
         self.closed.word(field.address(card))

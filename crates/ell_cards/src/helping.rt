@@ -2,9 +2,9 @@
 //! is one atomic step.
 ghost use Rattle.std.specs.Prelude.{◌≡◌, ◌≢◌, ◌≤◌, ◌<◌, is_ok, IfErr};
 ghost use Rattle.ell_word.specs.Word.{packed, unpacked};
-ghost use Rattle.ell_word.specs.declared.gate.Kind.TheVariants as kind;
+ghost use Rattle.ell_core.specs.declared.exchange.Exchange.TheVariants as exchange;
 ghost use Rattle.ell_core.specs.declared.fact.Fact.TheVariants.{IChanged, IOver, Cut, DOver, Backed};
-ghost use Rattle.ell_core.specs.state.Cards.{iflag, dflag};
+ghost use Rattle.ell_layout.specs.Cards.{iflag, dflag};
 ghost use Rattle.ell_cards.specs.Models.{Steps, InTable};
 ghost use Rattle.ell_cards.specs.Changes.{after_info, after_frozen_child, after_mark, learning, if_won, exchanged, found_update, found_word, found_child};
 ghost use Rattle.ell_cards.specs.Guards.{MayAsk, MaySee, MayIChild, MayIUnflag, MayMark, MayDChild, MayDUnflag, MayBacktrack};
@@ -15,7 +15,7 @@ use crate::outcomes::{child_outcome, update_outcome};
 use crate::pass::Pass;
 use crate::places::{child_at, update_at};
 use crate::table::CardTable;
-use ell_core::{Field, update_word};
+use ell_layout::{Field, update_word};
 use ell_word::{State, Update};
 use std::alloc::Allocator;
 
@@ -26,7 +26,9 @@ impl<A: Allocator + Copy> CardTable<A> {
     pub fn info(&self, pass: &mut Pass<A>, card: u64, field: Field) -> u64
         requires own { pass.old.table ≡ self.now.id }
         requires may { MayAsk pass.old.view card field }
+        // It makes one step and counts it. The pass then knows exactly what this call tells.
         ensures step { Steps pass.old pass.new (after_info card field result pass.old.view) }
+        // A node that the card names is one of the table, each below the one before: grandparent, parent, leaf.
         ensures node { TellsNode self.now.plan.last_card field result }
         ensures depth { TellsDepth pass.old.view card field result }
     {
@@ -39,7 +41,9 @@ impl<A: Allocator + Copy> CardTable<A> {
     pub fn frozen_child(&self, pass: &mut Pass<A>, card: u64, parent: u64, right: bool) -> u64
         requires own { pass.old.table ≡ self.now.id }
         requires may { MaySee pass.old.view card parent }
+        // It makes one step and counts it. The pass then knows exactly what this call tells.
         ensures step { Steps pass.old pass.new (after_frozen_child card right result pass.old.view) }
+        // The child has a greater number, and is a node of the table.
         ensures greater { parent < result }
         ensures there { InTable self.now.plan.last_card result }
     {
@@ -62,8 +66,10 @@ impl<A: Allocator + Copy> CardTable<A> {
     ) -> Result<(), u64>
         requires own { pass.old.table ≡ self.now.id }
         requires may { MayIChild pass.old.view card parent leaf node right }
-        ensures step { Steps pass.old pass.new (exchanged (if_won (is_ok result) kind.IChild card)
+        // It makes one step and counts it. The pass then knows exactly what this call tells.
+        ensures step { Steps pass.old pass.new (exchanged (if_won (is_ok result) exchange.IChild card)
             (found_child leaf result) (learning (IChanged card) pass.old.view)) }
+        // If the exchange is lost, it has found another word than the expected one.
         ensures lost { IfErr result (λ found. found ≢ leaf) }
     {
         self.names(pass);
@@ -77,8 +83,10 @@ impl<A: Allocator + Copy> CardTable<A> {
     pub fn iunflag(&self, pass: &mut Pass<A>, card: u64, parent: u64) -> Result<(), Update>
         requires own { pass.old.table ≡ self.now.id }
         requires may { MayIUnflag pass.old.view card parent }
-        ensures step { Steps pass.old pass.new (exchanged (if_won (is_ok result) kind.IUnflag card)
+        // It makes one step and counts it. The pass then knows exactly what this call tells.
+        ensures step { Steps pass.old pass.new (exchanged (if_won (is_ok result) exchange.IUnflag card)
             (found_word (iflag card) result) (learning (IOver card) pass.old.view)) }
+        // If the exchange is lost, it has found another word than the expected one.
         ensures lost { IfErr result (λ found. packed found ≢ iflag card) }
     {
         self.names(pass);
@@ -95,9 +103,11 @@ impl<A: Allocator + Copy> CardTable<A> {
     pub fn mark(&self, pass: &mut Pass<A>, card: u64, parent: u64, was: u64) -> Result<(), Update>
         requires own { pass.old.table ≡ self.now.id }
         requires may { MayMark pass.old.view card parent was }
-        ensures step { Steps pass.old pass.new (exchanged (if_won (is_ok result) kind.Mark card)
+        // It makes one step and counts it. The pass then knows exactly what this call tells.
+        ensures step { Steps pass.old pass.new (exchanged (if_won (is_ok result) exchange.Mark card)
             (found_word was result) (after_mark (is_ok result) card parent (found_update (unpacked was) result)
             pass.old.view)) }
+        // If the exchange is lost, it has found another word than the expected one, of a card of the table.
         ensures lost { IfErr result (λ found. packed found ≢ was) }
         ensures card { IfErr result (λ found. found.card ≤ self.now.plan.last_card) }
     {
@@ -122,8 +132,10 @@ impl<A: Allocator + Copy> CardTable<A> {
     ) -> Result<(), u64>
         requires own { pass.old.table ≡ self.now.id }
         requires may { MayDChild pass.old.view card grandparent parent sibling right }
-        ensures step { Steps pass.old pass.new (exchanged (if_won (is_ok result) kind.DChild card)
+        // It makes one step and counts it. The pass then knows exactly what this call tells.
+        ensures step { Steps pass.old pass.new (exchanged (if_won (is_ok result) exchange.DChild card)
             (found_child parent result) (learning (Cut card) pass.old.view)) }
+        // If the exchange is lost, it has found another word than the expected one.
         ensures lost { IfErr result (λ found. found ≢ parent) }
     {
         self.names(pass);
@@ -138,8 +150,10 @@ impl<A: Allocator + Copy> CardTable<A> {
     pub fn dunflag(&self, pass: &mut Pass<A>, card: u64, grandparent: u64) -> Result<(), Update>
         requires own { pass.old.table ≡ self.now.id }
         requires may { MayDUnflag pass.old.view card grandparent }
-        ensures step { Steps pass.old pass.new (exchanged (if_won (is_ok result) kind.DUnflag card)
+        // It makes one step and counts it. The pass then knows exactly what this call tells.
+        ensures step { Steps pass.old pass.new (exchanged (if_won (is_ok result) exchange.DUnflag card)
             (found_word (dflag card) result) (learning (DOver card) pass.old.view)) }
+        // If the exchange is lost, it has found another word than the expected one.
         ensures lost { IfErr result (λ found. packed found ≢ dflag card) }
     {
         self.names(pass);
@@ -156,8 +170,10 @@ impl<A: Allocator + Copy> CardTable<A> {
     pub fn backtrack(&self, pass: &mut Pass<A>, card: u64, grandparent: u64) -> Result<(), Update>
         requires own { pass.old.table ≡ self.now.id }
         requires may { MayBacktrack pass.old.view card grandparent }
-        ensures step { Steps pass.old pass.new (exchanged (if_won (is_ok result) kind.Backtrack card)
+        // It makes one step and counts it. The pass then knows exactly what this call tells.
+        ensures step { Steps pass.old pass.new (exchanged (if_won (is_ok result) exchange.Backtrack card)
             (found_word (dflag card) result) (learning (Backed card) pass.old.view)) }
+        // If the exchange is lost, it has found another word than the expected one.
         ensures lost { IfErr result (λ found. packed found ≢ dflag card) }
     {
         self.names(pass);

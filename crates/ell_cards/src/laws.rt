@@ -27,12 +27,14 @@ ghost use Rattle.ell_cards.specs.RunLaws.{TableWinsAreInOrder, StartsAreKept, Re
 /// one after it, to which the call's event leads, with the answer that the word found gives; or the same one. Since that is so of
 /// whatever machine the table had, it is so of call after call.
 pub fn steps_are_events()
+    // Each step call is one atomic step on one word of the table, and one event of the machine, or none.
     ensures events { StepsAreEvents }
     ensures inside { StepsStayInside }
 {}
 
 /// A split of a pass with nothing in hand, and a join of two, are those of the machine that the table has.
 pub fn splits_and_joins_are_moves()
+    // Each split and each join is one of the machine.
     ensures splits { SplitsAreMoves }
     ensures joins { JoinsAreMoves }
 {}
@@ -41,7 +43,9 @@ pub fn splits_and_joins_are_moves()
 /// those of the ledgers, in which each search stands right, each fact that is known holds, and each flag is some pass's. The
 /// machine that it has is sound too, and its words are the table's, but at cards that still wait for their flag.
 pub fn tables_are_sound()
+    // Wherever turns lead, the table's own words, with what its passes know, are a sound state.
     ensures own { OwnWordsAreSound }
+    // The machine is sound. Its words are the table's own but at cards that wait for their flag.
     ensures machine { MachineIsSound }
     ensures words { MachineHasOwnWords }
 {}
@@ -51,6 +55,7 @@ pub fn tables_are_sound()
 /// they are the same. Whichever pass makes it, a won ichild is of an insert of that key and value that some pass has in hand, and a won dchild of
 /// a delete.
 pub fn table_pairs_change_at_wins()
+    // The tree's pairs change only at won child exchanges, each for an operation that some pass has in hand.
     ensures pairs { TablePairsChangeAtWins }
     ensures operations { TableChangesAreOperations }
 {}
@@ -59,8 +64,11 @@ pub fn table_pairs_change_at_wins()
 /// step call changes a ledger. And the map is the one in the table: each key of the tree that the table's own words make is some
 /// pass's, and a pass with nothing in hand has each of its keys in its ledger as that tree has it, with its value.
 pub fn table_answers_are_the_maps()
+    // Answers on an own key are those of the ledger, and what an idle pass has present is what the tree has of its
+    // keys.
     ensures answers { TableAnswersAreTheMaps }
     ensures ledgers { LedgersTellTheTree }
+    // Each key of the tree that is not shared has an owner.
     ensures owned { TreeKeysAreOwned }
 {}
 
@@ -69,6 +77,7 @@ pub fn table_answers_are_the_maps()
 /// the won ichilds and dchilds alone. A run of step calls is one of the machine, by the events of its calls. And wherever turns have
 /// led a table from its start, it has a machine.
 pub fn runs_are_lawful()
+    // Wherever turns lead, the table has a machine with the invariant, whose run it is.
     ensures turns { RunsAreLawful }
     ensures schedules { RunsAreSchedules }
     ensures reached { ReachedHasMachine }
@@ -77,12 +86,14 @@ pub fn runs_are_lawful()
 /// In every run each card's exchanges are won in order: iflag, ichild, iunflag, or dflag, mark, dchild, dunflag, or dflag,
 /// backtrack, each at most once. What was won before the run counts too, and of a card that is yet to be claimed that is nothing.
 pub fn table_wins_are_in_order()
+    // From any state on that turns lead to, each card's exchanges go on to be won in order, each at most once.
     ensures { TableWinsAreInOrder }
 {}
 
 /// In every run each node that was reached from the root keeps its key, whether it is reached later or not; its children and its
 /// update word only rise, and once that is a mark, neither it nor the children change again.
 pub fn table_nodes_go_on()
+    // Nodes that were reached keep their keys, and their words never become less.
     ensures { TableNodesGoOn }
 {}
 
@@ -91,9 +102,12 @@ pub fn table_nodes_go_on()
 /// with nothing won yet; the keys of its tree are the start keys, with their values, and its one pass may begin any operation on a key
 /// of its own, and on a shared one.
 pub fn tables_start()
+    // There is a table for any keys and start pairs, also one of shared keys. Its machine is an opening, and its tree
+    // has the start pairs.
     ensures tables { TablesStart }
     ensures kept { StartsAreKept }
     ensures keys { StartsHaveTheirKeys }
+    // The first pass may begin any operation on a key of its own, or on a shared one.
     ensures begin { FirstPassMayBegin }
 {}
 
@@ -103,6 +117,8 @@ pub fn tables_start()
 /// finds itself made; the delete is tried again, marks, cuts its node out and answers; the other pass looks for the key that was inserted,
 /// and finds it; and it begins a find, which it lays down.
 pub fn each_call_can_be_made()
+    // What step calls ask can be met: a small run from a start makes each of them, a split and a join. In it a delete
+    // loses its mark to an insert and helps it, and then is made.
     ensures { SmallRunIsMade }
 {}
 
@@ -112,13 +128,18 @@ pub fn each_call_can_be_made()
 /// hand. Each answer is the map's on its pass's ledger, and no other turn but a split and a join changes a ledger. Each card's exchanges
 /// are won in order. And after each turn the words, with what the passes know, are a sound state.
 pub fn runs_from_starts_are_lawful()
+    // In every run from a start the tree begins with the start pairs, and changes only at a won `ichild` or `dchild`,
+    // by that card's operation, which some pass has in hand. Each answer on an own key is that of the ledger; each
+    // card's exchanges are won in order; every state is sound.
     ensures { RunsFromStarts }
 {}
 
 /// Wherever turns have led a table, what each pass knows of the claim word is past: a reading of it is at most what the word is
 /// now, and a card whose claim the pass lost is below it. And some pass was told of each card that was claimed.
 pub fn readings_are_past()
+    // What a pass knows of the claim word is past.
     ensures past { ReadingsArePast }
+    // Each claim was told to some pass.
     ensures told { ClaimsAreTold }
 {}
 
@@ -131,10 +152,15 @@ pub fn readings_are_past()
 /// end did so in the run. And of its tries at one operation others can hinder two for each card that is given out to them meanwhile, and
 /// one for each card that was in a hand at the beginning.
 pub fn searches_read_meanwhile()
+    // What a search meets in its way is of another card that had not ended when the operation began, or was given out
+    // or ended since.
     ensures begin { SearchesBeginThere }
     ensures reads { SearchesReadMeanwhile }
     ensures meets { SearchesMeetMeanwhile }
+    // The moves of which a pass knows were made.
     ensures moved { KnownMovesWereMade }
+    // Of the tries that a pass gives up at an operation for a hindrance that is over there are at most two for each
+    // card given out to another pass since it began, and one for each card in some hand then.
     ensures few { TriesAreHinderedByOthers }
 {}
 
@@ -145,7 +171,10 @@ pub fn searches_read_meanwhile()
 /// `p * (3 * h + 4)` flags are won, an ichild or a dchild is won too, by which some insert or delete takes effect. There is such an `h`: the
 /// number of the last card. The law counts won flags; how many steps and tries a call makes, other laws and contracts bound.
 pub fn changes_go_on()
+    // While no child exchange is won, at most (h + 1) (w + 2 c) + c flags are won: h is the height of the tree, w the
+    // number of passes with an operation in hand at first, and c that of cards in hand at last.
     ensures few { FewFlagsWithoutAChange }
+    // The height is at most the number of the last card.
     ensures height { TablesHaveHeights }
 {}
 
@@ -154,8 +183,11 @@ pub fn changes_go_on()
 /// linearizable: of two, of which the second begins after the first has ended, the second is of no earlier state. And a pass that looks for
 /// a key of its own finds what its ledger has.
 pub fn looks_are_of_one_state()
+    // What a look has found of a key the tree had in one state since the look began.
     ensures each { LooksAreOfOneState }
+    // A look that begins after another has ended is of no earlier state.
     ensures order { LooksAreInOrder }
+    // What a look has found of an own key is what the ledger has.
     ensures own { LooksReadTheirOwn }
 {}
 
@@ -164,7 +196,10 @@ pub fn looks_are_of_one_state()
 /// them later: what it then finds is of a state since it began too. Of two looks, of which the second begins after the
 /// first has ended, the second is of no earlier state.
 pub fn stretches_are_of_one_state()
+    // What a look has found of a stretch the tree had in one state since the look began: of all its keys one, with its
+    // value, or none.
     ensures each { StretchesAreOfOneState }
+    // A look that begins after another has ended is of no earlier state.
     ensures order { StretchesAreInOrder }
 {}
 
@@ -173,6 +208,9 @@ pub fn stretches_are_of_one_state()
 /// which that card's child exchange was won, by whichever pass, at which the tree changed just as the operation says. A delete that says yes
 /// took the value that its pass was told of the leaf of its card.
 pub fn calls_have_their_point()
+    // Each call that answers, on an own key or a shared one, has one point in its span: its answer is that of one
+    // thread there. There it leaves the map as it is, or the next turn wins the exchange of its own card. No card is in
+    // the hands of two calls.
     ensures point { CallsHaveTheirPoint }
     ensures map { CallsAnswerAsAMap }
     ensures apart { CallsHaveTheirOwnCards }
@@ -180,18 +218,22 @@ pub fn calls_have_their_point()
     ensures thread { TreesAreOfOneThread }
     ensures replies { CallsReplyAsOneThread }
     ensures answered { AnswersHaveTheirPoints }
+    // A delete that says yes took the value that its pass was told of its card's leaf: the key had it at the call's
+    // point.
     ensures taken { DeletesTakeTheToldValue }
 {}
 
 /// A call that was laid down without an answer changes nothing: no turn of any run does that changes the tree, neither before it was laid down
 /// nor after it. And what a pass laid down last is such a call of each run that leads there.
 pub fn laid_down_calls_change_nothing()
+    // A call that was laid down without an answer changes the tree at no turn, before that or later.
     ensures nothing { LaidDownCallsChangeNothing }
     ensures last { LaidDownLastChangesNothing }
 {}
 
 /// The passes of a table have the whole share together, and each that may change a shared key has some of it.
 pub fn shares_add_up()
+    // The passes of a table have the whole share together, and each that may change a shared key has some of it.
     ensures { SharesAddUp }
 {}
 
@@ -201,7 +243,11 @@ pub fn shares_add_up()
 /// what they leave. It does not matter whose keys they are: a key may be one pass's or shared. And what a pass answered last is a call of
 /// each run that leads there.
 pub fn runs_are_linearizable()
+    // Every run is linearizable: there is one sequence of its calls in which each answers as one thread would, each
+    // stands after those that ended before it began, and what they leave is the tree. Of the calls that have not ended
+    // it has just those that have changed the tree.
     ensures runs { RunsAreLinearizable }
+    // What a pass answered last is a call of the run.
     ensures last { LastAnswersAreOfCalls }
 {}
 
@@ -210,8 +256,10 @@ pub fn runs_are_linearizable()
 /// won that it lost, be it a claim, a flag, a mark, the exchange of a child or the taking away of a flag; or that a claim was lost
 /// that was not tried.
 pub fn steps_tell_what_is_there()
+    // No step can tell a greater claim word or update word than there is.
     ensures next { NoGreaterNext }
     ensures update { NoGreaterUpdate }
+    // No step can tell another outcome of an exchange, or that a claim was lost which was not tried.
     ensures outcome { NoOtherOutcome }
     ensures untried { NoUntriedClaimLost }
 {}

@@ -21,7 +21,7 @@ use crate::share::{Share, WHOLE_SHARE};
 use crate::table::CardTable;
 use crate::view::{Plan, View};
 use atomic_table::{Seat, Table};
-use ell_core::{table_size, write_opening};
+use ell_layout::{table_size, write_opening};
 use ell_ops::{NoMemory, united_keys};
 use ell_word::CARDS_MAX;
 use std::alloc::{AllocError, Allocator};
@@ -34,9 +34,13 @@ impl<A: Allocator + Copy> CardTable<A> {
     pub fn reserve(alloc: A, keys: &[u64], cards: u64) -> Result<(CardTable<A>, Pass<A>), CardFault>
         requires ascending { IsStrictlyIncreasing keys.now }
         requires real { All (λ k. k ≤ greatest_key) keys.now }
+        // It succeeds only with 1 to 1,000,000 cards.
         ensures cards { OnOk result (IsCardCount cards) }
+        // The table has this plan, and the pass knows what a first pass does: it owns the keys, of which the start keys
+        // are present, and has made no step.
         ensures opened { IfOk result (OpensBy
             (record { keys = keys.now; start = []; last_card = cards; shared = false })) }
+        // `BadCards` comes exactly if the cards are not 1 to 1,000,000, and else `NoMemory` alone.
         ensures refused { IfErr result (Refuses cards) }
     {
         CardTable::reserve_from(alloc, &[], keys, cards)
@@ -58,9 +62,13 @@ impl<A: Allocator + Copy> CardTable<A> {
         requires start_ascending { IsStrictlyIncreasing (keys_of start.now) }
         requires given { All (λ k. set_of keys.now k ≡ true) (keys_of start.now) }
         requires few { length start.now ≤ most_start }
+        // It succeeds only with 1 to 1,000,000 cards.
         ensures cards { OnOk result (IsCardCount cards) }
+        // The table has this plan, and the pass knows what a first pass does: it owns the keys, of which the start keys
+        // are present, and has made no step.
         ensures opened { IfOk result (OpensBy
             (record { keys = keys.now; start = start.now; last_card = last_card start.now cards; shared = false })) }
+        // `BadCards` comes exactly if the cards are not 1 to 1,000,000, and else `NoMemory` alone.
         ensures refused { IfErr result (Refuses cards) }
     {
         if !is_card_count(cards) {
@@ -87,13 +95,17 @@ impl<A: Allocator + Copy> CardTable<A> {
         requires start_ascending { IsStrictlyIncreasing (keys_of start.items) }
         requires given { All (λ k. set_of keys.items k ≡ true) (keys_of start.items) }
         requires few { length start.items ≤ most_start }
+        // It succeeds only with 1 to 1,000,000 cards.
         ensures cards { OnOk result (IsCardCount cards) }
+        // The table has this plan, and the pass knows what a first pass does: it owns the keys, of which the start keys
+        // are present, and has made no step.
         ensures opened { IfOk result (OpensBy (record {
           keys = keys.items;
           start = start.items;
           last_card = last_card start.items cards;
           shared = false;
         })) }
+        // `BadCards` comes exactly if the cards are not 1 to 1,000,000, and else `NoMemory` alone.
         ensures refused { IfErr result (Refuses cards) }
     {
         if !is_card_count(cards) {
@@ -124,9 +136,13 @@ impl<A: Allocator + Copy> CardTable<A> {
         requires start_ascending { IsStrictlyIncreasing (keys_of start.now) }
         requires start_real { All (λ k. k ≤ greatest_key) (keys_of start.now) }
         requires few { length start.now ≤ most_start }
+        // It succeeds only with 1 to 1,000,000 cards.
         ensures cards { OnOk result (IsCardCount cards) }
+        // The table has this plan, and the pass knows what a first pass does: it owns the keys, of which the start keys
+        // are present, and has made no step.
         ensures opened { IfOk result (OpensBy
             (record { keys = keys.now; start = start.now; last_card = last_card start.now cards; shared = true })) }
+        // `BadCards` comes exactly if the cards are not 1 to 1,000,000, and else `NoMemory` alone.
         ensures refused { IfErr result (Refuses cards) }
     {
         if !is_card_count(cards) {
@@ -181,6 +197,7 @@ impl<A: Allocator + Copy> CardTable<A> {
 
     /// The number of the last card, at most `CARD_MAX`: how many cards there are beside card 0, those of the start keys included.
     pub fn last_card(&self) -> u64
+        // Returns the number of the last card.
         ensures cards { result ≡ self.now.plan.last_card }
         ensures limit { result ≤ greatest_card }
     {
@@ -190,6 +207,7 @@ impl<A: Allocator + Copy> CardTable<A> {
     /// Room for the pairs of the tree, of which a pass owns so many keys: these are enough where no key is shared, and two of each card,
     /// card 0 too, always.
     pub fn most_pairs(&self, owned: usize) -> usize
+        // Returns how many pairs the tree can have if the pass owns so many keys, and nobody else any.
         ensures { result ≡ (if self.now.plan.shared then 2 * self.now.plan.last_card + 2 else owned) }
     {
         if self.shared {
@@ -211,8 +229,12 @@ impl<A: Allocator + Copy> CardTable<A> {
         requires free { IsFree pass.view }
         requires ascending { IsStrictlyIncreasing left_keys.now }
         requires owned { All (λ k. ledger_of pass.view.worker.ledger k ≢ None) left_keys.now }
+        // The left part gets these keys, as they were.
         ensures left { IfOk result (λ parts. Steps pass parts.0 (left_view left_keys.now pass.view)) }
+        // The right part gets the other keys, and a piece of the share.
         ensures right { IfOk result (λ parts. Steps pass parts.1 (right_view left_keys.now pass.view)) }
+        // `TooManyPasses` comes exactly if the tree shares keys and the share is the least one, and else `NoMemory`
+        // alone. The pass then comes back as it was.
         ensures may { OnOk result (MayPart pass.view) }
         ensures refused { IfErr result (λ refused. refused.0 ≡ pass) }
         ensures why { IfErr result (λ refused. SplitRefuses pass.view refused.1) }
@@ -279,12 +301,15 @@ impl<A: Allocator + Copy> CardTable<A> {
         requires right { right.table ≡ self.now.id }
         requires left_free { IsFree left.view }
         requires right_free { IsFree right.view }
+        // The pass has the keys and the shares of both. In a row it counts one step more than the greater of the two
+        // counts.
         ensures joined { IfOk result (λ both. both ≡ record {
           table = left.table;
           view = joined_view left.view right.view;
           steps = one_more (max left.steps right.steps);
           label = left.label;
         }) }
+        // If memory is refused, both come back as they were.
         ensures refused { IfErr result (λ refused. (refused.0 ≡ left) × (refused.1 ≡ right)) }
     {
         let Ok(keys) = united_keys(self.alloc, left.keys.as_slice(), right.keys.as_slice()) else {
@@ -318,6 +343,7 @@ impl<A: Allocator + Copy> CardTable<A> {
 
 /// Whether a table may have so many cards to be claimed.
 pub fn is_card_count(cards: u64) -> bool
+    // Returns `true` exactly if the cards are 1 to 1,000,000.
     ensures { IsTrue result ↔ IsCardCount cards }
 {
     1 <= cards && cards <= CARDS_MAX

@@ -2,7 +2,7 @@
 ghost use Rattle.std.specs.Prelude.{◌≡◌, ◌≢◌, ◌≤◌, is_ok, IfErr};
 ghost use Rattle.ell_core.specs.declared.fact.Fact.TheVariants.{IFlagged, DFlagged};
 ghost use Rattle.ell_word.specs.Word.{packed};
-ghost use Rattle.ell_word.specs.declared.gate.Kind.TheVariants as kind;
+ghost use Rattle.ell_core.specs.declared.exchange.Exchange.TheVariants as exchange;
 ghost use Rattle.ell_cards.specs.Models.{Steps};
 ghost use Rattle.ell_cards.specs.Changes.{after_claim, after_fill, after_flag, if_won, exchanged, found_update, found_word};
 ghost use Rattle.ell_cards.specs.Guards.{MayClaim, MayFill, MayIFlag, MayDFlag};
@@ -12,7 +12,7 @@ use crate::outcomes::update_outcome;
 use crate::pass::Pass;
 use crate::places::update_at;
 use crate::table::CardTable;
-use ell_core::{Field, update_word};
+use ell_layout::{Field, update_word};
 use ell_word::{State, Update, pack};
 use std::alloc::Allocator;
 
@@ -23,6 +23,7 @@ impl<A: Allocator + Copy> CardTable<A> {
         requires own { pass.old.table ≡ self.now.id }
         requires may { MayClaim pass.old.view card }
         requires room { card ≤ self.now.plan.last_card }
+        // It makes one step and counts it. The pass then knows exactly what this call tells.
         ensures step { Steps pass.old pass.new (after_claim result card pass.old.view) }
     {
         self.names(pass);
@@ -34,6 +35,7 @@ impl<A: Allocator + Copy> CardTable<A> {
     pub fn fill(&self, pass: &mut Pass<A>, card: u64, field: Field, value: u64)
         requires own { pass.old.table ≡ self.now.id }
         requires may { MayFill pass.old.view card }
+        // It makes one step and counts it. The pass then knows exactly what this call tells.
         ensures step { Steps pass.old pass.new (after_fill field value pass.old.view) }
     {
         self.names(pass);
@@ -52,9 +54,11 @@ impl<A: Allocator + Copy> CardTable<A> {
     ) -> Result<(), Update>
         requires own { pass.old.table ≡ self.now.id }
         requires may { MayIFlag pass.old.view card parent from }
-        ensures step { Steps pass.old pass.new (exchanged (if_won (is_ok result) kind.IFlag card)
+        // It makes one step and counts it. The pass then knows exactly what this call tells.
+        ensures step { Steps pass.old pass.new (exchanged (if_won (is_ok result) exchange.IFlag card)
             (found_word (packed from) result) (after_flag (is_ok result) (IFlagged card) parent
             (found_update from result) pass.old.view)) }
+        // If the exchange is lost, it has found another word than the expected one, of a card of the table.
         ensures lost { IfErr result (λ found. found ≢ from) }
         ensures card { IfErr result (λ found. found.card ≤ self.now.plan.last_card) }
     {
@@ -78,9 +82,11 @@ impl<A: Allocator + Copy> CardTable<A> {
     ) -> Result<(), Update>
         requires own { pass.old.table ≡ self.now.id }
         requires may { MayDFlag pass.old.view card grandparent from }
-        ensures step { Steps pass.old pass.new (exchanged (if_won (is_ok result) kind.DFlag card)
+        // It makes one step and counts it. The pass then knows exactly what this call tells.
+        ensures step { Steps pass.old pass.new (exchanged (if_won (is_ok result) exchange.DFlag card)
             (found_word (packed from) result) (after_flag (is_ok result) (DFlagged card) grandparent
             (found_update from result) pass.old.view)) }
+        // If the exchange is lost, it has found another word than the expected one, of a card of the table.
         ensures lost { IfErr result (λ found. found ≢ from) }
         ensures card { IfErr result (λ found. found.card ≤ self.now.plan.last_card) }
     {

@@ -1,7 +1,7 @@
 //! What a thread steps with.
 ghost use Rattle.std.specs.Prelude.{◌≡◌, ◌↔◌, ℕ, IsTrue, []};
 ghost use Rattle.std.specs.List.Sorted.{IsStrictlyIncreasing};
-ghost use Rattle.ell_core.specs.state.Layout.{table_size};
+ghost use Rattle.ell_layout.specs.Layout.{table_size};
 ghost use Rattle.ell_cards.specs.Models.{Counts, MayPart, Owns, PassModel, one_more, whole_share};
 ghost use Rattle.ell_cards.specs.Changes.{keys_of};
 ghost use Rattle.ell_cards.specs.Naming.{IsNamed};
@@ -45,6 +45,7 @@ impl<A: Allocator + Copy> Model for Pass<A> {
 impl<A: Allocator + Copy> Pass<A> {
     /// Whether the pass owns a key.
     pub fn owns(&self, key: u64) -> bool
+        // Returns `true` exactly if the pass owns the key.
         ensures { IsTrue result ↔ Owns self.now key }
     {
         self.keys.binary_search(&key).is_ok()
@@ -52,6 +53,7 @@ impl<A: Allocator + Copy> Pass<A> {
 
     /// The keys that the pass owns, strictly ascending.
     pub fn keys(&self) -> &[u64]
+        // Returns the keys of the pass, strictly ascending.
         ensures keys { result.now ≡ keys_of self.now.view.worker.ledger }
         ensures ascending { IsStrictlyIncreasing result.now }
     {
@@ -60,6 +62,7 @@ impl<A: Allocator + Copy> Pass<A> {
 
     /// Whether it is the only pass of its table that has a share: all passes of a table together have the whole.
     pub fn has_whole_share(&self) -> bool
+        // Returns `true` exactly if the pass has the whole share.
         ensures { IsTrue result ↔ (self.now.view.share ≡ whole_share) }
     {
         self.share.units == WHOLE_SHARE
@@ -68,6 +71,7 @@ impl<A: Allocator + Copy> Pass<A> {
     /// Whether the pass may be parted: where some keys of its table are shared, each part gets a share, so a pass that has no more than the
     /// least one may not.
     pub fn may_part(&self) -> bool
+        // Returns `true` exactly if the pass may be split.
         ensures { IsTrue result ↔ MayPart self.now.view }
     {
         self.share.may_part()
@@ -75,6 +79,7 @@ impl<A: Allocator + Copy> Pass<A> {
 
     /// The label, which a gate is told: 0 until another is set.
     pub fn label(&self) -> u32
+        // Returns the label.
         ensures { result ≡ self.now.label }
     {
         self.label
@@ -82,6 +87,7 @@ impl<A: Allocator + Copy> Pass<A> {
 
     /// Sets the label.
     pub fn relabel(&mut self, label: u32)
+        // The pass has this label, and stays otherwise.
         ensures { self.new ≡ record (self.old) { label = label } }
     {
         self.label = label;
@@ -91,6 +97,7 @@ impl<A: Allocator + Copy> Pass<A> {
     /// stays at the greatest `u64` once there.
     #[inline(always)]
     pub fn count(&mut self, steps: u64)
+        // The pass counts so many steps more, and stays otherwise.
         ensures { Counts self.old self.new steps }
     {
         self.steps = self.steps.saturating_add(steps);
@@ -98,6 +105,7 @@ impl<A: Allocator + Copy> Pass<A> {
 
     /// The atomic steps that were made through the pass and counted. The count stays at the greatest `u64` once there.
     pub fn steps(&self) -> u64
+        // Returns how many steps the pass counts in a row.
         ensures { result ≡ self.now.steps }
     {
         self.steps

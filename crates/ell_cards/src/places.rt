@@ -1,10 +1,10 @@
 //! Where the words of a node stand.
 ghost use Rattle.std.specs.Prelude.{◌≡◌, ◌≤◌};
 ghost use Rattle.ell_word.specs.Node.{greatest_card, card};
-ghost use Rattle.ell_core.specs.acts.Searching.{IsLeaf};
+ghost use Rattle.ell_layout.specs.Words.{IsLeaf};
 ghost use Rattle.ell_cards.specs.Calls.{update_at, child_at, key_at, value_at};
 
-use ell_core::{Field, child_field, key_field, value_field};
+use ell_layout::{Field, child_field, key_field, value_field};
 use ell_word::card_of;
 
 /// The address of the update word of a node.

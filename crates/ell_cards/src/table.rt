@@ -5,7 +5,7 @@ ghost use Rattle.ell_core.specs.state.Facts.{card_of_fact};
 ghost use prog.Atomic.{either};
 ghost use Rattle.atomic_table.specs.Table.{Allows};
 ghost use Rattle.ell_word.specs.Node.{greatest_card};
-ghost use Rattle.ell_core.specs.state.Layout.{address, table_size};
+ghost use Rattle.ell_layout.specs.Layout.{address, table_size};
 ghost use Rattle.ell_cards.specs.Models.{Knows, Sees, TableModel, Steps};
 ghost use Rattle.ell_cards.specs.Changes.{after_fill};
 ghost use Rattle.ell_cards.specs.Naming.{IsNamed};
@@ -19,7 +19,7 @@ use crate::pass::{Pass, one_more};
 use crate::rule::{By, CardRule, Telling};
 use crate::view::{Plan, View};
 use atomic_table::Table;
-use ell_core::Field;
+use ell_layout::Field;
 use std::alloc::Allocator;
 use std::marker::{Brand, Model};
 
@@ -50,6 +50,7 @@ impl<A: Allocator + Copy> CardTable<A> {
     #[inline(always)]
     pub fn claims_stay_inside(&self, pass: &Pass<A>)
         requires own { pass.now.table ≡ self.now.id }
+        // The claims that the pass has tried were of cards of the table.
         ensures { pass.now.view.next_at_least ≤ self.now.plan.last_card + 1 }
     {
         self.names(pass);
@@ -59,6 +60,7 @@ impl<A: Allocator + Copy> CardTable<A> {
     #[inline(always)]
     pub fn facts_stay_inside(&self, pass: &Pass<A>)
         requires own { pass.now.table ≡ self.now.id }
+        // All that the pass knows is of cards of the table.
         ensures cards { (fact : Fact) → Knows pass.now.view fact → card_of_fact fact ≤ self.now.plan.last_card }
         ensures room { self.now.plan.last_card ≤ greatest_card }
     {

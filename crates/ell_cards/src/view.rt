@@ -1,8 +1,9 @@
 //! What a pass knows, as contracts see it.
 use crate::glance::Glance;
-use ell_core::{Fact, Field, WorkerView};
+use ell_core::{Exchange, Fact, WorkerView};
+use ell_layout::Field;
 use ell_ops::{Op, Reply};
-use ell_word::{Kind, Update};
+use ell_word::Update;
 use std::alloc::Allocator;
 use std::collections::LinkedList;
 use std::marker::Model;
@@ -59,7 +60,7 @@ pub struct View {
     /// The word that the last exchange found, that of the claim word apart.
     pub found: Option<u64>,
     /// The exchanges that it won, each by its kind and its card, the last first. When a pass is split, the left part keeps them.
-    pub won: LinkedList<(Kind, u64)>,
+    pub won: LinkedList<(Exchange, u64)>,
     /// How many operations it has answered.
     pub answers: u64,
     /// The operation that it answered last, until another begins, or the pass is split or joined.

@@ -2,7 +2,7 @@
 //! each node, so those calls leave it to their caller to count the step ([`Pass::count`]).
 ghost use Rattle.std.specs.Prelude.{◌≡◌, ◌≤◌, ◌<◌, ◌+◌, Some};
 ghost use Rattle.ell_core.specs.state.Machine.{ledger_of, worker_of};
-ghost use Rattle.ell_core.specs.acts.Searching.{IsLeaf};
+ghost use Rattle.ell_layout.specs.Words.{IsLeaf};
 ghost use Rattle.ell_core.specs.statements.Effects.{AnswersAsMap};
 ghost use Rattle.ell_cards.specs.declared.view.Told.TheVariants.{Met};
 ghost use Rattle.ell_cards.specs.Models.{Sees, Steps, IsTold, InTable, EndWasUnknown, IsFree};
@@ -26,6 +26,7 @@ impl<A: Allocator + Copy> CardTable<A> {
     pub fn begin(&self, pass: &mut Pass<A>, op: Op)
         requires own { pass.old.table ≡ self.now.id }
         requires may { MayBegin pass.old.view op }
+        // It makes one step and counts it. The pass then knows exactly what this call tells.
         ensures step { Steps pass.old pass.new (after_begin (Some op) pass.old.view) }
     {
         self.load(pass, Call::Begin(op), root_key());
@@ -37,6 +38,7 @@ impl<A: Allocator + Copy> CardTable<A> {
     pub fn again(&self, pass: &mut Pass<A>)
         requires own { pass.old.table ≡ self.now.id }
         requires may { MayStop pass.old.view }
+        // It makes one step and counts it. The pass then knows exactly what this call tells.
         ensures step { Steps pass.old pass.new (after_again pass.old.view) }
     {
         self.load(pass, Call::Again, root_key());
@@ -47,7 +49,9 @@ impl<A: Allocator + Copy> CardTable<A> {
     pub fn leave(&self, pass: &mut Pass<A>)
         requires own { pass.old.table ≡ self.now.id }
         requires may { MayStop pass.old.view }
+        // It makes one step and counts it. The pass then knows exactly what this call tells.
         ensures step { Steps pass.old pass.new (after_leave pass.old.view) }
+        // The claims that the pass has tried were of cards of the table.
         ensures least { pass.old.view.next_at_least ≤ self.now.plan.last_card + 1 }
     {
         self.load(pass, Call::Leave, root_key());
@@ -58,8 +62,12 @@ impl<A: Allocator + Copy> CardTable<A> {
     pub fn answer(&self, pass: &mut Pass<A>, said: Reply)
         requires own { pass.old.table ≡ self.now.id }
         requires may { MayAnswer pass.old.view said }
+        // It makes one step and counts it. The pass then knows exactly what this call tells.
         ensures step { Steps pass.old pass.new (after_answer said pass.old.view) }
+        // The claims that the pass has tried were of cards of the table.
         ensures least { pass.old.view.next_at_least ≤ self.now.plan.last_card + 1 }
+        // The answer on an own key is that of the ledger, which becomes what the operation makes of it. An answer on a
+        // shared key leaves the ledger.
         ensures reply { AnswersAsMap (worker_of pass.old.view.worker) (ledger_of pass.new.view.worker.ledger) said }
     {
         self.load(pass, Call::Answer(said), root_key());
@@ -70,8 +78,11 @@ impl<A: Allocator + Copy> CardTable<A> {
     pub fn upd(&self, pass: &mut Pass<A>, node: u64) -> Update
         requires own { pass.old.table ≡ self.now.id }
         requires may { MayRead pass.old.view node }
+        // It makes one step, which the caller has to count. The pass then knows exactly what this call tells.
         ensures step { Sees pass.old pass.new (after_upd node result pass.old.view) }
+        // The word is of a card of the table.
         ensures card { result.card ≤ self.now.plan.last_card }
+        // A flag or a mark is of a card whose end the pass did not know when its search began.
         ensures unknown { EndWasUnknown pass.old.view result.state result.card }
     {
         self.names(pass);
@@ -83,7 +94,9 @@ impl<A: Allocator + Copy> CardTable<A> {
     pub fn down(&self, pass: &mut Pass<A>, node: u64, right: bool) -> u64
         requires own { pass.old.table ≡ self.now.id }
         requires may { MayGoDown pass.old.view node right }
+        // It makes one step, which the caller has to count. The pass then knows exactly what this call tells.
         ensures step { Sees pass.old pass.new (after_down node result pass.old.view) }
+        // The child has a greater number, and is a node of the table.
         ensures greater { node < result }
         ensures there { InTable self.now.plan.last_card result }
     {
@@ -95,7 +108,9 @@ impl<A: Allocator + Copy> CardTable<A> {
     #[inline(always)]
     pub fn next(&self, pass: &mut Pass<A>) -> u64
         requires own { pass.old.table ≡ self.now.id }
+        // It makes one step and counts it. The pass then knows exactly what this call tells.
         ensures step { Steps pass.old pass.new (after_next result pass.old.view) }
+        // The claim word is at least 1, at most one past the last card, and past each claim that the pass has tried.
         ensures some { 1 ≤ result }
         ensures room { result ≤ self.now.plan.last_card + 1 }
         ensures least { pass.old.view.next_at_least ≤ result }
@@ -109,7 +124,9 @@ impl<A: Allocator + Copy> CardTable<A> {
     pub fn look(&self, pass: &mut Pass<A>) -> u64
         requires own { pass.old.table ≡ self.now.id }
         requires free { IsFree pass.old.view }
+        // It makes one step, which the caller has to count. The pass then knows exactly what this call tells.
         ensures step { Sees pass.old pass.new (after_look result pass.old.view) }
+        // The child has a greater number, and is a node of the table.
         ensures greater { 0 < result }
         ensures there { InTable self.now.plan.last_card result }
     {
@@ -123,7 +140,9 @@ impl<A: Allocator + Copy> CardTable<A> {
     pub fn look_down(&self, pass: &mut Pass<A>, from: Glance, key: u64, right: bool) -> u64
         requires own { pass.old.table ≡ self.now.id }
         requires may { MayLookDown pass.old.view from key }
+        // It makes one step, which the caller has to count. The pass then knows exactly what this call tells.
         ensures step { Sees pass.old pass.new (after_look_down from key right result pass.old.view) }
+        // The child has a greater number, and is a node of the table.
         ensures greater { from.node < result }
         ensures there { InTable self.now.plan.last_card result }
     {
@@ -140,9 +159,14 @@ impl<A: Allocator + Copy> CardTable<A> {
     pub fn key_of(&self, pass: &mut Pass<A>, node: u64) -> u64
         requires own { pass.old.table ≡ self.now.id }
         requires met { IsTold pass.old.view (Met node) }
+        // It makes one step, which the caller has to count. The pass then knows exactly what this call tells.
         ensures step { Sees pass.old pass.new (after_key_of node result pass.old.view) }
+        // The key of a leaf is the operation's own key exactly if the ledger has that present. The leaf then has a
+        // grandparent.
         ensures leaf { TellsLeaf pass.old.view node result }
+        // What a look has found of an own key is what the ledger has.
         ensures looked { ReadsItsOwn pass.new.view }
+        // The pass was told no two keys of one node.
         ensures fixed { KeysAreFixed pass.new.view }
     {
         self.names(pass);
@@ -156,9 +180,13 @@ impl<A: Allocator + Copy> CardTable<A> {
         requires own { pass.old.table ≡ self.now.id }
         requires met { IsTold pass.old.view (Met leaf) }
         requires outer { IsLeaf leaf }
+        // It makes one step, which the caller has to count. The pass then knows exactly what this call tells.
         ensures step { Sees pass.old pass.new (after_value_of leaf result pass.old.view) }
+        // The value of the operation's own key is that of the ledger.
         ensures value { TellsValue pass.old.view leaf result }
+        // What a look has found of an own key is what the ledger has.
         ensures looked { ReadsItsOwn pass.new.view }
+        // The pass was told no two keys of one node.
         ensures fixed { KeysAreFixed pass.new.view }
     {
         self.names(pass);

@@ -9,9 +9,8 @@ ghost use Rattle.ell_command.specs.Program.{status_after, status_of};
 
 use crate::request::{Request, request_of};
 use clap::error::ErrorKind;
-use ell_run::{RunFault, run_bytes};
+use ell_run::{NoGate, RunFault, StepGate, run_bytes};
 use ell_text::{ScriptFault, replay_bytes};
-use ell_word::{NoGate, StepGate};
 use std::alloc::Global;
 use std::convert::AsStr;
 use std::error::Error;
@@ -69,6 +68,8 @@ impl Error for Failure {}
 impl Failure {
     /// The exit status that tells of the failure.
     pub fn status(&self) -> u8
+        // Returns the exit status of the failure: 2 for words or a text that are refused, 3 for want of memory, 4 for a
+        // failed read or write.
         ensures { result ≡ status_of self.now }
     {
         match self {
@@ -98,28 +99,34 @@ pub fn elltree<R: Threads + Sync, S: AsStr, I: Read, O: Write, E: Write>(
     out: &mut O,
     err: &mut E,
 ) -> u8
+    // The exit status is 0, 2, 3 or 4. After 2 or 3 nothing is written to `out`.
     ensures status { IsStatus result }
     ensures silent { IsSilent result → Keeps (O.contents out.old) (O.contents out.new) }
 
-    // Success leaves `err` as it was, unless a report was asked for.
+    // After 0 `err` is as it was, unless the words ask `run` for a report.
     ensures quiet { Succeeded result → ¬ AsksForReport (map S.text words.now) → err.new ≡ err.old }
 
+    // Words that are taken name `run` or `replay`. Words that are refused end with 2 or 3; words that ask for help or
+    // the version never end with 2.
     ensures words { GoesByWords (map S.text words.now) result }
+    // After 0 a `run` has appended the answer of one thread, and nothing else.
     ensures run { AnswersRun (map S.text words.now) result
         (I.remaining input.old) (O.contents out.old) (O.contents out.new) }
 
-    // A replay has no report.
+    // After 0 a `replay` has appended the trace of the script, and nothing to `err`.
     ensures replay { AnswersReplay (map S.text words.now) result
         (I.remaining input.old) (O.contents out.old) (O.contents out.new) }
     ensures unreported { AreTakenToReplay (map S.text words.now) → Succeeded result → err.new ≡ err.old }
 
-    // Any other status is that of a failure that tells why: 2 only where the text is at fault or too long, or an entry of a
-    // replay, and 4 after a write fault only where a front of the answer or the trace went out.
+    // Any other status of a `run` or a `replay` is that of a failure that tells the truth of the bytes read and
+    // written: 2 only if the text or an entry of the script is refused; after a failed write a front of the answer or
+    // the trace is written.
     ensures failed { AreTakenToRun (map S.text words.now) → ¬ Succeeded result
         → RunEndsBy result (I.remaining input.old) (O.contents out.old) (O.contents out.new) }
     ensures replay_failed { AreTakenToReplay (map S.text words.now) → ¬ Succeeded result
         → ReplayEndsBy result (I.remaining input.old) (O.contents out.old) (O.contents out.new) }
 
+    // If the words are not taken, the input is not read.
     ensures unread { ¬ AreTaken (map S.text words.now) → input.new ≡ input.old }
 {
     match carry_out(rt, alloc, words, input, out, err, &NoGate) {
@@ -142,19 +149,27 @@ pub fn carry_out<R: Threads + Sync, S: AsStr, I: Read, O: Write, E: Write, G: St
     err: &mut E,
     gate: &G,
 ) -> Result<(), Failure>
+    // A failure before the output leaves `out` as it was.
     ensures silent { IfErr result (λ failure.
         IsBeforeOutput failure → Keeps (O.contents out.old) (O.contents out.new)) }
+    // Words that are taken name `run` or `replay`. Words that are refused end with 2 or 3; words that ask for help or
+    // the version never end with 2.
     ensures words { GoesByWords (map S.text words.now) (status_after result) }
+    // If it succeeds, a `run` has appended the answer of one thread, and nothing else.
     ensures run { AnswersRun (map S.text words.now) (status_after result)
         (I.remaining input.old) (O.contents out.old) (O.contents out.new) }
+    // If it succeeds, a `replay` has appended the trace of the script. Nothing is written to `err`, however it ends.
     ensures replay { AnswersReplay (map S.text words.now) (status_after result)
         (I.remaining input.old) (O.contents out.old) (O.contents out.new) }
     ensures unreported { AreTakenToReplay (map S.text words.now) → err.new ≡ err.old }
+    // A failure tells the truth of the bytes read and written.
     ensures failed { AreTakenToRun (map S.text words.now) → IfErr result (λ failure.
         RunFailureTells failure (I.remaining input.old) (O.contents out.old) (O.contents out.new)) }
     ensures replay_failed { AreTakenToReplay (map S.text words.now) → IfErr result (λ failure.
         ReplayFailureTells failure (I.remaining input.old) (O.contents out.old) (O.contents out.new)) }
+    // If the words are not taken, the input is not read.
     ensures unread { ¬ AreTaken (map S.text words.now) → input.new ≡ input.old }
+    // `err` is as it was, unless the words ask `run` for a report.
     ensures quiet { ¬ AsksForReport (map S.text words.now) → err.new ≡ err.old }
 {
     match request_of(alloc, words) {

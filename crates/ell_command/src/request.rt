@@ -117,19 +117,22 @@ of `elltree run`.";
 /// `OutOfMemory` where memory ran out, and another where the words are refused, as
 /// `MissingSubcommand` where there are none.
 pub fn request_of<S: AsStr>(alloc: Global, words: &[S]) -> Result<Request, Error>
+    // It succeeds only if the words come to no error by the parser's model. An error is of a kind to which they come,
+    // or for want of memory.
     ensures kinds { FailsBy (faults_of (map S.text words.now)) result }
 
-    // The settings are those of the words, in their ranges, and a report is wanted where they say so.
+    // The settings are those of the words, in their ranges, and a report is wanted exactly if they say so. The one word
+    // `run` gives the defaults.
     ensures request { IfOk result (IsRequestOf (options_of (map S.text words.now))) }
     ensures defaults { AsksToRun (map S.text words.now) → IfOk result IsPlainRun }
 
-    // The request is of the command that the words name, and words that are taken name one of the two.
+    // The request is of the command that the words name, and words that are taken name `run` or `replay`.
     ensures command { IfOk result (λ request.
         subcommand_in (map S.text words.now) ≡ Some (subcommand_for request)) }
     ensures named { AreTaken (map S.text words.now)
         → AreTakenToRun (map S.text words.now) ⊎ AreTakenToReplay (map S.text words.now) }
 
-    // What that comes to at some words.
+    // Words that are taken, as `run` and `replay` alone are, fail only for want of memory.
     ensures taken { AreTaken (map S.text words.now)
         → IfErr result (λ e. kind_of e ≡ ErrorKind.OutOfMemory) }
     ensures run { AsksToRun (map S.text words.now)
@@ -137,12 +140,15 @@ pub fn request_of<S: AsStr>(alloc: Global, words: &[S]) -> Result<Request, Error
     ensures replay { AsksToReplay (map S.text words.now)
         → MatchResult result (λ request. request ≡ Request.Replay)
         (λ e. kind_of e ≡ ErrorKind.OutOfMemory) }
+    // Words that ask for help or for the version end in an error of that kind.
     ensures help { AsksForHelp (map S.text words.now)
         → IsErrAnd result (HasKind (ErrorKind.DisplayHelp ∷ [])) }
     ensures version { AsksForVersion (map S.text words.now)
         → IsErrAnd result (HasKind (ErrorKind.DisplayVersion ∷ [])) }
     ensures shown { AreShownHelp (map S.text words.now)
         → IsErrAnd result (HasKind (ErrorKind.DisplayHelp ∷ [])) }
+    // Words that are refused end in an error that is a mistake or for want of memory; without words it is
+    // `MissingSubcommand`.
     ensures refused { AreRefused (map S.text words.now)
         → IsErrAnd result (λ e. IsMistakeOrMemory (kind_of e)) }
     ensures nothing { map S.text words.now ≡ []

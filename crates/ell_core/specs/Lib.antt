@@ -10,8 +10,6 @@ pub mod soundness
 pub mod history
 -- the laws, as statements
 pub mod statements
--- a world as its code keeps it
-pub mod inside
 -- what its public clauses cite of the crates below
 pub use Rattle.ell_ops.specs.Contents
 pub use Rattle.ell_ops.specs.Meaning

@@ -1,4 +1,5 @@
--- What a fact says of the words, the phase of a card, and the ledger that counts what a flagged card has done already.
+-- What a fact says of the words, what a card has made by the words, and the ledger that counts what a flagged card has
+-- done already.
 pub mod Holds
 -- Small trees: as it was opened, with key 5, with 5 and 7, and with 5 on its way out.
 pub mod SmallTrees

@@ -6,8 +6,6 @@ pub mod Effects
 pub mod StepLaws
 -- Laws of every schedule, from the opening state on: any list of events, by any workers in any order, refused ones too.
 pub mod RunLaws
--- The balanced tree over keys that are there at the start: its branches are halves, and it is no deeper than need be.
-pub mod Balanced
 -- What an opening with start keys has.
 pub mod Start
 -- Which cards wait for their flag, and what an event does to them.

@@ -29,6 +29,7 @@ pub enum Fact {
 
 /// The fact that an update word tells whoever reads it: a flag or a mark that of its card, a clean word none.
 pub fn told_by(word: u64) -> Option<Fact>
+    // Returns the fact that the update word tells, if it tells one.
     ensures { result ≡ told_by word }
 {
     let update = unpack(word);

@@ -1,8 +1,7 @@
 //! The keys of a tree with their values, by a walk over its nodes.
 ghost use Rattle.std.specs.Prelude.{◌≡◌, ℕ, [], vec_capacity};
 ghost use Rattle.ell_word.specs.Node.{IsInternal};
-ghost use Rattle.ell_core.specs.state.Words.{Words};
-ghost use Rattle.ell_core.specs.acts.Searching.{IsLeaf};
+ghost use Rattle.ell_layout.specs.Words.{Words, IsLeaf};
 ghost use Rattle.ell_core.specs.tree.Tree.{Reached, IsLawful, ListsTreePairs};
 ghost use Rattle.ell_core.specs.tree.Room.{HasRoom, HoldsKeys};
 
@@ -48,6 +47,7 @@ pub fn pairs_of_tree<T: TreeWords, A: Allocator>(
     requires no_pairs { pairs.items ≡ [] }
     requires room { HasRoom (T.words tree.now) (vec_capacity waiting) }
     requires pairs_room { HoldsKeys (T.words tree.now) (vec_capacity pairs) }
+    // The result has each key of the tree with its value, strictly ascending.
     ensures { ListsTreePairs (T.words tree.now) result.items }
 {
     waiting.push(0).unwrap();

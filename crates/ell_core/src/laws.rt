@@ -1,5 +1,4 @@
 //! The laws of the machine. Each is the contract of a function that does nothing, so that it is proved.
-mod balanced;
 mod definitions;
 mod premises;
 mod refuted;
@@ -7,11 +6,7 @@ mod schedules;
 mod steps;
 mod unsound;
 
-pub use balanced::{balanced_trees_are_shallow, branches_are_halves};
-pub use definitions::{
-    each_word_has_its_address, one_outcome, room_holds_keys, same_words, told_words_stay,
-    writes_are_seen,
-};
+pub use definitions::{one_outcome, room_holds_keys, told_words_stay};
 pub use premises::{
     events_pass_on, every_parting_is_a_split, every_union_is_a_join, one_worker_can_open,
     one_worker_owns_all, openings_are_passed, openings_have_their_start_keys, runs_can_be_followed,

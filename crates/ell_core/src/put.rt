@@ -16,6 +16,7 @@ pub struct Put {
 impl Put {
     /// What an operation puts into the tree, or none if it only finds or deletes.
     pub fn of(op: Op) -> Option<Put>
+        // Returns what an insert or a swap puts into the tree, or nothing for another operation.
         ensures { result ≡ put_of op }
     {
         match op {
@@ -36,6 +37,7 @@ impl Put {
     /// Whether it may go where a search has ended at a leaf with this key and this value: at a leaf of another key, or,
     /// for a swap, at one of its key that has the value.
     pub fn may_replace(&self, leaf_key: u64, leaf_value: u64) -> bool
+        // Returns `true` exactly if it may be put at a leaf with this key and this value.
         ensures { IsTrue result ↔ TakesPut self.now leaf_key leaf_value }
     {
         match self.was {

@@ -13,8 +13,10 @@ use crate::refusal::Refusal;
 use ell_tree::{KEY_MAX, Pair, START_MAX};
 use std::alloc::{AllocError, Global};
 
-// So many pairs are asked for at first: few trees have more, and room for all that a tree may begin with costs some time.
+// So many pairs are asked for at first, and then so many: few trees have more, and room for all that a tree may begin with costs some time.
 const FEW: usize = 8_192;
+
+const MANY: usize = 131_072;
 
 /// Makes the cards of handles of one tree of shared keys fresh: all of them go to one new tree of so many cards, in which every key is shared
 /// too. It begins with what a scan of the old tree finds, which is all that is there, unless a handle of the old tree changes a key meanwhile.
@@ -28,8 +30,14 @@ pub fn renew_all_shared(
     cards: u64,
     number: u64,
 ) -> Result<(), Refusal>
+    // The handles are of one new tree of shared keys, with the cards and the number asked for, which begins with what a
+    // scan of the old tree finds. None knows of a card that is given out.
     ensures renewed { OnOk result ((first : Handle) → slice_get handles.old 0 ≡ Some first → AreRenewedShared first cards number handles.new) }
+    // As many handles come back.
     ensures count { length handles.new ≡ length handles.old }
+    // It succeeds only for handles of one tree of shared keys. `OtherTree`, `BadStart` (more keys were found than a
+    // tree may begin with) and `BadCards` come only if it is so. A call that is refused moves no handle, and none is
+    // refused without handles.
     ensures one { OnOk result (AreOfOneShared handles.old) }
     ensures why { IfErr result (SharedGroupRefuses handles.old cards) }
     ensures refused { OnErr result (AllZip StaysPut handles.old handles.new) }
@@ -62,6 +70,9 @@ fn all_pairs(handle: &mut Handle, alloc: Global) -> Result<Vec<(u64, u64)>, Refu
     ensures stays { StaysPut handle.old handle.new }
 {
     if let Some(pairs) = pairs_within(handle, alloc, FEW)? {
+        return Ok(pairs);
+    }
+    if let Some(pairs) = pairs_within(handle, alloc, MANY)? {
         return Ok(pairs);
     }
     let Some(pairs) = pairs_within(handle, alloc, START_MAX + 1)? else {

@@ -24,8 +24,14 @@ pub fn renew_all(
     cards: u64,
     number: u64,
 ) -> Result<(), Refusal>
+    // Each handle keeps its keys and its map.
     ensures kept { AllZip HasSame handles.old handles.new }
+    // The handles are of one new tree, which has their keys and begins with their pairs, with the cards and the number
+    // asked for. None knows of a card that is given out.
     ensures renewed { OnOk result (0 < length handles.old → AreRenewed handles.old cards number handles.new) }
+    // It succeeds only for handles of one tree without shared keys. `OtherTree`, `SharedKeys`, `BadStart` (their pairs
+    // are more than a tree may begin with) and `BadCards` come only if it is so. A call that is refused moves no
+    // handle, and none is refused without handles.
     ensures one { OnOk result (AreOfOne handles.old) }
     ensures owned { OnOk result (All HasOwnedKeys handles.old) }
     ensures why { IfErr result (GroupRefuses handles.old cards) }

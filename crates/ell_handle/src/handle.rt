@@ -58,6 +58,7 @@ impl Unused {
 impl Place {
     /// A place with this handle, or an empty one.
     pub fn of(handle: Option<Handle>) -> Place
+        // Returns a place with this handle, or without one.
         ensures { result.handle ≡ handle }
     {
         Place {
@@ -86,6 +87,7 @@ pub struct Handle {
 impl Handle {
     /// Whether the handle owns a key.
     pub fn owns(&self, key: u64) -> bool
+        // Returns `true` exactly if the handle owns the key.
         ensures { IsTrue result ↔ Owns self.now.pass key }
     {
         self.table.has(key) || self.pass.owns(key)
@@ -93,6 +95,7 @@ impl Handle {
 
     /// Whether the handle owns each of these keys.
     pub fn owns_all(&self, keys: &[u64]) -> bool
+        // Returns `true` exactly if the handle owns all of the keys.
         ensures { IsTrue result ↔ All (λ k. Owns self.now.pass k) keys.now }
     {
         keys.iter().all(|key| self.owns(*key))
@@ -100,6 +103,7 @@ impl Handle {
 
     /// The keys that the handle owns, strictly ascending.
     pub fn keys(&self) -> &[u64]
+        // Returns the keys that the handle owns, strictly ascending.
         ensures keys { result.now ≡ keys_of self.now.pass.view.worker.ledger }
         ensures ascending { IsStrictlyIncreasing result.now }
     {
@@ -108,6 +112,7 @@ impl Handle {
 
     /// The atomic steps made through the handle, and through those that it came from by a split or a join, in a row.
     pub fn steps(&self) -> u64
+        // Returns how many steps the handle counts in a row.
         ensures { result ≡ self.now.pass.steps }
     {
         self.pass.steps()

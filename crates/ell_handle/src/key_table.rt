@@ -27,6 +27,7 @@ pub struct KeyTable {
 impl KeyTable {
     /// A table of the keys of a list, none of them above `KEY_MAX`. If memory is refused, it has none.
     pub fn of(alloc: Global, keys: &[u64]) -> KeyTable
+        // The table has only keys of the list.
         ensures { (k : ℕ) → HasKey result k → set_of keys.now k ≡ true }
     {
         let mut table = KeyTable::with_room(alloc, keys.len());
@@ -66,6 +67,7 @@ impl KeyTable {
     /// Whether the table has a key, in an entry that the key may stand in. A key of the list may be missing.
     #[inline(always)]
     pub fn has(&self, key: u64) -> bool
+        // Returns `true` only if the table has the key.
         ensures { IsTrue result → HasKey self.now key }
     {
         key <= KEY_MAX && self.place_of(key, key).is_some()

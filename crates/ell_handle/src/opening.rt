@@ -33,8 +33,13 @@ impl Handle {
         cards: u64,
         number: u64,
     ) -> Result<Handle, Refusal>
+        // The handle is the first of a new tree with the cards and the number asked for: it owns all of the keys, of
+        // which the start keys are present with their values.
         ensures opened { IfOk result (IsOpened keys.now start.now cards number) }
         ensures present { IfOk result (λ made. present_in made.pass ≡ contents_of start.now) }
+        // `BadStart` comes exactly if the start keys do not ascend strictly or are more than 1,000,000, then `BadKey`
+        // exactly for a key above the greatest one, then `BadCards` exactly if the cards are not 1 to 1,000,000, and
+        // else `NoMemory` alone.
         ensures may { OnOk result (MayOpen keys.now start.now cards) }
         ensures refused { IfErr result (Refuses keys.now start.now cards) }
     {
@@ -65,7 +70,12 @@ impl Handle {
         cards: u64,
         number: u64,
     ) -> Result<Handle, Refusal>
+        // The handle is the first of a new tree with the start pairs, cards and number asked for. Every key is shared,
+        // it owns none, and has the whole share.
         ensures opened { IfOk result (IsOpenedShared start.now cards number) }
+        // `BadStart` comes exactly if the start keys do not ascend strictly or are more than 1,000,000, then `BadKey`
+        // exactly for a key above the greatest one, then `BadCards` exactly if the cards are not 1 to 1,000,000, and
+        // else `NoMemory` alone.
         ensures may { OnOk result (MayOpen [] start.now cards) }
         ensures refused { IfErr result (Refuses [] start.now cards) }
     {
@@ -90,9 +100,13 @@ impl Handle {
     /// key. `TooManyHandles` if the keys are shared and the handle has the least share of them: the first handle of a tree gives more than
     /// a million others, and each of those fewer. Else `NoMemory` if memory is refused.
     pub fn another(self, alloc: Global) -> Result<(Handle, Handle), (Handle, Refusal)>
+        // There is a handle with the keys and the map of the old one, and another of its tree, which owns no key and
+        // has a piece of the share.
         ensures parts { IfOk result (λ both. AreParts (ledger_keys self.pass.view.worker.ledger) self both.0 both.1) }
         ensures kept { IfOk result (λ both. HasSame self both.0) }
         ensures bare { IfOk result (λ both. (k : ℕ) → ¬ Owns both.1.pass k) }
+        // `TooManyHandles` comes exactly if the share is the least one, and else `NoMemory` alone. The handle then
+        // comes back.
         ensures may { OnOk result (¬ IsLeast self) }
         ensures why { IfErr result (λ refused. AnotherRefuses self refused.1) }
         ensures refused { IfErr result (λ refused. refused.0 ≡ self) }
@@ -109,11 +123,15 @@ impl Handle {
     /// Two handles of one: the first has these of its keys, and the second the others. `Foreign` if a key is not its own, then
     /// `TooManyHandles` as of `another`, and else `NoMemory` if memory is refused. A handle without keys may look.
     pub fn split(self, alloc: Global, wanted: &[u64]) -> Result<(Handle, Handle), (Handle, Refusal)>
+        // Both handles are of the same tree: one has these keys, the other the remaining ones and a piece of the share,
+        // as they were.
         ensures parts { IfOk result (λ parts. AreParts wanted.now self parts.0 parts.1) }
         ensures given { IfOk result (λ parts. (k : ℕ) →
             present_in parts.0.pass k ≡ (if set_of wanted.now k then present_in self.pass k else None)) }
         ensures rest { IfOk result (λ parts. (k : ℕ) →
             present_in parts.1.pass k ≡ (if set_of wanted.now k then None else present_in self.pass k)) }
+        // `Foreign` comes exactly if a key is not owned, then `TooManyHandles` exactly if the share is the least one,
+        // and else `NoMemory` alone. The handle then comes back.
         ensures owned { OnOk result (All (λ k. Owns self.pass k) wanted.now) }
         ensures may { OnOk result (¬ IsLeast self) }
         ensures why { IfErr result (λ refused. SplitRefuses wanted.now self refused.1) }
@@ -167,8 +185,11 @@ impl Handle {
     /// `NoMemory` if memory is refused. Condition: equal numbers mean one tree.
     pub fn join(self, other: Handle) -> Result<Handle, (Handle, Handle, Refusal)>
         requires numbers { HaveNumber self other → other.pass.table ≡ self.pass.table }
+        // The handle has the keys and the shares of both, in the same tree.
         ensures union { IfOk result (λ both. IsUnion self.pass other.pass both.pass) }
         ensures tree { IfOk result (λ both. both.shared ≡ self.shared) }
+        // `OtherTree` comes exactly if the numbers of the trees differ, or one shares keys and the other does not, and
+        // else `NoMemory` alone. Both then come back.
         ensures one { OnOk result (MayJoin self other) }
         ensures why { IfErr result (λ refused. JoinRefuses (MayJoin self other) refused.2) }
         ensures refused { IfErr result (λ refused. (refused.0 ≡ self) × (refused.1 ≡ other)) }

@@ -22,15 +22,23 @@ impl Handle {
     /// present all along is written, what was absent all along is not, and each pair was there. Two keys may be of two
     /// states: a scan is no snapshot. It waits for nobody.
     pub fn scan(&mut self, from: u64, upto: u64, room: &mut [Pair]) -> Scanned
+        // Each key of the range, as far as the scan came, is answered as by a look at it. The range ends at the
+        // greatest key at the latest.
         ensures so { AreFoundIn (tree_of self.old) self.new.pass.view from (end_of (real_end upto) result)
             (contents_of (written room.new result)) }
+        // The pairs are of keys of the range, and strictly ascend.
         ensures ordered { AreInOrder from (end_of (real_end upto) result) (written room.new result) }
+        // The scan came to the end of the range, or the room is full and `next` is the key where to go on. The rest of
+        // the room stays.
         ensures count { result.count ≤ length room.old }
         ensures next { IfSome result.next (λ next.
             (from ≤ next) × (next < real_end upto) × (result.count ≡ length room.old)) }
         ensures rest { drop result.count room.new ≡ drop result.count room.old }
+        // Of owned keys it tells what the handle's map has.
         ensures mine { TellsItsOwn self.old.pass from (end_of (real_end upto) result) (contents_of (written room.new result)) }
+        // It only loads, and makes at most `(cards + 1) * (2 * cards + 2) + 1` steps.
         ensures only { OnlyLooks self.old.pass self.new.pass (scan_steps (last_card_of self.old)) }
+        // Keys, map and tree stay. Nothing is in its way, and it takes no card.
         ensures reads { OnlyScans self.old self.new }
     {
         self.shared
@@ -40,10 +48,13 @@ impl Handle {
 
     /// The least key from `key` on that is present, with its value, whoever owns it: it was present in one state of the
     /// tree during the call, and each key before it was absent in one. `None` for a key above `KEY_MAX`.
-    #[tactic(auto, using(crate::proofs::Beyond::none_above, crate::proofs::Beyond::looks_none, crate::proofs::Beyond::scans_none))]
+    #[tactic(auto, using(crate::proofs::lemmas::Beyond::none_above, crate::proofs::lemmas::Beyond::looks_none, crate::proofs::lemmas::Beyond::scans_none))]
     pub fn next_at_least(&mut self, key: u64) -> Option<(u64, u64)>
+        // The answer is as of the tree's call. No key above the greatest one is present.
         ensures so { IsNextIn (tree_of self.old) self.new.pass.view key result }
+        // It only loads, and makes at most `(cards + 1) * (2 * cards + 2) + 1` steps.
         ensures only { OnlyLooks self.old.pass self.new.pass (scan_steps (last_card_of self.old)) }
+        // Keys, map and tree stay. Nothing is in its way, and it takes no card.
         ensures reads { OnlyScans self.old self.new }
     {
         if key > KEY_MAX {
@@ -53,10 +64,13 @@ impl Handle {
     }
 
     /// The least key above `key` that is present, with its value, as of `next_at_least`.
-    #[tactic(auto, using(crate::proofs::Beyond::none_above, crate::proofs::Beyond::looks_none, crate::proofs::Beyond::scans_none))]
+    #[tactic(auto, using(crate::proofs::lemmas::Beyond::none_above, crate::proofs::lemmas::Beyond::looks_none, crate::proofs::lemmas::Beyond::scans_none))]
     pub fn next_after(&mut self, key: u64) -> Option<(u64, u64)>
+        // The answer is as of the tree's call. No key above the greatest one is present.
         ensures so { IsNextIn (tree_of self.old) self.new.pass.view (key + 1) result }
+        // It only loads, and makes at most `(cards + 1) * (2 * cards + 2) + 1` steps.
         ensures only { OnlyLooks self.old.pass self.new.pass (scan_steps (last_card_of self.old)) }
+        // Keys, map and tree stay. Nothing is in its way, and it takes no card.
         ensures reads { OnlyScans self.old self.new }
     {
         if key > KEY_MAX {
@@ -67,8 +81,11 @@ impl Handle {
 
     /// The least key that is present, with its value, as of `next_at_least`.
     pub fn first(&mut self) -> Option<(u64, u64)>
+        // The answer is as of the tree's call. No key above the greatest one is present.
         ensures so { IsNextIn (tree_of self.old) self.new.pass.view 0 result }
+        // It only loads, and makes at most `(cards + 1) * (2 * cards + 2) + 1` steps.
         ensures only { OnlyLooks self.old.pass self.new.pass (scan_steps (last_card_of self.old)) }
+        // Keys, map and tree stay. Nothing is in its way, and it takes no card.
         ensures reads { OnlyScans self.old self.new }
     {
         self.shared.tree.first(&mut self.pass, &NoGate)
@@ -78,8 +95,11 @@ impl Handle {
     /// the tree during the call, and each key after it was absent in one. For a key above `KEY_MAX` it is that of
     /// `last`.
     pub fn last_at_most(&mut self, key: u64) -> Option<(u64, u64)>
+        // The answer is as of the tree's call. No key above the greatest one is present.
         ensures so { IsLastIn (tree_of self.old) self.new.pass.view (real_end (key + 1)) result }
+        // It only loads, and makes at most `(cards + 1) * (2 * cards + 2) + 1` steps.
         ensures only { OnlyLooks self.old.pass self.new.pass (scan_steps (last_card_of self.old)) }
+        // Keys, map and tree stay. Nothing is in its way, and it takes no card.
         ensures reads { OnlyScans self.old self.new }
     {
         if key > KEY_MAX {
@@ -90,8 +110,11 @@ impl Handle {
 
     /// The greatest key below `key` that is present, with its value, as of `last_at_most`.
     pub fn last_before(&mut self, key: u64) -> Option<(u64, u64)>
+        // The answer is as of the tree's call. No key above the greatest one is present.
         ensures so { IsLastIn (tree_of self.old) self.new.pass.view (real_end key) result }
+        // It only loads, and makes at most `(cards + 1) * (2 * cards + 2) + 1` steps.
         ensures only { OnlyLooks self.old.pass self.new.pass (scan_steps (last_card_of self.old)) }
+        // Keys, map and tree stay. Nothing is in its way, and it takes no card.
         ensures reads { OnlyScans self.old self.new }
     {
         if key > KEY_MAX {
@@ -102,8 +125,11 @@ impl Handle {
 
     /// The greatest key that is present, with its value, as of `last_at_most`.
     pub fn last(&mut self) -> Option<(u64, u64)>
+        // The answer is as of the tree's call. No key above the greatest one is present.
         ensures so { IsLastIn (tree_of self.old) self.new.pass.view (greatest_key + 1) result }
+        // It only loads, and makes at most `(cards + 1) * (2 * cards + 2) + 1` steps.
         ensures only { OnlyLooks self.old.pass self.new.pass (scan_steps (last_card_of self.old)) }
+        // Keys, map and tree stay. Nothing is in its way, and it takes no card.
         ensures reads { OnlyScans self.old self.new }
     {
         self.shared.tree.last(&mut self.pass, &NoGate)
@@ -114,14 +140,21 @@ impl Handle {
     /// key in `found` was present, with this value, and no other; or none was. It waits for nobody. `BadKey` where the
     /// key is above `KEY_MAX`.
     pub fn look_about(&mut self, key: u64) -> Result<About, Refusal>
+        // The answer is as of the tree's `look_about`: what the tree had of all keys of the stretch in one state since
+        // the look began. The stretch has the key.
         ensures so { IfOk result (IsFoundAboutIn (tree_of self.old) self.new.pass.view) }
         ensures about { IfOk result (IsAbout key) }
+        // Of owned keys it is what the handle's map has.
         ensures mine { IfOk result (λ about.
             TellsItsOwn self.old.pass about.low about.high (value_there about.found)) }
+        // It only loads, and makes at most `2 * cards + 3` steps.
         ensures only { OnOk result (OnlyLooks self.old.pass self.new.pass (look_steps (last_card_of self.old))) }
+        // `BadKey` comes exactly for a key above the greatest one.
         ensures real { OnOk result (key ≤ greatest_key) }
         ensures bad_key { IfErr result (λ why. (why ≡ BadKey) × (greatest_key < key)) }
+        // Keys, map and tree stay. Nothing is in its way, and it takes no card.
         ensures reads { OnlyLooksUp self.old self.new }
+        // A call that is refused leaves the handle as it was.
         ensures refused { OnErr result (self.new ≡ self.old) }
     {
         if key > KEY_MAX {

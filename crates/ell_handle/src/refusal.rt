@@ -29,7 +29,7 @@ pub enum Refusal {
     #[error("a key is above 18446744073709551613")]
     BadKey,
     /// The start keys do not ascend strictly, or are more than `START_MAX`.
-    #[error("start keys do not ascend strictly, or are more than 200,000")]
+    #[error("start keys do not ascend strictly, or are more than 1,000,000")]
     BadStart,
     /// The handles are of two trees.
     #[error("the handles are of two trees")]

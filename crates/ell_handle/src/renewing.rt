@@ -21,9 +21,14 @@ impl Handle {
     /// the keys of the tree are shared, `BadStart` if more keys than `START_MAX` are present, then `BadCards` if the cards are not 1 to
     /// 1,000,000, and only then `NoMemory`: then the handle has its old tree.
     pub fn renew(&mut self, alloc: Global, cards: u64, number: u64) -> Result<(), Refusal>
+        // The handle keeps its keys and its map.
         ensures kept { HasSame self.old self.new }
+        // It is the first of a new tree, which begins with its pairs and has the cards and the number asked for.
         ensures renewed { OnOk result (IsRenewed (present_in self.old.pass) cards (tree_of self.new) self.new.pass) }
         ensures number { OnOk result ((arc_value self.new.shared).number ≡ number) }
+        // `SharedKeys` comes exactly if the tree shares keys, then `BadStart` exactly if the pairs are more than a tree
+        // may begin with, then `BadCards` exactly if the cards are not 1 to 1,000,000, and else `NoMemory` alone. The
+        // handle then keeps its tree.
         ensures shared { (result ≡ Err SharedKeys) ↔ HasSharedKeys self.old }
         ensures why { IfErr result (λ why. why ≢ SharedKeys → RenewalRefuses (present_in self.old.pass) cards why) }
         ensures refused { OnErr result (self.new.shared ≡ self.old.shared) }
@@ -68,7 +73,9 @@ impl Handle {
 
     /// The keys of the handle's own that are present, ascending, with their values.
     pub fn pairs(&mut self, alloc: Global) -> Result<Vec<(u64, u64)>, AllocError>
+        // The pairs are those of the handle's map, strictly ascending by their keys.
         ensures pairs { IfOk result (λ pairs. ListsPairs (present_in self.old.pass) pairs.items) }
+        // Keys, map and tree stay.
         ensures stays { StaysPut self.old self.new }
     {
         let mut pairs = Vec::with_capacity(alloc, self.keys().len())?;
@@ -83,8 +90,10 @@ impl Handle {
     /// The key at a place among the handle's keys, with its value, if the key is present.
     pub fn pair(&mut self, place: usize) -> Option<(u64, u64)>
         requires place { place < length (keys_of self.old.pass.view.worker.ledger) }
+        // Returns the key at this place of the owned ones with its value, if it is present.
         ensures pair { result ≡
             pair_at (present_in self.old.pass) (slice_index (keys_of self.old.pass.view.worker.ledger) place) }
+        // Keys, map and tree stay.
         ensures keys { keys_of self.new.pass.view.worker.ledger ≡ keys_of self.old.pass.view.worker.ledger }
         ensures map { (k : ℕ) → present_in self.new.pass k ≡ present_in self.old.pass k }
         ensures tree { self.new.shared ≡ self.old.shared }

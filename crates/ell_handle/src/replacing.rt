@@ -19,7 +19,7 @@ impl Handle {
     /// `Ok(current)` if it was exchanged, and else what is there: `Err(Some(value))` if the key has another value, and
     /// `Err(None)` if it is absent. Either way comparing and storing are one atomic step. Refusals, tries and cards are
     /// as of `insert`: an exchange takes a card.
-    #[tactic(auto, using(crate::proofs::Trying::within_same, crate::proofs::Trying::spends_none, crate::proofs::May::may_do))]
+    #[tactic(auto, using(crate::proofs::lemmas::Trying::within_same, crate::proofs::lemmas::Trying::spends_none, crate::proofs::lemmas::May::may_do))]
     pub fn compare_exchange(
         &mut self,
         key: u64,
@@ -27,14 +27,23 @@ impl Handle {
         new: u64,
         tries: u32,
     ) -> Result<Result<u64, Option<u64>>, Refusal>
+        // The answer is as of the tree's `swap`: on an owned key as of the handle's map, which becomes the map after
+        // it.
         ensures answers { IfOk result (λ said.
             Answers (tree_of self.old) (Swap key current new) (found (value_seen said)) self.old.pass self.new.pass) }
+        // It is `Ok` exactly if the key had the expected value, and else tells the other value, or none.
         ensures exchanged { IfOk result (SaysIfExchanged current) }
+        // `NoTries` comes exactly without tries, and then `Foreign` exactly for a key neither owned nor shared. `Busy`
+        // and `Spent` are the tree's: by `Busy` others hindered each try, of which there are at most `2 * cards`. A
+        // call that is refused leaves keys, map and tree.
         ensures may { OnOk result (MayChange key tries self.old) }
         ensures why { IfErr result (ChangeRefuses (Swap key current new) tries self.old self.new) }
         ensures refused { OnErr result (StaysPut self.old self.new) }
+        // The keys and the tree stay.
         ensures keeps { KeepsKeys self.old self.new }
+        // It keeps to the bounds of the tree's call on steps and on hindered tries.
         ensures took { TookTries tries self.old self.new }
+        // It keeps to the bounds of the tree's call on cards.
         ensures cards { SpendsCards key tries self.old.pass self.new.pass (whether_exchanged result) }
     {
         self.may_change(key, tries)?;
@@ -54,14 +63,22 @@ impl Handle {
     /// fails if something was in its way, or if another handle has changed the key since it was read: `Busy` if all
     /// tries fail so, and `Spent` if a try finds all cards given out. A put takes a card, and at most one more for each
     /// try that something hindered.
-    #[tactic(auto, using(crate::proofs::Trying::rounds_same, crate::proofs::Trying::spends_none, crate::proofs::May::may_do))]
+    #[tactic(auto, using(crate::proofs::lemmas::Trying::rounds_same, crate::proofs::lemmas::Trying::spends_none, crate::proofs::lemmas::May::may_do))]
     pub fn put(&mut self, key: u64, value: u64, tries: u32) -> Result<Option<u64>, Refusal>
+        // The key had the value that is returned, or none, and has this one instead, by one step, as of the tree's
+        // `put`.
         ensures puts { IfOk result (PutsValue (tree_of self.old) key value self.old.pass self.new.pass) }
+        // `NoTries` comes exactly without tries, and then `Foreign` exactly for a key neither owned nor shared. `Busy`
+        // and `Spent` are the tree's, and change nothing: by `Busy` on an owned key others hindered each try, of which
+        // there are at most `2 * cards`. A call that is refused leaves keys, map and tree.
         ensures may { OnOk result (MayChange key tries self.old) }
         ensures why { IfErr result (ValueRefuses key tries self.old self.new) }
         ensures refused { OnErr result (StaysPut self.old self.new) }
+        // The keys and the tree stay.
         ensures keeps { KeepsKeys self.old self.new }
+        // It keeps to the bounds of the tree's call on steps and on hindered tries.
         ensures took { TookRounds tries self.old self.new }
+        // It keeps to the bounds of the tree's call on cards.
         ensures cards { SpendsCards key tries self.old.pass self.new.pass (whether_put result) }
     {
         self.may_change(key, tries)?;
@@ -75,7 +92,7 @@ impl Handle {
     /// Stores the value that `f` makes of the one that a key of the handle's own, or a shared one, has, in one atomic
     /// step. Returns the value that it had. A key that is absent is left so, and takes no card of an own key. `f` is
     /// called anew for each value that is found. Refusals are as of `put`.
-    #[tactic(auto, using(crate::proofs::Trying::rounds_same, crate::proofs::Trying::spends_none, crate::proofs::May::may_do, crate::proofs::Values::update_leaves))]
+    #[tactic(auto, using(crate::proofs::lemmas::Trying::rounds_same, crate::proofs::lemmas::Trying::spends_none, crate::proofs::lemmas::May::may_do, crate::proofs::lemmas::Values::update_leaves))]
     pub fn update<F: Fn(u64) -> u64>(
         &mut self,
         key: u64,
@@ -83,12 +100,20 @@ impl Handle {
         tries: u32,
     ) -> Result<Option<u64>, Refusal>
         requires f { F.IsAlwaysCallable f }
+        // The key had the value that is returned, and has what the closure made of it instead, by one step, as of the
+        // tree's `update`; an absent key is left so.
         ensures updates { IfOk result (UpdatesValue (tree_of self.old) key (F.post f) self.old.pass self.new.pass) }
+        // `NoTries` comes exactly without tries, and then `Foreign` exactly for a key neither owned nor shared. `Busy`
+        // and `Spent` are the tree's, and change nothing: by `Busy` on an owned key others hindered each try, of which
+        // there are at most `2 * cards`. A call that is refused leaves keys, map and tree.
         ensures may { OnOk result (MayChange key tries self.old) }
         ensures why { IfErr result (ValueRefuses key tries self.old self.new) }
         ensures refused { OnErr result (StaysPut self.old self.new) }
+        // The keys and the tree stay.
         ensures keeps { KeepsKeys self.old self.new }
+        // It keeps to the bounds of the tree's call on steps and on hindered tries.
         ensures took { TookRounds tries self.old self.new }
+        // It keeps to the bounds of the tree's call on cards.
         ensures cards { SpendsCards key tries self.old.pass self.new.pass (whether_updated result) }
     {
         self.may_change(key, tries)?;
@@ -101,14 +126,22 @@ impl Handle {
 
     /// Adds to the value of a key of the handle's own, or of a shared one, in one atomic step, and returns the value
     /// that it had. A sum past `u64::MAX` wraps around. A key that is absent is left so. Refusals are as of `put`.
-    #[tactic(auto, using(crate::proofs::Trying::rounds_same, crate::proofs::Trying::spends_none, crate::proofs::May::may_do, crate::proofs::Values::update_leaves))]
+    #[tactic(auto, using(crate::proofs::lemmas::Trying::rounds_same, crate::proofs::lemmas::Trying::spends_none, crate::proofs::lemmas::May::may_do, crate::proofs::lemmas::Values::update_leaves))]
     pub fn fetch_add(&mut self, key: u64, addend: u64, tries: u32) -> Result<Option<u64>, Refusal>
+        // The key had the value that is returned, and has the sum modulo 2^64 instead, by one step, as of the tree's
+        // `fetch_add`; an absent key is left so.
         ensures adds { IfOk result (UpdatesValue (tree_of self.old) key (IsSum addend) self.old.pass self.new.pass) }
+        // `NoTries` comes exactly without tries, and then `Foreign` exactly for a key neither owned nor shared. `Busy`
+        // and `Spent` are the tree's, and change nothing: by `Busy` on an owned key others hindered each try, of which
+        // there are at most `2 * cards`. A call that is refused leaves keys, map and tree.
         ensures may { OnOk result (MayChange key tries self.old) }
         ensures why { IfErr result (ValueRefuses key tries self.old self.new) }
         ensures refused { OnErr result (StaysPut self.old self.new) }
+        // The keys and the tree stay.
         ensures keeps { KeepsKeys self.old self.new }
+        // It keeps to the bounds of the tree's call on steps and on hindered tries.
         ensures took { TookRounds tries self.old self.new }
+        // It keeps to the bounds of the tree's call on cards.
         ensures cards { SpendsCards key tries self.old.pass self.new.pass (whether_updated result) }
     {
         self.may_change(key, tries)?;

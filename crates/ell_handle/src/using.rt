@@ -9,21 +9,23 @@ use ell_tree::KEY_MAX;
 impl Handle {
     /// Whether the keys of the handle's tree are shared: then no handle owns any.
     pub fn has_shared_keys(&self) -> bool
+        // Returns `true` exactly if the tree shares keys.
         ensures { IsTrue result ↔ HasSharedKeys self.now }
     {
         self.shared.is_shared
     }
 
     /// Whether the handle has the least share of a tree of shared keys, and so may not be parted any more.
-    #[tactic(auto, using(crate::proofs::May::too_many))]
+    #[tactic(auto, using(crate::proofs::lemmas::May::too_many))]
     pub fn has_least_share(&self) -> bool
+        // Returns `true` exactly if the tree shares keys and the handle's share is the least one.
         ensures { IsTrue result ↔ IsLeast self.now }
     {
         !self.pass.may_part()
     }
 
     /// Whether a find, an insert and a delete of a key may be asked of the handle: of its own keys, and of shared ones.
-    #[tactic(auto, using(crate::proofs::May::is_shared))]
+    #[tactic(auto, using(crate::proofs::lemmas::May::is_shared))]
     pub(crate) fn may_use(&self, key: u64) -> bool
         ensures { IsTrue result ↔ MayUse self.now key }
     {

@@ -8,6 +8,7 @@ use std::alloc::{AllocError, Allocator};
 
 /// The keys of a list, each once, ascending. Allocates nothing.
 pub fn distinct_keys<A: Allocator>(mut keys: Vec<u64, A>) -> Vec<u64, A>
+    // The result has each key of the list once, strictly ascending.
     ensures { Lists (set_of keys.items) result.items }
 {
     keys.sort_unstable();
@@ -23,6 +24,7 @@ pub fn united_keys<A: Allocator>(
 ) -> Result<Vec<u64, A>, AllocError>
     requires left { IsStrictlyIncreasing left.now }
     requires right { IsStrictlyIncreasing right.now }
+    // The result has each key of either list once, strictly ascending.
     ensures { IfOk result (λ both. Lists (union (set_of left.now) (set_of right.now)) both.items) }
 {
     united(alloc, left, right)

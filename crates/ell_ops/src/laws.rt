@@ -10,12 +10,16 @@ ghost use Rattle.ell_ops.specs.LastWriter.{FoldHasPresentKeys, RepliesGoByPresen
 /// swap since then which found the value that it replaces. With no writer it is the one that the list began with. Each
 /// reply follows from that. It holds of every map and every list.
 pub fn last_writer()
+    // In the map of a list's operations a key has the value of its last writer: the insert that found it absent, or a
+    // swap since then that found its first value. It is absent after a delete, or if it was never there.
     ensures maps { FoldHasPresentKeys }
+    // The reply to each operation follows from whether its key is present before it, and with which value.
     ensures replies { RepliesGoByPresence }
 {}
 
 /// A set has at most one ascending list of its keys, and a map at most one of its keys with their values.
 pub fn one_listing()
+    // A set has at most one ascending list of its keys, and a map at most one of its pairs.
     ensures keys { (set : KeySet) (xs ys : List ℕ) → Lists set xs → Lists set ys → xs ≡ ys }
     ensures pairs { (there : Contents) (xs ys : List (ℕ × ℕ)) → ListsPairs there xs → ListsPairs there ys → xs ≡ ys }
 {}

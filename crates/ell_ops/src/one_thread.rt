@@ -20,8 +20,11 @@ pub fn apply<A: Allocator + Copy>(
     map: &mut BTreeMap<u64, u64, A>,
     op: Op,
 ) -> Result<Reply, NoMemory>
+    // The reply is that of the operation on the map as it was.
     ensures reply { IfOk result (λ reply. reply ≡ reply_of op (contents_of map.old.entries)) }
+    // The map becomes what the operation makes of it.
     ensures after { OnOk result (contents_of map.new.entries ≡ after op (contents_of map.old.entries)) }
+    // The call fails only at an insert of an absent key, and leaves the map as it was.
     ensures err { OnErr result (map.new.entries ≡ map.old.entries) }
     ensures refused { OnErr result (AddsKey op (contents_of map.old.entries)) }
 {
@@ -77,7 +80,9 @@ pub fn apply_all<A: Allocator + Copy>(
     alloc: A,
     ops: &[Op],
 ) -> Result<(Vec<Reply, A>, Vec<(u64, u64), A>), NoMemory>
+    // The replies are those of one thread that applies the operations in their order to the empty map.
     ensures replies { IfOk result (λ done. done.0.items ≡ replies nothing ops.now) }
+    // The pairs are those of the map that it leaves, strictly ascending by their keys.
     ensures pairs { IfOk result (λ done. ListsPairs (final nothing ops.now) done.1.items) }
 {
     apply_from(alloc, &[], ops)
@@ -90,7 +95,9 @@ pub fn apply_from<A: Allocator + Copy>(
     ops: &[Op],
 ) -> Result<(Vec<Reply, A>, Vec<(u64, u64), A>), NoMemory>
     requires { IsStrictlyIncreasing (keys_of start.now) }
+    // The replies are those of one thread that applies the operations in their order to the map of the start pairs.
     ensures replies { IfOk result (λ done. done.0.items ≡ replies (contents_of start.now) ops.now) }
+    // The pairs are those of the map that it leaves, strictly ascending by their keys.
     ensures pairs { IfOk result (λ done. ListsPairs (final (contents_of start.now) ops.now) done.1.items) }
 {
     let mut map = ordered_map(alloc, start)?;

@@ -22,6 +22,7 @@ impl Op {
 
     /// The key that the operation is on.
     pub fn key(&self) -> u64
+        // Returns the operation's key.
         ensures { result ≡ key_of self.now }
     {
         match *self {
@@ -31,6 +32,7 @@ impl Op {
 
     /// Whether the key is at most [`KEY_MAX`].
     pub fn fits(&self) -> bool
+        // Returns `true` exactly if the operation's key is at most 2^64 - 3.
         ensures { IsTrue result ↔ Fits self.now }
     {
         self.key() <= KEY_MAX

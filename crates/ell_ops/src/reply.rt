@@ -17,6 +17,7 @@ pub enum Reply {
 impl Reply {
     /// Yes exactly where this holds.
     pub fn yes_if(holds: bool) -> Reply
+        // Returns `Yes` if this holds, else `No`.
         ensures { result ≡ yes_if holds }
     {
         if holds { Reply::Yes } else { Reply::No }
@@ -24,6 +25,7 @@ impl Reply {
 
     /// A value that was found, or no.
     pub fn found(value: Option<u64>) -> Reply
+        // Returns `Found` with the value, or `No` if there is none.
         ensures { result ≡ found value }
     {
         value.map_or(Reply::No, Reply::Found)

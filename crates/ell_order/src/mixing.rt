@@ -10,6 +10,7 @@ const SECOND_FACTOR: u64 = 0xc4ce_b9fe_1a85_ec53;
 /// A number scrambled, by the finalizer of MurmurHash3 (Austin Appleby's `fmix64`): numbers that rise by a step are mixed to such that
 /// look random, and different ones to different ones.
 pub fn mixed(number: u64) -> u64
+    // Returns the number scrambled, by the finalizer of MurmurHash3.
     ensures { result ≡ mixed number }
 {
     let once = folded(number).wrapping_mul(FIRST_FACTOR);

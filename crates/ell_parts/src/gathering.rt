@@ -43,7 +43,10 @@ pub fn gather<A: Allocator + Copy, P: Allocator>(
     n: usize,
     pieces: &[Vec<(usize, Reply), P>],
 ) -> Result<Vec<Reply, A>, GatherFault>
+    // The replies are one for each position, each that of the one item for its position.
     ensures ok { IfOk result (λ replies. IsGathered n (flat_map (λ piece. piece.items) pieces.now) replies.items) }
+    // A fault tells the first item for a strange position or one that has an item already; or else the least position
+    // without an item.
     ensures fault { IfErr result (IsFault n (flat_map (λ piece. piece.items) pieces.now)) }
 {
     let mut answered = vec![in alloc; false; n]?;

@@ -36,6 +36,7 @@ impl<'a, A: Allocator> Model for Parts<'a, A> {
 impl<A: Allocator> Parts<'_, A> {
     /// How many workers there are.
     pub fn workers(&self) -> u32
+        // Returns the number of workers, 1 to 64. Each position has one of them, and each key is with one.
         ensures value { result ≡ self.now.workers }
         ensures lawful { IsLawful self.now }
     {
@@ -44,6 +45,7 @@ impl<A: Allocator> Parts<'_, A> {
 
     /// How many operations there are.
     pub fn len(&self) -> usize
+        // Returns the number of operations. Each has one of the workers, and each key is with one.
         ensures value { result ≡ length self.now.ops }
         ensures lawful { IsLawful self.now }
     {
@@ -52,6 +54,7 @@ impl<A: Allocator> Parts<'_, A> {
 
     /// Whether there is no operation.
     pub fn is_empty(&self) -> bool
+        // Returns `true` exactly if there are no operations.
         ensures { IsTrue result ↔ (length self.now.ops ≡ 0) }
     {
         self.len() == 0
@@ -60,6 +63,7 @@ impl<A: Allocator> Parts<'_, A> {
     /// The operations of a worker, with their positions in the list, ascending.
     pub fn part(&self, worker: u32) -> &[(usize, Op)]
         requires { worker < self.now.workers }
+        // Returns the worker's operations with their positions, in the order of the list.
         ensures { result.now ≡ part self.now worker }
     {
         &self.parts[worker as usize]
@@ -68,6 +72,7 @@ impl<A: Allocator> Parts<'_, A> {
     /// The keys of a worker's operations, strictly ascending.
     pub fn keys(&self, worker: u32) -> &[u64]
         requires { worker < self.now.workers }
+        // Returns the keys of the worker's part, each once, strictly ascending.
         ensures { Lists (keys_in (part self.now worker)) result.now }
     {
         &self.keys[worker as usize]
@@ -82,7 +87,10 @@ impl<'a, A: Allocator + Copy> Parts<'a, A> {
         owners: &[u32],
         workers: u32,
     ) -> Result<Parts<'a, A>, PartFault>
+        // Each position has the worker that was given for it, and each key is with one worker.
         ensures ok { IfOk result (IsPartedBy ops.now owners.now workers) }
+        // A fault is the first one: of the workers' number, of the owners' number, of an owner who is no worker, or of
+        // a key with two workers.
         ensures fault { IfErr result (IsFault ops.now owners.now workers) }
     {
         if !is_worker_count(workers) {
@@ -102,7 +110,9 @@ impl<'a, A: Allocator + Copy> Parts<'a, A> {
     /// Gives each key to the worker whose number is the key's remainder by the number of workers. The faults are
     /// `BadWorkers` and want of memory.
     pub fn striped(alloc: A, ops: &'a [Op], workers: u32) -> Result<Parts<'a, A>, PartFault>
+        // Each operation has the worker whose number is the remainder of its key by the number of workers.
         ensures ok { IfOk result (IsPartedBy ops.now (striped ops.now workers) workers) }
+        // `BadWorkers` comes exactly if the workers are not 1 to 64, and else `NoMemory` alone.
         ensures refused { IsRefusedByCount workers result }
     {
         if !is_worker_count(workers) {
@@ -116,8 +126,12 @@ impl<'a, A: Allocator + Copy> Parts<'a, A> {
     /// n / workers, rounded up, so the last runs may be short or empty. The faults are `BadWorkers` and want of
     /// memory.
     pub fn ranged(alloc: A, ops: &'a [Op], workers: u32) -> Result<Parts<'a, A>, PartFault>
+        // Each position has one of the workers, and each key is with one.
         ensures ok { IfOk result (λ parts. (parts.ops ≡ ops.now) × (parts.workers ≡ workers) × IsLawful parts) }
+        // Of the distinct keys in ascending order each worker has the next ones, as many as their number by that of
+        // workers, rounded up.
         ensures ranged { IfOk result IsRanged }
+        // `BadWorkers` comes exactly if the workers are not 1 to 64, and else `NoMemory` alone.
         ensures refused { IsRefusedByCount workers result }
     {
         if !is_worker_count(workers) {

@@ -11,7 +11,7 @@ use crate::ordered::run_in_order;
 use crate::settings::{Report, Settings};
 use ell_ops::NoMemory;
 use ell_text::{INPUT_MAX, InputFault, TextFault, WriteFault, read_all, read_bulk, write_answer};
-use ell_word::StepGate;
+use ell_tree::StepGate;
 use std::alloc::Allocator;
 use std::io::{Read, Write};
 use std::thread::Threads;
@@ -98,10 +98,15 @@ pub fn run_bytes<
     gate: &G,
 ) -> Result<Report, RunFault>
     requires { AreSettings settings }
+    // If it succeeds, the answer of one thread to the text is appended, and nothing else.
     ensures ok { OnOk result (IsAnswered (I.remaining reader.old) (O.contents writer.old) (O.contents writer.new)) }
+    // `late` is how many operations no worker's piece answers, in a run that goes by the settings.
     ensures late { IfOk result (λ report. IsReported settings (I.remaining reader.old) report.late) }
+    // `Text` tells the text's first fault, and `TooLong` comes only for more than 16,777,216 bytes. Only a `Write`
+    // fault has written anything: its first `written` bytes of the answer.
     ensures fault { IfErr result (λ fault.
         FaultTells fault (I.remaining reader.old) (O.contents writer.old) (O.contents writer.new)) }
+    // If it succeeds, the reader is at its end. In any case it has given a front of its bytes.
     ensures end { OnOk result (IsAtEnd (I.remaining reader.new)) }
     ensures given { GivesFront (I.remaining reader.old) (I.remaining reader.new) }
 {

@@ -8,10 +8,13 @@ use crate::settings::TRIES_MAX;
 /// Parts serve: where each worker of a lawful parting has done a front of its part, whatever came in between, and the rest
 /// is applied afterwards, each worker's in its order, replies and final map are those of one thread over the whole list.
 pub fn by_parts()
+    // A front of each worker's part, done in any interleaving, and then the rest by one thread: all replies and the
+    // last map are as of one thread that does the whole list.
     ensures { PartsServe }
 {}
 
 /// The limit is the number that the definitions have: `TRIES_MAX` is 1,000,000.
 pub fn limits_are_as_defined()
+    // `TRIES_MAX` is 1,000,000.
     ensures tries { TRIES_MAX ≡ most_tries }
 {}

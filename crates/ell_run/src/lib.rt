@@ -15,7 +15,7 @@ mod workers;
 
 pub use bytes::{RunFault, run_bytes};
 pub use ell_ops::{KEY_MAX, WORKERS_MAX};
-pub use ell_tree::{Pass, Tree};
+pub use ell_tree::{Exchange, Kind, NoGate, Pass, StepGate, Tree};
 pub use ell_word::{CARDS_MAX, START_MAX};
 pub use faults::WorkFault;
 pub use laws::{by_parts, limits_are_as_defined};

@@ -13,7 +13,7 @@ use crate::runs::{Outcome, run};
 use crate::settings::{Settings, limits_for, parts_for};
 use ell_ops::{NoMemory, Op};
 use ell_order::RunOrder;
-use ell_word::StepGate;
+use ell_tree::StepGate;
 use std::alloc::Allocator;
 use std::thread::Threads;
 

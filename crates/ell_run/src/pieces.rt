@@ -11,8 +11,7 @@ ghost use Rattle.ell_run.specs.Work.{IsWorked, IsWorkedOff, OwnsAll};
 
 use ell_ops::{NoMemory, Op, Reply};
 use ell_parts::Parts;
-use ell_tree::{Held, Pass, Tree};
-use ell_word::StepGate;
+use ell_tree::{Held, Pass, StepGate, Tree};
 use std::alloc::{Allocator, Global};
 
 /// The replies of a worker, with their positions in the whole list.
@@ -31,8 +30,11 @@ pub(crate) fn work_off<A: Allocator + Copy, G: StepGate>(
     requires may { IsIdlePassOf tree.now pass.old }
     requires owned { OwnsAll pass.old part.now }
     requires tries { 1 ≤ tries }
+    // The piece has the right replies to a front of the part, and the pass has the map after it. The next operation, if
+    // there is one, was held.
     ensures worked { IfOk result (λ piece.
         IsWorkedOff tree.now.plan.last_card tries part.now pass.old pass.new piece.items) }
+    // It makes at most the steps of its part's operations, in a row and in all.
     ensures bounded { IfOk result (λ piece.
         Took pass.old pass.new (worker_steps tree.now.plan.last_card (length part.now))) }
 {

@@ -25,6 +25,7 @@ pub(crate) fn cards_by_default(ops: &[Op]) -> u64
 // worker alone is busy, nothing is in the way of its first try.
 pub(crate) fn cards_to_reserve(ops: &[Op], busy: usize, limits: Limits) -> u64
     requires { AreLimits limits }
+    // Returns the cards asked for, but no more than the operations can take, and at least one.
     ensures value { result ≡ min limits.cards (max 1 (most_taken ops.now busy limits.tries)) }
     ensures allowed { IsAllowed most_cards result }
 {

@@ -22,8 +22,7 @@ use crate::reservation::cards_to_reserve;
 use crate::workers::{busy_workers, keys_for, work_apart};
 use ell_ops::{NoMemory, Op, Reply, united_keys};
 use ell_parts::{GatherFault, Parts, gather};
-use ell_tree::{CardFault, Pass, Tree};
-use ell_word::StepGate;
+use ell_tree::{CardFault, Pass, StepGate, Tree};
 use std::alloc::{Allocator, Global};
 use std::thread::Threads;
 
@@ -63,6 +62,9 @@ pub fn run<R: Threads + Sync, A: Allocator + Copy + Send + Sync, G: StepGate + S
     gate: &G,
 ) -> Result<Outcome<A>, NoMemory>
     requires runnable { IsRunnable start.now ops.now parts.now limits }
+    // In every interleaving of the workers' steps, replies and pairs are those of one thread that applies the list to
+    // the start pairs. `late` is how many operations no worker's piece answers; a worker stops only at one that would
+    // change the map, or at a swap that would find its first value.
     ensures { IfOk result (IsOutcome (contents_of start.now) ops.now parts.now) }
 {
     let (pieces, pairs) = run_workers(rt, alloc, start, ops, parts, limits, gate)?;
@@ -156,8 +158,10 @@ fn finish<A: Allocator + Copy>(
 ) -> Result<Outcome<A>, NoMemory>
     requires parted { parts.now.ops ≡ ops.now }
     requires left { (start : Contents) × AreLeft start parts.now (lists_of pieces.items) pairs.items }
+    // Replies and pairs are those of one thread from any map from which the workers left what they did.
     ensures outcome { (start : Contents) → AreLeft start parts.now (lists_of pieces.items) pairs.items →
         IfOk result (IsOutcome start ops.now parts.now) }
+    // `late` is how many operations the workers' pieces do not answer.
     ensures count { IfOk result (λ outcome.
         outcome.late ≡ length (late_ops parts.now.ops (flat_map (λ piece. piece.items) pieces.items))) }
 {

@@ -50,6 +50,7 @@ pub fn parts_for<A: Allocator + Copy>(
     settings: Settings,
 ) -> Result<Parts<'_, A>, NoMemory>
     requires { AreSettings settings }
+    // The operations are parted among the workers that the settings ask for, in stripes or in ranges.
     ensures { IfOk result (IsPartedAs settings ops.now) }
 {
     let parts = match settings.parting {
@@ -66,6 +67,7 @@ pub fn parts_for<A: Allocator + Copy>(
 pub(crate) fn limits_for(ops: &[Op], settings: Settings) -> Limits
     requires settings { AreSettings settings }
     requires few { length ops.now ≤ most_operations }
+    // Cards and tries are those of the settings. If these give no cards, there are 9 for 8 changes, and 64.
     ensures limits { AreLimits result }
     ensures cards { result.cards ≡ unwrap_or settings.cards (cards_by_default ops.now) }
     ensures tries { result.tries ≡ settings.tries }

@@ -13,8 +13,7 @@ use crate::faults::WorkFault;
 use crate::pieces::{Piece, with_empty_pieces, work_off};
 use ell_ops::{NoMemory, Op, united_keys};
 use ell_parts::Parts;
-use ell_tree::{Pass, Tree};
-use ell_word::StepGate;
+use ell_tree::{Pass, StepGate, Tree};
 use std::alloc::Allocator;
 use std::thread::{Threads, join};
 
@@ -39,8 +38,14 @@ pub fn work<R: Threads + Sync, A: Allocator + Copy + Send + Sync, G: StepGate + 
     requires idle { IsIdlePassOf tree.now pass }
     requires owned { All (λ op. Owns pass (key_of op)) parts.now.ops }
     requires tries { 1 ≤ tries }
+    // The pass that comes back has the same tree and keys, is idle, and has the map after a front of each worker's
+    // part, to which the worker's piece has the replies. The next operation of each part was held. In a row they make
+    // at most the steps of the longest part, and two for each other busy worker; in all at most the sum of all parts',
+    // and as many.
     ensures worked { IfOk result (AllHaveWorked tree.now tries 0 parts.now pass) }
+    // The label is the number of the first worker that has something to do, or as it was if none has.
     ensures label { IfOk result (λ done. done.0.label ≡ label_after pass (busy parts.now)) }
+    // `TooManyPasses` comes only if the tree shares keys.
     ensures why { IfErr result (StopsWork pass) }
 {
     let workers = busy_workers(alloc, parts)?;
@@ -65,7 +70,9 @@ pub(crate) fn work_apart<R: Threads + Sync, A: Allocator + Copy + Send + Sync, G
     requires keys { Lists (keys_of parts.now.ops) keys.now }
     requires owned { All (λ key. Owns pass key) keys.now }
     requires tries { 1 ≤ tries }
+    // The pass and the pieces are as after `work`; each bound of steps is two more.
     ensures worked { IfOk result (AllHaveWorked tree.now tries 2 parts.now pass) }
+    // `TooManyPasses` comes only if the tree shares keys.
     ensures why { IfErr result (StopsWork pass) }
 {
     if pass.keys().len() == keys.len() {

@@ -1,5 +1,5 @@
 //! What is counted.
-use ell_word::{Kind, StepGate};
+use ell_run::{Exchange, Kind, StepGate};
 use std::fmt::{self, Display, Formatter, Write};
 use std::sync::atomic::{AtomicU64, Ordering};
 
@@ -20,8 +20,8 @@ pub struct Counts {
 impl StepGate for Counts {
     fn before(&self, _worker: u32, kind: Kind) {
         match kind {
-            Kind::IChild | Kind::DChild => add(&self.children, 1),
-            Kind::Backtrack => add(&self.backtracks, 1),
+            Kind::Exchange(Exchange::IChild | Exchange::DChild) => add(&self.children, 1),
+            Kind::Exchange(Exchange::Backtrack) => add(&self.backtracks, 1),
             _ => {}
         }
     }

@@ -22,7 +22,7 @@ pub fn operations(alloc: Global, seed: u64, count: u32, keys: u32) -> Result<Vec
 }
 
 /// About half of the keys below a number, ascending, each with a value, the same for the same seed.
-#[tactic(auto, using(crate::proofs::Starts::rises_none, crate::proofs::Starts::rises_below, crate::proofs::Starts::rises_push))]
+#[tactic(auto, using(crate::proofs::lemmas::Starts::rises_none, crate::proofs::lemmas::Starts::rises_below, crate::proofs::lemmas::Starts::rises_push))]
 pub fn start_pairs(alloc: Global, seed: u64, keys: u32) -> Result<Vec<(u64, u64)>, AllocError>
     ensures ascending { IfOk result (λ pairs. IsStrictlyIncreasing (keys_of pairs.items)) }
     ensures real { IfOk result (λ pairs. All (λ key. key ≤ greatest_key) (keys_of pairs.items)) }

@@ -7,8 +7,7 @@ ghost use Rattle.ell_word.specs.Node.{most_start};
 use crate::counts::{Counts, add};
 use crate::operations::{operations, start_pairs};
 use ell_ops::{NoMemory, Op, Reply, WORKERS_MAX, apply_from};
-use ell_run::{Limits, Parting, Settings, parts_for, run};
-use ell_word::{NoGate, StepGate};
+use ell_run::{Limits, NoGate, Parting, Settings, StepGate, parts_for, run};
 use std::alloc::Global;
 use std::thread::Threads;
 

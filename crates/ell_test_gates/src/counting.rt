@@ -1,5 +1,6 @@
 //! A gate that counts what it is told.
-use ell_word::{Kind, StepGate};
+use crate::kinds::{LAST, number_of};
+use ell_tree::{Kind, StepGate};
 use std::alloc::{AllocError, Global};
 use std::sync::atomic::{AtomicU64, Ordering};
 
@@ -85,7 +86,7 @@ impl<G: StepGate + Drop> StepGate for Counting<G> {
 
 impl Counts {
     fn add(&self, kind: Kind) {
-        if let Some(count) = self.kinds.get(kind as usize) {
+        if let Some(count) = self.kinds.get(number_of(kind) as usize) {
             one_more(count);
         }
     }
@@ -96,7 +97,7 @@ impl Counts {
     }
 
     fn of(&self, kind: Kind) -> u64 {
-        self.kinds.get(kind as usize).map_or(0, read)
+        self.kinds.get(number_of(kind) as usize).map_or(0, read)
     }
 
     // How many steps were told, beside the begins of operations.
@@ -116,10 +117,10 @@ impl Counts {
     }
 }
 
-// Nothing told yet, of kinds of which `Backtrack` is the last.
+// Nothing told yet, of all kinds.
 fn none_told(alloc: Global) -> Result<Counts, AllocError> {
     let mut kinds = Vec::new(alloc);
-    for _ in 0..=Kind::Backtrack as usize {
+    for _ in 0..=number_of(LAST) {
         kinds.push(AtomicU64::new(0))?;
     }
     Ok(Counts {

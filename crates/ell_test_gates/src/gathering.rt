@@ -1,6 +1,6 @@
 //! A gate at which all workers meet, each in the middle of an operation of its own.
 use crate::meeting::is_reached_in_time;
-use ell_word::{Kind, StepGate};
+use ell_tree::{Kind, StepGate};
 use std::alloc::{AllocError, Global};
 use std::sync::atomic::{AtomicBool, AtomicU64, Ordering};
 

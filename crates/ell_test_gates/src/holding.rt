@@ -1,6 +1,6 @@
 //! A gate that holds workers, so that they meet what one of them has begun.
 use crate::meeting::is_reached_in_time;
-use ell_word::{Kind, StepGate};
+use ell_tree::{Kind, StepGate};
 use std::sync::atomic::{AtomicBool, AtomicU64, Ordering};
 
 /// Holds worker 0 at its first step of a kind until the other workers have ended so many operations, and holds each of those at

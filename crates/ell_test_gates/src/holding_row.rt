@@ -1,6 +1,6 @@
 //! A gate that holds one worker behind the next, until the last has gone by.
 use crate::meeting::is_reached_in_time;
-use ell_word::{Kind, StepGate};
+use ell_tree::{Kind, StepGate};
 use std::sync::atomic::{AtomicBool, AtomicU64, Ordering};
 
 /// Holds workers 0, 1 and so on, each at its first step of a kind of its own, until an operation of the worker after them has ended;

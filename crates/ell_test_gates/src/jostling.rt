@@ -1,5 +1,5 @@
 //! A gate that has workers stumble.
-use ell_word::{Kind, StepGate};
+use ell_tree::{Kind, StepGate};
 use std::sync::atomic::{AtomicU64, Ordering};
 
 // One step of so many is held, for a number of turns of a loop below the other one.

@@ -9,6 +9,7 @@ mod history;
 mod holding;
 mod holding_row;
 mod jostling;
+mod kinds;
 mod listing;
 mod meeting;
 mod turns;

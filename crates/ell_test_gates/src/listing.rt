@@ -1,5 +1,6 @@
 //! A gate that lists what it is told.
-use ell_word::{Kind, StepGate};
+use crate::kinds::number_of;
+use ell_tree::{Kind, StepGate};
 use std::alloc::{AllocError, Global};
 use std::sync::atomic::{AtomicU64, Ordering};
 
@@ -65,7 +66,7 @@ impl<G: StepGate + Drop> Listing<G> {
     // Whether the list goes on from a place with a call of a worker, as often as it says: the place behind it.
     fn goes_on(&self, from: u64, worker: u32, call: Call) -> Option<u64> {
         let (number, times) = match call {
-            Call::Before(kind, times) => (kind as u64, times),
+            Call::Before(kind, times) => (number_of(kind), times),
             Call::After(answered) => (number_of_end(answered), 1),
         };
         let want = entry(worker, number);
@@ -90,7 +91,7 @@ impl<G: StepGate + Drop> Listing<G> {
 impl<G: StepGate + Drop> StepGate for Listing<G> {
     fn before(&self, worker: u32, kind: Kind) {
         self.behind.before(worker, kind);
-        self.add(entry(worker, kind as u64));
+        self.add(entry(worker, number_of(kind)));
     }
 
     fn after(&self, worker: u32, answered: bool) {

@@ -1,6 +1,6 @@
 //! A gate that lets one worker go on at a time.
 use crate::meeting::is_reached_in_time;
-use ell_word::{Kind, StepGate};
+use ell_tree::{Kind, StepGate};
 use std::sync::atomic::{AtomicBool, AtomicU64, Ordering};
 
 /// How far a worker goes in its turn: until it has come to its next steps of a kind, to so many of them, before the last of which it

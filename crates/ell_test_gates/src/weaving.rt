@@ -1,6 +1,6 @@
 //! A gate that puts the operations of one worker between the steps of another.
 use crate::meeting::is_reached_in_time;
-use ell_word::{Kind, StepGate};
+use ell_tree::{Kind, StepGate};
 use std::sync::atomic::{AtomicBool, AtomicU64, Ordering};
 
 // More than any count of steps.

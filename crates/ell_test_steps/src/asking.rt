@@ -8,7 +8,7 @@ ghost use Rattle.ell_test_steps.specs.Fitting.{IsReady, StepsAside};
 use crate::counted;
 use crate::memory::Remembered;
 use ell_cards::{CardTable, Pass};
-use ell_core::Field;
+use ell_layout::Field;
 use ell_word::is_internal;
 use std::alloc::Allocator;
 
@@ -27,7 +27,7 @@ pub(crate) fn look_key<A: Allocator + Copy>(
 }
 
 /// Reads a word of a card that the pass knows flagged or marked.
-#[tactic(auto, using(ell_cards::proofs::views::Steps::info_told, ell_cards::proofs::views::Steps::info_met))]
+#[tactic(auto, using(ell_cards::proofs::lemmas::views::Steps::info_told, ell_cards::proofs::lemmas::views::Steps::info_met))]
 pub(crate) fn look_info<A: Allocator + Copy>(
     table: &CardTable<A>,
     pass: &mut Pass<A>,
@@ -44,7 +44,7 @@ pub(crate) fn look_info<A: Allocator + Copy>(
 }
 
 /// Reads a child of the parent that a card has marked.
-#[tactic(auto, using(ell_cards::proofs::views::Steps::frozen_told))]
+#[tactic(auto, using(ell_cards::proofs::lemmas::views::Steps::frozen_told))]
 pub(crate) fn look_child<A: Allocator + Copy>(
     table: &CardTable<A>,
     pass: &mut Pass<A>,
@@ -62,7 +62,7 @@ pub(crate) fn look_child<A: Allocator + Copy>(
 }
 
 /// Reads the sibling of a leaf at the parent that a card has marked.
-#[tactic(auto, using(crate::proofs::Asides::asides))]
+#[tactic(auto, using(crate::proofs::lemmas::Asides::asides))]
 pub(crate) fn look_sibling<A: Allocator + Copy>(
     table: &CardTable<A>,
     pass: &mut Pass<A>,

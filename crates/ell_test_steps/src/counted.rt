@@ -1,6 +1,6 @@
 //! The step calls of a search, each counted at once, as an act of a schedule is.
 ghost use Rattle.std.specs.Prelude.{◌≡◌, ◌≤◌, ◌<◌};
-ghost use Rattle.ell_core.specs.acts.Searching.{IsLeaf};
+ghost use Rattle.ell_layout.specs.Words.{IsLeaf};
 ghost use Rattle.ell_cards.specs.declared.view.Told.TheVariants.{Key, Met};
 ghost use Rattle.ell_cards.specs.Changes.{after_down, after_key_of, after_upd, after_value_of};
 ghost use Rattle.ell_cards.specs.Calls.{TellsLeaf, TellsValue};
@@ -12,7 +12,7 @@ use ell_word::Update;
 use std::alloc::Allocator;
 
 /// Reads the update word of the internal node where the pass stands.
-#[tactic(auto, using(crate::proofs::CountedSteps::counted))]
+#[tactic(auto, using(crate::proofs::lemmas::CountedSteps::counted))]
 pub(crate) fn upd<A: Allocator + Copy>(
     table: &CardTable<A>,
     pass: &mut Pass<A>,
@@ -29,7 +29,7 @@ pub(crate) fn upd<A: Allocator + Copy>(
 }
 
 /// Goes down from the internal node where the pass stands to the child on its key's side.
-#[tactic(auto, using(crate::proofs::CountedSteps::counted))]
+#[tactic(auto, using(crate::proofs::lemmas::CountedSteps::counted))]
 pub(crate) fn down<A: Allocator + Copy>(
     table: &CardTable<A>,
     pass: &mut Pass<A>,
@@ -47,7 +47,7 @@ pub(crate) fn down<A: Allocator + Copy>(
 }
 
 /// Reads the key of a node that the pass has met.
-#[tactic(auto, using(crate::proofs::CountedSteps::counted, crate::proofs::CountedSteps::still_told))]
+#[tactic(auto, using(crate::proofs::lemmas::CountedSteps::counted, crate::proofs::lemmas::CountedSteps::still_told))]
 pub(crate) fn key_of<A: Allocator + Copy>(
     table: &CardTable<A>,
     pass: &mut Pass<A>,
@@ -65,7 +65,7 @@ pub(crate) fn key_of<A: Allocator + Copy>(
 }
 
 /// Reads the value of a leaf that the pass has met.
-#[tactic(auto, using(crate::proofs::CountedSteps::counted))]
+#[tactic(auto, using(crate::proofs::lemmas::CountedSteps::counted))]
 pub(crate) fn value_of<A: Allocator + Copy>(
     table: &CardTable<A>,
     pass: &mut Pass<A>,

@@ -8,7 +8,8 @@ use crate::asking::look_info;
 use crate::helping::{change_child, clear_delete, clear_insert, cut_parent, go_back};
 use crate::memory::{Remembered, fact_of, remember, remembers};
 use ell_cards::{CardTable, Pass};
-use ell_core::{Fact, Field, Stepped};
+use ell_core::{Fact, Stepped};
+use ell_layout::Field;
 use ell_word::{CARD_MAX, State, Update};
 use std::alloc::Allocator;
 

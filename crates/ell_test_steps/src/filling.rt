@@ -3,7 +3,7 @@ ghost use Rattle.std.specs.Prelude.{◌≡◌, ◌≤◌, true, IfSome, None};
 ghost use Rattle.ell_word.specs.declared.update.State.TheVariants.{Clean};
 ghost use Rattle.ell_word.specs.Node.{greatest_card};
 ghost use Rattle.ell_word.specs.Word.{packed};
-ghost use Rattle.ell_core.specs.state.Cards.{insert_filling, delete_filling};
+ghost use Rattle.ell_layout.specs.Cards.{insert_filling, delete_filling};
 ghost use Rattle.ell_cards.specs.Models.{Does};
 ghost use Rattle.ell_cards.specs.Guards.{IsFilled, Wants};
 ghost use Rattle.ell_cards.specs.Changes.{after_claim, after_next, with_stores};
@@ -12,7 +12,7 @@ ghost use Rattle.ell_test_steps.specs.Fitting.{StepsAside};
 
 use crate::memory::Passed;
 use ell_cards::{CardTable, Pass};
-use ell_core::{Field, update_word};
+use ell_layout::{Field, update_word};
 use ell_ops::Op;
 use ell_word::{State, left_leaf_of, pack, right_leaf_of};
 use std::alloc::Allocator;

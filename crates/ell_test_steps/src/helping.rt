@@ -1,5 +1,5 @@
 //! Steps beside the search that exchange, each by the words of a card that the pass reads first.
-#![tactic(auto, using(crate::proofs::Asides::asides))]
+#![tactic(auto, using(crate::proofs::lemmas::Asides::asides))]
 
 ghost use Rattle.std.specs.Prelude.{◌≡◌, ◌≤◌};
 ghost use Rattle.ell_word.specs.Node.{greatest_card};
@@ -9,7 +9,7 @@ ghost use Rattle.ell_test_steps.specs.Fitting.{StepsAside};
 
 use crate::asking::{look_info, look_key, look_sibling};
 use ell_cards::{CardTable, Pass};
-use ell_core::{Field, brought_node};
+use ell_layout::{Field, brought_node};
 use std::alloc::Allocator;
 
 /// Makes the child exchange of an insert's or a swap's card: whether it won. Condition: the card is at most `CARD_MAX`.

@@ -10,9 +10,10 @@ use crate::counted;
 use crate::exchanging::{backtrack, dchild, dunflag, ichild, iunflag, mark};
 use crate::memory::{Passed, Remembered, fact_of, nothing, remember, remembers};
 use ell_cards::{CardTable, Pass};
-use ell_core::{Act, Fact, Stepped, leaf_answer};
+use ell_core::{Act, Fact, Stepped};
 use ell_ops::{Op, Reply};
 use ell_word::is_internal;
+use ell_world::leaf_answer;
 use std::alloc::Allocator;
 
 /// Does an act, if what is remembered shows that it may: what it answers.

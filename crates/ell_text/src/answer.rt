@@ -27,6 +27,8 @@ pub fn write_answer<W: Write>(
     pairs: &[(u64, u64)],
 ) -> Result<(), WriteFault>
     requires { IsVersion version }
+    // The whole answer is appended to what the writer had. After a fault exactly its first `written` bytes are, which
+    // are not all.
     ensures { IsWritten (W.contents out.old) (W.contents out.new)
         (answer version replies.now pairs.now) result }
 {

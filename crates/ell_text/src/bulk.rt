@@ -70,9 +70,14 @@ pub fn read_bulk<R: Threads + Sync, A: Allocator + Copy + Send + Sync>(
     alloc: A,
     bytes: &[u8],
 ) -> Result<Bulk<A>, TextFault>
+    // The version, the start pairs and the operations are what the text says.
     ensures ok { IfOk result (λ found. bulk bytes.now ≡ Ok (bulk_value found)) }
+    // A fault is the first one of the text, with the number of its line.
     ensures fault { IfErr result (λ fault. fault ≢ TextFault.NoMemory → bulk bytes.now ≡ Err fault) }
+    // `NoMemory` comes only if the text has an operation or a start key without a fault up to its line.
     ensures no_memory { IfErr result (λ fault. fault ≡ TextFault.NoMemory → HasSoundLine (lines bytes.now)) }
+    // The version is 1 or 2, the start keys ascend strictly, all keys are at most 2^64 - 3, and start keys and
+    // operations together are at most 200,000.
     ensures fits { IfOk result (λ found. BulkFits (bulk_value found)) }
 {
     let mut bulk = Bulk::new(alloc);

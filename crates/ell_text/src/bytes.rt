@@ -11,8 +11,9 @@ use crate::limits::INPUT_MAX;
 use crate::output::WriteFault;
 use crate::replay::{ReplayFault, read_replay};
 use crate::trace::write_trace;
-use ell_core::{CoreFault, World, replay};
+use ell_core::CoreFault;
 use ell_ops::NoMemory;
+use ell_world::{World, replay};
 use std::alloc::Allocator;
 use std::io::{Read, Write};
 use thiserror::Error;
@@ -109,9 +110,14 @@ pub fn replay_bytes<A: Allocator + Copy, I: Read, O: Write>(
     reader: &mut I,
     writer: &mut O,
 ) -> Result<(), ScriptFault>
+    // If it succeeds, the trace of the script's replay, with the last keys, is appended, and nothing else.
     ensures ok { OnOk result (IsReplayed (I.remaining reader.old) (O.contents writer.old) (O.contents writer.new)) }
+    // `Text` tells the script's first fault, `TooLong` comes only for more than 16,777,216 bytes, and `Start` tells an
+    // entry that refuses the opening. Only a `Write` fault has written anything: its first `written` bytes of the
+    // trace.
     ensures fault { IfErr result (λ fault.
         ScriptFaultTells fault (I.remaining reader.old) (O.contents writer.old) (O.contents writer.new)) }
+    // If it succeeds, the reader is at its end. In any case it has given a front of its bytes.
     ensures end { OnOk result (IsAtEnd (I.remaining reader.new)) }
     ensures given { GivesFront (I.remaining reader.old) (I.remaining reader.new) }
 {

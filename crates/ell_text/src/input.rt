@@ -29,11 +29,15 @@ pub enum InputFault {
 /// Reads all of a reader's bytes, up to its first answer of no byte. The first fault that is met is
 /// answered, and the reader has then given some of its bytes.
 pub fn read_all<A: Allocator, R: Read>(alloc: A, reader: &mut R) -> Result<Vec<u8, A>, InputFault>
+    // If it succeeds, the bytes are all those of the reader, which is then at its end.
     ensures bytes { IfOk result (λ v. IfSome (R.remaining reader.old) (λ bytes. v.items ≡ bytes)) }
     ensures end { OnOk result (IsAtEnd (R.remaining reader.new)) }
+    // They are at most 16,777,216.
     ensures within { IfOk result (λ v. vec_len v ≤ most_bytes) }
+    // `TooLong` comes only if the reader has more bytes than that.
     ensures too_long { IsErrOf result InputFault.TooLong
         → IfSome (R.remaining reader.old) (λ bytes. most_bytes < length bytes) }
+    // However it ends, the reader has given a front of its bytes.
     ensures given { GivesFront (R.remaining reader.old) (R.remaining reader.new) }
 {
     let mut bytes = Vec::new(alloc);

@@ -16,6 +16,7 @@ pub(crate) fn read_plain_line(
     section: Section,
     text: &[u8],
 ) -> Option<(Line, &[u8])>
+    // What it reads is what the rule of lines says of the first line.
     ensures line { IfSome result (λ read. IsFirstLine version section text.now (Ok (Some read.0)) read.1.now) }
     ensures within { IfSome result (λ read. LineFits read.0) }
 {

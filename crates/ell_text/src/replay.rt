@@ -49,9 +49,13 @@ pub enum ReplayFault {
 /// Reads the script of a replay text. A fault is that of the first line that has one. `NoMemory` comes
 /// only at an own line or an event, where no line so far has a fault.
 pub fn read_replay<A: Allocator + Copy>(alloc: A, bytes: &[u8]) -> Result<Script<A>, ReplayFault>
+    // The script is what the text says.
     ensures ok { IfOk result (λ s. script bytes.now ≡ Ok (script_value s)) }
+    // A fault is the first one of the text, with the number of its line.
     ensures fault { IfErr result (λ fault. fault ≢ ReplayFault.NoMemory → script bytes.now ≡ Err fault) }
+    // `NoMemory` comes only if the text has a line without a fault up to it that is not skipped.
     ensures no_memory { IfErr result (λ fault. fault ≡ ReplayFault.NoMemory → HasSoundEntry (lines bytes.now)) }
+    // The numbers of workers, cards, owners and keys are in their ranges.
     ensures fits { IfOk result (λ s. ScriptFits (script_value s)) }
 {
     let mut draft = Draft::new(alloc);

@@ -20,6 +20,8 @@ use std::io::Write;
 /// `Err` at the first failure of the writer. It also comes where the count of the bytes could pass
 /// `u64::MAX`, before a byte goes out that is not counted.
 pub fn write_trace<W: Write>(out: &mut W, shown: &[Shown], keys: &[u64]) -> Result<(), WriteFault>
+    // The whole trace is appended to what the writer had. After a fault exactly its first `written` bytes are, which
+    // are not all.
     ensures { IsWritten (W.contents out.old) (W.contents out.new)
         (trace shown.now keys.now) result }
 {

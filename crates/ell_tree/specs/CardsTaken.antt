@@ -1,6 +1,6 @@
 use Rattle.std.specs.Prelude.{◌≡◌, ℕ, ◌+◌, ◌≤◌, if◌then◌else◌, Bool, true, false, List, [], ◌∷◌, Result, Ok, Err}
-use Rattle.ell_word.specs.declared.gate.Kind.{Kind}
-use Rattle.ell_word.specs.declared.gate.Kind.TheVariants.{Claim}
+use Rattle.ell_core.specs.declared.exchange.Exchange.{Exchange}
+use Rattle.ell_core.specs.declared.exchange.Exchange.TheVariants.{Claim}
 use Rattle.ell_ops.specs.declared.op.Op.{Op}
 use Rattle.ell_cards.specs.Models.{PassModel}
 use Rattle.ell_tree.specs.Ends.{changes_by}
@@ -10,12 +10,12 @@ use Rattle.ell_tree.specs.declared.trying.Tried.{Tried}
 use Rattle.ell_tree.specs.declared.trying.Tried.TheVariants as tried
 
 -- whether an exchange is a claim, which takes a card
-abbrev pub is_claim : Kind → Bool
+abbrev pub is_claim : Exchange → Bool
 is_claim Claim = true
 is_claim _ = false
 
 -- how many claims there are among these exchanges
-abbrev pub claims_in : List (Kind × ℕ) → ℕ
+abbrev pub claims_in : List (Exchange × ℕ) → ℕ
 claims_in [] = 0
 claims_in (e ∷ es) = if is_claim e.0 then claims_in es + 1 else claims_in es
 

@@ -3,7 +3,7 @@ use Rattle.std.specs.List.{All}
 use Rattle.std.specs.Map.{keys_of}
 use Rattle.ell_ops.specs.Contents.{ListsPairs, contents_of}
 use Rattle.ell_ops.specs.KeySet.{set_of}
-use Rattle.ell_core.specs.state.Words.{words_of}
+use Rattle.ell_layout.specs.Words.{words_of}
 use Rattle.ell_core.specs.tree.Tree.{ListsTreePairs}
 use Rattle.ell_cards.specs.Models.{PassModel}
 use Rattle.std.specs.List.Sorted.{IsStrictlyIncreasing}

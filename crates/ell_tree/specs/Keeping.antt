@@ -5,7 +5,7 @@ use Rattle.ell_word.specs.declared.update.State.TheVariants as state
 use Rattle.ell_word.specs.Node.{IsInternal}
 use Rattle.ell_core.specs.declared.fact.Fact.{Fact}
 use Rattle.ell_core.specs.declared.fact.Fact.TheVariants as fact
-use Rattle.ell_core.specs.declared.field.Field.TheVariants as field
+use Rattle.ell_layout.specs.declared.field.Field.TheVariants as field
 use Rattle.ell_cards.specs.declared.view.Told.{Told}
 use Rattle.ell_cards.specs.declared.view.Told.TheVariants.{Met, Info}
 use Rattle.ell_cards.specs.declared.view.Hindrance.{Hindrance}

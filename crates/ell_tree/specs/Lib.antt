@@ -47,7 +47,7 @@ pub use Rattle.ell_cards.specs.declared.fault.CardFault
 pub use Rattle.ell_cards.specs.declared.fault.SplitFault
 -- the words of a tree that has ended, and their pairs
 pub use Rattle.ell_cards.specs.Closed
-pub use Rattle.ell_core.specs.state.Words
+pub use Rattle.ell_layout.specs.Words
 pub use Rattle.ell_core.specs.tree.Tree
 -- what a look for any key leaves of a pass
 pub mod Looks

@@ -6,7 +6,8 @@ use Rattle.ell_core.specs.declared.view.Seen.{Seen}
 use Rattle.ell_core.specs.declared.view.Search.{Search}
 use Rattle.ell_core.specs.state.Machine.{ledger_of}
 use Rattle.ell_core.specs.statements.Effects.{contents_in}
-use Rattle.ell_core.specs.acts.Searching.{IsLeaf, at_root}
+use Rattle.ell_core.specs.acts.Searching.{at_root}
+use Rattle.ell_layout.specs.Words.{IsLeaf}
 use Rattle.ell_cards.specs.declared.view.Told.TheVariants.{Met, Value}
 use Rattle.ell_cards.specs.declared.view.View.{View}
 use Rattle.ell_cards.specs.Models.{IsTold, Does, InTable, EndWasUnknown}

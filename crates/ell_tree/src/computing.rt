@@ -7,10 +7,10 @@ ghost use Rattle.ell_tree.specs.Ledgers.{Owns};
 ghost use Rattle.ell_tree.specs.Promises.{IsOthersDoing, MayDo, SpendsCards};
 ghost use Rattle.ell_tree.specs.declared.operations.Held.TheVariants.{Busy};
 
+use crate::gate::StepGate;
 use crate::operations::{Held, change, find};
 use ell_cards::{CardTable, Pass};
 use ell_ops::Op;
-use ell_word::StepGate;
 use std::alloc::Allocator;
 
 /// What a call found of its key, and the value that it has put there in the place of that, if it has put any.

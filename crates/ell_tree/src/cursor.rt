@@ -2,16 +2,17 @@
 //! stretch begins where the one before it turned, and a whole range takes the time of a walk in order.
 ghost use Rattle.std.specs.Prelude.{◌≡◌, ◌<◌, ◌≤◌, ◌+◌, ◌%◌, slice_set};
 ghost use Rattle.ell_ops.specs.Meaning.{greatest_key};
-ghost use Rattle.ell_core.specs.acts.Searching.{IsLeaf};
+ghost use Rattle.ell_layout.specs.Words.{IsLeaf};
 ghost use Rattle.ell_cards.specs.Looking.{KeysAreFixed};
 ghost use Rattle.ell_tree.specs.Counts.{CountsAll, HasUncounted};
 ghost use Rattle.ell_tree.specs.Ledgers.{IsIdlePassOf};
 ghost use Rattle.ell_tree.specs.Looks.{stretch_steps};
 ghost use Rattle.ell_tree.specs.Cursors.{AreKept, BeginsALook, FindsAbout, IsAmong, IsKept, LooksOn};
 
+use crate::gate::{Kind, StepGate};
 use ell_cards::{CardTable, Glance, Pass};
 use ell_ops::KEY_MAX;
-use ell_word::{Kind, StepGate, is_internal};
+use ell_word::is_internal;
 use std::alloc::Allocator;
 
 // How many nodes a cursor keeps. In a balanced tree of 4,000,000 keys no search goes left more often.
@@ -74,6 +75,7 @@ impl Cursor {
         ensures found { FindsAbout table.now.plan.last_card pass.new.view key result }
         ensures kept { AreKept table.now.plan.last_card pass.new.view self.new }
         ensures fixed { KeysAreFixed pass.new.view }
+        // It counts each step that it makes.
         ensures counted { CountsAll pass.old pass.new }
         ensures on { LooksOn pass.old pass.new (stretch_steps table.now.plan.last_card) }
     {

@@ -5,8 +5,8 @@ ghost use Rattle.ell_ops.specs.declared.op.Op.TheVariants.{Delete};
 ghost use Rattle.ell_word.specs.Node.{greatest_card};
 ghost use Rattle.ell_word.specs.Word.{packed};
 ghost use Rattle.ell_core.specs.declared.fact.Fact.TheVariants.{DFlagged, DOver};
-ghost use Rattle.ell_core.specs.declared.field.Field.TheVariants as field;
-ghost use Rattle.ell_core.specs.state.Cards.{delete_filling};
+ghost use Rattle.ell_layout.specs.declared.field.Field.TheVariants as field;
+ghost use Rattle.ell_layout.specs.Cards.{delete_filling};
 ghost use Rattle.ell_cards.specs.declared.view.Told.TheVariants.{Info};
 ghost use Rattle.ell_cards.specs.Models.{IsTold, Knows};
 ghost use Rattle.ell_tree.specs.CardsTaken.{TakesNoCard, TryTakes};
@@ -17,14 +17,16 @@ ghost use Rattle.ell_tree.specs.Keeping.{Goes, IsInnerMet, Works};
 ghost use Rattle.ell_tree.specs.Searches.{AtRoot};
 ghost use Rattle.ell_tree.specs.Tries.{Fills, Flags, HasCard, TryEnds, TryTook};
 
+use crate::gate::{Kind, StepGate};
 use crate::helping::{DeleteFlag, Ending, finish_delete, help, help_delete};
 use crate::searching::{Passed, Place, search};
 use crate::steps::answer;
 use crate::trying::{Claimed, Tried, fill, take_card};
 use ell_cards::{CardTable, Pass};
-use ell_core::Field;
+use ell_core::Exchange;
+use ell_layout::Field;
 use ell_ops::{Op, Reply};
-use ell_word::{Kind, State, StepGate, Update, pack};
+use ell_word::{State, Update, pack};
 use std::alloc::Allocator;
 
 /// One try of a delete.
@@ -99,7 +101,7 @@ fn flag_delete<A: Allocator + Copy, G: StepGate>(
     ensures flags { Flags table.now.plan.last_card DFlagged card above.node pass.old pass.new result }
 {
     fill_delete(table, pass, card, above.node, place, gate);
-    gate.before(pass.label(), Kind::DFlag);
+    gate.before(pass.label(), Kind::Exchange(Exchange::DFlag));
     table.dflag(pass, card, above.node, above.update)
 }
 
@@ -126,7 +128,7 @@ fn fill_delete<A: Allocator + Copy, G: StepGate>(
 }
 
 // HelpDelete of the own card, whose flag was won: whether its parent was cut out.
-#[tactic(auto, using(crate::proofs::Keeping::walks_told, crate::proofs::Keeping::walks_knows))]
+#[tactic(auto, using(crate::proofs::lemmas::Keeping::walks_told, crate::proofs::lemmas::Keeping::walks_knows))]
 fn finish_own<A: Allocator + Copy, G: StepGate>(
     table: &CardTable<A>,
     pass: &mut Pass<A>,

@@ -1,23 +1,24 @@
 //! Helping whoever stands in the way, by the words of its card (paper of 2010, figures 8 and 9: Help, HelpInsert, HelpDelete and
 //! HelpMarked).
-#![tactic(auto, using(crate::proofs::Keeping::walks_told, crate::proofs::Keeping::walks_knows))]
+#![tactic(auto, using(crate::proofs::lemmas::Keeping::walks_told, crate::proofs::lemmas::Keeping::walks_knows))]
 
 ghost use Rattle.std.specs.Prelude.{◌≡◌};
 ghost use Rattle.ell_core.specs.declared.fact.Fact.TheVariants as fact;
-ghost use Rattle.ell_core.specs.declared.field.Field.TheVariants as field;
+ghost use Rattle.ell_layout.specs.declared.field.Field.TheVariants as field;
 ghost use Rattle.ell_cards.specs.declared.view.Told.TheVariants as told;
 ghost use Rattle.ell_cards.specs.Models.{IsTold, Knows};
 ghost use Rattle.ell_tree.specs.Helps.{DeleteEnds, HasSibling, HelpEnds, IsFlag, IsInsert, IsMarked, IsParent, chain_steps, help_steps};
 ghost use Rattle.ell_tree.specs.Hindrances.{IsDeleteEnded, IsEnded, Meets};
 ghost use Rattle.ell_tree.specs.Keeping.{IsSeenAt, Walks, Works};
 
+use crate::gate::StepGate;
 use crate::steps::{
     KeyedNode, change_child, clear_delete, clear_insert, cut_parent, go_back, look_child,
     look_info, look_key, set_mark,
 };
 use ell_cards::{CardTable, Pass};
-use ell_core::Field;
-use ell_word::{State, StepGate, Update};
+use ell_layout::Field;
+use ell_word::{State, Update};
 use std::alloc::Allocator;
 
 /// The flag of a delete, and the node where it stands.

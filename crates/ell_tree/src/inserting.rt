@@ -9,14 +9,16 @@ ghost use Rattle.ell_tree.specs.Keeping.{Goes, IsInnerMet};
 ghost use Rattle.ell_tree.specs.Searches.{AtRoot};
 ghost use Rattle.ell_tree.specs.Tries.{found_by, put_reply, Fills, Flags, HasCardToPut, TryEnds};
 
+use crate::gate::{Kind, StepGate};
 use crate::helping::{finish_insert, help};
 use crate::searching::{Passed, Place, search};
 use crate::steps::answer;
 use crate::trying::{Claimed, Tried, fill, take_card};
 use ell_cards::{CardTable, Pass};
-use ell_core::{Field, Put, update_word};
+use ell_core::{Exchange, Put};
+use ell_layout::{Field, update_word};
 use ell_ops::{Op, Reply};
-use ell_word::{Kind, State, StepGate, Update, left_leaf_of, right_leaf_of};
+use ell_word::{State, Update, left_leaf_of, right_leaf_of};
 use std::alloc::Allocator;
 
 /// One try of an insert or a swap, that puts this.
@@ -110,7 +112,7 @@ fn flag_insert<A: Allocator + Copy, G: StepGate>(
     ensures flags { Flags table.now.plan.last_card IFlagged card place.parent.node pass.old pass.new result }
 {
     fill_insert(table, pass, card, what, place, gate);
-    gate.before(pass.label(), Kind::IFlag);
+    gate.before(pass.label(), Kind::Exchange(Exchange::IFlag));
     table.iflag(pass, card, place.parent.node, place.parent.update)
 }
 

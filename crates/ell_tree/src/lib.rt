@@ -5,6 +5,7 @@
 mod computing;
 mod cursor;
 mod deleting;
+mod gate;
 mod helping;
 mod inserting;
 mod laws;
@@ -18,9 +19,11 @@ mod trying;
 
 pub use cursor::About;
 pub use ell_cards::{CardFault, Pass, SplitFault};
-pub use ell_core::table_size;
+pub use ell_core::Exchange;
+pub use ell_layout::table_size;
 pub use ell_ops::{KEY_MAX, NoMemory, distinct_keys};
-pub use ell_word::{CARDS_MAX, Kind, NoGate, START_MAX, StepGate};
+pub use ell_word::{CARDS_MAX, START_MAX};
+pub use gate::{Kind, NoGate, StepGate};
 pub use laws::bounds_in_short;
 pub use operations::Held;
 pub use scanning::{Pair, Scanned};

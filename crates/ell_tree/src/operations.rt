@@ -16,6 +16,7 @@ ghost use Rattle.ell_tree.specs.Searches.{AtRoot};
 ghost use Rattle.ell_tree.specs.Tries.{Begins, IsChange, TryEnds, TryMoves};
 
 use crate::deleting::try_delete;
+use crate::gate::{Kind, StepGate};
 use crate::inserting::try_put;
 use crate::searching::search;
 use crate::steps::{again, answer, begin, leave};
@@ -23,7 +24,6 @@ use crate::trying::Tried;
 use ell_cards::{CardTable, Pass};
 use ell_core::Put;
 use ell_ops::{Op, Reply};
-use ell_word::{Kind, StepGate};
 use std::alloc::Allocator;
 use thiserror::Error;
 
@@ -133,8 +133,11 @@ fn try_once<A: Allocator + Copy, G: StepGate>(
     requires own { pass.old.table ≡ table.now.id }
     requires change { IsChange op }
     requires root { AtRoot op pass.old.view }
+    // It makes at most `7 * cards + 26` steps.
     ensures steps { pass.new.steps + 1 ≤ pass.old.steps + try_steps table.now.plan.last_card }
     ensures made { pass.new.view.made + 1 ≤ pass.old.view.made + try_steps table.now.plan.last_card }
+    // It is answered as the operation, or has met something in its way and learnt a move, or finds no card left. It
+    // takes one card at most.
     ensures ends { TryEnds table.now op pass.old pass.new result }
     ensures moves { TryMoves table.now op pass.old pass.new result }
     ensures taken { TryTakes op pass.old pass.new result }

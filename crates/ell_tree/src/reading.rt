@@ -10,8 +10,9 @@ ghost use Rattle.ell_tree.specs.Looks.{OnlyLooks, look_steps};
 ghost use Rattle.ell_tree.specs.Scans.{IsAbout, TellsItsOwn, value_there};
 
 use crate::cursor::{About, Cursor};
+use crate::gate::{Kind, StepGate};
 use ell_cards::{CardTable, Glance, Pass};
-use ell_word::{Kind, StepGate, is_internal};
+use ell_word::is_internal;
 use std::alloc::Allocator;
 
 /// The value of any key, if it is there: that of the leaf at which its way from the root ends. It reads no update word, so a flag or a mark

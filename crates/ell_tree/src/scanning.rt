@@ -7,9 +7,9 @@ ghost use Rattle.ell_tree.specs.Looks.{OnlyLooks};
 ghost use Rattle.ell_tree.specs.Scans.{AreInOrder, HaveFound, HasFoundLast, HasFoundNext, TellsItsOwn, end_of, scan_steps, written};
 
 use crate::cursor::Cursor;
+use crate::gate::StepGate;
 use ell_cards::{CardTable, Pass};
 use ell_ops::{KEY_MAX, Keyed};
-use ell_word::StepGate;
 use std::alloc::Allocator;
 
 /// A key with its value, as they lie in memory for programs in C too.

@@ -6,9 +6,10 @@ ghost use Rattle.ell_tree.specs.Counts.{CountsAll, HasUncounted};
 ghost use Rattle.ell_tree.specs.Keeping.{IsInnerMet, Seeks};
 ghost use Rattle.ell_tree.specs.Searches.{AtRoot, EndsAt, EndWasUnknownAt, Passes, below};
 
+use crate::gate::{Kind, StepGate};
 use ell_cards::{CardTable, Pass};
 use ell_ops::Op;
-use ell_word::{Kind, StepGate, Update, is_internal};
+use ell_word::{Update, is_internal};
 use std::alloc::Allocator;
 
 // A search reads the update word, the key and a child of each internal node that it passes.
@@ -41,6 +42,7 @@ pub(crate) fn search<A: Allocator + Copy, G: StepGate>(
     requires own { pass.old.table ≡ table.now.id }
     requires root { AtRoot op pass.old.view }
     ensures seeks { Seeks pass.old pass.new (3 * table.now.plan.last_card + 5) }
+    // It counts each step that it makes.
     ensures counted { CountsAll pass.old pass.new }
     ensures ends { EndsAt table.now.plan.last_card pass.new.view op result }
 {

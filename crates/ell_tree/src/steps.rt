@@ -3,7 +3,7 @@ ghost use Rattle.std.specs.Prelude.{◌≡◌, ◌≢◌, ◌≤◌, ◌+◌, If
 ghost use Rattle.ell_ops.specs.declared.op.Op.{Op};
 ghost use Rattle.ell_ops.specs.Meaning.{key_of};
 ghost use Rattle.ell_core.specs.declared.fact.Fact.TheVariants as fact;
-ghost use Rattle.ell_core.specs.declared.field.Field.TheVariants as field;
+ghost use Rattle.ell_layout.specs.declared.field.Field.TheVariants as field;
 ghost use Rattle.ell_core.specs.soundness.Sound.{MayChange};
 ghost use Rattle.ell_core.specs.state.Machine.{worker_of};
 ghost use Rattle.ell_cards.specs.declared.view.Told.TheVariants as told;
@@ -19,10 +19,12 @@ ghost use Rattle.ell_tree.specs.Hindrances.{way_of};
 ghost use Rattle.ell_tree.specs.Keeping.{Walks, Works};
 ghost use Rattle.ell_tree.specs.Tries.{Begins, Lays};
 
+use crate::gate::{Kind, StepGate};
 use ell_cards::{CardTable, Pass};
-use ell_core::{Field, brought_node};
+use ell_core::Exchange;
+use ell_layout::{Field, brought_node};
 use ell_ops::{Op, Reply};
-use ell_word::{Kind, State, StepGate, Update};
+use ell_word::{State, Update};
 use std::alloc::Allocator;
 
 /// A node with its key.
@@ -181,7 +183,7 @@ pub(crate) fn change_child<A: Allocator + Copy, G: StepGate>(
     ensures walks { Walks pass.old pass.new 1 }
     ensures changed { Knows pass.new.view (fact.IChanged card) }
 {
-    gate.before(pass.label(), Kind::IChild);
+    gate.before(pass.label(), Kind::Exchange(Exchange::IChild));
     table.facts_stay_inside(pass);
     let node = brought_node(card, left_key, card_key);
     let right = parent.key <= card_key;
@@ -202,7 +204,7 @@ pub(crate) fn clear_insert<A: Allocator + Copy, G: StepGate>(
     ensures walks { Walks pass.old pass.new 1 }
     ensures over { Knows pass.new.view (fact.IOver card) }
 {
-    gate.before(pass.label(), Kind::IUnflag);
+    gate.before(pass.label(), Kind::Exchange(Exchange::IUnflag));
     let _ = table.iunflag(pass, card, parent);
 }
 
@@ -224,7 +226,7 @@ pub(crate) fn set_mark<A: Allocator + Copy, G: StepGate>(
     ensures marked { result ≡ None → Knows pass.new.view (fact.Marked card) }
     ensures lost { IfSome result (λ found. IsLost table.now.plan.last_card card parent found pass.new.view) }
 {
-    gate.before(pass.label(), Kind::Mark);
+    gate.before(pass.label(), Kind::Exchange(Exchange::Mark));
     let marked = table.mark(pass, card, parent, was);
     found_instead(card, marked)
 }
@@ -266,7 +268,7 @@ pub(crate) fn cut_parent<A: Allocator + Copy, G: StepGate>(
     ensures walks { Walks pass.old pass.new 1 }
     ensures cut { Knows pass.new.view (fact.Cut card) }
 {
-    gate.before(pass.label(), Kind::DChild);
+    gate.before(pass.label(), Kind::Exchange(Exchange::DChild));
     let right = grandparent.key <= sibling.key;
     let _ = table.dchild(pass, card, grandparent.node, parent, sibling.node, right);
 }
@@ -285,7 +287,7 @@ pub(crate) fn clear_delete<A: Allocator + Copy, G: StepGate>(
     ensures walks { Walks pass.old pass.new 1 }
     ensures over { Knows pass.new.view (fact.DOver card) }
 {
-    gate.before(pass.label(), Kind::DUnflag);
+    gate.before(pass.label(), Kind::Exchange(Exchange::DUnflag));
     let _ = table.dunflag(pass, card, grandparent);
 }
 
@@ -303,6 +305,6 @@ pub(crate) fn go_back<A: Allocator + Copy, G: StepGate>(
     ensures walks { Walks pass.old pass.new 1 }
     ensures backed { Knows pass.new.view (fact.Backed card) }
 {
-    gate.before(pass.label(), Kind::Backtrack);
+    gate.before(pass.label(), Kind::Exchange(Exchange::Backtrack));
     let _ = table.backtrack(pass, card, grandparent);
 }

@@ -26,13 +26,13 @@ ghost use Rattle.ell_tree.specs.Promises.{IsOthersDoing, IsQuiet, IsWithin, MayD
 
 use crate::computing::compute;
 use crate::cursor::About;
+use crate::gate::StepGate;
 use crate::operations::{Held, change, find};
 use crate::reading::{cards_left, look, look_about};
 use crate::scanning::{Pair, Scanned, last_below, next_from, scan};
 use ell_cards::{CardFault, CardTable, Pass, SplitFault};
 use ell_core::pairs_of_tree;
 use ell_ops::{KEY_MAX, NoMemory, Op};
-use ell_word::StepGate;
 use std::alloc::{AllocError, Allocator};
 use std::marker::Model;
 
@@ -58,10 +58,14 @@ impl<A: Allocator + Copy> Tree<A> {
     pub fn reserve(alloc: A, keys: &[u64], cards: u64) -> Result<(Tree<A>, Pass<A>), CardFault>
         requires ascending { IsStrictlyIncreasing keys.now }
         requires real { All (λ k. k ≤ greatest_key) keys.now }
+        // It succeeds only with 1 to 1,000,000 cards.
         ensures cards { OnOk result (IsCardCount cards) }
+        // The tree is empty and shares no key, and its last card has the number `cards`.
         ensures tree { IfOk result (λ made.
             made.0.plan ≡ record { keys = keys.now; start = []; last_card = cards; shared = false }) }
+        // The pass owns these keys, of which the start keys are present, has the whole share, and has made no step.
         ensures pass { IfOk result (λ made. IsFirst made.0 made.1) }
+        // `BadCards` comes exactly if the cards are not 1 to 1,000,000, and else `NoMemory` alone.
         ensures refused { IfErr result (Refuses cards) }
     {
         Tree::reserve_from(alloc, &[], keys, cards)
@@ -72,7 +76,7 @@ impl<A: Allocator + Copy> Tree<A> {
     /// cards asked for is taken. Their tree has a card for each of them, so the number of the last card, by which the steps
     /// of calls are bounded, is the number of cards asked for plus that of the start keys. Errors are as of `reserve`.
     /// Conditions: those of `reserve`; the start keys are strictly ascending, among the keys, and at most `START_MAX`,
-    /// 200,000.
+    /// 1,000,000.
     pub fn reserve_from(
         alloc: A,
         start: &[(u64, u64)],
@@ -84,14 +88,19 @@ impl<A: Allocator + Copy> Tree<A> {
         requires start_ascending { IsStrictlyIncreasing (keys_of start.now) }
         requires given { All (λ k. set_of keys.now k ≡ true) (keys_of start.now) }
         requires few { length start.now ≤ most_start }
+        // It succeeds only with 1 to 1,000,000 cards.
         ensures cards { OnOk result (IsCardCount cards) }
+        // The tree has the start pairs and shares no key. The number of its last card is that of the start keys more
+        // than `cards`.
         ensures tree { IfOk result (λ made. made.0.plan ≡ record {
           keys = keys.now;
           start = start.now;
           last_card = last_card start.now cards;
           shared = false;
         }) }
+        // The pass owns these keys, of which the start keys are present, has the whole share, and has made no step.
         ensures pass { IfOk result (λ made. IsFirst made.0 made.1) }
+        // `BadCards` comes exactly if the cards are not 1 to 1,000,000, and else `NoMemory` alone.
         ensures refused { IfErr result (Refuses cards) }
     {
         let (table, pass) = CardTable::reserve_from(alloc, start, keys, cards)?;
@@ -115,14 +124,19 @@ impl<A: Allocator + Copy> Tree<A> {
         requires start_ascending { IsStrictlyIncreasing (keys_of start.items) }
         requires given { All (λ k. set_of keys.items k ≡ true) (keys_of start.items) }
         requires few { length start.items ≤ most_start }
+        // It succeeds only with 1 to 1,000,000 cards.
         ensures cards { OnOk result (IsCardCount cards) }
+        // The tree has the start pairs and shares no key. The number of its last card is that of the start keys more
+        // than `cards`.
         ensures tree { IfOk result (λ made. made.0.plan ≡ record {
           keys = keys.items;
           start = start.items;
           last_card = last_card start.items cards;
           shared = false;
         }) }
+        // The pass owns these keys, of which the start keys are present, has the whole share, and has made no step.
         ensures pass { IfOk result (λ made. IsFirst made.0 made.1) }
+        // `BadCards` comes exactly if the cards are not 1 to 1,000,000, and else `NoMemory` alone.
         ensures refused { IfErr result (Refuses cards) }
     {
         let (table, pass) = CardTable::reserve_with_zeros(alloc, zeros, start, keys, cards)?;
@@ -145,14 +159,19 @@ impl<A: Allocator + Copy> Tree<A> {
         requires start_ascending { IsStrictlyIncreasing (keys_of start.now) }
         requires start_real { All (λ k. k ≤ greatest_key) (keys_of start.now) }
         requires few { length start.now ≤ most_start }
+        // It succeeds only with 1 to 1,000,000 cards.
         ensures cards { OnOk result (IsCardCount cards) }
+        // The tree has the start pairs and shares each other key. The number of its last card is that of the start keys
+        // more than `cards`.
         ensures tree { IfOk result (λ made. made.0.plan ≡ record {
           keys = keys.now;
           start = start.now;
           last_card = last_card start.now cards;
           shared = true;
         }) }
+        // The pass owns these keys, of which the start keys are present, has the whole share, and has made no step.
         ensures pass { IfOk result (λ made. IsFirst made.0 made.1) }
+        // `BadCards` comes exactly if the cards are not 1 to 1,000,000, and else `NoMemory` alone.
         ensures refused { IfErr result (Refuses cards) }
     {
         let (table, pass) = CardTable::reserve_shared(alloc, start, keys, cards)?;
@@ -170,8 +189,12 @@ impl<A: Allocator + Copy> Tree<A> {
         requires may { IsIdlePassOf self.now pass }
         requires ascending { IsStrictlyIncreasing left_keys.now }
         requires owned { All (λ k. Owns pass k) left_keys.now }
+        // The left part has these keys as they were, and keeps the counts, with one step more.
         ensures left { IfOk result (λ parts. IsLeftPart left_keys.now pass parts.0) }
+        // The right part has the other keys and a piece of the share, knows the same moves, and counts anew.
         ensures right { IfOk result (λ parts. IsRightPart left_keys.now pass parts.1) }
+        // `TooManyPasses` comes exactly if the tree shares keys and the share is the least one, and else `NoMemory`
+        // alone. The pass then comes back as it was.
         ensures may { OnOk result (MayPart pass.view) }
         ensures refused { IfErr result (λ refused. refused.0 ≡ pass) }
         ensures why { IfErr result (λ refused. SplitRefuses pass.view refused.1) }
@@ -187,7 +210,10 @@ impl<A: Allocator + Copy> Tree<A> {
     ) -> Result<Pass<A>, (Pass<A>, Pass<A>, NoMemory)>
         requires left { IsIdlePassOf self.now left }
         requires right { IsIdlePassOf self.now right }
+        // The pass has the keys and the shares of both, and knows no fewer moves. In a row it counts one step more than
+        // the greater of the two counts, and in all one more than their sum.
         ensures joined { IfOk result (IsUnion left right) }
+        // If memory is refused, both come back as they were.
         ensures refused { IfErr result (λ refused. (refused.0 ≡ left) × (refused.1 ≡ right)) }
     {
         self.table.join(left, right)
@@ -201,10 +227,14 @@ impl<A: Allocator + Copy> Tree<A> {
     pub fn look<G: StepGate>(&self, pass: &mut Pass<A>, key: u64, gate: &G) -> Option<u64>
         requires may { IsIdlePassOf self.now pass.old }
         requires real { key ≤ greatest_key }
+        // The answer is what the tree had of the key in one state since the look began, in every run.
         ensures so { IsFoundIn self.now pass.new.view key result }
         ensures one { pass.new.view.looks ≡ pass.old.view.looks + 1 }
+        // Of a key of the pass it is what the pass has.
         ensures mine { Owns pass.old key → result ≡ present_in pass.old key }
+        // It only loads, and makes at most `2 * cards + 3` steps. The pass stays otherwise.
         ensures only { OnlyLooks pass.old pass.new (look_steps self.now.plan.last_card) }
+        // It takes no card.
         ensures cards { TakesNoCard pass.old pass.new }
     {
         look(&self.table, pass, key, gate)
@@ -217,11 +247,16 @@ impl<A: Allocator + Copy> Tree<A> {
     pub fn look_about<G: StepGate>(&self, pass: &mut Pass<A>, key: u64, gate: &G) -> About
         requires may { IsIdlePassOf self.now pass.old }
         requires real { key ≤ greatest_key }
+        // The answer is what the tree had of all keys of the stretch in one state since the look began, in every run:
+        // one of them, with its value, or none. The stretch has the key.
         ensures so { IsFoundAboutIn self.now pass.new.view result }
         ensures about { IsAbout key result }
         ensures one { pass.new.view.looks ≡ pass.old.view.looks + 1 }
+        // Of the keys of the pass it is what the pass has.
         ensures mine { TellsItsOwn pass.old result.low result.high (value_there result.found) }
+        // It only loads, and makes at most `2 * cards + 3` steps. The pass stays otherwise.
         ensures only { OnlyLooks pass.old pass.new (look_steps self.now.plan.last_card) }
+        // It takes no card.
         ensures cards { TakesNoCard pass.old pass.new }
     {
         look_about(&self.table, pass, key, gate)
@@ -245,14 +280,22 @@ impl<A: Allocator + Copy> Tree<A> {
     ) -> Scanned
         requires may { IsIdlePassOf self.now pass.old }
         requires real { upto ≤ greatest_key + 1 }
+        // Each key of the range, as far as the scan came, is answered as by a look at it, of some state since the scan
+        // began: two keys may be of two states.
         ensures so { AreFoundIn self.now pass.new.view from (end_of upto result) (contents_of (written room.new result)) }
+        // The pairs are of keys of the range, and strictly ascend.
         ensures ordered { AreInOrder from (end_of upto result) (written room.new result) }
+        // The scan came to the end of the range, or the room is full and `next` is the key where to go on. The rest of
+        // the room stays.
         ensures count { result.count ≤ length room.old }
         ensures next { IfSome result.next (λ next. (from ≤ next) × (next < upto) × (result.count ≡ length room.old)) }
         ensures rest { drop result.count room.new ≡ drop result.count room.old }
         ensures one { pass.new.view.looks ≡ pass.old.view.looks + 1 }
+        // Of the keys of the pass it tells what the pass has.
         ensures mine { TellsItsOwn pass.old from (end_of upto result) (contents_of (written room.new result)) }
+        // It only loads, and makes at most `(cards + 1) * (2 * cards + 2) + 1` steps. The pass stays otherwise.
         ensures only { OnlyLooks pass.old pass.new (scan_steps self.now.plan.last_card) }
+        // It takes no card.
         ensures cards { TakesNoCard pass.old pass.new }
     {
         scan(&self.table, pass, from, upto, room, gate)
@@ -268,9 +311,13 @@ impl<A: Allocator + Copy> Tree<A> {
     ) -> Option<(u64, u64)>
         requires may { IsIdlePassOf self.now pass.old }
         requires real { key ≤ greatest_key }
+        // The answer is the least present key from this one on, with its value: it was present in one state since the
+        // call began, and each key before it was absent in one.
         ensures so { IsNextIn self.now pass.new.view key result }
         ensures one { pass.new.view.looks ≡ pass.old.view.looks + 1 }
+        // It only loads, and makes at most `(cards + 1) * (2 * cards + 2) + 1` steps. The pass stays otherwise.
         ensures only { OnlyLooks pass.old pass.new (scan_steps self.now.plan.last_card) }
+        // It takes no card.
         ensures cards { TakesNoCard pass.old pass.new }
     {
         next_from(&self.table, pass, key, gate)
@@ -285,9 +332,13 @@ impl<A: Allocator + Copy> Tree<A> {
     ) -> Option<(u64, u64)>
         requires may { IsIdlePassOf self.now pass.old }
         requires real { key ≤ greatest_key }
+        // The answer is the least present key above this one, with its value: it was present in one state since the
+        // call began, and each key before it was absent in one.
         ensures so { IsNextIn self.now pass.new.view (key + 1) result }
         ensures one { pass.new.view.looks ≡ pass.old.view.looks + 1 }
+        // It only loads, and makes at most `(cards + 1) * (2 * cards + 2) + 1` steps. The pass stays otherwise.
         ensures only { OnlyLooks pass.old pass.new (scan_steps self.now.plan.last_card) }
+        // It takes no card.
         ensures cards { TakesNoCard pass.old pass.new }
     {
         next_from(&self.table, pass, key + 1, gate)
@@ -296,9 +347,13 @@ impl<A: Allocator + Copy> Tree<A> {
     /// The least key that is present, with its value, as of `next_at_least`.
     pub fn first<G: StepGate>(&self, pass: &mut Pass<A>, gate: &G) -> Option<(u64, u64)>
         requires may { IsIdlePassOf self.now pass.old }
+        // The answer is the least present key, with its value: it was present in one state since the call began, and
+        // each key before it was absent in one.
         ensures so { IsNextIn self.now pass.new.view 0 result }
         ensures one { pass.new.view.looks ≡ pass.old.view.looks + 1 }
+        // It only loads, and makes at most `(cards + 1) * (2 * cards + 2) + 1` steps. The pass stays otherwise.
         ensures only { OnlyLooks pass.old pass.new (scan_steps self.now.plan.last_card) }
+        // It takes no card.
         ensures cards { TakesNoCard pass.old pass.new }
     {
         next_from(&self.table, pass, 0, gate)
@@ -314,9 +369,13 @@ impl<A: Allocator + Copy> Tree<A> {
     ) -> Option<(u64, u64)>
         requires may { IsIdlePassOf self.now pass.old }
         requires real { key ≤ greatest_key }
+        // The answer is the greatest present key up to this one, with its value: it was present in one state since the
+        // call began, and each key after it was absent in one.
         ensures so { IsLastIn self.now pass.new.view (key + 1) result }
         ensures one { pass.new.view.looks ≡ pass.old.view.looks + 1 }
+        // It only loads, and makes at most `(cards + 1) * (2 * cards + 2) + 1` steps. The pass stays otherwise.
         ensures only { OnlyLooks pass.old pass.new (scan_steps self.now.plan.last_card) }
+        // It takes no card.
         ensures cards { TakesNoCard pass.old pass.new }
     {
         last_below(&self.table, pass, key + 1, gate)
@@ -331,9 +390,13 @@ impl<A: Allocator + Copy> Tree<A> {
     ) -> Option<(u64, u64)>
         requires may { IsIdlePassOf self.now pass.old }
         requires real { key ≤ greatest_key }
+        // The answer is the greatest present key below this one, with its value: it was present in one state since the
+        // call began, and each key after it was absent in one.
         ensures so { IsLastIn self.now pass.new.view key result }
         ensures one { pass.new.view.looks ≡ pass.old.view.looks + 1 }
+        // It only loads, and makes at most `(cards + 1) * (2 * cards + 2) + 1` steps. The pass stays otherwise.
         ensures only { OnlyLooks pass.old pass.new (scan_steps self.now.plan.last_card) }
+        // It takes no card.
         ensures cards { TakesNoCard pass.old pass.new }
     {
         last_below(&self.table, pass, key, gate)
@@ -342,9 +405,13 @@ impl<A: Allocator + Copy> Tree<A> {
     /// The greatest key that is present, with its value, as of `last_at_most`.
     pub fn last<G: StepGate>(&self, pass: &mut Pass<A>, gate: &G) -> Option<(u64, u64)>
         requires may { IsIdlePassOf self.now pass.old }
+        // The answer is the greatest present key, with its value: it was present in one state since the call began, and
+        // each key after it was absent in one.
         ensures so { IsLastIn self.now pass.new.view (greatest_key + 1) result }
         ensures one { pass.new.view.looks ≡ pass.old.view.looks + 1 }
+        // It only loads, and makes at most `(cards + 1) * (2 * cards + 2) + 1` steps. The pass stays otherwise.
         ensures only { OnlyLooks pass.old pass.new (scan_steps self.now.plan.last_card) }
+        // It takes no card.
         ensures cards { TakesNoCard pass.old pass.new }
     {
         last_below(&self.table, pass, KEY_MAX + 1, gate)
@@ -355,9 +422,11 @@ impl<A: Allocator + Copy> Tree<A> {
     /// left it is `Spent`. The gate is told the step, as `Look`.
     pub fn cards_left<G: StepGate>(&self, pass: &mut Pass<A>, gate: &G) -> u64
         requires own { pass.old.table ≡ self.now.id }
+        // Returns how many cards its one load of the claim word found not given out. No more are left later.
         ensures reads { ReadsCardsLeft self.now.plan.last_card pass.old pass.new result }
         ensures most { AreLeftAtMost self.now pass.new.view result }
         ensures limit { result ≤ self.now.plan.last_card }
+        // The pass keeps its tree and its map, and takes no card.
         ensures table { pass.new.table ≡ pass.old.table }
         ensures worker { pass.new.view.worker ≡ pass.old.view.worker }
         ensures taken { TakesNoCard pass.old pass.new }
@@ -370,9 +439,14 @@ impl<A: Allocator + Copy> Tree<A> {
     /// for each of its start keys.
     pub fn find<G: StepGate>(&self, pass: &mut Pass<A>, key: u64, gate: &G) -> Option<u64>
         requires may { MayDo self.now key pass.old }
+        // On a key of the pass the answer is the value that the pass has. On any key it is that of one thread at one
+        // point of the call, in every run. The pass is idle, and keeps its keys and its share.
         ensures answers { Answers self.now (Find key) (found result) pass.old pass.new }
+        // Nothing is in its way, and no try is counted as hindered.
         ensures quiet { IsQuiet self.now pass.old pass.new }
+        // It makes at most `3 * cards + 7` steps.
         ensures steps { Took pass.old pass.new (find_steps self.now.plan.last_card) }
+        // It takes no card.
         ensures cards { TakesNoCard pass.old pass.new }
     {
         find(&self.table, pass, key, gate)
@@ -402,10 +476,21 @@ impl<A: Allocator + Copy> Tree<A> {
     ) -> Result<bool, Held>
         requires may { MayDo self.now key pass.old }
         requires tries { 1 ≤ tries }
+        // On a key of the pass it answers as a map that has the pass's keys, which becomes the map after it. On any key
+        // the answer is that of one thread at one point of the call, in every run. A call without an answer changes
+        // nothing in any run: `Busy` comes only after as many hindrances as tries, `Spent` only if no card is left.
+        // What was in its way is over.
         ensures ends { Ends self.now tries (Insert key value) pass.old pass.new (replied result) }
+        // A `Busy` call counts each of its tries as hindered. Each shows the pass a move that it did not know, and in
+        // every run they are no more than others' acts allow.
         ensures others { result ≡ Err Busy → IsOthersDoing self.now tries pass.old pass.new }
+        // It makes at most `tries * (7 * cards + 27) + 1` steps, and also at most `7 * cards + 28`, and `7 * cards +
+        // 27` for each move that the pass comes to know. It counts at most `tries` tries.
         ensures steps { IsWithin self.now tries pass.old pass.new }
+        // It takes one card if it changes the map, at most one more for each hindered try, and never more than `tries`.
+        // If it changes nothing of a key of the pass, it takes none.
         ensures cards { SpendsCards key tries pass.old pass.new result }
+        // With more than `2 * cards` tries it is never `Busy`.
         ensures enough { 2 * self.now.plan.last_card < tries → result ≢ Err Busy }
     {
         Ok(change(&self.table, pass, Op::Insert(key, value), tries, gate)?.is_some())
@@ -425,10 +510,21 @@ impl<A: Allocator + Copy> Tree<A> {
     ) -> Result<Option<u64>, Held>
         requires may { MayDo self.now key pass.old }
         requires tries { 1 ≤ tries }
+        // The answer is the value that the key has, which becomes the new one exactly if it is `was`: on a key of the
+        // pass in the pass's map, on any key as of one thread at one point of the call, in every run. A call without an
+        // answer changes nothing in any run: `Busy` comes only after as many hindrances as tries, `Spent` only if no
+        // card is left. What was in its way is over.
         ensures ends { Ends self.now tries (Swap key was value) pass.old pass.new (found_or_held result) }
+        // A `Busy` call counts each of its tries as hindered. Each shows the pass a move that it did not know, and in
+        // every run they are no more than others' acts allow.
         ensures others { result ≡ Err Busy → IsOthersDoing self.now tries pass.old pass.new }
+        // It makes at most `tries * (7 * cards + 27) + 1` steps, and also at most `7 * cards + 28`, and `7 * cards +
+        // 27` for each move that the pass comes to know. It counts at most `tries` tries.
         ensures steps { IsWithin self.now tries pass.old pass.new }
+        // It takes one card if it finds `was`, at most one more for each hindered try, and never more than `tries`. If
+        // it changes nothing of a key of the pass, it takes none.
         ensures cards { SpendsCards key tries pass.old pass.new (whether_swapped was result) }
+        // With more than `2 * cards` tries it is never `Busy`.
         ensures enough { 2 * self.now.plan.last_card < tries → result ≢ Err Busy }
     {
         Ok(change(&self.table, pass, Op::Swap(key, was, value), tries, gate)?)
@@ -454,13 +550,22 @@ impl<A: Allocator + Copy> Tree<A> {
     ) -> Result<Option<u64>, Held>
         requires may { MayDo self.now key pass.old }
         requires tries { 1 ≤ tries }
+        // The key had the value that is returned, or none, and has this one instead, by one step. On a key of the pass
+        // that is so in the pass's map, on any key as of one thread at the point of the last operation, in every run.
         ensures puts { IfOk result (PutsValue self.now key value pass.old pass.new) }
+        // A call without an answer changes nothing of what the pass has, and has nothing in hand. Its last operation
+        // changes nothing in any run. `Spent` comes only if no card is left.
         ensures held { IfErr result (HoldsBack self.now key pass.old pass.new) }
+        // `Busy` comes only after all tries: each was hindered, or answered by what another pass had changed.
         ensures tried { result ≡ Err Busy → AreTried tries pass.old pass.new }
+        // On a key of the pass a `Busy` call counts each of its tries as hindered, which is others' doing.
         ensures others { Owns pass.old key → result ≡ Err Busy → IsOthersDoing self.now tries pass.old pass.new }
+        // It makes at most `3 * cards + 7` steps, and `10 * cards + 35` for each try. It counts at most `tries` tries.
         ensures steps { Took pass.old pass.new (update_steps self.now.plan.last_card tries) }
         ensures counted { CountsTries tries pass.old pass.new }
+        // It takes one card if it puts a value, at most one more for each hindered try, and never more than `tries`.
         ensures cards { SpendsCards key tries pass.old pass.new (whether_put result) }
+        // On a key of the pass it is never `Busy` with more than `2 * cards` tries.
         ensures enough { Owns pass.old key → 2 * self.now.plan.last_card < tries → result ≢ Err Busy }
     {
         let done = compute(&self.table, pass, key, |_| Some(value), tries, gate)?;
@@ -482,13 +587,23 @@ impl<A: Allocator + Copy> Tree<A> {
         requires may { MayDo self.now key pass.old }
         requires tries { 1 ≤ tries }
         requires f { F.IsAlwaysCallable f }
+        // The key had the value that is returned, and has what the closure made of it instead, by one step; an absent
+        // key is left so. On a key of the pass that is so in the pass's map, on any key as of one thread at the point
+        // of the last operation, in every run.
         ensures updates { IfOk result (UpdatesValue self.now key (F.post f) pass.old pass.new) }
+        // A call without an answer changes nothing of what the pass has, and has nothing in hand. Its last operation
+        // changes nothing in any run. `Spent` comes only if no card is left.
         ensures held { IfErr result (HoldsBack self.now key pass.old pass.new) }
+        // `Busy` comes only after all tries: each was hindered, or answered by what another pass had changed.
         ensures tried { result ≡ Err Busy → AreTried tries pass.old pass.new }
+        // On a key of the pass a `Busy` call counts each of its tries as hindered, which is others' doing.
         ensures others { Owns pass.old key → result ≡ Err Busy → IsOthersDoing self.now tries pass.old pass.new }
+        // It makes at most `3 * cards + 7` steps, and `10 * cards + 35` for each try. It counts at most `tries` tries.
         ensures steps { Took pass.old pass.new (update_steps self.now.plan.last_card tries) }
         ensures counted { CountsTries tries pass.old pass.new }
+        // It takes one card if it puts a value, at most one more for each hindered try, and never more than `tries`.
         ensures cards { SpendsCards key tries pass.old pass.new (whether result) }
+        // On a key of the pass it is never `Busy` with more than `2 * cards` tries.
         ensures enough { Owns pass.old key → 2 * self.now.plan.last_card < tries → result ≢ Err Busy }
     {
         let made = |there: Option<u64>| match there {
@@ -512,13 +627,23 @@ impl<A: Allocator + Copy> Tree<A> {
     ) -> Result<Option<u64>, Held>
         requires may { MayDo self.now key pass.old }
         requires tries { 1 ≤ tries }
+        // The key had the value that is returned, and has the sum modulo 2^64 instead, by one step; an absent key is
+        // left so. On a key of the pass that is so in the pass's map, on any key as of one thread at the point of the
+        // last operation, in every run.
         ensures adds { IfOk result (UpdatesValue self.now key (IsSum addend) pass.old pass.new) }
+        // A call without an answer changes nothing of what the pass has, and has nothing in hand. Its last operation
+        // changes nothing in any run. `Spent` comes only if no card is left.
         ensures held { IfErr result (HoldsBack self.now key pass.old pass.new) }
+        // `Busy` comes only after all tries: each was hindered, or answered by what another pass had changed.
         ensures tried { result ≡ Err Busy → AreTried tries pass.old pass.new }
+        // On a key of the pass a `Busy` call counts each of its tries as hindered, which is others' doing.
         ensures others { Owns pass.old key → result ≡ Err Busy → IsOthersDoing self.now tries pass.old pass.new }
+        // It makes at most `3 * cards + 7` steps, and `10 * cards + 35` for each try. It counts at most `tries` tries.
         ensures steps { Took pass.old pass.new (update_steps self.now.plan.last_card tries) }
         ensures counted { CountsTries tries pass.old pass.new }
+        // It takes one card if it puts a value, at most one more for each hindered try, and never more than `tries`.
         ensures cards { SpendsCards key tries pass.old pass.new (whether result) }
+        // On a key of the pass it is never `Busy` with more than `2 * cards` tries.
         ensures enough { Owns pass.old key → 2 * self.now.plan.last_card < tries → result ≢ Err Busy }
     {
         self.update(
@@ -540,10 +665,21 @@ impl<A: Allocator + Copy> Tree<A> {
     ) -> Result<bool, Held>
         requires may { MayDo self.now key pass.old }
         requires tries { 1 ≤ tries }
+        // On a key of the pass it answers as a map that has the pass's keys, which becomes the map after it. On any key
+        // the answer is that of one thread at one point of the call, in every run. A call without an answer changes
+        // nothing in any run: `Busy` comes only after as many hindrances as tries, `Spent` only if no card is left.
+        // What was in its way is over.
         ensures ends { Ends self.now tries (Delete key) pass.old pass.new (replied result) }
+        // A `Busy` call counts each of its tries as hindered. Each shows the pass a move that it did not know, and in
+        // every run they are no more than others' acts allow.
         ensures others { result ≡ Err Busy → IsOthersDoing self.now tries pass.old pass.new }
+        // It makes at most `tries * (7 * cards + 27) + 1` steps, and also at most `7 * cards + 28`, and `7 * cards +
+        // 27` for each move that the pass comes to know. It counts at most `tries` tries.
         ensures steps { IsWithin self.now tries pass.old pass.new }
+        // It takes one card if it changes the map, at most one more for each hindered try, and never more than `tries`.
+        // If it changes nothing of a key of the pass, it takes none.
         ensures cards { SpendsCards key tries pass.old pass.new result }
+        // With more than `2 * cards` tries it is never `Busy`.
         ensures enough { 2 * self.now.plan.last_card < tries → result ≢ Err Busy }
     {
         Ok(self.take(pass, key, tries, gate)?.is_some())
@@ -560,11 +696,24 @@ impl<A: Allocator + Copy> Tree<A> {
     ) -> Result<Option<u64>, Held>
         requires may { MayDo self.now key pass.old }
         requires tries { 1 ≤ tries }
+        // On a key of the pass it answers as a map that has the pass's keys, which becomes the map after it. On any key
+        // the answer is that of one thread at one point of the call, in every run. A call without an answer changes
+        // nothing in any run: `Busy` comes only after as many hindrances as tries, `Spent` only if no card is left.
+        // What was in its way is over.
         ensures ends { Ends self.now tries (Delete key) pass.old pass.new (replied (whether result)) }
+        // The value is the one that it took: of a key of the pass the value that the pass had, of any key the one that
+        // it had at the call's point, in every run.
         ensures took { IfOk result (TakesValue self.now key pass.old pass.new) }
+        // A `Busy` call counts each of its tries as hindered. Each shows the pass a move that it did not know, and in
+        // every run they are no more than others' acts allow.
         ensures others { result ≡ Err Busy → IsOthersDoing self.now tries pass.old pass.new }
+        // It makes at most `tries * (7 * cards + 27) + 1` steps, and also at most `7 * cards + 28`, and `7 * cards +
+        // 27` for each move that the pass comes to know. It counts at most `tries` tries.
         ensures steps { IsWithin self.now tries pass.old pass.new }
+        // It takes one card if it changes the map, at most one more for each hindered try, and never more than `tries`.
+        // If it changes nothing of a key of the pass, it takes none.
         ensures cards { SpendsCards key tries pass.old pass.new (whether result) }
+        // With more than `2 * cards` tries it is never `Busy`.
         ensures enough { 2 * self.now.plan.last_card < tries → result ≢ Err Busy }
     {
         Ok(change(&self.table, pass, Op::Delete(key), tries, gate)?)
@@ -573,6 +722,7 @@ impl<A: Allocator + Copy> Tree<A> {
     /// A law, the contract of a function that does nothing: a pass of the tree knows of two moves of each card at most, whatever it did.
     pub fn known_moves_are_few(&self, pass: &Pass<A>)
         requires own { pass.now.table ≡ self.now.id }
+        // A pass knows of at most `2 * cards` moves.
         ensures { moves_known self.now.plan.last_card pass.now.view ≤ 2 * self.now.plan.last_card }
     {
         self.table.claims_stay_inside(pass);
@@ -584,7 +734,10 @@ impl<A: Allocator + Copy> Tree<A> {
         requires may { IsIdlePassOf self pass }
         requires all { All (λ k. Owns pass k) self.plan.keys }
         requires whole { self.plan.shared ≡ true → pass.view.share ≡ whole_share }
+        // The pairs are those of the tree to which a run led, strictly ascending by their keys: of the keys that may
+        // have an owner those that the pass has present, and beside these shared ones alone.
         ensures pairs { IfOk result (λ pairs. ClosesTo self pass pairs.items) }
+        // If memory is refused, tree and pass come back as they were.
         ensures refused { IfErr result (λ refused. (refused.0 ≡ self) × (refused.1 ≡ pass)) }
     {
         let places = self.table.last_card() as usize + 2;

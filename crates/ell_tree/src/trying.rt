@@ -10,11 +10,12 @@ ghost use Rattle.ell_tree.specs.Keeping.{Goes};
 ghost use Rattle.ell_tree.specs.Searches.{IsAt};
 ghost use Rattle.ell_tree.specs.Tries.{Claims};
 
+use crate::gate::{Kind, StepGate};
 use crate::searching::Place;
 use ell_cards::{CardTable, Pass};
-use ell_core::Field;
+use ell_core::Exchange;
+use ell_layout::Field;
 use ell_ops::Op;
-use ell_word::{Kind, StepGate};
 use std::alloc::Allocator;
 
 /// How a try ended.
@@ -63,7 +64,7 @@ pub(crate) fn take_card<A: Allocator + Copy, G: StepGate>(
     if card > table.last_card() {
         return Claimed::NoneLeft;
     }
-    gate.before(label, Kind::Claim);
+    gate.before(label, Kind::Exchange(Exchange::Claim));
     if table.claim(pass, card) {
         Claimed::Card(card)
     } else {

@@ -2,7 +2,7 @@ use Rattle.std.specs.Prelude.{◌≡◌, ◌≢◌, ℕ, ◌+◌, ◌-◌, ◌*�
 
 -- the greatest number of a card
 abbrev pub greatest_card : ℕ
-greatest_card = 1200000
+greatest_card = 2000000
 
 -- the most cards that a table gives out
 abbrev pub most_cards : ℕ
@@ -10,7 +10,7 @@ most_cards = 1000000
 
 -- the most start keys
 abbrev pub most_start : ℕ
-most_start = 200000
+most_start = 1000000
 
 -- the lesser of the two keys above all real keys
 abbrev pub infinity1 : ℕ

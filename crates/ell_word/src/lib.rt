@@ -5,11 +5,9 @@
 //! here allocates or refuses anything.
 #![tactic(auto)]
 
-mod gate;
 mod node;
 mod update;
 
-pub use gate::{Kind, NoGate, StepGate};
 pub use node::{
     CARD_MAX, CARDS_MAX, INF1, INF2, START_MAX, card_of, constants_are_as_defined, internal_of,
     is_internal, left_leaf_of, right_leaf_of,

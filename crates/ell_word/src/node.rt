@@ -7,13 +7,13 @@ ghost use Rattle.ell_word.specs.Node.{greatest_card, most_cards, most_start, inf
 const NUMBERS_PER_CARD: u64 = 4;
 
 /// The greatest number of a card.
-pub const CARD_MAX: u64 = 1_200_000;
+pub const CARD_MAX: u64 = 2_000_000;
 
 /// The most cards that a table gives out.
 pub const CARDS_MAX: u64 = 1_000_000;
 
 /// The most start keys.
-pub const START_MAX: usize = 200_000;
+pub const START_MAX: usize = 1_000_000;
 
 /// The lesser of the two keys above all real keys: the greatest leaf of the root's left subtree has it.
 pub const INF1: u64 = 18_446_744_073_709_551_614;
@@ -21,12 +21,14 @@ pub const INF1: u64 = 18_446_744_073_709_551_614;
 /// The greater of the two: the root and its right leaf have it.
 pub const INF2: u64 = 18_446_744_073_709_551_615;
 
-/// The constants are the numbers that the definitions have: `CARD_MAX` is 1,200,000, `CARDS_MAX` is 1,000,000, `START_MAX` is
-/// 200,000, `INF1` is 2^64 - 2, and `INF2` is 2^64 - 1.
+/// The constants are the numbers that the definitions have: `CARD_MAX` is 2,000,000, `CARDS_MAX` and `START_MAX` are
+/// 1,000,000, `INF1` is 2^64 - 2, and `INF2` is 2^64 - 1.
 pub fn constants_are_as_defined()
+    // `CARD_MAX` is 2,000,000, `CARDS_MAX` and `START_MAX` are 1,000,000.
     ensures card { CARD_MAX ≡ greatest_card }
     ensures cards { CARDS_MAX ≡ most_cards }
     ensures start { START_MAX ≡ most_start }
+    // `INF1` is 2^64 - 2, and `INF2` is 2^64 - 1.
     ensures lesser { INF1 ≡ infinity1 }
     ensures greater { INF2 ≡ infinity2 }
 {}
@@ -34,6 +36,7 @@ pub fn constants_are_as_defined()
 /// The internal node of a card.
 pub fn internal_of(card: u64) -> u64
     requires { card ≤ greatest_card }
+    // Returns the number of the card's internal node.
     ensures { result ≡ internal card }
 {
     NUMBERS_PER_CARD * card
@@ -42,6 +45,7 @@ pub fn internal_of(card: u64) -> u64
 /// The left leaf of a card.
 pub fn left_leaf_of(card: u64) -> u64
     requires { card ≤ greatest_card }
+    // Returns the number of the card's left leaf.
     ensures { result ≡ left_leaf card }
 {
     internal_of(card) + 1
@@ -50,6 +54,7 @@ pub fn left_leaf_of(card: u64) -> u64
 /// The right leaf of a card.
 pub fn right_leaf_of(card: u64) -> u64
     requires { card ≤ greatest_card }
+    // Returns the number of the card's right leaf.
     ensures { result ≡ right_leaf card }
 {
     internal_of(card) + 2
@@ -57,6 +62,7 @@ pub fn right_leaf_of(card: u64) -> u64
 
 /// Whether a node is internal, and no leaf.
 pub fn is_internal(node: u64) -> bool
+    // Returns `true` exactly if the number is that of an internal node.
     ensures { IsTrue result ↔ IsInternal node }
 {
     node % NUMBERS_PER_CARD == 0
@@ -64,6 +70,7 @@ pub fn is_internal(node: u64) -> bool
 
 /// The card that a node stands on.
 pub fn card_of(node: u64) -> u64
+    // Returns the number of the node's card.
     ensures { result ≡ card node }
 {
     node / NUMBERS_PER_CARD

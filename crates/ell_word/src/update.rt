@@ -28,6 +28,7 @@ pub struct Update {
 /// The word of an update: four times the card, and the state's number. Condition: the card is at most `CARD_MAX`.
 pub fn pack(update: Update) -> u64
     requires { update.card ≤ greatest_card }
+    // Returns the word of the card and the state.
     ensures { result ≡ packed update }
 {
     let number = match update.state {
@@ -41,7 +42,9 @@ pub fn pack(update: Update) -> u64
 
 /// What a word says, whichever it is: packing that gives the word again.
 pub fn unpack(word: u64) -> Update
+    // Returns the card and the state that the word says.
     ensures update { result ≡ unpacked word }
+    // Packing undoes unpacking.
     ensures again { packed result ≡ word }
 {
     let state = match word % 4 {
@@ -58,6 +61,8 @@ pub fn unpack(word: u64) -> Update
 
 /// Packing and unpacking undo each other: each update has its own word, and each word is that of one update.
 pub fn packs()
+    // Unpacking undoes packing, for every card and state.
     ensures back { (update : Update) → unpacked (packed update) ≡ update }
+    // Packing undoes unpacking, for every word.
     ensures again { (word : ℕ) → packed (unpacked word) ≡ word }
 {}

@@ -14,7 +14,7 @@ text_of code =
     if int_eq code said_no_tries then codes "the call allows no try" else
     if int_eq code said_bad_cards then codes "cards are not 1 to 1,000,000" else
     if int_eq code said_bad_key then codes "a key is above 18446744073709551613" else
-    if int_eq code said_bad_start then codes "start keys do not ascend strictly, or are more than 200,000" else
+    if int_eq code said_bad_start then codes "start keys do not ascend strictly, or are more than 1,000,000" else
     if int_eq code said_no_room then codes "no room for all pairs or keys" else
     if int_eq code said_no_memory then codes "out of memory" else
     if int_eq code said_closed then codes "the handle holds nothing" else

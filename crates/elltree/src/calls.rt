@@ -20,9 +20,14 @@ pub extern "C" fn elltree_slot_find(
     key: u64,
     value: &mut u64,
 ) -> i32
+    // `CLOSED` comes exactly if the slot has no handle.
     ensures closed { (result ≡ said_closed) ↔ (handle_of slot.old.raw.inside ≡ None) }
+    // The answer is that of the handle's `find`: yes, and the value is written, or no; on an owned key as its map has
+    // it. `FOREIGN` comes exactly for a key neither owned nor shared, and no other code does. Keys, map and tree stay,
+    // and it keeps to the handle's bound on steps.
     ensures tells { OfHandlesIfAny (TellsFind key result value.new) (handle_of slot.old.raw.inside)
         (handle_of slot.new.raw.inside) }
+    // The value is written only with yes.
     ensures kept { result ≢ said_yes → value.new ≡ value.old }
 {
     let Some(answer) = slot.with_handle(alloc, |handle| handle.find(key)) else {
@@ -39,9 +44,14 @@ pub extern "C" fn elltree_slot_look(
     key: u64,
     value: &mut u64,
 ) -> i32
+    // `CLOSED` comes exactly if the slot has no handle.
     ensures closed { (result ≡ said_closed) ↔ (handle_of slot.old.raw.inside ≡ None) }
+    // The answer is that of the handle's `look`: yes, and the value is written, or no; on an owned key as its map has
+    // it. `BAD_KEY` comes exactly for a key above the greatest one, and no other code does. Keys, map and tree stay,
+    // and it keeps to the handle's bound on steps.
     ensures tells { OfHandlesIfAny (TellsLook key result value.new) (handle_of slot.old.raw.inside)
         (handle_of slot.new.raw.inside) }
+    // The value is written only with yes.
     ensures kept { result ≢ said_yes → value.new ≡ value.old }
 {
     let Some(answer) = slot.with_handle(alloc, |handle| handle.look(key)) else {
@@ -79,7 +89,12 @@ pub extern "C" fn elltree_slot_insert(
     value: u64,
     tries: u32,
 ) -> i32
+    // `CLOSED` comes exactly if the slot has no handle.
     ensures closed { (result ≡ said_closed) ↔ (handle_of slot.old.raw.inside ≡ None) }
+    // The answer is that of the handle's call, yes or no, on an owned key as of its map. `NO_TRIES` comes exactly
+    // without tries, then `FOREIGN` exactly for a key neither owned nor shared, then `BUSY` and `SPENT` as the
+    // handle's; no other code does. Keys and tree stay, and after refusals the map. It keeps to the handle's bounds on
+    // steps, tries and cards.
     ensures tells { OfHandlesIfAny (TellsChange (Insert key value) tries result) (handle_of slot.old.raw.inside)
         (handle_of slot.new.raw.inside) }
 {
@@ -90,7 +105,12 @@ pub extern "C" fn elltree_slot_insert(
 /// Takes a key of the slot's away, with its value: whether it was present.
 #[unsafe(no_mangle)]
 pub extern "C" fn elltree_slot_delete(alloc: Global, slot: &mut Slot, key: u64, tries: u32) -> i32
+    // `CLOSED` comes exactly if the slot has no handle.
     ensures closed { (result ≡ said_closed) ↔ (handle_of slot.old.raw.inside ≡ None) }
+    // The answer is that of the handle's call, yes or no, on an owned key as of its map. `NO_TRIES` comes exactly
+    // without tries, then `FOREIGN` exactly for a key neither owned nor shared, then `BUSY` and `SPENT` as the
+    // handle's; no other code does. Keys and tree stay, and after refusals the map. It keeps to the handle's bounds on
+    // steps, tries and cards.
     ensures tells { OfHandlesIfAny (TellsChange (Delete key) tries result) (handle_of slot.old.raw.inside)
         (handle_of slot.new.raw.inside) }
 {
@@ -107,9 +127,12 @@ pub extern "C" fn elltree_slot_take(
     tries: u32,
     taken: &mut u64,
 ) -> i32
+    // `CLOSED` comes exactly if the slot has no handle.
     ensures closed { (result ≡ said_closed) ↔ (handle_of slot.old.raw.inside ≡ None) }
+    // The code is that of a delete. With yes the value that is written was taken.
     ensures tells { OfHandlesIfAny (TellsTake key tries result taken.new) (handle_of slot.old.raw.inside)
         (handle_of slot.new.raw.inside) }
+    // The value is written only with yes.
     ensures kept { result ≢ said_yes → taken.new ≡ taken.old }
 {
     let Some(mut place) = slot.take(alloc) else {

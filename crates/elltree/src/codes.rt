@@ -48,6 +48,8 @@ pub const SHARED_KEYS: i32 = -17;
 
 /// The code of a refusal.
 pub fn code_of_refusal(refusal: Refusal) -> i32
+    // Returns the code of the refusal. No other refusal has it, and it is neither yes nor no, nor `OTHER_VALUE`,
+    // `CLOSED`, `OPEN` or `NO_ROOM`.
     ensures code { result ≡ code_of refusal }
     ensures yes { result ≢ said_yes }
     ensures no { result ≢ said_no }

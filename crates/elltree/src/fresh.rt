@@ -24,8 +24,11 @@ pub extern "C" fn elltree_slots_renew_shared(
     cards: u64,
     number: u64,
 ) -> i32
+    // The slots move to one new tree, as by the handles' `renew_all_shared`.
     ensures renewed { result ≡ said_yes → (first : Handle) → slice_get (handles_in slots.old) 0 ≡ Some first →
         AreRenewedShared first cards number (handles_in slots.new) }
+    // `OTHER_TREE`, `BAD_START` and `BAD_CARDS` come only if it is so, and `CLOSED` only if a slot has no handle;
+    // `NO_MEMORY` may come before all else. A call that is refused moves no slot, and none is refused without slots.
     ensures says { SaysOfShared cards result (handles_in slots.old) }
     ensures closed { result ≡ said_closed → ¬ All HasHandle slots.old }
     ensures held { result ≢ said_closed → result ≢ said_no_memory → All HasHandle slots.old }

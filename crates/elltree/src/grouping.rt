@@ -20,9 +20,14 @@ pub extern "C" fn elltree_slots_renew(
     cards: u64,
     number: u64,
 ) -> i32
+    // Each slot keeps its keys and its map.
     ensures kept { AllZip KeepsMap slots.old slots.new }
+    // The slots move to one new tree, as by the handles' `renew_all`.
     ensures renewed { result ≡ said_yes → 0 < length slots.old →
         AreRenewed (handles_in slots.old) cards number (handles_in slots.new) }
+    // `OTHER_TREE`, `SHARED_KEYS`, `BAD_START` and `BAD_CARDS` come only if it is so, and `CLOSED` only if a slot has
+    // no handle; `NO_MEMORY` may come before all else. A call that is refused moves no slot, and none is refused
+    // without slots.
     ensures says { SaysOfAll cards result (handles_in slots.old) }
     ensures closed { result ≡ said_closed → ¬ All HasHandle slots.old }
     ensures held { result ≢ said_closed → result ≢ said_no_memory → All HasHandle slots.old }

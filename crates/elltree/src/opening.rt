@@ -24,9 +24,13 @@ pub extern "C" fn elltree_slot_open(
     cards: u64,
     number: u64,
 ) -> i32
+    // With yes the slot has a handle as `Handle::open` makes it, with the cards and the number asked for.
     ensures opened { result ≡ said_yes →
         OfHandle (BeginsWith keys.now (as_pairs start.now) cards number) (handle_of slot.new.raw.inside) }
+    // `BAD_START`, `BAD_KEY` and `BAD_CARDS` come only as the refusals of `Handle::open`, and `NO_MEMORY` only if none
+    // of these is so.
     ensures why { SaysWhyShut keys.now (as_pairs start.now) cards result }
+    // `OPEN` comes exactly if the slot is open. A call that is refused leaves it as it was.
     ensures busy { (result ≡ said_open) ↔ (slot.old.is_open ≡ true) }
     ensures refused { result ≢ said_yes → slot.new.raw.inside ≡ slot.old.raw.inside }
 {
@@ -72,7 +76,7 @@ pub(crate) fn pairs_of(alloc: Global, pairs: &[Pair]) -> Result<Vec<(u64, u64)>,
 }
 
 /// Gives these keys of a slot to another slot, which is not open yet.
-#[tactic(auto, using(crate::proofs::Parting::split_refused))]
+#[tactic(auto, using(crate::proofs::lemmas::Parting::split_refused))]
 #[unsafe(no_mangle)]
 pub extern "C" fn elltree_slot_split(
     alloc: Global,
@@ -80,9 +84,14 @@ pub extern "C" fn elltree_slot_split(
     into: &mut Slot,
     keys: &[u64],
 ) -> i32
+    // `OPEN` comes exactly if the other slot is open.
     ensures busy { (result ≡ said_open) ↔ (into.old.is_open ≡ true) }
+    // With yes the slots have the parts that the handle's `split` makes, which are of one tree and may join. `CLOSED`
+    // comes exactly if the slot has no handle, then `FOREIGN` exactly if a key is not owned, then `TOO_MANY_HANDLES`
+    // exactly if the share is the least one, and else `NO_MEMORY` alone.
     ensures tells { result ≢ said_open → TellsSplit keys.now result (handle_of from.old.raw.inside)
         (handle_of into.new.raw.inside) (handle_of from.new.raw.inside) }
+    // A call that is refused leaves both slots as they were.
     ensures refused { result ≢ said_yes → from.new.raw.inside ≡ from.old.raw.inside }
     ensures unopened { result ≢ said_yes → into.new.raw.inside ≡ into.old.raw.inside }
 {
@@ -143,9 +152,14 @@ fn split(alloc: Global, place: &mut Place, keys: &[u64]) -> Result<Box<Place, Gl
 #[unsafe(no_mangle)]
 pub extern "C" fn elltree_slot_join(alloc: Global, into: &mut Slot, from: &mut Slot) -> i32
     requires numbers { NumbersTell (handle_of into.old.raw.inside) (handle_of from.old.raw.inside) }
+    // With yes the slot has the keys and the shares of both. `CLOSED` comes exactly if a slot has no handle, then
+    // `OTHER_TREE` exactly if the numbers of the trees differ, or one alone shares keys, and else `NO_MEMORY` alone.
+    // The slot keeps its tree.
     ensures tells { TellsJoin result (handle_of into.old.raw.inside) (handle_of from.old.raw.inside)
         (handle_of into.new.raw.inside) }
+    // With yes the other slot is empty.
     ensures given { result ≡ said_yes → from.new.raw.inside ≡ None }
+    // A call that is refused leaves both slots as they were.
     ensures refused { result ≢ said_yes → into.new.raw.inside ≡ into.old.raw.inside }
     ensures kept { result ≢ said_yes → from.new.raw.inside ≡ from.old.raw.inside }
 {
@@ -194,6 +208,7 @@ fn join(place: &mut Place, added: &mut Place) -> i32
 /// Closes a slot. The tree goes with its last slot; keys of a slot that is closed are no other's, and are read by looks alone.
 #[unsafe(no_mangle)]
 pub extern "C" fn elltree_slot_free(alloc: Global, slot: &mut Slot) -> i32
+    // It leaves the slot empty. `CLOSED` comes exactly if the slot was empty before, and else yes.
     ensures closed { slot.new.raw.inside ≡ None }
     ensures none { (result ≡ said_closed) ↔ (slot.old.raw.inside ≡ None) }
     ensures codes { IsOneOf (said_yes ∷ said_closed ∷ []) result }

@@ -24,9 +24,14 @@ pub extern "C" fn elltree_slot_range(
     count: &mut usize,
     next: &mut u64,
 ) -> i32
+    // `CLOSED` comes exactly if the slot has no handle.
     ensures closed { (result ≡ said_closed) ↔ (handle_of slot.old.raw.inside ≡ None) }
+    // The answer is that of the handle's `scan`, always with yes: the pairs, how many they are, and where to go on,
+    // which is the end of the range, or the array is full. The rest of the array stays. Keys, map and tree stay, and it
+    // keeps to the handle's bound on steps.
     ensures tells { OfHandlesIfAny (TellsRange from upto result count.new next.new out.old out.new)
         (handle_of slot.old.raw.inside) (handle_of slot.new.raw.inside) }
+    // Nothing is written but with yes.
     ensures kept { result ≢ said_yes → (out.new ≡ out.old) × ((count.new ≡ count.old) × (next.new ≡ next.old)) }
 {
     let Some(mut place) = slot.take(alloc) else {
@@ -67,9 +72,13 @@ pub extern "C" fn elltree_slot_next_at_least(
     found: &mut u64,
     value: &mut u64,
 ) -> i32
+    // `CLOSED` comes exactly if the slot has no handle.
     ensures closed { (result ≡ said_closed) ↔ (handle_of slot.old.raw.inside ≡ None) }
+    // The answer is that of the handle's call: yes, and the key and its value are written, or no. Keys, map and tree
+    // stay, and it keeps to the handle's bound on steps.
     ensures tells { OfHandlesIfAny (TellsNext key result found.new value.new) (handle_of slot.old.raw.inside)
         (handle_of slot.new.raw.inside) }
+    // Key and value are written only with yes.
     ensures kept { result ≢ said_yes → (found.new ≡ found.old) × (value.new ≡ value.old) }
 {
     let Some(there) = slot.with_handle(alloc, |handle| handle.next_at_least(key)) else {
@@ -88,9 +97,13 @@ pub extern "C" fn elltree_slot_last_at_most(
     found: &mut u64,
     value: &mut u64,
 ) -> i32
+    // `CLOSED` comes exactly if the slot has no handle.
     ensures closed { (result ≡ said_closed) ↔ (handle_of slot.old.raw.inside ≡ None) }
+    // The answer is that of the handle's call: yes, and the key and its value are written, or no. Keys, map and tree
+    // stay, and it keeps to the handle's bound on steps.
     ensures tells { OfHandlesIfAny (TellsLast key result found.new value.new) (handle_of slot.old.raw.inside)
         (handle_of slot.new.raw.inside) }
+    // Key and value are written only with yes.
     ensures kept { result ≢ said_yes → (found.new ≡ found.old) × (value.new ≡ value.old) }
 {
     let Some(there) = slot.with_handle(alloc, |handle| handle.last_at_most(key)) else {

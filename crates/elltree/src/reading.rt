@@ -21,9 +21,13 @@ pub extern "C" fn elltree_slot_pairs(
     out: &mut [Pair],
     count: &mut usize,
 ) -> i32
+    // `CLOSED` comes exactly if the slot has no handle.
     ensures closed { (result ≡ said_closed) ↔ (handle_of slot.old.raw.inside ≡ None) }
+    // With yes the pairs of the slot's map are written, strictly ascending, and how many they are; the rest of the
+    // array stays. `NO_ROOM` comes exactly if they are more than there is room for. Keys, map and tree stay.
     ensures tells { OfHandlesIfAny (TellsPairs result count.new out.old out.new) (handle_of slot.old.raw.inside)
         (handle_of slot.new.raw.inside) }
+    // How many they are is written only with yes.
     ensures count { result ≢ said_yes → count.new ≡ count.old }
 {
     let Some(mut place) = slot.take(alloc) else {
@@ -64,8 +68,12 @@ pub extern "C" fn elltree_slot_keys(
     out: &mut [u64],
     count: &mut usize,
 ) -> i32
+    // `CLOSED` comes exactly if the slot has no handle.
     ensures closed { (result ≡ said_closed) ↔ (handle_of slot.old.raw.inside ≡ None) }
+    // With yes the keys of the slot are written, strictly ascending, and how many they are; the rest of the array
+    // stays. `NO_ROOM` comes only if they are more than there is room for.
     ensures tells { OfHandleIfAny (TellsKeys result count.new out.old out.new) (handle_of slot.old.raw.inside) }
+    // Nothing is written but with yes. The slot stays as it was.
     ensures kept { result ≢ said_yes → (out.new ≡ out.old) × (count.new ≡ count.old) }
     ensures same { slot.new.raw.inside ≡ slot.old.raw.inside }
 {
@@ -107,7 +115,9 @@ fn write_keys(keys: &[u64], out: &mut [u64])
 /// How many keys the slot owns.
 #[unsafe(no_mangle)]
 pub extern "C" fn elltree_slot_owned(alloc: Global, slot: &mut Slot, count: &mut usize) -> i32
+    // With yes it writes how many keys the slot owns.
     ensures count { result ≡ said_yes → count.new ≡ owned_in (handle_of slot.old.raw.inside) }
+    // It answers yes, or `CLOSED` if the slot has no handle, and then nothing is written. The slot stays as it was.
     ensures says { SaysIfAny (handle_of slot.old.raw.inside) result }
     ensures kept { result ≢ said_yes → count.new ≡ count.old }
     ensures same { slot.new.raw.inside ≡ slot.old.raw.inside }
@@ -122,7 +132,9 @@ pub extern "C" fn elltree_slot_owned(alloc: Global, slot: &mut Slot, count: &mut
 /// The atomic steps that were made through the slot's handle, and through those that it came from, in a row.
 #[unsafe(no_mangle)]
 pub extern "C" fn elltree_slot_steps(alloc: Global, slot: &mut Slot, steps: &mut u64) -> i32
+    // With yes it writes how many steps the slot counts in a row.
     ensures steps { result ≡ said_yes → steps.new ≡ steps_in (handle_of slot.old.raw.inside) }
+    // It answers yes, or `CLOSED` if the slot has no handle, and then nothing is written. The slot stays as it was.
     ensures says { SaysIfAny (handle_of slot.old.raw.inside) result }
     ensures kept { result ≢ said_yes → steps.new ≡ steps.old }
     ensures same { slot.new.raw.inside ≡ slot.old.raw.inside }
@@ -138,8 +150,10 @@ pub extern "C" fn elltree_slot_steps(alloc: Global, slot: &mut Slot, steps: &mut
 /// after.
 #[unsafe(no_mangle)]
 pub extern "C" fn elltree_slot_cards_left(alloc: Global, slot: &mut Slot, left: &mut u64) -> i32
+    // With yes it writes how many cards are left, as the handle tells it.
     ensures left { result ≡ said_yes →
         OfHandles (TellsCardsLeft left.new) (handle_of slot.old.raw.inside) (handle_of slot.new.raw.inside) }
+    // It answers yes, or `CLOSED` if the slot has no handle, and then nothing is written. Keys, map and tree stay.
     ensures says { SaysIfAny (handle_of slot.old.raw.inside) result }
     ensures kept { result ≢ said_yes → left.new ≡ left.old }
     ensures reads { OfHandlesIfAny OnlyAsks (handle_of slot.old.raw.inside) (handle_of slot.new.raw.inside) }

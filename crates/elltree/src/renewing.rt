@@ -14,7 +14,11 @@ use std::alloc::Global;
 /// its other slots. Trees that are open at once have different numbers.
 #[unsafe(no_mangle)]
 pub extern "C" fn elltree_slot_renew(alloc: Global, slot: &mut Slot, cards: u64, number: u64) -> i32
+    // `CLOSED` comes exactly if the slot has no handle.
     ensures closed { (result ≡ said_closed) ↔ (handle_of slot.old.raw.inside ≡ None) }
+    // With yes the slot has a new tree, as by the handle's `renew`. `SHARED_KEYS` comes exactly if its tree shares
+    // keys, then `BAD_START` and `BAD_CARDS` exactly as the handle's, and else `NO_MEMORY` alone. Its keys and its map
+    // stay, and after refusals its tree.
     ensures tells { OfHandlesIfAny (TellsRenewal cards number result) (handle_of slot.old.raw.inside)
         (handle_of slot.new.raw.inside) }
 {

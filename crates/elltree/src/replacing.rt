@@ -22,9 +22,15 @@ pub extern "C" fn elltree_slot_compare_exchange(
     tries: u32,
     found: &mut u64,
 ) -> i32
+    // `CLOSED` comes exactly if the slot has no handle.
     ensures closed { (result ≡ said_closed) ↔ (handle_of slot.old.raw.inside ≡ None) }
+    // The answer is that of the handle's `compare_exchange`: yes if the key had the expected value, no if it is absent,
+    // or `OTHER_VALUE`, and the value is written. `NO_TRIES` comes exactly without tries, then `FOREIGN` exactly for a
+    // key neither owned nor shared, then `BUSY` and `SPENT` as the handle's. Keys and tree stay, and after refusals the
+    // map. It keeps to the handle's bounds on steps, tries and cards.
     ensures tells { OfHandlesIfAny (TellsExchange key current new tries result found.new) (handle_of slot.old.raw.inside)
         (handle_of slot.new.raw.inside) }
+    // The value is written only with yes and `OTHER_VALUE`.
     ensures kept { result ≢ said_yes → result ≢ said_other_value → found.new ≡ found.old }
 {
     let Some(mut place) = slot.take(alloc) else {
@@ -88,9 +94,15 @@ pub extern "C" fn elltree_slot_put(
     tries: u32,
     was: &mut u64,
 ) -> i32
+    // `CLOSED` comes exactly if the slot has no handle.
     ensures closed { (result ≡ said_closed) ↔ (handle_of slot.old.raw.inside ≡ None) }
+    // The answer is that of the handle's `put`: yes, and the old value is written, if the key was present, else no.
+    // `NO_TRIES` comes exactly without tries, then `FOREIGN` exactly for a key neither owned nor shared, then `BUSY`
+    // and `SPENT` as the handle's. Keys and tree stay, and after refusals the map. It keeps to the handle's bounds on
+    // steps, tries and cards.
     ensures tells { OfHandlesIfAny (TellsPut key value tries result was.new) (handle_of slot.old.raw.inside)
         (handle_of slot.new.raw.inside) }
+    // The value is written only with yes.
     ensures kept { result ≢ said_yes → was.new ≡ was.old }
 {
     let Some(mut place) = slot.take(alloc) else {
@@ -124,9 +136,15 @@ pub extern "C" fn elltree_slot_fetch_add(
     tries: u32,
     was: &mut u64,
 ) -> i32
+    // `CLOSED` comes exactly if the slot has no handle.
     ensures closed { (result ≡ said_closed) ↔ (handle_of slot.old.raw.inside ≡ None) }
+    // The answer is that of the handle's `fetch_add`: yes, and the old value is written, if the key is present, else
+    // no. `NO_TRIES` comes exactly without tries, then `FOREIGN` exactly for a key neither owned nor shared, then
+    // `BUSY` and `SPENT` as the handle's. Keys and tree stay, and after refusals the map. It keeps to the handle's
+    // bounds on steps, tries and cards.
     ensures tells { OfHandlesIfAny (TellsSum key addend tries result was.new) (handle_of slot.old.raw.inside)
         (handle_of slot.new.raw.inside) }
+    // The value is written only with yes.
     ensures kept { result ≢ said_yes → was.new ≡ was.old }
 {
     let Some(mut place) = slot.take(alloc) else {

@@ -24,9 +24,13 @@ pub extern "C" fn elltree_slot_open_shared(
     cards: u64,
     number: u64,
 ) -> i32
+    // With yes the slot has a handle as `Handle::open_shared` makes it, with the cards and the number asked for.
     ensures opened { result ≡ said_yes →
         OfHandle (BeginsShared (as_pairs start.now) cards number) (handle_of slot.new.raw.inside) }
+    // `BAD_START`, `BAD_KEY` and `BAD_CARDS` come only as the refusals of `Handle::open`, and `NO_MEMORY` only if none
+    // of these is so.
     ensures why { SaysWhyShut [] (as_pairs start.now) cards result }
+    // `OPEN` comes exactly if the slot is open. A call that is refused leaves it as it was.
     ensures busy { (result ≡ said_open) ↔ (slot.old.is_open ≡ true) }
     ensures refused { result ≢ said_yes → slot.new.raw.inside ≡ slot.old.raw.inside }
 {
@@ -62,12 +66,17 @@ fn open_shared(
 
 /// Gives another slot, which is not open yet, a handle of the same tree: it changes shared keys, and looks at any key. A slot's own keys
 /// stay its own.
-#[tactic(auto, using(crate::proofs::Parting::another_refused))]
+#[tactic(auto, using(crate::proofs::lemmas::Parting::another_refused))]
 #[unsafe(no_mangle)]
 pub extern "C" fn elltree_slot_another(alloc: Global, from: &mut Slot, into: &mut Slot) -> i32
+    // `OPEN` comes exactly if the other slot is open.
     ensures busy { (result ≡ said_open) ↔ (into.old.is_open ≡ true) }
+    // With yes the other slot has a handle of the same tree that owns no key, as by the handle's `another`; both may
+    // join. `CLOSED` comes exactly if the slot has no handle, then `TOO_MANY_HANDLES` exactly if the share is the least
+    // one, and else `NO_MEMORY` alone.
     ensures tells { result ≢ said_open → TellsAnother result (handle_of from.old.raw.inside)
         (handle_of from.new.raw.inside) (handle_of into.new.raw.inside) }
+    // A call that is refused leaves both slots as they were.
     ensures refused { result ≢ said_yes → from.new.raw.inside ≡ from.old.raw.inside }
     ensures unopened { result ≢ said_yes → into.new.raw.inside ≡ into.old.raw.inside }
 {

@@ -12,8 +12,10 @@ use crate::codes::{
 /// text is of ASCII alone, and 64 bytes are room for each. A number that is no code has a text too, which says so.
 #[unsafe(no_mangle)]
 pub extern "C" fn elltree_code_text(code: i32, out: &mut [u8]) -> usize
+    // Returns the length of the code's text, below 64.
     ensures length { result ≡ length (text_of code) }
     ensures short { result < 64 }
+    // The text is written, cut off to the room before a 0. The rest of the array stays.
     ensures text { WritesText (text_of code) out.old out.new }
 {
     let text = text_of(code);
@@ -47,7 +49,7 @@ fn text_of(code: i32) -> &'static [u8]
         NO_TRIES => b"the call allows no try",
         BAD_CARDS => b"cards are not 1 to 1,000,000",
         BAD_KEY => b"a key is above 18446744073709551613",
-        BAD_START => b"start keys do not ascend strictly, or are more than 200,000",
+        BAD_START => b"start keys do not ascend strictly, or are more than 1,000,000",
         NO_ROOM => b"no room for all pairs or keys",
         NO_MEMORY => b"out of memory",
         CLOSED => b"the handle holds nothing",

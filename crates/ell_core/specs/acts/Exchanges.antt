@@ -8,10 +8,10 @@ use Rattle.ell_core.specs.declared.fact.Fact.{Fact}
 use Rattle.ell_core.specs.declared.fact.Fact.TheVariants.{IFlagged, IChanged, IOver, DFlagged, Marked, Unmarkable, Cut, DOver, Backed}
 use Rattle.ell_core.specs.declared.put.Put.{Put}
 use Rattle.ell_core.specs.declared.view.Seen.{Seen}
-use Rattle.ell_core.specs.state.Words.{Words, with_update, with_child}
+use Rattle.ell_layout.specs.Words.{Words, with_update, with_child}
 use Rattle.ell_core.specs.state.Facts.{Knowledge, learned, learned_any, told_by}
 use Rattle.ell_core.specs.state.Machine.{Worker, Scene}
-use Rattle.ell_core.specs.state.Cards.{iflag, dflag, marked, clean, exchange_side, sibling, brought}
+use Rattle.ell_layout.specs.Cards.{iflag, dflag, marked, clean, exchange_side, sibling, brought}
 
 -- what an exchange says, won or not
 abbrev pub won_or_lost : Bool → Stepped

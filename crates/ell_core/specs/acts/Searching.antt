@@ -11,19 +11,15 @@ use Rattle.ell_core.specs.declared.fact.Fact.TheVariants.{IOver, DOver, Backed}
 use Rattle.ell_core.specs.declared.put.Put.{Put}
 use Rattle.ell_core.specs.declared.view.Seen.{Seen}
 use Rattle.ell_core.specs.declared.view.Search.{Search}
-use Rattle.ell_core.specs.declared.field.Field.{Field}
-use Rattle.ell_core.specs.state.Words.{Words, put}
+use Rattle.ell_layout.specs.declared.field.Field.{Field}
+use Rattle.ell_layout.specs.Words.{Words, put, IsLeaf}
 use Rattle.ell_core.specs.state.Facts.{Knowledge, learned_any, told_by}
 use Rattle.ell_core.specs.state.Machine.{Ledger, Worker, Scene, no_search}
-use Rattle.ell_core.specs.state.Cards.{child_for, insert_filling, delete_filling, claimed}
+use Rattle.ell_layout.specs.Cards.{child_for, insert_filling, delete_filling, claimed}
 use Rattle.ell_core.specs.declared.view.Entry.{Entry}
 use Rattle.ell_core.specs.declared.view.Entry.TheVariants.{Present, Absent}
 use Rattle.ell_ops.specs.declared.reply.Reply.{Reply}
 use Rattle.ell_ops.specs.declared.reply.Reply.TheVariants.{Yes, No, Found}
-
--- a leaf is a node that is not internal
-abbrev pub IsLeaf : ℕ → Type 0
-IsLeaf node = ¬ IsInternal node
 
 -- an update word that is clean
 abbrev pub IsClean : ℕ → Type 0

@@ -2,19 +2,18 @@ use Rattle.std.specs.Prelude.{◌≡◌, ◌≢◌, ℕ, ◌+◌, ◌<◌, ◌�
 use Rattle.ell_ops.specs.declared.op.Op.{Op}
 use Rattle.ell_ops.specs.declared.op.Op.TheVariants.{Find, Insert, Delete, Swap}
 use Rattle.ell_ops.specs.Meaning.{greatest_key, key_of}
-use Rattle.ell_word.specs.Node.{IsInternal, internal, left_leaf, right_leaf}
+use Rattle.ell_word.specs.Node.{IsInternal, internal, left_leaf, right_leaf, infinity1, infinity2}
 use Rattle.ell_word.specs.Word.{unpacked}
 use Rattle.ell_core.specs.declared.fact.Fact.{Fact}
-use Rattle.ell_core.specs.declared.field.Field.{Field}
+use Rattle.ell_layout.specs.declared.field.Field.{Field}
 use Rattle.ell_core.specs.declared.put.Put.{Put}
 use Rattle.ell_core.specs.declared.view.Seen.{Seen}
-use Rattle.ell_core.specs.state.Words.{Words, word}
+use Rattle.ell_layout.specs.Words.{Words, word, IsLeaf}
 use Rattle.ell_core.specs.state.Facts.{card_of_fact}
 use Rattle.ell_core.specs.state.Machine.{Worker, Machine, entry_of}
-use Rattle.ell_core.specs.state.Cards.{iflag, dflag, marked, clean, is_right, child_for, exchange_side, sibling, is_replace_card}
-use Rattle.ell_core.specs.acts.Searching.{IsLeaf, IsClean}
+use Rattle.ell_layout.specs.Cards.{iflag, dflag, marked, clean, is_right, child_for, exchange_side, sibling, is_replace_card}
+use Rattle.ell_core.specs.acts.Searching.{IsClean}
 use Rattle.ell_core.specs.state.Moves.{WorkerIsIdle}
-use Rattle.ell_core.specs.tree.Tree.{infinity1, infinity2}
 use Rattle.ell_core.specs.soundness.Sound.{WorkerOwns, MayChange, IsNotShared, IsOwned, IsInHand, StrangersAreNobody}
 use Rattle.ell_core.specs.tree.Ranges.{IsSpanned, IsCutOut, Meets, IsOrdered, OnCourse}
 use Rattle.ell_core.specs.history.Stages.{Stages, Opening, is_claimed, is_start, is_insert, is_delete, is_born, insert_won, insert_open, insert_waits, is_changed, insert_over, delete_won, delete_open, delete_waits, is_markable, is_unmarkable, is_marked, is_cut, delete_past, allows, Born, effective_at}

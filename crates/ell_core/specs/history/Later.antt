@@ -1,14 +1,14 @@
 use Rattle.std.specs.Prelude.{◌≡◌, ℕ, ◌<◌, ◌≤◌, Bool, true, false, List, [], ◌∷◌, ◌++◌}
 use Rattle.ell_word.specs.Node.{card}
-use Rattle.ell_word.specs.declared.gate.Kind.{Kind}
-use Rattle.ell_word.specs.declared.gate.Kind.TheVariants as kind
+use Rattle.ell_core.specs.declared.exchange.Exchange.{Exchange}
+use Rattle.ell_core.specs.declared.exchange.Exchange.TheVariants as exchange
 use Rattle.ell_core.specs.declared.event.Act.{Act}
 use Rattle.ell_core.specs.declared.event.Stepped.{Stepped}
 use Rattle.ell_core.specs.declared.fact.Fact.{Fact}
-use Rattle.ell_core.specs.declared.field.Field.{Field}
-use Rattle.ell_core.specs.state.Words.{Words, word}
+use Rattle.ell_layout.specs.declared.field.Field.{Field}
+use Rattle.ell_layout.specs.Words.{Words, word}
 use Rattle.ell_core.specs.state.Machine.{Machine, Scene, scene, with_scene}
-use Rattle.ell_core.specs.state.Cards.{marked}
+use Rattle.ell_layout.specs.Cards.{marked}
 use Rattle.ell_core.specs.acts.Events.{Happens}
 use Rattle.ell_core.specs.history.Stages.{Stage, Stages, IFlagged, IChanged, IOver, RChanged, ROver, DFlagged, DUnmarkable, DMarked, DCut, DOver, DBacked, is_start, is_insert, is_delete, is_born, allows, Born}
 use Rattle.ell_core.specs.history.Invariant.{Invariant}
@@ -51,18 +51,18 @@ pub record StagesLater (old new : Stages) : Type 0 where
   pub told : (fact : Fact) (c : ℕ) → allows fact (old c) ≡ true → allows fact (new c) ≡ true
 
 -- the wins of a card up to a stage, in their order
-abbrev pub wins_of : Stage → List Kind
-wins_of IFlagged = kind.IFlag ∷ []
-wins_of IChanged = kind.IFlag ∷ kind.IChild ∷ []
-wins_of IOver = kind.IFlag ∷ kind.IChild ∷ kind.IUnflag ∷ []
-wins_of RChanged = kind.IFlag ∷ kind.IChild ∷ []
-wins_of ROver = kind.IFlag ∷ kind.IChild ∷ kind.IUnflag ∷ []
-wins_of DFlagged = kind.DFlag ∷ []
-wins_of DUnmarkable = kind.DFlag ∷ []
-wins_of DMarked = kind.DFlag ∷ kind.Mark ∷ []
-wins_of DCut = kind.DFlag ∷ kind.Mark ∷ kind.DChild ∷ []
-wins_of DOver = kind.DFlag ∷ kind.Mark ∷ kind.DChild ∷ kind.DUnflag ∷ []
-wins_of DBacked = kind.DFlag ∷ kind.Backtrack ∷ []
+abbrev pub wins_of : Stage → List Exchange
+wins_of IFlagged = exchange.IFlag ∷ []
+wins_of IChanged = exchange.IFlag ∷ exchange.IChild ∷ []
+wins_of IOver = exchange.IFlag ∷ exchange.IChild ∷ exchange.IUnflag ∷ []
+wins_of RChanged = exchange.IFlag ∷ exchange.IChild ∷ []
+wins_of ROver = exchange.IFlag ∷ exchange.IChild ∷ exchange.IUnflag ∷ []
+wins_of DFlagged = exchange.DFlag ∷ []
+wins_of DUnmarkable = exchange.DFlag ∷ []
+wins_of DMarked = exchange.DFlag ∷ exchange.Mark ∷ []
+wins_of DCut = exchange.DFlag ∷ exchange.Mark ∷ exchange.DChild ∷ []
+wins_of DOver = exchange.DFlag ∷ exchange.Mark ∷ exchange.DChild ∷ exchange.DUnflag ∷ []
+wins_of DBacked = exchange.DFlag ∷ exchange.Backtrack ∷ []
 wins_of _ = []
 
 -- an act of worker i leads from a state that the invariant holds of to one that it holds of, with later words and stages; a

@@ -1,12 +1,12 @@
-use Rattle.std.specs.Prelude.{◌≡◌, ◌≢◌, ℕ, ◌<◌, ◌≤◌, ◌==◌, if◌then◌else◌, Bool, true, false, Option, Some, None}
+use Rattle.std.specs.Prelude.{◌≡◌, ◌≢◌, ℕ, ◌<◌, ◌≤◌, ◌==◌, if◌then◌else◌, Bool, true, false, not, Option, Some, None}
 use Rattle.ell_ops.specs.declared.op.Op.{Op}
 use Rattle.ell_ops.specs.declared.op.Op.TheVariants.{Insert, Delete, Swap}
 use Rattle.ell_ops.specs.Meaning.{key_of}
 use Rattle.ell_core.specs.declared.fact.Fact.{Fact}
 use Rattle.ell_core.specs.declared.fact.Fact.TheVariants as fact
-use Rattle.ell_core.specs.state.Words.{Words, put}
+use Rattle.ell_layout.specs.Words.{Words, put}
 use Rattle.ell_core.specs.state.Machine.{Ledger, Worker}
-use Rattle.ell_core.specs.state.Cards.{iflag, dflag, marked, is_delete_card, card_child}
+use Rattle.ell_layout.specs.Cards.{iflag, dflag, marked, is_delete_card, card_child}
 use Rattle.ell_core.specs.declared.view.Entry.{Entry}
 use Rattle.ell_core.specs.declared.view.Entry.TheVariants.{Present, Absent}
 
@@ -46,37 +46,6 @@ Holds w (fact.Cut c) = CutHolds w c
 Holds w (fact.DOver c) = CutHolds w c × (dflag c < w.update (w.gp c))
 Holds w (fact.Backed c) = UnmarkableHolds w c × (dflag c < w.update (w.gp c))
 
--- how far the operation of a card has come whose flag was won
-pub data Phase : Type 0 where
-  IFlagged : Phase
-  IChanged : Phase
-  IOver : Phase
-  DFlagged : Phase
-  DMarked : Phase
-  DCut : Phase
-  DOver : Phase
-  DBacktracked : Phase
-
--- the phase of an insert's card: its flag stands and the child is the leaf, or not the leaf any more, or the flag is past
-abbrev pub insert_phase : Words → ℕ → Phase
-insert_phase w c =
-    if w.update (w.p c) == iflag c then (if card_child w c (w.p c) == w.l c then IFlagged else IChanged) else IOver
-
--- the phase of a delete's card while its flag stands: not marked, or marked and the child is the parent, or not any more
-abbrev pub open_delete_phase : Words → ℕ → Phase
-open_delete_phase w c =
-    if w.update (w.p c) == marked c then (if card_child w c (w.gp c) == w.p c then DMarked else DCut) else DFlagged
-
--- the phase of a delete's card: as above, and past its flag over if it marked, else backtracked
-abbrev pub delete_phase : Words → ℕ → Phase
-delete_phase w c =
-    if w.update (w.gp c) == dflag c then open_delete_phase w c
-    else (if w.update (w.p c) == marked c then DOver else DBacktracked)
-
--- the phase of a card whose flag was won, read from the words
-abbrev pub phase : Words → ℕ → Phase
-phase w c = if is_delete_card w c then delete_phase w c else insert_phase w c
-
 -- what an operation has made of its key: an insert whose child exchange was made, present with its value; a delete that has cut,
 -- absent; else nothing yet. So insert 5 with value 50 has made nothing while its flag stands alone, and then Present 50
 abbrev pub made : Op → Bool → Bool → Option Entry
@@ -85,21 +54,18 @@ made (Delete key) changed true = Some Absent
 made (Swap key was value) true cut = Some (Present value)
 made _ _ _ = None
 
--- the phase is past an insert's child exchange
-abbrev pub is_past_ichild : Phase → Bool
-is_past_ichild IChanged = true
-is_past_ichild IOver = true
-is_past_ichild _ = false
+-- once an insert's flag was won: whether its child exchange was made, which takes the leaf from the parent for ever
+abbrev pub is_changed_in : Words → ℕ → Bool
+is_changed_in w c = not (card_child w c (w.p c) == w.l c)
 
--- the phase is past a delete's child exchange
-abbrev pub is_past_dchild : Phase → Bool
-is_past_dchild DCut = true
-is_past_dchild DOver = true
-is_past_dchild _ = false
+-- once a delete's flag was won: whether it has cut, which takes the parent, if that is marked, from the grandparent for
+-- ever
+abbrev pub is_cut_in : Words → ℕ → Bool
+is_cut_in w c = if w.update (w.p c) == marked c then not (card_child w c (w.gp c) == w.p c) else false
 
--- what an operation has made of its key by its card's phase
-abbrev pub made_by_phase : Op → Phase → Option Entry
-made_by_phase op phase = made op (is_past_ichild phase) (is_past_dchild phase)
+-- what an operation has made of its key by the words, once the flag of its card was won
+abbrev pub made_in : Words → Op → ℕ → Option Entry
+made_in w op c = made op (is_changed_in w c) (is_cut_in w c)
 
 -- a ledger where an operation has made this of its key, if anything
 abbrev pub with_made : Ledger → ℕ → Option Entry → Ledger
@@ -107,7 +73,7 @@ with_made ledger key None = ledger
 with_made ledger key (Some entry) = put ledger key (Some entry)
 
 abbrev pub effective_of : Words → Ledger → Option Op → Option ℕ → Bool → Ledger
-effective_of w ledger (Some op) (Some c) true = with_made ledger (key_of op) (made_by_phase op (phase w c))
+effective_of w ledger (Some op) (Some c) true = with_made ledger (key_of op) (made_in w op c)
 effective_of w ledger _ _ _ = ledger
 
 -- the effective ledger: the ledger, where the key of an operation whose card is flagged counts as what that card has made

@@ -1,9 +1,8 @@
 use Rattle.std.specs.Prelude.{ℕ, false}
-use Rattle.ell_word.specs.Node.{internal, left_leaf, right_leaf}
-use Rattle.ell_core.specs.state.Words.{Words, with_update, with_child}
-use Rattle.ell_core.specs.state.Cards.{clean, insert_filling, delete_filling, claimed}
-use Rattle.ell_core.specs.state.Opening.{opening_words}
-use Rattle.ell_core.specs.tree.Tree.{infinity1}
+use Rattle.ell_word.specs.Node.{internal, left_leaf, right_leaf, infinity1}
+use Rattle.ell_layout.specs.Words.{Words, with_update, with_child}
+use Rattle.ell_layout.specs.Cards.{clean, insert_filling, delete_filling, claimed}
+use Rattle.ell_layout.specs.Start.{opening_words}
 
 -- the tree as it was opened, with card 1 filled to insert key 5 with value 50: its node is not linked yet
 abbrev pub five_filled : Words

@@ -6,7 +6,7 @@ use Rattle.ell_word.specs.Word.{unpacked}
 use Rattle.ell_word.specs.declared.update.State.{State}
 use Rattle.ell_word.specs.declared.update.State.TheVariants as state
 use Rattle.ell_core.specs.declared.fact.Fact.{Fact}
-use Rattle.ell_core.specs.state.Words.{Words}
+use Rattle.ell_layout.specs.Words.{Words}
 use Rattle.ell_core.specs.state.Machine.{Worker, Machine, nobody}
 use Rattle.ell_core.specs.tree.Tree.{OnWalk, Finds, Reached, IsTreeKey, IsTreePair, IsLawful}
 use Rattle.ell_core.specs.soundness.Holds.{Holds, effective}

@@ -2,10 +2,10 @@ use Rattle.std.specs.Prelude.{ℕ, ◌==◌, if◌then◌else◌, true, false, S
 use Rattle.ell_ops.specs.declared.op.Op.TheVariants.{Find}
 use Rattle.ell_word.specs.Node.{left_leaf, right_leaf}
 use Rattle.ell_core.specs.declared.fact.Fact.TheVariants.{IFlagged}
-use Rattle.ell_core.specs.state.Words.{Words, put}
+use Rattle.ell_layout.specs.Words.{Words, put}
 use Rattle.ell_core.specs.state.Facts.{learned}
 use Rattle.ell_core.specs.state.Machine.{Ledger, Worker, Machine, idle, nobody, no_search}
-use Rattle.ell_core.specs.state.Opening.{opening_words}
+use Rattle.ell_layout.specs.Start.{opening_words}
 use Rattle.ell_core.specs.soundness.Sound.{LedgersAreSound, WalksAreSound, StrangersAreNobody, IsSound}
 use Rattle.ell_core.specs.soundness.SmallTrees.{five, five_filled}
 use Rattle.ell_core.specs.declared.view.Entry.{Entry}

@@ -1,10 +1,10 @@
 use Rattle.std.specs.Prelude.{List, [], ◌∷◌}
 use Rattle.ell_core.specs.declared.fact.Fact.{Fact}
-use Rattle.ell_core.specs.state.Words.{with_update, put}
+use Rattle.ell_layout.specs.Words.{with_update, put}
 use Rattle.ell_core.specs.state.Facts.{learned}
 use Rattle.ell_core.specs.state.Machine.{Worker, Machine}
-use Rattle.ell_core.specs.state.Cards.{iflag, dflag, marked, clean}
-use Rattle.ell_core.specs.state.Opening.{opening_words}
+use Rattle.ell_layout.specs.Cards.{iflag, dflag, marked, clean}
+use Rattle.ell_layout.specs.Start.{opening_words}
 use Rattle.ell_core.specs.soundness.Sound.{FactsAreSound, IsSound}
 use Rattle.ell_core.specs.soundness.SmallTrees.{five_filled, five_linked, five, five_updated, five_cut}
 use Rattle.ell_core.specs.soundness.Unsound.{owner, holding, with_one}

@@ -1,8 +1,8 @@
 use Rattle.std.specs.Prelude.{ℕ, Some, false}
-use Rattle.ell_core.specs.state.Words.{Words, with_child, with_update}
+use Rattle.ell_layout.specs.Words.{Words, with_child, with_update}
 use Rattle.ell_core.specs.state.Machine.{Machine}
-use Rattle.ell_core.specs.state.Cards.{iflag, dflag, marked, clean}
-use Rattle.ell_core.specs.state.Opening.{opening_words}
+use Rattle.ell_layout.specs.Cards.{iflag, dflag, marked, clean}
+use Rattle.ell_layout.specs.Start.{opening_words}
 use Rattle.ell_core.specs.soundness.Sound.{NamesAreSound, FlagsAreSound, IsSound}
 use Rattle.ell_core.specs.soundness.SmallTrees.{five, five_linked, five_updated}
 use Rattle.ell_core.specs.soundness.Unsound.{owner, holding, with_one}

@@ -1,9 +1,9 @@
 use Rattle.std.specs.Prelude.{◌+◌, true, false}
-use Rattle.ell_word.specs.Node.{internal, left_leaf, right_leaf}
-use Rattle.ell_core.specs.state.Words.{with_child, with_key, with_value}
+use Rattle.ell_word.specs.Node.{internal, left_leaf, right_leaf, infinity1, infinity2}
+use Rattle.ell_layout.specs.Words.{with_child, with_key, with_value}
 use Rattle.ell_core.specs.state.Machine.{Machine}
-use Rattle.ell_core.specs.state.Opening.{opening_words}
-use Rattle.ell_core.specs.tree.Tree.{infinity1, infinity2, IsLawful}
+use Rattle.ell_layout.specs.Start.{opening_words}
+use Rattle.ell_core.specs.tree.Tree.{IsLawful}
 use Rattle.ell_core.specs.soundness.Sound.{IsSound}
 use Rattle.ell_core.specs.soundness.SmallTrees.{five, five_seven}
 use Rattle.ell_core.specs.soundness.Unsound.{owner, owner_of_two, with_one}

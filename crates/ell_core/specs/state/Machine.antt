@@ -3,7 +3,7 @@ use Rattle.std.specs.Map.{lookup}
 use Rattle.ell_ops.specs.declared.op.Op.{Op}
 use Rattle.ell_core.specs.declared.view.Search.{Search}
 use Rattle.ell_core.specs.declared.view.WorkerView.{WorkerView}
-use Rattle.ell_core.specs.state.Words.{Words, put}
+use Rattle.ell_layout.specs.Words.{Words, put}
 use Rattle.ell_core.specs.state.Facts.{Knowledge, known_of}
 use Rattle.ell_core.specs.declared.view.Entry.{Entry}
 use Rattle.ell_core.specs.declared.view.Entry.TheVariants.{Present, Absent}

@@ -1,6 +1,6 @@
 use Rattle.std.specs.Prelude.{◌≡◌, ◌≢◌, ℕ, ◌+◌, ◌<◌, ◌⊎◌, ◌||◌, true, None}
 use Rattle.ell_core.specs.declared.fact.Fact.{Fact}
-use Rattle.ell_core.specs.state.Words.{put}
+use Rattle.ell_layout.specs.Words.{put}
 use Rattle.ell_core.specs.state.Machine.{Ledger, Worker, Machine, idle, nobody}
 
 -- nothing is in hand

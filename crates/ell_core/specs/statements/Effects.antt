@@ -8,10 +8,10 @@ use Rattle.ell_core.specs.declared.event.Act.TheVariants as act
 use Rattle.ell_core.specs.declared.event.Stepped.{Stepped}
 use Rattle.ell_core.specs.declared.event.Stepped.TheVariants.{Won, Answered}
 use Rattle.ell_core.specs.declared.fact.Fact.{Fact}
-use Rattle.ell_core.specs.state.Words.{Words}
+use Rattle.ell_layout.specs.Words.{Words}
 use Rattle.ell_core.specs.state.Machine.{Ledger, Worker, Machine}
 use Rattle.ell_core.specs.soundness.Sound.{MayChange, WorkerOwns}
-use Rattle.ell_core.specs.state.Cards.{card_key, card_value, is_replace_card}
+use Rattle.ell_layout.specs.Cards.{card_key, card_value, is_replace_card}
 use Rattle.ell_core.specs.tree.Tree.{IsTreeKey, IsTreePair}
 use Rattle.ell_core.specs.soundness.Holds.{Holds}
 use Rattle.ell_core.specs.declared.view.Entry.{Entry}

@@ -5,8 +5,8 @@ use Rattle.ell_core.specs.declared.event.Event.{Event}
 use Rattle.ell_core.specs.declared.event.Shown.{Shown}
 use Rattle.ell_core.specs.declared.event.Stepped.{Stepped}
 use Rattle.ell_core.specs.state.Machine.{Machine}
-use Rattle.ell_core.specs.state.Cards.{child_for}
-use Rattle.ell_core.specs.acts.Searching.{IsLeaf}
+use Rattle.ell_layout.specs.Cards.{child_for}
+use Rattle.ell_layout.specs.Words.{IsLeaf}
 use Rattle.ell_core.specs.acts.Events.{Steps}
 use Rattle.ell_core.specs.acts.Runs.{Shows, Run}
 use Rattle.ell_core.specs.tree.Tree.{OnWalk, IsTreeKey, IsTreePair}

@@ -3,9 +3,8 @@ use Rattle.ell_ops.specs.Meaning.{greatest_key}
 use Rattle.ell_word.specs.Node.{IsInternal, card}
 use Rattle.ell_core.specs.declared.event.Event.{Event}
 use Rattle.ell_core.specs.declared.event.Shown.{Shown}
-use Rattle.ell_core.specs.state.Words.{Words}
+use Rattle.ell_layout.specs.Words.{Words, IsLeaf}
 use Rattle.ell_core.specs.state.Machine.{Machine}
-use Rattle.ell_core.specs.acts.Searching.{IsLeaf}
 use Rattle.ell_core.specs.acts.Runs.{Run}
 use Rattle.ell_core.specs.tree.Tree.{OnWalk, IsTreeKey, IsTreePair}
 use Rattle.ell_core.specs.statements.RunLaws.{IsPassed}

@@ -4,18 +4,18 @@ use Rattle.ell_ops.specs.Meaning.{reply_of, greatest_key}
 use Rattle.ell_word.specs.Node.{IsInternal, internal}
 use Rattle.ell_word.specs.Word.{unpacked}
 use Rattle.ell_word.specs.declared.update.State.TheVariants as state
-use Rattle.ell_word.specs.declared.gate.Kind.{Kind}
-use Rattle.ell_word.specs.declared.gate.Kind.TheVariants as kind
+use Rattle.ell_core.specs.declared.exchange.Exchange.{Exchange}
+use Rattle.ell_core.specs.declared.exchange.Exchange.TheVariants as exchange
 use Rattle.ell_core.specs.declared.event.Act.TheVariants as act
 use Rattle.ell_core.specs.declared.event.Event.{Event}
 use Rattle.ell_core.specs.declared.event.Shown.{Shown}
 use Rattle.ell_core.specs.declared.event.Stepped.{Stepped}
 use Rattle.ell_core.specs.declared.event.Stepped.TheVariants.{Won, Answered}
-use Rattle.ell_core.specs.state.Words.{put}
+use Rattle.ell_layout.specs.Words.{put, IsLeaf}
 use Rattle.ell_core.specs.state.Machine.{Worker, Machine}
 use Rattle.ell_core.specs.state.Moves.{WorkerIsIdle, AreParted, KnowsNoMore}
-use Rattle.ell_core.specs.state.Cards.{card_key, card_value}
-use Rattle.ell_core.specs.acts.Searching.{IsLeaf, IsClean}
+use Rattle.ell_layout.specs.Cards.{card_key, card_value}
+use Rattle.ell_core.specs.acts.Searching.{IsClean}
 use Rattle.ell_core.specs.acts.Events.{Steps}
 use Rattle.ell_core.specs.acts.Runs.{Run}
 use Rattle.ell_core.specs.tree.Tree.{Reached, OnWalk}
@@ -47,8 +47,8 @@ abbrev pub NothingIsLearnt : Type 0
 NothingIsLearnt = (m m' : Machine) → Follow m m' → KnowledgeLasts m' m
 
 -- the order of an insert's wins, were its child exchange to come before its flag
-abbrev pub child_first : List Kind
-child_first = kind.IChild ∷ kind.IFlag ∷ kind.IUnflag ∷ []
+abbrev pub child_first : List Exchange
+child_first = exchange.IChild ∷ exchange.IFlag ∷ exchange.IUnflag ∷ []
 
 -- each card wins in that order, or in one of a delete's (in truth the flag comes first)
 abbrev pub ChildExchangesComeFirst : Type 0

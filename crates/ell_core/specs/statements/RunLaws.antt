@@ -6,12 +6,12 @@ use Rattle.ell_ops.specs.Meaning.{greatest_key}
 use Rattle.ell_word.specs.Node.{internal, card}
 use Rattle.ell_word.specs.Word.{unpacked}
 use Rattle.ell_word.specs.declared.update.State.TheVariants as state
-use Rattle.ell_word.specs.declared.gate.Kind.{Kind}
+use Rattle.ell_core.specs.declared.exchange.Exchange.{Exchange}
 use Rattle.ell_core.specs.declared.event.Act.{Act}
 use Rattle.ell_core.specs.declared.event.Event.{Event}
 use Rattle.ell_core.specs.declared.event.Shown.{Shown}
 use Rattle.ell_core.specs.declared.event.Shown.TheVariants as shown
-use Rattle.ell_core.specs.state.Words.{Words}
+use Rattle.ell_layout.specs.Words.{Words}
 use Rattle.ell_core.specs.state.Machine.{Machine}
 use Rattle.ell_core.specs.state.Opening.{Setup, opening, is_given, Faultless}
 use Rattle.ell_core.specs.acts.Runs.{Shows, Run}
@@ -72,12 +72,13 @@ AnswersAreTheMaps = (m : Machine) (e : Event) (x : Shown) (m' : Machine) → IsP
     → ShownLedgers m e.worker x m'
 
 -- what is won for a card, by what is shown of an event: for the card that it names, or a flag for the card in hand before it
-abbrev pub shown_wins : Machine → Event → Shown → ℕ → List Kind
+abbrev pub shown_wins : Machine → Event → Shown → ℕ → List Exchange
 shown_wins m e (shown.Step said) c = wins_by e.act (m.worker e.worker).card said c
 shown_wins m e (shown.Refused fault) c = []
 
 -- the wins of a card in a run, in their order
-abbrev pub wins_in : (m : Machine) (events : List Event) (answers : List Shown) (m' : Machine) → Run m events answers m' → ℕ → List Kind
+abbrev pub wins_in :
+    (m : Machine) (events : List Event) (answers : List Shown) (m' : Machine) → Run m events answers m' → ℕ → List Exchange
 wins_in m [] [] m' run c = []
 wins_in m (e ∷ es) (x ∷ xs) m' run c = shown_wins m e x c ++ wins_in run.0 es xs m' run.2 c
 wins_in m [] (x ∷ xs) m' run c = absurd run

@@ -9,11 +9,11 @@ use Rattle.ell_core.specs.declared.event.Stepped.{Stepped}
 use Rattle.ell_core.specs.declared.fact.Fact.{Fact}
 use Rattle.ell_core.specs.declared.fact.Fact.TheVariants as fact
 use Rattle.ell_core.specs.declared.view.Seen.{Seen}
-use Rattle.ell_core.specs.state.Words.{Words}
+use Rattle.ell_layout.specs.Words.{Words, IsLeaf}
 use Rattle.ell_core.specs.state.Facts.{card_of_fact}
 use Rattle.ell_core.specs.state.Machine.{Worker, Machine, Scene, scene}
-use Rattle.ell_core.specs.state.Cards.{marked}
-use Rattle.ell_core.specs.acts.Searching.{IsLeaf, IsClean, Down}
+use Rattle.ell_layout.specs.Cards.{marked}
+use Rattle.ell_core.specs.acts.Searching.{IsClean, Down}
 use Rattle.ell_core.specs.acts.Events.{Steps}
 use Rattle.ell_core.specs.state.Moves.{WorkerIsIdle, Split, Join}
 use Rattle.ell_core.specs.tree.Tree.{Reached}

@@ -1,8 +1,8 @@
 use Rattle.std.specs.Prelude.{◌≡◌, ℕ, ◌<◌, Bool, true, false}
-use Rattle.ell_core.specs.declared.field.Field.{Field}
-use Rattle.ell_core.specs.declared.field.Field.TheVariants.{Left, Right, Update}
-use Rattle.ell_core.specs.state.Words.{Words, word}
-use Rattle.ell_core.specs.state.Cards.{marked}
+use Rattle.ell_layout.specs.declared.field.Field.{Field}
+use Rattle.ell_layout.specs.declared.field.Field.TheVariants.{Left, Right, Update}
+use Rattle.ell_layout.specs.Words.{Words, word}
+use Rattle.ell_layout.specs.Cards.{marked}
 use Rattle.ell_core.specs.history.Later.{WordsLater}
 
 -- a field that never changes once its card is claimed: all but the children and the update word of its node

@@ -4,10 +4,10 @@ use Rattle.ell_core.specs.declared.event.Act.TheVariants as act
 use Rattle.ell_core.specs.declared.event.Event.{Event}
 use Rattle.ell_core.specs.declared.event.Stepped.{Stepped}
 use Rattle.ell_core.specs.declared.event.Stepped.TheVariants.{Won}
-use Rattle.ell_core.specs.declared.field.Field.{Field}
-use Rattle.ell_core.specs.state.Words.{word}
+use Rattle.ell_layout.specs.declared.field.Field.{Field}
+use Rattle.ell_layout.specs.Words.{word}
 use Rattle.ell_core.specs.state.Machine.{Machine}
-use Rattle.ell_core.specs.state.Cards.{claimed, stored}
+use Rattle.ell_layout.specs.Cards.{claimed, stored}
 use Rattle.ell_core.specs.acts.Events.{Steps}
 use Rattle.ell_core.specs.history.Stages.{Stages, is_start, Born, waits}
 use Rattle.ell_core.specs.history.Invariant.{Invariant}

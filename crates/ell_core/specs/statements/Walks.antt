@@ -1,7 +1,7 @@
 use Rattle.std.specs.Prelude.{◌≡◌, ℕ, Bool, true}
 use Rattle.ell_core.specs.declared.event.Event.{Event}
 use Rattle.ell_core.specs.declared.event.Stepped.{Stepped}
-use Rattle.ell_core.specs.state.Words.{Words}
+use Rattle.ell_layout.specs.Words.{Words}
 use Rattle.ell_core.specs.state.Machine.{Machine}
 use Rattle.ell_core.specs.acts.Events.{Steps}
 use Rattle.ell_core.specs.tree.Tree.{OnWalk}

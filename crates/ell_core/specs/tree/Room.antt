@@ -1,6 +1,6 @@
 use Rattle.std.specs.Prelude.{ℕ, ◌+◌, ◌≤◌, List, length}
 use Rattle.ell_word.specs.Node.{card}
-use Rattle.ell_core.specs.state.Words.{Words}
+use Rattle.ell_layout.specs.Words.{Words}
 use Rattle.ell_core.specs.tree.Tree.{Reached, ListsKeys}
 
 -- so many places are enough for the nodes that wait on a walk: no reached node's card is greater than their number less two

@@ -1,18 +1,10 @@
-use Rattle.std.specs.Prelude.{◌≡◌, ◌≢◌, ℕ, ◌+◌, ◌<◌, ◌≤◌, ◌↔◌, Bool, true, false, List, [], ◌∷◌, Contains}
+use Rattle.std.specs.Prelude.{◌≡◌, ◌≢◌, ℕ, ◌<◌, ◌≤◌, ◌↔◌, Bool, true, false, List, [], ◌∷◌, Contains}
 use Rattle.std.specs.List.Sorted.{IsStrictlyIncreasing}
 use Rattle.std.specs.Map.{keys_of}
 use Rattle.ell_ops.specs.Meaning.{greatest_key}
-use Rattle.ell_word.specs.Node.{IsInternal, right_leaf}
-use Rattle.ell_core.specs.state.Words.{Words}
-use Rattle.ell_core.specs.state.Cards.{child_for}
-use Rattle.ell_core.specs.acts.Searching.{IsLeaf}
-
--- the two keys above all real keys
-abbrev pub infinity1 : ℕ
-infinity1 = greatest_key + 1
-
-abbrev pub infinity2 : ℕ
-infinity2 = greatest_key + 2
+use Rattle.ell_word.specs.Node.{IsInternal, right_leaf, infinity1, infinity2}
+use Rattle.ell_layout.specs.Words.{Words, IsLeaf}
+use Rattle.ell_layout.specs.Cards.{child_for}
 
 -- a node is on the walk for a key from x: it is x, or it is on the walk from the child of x on the key's side
 pub data OnWalk (w : Words) (key : ℕ) : ℕ → ℕ → Type 0 where

@@ -6,6 +6,7 @@ ghost use Rattle.ell_core.specs.statements.Readers.{StretchesAreOfOneState};
 
 /// Every state of a run is sound, since the invariant holds of it.
 pub fn every_state_is_sound()
+    // Every state of every run has the invariant, and so is sound.
     ensures invariant { EveryStateHasInvariant }
     ensures sound { EveryStateIsSound }
 {}
@@ -13,45 +14,57 @@ pub fn every_state_is_sound()
 /// The keys of the tree and their values change at a won ichild, which adds its card's key with the card's value, and at a won
 /// dchild, which takes its card's key away; at every other event, and where one is refused, they are the same.
 pub fn pairs_change_at_wins()
+    // The tree's pairs change only at a won `ichild` or `dchild`, by that card's operation: an insert adds its pair, a
+    // swap gives a key that has its first value the second, a delete takes its key away. All other pairs stay.
     ensures { PairsChangeAtWins }
 {}
 
 /// Each answer is the map's answer on the ledger of its worker, and the ledger becomes the map after the operation; no other
 /// event changes a ledger.
 pub fn answers_are_the_maps()
+    // Of a worker's own key each answer is that of its ledger, which becomes what the operation makes of it. All other
+    // ledgers stay.
     ensures { AnswersAreTheMaps }
 {}
 
 /// In every run each card wins iflag, ichild, iunflag, or dflag, mark, dchild, dunflag, or dflag, backtrack: each at most once,
 /// in this order.
 pub fn wins_are_in_order()
+    // Each card's exchanges are won in order, each at most once: `iflag`, `ichild`, `iunflag`; or `dflag`, `mark`,
+    // `dchild`, `dunflag`; or `dflag`, `backtrack`.
     ensures { WinsAreInOrder }
 {}
 
 /// Once a node's update word is a mark, neither it nor the node's children change again.
 pub fn marked_nodes_are_frozen()
+    // A marked node never changes.
     ensures { MarkedNodesAreFrozen }
 {}
 
 /// The children and the update word of the internal node of every card, claimed or not, only rise.
 pub fn words_rise()
+    // The update word and the children of a node never become less.
     ensures { WordsRise }
 {}
 
 /// No worker ever knows less, and every fact of every card that holds of the words, known or not, holds ever after.
 pub fn facts_last()
+    // What a worker knows stays known, and facts stay true.
     ensures { KnowledgeIsNeverLost }
 {}
 
 /// Where a claimed card goes, and the keys and values of its nodes, never change; and a node that came into the tree stays one that did.
 pub fn claimed_cards_are_fixed()
+    // The record of a claimed card never changes, nor do the keys and values of its nodes.
     ensures cards { ClaimedCardsAreFixed }
+    // A card never changes its kind, and what may be known of it still may.
     ensures nodes { StagesRise }
 {}
 
 /// A reader of any key, who goes down from the root and loads nothing but children, ends at a leaf that in one state of the run, not
 /// before he began and not after he ended, was the end of the walk for the key. So what he finds was so in that state.
 pub fn looks_are_of_one_state()
+    // A look, which only loads, ends at a leaf that tells what the tree had of its key in one state since it began.
     ensures { LooksAreOfOneState }
 {}
 
@@ -59,5 +72,7 @@ pub fn looks_are_of_one_state()
 /// all keys of a stretch were: those that went the same way wherever he went down. Of these the tree had in that state
 /// the leaf's key, or none.
 pub fn stretches_are_of_one_state()
+    // A look tells of all keys of its stretch at once what the tree had in one state since it began, also if it goes on
+    // from a kept node: the leaf's key with its value, or none.
     ensures { StretchesAreOfOneState }
 {}

@@ -8,16 +8,20 @@ ghost use Rattle.ell_core.specs.statements.Looks.{CoursesGoOn};
 
 /// A state that the invariant holds of is sound.
 pub fn invariant_is_sound()
+    // A state with the invariant is sound.
     ensures { InvariantIsSound }
 {}
 
 /// Each of the fifteen events, won and lost, keeps the invariant, and changes the keys with their values, ledgers, knowledge and facts as it should.
 pub fn events_are_lawful()
+    // Each event keeps the invariant. It changes pairs and ledgers as its outcome says, and what is known stays known
+    // and true.
     ensures { EventsAreLawful }
 {}
 
 /// A split and a join of workers with nothing in hand keep the invariant.
 pub fn moves_are_lawful()
+    // Splits and joins keep the invariant.
     ensures split { SplitsAreLawful }
     ensures join { JoinsAreLawful }
 {}
@@ -28,11 +32,14 @@ pub fn moves_are_lawful()
 /// stands has its key and value exactly where its ledger has them, and then there is a grandparent. Each card in hand, or of which
 /// anything is known, is a claimed one.
 pub fn steps_may_rely()
+    // In a state with the invariant a worker stands at a node that it may read, and what it read names claimed cards;
+    // its way and its cards lead ever deeper; and at a leaf its own key is there exactly if its ledger says so.
     ensures { StepsMayRely }
 {}
 
 /// Where one worker owns every key and has nothing in hand, every reached update word is clean.
 pub fn owner_finds_clean()
+    // An idle worker that owns each key which another may change finds only clean words in the tree.
     ensures { OwnerFindsClean }
 {}
 
@@ -40,14 +47,18 @@ pub fn owner_finds_clean()
 /// event changes any word of a card that waits, and none but the card's own flag, by whoever has it in hand, ends its waiting. A
 /// claim fills the next card, whose words were 0, and that card waits.
 pub fn cards_wait()
+    // A claimed card waits until it wins its flag: it is in one hand at most, none of its nodes came into the tree, and
+    // no event changes its words.
     ensures stages { StagesTellWaiting }
     ensures events { EventsLeaveWaiting }
+    // After a claim each field of the card has what the filling says, or 0.
     ensures claimed { ClaimedCardsSay }
 {}
 
 /// No walk from the root comes by a parent that a delete has cut out; and one from a node that came into the tree, which comes by none
 /// of those that some deletes have cut out, comes by none of them after any event. So a search meets no node that was cut out when it began.
 pub fn walks_avoid_what_was_cut()
+    // No walk meets a node that was cut out before the walk began, whatever events come.
     ensures roots { RootsAvoid }
     ensures events { EventsKeepAvoiding }
 {}
@@ -55,13 +66,17 @@ pub fn walks_avoid_what_was_cut()
 /// What a search has read since it began, whatever comes between, is of no card whose flag was taken away when it began, at no node
 /// that was cut out then. And an update word that has become clean since is of a card whose flag stood there and was taken away since.
 pub fn searches_see_what_stands()
+    // A flag or a mark that a search reads is of a card that had not ended when the search began.
     ensures begin { SearchesBegin }
     ensures go_on { SearchesGoOn }
+    // An update word that became clean since then is of a card whose flag stood there and has ended since.
     ensures cleans { CleansGoOn }
 {}
 
 /// Of a node that is on course for a key, whoever owns it, every event leaves the child on the key's side as it was, or the node is on the
 /// walk for the key from the root. So a reader who only loads goes from nodes that have been on that walk to nodes that have been on it.
 pub fn courses_go_on()
+    // A node on course for a key stays on course after any event. Its child on the key's side stays as it was, or the
+    // node is on the key's walk.
     ensures { CoursesGoOn }
 {}

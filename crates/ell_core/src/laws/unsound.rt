@@ -10,6 +10,7 @@ ghost use Rattle.ell_core.specs.soundness.UnsoundFlags.{BreaksNames, node_not_cl
 /// No tree breaks one of the rules of a lawful one: numbers rise, one path leads to each node, keys are in order, the two
 /// infinities stand in their places, and every leaf of a real key has a grandparent.
 pub fn no_tree_is_unlawful()
+    // For each clause on the shape of the tree a small state that breaks it is unsound.
     ensures rises { BreaksTree child_of_less_number }
     ensures one_path { BreaksTree leaf_linked_twice }
     ensures left_less { BreaksTree node_with_lesser_key }
@@ -26,6 +27,7 @@ pub fn no_tree_is_unlawful()
 /// No key has two owners, a key of the tree has one, and the owner has it present exactly when the tree has it, and with the same
 /// value: the map is in the tree, and not in the workers.
 pub fn no_ledger_is_wrong()
+    // For each clause on ledgers, but that a shared key has no owner, a small state that breaks it is unsound.
     ensures one_owner { BreaksLedgers key_owned_twice }
     ensures owned { BreaksLedgers key_without_owner }
     ensures present { BreaksLedgers key_missing_in_ledger }
@@ -35,6 +37,7 @@ pub fn no_ledger_is_wrong()
 
 /// No search finds a key that is absent, misses one that is present, or stands where the walk for its key does not come by.
 pub fn no_search_is_astray()
+    // For each clause on searches a small state that breaks it is unsound.
     ensures found { BreaksSearches key_found_too_early }
     ensures missed { BreaksSearches key_not_found }
     ensures joins { BreaksSearches search_astray }
@@ -42,6 +45,8 @@ pub fn no_search_is_astray()
 
 /// No worker knows what is not so: each of the nine facts fails alone by each part of its meaning that can.
 pub fn no_fact_is_made_up()
+    // For each kind of fact there are small states in which no worker may know it, as it is not so: they would be
+    // unsound.
     ensures insert_card { NoneHolds not_an_insert (IFlagged 1 ∷ IChanged 1 ∷ IOver 1 ∷ []) }
     ensures insert_flag { NoneHolds linked_unflagged (IFlagged 1 ∷ IChanged 1 ∷ []) }
     ensures insert_child { NoneHolds never_linked (IChanged 1 ∷ IOver 1 ∷ []) }
@@ -59,6 +64,7 @@ pub fn no_fact_is_made_up()
 
 /// No node and no update word of the tree is of a card that was not claimed, and no node has a number that its card leaves out.
 pub fn no_name_is_wrong()
+    // A state is unsound if a reached node, or an update word of one, is of an unclaimed card or of none.
     ensures nodes { BreaksNames node_not_claimed }
     ensures numbers { BreaksNames number_left_out }
     ensures updates { BreaksNames card_not_claimed }
@@ -66,6 +72,8 @@ pub fn no_name_is_wrong()
 
 /// No flag or mark stands whose card nobody has in hand, flagged, or at a node that is not the card's.
 pub fn no_flag_is_left_standing()
+    // A state is unsound if a flag or a mark is not at its card's node, or of a card that no worker has in hand,
+    // flagged.
     ensures in_hand { BreaksFlags flag_left_standing }
     ensures holds { BreaksFlags flag_of_another }
     ensures flagged { BreaksFlags flag_not_won }
@@ -76,6 +84,7 @@ pub fn no_flag_is_left_standing()
 
 /// Nobody but the workers that are counted owns a key, has anything in hand or knows anything.
 pub fn no_stranger_is_somebody()
+    // A state is unsound if a worker past the last one owns, holds or knows something.
     ensures owns { BreaksStrangers key_of_stranger }
     ensures busy { BreaksStrangers busy_stranger }
     ensures knows { BreaksStrangers knowing_stranger }

@@ -1,8 +1,8 @@
 -- A search stands where its key's walk has been since it began, and a card in hand was claimed since.
-use Rattle.ell_cards.proofs.runs.Points.{calls_have_their_point, calls_have_their_own_cards}
-use Rattle.ell_cards.proofs.runs.AsMap.{calls_answer_as_a_map, trees_are_maps, trees_are_of_one_thread, calls_reply_as_one_thread}
-use Rattle.ell_cards.proofs.runs.Answering.{answers_have_their_points}
-use Rattle.ell_cards.proofs.runs.Taking.{deletes_take_the_told_value}
+use Rattle.ell_cards.proofs.lemmas.runs.Points.{calls_have_their_point, calls_have_their_own_cards}
+use Rattle.ell_cards.proofs.lemmas.runs.AsMap.{calls_answer_as_a_map, trees_are_maps, trees_are_of_one_thread, calls_reply_as_one_thread}
+use Rattle.ell_cards.proofs.lemmas.runs.Answering.{answers_have_their_points}
+use Rattle.ell_cards.proofs.lemmas.runs.Taking.{deletes_take_the_told_value}
 use Rattle.ell_cards.proofs.laws.calls_have_their_point.Goals as goal
 
 pub returns : goal.returns

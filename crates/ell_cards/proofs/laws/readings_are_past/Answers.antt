@@ -1,6 +1,6 @@
 -- Turn by turn, from a start on.
-use Rattle.ell_cards.proofs.runs.Readings.{readings_are_past}
-use Rattle.ell_cards.proofs.runs.Claims.{claims_are_told}
+use Rattle.ell_cards.proofs.lemmas.runs.Readings.{readings_are_past}
+use Rattle.ell_cards.proofs.lemmas.runs.Claims.{claims_are_told}
 use Rattle.ell_cards.proofs.laws.readings_are_past.Goals as goal
 
 pub returns : goal.returns

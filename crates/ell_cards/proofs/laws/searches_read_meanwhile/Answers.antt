@@ -1,5 +1,5 @@
-use Rattle.ell_cards.proofs.runs.Meanwhile.{searches_begin_there, searches_read_meanwhile, searches_meet_meanwhile, known_moves_were_made}
-use Rattle.ell_cards.proofs.runs.Tries.{tries_are_hindered_by_others}
+use Rattle.ell_cards.proofs.lemmas.runs.Meanwhile.{searches_begin_there, searches_read_meanwhile, searches_meet_meanwhile, known_moves_were_made}
+use Rattle.ell_cards.proofs.lemmas.runs.Tries.{tries_are_hindered_by_others}
 use Rattle.ell_cards.proofs.laws.searches_read_meanwhile.Goals as goal
 
 pub returns : goal.returns

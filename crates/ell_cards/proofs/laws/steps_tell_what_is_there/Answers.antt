@@ -1,6 +1,6 @@
 -- What passes know of words is past; and what a pass won is counted once.
-use Rattle.ell_cards.proofs.runs.Tellings.{no_greater_next, no_greater_update, no_untried_claim_lost}
-use Rattle.ell_cards.proofs.runs.Outcomes.{no_other_outcome}
+use Rattle.ell_cards.proofs.lemmas.runs.Tellings.{no_greater_next, no_greater_update, no_untried_claim_lost}
+use Rattle.ell_cards.proofs.lemmas.runs.Outcomes.{no_other_outcome}
 use Rattle.ell_cards.proofs.laws.steps_tell_what_is_there.Goals as goal
 
 pub returns : goal.returns

@@ -1,5 +1,5 @@
 -- What the call of an answer tells, and the ledgers of a sound state.
-use Rattle.ell_cards.proofs.runs.OfReached.{table_answers_are_the_maps, ledgers_tell_the_tree, tree_keys_are_owned}
+use Rattle.ell_cards.proofs.lemmas.runs.OfReached.{table_answers_are_the_maps, ledgers_tell_the_tree, tree_keys_are_owned}
 use Rattle.ell_cards.proofs.laws.table_answers_are_the_maps.Goals as goal
 
 pub returns : goal.returns

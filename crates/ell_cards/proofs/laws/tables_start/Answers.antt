@@ -1,5 +1,5 @@
 -- The words that a new table has are those of the opening tree.
-use Rattle.ell_cards.proofs.runs.Starting.{tables_start, starts_are_kept, starts_have_their_keys, first_pass_may_begin}
+use Rattle.ell_cards.proofs.lemmas.runs.Starting.{tables_start, starts_are_kept, starts_have_their_keys, first_pass_may_begin}
 use Rattle.ell_cards.proofs.laws.tables_start.Goals as goal
 
 pub returns : goal.returns

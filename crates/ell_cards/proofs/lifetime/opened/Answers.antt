@@ -1,10 +1,10 @@
 use Rattle.std.proofs.Common.{◌≡◌, length, sym, ap, ◌∙◌}
 use Rattle.std.proofs.lemmas.List.{with_items_is}
-use Rattle.ell_core.specs.state.Layout.{table_size}
-use Rattle.ell_core.specs.state.Words.{words_of}
-use Rattle.ell_core.specs.state.Opening.{start_words}
+use Rattle.ell_layout.specs.Layout.{table_size}
+use Rattle.ell_layout.specs.Words.{words_of}
+use Rattle.ell_layout.specs.Start.{start_words}
 use Rattle.ell_cards.specs.Models.{TablePlan}
-use Rattle.ell_cards.proofs.runs.Reaching.{reached_first}
+use Rattle.ell_cards.proofs.lemmas.runs.Reaching.{reached_first}
 use Rattle.ell_cards.proofs.lifetime.opened.Goals as goal
 
 pub of_words-requires : goal.of_words-requires

@@ -4,9 +4,9 @@ use Rattle.clap.specs.Words.{kind_of}
 use Rattle.clap.specs.declared.error.kind.ErrorKind.TheVariants.{OutOfMemory}
 use Rattle.clap.specs.declared.parser.matches.ArgMatches.{ArgMatches}
 use Rattle.ell_command.specs.CommandLine.{IsRequestOf, subcommand_for, subcommand_in}
-use Rattle.ell_command.proofs.Subcommands.{one_is_taken}
-use Rattle.ell_command.proofs.Parses.{fails_by_words, fails_up, help_fails, help_shown, memory_fails, nothing_fails, refused_fails, replay_taken, run_taken, taken_fails, version_fails, name_is, name_met, options_are, options_met}
-use Rattle.ell_command.proofs.PlainRuns.{plain_replay, plain_run}
+use Rattle.ell_command.proofs.lemmas.Subcommands.{one_is_taken}
+use Rattle.ell_command.proofs.lemmas.Parses.{fails_by_words, fails_up, help_fails, help_shown, memory_fails, nothing_fails, refused_fails, replay_taken, run_taken, taken_fails, version_fails, name_is, name_met, options_are, options_met}
+use Rattle.ell_command.proofs.lemmas.PlainRuns.{plain_replay, plain_run}
 use Rattle.ell_command.proofs.request.request_of.Goals as goal
 
 -- an error has no request

@@ -3,8 +3,8 @@ use Rattle.std.proofs.Common.{rules, ◌≡◌, ℕ, List, [], ◌∷◌, ◌++�
 use Rattle.std.specs.Prelude.{vec_capacity}
 use Rattle.std.proofs.lemmas.List.{nil_from_length}
 use Rattle.ell_word.specs.Node.{IsInternal}
-use Rattle.ell_core.specs.acts.Searching.{IsLeaf}
-use Rattle.ell_core.proofs.tree.Walk.{Walked, Turned, Walked-begin, Walked-top, Walked-room, Walked-length, Walked-over, Turned-inner, Turned-real, Turned-infinite}
+use Rattle.ell_layout.specs.Words.{IsLeaf}
+use Rattle.ell_core.proofs.lemmas.tree.Walk.{Walked, Turned, Walked-begin, Walked-top, Walked-room, Walked-length, Walked-over, Turned-inner, Turned-real, Turned-infinite}
 use Rattle.ell_core.proofs.keys.pairs_of_tree.Given.{Over}
 use Rattle.ell_core.proofs.keys.pairs_of_tree.Goals as goal
 use Rattle.ell_core.proofs.keys.pairs_of_tree.Goals.{After-unwrap-then-is_internal-2, After-unwrap-then-key-le-KEY_MAX, Else-key-le-KEY_MAX}

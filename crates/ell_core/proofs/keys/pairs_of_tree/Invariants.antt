@@ -1,6 +1,6 @@
 use Rattle.std.proofs.Common.{◌*◌, ◌≤◌, length}
 use Rattle.std.specs.Prelude.{vec_capacity}
-use Rattle.ell_core.proofs.tree.Walk.{Walked, pending}
+use Rattle.ell_core.proofs.lemmas.tree.Walk.{Walked, pending}
 use Rattle.ell_core.proofs.keys.pairs_of_tree.Given as goal
 
 -- the walk is right, and there is as much room as there was

@@ -7,7 +7,7 @@ use Rattle.ell_tree.specs.declared.scanning.Pair.{Pair}
 use Rattle.ell_tree.specs.Scans.{AreFoundIn, AreInOrder, end_of, written}
 use Rattle.ell_handle.specs.Ranges.{real_end}
 use Rattle.ell_handle.specs.Reads.{tree_of}
-use Rattle.ell_handle.proofs.Freshly.{at_end}
+use Rattle.ell_handle.proofs.lemmas.Freshly.{at_end}
 use Rattle.ell_handle.proofs.fresh.pairs_within.Goals as goal
 
 pub returns-clause-found : goal.returns-clause-found

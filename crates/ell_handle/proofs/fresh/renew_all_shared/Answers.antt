@@ -4,8 +4,8 @@ use Rattle.std.proofs.lemmas.Option.{slice_get-get_or}
 use Rattle.std.specs.List.{AllZip}
 use Rattle.ell_handle.specs.Groups.{StaysPut}
 use Rattle.ell_handle.specs.Fresh.{AreOfOneShared, SharedGroupRefuses}
-use Rattle.ell_handle.proofs.Freshly.{pairs_refuse}
-use Rattle.ell_handle.proofs.Together.{first_looks, stays_put, zip_same}
+use Rattle.ell_handle.proofs.lemmas.Freshly.{pairs_refuse}
+use Rattle.ell_handle.proofs.lemmas.Together.{first_looks, stays_put, zip_same}
 use Rattle.ell_handle.proofs.fresh.renew_all_shared.Goals as goal
 
 pub returns-then-not-are_of_one-clause-refused : goal.returns-then-not-are_of_one-clause-refused

@@ -1,7 +1,7 @@
 use Rattle.std.proofs.Common.{arith, refl, subst, sym, take}
 use Rattle.ell_ops.specs.KeySet.{Lists, empty, set_of}
 use Rattle.ell_handle.specs.Groups.{keys_of_all}
-use Rattle.ell_handle.proofs.Together.{keys_next}
+use Rattle.ell_handle.proofs.lemmas.Together.{keys_next}
 use Rattle.ell_handle.proofs.grouping.all_keys_of.Goals as goal
 
 pub loop-handle-init : goal.loop-handle-init

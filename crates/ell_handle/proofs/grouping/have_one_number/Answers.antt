@@ -1,6 +1,6 @@
 use Rattle.std.proofs.Common.{ap, arith, sym, true≢false, ◌∙◌}
 use Rattle.ell_handle.specs.declared.handle.SharedTree.{SharedTree}
-use Rattle.ell_handle.proofs.Together.{one_number}
+use Rattle.ell_handle.proofs.lemmas.Together.{one_number}
 use Rattle.ell_handle.proofs.grouping.have_one_number.Goals as goal
 
 -- one has another number

@@ -3,7 +3,7 @@ use Rattle.ell_ops.specs.Contents.{ListsPairs, nothing}
 use Rattle.ell_tree.specs.Ledgers.{present_in}
 use Rattle.std.proofs.lemmas.List.Elements.{length_all_zip}
 use Rattle.ell_handle.specs.Groups.{StaysPut, present_in_all}
-use Rattle.ell_handle.proofs.Together.{lists_next, stay_more, stays_put, zip_same}
+use Rattle.ell_handle.proofs.lemmas.Together.{lists_next, stay_more, stays_put, zip_same}
 use Rattle.ell_handle.proofs.grouping.pairs_of_all.Goals as goal
 
 pub loop-place-init : goal.loop-place-init

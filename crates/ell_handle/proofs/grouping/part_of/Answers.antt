@@ -1,4 +1,4 @@
-use Rattle.ell_handle.proofs.Sharing.{is_part, is_rest, owns_keys, owns_wanted}
+use Rattle.ell_handle.proofs.lemmas.Sharing.{is_part, is_rest, owns_keys, owns_wanted}
 use Rattle.ell_handle.proofs.grouping.part_of.Goals as goal
 
 pub returns-in-Ok-clause-part : goal.returns-in-Ok-clause-part

@@ -1,7 +1,7 @@
 use Rattle.std.proofs.Common.{arith, rules, subst, sym, take, ◌+◌}
 use Rattle.std.specs.List.{AllPairs}
 use Rattle.ell_handle.specs.Groups.{AreApart, PartRefuses}
-use Rattle.ell_handle.proofs.Sharing.{IsShared, refuses_more, shared_next}
+use Rattle.ell_handle.proofs.lemmas.Sharing.{IsShared, refuses_more, shared_next}
 use Rattle.ell_handle.proofs.grouping.parts_of.Goals as goal
 
 -- why there is no part

@@ -1,5 +1,5 @@
 use Rattle.std.proofs.Common.{take}
-use Rattle.ell_handle.proofs.Sharing.{IsShared}
+use Rattle.ell_handle.proofs.lemmas.Sharing.{IsShared}
 use Rattle.ell_handle.proofs.grouping.parts_of.Given as goal
 
 -- the first handles have their parts

@@ -1,6 +1,6 @@
 use Rattle.std.proofs.Common.{◌≡◌, ◌++◌, ℕ, drop, length, set, ap, subst, sym, rules, ◌∙◌}
 use Rattle.std.specs.Option.{option_to_list}
-use Rattle.ell_handle.proofs.Putting.{put_last}
+use Rattle.ell_handle.proofs.lemmas.Putting.{put_last}
 use Rattle.ell_handle.proofs.grouping.put_all.Goals as goal
 
 -- one more is put

@@ -1,7 +1,7 @@
 use Rattle.std.proofs.Common.{sym, ◌∙◌}
 use Rattle.std.proofs.lemmas.List.Elements.{length_all_zip}
 use Rattle.ell_handle.specs.Groups.{HasSame, StaysPut}
-use Rattle.ell_handle.proofs.Together.{has_same, stays_put, zip_same, zip_weaker}
+use Rattle.ell_handle.proofs.lemmas.Together.{has_same, stays_put, zip_same, zip_weaker}
 use Rattle.ell_handle.proofs.grouping.renew_all.Goals as goal
 
 pub returns-then-not-have_one_number-clause-kept : goal.returns-then-not-have_one_number-clause-kept

@@ -3,7 +3,7 @@ use Rattle.std.specs.Arc.{arc_value}
 use Rattle.ell_ops.specs.Contents.{ListsPairs}
 use Rattle.ell_ops.specs.KeySet.{set_of}
 use Rattle.ell_handle.specs.Groups.{GroupRefuses, keys_of_all, present_in_all}
-use Rattle.ell_handle.proofs.Together.{apart_then, owns_same, parts_same, refuses_group, refuses_parts, renewed, whole_owns}
+use Rattle.ell_handle.proofs.lemmas.Together.{apart_then, owns_same, parts_same, refuses_group, refuses_parts, renewed, whole_owns}
 use Rattle.ell_handle.proofs.grouping.renewed.Goals as goal
 
 -- why no tree was opened

@@ -3,7 +3,7 @@ use Rattle.std.proofs.lemmas.Result.{IfOk-weaker}
 use Rattle.ell_ops.specs.ByKey.{united_by}
 use Rattle.ell_ops.specs.Contents.{ListsPairs, contents_of}
 use Rattle.ell_handle.specs.Groups.{or_there}
-use Rattle.ell_handle.proofs.Merged.{lists_both}
+use Rattle.ell_handle.proofs.lemmas.Merged.{lists_both}
 use Rattle.ell_handle.proofs.merging.united_pairs.Goals as goal
 
 pub returns : goal.returns

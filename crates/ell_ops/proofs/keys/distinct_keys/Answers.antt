@@ -1,4 +1,4 @@
-use Rattle.ell_ops.proofs.DistinctKeys.{distinct_keys}
+use Rattle.ell_ops.proofs.lemmas.DistinctKeys.{distinct_keys}
 use Rattle.ell_ops.proofs.keys.distinct_keys.Goals as goal
 
 pub returns : goal.returns

@@ -2,8 +2,8 @@ use Rattle.std.proofs.Common.{◌≡◌, ◌∙◌, Vec, ℕ, sym, subst}
 use Rattle.std.proofs.lemmas.Result.{IfOk-weaker}
 use Rattle.ell_ops.specs.ByKey.{united_by}
 use Rattle.ell_ops.specs.KeySet.{Lists, set_of, union}
-use Rattle.ell_ops.proofs.ByKey.{increasing_keys, keys_are_united}
-use Rattle.ell_ops.proofs.Merges.{lists_united}
+use Rattle.ell_ops.proofs.lemmas.ByKey.{increasing_keys, keys_are_united}
+use Rattle.ell_ops.proofs.lemmas.Merges.{lists_united}
 use Rattle.ell_ops.proofs.keys.united_keys.Goals as goal
 
 pub united-requires : goal.united-requires

@@ -1,4 +1,4 @@
-use Rattle.ell_ops.proofs.Presence.{present_keys, replies_by_presence}
+use Rattle.ell_ops.proofs.lemmas.Presence.{present_keys, replies_by_presence}
 use Rattle.ell_ops.proofs.laws.last_writer.Goals as goal
 
 pub returns-clause-maps : goal.returns-clause-maps

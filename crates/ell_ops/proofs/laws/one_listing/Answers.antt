@@ -1,5 +1,5 @@
-use Rattle.ell_ops.proofs.Sets.{one_list}
-use Rattle.ell_ops.proofs.Pairs.{one_list_of_pairs}
+use Rattle.ell_ops.proofs.lemmas.Sets.{one_list}
+use Rattle.ell_ops.proofs.lemmas.Pairs.{one_list_of_pairs}
 use Rattle.ell_ops.proofs.laws.one_listing.Goals as goal
 
 pub returns-clause-keys : goal.returns-clause-keys

@@ -1,7 +1,7 @@
 use Rattle.std.proofs.Common.{◌≡◌, is_some, ap, sym, ◌∙◌}
 use Rattle.ell_ops.specs.Contents.{contents_of}
 use Rattle.ell_ops.specs.Meaning.{found, yes_if, reply_of, after}
-use Rattle.ell_ops.proofs.Pairs.{get-contents_of, contents_of-remove}
+use Rattle.ell_ops.proofs.lemmas.Pairs.{get-contents_of, contents_of-remove}
 use Rattle.ell_ops.proofs.one_thread.apply.Goals as goal
 
 pub returns-in-Find-clause-reply : goal.returns-in-Find-clause-reply

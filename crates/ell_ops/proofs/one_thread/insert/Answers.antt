@@ -1,6 +1,6 @@
 use Rattle.std.proofs.Common.{◌≡◌, ℕ, Option, Some, None, is_some, false, refl, sym, ◌∙◌, ap}
 use Rattle.ell_ops.specs.Contents.{contents_of}
-use Rattle.ell_ops.proofs.Pairs.{get-contents_of, contents_of-insert}
+use Rattle.ell_ops.proofs.lemmas.Pairs.{get-contents_of, contents_of-insert}
 use Rattle.ell_ops.proofs.one_thread.insert.Goals as goal
 
 none_of : (o : Option ℕ) → is_some o ≡ false → o ≡ None

@@ -1,7 +1,7 @@
 use Rattle.std.proofs.Common.{take, get_or, ap, sym, ◌∙◌}
 use Rattle.std.proofs.lemmas.List.{take_more}
 use Rattle.ell_ops.specs.Contents.{contents_of, with_pair}
-use Rattle.ell_ops.proofs.Pairs.{contents_of-push}
+use Rattle.ell_ops.proofs.lemmas.Pairs.{contents_of-push}
 use Rattle.ell_ops.proofs.one_thread.ordered_map.Goals as goal
 
 pub loop-key-preserved : goal.loop-key-preserved

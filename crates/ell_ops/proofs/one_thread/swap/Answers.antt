@@ -3,7 +3,7 @@ use Rattle.std.proofs.lemmas.Map.Steps.{set_value_same}
 use Rattle.std.specs.BTreeMap.{is_at}
 use Rattle.std.specs.Ordering.{nat_cmp}
 use Rattle.ell_ops.specs.Contents.{contents_of}
-use Rattle.ell_ops.proofs.Pairs.{get-contents_of, contents_of-swapped, contents_of-unswapped}
+use Rattle.ell_ops.proofs.lemmas.Pairs.{get-contents_of, contents_of-swapped, contents_of-unswapped}
 use Rattle.ell_ops.proofs.one_thread.swap.Goals as goal
 
 -- what was written, key by key

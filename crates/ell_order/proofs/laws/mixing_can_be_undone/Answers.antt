@@ -1,4 +1,4 @@
-use Rattle.ell_order.proofs.Mixes.{mixed_back, mixed_again, unmixed_within}
+use Rattle.ell_order.proofs.lemmas.Mixes.{mixed_back, mixed_again, unmixed_within}
 use Rattle.ell_order.proofs.laws.mixing_can_be_undone.Goals as goal
 
 pub returns-clause-back : goal.returns-clause-back

@@ -1,4 +1,4 @@
-use Rattle.ell_order.proofs.Reordered.{orders_serve}
+use Rattle.ell_order.proofs.lemmas.Reordered.{orders_serve}
 use Rattle.ell_order.proofs.laws.orders_serve.Goals as goal
 
 pub returns : goal.returns

@@ -5,8 +5,8 @@ use Rattle.std.proofs.lemmas.List.{take_all}
 use Rattle.ell_parts.specs.Gathering.{IsGathered, IsFault, IsPlaced}
 use Rattle.ell_parts.specs.declared.gathering.GatherFault.TheVariants.{Missing}
 use Rattle.std.proofs.lemmas.Result.{err_from_is_err_and}
-use Rattle.ell_ops.proofs.Places.{flat_map-take_more}
-use Rattle.ell_parts.proofs.Placings.{pieces-cut, take-written, is_missing, is_gathered}
+use Rattle.ell_ops.proofs.lemmas.Places.{flat_map-take_more}
+use Rattle.ell_parts.proofs.lemmas.Placings.{pieces-cut, take-written, is_missing, is_gathered}
 use Rattle.ell_parts.proofs.gathering.gather.Goals as goal
 
 pub returns-in_err-place-clause-fault : goal.returns-in_err-place-clause-fault

@@ -4,7 +4,7 @@ use Rattle.std.proofs.lemmas.Option.{slice_get-get_or}
 use Rattle.ell_ops.specs.declared.reply.Reply.TheVariants.{No}
 use Rattle.ell_parts.specs.declared.gathering.GatherFault.TheVariants.{Stranger, Doubled}
 use Rattle.ell_parts.specs.Gathering.{IsFault}
-use Rattle.ell_parts.proofs.Placings.{IsPlaced-push, is_stranger, is_doubled, items-cut}
+use Rattle.ell_parts.proofs.lemmas.Placings.{IsPlaced-push, is_stranger, is_doubled, items-cut}
 use Rattle.ell_parts.proofs.gathering.place.Goals as goal
 
 pub returns-then-position-answered-clause-err : goal.returns-then-position-answered-clause-err

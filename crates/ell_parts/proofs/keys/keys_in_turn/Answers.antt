@@ -5,7 +5,7 @@ use Rattle.ell_ops.specs.declared.op.Op.TheVariants.{Find}
 use Rattle.ell_ops.specs.KeySet.{set_of}
 use Rattle.ell_ops.specs.Meaning.{key_of}
 use Rattle.ell_parts.specs.PartedOps.{keys_in}
-use Rattle.ell_parts.proofs.Turns.{both_more, keys_of_more, same_more}
+use Rattle.ell_parts.proofs.lemmas.Turns.{both_more, keys_of_more, same_more}
 use Rattle.ell_parts.proofs.keys.keys_in_turn.Goals as goal
 use Rattle.ell_parts.proofs.keys.keys_in_turn.Goals.{then-not-is_last+in_ok-push, else-not-is_last}
 

@@ -1,6 +1,6 @@
 use Rattle.std.proofs.Common.{subst}
 use Rattle.ell_ops.specs.KeySet.{Lists}
-use Rattle.ell_ops.proofs.DistinctKeys.{distinct_keys}
+use Rattle.ell_ops.proofs.lemmas.DistinctKeys.{distinct_keys}
 use Rattle.ell_parts.proofs.keys.keys_of_part.Goals as goal
 
 pub returns : goal.returns

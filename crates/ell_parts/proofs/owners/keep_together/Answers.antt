@@ -1,7 +1,7 @@
 use Rattle.std.proofs.Common.{rules, ◌≡◌, ◌<◌, nat_cmp, unwrap_or, arith, length}
 use Rattle.std.specs.BTreeMap.{get}
 use Rattle.ell_ops.specs.declared.op.Op.TheVariants.{Find}
-use Rattle.ell_parts.proofs.Splits.{AreFirsts-entry, first_known_at, first_split, together_more}
+use Rattle.ell_parts.proofs.lemmas.Splits.{AreFirsts-entry, first_known_at, first_split, together_more}
 use Rattle.ell_parts.proofs.owners.keep_together.Goals as goal
 
 pub offset_bounds-owners-first : goal.offset_bounds-owners-first

@@ -2,7 +2,7 @@ use Rattle.std.proofs.Common.{◌≡◌, ℕ, ◌*◌, ◌<◌, ◌++◌, ◌+�
 use Rattle.std.proofs.Math.Nat.{mul-le-mul_right}
 use Rattle.std.proofs.lemmas.List.{length-append}
 use Rattle.ell_parts.specs.Ranges.{AreStarts}
-use Rattle.ell_parts.proofs.Ranges.{ranges_hold, start_fits, starts_all, starts_more}
+use Rattle.ell_parts.proofs.lemmas.Ranges.{ranges_hold, start_fits, starts_all, starts_more}
 use Rattle.ell_parts.proofs.owners.range_starts.Goals as goal
 use Rattle.ell_parts.proofs.owners.range_starts.Goals.{else-loop-worker-test, then-loop-worker-test+then-start-keys}
 

@@ -7,8 +7,8 @@ use Rattle.ell_order.specs.Rounds.{rank}
 use Rattle.ell_parts.specs.PartedOps.{ranged}
 use Rattle.ell_parts.specs.Ranges.{AreStarts}
 use Rattle.ell_ops.specs.KeySet.{set_of}
-use Rattle.ell_parts.proofs.Ranges.{range_of, starts_parted}
-use Rattle.ell_parts.proofs.Ranks.{key_is_listed, rank-lt-length, ranged-take, share-pos}
+use Rattle.ell_parts.proofs.lemmas.Ranges.{range_of, starts_parted}
+use Rattle.ell_parts.proofs.lemmas.Ranks.{key_is_listed, rank-lt-length, ranged-take, share-pos}
 use Rattle.ell_parts.proofs.owners.ranged_owners.Goals as goal
 
 pub loop-op-preserved : goal.loop-op-preserved

@@ -2,7 +2,7 @@ use Rattle.std.proofs.Common.{ap, subst, ◌∙◌, ◌+◌}
 use Rattle.ell_ops.specs.KeySet.{Lists}
 use Rattle.ell_parts.specs.PartedOps.{keys_in}
 use Rattle.std.proofs.lemmas.List.{length_push}
-use Rattle.ell_parts.proofs.Partings.{AreKeys-push}
+use Rattle.ell_parts.proofs.lemmas.Partings.{AreKeys-push}
 use Rattle.ell_parts.proofs.parts.keys_of_parts.Goals as goal
 
 pub loop-part-preserved : goal.loop-part-preserved

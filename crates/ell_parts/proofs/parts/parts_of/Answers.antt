@@ -2,7 +2,7 @@ use Rattle.std.proofs.Common.{◌<◌, length, get_or, arith, subst, ◌∙◌, 
 use Rattle.std.proofs.lemmas.List.{take_all}
 use Rattle.ell_ops.specs.declared.op.Op.TheVariants.{Find}
 use Rattle.ell_parts.specs.PartedOps.{AreParts}
-use Rattle.ell_parts.proofs.Partings.{AreParts-push}
+use Rattle.ell_parts.proofs.lemmas.Partings.{AreParts-push}
 use Rattle.ell_parts.proofs.parts.parts_of.Goals as goal
 
 pub loop-at-preserved : goal.loop-at-preserved

@@ -1,7 +1,7 @@
 use Rattle.std.proofs.Common.{rules}
 use Rattle.std.proofs.lemmas.Result.{err_from_is_err_and}
 use Rattle.ell_text.specs.Bulk.{bulk_value}
-use Rattle.ell_run.proofs.Told.{answered, cut_short, reported}
+use Rattle.ell_run.proofs.lemmas.Told.{answered, cut_short, reported}
 use Rattle.ell_run.proofs.bytes.run_bytes.Goals as goal
 
 pub returns-clause-ok : goal.returns-clause-ok

@@ -1,10 +1,10 @@
 use Rattle.std.proofs.Common.{◌≡◌, ◌<◌, ◌+◌, ◌++◌, All, false, replicate, rules, length, get_or, take, arith, ap, sym, subst, ◌∙◌}
 use Rattle.std.specs.List.{flat_map}
 use Rattle.std.proofs.lemmas.List.{length-replicate, take_all}
-use Rattle.ell_ops.proofs.Places.{flat_map-take_more}
-use Rattle.ell_parts.proofs.Placings.{take-written}
+use Rattle.ell_ops.proofs.lemmas.Places.{flat_map-take_more}
+use Rattle.ell_parts.proofs.lemmas.Placings.{take-written}
 use Rattle.ell_run.specs.Late.{AreMarks}
-use Rattle.ell_run.proofs.Marks.{marks_none}
+use Rattle.ell_run.proofs.lemmas.Marks.{marks_none}
 use Rattle.ell_run.proofs.late.answered.Goals as goal
 
 pub loop-piece-init : goal.loop-piece-init

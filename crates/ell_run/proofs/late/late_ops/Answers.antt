@@ -2,8 +2,8 @@ use Rattle.std.proofs.Common.{◌≡◌, ◌<◌, ◌++◌, ◌∷◌, true, fal
 use Rattle.std.specs.List.{flat_map}
 use Rattle.ell_ops.specs.declared.op.Op.TheVariants.{Find}
 use Rattle.ell_run.specs.Late.{late_ops}
-use Rattle.ell_run.proofs.Marks.{late_taken, late_left, late_whole}
-use Rattle.ell_run.proofs.Leftovers.{all_within, nothing_late, one_each}
+use Rattle.ell_run.proofs.lemmas.Marks.{late_taken, late_left, late_whole}
+use Rattle.ell_run.proofs.lemmas.Leftovers.{all_within, nothing_late, one_each}
 use Rattle.ell_run.proofs.late.late_ops.Goals.{then-not-index+in_ok-push, else-not-index}
 use Rattle.ell_run.proofs.late.late_ops.Goals as goal
 

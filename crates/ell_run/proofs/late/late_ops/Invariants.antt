@@ -1,6 +1,6 @@
 use Rattle.std.proofs.Common.{◌≡◌}
 use Rattle.std.specs.List.{flat_map}
-use Rattle.ell_run.proofs.Marks.{late_so_far}
+use Rattle.ell_run.proofs.lemmas.Marks.{late_so_far}
 use Rattle.ell_run.proofs.late.late_ops.Given as goal
 
 -- the operations so far that no item answers

@@ -1,6 +1,6 @@
 use Rattle.std.proofs.Common.{◌≡◌, ◌<◌, ◌+◌, ◌++◌, ◌∷◌, [], length, get_or, take, arith, ap, sym, ◌∙◌, append_assoc}
 use Rattle.std.proofs.lemmas.List.{take_more, take_all, append-nil}
-use Rattle.ell_run.proofs.Marks.{marks_more}
+use Rattle.ell_run.proofs.lemmas.Marks.{marks_more}
 use Rattle.ell_run.proofs.late.mark.Goals as goal
 use Rattle.ell_ops.specs.declared.reply.Reply.TheVariants.{No}
 

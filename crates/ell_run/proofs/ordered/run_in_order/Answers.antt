@@ -3,7 +3,7 @@ use Rattle.ell_ops.specs.Contents.{contents_of}
 use Rattle.ell_ops.specs.Meaning.{Fits}
 use Rattle.ell_order.specs.Orders.{ArePutBack, IsRunOrder}
 use Rattle.ell_run.specs.Settings.{IsPartedAs}
-use Rattle.ell_run.proofs.Reordering.{fits_ran, late_of, length_said, listed_back, told_back}
+use Rattle.ell_run.proofs.lemmas.Reordering.{fits_ran, late_of, length_said, listed_back, told_back}
 use Rattle.ell_run.proofs.ordered.run_in_order.Goals as goal
 
 pub run-requires-clause-runnable : goal.run-requires-clause-runnable

@@ -1,4 +1,4 @@
-use Rattle.ell_run.proofs.Paid.{paid_find}
+use Rattle.ell_run.proofs.lemmas.Paid.{paid_find}
 use Rattle.ell_run.proofs.pieces.do_op.Goals as goal
 
 pub returns-in-Find-clause-paid : goal.returns-in-Find-clause-paid

@@ -2,7 +2,7 @@ use Rattle.std.proofs.Common.{◌≡◌, ◌<◌, ◌+◌, ap, map, length, arit
 use Rattle.std.specs.List.{insert}
 use Rattle.std.proofs.lemmas.List.Edits.{length-insert}
 use Rattle.ell_run.specs.Work.{IsWorked}
-use Rattle.ell_run.proofs.Filling.{mixed, mixed_none, mixed_all, mixed_room, worked_idle, length-mixed_idle, busy_here, map-insert}
+use Rattle.ell_run.proofs.lemmas.Filling.{mixed, mixed_none, mixed_all, mixed_room, worked_idle, length-mixed_idle, busy_here, map-insert}
 use Rattle.ell_run.proofs.pieces.with_empty_pieces.Goals.{then-is_empty+in_ok-insert, else-is_empty}
 use Rattle.ell_run.proofs.pieces.with_empty_pieces.Goals as goal
 

@@ -2,7 +2,7 @@ use Rattle.std.proofs.Common.{◌≡◌, ℕ, length, map}
 use Rattle.ell_tree.specs.Ledgers.{PassModel}
 use Rattle.ell_run.specs.Pieces.{busy}
 use Rattle.ell_run.specs.Work.{IsWorked}
-use Rattle.ell_run.proofs.Filling.{mixed}
+use Rattle.ell_run.proofs.lemmas.Filling.{mixed}
 use Rattle.ell_run.proofs.pieces.with_empty_pieces.Given as goal
 
 -- the workers so far have their pieces, and the busy ones from here on

@@ -1,7 +1,7 @@
 use Rattle.std.proofs.Common.{◌+◌, arith}
 use Rattle.ell_ops.specs.declared.op.Op.TheVariants.{Find}
-use Rattle.ell_run.proofs.Fronts.{front_all, front_held, front_more}
-use Rattle.ell_run.proofs.Paid.{paid_more, paid_steps, paid_within}
+use Rattle.ell_run.proofs.lemmas.Fronts.{front_all, front_held, front_more}
+use Rattle.ell_run.proofs.lemmas.Paid.{paid_more, paid_steps, paid_within}
 use Rattle.ell_run.proofs.pieces.work_off.Goals as goal
 
 pub loop-position-preserved : goal.loop-position-preserved

@@ -1,5 +1,5 @@
 use Rattle.ell_run.specs.Steps.{IsPaid}
-use Rattle.ell_run.proofs.Fronts.{IsFrontDone}
+use Rattle.ell_run.proofs.lemmas.Fronts.{IsFrontDone}
 use Rattle.ell_run.proofs.pieces.work_off.Given as goal
 
 -- the operations so far are done, and paid for

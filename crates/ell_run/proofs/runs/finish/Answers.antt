@@ -6,8 +6,8 @@ use Rattle.ell_parts.specs.Gathering.{IsFault, IsGathered}
 use Rattle.ell_run.specs.ByParts.{ops_in}
 use Rattle.ell_run.specs.Late.{late_ops}
 use Rattle.ell_run.specs.Pieces.{ArePieces, all_workers, piece_from}
-use Rattle.ell_run.proofs.Leftovers.{all_answer, few_late, flat_map-seen, last_map, late_here}
-use Rattle.ell_run.proofs.Replies.{AreAnswers, only_memory, gathered}
+use Rattle.ell_run.proofs.lemmas.Leftovers.{all_answer, few_late, flat_map-seen, last_map, late_here}
+use Rattle.ell_run.proofs.lemmas.Replies.{AreAnswers, only_memory, gathered}
 use Rattle.ell_run.proofs.runs.finish.Goals as goal
 
 pub late_ops-requires-clause-pieces : goal.late_ops-requires-clause-pieces

@@ -2,7 +2,7 @@ use Rattle.std.proofs.Common.{All, ap, sym, subst, ◌≤◌, ◌≡◌, true, �
 use Rattle.std.specs.Map.{keys_of as keys_in}
 use Rattle.ell_ops.specs.KeySet.{set_of}
 use Rattle.ell_ops.specs.Meaning.{greatest_key}
-use Rattle.ell_run.proofs.Opened.{all_united, first_given, owns_used}
+use Rattle.ell_run.proofs.lemmas.Opened.{all_united, first_given, owns_used}
 use Rattle.ell_run.proofs.runs.reserve.Goals as goal
 
 pub reserve_with_zeros-requires-clause-real : goal.reserve_with_zeros-requires-clause-real

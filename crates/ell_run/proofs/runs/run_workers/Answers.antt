@@ -4,10 +4,10 @@ use Rattle.ell_ops.specs.Contents.{contents_of}
 use Rattle.ell_ops.specs.Meaning.{greatest_key}
 use Rattle.ell_parts.specs.PartedOps.{keys_of}
 use Rattle.ell_tree.specs.Ledgers.{Owns}
-use Rattle.ell_run.proofs.Busy.{busy_known}
-use Rattle.ell_run.proofs.Closed.{left_behind}
-use Rattle.ell_run.proofs.Keys.{busy_listed}
-use Rattle.ell_run.proofs.Opened.{keys_fit, owns_all, unshared_stops}
+use Rattle.ell_run.proofs.lemmas.Busy.{busy_known}
+use Rattle.ell_run.proofs.lemmas.Closed.{left_behind}
+use Rattle.ell_run.proofs.lemmas.Keys.{busy_listed}
+use Rattle.ell_run.proofs.lemmas.Opened.{keys_fit, owns_all, unshared_stops}
 use Rattle.ell_run.proofs.runs.run_workers.Goals as goal
 use Rattle.ell_tree.specs.PassParts.{start_entry}
 

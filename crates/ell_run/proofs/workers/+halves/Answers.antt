@@ -1,7 +1,7 @@
 use Rattle.std.proofs.Common.{rules, ◌≡◌, ◌++◌, ◌/◌, length, map, ap₂, arith, sym, subst, ◌∙◌}
 use Rattle.std.proofs.lemmas.List.{take-append-drop}
 use Rattle.ell_run.specs.Work.{AreHalves, AreReady, IsWorkedWithin}
-use Rattle.ell_run.proofs.Paid.{some_each}
+use Rattle.ell_run.proofs.lemmas.Paid.{some_each}
 use Rattle.ell_run.proofs.workers.+halves.Goals as goal
 
 pub join-first-requires-after_bounds : goal.join-first-requires-after_bounds

@@ -1,5 +1,5 @@
 use Rattle.std.proofs.Common.{◌/◌, length, arith}
-use Rattle.ell_run.proofs.Keys.{one_row, both_rows}
+use Rattle.ell_run.proofs.lemmas.Keys.{one_row, both_rows}
 use Rattle.ell_run.proofs.workers.+keys_for.Goals as goal
 
 pub returns-in_ok-from_slice-in-len1 : goal.returns-in_ok-from_slice-in-len1

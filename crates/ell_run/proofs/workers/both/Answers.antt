@@ -1,9 +1,9 @@
 use Rattle.std.proofs.Common.{◌++◌, map, ap, sym, subst, ◌∙◌}
 use Rattle.std.proofs.lemmas.List.{map-append}
 use Rattle.ell_run.specs.Work.{IsWorked}
-use Rattle.ell_run.proofs.Fronts.{label_both}
-use Rattle.ell_run.proofs.Halves.{worked_both}
-use Rattle.ell_run.proofs.Paid.{within_both}
+use Rattle.ell_run.proofs.lemmas.Fronts.{label_both}
+use Rattle.ell_run.proofs.lemmas.Halves.{worked_both}
+use Rattle.ell_run.proofs.lemmas.Paid.{within_both}
 use Rattle.ell_run.proofs.workers.both.Goals as goal
 
 pub returns-in-Ok : goal.returns-in-Ok

@@ -1,5 +1,5 @@
 use Rattle.std.proofs.Common.{ap, sym, ◌∙◌}
-use Rattle.ell_run.proofs.Busy.{busy_pushed, idle_more}
+use Rattle.ell_run.proofs.lemmas.Busy.{busy_pushed, idle_more}
 use Rattle.ell_run.proofs.workers.busy_workers.Goals.{then-not-is_empty+in_ok-push, else-not-is_empty}
 use Rattle.ell_run.proofs.workers.busy_workers.Goals as goal
 

@@ -1,6 +1,6 @@
 use Rattle.std.proofs.Common.{[], ◌∷◌, ◌++◌, map, arith, ap, ◌∙◌}
-use Rattle.ell_run.proofs.Fronts.{first_label, one_worked}
-use Rattle.ell_run.proofs.Paid.{within_one}
+use Rattle.ell_run.proofs.lemmas.Fronts.{first_label, one_worked}
+use Rattle.ell_run.proofs.lemmas.Paid.{within_one}
 use Rattle.ell_run.proofs.workers.do_one.Goals as goal
 
 pub returns : goal.returns

@@ -2,7 +2,7 @@ use Rattle.std.proofs.Common.{All, sym, subst}
 use Rattle.ell_ops.specs.KeySet.{Lists}
 use Rattle.ell_tree.specs.Ledgers.{Owns}
 use Rattle.ell_run.specs.Work.{keys_for}
-use Rattle.ell_run.proofs.Halves.{keys_owned, ready_left, ready_right}
+use Rattle.ell_run.proofs.lemmas.Halves.{keys_owned, ready_left, ready_right}
 use Rattle.ell_run.proofs.workers.halves.Goals as goal
 
 pub split-requires-clause-owned : goal.split-requires-clause-owned

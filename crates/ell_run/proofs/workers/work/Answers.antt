@@ -3,8 +3,8 @@ use Rattle.std.proofs.lemmas.List.{length-map}
 use Rattle.ell_tree.specs.Ledgers.{present_in}
 use Rattle.ell_run.specs.Steps.{AreWithin}
 use Rattle.ell_run.specs.Work.{AreReady, IsWorked, label_after}
-use Rattle.ell_run.proofs.Opened.{busy_ready}
-use Rattle.ell_run.proofs.Rows.{length-pieces}
+use Rattle.ell_run.proofs.lemmas.Opened.{busy_ready}
+use Rattle.ell_run.proofs.lemmas.Rows.{length-pieces}
 use Rattle.ell_run.proofs.workers.work.Goals as goal
 
 pub do_workers-requires-clause-ready : goal.do_workers-requires-clause-ready

@@ -1,6 +1,6 @@
 use Rattle.std.proofs.Common.{map, arith}
-use Rattle.ell_run.proofs.Apart.{owns_left, worked_apart}
-use Rattle.ell_run.proofs.Opened.{owns_ops}
+use Rattle.ell_run.proofs.lemmas.Apart.{owns_left, worked_apart}
+use Rattle.ell_run.proofs.lemmas.Opened.{owns_ops}
 use Rattle.ell_run.proofs.workers.work_apart.Goals as goal
 
 pub work-requires-clause-owned : goal.work-requires-clause-owned

@@ -1,4 +1,4 @@
-use Rattle.ell_stress.proofs.Starts.{RisesBelow}
+use Rattle.ell_stress.proofs.lemmas.Starts.{RisesBelow}
 use Rattle.ell_stress.proofs.operations.start_pairs.Given as goal
 
 abbrev pub invariant-loop-key : goal.invariant-loop-key

@@ -1,5 +1,5 @@
-use Rattle.ell_test_steps.proofs.Asides.{value_aside}
-use Rattle.ell_test_steps.proofs.Readiness.{ready_aside}
+use Rattle.ell_test_steps.proofs.lemmas.Asides.{value_aside}
+use Rattle.ell_test_steps.proofs.lemmas.Readiness.{ready_aside}
 use Rattle.ell_test_steps.proofs.asking.leaf_value.Goals as goal
 
 pub returns : goal.returns

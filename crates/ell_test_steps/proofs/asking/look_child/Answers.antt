@@ -1,5 +1,5 @@
-use Rattle.ell_cards.proofs.views.Steps.{frozen_met}
-use Rattle.ell_test_steps.proofs.Asides.{frozen_aside}
+use Rattle.ell_cards.proofs.lemmas.views.Steps.{frozen_met}
+use Rattle.ell_test_steps.proofs.lemmas.Asides.{frozen_aside}
 use Rattle.ell_test_steps.proofs.asking.look_child.Goals as goal
 
 pub returns-clause-aside : goal.returns-clause-aside

@@ -1,4 +1,4 @@
-use Rattle.ell_test_steps.proofs.Asides.{info_aside}
+use Rattle.ell_test_steps.proofs.lemmas.Asides.{info_aside}
 use Rattle.ell_test_steps.proofs.asking.look_info.Goals as goal
 
 pub returns-clause-aside : goal.returns-clause-aside

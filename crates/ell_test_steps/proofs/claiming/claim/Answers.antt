@@ -1,10 +1,10 @@
 use Rattle.std.proofs.Common.{◌≡◌, None, Some, ap, ◌∙◌, rules}
 use Rattle.ell_ops.specs.declared.op.Op.TheVariants.{Delete}
-use Rattle.ell_core.specs.acts.Searching.{IsLeaf}
+use Rattle.ell_layout.specs.Words.{IsLeaf}
 use Rattle.ell_word.specs.declared.update.State.TheVariants as state
 use Rattle.ell_cards.specs.declared.view.Told.TheVariants.{Met}
-use Rattle.ell_test_steps.proofs.Asides.{key_aside, value_aside, aside_trans}
-use Rattle.ell_test_steps.proofs.Readiness.{ready_aside, claims_at}
+use Rattle.ell_test_steps.proofs.lemmas.Asides.{key_aside, value_aside, aside_trans}
+use Rattle.ell_test_steps.proofs.lemmas.Readiness.{ready_aside, claims_at}
 use Rattle.ell_test_steps.proofs.claiming.claim.Goals as goal
 
 pub value_of-value-requires-clause-met : goal.value_of-value-requires-clause-met

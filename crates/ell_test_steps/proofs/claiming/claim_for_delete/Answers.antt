@@ -1,6 +1,6 @@
 use Rattle.std.proofs.Common.{None, ◌≡◌}
 use Rattle.ell_test_steps.specs.Claims.{delete_stores}
-use Rattle.ell_test_steps.proofs.Readiness.{ready_aside, ready_claimed}
+use Rattle.ell_test_steps.proofs.lemmas.Readiness.{ready_aside, ready_claimed}
 use Rattle.ell_test_steps.proofs.claiming.claim_for_delete.Goals as goal
 
 pub returns-in_err-card : goal.returns-in_err-card

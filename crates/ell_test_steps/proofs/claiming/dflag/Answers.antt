@@ -1,5 +1,5 @@
 use Rattle.std.proofs.Common.{Some, ap, ◌∙◌}
-use Rattle.ell_test_steps.proofs.Readiness.{ready_flagged, may_dflag_by}
+use Rattle.ell_test_steps.proofs.lemmas.Readiness.{ready_flagged, may_dflag_by}
 use Rattle.ell_test_steps.proofs.claiming.dflag.Goals as goal
 
 pub dflag-flag-requires-clause-may : goal.dflag-flag-requires-clause-may

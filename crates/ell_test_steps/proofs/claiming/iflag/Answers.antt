@@ -1,5 +1,5 @@
 use Rattle.std.proofs.Common.{sym, ◌∙◌}
-use Rattle.ell_test_steps.proofs.Readiness.{ready_flagged, may_iflag_by}
+use Rattle.ell_test_steps.proofs.lemmas.Readiness.{ready_flagged, may_iflag_by}
 use Rattle.ell_test_steps.proofs.claiming.iflag.Goals as goal
 
 pub iflag-flag-requires-clause-may : goal.iflag-flag-requires-clause-may

@@ -1,4 +1,4 @@
-use Rattle.ell_test_steps.proofs.Readiness.{ready_learnt}
+use Rattle.ell_test_steps.proofs.lemmas.Readiness.{ready_learnt}
 use Rattle.ell_test_steps.proofs.exchanging.iunflag.Goals as goal
 
 pub returns : goal.returns

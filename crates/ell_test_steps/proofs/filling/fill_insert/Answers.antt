@@ -1,7 +1,7 @@
 use Rattle.std.proofs.Common.{◌≡◌, rules}
 use Rattle.ell_cards.specs.Changes.{with_stores}
 use Rattle.ell_test_steps.specs.Claims.{insert_stores}
-use Rattle.ell_test_steps.proofs.Cards.{insert_filled}
+use Rattle.ell_test_steps.proofs.lemmas.Cards.{insert_filled}
 use Rattle.ell_test_steps.proofs.filling.fill_insert.Goals as goal
 
 pub returns-clause-filled : goal.returns-clause-filled

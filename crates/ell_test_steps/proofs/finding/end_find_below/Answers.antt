@@ -5,8 +5,8 @@ use Rattle.ell_cards.specs.declared.view.View.{View}
 use Rattle.ell_cards.specs.declared.view.Told.TheVariants.{Met}
 use Rattle.ell_cards.specs.Models.{IsTold, latest}
 use Rattle.ell_cards.specs.Changes.{after_down}
-use Rattle.ell_cards.proofs.views.Steps.{view_after}
-use Rattle.ell_test_steps.proofs.Readiness.{may_go_down_by}
+use Rattle.ell_cards.proofs.lemmas.views.Steps.{view_after}
+use Rattle.ell_test_steps.proofs.lemmas.Readiness.{may_go_down_by}
 use Rattle.ell_test_steps.proofs.finding.end_find_below.Goals as goal
 
 pub down-leaf-requires-clause-may : goal.down-leaf-requires-clause-may

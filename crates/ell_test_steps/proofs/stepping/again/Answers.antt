@@ -1,4 +1,4 @@
-use Rattle.ell_test_steps.proofs.Readiness.{ready_again, may_stop_by}
+use Rattle.ell_test_steps.proofs.lemmas.Readiness.{ready_again, may_stop_by}
 use Rattle.ell_test_steps.proofs.stepping.again.Goals as goal
 
 pub again-requires-clause-may : goal.again-requires-clause-may

@@ -1,4 +1,4 @@
-use Rattle.ell_test_steps.proofs.Readiness.{ready_begun}
+use Rattle.ell_test_steps.proofs.lemmas.Readiness.{ready_begun}
 use Rattle.ell_test_steps.proofs.stepping.begin.Goals as goal
 
 pub returns : goal.returns

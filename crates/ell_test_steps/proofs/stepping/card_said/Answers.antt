@@ -1,5 +1,5 @@
 use Rattle.ell_ops.specs.declared.op.Op.TheVariants.{Insert, Delete, Swap}
-use Rattle.ell_test_steps.proofs.Readiness.{card_may}
+use Rattle.ell_test_steps.proofs.lemmas.Readiness.{card_may}
 use Rattle.ell_test_steps.proofs.stepping.card_said.Goals as goal
 
 pub returns-in-Insert : goal.returns-in-Insert

@@ -2,9 +2,9 @@ use Rattle.std.proofs.Common.{Some, None, refl, rules}
 use Rattle.ell_word.specs.Node.{IsInternal}
 use Rattle.ell_cards.specs.Changes.{after_down}
 use Rattle.ell_test_steps.specs.declared.memory.Remembered.{Remembered}
-use Rattle.ell_test_steps.proofs.Asides.{key_aside}
-use Rattle.ell_test_steps.proofs.Fittings.{fits_down}
-use Rattle.ell_test_steps.proofs.Readiness.{ready_step, ready_aside, may_go_down_by}
+use Rattle.ell_test_steps.proofs.lemmas.Asides.{key_aside}
+use Rattle.ell_test_steps.proofs.lemmas.Fittings.{fits_down}
+use Rattle.ell_test_steps.proofs.lemmas.Readiness.{ready_step, ready_aside, may_go_down_by}
 use Rattle.ell_test_steps.proofs.stepping.down.Goals as goal
 
 pub down-child-requires-clause-may : goal.down-child-requires-clause-may

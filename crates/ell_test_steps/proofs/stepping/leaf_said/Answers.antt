@@ -1,8 +1,9 @@
 use Rattle.std.proofs.Common.{rules, ◌∙◌, ap}
-use Rattle.ell_core.specs.acts.Searching.{IsLeaf, leaf_answer}
+use Rattle.ell_core.specs.acts.Searching.{leaf_answer}
+use Rattle.ell_layout.specs.Words.{IsLeaf}
 use Rattle.ell_cards.specs.declared.view.Told.TheVariants.{Met}
-use Rattle.ell_test_steps.proofs.Asides.{key_aside, value_aside, aside_trans}
-use Rattle.ell_test_steps.proofs.Readiness.{ready_aside, leaf_may}
+use Rattle.ell_test_steps.proofs.lemmas.Asides.{key_aside, value_aside, aside_trans}
+use Rattle.ell_test_steps.proofs.lemmas.Readiness.{ready_aside, leaf_may}
 use Rattle.ell_test_steps.proofs.stepping.leaf_said.Goals as goal
 
 pub value_of-value-requires-clause-met : goal.value_of-value-requires-clause-met

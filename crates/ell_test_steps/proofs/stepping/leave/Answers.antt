@@ -1,4 +1,4 @@
-use Rattle.ell_test_steps.proofs.Readiness.{may_stop_by}
+use Rattle.ell_test_steps.proofs.lemmas.Readiness.{may_stop_by}
 use Rattle.ell_test_steps.proofs.stepping.leave.Goals as goal
 
 pub leave-requires-clause-may : goal.leave-requires-clause-may

@@ -1,8 +1,8 @@
 use Rattle.std.proofs.Common.{Some, refl}
 use Rattle.ell_test_steps.specs.Remembering.{KnowsAny}
 use Rattle.ell_cards.specs.Changes.{after_upd}
-use Rattle.ell_test_steps.proofs.Fittings.{fits_read}
-use Rattle.ell_test_steps.proofs.Readiness.{ready_step, ready_known, update_known}
+use Rattle.ell_test_steps.proofs.lemmas.Fittings.{fits_read}
+use Rattle.ell_test_steps.proofs.lemmas.Readiness.{ready_step, ready_known, update_known}
 use Rattle.ell_test_steps.proofs.stepping.upd.Goals as goal
 
 pub returns : goal.returns

@@ -2,9 +2,9 @@
 use Rattle.std.proofs.Common.{rules, ◌≡◌, ◌+◌, refl, sym, ap, ◌∙◌, arith}
 use Rattle.std.proofs.lemmas.Result.{err_from_is_err_and}
 use Rattle.ell_text.specs.Bulk.{bulk_value, fault_of, with_read}
-use Rattle.ell_text.proofs.FirstLines.{nothing_left}
-use Rattle.ell_text.proofs.Operations.{read_more, read_fault, read_stops, read_all_of}
-use Rattle.ell_text.proofs.ReadingOn.{read_here, read_on}
+use Rattle.ell_text.proofs.lemmas.FirstLines.{nothing_left}
+use Rattle.ell_text.proofs.lemmas.Operations.{read_more, read_fault, read_stops, read_all_of}
+use Rattle.ell_text.proofs.lemmas.ReadingOn.{read_here, read_on}
 use Rattle.ell_text.proofs.bulk.read_bulk.Goals as goal
 
 pub lines-preserved : goal.lines-preserved

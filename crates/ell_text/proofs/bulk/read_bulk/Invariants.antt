@@ -2,7 +2,7 @@
 use Rattle.std.proofs.Common.{◌+◌, ◌≤◌, length}
 use Rattle.ell_text.specs.Bulk.{BulkFits, bulk_value}
 use Rattle.ell_text.specs.Lines.{lines}
-use Rattle.ell_text.proofs.Operations.{IsReadTo}
+use Rattle.ell_text.proofs.lemmas.Operations.{IsReadTo}
 use Rattle.ell_text.proofs.bulk.read_bulk.Given as goal
 
 abbrev pub invariant-lines : goal.invariant-lines

@@ -1,6 +1,6 @@
 use Rattle.std.proofs.Common.{rules}
 use Rattle.std.proofs.lemmas.Result.{err_from_is_err_and}
-use Rattle.ell_text.proofs.Replayed.{cut_trace, is_replay, no_start, whole_trace}
+use Rattle.ell_text.proofs.lemmas.Replayed.{cut_trace, is_replay, no_start, whole_trace}
 use Rattle.ell_text.specs.replays.Script.{script_value}
 use Rattle.ell_text.proofs.bytes.replay_bytes.Goals as goal
 

@@ -2,7 +2,7 @@
 use Rattle.std.proofs.Common.{rules, ◌≡◌, ◌++◌, [], sym, subst}
 use Rattle.ell_text.specs.Lines.{lines}
 use Rattle.ell_text.specs.Operations.{Follow}
-use Rattle.ell_text.proofs.ReadingOn.{follow_both}
+use Rattle.ell_text.proofs.lemmas.ReadingOn.{follow_both}
 use Rattle.ell_text.proofs.halving.+halving.Goals as goal
 
 pub returns-clause-follow : goal.returns-clause-follow

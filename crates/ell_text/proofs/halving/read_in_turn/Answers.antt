@@ -3,8 +3,8 @@ use Rattle.std.proofs.Common.{[], sym, subst, ◌∙◌}
 use Rattle.std.proofs.lemmas.List.{append-nil}
 use Rattle.ell_text.specs.Lines.{lines}
 use Rattle.ell_text.specs.Operations.{Follow, ReadAsOperation, SayOperations, nothing}
-use Rattle.ell_text.proofs.FirstLines.{nothing_left}
-use Rattle.ell_text.proofs.ReadingOn.{follow_more}
+use Rattle.ell_text.proofs.lemmas.FirstLines.{nothing_left}
+use Rattle.ell_text.proofs.lemmas.ReadingOn.{follow_more}
 use Rattle.ell_text.proofs.halving.read_in_turn.Goals as goal
 
 pub lines-preserved : goal.lines-preserved

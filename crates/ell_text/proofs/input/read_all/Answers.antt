@@ -1,5 +1,5 @@
 -- A read adds what it gave to what was given.
-use Rattle.ell_text.proofs.Reading.{given_more}
+use Rattle.ell_text.proofs.lemmas.Reading.{given_more}
 use Rattle.ell_text.proofs.input.read_all.Goals as goal
 
 pub loop-filled-preserved : goal.loop-filled-preserved

@@ -3,7 +3,7 @@ use Rattle.std.proofs.Common.{◌+◌, ◌-◌, ◌∷◌, length, take, drop, a
 use Rattle.std.proofs.lemmas.List.{take_all, length-drop}
 use Rattle.std.specs.List.{slice_split}
 use Rattle.ell_text.specs.Lines.{is_space}
-use Rattle.ell_text.proofs.Pieces.{cut_some, cut_none}
+use Rattle.ell_text.proofs.lemmas.Pieces.{cut_some, cut_none}
 use Rattle.ell_text.proofs.lines.cut_at_space.Goals as goal
 
 pub returns-in-Some : goal.returns-in-Some

@@ -3,7 +3,7 @@ use Rattle.std.proofs.Common.{◌≡◌, ◌+◌, ◌-◌, ◌<◌, ◌++◌, ge
 use Rattle.std.proofs.lemmas.Bool.{eqb-true}
 use Rattle.std.proofs.lemmas.List.{get_or-drop, get_or-take, length-drop}
 use Rattle.ell_text.specs.Lines.{lines}
-use Rattle.ell_text.proofs.Halves.{lines_of_halves}
+use Rattle.ell_text.proofs.lemmas.Halves.{lines_of_halves}
 use Rattle.ell_text.proofs.lines.cut_behind_line.Goals as goal
 
 pub returns-in-Some : goal.returns-in-Some

@@ -2,7 +2,7 @@
 use Rattle.std.proofs.Common.{◌+◌, ◌-◌, ◌∷◌, length, drop, ap, sym, ◌∙◌, arith}
 use Rattle.std.proofs.lemmas.List.{take_all, length-drop}
 use Rattle.ell_text.specs.Lines.{lines}
-use Rattle.ell_text.proofs.FirstLines.{first_line_none, first_line_some}
+use Rattle.ell_text.proofs.lemmas.FirstLines.{first_line_none, first_line_some}
 use Rattle.ell_text.proofs.lines.cut_first_line.Goals as goal
 
 pub returns-in-Some-clause-cut : goal.returns-in-Some-clause-cut

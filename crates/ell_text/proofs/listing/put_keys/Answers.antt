@@ -1,4 +1,4 @@
-use Rattle.ell_text.proofs.Putting.{HasPut-failed, HasPut-then, Faults-then, Faults-more}
+use Rattle.ell_text.proofs.lemmas.Putting.{HasPut-failed, HasPut-then, Faults-then, Faults-more}
 use Rattle.ell_text.proofs.listing.put_keys.Goals as goal
 
 pub returns-in_err-put : goal.returns-in_err-put

@@ -1,4 +1,4 @@
-use Rattle.ell_text.proofs.Putting.{HasPut-failed, Puts-line, Faults-line}
+use Rattle.ell_text.proofs.lemmas.Putting.{HasPut-failed, Puts-line, Faults-line}
 use Rattle.ell_text.proofs.listing.put_lines.Goals as goal
 
 pub returns-in_err-put_line : goal.returns-in_err-put_line

@@ -1,4 +1,4 @@
-use Rattle.ell_text.proofs.Putting.{HasPut-failed, HasPut-then, Faults-more}
+use Rattle.ell_text.proofs.lemmas.Putting.{HasPut-failed, HasPut-then, Faults-more}
 use Rattle.ell_text.proofs.listing.put_listing.Goals as goal
 
 pub returns-in_err-put_lines : goal.returns-in_err-put_lines

@@ -1,4 +1,4 @@
-use Rattle.ell_text.proofs.Putting.{IsWritten-flushed}
+use Rattle.ell_text.proofs.lemmas.Putting.{IsWritten-flushed}
 use Rattle.ell_text.proofs.listing.write_listing.Goals as goal
 
 pub returns : goal.returns

@@ -1,7 +1,7 @@
 -- Each turn takes one digit more.
 use Rattle.std.proofs.Common.{◌≡◌, get_or, refl, sym, ◌∙◌, true, arith, rules}
 use Rattle.std.specs.Char.{is_ascii_digit}
-use Rattle.ell_text.proofs.Digits.{digits_more, value_by_digits, value_more}
+use Rattle.ell_text.proofs.lemmas.Digits.{digits_more, value_by_digits, value_more}
 use Rattle.ell_text.proofs.number.digits_in_front.Goals as goal
 
 pub digits-preserved : goal.digits-preserved

@@ -2,7 +2,7 @@
 use Rattle.std.proofs.Common.{arith}
 use Rattle.std.proofs.lemmas.Grind.{common_steps}
 use Rattle.std.proofs.lemmas.Str.{IsUtf8-from_ascii}
-use Rattle.ell_text.proofs.Digits.{IsAscii-from_number, value_from_parse}
+use Rattle.ell_text.proofs.lemmas.Digits.{IsAscii-from_number, value_from_parse}
 use Rattle.ell_text.proofs.number.value.Goals as goal
 
 pub unwrap-requires : goal.unwrap-requires

@@ -1,5 +1,5 @@
 use Rattle.std.proofs.Common.{arith}
-use Rattle.ell_text.proofs.Sending.{Sends-trans, Sends-write, length-from_Sends}
+use Rattle.ell_text.proofs.lemmas.Sending.{Sends-trans, Sends-write, length-from_Sends}
 use Rattle.ell_text.proofs.output.send.Goals as goal
 
 pub loop-rest-preserved : goal.loop-rest-preserved

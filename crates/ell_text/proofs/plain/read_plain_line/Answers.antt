@@ -4,7 +4,7 @@ use Rattle.ell_ops.specs.Meaning.{greatest_key}
 use Rattle.ell_text.specs.Line.{HasKindInFront, IsValueInFront, has_value}
 use Rattle.ell_text.specs.Lines.{IsBehindLineEnd}
 use Rattle.ell_text.specs.Number.{IsNumberInFront}
-use Rattle.ell_text.proofs.FirstLines.{plain_line}
+use Rattle.ell_text.proofs.lemmas.FirstLines.{plain_line}
 use Rattle.ell_text.proofs.plain.read_plain_line.Goals as goal
 
 pub returns-clause-line : goal.returns-clause-line

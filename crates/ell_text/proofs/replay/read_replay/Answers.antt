@@ -6,7 +6,7 @@ use Rattle.ell_text.specs.declared.replay.ReplayFault.{ReplayFault}
 use Rattle.ell_text.specs.declared.replay.ReplayFault.TheVariants.{Ended}
 use Rattle.ell_text.specs.replays.Draft.{draft_value}
 use Rattle.ell_text.specs.replays.Script.{script_value}
-use Rattle.ell_text.proofs.Scripts.{drafted_none, drafted_more, drafted_fault, drafted_stops, drafted_script, drafted_ended}
+use Rattle.ell_text.proofs.lemmas.Scripts.{drafted_none, drafted_more, drafted_fault, drafted_stops, drafted_script, drafted_ended}
 use Rattle.ell_text.proofs.replay.read_replay.Goals as goal
 
 -- two facts of a fault are one

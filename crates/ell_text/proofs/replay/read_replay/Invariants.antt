@@ -2,7 +2,7 @@
 use Rattle.std.specs.Iterator.Adapters.{enumerate_source, enumerate_count}
 use Rattle.ell_text.specs.replays.Draft.{DraftFits, draft_value}
 use Rattle.ell_text.specs.Lines.{lines}
-use Rattle.ell_text.proofs.Scripts.{IsDraftedTo}
+use Rattle.ell_text.proofs.lemmas.Scripts.{IsDraftedTo}
 use Rattle.ell_text.proofs.replay.read_replay.Given as goal
 
 abbrev pub invariant-loop-index : goal.invariant-loop-index

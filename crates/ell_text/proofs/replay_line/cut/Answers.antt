@@ -1,6 +1,6 @@
 -- The pieces are cut off one after another.
 use Rattle.std.proofs.Common.{◌≡◌, ℕ, List, ap, ◌∙◌, inl, inr, ◌∷◌}
-use Rattle.ell_text.proofs.Pieces.{many_pieces, one_piece}
+use Rattle.ell_text.proofs.lemmas.Pieces.{many_pieces, one_piece}
 use Rattle.ell_text.proofs.replay_line.cut.Goals as goal
 
 -- one piece more before the others

@@ -2,17 +2,17 @@ use Rattle.std.proofs.Common.{rules, ◌≡◌, ◌≢◌, ◌*◌, ◌+◌, Non
 use Rattle.ell_ops.specs.declared.op.Op.TheVariants.{Find}
 use Rattle.ell_ops.specs.Meaning.{found}
 use Rattle.ell_core.specs.statements.Effects.{reply_of_change}
-use Rattle.ell_cards.proofs.runs.Tries.{more_tries}
+use Rattle.ell_cards.proofs.lemmas.runs.Tries.{more_tries}
 use Rattle.ell_tree.specs.Computing.{IsUntouched, ReadsValue, put_by, round_steps}
 use Rattle.ell_tree.specs.Ends.{LaidDown, find_steps}
 use Rattle.ell_tree.specs.Ledgers.{Owns, present_in}
 use Rattle.ell_tree.specs.Promises.{IsOthersDoing}
 use Rattle.ell_tree.specs.CardsTaken.{TakesByHindered}
-use Rattle.ell_core.proofs.outcomes.Decide.{some_not_none}
-use Rattle.ell_tree.proofs.Concluding.{untouched_by, untouched_laid, untouched_self, untouched_trans, concludes, find_leaves, reads_own, reads_after, reads_last, reads_count, laid_last, may_still}
-use Rattle.ell_tree.proofs.Counting.{took_within, took_trans}
-use Rattle.ell_tree.proofs.Moving.{moves_most}
-use Rattle.ell_tree.proofs.Rounds.{rounds_within, one_round_more, spends_none, by_rounds, not_some}
+use Rattle.ell_core.proofs.lemmas.outcomes.Decide.{some_not_none}
+use Rattle.ell_tree.proofs.lemmas.Concluding.{untouched_by, untouched_laid, untouched_self, untouched_trans, concludes, find_leaves, reads_own, reads_after, reads_last, reads_count, laid_last, may_still}
+use Rattle.ell_tree.proofs.lemmas.Counting.{took_within, took_trans}
+use Rattle.ell_tree.proofs.lemmas.Moving.{moves_most}
+use Rattle.ell_tree.proofs.lemmas.Rounds.{rounds_within, one_round_more, spends_none, by_rounds, not_some}
 use Rattle.ell_tree.proofs.computing.compute.Goals as goal
 use Rattle.ell_tree.proofs.computing.compute.Goals.{in-Ok-Lost, in-Err-Busy}
 

@@ -1,4 +1,4 @@
-use Rattle.ell_tree.proofs.Meeting.{up_to_end}
+use Rattle.ell_tree.proofs.lemmas.Meeting.{up_to_end}
 use Rattle.ell_tree.proofs.deleting.finish_own.Goals as goal
 
 -- the chain behind another delete's flag has ended

@@ -1,7 +1,7 @@
 use Rattle.std.proofs.Common.{refl}
 use Rattle.ell_core.specs.declared.fact.Fact.TheVariants.{DFlagged}
-use Rattle.ell_word.specs.declared.gate.Kind.TheVariants as kind
-use Rattle.ell_tree.proofs.Flagging.{may_dflag, flag_goes, flag_takes, flag_ends}
+use Rattle.ell_core.specs.declared.exchange.Exchange.TheVariants as exchange
+use Rattle.ell_tree.proofs.lemmas.Flagging.{may_dflag, flag_goes, flag_takes, flag_ends}
 use Rattle.ell_tree.proofs.deleting.flag_delete.Goals as goal
 
 pub dflag-requires-clause-may : goal.dflag-requires-clause-may
@@ -13,8 +13,8 @@ returns g c =
     let f = c.fill_delete in
     let above = c.args.above in
     record {
-      goes = flag_goes kind.DFlag DFlagged c.args.card above.node above.update c.args.pass.now f.new.pass c.dflag.new.pass 4 c.dflag.result f.ensures c.dflag.ensures.step;
-      taken = flag_takes kind.DFlag DFlagged c.args.card above.node above.update c.args.pass.now f.new.pass c.dflag.new.pass 4 c.dflag.result f.ensures c.dflag.ensures.step refl;
-      flags = flag_ends kind.DFlag DFlagged c.args.card above.node above.update c.args.pass.now f.new.pass c.dflag.new.pass 4 c.dflag.result f.ensures c.dflag.ensures.step
+      goes = flag_goes exchange.DFlag DFlagged c.args.card above.node above.update c.args.pass.now f.new.pass c.dflag.new.pass 4 c.dflag.result f.ensures c.dflag.ensures.step;
+      taken = flag_takes exchange.DFlag DFlagged c.args.card above.node above.update c.args.pass.now f.new.pass c.dflag.new.pass 4 c.dflag.result f.ensures c.dflag.ensures.step refl;
+      flags = flag_ends exchange.DFlag DFlagged c.args.card above.node above.update c.args.pass.now f.new.pass c.dflag.new.pass 4 c.dflag.result f.ensures c.dflag.ensures.step
           c.args.table.now.plan.last_card c.requires.card.1.may.holds c.requires.node c.dflag.ensures.card;
     }

@@ -6,19 +6,19 @@ use Rattle.ell_core.specs.declared.view.Search.{Search}
 use Rattle.ell_cards.specs.declared.view.Told.{Told}
 use Rattle.ell_cards.specs.Models.{Does, Has, IsTold}
 use Rattle.ell_cards.specs.Changes.{answered_so}
-use Rattle.ell_cards.proofs.runs.Taking.{deletes_take_the_told_value}
+use Rattle.ell_cards.proofs.lemmas.runs.Taking.{deletes_take_the_told_value}
 use Rattle.ell_tree.specs.CardsTaken.{cards_taken}
 use Rattle.ell_tree.specs.Hindrances.{way_of}
 use Rattle.ell_tree.specs.Searches.{seen_any, below}
-use Rattle.ell_tree.proofs.Keeping.{inner_kept}
-use Rattle.ell_tree.proofs.Keeping.{share_trans}
-use Rattle.ell_tree.proofs.Owning.{goes_answers, had_none, had_value, would_delete}
-use Rattle.ell_tree.proofs.Meeting.{meets_trans, meets_more, above_way, parent_way, nowhere_way, way_over, way_free, no_way}
-use Rattle.ell_tree.proofs.Halting.{goes_meets, seek_meets, said_meets, flag_lost}
-use Rattle.ell_tree.proofs.Filling.{delete_wants, told_grandparent, told_leaf, told_parent, told_was}
-use Rattle.ell_tree.proofs.Hindering.{root_in_try}
-use Rattle.ell_tree.proofs.Moving.{sees_end, gives_out}
-use Rattle.ell_tree.proofs.Descending.{unknown_above, named_above}
+use Rattle.ell_tree.proofs.lemmas.Keeping.{inner_kept}
+use Rattle.ell_tree.proofs.lemmas.Keeping.{share_trans}
+use Rattle.ell_tree.proofs.lemmas.Owning.{goes_answers, had_none, had_value, would_delete}
+use Rattle.ell_tree.proofs.lemmas.Meeting.{meets_trans, meets_more, above_way, parent_way, nowhere_way, way_over, way_free, no_way}
+use Rattle.ell_tree.proofs.lemmas.Halting.{goes_meets, seek_meets, said_meets, flag_lost}
+use Rattle.ell_tree.proofs.lemmas.Filling.{delete_wants, told_grandparent, told_leaf, told_parent, told_was}
+use Rattle.ell_tree.proofs.lemmas.Hindering.{root_in_try}
+use Rattle.ell_tree.proofs.lemmas.Moving.{sees_end, gives_out}
+use Rattle.ell_tree.proofs.lemmas.Descending.{unknown_above, named_above}
 use Rattle.ell_tree.proofs.deleting.try_delete.Goals as goal
 
 pub take_card-requires-clause-wants : goal.take_card-requires-clause-wants

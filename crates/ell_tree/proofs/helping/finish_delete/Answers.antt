@@ -3,8 +3,8 @@ use Rattle.ell_tree.specs.Ledgers.{PassModel}
 use Rattle.ell_tree.specs.Helps.{met_by_mark}
 use Rattle.ell_tree.specs.Hindrances.{IsEnded}
 use Rattle.ell_tree.specs.Keeping.{Walks}
-use Rattle.ell_tree.proofs.Keeping.{works_more, walks_within, walks_none}
-use Rattle.ell_tree.proofs.Meeting.{ended_still, lost_ends, lost_behind}
+use Rattle.ell_tree.proofs.lemmas.Keeping.{works_more, walks_within, walks_none}
+use Rattle.ell_tree.proofs.lemmas.Meeting.{ended_still, lost_ends, lost_behind}
 use Rattle.ell_tree.proofs.helping.finish_delete.Given.{Over}
 use Rattle.ell_tree.proofs.helping.finish_delete.Goals as goal
 use Rattle.ell_tree.proofs.helping.finish_delete.Goals.{After-go_back-2, in-IFlag, in-Mark, in-Clean}

@@ -7,8 +7,8 @@ use Rattle.ell_tree.specs.Ledgers.{PassModel}
 use Rattle.ell_tree.specs.Helps.{HelpEnds, chain_steps}
 use Rattle.ell_tree.specs.Hindrances.{IsDeleteEnded, Meets}
 use Rattle.ell_tree.specs.Keeping.{Works}
-use Rattle.ell_tree.proofs.Keeping.{works_trans}
-use Rattle.ell_tree.proofs.Meeting.{delete_ended_still, up_to_none, up_to_trans, up_to_end}
+use Rattle.ell_tree.proofs.lemmas.Keeping.{works_trans}
+use Rattle.ell_tree.proofs.lemmas.Meeting.{delete_ended_still, up_to_none, up_to_trans, up_to_end}
 use Rattle.ell_tree.proofs.helping.help_delete.Goals as goal
 
 pub loop-next-init : goal.loop-next-init

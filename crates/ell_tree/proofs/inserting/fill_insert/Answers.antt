@@ -1,7 +1,7 @@
 use Rattle.std.proofs.Common.{◌≡◌, ℕ, ◌<◌, ◌≤◌, if◌then◌else◌, nat_lt, sym, ap, ◌∙◌, arith}
 use Rattle.std.proofs.lemmas.Bool.{lt-ltb, le-ltb}
-use Rattle.ell_core.specs.declared.field.Field.TheVariants as field
-use Rattle.ell_tree.proofs.Storing.{stores_none, stores_more, fills_insert}
+use Rattle.ell_layout.specs.declared.field.Field.TheVariants as field
+use Rattle.ell_tree.proofs.lemmas.Storing.{stores_none, stores_more, fills_insert}
 use Rattle.ell_tree.proofs.inserting.fill_insert.Goals as goal
 use Rattle.ell_tree.proofs.inserting.fill_insert.Goals.{then-key-place, else-key-place}
 

@@ -1,7 +1,7 @@
 use Rattle.std.proofs.Common.{refl}
 use Rattle.ell_core.specs.declared.fact.Fact.TheVariants.{IFlagged}
-use Rattle.ell_word.specs.declared.gate.Kind.TheVariants as kind
-use Rattle.ell_tree.proofs.Flagging.{may_iflag, flag_goes, flag_takes, flag_ends}
+use Rattle.ell_core.specs.declared.exchange.Exchange.TheVariants as exchange
+use Rattle.ell_tree.proofs.lemmas.Flagging.{may_iflag, flag_goes, flag_takes, flag_ends}
 use Rattle.ell_tree.proofs.inserting.flag_insert.Goals as goal
 
 pub iflag-requires-clause-may : goal.iflag-requires-clause-may
@@ -12,8 +12,8 @@ returns g c =
     let f = c.fill_insert in
     let parent = c.args.place.parent in
     record {
-      goes = flag_goes kind.IFlag IFlagged c.args.card parent.node parent.update c.args.pass.now f.new.pass c.iflag.new.pass 10 c.iflag.result f.ensures c.iflag.ensures.step;
-      taken = flag_takes kind.IFlag IFlagged c.args.card parent.node parent.update c.args.pass.now f.new.pass c.iflag.new.pass 10 c.iflag.result f.ensures c.iflag.ensures.step refl;
-      flags = flag_ends kind.IFlag IFlagged c.args.card parent.node parent.update c.args.pass.now f.new.pass c.iflag.new.pass 10 c.iflag.result f.ensures c.iflag.ensures.step
+      goes = flag_goes exchange.IFlag IFlagged c.args.card parent.node parent.update c.args.pass.now f.new.pass c.iflag.new.pass 10 c.iflag.result f.ensures c.iflag.ensures.step;
+      taken = flag_takes exchange.IFlag IFlagged c.args.card parent.node parent.update c.args.pass.now f.new.pass c.iflag.new.pass 10 c.iflag.result f.ensures c.iflag.ensures.step refl;
+      flags = flag_ends exchange.IFlag IFlagged c.args.card parent.node parent.update c.args.pass.now f.new.pass c.iflag.new.pass 10 c.iflag.result f.ensures c.iflag.ensures.step
           c.args.table.now.plan.last_card c.requires.card.card.may.holds c.requires.node c.iflag.ensures.card;
     }

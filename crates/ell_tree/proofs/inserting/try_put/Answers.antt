@@ -2,22 +2,22 @@ use Rattle.std.proofs.Common.{◌+◌, ◌≡◌, ◌≢◌, ℕ, Some, List, le
 use Rattle.ell_word.specs.declared.update.State.TheVariants.{Clean}
 use Rattle.ell_core.specs.declared.view.Search.{Search}
 use Rattle.ell_cards.specs.declared.view.Told.TheVariants.{Met}
-use Rattle.ell_core.specs.declared.field.Field.{Field}
+use Rattle.ell_layout.specs.declared.field.Field.{Field}
 use Rattle.std.proofs.lemmas.Bool.{false≢true}
 use Rattle.ell_ops.specs.Meaning.{found}
 use Rattle.ell_tree.specs.CardsTaken.{cards_taken, TakesOneCard, TakesOneIf}
 use Rattle.ell_tree.specs.Ends.{Answers, changes_by, reply_by}
 use Rattle.ell_tree.specs.Hindrances.{way_of}
 use Rattle.ell_tree.specs.Tries.{HasCard}
-use Rattle.ell_tree.proofs.Descending.{may_answer}
-use Rattle.ell_tree.proofs.Filling.{put_fills, is_insert}
-use Rattle.ell_tree.proofs.Keeping.{share_trans}
-use Rattle.ell_tree.proofs.Owning.{goes_answers, would_put}
-use Rattle.ell_tree.proofs.Meeting.{meets_trans, meets_more, put_way, nowhere_way, way_over, way_free, no_way}
-use Rattle.ell_tree.proofs.Halting.{goes_meets, seek_meets, walk_meets, said_meets, flag_lost}
-use Rattle.ell_tree.proofs.Hindering.{root_in_try}
-use Rattle.ell_tree.proofs.Putting.{put_wants, put_refused, put_done}
-use Rattle.ell_tree.proofs.Moving.{sees_end, gives_out}
+use Rattle.ell_tree.proofs.lemmas.Descending.{may_answer}
+use Rattle.ell_tree.proofs.lemmas.Filling.{put_fills, is_insert}
+use Rattle.ell_tree.proofs.lemmas.Keeping.{share_trans}
+use Rattle.ell_tree.proofs.lemmas.Owning.{goes_answers, would_put}
+use Rattle.ell_tree.proofs.lemmas.Meeting.{meets_trans, meets_more, put_way, nowhere_way, way_over, way_free, no_way}
+use Rattle.ell_tree.proofs.lemmas.Halting.{goes_meets, seek_meets, walk_meets, said_meets, flag_lost}
+use Rattle.ell_tree.proofs.lemmas.Hindering.{root_in_try}
+use Rattle.ell_tree.proofs.lemmas.Putting.{put_wants, put_refused, put_done}
+use Rattle.ell_tree.proofs.lemmas.Moving.{sees_end, gives_out}
 use Rattle.ell_tree.proofs.inserting.try_put.Goals as goal
 
 pub take_card-requires-clause-wants : goal.take_card-requires-clause-wants

@@ -1,16 +1,16 @@
 use Rattle.std.proofs.Common.{◌≡◌, ◌+◌, ◌*◌, ◌∙◌, ap, arith, rules, eq-eqb, eqb-true}
-use Rattle.ell_cards.proofs.runs.Tries.{more_tries}
-use Rattle.ell_cards.proofs.runs.LayingDown.{laid_down_last_changes_nothing}
+use Rattle.ell_cards.proofs.lemmas.runs.Tries.{more_tries}
+use Rattle.ell_cards.proofs.lemmas.runs.LayingDown.{laid_down_last_changes_nothing}
 use Rattle.ell_tree.specs.Ends.{changes_by, try_steps}
 use Rattle.ell_tree.specs.Hindrances.{way_of}
-use Rattle.ell_tree.proofs.Counting.{took_within, took_trans, rounds_first, rounds_later, round_steps, rounds_steps}
-use Rattle.ell_tree.proofs.Halting.{begun_meets, begun_count}
-use Rattle.ell_tree.proofs.Hindering.{root_hindered, one_hindered, halts_hindered}
-use Rattle.ell_tree.proofs.Meeting.{meets_trans}
-use Rattle.ell_tree.proofs.Moving.{moves_one, moves_still, moves_same, moves_most, moves_more, amortized}
-use Rattle.ell_tree.proofs.Taking.{answers_first, answered_most, answered_cards, unchanged_cards, taken_none, same_Ok}
-use Rattle.ell_tree.proofs.Keeping.{share_trans}
-use Rattle.ell_tree.proofs.Owning.{answers_before, would_before, moves_before}
+use Rattle.ell_tree.proofs.lemmas.Counting.{took_within, took_trans, rounds_first, rounds_later, round_steps, rounds_steps}
+use Rattle.ell_tree.proofs.lemmas.Halting.{begun_meets, begun_count}
+use Rattle.ell_tree.proofs.lemmas.Hindering.{root_hindered, one_hindered, halts_hindered}
+use Rattle.ell_tree.proofs.lemmas.Meeting.{meets_trans}
+use Rattle.ell_tree.proofs.lemmas.Moving.{moves_one, moves_still, moves_same, moves_most, moves_more, amortized}
+use Rattle.ell_tree.proofs.lemmas.Taking.{answers_first, answered_most, answered_cards, unchanged_cards, taken_none, same_Ok}
+use Rattle.ell_tree.proofs.lemmas.Keeping.{share_trans}
+use Rattle.ell_tree.proofs.lemmas.Owning.{answers_before, would_before, moves_before}
 use Rattle.ell_tree.proofs.operations.change.Goals as goal
 
 pub try_once-requires-clause-root : goal.try_once-requires-clause-root

@@ -1,10 +1,10 @@
 use Rattle.std.proofs.Common.{◌∙◌, arith, subst}
 use Rattle.ell_ops.specs.declared.op.Op.TheVariants.{Find}
-use Rattle.ell_tree.proofs.Meeting.{meets_none, meets_trans}
-use Rattle.ell_tree.proofs.Halting.{seek_meets, said_meets}
+use Rattle.ell_tree.proofs.lemmas.Meeting.{meets_none, meets_trans}
+use Rattle.ell_tree.proofs.lemmas.Halting.{seek_meets, said_meets}
 use Rattle.ell_tree.specs.Ends.{Answers}
-use Rattle.ell_tree.proofs.Owning.{answers_before, goes_answers}
-use Rattle.ell_tree.proofs.Moving.{moves_more, moves_same}
+use Rattle.ell_tree.proofs.lemmas.Owning.{answers_before, goes_answers}
+use Rattle.ell_tree.proofs.lemmas.Moving.{moves_more, moves_same}
 use Rattle.ell_tree.proofs.operations.find.Goals as goal
 
 pub returns-clause-answers : goal.returns-clause-answers

@@ -1,5 +1,5 @@
 use Rattle.std.proofs.Common.{◌∙◌}
-use Rattle.ell_tree.proofs.Cursors.{about_mine}
+use Rattle.ell_tree.proofs.lemmas.Cursors.{about_mine}
 use Rattle.ell_tree.proofs.reading.look_about.Goals as goal
 
 pub returns-clause-mine : goal.returns-clause-mine

@@ -1,4 +1,4 @@
-use Rattle.ell_tree.proofs.Beginning.{begins_anew}
+use Rattle.ell_tree.proofs.lemmas.Beginning.{begins_anew}
 use Rattle.ell_tree.proofs.steps.again.Goals as goal
 
 pub returns : goal.returns

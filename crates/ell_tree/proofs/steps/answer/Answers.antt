@@ -5,7 +5,7 @@ use Rattle.ell_ops.specs.Meaning.{key_of, reply_of, after}
 use Rattle.ell_core.specs.state.Machine.{ledger_of}
 use Rattle.ell_tree.specs.Ledgers.{present_in, Owns, ledger}
 use Rattle.ell_tree.proofs.steps.answer.Goals as goal
-use Rattle.ell_cards.proofs.runs.Answering.{answers_have_their_points}
+use Rattle.ell_cards.proofs.lemmas.runs.Answering.{answers_have_their_points}
 use Rattle.ell_cards.specs.Changes.{answered_so}
 use Rattle.ell_cards.specs.Models.{PassModel}
 

@@ -1,4 +1,4 @@
-use Rattle.ell_tree.proofs.Beginning.{begins}
+use Rattle.ell_tree.proofs.lemmas.Beginning.{begins}
 use Rattle.ell_tree.proofs.steps.begin.Goals as goal
 
 pub returns : goal.returns

@@ -1,4 +1,4 @@
-use Rattle.ell_tree.proofs.Beginning.{lays}
+use Rattle.ell_tree.proofs.lemmas.Beginning.{lays}
 use Rattle.ell_tree.proofs.steps.leave.Goals as goal
 
 pub returns : goal.returns

@@ -1,5 +1,5 @@
-use Rattle.ell_cards.proofs.views.Steps.{frozen_told, frozen_met}
-use Rattle.ell_tree.proofs.Looking.{child_walks}
+use Rattle.ell_cards.proofs.lemmas.views.Steps.{frozen_told, frozen_met}
+use Rattle.ell_tree.proofs.lemmas.Looking.{child_walks}
 use Rattle.ell_tree.proofs.steps.look_child.Goals as goal
 
 pub returns : goal.returns

@@ -1,5 +1,5 @@
-use Rattle.ell_cards.proofs.views.Steps.{info_told, info_met}
-use Rattle.ell_tree.proofs.Looking.{info_walks}
+use Rattle.ell_cards.proofs.lemmas.views.Steps.{info_told, info_met}
+use Rattle.ell_tree.proofs.lemmas.Looking.{info_walks}
 use Rattle.ell_tree.proofs.steps.look_info.Goals as goal
 
 pub returns : goal.returns

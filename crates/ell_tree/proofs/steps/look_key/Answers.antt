@@ -2,8 +2,8 @@ use Rattle.std.proofs.Common.{refl, sym, ap, subst}
 use Rattle.ell_cards.specs.declared.view.Told.TheVariants.{Key}
 use Rattle.ell_cards.specs.declared.view.View.{View}
 use Rattle.ell_cards.specs.Models.{PassModel, IsTold}
-use Rattle.ell_cards.proofs.views.Steps.{key_told}
-use Rattle.ell_tree.proofs.Looking.{key_walks}
+use Rattle.ell_cards.proofs.lemmas.views.Steps.{key_told}
+use Rattle.ell_tree.proofs.lemmas.Looking.{key_walks}
 use Rattle.ell_tree.proofs.steps.look_key.Goals as goal
 
 pub returns : goal.returns

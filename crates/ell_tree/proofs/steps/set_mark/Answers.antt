@@ -1,7 +1,7 @@
 use Rattle.std.proofs.Common.{Option, IfSome, ◌∙◌, ap, sym, subst}
 use Rattle.ell_word.specs.declared.update.Update.{Update}
 use Rattle.ell_tree.specs.Helps.{IsLost, met_by_mark}
-use Rattle.ell_tree.proofs.Marking.{mark_works, mark_met, mark_marked, mark_lost}
+use Rattle.ell_tree.proofs.lemmas.Marking.{mark_works, mark_met, mark_marked, mark_lost}
 use Rattle.ell_tree.proofs.steps.set_mark.Goals as goal
 
 pub returns : goal.returns

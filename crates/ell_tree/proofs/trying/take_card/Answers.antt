@@ -1,7 +1,7 @@
 use Rattle.std.proofs.Common.{Bool, true, false, subst, arith}
 use Rattle.ell_cards.specs.Models.{Steps}
 use Rattle.ell_cards.specs.Changes.{after_claim}
-use Rattle.ell_tree.proofs.Claiming.{may_claim_at, won_goes, won_calm, won_takes, given_out, has_card, lost_goes, lost_takes, lost_claims}
+use Rattle.ell_tree.proofs.lemmas.Claiming.{may_claim_at, won_goes, won_calm, won_takes, given_out, has_card, lost_goes, lost_takes, lost_claims}
 use Rattle.ell_tree.proofs.trying.take_card.Goals as goal
 
 pub claim-requires-clause-may : goal.claim-requires-clause-may

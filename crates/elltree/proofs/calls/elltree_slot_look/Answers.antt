@@ -5,7 +5,7 @@ use Rattle.ell_handle.specs.declared.handle.Handle.{Handle}
 use Rattle.ell_handle.specs.declared.refusal.Refusal.{Refusal}
 use Rattle.elltree.specs.Maps.{IsFoundBy, handle_of}
 use Rattle.elltree.specs.Slots.{OfHandles}
-use Rattle.elltree.proofs.Calling.{Looked, finds, follows}
+use Rattle.elltree.proofs.lemmas.Calling.{Looked, finds, follows}
 use Rattle.elltree.proofs.calls.elltree_slot_look.Goals as goal
 
 -- what the look found, on the tree that the handle has still

@@ -4,7 +4,7 @@ use Rattle.std.proofs.lemmas.Int.{to_z-of_z}
 use mir.Val.{SFits}
 use Rattle.ell_handle.specs.Fresh.{AreRenewedShared}
 use Rattle.elltree.specs.Fresh.{SaysOfShared}
-use Rattle.elltree.proofs.Grouped.{again_trees, all_have, filled_all, keep_trees, other_trees, taken_all, taken_count, taken_emptied}
+use Rattle.elltree.proofs.lemmas.Grouped.{again_trees, all_have, filled_all, keep_trees, other_trees, taken_all, taken_count, taken_emptied}
 use Rattle.elltree.proofs.fresh.elltree_slots_renew_shared.Goals as goal
 
 pub returns-in_default-clause-refused : goal.returns-in_default-clause-refused

@@ -4,7 +4,7 @@ use Rattle.std.proofs.lemmas.List.Elements.{length_all_zip}
 use mir.Val.{SFits}
 use Rattle.ell_handle.specs.Groups.{AreRenewed, HasSame}
 use Rattle.elltree.specs.Groups.{SaysOfAll}
-use Rattle.elltree.proofs.Grouped.{again_maps, again_trees, all_have, filled_all, keep_maps, keep_trees, other_maps, other_trees, taken_all, taken_count, taken_emptied}
+use Rattle.elltree.proofs.lemmas.Grouped.{again_maps, again_trees, all_have, filled_all, keep_maps, keep_trees, other_maps, other_trees, taken_all, taken_count, taken_emptied}
 use Rattle.elltree.proofs.grouping.elltree_slots_renew.Goals as goal
 
 pub returns-in_default-clause-kept : goal.returns-in_default-clause-kept

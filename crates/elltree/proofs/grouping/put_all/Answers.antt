@@ -1,6 +1,6 @@
 use Rattle.std.proofs.Common.{◌≡◌, ◌++◌, ◌∷◌, [], ◌∙◌, ap, arith, length, length-append, rules, set, subst, sym}
 use Rattle.std.specs.Option.{option_to_list}
-use Rattle.elltree.proofs.Grouped.{AreFilling, emptied_at, emptied_count, filling_all, filling_more, filling_none}
+use Rattle.elltree.proofs.lemmas.Grouped.{AreFilling, emptied_at, emptied_count, filling_all, filling_more, filling_none}
 use Rattle.elltree.proofs.grouping.put_all.Goals as goal
 
 pub loop-handle-init : goal.loop-handle-init

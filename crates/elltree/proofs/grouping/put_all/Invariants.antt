@@ -1,4 +1,4 @@
-use Rattle.elltree.proofs.Grouped.{AreFilling}
+use Rattle.elltree.proofs.lemmas.Grouped.{AreFilling}
 use Rattle.elltree.proofs.grouping.put_all.Given as goal
 
 -- the last handles are put in

@@ -2,7 +2,7 @@ use Rattle.std.proofs.Common.{◌≡◌, ◌<◌, ◌≤◌, ◌+◌, ◌++◌, 
 use Rattle.std.specs.Prelude.{None}
 use Rattle.elltree.specs.Groups.{AreTaken}
 use Rattle.elltree.specs.Maps.{handle_of}
-use Rattle.elltree.proofs.Grouped.{not_all, taken_count, taken_more, taken_next, taken_none, taken_stop}
+use Rattle.elltree.proofs.lemmas.Grouped.{not_all, taken_count, taken_more, taken_next, taken_none, taken_stop}
 use Rattle.elltree.proofs.grouping.take_all.Goals as goal
 
 pub loop-place-init : goal.loop-place-init

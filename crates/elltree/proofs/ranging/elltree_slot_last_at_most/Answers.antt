@@ -5,7 +5,7 @@ use Rattle.ell_handle.specs.Reads.{tree_of}
 use Rattle.ell_handle.specs.declared.handle.Handle.{Handle}
 use Rattle.elltree.specs.Maps.{handle_of}
 use Rattle.elltree.specs.Slots.{OfHandles}
-use Rattle.elltree.proofs.Calling.{SoughtLast, follows}
+use Rattle.elltree.proofs.lemmas.Calling.{SoughtLast, follows}
 use Rattle.elltree.proofs.ranging.elltree_slot_last_at_most.Goals as goal
 
 -- what is written is what was found

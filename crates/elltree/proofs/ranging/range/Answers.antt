@@ -3,7 +3,7 @@ use Rattle.ell_ops.specs.Contents.{contents_of}
 use Rattle.ell_tree.specs.Scans.{AreFoundIn, AreInOrder, TellsItsOwn, end_of, written}
 use Rattle.ell_handle.specs.Ranges.{real_end}
 use Rattle.ell_handle.specs.Reads.{tree_of}
-use Rattle.elltree.proofs.Ending.{told_end, told_full, told_within}
+use Rattle.elltree.proofs.lemmas.Ending.{told_end, told_full, told_within}
 use Rattle.elltree.proofs.ranging.range.Goals as goal
 
 pub returns : goal.returns

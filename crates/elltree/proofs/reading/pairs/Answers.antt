@@ -5,11 +5,11 @@ use Rattle.std.specs.List.Sorted.{IsStrictlyIncreasing}
 use Rattle.ell_ops.specs.Contents.{ListsPairs}
 use Rattle.ell_cards.specs.Changes.{keys_of}
 use Rattle.ell_tree.specs.Ledgers.{present_in}
-use Rattle.ell_handle.proofs.Anew.{same_owned}
-use Rattle.ell_handle.proofs.Listing.{listed_less, listed_more, lists_pairs, none_else, pairs_at}
+use Rattle.ell_handle.proofs.lemmas.Anew.{same_owned}
+use Rattle.ell_handle.proofs.lemmas.Listing.{listed_less, listed_more, lists_pairs, none_else, pairs_at}
 use Rattle.ell_tree.specs.declared.scanning.Pair.{Pair}
 use Rattle.elltree.specs.Maps.{as_pairs}
-use Rattle.elltree.proofs.Writing.{others_more, written_more}
+use Rattle.elltree.proofs.lemmas.Writing.{others_more, written_more}
 use Rattle.elltree.proofs.reading.pairs.Goals as goal
 use Rattle.elltree.proofs.reading.pairs.Goals.{in-Some+else-written-out, in_default}
 

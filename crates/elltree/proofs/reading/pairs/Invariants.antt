@@ -1,7 +1,7 @@
 use Rattle.std.proofs.Common.{◌≡◌, ◌≤◌, ℕ, take, drop, length}
 use Rattle.ell_cards.specs.Changes.{keys_of}
 use Rattle.ell_tree.specs.Ledgers.{present_in}
-use Rattle.ell_handle.proofs.Listing.{pairs_at}
+use Rattle.ell_handle.proofs.lemmas.Listing.{pairs_at}
 use Rattle.elltree.specs.Maps.{as_pairs}
 use Rattle.elltree.proofs.reading.pairs.Given as goal
 

@@ -1,7 +1,7 @@
 use Rattle.std.proofs.Common.{◌≡◌, length, arith, refl, subst, ◌∙◌}
 use Rattle.std.proofs.Common.{get_or, take, drop}
 use Rattle.std.proofs.lemmas.List.{take_all}
-use Rattle.elltree.proofs.Writing.{keys_more, others_more}
+use Rattle.elltree.proofs.lemmas.Writing.{keys_more, others_more}
 use Rattle.elltree.proofs.reading.write_keys.Goals as goal
 
 -- one key more

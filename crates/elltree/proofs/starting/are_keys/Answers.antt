@@ -1,5 +1,5 @@
 use Rattle.std.proofs.Common.{rules}
-use Rattle.elltree.proofs.HostPairs.{real_pairs}
+use Rattle.elltree.proofs.lemmas.HostPairs.{real_pairs}
 use Rattle.elltree.proofs.starting.are_keys.Goals as goal
 
 pub returns-then-all_fit : goal.returns-then-all_fit

@@ -2,7 +2,7 @@ use Rattle.std.proofs.Common.{◌≤◌, arith, length, subst, sym}
 use Rattle.std.proofs.lemmas.List.{length-map}
 use Rattle.ell_tree.specs.Node.{most_start}
 use Rattle.ell_tree.specs.declared.scanning.Pair.{Pair}
-use Rattle.elltree.proofs.HostPairs.{host_ascends}
+use Rattle.elltree.proofs.lemmas.HostPairs.{host_ascends}
 use Rattle.elltree.proofs.starting.is_start.Goals as goal
 
 pub returns-then-start-le-START_MAX : goal.returns-then-start-le-START_MAX

@@ -2,7 +2,7 @@ use Rattle.std.proofs.Common.{◌≡◌, ℕ, zero, suc, List, [], ◌∷◌, ge
 use mathlib.Core.Option.{some, some-injective, some-ne-none}
 use lib.ListN.{get_elem?}
 use Rattle.std.specs.Slots.{slots_items}
-use Rattle.ell_core.specs.state.Layout.{listed}
+use Rattle.ell_layout.specs.Layout.{listed}
 use Rattle.ell_cards.specs.Closed.{ClosedModel}
 use Rattle.ell_cards.proofs.closed.Closed.word.Goals as goal
 

@@ -1,5 +1,5 @@
-use Rattle.ell_core.specs.state.Words.{words_of}
-use Rattle.ell_cards.proofs.words.Fields.{read_at}
+use Rattle.ell_layout.specs.Words.{words_of}
+use Rattle.ell_cards.proofs.lemmas.words.Fields.{read_at}
 use Rattle.ell_cards.proofs.closed.ClosedTreeWords.value.Goals as goal
 
 pub returns : goal.returns

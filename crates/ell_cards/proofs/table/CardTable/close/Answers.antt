@@ -4,7 +4,7 @@ use Rattle.std.specs.Slots.{slots_items}
 use Rattle.ell_core.specs.state.Machine.{ledger_of}
 use Rattle.ell_cards.specs.Models.{TableModel, PassModel, IsFree, whole_share}
 use Rattle.ell_cards.specs.Closed.{ClosedModel, TableEnds}
-use Rattle.ell_cards.proofs.runs.Ending.{ends}
+use Rattle.ell_cards.proofs.lemmas.runs.Ending.{ends}
 use Rattle.ell_cards.proofs.table.CardTable.close.Goals as goal
 
 pub returns-clause-ends : goal.returns-clause-ends

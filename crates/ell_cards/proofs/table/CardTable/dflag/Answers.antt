@@ -1,5 +1,5 @@
 use Rattle.std.proofs.Common.{arith}
-use Rattle.ell_cards.proofs.words.Updates.{card_again}
+use Rattle.ell_cards.proofs.lemmas.words.Updates.{card_again}
 use Rattle.ell_cards.proofs.table.CardTable.dflag.Goals as goal
 
 pub pack-expected-requires : goal.pack-expected-requires

@@ -1,6 +1,6 @@
 use Rattle.std.proofs.Common.{◌∙◌, ◌==◌, ap}
 use prog.Atomic.{either}
-use Rattle.ell_cards.proofs.seats.Opened.{owed, stepped}
+use Rattle.ell_cards.proofs.lemmas.seats.Opened.{owed, stepped}
 use Rattle.ell_cards.proofs.table.CardTable.exchange_as.Goals as goal
 
 pub compare_exchange-found-requires : goal.compare_exchange-found-requires

@@ -1,5 +1,5 @@
 use Rattle.std.proofs.Common.{arith}
-use Rattle.ell_cards.proofs.seats.Taken.{known_fits}
+use Rattle.ell_cards.proofs.lemmas.seats.Taken.{known_fits}
 use Rattle.ell_cards.proofs.table.CardTable.info.Goals as goal
 
 pub address-requires : goal.address-requires

@@ -3,9 +3,9 @@ use Rattle.atomic_table.specs.Table.{Me}
 use Rattle.ell_cards.specs.declared.view.View.{View}
 use Rattle.ell_cards.specs.Models.{PassModel, IsFree}
 use Rattle.ell_cards.specs.Inside.{PassFits}
-use Rattle.ell_cards.proofs.lifetimes.Joins.{joined_fits}
-use Rattle.ell_cards.proofs.runs.Reaching.{joins}
-use Rattle.ell_cards.proofs.seats.Opened.{of_table, own_size}
+use Rattle.ell_cards.proofs.lemmas.lifetimes.Joins.{joined_fits}
+use Rattle.ell_cards.proofs.lemmas.runs.Reaching.{joins}
+use Rattle.ell_cards.proofs.lemmas.seats.Opened.{of_table, own_size}
 use Rattle.ell_cards.proofs.table.CardTable.join.Goals as goal
 use Rattle.ell_cards.specs.Changes.{joined_view}
 

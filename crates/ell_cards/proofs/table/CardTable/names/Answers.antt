@@ -1,4 +1,4 @@
-use Rattle.ell_cards.proofs.seats.Opened.{named_there}
+use Rattle.ell_cards.proofs.lemmas.seats.Opened.{named_there}
 use Rattle.ell_cards.proofs.table.CardTable.names.Goals as goal
 
 pub returns-clause-named : goal.returns-clause-named

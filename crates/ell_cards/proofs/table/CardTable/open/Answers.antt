@@ -4,7 +4,7 @@ use Rattle.ell_cards.specs.declared.share.Share.{Share}
 use Rattle.ell_cards.specs.declared.view.View.{View}
 use Rattle.ell_cards.specs.Models.{TablePlan, whole_share}
 use Rattle.ell_cards.specs.Inside.{PassFits}
-use Rattle.ell_cards.proofs.lifetimes.Openings.{first_fits}
+use Rattle.ell_cards.proofs.lemmas.lifetimes.Openings.{first_fits}
 use Rattle.ell_cards.proofs.table.CardTable.open.Goals as goal
 use Rattle.ell_cards.specs.Changes.{first_of}
 

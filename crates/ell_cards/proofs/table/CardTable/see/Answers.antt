@@ -1,7 +1,7 @@
 use Rattle.std.proofs.Common.{ℕ, ◌<◌, sym, subst}
-use Rattle.ell_core.specs.state.Layout.{table_size}
-use Rattle.ell_cards.proofs.seats.Taken.{taken_keeps, word_fits, sees_by}
-use Rattle.ell_cards.proofs.runs.Reaching.{may_load}
+use Rattle.ell_layout.specs.Layout.{table_size}
+use Rattle.ell_cards.proofs.lemmas.seats.Taken.{taken_keeps, word_fits, sees_by}
+use Rattle.ell_cards.proofs.lemmas.runs.Reaching.{may_load}
 use Rattle.ell_cards.proofs.table.CardTable.see.Goals as goal
 
 pub load_as-requires-clause-word : goal.load_as-requires-clause-word

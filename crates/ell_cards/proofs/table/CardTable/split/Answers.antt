@@ -3,8 +3,8 @@ use Rattle.ell_cards.specs.Models.{PassModel}
 use Rattle.ell_ops.specs.KeySet.{set_of}
 use Rattle.ell_cards.specs.Changes.{keys_of, left_view, right_view}
 use Rattle.ell_cards.specs.Stepping.{MayHave}
-use Rattle.ell_cards.proofs.lifetimes.Splits.{parts_share, owned_all, left_has, right_has}
-use Rattle.ell_cards.proofs.runs.Reaching.{splits}
+use Rattle.ell_cards.proofs.lemmas.lifetimes.Splits.{parts_share, owned_all, left_has, right_has}
+use Rattle.ell_cards.proofs.lemmas.runs.Reaching.{splits}
 use Rattle.ell_cards.proofs.table.CardTable.split.Goals as goal
 
 pub parted-requires-clause-among : goal.parted-requires-clause-among

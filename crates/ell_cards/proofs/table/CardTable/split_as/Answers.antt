@@ -3,7 +3,7 @@ use Rattle.ell_cards.specs.Models.{PassModel}
 use Rattle.ell_cards.specs.Inside.{HasShare}
 use Rattle.atomic_table.specs.Table.{Me}
 use Rattle.ell_cards.specs.declared.view.View.{View}
-use Rattle.ell_cards.proofs.seats.Opened.{part_fits}
+use Rattle.ell_cards.proofs.lemmas.seats.Opened.{part_fits}
 use Rattle.ell_cards.proofs.table.CardTable.split_as.Goals as goal
 
 pub invariant_of-left : goal.invariant_of-left

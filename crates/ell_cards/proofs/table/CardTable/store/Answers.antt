@@ -1,8 +1,8 @@
 use Rattle.std.proofs.Common.{ℕ, ◌<◌, sym, subst}
-use Rattle.ell_core.specs.state.Layout.{table_size}
+use Rattle.ell_layout.specs.Layout.{table_size}
 use Rattle.ell_cards.specs.declared.call.Call.TheVariants as call
-use Rattle.ell_cards.proofs.seats.Taken.{taken_keeps, word_fits, steps_by}
-use Rattle.ell_cards.proofs.runs.Reaching.{may_fill}
+use Rattle.ell_cards.proofs.lemmas.seats.Taken.{taken_keeps, word_fits, steps_by}
+use Rattle.ell_cards.proofs.lemmas.runs.Reaching.{may_fill}
 use Rattle.ell_cards.proofs.table.CardTable.store.Goals as goal
 
 pub store_as-requires-clause-word : goal.store_as-requires-clause-word

@@ -1,5 +1,5 @@
 use Rattle.std.proofs.Common.{◌∙◌, ap}
-use Rattle.ell_cards.proofs.seats.Opened.{owed, stepped}
+use Rattle.ell_cards.proofs.lemmas.seats.Opened.{owed, stepped}
 use Rattle.ell_cards.proofs.table.CardTable.store_as.Goals as goal
 
 pub store-requires : goal.store-requires

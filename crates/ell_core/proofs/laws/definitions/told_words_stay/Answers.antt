@@ -1,5 +1,5 @@
 -- Later words have what is frozen and what is claimed.
-use Rattle.ell_core.proofs.stages.Told.{fixed_words_stay, frozen_parents_stay}
+use Rattle.ell_core.proofs.lemmas.stages.Told.{fixed_words_stay, frozen_parents_stay}
 use Rattle.ell_core.proofs.laws.definitions.told_words_stay.Goals as goal
 
 pub returns : goal.returns

@@ -1,5 +1,5 @@
 -- Any other worker is not there, and owns nothing.
-use Rattle.ell_core.proofs.following.OnlyWorker.{one_owns_all, only_owns_all}
+use Rattle.ell_core.proofs.lemmas.following.OnlyWorker.{one_owns_all, only_owns_all}
 use Rattle.ell_core.proofs.laws.premises.one_worker_owns_all.Goals as goal
 
 pub returns : goal.returns

@@ -1,5 +1,5 @@
 -- By the small run.
-use Rattle.ell_core.proofs.runs.Refuted.{no_rise, not_fixed, not_frozen, some_learnt, child_not_first}
+use Rattle.ell_core.proofs.lemmas.runs.Refuted.{no_rise, not_fixed, not_frozen, some_learnt, child_not_first}
 use Rattle.ell_core.proofs.laws.refuted.runs_promise_no_more.Goals as goal
 
 pub returns : goal.returns

@@ -1,5 +1,5 @@
 -- A child changes in the tree alone, and what is on course and in the tree is on the walk.
-use Rattle.ell_core.proofs.following.Looks.{courses_go_on}
+use Rattle.ell_core.proofs.lemmas.following.Looks.{courses_go_on}
 use Rattle.ell_core.proofs.laws.steps.courses_go_on.Goals as goal
 
 pub returns : goal.returns

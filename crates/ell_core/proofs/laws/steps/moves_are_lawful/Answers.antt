@@ -1,5 +1,5 @@
 -- No word changes, and no card is in hand.
-use Rattle.ell_core.proofs.following.Lawful.{splits_lawful, joins_lawful}
+use Rattle.ell_core.proofs.lemmas.following.Lawful.{splits_lawful, joins_lawful}
 use Rattle.ell_core.proofs.laws.steps.moves_are_lawful.Goals as goal
 
 pub returns : goal.returns

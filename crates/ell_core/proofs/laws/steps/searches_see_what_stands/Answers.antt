@@ -1,6 +1,6 @@
 -- By the acts of its own; the walk goes on as walks do.
-use Rattle.ell_core.proofs.following.Since.{searches_begin, searches_go_on}
-use Rattle.ell_core.proofs.following.Cleans.{cleans_go_on}
+use Rattle.ell_core.proofs.lemmas.following.Since.{searches_begin, searches_go_on}
+use Rattle.ell_core.proofs.lemmas.following.Cleans.{cleans_go_on}
 use Rattle.ell_core.proofs.laws.steps.searches_see_what_stands.Goals as goal
 
 pub returns : goal.returns

@@ -1,5 +1,5 @@
 -- What is new on a walk after an event is in the tree, and what was cut out is not.
-use Rattle.ell_core.proofs.following.Walks.{roots_avoid, events_keep_avoiding}
+use Rattle.ell_core.proofs.lemmas.following.Walks.{roots_avoid, events_keep_avoiding}
 use Rattle.ell_core.proofs.laws.steps.walks_avoid_what_was_cut.Goals as goal
 
 pub returns : goal.returns

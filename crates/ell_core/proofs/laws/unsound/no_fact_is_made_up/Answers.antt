@@ -1,5 +1,5 @@
 -- In each state each of these facts fails.
-use Rattle.ell_core.proofs.following.small_states.Facts.{insert_card_broken, insert_flag_broken, insert_child_broken, insert_over_broken, delete_card_broken, marked_card_broken, delete_flag_broken, passed_flag_broken, passed_broken, mark_broken, delete_child_broken, delete_over_broken, backed_broken}
+use Rattle.ell_core.proofs.lemmas.following.small_states.Facts.{insert_card_broken, insert_flag_broken, insert_child_broken, insert_over_broken, delete_card_broken, marked_card_broken, delete_flag_broken, passed_flag_broken, passed_broken, mark_broken, delete_child_broken, delete_over_broken, backed_broken}
 use Rattle.ell_core.proofs.laws.unsound.no_fact_is_made_up.Goals as goal
 
 pub returns : goal.returns

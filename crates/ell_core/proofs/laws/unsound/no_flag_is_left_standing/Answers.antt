@@ -1,5 +1,5 @@
 -- Each state breaks its clause.
-use Rattle.ell_core.proofs.following.small_states.Flags.{left_broken, another_broken, not_won_broken, iflag_broken, dflag_broken, mark_broken}
+use Rattle.ell_core.proofs.lemmas.following.small_states.Flags.{left_broken, another_broken, not_won_broken, iflag_broken, dflag_broken, mark_broken}
 use Rattle.ell_core.proofs.laws.unsound.no_flag_is_left_standing.Goals as goal
 
 pub returns : goal.returns

@@ -1,5 +1,5 @@
 -- Each state breaks its clause.
-use Rattle.ell_core.proofs.following.small_states.Ledgers.{twice_broken, owned_broken, present_broken, kept_broken, other_value_broken}
+use Rattle.ell_core.proofs.lemmas.following.small_states.Ledgers.{twice_broken, owned_broken, present_broken, kept_broken, other_value_broken}
 use Rattle.ell_core.proofs.laws.unsound.no_ledger_is_wrong.Goals as goal
 
 pub returns : goal.returns

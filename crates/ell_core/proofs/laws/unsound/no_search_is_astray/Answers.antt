@@ -1,5 +1,5 @@
 -- Each state breaks its clause.
-use Rattle.ell_core.proofs.following.small_states.Ledgers.{found_broken, missed_broken, astray_broken}
+use Rattle.ell_core.proofs.lemmas.following.small_states.Ledgers.{found_broken, missed_broken, astray_broken}
 use Rattle.ell_core.proofs.laws.unsound.no_search_is_astray.Goals as goal
 
 pub returns : goal.returns

@@ -1,5 +1,5 @@
 -- Each state breaks its clause.
-use Rattle.ell_core.proofs.following.small_states.Ledgers.{owner_broken, busy_broken, knowing_broken}
+use Rattle.ell_core.proofs.lemmas.following.small_states.Ledgers.{owner_broken, busy_broken, knowing_broken}
 use Rattle.ell_core.proofs.laws.unsound.no_stranger_is_somebody.Goals as goal
 
 pub returns : goal.returns

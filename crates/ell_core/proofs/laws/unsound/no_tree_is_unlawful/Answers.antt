@@ -1,5 +1,5 @@
 -- Each state breaks its rule.
-use Rattle.ell_core.proofs.following.small_states.Trees.{rises_broken, path_broken, left_broken, right_broken, root_key_broken, root_right_broken, right_key_broken, last_broken, outer_broken, real_broken, deep_broken}
+use Rattle.ell_core.proofs.lemmas.following.small_states.Trees.{rises_broken, path_broken, left_broken, right_broken, root_key_broken, root_right_broken, right_key_broken, last_broken, outer_broken, real_broken, deep_broken}
 use Rattle.ell_core.proofs.laws.unsound.no_tree_is_unlawful.Goals as goal
 
 pub returns : goal.returns

@@ -1,5 +1,5 @@
 use Rattle.std.proofs.Common.{refl, rules}
-use Rattle.ell_handle.proofs.May.{find_keeps}
+use Rattle.ell_handle.proofs.lemmas.May.{find_keeps}
 use Rattle.ell_handle.proofs.handle.Handle.find.Goals as goal
 
 -- the handle has its keys and its map still

@@ -4,9 +4,9 @@ use Rattle.std.specs.List.Sorted.{IsStrictlyIncreasing}
 use Rattle.ell_cards.specs.Changes.{keys_of}
 use Rattle.ell_tree.specs.Ledgers.{present_in}
 use Rattle.ell_tree.specs.Node.{most_start}
-use Rattle.ell_handle.proofs.Anew.{same_owned}
-use Rattle.ell_handle.proofs.Listing.{counted_more, found_none, found_one, lists_pairs, none_else, pairs_at, pairs_count}
-use Rattle.ell_handle.proofs.Together.{stays_more}
+use Rattle.ell_handle.proofs.lemmas.Anew.{same_owned}
+use Rattle.ell_handle.proofs.lemmas.Listing.{counted_more, found_none, found_one, lists_pairs, none_else, pairs_at, pairs_count}
+use Rattle.ell_handle.proofs.lemmas.Together.{stays_more}
 use Rattle.ell_handle.proofs.handle.Handle.has_too_much.Goals as goal
 use Rattle.ell_handle.proofs.handle.Handle.has_too_much.Goals.{then-is_some, else-is_some}
 
@@ -46,6 +46,6 @@ returns-clause-many c =
     let ascending : IsStrictlyIncreasing keys = subst IsStrictlyIncreasing same c.keys-place-end.ensures.ascending in
     let all : c.loop-place.count ≡ length (pairs_at there keys) =
     c.loop-place.invariant.counted ∙ ap (λ (ks : List ℕ). length (pairs_at there ks)) (take_all c.loop-place.place keys past) in (
-      λ more pairs lists. subst (λ n. most_start < n) (all ∙ sym (pairs_count p pairs ascending lists)) (ltb-true 200000 c.loop-place.count more),
-      λ much. lt-ltb 200000 c.loop-place.count (subst (λ n. most_start < n) (sym all) (much (pairs_at there keys) (lists_pairs there keys ascending (none_else p)))),
+      λ more pairs lists. subst (λ n. most_start < n) (all ∙ sym (pairs_count p pairs ascending lists)) (ltb-true most_start c.loop-place.count more),
+      λ much. lt-ltb most_start c.loop-place.count (subst (λ n. most_start < n) (sym all) (much (pairs_at there keys) (lists_pairs there keys ascending (none_else p)))),
     )

@@ -2,7 +2,7 @@ use Rattle.std.proofs.Common.{◌≡◌, ◌≤◌, length, take}
 use Rattle.ell_cards.specs.Changes.{keys_of}
 use Rattle.ell_tree.specs.Ledgers.{present_in}
 use Rattle.ell_handle.specs.Groups.{StaysPut}
-use Rattle.ell_handle.proofs.Listing.{pairs_at}
+use Rattle.ell_handle.proofs.lemmas.Listing.{pairs_at}
 use Rattle.ell_handle.proofs.handle.Handle.has_too_much.Given as goal
 
 -- of the first keys those that are present are counted, and keys, map and tree are as they were

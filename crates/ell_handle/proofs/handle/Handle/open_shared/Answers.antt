@@ -1,5 +1,5 @@
 use Rattle.std.proofs.Common.{[]}
-use Rattle.ell_handle.proofs.Anew.{real_start}
+use Rattle.ell_handle.proofs.lemmas.Anew.{real_start}
 use Rattle.ell_handle.proofs.handle.Handle.open_shared.Goals as goal
 
 -- the start keys are real

@@ -4,7 +4,7 @@ use Rattle.ell_ops.specs.Meaning.{greatest_key}
 use Rattle.ell_cards.specs.Changes.{keys_of}
 use Rattle.ell_tree.specs.Ledgers.{Owns, present_in}
 use Rattle.ell_handle.specs.Renewal.{pair_at}
-use Rattle.ell_handle.proofs.Anew.{owns_listed}
+use Rattle.ell_handle.proofs.lemmas.Anew.{owns_listed}
 use Rattle.ell_handle.proofs.handle.Handle.pair.Goals as goal
 
 -- the handle's keys are real

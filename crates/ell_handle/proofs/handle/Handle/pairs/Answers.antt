@@ -5,8 +5,8 @@ use Rattle.std.specs.List.{cons_option}
 use Rattle.ell_ops.specs.Contents.{ListsPairs}
 use Rattle.ell_cards.specs.Changes.{keys_of}
 use Rattle.ell_tree.specs.Ledgers.{present_in}
-use Rattle.ell_handle.proofs.Anew.{same_owned}
-use Rattle.ell_handle.proofs.Listing.{listed_more, lists_pairs, none_else, pairs_at}
+use Rattle.ell_handle.proofs.lemmas.Anew.{same_owned}
+use Rattle.ell_handle.proofs.lemmas.Listing.{listed_more, lists_pairs, none_else, pairs_at}
 use Rattle.ell_handle.proofs.handle.Handle.pairs.Goals as goal
 use Rattle.ell_handle.proofs.handle.Handle.pairs.Goals.{in-Some+in_ok-push, in_default}
 

@@ -1,7 +1,7 @@
 use Rattle.std.proofs.Common.{◌≡◌, ℕ, take}
 use Rattle.ell_cards.specs.Changes.{keys_of}
 use Rattle.ell_tree.specs.Ledgers.{present_in}
-use Rattle.ell_handle.proofs.Listing.{pairs_at}
+use Rattle.ell_handle.proofs.lemmas.Listing.{pairs_at}
 use Rattle.ell_handle.proofs.handle.Handle.pairs.Given as goal
 
 -- the pairs of the first keys are listed, and keys and map are as they were

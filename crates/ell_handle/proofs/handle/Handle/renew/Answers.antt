@@ -3,7 +3,7 @@ use Rattle.std.specs.Arc.{arc_value}
 use Rattle.ell_tree.specs.Ledgers.{Owns, present_in}
 use Rattle.ell_handle.specs.Opens.{OwnsAll, Refuses}
 use Rattle.ell_handle.specs.Renewal.{RenewalRefuses}
-use Rattle.ell_handle.proofs.Anew.{lists_same, refuses_renewal, same_keys, same_map}
+use Rattle.ell_handle.proofs.lemmas.Anew.{lists_same, refuses_renewal, same_keys, same_map}
 use Rattle.ell_handle.proofs.handle.Handle.renew.Goals as goal
 use Rattle.ell_handle.proofs.handle.Handle.renew.Goals.{After-drop-pairs-2}
 

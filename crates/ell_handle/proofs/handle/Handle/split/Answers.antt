@@ -1,9 +1,9 @@
 use Rattle.std.proofs.Common.{rules, subst, sym}
 use Rattle.std.specs.List.{All}
 use Rattle.ell_tree.specs.Ledgers.{Owns}
-use Rattle.ell_handle.proofs.Given.{each_given}
+use Rattle.ell_handle.proofs.lemmas.Given.{each_given}
 use Rattle.ell_ops.specs.KeySet.{Lists, set_of}
-use Rattle.ell_handle.proofs.Parted.{given, left_of, rest, right_of}
+use Rattle.ell_handle.proofs.lemmas.Parted.{given, left_of, rest, right_of}
 use Rattle.ell_handle.proofs.handle.Handle.split.Goals as goal
 
 -- the parts

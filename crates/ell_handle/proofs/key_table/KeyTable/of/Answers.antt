@@ -1,6 +1,6 @@
 use Rattle.std.proofs.Common.{◌≡◌, true, ⊎_elim, subst, sym}
 use Rattle.ell_ops.specs.KeySet.{set_of}
-use Rattle.ell_cards.proofs.words.Keys.{at_place}
+use Rattle.ell_cards.proofs.lemmas.words.Keys.{at_place}
 use Rattle.ell_handle.proofs.key_table.KeyTable.of.Goals as goal
 
 -- at first it has none

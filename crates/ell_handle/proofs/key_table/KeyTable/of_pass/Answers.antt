@@ -1,6 +1,6 @@
 use Rattle.std.proofs.Common.{◌≡◌, true, subst}
 use Rattle.ell_ops.specs.KeySet.{set_of}
-use Rattle.ell_cards.proofs.words.Keys.{among_owned}
+use Rattle.ell_cards.proofs.lemmas.words.Keys.{among_owned}
 use Rattle.ell_handle.proofs.key_table.KeyTable.of_pass.Goals as goal
 
 -- the list of a pass has the keys of its ledger

@@ -1,6 +1,6 @@
 use Rattle.std.proofs.Common.{◌≡◌, ◌<◌, ℕ, rules, length, get_or}
 use Rattle.ell_parts.specs.PartedOps.{IsWorkerCount}
-use Rattle.ell_parts.proofs.Partings.{lawful_from_checks}
+use Rattle.ell_parts.proofs.lemmas.Partings.{lawful_from_checks}
 use Rattle.ell_parts.proofs.parts.Parts.by_owner.Goals as goal
 
 pub of-requires : goal.of-requires

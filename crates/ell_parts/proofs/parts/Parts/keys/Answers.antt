@@ -1,6 +1,6 @@
 use Rattle.std.proofs.Common.{◌<◌, length, arith, ap}
 use Rattle.ell_parts.specs.PartedOps.{PartedOps}
-use Rattle.ell_parts.proofs.Partings.{keys_at}
+use Rattle.ell_parts.proofs.lemmas.Partings.{keys_at}
 use Rattle.ell_parts.proofs.parts.Parts.keys.Goals as goal
 
 pub returns : goal.returns

@@ -1,6 +1,6 @@
 use Rattle.std.proofs.Common.{ap, sym, subst, ◌∙◌, length}
 use Rattle.ell_parts.specs.PartedOps.{PartedOps, AreParts}
-use Rattle.ell_parts.proofs.Partings.{lists_made}
+use Rattle.ell_parts.proofs.lemmas.Partings.{lists_made}
 use Rattle.ell_parts.proofs.parts.Parts.of.Goals as goal
 
 pub invariant_of-result : goal.invariant_of-result

@@ -1,7 +1,7 @@
 use Rattle.std.proofs.Common.{rules, ap, ◌∙◌}
-use Rattle.ell_ops.proofs.Sets.{one_list}
+use Rattle.ell_ops.proofs.lemmas.Sets.{one_list}
 use Rattle.ell_parts.specs.PartedOps.{IsWorkerCount, keys_of, ranged}
-use Rattle.ell_parts.proofs.Partings.{ranged_is_lawful}
+use Rattle.ell_parts.proofs.lemmas.Partings.{ranged_is_lawful}
 use Rattle.ell_parts.proofs.parts.Parts.ranged.Goals as goal
 
 pub of-requires : goal.of-requires

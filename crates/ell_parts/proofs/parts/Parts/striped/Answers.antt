@@ -1,6 +1,6 @@
 use Rattle.std.proofs.Common.{rules}
 use Rattle.ell_parts.specs.PartedOps.{IsWorkerCount}
-use Rattle.ell_parts.proofs.Partings.{striped_is_lawful}
+use Rattle.ell_parts.proofs.lemmas.Partings.{striped_is_lawful}
 use Rattle.ell_parts.proofs.parts.Parts.striped.Goals as goal
 
 pub of-requires : goal.of-requires

@@ -1,5 +1,5 @@
 -- In version 2 the line of a value that was found is put in two pieces.
-use Rattle.ell_text.proofs.Putting.{HasPut-failed, HasPut-then, Faults-more}
+use Rattle.ell_text.proofs.lemmas.Putting.{HasPut-failed, HasPut-then, Faults-more}
 use Rattle.ell_text.proofs.answer.ReplyListed.put_line.Goals as goal
 
 pub returns-in_err-put-in-Two-Found : goal.returns-in_err-put-in-Two-Found

@@ -2,7 +2,7 @@
 use Rattle.std.proofs.Common.{◌≡◌, None, subst, sym, rules}
 use Rattle.ell_text.specs.Bulk.{BulkFits, bulk_value, fault_of_said}
 use Rattle.ell_text.specs.Line.{LineFits}
-use Rattle.ell_text.proofs.Bulks.{fits_more, on_ok_with}
+use Rattle.ell_text.proofs.lemmas.Bulks.{fits_more, on_ok_with}
 use Rattle.ell_text.proofs.bulk.Bulk.append_read.Goals as goal
 
 pub returns-clause-fits : goal.returns-clause-fits

@@ -1,5 +1,5 @@
 -- In version 2 a key, a space and its value, one after another.
-use Rattle.ell_text.proofs.Putting.{HasPut-failed, HasPut-then, Puts-then, Faults-then, Faults-more}
+use Rattle.ell_text.proofs.lemmas.Putting.{HasPut-failed, HasPut-then, Puts-then, Faults-then, Faults-more}
 use Rattle.ell_text.proofs.listing.Tuple2U64U64Listed.put_line.Goals as goal
 
 pub returns-in_err-put_number-in-Two : goal.returns-in_err-put_number-in-Two

@@ -1,4 +1,4 @@
-use Rattle.ell_text.proofs.Putting.{HasPut-failed, HasPut-then, Faults-more}
+use Rattle.ell_text.proofs.lemmas.Putting.{HasPut-failed, HasPut-then, Faults-more}
 use Rattle.ell_text.proofs.listing.U64Listed.put_line.Goals as goal
 
 pub returns-in_err-put_number : goal.returns-in_err-put_number

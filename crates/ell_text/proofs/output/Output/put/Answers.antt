@@ -1,5 +1,5 @@
-use Rattle.ell_text.proofs.Putting.{HasPut-failed, Sends-kept}
-use Rattle.ell_text.proofs.Sending.{Sends-trans, Sends-more, Stops-then, Stops-more}
+use Rattle.ell_text.proofs.lemmas.Putting.{HasPut-failed, Sends-kept}
+use Rattle.ell_text.proofs.lemmas.Sending.{Sends-trans, Sends-more, Stops-then, Stops-more}
 use Rattle.ell_text.proofs.output.Output.put.Goals as goal
 
 pub returns-in_err-flush : goal.returns-in_err-flush

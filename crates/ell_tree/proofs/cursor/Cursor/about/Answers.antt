@@ -6,8 +6,8 @@ use Rattle.ell_cards.specs.Models.{PassModel}
 use Rattle.ell_cards.specs.declared.view.View.{View}
 use Rattle.ell_tree.specs.Cursors.{AreKept, FindsAbout}
 use Rattle.ell_tree.specs.Looks.{stretch_steps}
-use Rattle.ell_tree.proofs.Counting.{counted_all, uncounted_none, uncounted_one, uncounted_trans}
-use Rattle.ell_tree.proofs.Cursors.{Goes, all_on, goes_first, goes_down, goes_found, on_counted, key_on, kept_still, may_go_down, one_kept, stands_still}
+use Rattle.ell_tree.proofs.lemmas.Counting.{counted_all, uncounted_none, uncounted_one, uncounted_trans}
+use Rattle.ell_tree.proofs.lemmas.Cursors.{Goes, all_on, goes_first, goes_down, goes_found, on_counted, key_on, kept_still, may_go_down, one_kept, stands_still}
 use Rattle.ell_tree.proofs.cursor.Cursor.about.Goals as goal
 use Rattle.ell_tree.proofs.cursor.Cursor.about.Goals.{then-not-right, else-not-right}
 

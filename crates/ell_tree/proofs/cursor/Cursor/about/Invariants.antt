@@ -1,6 +1,6 @@
 use Rattle.std.proofs.Common.{◌+◌, ◌*◌, ◌-◌}
 use Rattle.ell_tree.specs.Counts.{HasUncounted}
-use Rattle.ell_tree.proofs.Cursors.{Goes}
+use Rattle.ell_tree.proofs.lemmas.Cursors.{Goes}
 use Rattle.ell_tree.proofs.cursor.Cursor.about.Given as goal
 
 abbrev pub invariant-loop-pass : goal.invariant-loop-pass

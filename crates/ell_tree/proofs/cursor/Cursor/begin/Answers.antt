@@ -3,7 +3,7 @@ use Rattle.ell_ops.specs.Meaning.{greatest_key}
 use Rattle.ell_cards.specs.Models.{PassModel}
 use Rattle.ell_cards.specs.declared.view.View.{View}
 use Rattle.ell_tree.specs.Cursors.{IsKept}
-use Rattle.ell_tree.proofs.Cursors.{begins_look, begin_kept, first_kept}
+use Rattle.ell_tree.proofs.lemmas.Cursors.{begins_look, begin_kept, first_kept}
 use Rattle.ell_tree.proofs.cursor.Cursor.begin.Goals as goal
 
 pub returns-clause-begins : goal.returns-clause-begins

@@ -2,7 +2,7 @@
 use Rattle.std.proofs.Common.{ℕ, Option, slice_index, ap, subst, arith}
 use Rattle.ell_cards.specs.Readings.{IsRead}
 use Rattle.ell_cards.specs.Models.{PassModel}
-use Rattle.ell_cards.proofs.runs.Readings.{readings_are_past}
+use Rattle.ell_cards.proofs.lemmas.runs.Readings.{readings_are_past}
 use Rattle.ell_tree.specs.Ledgers.{TreeModel}
 use Rattle.ell_tree.proofs.tree.Tree.cards_left.Goals as goal
 

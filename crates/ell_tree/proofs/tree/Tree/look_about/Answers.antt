@@ -1,5 +1,5 @@
 -- What a look has found about a key was so in one state since it began.
-use Rattle.ell_cards.proofs.runs.Beginnings.{stretches_are_of_one_state}
+use Rattle.ell_cards.proofs.lemmas.runs.Beginnings.{stretches_are_of_one_state}
 use Rattle.ell_tree.proofs.tree.Tree.look_about.Goals as goal
 
 pub returns-clause-so : goal.returns-clause-so

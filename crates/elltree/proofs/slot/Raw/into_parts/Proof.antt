@@ -27,7 +27,7 @@ use denote.Triple.Table.{entered}
 use denote.Triple.Walked.{says, Stays, stay_dropped, walk_of, ends_at, Goes-dropped, walk_Meets}
 use Rattle.std_alloc.proofs.BoxSteps.Form.{D, B, word, box_typed}
 use Rattle.std_alloc.proofs.BoxSteps.Steps.{box_out, box_in}
-use Rattle.elltree.proofs.AsBox.{E, FromRaw as From}
+use Rattle.elltree.proofs.lemmas.AsBox.{E, FromRaw as From}
 use Rattle.elltree.specs.contracts.slot.Raw as Raw
 use Rattle.elltree.specs.Owned.{raw_owns}
 use Rattle.elltree.specs.contracts.slot.Raw.into_parts as F

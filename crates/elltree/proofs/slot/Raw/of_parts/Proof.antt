@@ -25,7 +25,7 @@ use denote.Triple.Table.{entered}
 use denote.Triple.Walked.{says, Stays, stay_dropped, walk_of, ends_at, Goes-dropped, walk_Meets}
 use Rattle.std_alloc.proofs.BoxSteps.Form.{D, B, word, box_typed}
 use Rattle.std_alloc.proofs.BoxSteps.Steps.{box_out, box_in}
-use Rattle.elltree.proofs.AsBox.{E, boxed, FromParts as From}
+use Rattle.elltree.proofs.lemmas.AsBox.{E, boxed, FromParts as From}
 use Rattle.elltree.specs.contracts.slot.Raw.of_parts as F
 use Rattle.elltree.specs.contracts.slot.Raw.of_parts.Key.{name as #self}
 use Rattle.elltree.proofs.slot.Raw.of_parts.Statement as stated

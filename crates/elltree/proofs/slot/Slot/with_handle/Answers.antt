@@ -1,6 +1,6 @@
 use Rattle.std.proofs.Common.{refl, rules}
 use Rattle.std.specs.Fn.{FnOnceReturnsAtMut}
-use Rattle.elltree.proofs.Calling.{answered}
+use Rattle.elltree.proofs.lemmas.Calling.{answered}
 use Rattle.elltree.proofs.slot.Slot.with_handle.Goals as goal
 use Rattle.elltree.proofs.slot.Slot.with_handle.Goals.{in-Some, in-None}
 

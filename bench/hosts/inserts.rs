@@ -1,0 +1,72 @@
+//! How long it takes to fill a map that was empty, in one order of the keys or another.
+
+use crate::pauses::{self, Load};
+use crate::peers::{Peer, Sizes, View};
+use crate::record::Figure;
+use crate::work::Random;
+use std::sync::atomic::{AtomicUsize, Ordering};
+use std::sync::Barrier;
+use std::thread;
+use std::time::{Duration, Instant};
+
+/// How many keys a thread takes at a time.
+const BLOCK: usize = 1_000;
+
+/// The order in which keys are inserted.
+#[derive(Clone, Copy, PartialEq, Eq, PartialOrd, Ord)]
+pub enum Order {
+    Ascending,
+    Shuffled,
+}
+
+impl Order {
+    pub const ALL: [Order; 2] = [Order::Ascending, Order::Shuffled];
+
+    pub fn name(self) -> &'static str {
+        match self {
+            Order::Ascending => "ascending",
+            Order::Shuffled => "shuffled",
+        }
+    }
+
+    /// The numbers below this in this order, which is the same each time.
+    fn keys(self, count: u64) -> Vec<u64> {
+        let mut keys: Vec<u64> = (0..count).collect();
+        if self == Order::Shuffled {
+            Random::new(4).shuffle(&mut keys);
+        }
+        keys
+    }
+}
+
+/// Inserts the next block of these keys that no thread has taken, again and again, and returns how long it took.
+fn insert_blocks(owner: &mut dyn View, keys: &[u64], next: &AtomicUsize, begin: &Barrier) -> Duration {
+    begin.wait();
+    let begun = Instant::now();
+    while let Some(block) = keys.chunks(BLOCK).nth(next.fetch_add(1, Ordering::Relaxed)) {
+        for &key in block {
+            assert!(owner.insert(key, key + 7), "{key} was absent");
+        }
+    }
+    begun.elapsed()
+}
+
+/// Has all owners of a new map without keys insert all of them, in this order: how long an insert took, in nanoseconds of the time of all
+/// threads together, and how often and how long the map paused, if it renews itself.
+pub fn inserts(peer: Peer, sizes: Sizes, order: Order) -> Vec<(Figure, f64)> {
+    let keys = &order.keys(sizes.keys);
+    let mut crew = peer.crew(Sizes { keys: 0, ..sizes });
+    let (next, begin) = (&AtomicUsize::new(0), &Barrier::new(crew.threads()));
+    let took: Vec<Duration> = thread::scope(|scope| {
+        let insert_all = |owner| scope.spawn(move || insert_blocks(owner, keys, next, begin));
+        let threads: Vec<_> = crew.owners.iter_mut().map(|owner| insert_all(&mut **owner)).collect();
+        threads.into_iter().map(|thread| thread.join().unwrap()).collect()
+    });
+    for &key in keys.iter().step_by(BLOCK) {
+        assert_eq!(crew.owners[0].find(key), Some(key + 7), "{key} is there in {}", peer.name());
+    }
+    let mean = took.iter().sum::<Duration>().as_nanos() as f64 / keys.len() as f64;
+    let longest = took.into_iter().max().expect("a thread");
+    let of_pauses = crew.renewing.map(|map| pauses::figures(Load::Inserts(order), map.counts(), longest));
+    [vec![(Figure::Insert(order), mean)], of_pauses.unwrap_or_default()].concat()
+}

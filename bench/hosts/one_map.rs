@@ -1,0 +1,98 @@
+//! The library's one map, which all threads share without handles and which renews itself, and when a renewal of it has ended.
+
+use crate::peers::{Counters, Crew, Sizes, View};
+use crate::ranges::{told, Ranges, Told};
+use elltree::{Map, MapCounts, MapResult, MapSettings};
+use std::sync::Arc;
+use std::thread;
+use std::time::{Duration, Instant};
+
+/// How often a thread that waits for a renewal sees whether there was one, and how long it waits at most.
+const BETWEEN_LOOKS: Duration = Duration::from_micros(100);
+const MOST: Duration = Duration::from_secs(10);
+
+/// After how many renewals a map is measured even if it still changes the number of its cards.
+const RENEWALS_TO_SETTLE: usize = 12;
+
+impl View for Arc<Map> {
+    fn find(&mut self, key: u64) -> Option<u64> {
+        Map::get(self, key)
+    }
+
+    fn insert(&mut self, key: u64, value: u64) -> bool {
+        Map::insert(self, key, value).unwrap()
+    }
+
+    fn delete(&mut self, key: u64) -> bool {
+        Map::delete(self, key).unwrap()
+    }
+}
+
+impl Counters for Arc<Map> {
+    fn add(&mut self, key: u64) -> Option<u64> {
+        Some(self.fetch_add(key, 1).unwrap().expect("a counter"))
+    }
+}
+
+impl Ranges for Arc<Map> {
+    fn range(&mut self, from: u64, upto: u64) -> Told {
+        told(Map::range(self, from..upto))
+    }
+
+    fn next_at_least(&mut self, key: u64) -> Option<(u64, u64)> {
+        Map::next_at_least(self, key)
+    }
+
+    fn swap(&mut self, key: u64, value: u64) -> Option<u64> {
+        self.update(key, |_| value).unwrap()
+    }
+}
+
+/// The threads of a new map with these pairs and the usual settings.
+fn crew<V: ?Sized>(pairs: &[(u64, u64)], sizes: Sizes, view: impl Fn(Arc<Map>) -> Box<V>) -> MapResult<Crew<V>> {
+    let map = Arc::new(Map::from_sorted(pairs, MapSettings::default())?);
+    let views = |count| (0..count).map(|_| view(map.clone())).collect();
+    let (owners, readers) = (views(sizes.owners), views(sizes.readers));
+    Ok(Crew { owners, readers, renewing: (sizes.owners > 0).then_some(map) })
+}
+
+/// A new map.
+pub fn sharing(sizes: Sizes) -> MapResult<Crew> {
+    crew(&sizes.start().collect::<Vec<_>>(), sizes, |map| Box::new(map) as Box<dyn View>)
+}
+
+/// The same, of which ranges are told.
+pub fn ranging(sizes: Sizes) -> MapResult<Crew<dyn Ranges>> {
+    crew(&sizes.start().collect::<Vec<_>>(), sizes, |map| Box::new(map) as Box<dyn Ranges>)
+}
+
+/// A new map of counters.
+pub fn counters(sizes: Sizes) -> MapResult<Crew<dyn Counters>> {
+    crew(&sizes.zeros(), sizes, |map| Box::new(map) as Box<dyn Counters>)
+}
+
+/// Waits until the next renewal has ended, and returns what has happened to the map then. If there is none for long, it says so, and goes
+/// on.
+pub fn wait_for_renewal(map: &Map) -> MapCounts {
+    let (begun, before) = (Instant::now(), map.counts());
+    while map.counts().renewals == before.renewals {
+        if begun.elapsed() > MOST {
+            eprintln!("hosts: a map was not renewed for {} seconds", MOST.as_secs());
+            break;
+        }
+        thread::sleep(BETWEEN_LOOKS);
+    }
+    map.counts()
+}
+
+/// Waits until a renewal has ended that left the number of cards as it was. A new map first finds out how many it needs.
+pub fn settle(map: &Map) {
+    let mut cards = map.counts().cards;
+    for _ in 0..RENEWALS_TO_SETTLE {
+        let before = cards;
+        cards = wait_for_renewal(map).cards;
+        if cards == before {
+            return;
+        }
+    }
+}

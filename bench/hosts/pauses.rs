@@ -1,0 +1,122 @@
+//! What is told of the pauses of a map that renews itself.
+
+use crate::inserts::Order;
+use crate::peers::{Crew, Peer, Sizes, Stripe, View};
+use crate::record::Figure;
+use crate::work::{Stage, Work};
+use elltree::MapCounts;
+use std::thread;
+use std::time::{Duration, Instant};
+
+/// The number of keys of a map that is also measured under changes and finds.
+const ALSO_FOUND: u64 = 65_536;
+
+/// What threads do with the map, that the pauses are told of.
+#[derive(Clone, Copy, PartialEq, Eq, PartialOrd, Ord)]
+pub enum Load {
+    Inserts(Order),
+    Work(Work),
+}
+
+impl Load {
+    pub const ALL: [Load; 4] = [
+        Load::Inserts(Order::Ascending),
+        Load::Inserts(Order::Shuffled),
+        Load::Work(Work::Changes),
+        Load::Work(Work::FewChanges),
+    ];
+
+    pub fn name(self) -> &'static str {
+        match self {
+            Load::Inserts(Order::Ascending) => "ascending inserts",
+            Load::Inserts(Order::Shuffled) => "shuffled inserts",
+            Load::Work(Work::Mixed) => "50 % changes",
+            Load::Work(Work::Changes) => "changes",
+            Load::Work(Work::FewChanges) => "10 % changes",
+        }
+    }
+}
+
+/// What a number says of the pauses.
+#[derive(Clone, Copy, PartialEq, Eq, PartialOrd, Ord)]
+pub enum Said {
+    /// How many inserts and deletes there were in a second, also those that found nothing to do.
+    ChangesASecond,
+    Renewals,
+    /// How many of the renewals there were because the tree had grown deep.
+    EarlyRenewals,
+    /// Which part of the time the pauses took, in percent.
+    Part,
+    /// The mean of the pauses in nanoseconds, and the longest.
+    Mean,
+    Longest,
+    /// How many cards the last tree has.
+    Cards,
+}
+
+impl Said {
+    pub fn name(self) -> &'static str {
+        match self {
+            Said::ChangesASecond => "changes a second",
+            Said::Renewals => "renewals",
+            Said::EarlyRenewals => "early renewals",
+            Said::Part => "time in pauses in %",
+            Said::Mean => "mean pause",
+            Said::Longest => "longest pause",
+            Said::Cards => "cards",
+        }
+    }
+}
+
+/// The figures of a map to which this has happened since it was made, so long ago.
+pub fn figures(load: Load, counts: MapCounts, time: Duration) -> Vec<(Figure, f64)> {
+    let part = 100.0 * counts.pauses.as_secs_f64() / time.as_secs_f64();
+    let mean = (counts.renewals > 0).then(|| counts.pauses.as_nanos() as f64 / counts.renewals as f64);
+    let said = [
+        (Said::Renewals, Some(counts.renewals as f64)),
+        (Said::EarlyRenewals, Some(counts.early_renewals as f64)),
+        (Said::Part, Some(part)),
+        (Said::Mean, mean),
+        (Said::Longest, mean.map(|_| counts.longest_pause.as_nanos() as f64)),
+        (Said::Cards, Some(counts.cards as f64)),
+    ];
+    said.into_iter().filter_map(|(said, it)| Some((Figure::Pauses(load, said), it?))).collect()
+}
+
+/// Works without pause until the stage is over, and returns how many changes it made.
+fn count_changes(stage: &Stage, seed: u64, owner: &mut dyn View, keys: Stripe, work: Work) -> u64 {
+    let mut changes = 0;
+    stage.drive(seed, u64::MAX, |random| {
+        changes += u64::from(work.is_change(random));
+        work.act(owner, keys, random)
+    });
+    changes
+}
+
+/// Has all owners of a new map that renews itself do this work without pause for so long.
+fn pauses_of(peer: Peer, sizes: Sizes, work: Work, interval: Duration) -> Vec<(Figure, f64)> {
+    let Crew { owners, renewing, .. } = peer.crew(sizes);
+    let map = renewing.expect("a map that renews itself");
+    let stage = &Stage::of(owners.len());
+    let (changes, took) = thread::scope(|scope| {
+        let count = |(mut owner, seed): (Box<dyn View>, u64)| {
+            scope.spawn(move || count_changes(stage, seed, &mut *owner, sizes.all(), work))
+        };
+        let threads: Vec<_> = owners.into_iter().zip(0..).map(count).collect();
+        stage.begin_to_count();
+        let begun = Instant::now();
+        thread::sleep(interval);
+        stage.end();
+        let changes: u64 = threads.into_iter().map(|thread| thread.join().unwrap()).sum();
+        (changes, begun.elapsed())
+    });
+    let load = Load::Work(work);
+    let a_second = (Figure::Pauses(load, Said::ChangesASecond), changes as f64 / took.as_secs_f64());
+    [vec![a_second], figures(load, map.counts(), took)].concat()
+}
+
+/// The pauses of new maps under each load that is measured with so many keys, for so long each.
+pub fn pauses(peer: Peer, sizes: Sizes, interval: Duration) -> Vec<(Figure, f64)> {
+    let works = if sizes.keys == ALSO_FOUND { &[Work::Changes, Work::FewChanges][..] } else { &[Work::Changes] };
+    works.iter().flat_map(|work| pauses_of(peer, sizes, *work, interval)).collect()
+}

@@ -1,0 +1,116 @@
+"""A map from 64-bit keys to 64-bit values that threads share without locks.
+
+    m = elltree.Map({2: 20})   # one map, which any thread uses at any time as a dict of numbers
+    m[3] = 30
+    m.insert(3, 31)      # False: the key is there
+    m.fetch_add(2, 1)    # 20: the value that it had
+    m.pop(3)             # 30
+    list(m.items())      # [(2, 21)]: the pairs of all keys, ascending
+
+A Map renews its cards by itself, and other threads wait meanwhile. What it stands on can also be used by itself, without these pauses, through
+handles, one for each thread:
+
+    first = elltree.open_shared({2: 20}, cards=100_000)   # every key is shared
+    second = first.another()                              # for another thread
+    first.insert(3, 30)   # True
+    second.insert(3, 31)  # False: the key is there
+    second.delete(2)      # True: any handle changes any key
+    list(first.items())   # [(3, 30)]: the pairs of all keys, ascending
+    first.next_after(3)   # None: no key above 3 is there
+
+    first = elltree.open(range(1000), {2: 20}, cards=100_000)   # keys that have owners
+    second = first.split(range(500, 1000))
+    first.insert(3, 30)
+    second.look(3)        # 30: any handle looks at any key
+    second.find(3)        # Refused: elltree.FOREIGN, another handle owns the key
+
+With shared keys, all finds, inserts and deletes together answer as if they were made one after the other. renew_all_shared gives all handles of
+such a tree fresh cards together.
+
+A handle is in one call at a time: a second call meanwhile is refused. An exception of a signal, as KeyboardInterrupt, that cuts a call off
+leaves the handle free for the next one; whether the call had its effect is not told.
+
+A number that 64 bits don't hold raises OverflowError, and what is no number TypeError; any other refusal raises Refused, whose code is a Code.
+
+It needs Python 3.10. The package has the library in it if it was installed where there are headers of Python. If not, or if one of the environment
+variables ELLTREE_PURE and ELLTREE_LIBRARY is not empty, each call goes by ctypes, which takes many times as long, and the library is the file in
+ELLTREE_LIBRARY, or else libelltree.so in the package, as a wheel has it, or else lib/libelltree.so of the prefix that this package is installed in,
+or else the one that the system finds.
+"""
+
+from ._arguments import KEY_MAX
+from ._codes import (
+    BAD_CARDS,
+    BAD_KEY,
+    BAD_START,
+    BUSY,
+    CLOSED,
+    FOREIGN,
+    IN_CALL,
+    MAP_FULL,
+    NO,
+    NO_MEMORY,
+    NO_ROOM,
+    NO_TRIES,
+    NULL,
+    OPEN,
+    OTHER_TREE,
+    OTHER_VALUE,
+    SAME,
+    SHARED_KEYS,
+    SPENT,
+    TOO_MANY_HANDLES,
+    YES,
+    Busy,
+    Code,
+    Refused,
+    Spent,
+    text,
+)
+from ._handle import Handle, open, open_shared, renew_all, renew_all_shared
+from ._map import MAP_KEYS_MAX, Map
+
+__version__ = "0.1.0"
+
+__all__ = [
+    "BAD_CARDS",
+    "BAD_KEY",
+    "BAD_START",
+    "BUSY",
+    "CLOSED",
+    "FOREIGN",
+    "IN_CALL",
+    "KEY_MAX",
+    "MAP_FULL",
+    "MAP_KEYS_MAX",
+    "NO",
+    "NO_MEMORY",
+    "NO_ROOM",
+    "NO_TRIES",
+    "NULL",
+    "OPEN",
+    "OTHER_TREE",
+    "OTHER_VALUE",
+    "SAME",
+    "SHARED_KEYS",
+    "SPENT",
+    "TOO_MANY_HANDLES",
+    "YES",
+    "Busy",
+    "Code",
+    "Handle",
+    "Map",
+    "Refused",
+    "Spent",
+    "__version__",
+    "open",
+    "open_shared",
+    "renew_all",
+    "renew_all_shared",
+    "text",
+]
+
+# Tracebacks and pickles name the package, and not the module in it.
+for _public in (Busy, Code, Handle, Map, Refused, Spent):
+    _public.__module__ = __name__
+del _public

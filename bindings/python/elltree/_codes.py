@@ -1,0 +1,106 @@
+"""The codes of the library, and the exceptions by which a call is refused."""
+
+from __future__ import annotations
+
+import enum
+
+from ._library import code_text
+
+
+class Code(enum.IntEnum):
+    """What a call of the library says: an answer, or, below 0, why it was refused. text has a text for each."""
+
+    NO = 0
+    YES = 1
+    OTHER_VALUE = 2
+    BUSY = -1
+    SPENT = -2
+    FOREIGN = -3
+    NO_TRIES = -4
+    BAD_CARDS = -5
+    BAD_KEY = -6
+    BAD_START = -7
+    NO_ROOM = -8
+    NO_MEMORY = -9
+    CLOSED = -10
+    OPEN = -11
+    OTHER_TREE = -12
+    NULL = -13
+    SAME = -14
+    IN_CALL = -15
+    TOO_MANY_HANDLES = -16
+    SHARED_KEYS = -17
+    # Of a Map alone: it has MAP_KEYS_MAX keys, and the call would add one.
+    MAP_FULL = -100
+
+    # Codes are written as numbers, in Python 3.10 too.
+    __str__ = int.__repr__
+    __format__ = int.__format__
+
+
+NO = Code.NO
+YES = Code.YES
+OTHER_VALUE = Code.OTHER_VALUE
+BUSY = Code.BUSY
+SPENT = Code.SPENT
+FOREIGN = Code.FOREIGN
+NO_TRIES = Code.NO_TRIES
+BAD_CARDS = Code.BAD_CARDS
+BAD_KEY = Code.BAD_KEY
+BAD_START = Code.BAD_START
+NO_ROOM = Code.NO_ROOM
+NO_MEMORY = Code.NO_MEMORY
+CLOSED = Code.CLOSED
+OPEN = Code.OPEN
+OTHER_TREE = Code.OTHER_TREE
+NULL = Code.NULL
+SAME = Code.SAME
+IN_CALL = Code.IN_CALL
+TOO_MANY_HANDLES = Code.TOO_MANY_HANDLES
+SHARED_KEYS = Code.SHARED_KEYS
+MAP_FULL = Code.MAP_FULL
+
+_NUMBERS = frozenset(Code)
+
+
+def text(code: int) -> str:
+    """Returns what a code says."""
+    return code_text(code)
+
+
+class Refused(Exception):
+    """Says why a call was refused. The call has changed nothing.
+
+    The attribute code is the Code of the refusal, or a plain number if the library has no code for it.
+    """
+
+    code: int
+
+    def __init__(self, code: int) -> None:
+        code = Code(code) if code in _NUMBERS else code
+        super().__init__(code)
+        self.code = code
+
+    def __str__(self) -> str:
+        return text(self.code)
+
+
+class Busy(Refused):
+    """Something was in the way of each try of a change, or another handle changed the value first: the same call may be made again."""
+
+    def __init__(self, code: int = BUSY) -> None:
+        super().__init__(code)
+
+
+class Spent(Refused):
+    """All cards are given out, and the change needs one: renew_all and renew_all_shared make fresh ones. cards_left tells beforehand."""
+
+    def __init__(self, code: int = SPENT) -> None:
+        super().__init__(code)
+
+
+def answer(code: int) -> bool:
+    """Returns whether a code is yes, or raises the exception of the refusal that it is."""
+    if code < 0:
+        raise {BUSY: Busy, SPENT: Spent}.get(code, Refused)(code)
+    return code == YES

@@ -1,0 +1,240 @@
+"""One map object that all threads share."""
+
+from __future__ import annotations
+
+import collections.abc
+import os
+import weakref
+from collections.abc import Callable, Iterator
+from typing import Any, NoReturn, SupportsIndex, TypeVar, overload
+
+from ._arguments import Pairs, as_cards, as_key, as_value, pair_list, whole
+from ._codes import Refused
+from ._cores import MapCore
+from ._ordered import Ordered
+
+MAP_KEYS_MAX = 1_000_000
+
+_Default = TypeVar("_Default")
+
+
+class _Items(collections.abc.ItemsView[int, int]):
+    """The pairs of a map, which are found a few at a time, so that a key that another thread takes away is no error."""
+
+    __slots__ = ()
+
+    _mapping: Map
+
+    def __iter__(self) -> Iterator[tuple[int, int]]:
+        return self._mapping.range()
+
+
+class _Values(collections.abc.ValuesView[int]):
+    """The values of a map, which are found as its pairs are."""
+
+    __slots__ = ()
+
+    _mapping: Map
+
+    def __contains__(self, value: object) -> bool:
+        return any(there == value for there in self)
+
+    def __iter__(self) -> Iterator[int]:
+        return (value for _, value in self._mapping.range())
+
+
+# The maps of this process, by their ids, so that a forked child forgets them.
+_maps: weakref.WeakValueDictionary[int, Map] = weakref.WeakValueDictionary()
+
+
+def _forget_maps() -> None:
+    """Has calls on the parent's maps be refused (NULL) in a forked child, where they might wait for ever for a thread that is not here."""
+    for map_ in list(_maps.values()):
+        map_._core.forget()
+
+
+os.register_at_fork(after_in_child=_forget_maps)
+
+
+class Map(Ordered, collections.abc.MutableMapping[int, int]):
+    """A dict of numbers that all threads share: keys are 0 to KEY_MAX, values 0 to 2**64 - 1, and keys ascend in iterations.
+
+    Any thread makes any call at any time. The calls that find or change one key answer as if they were made one after the other. An iteration is no
+    snapshot, as pairs is: each key is told as it was at one moment since it began, and changes meanwhile are no error. The map renews the cards of
+    the tree that it stands on by itself, and all calls wait meanwhile; counts tells how long. docs/GATE.md says how: that part is tested and not
+    proved.
+
+    A map is not copied or pickled, and a forked child can't use it: calls are refused there (NULL).
+    """
+
+    __slots__ = ("_core", "__weakref__")
+
+    _core: MapCore
+
+    def __init__(
+        self,
+        start: Pairs = (),
+        cards: SupportsIndex = 0,
+        pause_percent: SupportsIndex = 0,
+        pause_microseconds: SupportsIndex = 0,
+        calls: SupportsIndex = 0,
+    ) -> None:
+        """Makes a map with the pairs of start, a dict or pairs in any order.
+
+        cards is about how many changes there will be soon; the map tries to pause for at most pause_percent of the time (5), and asks for no more
+        cards than pause_microseconds allow (5,000); so many calls may be under way at once. What is 0 is left to the map.
+        """
+        self._core = MapCore(
+            pair_list(dict(start)),
+            as_cards(cards),
+            whole(pause_percent, 32, "pause_percent"),
+            whole(pause_microseconds, 32, "pause_microseconds"),
+            whole(calls, 32, "calls"),
+        )
+        _maps[id(self)] = self
+
+    def __reduce_ex__(self, _: SupportsIndex) -> NoReturn:
+        raise TypeError("a map is not copied or pickled: dict(map) is a copy of its pairs")
+
+    @overload
+    def get(self, key: SupportsIndex, default: None = None) -> int | None: ...
+
+    @overload
+    def get(self, key: SupportsIndex, default: _Default) -> int | _Default: ...
+
+    def get(self, key: SupportsIndex, default: Any = None) -> Any:
+        """Returns the value of the key, or the default if it is absent."""
+        return self._core.get(key, default)
+
+    def __getitem__(self, key: SupportsIndex) -> int:
+        value = self._core.get(key, None)
+        if value is None:
+            raise KeyError(key)
+        return value
+
+    def __contains__(self, key: Any) -> bool:
+        return self._core.get(key, None) is not None
+
+    def __setitem__(self, key: SupportsIndex, value: SupportsIndex) -> None:
+        self._core.put(key, value)
+
+    def __delitem__(self, key: SupportsIndex) -> None:
+        if not self.delete(key):
+            raise KeyError(key)
+
+    def __len__(self) -> int:
+        """Returns how many keys are present: exactly so if no change is under way, and else as many as the changes so far make."""
+        return self._core.len()
+
+    def __iter__(self) -> Iterator[int]:
+        return (key for key, _ in self.range())
+
+    def __reversed__(self) -> Iterator[int]:
+        pair = self.last()
+        while pair is not None:
+            yield pair[0]
+            pair = self.last_before(pair[0])
+
+    def __repr__(self) -> str:
+        try:
+            return f"<elltree.Map of {len(self)} keys>"
+        except Refused as why:
+            return f"<elltree.Map: {why}>"
+
+    def items(self) -> collections.abc.ItemsView[int, int]:
+        """Returns a view of the pairs, ascending."""
+        return _Items(self)
+
+    def values(self) -> collections.abc.ValuesView[int]:
+        """Returns a view of the values, in the order of their keys."""
+        return _Values(self)
+
+    def insert(self, key: SupportsIndex, value: SupportsIndex) -> bool:
+        """Adds a key that is absent, and returns whether it was. A key that is present keeps its value."""
+        return self._core.insert(key, value)
+
+    def put(self, key: SupportsIndex, value: SupportsIndex) -> int | None:
+        """Stores the value of a key, present or not, in one atomic step. Returns the value that it had, or None if it was absent."""
+        return self._core.put(key, value)
+
+    def delete(self, key: SupportsIndex) -> bool:
+        """Takes a key away, and returns whether it was present."""
+        return self._core.delete(key)
+
+    def remove(self, key: SupportsIndex) -> int | None:
+        """Takes a key away, and returns the value that was taken, or None if the key was absent. No other thread took that value."""
+        return self._core.remove(key)
+
+    @overload
+    def pop(self, key: SupportsIndex) -> int: ...
+
+    @overload
+    def pop(self, key: SupportsIndex, default: _Default, /) -> int | _Default: ...
+
+    def pop(self, key: SupportsIndex, *default: Any) -> Any:
+        """Takes a key away, and returns the value that was taken, or the default if the key was absent; without a default it raises KeyError."""
+        if len(default) > 1:
+            raise TypeError(f"pop takes one default, not {len(default)}")
+        value = self.remove(key)
+        if value is not None:
+            return value
+        if not default:
+            raise KeyError(key)
+        return default[0]
+
+    def popitem(self) -> tuple[int, int]:
+        """Takes the least key away, and returns it with the value that was taken, or raises KeyError if there is none."""
+        while (pair := self.first()) is not None:
+            value = self.remove(pair[0])
+            if value is not None:
+                return pair[0], value
+        raise KeyError("the map is empty")
+
+    def setdefault(self, key: SupportsIndex, default: SupportsIndex) -> int:
+        """Returns the value of the key, which is added with the default if it is absent."""
+        key, default = as_key(key), as_value(default)
+        while not self.insert(key, default):
+            value = self.get(key)
+            if value is not None:
+                return value
+        return default
+
+    def clear(self) -> None:
+        """Takes each key away, one after the other."""
+        for key in self:
+            self.delete(key)
+
+    def compare_exchange(self, key: SupportsIndex, current: SupportsIndex, new: SupportsIndex) -> int | None:
+        """Stores new as the value of a key if its value is current, in one atomic step. Returns the value that was found, or None if the key is
+        absent: it was exchanged if and only if that is current."""
+        return self._core.compare_exchange(key, current, new)
+
+    def fetch_add(self, key: SupportsIndex, addend: SupportsIndex) -> int | None:
+        """Adds to the value of a key in one atomic step. Returns the value that it had, or None if the key is absent, which is left so. A sum past
+        2**64 - 1 wraps around."""
+        return self._core.fetch_add(key, addend)
+
+    def modify(self, key: SupportsIndex, f: Callable[[int], SupportsIndex]) -> int | None:
+        """Stores what f makes of the value of a key, in one atomic step. Returns the value that it had, or None if the key is absent, which is left
+        so. f is called again if another thread has changed the value meanwhile; it may call the map. A handle's update does this, while the
+        update of a map is that of a dict."""
+        value = self._core.find(key)
+        while value is not None:
+            there = self.compare_exchange(key, value, f(value))
+            if there == value:
+                break
+            value = there
+        return value
+
+    def pairs(self) -> list[tuple[int, int]]:
+        """Returns a list of all pairs, ascending, as they are at one moment: a snapshot. All other calls wait meanwhile."""
+        return self._core.pairs()
+
+    def renew(self) -> None:
+        """Renews the map now, so that a program has the pause at a moment of its choice."""
+        self._core.renew()
+
+    def counts(self) -> dict[str, int]:
+        """Returns what has happened to the map so far: a dict with cards, of the present tree; renewals; early_renewals, those of a tree that had
+        grown deep; pause_nanoseconds, the sum of the pauses; and longest_nanoseconds, the longest."""
+        return self._core.counts()

@@ -1,0 +1,247 @@
+/* Maps. */
+#include "_elltree.h"
+
+/* What the library keeps of a map: nothing in a forked child. */
+struct map_core {
+    PyObject_HEAD
+    struct elltree_map *map;
+};
+
+/* Calls on a map, all without the GIL. */
+
+static struct map_core *map_of(PyObject *core) { return (struct map_core *)core; }
+
+typedef int32_t map_work(struct elltree_map *map, const uint64_t *given, uint64_t *told);
+
+static int32_t call_on_map(PyObject *core, map_work *work_on, const uint64_t *given, uint64_t *told) {
+    struct elltree_map *map = map_of(core)->map;
+    int32_t code;
+    Py_BEGIN_ALLOW_THREADS
+    code = work_on(map, given, told);
+    Py_END_ALLOW_THREADS
+    return code;
+}
+
+static PyObject *map_truth(PyObject *core, PyObject *const *given, Py_ssize_t count, const char *letters, map_work *work_on) {
+    uint64_t numbers[NUMBERS_MOST], told[2] = {0, 0};
+    return as_numbers(given, count, letters, numbers) ? truth(core, call_on_map(core, work_on, numbers, told)) : NULL;
+}
+
+static PyObject *map_value(PyObject *core, PyObject *const *given, Py_ssize_t count, const char *letters, map_work *work_on) {
+    uint64_t numbers[NUMBERS_MOST], told[2] = {0, 0};
+    int32_t code;
+    if (!as_numbers(given, count, letters, numbers))
+        return NULL;
+    code = call_on_map(core, work_on, numbers, told);
+    return number_if(core, code, code != ELLTREE_NO, told[0]);
+}
+
+static PyObject *map_pair(PyObject *core, PyObject *const *given, Py_ssize_t count, map_work *work_on) {
+    uint64_t numbers[NUMBERS_MOST], told[2] = {0, 0};
+    return as_numbers(given, count, "k", numbers) ? pair_if_yes(core, call_on_map(core, work_on, numbers, told), told) : NULL;
+}
+
+static int32_t find_in(struct elltree_map *map, const uint64_t *given, uint64_t *told) { return elltree_map_get(map, given[0], told); }
+static int32_t put_in(struct elltree_map *map, const uint64_t *given, uint64_t *told) { return elltree_map_put(map, given[0], given[1], told); }
+static int32_t remove_in(struct elltree_map *map, const uint64_t *given, uint64_t *told) { return elltree_map_remove(map, given[0], told); }
+
+static int32_t insert_in(struct elltree_map *map, const uint64_t *given, uint64_t *told) {
+    (void)told;
+    return elltree_map_insert(map, given[0], given[1]);
+}
+
+static int32_t delete_in(struct elltree_map *map, const uint64_t *given, uint64_t *told) {
+    (void)told;
+    return elltree_map_delete(map, given[0]);
+}
+
+static int32_t fetch_add_in(struct elltree_map *map, const uint64_t *given, uint64_t *told) {
+    return elltree_map_fetch_add(map, given[0], given[1], told);
+}
+
+static int32_t exchange_in(struct elltree_map *map, const uint64_t *given, uint64_t *told) {
+    told[0] = given[1];
+    return elltree_map_compare_exchange(map, given[0], told, given[2]);
+}
+
+static int32_t next_in(struct elltree_map *map, const uint64_t *given, uint64_t *told) {
+    return elltree_map_next_at_least(map, given[0], &told[0], &told[1]);
+}
+
+static int32_t last_in(struct elltree_map *map, const uint64_t *given, uint64_t *told) {
+    return elltree_map_last_at_most(map, given[0], &told[0], &told[1]);
+}
+
+static int32_t len_of(struct elltree_map *map, const uint64_t *given, uint64_t *told) {
+    size_t keys = 0;
+    const int32_t code = elltree_map_len(map, &keys);
+    (void)given;
+    told[0] = keys;
+    return code;
+}
+
+static int32_t renew_it(struct elltree_map *map, const uint64_t *given, uint64_t *told) {
+    (void)given;
+    (void)told;
+    return elltree_map_renew(map);
+}
+
+static PyObject *map_find(PyObject *core, PyObject *const *given, Py_ssize_t count) { return map_value(core, given, count, "k", find_in); }
+static PyObject *map_insert(PyObject *core, PyObject *const *given, Py_ssize_t count) { return map_truth(core, given, count, "kv", insert_in); }
+static PyObject *map_put(PyObject *core, PyObject *const *given, Py_ssize_t count) { return map_value(core, given, count, "kv", put_in); }
+static PyObject *map_delete(PyObject *core, PyObject *const *given, Py_ssize_t count) { return map_truth(core, given, count, "k", delete_in); }
+static PyObject *map_remove(PyObject *core, PyObject *const *given, Py_ssize_t count) { return map_value(core, given, count, "k", remove_in); }
+static PyObject *map_fetch_add(PyObject *core, PyObject *const *given, Py_ssize_t count) { return map_value(core, given, count, "ka", fetch_add_in); }
+static PyObject *map_exchange(PyObject *core, PyObject *const *given, Py_ssize_t count) { return map_value(core, given, count, "kvv", exchange_in); }
+static PyObject *map_next(PyObject *core, PyObject *const *given, Py_ssize_t count) { return map_pair(core, given, count, next_in); }
+static PyObject *map_last(PyObject *core, PyObject *const *given, Py_ssize_t count) { return map_pair(core, given, count, last_in); }
+static PyObject *map_len(PyObject *core, PyObject *const *given, Py_ssize_t count) { return map_value(core, given, count, "", len_of); }
+static PyObject *map_renew(PyObject *core, PyObject *const *given, Py_ssize_t count) { return map_truth(core, given, count, "", renew_it); }
+
+/* The value of a key, or the default if it is absent or no key. */
+static PyObject *map_get(PyObject *core, PyObject *const *given, Py_ssize_t count) {
+    PyObject *whole = has_count(count, 2) ? PyNumber_Index(given[0]) : NULL;
+    uint64_t key = 0, value = 0;
+    int32_t code = ELLTREE_NO;
+    if (!whole)
+        return NULL;
+    if (holds(whole, &key) && key <= ELLTREE_KEY_MAX)
+        code = call_on_map(core, find_in, &key, &value);
+    Py_DECREF(whole);
+    return code == ELLTREE_NO ? Py_NewRef(given[1]) : number_if(core, code, true, value);
+}
+
+static PyObject *map_range(PyObject *core, PyObject *const *given, Py_ssize_t count) {
+    struct elltree_map *map = map_of(core)->map;
+    struct elltree_pair *pairs;
+    PyObject *range;
+    uint64_t numbers[NUMBERS_MOST], next = 0;
+    size_t told = 0;
+    int32_t code;
+    if (!as_numbers(given, count, "kkt", numbers) || !(pairs = room_for(numbers[2], sizeof *pairs)))
+        return NULL;
+    Py_BEGIN_ALLOW_THREADS
+    code = elltree_map_range(map, numbers[0], numbers[1], pairs, numbers[2], &told, &next);
+    Py_END_ALLOW_THREADS
+    range = as_range(core, code, pairs, told, next);
+    PyMem_Free(pairs);
+    return range;
+}
+
+/* Writes all pairs into an array of which the caller guesses how long it has to be, and that PyMem_Free ends. */
+static int32_t list_pairs(struct elltree_map *map, struct elltree_pair **pairs, size_t *count) {
+    size_t room;
+    int32_t code;
+    do {
+        room = *count + *count / 8; /* others may add some before the moment comes */
+        PyMem_Free(*pairs);
+        *pairs = room_for(room, sizeof **pairs);
+        if (!*pairs)
+            return ELLTREE_NO;
+        Py_BEGIN_ALLOW_THREADS
+        code = elltree_map_pairs(map, *pairs, room, count);
+        Py_END_ALLOW_THREADS
+    } while (code == ELLTREE_NO_ROOM);
+    return code;
+}
+
+static PyObject *map_pairs(PyObject *core, PyObject *none) {
+    struct elltree_map *map = map_of(core)->map;
+    struct elltree_pair *pairs = NULL;
+    PyObject *list;
+    size_t count = 0;
+    int32_t code = elltree_map_len(map, &count);
+    (void)none;
+    if (code >= 0)
+        code = list_pairs(map, &pairs, &count);
+    if (code < 0)
+        list = refuse(state_of(core), code);
+    else
+        list = pairs ? as_list(pairs, count, pair_at) : NULL;
+    PyMem_Free(pairs);
+    return list;
+}
+
+static PyObject *map_counts(PyObject *core, PyObject *none) {
+    struct elltree_map_counters counts;
+    struct elltree_map *map = map_of(core)->map;
+    int32_t code;
+    (void)none;
+    Py_BEGIN_ALLOW_THREADS
+    code = elltree_map_counts(map, &counts);
+    Py_END_ALLOW_THREADS
+    if (code < 0)
+        return refuse(state_of(core), code);
+    return Py_BuildValue("{sKsKsKsKsK}", "cards", (unsigned long long)counts.cards, "renewals", (unsigned long long)counts.renewals,
+                         "early_renewals", (unsigned long long)counts.early_renewals,
+                         "pause_nanoseconds", (unsigned long long)counts.pause_nanoseconds,
+                         "longest_nanoseconds", (unsigned long long)counts.longest_nanoseconds);
+}
+
+/* Has calls be refused, in a forked child. What the parent has is not touched. */
+static PyObject *map_forget(PyObject *core, PyObject *none) {
+    (void)none;
+    map_of(core)->map = NULL;
+    Py_RETURN_NONE;
+}
+
+static PyObject *map_new(PyTypeObject *type, PyObject *given, PyObject *named) {
+    struct elltree_map_settings settings = ELLTREE_MAP_SETTINGS;
+    struct elltree_pair *pairs = NULL;
+    PyObject *list, *core = NULL;
+    unsigned long long cards;
+    size_t count = 0;
+    int32_t code;
+    if (named || !PyArg_ParseTuple(given, "OKIII", &list, &cards, &settings.pause_percent, &settings.pause_microseconds, &settings.calls))
+        return NULL;
+    settings.cards = cards;
+    pairs = pairs_in(list, &count);
+    core = pairs ? PyType_GenericAlloc(type, 0) : NULL;
+    if (core) {
+        struct elltree_map **map = &map_of(core)->map;
+        Py_BEGIN_ALLOW_THREADS
+        code = elltree_map_from_sorted(map, pairs, count, &settings);
+        Py_END_ALLOW_THREADS
+        if (code < 0) {
+            refuse(state_of(core), code);
+            Py_CLEAR(core);
+        }
+    }
+    PyMem_Free(pairs);
+    return core;
+}
+
+/* Whoever is in a call has the object too, so that no call is under way. */
+static void map_dealloc(PyObject *core) {
+    struct elltree_map *map = map_of(core)->map;
+    Py_BEGIN_ALLOW_THREADS
+    elltree_map_free(map);
+    Py_END_ALLOW_THREADS
+    end_object(core);
+}
+
+/* The type. */
+
+static PyMethodDef map_methods[] = {
+    {"find", FAST(map_find), METH_FASTCALL, NULL},
+    {"get", FAST(map_get), METH_FASTCALL, NULL},
+    {"insert", FAST(map_insert), METH_FASTCALL, NULL},
+    {"put", FAST(map_put), METH_FASTCALL, NULL},
+    {"delete", FAST(map_delete), METH_FASTCALL, NULL},
+    {"remove", FAST(map_remove), METH_FASTCALL, NULL},
+    {"fetch_add", FAST(map_fetch_add), METH_FASTCALL, NULL},
+    {"compare_exchange", FAST(map_exchange), METH_FASTCALL, NULL},
+    {"range", FAST(map_range), METH_FASTCALL, NULL},
+    {"next_at_least", FAST(map_next), METH_FASTCALL, NULL},
+    {"last_at_most", FAST(map_last), METH_FASTCALL, NULL},
+    {"len", FAST(map_len), METH_FASTCALL, NULL},
+    {"pairs", map_pairs, METH_NOARGS, NULL},
+    {"renew", FAST(map_renew), METH_FASTCALL, NULL},
+    {"counts", map_counts, METH_NOARGS, NULL},
+    {"forget", map_forget, METH_NOARGS, NULL},
+    {NULL, NULL, 0, NULL},
+};
+static PyType_Slot map_slots[] = {
+    {Py_tp_new, map_new}, {Py_tp_dealloc, map_dealloc}, {Py_tp_methods, map_methods}, {0, NULL},
+};
+PyType_Spec map_spec = {"elltree._elltree.MapCore", sizeof(struct map_core), 0, Py_TPFLAGS_DEFAULT, map_slots};

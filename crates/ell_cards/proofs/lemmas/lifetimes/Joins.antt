@@ -1,0 +1,215 @@
+use Rattle.std.proofs.Common.{◌≡◌, ◌≢◌, ◌⊎◌, ℕ, true, false, ◌||◌, List, [], ◌∷◌, ◌++◌, length, set, Option, Bool, Some, None, refl, sym, ap, ◌∙◌, subst, inl, inr, ⊎_elim, length-set, ◌≤◌, max, arith, true≢false, ◌↔◌, ◌%◌, ◌^◌, ◌+◌}
+use Rattle.ell_core.proofs.lemmas.stages.Advances.{stages_same}
+use Rattle.ell_core.proofs.lemmas.stages.LaterKeys.{start_there}
+use Rattle.std.specs.Prelude.{Contains}
+use Rattle.std.proofs.lemmas.Option.{same_Some}
+use mathlib.Core.Option.{some}
+use lib.ListN.{get_elem?}
+use Rattle.atomic_table.proofs.Lists.{at_set, set_else}
+use Rattle.ell_core.specs.declared.fact.Fact.{Fact}
+use Rattle.ell_layout.specs.Words.{put}
+use Rattle.ell_core.specs.state.Facts.{known_of, same_fact}
+use Rattle.ell_core.specs.state.Machine.{Worker, nobody, worker_of, ledger_of, shared_of}
+use Rattle.ell_core.specs.state.Moves.{WorkerIsIdle, AreParted, Join}
+use Rattle.ell_core.specs.soundness.Sound.{WorkerOwns}
+use Rattle.ell_core.proofs.lemmas.following.Lawful.{joins_lawful}
+use Rattle.ell_core.proofs.lemmas.outcomes.Decide.{some_not_none}
+use Rattle.ell_cards.specs.declared.view.View.{View}
+use Rattle.ell_cards.specs.Changes.{united, first_known, later, joined_view, spent_view}
+use Rattle.ell_cards.specs.Naming.{IsNamed}
+use Rattle.ell_cards.specs.States.{seat_worker, seated}
+use Rattle.ell_cards.specs.Machines.{EntryHolds, ViewHolds}
+use Rattle.ell_cards.specs.Inside.{PassFits}
+use Rattle.ell_cards.specs.Laws.{JoinsAreMoves}
+use Rattle.ell_cards.proofs.lemmas.seats.Entries.{told_either}
+use Rattle.ell_cards.proofs.lemmas.seats.Seats.{inside, seated_put, mine_is, mine_sound}
+use Rattle.ell_cards.proofs.lemmas.lifetimes.Idle.{rest_holds, rest_named, met_root}
+use Rattle.ell_ops.specs.KeySet.{Lists, set_of, union}
+use Rattle.ell_ops.proofs.lemmas.Merges.{keys_united, lists_united}
+use Rattle.ell_ops.proofs.lemmas.Sets.{one_list}
+use Rattle.ell_cards.proofs.lemmas.lifetimes.Unions.{keys_of_united, ledger_united}
+use Rattle.ell_core.specs.declared.view.Entry.{Entry}
+use Rattle.ell_cards.specs.declared.share.Share.{Share}
+use Rattle.std.proofs.lemmas.Bool.{false≢true}
+
+-- what one of two lists of facts has, both together have
+known_either : (a b : List Fact) (f : Fact) → known_of (a ++ b) f ≡ true → (known_of a f ≡ true) ⊎ (known_of b f ≡ true)
+known_either [] b f h = inr h
+known_either (x ∷ a) b f h = by (same_fact f x) (known_either a b f) h
+  where
+    by : (t : Bool) → (known_of (a ++ b) f ≡ true → (known_of a f ≡ true) ⊎ (known_of b f ≡ true)) → (t || known_of (a ++ b) f) ≡ true
+        → ((t || known_of a f) ≡ true) ⊎ (known_of b f ≡ true)
+    by true rest g = inl refl
+    by false rest g = rest g
+
+module _ (views : List View) (id other : ℕ) (v w : View) (here : get_elem? views id ≡ some v) (there : get_elem? views other ≡ some w)
+    (apart : other ≢ id) (both : View) where
+  -- how many they are after a join
+  seats_joined : length (set (set views id both) other spent_view) ≡ length views
+  seats_joined = length-set (set views id both) other spent_view ∙ length-set views id both
+
+  -- the other seat, once the first has its new view
+  still_there : get_elem? (set views id both) other ≡ some w
+  still_there = set_else views id other both apart ∙ there
+
+  -- the workers after a join
+  workers_joined : (j : ℕ) → seat_worker (get_elem? (set (set views id both) other spent_view) j)
+      ≡ put (put (λ i. seat_worker (get_elem? views i)) id (worker_of both.worker)) other nobody j
+  workers_joined j =
+      sym ((λ t. put (λ i. seated_put views id v here both i t) other nobody j)
+      ∙ seated_put (set views id both) other w still_there spent_view j)
+
+  -- what is so of the view of both, of what is left, and of all others, is so of the view in each seat after a join
+  pub each_joined : (P : View → Type 0) → P both → P spent_view → ((j : ℕ) (u : View) → get_elem? views j ≡ some u → P u)
+      → (j : ℕ) (u : View) → get_elem? (set (set views id both) other spent_view) j ≡ some u → P u
+  each_joined P of_both of_spent others j u at = ⊎_elim
+      (λ (t : (j ≡ other) × (spent_view ≡ u)). subst P t.1 of_spent)
+      (λ (t : (j ≢ other) × (get_elem? (set views id both) j ≡ some u)). ⊎_elim
+      (λ (q : (j ≡ id) × (both ≡ u)). subst P q.1 of_both)
+      (λ (q : (j ≢ id) × (get_elem? views j ≡ some u)). others j u q.1)
+      (at_set views id j both u t.1))
+      (at_set (set views id both) other j spent_view u at)
+
+none_of : (o : Option Entry) → (o ≢ None → ⊥) → o ≡ None
+none_of None h = refl
+none_of (Some t) h = absurd (h (some_not_none refl))
+
+-- two ledgers of which no key is in both are the parts of the one that they make
+united_parts : (l m : List (ℕ × Entry)) → ((k : ℕ) → ledger_of l k ≢ None → ledger_of m k ≢ None → ⊥)
+    → AreParted (ledger_of (united l m)) (ledger_of l) (ledger_of m)
+united_parts l m apart k = elim (ledger_united l m k) [
+  | inl a ↦ inl (sym a.0, none_of (ledger_of m k) (apart k a.1))
+  | inr b ↦ inr (b.0, sym b.1)
+]
+
+-- the later of two readings is no more than both
+later_most : (most : ℕ) (a b : Option ℕ) → ((n : ℕ) → a ≡ Some n → n ≤ most) → ((n : ℕ) → b ≡ Some n → n ≤ most) → (n : ℕ) → later a b ≡ Some n → n ≤ most
+later_most most None b h g n e = g n e
+later_most most (Some x) None h g n e = h n e
+later_most most (Some x) (Some y) h g n e =
+    let is = same_Some (max x y) n e in let low = h x refl in let low' = g y refl in omega arith
+
+-- a test or none, and a test twice
+or-false : (b : Bool) → (b || false) ≡ b
+or-false true = refl
+or-false false = refl
+
+or-self : (b : Bool) → (b || b) ≡ b
+or-self true = refl
+or-self false = refl
+
+-- what is shared for either of two passes is so for both together
+shared_both : (keys : List ℕ) (a b : Option (List ℕ)) → ((l : List ℕ) → a ≡ Some l → l ≡ keys) → ((l : List ℕ) → b ≡ Some l → l ≡ keys) → (k : ℕ)
+    → shared_of (first_known a b) k ≡ (shared_of a k || shared_of b k)
+shared_both keys None b h g k = refl
+shared_both keys (Some l) None h g k = sym (or-false (shared_of (Some l) k))
+shared_both keys (Some l) (Some m) h g k =
+    sym (ap (λ o. shared_of (Some l) k || shared_of (Some o) k) (g m refl ∙ sym (h l refl)) ∙ or-self (shared_of (Some l) k))
+
+-- the first of two lists is that of one of them
+first_list : (keys l : List ℕ) (a b : Option (List ℕ)) → (a ≡ Some l → l ≡ keys) → (b ≡ Some l → l ≡ keys) → first_known a b ≡ Some l → l ≡ keys
+first_list keys l None b h g is = g is
+first_list keys l (Some m) b h g is = h is
+
+-- a join is one of the machine
+pub joins_are_moves : JoinsAreMoves
+joins_are_moves keys cards s r id other v w here there apart free other_free =
+    let m = seated r.words s.views cards in
+    let both = joined_view v w in
+    let views = set (set s.views id both) other spent_view in
+    let same = mine_is keys cards s r id v here in
+    let same' = mine_is keys cards s r other w there in
+    let h = r.views id v here in
+    let g = r.views other w there in
+    let one : (k : ℕ) → ledger_of v.worker.ledger k ≢ None → ledger_of w.worker.ledger k ≢ None → ⊥ = λ k ours theirs.
+    apart (r.invariant.workers.one_owner id other k (subst (λ (u : Worker). WorkerOwns u k) (sym same) ours) (subst (λ (u : Worker). WorkerOwns u k) (sym same') theirs)) in
+    let parts = united_parts v.worker.ledger w.worker.ledger one in
+    let turned : other ≢ id = λ e. apart (sym e) in
+    let join : Join m id other (seated r.words views cards) = record {
+      left_there = inside s.views id v here;
+      right_there = inside s.views other w there;
+      apart = apart;
+      left_free = subst WorkerIsIdle (sym same) ((mine_sound keys cards s r id v here).free free);
+      right_free = subst WorkerIsIdle (sym same') ((mine_sound keys cards s r other w there).free other_free);
+      both = worker_of both.worker;
+      both_free = refl;
+      shares = λ k. shared_both keys v.worker.ownable w.worker.ownable (λ l is. r.listed id v l here is) (λ l is. r.listed other w l there is) k
+          ∙ (λ t. (ap (λ (u : Worker). u.shared k) (sym same) t) || (ap (λ (u : Worker). u.shared k) (sym same') t));
+      ledgers = subst (λ (u : Worker). AreParted (ledger_of both.worker.ledger) u.ledger (m.worker other).ledger) (sym same)
+          (subst (λ (u : Worker). AreParted (ledger_of both.worker.ledger) (ledger_of v.worker.ledger) u.ledger) (sym same') parts);
+      knows = λ f k. elim (known_either v.worker.facts w.worker.facts f k) [
+        | inl a ↦ inl (ap (λ (u : Worker). u.knows f) same ∙ a)
+        | inr b ↦ inr (ap (λ (u : Worker). u.knows f) same' ∙ b)
+      ];
+      gives = λ t. record {
+        words = r.words;
+        worker = λ j. workers_joined s.views id other v w here there turned both j t;
+        count = seats_joined s.views id other v w here there turned both t;
+        last_card = cards;
+      };
+    } in record {
+      later = stages_same r.stages;
+      kept = record {
+        words = r.words;
+        stages = r.stages;
+        invariant = joins_lawful m r.stages id other (seated r.words views cards) r.invariant join;
+        size = r.size;
+        next = r.next;
+        settled = r.settled;
+        views = each_joined s.views id other v w here there turned both (ViewHolds s.words r.words r.stages)
+            (rest_holds s.words r.words r.stages both (λ e told. elim (told_either v.told w.told e told) [ inl a ↦ h.entries e a | inr b ↦ g.entries e b ]) refl refl refl
+            (later_most r.words.next v.next w.next h.read g.read) (let a = h.least in let b = g.least in omega arith) (λ f k. absurd (true≢false (sym k))))
+            (rest_holds s.words r.words r.stages spent_view
+            (λ e told. met_root (EntryHolds r.words r.stages) (start_there r.words r.stages r.invariant.words 0 (omega arith) refl) e told) refl refl refl (λ n at. absurd (some_not_none at refl)) (omega arith) (λ f k. absurd (true≢false (sym k))))
+            r.views;
+        owned = λ j k. each_joined s.views id other v w here there turned both (λ u. WorkerOwns (worker_of u.worker) k → Contains keys k)
+            (λ has. elim (ledger_united v.worker.ledger w.worker.ledger k) [
+              | inl a ↦ r.owned id k v here a.1
+              | inr b ↦ r.owned other k w there (λ none. has (b.1 ∙ none))
+            ])
+            (λ has. absurd (has refl))
+            (λ i u at has. r.owned i k u at has) j;
+        listed = λ j u l at. each_joined s.views id other v w here there turned both (λ u. u.worker.ownable ≡ Some l → l ≡ keys)
+            (first_list keys l v.worker.ownable w.worker.ownable (λ is. r.listed id v l here is) (λ is. r.listed other w l there is))
+            (λ is. absurd (some_not_none is refl)) (λ i u at is. r.listed i u l at is) j u at;
+      };
+      join = join;
+    }
+
+-- the pass of both names what they named
+joined_named : (cards : ℕ) (v w : View) → IsNamed cards v → IsNamed cards w → IsNamed cards (joined_view v w)
+joined_named cards v w h g = rest_named cards (joined_view v w)
+    (λ e told. elim (told_either v.told w.told e told) [ inl a ↦ h.entries e a | inr b ↦ g.entries e b ])
+    (λ f k. elim (known_either v.worker.facts w.worker.facts f k) [ inl a ↦ h.facts f a | inr b ↦ g.facts f b ])
+    refl refl (let a = h.next in let b = g.next in omega arith)
+
+-- the share of both counts where one of the two does
+either_counts : (a b : Bool) (l m : Option (List ℕ)) → (a ≡ true) ↔ (l ≢ None) → (b ≡ true) ↔ (m ≢ None) → ((a || b) ≡ true) ↔ (first_known l m ≢ None)
+either_counts a b None m h g = by a (λ is. h.0 is refl)
+  where
+    by : (a : Bool) → (a ≡ true → ⊥) → ((a || b) ≡ true) ↔ (m ≢ None)
+    by false h = g
+    by true h = absurd (h refl)
+either_counts a b (Some l) m h g = (λ is none. some_not_none refl none, λ some. by a (h.1 (λ none. some_not_none refl none)))
+  where
+    by : (a : Bool) → a ≡ true → (a || b) ≡ true
+    by true is = refl
+    by false is = absurd (false≢true is)
+
+-- it has the keys of both
+pub joined_fits : (words left right : ℕ) (ours theirs one other keys : List ℕ) (mine yours : Share) (v w : View) → PassFits ours mine left v → PassFits theirs yours right w
+    → words ≡ left → words ≡ right → one ≡ ours → other ≡ theirs → Lists (union (set_of one) (set_of other)) keys
+    → PassFits keys (record { units = (mine.units + yours.units) % 2 ^ 64; counts = mine.counts || yours.counts }) words (joined_view v w)
+joined_fits words left right ours theirs one other keys mine yours v w h g same_left same_right first second listed =
+    let both = union (set_of ours) (set_of theirs) in
+    let ascending : Lists both keys =
+    subst (λ l. Lists (union (set_of ours) (set_of l)) keys) second (subst (λ l. Lists (union (set_of l) (set_of other)) keys) first listed) in
+    let is = one_list both keys (keys_united ours theirs) ascending (lists_united ours theirs g.ascending) in record {
+      owned = is ∙ ((λ t. keys_united (h.owned t) (g.owned t)) ∙ sym (keys_of_united v.worker.ledger w.worker.ledger));
+      ascending = ascending.ascending;
+      share = record {
+        units = (λ t. (h.share.units t + g.share.units t) % 2 ^ 64);
+        counts = either_counts mine.counts yours.counts v.worker.ownable w.worker.ownable h.share.counts g.share.counts;
+      };
+      named = λ cards size. joined_named cards v w (h.named cards (sym same_left ∙ size)) (g.named cards (sym same_right ∙ size));
+    }

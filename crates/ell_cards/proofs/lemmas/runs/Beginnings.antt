@@ -1,0 +1,210 @@
+use Rattle.std.proofs.Common.{◌≡◌, ℕ, suc, ◌+◌, ◌==◌, arith, Option, Some, None, List, [], ◌∷◌, ◌++◌, set, inl, inr, ◌⊎◌, refl, sym, ap, ap₂, ◌∙◌, subst}
+use Rattle.std.proofs.lemmas.Bool.{cases_lt}
+use mathlib.Core.Option.{some, some-ne-none}
+use lib.ListN.{get_elem?}
+use Rattle.atomic_table.proofs.Lists.{at_set, at_snoc}
+use Rattle.ell_word.specs.Word.{packed, unpacked}
+use Rattle.ell_core.specs.declared.fact.Fact.TheVariants as fact
+use Rattle.ell_cards.specs.declared.call.Call.{Call}
+use Rattle.ell_cards.specs.declared.call.Call.TheVariants as call
+use Rattle.ell_cards.specs.declared.glance.Glance.{Glance}
+use Rattle.ell_cards.specs.declared.view.View.{View}
+use Rattle.ell_cards.specs.Changes.{left_view, right_view, joined_view, spent_view, first_of}
+use Rattle.ell_cards.specs.Calls.{after, May}
+use Rattle.ell_cards.specs.Guards.{TellsOf}
+use Rattle.ell_cards.specs.TurnEffects.{own_words}
+use Rattle.ell_cards.specs.States.{TableState}
+use Rattle.ell_cards.specs.Starts.{Starts}
+use Rattle.ell_cards.specs.Turns.{Turn, Makes, Splits, Joins, TableTurns, TableRun, found_by, view_after}
+use Rattle.ell_cards.specs.Looking.{BeginsNothing, LooksOn, Began, HasFound, HasThere, WasSo, HasBetween, TellsBetween, HasFoundBetween, WasSoBetween, LooksAreOfOneState, LooksAreInOrder, StretchesAreOfOneState, StretchesAreInOrder}
+use Rattle.ell_cards.proofs.lemmas.runs.Glances.{claim_look, flag_look, mark_look, stretches_of_one_state}
+use Rattle.ell_cards.proofs.lemmas.runs.Starting.{starts_are_kept}
+use Rattle.ell_cards.proofs.lemmas.runs.TurnsOfRuns.{runs_are_lawful}
+use Rattle.ell_cards.specs.Models.{TablePlan, HasGlance}
+
+-- there is a glance
+abbrev IsSome : List Glance → Type 0
+IsSome [] = ⊥
+IsSome (g ∷ gs) = Unit {0}
+
+some_glance : (gs : List Glance) (g : Glance) → HasGlance gs g → IsSome gs
+some_glance [] g has = elim has [ ]
+some_glance (d ∷ gs) g has = tt
+
+module _ (cards seat : ℕ) where
+  -- the pass in the seat looks
+  record LooksHere (s : TableState) : Type 0 where
+    view : View
+    there : get_elem? s.views seat ≡ some view
+    looks : IsSome view.glances
+
+  -- the call that a look was before: the one that began it, or another, before which it was under way
+  abbrev Before : Call → View → Type 0
+  Before c v = (c ≡ call.Look) ⊎ (BeginsNothing c × IsSome v.glances)
+
+  look_before : (c : Call) (n : ℕ) (v : View) → May cards c v → IsSome (after c n v).glances → Before c v
+  look_before call.Look n v may e = inl refl
+  look_before (call.LookDown from key right) n v may e = inr (tt, some_glance v.glances may.come.glance may.come.among)
+  look_before (call.Claim c) n v may e = inr (tt, subst IsSome (claim_look (n == c) c v) e)
+  look_before (call.IFlag c p from) n v may e = inr (tt, subst IsSome (flag_look (n == packed from) (fact.IFlagged c) p (unpacked n) v) e)
+  look_before (call.DFlag c gp from) n v may e = inr (tt, subst IsSome (flag_look (n == packed from) (fact.DFlagged c) gp (unpacked n) v) e)
+  look_before (call.Mark c p was) n v may e = inr (tt, subst IsSome (mark_look (n == was) c p (unpacked n) v) e)
+  look_before (call.Begin op) n v may e = absurd e
+  look_before call.Again n v may e = absurd e
+  look_before call.Leave n v may e = inr (tt, e)
+  look_before (call.Answer said) n v may e = inr (tt, e)
+  look_before (call.Upd x) n v may e = inr (tt, e)
+  look_before (call.Down x right) n v may e = inr (tt, e)
+  look_before call.Next n v may e = inr (tt, e)
+  look_before (call.KeyOf x) n v may e = inr (tt, e)
+  look_before (call.ValueOf x) n v may e = inr (tt, e)
+  look_before (call.Info c f) n v may e = inr (tt, e)
+  look_before (call.FrozenChild c p right) n v may e = inr (tt, e)
+  look_before (call.Fill c f value) n v may e = inr (tt, e)
+  look_before (call.IChild c p l q right) n v may e = inr (tt, e)
+  look_before (call.IUnflag c p) n v may e = inr (tt, e)
+  look_before (call.DChild c gp p y right) n v may e = inr (tt, e)
+  look_before (call.DUnflag c gp) n v may e = inr (tt, e)
+  look_before (call.Backtrack c gp) n v may e = inr (tt, e)
+
+  -- a view without a look is not one that looks
+  no_look : (v u : View) → v.glances ≡ [] → v ≡ u → IsSome u.glances → ⊥
+  no_look v u none same looks = subst IsSome (sym (ap (λ (w : View). w.glances) same) ∙ none) looks
+
+  -- the turn before which a look is: the call that began it, or another
+  turn_back : (s : TableState) (t : Turn) (s' : TableState) → TableTurns cards s t s' → LooksHere s'
+      → (t ≡ Makes seat call.Look) ⊎ (LooksOn seat (t ∷ []) × LooksHere s)
+  turn_back s (Makes other c) s' h at =
+      let v = view_after s h.view c in
+      let now : get_elem? (set s.views other v) seat ≡ some at.view = ap (λ (t : TableState). get_elem? t.views seat) (sym h.gives) ∙ at.there in
+      elim (at_set s.views other seat v at.view now) [
+        | inl e ↦ elim (look_before c (found_by s c) h.view h.may (subst (λ (w : View). IsSome w.glances) (sym e.1) at.looks)) [
+          | inl is ↦ inl (ap₂ Makes (sym e.0) is)
+          | inr was ↦ inr ((λ same. was.0, tt), record { view = h.view; there = ap (get_elem? s.views) e.0 ∙ h.there; looks = was.1 })
+        ]
+        | inr e ↦ inr ((λ same. absurd (e.0 (sym same)), tt), record { view = at.view; there = e.1; looks = at.looks })
+      ]
+  turn_back s (Splits other left) s' h at =
+      let v = left_view left h.view in
+      let w = right_view left h.view in
+      let now : get_elem? (set s.views other v ++ w ∷ []) seat ≡ some at.view = ap (λ (t : TableState). get_elem? t.views seat) (sym h.gives) ∙ at.there in
+      elim (at_snoc (set s.views other v) w at.view seat now) [
+        | inl there ↦ elim (at_set s.views other seat v at.view there) [
+          | inl e ↦ absurd (no_look v at.view refl e.1 at.looks)
+          | inr e ↦ inr ((λ same. e.0 (sym same), tt), record { view = at.view; there = e.1; looks = at.looks })
+        ]
+        | inr e ↦ absurd (no_look w at.view refl e at.looks)
+      ]
+  turn_back s (Joins one other) s' h at =
+      let v = joined_view h.view h.view' in
+      let now : get_elem? (set (set s.views one v) other spent_view) seat ≡ some at.view = ap (λ (t : TableState). get_elem? t.views seat) (sym h.gives) ∙ at.there in
+      elim (at_set (set s.views one v) other seat spent_view at.view now) [
+        | inl e ↦ absurd (no_look spent_view at.view refl e.1 at.looks)
+        | inr e ↦ elim (at_set s.views one seat v at.view e.1) [
+          | inl d ↦ absurd (no_look v at.view refl d.1 at.looks)
+          | inr d ↦ inr ((λ same. d.0 (sym same), λ same. e.0 (sym same), tt), record { view = at.view; there = d.1; looks = at.looks })
+        ]
+      ]
+
+  more_looks : (t : Turn) (ts : List Turn) → LooksOn seat (t ∷ []) → LooksOn seat ts → LooksOn seat (t ∷ ts)
+  more_looks (Makes other c) ts h rest = (h.0, rest)
+  more_looks (Splits other left) ts h rest = (h.0, rest)
+  more_looks (Joins one other) ts h rest = (h.0, h.1, rest)
+
+  -- a look at the end of a run began in it, or was under way all along
+  run_back : (s : TableState) (turns : List Turn) (s' : TableState) → TableRun cards s turns s' → LooksHere s'
+      → Began cards s turns s' seat ⊎ (LooksOn seat turns × LooksHere s)
+  run_back s [] s' run at = inr (tt, subst LooksHere run at)
+  run_back s (t ∷ ts) s' run at = elim (run_back run.0 ts s' run.2 at) [
+    | inl b ↦ inl (record {
+      first = suc b.first;
+      from = b.from;
+      to = b.to;
+      before = (run.0, run.1, b.before);
+      call = b.call;
+      after = b.after;
+      on = b.on;
+    })
+    | inr h ↦ elim (turn_back s t run.0 run.1 h.1) [
+      | inl is ↦ inl (record {
+        first = 0;
+        from = s;
+        to = run.0;
+        before = refl;
+        call = subst (λ u. TableTurns cards s u run.0) is run.1;
+        after = run.2;
+        on = h.0;
+      })
+      | inr k ↦ inr (more_looks t ts k.0 h.0, k.1)
+    ]
+  ]
+
+-- no pass looks at a start
+starts_still : (plan : TablePlan) (s : TableState) → Starts plan s → (last seat : ℕ) → LooksHere last seat s → ⊥
+starts_still plan s starts last seat at =
+    elim (at_snoc [] (first_of plan) at.view seat (ap (λ (t : TableState). get_elem? t.views seat) (sym starts.is) ∙ at.there)) [
+      | inl e ↦ absurd (some-ne-none at.view (sym e))
+      | inr e ↦ no_look last seat (first_of plan) at.view refl e at.looks
+    ]
+
+-- so each look began in the run, and what it has found was so since
+pub stretches_are_of_one_state : StretchesAreOfOneState
+stretches_are_of_one_state plan v low high said found s starts turns s' run seat there =
+    let kept = (starts_are_kept plan s starts).kept in
+    elim (run_back plan.last_card seat s turns s' run (record { view = v; there = there; looks = some_glance v.glances found.comes.glance found.comes.among })) [
+      | inl b ↦ record {
+        began = b;
+        so = stretches_of_one_state plan.keys plan.last_card v low high said found b.from
+            (runs_are_lawful plan.keys plan.last_card s kept _ b.from b.before).kept seat b.to b.call _ s' b.after b.on there;
+      }
+      | inr h ↦ absurd (starts_still plan s starts plan.last_card seat h.1)
+    ]
+
+-- of two looks, one after the other, the second is of no earlier state
+pub stretches_are_in_order : StretchesAreInOrder
+stretches_are_in_order plan s starts turns ended run seat v at low high there found other begun call more s' run' on w at' least upto there' found' =
+    let last = plan.last_card in
+    let first = stretches_are_of_one_state plan v low high there found s starts turns ended run seat at in
+    let kept = (runs_are_lawful plan.keys plan.last_card s (starts_are_kept plan s starts).kept turns ended run).kept in
+    (first, stretches_of_one_state plan.keys plan.last_card w least upto there' found' ended kept other begun call more s' run' on at')
+
+-- a key with its value, if it has one
+abbrev pub with_key : ℕ → Option ℕ → Option (ℕ × ℕ)
+with_key key None = None
+with_key key (Some value) = Some (key, value)
+
+-- one key is a stretch
+pub one_key : (v : View) (key : ℕ) (there : Option ℕ) → HasFound v key there → HasFoundBetween v key (key + 1) (with_key key there)
+one_key v key there found = record {
+  leaf = found.leaf;
+  leaf_key = found.leaf_key;
+  comes = found.comes;
+  outer = found.outer;
+  told = found.told;
+  tells = by there found.tells;
+}
+  where
+    by : (o : Option ℕ) → TellsOf v found.leaf found.leaf_key key o → TellsBetween v found.leaf found.leaf_key key (key + 1) (with_key key o)
+    by None other = elim (cases_lt found.leaf_key key) [ inl less ↦ inl less | inr most ↦ inr (omega arith) ]
+    by (Some value) tells = (tells.0, omega arith, omega arith, tells.1)
+
+was_of_key : (cards : ℕ) (s : TableState) (turns : List Turn) (s' : TableState) (key : ℕ) (there : Option ℕ)
+    → WasSoBetween cards s turns s' key (key + 1) (with_key key there) → WasSo cards s turns s' key there
+was_of_key cards s turns s' key there was = record { state = was.state; amid = was.amid; so = by there was.so }
+  where
+    by : (o : Option ℕ) → HasBetween (own_words was.state) key (key + 1) (with_key key o) → HasThere (own_words was.state) key o
+    by None so = so key (omega arith) (omega arith)
+    by (Some value) so = so.2
+
+-- so it is with a look of one key
+pub looks_are_of_one_state : LooksAreOfOneState
+looks_are_of_one_state plan v key said found s starts turns s' run seat there =
+    let was = stretches_are_of_one_state plan v key (key + 1) (with_key key said) (one_key v key said found) s starts turns s' run seat there in
+    record { began = was.began; so = was_of_key plan.last_card was.began.to _ s' key said was.so }
+
+pub looks_are_in_order : LooksAreInOrder
+looks_are_in_order plan s starts turns ended run seat v at key there found other begun call more s' run' on w at' next there' found' =
+    let first = looks_are_of_one_state plan v key there found s starts turns ended run seat at in
+    let both = stretches_are_in_order plan s starts turns ended run seat v at key (key + 1) (with_key key there) (one_key v key there found)
+    other begun call more s' run' on w at' next (next + 1) (with_key next there') (one_key w next there' found') in
+    (first, was_of_key plan.last_card begun more s' next there' both.1)

@@ -1,0 +1,230 @@
+use Rattle.std.proofs.Common.{◌≡◌, ◌≢◌, ℕ, ◌+◌, ◌<◌, ◌==◌, if◌then◌else◌, Bool, true, false, Some, List, [], ◌∷◌, ◌++◌, get_or, set, length, unwrap_or, refl, sym, ap, ◌∙◌, subst, inl, inr, eqb-true, get_or-set_other, arith}
+use Rattle.std.proofs.lemmas.Bool.{cases_eq}
+use lib.Seq.{set-get_or}
+use mathlib.Core.Option.{some, some-injective}
+use lib.ListN.{get_elem?}
+use Rattle.atomic_table.proofs.Lists.{set_else, at_longer}
+use Rattle.ell_ops.specs.declared.op.Op.{Op}
+use Rattle.ell_ops.specs.declared.op.Op.TheVariants.{Find, Insert, Delete, Swap}
+use Rattle.ell_word.specs.Word.{packed, unpacked}
+use Rattle.ell_word.specs.declared.update.Update.{Update}
+use Rattle.ell_core.specs.declared.fact.Fact.{Fact}
+use Rattle.ell_core.specs.declared.fact.Fact.TheVariants as fact
+use Rattle.ell_layout.specs.declared.field.Field.TheVariants.{P, Gp}
+use Rattle.ell_layout.specs.Words.{Words}
+use Rattle.ell_layout.proofs.lemmas.Listed.{listed_next}
+use Rattle.ell_cards.specs.declared.call.Call.{Call}
+use Rattle.ell_cards.specs.declared.call.Call.TheVariants as call
+use Rattle.ell_cards.specs.declared.view.Told.{Told}
+use Rattle.ell_cards.specs.declared.view.Told.TheVariants.{Met, Key, Value, Info, Frozen}
+use Rattle.ell_cards.specs.declared.view.View.{View}
+use Rattle.ell_cards.specs.Models.{TablePlan, Has, latest, earlier, IsTold}
+use Rattle.ell_cards.specs.Changes.{told_filling, filling_of, filling_for, told_value, after_claim, after_flag, after_mark, is_mark_of, learning, unmarking, left_view, right_view, joined_view, spent_view}
+use Rattle.ell_cards.specs.Guards.{MayClaim, Wants}
+use Rattle.ell_cards.specs.Calls.{word_of, atomic_of, left_by, after}
+use Rattle.ell_cards.specs.States.{TableState}
+use Rattle.ell_cards.specs.Turns.{Turn, Makes, Splits, Joins, TableTurns, TableRun, found_by, state_after}
+use Rattle.ell_cards.specs.Starts.{IsReached}
+use Rattle.ell_cards.specs.Readings.{IsToldOf, ClaimsAreTold}
+use Rattle.ell_cards.proofs.lemmas.views.Entries.{places_more, info_more, filling_more}
+use Rattle.ell_cards.proofs.lemmas.seats.Seats.{set_there}
+
+-- what a flag or a mark, won or lost, leaves of what was told
+flag_told : (b : Bool) (new : Fact) (x : ℕ) (u : Update) (v : View) (e : Told) → IsTold v e → IsTold (after_flag b new x u v) e
+flag_told true new x u v e h = h
+flag_told false new x u v e h = places_more x u.state u.card v.told e h
+
+mark_told : (b : Bool) (c x : ℕ) (u : Update) (v : View) (e : Told) → IsTold v e → IsTold (after_mark b c x u v) e
+mark_told true c x u v e h = h
+mark_told false c x u v e h = by (is_mark_of c u.state u.card)
+  where
+    by : (b : Bool) → IsTold (if b then learning (fact.Marked c) v else unmarking c x u v) e
+    by true = h
+    by false = places_more x u.state u.card v.told e h
+
+claim_told : (b : Bool) (c : ℕ) (v : View) (e : Told) → IsTold v e → IsTold (after_claim b c v) e
+claim_told true c v e h = filling_more c (filling_of c v) v.told e h
+claim_told false c v e h = h
+
+-- what was told stays told
+pub after_told : (c : Call) (n : ℕ) (v : View) (e : Told) → IsTold v e → IsTold (after c n v) e
+after_told (call.Begin op) n v e h = earlier e (Met 0) v.told h
+after_told call.Again n v e h = earlier e (Met 0) v.told h
+after_told (call.Upd x) n v e h = places_more x (unpacked n).state (unpacked n).card v.told e h
+after_told (call.Down x right) n v e h = earlier e (Met n) v.told h
+after_told (call.KeyOf x) n v e h = earlier e (Key x n) v.told h
+after_told (call.ValueOf x) n v e h = earlier e (Value x n) v.told h
+after_told (call.Info c f) n v e h = info_more c f n v.told e h
+after_told (call.FrozenChild c p right) n v e h = earlier e (Frozen c right n) (Met n ∷ v.told) (earlier e (Met n) v.told h)
+after_told call.Look n v e h = earlier e (Met n) v.told h
+after_told (call.LookDown from key right) n v e h = earlier e (Met n) v.told h
+after_told (call.Claim c) n v e h = claim_told (n == c) c v e h
+after_told (call.IFlag c p from) n v e h = flag_told (n == packed from) (fact.IFlagged c) p (unpacked n) v e h
+after_told (call.DFlag c gp from) n v e h = flag_told (n == packed from) (fact.DFlagged c) gp (unpacked n) v e h
+after_told (call.Mark c p was) n v e h = mark_told (n == was) c p (unpacked n) v e h
+after_told _ n v e h = h
+
+-- who claims a card is told its parent
+claims_told : (v : View) (c : ℕ) (may : MayClaim v c) → IsTold (after_claim true c v) (Info c P may.parent.node)
+claims_told v c may = by may.op may.busy may.wants
+  where
+    by : (op : Op) → v.worker.operation ≡ Some op → Wants v op may.leaf may.key → IsTold (after_claim true c v) (Info c P may.parent.node)
+    by (Find k) busy wants = absurd wants
+    by (Insert k value) busy wants =
+        subst (λ es. Has (told_filling c es v.told) (Info c P may.parent.node))
+        (λ i. filling_for c (sym busy i) (sym may.stands i) (sym may.behind i) v.worker.search.grandparent (unwrap_or v.here 0) (told_value v.told))
+        (latest (Info c P may.parent.node) _)
+    by (Swap k was value) busy wants =
+        subst (λ es. Has (told_filling c es v.told) (Info c P may.parent.node))
+        (λ i. filling_for c (sym busy i) (sym may.stands i) (sym may.behind i) v.worker.search.grandparent (unwrap_or v.here 0) (told_value v.told))
+        (latest (Info c P may.parent.node) _)
+    by (Delete k) busy wants =
+        subst (λ es. Has (told_filling c es v.told) (Info c P may.parent.node))
+        (λ i. filling_for c (sym busy i) (sym may.stands i) (sym may.behind i) (sym wants.1.1 i) (unwrap_or v.here 0) (told_value v.told))
+        (earlier (Info c P may.parent.node) (Info c Gp wants.1.0.node) _ (latest (Info c P may.parent.node) _))
+
+told_left : (a b : List Told) (e : Told) → Has a e → Has (a ++ b) e
+told_left [] b e h = elim h [ ]
+told_left (d ∷ a) b e (latest _ _) = latest d (a ++ b)
+told_left (d ∷ a) b e (earlier _ _ _ h) = earlier e d (a ++ b) (told_left a b e h)
+
+told_right : (a b : List Told) (e : Told) → Has b e → Has (a ++ b) e
+told_right [] b e h = h
+told_right (d ∷ a) b e h = earlier e d (a ++ b) (told_right a b e h)
+
+-- the first word of a list that is not empty
+pub first_set : (ws : List ℕ) (m : ℕ) → 0 < get_or ws 0 0 → get_or (set ws 0 m) 0 0 ≡ m
+first_set [] m more = absurd (omega arith)
+first_set (x ∷ xs) m more = refl
+
+-- a call that is no claim leaves the claim word
+pub leaves_next : (c : Call) (ws : List ℕ) → ((d : ℕ) → c ≢ call.Claim d) → get_or (set ws (word_of c) (left_by (atomic_of c) (get_or ws (word_of c) 0))) 0 0 ≡ get_or ws 0 0
+leaves_next (call.Claim c) ws apart = absurd (apart c refl)
+leaves_next (call.Fill c f value) ws apart = get_or-set_other ws (word_of (call.Fill c f value)) 0 _ 0 (λ e. omega arith)
+leaves_next (call.IFlag c p from) ws apart = get_or-set_other ws (word_of (call.IFlag c p from)) 0 _ 0 (λ e. omega arith)
+leaves_next (call.IChild c p l q right) ws apart = get_or-set_other ws (word_of (call.IChild c p l q right)) 0 _ 0 (λ e. omega arith)
+leaves_next (call.IUnflag c p) ws apart = get_or-set_other ws (word_of (call.IUnflag c p)) 0 _ 0 (λ e. omega arith)
+leaves_next (call.DFlag c gp from) ws apart = get_or-set_other ws (word_of (call.DFlag c gp from)) 0 _ 0 (λ e. omega arith)
+leaves_next (call.Mark c p was) ws apart = get_or-set_other ws (word_of (call.Mark c p was)) 0 _ 0 (λ e. omega arith)
+leaves_next (call.DChild c gp p y right) ws apart = get_or-set_other ws (word_of (call.DChild c gp p y right)) 0 _ 0 (λ e. omega arith)
+leaves_next (call.DUnflag c gp) ws apart = get_or-set_other ws (word_of (call.DUnflag c gp)) 0 _ 0 (λ e. omega arith)
+leaves_next (call.Backtrack c gp) ws apart = get_or-set_other ws (word_of (call.Backtrack c gp)) 0 _ 0 (λ e. omega arith)
+leaves_next c ws apart = ap (λ (l : List ℕ). get_or l 0 0) (set-get_or ws (word_of c) 0)
+
+-- some card was claimed from the first on, and each that was claimed since was told to some pass
+pub record AllTold (first : ℕ) (s : TableState) : Type 0 where
+  pub next : first < get_or s.words 0 0
+  pub told : (c : ℕ) → first < c → c < get_or s.words 0 0 → IsToldOf s c
+
+-- what some pass was told stays told where another view is in a seat that was told no less
+told_on : (s : TableState) (words : List ℕ) (id : ℕ) (v w : View) → get_elem? s.views id ≡ some v → ((e : Told) → IsTold v e → IsTold w e)
+    → (c : ℕ) → IsToldOf s c → IsToldOf (record { words = words; homes = s.homes; views = set s.views id w }) c
+told_on s words id v w here more c h = elim (cases_eq h.seat id) [
+  | inl e ↦ record {
+    seat = id;
+    view = w;
+    there = set_there s.views id w v here;
+    parent = h.parent;
+    told = more (Info c P h.parent) (subst (λ (u : View). IsTold u (Info c P h.parent))
+        (some-injective h.view v (sym h.there ∙ (ap (get_elem? s.views) e ∙ here))) h.told);
+  }
+  | inr n ↦ record { seat = h.seat; view = h.view; there = set_else s.views id h.seat w n ∙ h.there; parent = h.parent; told = h.told }
+]
+
+module _ (cards first : ℕ) (s : TableState) (h : AllTold first s) where
+  -- a call that is no claim
+  call_told : (id : ℕ) (v : View) (c : Call) → get_elem? s.views id ≡ some v → ((d : ℕ) → c ≢ call.Claim d) → AllTold first (state_after s id v c)
+  call_told id v c here apart =
+      let s' = state_after s id v c in
+      let same = leaves_next c s.words apart in
+      let more = h.next in record {
+        next = omega arith;
+        told = λ d low below. told_on s s'.words id v (after c (found_by s c) v) here (after_told c (found_by s c) v) d (h.told d low (omega arith));
+      }
+
+  -- a claim
+  claimed_told : (id : ℕ) (v : View) (c : ℕ) → get_elem? s.views id ≡ some v → MayClaim v c → AllTold first (state_after s id v (call.Claim c))
+  claimed_told id v c here may = by (get_or s.words 0 0 == c) refl
+    where
+      by : (b : Bool) → (get_or s.words 0 0 == c) ≡ b
+          → AllTold first (record { words = set s.words 0 (if b then c + 1 else get_or s.words 0 0); homes = s.homes; views = set s.views id (after_claim b c v) })
+      by false is =
+          let same = ap (λ (l : List ℕ). get_or l 0 0) (set-get_or s.words 0 0) in
+          let more = h.next in record {
+            next = omega arith;
+            told = λ d low below. told_on s (set s.words 0 (get_or s.words 0 0)) id v (after_claim false c v) here (claim_told false c v) d (h.told d low (omega arith));
+          }
+      by true is =
+          let n = get_or s.words 0 0 in
+          let at = eqb-true n c is in
+          let more = h.next in
+          let next = first_set s.words (c + 1) (omega arith) in record {
+            next = omega arith;
+            told = λ d low below. elim (cases_eq d c) [
+              | inl e ↦ record {
+                seat = id;
+                view = after_claim true c v;
+                there = set_there s.views id (after_claim true c v) v here;
+                parent = may.parent.node;
+                told = subst (λ (k : ℕ). IsTold (after_claim true c v) (Info k P may.parent.node)) (sym e) (claims_told v c may);
+              }
+              | inr apart ↦ told_on s (set s.words 0 (c + 1)) id v (after_claim true c v) here (claim_told true c v) d (h.told d low (omega arith))
+            ];
+          }
+
+  turn_told : (t : Turn) (s' : TableState) → TableTurns cards s t s' → AllTold first s'
+  turn_told (Makes id (call.Claim c)) s' turn = subst (AllTold first) (sym turn.gives) (claimed_told id turn.view c turn.there turn.may.0)
+  turn_told (Makes id c) s' turn = subst (AllTold first) (sym turn.gives) (call_told id turn.view c turn.there (λ d e. (cc)))
+  turn_told (Splits id chosen) s' turn =
+      let v = turn.view in
+      let left = left_view chosen v in
+      subst (AllTold first) (sym turn.gives) (record {
+        next = h.next;
+        told = λ d low below.
+            let on = told_on s s.words id v left turn.there (λ e x. x) d (h.told d low below) in
+            record { seat = on.seat; view = on.view; there = at_longer (set s.views id left) (right_view chosen v ∷ []) on.seat on.view on.there; parent = on.parent; told = on.told };
+      })
+  turn_told (Joins id other) s' turn =
+      let v = turn.view in
+      let w = turn.view' in
+      let both = joined_view v w in
+      subst (AllTold first) (sym turn.gives) (record {
+        next = h.next;
+        told = λ d low below. joined d (told_on s s.words id v both turn.there (λ e x. told_left v.told w.told e x) d (h.told d low below)) (h.told d low below);
+      })
+    where
+      joined : (d : ℕ) → IsToldOf (record { words = s.words; homes = s.homes; views = set s.views id (joined_view turn.view turn.view') }) d → IsToldOf s d
+          → IsToldOf (record { words = s.words; homes = s.homes; views = set (set s.views id (joined_view turn.view turn.view')) other spent_view }) d
+      joined d on was = elim (cases_eq on.seat other) [
+        | inl e ↦ record {
+          seat = id;
+          view = joined_view turn.view turn.view';
+          there = set_else (set s.views id (joined_view turn.view turn.view')) other id spent_view turn.apart ∙ set_there s.views id (joined_view turn.view turn.view') turn.view turn.there;
+          parent = on.parent;
+          told = told_right turn.view.told turn.view'.told (Info d P on.parent) (subst (λ (u : View). IsTold u (Info d P on.parent))
+              (some-injective on.view turn.view' (sym on.there ∙ (ap (get_elem? (set s.views id (joined_view turn.view turn.view'))) e
+              ∙ (set_else s.views id other (joined_view turn.view turn.view') (λ same. turn.apart (sym same)) ∙ turn.there')))) on.told);
+        }
+        | inr n ↦ record {
+          seat = on.seat;
+          view = on.view;
+          there = set_else (set s.views id (joined_view turn.view turn.view')) other on.seat spent_view n ∙ on.there;
+          parent = on.parent;
+          told = on.told;
+        }
+      ]
+
+run_told : (cards first : ℕ) (s : TableState) (turns : List Turn) (s' : TableState) → TableRun cards s turns s' → AllTold first s → AllTold first s'
+run_told cards first s [] s' run h = subst (AllTold first) (sym run) h
+run_told cards first s (t ∷ ts) s' run h = run_told cards first run.0 ts s' run.2 (turn_told cards first s h t run.0 run.1)
+
+pub all_told : (plan : TablePlan) (s : TableState) → IsReached plan s → AllTold (length plan.start) s
+all_told plan s h =
+    let opens : get_or h.first.words 0 0 ≡ length plan.start + 1 = sym (listed_next h.first.words) ∙ ap (λ (w : Words). w.next) h.starts.words.are in
+    run_told plan.last_card (length plan.start) h.first h.turns s h.run (record {
+      next = omega arith;
+      told = λ c low below. absurd (omega arith);
+    })
+
+pub claims_are_told : ClaimsAreTold
+claims_are_told plan s h = (all_told plan s h).told

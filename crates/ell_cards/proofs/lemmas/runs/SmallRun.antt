@@ -1,0 +1,354 @@
+use Rattle.std.proofs.Common.{None, ◌≡◌, ◌≢◌, ℕ, ◌≤◌, zero, suc, true, Some, List, [], ◌∷◌, ◌++◌, ◌+◌, inl, inr, refl, subst, arith, ◌⊎◌}
+use Rattle.std.specs.List.{All}
+use Rattle.std.specs.List.Sorted.{IsStrictlyIncreasing}
+use Rattle.std.specs.Map.{keys_of}
+use mathlib.Core.Option.{Option, some, none}
+use lib.ListN.{get_elem?}
+use Rattle.ell_ops.specs.KeySet.{set_of}
+use Rattle.ell_ops.specs.Meaning.{greatest_key}
+use Rattle.ell_ops.specs.declared.op.Op.TheVariants.{Find, Insert, Delete}
+use Rattle.ell_word.specs.Node.{infinity1, infinity2}
+use Rattle.ell_core.specs.declared.fact.Fact.TheVariants.{Backed}
+use Rattle.ell_layout.specs.declared.field.Field.{Field}
+use Rattle.ell_layout.specs.declared.field.Field.TheVariants as field
+use Rattle.ell_layout.specs.Cards.{stored, insert_filling, delete_filling}
+use Rattle.ell_layout.specs.Words.{IsLeaf}
+use Rattle.ell_core.proofs.lemmas.outcomes.Decide.{some_not_none}
+use Rattle.ell_cards.specs.declared.view.Told.{Told}
+use Rattle.ell_cards.specs.declared.view.View.{View}
+use Rattle.ell_cards.specs.Models.{Has, latest, earlier, last, IsFree, Knows, stored_at, MayPart}
+use Rattle.ell_cards.specs.Changes.{first_of, spent_view}
+use Rattle.ell_cards.specs.Calls.{May}
+use Rattle.ell_cards.specs.States.{TableState}
+use Rattle.ell_cards.specs.Starts.{Starts, StartWords, MayStart, IsSharedIn}
+use Rattle.ell_cards.specs.Turns.{Turn, Makes, Splits, Joins, TableTurns, TableRun, state_after, state_split, state_joined}
+use Rattle.ell_cards.specs.SmallRun.{small_plan, small_run, SmallRunIsMade, parting, delete_flags, insert_claims, insert_flags, mark_is_lost, insert_ends, delete_begins_anew, delete_ends, look, ending}
+use Rattle.ell_cards.proofs.lemmas.lifetimes.StartLists.{start_list_starts, small_list, small_words}
+
+-- what the pass in a seat knows
+abbrev view_or : Option View → View
+view_or none = spent_view
+view_or (some v) = v
+
+abbrev view_at : TableState → ℕ → View
+view_at s seat = view_or (get_elem? s.views seat)
+
+-- there is a pass in a seat
+abbrev Sits : TableState → ℕ → Type 0
+Sits s seat = get_elem? s.views seat ≡ some (view_at s seat)
+
+-- what a turn asks, and the state to which it leads
+abbrev TurnAsks : ℕ → TableState → Turn → Type 0
+TurnAsks cards s (Makes seat c) = Sits s seat × May cards c (view_at s seat)
+TurnAsks cards s (Splits seat left) = Sits s seat × IsFree (view_at s seat) × MayPart (view_at s seat)
+TurnAsks cards s (Joins seat other) = Sits s seat × Sits s other × (seat ≢ other) × IsFree (view_at s seat) × IsFree (view_at s other)
+
+abbrev turn_leads : TableState → Turn → TableState
+turn_leads s (Makes seat c) = state_after s seat (view_at s seat) c
+turn_leads s (Splits seat left) = state_split s seat (view_at s seat) left
+turn_leads s (Joins seat other) = state_joined s seat other (view_at s seat) (view_at s other)
+
+turn_made : (cards : ℕ) (s : TableState) (t : Turn) → TurnAsks cards s t → TableTurns cards s t (turn_leads s t)
+turn_made cards s (Makes seat c) h = record { view = view_at s seat; there = h.0; may = h.1; gives = refl }
+turn_made cards s (Splits seat left) h = record { view = view_at s seat; there = h.0; free = h.1; may = h.2; gives = refl }
+turn_made cards s (Joins seat other) h =
+    record { view = view_at s seat; view' = view_at s other; there = h.0; there' = h.1; apart = h.2; free = h.3; free' = h.4; gives = refl }
+
+-- so do turns, one after the other
+abbrev RunAsks : ℕ → TableState → List Turn → Type 0
+RunAsks cards s [] = Unit {0}
+RunAsks cards s (t ∷ ts) = TurnAsks cards s t × RunAsks cards (turn_leads s t) ts
+
+abbrev run_leads : TableState → List Turn → TableState
+run_leads s [] = s
+run_leads s (t ∷ ts) = run_leads (turn_leads s t) ts
+
+abbrev run_made : (cards : ℕ) (s : TableState) (ts : List Turn) → RunAsks cards s ts → TableRun cards s ts (run_leads s ts)
+run_made cards s [] h = refl
+run_made cards s (t ∷ ts) h = (turn_leads s t, turn_made cards s t h.0, run_made cards (turn_leads s t) ts h.1)
+
+-- what one turn asks, and what the turns after it do
+infixr 5 ◌▸◌
+◌▸◌ : {A B : Type 0} → A → B → A × B
+h ▸ more = (h, more)
+
+-- and then more turns
+asks_more : (cards : ℕ) (s : TableState) (ts us : List Turn) → RunAsks cards s ts → RunAsks cards (run_leads s ts) us → RunAsks cards s (ts ++ us)
+asks_more cards s [] us h more = more
+asks_more cards s (t ∷ ts) us h more = (h.0, asks_more cards (turn_leads s t) ts us h.1 more)
+
+-- a list tells what stands at a place of it
+abbrev IsToldAt : ℕ → List Told → Told → Type 0
+IsToldAt n [] e = ⊥
+IsToldAt zero (d ∷ es) e = d ≡ e
+IsToldAt (suc n) (d ∷ es) e = IsToldAt n es e
+
+told_at : (n : ℕ) (es : List Told) (e : Told) → IsToldAt n es e → Has es e
+told_at n [] e h = absurd h
+told_at zero (d ∷ es) e h = subst (Has (d ∷ es)) h (latest d es)
+told_at (suc n) (d ∷ es) e h = earlier e d es (told_at n es e h)
+
+-- what is so of a card is so of the one in hand, if that is it
+of_card : (P : ℕ → Type 0) (n c : ℕ) → Some n ≡ Some c → P n → P c
+of_card P n c is h = let same : ◌≡◌ {A = ℕ} n c = cc in subst P same h
+
+-- leaves
+leaf_5 : IsLeaf 5
+leaf_5 e = let h : ◌≡◌ {A = ℕ} 1 0 = e in omega arith
+
+leaf_13 : IsLeaf 13
+leaf_13 e = let h : ◌≡◌ {A = ℕ} 1 0 = e in omega arith
+
+leaf_14 : IsLeaf 14
+leaf_14 e = let h : ◌≡◌ {A = ℕ} 2 0 = e in omega arith
+
+-- what is stored of a delete's card, and of the insert's, is what it is to say
+filled_delete : (gp p l was : ℕ) (f : Field)
+    → stored_at ((field.Was, was) ∷ (field.L, l) ∷ (field.P, p) ∷ (field.Gp, gp) ∷ []) f ≡ stored (delete_filling gp p l was) f 0
+filled_delete gp p l was field.Gp = refl
+filled_delete gp p l was field.P = refl
+filled_delete gp p l was field.L = refl
+filled_delete gp p l was field.Was = refl
+filled_delete gp p l was field.Key = refl
+filled_delete gp p l was field.Left = refl
+filled_delete gp p l was field.Right = refl
+filled_delete gp p l was field.Update = refl
+filled_delete gp p l was field.LeftLeafKey = refl
+filled_delete gp p l was field.RightLeafKey = refl
+filled_delete gp p l was field.LeftValue = refl
+filled_delete gp p l was field.RightValue = refl
+
+filled_insert : (f : Field)
+    → stored_at ((field.RightValue, 70) ∷ (field.LeftValue, 50) ∷ (field.RightLeafKey, 7) ∷ (field.LeftLeafKey, 5) ∷ (field.Update, 3) ∷ (field.Right, 14)
+    ∷ (field.Left, 13) ∷ (field.Key, 7) ∷ (field.L, 5) ∷ (field.P, 4) ∷ []) f ≡ stored (insert_filling 3 7 70 4 5 5 50) f 0
+filled_insert field.Gp = refl
+filled_insert field.P = refl
+filled_insert field.L = refl
+filled_insert field.Was = refl
+filled_insert field.Key = refl
+filled_insert field.Left = refl
+filled_insert field.Right = refl
+filled_insert field.Update = refl
+filled_insert field.LeftLeafKey = refl
+filled_insert field.RightLeafKey = refl
+filled_insert field.LeftValue = refl
+filled_insert field.RightValue = refl
+
+-- the table as it starts
+abbrev at_0 : TableState
+at_0 = record {
+  words = small_words;
+  homes = [];
+  views = first_of small_plan ∷ [];
+}
+
+keys_rise : IsStrictlyIncreasing small_plan.keys
+keys_rise zero low = omega arith
+keys_rise (suc k) low = absurd (omega (arith, low))
+
+keys_are_real : All (λ k. k ≤ greatest_key) small_plan.keys
+keys_are_real zero d low = omega arith
+keys_are_real (suc zero) d low = omega arith
+keys_are_real (suc (suc k)) d low = absurd (omega (arith, low))
+
+start_rises : IsStrictlyIncreasing (keys_of small_plan.start)
+start_rises k low = absurd (omega (arith, low))
+
+start_is_given : All (λ k. (set_of small_plan.keys k ≡ true) ⊎ IsSharedIn small_plan k) (keys_of small_plan.start)
+start_is_given zero d low = inl refl
+start_is_given (suc k) d low = absurd (omega (arith, low))
+
+may_there : MayStart small_plan
+may_there = record { ascending = keys_rise; real = keys_are_real; start_ascending = start_rises; given = start_is_given; room = omega arith }
+
+starts_there : Starts small_plan at_0
+starts_there = record {
+  may = may_there;
+  words = subst (StartWords small_plan) small_list (start_list_starts small_plan may_there);
+  is = refl;
+}
+
+-- the first pass is split: seat 0 has key 5 then, and seat 1 key 7
+parting_asks : RunAsks 4 at_0 parting
+parting_asks =
+    (refl, refl, λ sharing. omega arith)
+    ▸ tt
+
+abbrev at_1 : TableState
+at_1 = run_leads at_0 parting
+
+-- seat 0 begins to delete key 5: it searches, takes card 2, fills it, and flags the root
+delete_flags_asks : RunAsks 4 at_1 delete_flags
+delete_flags_asks =
+    (refl, record { free = refl; owned = inl (some_not_none refl) })
+    ▸ (refl, record { stands = refl; inner = refl; unread = refl })
+    ▸ (refl, told_at 0 _ _ refl)
+    ▸ (refl, record { op = Delete 5; word = 3; key = infinity2; busy = refl; stands = refl; inner = refl; read = refl; told = refl; side = refl })
+    ▸ (refl, record { stands = refl; inner = refl; unread = refl })
+    ▸ (refl, told_at 0 _ _ refl)
+    ▸ (refl, record { op = Delete 5; word = 3; key = infinity1; busy = refl; stands = refl; inner = refl; read = refl; told = refl; side = refl })
+    ▸ (refl, told_at 0 _ _ refl)
+    ▸ (refl, tt)
+    ▸ (refl, (record { op = Delete 5; leaf = 5; key = 5; parent = record { node = 4; word = 3 }; read = refl; no_card = refl; busy = refl; stands = refl; outer = leaf_5; told = refl; behind = refl; calm = refl; wants = (refl, (record { node = 0; word = 3 }, refl, refl)) }, omega arith))
+    ▸ (refl, record { holds = refl; unflagged = refl })
+    ▸ (refl, record { holds = refl; unflagged = refl })
+    ▸ (refl, record { holds = refl; unflagged = refl })
+    ▸ (refl, record { holds = refl; unflagged = refl })
+    ▸ (refl, record { key = 5; leaf = 5; parent = record { node = 4; word = 3 }; busy = refl; may = record { holds = refl; unflagged = refl }; stands = refl; behind = refl; above = refl; filled = filled_delete 0 4 5 3 })
+    ▸ tt
+
+abbrev at_2 : TableState
+at_2 = run_leads at_1 delete_flags
+
+-- seat 1 begins to insert key 7: it goes past the flag, and takes card 3
+insert_claims_asks : RunAsks 4 at_2 insert_claims
+insert_claims_asks =
+    (refl, record { free = refl; owned = inl (some_not_none refl) })
+    ▸ (refl, record { stands = refl; inner = refl; unread = refl })
+    ▸ (refl, told_at 1 _ _ refl)
+    ▸ (refl, record { op = Insert 7 70; word = 9; key = infinity2; busy = refl; stands = refl; inner = refl; read = refl; told = refl; side = refl })
+    ▸ (refl, record { stands = refl; inner = refl; unread = refl })
+    ▸ (refl, told_at 0 _ _ refl)
+    ▸ (refl, record { op = Insert 7 70; word = 3; key = infinity1; busy = refl; stands = refl; inner = refl; read = refl; told = refl; side = refl })
+    ▸ (refl, told_at 0 _ _ refl)
+    ▸ (refl, (told_at 1 _ _ refl, leaf_5))
+    ▸ (refl, tt)
+    ▸ (refl, (record { op = Insert 7 70; leaf = 5; key = 5; parent = record { node = 4; word = 3 }; read = refl; no_card = refl; busy = refl; stands = refl; outer = leaf_5; told = refl; behind = refl; calm = refl; wants = ((λ e. let h : ◌≡◌ {A = ℕ} 5 7 = e in omega arith), (50, told_at 0 _ _ refl)) }, omega arith))
+    ▸ tt
+
+abbrev at_3 : TableState
+at_3 = run_leads at_2 insert_claims
+
+-- it fills card 3, and flags the node that seat 0 is about to mark
+insert_flags_asks : RunAsks 4 at_3 insert_flags
+insert_flags_asks =
+    (refl, record { holds = refl; unflagged = refl })
+    ▸ (refl, record { holds = refl; unflagged = refl })
+    ▸ (refl, record { holds = refl; unflagged = refl })
+    ▸ (refl, record { holds = refl; unflagged = refl })
+    ▸ (refl, record { holds = refl; unflagged = refl })
+    ▸ (refl, record { holds = refl; unflagged = refl })
+    ▸ (refl, record { holds = refl; unflagged = refl })
+    ▸ (refl, record { holds = refl; unflagged = refl })
+    ▸ (refl, record { holds = refl; unflagged = refl })
+    ▸ (refl, record { holds = refl; unflagged = refl })
+    ▸ (refl, record { op = Insert 7 70; what = record { key = 7; value = 70; was = None }; leaf = 5; busy = refl; puts = refl; may = record { holds = refl; unflagged = refl }; stands = refl; behind = refl; filled = filled_insert })
+    ▸ tt
+
+abbrev at_4 : TableState
+at_4 = run_leads at_3 insert_flags
+
+-- seat 0 loses the mark, helps the insert to its end, and takes its own flag away
+mark_is_lost_asks : RunAsks 4 at_4 mark_is_lost
+mark_is_lost_asks =
+    (refl, record { knows = refl; parent = told_at 1 _ _ refl; read = told_at 3 _ _ refl })
+    ▸ (refl, record { knows = inl refl; asked = tt })
+    ▸ (refl, record { knows = inl refl; asked = tt })
+    ▸ (refl, record { knows = inl refl; asked = tt })
+    ▸ (refl, record { parent_key = infinity1; card_key = 7; left_key = 5; knows = refl; parent = told_at 4 _ _ refl; leaf = told_at 2 _ _ refl; told_parent = told_at 11 _ _ refl; told_card = told_at 1 _ _ refl; told_left = told_at 0 _ _ refl; brings = refl; side = refl })
+    ▸ (refl, record { knows = refl; parent = told_at 4 _ _ refl })
+    ▸ (refl, record { knows = refl; grandparent = told_at 5 _ _ refl })
+    ▸ tt
+
+abbrev at_5 : TableState
+at_5 = run_leads at_4 mark_is_lost
+
+-- seat 1 finds that its insert was made, and answers
+insert_ends_asks : RunAsks 4 at_5 insert_ends
+insert_ends_asks =
+    (refl, record { parent_key = infinity1; card_key = 7; left_key = 5; knows = refl; parent = told_at 0 _ _ refl; leaf = told_at 1 _ _ refl; told_parent = told_at 10 _ _ refl; told_card = told_at 2 _ _ refl; told_left = told_at 3 _ _ refl; brings = refl; side = refl })
+    ▸ (refl, record { knows = refl; parent = told_at 0 _ _ refl })
+    ▸ (refl, record { op = Insert 7 70; busy = refl; answers = inr (record { card = 3; holds = refl; flagged = refl; over = refl; says = refl }) })
+    ▸ tt
+
+abbrev at_6 : TableState
+at_6 = run_leads at_5 insert_ends
+
+-- seat 0 tries again: it searches, and takes card 4
+delete_begins_anew_asks : RunAsks 4 at_6 delete_begins_anew
+delete_begins_anew_asks =
+    (refl, record { op = Delete 5; busy = refl; backed = λ c is flagged. of_card (λ d. Knows (view_at at_6 0) (Backed d)) 2 c is refl })
+    ▸ (refl, record { stands = refl; inner = refl; unread = refl })
+    ▸ (refl, told_at 0 _ _ refl)
+    ▸ (refl, record { op = Delete 5; word = 11; key = infinity2; busy = refl; stands = refl; inner = refl; read = refl; told = refl; side = refl })
+    ▸ (refl, record { stands = refl; inner = refl; unread = refl })
+    ▸ (refl, told_at 0 _ _ refl)
+    ▸ (refl, record { op = Delete 5; word = 15; key = infinity1; busy = refl; stands = refl; inner = refl; read = refl; told = refl; side = refl })
+    ▸ (refl, record { stands = refl; inner = refl; unread = refl })
+    ▸ (refl, told_at 0 _ _ refl)
+    ▸ (refl, record { op = Delete 5; word = 3; key = 7; busy = refl; stands = refl; inner = refl; read = refl; told = refl; side = refl })
+    ▸ (refl, told_at 0 _ _ refl)
+    ▸ (refl, tt)
+    ▸ (refl, (record { op = Delete 5; leaf = 13; key = 5; parent = record { node = 12; word = 3 }; read = refl; no_card = refl; busy = refl; stands = refl; outer = leaf_13; told = refl; behind = refl; calm = refl; wants = (refl, (record { node = 4; word = 15 }, refl, refl)) }, omega arith))
+    ▸ tt
+
+abbrev at_7 : TableState
+at_7 = run_leads at_6 delete_begins_anew
+
+-- it flags, marks, cuts the node out, and answers
+delete_ends_asks : RunAsks 4 at_7 delete_ends
+delete_ends_asks =
+    (refl, record { holds = refl; unflagged = refl })
+    ▸ (refl, record { holds = refl; unflagged = refl })
+    ▸ (refl, record { holds = refl; unflagged = refl })
+    ▸ (refl, record { holds = refl; unflagged = refl })
+    ▸ (refl, record { key = 5; leaf = 13; parent = record { node = 12; word = 3 }; busy = refl; may = record { holds = refl; unflagged = refl }; stands = refl; behind = refl; above = refl; filled = filled_delete 4 12 13 3 })
+    ▸ (refl, record { knows = refl; parent = told_at 1 _ _ refl; read = told_at 3 _ _ refl })
+    ▸ (refl, record { knows = refl; parent = told_at 1 _ _ refl })
+    ▸ (refl, told_at 1 _ _ refl)
+    ▸ (refl, record { leaf = 13; grandparent_key = infinity1; sibling_key = 7; knows = refl; grandparent = told_at 3 _ _ refl; parent = told_at 4 _ _ refl; below = told_at 5 _ _ refl; sibling = inl (told_at 1 _ _ refl, λ e. let h : ◌≡◌ {A = ℕ} 14 13 = e in omega arith); told_grandparent = told_at 11 _ _ refl; told_sibling = told_at 0 _ _ refl; side = refl })
+    ▸ (refl, record { knows = refl; grandparent = told_at 3 _ _ refl })
+    ▸ (refl, record { op = Delete 5; busy = refl; answers = inr (record { card = 4; holds = refl; flagged = refl; over = refl; says = refl }) })
+    ▸ tt
+
+abbrev at_8 : TableState
+at_8 = run_leads at_7 delete_ends
+
+-- seat 1 looks for key 7, and finds its value
+look_asks : RunAsks 4 at_8 look
+look_asks =
+    (refl, refl)
+    ▸ (refl, record { come = record { glance = record { node = 4; low = 0; high = greatest_key + 1 }; among = last _ _; there = refl; from = omega arith; upto = omega arith }; met = told_at 0 _ _ refl; inner = refl; told = told_at 11 _ _ refl })
+    ▸ (refl, told_at 0 _ _ refl)
+    ▸ (refl, (told_at 1 _ _ refl, leaf_14))
+    ▸ tt
+
+abbrev at_9 : TableState
+at_9 = run_leads at_8 look
+
+-- it lays a find down, and both passes become one
+ending_asks : RunAsks 4 at_9 ending
+ending_asks =
+    (refl, record { free = refl; owned = inl (some_not_none refl) })
+    ▸ (refl, record { op = Find 7; busy = refl; backed = λ c is flagged. absurd (some_not_none is refl) })
+    ▸ (refl, refl, (λ e. let h : ◌≡◌ {A = ℕ} 0 1 = e in omega arith), refl, refl)
+    ▸ tt
+
+abbrev at_10 : TableState
+at_10 = run_leads at_9 ending
+
+all_asks : RunAsks 4 at_0 small_run
+all_asks = asks_more 4 at_0 parting (delete_flags ++ insert_claims ++ insert_flags ++ mark_is_lost ++ insert_ends ++ delete_begins_anew ++ delete_ends ++ look ++ ending) parting_asks
+    (asks_more 4 at_1 delete_flags (insert_claims ++ insert_flags ++ mark_is_lost ++ insert_ends ++ delete_begins_anew ++ delete_ends ++ look ++ ending) delete_flags_asks
+    (asks_more 4 at_2 insert_claims (insert_flags ++ mark_is_lost ++ insert_ends ++ delete_begins_anew ++ delete_ends ++ look ++ ending) insert_claims_asks
+    (asks_more 4 at_3 insert_flags (mark_is_lost ++ insert_ends ++ delete_begins_anew ++ delete_ends ++ look ++ ending) insert_flags_asks
+    (asks_more 4 at_4 mark_is_lost (insert_ends ++ delete_begins_anew ++ delete_ends ++ look ++ ending) mark_is_lost_asks
+    (asks_more 4 at_5 insert_ends (delete_begins_anew ++ delete_ends ++ look ++ ending) insert_ends_asks
+    (asks_more 4 at_6 delete_begins_anew (delete_ends ++ look ++ ending) delete_begins_anew_asks
+    (asks_more 4 at_7 delete_ends (look ++ ending) delete_ends_asks
+    (asks_more 4 at_8 look (ending) look_asks
+    ending_asks))))))))
+
+pub small_run_is_made : SmallRunIsMade
+small_run_is_made = record {
+  first = at_0;
+  starts = starts_there;
+  last = at_10;
+  run = run_made 4 at_0 small_run all_asks;
+  delete_lost = refl;
+  insert_made = refl;
+  delete_made = refl;
+  view = view_at at_10 0;
+  there = refl;
+  ledger = refl;
+}

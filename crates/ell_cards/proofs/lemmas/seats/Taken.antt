@@ -1,0 +1,131 @@
+use Rattle.std.proofs.Common.{◌≡◌, ◌==◌, ℕ, ◌%◌, ◌<◌, ◌≤◌, false, List, [], ◌∷◌, Option, Some, refl, ap, inl, inr, arith, Bool, if◌then◌else◌, true}
+use Rattle.ell_ops.specs.declared.op.Op.{Op}
+use Rattle.ell_ops.specs.declared.op.Op.TheVariants.{Insert, Delete, Swap}
+use Rattle.ell_word.specs.Node.{card}
+use Rattle.ell_word.specs.Word.{packed, unpacked}
+use Rattle.ell_core.specs.declared.fact.Fact.TheVariants.{IFlagged, DFlagged, Marked}
+use Rattle.ell_layout.specs.declared.field.Field.{Field}
+use Rattle.ell_layout.specs.declared.field.Field.TheVariants as field
+use Rattle.ell_layout.specs.Words.{key_field, value_field, child_field}
+use Rattle.ell_layout.specs.Layout.{address, table_size}
+use Rattle.ell_layout.proofs.lemmas.Listed.{place_small}
+use Rattle.ell_cards.specs.declared.call.Call.{Call}
+use Rattle.ell_cards.specs.declared.call.Call.TheVariants as call
+use Rattle.ell_cards.specs.declared.view.View.{View}
+use Rattle.ell_cards.specs.declared.view.Told.TheVariants.{Met, Info}
+use Rattle.ell_cards.specs.Models.{KnowsCard, PassModel, Sees, Steps}
+use Rattle.ell_cards.specs.Changes.{keys_of, with_entry, answered_ledger, after_claim, after_mark, after_flag, is_mark_of, learning, unmarking}
+use Rattle.ell_cards.specs.Calls.{word_of, after, May}
+use Rattle.ell_cards.specs.Naming.{IsNamed}
+use Rattle.ell_cards.specs.Stepping.{KeepsPass, SeesBy, StepsBy, IsTaken, SameShare}
+use Rattle.ell_cards.proofs.lemmas.seats.LedgersStay.{claim_ledger, flag_ledger, mark_ledger, claim_list, flag_list, mark_list}
+use Rattle.ell_core.specs.declared.view.Entry.{Entry}
+use Rattle.ell_core.specs.declared.view.Entry.TheVariants.{Present, Absent}
+use Rattle.ell_ops.specs.declared.reply.Reply.{Reply}
+use Rattle.ell_ops.specs.declared.reply.Reply.TheVariants.{Yes, Found}
+use Rattle.ell_core.specs.declared.fact.Fact.{Fact}
+use Rattle.ell_word.specs.declared.update.Update.{Update}
+
+-- settling a key leaves the keys
+settled_keys : (k : ℕ) (b : Entry) (l : List (ℕ × Entry)) → keys_of (with_entry k b l) ≡ keys_of l
+settled_keys k b [] = refl
+settled_keys k b (e ∷ es) = ap (λ ks. e.0 ∷ ks) (settled_keys k b es)
+
+answered_keys : (o : Option Op) (said : Reply) (l : List (ℕ × Entry)) → keys_of (answered_ledger o said l) ≡ keys_of l
+answered_keys (Some (Insert k value)) Yes l = settled_keys k (Present value) l
+answered_keys (Some (Delete k)) Yes l = settled_keys k Absent l
+answered_keys (Some (Swap k was value)) (Found there) l = by (there == was)
+  where
+    by : (b : Bool) → keys_of (if b then with_entry k (Present value) l else l) ≡ keys_of l
+    by true = settled_keys k (Present value) l
+    by false = refl
+answered_keys _ _ l = refl
+
+-- no step call changes which keys a pass owns
+pub keys_stay : (c : Call) (n : ℕ) (v : View) → keys_of (after c n v).worker.ledger ≡ keys_of v.worker.ledger
+keys_stay (call.Answer said) n v = answered_keys v.worker.operation said v.worker.ledger
+keys_stay (call.Claim c) n v = ap keys_of (claim_ledger (n == c) c v)
+keys_stay (call.IFlag c p from) n v = ap keys_of (flag_ledger (n == packed from) (IFlagged c) p (unpacked n) v)
+keys_stay (call.DFlag c gp from) n v = ap keys_of (flag_ledger (n == packed from) (DFlagged c) gp (unpacked n) v)
+keys_stay (call.Mark c p was) n v = ap keys_of (mark_ledger (n == was) c p (unpacked n) v)
+keys_stay _ n v = refl
+
+-- nor the keys that may have an owner, as it knows them
+pub owned_stays : (c : Call) (n : ℕ) (v : View) → (after c n v).worker.ownable ≡ v.worker.ownable
+owned_stays (call.Claim c) n v = claim_list (n == c) c v
+owned_stays (call.IFlag c p from) n v = flag_list (n == packed from) (IFlagged c) p (unpacked n) v
+owned_stays (call.DFlag c gp from) n v = flag_list (n == packed from) (DFlagged c) gp (unpacked n) v
+owned_stays (call.Mark c p was) n v = mark_list (n == was) c p (unpacked n) v
+owned_stays _ n v = refl
+
+-- nor the share
+share_claim : (b : Bool) (c : ℕ) (v : View) → (after_claim b c v).share ≡ v.share
+share_claim true c v = refl
+share_claim false c v = refl
+
+share_flag : (b : Bool) (new : Fact) (x : ℕ) (u : Update) (v : View) → (after_flag b new x u v).share ≡ v.share
+share_flag true new x u v = refl
+share_flag false new x u v = refl
+
+share_mark : (b : Bool) (c x : ℕ) (u : Update) (v : View) → (after_mark b c x u v).share ≡ v.share
+share_mark true c x u v = refl
+share_mark false c x u v = by (is_mark_of c u.state u.card)
+  where
+    by : (b : Bool) → (if b then learning (Marked c) v else unmarking c x u v).share ≡ v.share
+    by true = refl
+    by false = refl
+
+pub share_stays : (c : Call) (n : ℕ) (v : View) → (after c n v).share ≡ v.share
+share_stays (call.Claim c) n v = share_claim (n == c) c v
+share_stays (call.IFlag c p from) n v = share_flag (n == packed from) (IFlagged c) p (unpacked n) v
+share_stays (call.DFlag c gp from) n v = share_flag (n == packed from) (DFlagged c) gp (unpacked n) v
+share_stays (call.Mark c p was) n v = share_mark (n == was) c p (unpacked n) v
+share_stays _ n v = refl
+
+pub same_share : (c : Call) (n : ℕ) (v : View) → SameShare v (after c n v)
+same_share c n v = record { share = share_stays c n v; ownable = owned_stays c n v }
+
+-- what is taken leaves the pass as it has to be
+pub taken_keeps : (cards : ℕ) (c : Call) (v : View) → KeepsPass cards v (IsTaken cards c v)
+taken_keeps cards c v n w t = (t.keys, t.share, t.named)
+
+-- a field of a card of the table has its address there
+address_fits : (cards c : ℕ) (f : Field) → c ≤ cards → address c f < table_size cards
+address_fits cards c f low = let small = place_small f in omega arith
+
+-- a known card is one of the table
+pub known_fits : (cards : ℕ) (v : View) (c : ℕ) → IsNamed cards v → KnowsCard v c → c ≤ cards
+known_fits cards v c named (inl k) = named.facts (IFlagged c) k
+known_fits cards v c named (inr (inl k)) = named.facts (DFlagged c) k
+known_fits cards v c named (inr (inr k)) = named.facts (Marked c) k
+
+-- the word that a call touches is in the table
+pub word_fits : (cards : ℕ) (c : Call) (v : View) → IsNamed cards v → May cards c v → word_of c < table_size cards
+word_fits cards (call.Upd x) v named may = address_fits cards (card x) field.Update (named.node x may.stands)
+word_fits cards (call.Down x right) v named may = address_fits cards (card x) (child_field right) (named.node x may.stands)
+word_fits cards (call.KeyOf x) v named may = address_fits cards (card x) (key_field (x % 4)) (named.entries (Met x) may)
+word_fits cards (call.ValueOf x) v named may = address_fits cards (card x) (value_field (x % 4)) (named.entries (Met x) may.0)
+word_fits cards (call.Info c f) v named may = address_fits cards c f (known_fits cards v c named may.knows)
+word_fits cards (call.FrozenChild c p right) v named may = address_fits cards (card p) (child_field right) (named.entries (Info c field.P p) may.parent).1
+word_fits cards call.Look v named may = address_fits cards 0 (child_field false) (omega arith)
+word_fits cards (call.LookDown from key right) v named may = address_fits cards (card from.node) (child_field right) (named.entries (Met from.node) may.met)
+word_fits cards (call.Fill c f value) v named may = address_fits cards c f (named.hand c may.holds)
+word_fits cards (call.IFlag c p from) v named may = address_fits cards (card p) field.Update (named.parent may.leaf _ may.stands may.behind).node
+word_fits cards (call.IChild c p l q right) v named may = address_fits cards (card p) (child_field right) (named.entries (Info c field.P p) may.parent).1
+word_fits cards (call.IUnflag c p) v named may = address_fits cards (card p) field.Update (named.entries (Info c field.P p) may.parent).1
+word_fits cards (call.DFlag c gp from) v named may =
+    address_fits cards (card gp) field.Update (named.grandparent may.leaf may.parent _ may.stands may.behind may.above).node
+word_fits cards (call.Mark c p was) v named may = address_fits cards (card p) field.Update (named.entries (Info c field.P p) may.parent).1
+word_fits cards (call.DChild c gp p sibling right) v named may =
+    address_fits cards (card gp) (child_field right) (named.entries (Info c field.Gp gp) may.grandparent).1
+word_fits cards (call.DUnflag c gp) v named may = address_fits cards (card gp) field.Update (named.entries (Info c field.Gp gp) may.grandparent).1
+word_fits cards (call.Backtrack c gp) v named may = address_fits cards (card gp) field.Update (named.entries (Info c field.Gp gp) may.grandparent).1
+word_fits cards _ v named may = omega arith
+
+-- a pass after one step that took this call, before it counts the step
+pub sees_by : (old new : PassModel) (v : View) → SeesBy old new → new.view ≡ v → Sees old new v
+sees_by old new v by known = λ t. record { table = by.table t; view = known t; steps = by.steps t; label = by.label t }
+
+-- a pass after one step that took this call
+pub steps_by : (old new : PassModel) (v : View) → StepsBy old new → new.view ≡ v → Steps old new v
+steps_by old new v by known = λ t. record { table = by.table t; view = known t; steps = by.steps t; label = by.label t }

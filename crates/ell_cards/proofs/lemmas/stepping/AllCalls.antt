@@ -1,0 +1,36 @@
+use Rattle.ell_cards.specs.declared.call.Call.TheVariants as call
+use Rattle.ell_cards.specs.Laws.{StepsAreEvents}
+use Rattle.ell_cards.proofs.lemmas.stepping.Begins.{keeps_begin, keeps_again, keeps_leave, keeps_answer}
+use Rattle.ell_cards.proofs.lemmas.stepping.Looks.{keeps_upd, keeps_down, keeps_next, keeps_key_of, keeps_value_of}
+use Rattle.ell_cards.proofs.lemmas.stepping.Asking.{keeps_info, keeps_frozen_child}
+use Rattle.ell_cards.proofs.lemmas.stepping.Looking.{keeps_look, keeps_look_down}
+use Rattle.ell_cards.proofs.lemmas.stepping.Claiming.{keeps_claim}
+use Rattle.ell_cards.proofs.lemmas.stepping.Filling.{keeps_fill}
+use Rattle.ell_cards.proofs.lemmas.stepping.Flags.{keeps_iflag, keeps_dflag}
+use Rattle.ell_cards.proofs.lemmas.stepping.Inserting.{keeps_ichild, keeps_iunflag}
+use Rattle.ell_cards.proofs.lemmas.stepping.Deleting.{keeps_mark, keeps_dchild, keeps_dunflag, keeps_backtrack}
+
+pub steps_are_events : StepsAreEvents
+steps_are_events keys cards s r id v (call.Begin op) here may = keeps_begin keys cards s r id v here op may
+steps_are_events keys cards s r id v call.Again here may = keeps_again keys cards s r id v here may
+steps_are_events keys cards s r id v call.Leave here may = keeps_leave keys cards s r id v here may
+steps_are_events keys cards s r id v (call.Answer said) here may = keeps_answer keys cards s r id v here said may
+steps_are_events keys cards s r id v (call.Upd x) here may = keeps_upd keys cards s r id v here x may
+steps_are_events keys cards s r id v (call.Down x right) here may = keeps_down keys cards s r id v here x right may
+steps_are_events keys cards s r id v call.Next here may = keeps_next keys cards s r id v here
+steps_are_events keys cards s r id v (call.KeyOf x) here may = keeps_key_of keys cards s r id v here x may
+steps_are_events keys cards s r id v (call.ValueOf x) here may = keeps_value_of keys cards s r id v here x may.0 may.1
+steps_are_events keys cards s r id v (call.Info c f) here may = keeps_info keys cards s r id v here c f may
+steps_are_events keys cards s r id v (call.FrozenChild c p right) here may = keeps_frozen_child keys cards s r id v here c p right may
+steps_are_events keys cards s r id v call.Look here may = keeps_look keys cards s r id v here may
+steps_are_events keys cards s r id v (call.LookDown from key right) here may = keeps_look_down keys cards s r id v here from key right may
+steps_are_events keys cards s r id v (call.Claim c) here may = keeps_claim keys cards s r id v here c may.0 may.1
+steps_are_events keys cards s r id v (call.Fill c f value) here may = keeps_fill keys cards s r id v here c f value may
+steps_are_events keys cards s r id v (call.IFlag c p from) here may = keeps_iflag keys cards s r id v here c p from may
+steps_are_events keys cards s r id v (call.IChild c p l q right) here may = keeps_ichild keys cards s r id v here c p l q right may
+steps_are_events keys cards s r id v (call.IUnflag c p) here may = keeps_iunflag keys cards s r id v here c p may
+steps_are_events keys cards s r id v (call.DFlag c gp from) here may = keeps_dflag keys cards s r id v here c gp from may
+steps_are_events keys cards s r id v (call.Mark c p was) here may = keeps_mark keys cards s r id v here c p was may
+steps_are_events keys cards s r id v (call.DChild c gp p sibling right) here may = keeps_dchild keys cards s r id v here c gp p sibling right may
+steps_are_events keys cards s r id v (call.DUnflag c gp) here may = keeps_dunflag keys cards s r id v here c gp may
+steps_are_events keys cards s r id v (call.Backtrack c gp) here may = keeps_backtrack keys cards s r id v here c gp may

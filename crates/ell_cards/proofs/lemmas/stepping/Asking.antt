@@ -1,0 +1,152 @@
+use Rattle.std.proofs.Common.{◌≡◌, ◌∷◌, ℕ, ◌<◌, Bool, true, List, get_or, refl, sym, subst, inl, inr, arith}
+use Rattle.ell_core.proofs.lemmas.stages.LaterKeys.{root_born}
+use mathlib.Core.Option.{some}
+use lib.ListN.{get_elem?}
+use Rattle.ell_word.specs.Node.{IsInternal}
+use Rattle.ell_core.specs.declared.fact.Fact.TheVariants.{Marked}
+use Rattle.ell_layout.specs.declared.field.Field.{Field}
+use Rattle.ell_layout.specs.declared.field.Field.TheVariants as field
+use Rattle.ell_layout.specs.Layout.{address}
+use Rattle.ell_layout.specs.Words.{word}
+use Rattle.ell_core.specs.history.Stages.{Born}
+use Rattle.ell_cards.specs.declared.call.Call.TheVariants as call
+use Rattle.ell_cards.specs.declared.view.Told.{Told}
+use Rattle.ell_cards.specs.declared.view.Told.TheVariants.{Met, Key, Info, Frozen}
+use Rattle.ell_cards.specs.declared.view.View.{View}
+use Rattle.ell_cards.specs.Models.{Has, earlier, InTable, KnowsCard}
+use Rattle.ell_cards.specs.Changes.{told_info, after_info, after_frozen_child}
+use Rattle.ell_cards.specs.Guards.{IsAsked, MayAsk, MaySee}
+use Rattle.ell_cards.specs.Calls.{child_at, TellsNode, TellsDepth}
+use Rattle.ell_cards.specs.States.{TableState}
+use Rattle.ell_cards.specs.Machines.{is_fixed, EntryHolds, HasMachine}
+use Rattle.ell_cards.specs.Laws.{IsEvent}
+use Rattle.ell_cards.proofs.lemmas.views.Entries.{info_more}
+use Rattle.ell_cards.proofs.lemmas.seats.Entries.{with_entry}
+use Rattle.ell_cards.proofs.lemmas.seats.Seats.{mine_sound}
+use Rattle.ell_cards.proofs.lemmas.seats.Frames.{kept_told, is_no_event}
+use Rattle.ell_cards.proofs.lemmas.stepping.Looks.{born_in_table}
+use Rattle.ell_cards.proofs.lemmas.stepping.Exchanges.{told_is}
+use Rattle.ell_cards.proofs.lemmas.stepping.Known.{known_delete, known_card, known_claimed, known_settled, child_found}
+
+-- a field that may be asked for never changes
+asked_fixed : (f : Field) → IsAsked f → is_fixed f ≡ true
+asked_fixed field.Left a = absurd a
+asked_fixed field.Right a = absurd a
+asked_fixed field.Update a = absurd a
+asked_fixed _ a = refl
+
+module _ (keys : List ℕ) (cards : ℕ) (s : TableState) (r : HasMachine keys cards s) (id : ℕ) (v : View) (here : get_elem? s.views id ≡ some v) where
+  -- where a known card goes came into the tree; an insert's has no grandparent, which is node 0
+  gp_born : (c : ℕ) → KnowsCard v c → Born r.stages (r.words.gp c)
+  gp_born c k = elim (known_card keys cards s r id v here c k) [
+    | inl i ↦ subst (Born r.stages) (sym i.gp) (root_born r.words r.stages r.invariant.words)
+    | inr d ↦ d.grandparent.born
+  ]
+
+  p_born : (c : ℕ) → KnowsCard v c → Born r.stages (r.words.p c)
+  p_born c k = elim (known_card keys cards s r id v here c k) [ inl i ↦ i.parent.born | inr d ↦ d.parent.born ]
+
+  l_born : (c : ℕ) → KnowsCard v c → Born r.stages (r.words.l c)
+  l_born c k = elim (known_card keys cards s r id v here c k) [ inl i ↦ i.leaf.born | inr d ↦ d.leaf.born ]
+
+  -- its leaf is below its parent
+  deeper : (c : ℕ) → KnowsCard v c → r.words.p c < r.words.l c
+  deeper c k = elim (known_card keys cards s r id v here c k) [ inl i ↦ i.above | inr d ↦ d.above ]
+
+  -- what is told of a card's word
+  info_entries : (c : ℕ) (f : Field) (n : ℕ) → KnowsCard v c → IsAsked f → word r.words c f ≡ n
+      → (e : Told) → Has (told_info c f n v.told) e → EntryHolds r.words r.stages e
+  info_entries c f n k asked is = by f (asked_fixed f asked) is
+    where
+      old : (e : Told) → Has v.told e → EntryHolds r.words r.stages e
+      old = (r.views id v here).entries
+
+      met : (x : ℕ) → Born r.stages x → x ≡ n → (e : Told) → Has (Met n ∷ v.told) e → EntryHolds r.words r.stages e
+      met x born eq = with_entry (EntryHolds r.words r.stages) (Met n) v.told (subst (Born r.stages) eq born) old
+
+      by : (g : Field) → is_fixed g ≡ true → word r.words c g ≡ n → (e : Told) → Has (told_info c g n v.told) e → EntryHolds r.words r.stages e
+      by field.Gp fixed eq = with_entry (EntryHolds r.words r.stages) (Info c field.Gp n) (Met n ∷ v.told)
+          (known_claimed keys cards s r id v here c k, fixed, eq) (met (r.words.gp c) (gp_born c k) eq)
+      by field.P fixed eq = with_entry (EntryHolds r.words r.stages) (Info c field.P n) (Met n ∷ v.told)
+          (known_claimed keys cards s r id v here c k, fixed, eq) (met (r.words.p c) (p_born c k) eq)
+      by field.L fixed eq = with_entry (EntryHolds r.words r.stages) (Info c field.L n) (Met n ∷ v.told)
+          (known_claimed keys cards s r id v here c k, fixed, eq) (met (r.words.l c) (l_born c k) eq)
+      by g fixed eq = with_entry (EntryHolds r.words r.stages) (Info c g n) v.told (known_claimed keys cards s r id v here c k, fixed, eq) old
+
+  -- grandparent and parent are internal
+  gp_inner : (c : ℕ) → KnowsCard v c → IsInternal (r.words.gp c)
+  gp_inner c k = elim (known_card keys cards s r id v here c k) [ inl i ↦ subst IsInternal (sym i.gp) refl | inr d ↦ d.grandparent.inner ]
+
+  p_inner : (c : ℕ) → KnowsCard v c → IsInternal (r.words.p c)
+  p_inner c k = elim (known_card keys cards s r id v here c k) [ inl i ↦ i.parent.inner | inr d ↦ d.parent.inner ]
+
+  -- a word that is a node is one of the table
+  tells_node : (c : ℕ) (f : Field) (n : ℕ) → KnowsCard v c → word r.words c f ≡ n → TellsNode cards f n
+  tells_node c field.Gp n k is =
+      (subst (InTable cards) is (born_in_table keys cards s r id v here (r.words.gp c) (gp_born c k)), subst IsInternal is (gp_inner c k))
+  tells_node c field.P n k is =
+      (subst (InTable cards) is (born_in_table keys cards s r id v here (r.words.p c) (p_born c k)), subst IsInternal is (p_inner c k))
+  tells_node c field.L n k is = subst (InTable cards) is (born_in_table keys cards s r id v here (r.words.l c) (l_born c k))
+  tells_node c _ n k is = tt
+
+  -- where the card goes is ever deeper
+  tells_depth : (c : ℕ) (f : Field) (n : ℕ) → KnowsCard v c → word r.words c f ≡ n → TellsDepth v c f n
+  tells_depth c field.Gp n k is = λ knows p told.
+      let first = (known_delete keys cards s r id v here c knows).first in
+      let p_is = told_is keys cards s r id v here c field.P p told in
+      omega arith
+  tells_depth c field.P n k is = (
+    λ knows gp told.
+        let first = (known_delete keys cards s r id v here c knows).first in
+        let gp_is = told_is keys cards s r id v here c field.Gp gp told in
+        omega arith,
+    λ l told. let above = deeper c k in let l_is = told_is keys cards s r id v here c field.L l told in omega arith,
+  )
+  tells_depth c field.L n k is = λ p told. let above = deeper c k in let p_is = told_is keys cards s r id v here c field.P p told in omega arith
+  tells_depth c _ n k is = tt
+
+  -- info
+  pub keeps_info : (c : ℕ) (f : Field) → MayAsk v c f → IsEvent keys cards s r id v (call.Info c f)
+  keeps_info c f may =
+      let n = get_or s.words (address c f) 0 in
+      let h = r.views id v here in
+      let is : word r.words c f ≡ n = sym (r.settled c f (known_settled keys cards s r id v here c may.knows)) in
+      is_no_event keys cards s r id v here (call.Info c f)
+      (kept_told keys cards s r id v here (after_info c f n v) refl (record {
+        entries = info_entries c f n may.knows may.asked is;
+        here = λ y key at told. info_more c f n v.told (Key y key) (h.here y key at told);
+        hand = h.hand;
+        read = h.read;
+        least = h.least;
+        knew = h.knew;
+        walk = h.walk;
+      }) (address c f))
+      refl refl (tells_node c f n may.knows is, tells_depth c f n may.knows is)
+
+  -- frozen_child
+  pub keeps_frozen_child : (c p : ℕ) (right : Bool) → MaySee v c p → IsEvent keys cards s r id v (call.FrozenChild c p right)
+  keeps_frozen_child c p right may =
+      let n = get_or s.words (child_at p right) 0 in
+      let h = r.views id v here in
+      let w = r.words in
+      let known = (mine_sound keys cards s r id v here).facts (Marked c) may.knows in
+      let said = known_delete keys cards s r id v here c (inr may.knows) in
+      let p_is : w.p c ≡ p = told_is keys cards s r id v here c field.P p may.parent in
+      let is : w.child (w.p c) right ≡ n = child_found keys cards s r id v here (w.p c) p right p_is said.parent.inner said.parent.born in
+      let mark = ((r.invariant.words.deletes c).marked known).mark in
+      let children = r.invariant.words.children (w.p c) said.parent.inner said.parent.born in
+      let born : Born r.stages n = subst (Born r.stages) is (children.born right) in
+      let rises = children.rising right in
+      is_no_event keys cards s r id v here (call.FrozenChild c p right)
+      (kept_told keys cards s r id v here (after_frozen_child c right n v) refl (record {
+        entries = with_entry (EntryHolds w r.stages) (Frozen c right n) (Met n ∷ v.told)
+            (known_claimed keys cards s r id v here c (inr (inr may.knows)), mark, is, born)
+            (with_entry (EntryHolds w r.stages) (Met n) v.told born h.entries);
+        here = λ y key at told. earlier (Key y key) (Frozen c right n) (Met n ∷ v.told) (earlier (Key y key) (Met n) v.told (h.here y key at told));
+        hand = h.hand;
+        read = h.read;
+        least = h.least;
+        knew = h.knew;
+        walk = h.walk;
+      }) (child_at p right))
+      refl refl (omega arith, born_in_table keys cards s r id v here n born)

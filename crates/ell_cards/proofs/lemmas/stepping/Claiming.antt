@@ -1,0 +1,266 @@
+use Rattle.std.proofs.Common.{◌≡◌, ◌≢◌, ◌==◌, ℕ, ◌+◌, ◌<◌, ◌≤◌, if◌then◌else◌, Bool, true, false, List, [], ◌∷◌, ◌++◌, length, get_or, set, Some, None, refl, sym, ap, ◌∙◌, subst, inl, inr, arith, eqb-true, true≢false, length-set, get_or-set_same, get_or-set_other, eq-eqb}
+use Rattle.ell_core.specs.history.Later.{StagesLater}
+use Rattle.std.specs.Prelude.{unwrap_or, Option}
+use Rattle.std.proofs.lemmas.Option.{same_Some}
+use Rattle.ell_core.specs.declared.put.Put.{Put}
+use Rattle.ell_core.specs.declared.view.Seen.{Seen}
+use Rattle.ell_core.specs.acts.Searching.{put_of, TakesPut}
+use Rattle.ell_core.proofs.lemmas.keeping.Puts.{added, replacing}
+use Rattle.ell_cards.specs.Models.{IsTold}
+use mathlib.Core.Option.{some}
+use lib.ListN.{get_elem?}
+use Rattle.ell_ops.specs.declared.op.Op.{Op}
+use Rattle.ell_ops.specs.Meaning.{key_of}
+use Rattle.ell_ops.specs.declared.op.Op.TheVariants.{Find, Insert, Delete, Swap}
+use Rattle.ell_core.specs.declared.exchange.Exchange.{Exchange}
+use Rattle.ell_core.specs.declared.exchange.Exchange.TheVariants as exchange
+use Rattle.ell_core.specs.declared.event.Act.TheVariants as act
+use Rattle.ell_core.specs.declared.event.Stepped.TheVariants.{Moved}
+use Rattle.ell_layout.specs.declared.field.Field.{Field}
+use Rattle.ell_layout.specs.declared.field.Field.TheVariants as field
+use Rattle.ell_layout.specs.Layout.{address, listed}
+use Rattle.ell_layout.specs.Words.{Words, word}
+use Rattle.ell_core.specs.state.Machine.{worker_of}
+use Rattle.ell_layout.specs.Cards.{insert_filling, delete_filling, filled, claimed, stored}
+use Rattle.ell_core.specs.acts.Events.{Row, Happens}
+use Rattle.ell_core.specs.history.Stages.{Stages, is_claimed, waits}
+use Rattle.ell_core.proofs.lemmas.stages.Waiting.{kind-waits, unclaimed-no_start, unclaimed-wins, unclaimed-settled, waits-claimed}
+use Rattle.ell_core.proofs.lemmas.following.waiting.Cards.{claimed_cards_say}
+use Rattle.ell_core.proofs.lemmas.following.facts.Claimed.{not_claimed}
+use Rattle.ell_layout.proofs.lemmas.Listed.{same_but_next}
+use Rattle.ell_cards.specs.declared.call.Call.TheVariants as call
+use Rattle.ell_cards.specs.declared.view.Told.{Told}
+use Rattle.ell_cards.specs.declared.view.Told.TheVariants.{Key, Info, Value}
+use Rattle.ell_cards.specs.declared.view.View.{View}
+use Rattle.ell_cards.specs.Models.{Has}
+use Rattle.ell_cards.specs.Changes.{told_value, told_fixed, told_filling, filling_for, filling_of, after_claim}
+use Rattle.ell_cards.specs.Guards.{MayClaim, Wants}
+use Rattle.ell_cards.specs.States.{TableState, seated}
+use Rattle.ell_cards.specs.Machines.{EntryHolds, HasMachine}
+use Rattle.ell_cards.specs.Laws.{IsEvent}
+use Rattle.ell_cards.specs.Calls.{Becomes}
+use Rattle.ell_cards.proofs.lemmas.words.Fields.{filled_else}
+use Rattle.ell_cards.proofs.lemmas.views.Entries.{filling_more}
+use Rattle.ell_cards.proofs.lemmas.seats.Entries.{with_entry, told_value_is}
+use Rattle.ell_cards.proofs.lemmas.seats.Seats.{machine, leads, kept_event, mine, becomes, mine_sound, stands_born, over_cut, walk_on, entries_on}
+use Rattle.ell_cards.proofs.lemmas.seats.Frames.{IsReached, waits_on, kept_told, same_machine}
+use Rattle.ell_cards.proofs.lemmas.stepping.Looks.{here_key}
+
+-- what holds of a card's word is told of it
+fixed_holds : (w : Words) (stage : Stages) (c : ℕ) (f : Field) (x : ℕ) (told : List Told) → c < w.next → word w c f ≡ x
+    → ((e : Told) → Has told e → EntryHolds w stage e) → (e : Told) → Has (told_fixed c f x told) e → EntryHolds w stage e
+fixed_holds w stage c field.Left x told low is old = old
+fixed_holds w stage c field.Right x told low is old = old
+fixed_holds w stage c field.Update x told low is old = old
+fixed_holds w stage c f x told low is old = with_entry (EntryHolds w stage) (Info c f x) told (low, refl, is) old
+
+-- a card says each entry of a list
+abbrev Says : Words → ℕ → List (Field × ℕ) → Type 0
+Says w c [] = Unit {0}
+Says w c (e ∷ es) = (word w c e.0 ≡ e.1) × Says w c es
+
+filling_holds : (w : Words) (stage : Stages) (c : ℕ) (es : List (Field × ℕ)) (told : List Told) → c < w.next → Says w c es
+    → ((e : Told) → Has told e → EntryHolds w stage e) → (e : Told) → Has (told_filling c es told) e → EntryHolds w stage e
+filling_holds w stage c [] told low says old = old
+filling_holds w stage c (d ∷ es) told low says old =
+    fixed_holds w stage c d.0 d.1 (told_filling c es told) low says.0 (filling_holds w stage c es told low says.1 old)
+
+-- the view after a won claim, with this filling
+abbrev taking : ℕ → List (Field × ℕ) → View → View
+taking c es v = record v {
+  worker = record (v.worker) { card = Some c; flagged = false };
+  told = told_filling c es v.told;
+  planned = es;
+  stores = [];
+  won = (exchange.Claim, c) ∷ v.won;
+  next_at_least = c + 1;
+  made = v.made + 1;
+}
+
+-- what fills a card for an operation that puts something
+pub put_filling : (op : Op) (what : Put) → put_of op ≡ Some what → (c leaf : ℕ) (parent : Seen) (above : Option Seen) (key : ℕ) (value_of : ℕ → ℕ)
+    → insert_filling c what.key what.value parent.node leaf key (value_of leaf) ≡ filling_for c (Some op) (Some leaf) (Some parent) above key value_of
+put_filling (Find k) what e c leaf parent above key value_of = absurd cc
+put_filling (Insert k value) what e c leaf parent above key value_of =
+    ap (λ (t : Put). insert_filling c t.key t.value parent.node leaf key (value_of leaf)) (sym (same_Some (added k value) what e))
+put_filling (Delete k) what e c leaf parent above key value_of = absurd cc
+put_filling (Swap k was value) what e c leaf parent above key value_of =
+    ap (λ (t : Put). insert_filling c t.key t.value parent.node leaf key (value_of leaf)) (sym (same_Some (replacing k was value) what e))
+
+module _ (keys : List ℕ) (cards : ℕ) (s : TableState) (r : HasMachine keys cards s) (id : ℕ) (v : View) (here : get_elem? s.views id ≡ some v) where
+  -- the next card
+  abbrev next : ℕ
+  next = r.words.next
+
+  -- was not claimed
+  fresh : is_claimed (r.stages next) ≡ false
+  fresh = not_claimed r.words r.stages r.invariant.words next (omega arith)
+
+  other_card : (c : ℕ) → waits (r.stages c) ≡ true → c ≢ next
+  other_card c wait e = true≢false (sym (waits-claimed (r.stages c) wait) ∙ (ap (λ n. is_claimed (r.stages n)) e ∙ fresh))
+
+  -- the machine after a won claim
+  takes : (es : List (Field × ℕ)) → next ≤ cards
+      → Row act.Claim (mine keys cards s r id v here) Moved (becomes keys cards s r id v here (claimed r.words es) (taking next es v))
+      → Says (claimed r.words es) next es
+      → IsReached keys cards s r id v here (set s.words 0 (next + 1)) (claimed r.words es) (taking next es v) act.Claim Moved
+  takes es room row says =
+      let new = claimed r.words es in
+      let after = taking next es v in
+      let list = set s.words 0 (next + 1) in
+      let happens : Happens cards act.Claim (mine keys cards s r id v here) Moved (becomes keys cards s r id v here new after) = record {
+        owned = λ h. h;
+        row = row;
+        room = λ h. omega arith;
+      } in
+      let l = leads keys cards s r id v here act.Claim Moved new after happens in
+      let some_word : 0 < length s.words = (let e = r.size in omega arith) in
+      let first = r.invariant.kinds.some in
+      let wait_now : waits (l.0 next) ≡ true = kind-waits (l.0 next)
+      (l.1.invariant.kinds.kinds next (omega arith) (l.1.later.start next ∙ unclaimed-no_start (r.stages next) fresh))
+      (l.1.wins next ∙ ap (λ (ks : List Exchange). ks ++ []) (unclaimed-wins (r.stages next) fresh)) in
+      let listed_same : (c : ℕ) (f : Field) → listed list c f ≡ listed s.words c f =
+      λ c f. get_or-set_other s.words 0 (address c f) (next + 1) 0 (λ e. omega arith) in
+      let word_same : (c : ℕ) (f : Field) → c ≢ next → word new c f ≡ word r.words c f =
+      λ c f n. sym (same_but_next (filled r.words next es) (next + 1) c f) ∙ filled_else r.words next es c f n in
+      let blank = (r.invariant.words.cards next).blank fresh in record {
+        kept = kept_event keys cards s r id v here act.Claim Moved new after list l.0 l.1 (record {
+          size = length-set s.words 0 (next + 1);
+          next = get_or-set_same s.words 0 (next + 1) 0 some_word;
+          same = λ c f one two e. listed_same c f
+              ∙ (e ∙ sym (word_same c f (λ q. true≢false (sym wait_now ∙ (ap (λ n. waits (l.0 n)) (sym q) ∙ two)))));
+          flags = λ c f wait calm. absurd (true≢false (sym (waits_on keys cards s r id v here act.Claim Moved new after l.0 l.1 c refl wait) ∙ calm));
+          apart = λ c f wait. (listed_same c f, word_same c f (other_card c wait));
+        }) (record {
+          entries = filling_holds new l.0 next es v.told (omega arith) says
+              (λ e told. entries_on keys cards s r id v here act.Claim Moved new after l.0 l.1 e ((r.views id v here).entries e told));
+          here = λ x key at told. filling_more next es v.told (Key x key) ((r.views id v here).here x key at told);
+          read = λ n at. (let low = (r.views id v here).read n at in omega arith);
+          least = omega arith;
+          knew = (r.views id v here).knew;
+          walk = λ op x busy at. walk_on keys cards s r id v here act.Claim Moved new after l.0 l.1 v
+              (over_cut keys cards s r id v here v (mine_sound keys cards s r id v here) (r.views id v here).knew)
+              (key_of op) x (stands_born keys cards s r id v here x at) ((r.views id v here).walk op x busy at);
+          hand = λ c has un. let q : next ≡ c = cc in record {
+            machine = λ f. subst (λ d. word new d f ≡ stored es f 0) q
+                (claimed_cards_say (machine keys cards s r id v here) r.stages es f r.invariant);
+            table = λ f. subst (λ d. listed list d f ≡ 0) q
+                (listed_same next f ∙ (r.settled next f (unclaimed-settled (r.stages next) fresh) ∙ blank.words f));
+          };
+        }) (λ k h. h) refl;
+        steps = l.1.steps;
+      }
+
+  -- what a claim needs of the word that it found: a won one is of the next card
+  claims : (c : ℕ) → MayClaim v c → c ≤ cards → c ≡ next
+      → IsReached keys cards s r id v here (set s.words 0 (c + 1)) (claimed r.words (filling_of next v)) (after_claim true c v) act.Claim Moved
+  claims c may room same = subst (λ d. IsReached keys cards s r id v here (set s.words 0 (d + 1)) (claimed r.words (filling_of next v)) (after_claim true d v) act.Claim Moved)
+      (sym same) (by may.op may.busy may.wants)
+    where
+      key_is : r.words.key may.leaf ≡ may.key
+      key_is = here_key keys cards s r id v here may.leaf may.key may.stands may.told
+
+      puts : (op : Op) (what : Put) → put_of op ≡ Some what → v.worker.operation ≡ Some op → (had : ℕ) → IsTold v (Value may.leaf had)
+          → TakesPut what (r.words.key may.leaf) (r.words.value may.leaf)
+          → IsReached keys cards s r id v here (set s.words 0 (next + 1)) (claimed r.words (filling_of next v)) (after_claim true next v) act.Claim Moved
+      puts op what is_put busy had told takes_it =
+          let leaf_value = told_value v.told may.leaf in
+          let value_is = told_value_is r.words r.stages v.told may.leaf had (r.views id v here).entries told in
+          let es = insert_filling next what.key what.value may.parent.node may.leaf may.key leaf_value in
+          let is : es ≡ filling_of next v =
+          put_filling op what is_put next may.leaf may.parent v.worker.search.grandparent may.key (told_value v.told)
+          ∙ (λ t. filling_for next (sym busy t) (sym may.stands t) (sym may.behind t) v.worker.search.grandparent (unwrap_or (sym may.told t) 0) (told_value v.told)) in
+          let at = claimed_cards_say (machine keys cards s r id v here) r.stages es in
+          subst (λ fields. IsReached keys cards s r id v here (set s.words 0 (next + 1)) (claimed r.words fields) (taking next fields v) act.Claim Moved) is
+          (takes es (omega arith) (inl (record {
+            op = op;
+            what = what;
+            leaf = may.leaf;
+            parent = may.parent;
+            busy = busy;
+            puts = is_put;
+            at = record { stands = may.stands; outer = may.outer; behind = may.behind; calm = may.calm; no_card = may.no_card };
+            takes = takes_it;
+            says = refl;
+            gives = λ t. record {
+              words = claimed r.words (insert_filling next what.key what.value may.parent.node may.leaf (sym key_is t) (value_is t));
+              worker = record (worker_of v.worker) { card = Some next; flagged = false };
+            };
+          })) (
+            at field.P r.invariant,
+            (
+              at field.L r.invariant,
+              (
+                at field.Key r.invariant,
+                (
+                  at field.Left r.invariant,
+                  (
+                    at field.Right r.invariant,
+                    (
+                      at field.Update r.invariant,
+                      (
+                        at field.LeftLeafKey r.invariant,
+                        (at field.RightLeafKey r.invariant, (at field.LeftValue r.invariant, (at field.RightValue r.invariant, tt))),
+                      ),
+                    ),
+                  ),
+                ),
+              ),
+            ),
+          ))
+
+      by : (op : Op) → v.worker.operation ≡ Some op → Wants v op may.leaf may.key
+          → IsReached keys cards s r id v here (set s.words 0 (next + 1)) (claimed r.words (filling_of next v)) (after_claim true next v) act.Claim Moved
+      by (Find k) busy wants = absurd wants
+      by (Insert k value) busy wants = puts (Insert k value) (added k value) refl busy wants.1.0 wants.1.1 (λ e. wants.0 (sym key_is ∙ e))
+      by (Swap k was value) busy wants = puts (Swap k was value) (replacing k was value) refl busy was wants.1
+          (key_is ∙ wants.0, ((r.views id v here).entries (Value may.leaf was) wants.1).1)
+      by (Delete k) busy wants =
+          let above = wants.1.0 in
+          let es = delete_filling above.node may.parent.node may.leaf may.parent.word in
+          let is : es ≡ filling_of next v =
+          λ t. filling_for next (sym busy t) (sym may.stands t) (sym may.behind t) (sym wants.1.1 t) (unwrap_or v.here 0) (told_value v.told) in
+          let at = claimed_cards_say (machine keys cards s r id v here) r.stages es in
+          subst (λ fields. IsReached keys cards s r id v here (set s.words 0 (next + 1)) (claimed r.words fields) (taking next fields v) act.Claim Moved) is
+          (takes es (omega arith) (inr (record {
+            key = k;
+            leaf = may.leaf;
+            parent = may.parent;
+            grandparent = above;
+            deletes = busy;
+            at = record { stands = may.stands; outer = may.outer; behind = may.behind; calm = may.calm; no_card = may.no_card };
+            present = key_is ∙ wants.0;
+            above = wants.1.1;
+            calm = wants.1.2;
+            says = refl;
+            gives = refl;
+          })) (at field.Gp r.invariant, (at field.P r.invariant, (at field.L r.invariant, (at field.Was r.invariant, tt)))))
+
+  -- the event of a claim by whether it was won
+  record ClaimAt (c : ℕ) (b : Bool) : Type 0 where
+    kept : HasMachine keys cards (record { words = set s.words 0 (if b then c + 1 else get_or s.words 0 0); homes = s.homes; views = set s.views id (after_claim b c v) })
+    later : StagesLater r.stages kept.stages
+    event : Becomes id (if b then Some act.Claim else None) Moved (machine keys cards s r id v here)
+        (seated kept.words (set s.views id (after_claim b c v)) cards)
+
+  claim_at : (c : ℕ) → MayClaim v c → c ≤ cards → (b : Bool) → (get_or s.words 0 0 == c) ≡ b → ClaimAt c b
+  claim_at c may room true e =
+      let reached = claims c may room (sym (eqb-true (get_or s.words 0 0) c e) ∙ r.next) in record {
+        kept = reached.kept.kept;
+        later = reached.kept.later;
+        event = subst (λ w. Becomes id (Some act.Claim) Moved (machine keys cards s r id v here) (seated w (set s.views id (after_claim true c v)) cards))
+            (sym reached.kept.words) reached.steps;
+      }
+  claim_at c may room false e =
+      let h = r.views id v here in
+      let kept = kept_told keys cards s r id v here (after_claim false c v) refl (record { entries = h.entries; here = h.here; hand = h.hand; read = h.read; least = (let low = h.read c may.read in let is = r.next in let other : get_or s.words 0 0 ≢ c = (λ q. true≢false (sym (eq-eqb (get_or s.words 0 0) c q) ∙ e)) in omega arith); knew = h.knew; walk = h.walk }) 0 in record {
+        kept = kept.kept;
+        later = kept.later;
+        event = sym (same_machine keys cards s r id v here (after_claim false c v) refl
+            ∙ ap (λ w. seated w (set s.views id (after_claim false c v)) cards) (sym kept.words));
+      }
+
+  -- claim
+  pub keeps_claim : (c : ℕ) → MayClaim v c → c ≤ cards → IsEvent keys cards s r id v (call.Claim c)
+  keeps_claim c may room =
+      let h = claim_at c may room (get_or s.words 0 0 == c) refl in record { kept = h.kept; later = h.later; event = h.event; tells = tt }

@@ -1,0 +1,48 @@
+use Rattle.std.proofs.Common.{ℕ, List, [], ◌∷◌}
+use Rattle.ell_word.specs.declared.update.State.{State}
+use Rattle.ell_word.specs.declared.update.State.TheVariants as state
+use Rattle.ell_layout.specs.declared.field.Field.{Field}
+use Rattle.ell_layout.specs.declared.field.Field.TheVariants as field
+use Rattle.ell_cards.specs.declared.view.Told.{Told}
+use Rattle.ell_cards.specs.declared.view.Told.TheVariants.{Met, Info}
+use Rattle.ell_cards.specs.Models.{Has, latest, earlier}
+use Rattle.ell_cards.specs.Changes.{places_by, told_info, told_fixed, told_filling}
+use Rattle.ell_cards.specs.Guards.{NamesNode}
+
+-- what was told before where an update's card goes is told
+pub places_more : (x : ℕ) (st : State) (c : ℕ) (told : List Told) (e : Told) → Has told e → Has (places_by x st c told) e
+places_more x state.IFlag c told e h = earlier e (Info c field.P x) told h
+places_more x state.DFlag c told e h = earlier e (Info c field.Gp x) told h
+places_more x state.Mark c told e h = earlier e (Info c field.P x) told h
+places_more x state.Clean c told e h = h
+
+-- so is what was told before a word of a card
+pub info_more : (c : ℕ) (f : Field) (x : ℕ) (told : List Told) (e : Told) → Has told e → Has (told_info c f x told) e
+info_more c field.Gp x told e h = earlier e (Info c field.Gp x) (Met x ∷ told) (earlier e (Met x) told h)
+info_more c field.P x told e h = earlier e (Info c field.P x) (Met x ∷ told) (earlier e (Met x) told h)
+info_more c field.L x told e h = earlier e (Info c field.L x) (Met x ∷ told) (earlier e (Met x) told h)
+info_more c f x told e h = earlier e (Info c f x) told h
+
+-- that word is told, and a node that it names is met
+pub info_latest : (c : ℕ) (f : Field) (x : ℕ) (told : List Told) → Has (told_info c f x told) (Info c f x)
+info_latest c field.Gp x told = latest (Info c field.Gp x) (Met x ∷ told)
+info_latest c field.P x told = latest (Info c field.P x) (Met x ∷ told)
+info_latest c field.L x told = latest (Info c field.L x) (Met x ∷ told)
+info_latest c f x told = latest (Info c f x) told
+
+pub info_node : (c : ℕ) (f : Field) (x : ℕ) (told : List Told) → NamesNode f → Has (told_info c f x told) (Met x)
+info_node c field.Gp x told h = earlier (Met x) (Info c field.Gp x) (Met x ∷ told) (latest (Met x) told)
+info_node c field.P x told h = earlier (Met x) (Info c field.P x) (Met x ∷ told) (latest (Met x) told)
+info_node c field.L x told h = earlier (Met x) (Info c field.L x) (Met x ∷ told) (latest (Met x) told)
+info_node c f x told h = absurd h
+
+-- what was told before what fills a card is told
+fixed_more : (c : ℕ) (f : Field) (x : ℕ) (told : List Told) (e : Told) → Has told e → Has (told_fixed c f x told) e
+fixed_more c field.Left x told e h = h
+fixed_more c field.Right x told e h = h
+fixed_more c field.Update x told e h = h
+fixed_more c f x told e h = earlier e (Info c f x) told h
+
+pub filling_more : (c : ℕ) (es : List (Field × ℕ)) (told : List Told) (e : Told) → Has told e → Has (told_filling c es told) e
+filling_more c [] told e h = h
+filling_more c (d ∷ es) told e h = fixed_more c d.0 d.1 (told_filling c es told) e (filling_more c es told e h)

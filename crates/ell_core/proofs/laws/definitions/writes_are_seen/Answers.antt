@@ -1,6 +1,0 @@
--- Lemmas on lists, words and nodes.
-use Rattle.ell_core.proofs.words.Seen.{lists_are_written, words_are_written, nodes_are_on_cards}
-use Rattle.ell_core.proofs.laws.definitions.writes_are_seen.Goals as goal
-
-pub returns : goal.returns
-returns c = record { lists = lists_are_written; words = words_are_written; nodes = nodes_are_on_cards }

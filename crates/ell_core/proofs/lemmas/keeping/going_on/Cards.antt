@@ -1,0 +1,135 @@
+use Rattle.std.proofs.Common.{◌≡◌, ℕ, ◌%◌, ◌<◌, ◌≤◌, ◌↔◌, nat_le, Bool, true, false, inl, inr, refl, sym, ◌∙◌, subst, arith}
+use Rattle.std.proofs.lemmas.Bool.{false≢true}
+use Rattle.ell_ops.specs.Meaning.{greatest_key}
+use Rattle.ell_word.specs.Node.{card, internal, left_leaf, right_leaf}
+use Rattle.ell_layout.specs.declared.field.Field.TheVariants.{Left, Right, Update}
+use Rattle.ell_layout.specs.Words.{Words}
+use Rattle.ell_core.specs.acts.Searching.{IsClean}
+use Rattle.ell_core.specs.history.Stages.{Stages, is_claimed, is_insert, is_delete, is_born, Born}
+use Rattle.ell_core.specs.history.Invariant.{IsOut, IsOnCourse, insert_side, IsInnerBorn, IsLeafBorn, InsertCard, DeleteCard, CardIsSound, WordsAreSound}
+use Rattle.ell_core.specs.history.Later.{SaysTheSame, WordsLater, StagesLater}
+use Rattle.ell_core.proofs.lemmas.stages.Order.{unclaimed-unborn, delete-unborn, inner-born, all-born}
+use Rattle.ell_core.proofs.lemmas.stages.LaterKeys.{insert_info, insert_node_key, insert_parent_key, insert_leaf_key, insert_node_value, insert_leaf_value, insert_key_later, delete_info, delete_key_later, insert_child_later}
+
+-- a node has an update word that it had, and the children that it had
+pub record IsCalm (old new : Words) (x word : ℕ) : Type 0 where
+  pub stood : old.update x ≡ word
+  pub child : (right : Bool) → new.child x right ≡ old.child x right
+
+-- what each event makes of sound words: the words and stages are later; a node that came into the tree, with a clean update word
+-- that is not past the one that it had, is as it was; and on course or out of the tree stays what was
+pub record GoesOn (old new : Words) (stage stages : Stages) : Type 0 where
+  pub sound : WordsAreSound old stage
+  pub words : WordsLater old new
+  pub later : StagesLater stage stages
+  pub calm : (x word : ℕ) → Born stage x → IsClean word → word ≤ old.update x → new.update x ≡ word → IsCalm old new x word
+  pub course : (k x : ℕ) → Born stage x → IsOnCourse old k x → IsOnCourse new k x
+  pub out : (x : ℕ) → Born stage x → IsOut old x → IsOut new x
+
+-- what an event leaves of a card: it is claimed as it was, of the kind that it was, and if its nodes did not come into the tree,
+-- it says what it said
+pub record StaysCard (old new : Words) (stage stages : Stages) (c : ℕ) : Type 0 where
+  pub claimed : is_claimed (stages c) ≡ is_claimed (stage c)
+  pub next : (c < new.next) ↔ (c < old.next)
+  pub insert : is_insert (stages c) ≡ true → is_insert (stage c) ≡ true
+  pub delete : is_delete (stages c) ≡ true → is_delete (stage c) ≡ true
+  pub words : is_born (stage c) ≡ false → SaysTheSame old new c
+
+module _ (old new : Words) (stage stages : Stages) (h : GoesOn old new stage stages) where
+  -- an internal node that came into the tree, which a card still names
+  pub inner_on : (x y : ℕ) → y ≡ x → IsInnerBorn stage x → IsInnerBorn stages y
+  inner_on x y e at = subst (IsInnerBorn stages) (sym e) (record { inner = at.inner; born = h.later.born x at.born })
+
+  -- so with a leaf
+  pub leaf_on : (x y : ℕ) → y ≡ x → IsLeafBorn stage x → IsLeafBorn stages y
+  leaf_on x y e at = subst (IsLeafBorn stages) (sym e) (record { outer = at.outer; born = h.later.born x at.born })
+
+  -- what did not come into the tree had not
+  unborn_before : (c : ℕ) → is_born (stages c) ≡ false → is_born (stage c) ≡ false
+  unborn_before c out = by (is_born (stage c)) refl
+    where
+      born_on : is_born (stage c) ≡ true → is_born (stages c) ≡ true
+      born_on e = let same : card (internal c) ≡ c = omega arith in
+          subst (λ n. is_born (stages n) ≡ true) same
+          (inner-born (stages (card (internal c))) (internal c % 4) (omega arith)
+          (h.later.born (internal c) (all-born (stage (card (internal c))) (internal c % 4) (omega arith) (subst (λ n. is_born (stage n) ≡ true) (sym same) e))))
+
+      by : (b : Bool) → is_born (stage c) ≡ b → b ≡ false
+      by true e = absurd (false≢true (sym out ∙ born_on e))
+      by false e = refl
+
+  module _ (c : ℕ) (inserts : is_insert (stage c) ≡ true) where
+    insert_said : InsertCard old stage c
+    insert_said = (h.sound.cards c).insert inserts
+
+    -- an insert's card says what it said
+    pub insert_card_on : InsertCard new stages c
+    insert_card_on =
+        let same = insert_info old new stage h.sound h.words c inserts in
+        let left_key = insert_node_key old new stage h.sound h.words c inserts (left_leaf c) (omega arith) in
+        let right_key = insert_node_key old new stage h.sound h.words c inserts (right_leaf c) (omega arith) in
+        let node_key = insert_node_key old new stage h.sound h.words c inserts (internal c) (omega arith) in
+        let leaf_key = insert_leaf_key old new stage h.sound h.words c inserts in
+        let left_value = insert_node_value old new stage h.sound h.words c inserts (left_leaf c) (omega arith) in
+        let right_value = insert_node_value old new stage h.sound h.words c inserts (right_leaf c) (omega arith) in
+        let leaf_value = insert_leaf_value old new stage h.sound h.words c inserts in
+        let parent_key = insert_parent_key old new stage h.sound h.words c inserts in
+        let own_key = insert_key_later old new stage h.sound h.words c inserts in
+        let said = insert_said in
+        record {
+          gp = same.gp ∙ said.gp;
+          was = same.was ∙ said.was;
+          parent = inner_on (old.p c) (new.p c) same.p said.parent;
+          leaf = leaf_on (old.l c) (new.l c) same.l said.leaf;
+          above = let a = said.above in let p = same.p in let l = same.l in omega arith;
+          before = let a = said.before in let l = same.l in omega arith;
+          ordered = let a = said.ordered in omega arith;
+          node_key = node_key ∙ (said.node_key ∙ sym right_key);
+          copy = elim said.copy [
+            | inl e ↦ inl (record { key = left_key ∙ (e.key ∙ sym leaf_key); value = left_value ∙ (e.value ∙ sym leaf_value) })
+            | inr e ↦ inr (record { key = right_key ∙ (e.key ∙ sym leaf_key); value = right_value ∙ (e.value ∙ sym leaf_value) })
+          ];
+          real = subst (λ k. k ≤ greatest_key) (sym own_key) said.real;
+          side = (λ t. nat_le (parent_key t) (own_key t)) ∙ (said.side ∙ (λ t. nat_le (sym parent_key t) (sym leaf_key t)));
+          left_child = λ e. said.left_child (let up = h.words.child (internal c) false in omega arith);
+          at_least = let a = said.at_least in let l = same.l in let up = h.words.child (old.p c) (insert_side old c) in
+              let child = insert_child_later old new stage h.sound h.words c inserts in omega arith;
+        }
+
+  module _ (c : ℕ) (deletes : is_delete (stage c) ≡ true) where
+    delete_said : DeleteCard old stage c
+    delete_said = (h.sound.cards c).delete deletes
+
+    -- a delete's card says what it said, if it has no left child still
+    pub delete_card_on : new.child (internal c) false ≡ old.child (internal c) false → DeleteCard new stages c
+    delete_card_on left =
+        let same = delete_info old new stage h.sound h.words c deletes in
+        let said = delete_said in
+        record {
+          grandparent = inner_on (old.gp c) (new.gp c) same.gp said.grandparent;
+          parent = inner_on (old.p c) (new.p c) same.p said.parent;
+          leaf = leaf_on (old.l c) (new.l c) same.l said.leaf;
+          first = let a = said.first in let g = same.gp in let p = same.p in omega arith;
+          above = let a = said.above in let p = same.p in let l = same.l in omega arith;
+          before = let a = said.before in let l = same.l in omega arith;
+          real = subst (λ k. k ≤ greatest_key) (sym (delete_key_later old new stage h.sound h.words c deletes)) said.real;
+          calm = subst IsClean (sym same.was) said.calm;
+          earlier = let a = said.earlier in let e = same.was in omega arith;
+          no_left_child = left ∙ said.no_left_child;
+        }
+
+  -- a card says what it said
+  pub card_on : (c : ℕ) → StaysCard old new stage stages c → CardIsSound new stages c
+  card_on c s = let was = h.sound.cards c in record {
+    claimed = (λ e. s.next.1 (was.claimed.0 (sym s.claimed ∙ e)), λ e. s.claimed ∙ was.claimed.1 (s.next.0 e));
+    insert = λ e. insert_card_on c (s.insert e);
+    delete = λ e. delete_card_on c (s.delete e) (s.words (delete-unborn (stage c) (s.delete e)) Left);
+    unborn = λ e g. (let out = unborn_before c g in let nodes = was.unborn (s.insert e) out in record {
+      left = s.words out Left ∙ nodes.left;
+      right = s.words out Right ∙ nodes.right;
+      calm = s.words out Update ∙ nodes.calm;
+    });
+    blank = λ e. (let free = sym s.claimed ∙ e in record {
+      words = λ field. s.words (unclaimed-unborn (stage c) free) field ∙ (was.blank free).words field;
+    });
+  }

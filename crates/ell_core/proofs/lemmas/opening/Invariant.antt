@@ -1,0 +1,303 @@
+use Rattle.std.proofs.Common.{◌≡◌, ◌≢◌, ℕ, ◌+◌, ◌<◌, ◌≤◌, ◌==◌, ◌⊎◌, inl, inr, if◌then◌else◌, Bool, true, false, nat_lt, Some, None, List, length, get_or, refl, sym, ap, ◌∙◌, subst, arith, ◌&&◌, ◌%◌}
+use Rattle.std.proofs.lemmas.Bool.{false≢true, cases_lt, and_from, eq-eqb, lt-ltb, le-ltb}
+use Rattle.std.proofs.lemmas.Option.{none-some, same_Some}
+use Rattle.std.proofs.lemmas.List.Folds.{Any-from_list_any, list_any_at}
+use Rattle.std.specs.List.{All, list_any}
+use Rattle.std.specs.List.Sorted.{IsStrictlyIncreasing}
+use Rattle.std.specs.Map.{keys_of}
+use Rattle.ell_core.proofs.lemmas.stages.Order.{all-born}
+use Rattle.ell_core.proofs.lemmas.tree.Reached.{leads_any, leads_some, one_value}
+use Rattle.ell_ops.specs.Contents.{contents_of}
+use Rattle.ell_ops.proofs.lemmas.Pairs.{contents_at, place_in}
+use Rattle.ell_ops.specs.Meaning.{greatest_key}
+use Rattle.ell_word.specs.Node.{IsInternal, IsNode, card, internal}
+use Rattle.ell_layout.specs.Words.{Words}
+use Rattle.ell_layout.specs.Cards.{iflag, dflag, marked, clean}
+use Rattle.ell_core.specs.state.Machine.{idle, entry_of}
+use Rattle.ell_core.specs.history.Stages.{Stage, Stages, Unclaimed, Opening, is_claimed, is_start, is_insert, is_delete, is_node_born, insert_open, delete_open, insert_won, delete_won}
+use Rattle.ell_core.specs.history.Invariant.{GoesNowhere, Invariant, top, LeadsTo, LeadsToValue, IsIn, CardIsSound, ChildrenAreSound, UpdateIsSound, TreeIsSound, WordsAreSound, WorkerIsSound, WorkersAreSound}
+use Rattle.ell_core.specs.tree.Ranges.{IsOrdered}
+use Rattle.ell_core.proofs.lemmas.keeping.going_on.Stages.{no_insert, no_delete}
+use Rattle.ell_core.proofs.lemmas.opening.Owners.{ledger_there, opening_one_owner, opening_stranger, opening_real, opening_given}
+use Rattle.ell_core.proofs.lemmas.outcomes.Decide.{some_not_none}
+use Rattle.ell_core.specs.statements.RunLaws.{MayBeThere}
+use Rattle.ell_core.specs.state.Opening.{Setup, gives, Faultless, opening_ledger, opening, is_given, start_entry, shares}
+use Rattle.ell_layout.specs.Start.{start_leaf, start_value, start_words}
+use Rattle.ell_core.proofs.lemmas.opening.StartTree.{tree_ordered, card_reached, child_more, child_on, child_node, left_less, right_least, finds_leaf, finds_leaves_only}
+use Rattle.ell_core.proofs.lemmas.opening.StartWords.{has_value, keys_length, leaf_key, leaf_last, leaf_root, leaves_rise, leaves_end, has_branches, clean_update, goes_none, later_blank}
+use Rattle.ell_core.specs.declared.view.Entry.TheVariants.{Present}
+use Rattle.ell_core.proofs.lemmas.opening.KeyLists.{holds_present}
+
+-- the stages at the start: the cards below this number have the opening tree, and no other card is claimed
+abbrev pub start_stages : ℕ → Stages
+start_stages end c = if nat_lt c end then Opening else Unclaimed
+
+pub stage_there : (end c : ℕ) → c < end → start_stages end c ≡ Opening
+stage_there end c below = ap (λ t. if t then Opening else Unclaimed) (lt-ltb c end below)
+
+pub stage_past : (end c : ℕ) → end ≤ c → start_stages end c ≡ Unclaimed
+stage_past end c past = ap (λ t. if t then Opening else Unclaimed) (le-ltb c end past)
+
+-- a stage at the start is one of the two
+start_cases : (end c : ℕ) → ((c < end) × (start_stages end c ≡ Opening)) ⊎ ((end ≤ c) × (start_stages end c ≡ Unclaimed))
+start_cases end c = elim (cases_lt c end) [
+  | inl below ↦ inl (below, stage_there end c below)
+  | inr past ↦ inr (past, stage_past end c past)
+]
+
+-- what is so of both stages is so of every card's
+pub each_stage : (P : Stage → Type 0) (end c : ℕ) → P Opening → P Unclaimed → P (start_stages end c)
+each_stage P end c there past = elim (start_cases end c) [
+  | inl h ↦ subst P (sym h.1) there
+  | inr h ↦ subst P (sym h.1) past
+]
+
+-- a card whose nodes came into the tree is one of the opening tree's
+born_below : (end c place : ℕ) → is_node_born (start_stages end c) place ≡ true → c < end
+born_below end c place born = elim (start_cases end c) [
+  | inl h ↦ h.0
+  | inr h ↦ absurd (false≢true (sym (ap (λ s. is_node_born s place) h.1) ∙ born))
+]
+
+below_born : (end c place : ℕ) → place ≤ 2 → c < end → is_node_born (start_stages end c) place ≡ true
+below_born end c place low below = ap (λ s. is_node_born s place) (stage_there end c below) ∙ all-born Opening place low refl
+
+-- no card is an insert's, or a delete's
+no_insert_yet : (end c : ℕ) → is_insert (start_stages end c) ≡ false
+no_insert_yet end c = each_stage (λ s. is_insert s ≡ false) end c refl refl
+
+no_delete_yet : (end c : ℕ) → is_delete (start_stages end c) ≡ false
+no_delete_yet end c = each_stage (λ s. is_delete s ≡ false) end c refl refl
+
+-- a card is claimed exactly if it is one of the opening tree's
+claimed_below : (end c : ℕ) → is_claimed (start_stages end c) ≡ true → c < end
+claimed_below end c is = elim (start_cases end c) [
+  | inl h ↦ h.0
+  | inr h ↦ absurd (false≢true (sym (ap is_claimed h.1) ∙ is))
+]
+
+unclaimed_past : (end c : ℕ) → is_claimed (start_stages end c) ≡ false → end ≤ c
+unclaimed_past end c is = elim (start_cases end c) [
+  | inl h ↦ absurd (false≢true (sym is ∙ ap is_claimed h.1))
+  | inr h ↦ h.0
+]
+
+-- a key that an entry names is some worker's
+pub record IsGiven (owned start : List (ℕ × ℕ)) (key : ℕ) : Type 0 where
+  pub worker : ℕ
+  pub owns : opening_ledger owned start worker key ≢ None
+
+given_owned : (owned start : List (ℕ × ℕ)) (key : ℕ) → is_given owned key ≡ true → IsGiven owned start key
+given_owned owned start key is =
+    let any = Any-from_list_any (λ (entry : ℕ × ℕ). entry.1 == key) owned is in
+    let test : gives any.1.0 key any.1 ≡ true = and_from (any.1.0 == any.1.0) (any.1.1 == key) (eq-eqb any.1.0 any.1.0 refl) any.4 in
+    let at : gives any.1.0 key (get_or owned any.0 any.1) ≡ true = ap (gives any.1.0 key) any.3 ∙ test in
+    let some : list_any (gives any.1.0 key) owned ≡ true = list_any_at (gives any.1.0 key) owned any.0 any.1 any.2 at in
+    record { worker = any.1.0; owns = λ none. some_not_none (ap (λ t. if t then Some (start_entry start key) else None) some) none }
+
+module _ (start : List (ℕ × ℕ)) (ascending : IsStrictlyIncreasing (keys_of start)) (real : All (λ k. k ≤ greatest_key) (keys_of start)) where
+  -- how many cards the opening tree has
+  abbrev end : ℕ
+  end = length start + 1
+
+  abbrev w : Words
+  w = start_words start
+
+  some : 0 < length start + 1
+  some = omega arith
+
+  -- the tree of the start keys
+  ordered : IsOrdered w.key w.child top
+  ordered = tree_ordered (length start + 1) some (start_leaf start) w.key w.child (has_value start) top (leaves_rise start ascending real) (leaves_end start ascending real)
+      (has_branches start)
+
+  reached : (c : ℕ) → c < length start + 1 → IsIn w (internal c)
+  reached = card_reached (length start + 1) some (start_leaf start) w.key w.child (has_value start) top (leaves_rise start ascending real) (leaves_end start ascending real)
+      (has_branches start)
+
+  on_card : (c : ℕ) (right : Bool) → c < length start + 1 → card (w.child (internal c) right) < length start + 1
+  on_card = child_on (length start + 1) some (start_leaf start) w.key w.child (has_value start) top (leaves_rise start ascending real) (leaves_end start ascending real)
+      (has_branches start)
+
+  is_node : (c : ℕ) (right : Bool) → c < length start + 1 → IsNode (w.child (internal c) right)
+  is_node = child_node (length start + 1) some (start_leaf start) w.key w.child (has_value start) top (leaves_rise start ascending real) (leaves_end start ascending real)
+      (has_branches start)
+
+  -- each leaf's key is found, with its value
+  finds : (i : ℕ) → i ≤ length start + 1 → LeadsToValue w (start_leaf start i) (start_value start i) 0
+  finds = finds_leaf (length start + 1) some (start_leaf start) w.key w.child (has_value start) top (leaves_rise start ascending real)
+      (leaves_end start ascending real) (has_branches start)
+
+  -- a real key that is found is a start key, with its value
+  pub found_start : (k value : ℕ) → k ≤ greatest_key → LeadsToValue w k value 0 → contents_of start k ≡ Some value
+  found_start k value low found =
+      let leaf = finds_leaves_only (length start + 1) some (start_leaf start) w.key w.child (has_value start) top (leaves_rise start ascending real)
+      (leaves_end start ascending real) (has_branches start) k found in
+      let within = leaf.inside in
+      let is = leaf.is in
+      elim (cases_lt leaf.at (length start)) [
+        | inl below ↦
+            let key_is : get_or (keys_of start) leaf.at 0 ≡ k = sym (leaf_key start leaf.at below) ∙ is in
+            let there = subst (λ n. LeadsToValue w n (start_value start leaf.at) 0) is (finds leaf.at within) in
+            let value_is : value ≡ start_value start leaf.at = one_value w k value (start_value start leaf.at) found there in
+            ap (contents_of start) (sym key_is) ∙ (contents_at start leaf.at ascending below ∙ ap Some (sym value_is))
+        | inr past ↦ absurd (elim (cases_lt (length start) leaf.at) [
+          | inl more ↦ (let e : leaf.at ≡ length start + 1 = omega arith in let h = ap (start_leaf start) e ∙ leaf_root start in omega arith)
+          | inr less ↦ (let e : leaf.at ≡ length start = omega arith in let h = ap (start_leaf start) e ∙ leaf_last start in omega arith)
+        ])
+      ]
+
+  -- and each start key is found
+  pub start_found : (k value : ℕ) → contents_of start k ≡ Some value → LeadsToValue w k value 0
+  start_found k value is =
+      let place = place_in start k value is in
+      let below = place.below in
+      subst (λ n. LeadsToValue w n value 0) (leaf_key start place.at below ∙ place.key_is)
+      (subst (λ v. LeadsToValue w (start_leaf start place.at) v 0) place.value_is (finds place.at (omega arith)))
+
+  -- each card is sound
+  card_sound : (c : ℕ) → CardIsSound w (start_stages (length start + 1)) c
+  card_sound c = record {
+    claimed = (claimed_below (length start + 1) c, λ below. ap is_claimed (stage_there (length start + 1) c below));
+    insert = λ h. absurd (false≢true (sym (no_insert_yet (length start + 1) c) ∙ h));
+    delete = λ h. absurd (false≢true (sym (no_delete_yet (length start + 1) c) ∙ h));
+    unborn = λ h. absurd (false≢true (sym (no_insert_yet (length start + 1) c) ∙ h));
+    blank = λ h. later_blank start c (let past = unclaimed_past (length start + 1) c h in omega arith);
+  }
+
+  -- the internal nodes that came into the tree
+  node_of : (x : ℕ) → IsInternal x → x ≡ internal (card x)
+  node_of x inner = omega arith
+
+  children_sound : (c : ℕ) → c < length start + 1 → ChildrenAreSound w (start_stages (length start + 1)) (internal c)
+  children_sound c below = record {
+    born = λ right. below_born (length start + 1) (card (w.child (internal c) right)) (w.child (internal c) right % 4)
+        (let node = is_node c right below in omega (arith, node)) (on_card c right below);
+    rising = λ right. child_more (length start + 1) some (start_leaf start) w.key w.child (has_value start) top (leaves_rise start ascending real) (leaves_end start ascending real)
+        (has_branches start) right c below;
+    left_less = left_less (length start + 1) some (start_leaf start) w.key w.child (has_value start) top (leaves_rise start ascending real) (leaves_end start ascending real)
+        (has_branches start) c below;
+    right_more = right_least (length start + 1) some (start_leaf start) w.key w.child (has_value start) top (leaves_rise start ascending real) (leaves_end start ascending real)
+        (has_branches start) c below;
+  }
+
+  update_sound : (c : ℕ) → c < length start + 1 → UpdateIsSound w (start_stages (length start + 1)) (internal c)
+  update_sound c below = let calm : w.update (internal c) ≡ clean 0 = clean_update start c below in record {
+    named = omega arith;
+    iflagged = λ d h. let h : w.update (internal c) ≡ iflag d = h in absurd (omega arith);
+    dflagged = λ d h. let h : w.update (internal c) ≡ dflag d = h in absurd (omega arith);
+    marked = λ d h. let h : w.update (internal c) ≡ marked d = h in absurd (omega arith);
+  }
+
+  tree_sound : TreeIsSound w (start_stages (length start + 1))
+  tree_sound = record {
+    ordered = ordered;
+    root_key = refl;
+    root_right = refl;
+    right_key = refl;
+    last = subst (λ n. LeadsTo w n 0) (leaf_last start)
+        (leads_any w (start_leaf start (length start)) (start_value start (length start)) 0 (finds (length start) (omega arith)));
+    there = λ x inner born calm. subst (IsIn w) (sym (node_of x inner)) (reached (card x) (born_below (length start + 1) (card x) (x % 4) born));
+  }
+
+  -- the words at the start are sound
+  pub start_sound : WordsAreSound w (start_stages (length start + 1))
+  start_sound = record {
+    opening = stage_there (length start + 1) 0 some;
+    cards = card_sound;
+    inserts = λ c. no_insert w (start_stages (length start + 1)) c (each_stage (λ s. insert_won s ≡ false) (length start + 1) c refl refl);
+    deletes = λ c. no_delete w (start_stages (length start + 1)) c (each_stage (λ s. delete_won s ≡ false) (length start + 1) c refl refl);
+    children = λ x inner born. subst (ChildrenAreSound w (start_stages (length start + 1))) (sym (node_of x inner))
+        (children_sound (card x) (born_below (length start + 1) (card x) (x % 4) born));
+    updates = λ x inner born. subst (UpdateIsSound w (start_stages (length start + 1))) (sym (node_of x inner))
+        (update_sound (card x) (born_below (length start + 1) (card x) (x % 4) born));
+    tree = tree_sound;
+  }
+
+-- the first of two that are true
+first_of : (a b : Bool) → (a && b) ≡ true → a ≡ true
+first_of true b h = refl
+first_of false b h = absurd (false≢true h)
+
+-- what the first worker does not share, nobody does
+first_shares : (count : ℕ) (shared : ℕ → Bool) (k : ℕ) → 0 < count → shares count shared 0 k ≡ false → shared k ≡ false
+first_shares count shared k some none = by (shared k) (nat_lt 0 count) refl (lt-ltb 0 count some) none
+  where
+    by : (a b : Bool) → shared k ≡ a → b ≡ true → (a && b) ≡ false → shared k ≡ false
+    by false b is there h = is
+    by true b is there h = absurd (false≢true (sym h ∙ there))
+
+-- where the start keys ascend, no entry is faulty, each names a real key, and each start key is given or shared
+module _ (setup : Setup) (ascending : IsStrictlyIncreasing (keys_of setup.start)) (real : All (λ k. k ≤ greatest_key) (keys_of setup.start))
+    (faultless : Faultless setup.count setup.owned) (owned_real : All (λ entry. entry.1 ≤ greatest_key) setup.owned)
+    (given : All (MayBeThere setup) (keys_of setup.start))
+    (not_owned : (k : ℕ) → setup.shared k ≡ true → (k ≤ greatest_key) × (is_given setup.owned k ≡ false)) where
+  worker_sound : (i : ℕ) → WorkerIsSound (start_words setup.start) (start_stages (length setup.start + 1)) (idle (opening_ledger setup.owned setup.start i) (shares setup.count setup.shared i) (λ _. false))
+  worker_sound i = record {
+    facts = λ fact h. absurd (false≢true h);
+    real = λ k may. elim may [ inl owns ↦ opening_real setup.owned setup.start i k owned_real owns | inr shared ↦ (not_owned k (first_of (setup.shared k) (nat_lt i setup.count) shared)).0 ];
+    free = λ h. refl;
+    owned = λ op h. absurd (none-some op h);
+    stands = λ op x h g. absurd (none-some op h);
+    unflagged = λ op c h g f. absurd (none-some op h);
+    flagged = λ op c h g f. absurd (none-some op h);
+  }
+
+  -- a start key that is not shared has an owner
+  pub start_owned : (k value : ℕ) → contents_of setup.start k ≡ Some value → ((0 < setup.count) → setup.shared k ≡ false) → IsGiven setup.owned setup.start k
+  start_owned k value is not_shared =
+      let place = place_in setup.start k value is in
+      let below = place.below in
+      let n = keys_length setup.start in
+      elim (subst (MayBeThere setup) place.key_is (given place.at 0 (omega arith))) [
+        | inl own ↦ given_owned setup.owned setup.start k own
+        | inr shared ↦ absurd (false≢true (sym (not_shared shared.0) ∙ shared.1))
+      ]
+
+  workers_sound : WorkersAreSound (opening setup) (start_stages (length setup.start + 1))
+  unfolding opening
+  workers_sound = record {
+    each = worker_sound;
+    one_owner = λ i j k a b. opening_one_owner setup.count setup.owned setup.start faultless i j k a b;
+    present = λ i k value owns. (
+      λ found. ledger_there setup.owned setup.start i k owns
+          ∙ ap (λ there. Some (entry_of there)) (found_start setup.start ascending real k value (opening_real setup.owned setup.start i k owned_real owns) found),
+      λ has. start_found setup.start ascending real k value
+          (holds_present (contents_of setup.start k) value
+          (same_Some (start_entry setup.start k) (Present value) (sym (ledger_there setup.owned setup.start i k owns) ∙ has))),
+    );
+    apart = λ i j k shared owns. opening_given setup.owned setup.start j k (not_owned k (first_of (setup.shared k) (nat_lt i setup.count) shared)).1 owns;
+    one_hand = λ i j c left right. absurd (none-some c left);
+    owned = λ k below found none.
+        let there = leads_some (start_words setup.start) k found in
+        let at = start_owned k there.0 (found_start setup.start ascending real k there.0 below there.1) (λ some. first_shares setup.count setup.shared k some (none 0)) in
+        record { worker = at.worker; owns = at.owns };
+    insert_in_hand = λ c h. absurd (false≢true (sym (each_stage (λ s. insert_open s ≡ false) (length setup.start + 1) c refl refl) ∙ h));
+    delete_in_hand = λ c h. absurd (false≢true (sym (each_stage (λ s. delete_open s ≡ false) (length setup.start + 1) c refl refl) ∙ h));
+    strangers = opening_stranger setup.count setup.owned setup.start faultless setup.shared;
+  }
+
+  -- the cards of the opening tree go nowhere
+  start_nowhere : (c : ℕ) → is_start (start_stages (length setup.start + 1) c) ≡ true → GoesNowhere (start_words setup.start) c
+  start_nowhere c is =
+      let below : c < length setup.start + 1 = elim (start_cases (length setup.start + 1) c) [
+        | inl h ↦ h.0
+        | inr h ↦ absurd (false≢true (sym (ap is_start h.1) ∙ is))
+      ] in
+      let none = goes_none setup.start c below in
+      record { below = below; gp = none.0; parent = none.1; leaf = none.2; was = none.3 }
+
+  -- and there are no other claimed cards
+  start_only : (c : ℕ) → c < length setup.start + 1 → is_start (start_stages (length setup.start + 1) c) ≡ false
+      → (is_insert (start_stages (length setup.start + 1) c) ≡ true) ⊎ (is_delete (start_stages (length setup.start + 1) c) ≡ true)
+  start_only c below is = absurd (false≢true (sym is ∙ ap is_start (stage_there (length setup.start + 1) c below)))
+
+  -- the opening state has the invariant
+  pub opening_invariant : Invariant (opening setup) (start_stages (length setup.start + 1))
+  unfolding opening
+  opening_invariant = record {
+    words = start_sound setup.start ascending real;
+    workers = workers_sound;
+    limit = omega arith;
+    kinds = record { start = start_nowhere; some = omega arith; kinds = start_only };
+  }

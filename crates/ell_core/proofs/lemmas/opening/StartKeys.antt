@@ -1,0 +1,45 @@
+use Rattle.std.proofs.Common.{◌≡◌, ℕ, ◌≤◌, Some, List, get_or, arith, ◌↔◌}
+use Rattle.std.specs.List.{All}
+use Rattle.std.specs.Map.{keys_of}
+use Rattle.ell_ops.specs.Contents.{contents_of}
+use Rattle.ell_ops.specs.Meaning.{greatest_key}
+use Rattle.ell_ops.proofs.lemmas.Pairs.{place_in}
+use Rattle.ell_core.specs.state.Opening.{opening}
+use Rattle.ell_layout.specs.Start.{start_words}
+use Rattle.ell_core.specs.statements.Start.{OpeningsHaveTheirStartKeys}
+use Rattle.ell_core.proofs.lemmas.tree.Reached.{tree_pair_leads, leads_tree_pair}
+use Rattle.ell_core.proofs.lemmas.opening.Owners.{ledger_there}
+use Rattle.ell_core.proofs.lemmas.opening.Invariant.{found_start, start_found, start_owned, start_sound}
+use Rattle.ell_core.proofs.lemmas.opening.StartWords.{keys_length}
+use Rattle.ell_core.proofs.lemmas.opening.CanOpen.{start_real}
+use Rattle.std.specs.List.Sorted.{IsStrictlyIncreasing}
+use Rattle.ell_core.specs.tree.Tree.{IsTreePair}
+
+-- the tree at the start has the start keys, with their values, and no others
+module _ (start : List (ℕ × ℕ)) (ascending : IsStrictlyIncreasing (keys_of start)) (real : All (λ k. k ≤ greatest_key) (keys_of start)) where
+  real_key : (k value : ℕ) → contents_of start k ≡ Some value → k ≤ greatest_key
+  real_key k value is =
+      let place = place_in start k value is in
+      let below = place.below in
+      let n = keys_length start in
+      let bound : get_or (keys_of start) place.at 0 ≤ greatest_key = real place.at 0 (omega arith) in
+      let at = place.key_is in
+      omega arith
+
+  pub start_pairs : (k value : ℕ) → IsTreePair (start_words start) k value ↔ (contents_of start k ≡ Some value)
+  start_pairs k value =
+      let ordered = (start_sound start ascending real).tree.ordered in (
+        λ held. found_start start ascending real k value held.real (tree_pair_leads (start_words start) ordered k value held),
+        λ is. leads_tree_pair (start_words start) k value (real_key k value is) (start_found start ascending real k value is),
+      )
+
+-- an opening has its start keys
+pub openings_have_start_keys : OpeningsHaveTheirStartKeys
+unfolding opening
+openings_have_start_keys setup can = record {
+  tree = start_pairs setup.start can.ascending (start_real setup can);
+  owned = λ k value is not_shared.
+      let at = start_owned setup can.ascending (start_real setup can) can.faultless can.real can.given can.apart k value is (λ _. not_shared) in
+      record { worker = at.worker; owns = at.owns };
+  ledgers = λ i k owns. ledger_there setup.owned setup.start i k owns;
+}

@@ -1,8 +1,0 @@
--- The fields before the index are written, and the list has its length.
-use Rattle.std.proofs.Common.{◌≡◌, take}
-use Rattle.ell_core.specs.state.Words.{words_of}
-use Rattle.ell_core.specs.state.Cards.{filled}
-use Rattle.ell_core.proofs.start.write_fields.Given as goal
-
-abbrev pub invariant-loop-field : goal.invariant-loop-field
-invariant-loop-field l = words_of l.words ≡ filled (words_of l.fn.words) l.card (take l.field-index l.fields)

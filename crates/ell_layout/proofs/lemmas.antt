@@ -1,0 +1,14 @@
+-- Words of the machine: what a write changes, what the words at a node are by card and field, and when two are equal.
+pub mod Writes
+-- The words that a list is: what they are at each field, and what a write to the list does to them.
+pub mod Listed
+-- What a filling leaves in each field of its card.
+pub mod Stored
+-- A write is seen at its own address alone, and the words at a node are words of its card.
+pub mod Seen
+-- What fields that are written leave.
+pub mod NewWords
+-- The branches of a balanced tree: the way down to each card, and how long it is.
+pub mod Branches
+-- The words at the start as they are written, card by card.
+pub mod Growing

@@ -1,0 +1,179 @@
+use Rattle.std.proofs.Common.{◌≡◌, ◌≢◌, ℕ, zero, suc, ◌+◌, ◌<◌, inl, inr, if◌then◌else◌, nat_lt, List, [], ◌∷◌, length, get_or, replicate, slice_set, refl, sym, ap, ◌∙◌, subst, arith, get_or-set_same, get_or-set_other}
+use Rattle.std.proofs.lemmas.Bool.{cases_lt, cases_eq, lt-ltb, le-ltb}
+use Rattle.std.proofs.lemmas.List.{length-replicate}
+use Rattle.ell_word.specs.Node.{right_leaf, infinity1, infinity2}
+use Rattle.ell_layout.specs.declared.field.Field.{Field}
+use Rattle.ell_layout.specs.declared.field.Field.TheVariants.{Gp, P, L, Was, Key, Left, Right, Update, LeftLeafKey, RightLeafKey, LeftValue, RightValue}
+use Rattle.ell_layout.specs.Layout.{address}
+use Rattle.ell_layout.specs.Words.{Words, word, words_of, words_from}
+use Rattle.ell_layout.specs.Cards.{clean, filled, stored}
+use Rattle.ell_layout.proofs.lemmas.Writes.{equal_words, made_word, made_no_key, made_no_value, made_inner_value, made_leaf_child, made_leaf_update}
+use Rattle.ell_layout.proofs.lemmas.Listed.{words_are_listed, listed_next, listed_no_key, listed_no_value, listed_inner_value, listed_leaf_child, listed_leaf_update}
+use Rattle.ell_layout.proofs.lemmas.Stored.{filled_stored, filled_elsewhere}
+use Rattle.ell_layout.proofs.lemmas.NewWords.{filled_claim, filled_no_key, filled_no_value, filled_inner_value, filled_leaf_child, filled_leaf_update}
+use Rattle.ell_layout.specs.declared.branch.Branch.{Branch}
+use Rattle.ell_layout.specs.Branches.{root_branch, branch_of, left_child}
+use Rattle.ell_layout.specs.Start.{start_leaf, start_value, root_field, branch_field, start_field, start_words, root_filling, branch_filling}
+
+-- the fields of all cards where the opening tree's are written below card n, and those of the others are 0
+abbrev pub grown : List (ℕ × ℕ) → ℕ → ℕ → Field → ℕ
+grown start n zero field = root_field (length start) field
+grown start n (suc c) field =
+    if nat_lt (suc c) n then branch_field (start_leaf start) (start_value start) (branch_of (length start + 1) (suc c)) field else 0
+
+-- the words that have them
+abbrev pub growing : List (ℕ × ℕ) → ℕ → Words
+growing start n = words_from (length start + 1) (grown start n)
+
+-- a list of zeros has zero everywhere
+zero_everywhere : (n i : ℕ) → get_or {A = ℕ} (replicate n 0) i 0 ≡ 0
+zero_everywhere zero i = refl
+zero_everywhere (suc n) zero = refl
+zero_everywhere (suc n) (suc i) = zero_everywhere n i
+
+-- the words of a card that is filled over zeros
+root_stored : (many : ℕ) (field : Field) → stored (root_filling many) field 0 ≡ root_field many field
+root_stored many Gp = refl
+root_stored many P = refl
+root_stored many L = refl
+root_stored many Was = refl
+root_stored many Key = refl
+root_stored many Left = refl
+root_stored many Right = refl
+root_stored many Update = refl
+root_stored many LeftLeafKey = refl
+root_stored many RightLeafKey = refl
+root_stored many LeftValue = refl
+root_stored many RightValue = refl
+
+branch_stored : (leaf value : ℕ → ℕ) (b : Branch) (field : Field) → stored (branch_filling leaf value b) field 0 ≡ branch_field leaf value b field
+branch_stored leaf value b Gp = refl
+branch_stored leaf value b P = refl
+branch_stored leaf value b L = refl
+branch_stored leaf value b Was = refl
+branch_stored leaf value b Key = refl
+branch_stored leaf value b Left = refl
+branch_stored leaf value b Right = refl
+branch_stored leaf value b Update = refl
+branch_stored leaf value b LeftLeafKey = refl
+branch_stored leaf value b RightLeafKey = refl
+branch_stored leaf value b LeftValue = refl
+branch_stored leaf value b RightValue = refl
+
+module _ (start : List (ℕ × ℕ)) (size : ℕ) (some : 0 < size) where
+  -- zeros after a write of the claim word
+  abbrev begun : List ℕ
+  begun = slice_set (replicate size 0) 0 (length start + 1)
+
+  begun_next : get_or begun 0 0 ≡ length start + 1
+  begun_next = let fits : 0 < length (replicate {A = ℕ} size 0) = omega (arith, length-replicate {A = ℕ} size 0) in
+      get_or-set_same (replicate size 0) 0 (length start + 1) 0 fits
+
+  begun_word : (c : ℕ) (field : Field) → word (words_of begun) c field ≡ 0
+  begun_word c field = words_are_listed begun c field
+      ∙ (get_or-set_other (replicate size 0) 0 (address c field) (length start + 1) 0 (omega arith) ∙ zero_everywhere size (address c field))
+
+  -- with card 0 filled
+  rooted : (c : ℕ) (field : Field) → word (filled (words_of begun) 0 (root_filling (length start))) c field ≡ grown start 1 c field
+  rooted zero field = filled_stored (words_of begun) 0 (root_filling (length start)) field
+      ∙ (ap (stored (root_filling (length start)) field) (begun_word 0 field) ∙ root_stored (length start) field)
+  rooted (suc c) field = filled_elsewhere (words_of begun) 0 (root_filling (length start)) (suc c) field (omega arith) ∙ (begun_word (suc c) field
+      ∙ sym (ap (λ t. if t then branch_field (start_leaf start) (start_value start) (branch_of (length start + 1) (suc c)) field else 0) (le-ltb (suc c) 1 (omega arith))))
+
+  pub rooted_words : filled (words_of begun) 0 (root_filling (length start)) ≡ growing start 1
+  rooted_words = equal_words _ _ record {
+    next = filled_claim (words_of begun) 0 (root_filling (length start)) ∙ (listed_next begun ∙ begun_next);
+    word = λ c field. rooted c field ∙ sym (made_word (length start + 1) (grown start 1) c field);
+    no_key = λ x h. filled_no_key (words_of begun) 0 (root_filling (length start)) x h
+        ∙ (listed_no_key begun x h ∙ sym (made_no_key (length start + 1) (grown start 1) x h));
+    no_value = λ x h. filled_no_value (words_of begun) 0 (root_filling (length start)) x h
+        ∙ (listed_no_value begun x h ∙ sym (made_no_value (length start + 1) (grown start 1) x h));
+    value = λ x h. filled_inner_value (words_of begun) 0 (root_filling (length start)) x h
+        ∙ (listed_inner_value begun x h ∙ sym (made_inner_value (length start + 1) (grown start 1) x h));
+    child = λ x right h. filled_leaf_child (words_of begun) 0 (root_filling (length start)) x right h
+        ∙ (listed_leaf_child begun x right h ∙ sym (made_leaf_child (length start + 1) (grown start 1) x right h));
+    update = λ x h. filled_leaf_update (words_of begun) 0 (root_filling (length start)) x h
+        ∙ (listed_leaf_update begun x h ∙ sym (made_leaf_update (length start + 1) (grown start 1) x h));
+  }
+
+-- the fields of card 0, with what the code has for its children and its update word
+abbrev pub coded_root : ℕ → ℕ → ℕ → List (Field × ℕ)
+coded_root left right update =
+    (Key, infinity2) ∷ (Left, left) ∷ (Right, right) ∷ (Update, update) ∷ (LeftLeafKey, infinity1) ∷ (RightLeafKey, infinity2) ∷ []
+
+-- so begins the table
+pub begins : (words : List ℕ) (start : List (ℕ × ℕ)) (size left right update : ℕ) → words ≡ replicate size 0 → 0 < size → left ≡ left_child (root_branch (length start + 1))
+    → right ≡ right_leaf 0 → update ≡ clean 0
+    → filled (words_of (slice_set words 0 (length start + 1))) 0 (coded_root left right update) ≡ growing start 1
+begins words start size left right update zeros some l r u =
+    (λ t. filled (words_of (slice_set (zeros t) 0 (length start + 1))) 0 (coded_root (l t) (r t) (u t))) ∙ rooted_words start size some
+
+-- the fields of the card that comes next are 0
+next_zero : (start : List (ℕ × ℕ)) (n : ℕ) (field : Field) → 0 < n → grown start n n field ≡ 0
+next_zero start zero field some = absurd (omega arith)
+next_zero start (suc n) field some =
+    ap (λ t. if t then branch_field (start_leaf start) (start_value start) (branch_of (length start + 1) (suc n)) field else 0) (le-ltb (suc n) (suc n) (omega arith))
+
+-- and then those of its branch
+next_there : (start : List (ℕ × ℕ)) (n : ℕ) (field : Field) → 0 < n
+    → grown start (n + 1) n field ≡ branch_field (start_leaf start) (start_value start) (branch_of (length start + 1) n) field
+next_there start zero field some = absurd (omega arith)
+next_there start (suc n) field some =
+    ap (λ t. if t then branch_field (start_leaf start) (start_value start) (branch_of (length start + 1) (suc n)) field else 0) (lt-ltb (suc n) (suc n + 1) (omega arith))
+
+-- the other cards' stay
+others_stay : (start : List (ℕ × ℕ)) (n c : ℕ) (field : Field) → c ≢ n → grown start n c field ≡ grown start (n + 1) c field
+others_stay start n zero field apart = refl
+others_stay start n (suc c) field apart =
+    ap (λ t. if t then branch_field (start_leaf start) (start_value start) (branch_of (length start + 1) (suc c)) field else 0) (elim (cases_lt (suc c) n) [
+      | inl less ↦ lt-ltb (suc c) n less ∙ sym (lt-ltb (suc c) (n + 1) (omega arith))
+      | inr past ↦ le-ltb (suc c) n past ∙ sym (le-ltb (suc c) (n + 1) (omega arith))
+    ])
+
+-- one card more
+pub grows : (start : List (ℕ × ℕ)) (n : ℕ) (old new : Words) → 0 < n → old ≡ growing start n
+    → new ≡ filled old n (branch_filling (start_leaf start) (start_value start) (branch_of (length start + 1) n)) → new ≡ growing start (n + 1)
+grows start n old new some is writes =
+    let fields = branch_filling (start_leaf start) (start_value start) (branch_of (length start + 1) n) in
+    writes ∙ (ap (λ (w : Words). filled w n fields) is ∙ equal_words _ _ record {
+      next = filled_claim (growing start n) n fields;
+      word = λ c field. by c field ∙ sym (made_word (length start + 1) (grown start (n + 1)) c field);
+      no_key = λ x h. filled_no_key (growing start n) n fields x h
+          ∙ (made_no_key (length start + 1) (grown start n) x h ∙ sym (made_no_key (length start + 1) (grown start (n + 1)) x h));
+      no_value = λ x h. filled_no_value (growing start n) n fields x h
+          ∙ (made_no_value (length start + 1) (grown start n) x h ∙ sym (made_no_value (length start + 1) (grown start (n + 1)) x h));
+      value = λ x h. filled_inner_value (growing start n) n fields x h
+          ∙ (made_inner_value (length start + 1) (grown start n) x h ∙ sym (made_inner_value (length start + 1) (grown start (n + 1)) x h));
+      child = λ x right h. filled_leaf_child (growing start n) n fields x right h
+          ∙ (made_leaf_child (length start + 1) (grown start n) x right h ∙ sym (made_leaf_child (length start + 1) (grown start (n + 1)) x right h));
+      update = λ x h. filled_leaf_update (growing start n) n fields x h
+          ∙ (made_leaf_update (length start + 1) (grown start n) x h ∙ sym (made_leaf_update (length start + 1) (grown start (n + 1)) x h));
+    })
+  where
+    here : (field : Field) → word (filled (growing start n) n (branch_filling (start_leaf start) (start_value start) (branch_of (length start + 1) n))) n field
+        ≡ grown start (n + 1) n field
+    here field = filled_stored (growing start n) n (branch_filling (start_leaf start) (start_value start) (branch_of (length start + 1) n)) field
+        ∙ (ap (stored (branch_filling (start_leaf start) (start_value start) (branch_of (length start + 1) n)) field)
+        (made_word (length start + 1) (grown start n) n field ∙ next_zero start n field some)
+        ∙ (branch_stored (start_leaf start) (start_value start) (branch_of (length start + 1) n) field ∙ sym (next_there start n field some)))
+
+    by : (c : ℕ) (field : Field) → word (filled (growing start n) n (branch_filling (start_leaf start) (start_value start) (branch_of (length start + 1) n))) c field
+        ≡ grown start (n + 1) c field
+    by c field = elim (cases_eq c n) [
+      | inl e ↦ subst (λ d. word (filled (growing start n) n (branch_filling (start_leaf start) (start_value start) (branch_of (length start + 1) n))) d field
+          ≡ grown start (n + 1) d field) (sym e) (here field)
+      | inr apart ↦ filled_elsewhere (growing start n) n (branch_filling (start_leaf start) (start_value start) (branch_of (length start + 1) n)) c field apart
+          ∙ (made_word (length start + 1) (grown start n) c field ∙ others_stay start n c field apart)
+    ]
+
+-- with all cards of the opening tree they are the words at the start
+pub grown_up : (start : List (ℕ × ℕ)) (n : ℕ) → n ≡ length start + 1 → growing start n ≡ start_words start
+grown_up start n is = λ t. words_from (length start + 1) (λ c field. all c field t)
+  where
+    all : (c : ℕ) (field : Field) → grown start n c field ≡ start_field start c field
+    all zero field = refl
+    all (suc c) field =
+        ap (λ t. if t then branch_field (start_leaf start) (start_value start) (branch_of (length start + 1) (suc c)) field else 0) (elim (cases_lt c (length start)) [
+          | inl less ↦ lt-ltb (suc c) n (omega arith) ∙ sym (lt-ltb c (length start) less)
+          | inr past ↦ le-ltb (suc c) n (omega arith) ∙ sym (le-ltb c (length start) past)
+        ])

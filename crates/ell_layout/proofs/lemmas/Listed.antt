@@ -1,0 +1,227 @@
+use Rattle.std.proofs.Common.{◌≡◌, ◌≢◌, ℕ, zero, suc, ◌+◌, ◌%◌, ◌<◌, ◌≤◌, Bool, List, [], ◌∷◌, length, length-set, get_or, slice_index, slice_set, refl, sym, ap, ◌∙◌, arith, inl, inr, get_or-set_same, get_or-set_other}
+use Rattle.std.proofs.lemmas.Bool.{cases_eq}
+use Rattle.std.proofs.lemmas.Grind.{get_or_default_zero}
+use Rattle.ell_layout.specs.declared.field.Field.{Field}
+use Rattle.ell_layout.specs.declared.field.Field.TheVariants.{Gp, P, L, Was, Key, Left, Right, Update, LeftLeafKey, RightLeafKey, LeftValue, RightValue}
+use Rattle.ell_layout.specs.Layout.{address, place, table_size, listed}
+use Rattle.ell_layout.specs.Words.{Words, word, written, words_of}
+use Rattle.ell_layout.specs.Cards.{filled, filled_list, claimed}
+use Rattle.ell_layout.specs.Laws.{SameAfterSameWrite, WordsAreListed, FilledListsAreFilled}
+use Rattle.ell_layout.proofs.lemmas.Writes.{equal_words, written_here, written_elsewhere, written_next, written_no_key, written_no_value, written_inner_value, written_leaf_child, written_leaf_update, made_word, made_no_key, made_no_value, made_inner_value, made_leaf_child, made_leaf_update}
+
+-- The words that a list is have at each field the list's word.
+pub words_are_listed : WordsAreListed
+unfolding words_of
+words_are_listed words c field = made_word (slice_index words 0) (listed words) c field
+
+-- The claim word of the words that a list is.
+pub listed_next : (words : List ℕ) → (words_of words).next ≡ slice_index words 0
+unfolding words_of
+listed_next words = refl
+
+-- What is no node has no key in the words that a list is.
+pub listed_no_key : (words : List ℕ) (x : ℕ) → x % 4 ≡ 3 → (words_of words).key x ≡ 0
+unfolding words_of
+listed_no_key words x h = made_no_key (slice_index words 0) (listed words) x h
+
+-- What is no node has no value in the words that a list is.
+pub listed_no_value : (words : List ℕ) (x : ℕ) → x % 4 ≡ 3 → (words_of words).value x ≡ 0
+unfolding words_of
+listed_no_value words x h = made_no_value (slice_index words 0) (listed words) x h
+
+-- An internal node has no value in the words that a list is.
+pub listed_inner_value : (words : List ℕ) (x : ℕ) → x % 4 ≡ 0 → (words_of words).value x ≡ 0
+unfolding words_of
+listed_inner_value words x h = made_inner_value (slice_index words 0) (listed words) x h
+
+-- A leaf has no child in the words that a list is.
+pub listed_leaf_child : (words : List ℕ) (x : ℕ) (right : Bool) → x % 4 ≢ 0 → (words_of words).child x right ≡ 0
+unfolding words_of
+listed_leaf_child words x right h = made_leaf_child (slice_index words 0) (listed words) x right h
+
+-- A leaf has no update word in the words that a list is.
+pub listed_leaf_update : (words : List ℕ) (x : ℕ) → x % 4 ≢ 0 → (words_of words).update x ≡ 0
+unfolding words_of
+listed_leaf_update words x h = made_leaf_update (slice_index words 0) (listed words) x h
+
+-- The place of a field is below twelve.
+pub place_small : (field : Field) → place field < 12
+place_small Gp = omega arith
+place_small P = omega arith
+place_small L = omega arith
+place_small Was = omega arith
+place_small Key = omega arith
+place_small Left = omega arith
+place_small Right = omega arith
+place_small Update = omega arith
+place_small LeftLeafKey = omega arith
+place_small RightLeafKey = omega arith
+place_small LeftValue = omega arith
+place_small RightValue = omega arith
+
+-- Each field of a table's card has an address in the table, after that of the claim word.
+pub address_in_table : (cards c : ℕ) (field : Field) → c ≤ cards → (0 < address c field) × (address c field < table_size cards)
+address_in_table cards c field h = let i : place field < 12 = place_small field in (omega arith, omega arith)
+
+-- Each field of a table's card lies in a list that has as many words as the table needs.
+pub address_inside : (words : List ℕ) (cards c : ℕ) (field : Field) → length words ≡ table_size cards → c ≤ cards
+    → address c field < length words
+address_inside words cards c field size h = let i = address_in_table cards c field h in omega arith
+
+-- What is read at word 0 is the claim word.
+pub claim_is_read : (words : List ℕ) (found : ℕ) → 0 < length words → found ≡ get_or words 0 found → found ≡ (words_of words).next
+claim_is_read words found fits e = e ∙ (get_or_default_zero words 0 found fits ∙ sym (listed_next words))
+
+-- What is read at the address of a field is the word of the field.
+pub word_is_read : (words : List ℕ) (cards c : ℕ) (field : Field) (at found : ℕ) → length words ≡ table_size cards → c ≤ cards
+    → at ≡ address c field → found ≡ get_or words at found → found ≡ word (words_of words) c field
+word_is_read words cards c field at found size h a e =
+    e ∙ (ap (λ i. get_or words i found) a
+    ∙ (get_or_default_zero words (address c field) found (address_inside words cards c field size h)
+    ∙ sym (words_are_listed words c field)))
+
+-- The field that stands at a place.
+field_at : ℕ → Field
+field_at zero = Key
+field_at (suc zero) = Left
+field_at (suc (suc zero)) = Right
+field_at (suc (suc (suc zero))) = Update
+field_at (suc (suc (suc (suc zero)))) = LeftLeafKey
+field_at (suc (suc (suc (suc (suc zero))))) = RightLeafKey
+field_at (suc (suc (suc (suc (suc (suc zero)))))) = LeftValue
+field_at (suc (suc (suc (suc (suc (suc (suc zero))))))) = RightValue
+field_at (suc (suc (suc (suc (suc (suc (suc (suc zero)))))))) = Gp
+field_at (suc (suc (suc (suc (suc (suc (suc (suc (suc zero))))))))) = P
+field_at (suc (suc (suc (suc (suc (suc (suc (suc (suc (suc zero)))))))))) = L
+field_at (suc (suc (suc (suc (suc (suc (suc (suc (suc (suc (suc n))))))))))) = Was
+
+-- The field at the place of a field is that field.
+field_of_place : (field : Field) → field_at (place field) ≡ field
+unfolding field_at
+field_of_place Gp = refl
+field_of_place P = refl
+field_of_place L = refl
+field_of_place Was = refl
+field_of_place Key = refl
+field_of_place Left = refl
+field_of_place Right = refl
+field_of_place Update = refl
+field_of_place LeftLeafKey = refl
+field_of_place RightLeafKey = refl
+field_of_place LeftValue = refl
+field_of_place RightValue = refl
+
+-- The same address is that of the same card.
+pub same_card : (c : ℕ) (field : Field) (d : ℕ) (other : Field) → address c field ≡ address d other → c ≡ d
+same_card c field d other e = let i : place field < 12 = place_small field in let j : place other < 12 = place_small other in omega arith
+
+-- Another card's words stand at other addresses.
+pub apart : (c : ℕ) (field : Field) (d : ℕ) (other : Field) → c ≢ d → address c field ≢ address d other
+apart c field d other n e = n (same_card c field d other e)
+
+-- The same place is that of the same field.
+pub same_place-field : (field other : Field) → place field ≡ place other → field ≡ other
+same_place-field field other e = sym (field_of_place field) ∙ (ap field_at e ∙ field_of_place other)
+
+-- The same address is that of the same field.
+pub same_field : (c : ℕ) (field : Field) (d : ℕ) (other : Field) → address c field ≡ address d other → field ≡ other
+same_field c field d other e =
+    let i : c ≡ d = same_card c field d other e in
+    same_place-field field other (omega arith)
+
+-- No two fields have one address.
+pub addresses_apart : (c d : ℕ) (field other : Field) → address c field ≡ address d other → (c ≡ d) × (field ≡ other)
+addresses_apart c d field other e = (same_card c field d other e, same_field c field d other e)
+
+module _ (words : List ℕ) (w : Words) (c : ℕ) (field : Field) (d : ℕ) (other : Field) (value : ℕ) where
+  -- A write at this address is read there.
+  same_here : address d other < length words → address c field ≡ address d other
+      → listed (slice_set words (address d other) value) c field ≡ word (written w d other value) c field
+  same_here fits e =
+      ap (slice_index (slice_set words (address d other) value)) e ∙ (get_or-set_same words (address d other) value 0 fits
+      ∙ (sym (written_here w d other value)
+      ∙ λ t. word (written w d other value) (sym (same_card c field d other e) t) (sym (same_field c field d other e) t)))
+
+  -- A write at another address leaves the word here.
+  same_elsewhere : listed words c field ≡ word w c field → address c field ≢ address d other
+      → listed (slice_set words (address d other) value) c field ≡ word (written w d other value) c field
+  same_elsewhere same n =
+      get_or-set_other words (address d other) (address c field) value 0 n ∙ (same ∙ sym (written_elsewhere w c field d other value n))
+
+-- Where a list has the machine's word, it has it after the same write in both.
+pub same_after_same_write : SameAfterSameWrite
+same_after_same_write words w c field d other value fits same =
+    elim (cases_eq (address c field) (address d other)) [
+      | inl e ↦ same_here words w c field d other value fits e
+      | inr n ↦ same_elsewhere words w c field d other value same n
+    ]
+
+-- A write to a list writes the field of the card whose address it is.
+pub words_after_write : (words : List ℕ) (d : ℕ) (other : Field) (value : ℕ) → address d other < length words
+    → words_of (slice_set words (address d other) value) ≡ written (words_of words) d other value
+words_after_write words d other value fits = equal_words _ _ record {
+  next = listed_next (slice_set words (address d other) value)
+      ∙ (get_or-set_other words (address d other) 0 value 0 (omega arith) ∙ (sym (listed_next words) ∙ sym (written_next (words_of words) d other value)));
+  word = λ c field. words_are_listed (slice_set words (address d other) value) c field
+      ∙ same_after_same_write words (words_of words) c field d other value fits (sym (words_are_listed words c field));
+  no_key = λ x h. listed_no_key (slice_set words (address d other) value) x h
+      ∙ (sym (listed_no_key words x h) ∙ sym (written_no_key (words_of words) d other value x h));
+  no_value = λ x h. listed_no_value (slice_set words (address d other) value) x h
+      ∙ (sym (listed_no_value words x h) ∙ sym (written_no_value (words_of words) d other value x h));
+  value = λ x h. listed_inner_value (slice_set words (address d other) value) x h
+      ∙ (sym (listed_inner_value words x h) ∙ sym (written_inner_value (words_of words) d other value x h));
+  child = λ x right h. listed_leaf_child (slice_set words (address d other) value) x right h
+      ∙ (sym (listed_leaf_child words x right h) ∙ sym (written_leaf_child (words_of words) d other value x right h));
+  update = λ x h. listed_leaf_update (slice_set words (address d other) value) x h
+      ∙ (sym (listed_leaf_update words x h) ∙ sym (written_leaf_update (words_of words) d other value x h));
+}
+
+-- Fields that are written leave the length of a list.
+pub length_after_fields : (words : List ℕ) (c : ℕ) (es : List (Field × ℕ)) → length (filled_list words c es) ≡ length words
+length_after_fields words c [] = refl
+length_after_fields words c (e ∷ es) = length_after_fields (slice_set words (address c e.0) e.1) c es ∙ length-set words (address c e.0) e.1
+
+-- Fields of a card that are written to a list fill that card.
+pub words_after_fields : FilledListsAreFilled
+words_after_fields words cards c [] size below = refl
+words_after_fields words cards c (e ∷ es) size below =
+    words_after_fields (slice_set words (address c e.0) e.1) cards c es (length-set words (address c e.0) e.1 ∙ size) below
+    ∙ ap (λ w. filled w c es) (words_after_write words c e.0 e.1 (address_inside words cards c e.0 size below))
+
+-- Another claim word leaves the words of the cards.
+pub same_but_next : (w : Words) (value c : ℕ) (field : Field) → word w c field ≡ word (record w { next = value }) c field
+same_but_next w value c Gp = refl
+same_but_next w value c P = refl
+same_but_next w value c L = refl
+same_but_next w value c Was = refl
+same_but_next w value c Key = refl
+same_but_next w value c Left = refl
+same_but_next w value c Right = refl
+same_but_next w value c Update = refl
+same_but_next w value c LeftLeafKey = refl
+same_but_next w value c RightLeafKey = refl
+same_but_next w value c LeftValue = refl
+same_but_next w value c RightValue = refl
+
+-- A write of word 0 writes the claim word.
+pub words_after_claim : (words : List ℕ) (value : ℕ) → 0 < length words
+    → words_of (slice_set words 0 value) ≡ record (words_of words) { next = value }
+words_after_claim words value fits = equal_words _ _ record {
+  next = listed_next (slice_set words 0 value) ∙ get_or-set_same words 0 value 0 fits;
+  word = λ c field. words_are_listed (slice_set words 0 value) c field
+      ∙ (get_or-set_other words 0 (address c field) value 0 (omega arith) ∙ (sym (words_are_listed words c field) ∙ same_but_next (words_of words) value c field));
+  no_key = λ x h. listed_no_key (slice_set words 0 value) x h ∙ sym (listed_no_key words x h);
+  no_value = λ x h. listed_no_value (slice_set words 0 value) x h ∙ sym (listed_no_value words x h);
+  value = λ x h. listed_inner_value (slice_set words 0 value) x h ∙ sym (listed_inner_value words x h);
+  child = λ x right h. listed_leaf_child (slice_set words 0 value) x right h ∙ sym (listed_leaf_child words x right h);
+  update = λ x h. listed_leaf_update (slice_set words 0 value) x h ∙ sym (listed_leaf_update words x h);
+}
+
+-- Where a card is the next one and filled, a write of the number after it to word 0 claims it.
+pub words_after_filling : (before after : List ℕ) (filling : List (Field × ℕ)) (c : ℕ) → c ≡ (words_of before).next
+    → words_of after ≡ filled (words_of before) c filling → 0 < length after
+    → words_of (slice_set after 0 (c + 1)) ≡ claimed (words_of before) filling
+words_after_filling before after filling c next e fits =
+    words_after_claim after (c + 1) fits
+    ∙ (ap {B = Words} (λ w. record w { next = c + 1 }) e
+    ∙ ap {B = Words} (λ n. record (filled (words_of before) n filling) { next = n + 1 }) next)

@@ -1,0 +1,99 @@
+use Rattle.std.specs.Prelude.{ℕ, ◌+◌, ◌==◌, if◌then◌else◌, Bool, true, false, List, [], ◌∷◌, min, max, nat_le, nat_lt, slice_set}
+use Rattle.ell_word.specs.declared.update.State.TheVariants as state
+use Rattle.ell_word.specs.Node.{internal, left_leaf, right_leaf}
+use Rattle.ell_word.specs.Word.{packed}
+use Rattle.ell_layout.specs.declared.field.Field.{Field}
+use Rattle.ell_layout.specs.declared.field.Field.TheVariants.{Gp, P, L, Was, Key, Left, Right, Update, LeftLeafKey, RightLeafKey, LeftValue, RightValue}
+use Rattle.ell_layout.specs.Layout.{place, address}
+use Rattle.ell_layout.specs.Words.{Words, written}
+
+-- the update words of a card
+abbrev pub iflag : ℕ → ℕ
+iflag c = packed (record { state = state.IFlag; card = c })
+
+abbrev pub dflag : ℕ → ℕ
+dflag c = packed (record { state = state.DFlag; card = c })
+
+abbrev pub marked : ℕ → ℕ
+marked c = packed (record { state = state.Mark; card = c })
+
+abbrev pub clean : ℕ → ℕ
+clean c = packed (record { state = state.Clean; card = c })
+
+-- whether a key is on the right side of a node: the keys at least the node's are
+abbrev pub is_right : Words → ℕ → ℕ → Bool
+is_right w node key = nat_le (w.key node) key
+
+-- the child of a node on a key's side
+abbrev pub child_for : Words → ℕ → ℕ → ℕ
+child_for w key node = w.child node (is_right w node key)
+
+-- the side on which an exchange puts a new child: that of the new child's key
+abbrev pub exchange_side : Words → ℕ → ℕ → Bool
+exchange_side w node new = is_right w node (w.key new)
+
+-- the sibling of a delete's leaf: the parent's left child where the right one is the leaf, else the right one
+abbrev pub sibling : Words → ℕ → ℕ
+sibling w c = if w.child (w.p c) true == w.l c then w.child (w.p c) false else w.child (w.p c) true
+
+-- a delete's card has no left child
+abbrev pub is_delete_card : Words → ℕ → Bool
+is_delete_card w c = w.child (internal c) false == 0
+
+-- the card's own key: a delete's is the key of its leaf, an insert's that one of its two leaf keys which its leaf has not
+abbrev pub card_key : Words → ℕ → ℕ
+card_key w c =
+    if is_delete_card w c then w.key (w.l c)
+    else (if w.key (left_leaf c) == w.key (w.l c) then w.key (right_leaf c) else w.key (left_leaf c))
+
+-- the value that goes with it: that of the same leaf
+abbrev pub card_value : Words → ℕ → ℕ
+card_value w c =
+    if is_delete_card w c then w.value (w.l c)
+    else (if w.key (left_leaf c) == w.key (w.l c) then w.value (right_leaf c) else w.value (left_leaf c))
+
+-- an insert's card replaces a leaf of its key where its own two leaf keys are one: its right leaf has the new value
+abbrev pub is_replace_card : Words → ℕ → Bool
+is_replace_card w c = w.key (left_leaf c) == w.key (right_leaf c)
+
+-- the node that an insert's card brings to the parent: its right leaf, if it replaces a leaf, else its internal node
+abbrev pub brought_by : ℕ → Bool → ℕ
+brought_by c replaces = if replaces then right_leaf c else internal c
+
+abbrev pub brought : Words → ℕ → ℕ
+brought w c = brought_by c (is_replace_card w c)
+
+-- the child of a node on the side of a card's own key
+abbrev pub card_child : Words → ℕ → ℕ → ℕ
+card_child w c node = child_for w (card_key w c) node
+
+-- the fields of an insert's card, for key k with its value at a leaf: a node with the greater key, and two leaves, the lesser key on
+-- the left, each with its value
+abbrev pub insert_filling : ℕ → ℕ → ℕ → ℕ → ℕ → ℕ → ℕ → List (Field × ℕ)
+insert_filling c k value parent leaf leaf_key leaf_value =
+    (P, parent) ∷ (L, leaf) ∷ (Key, max k leaf_key) ∷ (Left, left_leaf c) ∷ (Right, right_leaf c) ∷ (Update, clean 0)
+    ∷ (LeftLeafKey, min k leaf_key) ∷ (RightLeafKey, max k leaf_key)
+    ∷ (LeftValue, (if nat_lt k leaf_key then value else leaf_value)) ∷ (RightValue, (if nat_lt k leaf_key then leaf_value else value)) ∷ []
+
+-- the fields of a delete's card: what its search saw
+abbrev pub delete_filling : ℕ → ℕ → ℕ → ℕ → List (Field × ℕ)
+delete_filling grandparent parent leaf was = (Gp, grandparent) ∷ (P, parent) ∷ (L, leaf) ∷ (Was, was) ∷ []
+
+-- the words with these fields of a card
+abbrev pub filled : Words → ℕ → List (Field × ℕ) → Words
+filled w c [] = w
+filled w c (e ∷ es) = filled (written w c e.0 e.1) c es
+
+-- what a field that had a value has once these fields were written, in their order
+abbrev pub stored : List (Field × ℕ) → Field → ℕ → ℕ
+stored [] field old = old
+stored (e ∷ es) field old = stored es field (if place e.0 == place field then e.1 else old)
+
+-- a list of words with these fields of a card, written in their order
+abbrev pub filled_list : List ℕ → ℕ → List (Field × ℕ) → List ℕ
+filled_list words c [] = words
+filled_list words c (e ∷ es) = filled_list (slice_set words (address c e.0) e.1) c es
+
+-- the next card is claimed and filled
+abbrev pub claimed : Words → List (Field × ℕ) → Words
+claimed w filling = record (filled w w.next filling) { next = w.next + 1 }

@@ -1,0 +1,69 @@
+//! What fills a card when it is claimed.
+ghost use Rattle.std.specs.Prelude.{◌≡◌, ◌≤◌, ◌==◌};
+ghost use Rattle.ell_word.specs.Node.{greatest_card};
+ghost use Rattle.ell_layout.specs.Cards.{brought_by, insert_filling, delete_filling};
+
+use crate::field::{Field, update_word};
+use ell_word::{State, internal_of, left_leaf_of, right_leaf_of};
+
+/// The fields of an insert's card, for a key with its value at a leaf: an internal node with the greater key, over two new
+/// leaves, the lesser key on the left, each with its value. Condition: the card is at most `CARD_MAX`.
+pub fn insert_filling(
+    card: u64,
+    key: u64,
+    value: u64,
+    parent: u64,
+    leaf: u64,
+    leaf_key: u64,
+    leaf_value: u64,
+) -> [(Field, u64); 10]
+    requires { card ≤ greatest_card }
+    // Returns what fills the card of an insert or a swap.
+    ensures { result ≡ insert_filling card key value parent leaf leaf_key leaf_value }
+{
+    let (left_value, right_value) = if key < leaf_key {
+        (value, leaf_value)
+    } else {
+        (leaf_value, value)
+    };
+    [
+        (Field::P, parent),
+        (Field::L, leaf),
+        (Field::Key, key.max(leaf_key)),
+        (Field::Left, left_leaf_of(card)),
+        (Field::Right, right_leaf_of(card)),
+        (Field::Update, update_word(State::Clean, 0)),
+        (Field::LeftLeafKey, key.min(leaf_key)),
+        (Field::RightLeafKey, key.max(leaf_key)),
+        (Field::LeftValue, left_value),
+        (Field::RightValue, right_value),
+    ]
+}
+
+/// The node that an insert's card brings to the parent, by the keys of its two leaves: where they are one, it replaces
+/// a leaf of that key, by its right leaf; else it brings its internal node. Condition: the card is at most `CARD_MAX`.
+pub fn brought_node(card: u64, left_leaf_key: u64, right_leaf_key: u64) -> u64
+    requires { card ≤ greatest_card }
+    // Returns the node that the card brings into the tree: its right leaf if both leaf keys are the same, as a swap's
+    // are, else its internal node.
+    ensures { result ≡ brought_by card (left_leaf_key == right_leaf_key) }
+{
+    if left_leaf_key == right_leaf_key {
+        right_leaf_of(card)
+    } else {
+        internal_of(card)
+    }
+}
+
+/// The fields of a delete's card: what its search saw.
+pub fn delete_filling(grandparent: u64, parent: u64, leaf: u64, was: u64) -> [(Field, u64); 4]
+    // Returns what fills the card of a delete.
+    ensures { result ≡ delete_filling grandparent parent leaf was }
+{
+    [
+        (Field::Gp, grandparent),
+        (Field::P, parent),
+        (Field::L, leaf),
+        (Field::Was, was),
+    ]
+}

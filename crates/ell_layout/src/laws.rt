@@ -1,0 +1,44 @@
+//! Laws of the words, and of the balanced tree over keys that are there at the start. Each is the contract of a function that does nothing.
+ghost use Rattle.ell_layout.specs.Balanced.{BranchesAreHalves, TreeIsShallow};
+ghost use Rattle.ell_layout.specs.Laws.{SameAfterSameWrite, WordsAreListed, AddressesAreInside, AddressesAreApart, FilledListsAreFilled, FilledCardsSay, ListsAreWritten, WordsAreWritten, NodesAreOnCards};
+
+/// Each field of each card of a table has an address there, after that of the claim word, and no two have one address.
+pub fn each_word_has_its_address()
+    // Each field has an address in the table, and no two fields share one.
+    ensures inside { AddressesAreInside }
+    ensures apart { AddressesAreApart }
+{}
+
+/// Where a list of words has what the machine has at a field of a card, it has it after the same write in both, at every
+/// address, and so after the same fields of a card were written in both; the machine that is made of a list has the list's
+/// words; and a field of a filled card has what was written to it last, or what it had.
+pub fn same_words()
+    // A list of words that is like the machine's words stays so if both are written alike.
+    ensures writes { SameAfterSameWrite }
+    ensures listed { WordsAreListed }
+    // It stays so if a card is filled in both; each field of the card has then what was written to it last.
+    ensures filled { FilledListsAreFilled }
+    ensures cards { FilledCardsSay }
+{}
+
+/// A write to a list of words, or to the machine's, is read at its own address and leaves all other words and the claim word; and
+/// the key, the value, the children and the update word of a node are words of its card.
+pub fn writes_are_seen()
+    // A write is read at its own address, and changes no other word.
+    ensures lists { ListsAreWritten }
+    ensures words { WordsAreWritten }
+    ensures nodes { NodesAreOnCards }
+{}
+
+/// Each card of a balanced tree has a branch of its own, with leaves on both sides; the branches below it are those of the next card
+/// and of the card as far behind it as there are leaves on its left, and have half of those leaves each.
+pub fn branches_are_halves()
+    // Each card of a balanced tree has leaves on both sides, and the branches below it are its halves.
+    ensures { BranchesAreHalves }
+{}
+
+/// A balanced tree of at most 2 ^ n leaves has no card more than n steps below its root.
+pub fn balanced_trees_are_shallow()
+    // In a balanced tree of at most 2^n leaves no card is more than n steps below the root.
+    ensures { TreeIsShallow }
+{}

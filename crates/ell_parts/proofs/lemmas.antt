@@ -1,0 +1,12 @@
+-- The rank of a key among distinct keys, and the worker that it falls to.
+pub mod Ranks
+-- Parts, one operation after the other, and which owners are lawful.
+pub mod Partings
+-- The first position of each key so far, and whether each key so far has one owner.
+pub mod Splits
+-- Items, placed one after the other, and what each fault of them says.
+pub mod Placings
+-- The first keys of the workers' ranges, and the worker that a key falls to by them.
+pub mod Ranges
+-- The keys of operations in turn, of which one that is the last already is left out.
+pub mod Turns

@@ -1,0 +1,2 @@
+-- Pairs whose keys rise.
+pub mod Starts

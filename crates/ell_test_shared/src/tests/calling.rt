@@ -1,0 +1,336 @@
+//! Calls of passes of a tree of shared keys, some of which may have owners, and their history.
+ghost use Rattle.std.specs.Prelude.{◌≡◌, ◌≤◌};
+ghost use Rattle.ell_ops.specs.KeySet.{set_of};
+ghost use Rattle.ell_test_shared.specs.Sharing.{IsMember};
+
+use ell_ops::{KEY_MAX, Op, Reply};
+use ell_test_gates::{Made, are_in_order, calls_on};
+use ell_tree::{Held, Pass, StepGate, Tree};
+use std::alloc::Global;
+use std::process::Abort;
+use std::sync::atomic::{AtomicU64, Ordering};
+
+// How many tries a call makes.
+const TRIES: u32 = 1_000;
+
+/// A call on a key.
+#[derive(Clone, Copy, Debug)]
+pub enum Call {
+    Ask(Op),
+    Take(u64),
+    Look(u64),
+    /// Puts the second number at the key that the first one is.
+    Put(u64, u64),
+    /// Adds the second number to the value of that key.
+    Add(u64, u64),
+    /// Updates the value of a key to the one that `next_value` makes of it.
+    Update(u64),
+}
+
+/// What an update makes of a value: another one.
+pub fn next_value(value: u64) -> u64 {
+    value.wrapping_mul(3).wrapping_add(1)
+}
+
+impl Call {
+    /// The key.
+    pub fn key(self) -> u64 {
+        match self {
+            Call::Ask(op) => op.key(),
+            Call::Take(key) | Call::Look(key) | Call::Update(key) => key,
+            Call::Put(key, _) | Call::Add(key, _) => key,
+        }
+    }
+
+    // As what it stands in a history, and what it answers there, if it answers this.
+    fn told(self, said: Reply) -> (Op, Reply) {
+        match (self, said) {
+            (Call::Ask(op), _) => (op, said),
+            (Call::Take(key), _) => (Op::Delete(key), said),
+            (Call::Put(key, value), Reply::Found(was)) => (Op::Swap(key, was, value), said),
+            (Call::Put(key, value), _) => (Op::Insert(key, value), Reply::Yes),
+            (Call::Add(key, addend), Reply::Found(was)) => {
+                (Op::Swap(key, was, was.wrapping_add(addend)), said)
+            }
+            (Call::Update(key), Reply::Found(was)) => (Op::Swap(key, was, next_value(was)), said),
+            (Call::Look(key) | Call::Add(key, _) | Call::Update(key), _) => (Op::Find(key), said),
+        }
+    }
+}
+
+/// Whether a key is one of these.
+pub fn is_among(key: u64, keys: &[u64]) -> bool
+    ensures { result ≡ set_of keys.now key }
+{
+    keys.iter().any(|other| key == *other)
+}
+
+/// Makes an operation on a key of the pass, or on a shared one, where these keys may have owners.
+#[tactic(auto, using(crate::proofs::lemmas::Sharers::may_own, crate::proofs::lemmas::Sharers::may_share, crate::proofs::lemmas::Sharers::member_answered, crate::proofs::lemmas::Sharers::member_held))]
+pub fn ask<G: StepGate>(
+    rt: &impl Abort,
+    tree: &Tree<Global>,
+    pass: &mut Pass<Global>,
+    owned: &[u64],
+    op: Op,
+    tries: u32,
+    gate: &G,
+) -> Result<Reply, Held>
+    requires member { IsMember owned.now tree.now pass.old }
+    requires tries { 1 ≤ tries }
+    ensures { IsMember owned.now tree.now pass.new }
+{
+    let key = op.key();
+    assert!(rt; pass.owns(key) || (key <= KEY_MAX && !is_among(key, owned)));
+    match op {
+        Op::Find(key) => Ok(Reply::found(tree.find(pass, key, gate))),
+        Op::Insert(key, value) => Ok(Reply::yes_if(tree.insert(pass, key, value, tries, gate)?)),
+        Op::Delete(key) => Ok(Reply::yes_if(tree.delete(pass, key, tries, gate)?)),
+        Op::Swap(key, was, value) => {
+            let there = tree.swap(pass, key, was, value, tries, gate)?;
+            Ok(Reply::found(there))
+        }
+    }
+}
+
+// Takes such a key away: the value that it took.
+#[tactic(auto, using(crate::proofs::lemmas::Sharers::may_own, crate::proofs::lemmas::Sharers::may_share, crate::proofs::lemmas::Sharers::member_answered, crate::proofs::lemmas::Sharers::member_held))]
+fn take<G: StepGate>(
+    rt: &impl Abort,
+    tree: &Tree<Global>,
+    pass: &mut Pass<Global>,
+    owned: &[u64],
+    key: u64,
+    tries: u32,
+    gate: &G,
+) -> Result<Option<u64>, Held>
+    requires member { IsMember owned.now tree.now pass.old }
+    requires tries { 1 ≤ tries }
+    ensures { IsMember owned.now tree.now pass.new }
+{
+    assert!(rt; pass.owns(key) || (key <= KEY_MAX && !is_among(key, owned)));
+    tree.take(pass, key, tries, gate)
+}
+
+// Puts a value at such a key: the value that it had.
+#[tactic(auto, using(crate::proofs::lemmas::Sharers::may_own, crate::proofs::lemmas::Sharers::may_share, crate::proofs::lemmas::Sharers::member_put, crate::proofs::lemmas::Sharers::member_held_back))]
+fn put<G: StepGate>(
+    rt: &impl Abort,
+    tree: &Tree<Global>,
+    pass: &mut Pass<Global>,
+    owned: &[u64],
+    key: u64,
+    value: u64,
+    tries: u32,
+    gate: &G,
+) -> Result<Option<u64>, Held>
+    requires member { IsMember owned.now tree.now pass.old }
+    requires tries { 1 ≤ tries }
+    ensures { IsMember owned.now tree.now pass.new }
+{
+    assert!(rt; pass.owns(key) || (key <= KEY_MAX && !is_among(key, owned)));
+    tree.put(pass, key, value, tries, gate)
+}
+
+// Adds to the value of such a key: the value that it had.
+#[tactic(auto, using(crate::proofs::lemmas::Sharers::may_own, crate::proofs::lemmas::Sharers::may_share, crate::proofs::lemmas::Sharers::member_updated, crate::proofs::lemmas::Sharers::member_held_back))]
+fn add<G: StepGate>(
+    rt: &impl Abort,
+    tree: &Tree<Global>,
+    pass: &mut Pass<Global>,
+    owned: &[u64],
+    key: u64,
+    addend: u64,
+    tries: u32,
+    gate: &G,
+) -> Result<Option<u64>, Held>
+    requires member { IsMember owned.now tree.now pass.old }
+    requires tries { 1 ≤ tries }
+    ensures { IsMember owned.now tree.now pass.new }
+{
+    assert!(rt; pass.owns(key) || (key <= KEY_MAX && !is_among(key, owned)));
+    tree.fetch_add(pass, key, addend, tries, gate)
+}
+
+/// Updates the value of such a key to the one that `next_value` makes of it, and counts how often it is called: the
+/// value that it had.
+#[tactic(auto, using(crate::proofs::lemmas::Sharers::may_own, crate::proofs::lemmas::Sharers::may_share, crate::proofs::lemmas::Sharers::member_updated, crate::proofs::lemmas::Sharers::member_held_back))]
+pub fn update<G: StepGate>(
+    rt: &impl Abort,
+    tree: &Tree<Global>,
+    pass: &mut Pass<Global>,
+    owned: &[u64],
+    key: u64,
+    called: &AtomicU64,
+    tries: u32,
+    gate: &G,
+) -> Result<Option<u64>, Held>
+    requires member { IsMember owned.now tree.now pass.old }
+    requires tries { 1 ≤ tries }
+    ensures { IsMember owned.now tree.now pass.new }
+{
+    assert!(rt; pass.owns(key) || (key <= KEY_MAX && !is_among(key, owned)));
+    let next = |value: u64| {
+        called.fetch_add(1, Ordering::SeqCst);
+        next_value(value)
+    };
+    tree.update(pass, key, next, tries, gate)
+}
+
+/// Makes a call with so many tries: what it answers, of a look as a find does, and of one that answers a value that it
+/// found that.
+#[tactic(auto, using(crate::proofs::lemmas::Sharers::member_looking))]
+pub fn answer_by<G: StepGate>(
+    rt: &impl Abort,
+    tree: &Tree<Global>,
+    pass: &mut Pass<Global>,
+    owned: &[u64],
+    call: Call,
+    tries: u32,
+    gate: &G,
+) -> Result<Reply, Held>
+    requires member { IsMember owned.now tree.now pass.old }
+    requires tries { 1 ≤ tries }
+    ensures { IsMember owned.now tree.now pass.new }
+{
+    let there = match call {
+        Call::Ask(op) => return ask(rt, tree, pass, owned, op, tries, gate),
+        Call::Take(key) => take(rt, tree, pass, owned, key, tries, gate)?,
+        Call::Look(key) => {
+            assert!(rt; key <= KEY_MAX);
+            tree.look(pass, key, gate)
+        }
+        Call::Put(key, value) => put(rt, tree, pass, owned, key, value, tries, gate)?,
+        Call::Add(key, addend) => add(rt, tree, pass, owned, key, addend, tries, gate)?,
+        Call::Update(key) => {
+            let called = AtomicU64::new(0);
+            update(rt, tree, pass, owned, key, &called, tries, gate)?
+        }
+    };
+    Ok(Reply::found(there))
+}
+
+/// Makes a call with many tries.
+pub fn answer<G: StepGate>(
+    rt: &impl Abort,
+    tree: &Tree<Global>,
+    pass: &mut Pass<Global>,
+    owned: &[u64],
+    call: Call,
+    gate: &G,
+) -> Result<Reply, Held>
+    requires { IsMember owned.now tree.now pass.old }
+    ensures { IsMember owned.now tree.now pass.new }
+{
+    answer_by(rt, tree, pass, owned, call, TRIES, gate)
+}
+
+/// The next moment of a clock that all workers read.
+pub fn tick(clock: &AtomicU64) -> u64 {
+    clock.fetch_add(1, Ordering::SeqCst)
+}
+
+/// What a history says of a call of a worker.
+pub fn made(worker: u32, call: Call, said: Reply, begun: u64, ended: u64) -> Made {
+    let (op, said) = call.told(said);
+    Made {
+        worker,
+        op,
+        said,
+        begun,
+        ended,
+    }
+}
+
+/// Makes a call: what a history says of it, if it was answered.
+pub fn make<G: StepGate>(
+    rt: &impl Abort,
+    tree: &Tree<Global>,
+    pass: &mut Pass<Global>,
+    owned: &[u64],
+    clock: &AtomicU64,
+    call: Call,
+    gate: &G,
+) -> Option<Made>
+    requires { IsMember owned.now tree.now pass.old }
+    ensures { IsMember owned.now tree.now pass.new }
+{
+    let begun = tick(clock);
+    let said = answer(rt, tree, pass, owned, call, gate).ok()?;
+    let ended = tick(clock);
+    Some(made(pass.label(), call, said, begun, ended))
+}
+
+/// Ends a tree, by the pass that is to own all keys that may have owners, and to have the whole share: the keys with their values.
+pub fn close(
+    rt: &impl Abort,
+    tree: Tree<Global>,
+    pass: Pass<Global>,
+    owned: &[u64],
+) -> Vec<(u64, u64)>
+    requires member { IsMember owned.now tree pass }
+    requires keys { tree.plan.keys ≡ owned.now }
+{
+    assert!(rt; owned.iter().all(|key| pass.owns(*key)) && pass.has_whole_share());
+    tree.close(pass).ok().expect(rt, "memory")
+}
+
+// The value of a key among pairs.
+fn value_in(pairs: &[(u64, u64)], key: u64) -> Option<u64> {
+    let pair = pairs.iter().find(|pair| pair.0 == key)?;
+    Some(pair.1)
+}
+
+// How many calls added their key.
+fn added(calls: &[Made]) -> usize {
+    let is_so = |call: &&Made| matches!((call.op, call.said), (Op::Insert(_, _), Reply::Yes));
+    calls.iter().filter(is_so).count()
+}
+
+// How many calls took their key away.
+fn taken(calls: &[Made]) -> usize {
+    let is_so = |call: &&Made| matches!(call.op, Op::Delete(_)) && call.said != Reply::No;
+    calls.iter().filter(is_so).count()
+}
+
+/// Checks the calls on a key: there is an order of them, at whose end the key is as the tree closed with it.
+pub fn check_key(
+    rt: &(impl Abort + AllocGlobal),
+    key: u64,
+    start: &[(u64, u64)],
+    calls: &[Made],
+    end: &[(u64, u64)],
+) {
+    let (alloc, left) = (rt.alloc(), value_in(end, key));
+    let mut history = calls_on(alloc, key, calls).expect(rt, "memory");
+    let first = value_in(start, key);
+    let came = added(&history).saturating_add(first.is_some() as usize);
+    let went = taken(&history).saturating_add(left.is_some() as usize);
+    assert!(rt; came == went, "key {key}");
+    let last = Made {
+        worker: 63,
+        op: Op::Find(key),
+        said: Reply::found(left),
+        begun: u64::MAX,
+        ended: u64::MAX,
+    };
+    history.push(last).expect(rt, "memory");
+    assert!(rt;
+        are_in_order(alloc, first, &history).expect(rt, "memory"),
+        "key {key}"
+    );
+}
+
+/// Checks the calls on keys below a number, from the keys with their values at the start to those at the end.
+pub fn check(
+    rt: &(impl Abort + AllocGlobal),
+    keys: u64,
+    start: &[(u64, u64)],
+    calls: &[Made],
+    end: &[(u64, u64)],
+) {
+    assert!(rt; end.iter().all(|pair| pair.0 < keys));
+    for key in 0..keys {
+        check_key(rt, key, start, calls, end);
+    }
+}

@@ -1,0 +1,296 @@
+//! A worker that is held at each kind of step in turn, while another makes whole calls on the same key.
+ghost use Rattle.std.specs.Prelude.{◌≤◌, length};
+ghost use Rattle.std.specs.List.{All};
+ghost use Rattle.std.specs.List.Sorted.{IsStrictlyIncreasing};
+ghost use Rattle.std.specs.Map.{keys_of};
+ghost use Rattle.ell_tree.specs.Meaning.{greatest_key};
+ghost use Rattle.ell_tree.specs.Node.{most_start};
+ghost use Rattle.ell_test_shared.specs.Sharing.{IsMember};
+
+use super::calling::Call::{self, Ask};
+use super::calling::{answer, check, close, made, tick};
+use super::parting::{joined, parted};
+use super::working::Done;
+use ell_ops::Op::{Delete, Find, Insert};
+use ell_ops::Reply;
+use ell_ops::Reply::{Found, No, Yes};
+use ell_test_gates::{Holding, Turn, Turns, Until, two_threads_meet};
+use ell_tree::{Exchange, Kind, Pass, StepGate, Tree};
+use std::alloc::Global;
+use std::process::Abort;
+use std::sync::atomic::AtomicU64;
+use std::thread::{Threads, join};
+
+/// A call, and what it answers.
+pub type Row = (Call, Reply);
+
+/// Makes calls one after the other, each of which is to be answered as its row says.
+pub fn play<G: StepGate>(
+    rt: &(impl Abort + AllocGlobal),
+    tree: &Tree<Global>,
+    pass: Pass<Global>,
+    owned: &[u64],
+    clock: &AtomicU64,
+    gate: &G,
+    rows: &[Row],
+) -> Done
+    requires { IsMember owned.now tree.now pass }
+    ensures { IsMember owned.now tree.now result.pass }
+{
+    let mut pass = pass;
+    let mut calls = Vec::new(rt.alloc());
+    for (number, (call, want)) in rows.iter().enumerate() {
+        let (label, begun) = (pass.label(), tick(clock));
+        let said = answer(rt, tree, &mut pass, owned, *call, gate);
+        assert!(rt; said == Ok(*want), "row {number} of worker {label}");
+        let ended = tick(clock);
+        let call = made(label, *call, *want, begun, ended);
+        calls.push(call).expect(rt, "memory");
+    }
+    Done { pass, calls }
+}
+
+/// Two workers: worker 0 is held at its first step of a kind, until worker 1 has made its calls. The keys at the start and at the end, with
+/// their values; those that have owners, and those of them that worker 0 owns.
+#[derive(Clone, Copy)]
+pub struct Meeting<'a> {
+    pub owned: &'a [u64],
+    pub by_zero: &'a [u64],
+    pub start: &'a [(u64, u64)],
+    pub held: Row,
+    pub rows: &'a [Row],
+    pub end: &'a [(u64, u64)],
+}
+
+/// Has the two meet, worker 0 at this kind of step.
+pub fn meet<R: Threads + Abort + AllocGlobal + Sync>(rt: &R, at: Kind, meeting: Meeting)
+    requires ascending { IsStrictlyIncreasing (keys_of meeting.start.now) }
+    requires real { All (λ k. k ≤ greatest_key) (keys_of meeting.start.now) }
+    requires few { length meeting.start.now ≤ most_start }
+    requires owned { IsStrictlyIncreasing meeting.owned.now }
+    requires owned_real { All (λ k. k ≤ greatest_key) meeting.owned.now }
+    requires by_zero { IsStrictlyIncreasing meeting.by_zero.now }
+{
+    meet_until(rt, at, meeting.rows.len() as u64, meeting);
+}
+
+/// The same, where worker 0 is held until worker 1 has ended so many operations, of which a put or an update makes two
+/// or more.
+pub fn meet_until<R: Threads + Abort + AllocGlobal + Sync>(
+    rt: &R,
+    at: Kind,
+    ends: u64,
+    meeting: Meeting,
+)
+    requires ascending { IsStrictlyIncreasing (keys_of meeting.start.now) }
+    requires real { All (λ k. k ≤ greatest_key) (keys_of meeting.start.now) }
+    requires few { length meeting.start.now ≤ most_start }
+    requires owned { IsStrictlyIncreasing meeting.owned.now }
+    requires owned_real { All (λ k. k ≤ greatest_key) meeting.owned.now }
+    requires by_zero { IsStrictlyIncreasing meeting.by_zero.now }
+{
+    let gate = Holding::until(at, ends);
+    meet_under(rt, &gate, meeting);
+    assert!(rt; gate.has_held(), "{at:?}");
+}
+
+// Has the two make their calls under a gate.
+fn meet_under<R: Threads + Abort + AllocGlobal + Sync, G: StepGate + Sync>(
+    rt: &R,
+    gate: &G,
+    meeting: Meeting,
+)
+    requires ascending { IsStrictlyIncreasing (keys_of meeting.start.now) }
+    requires real { All (λ k. k ≤ greatest_key) (keys_of meeting.start.now) }
+    requires few { length meeting.start.now ≤ most_start }
+    requires owned { IsStrictlyIncreasing meeting.owned.now }
+    requires owned_real { All (λ k. k ≤ greatest_key) meeting.owned.now }
+    requires by_zero { IsStrictlyIncreasing meeting.by_zero.now }
+{
+    let (owned, start) = (meeting.owned, meeting.start);
+    let (held, rows, clock) = ([meeting.held], meeting.rows, AtomicU64::new(0));
+    let made = Tree::reserve_shared(rt.alloc(), start, owned, 100);
+    let (tree, pass) = made.expect(rt, "tree");
+    let (zero, mut one) = parted(rt, &tree, pass, owned, meeting.by_zero);
+    one.relabel(1);
+    let (shared, time, held) = (&tree, &clock, &held);
+    let (zero, one) = join(
+        rt,
+        move || play(rt, shared, zero, owned, time, gate, held),
+        move || play(rt, shared, one, owned, time, gate, rows),
+    );
+    let mut calls = zero.calls;
+    for call in &one.calls {
+        calls.push(*call).expect(rt, "memory");
+    }
+    let pass = joined(rt, &tree, owned, zero.pass, one.pass);
+    let pairs = close(rt, tree, pass, owned);
+    assert!(rt; pairs.as_slice() == meeting.end);
+    check(rt, 10, start, &calls, &pairs);
+}
+
+// Worker 0 has not flagged yet: it is as if its insert began behind the others.
+const BEFORE_ITS_FLAG: Meeting = Meeting {
+    owned: &[],
+    by_zero: &[],
+    start: &[],
+    held: (Ask(Insert(5, 50)), No),
+    rows: &[
+        (Ask(Find(5)), No),
+        (Ask(Insert(5, 51)), Yes),
+        (Ask(Find(5)), Found(51)),
+        (Ask(Delete(5)), Yes),
+        (Ask(Find(5)), No),
+        (Ask(Insert(5, 52)), Yes),
+    ],
+    end: &[(5, 52)],
+};
+
+// Its flag stands: a change on the same key makes its exchange for it, and finds the key.
+const BEHIND_ITS_FLAG: Meeting = Meeting {
+    held: (Ask(Insert(5, 50)), Yes),
+    rows: &[
+        (Ask(Find(5)), No),
+        (Ask(Insert(5, 51)), No),
+        (Ask(Find(5)), Found(50)),
+        (Ask(Delete(5)), Yes),
+        (Ask(Find(5)), No),
+        (Ask(Insert(5, 52)), Yes),
+    ],
+    ..BEFORE_ITS_FLAG
+};
+
+// Its exchange is made.
+const BEHIND_ITS_EXCHANGE: Meeting = Meeting {
+    held: (Ask(Insert(5, 50)), Yes),
+    rows: &[
+        (Ask(Find(5)), Found(50)),
+        (Ask(Insert(5, 51)), No),
+        (Ask(Delete(5)), Yes),
+        (Ask(Delete(5)), No),
+        (Ask(Insert(5, 52)), Yes),
+    ],
+    ..BEFORE_ITS_FLAG
+};
+
+#[test]
+fn others_go_past_an_insert_of_their_key(rt: HostRuntime) {
+    if !two_threads_meet(&rt) {
+        return;
+    }
+    for at in [
+        Kind::Begin,
+        Kind::Note,
+        Kind::Look,
+        Kind::Exchange(Exchange::Claim),
+        Kind::Fill,
+        Kind::Exchange(Exchange::IFlag),
+    ] {
+        meet(&rt, at, BEFORE_ITS_FLAG);
+    }
+    meet(&rt, Kind::Exchange(Exchange::IChild), BEHIND_ITS_FLAG);
+    meet(&rt, Kind::Exchange(Exchange::IUnflag), BEHIND_ITS_EXCHANGE);
+}
+
+// Worker 0 has not flagged yet: it is as if its delete began behind the others.
+const BEFORE_ITS_DELETE: Meeting = Meeting {
+    owned: &[],
+    by_zero: &[],
+    start: &[(3, 30), (5, 50), (7, 70)],
+    held: (Ask(Delete(5)), No),
+    rows: &[
+        (Ask(Find(5)), Found(50)),
+        (Ask(Insert(5, 51)), No),
+        (Ask(Delete(5)), Yes),
+        (Ask(Find(5)), No),
+        (Ask(Insert(5, 52)), Yes),
+        (Ask(Find(5)), Found(52)),
+        (Ask(Delete(5)), Yes),
+    ],
+    end: &[(3, 30), (7, 70)],
+};
+
+// Its flag stands, and its mark too: another delete ends it, and finds no key.
+const BEHIND_ITS_DELETE_FLAG: Meeting = Meeting {
+    held: (Ask(Delete(5)), Yes),
+    rows: &[
+        (Ask(Find(5)), Found(50)),
+        (Ask(Delete(5)), No),
+        (Ask(Find(5)), No),
+        (Ask(Insert(5, 51)), Yes),
+        (Ask(Find(5)), Found(51)),
+    ],
+    end: &[(3, 30), (5, 51), (7, 70)],
+    ..BEFORE_ITS_DELETE
+};
+
+// Its parent is cut out.
+const BEHIND_ITS_CUT: Meeting = Meeting {
+    rows: &[
+        (Ask(Find(5)), No),
+        (Ask(Delete(5)), No),
+        (Ask(Insert(5, 51)), Yes),
+        (Ask(Find(5)), Found(51)),
+    ],
+    ..BEHIND_ITS_DELETE_FLAG
+};
+
+#[test]
+fn others_go_past_a_delete_of_their_key(rt: HostRuntime) {
+    if !two_threads_meet(&rt) {
+        return;
+    }
+    for at in [
+        Kind::Begin,
+        Kind::Note,
+        Kind::Look,
+        Kind::Exchange(Exchange::Claim),
+        Kind::Fill,
+        Kind::Exchange(Exchange::DFlag),
+    ] {
+        meet(&rt, at, BEFORE_ITS_DELETE);
+    }
+    for at in [
+        Kind::Exchange(Exchange::Mark),
+        Kind::Exchange(Exchange::DChild),
+    ] {
+        meet(&rt, at, BEHIND_ITS_DELETE_FLAG);
+    }
+    meet(&rt, Kind::Exchange(Exchange::DUnflag), BEHIND_ITS_CUT);
+}
+
+// Between the flag of worker 0 and its mark, worker 1 adds a neighbor at its place: so the mark is lost. Worker 0 is held again before it takes
+// its flag back, and then deletes what it finds.
+const BEHIND_A_LOST_MARK: Meeting = Meeting {
+    held: (Ask(Delete(5)), Yes),
+    rows: &[
+        (Ask(Insert(6, 60)), Yes),
+        (Ask(Find(5)), Found(50)),
+        (Ask(Delete(5)), Yes),
+        (Ask(Find(5)), No),
+        (Ask(Insert(5, 51)), Yes),
+    ],
+    end: &[(3, 30), (6, 60), (7, 70)],
+    ..BEFORE_ITS_DELETE
+};
+
+const TURNS: [Turn; 8] = [
+    (0, Until::Comes(Kind::Exchange(Exchange::Mark), 1)),
+    (1, Until::Ends),
+    (0, Until::Comes(Kind::Exchange(Exchange::Backtrack), 1)),
+    (1, Until::Ends),
+    (1, Until::Ends),
+    (1, Until::Ends),
+    (1, Until::Ends),
+    (0, Until::Ends),
+];
+
+#[test]
+fn others_go_past_a_delete_that_lost_its_mark(rt: HostRuntime) {
+    if !two_threads_meet(&rt) {
+        return;
+    }
+    let gate = Turns::new(&TURNS);
+    meet_under(&rt, &gate, BEHIND_A_LOST_MARK);
+    assert!(rt; gate.are_over());
+}

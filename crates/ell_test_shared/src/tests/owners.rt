@@ -1,0 +1,279 @@
+//! Trees in which some keys have owners, and every other one is shared.
+ghost use Rattle.ell_test_shared.specs.Sharing.{IsMember};
+
+use super::calling::Call::{self, Add, Ask, Look, Put, Take, Update};
+use super::calling::{answer, check, check_key, close};
+use super::holding::{Meeting, meet};
+use super::parting::{joined, parted};
+use super::working::{Load, Mix, owner_of, run};
+use ell_ops::Op::{Delete, Find, Insert, Swap};
+use ell_ops::Reply;
+use ell_ops::Reply::{Found, No, Yes};
+use ell_test_gates::{Jostling, Made, two_threads_meet};
+use ell_tree::{Exchange, Held, Kind, NoGate, Pass, Tree};
+use std::alloc::Global;
+use std::process::Abort;
+
+// The keys of the workers, with shared ones in between.
+const OWNED: [u64; 8] = [0, 2, 3, 6, 7, 9, 12, 13];
+
+const KEYS: u64 = 16;
+
+const START: [(u64, u64); 4] = [(1, 11), (2, 12), (7, 17), (8, 18)];
+
+// Checks the calls of the owner of a key, alone: they do not overlap, so they are in order if a private map answers them so, which has the
+// value at the end. All others only look for the key.
+fn check_owner(
+    rt: &(impl Abort + AllocGlobal),
+    key: u64,
+    workers: u32,
+    calls: &[Made],
+    end: &[(u64, u64)],
+) {
+    let (mut mine, owner) = (Vec::new(rt.alloc()), owner_of(key, workers));
+    for call in calls {
+        if call.op.key() == key && call.worker as u64 == owner {
+            mine.push(*call).expect(rt, "memory");
+        } else {
+            assert!(rt; call.op.key() != key || call.op == Find(key), "key {key}");
+        }
+    }
+    assert!(rt; !mine.is_empty(), "key {key}");
+    check_key(rt, key, &START, &mine, end);
+}
+
+#[test]
+fn owners_are_answered_as_private_maps_among_shared_keys(rt: HostRuntime) {
+    for workers in [2, 4, 16, 64] {
+        for seed in [1, 2] {
+            let load = Load {
+                keys: KEYS,
+                owned: &OWNED,
+                calls: 300,
+                seed,
+                mix: Mix::All,
+            };
+            let (calls, pairs) = run(&rt, workers, &START, load, &Jostling::new(seed));
+            check(&rt, KEYS, &START, &calls, &pairs);
+            for key in OWNED {
+                check_owner(&rt, key, workers, &calls, &pairs);
+            }
+        }
+    }
+}
+
+// A call, whether the owner of keys makes it, and what it answers.
+type Turn = (bool, Call, Result<Reply, Held>);
+
+// An owner and a guest make calls in turns, each of which is to be answered as it says.
+fn take_turns(
+    rt: &impl Abort,
+    tree: &Tree<Global>,
+    owned: &[u64],
+    passes: (Pass<Global>, Pass<Global>),
+    turns: &[Turn],
+) -> (Pass<Global>, Pass<Global>)
+    requires owner { IsMember owned.now tree.now passes.0 }
+    requires guest { IsMember owned.now tree.now passes.1 }
+    ensures owner { IsMember owned.now tree.now result.0 }
+    ensures guest { IsMember owned.now tree.now result.1 }
+{
+    let (mut owner, mut guest) = passes;
+    for (number, (by_owner, call, said)) in turns.iter().enumerate() {
+        let answered = if *by_owner {
+            answer(rt, tree, &mut owner, owned, *call, &NoGate)
+        } else {
+            answer(rt, tree, &mut guest, owned, *call, &NoGate)
+        };
+        assert!(rt; answered == *said, "turn {number}");
+    }
+    (owner, guest)
+}
+
+// The owner of keys 1 and 3 and a guest take turns on a tree of so many cards, where keys 1 and 2 are there from the
+// first on, with values 10 and 20: these keys with their values are there at the end.
+fn take_turns_to(rt: &(impl Abort + AllocGlobal), cards: u64, turns: &[Turn], end: &[(u64, u64)]) {
+    let (owned, start) = ([1, 3], [(1, 10), (2, 20)]);
+    let made = Tree::reserve_shared(rt.alloc(), &start, &owned, cards);
+    let (tree, pass) = made.expect(rt, "tree");
+    let passes = parted(rt, &tree, pass, &owned, &owned);
+    let (owner, guest) = take_turns(rt, &tree, &owned, passes, turns);
+    let pass = joined(rt, &tree, &owned, owner, guest);
+    let pairs = close(rt, tree, pass, &owned);
+    assert!(rt; pairs.as_slice() == end);
+}
+
+const TAKES: [Turn; 15] = [
+    (true, Take(1), Ok(Found(10))),
+    (true, Take(1), Ok(No)),
+    (false, Look(1), Ok(No)),
+    (true, Ask(Insert(1, 11)), Ok(Yes)),
+    (false, Look(1), Ok(Found(11))),
+    (true, Take(1), Ok(Found(11))),
+    (true, Take(3), Ok(No)),
+    (false, Take(2), Ok(Found(20))),
+    (true, Take(2), Ok(No)),
+    (false, Ask(Insert(2, 21)), Ok(Yes)),
+    (true, Ask(Insert(2, 22)), Ok(No)),
+    (true, Take(2), Ok(Found(21))),
+    (false, Take(2), Ok(No)),
+    (true, Ask(Insert(3, 30)), Ok(Yes)),
+    (false, Ask(Insert(4, 40)), Ok(Yes)),
+];
+
+#[test]
+fn a_take_answers_the_value_that_goes(rt: HostRuntime) {
+    take_turns_to(&rt, 20, &TAKES, &[(3, 30), (4, 40)]);
+}
+
+const REPLACES: [Turn; 22] = [
+    (true, Put(1, 11), Ok(Found(10))),
+    (false, Look(1), Ok(Found(11))),
+    (true, Ask(Swap(1, 11, 12)), Ok(Found(11))),
+    (true, Ask(Swap(1, 11, 13)), Ok(Found(12))),
+    (true, Add(1, 5), Ok(Found(12))),
+    (true, Update(1), Ok(Found(17))),
+    (true, Ask(Find(1)), Ok(Found(52))),
+    (true, Add(1, u64::MAX), Ok(Found(52))),
+    (false, Look(1), Ok(Found(51))),
+    (true, Ask(Swap(3, 1, 2)), Ok(No)),
+    (true, Add(3, 1), Ok(No)),
+    (true, Update(3), Ok(No)),
+    (true, Ask(Find(3)), Ok(No)),
+    (true, Put(3, 30), Ok(No)),
+    (true, Ask(Find(3)), Ok(Found(30))),
+    (true, Ask(Insert(3, 31)), Ok(No)),
+    (false, Put(2, 21), Ok(Found(20))),
+    (true, Add(2, 1), Ok(Found(21))),
+    (false, Update(2), Ok(Found(22))),
+    (true, Ask(Swap(2, 67, 23)), Ok(Found(67))),
+    (false, Take(2), Ok(Found(23))),
+    (true, Put(2, 24), Ok(No)),
+];
+
+#[test]
+fn a_swap_a_put_an_update_and_a_sum_answer_the_value_that_was_there(rt: HostRuntime) {
+    take_turns_to(&rt, 30, &REPLACES, &[(1, 51), (2, 24), (3, 30)]);
+}
+
+// Two cards, which two changes take.
+const SPENT: [Turn; 16] = [
+    (true, Put(1, 11), Ok(Found(10))),
+    (true, Add(1, 1), Ok(Found(11))),
+    (true, Put(1, 14), Err(Held::Spent)),
+    (true, Ask(Find(1)), Ok(Found(12))),
+    (true, Ask(Swap(1, 12, 13)), Err(Held::Spent)),
+    (true, Ask(Swap(1, 13, 14)), Ok(Found(12))),
+    (true, Add(1, 1), Err(Held::Spent)),
+    (true, Update(1), Err(Held::Spent)),
+    (true, Put(3, 30), Err(Held::Spent)),
+    (true, Add(3, 1), Ok(No)),
+    (true, Update(3), Ok(No)),
+    (false, Put(2, 21), Err(Held::Spent)),
+    (false, Update(2), Err(Held::Spent)),
+    (false, Ask(Swap(2, 20, 21)), Err(Held::Spent)),
+    (false, Look(2), Ok(Found(20))),
+    (true, Ask(Find(1)), Ok(Found(12))),
+];
+
+#[test]
+fn a_call_that_finds_all_cards_given_out_leaves_all_as_it_was(rt: HostRuntime) {
+    take_turns_to(&rt, 2, &SPENT, &[(1, 12), (2, 20)]);
+}
+
+// The owner of a key is held in the middle of a change, and its shared neighbors come and go beside.
+const OWNER_ADDS: Meeting = Meeting {
+    owned: &[5],
+    by_zero: &[5],
+    start: &[(6, 60)],
+    held: (Ask(Insert(5, 50)), Yes),
+    rows: &[
+        (Ask(Insert(4, 40)), Yes),
+        (Ask(Delete(6)), Yes),
+        (Ask(Find(4)), Found(40)),
+        (Ask(Insert(6, 61)), Yes),
+        (Ask(Delete(4)), Yes),
+        (Ask(Insert(4, 41)), Yes),
+        (Ask(Delete(4)), Yes),
+        (Ask(Insert(7, 70)), Yes),
+    ],
+    end: &[(5, 50), (6, 61), (7, 70)],
+};
+
+const OWNER_DELETES: Meeting = Meeting {
+    start: &[(4, 40), (5, 50), (6, 60)],
+    held: (Ask(Delete(5)), Yes),
+    rows: &[
+        (Ask(Delete(4)), Yes),
+        (Ask(Insert(4, 41)), Yes),
+        (Ask(Delete(6)), Yes),
+        (Ask(Find(6)), No),
+        (Ask(Delete(4)), Yes),
+        (Ask(Insert(6, 61)), Yes),
+    ],
+    end: &[(6, 61)],
+    ..OWNER_ADDS
+};
+
+// A shared key is being changed by a worker that is held, and the owner of the neighbors is answered as by a private map.
+const GUEST_ADDS: Meeting = Meeting {
+    by_zero: &[],
+    owned: &[4, 6],
+    end: &[(5, 50), (6, 61)],
+    rows: &[
+        (Ask(Insert(4, 40)), Yes),
+        (Ask(Delete(6)), Yes),
+        (Ask(Delete(6)), No),
+        (Ask(Find(4)), Found(40)),
+        (Ask(Insert(6, 61)), Yes),
+        (Ask(Insert(6, 62)), No),
+        (Ask(Delete(4)), Yes),
+        (Ask(Find(4)), No),
+    ],
+    ..OWNER_ADDS
+};
+
+const GUEST_DELETES: Meeting = Meeting {
+    by_zero: &[],
+    owned: &[4, 6],
+    ..OWNER_DELETES
+};
+
+#[test]
+fn shared_neighbors_come_and_go_beside_an_owner_that_is_held(rt: HostRuntime) {
+    if !two_threads_meet(&rt) {
+        return;
+    }
+    for at in INSERTING {
+        meet(&rt, at, OWNER_ADDS);
+        meet(&rt, at, GUEST_ADDS);
+    }
+    for at in DELETING {
+        meet(&rt, at, OWNER_DELETES);
+        meet(&rt, at, GUEST_DELETES);
+    }
+}
+
+// The kinds of steps of an insert, and of a delete.
+const INSERTING: [Kind; 8] = [
+    Kind::Begin,
+    Kind::Note,
+    Kind::Look,
+    Kind::Exchange(Exchange::Claim),
+    Kind::Fill,
+    Kind::Exchange(Exchange::IFlag),
+    Kind::Exchange(Exchange::IChild),
+    Kind::Exchange(Exchange::IUnflag),
+];
+
+const DELETING: [Kind; 9] = [
+    Kind::Begin,
+    Kind::Note,
+    Kind::Look,
+    Kind::Exchange(Exchange::Claim),
+    Kind::Fill,
+    Kind::Exchange(Exchange::DFlag),
+    Kind::Exchange(Exchange::Mark),
+    Kind::Exchange(Exchange::DChild),
+    Kind::Exchange(Exchange::DUnflag),
+];

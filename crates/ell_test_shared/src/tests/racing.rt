@@ -1,0 +1,147 @@
+//! Two workers that make the same call on one key at once, again and again: just one of them changes the map each time.
+ghost use Rattle.std.specs.Prelude.{◌≡◌, ◌≤◌, [], length};
+ghost use Rattle.std.specs.List.{All};
+ghost use Rattle.std.specs.List.Sorted.{IsStrictlyIncreasing};
+ghost use Rattle.std.specs.Map.{keys_of};
+ghost use Rattle.ell_tree.specs.Meaning.{greatest_key};
+ghost use Rattle.ell_tree.specs.Node.{most_start};
+ghost use Rattle.ell_test_shared.specs.Sharing.{IsSharer};
+
+use super::calling::Call::{self, Ask, Take};
+use super::calling::{answer, close};
+use super::parting::{joined, parted};
+use ell_ops::Op::{Delete, Insert};
+use ell_ops::Reply;
+use ell_ops::Reply::{Found, No, Yes};
+use ell_test_gates::{Gathering, two_threads_meet};
+use ell_tree::{Exchange, Kind, Pass, StepGate, Tree};
+use std::alloc::Global;
+use std::process::Abort;
+use std::thread::{Threads, join};
+
+// How often each race is run.
+const RACES: u32 = 200;
+
+// A pass behind its call, and what that was answered.
+type Ran = (Pass<Global>, Option<Reply>);
+
+fn run<G: StepGate>(
+    rt: &impl Abort,
+    tree: &Tree<Global>,
+    pass: Pass<Global>,
+    call: Call,
+    gate: &G,
+) -> Ran
+    requires { IsSharer tree.now pass }
+    ensures { IsSharer tree.now result.0 }
+{
+    let mut pass = pass;
+    let said = answer(rt, tree, &mut pass, &[], call, gate).ok();
+    (pass, said)
+}
+
+// Two workers come to a kind of step, and go on at once: what both answer, and the keys at the end with their values.
+fn race<R: Threads + Abort + AllocGlobal + Sync>(
+    rt: &R,
+    at: Kind,
+    start: &[(u64, u64)],
+    calls: (Call, Call),
+) -> (Option<Reply>, Option<Reply>, Vec<(u64, u64)>)
+    requires ascending { IsStrictlyIncreasing (keys_of start.now) }
+    requires real { All (λ k. k ≤ greatest_key) (keys_of start.now) }
+    requires few { length start.now ≤ most_start }
+{
+    let gate = Gathering::at(rt.alloc(), at, 2).expect(rt, "memory");
+    let made = Tree::reserve_shared(rt.alloc(), start, &[], 100);
+    let (tree, pass) = made.expect(rt, "tree");
+    let (one, mut other) = parted(rt, &tree, pass, &[], &[]);
+    other.relabel(1);
+    let (shared, told) = (&tree, &gate);
+    let ((one, said), (other, also)) = join(
+        rt,
+        move || run(rt, shared, one, calls.0, told),
+        move || run(rt, shared, other, calls.1, told),
+    );
+    assert!(rt; gate.has_gathered());
+    let pass = joined(rt, &tree, &[], one, other);
+    (said, also, close(rt, tree, pass, &[]))
+}
+
+#[test]
+fn of_two_inserts_at_once_one_adds_the_key(rt: HostRuntime) {
+    if !two_threads_meet(&rt) {
+        return;
+    }
+    for at in [
+        Kind::Begin,
+        Kind::Look,
+        Kind::Exchange(Exchange::Claim),
+        Kind::Fill,
+        Kind::Exchange(Exchange::IFlag),
+        Kind::Exchange(Exchange::IChild),
+    ] {
+        for _ in 0..RACES {
+            let raced = race(&rt, at, &[], (Ask(Insert(5, 50)), Ask(Insert(5, 51))));
+            match (raced.0, raced.1) {
+                (Some(Yes), Some(No)) => {
+                    assert!(rt; raced.2.as_slice() == [(5, 50)].as_slice());
+                }
+                (Some(No), Some(Yes)) => {
+                    assert!(rt; raced.2.as_slice() == [(5, 51)].as_slice());
+                }
+                _ => assert!(rt; false, "not one of both"),
+            }
+        }
+    }
+}
+
+const START: [(u64, u64); 2] = [(5, 50), (6, 60)];
+
+#[test]
+fn of_two_deletes_at_once_one_takes_the_key_away(rt: HostRuntime) {
+    if !two_threads_meet(&rt) {
+        return;
+    }
+    for at in [
+        Kind::Begin,
+        Kind::Look,
+        Kind::Exchange(Exchange::Claim),
+        Kind::Fill,
+        Kind::Exchange(Exchange::DFlag),
+        Kind::Exchange(Exchange::Mark),
+        Kind::Exchange(Exchange::DChild),
+    ] {
+        for _ in 0..RACES {
+            let raced = race(&rt, at, &START, (Ask(Delete(5)), Ask(Delete(5))));
+            assert!(rt; raced.2.as_slice() == [(6, 60)].as_slice());
+            match (raced.0, raced.1) {
+                (Some(Yes), Some(No)) | (Some(No), Some(Yes)) => {}
+                _ => assert!(rt; false, "not one of both"),
+            }
+        }
+    }
+}
+
+#[test]
+fn of_two_takes_at_once_one_gets_the_value(rt: HostRuntime) {
+    if !two_threads_meet(&rt) {
+        return;
+    }
+    for at in [
+        Kind::Begin,
+        Kind::Look,
+        Kind::Exchange(Exchange::DFlag),
+        Kind::Exchange(Exchange::Mark),
+    ] {
+        for other in [Take(5), Ask(Delete(5))] {
+            for _ in 0..RACES {
+                let raced = race(&rt, at, &START, (Take(5), other));
+                assert!(rt; raced.2.as_slice() == [(6, 60)].as_slice());
+                match (raced.0, raced.1) {
+                    (Some(Found(50)), Some(No)) | (Some(No), Some(Yes | Found(50))) => {}
+                    _ => assert!(rt; false, "not one of both"),
+                }
+            }
+        }
+    }
+}

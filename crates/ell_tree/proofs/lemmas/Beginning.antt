@@ -1,0 +1,96 @@
+use Rattle.std.proofs.Common.{◌++◌, Option, Some, [], refl, sym, ap, subst}
+use Rattle.ell_ops.specs.declared.op.Op.{Op}
+use Rattle.ell_cards.specs.declared.view.View.{View}
+use Rattle.ell_cards.specs.Models.{PassModel, Steps, Does, latest}
+use Rattle.ell_cards.specs.Changes.{after_begin, after_again, after_leave, in_the_way, tries_hindered}
+use Rattle.ell_tree.specs.Hindrances.{way_of}
+use Rattle.ell_tree.specs.Searches.{AtRoot}
+use Rattle.ell_tree.specs.Tries.{Begins, Lays}
+use Rattle.ell_tree.proofs.lemmas.Counting.{took_none, took_one}
+use Rattle.ell_tree.proofs.lemmas.Meeting.{root_way}
+use Rattle.ell_tree.proofs.lemmas.Hindering.{root_hindered}
+
+-- an operation that was taken in hand stands at the root
+pub begins : (old new : PassModel) (op : Op) → Steps old new (after_begin (Some op) old.view) → Begins op [] old.view.hindered old new
+begins old new op s = subst (λ (m : PassModel). Begins op [] old.view.hindered old m) (sym s) (record {
+  table = refl;
+  label = refl;
+  ledger = refl;
+  answers = refl;
+  share = record { share = refl; ownable = refl };
+  hindrances = refl;
+  hindered = refl;
+  knows = λ f h. h;
+  before = refl;
+  least = refl;
+  root = record { busy = refl; root = refl; no_card = refl; met = latest _ _; before = refl; unmet = refl };
+  taken = refl;
+  took = took_one old (after_begin (Some op) old.view) refl;
+})
+
+-- so does one that starts anew
+abbrev anew : Option Op → View → View
+anew o v = record (after_begin o v) {
+  hindrances = in_the_way o v.worker.search.node v.worker.search.parent v.worker.search.grandparent ++ v.hindrances;
+  hindered = tries_hindered v;
+}
+
+pub begins_anew : (old new : PassModel) (op : Op) → Steps old new (after_again old.view) → Does old.view op → Begins op (way_of op old.view) (tries_hindered old.view) old new
+begins_anew old new op s busy =
+    let again = subst (λ (o : Option Op). Steps old new (anew o old.view)) busy s in
+    subst (λ (m : PassModel). Begins op (way_of op old.view) (tries_hindered old.view) old m) (sym again) (record {
+      table = refl;
+      label = refl;
+      ledger = refl;
+      answers = refl;
+      share = record { share = refl; ownable = refl };
+      hindrances = refl;
+      hindered = refl;
+      knows = λ f h. h;
+      before = refl;
+      least = refl;
+      root = record { busy = refl; root = refl; no_card = refl; met = latest _ _; before = refl; unmet = refl };
+      taken = refl;
+      took = took_one old (anew (Some op) old.view) refl;
+    })
+
+-- a first try stands at the root already, and has met nothing
+pub begins_first : (p : PassModel) (op : Op) → AtRoot op p.view → Begins op (way_of op p.view) (tries_hindered p.view) p p
+begins_first p op at = record {
+  table = refl;
+  label = refl;
+  ledger = refl;
+  answers = refl;
+  share = record { share = refl; ownable = refl };
+  hindrances = ap (λ hs. hs ++ p.view.hindrances) (sym (root_way op p.view at.root));
+  hindered = sym (root_hindered op p.view at);
+  knows = λ f h. h;
+  before = at.before;
+  least = refl;
+  root = at;
+  taken = refl;
+  took = took_none p 1;
+}
+
+-- an operation that is laid down
+pub lays : (old new : PassModel) (op : Op) → Steps old new (after_leave old.view) → Does old.view op → Lays op old new
+lays old new op s busy = subst (λ (m : PassModel). Lays op old m) (sym s) (record {
+  laid = busy;
+  table = refl;
+  label = refl;
+  ledger = refl;
+  answers = refl;
+  share = record { share = refl; ownable = refl };
+  hindrances = ap
+      (λ (o : Option Op). in_the_way o old.view.worker.search.node old.view.worker.search.parent old.view.worker.search.grandparent ++ old.view.hindrances)
+      busy;
+  hindered = refl;
+  knows = λ f h. h;
+  next = refl;
+  facts = refl;
+  least = refl;
+  idle = refl;
+  no_card = refl;
+  taken = refl;
+  took = took_one old (after_leave old.view) refl;
+})

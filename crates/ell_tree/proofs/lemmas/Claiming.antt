@@ -1,0 +1,145 @@
+use Rattle.std.proofs.Common.{◌≡◌, ℕ, ◌+◌, ◌≤◌, Bool, true, false, None, List, [], ◌∷◌, length, refl, sym, ◌∙◌, ap, subst, arith}
+use Rattle.ell_ops.specs.declared.op.Op.{Op}
+use Rattle.ell_word.specs.declared.update.State.TheVariants as state
+use Rattle.ell_layout.specs.declared.field.Field.{Field}
+use Rattle.ell_layout.specs.declared.field.Field.TheVariants as field
+use Rattle.ell_core.specs.declared.view.Search.{Search}
+use Rattle.ell_cards.specs.declared.view.Told.{Told}
+use Rattle.ell_cards.specs.declared.view.Told.TheVariants.{Info}
+use Rattle.ell_cards.specs.declared.view.Hindrance.TheVariants.{Claim}
+use Rattle.ell_cards.specs.declared.view.View.{View}
+use Rattle.ell_cards.specs.Models.{PassModel, Steps, one_more as one_step_more, Has, latest, earlier, Does}
+use Rattle.ell_cards.specs.Changes.{after_next, after_claim, filling_of, told_filling, told_fixed}
+use Rattle.ell_cards.specs.Guards.{MayClaim, Wants}
+use Rattle.ell_cards.proofs.lemmas.words.Updates.{clean_word}
+use Rattle.ell_cards.proofs.lemmas.views.Entries.{filling_more}
+use Rattle.ell_cards.proofs.lemmas.views.Steps.{view_after}
+use Rattle.ell_cards.proofs.lemmas.views.Searches.{may_claim}
+use Rattle.ell_tree.specs.declared.searching.Place.{Place}
+use Rattle.ell_tree.specs.CardsTaken.{claims_in, TakesNoCard, TakesOneCard}
+use Rattle.ell_tree.specs.Hindrances.{Meets}
+use Rattle.ell_tree.specs.Keeping.{LosesNothing, Goes}
+use Rattle.ell_tree.specs.Searches.{seen, IsAt}
+use Rattle.ell_tree.specs.Tries.{HasCard, HasNone}
+use Rattle.ell_tree.specs.Moves.{GivesOut}
+use Rattle.ell_tree.proofs.lemmas.Keeping.{goes_step, goes_trans, next_keeps}
+
+-- what fills a card tells the same beside whatever was told before
+one_more : (es ds : List Told) (x e : Told) → ((d : Told) → Has es d → Has ds d) → Has (x ∷ es) e → Has (x ∷ ds) e
+one_more es ds x e more (latest _ _) = latest x ds
+one_more es ds x e more (earlier _ _ _ h) = earlier e x ds (more e h)
+
+told_fixed_over : (c : ℕ) (f : Field) (x : ℕ) (es ds : List Told) (e : Told) → ((d : Told) → Has es d → Has ds d) → Has (told_fixed c f x es) e → Has (told_fixed c f x ds) e
+told_fixed_over c field.Gp x es ds e more h = one_more es ds (Info c field.Gp x) e more h
+told_fixed_over c field.P x es ds e more h = one_more es ds (Info c field.P x) e more h
+told_fixed_over c field.L x es ds e more h = one_more es ds (Info c field.L x) e more h
+told_fixed_over c field.Was x es ds e more h = one_more es ds (Info c field.Was x) e more h
+told_fixed_over c field.Key x es ds e more h = one_more es ds (Info c field.Key x) e more h
+told_fixed_over c field.Left x es ds e more h = more e h
+told_fixed_over c field.Right x es ds e more h = more e h
+told_fixed_over c field.Update x es ds e more h = more e h
+told_fixed_over c field.LeftLeafKey x es ds e more h = one_more es ds (Info c field.LeftLeafKey x) e more h
+told_fixed_over c field.RightLeafKey x es ds e more h = one_more es ds (Info c field.RightLeafKey x) e more h
+told_fixed_over c field.LeftValue x es ds e more h = one_more es ds (Info c field.LeftValue x) e more h
+told_fixed_over c field.RightValue x es ds e more h = one_more es ds (Info c field.RightValue x) e more h
+
+told_filling_over : (c : ℕ) (fs : List (Field × ℕ)) (es : List Told) (e : Told) → Has (told_filling c fs []) e → Has (told_filling c fs es) e
+told_filling_over c [] es e h = elim h [ ]
+told_filling_over c (f ∷ fs) es e h =
+    told_fixed_over c f.0 f.1 (told_filling c fs []) (told_filling c fs es) e (λ d. told_filling_over c fs es d) h
+
+won_keeps : (c : ℕ) (v : View) → v.next_at_least ≤ c → LosesNothing v (after_claim true c v)
+won_keeps c v low = record {
+  ledger = refl;
+  operation = refl;
+  answers = refl;
+  share = record { share = refl; ownable = refl };
+  knows = λ f h. h;
+  told = filling_more c (filling_of c v) v.told;
+  before = refl;
+  least = omega arith;
+  hindered = refl;
+  earlier = λ hs e. e;
+}
+
+lost_keeps : (c : ℕ) (v : View) → v.next_at_least ≤ c → LosesNothing v (after_claim false c v)
+lost_keeps c v low = record { ledger = refl; operation = refl; answers = refl; share = record { share = refl; ownable = refl }; knows = λ f h. h; told = λ e h. h; before = refl; least = omega arith; hindered = refl; earlier = λ hs e. ap (λ hs. Claim c ∷ hs) e }
+
+-- where a search stands at a leaf, and the claim word was read, a claim may be made
+pub may_claim_at : (old new : PassModel) (c : ℕ) (op : Op) (place : Place) → Steps old new (after_next c old.view) → Does old.view op
+    → old.view.worker.card ≡ None → IsAt old.view place → place.parent.update.state ≡ state.Clean → Wants old.view op place.leaf place.key → MayClaim new.view c
+may_claim_at old new c op place s busy no_card at calm wants =
+    may_claim old new op c place.leaf place.key (seen place.parent) s busy no_card (ap (λ (r : Search). r.node) at.search) at.outer at.told
+    (ap (λ (r : Search). r.parent) at.search) (clean_word place.parent.update.state place.parent.update.card calm) wants
+
+module _ (a b d : PassModel) (c : ℕ) (read : Steps a b (after_next c a.view)) (low : a.view.next_at_least ≤ c) where
+  low_there : b.view.next_at_least ≤ c
+  low_there = subst (λ (w : View). w.next_at_least ≤ c) (sym (view_after a b (after_next c a.view) read)) low
+
+  -- the card is given out then, whoever took it
+  pub given_out : (won : Bool) (cards : ℕ) → Steps b d (after_claim won c b.view) → 1 ≤ c → c ≤ cards → GivesOut cards a.view d.view
+  given_out won cards s first last = record {
+    card = c;
+    first = omega arith;
+    last = last;
+    before = low;
+    after = (let now = is won s in omega arith);
+  }
+    where
+      is : (t : Bool) → Steps b d (after_claim t c b.view) → d.view.next_at_least ≡ c + 1
+      is true s = ap (λ (w : View). w.next_at_least) (view_after b d (after_claim true c b.view) s)
+      is false s = ap (λ (w : View). w.next_at_least) (view_after b d (after_claim false c b.view) s)
+
+  pub won_goes : Steps b d (after_claim true c b.view) → Goes a d 2
+  won_goes s =
+      goes_trans a b d 1 1 2 (goes_step a b (after_next c a.view) read (next_keeps c a.view) refl)
+      (goes_step b d (after_claim true c b.view) s (won_keeps c b.view low_there) refl) (omega arith)
+
+  -- the card is in hand then
+  pub has_card : (op : Op) (place : Place) → Steps b d (after_claim true c b.view) → Does a.view op → IsAt a.view place
+      → HasCard op place (filling_of c a.view) d.view c
+  has_card op place s busy at =
+      subst (λ (w : View). HasCard op place (filling_of c a.view) w c)
+      (sym (view_after b d (after_claim true c b.view) s ∙ ap (after_claim true c) (view_after a b (after_next c a.view) read)))
+      (record {
+        busy = busy;
+        may = record { holds = refl; unflagged = refl };
+        stands = ap (λ (r : Search). r.node) at.search;
+        behind = ap (λ (r : Search). r.parent) at.search;
+        above = ap (λ (r : Search). r.grandparent) at.search;
+        says = refl;
+        empty = refl;
+        told = told_filling_over c (filling_of c a.view) a.view.told;
+      })
+
+  -- and the pass took it
+  pub won_takes : Steps b d (after_claim true c b.view) → TakesOneCard a d
+  won_takes s =
+      ap (λ (w : View). claims_in w.won)
+      (view_after b d (after_claim true c b.view) s ∙ ap (after_claim true c) (view_after a b (after_next c a.view) read))
+
+  pub lost_takes : Steps b d (after_claim false c b.view) → TakesNoCard a d
+  lost_takes s =
+      ap (λ (w : View). claims_in w.won)
+      (view_after b d (after_claim false c b.view) s ∙ ap (after_claim false c) (view_after a b (after_next c a.view) read))
+
+  pub lost_goes : Steps b d (after_claim false c b.view) → Goes a d 2
+  lost_goes s =
+      goes_trans a b d 1 1 2 (goes_step a b (after_next c a.view) read (next_keeps c a.view) refl)
+      (goes_step b d (after_claim false c b.view) s (lost_keeps c b.view low_there) refl) (omega arith)
+
+  -- and nothing was in the way
+  pub won_calm : Steps b d (after_claim true c b.view) → d.view.hindrances ≡ a.view.hindrances
+  won_calm s =
+      ap (λ (w : View). w.hindrances)
+      (view_after b d (after_claim true c b.view) s ∙ ap (after_claim true c) (view_after a b (after_next c a.view) read))
+
+  pub lost_claims : Steps b d (after_claim false c b.view) → a.view.worker.card ≡ None
+      → HasNone a d × Meets a.view d.view × (length a.view.hindrances + 1 ≤ length d.view.hindrances)
+  lost_claims s none =
+      subst (λ (p : PassModel). HasNone a p × Meets a.view p.view × (length a.view.hindrances + 1 ≤ length p.view.hindrances))
+      (sym (s ∙ ap (λ (p : PassModel). record { table = p.table; view = after_claim false c p.view; steps = one_step_more p.steps; label = p.label }) read)) (
+        record { no_card = none; search = refl },
+        record { met = Claim c ∷ []; list = refl; over = (tt, tt); knows = λ f h. h },
+        omega arith,
+      )

@@ -1,0 +1,356 @@
+use Rattle.std.proofs.Common.{◌≡◌, ℕ, ◌+◌, ◌*◌, ◌/◌, ◌<◌, ◌≤◌, ◌⊎◌, inl, inr, Bool, true, false, nat_le, min, max, if◌then◌else◌, Option, Some, None, List, length, get_or, set, replicate, refl, sym, ap, ◌∙◌, subst, arith, eq-eqb, eqb-true, ◌==◌, get_or-set_other, get_or-set_same}
+use Rattle.std.proofs.lemmas.Bool.{cases_eq, cases_lt, false≢true}
+use Rattle.std.proofs.lemmas.List.{get_or-replicate, length-replicate, length-set}
+use Rattle.std.proofs.Math.Nat.{max-eq_left, max-eq_right, min-eq_left, min-eq_right}
+use Rattle.ell_ops.specs.Meaning.{greatest_key}
+use Rattle.ell_word.specs.Node.{IsInternal}
+use Rattle.ell_layout.specs.Words.{IsLeaf}
+use Rattle.ell_core.specs.statements.Readers.{from_of, upto_of}
+use Rattle.ell_core.proofs.lemmas.following.Stretches.{upto_real}
+use Rattle.ell_core.proofs.lemmas.runs.Stretches.{key_from, key_upto}
+use Rattle.ell_cards.specs.declared.glance.Glance.{Glance}
+use Rattle.ell_cards.specs.declared.view.Told.TheVariants.{Met, Key, Value}
+use Rattle.ell_cards.specs.declared.view.View.{View}
+use Rattle.ell_cards.specs.Changes.{after_look, after_look_down, after_key_of, after_value_of, gone_down}
+use Rattle.ell_cards.specs.Guards.{MayLookDown, TellsOf}
+use Rattle.ell_cards.specs.Looking.{HasFound, HasFoundBetween, ReadsItsOwn}
+use Rattle.ell_cards.specs.Models.{PassModel, Counts, Sees, HasGlance, HasCome, last, before, latest, IsTold, InTable}
+use Rattle.ell_cards.proofs.lemmas.views.Steps.{view_seen}
+use Rattle.ell_tree.specs.Counts.{HasUncounted}
+use Rattle.ell_tree.proofs.lemmas.Counting.{uncounted_one}
+use Rattle.ell_tree.specs.declared.cursor.About.{About}
+use Rattle.ell_tree.specs.declared.cursor.Cursor.{Cursor}
+use Rattle.ell_tree.specs.Cursors.{AreKept, BeginsALook, FindsAbout, IsAmong, IsKept, kept_at, IsLower, IsNodeKey, IsUpper, LooksOn}
+use Rattle.ell_tree.specs.Looks.{stretch_steps}
+use Rattle.ell_tree.specs.Scans.{TellsItsOwn, value_there}
+use Rattle.ell_tree.proofs.lemmas.Glances.{come_part, reads_mine, only_trans, only_none_yet, look_only, down_only, key_only, value_only, only_counted}
+
+-- a look that goes on, and on
+pub on_trans : (a b c : PassModel) (m n k : ℕ) → LooksOn a b m → LooksOn b c n → m + n ≤ k → LooksOn a c k
+on_trans a b c m n k h h' le = record {
+  only = only_trans a b c m n k h.only h'.only le;
+  glances = λ g has. h'.glances g (h.glances g has);
+  looks = h'.looks ∙ h.looks;
+}
+
+pub on_none : (a : PassModel) → LooksOn a a 0
+on_none a = record { only = only_none_yet a; glances = λ g has. has; looks = refl }
+
+pub on_more : (a b : PassModel) (m n : ℕ) → m ≤ n → LooksOn a b m → LooksOn a b n
+on_more a b m n le h = on_trans a b b m 0 n h (on_none b) (omega arith)
+
+pub key_on : (old new : PassModel) (x k : ℕ) → Sees old new (after_key_of x k old.view) → LooksOn old new 1
+key_on old new x k s =
+    let view = view_seen old new (after_key_of x k old.view) s in
+    record {
+      only = key_only old new x k s;
+      glances = λ g has. subst (λ (v : View). HasGlance v.glances g) (sym view) has;
+      looks = ap (λ (v : View). v.looks) view;
+    }
+
+pub value_on : (old new : PassModel) (x value : ℕ) → Sees old new (after_value_of x value old.view) → LooksOn old new 1
+value_on old new x value s =
+    let view = view_seen old new (after_value_of x value old.view) s in
+    record {
+      only = value_only old new x value s;
+      glances = λ g has. subst (λ (v : View). HasGlance v.glances g) (sym view) has;
+      looks = ap (λ (v : View). v.looks) view;
+    }
+
+pub down_on : (old new : PassModel) (from : Glance) (k : ℕ) (right : Bool) (child : ℕ) → Sees old new (after_look_down from k right child old.view) → LooksOn old new 1
+down_on old new from k right child s =
+    let view = view_seen old new (after_look_down from k right child old.view) s in
+    record {
+      only = down_only old new from k right child s;
+      glances = λ g has. subst (λ (v : View). HasGlance v.glances g) (sym view) (before g (gone_down from k right child) old.view.glances has);
+      looks = ap (λ (v : View). v.looks) view;
+    }
+
+-- a look that goes on, whose steps are counted at its end
+pub on_counted : (a b c : PassModel) (n k : ℕ) → LooksOn a b n → HasUncounted a b k → Counts b c k → LooksOn a c n
+on_counted a b c n k h u s =
+    let view = ap (λ (m : PassModel). m.view) s in
+    record {
+      only = only_counted a b c n k h.only u s;
+      glances = λ g has. subst (λ (v : View). HasGlance v.glances g) (sym view) (h.glances g has);
+      looks = ap (λ (v : View). v.looks) view ∙ h.looks;
+    }
+
+-- the key of a node stays told
+node_key_on : (cards : ℕ) (p q : PassModel) (n key : ℕ) → LooksOn p q n → IsNodeKey cards p.view key → IsNodeKey cards q.view key
+node_key_on cards p q n key h k =
+    record { node = k.node; inner = k.inner; there = k.there; below = k.below; told = h.only.told (Key k.node key) k.told }
+
+pub lower_on : (cards : ℕ) (p q : PassModel) (n low : ℕ) → LooksOn p q n → IsLower cards p.view low → IsLower cards q.view low
+lower_on cards p q n low h l = elim l [ inl e ↦ inl e | inr k ↦ inr (node_key_on cards p q n low h k) ]
+
+pub upper_on : (cards : ℕ) (p q : PassModel) (n high : ℕ) → LooksOn p q n → IsUpper cards p.view high → IsUpper cards q.view high
+upper_on cards p q n high h u = elim u [ inl e ↦ inl e | inr k ↦ inr (node_key_on cards p q n high h k) ]
+
+-- what a look has come to it has come to
+pub come_on : (p q : PassModel) (n x low high : ℕ) → LooksOn p q n → HasCome p.view x low high → HasCome q.view x low high
+come_on p q n x low high h c =
+    record { glance = c.glance; among = h.glances c.glance c.among; there = c.there; from = c.from; upto = c.upto }
+
+pub kept_on : (cards : ℕ) (p q : PassModel) (n : ℕ) (g : Glance) → LooksOn p q n → IsKept cards p.view g → IsKept cards q.view g
+kept_on cards p q n g h k = record {
+  come = come_on p q n g.node g.low g.high h k.come;
+  met = h.only.told (Met g.node) k.met;
+  there = k.there;
+  below = k.below;
+  lower = lower_on cards p q n g.low h k.lower;
+  upper = upper_on cards p q n g.high h k.upper;
+  real = k.real;
+}
+
+pub all_on : (cards : ℕ) (p q : PassModel) (n : ℕ) (c : Cursor) → LooksOn p q n → AreKept cards p.view c → AreKept cards q.view c
+all_on cards p q n c h k = record {
+  many = k.many;
+  first = kept_on cards p q n c.first h k.first;
+  least = k.least;
+  most = k.most;
+  each = λ i less. kept_on cards p q n (kept_at c i) h (k.each i less);
+}
+
+-- a look begins at a node to which all real keys come
+pub begins_look : (old seen new : PassModel) (child : ℕ) → Sees old seen (after_look child old.view) → Counts seen new 1 → BeginsALook old new
+begins_look old seen new child s counts = record {
+  only = only_counted old seen new 1 1 (look_only old seen child s) (uncounted_one old seen (after_look child old.view) s refl) counts;
+  one = ap (λ (m : PassModel). m.view.looks) counts ∙ ap (λ (v : View). v.looks) (view_seen old seen (after_look child old.view) s);
+}
+
+pub first_kept : (cards : ℕ) (old new : PassModel) (child : ℕ) → Sees old new (after_look child old.view) → 0 < child → InTable cards child
+    → IsKept cards new.view (record { node = child; low = 0; high = greatest_key + 1 })
+first_kept cards old new child s low there =
+    let view = view_seen old new (after_look child old.view) s in
+    let g : Glance = record { node = child; low = 0; high = greatest_key + 1 } in
+    record {
+      come = subst (λ (v : View). HasCome v child 0 (greatest_key + 1)) (sym view)
+          (record { glance = g; among = last _ _; there = refl; from = omega arith; upto = omega arith });
+      met = subst (λ (v : View). IsTold v (Met child)) (sym view) (latest (Met child) old.view.told);
+      there = there;
+      below = low;
+      lower = inl refl;
+      upper = inl refl;
+      real = omega arith;
+    }
+
+abbrev nowhere : Glance
+nowhere = record { node = 0; low = 0; high = 0 }
+
+pub begin_kept : (cards : ℕ) (v : View) (c : Cursor) (g : Glance) → c.first ≡ g → c.kept ≡ replicate 32 g → g.low ≡ 0 → g.high ≡ greatest_key + 1
+    → IsKept cards v g → AreKept cards v c
+begin_kept cards v c g first each least most k = record {
+  many = ap (λ (l : List Glance). length l) each ∙ length-replicate 32 g;
+  first = subst (IsKept cards v) (sym first) k;
+  least = ap (λ (h : Glance). h.low) first ∙ least;
+  most = ap (λ (h : Glance). h.high) first ∙ most;
+  each = λ i less. subst (IsKept cards v)
+      (sym (get_or-replicate 32 i g nowhere less) ∙ ap (λ l. get_or l i nowhere) (sym each)) k;
+}
+
+-- one of those from which a look may go on is one
+pub among_kept : (cards : ℕ) (v : View) (c : Cursor) (g : Glance) → AreKept cards v c → IsAmong c g → IsKept cards v g
+among_kept cards v c g k (inl e) = subst (IsKept cards v) (sym e) k.first
+among_kept cards v c g k (inr h) = subst (IsKept cards v) (sym h.2) (k.each h.0 h.1)
+
+-- a cursor that keeps the same, or one more in the place of another
+pub same_kept : (cards : ℕ) (v : View) (c d : Cursor) → d.first ≡ c.first → d.kept ≡ c.kept → AreKept cards v c → AreKept cards v d
+same_kept cards v c d first each k = record {
+  many = ap (λ (l : List Glance). length l) each ∙ k.many;
+  first = subst (IsKept cards v) (sym first) k.first;
+  least = ap (λ (h : Glance). h.low) first ∙ k.least;
+  most = ap (λ (h : Glance). h.high) first ∙ k.most;
+  each = λ i less. subst (IsKept cards v) (sym (ap (λ l. get_or l i nowhere) each)) (k.each i less);
+}
+
+pub one_kept : (cards : ℕ) (v : View) (c d : Cursor) (j : ℕ) (g : Glance) → j < 32 → d.first ≡ c.first → d.kept ≡ set c.kept j g → IsKept cards v g → AreKept cards v c
+    → AreKept cards v d
+one_kept cards v c d j g room first each new k = record {
+  many = ap (λ (l : List Glance). length l) each ∙ (length-set c.kept j g ∙ k.many);
+  first = subst (IsKept cards v) (sym first) k.first;
+  least = ap (λ (h : Glance). h.low) first ∙ k.least;
+  most = ap (λ (h : Glance). h.high) first ∙ k.most;
+  each = λ i less. subst (IsKept cards v) (sym (ap (λ l. get_or l i nowhere) each)) (at i less);
+}
+  where
+    at : (i : ℕ) → i < 32 → IsKept cards v (get_or (set c.kept j g) i nowhere)
+    at i less = elim (cases_eq i j) [
+      | inl e ↦
+          let there : j < length c.kept = subst (λ n. j < n) (sym k.many) room in
+          subst (IsKept cards v) (sym (ap (λ n. get_or (set c.kept j g) n nowhere) e ∙ (rw get_or-set_same refl))) new
+      | inr other ↦ subst (IsKept cards v) (sym (rw get_or-set_other refl)) (k.each i less)
+    ]
+
+-- a look has come to a node by a key and others, from one from which it went on, in at most two steps for each internal node that there is down to it
+pub record Goes (cards : ℕ) (old new : PassModel) (key : ℕ) (here : Glance) (cursor : Cursor) : Type 0 where
+  pub count : ℕ
+  pub on : LooksOn old new count
+  pub few : count + 2 ≤ 2 * ((here.node + 3) / 4)
+  pub stands : IsKept cards new.view here
+  pub from : here.low ≤ key
+  pub upto : key < here.high
+  pub kept : AreKept cards new.view cursor
+
+pub goes_first : (cards : ℕ) (old : PassModel) (key : ℕ) (here : Glance) (c d : Cursor) → AreKept cards old.view c → IsAmong c here → here.low ≤ key → key < here.high
+    → d.first ≡ c.first → d.kept ≡ c.kept → Goes cards old old key here d
+goes_first cards old key here c d kept among from upto first same =
+    let stands = among_kept cards old.view c here kept among in
+    record {
+      count = 0;
+      on = on_none old;
+      few = (let below = stands.below in omega arith);
+      stands = stands;
+      from = from;
+      upto = upto;
+      kept = same_kept cards old.view c d first same kept;
+    }
+
+-- a stretch begins at the key of a node where it did, or where the node's key is, and so it ends
+lower_max : (cards : ℕ) (v : View) (low k : ℕ) → IsLower cards v low → IsNodeKey cards v k → IsLower cards v (max low k)
+lower_max cards v low k l n = elim (cases_lt low k) [
+  | inl less ↦ subst (IsLower cards v) (sym (max-eq_right {n = low} {m = k} (omega arith))) (inr n)
+  | inr most ↦ subst (IsLower cards v) (sym (max-eq_left {n = low} {m = k} most)) l
+]
+
+upper_min : (cards : ℕ) (v : View) (high k : ℕ) → IsUpper cards v high → IsNodeKey cards v k → IsUpper cards v (min high k)
+upper_min cards v high k u n = elim (cases_lt high k) [
+  | inl less ↦ subst (IsUpper cards v) (sym (min-eq_left {n = high} {m = k} (omega arith))) u
+  | inr most ↦ subst (IsUpper cards v) (sym (min-eq_right {n = k} {m = high} most)) (inr n)
+]
+
+lower_down : (right : Bool) (cards : ℕ) (v : View) (low k : ℕ) → IsLower cards v low → IsNodeKey cards v k → IsLower cards v (from_of right low k)
+lower_down true cards v low k l n = lower_max cards v low k l n
+lower_down false cards v low k l n = l
+
+upper_down : (right : Bool) (cards : ℕ) (v : View) (high k : ℕ) → IsUpper cards v high → IsNodeKey cards v k → IsUpper cards v (upto_of right high k)
+upper_down true cards v high k u n = u
+upper_down false cards v high k u n = upper_min cards v high k u n
+
+module _ (cards : ℕ) (old a b : PassModel) (key : ℕ) (here : Glance) (cursor : Cursor) (k : ℕ) (at : Goes cards old a key here cursor)
+    (asked : Sees a b (after_key_of here.node k a.view)) where
+  asked_view : b.view ≡ after_key_of here.node k a.view
+  asked_view = view_seen a b (after_key_of here.node k a.view) asked
+
+  told_key : IsTold b.view (Key here.node k)
+  told_key = subst (λ (v : View). IsTold v (Key here.node k)) (sym asked_view) (latest (Key here.node k) a.view.told)
+
+  asked_on : LooksOn a b 1
+  asked_on = key_on a b here.node k asked
+
+  pub stands_still : IsKept cards b.view here
+  stands_still = kept_on cards a b 1 here asked_on at.stands
+
+  pub kept_still : AreKept cards b.view cursor
+  kept_still = all_on cards a b 1 cursor asked_on at.kept
+
+  pub may_go_down : IsInternal here.node → MayLookDown b.view here k
+  may_go_down inner = record { come = stands_still.come; met = stands_still.met; inner = inner; told = told_key }
+
+  pub goes_down : (d : PassModel) (right : Bool) (child : ℕ) (after : Cursor) → Sees b d (after_look_down here k right child b.view) → IsInternal here.node
+      → here.node < child → InTable cards child → right ≡ nat_le k key → AreKept cards b.view after → Goes cards old d key (gone_down here k right child) after
+  goes_down d right child after s inner deeper there side kept =
+      let view = view_seen b d (after_look_down here k right child b.view) s in
+      let on = down_on b d here k right child s in
+      let is : IsNodeKey cards d.view k = record { node = here.node; inner = inner; there = at.stands.there; below = at.stands.below; told = on.only.told (Key here.node k) told_key } in
+      record {
+        count = at.count + 2;
+        on = on_trans old a d at.count 2 (at.count + 2) at.on (on_trans a b d 1 1 2 asked_on on (omega arith)) (omega arith);
+        few = (let few = at.few in omega arith);
+        stands = record {
+          come = subst (λ (v : View). HasCome v child (from_of right here.low k) (upto_of right here.high k)) (sym view)
+              (record { glance = gone_down here k right child; among = last _ _; there = refl; from = omega arith; upto = omega arith });
+          met = subst (λ (v : View). IsTold v (Met child)) (sym view) (latest (Met child) b.view.told);
+          there = there;
+          below = omega (arith, deeper);
+          lower = lower_down right cards d.view here.low k (lower_on cards b d 1 here.low on stands_still.lower) is;
+          upper = upper_down right cards d.view here.high k (upper_on cards b d 1 here.high on stands_still.upper) is;
+          real = upto_real right here.high k (greatest_key + 1) at.stands.real;
+        };
+        from = subst (λ r. from_of r here.low k ≤ key) (sym side) (key_from k here.low key at.from);
+        upto = subst (λ r. key < upto_of r here.high k) (sym side) (key_upto k here.high key at.upto);
+        kept = all_on cards b d 1 after on kept;
+      }
+
+-- what is found at a leaf
+module _ (cards : ℕ) (a b : PassModel) (key : ℕ) (leaf : Glance) (k : ℕ) (stands : IsKept cards a.view leaf) (from : leaf.low ≤ key) (upto : key < leaf.high)
+    (outer : IsLeaf leaf.node) (asked : Sees a b (after_key_of leaf.node k a.view)) where
+  key_told : IsTold b.view (Key leaf.node k)
+  key_told = subst (λ (v : View). IsTold v (Key leaf.node k)) (sym (view_seen a b (after_key_of leaf.node k a.view) asked)) (latest (Key leaf.node k) a.view.told)
+
+  leaf_on : LooksOn a b 1
+  leaf_on = key_on a b leaf.node k asked
+
+  pub leaf_stands : IsKept cards b.view leaf
+  leaf_stands = kept_on cards a b 1 leaf leaf_on stands
+
+  pub finds_none : ReadsItsOwn b.view → (k < leaf.low) ⊎ (leaf.high ≤ k) → FindsAbout cards b.view key (record { low = leaf.low; high = leaf.high; found = None })
+  finds_none own out = record {
+    within = record { from = from; upto = upto; real = stands.real };
+    found = record { leaf = leaf.node; leaf_key = k; comes = leaf_stands.come; outer = outer; told = key_told; tells = out };
+    lower = leaf_stands.lower;
+    upper = leaf_stands.upper;
+    own = own;
+  }
+
+  pub finds_one : (d : PassModel) (value : ℕ) → Sees b d (after_value_of leaf.node value b.view) → ReadsItsOwn d.view → leaf.low ≤ k → k < leaf.high
+      → FindsAbout cards d.view key (record { low = leaf.low; high = leaf.high; found = Some (k, value) })
+  finds_one d value s own low high =
+      let on = value_on b d leaf.node value s in
+      let there = kept_on cards b d 1 leaf on leaf_stands in
+      record {
+        within = record { from = from; upto = upto; real = stands.real };
+        found = record {
+          leaf = leaf.node;
+          leaf_key = k;
+          comes = there.come;
+          outer = outer;
+          told = on.only.told (Key leaf.node k) key_told;
+          tells = (
+            refl,
+            low,
+            high,
+            subst (λ (v : View). IsTold v (Value leaf.node value)) (sym (view_seen b d (after_value_of leaf.node value b.view) s))
+                (latest (Value leaf.node value) b.view.told),
+          );
+        };
+        lower = there.lower;
+        upper = there.upper;
+        own = own;
+      }
+
+-- a stretch is found in at most so many steps
+pub goes_found : (cards : ℕ) (old a b : PassModel) (key : ℕ) (here : Glance) (cursor : Cursor) → Goes cards old a key here cursor → LooksOn a b 2
+    → LooksOn old b (stretch_steps cards)
+goes_found cards old a b key here cursor at on =
+    on_trans old a b at.count 2 (stretch_steps cards) at.on on (let few = at.few in let room = at.stands.there in omega arith)
+
+-- what a look has found of a stretch it has found of each key of it
+pub found_of_key : (v : View) (low high key : ℕ) (there : Option (ℕ × ℕ)) → HasFoundBetween v low high there → low ≤ key → key < high
+    → HasFound v key (value_there there key)
+found_of_key v low high key None f from upto = record {
+  leaf = f.leaf;
+  leaf_key = f.leaf_key;
+  comes = come_part v f.leaf low high key (key + 1) from (omega arith) f.comes;
+  outer = f.outer;
+  told = f.told;
+  tells = λ same. elim f.tells [ inl less ↦ absurd (omega arith) | inr more ↦ absurd (omega arith) ];
+}
+found_of_key v low high key (Some pair) f from upto = record {
+  leaf = f.leaf;
+  leaf_key = f.leaf_key;
+  comes = come_part v f.leaf low high key (key + 1) from (omega arith) f.comes;
+  outer = f.outer;
+  told = f.told;
+  tells = by (pair.0 == key) refl;
+}
+  where
+    by : (b : Bool) → (pair.0 == key) ≡ b → TellsOf v f.leaf f.leaf_key key (if b then Some pair.1 else None)
+    by true is = (f.tells.0 ∙ eqb-true pair.0 key is, f.tells.3)
+    by false is = λ same. absurd (false≢true (sym is ∙ eq-eqb pair.0 key (sym f.tells.0 ∙ same)))
+
+-- of its own keys in a stretch it has found what the pass has
+pub about_mine : (cards : ℕ) (old new : PassModel) (key : ℕ) (about : About) → FindsAbout cards new.view key about → new.view.worker ≡ old.view.worker
+    → TellsItsOwn old about.low about.high (value_there about.found)
+about_mine cards old new key about f same k a b owns =
+    reads_mine old new k (value_there about.found k) f.own (found_of_key new.view about.low about.high k about.found f.found a b) same owns

@@ -1,0 +1,81 @@
+use Rattle.std.proofs.Common.{◌≡◌, ℕ, ◌+◌, if◌then◌else◌, nat_lt, min, max, List, [], ◌∷◌, refl, sym, ◌∙◌, ap, subst, arith}
+use Rattle.ell_word.specs.Node.{left_leaf, right_leaf}
+use Rattle.ell_layout.specs.declared.field.Field.{Field}
+use Rattle.ell_layout.specs.declared.field.Field.TheVariants as field
+use Rattle.ell_layout.specs.Cards.{clean, stored, insert_filling}
+use Rattle.ell_cards.specs.declared.view.View.{View}
+use Rattle.ell_cards.specs.Models.{PassModel, Steps, stored_at}
+use Rattle.ell_cards.specs.Changes.{after_fill, with_stores}
+use Rattle.ell_cards.proofs.lemmas.views.Steps.{view_after}
+use Rattle.ell_tree.specs.Counts.{Took}
+use Rattle.ell_tree.specs.Tries.{Fills}
+use Rattle.ell_tree.proofs.lemmas.Counting.{took_none, took_one, took_trans}
+
+-- these words of the card in hand were stored in so many steps, and nothing else was done
+pub record Stores (old new : PassModel) (stores : List (Field × ℕ)) (n : ℕ) : Type 0 where
+  pub table : new.table ≡ old.table
+  pub label : new.label ≡ old.label
+  pub took : Took old new n
+  pub view : new.view ≡ with_stores stores old.view
+
+-- none at first
+pub stores_none : (a : PassModel) → a.view.stores ≡ [] → Stores a a [] 0
+stores_none a empty = record {
+  table = refl;
+  label = refl;
+  took = took_none a 0;
+  view = ap (λ es. record (a.view) { stores = es }) empty;
+}
+
+-- and one more with each step
+pub stores_more : (a b d : PassModel) (stores : List (Field × ℕ)) (n : ℕ) (f : Field) (x : ℕ) → Stores a b stores n → Steps b d (after_fill f x b.view)
+    → Stores a d ((f, x) ∷ stores) (n + 1)
+stores_more a b d stores n f x h s = record {
+  table = ap (λ (p : PassModel). p.table) s ∙ h.table;
+  label = ap (λ (p : PassModel). p.label) s ∙ h.label;
+  took = took_trans a b d n 1 (n + 1) h.took (subst (λ (p : PassModel). Took b p 1) (sym s) (took_one b (after_fill f x b.view) refl)) (omega arith);
+  view = view_after b d (after_fill f x b.view) s ∙ ap (after_fill f x) h.view;
+}
+
+-- what is stored of an insert's card
+abbrev pub insert_stores : ℕ → ℕ → ℕ → ℕ → ℕ → ℕ → ℕ → ℕ → ℕ → List (Field × ℕ)
+insert_stores parent leaf lesser greater left right update left_value right_value =
+    (field.RightValue, right_value) ∷ (field.LeftValue, left_value) ∷ (field.RightLeafKey, greater) ∷ (field.LeftLeafKey, lesser)
+    ∷ (field.Update, update) ∷ (field.Right, right) ∷ (field.Left, left) ∷ (field.Key, greater) ∷ (field.L, leaf) ∷ (field.P, parent) ∷ []
+
+-- it is what the card is to say
+stored_of_insert : (c k value parent leaf leaf_key leaf_value : ℕ) (f : Field)
+    → stored_at (insert_stores parent leaf (min k leaf_key) (max k leaf_key) (left_leaf c) (right_leaf c) (clean 0)
+    (if nat_lt k leaf_key then value else leaf_value) (if nat_lt k leaf_key then leaf_value else value)) f
+    ≡ stored (insert_filling c k value parent leaf leaf_key leaf_value) f 0
+stored_of_insert c k value parent leaf leaf_key leaf_value field.Gp = refl
+stored_of_insert c k value parent leaf leaf_key leaf_value field.P = refl
+stored_of_insert c k value parent leaf leaf_key leaf_value field.L = refl
+stored_of_insert c k value parent leaf leaf_key leaf_value field.Was = refl
+stored_of_insert c k value parent leaf leaf_key leaf_value field.Key = refl
+stored_of_insert c k value parent leaf leaf_key leaf_value field.Left = refl
+stored_of_insert c k value parent leaf leaf_key leaf_value field.Right = refl
+stored_of_insert c k value parent leaf leaf_key leaf_value field.Update = refl
+stored_of_insert c k value parent leaf leaf_key leaf_value field.LeftLeafKey = refl
+stored_of_insert c k value parent leaf leaf_key leaf_value field.RightLeafKey = refl
+stored_of_insert c k value parent leaf leaf_key leaf_value field.LeftValue = refl
+stored_of_insert c k value parent leaf leaf_key leaf_value field.RightValue = refl
+
+-- an insert's card is filled by ten stores
+pub fills_insert : (a b : PassModel) (c k value parent leaf leaf_key leaf_value lesser greater left right update left_value right_value : ℕ)
+    → Stores a b (insert_stores parent leaf lesser greater left right update left_value right_value) 10
+    → a.view.planned ≡ insert_filling c k value parent leaf leaf_key leaf_value
+    → lesser ≡ min k leaf_key → greater ≡ max k leaf_key → left ≡ left_leaf c → right ≡ right_leaf c → update ≡ clean 0
+    → left_value ≡ (if nat_lt k leaf_key then value else leaf_value) → right_value ≡ (if nat_lt k leaf_key then leaf_value else value)
+    → Fills a b 10
+fills_insert a b c k value parent leaf leaf_key leaf_value lesser greater left right update left_value right_value h says low high l r u lv rv =
+    let filled = ap (λ (v : View). v.stores) h.view in
+    let filling = ap (λ (v : View). v.planned) h.view ∙ says in record {
+      table = h.table;
+      label = h.label;
+      took = h.took;
+      view = h.view ∙ ap (λ es. with_stores es a.view) (sym filled);
+      filled = λ f. ap (λ es. stored_at es f) filled
+          ∙ ((λ t. stored_at (insert_stores parent leaf (low t) (high t) (l t) (r t) (u t) (lv t) (rv t)) f)
+          ∙ (stored_of_insert c k value parent leaf leaf_key leaf_value f ∙ ap (λ es. stored es f 0) (sym filling)));
+    }

@@ -1,2 +1,0 @@
--- passes stay ready
-pub mod Readiness

@@ -1,2 +1,0 @@
--- what a worker is ready with
-pub mod Ready

@@ -1,0 +1,65 @@
+use Rattle.std.proofs.Common.{arith, rules, ◌<◌, ◌≤◌, ap, ◌∙◌, refl, inl, false, Some}
+use Rattle.ell_core.specs.declared.event.Stepped.TheVariants.{Moved}
+use Rattle.ell_layout.specs.Cards.{claimed, insert_filling}
+use Rattle.ell_world.specs.Inside.{words_in, worker_in}
+use Rattle.ell_world.proofs.searching.claim_for_put.Goals as goal
+
+pub returns-then-card-memory : goal.returns-then-card-memory
+returns-then-card-memory g c =
+    let full : c.args.memory.now.last_card < (words_in c.args.memory.now).next = omega arith in record {
+      done = search rules;
+      refused = (
+        λ h. h,
+        record {
+          said = Moved;
+          after = _;
+          row = inl (record {
+            op = c.args.op;
+            what = c.args.what;
+            leaf = c.args.at.leaf;
+            parent = c.args.at.parent;
+            busy = c.requires.busy;
+            puts = c.requires.puts;
+            at = c.requires.at;
+            takes = search rules;
+            says = refl;
+            gives = refl;
+          });
+        },
+        full,
+      );
+      unchanged = search rules;
+      words = search rules;
+      same = search rules;
+    }
+
+pub returns : goal.returns
+returns g c =
+    let filling = c.insert_filling.ensures
+    ∙ (λ t. insert_filling (c.next-card.ensures t) c.args.what.key c.args.what.value c.args.at.parent.node c.args.at.leaf (c.key-leaf_key.ensures t) (c.value-leaf_value.ensures t)) in
+    let words = c.claim.ensures.words ∙ ap (claimed (words_in c.args.memory.now)) filling in
+    let room : (words_in c.args.memory.now).next ≤ c.args.memory.now.last_card = omega arith in record {
+      done = record {
+        owned = λ h. h;
+        row = inl (record {
+          op = c.args.op;
+          what = c.args.what;
+          leaf = c.args.at.leaf;
+          parent = c.args.at.parent;
+          busy = c.requires.busy;
+          puts = c.requires.puts;
+          at = c.requires.at;
+          takes = search rules;
+          says = refl;
+          gives = λ t. record {
+            words = words t;
+            worker = record (worker_in c.args.worker.now) { card = Some (c.next-card.ensures t); flagged = false };
+          };
+        });
+        room = λ full. (let past : c.args.memory.now.last_card < (words_in c.args.memory.now).next = full in omega arith);
+      };
+      refused = search rules;
+      unchanged = search rules;
+      words = search rules;
+      same = search rules;
+    }

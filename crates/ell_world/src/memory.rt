@@ -1,0 +1,196 @@
+//! The words of all cards, in one list.
+ghost use Rattle.std.specs.Prelude.{◌≡◌, ◌≢◌, ◌<◌, ◌≤◌, length, IfOk, IfErr, OnOk};
+ghost use Rattle.ell_word.specs.Node.{greatest_card};
+ghost use Rattle.ell_layout.specs.Words.{word, written, IsLeaf};
+ghost use Rattle.ell_layout.specs.Cards.{is_right, filled, claimed};
+ghost use Rattle.ell_core.specs.acts.Exchanges.{exchanged_update, exchanged_child, found_child};
+ghost use Rattle.ell_layout.specs.Start.{start_words};
+ghost use Rattle.ell_world.specs.Fits.{IsTableNode, IsInner};
+ghost use Rattle.ell_world.specs.Inside.{words_in, IsSized, SameSize};
+
+use ell_core::TreeWords;
+use ell_layout::{Field, child_field, key_field, table_size, value_field, write_opening};
+use ell_ops::NoMemory;
+use ell_word::card_of;
+use std::alloc::Allocator;
+
+/// The claim word and the words of the cards from card 0 to the last one.
+#[derive(Drop)]
+pub(crate) struct Memory<A: Allocator + Copy> {
+    pub words: Vec<u64, A>,
+    pub last_card: u64,
+}
+
+impl<A: Allocator + Copy> Memory<A> {
+    /// The opening tree over these start keys, and cards whose words are 0, up to the last one.
+    pub fn opening(alloc: A, start: &[(u64, u64)], last: u64) -> Result<Memory<A>, NoMemory>
+        requires room { length start.now ≤ last }
+        requires most { last ≤ greatest_card }
+        requires few { length start.now < greatest_card }
+        ensures sized { IfOk result (λ memory. IsSized memory) }
+        ensures last_card { IfOk result (λ memory. memory.last_card ≡ last) }
+        ensures words { IfOk result (λ memory. words_in memory ≡ start_words start.now) }
+    {
+        let mut words = vec![in alloc; 0; table_size(last)]?;
+        write_opening(words.as_mut_slice(), start, last);
+        Ok(Memory {
+            words,
+            last_card: last,
+        })
+    }
+
+    /// The claim word.
+    pub fn next(&self) -> u64
+        requires { IsSized self.now }
+        ensures { result ≡ (words_in self.now).next }
+    {
+        self.words[0]
+    }
+
+    /// The word of a field of a card.
+    pub fn read(&self, card: u64, field: Field) -> u64
+        requires sized { IsSized self.now }
+        requires card { card ≤ self.now.last_card }
+        ensures { result ≡ word (words_in self.now) card field }
+    {
+        self.words[field.address(card)]
+    }
+
+    /// The key of a node.
+    pub fn key(&self, node: u64) -> u64
+        requires sized { IsSized self.now }
+        requires node { IsTableNode self.now.last_card node }
+        ensures { result ≡ (words_in self.now).key node }
+    {
+        self.read(card_of(node), key_field(node))
+    }
+
+    /// The value of a leaf.
+    pub fn value(&self, leaf: u64) -> u64
+        requires sized { IsSized self.now }
+        requires node { IsTableNode self.now.last_card leaf }
+        requires outer { IsLeaf leaf }
+        ensures { result ≡ (words_in self.now).value leaf }
+    {
+        self.read(card_of(leaf), value_field(leaf))
+    }
+
+    /// The update word of an internal node.
+    pub fn update(&self, node: u64) -> u64
+        requires sized { IsSized self.now }
+        requires node { IsInner self.now.last_card node }
+        ensures { result ≡ (words_in self.now).update node }
+    {
+        self.read(card_of(node), Field::Update)
+    }
+
+    /// The child of an internal node on a side.
+    pub fn child(&self, node: u64, right: bool) -> u64
+        requires sized { IsSized self.now }
+        requires node { IsInner self.now.last_card node }
+        ensures { result ≡ (words_in self.now).child node right }
+    {
+        self.read(card_of(node), child_field(right))
+    }
+
+    /// Whether a key is on the right side of a node.
+    pub fn is_right(&self, node: u64, key: u64) -> bool
+        requires sized { IsSized self.now }
+        requires node { IsTableNode self.now.last_card node }
+        ensures { result ≡ is_right (words_in self.now) node key }
+    {
+        self.key(node) <= key
+    }
+
+    /// Exchanges the update word of an internal node, if it is the expected one. Else the word that was found is the error,
+    /// and no word has changed.
+    pub fn exchange_update(&mut self, node: u64, expected: u64, new: u64) -> Result<(), u64>
+        requires sized { IsSized self.old }
+        requires node { IsInner self.old.last_card node }
+        ensures won { OnOk result ((words_in self.old).update node ≡ expected) }
+        ensures lost { IfErr result (λ found. (found ≡ (words_in self.old).update node) × (found ≢ expected)) }
+        ensures words { words_in self.new ≡ exchanged_update (words_in self.old) node expected new }
+        ensures same { SameSize self.old self.new }
+    {
+        let found = self.update(node);
+        if found == expected {
+            self.write(card_of(node), Field::Update, new);
+            Ok(())
+        } else {
+            Err(found)
+        }
+    }
+
+    /// Exchanges the child of an internal node on the side of the new child's key, if it is the expected one. Else the word
+    /// that was found is the error, and no word has changed.
+    pub fn exchange_child(&mut self, node: u64, expected: u64, new: u64) -> Result<(), u64>
+        requires sized { IsSized self.old }
+        requires node { IsInner self.old.last_card node }
+        requires new { IsTableNode self.old.last_card new }
+        ensures won { OnOk result (found_child (words_in self.old) node new ≡ expected) }
+        ensures lost { IfErr result (λ found. (found ≡ found_child (words_in self.old) node new) × (found ≢ expected)) }
+        ensures words { words_in self.new ≡ exchanged_child (words_in self.old) node expected new }
+        ensures same { SameSize self.old self.new }
+    {
+        let right = self.is_right(node, self.key(new));
+        let found = self.child(node, right);
+        if found == expected {
+            self.write(card_of(node), child_field(right), new);
+            Ok(())
+        } else {
+            Err(found)
+        }
+    }
+
+    /// Claims the next card and writes these fields of it.
+    pub fn claim(&mut self, filling: &[(Field, u64)])
+        requires sized { IsSized self.old }
+        requires room { (words_in self.old).next ≤ self.old.last_card }
+        ensures words { words_in self.new ≡ claimed (words_in self.old) filling.now }
+        ensures same { SameSize self.old self.new }
+    {
+        let card = self.next();
+        self.fill(card, filling);
+        self.words[0] = card + 1;
+    }
+
+    // Writes these fields of a card, in order.
+    fn fill(&mut self, card: u64, filling: &[(Field, u64)])
+        requires sized { IsSized self.old }
+        requires card { card ≤ self.old.last_card }
+        ensures words { words_in self.new ≡ filled (words_in self.old) card filling.now }
+        ensures same { SameSize self.old self.new }
+    {
+        for (field, value) in filling {
+            self.write(card, *field, *value);
+        }
+    }
+
+    // Writes one word.
+    fn write(&mut self, card: u64, field: Field, value: u64)
+        requires sized { IsSized self.old }
+        requires card { card ≤ self.old.last_card }
+        ensures words { words_in self.new ≡ written (words_in self.old) card field value }
+        ensures same { SameSize self.old self.new }
+    {
+        self.words[field.address(card)] = value;
+    }
+}
+
+impl<A: Allocator + Copy> TreeWords for Memory<A> {
+    ghost words = { words_in };
+
+    ghost can_read = { λ memory node. IsSized memory × IsTableNode memory.last_card node };
+
+    fn key(&self, node: u64) -> u64 {
+        Memory::key(self, node)
+    }
+
+    fn value(&self, leaf: u64) -> u64 {
+        Memory::value(self, leaf)
+    }
+
+    fn child(&self, node: u64, right: bool) -> u64 {
+        Memory::child(self, node, right)
+    }
+}
