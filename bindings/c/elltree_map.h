@@ -13,21 +13,22 @@
    key together answer as if they were made one after the other, each at a moment between its begin and its end. No call answers
    ELLTREE_BUSY or ELLTREE_SPENT: a call tries until it is done, and the map makes fresh cards by itself.
 
-   The map stands on a tree of shared keys (elltree.h). Each change takes one of the tree's cards. When all cards are given out, the thread that
-   notices it makes a new tree with the same pairs and fresh cards. This is a renewal, and it is the one pause that the map has: all calls wait
-   until it is over. It waits itself for the calls that are under way, but never for a thread that is between two calls, awake or not. The map
-   also renews when its tree has grown deep, as it does if keys are inserted in order: the new tree is balanced. docs/GATE.md describes how
-   calls and renewals keep out of each other's way. That part is code of this binding. It is tested and not proved, while the functions of the
-   tree that it calls are proved.
+   The map is made of sections, each with a tree of shared keys (elltree.h) for its range of keys. Each change takes one of the cards of its tree.
+   When few cards are left, a thread that notices it makes a new tree with the same pairs and fresh cards, while the other calls go on. This is a
+   renewal. A section also gets a new tree when its tree has grown deep, as it does if keys are inserted in order: the new tree is balanced. It is
+   parted when it has many keys, and joined with the next one when both have few. The call that does so takes as long as that, about
+   a millisecond, which no other call waits for, but for a call that needs a card of a section whose cards are spent before its renewal ends. At the
+   end of a renewal all calls pause until those that are under way have ended. The thread waits for these, but never for a thread that is between
+   two calls, awake or not. docs/GATE.md describes how calls and renewals keep out of each other's way. That part is code of this binding. It
+   is tested and not proved, while the functions of the trees that it calls are proved.
 
    Each function returns ELLTREE_YES, ELLTREE_NO, elltree_map_compare_exchange also ELLTREE_OTHER_VALUE, or a negative code that says why the call
-   was refused. A call that was refused has changed nothing and has written nothing, unless it says so. These are the refusals of all calls:
+   was refused; elltree_text writes a text for each. A call that was refused has changed nothing and has written nothing, unless it says so. These
+   are the refusals of all calls:
    - ELLTREE_NULL: a pointer is null that must not be.
    - ELLTREE_BAD_KEY: the key is above ELLTREE_KEY_MAX.
    - ELLTREE_NO_MEMORY: memory was refused when the map was made, or at a renewal that the call needed. The map is as it was, and the same
      call may be made again. Calls that only read need no renewal and never give this answer.
-   - ELLTREE_MAP_FULL: the call would add a key to a map that has ELLTREE_MAP_KEYS_MAX keys, the most that a tree can be renewed with, or would have
-     them if the calls that are under way added theirs. All other calls go on, and once a key is taken away, there is room for another.
 
    What the caller owes, which nothing tests:
    - elltree_map_free is called once, when no other call is under way or comes later.
@@ -41,40 +42,36 @@
 extern "C" {
 #endif
 
-/* The most keys that a map may have. */
-#define ELLTREE_MAP_KEYS_MAX ELLTREE_START_MAX
-
-/* The code of a refusal that only a map gives: it has ELLTREE_MAP_KEYS_MAX keys. */
-#define ELLTREE_MAP_FULL (-100)
-
 struct elltree_map;
 
 /* How a map is set up. A member that is 0 leaves the choice to the map, so that all zeros are the usual settings. */
 struct elltree_map_settings {
-    uint64_t cards;              /* of the first tree, up to ELLTREE_CARDS_MAX; if 0, 16,384. A card takes 96 bytes */
-    uint32_t pause_percent;      /* the map tries to pause for at most this part of the time; if 0, 5 */
-    uint32_t pause_microseconds; /* and asks for no more cards than a pause of this length allows, besides the time for keys; if 0, 5,000 */
-    uint32_t calls;              /* how many calls may be under way at once, up to 4,096; if 0, 8 for each processor, and at least 64 */
+    uint64_t cards;                /* of the map when it is made, up to ELLTREE_CARDS_MAX; if 0, 16,384. A card takes 96 bytes */
+    uint32_t renewal_percent;      /* sections get more cards while renewals take more than this part of the time; if 0, 5 */
+    uint32_t renewal_microseconds; /* but no more than a renewal of this length allows; if 0, 5,000 */
+    uint32_t calls;                /* how many calls may be under way at once, up to 4,096; if 0, 8 for each processor, and at least 64 */
 };
 #define ELLTREE_MAP_SETTINGS {0, 0, 0, 0}
 
 /* What has happened to a map, as elltree_map_counts tells it. */
 struct elltree_map_counters {
-    uint64_t cards;               /* of the present tree */
-    uint64_t renewals;            /* how many there were */
-    uint64_t early_renewals;      /* how many of these there were because the tree had grown deep */
-    uint64_t pause_nanoseconds;   /* the sum of the pauses */
+    uint64_t sections;            /* how many there are */
+    uint64_t cards;               /* of all sections */
+    uint64_t renewals;            /* how many there were, of all sections */
+    uint64_t early_renewals;      /* how many of these there were because a tree had grown deep */
+    uint64_t renewal_nanoseconds; /* how long a processor was at work on them */
+    uint64_t pause_nanoseconds;   /* the sum of the pauses in which calls on a section waited for its renewal */
     uint64_t longest_nanoseconds; /* the longest of them */
 };
 
-/* Makes an empty map and writes it to *map. The hint is the number of cards of its first tree, about as many as there will be changes soon: 0
-   leaves it to the map, and a hint above ELLTREE_CARDS_MAX counts as that. Later trees have as many cards as the map finds useful.
+/* Makes an empty map and writes it to *map. The hint is the number of its first cards, about as many as there will be changes soon: 0
+   leaves it to the map, and a hint above ELLTREE_CARDS_MAX counts as that. Later the map makes as many cards as it finds useful.
    ELLTREE_NULL, ELLTREE_NO_MEMORY. */
 ELLTREE_MUST_USE int32_t elltree_map_new(struct elltree_map **map, uint64_t cards_hint);
 
 /* Makes a map with these pairs, whose keys ascend strictly, and writes it to *map. Null settings are those of all zeros, and an array without
    pairs may be null.
-   ELLTREE_NULL, ELLTREE_BAD_START (the keys do not ascend strictly, or are more than ELLTREE_MAP_KEYS_MAX), ELLTREE_BAD_KEY, ELLTREE_NO_MEMORY. */
+   ELLTREE_NULL, ELLTREE_BAD_START (the keys do not ascend strictly), ELLTREE_BAD_KEY, ELLTREE_NO_MEMORY. */
 ELLTREE_MUST_USE int32_t elltree_map_from_sorted(struct elltree_map **map, const struct elltree_pair *pairs, size_t count,
                                                  const struct elltree_map_settings *settings);
 
@@ -85,11 +82,11 @@ void elltree_map_free(struct elltree_map *map);
 ELLTREE_MUST_USE int32_t elltree_map_get(struct elltree_map *map, uint64_t key, uint64_t *value);
 
 /* Adds a key that is absent: ELLTREE_YES if it was, else ELLTREE_NO, and the key keeps its value.
-   ELLTREE_NULL, ELLTREE_BAD_KEY, ELLTREE_NO_MEMORY, ELLTREE_MAP_FULL. */
+   ELLTREE_NULL, ELLTREE_BAD_KEY, ELLTREE_NO_MEMORY. */
 ELLTREE_MUST_USE int32_t elltree_map_insert(struct elltree_map *map, uint64_t key, uint64_t value);
 
 /* Stores the value of a key, present or not, in one atomic step: ELLTREE_YES, with the value that it had, if it was present, and ELLTREE_NO if it
-   was absent and is added. ELLTREE_NULL, ELLTREE_BAD_KEY, ELLTREE_NO_MEMORY, ELLTREE_MAP_FULL. */
+   was absent and is added. ELLTREE_NULL, ELLTREE_BAD_KEY, ELLTREE_NO_MEMORY. */
 ELLTREE_MUST_USE int32_t elltree_map_put(struct elltree_map *map, uint64_t key, uint64_t value, uint64_t *was);
 
 /* Takes a key away: ELLTREE_YES, with the value that was taken, if it was present, else ELLTREE_NO. No other thread took that value.
@@ -159,21 +156,19 @@ ELLTREE_MUST_USE int32_t elltree_map_is_empty(struct elltree_map *map);
 
 /* Puts these pairs one after the other, in any order. It is not one atomic step: other threads see some of them first. If it is refused, *done
    pairs are put, and the one behind them is at fault. An array without pairs may be null.
-   ELLTREE_NULL, ELLTREE_BAD_KEY, ELLTREE_NO_MEMORY, ELLTREE_MAP_FULL. */
+   ELLTREE_NULL, ELLTREE_BAD_KEY, ELLTREE_NO_MEMORY. */
 ELLTREE_MUST_USE int32_t elltree_map_extend(struct elltree_map *map, const struct elltree_pair *pairs, size_t count, size_t *done);
 
-/* All pairs, ascending, as they are at one moment, and how many they are: a snapshot. All other calls wait meanwhile, as at a renewal. If there
+/* All pairs, ascending, as they are at one moment, and how many they are: a snapshot. All other calls wait meanwhile. If there
    is no room for all, ELLTREE_NO_ROOM comes, with how many they are. Without room the array may be null. ELLTREE_NULL, ELLTREE_NO_ROOM. */
 ELLTREE_MUST_USE int32_t elltree_map_pairs(struct elltree_map *map, struct elltree_pair *out, size_t room, size_t *count);
 
-/* Renews the map now, so that a program has the pause at a moment of its choice. ELLTREE_NULL, ELLTREE_NO_MEMORY. */
+/* Renews all sections now, one after the other, so that a program has renewals at a moment of its choice. If it is refused, those of the least keys
+   may be renewed. ELLTREE_NULL, ELLTREE_NO_MEMORY. */
 ELLTREE_MUST_USE int32_t elltree_map_renew(struct elltree_map *map);
 
 /* What has happened to the map so far. ELLTREE_NULL. */
 ELLTREE_MUST_USE int32_t elltree_map_counts(struct elltree_map *map, struct elltree_map_counters *counts);
-
-/* As elltree_text, which has no text for ELLTREE_MAP_FULL. */
-const char *elltree_map_text(int32_t code, char *out, size_t room);
 
 #ifdef __cplusplus
 }

@@ -1,7 +1,7 @@
 /* Threads over one map object, which renews itself every few thousand changes. Each thread has keys of its own, by which it knows each answer, and
    all add to shared counters, which lose nothing; ranges go on meanwhile, and a thread sleeps between two calls. Four threads at work and then 64;
    at the end no memory is left over. Then values that are put and taken and are told once each; snapshots of two keys that change one after the
-   other; a map with as many keys as it may have; keys in order, which make no list; and each answer and refusal of one thread. */
+   other; many sections, which are parted and joined; keys in order, which make no list; and each answer and refusal of one thread. */
 #define _GNU_SOURCE
 #include "elltree_map.h"
 #include <pthread.h>
@@ -29,21 +29,21 @@ static int working; /* how many threads share the map, and part the keys among t
 
 static uint64_t next(uint64_t *seed) { return *seed ^= *seed << 13, *seed ^= *seed >> 7, *seed ^= *seed << 17; }
 
-/* A map with few cards, which keeps so few: pauses may take all of the time. */
+/* A map with few cards, which keeps so few: renewals may take all of the time. */
 static long make_map(uint64_t cards, uint32_t calls, const struct elltree_pair *pairs, size_t count) {
     struct elltree_map_settings settings = ELLTREE_MAP_SETTINGS;
     settings.cards = cards;
-    settings.pause_percent = 100;
+    settings.renewal_percent = 100;
     settings.calls = calls;
     return elltree_map_from_sorted(&map, pairs, count, &settings) != ELLTREE_YES;
 }
 
 /* Ends the map, and tells how often it was renewed, which is to be this often at least. */
 static long end_map(const char *what, long wrong, uint64_t renewals) {
-    struct elltree_map_counters counts = {0, 0, 0, 0, 0};
+    struct elltree_map_counters counts = {0, 0, 0, 0, 0, 0, 0};
     wrong += elltree_map_counts(map, &counts) != ELLTREE_YES || counts.renewals < renewals;
-    printf("%s: %llu renewals, %llu early, the longest pause %.2f ms, %ld wrong\n", what, (unsigned long long)counts.renewals,
-           (unsigned long long)counts.early_renewals, (double)counts.longest_nanoseconds / 1e6, wrong);
+    printf("%s: %llu sections, %llu renewals, %llu early, the longest pause %.2f ms, %ld wrong\n", what, (unsigned long long)counts.sections,
+           (unsigned long long)counts.renewals, (unsigned long long)counts.early_renewals, (double)counts.longest_nanoseconds / 1e6, wrong);
     elltree_map_free(map);
     return wrong;
 }
@@ -149,7 +149,7 @@ static void *work(void *given) {
 /* A thread that sleeps between two calls holds up nobody: the others renew meanwhile. */
 static void *sleep_between(void *given) {
     struct worker *w = given;
-    struct elltree_map_counters before = {0, 0, 0, 0, 0}, after = before;
+    struct elltree_map_counters before = {0, 0, 0, 0, 0, 0, 0}, after = before;
     const struct timespec while_ = {1, 0};
     change(w, 0, 1);
     w->wrong += elltree_map_counts(map, &before) != ELLTREE_YES;
@@ -298,64 +298,94 @@ static long snapshots(void) {
     return end_map("snapshots", wrong + t[0].wrong + t[1].wrong + t[2].wrong, 1);
 }
 
-/* Threads add keys until the map is full: each key is there or was refused. */
+/* Threads fill a map whose keys are those of one thread and another in turn, change it, and empty it: its sections are parted and joined meanwhile. */
 
-struct adder {
-    uint64_t number;
-    size_t added, refused;
-    long wrong;
+struct filler {
+    uint64_t number, seed, *value; /* 0 for a key that is absent */
+    long keys, wrong;
 };
 
-static void *add_keys(void *given) {
-    struct adder *a = given;
-    for (uint64_t i = 0; i < 1000; i++) {
-        uint64_t was;
-        const uint64_t key = UINT64_C(10000000) + i * CROWD + a->number;
-        const int32_t said = i & 1 ? elltree_map_insert(map, key, 1) : elltree_map_put(map, key, 1, &was);
-        a->added += said == (i & 1 ? ELLTREE_YES : ELLTREE_NO);
-        a->refused += said == ELLTREE_MAP_FULL;
-        a->wrong += said != ELLTREE_MAP_FULL && said != (i & 1 ? ELLTREE_YES : ELLTREE_NO);
+static uint64_t key_at(const struct filler *f, uint64_t place) { return place * CROWD + f->number; }
+
+/* Puts, takes away or looks at a key, and knows each answer. */
+static void touch(struct filler *f, uint64_t place, uint64_t value) {
+    uint64_t told = 0;
+    const uint64_t was = f->value[place];
+    const int32_t said = value ? elltree_map_put(map, key_at(f, place), value, &told) : elltree_map_remove(map, key_at(f, place), &told);
+    f->wrong += said != (was ? ELLTREE_YES : ELLTREE_NO) || told != was;
+    f->keys += (value != 0) - (was != 0);
+    f->value[place] = value;
+}
+
+/* Each key of this thread that is present is told by the range of all keys, which ascends, and no other. */
+static void range_of_all(struct filler *f) {
+    static _Thread_local struct elltree_pair out[3000];
+    uint64_t from = 0, last = 0;
+    long own = 0, all = 0;
+    while (from < UINT64_MAX) {
+        size_t count = 0;
+        f->wrong += elltree_map_range(map, from, UINT64_MAX, out, 3000, &count, &from) != ELLTREE_YES;
+        for (size_t i = 0; i < count; last = out[i++].key) {
+            f->wrong += all++ && out[i].key <= last;
+            if (out[i].key % CROWD == f->number)
+                own += f->value[out[i].key / CROWD] == out[i].value ? 1 : MANY * CROWD;
+        }
     }
+    f->wrong += own != f->keys;
+}
+
+/* The keys around one of this thread's are where they are to be. */
+static void look_around(struct filler *f, uint64_t place) {
+    uint64_t found = 0, value = 0;
+    if (!f->value[place])
+        return;
+    f->wrong += elltree_map_next_at_least(map, key_at(f, place), &found, &value) != ELLTREE_YES || found != key_at(f, place) || value != f->value[place];
+    f->wrong += elltree_map_last_at_most(map, key_at(f, place), &found, &value) != ELLTREE_YES || found != key_at(f, place) || value != f->value[place];
+}
+
+static void *fill_and_empty(void *given) {
+    struct filler *f = given;
+    for (uint64_t i = 0; i < MANY; i++)
+        touch(f, (i * 7919 + f->number) % MANY, i + 1);
+    range_of_all(f);
+    for (uint64_t i = 0; i < OPS; i++) {
+        const uint64_t random = next(&f->seed) >> 10;
+        touch(f, random % MANY, random >> 20 & 1 ? i + 1 : 0);
+        look_around(f, (random >> 21) % MANY);
+    }
+    range_of_all(f);
+    for (uint64_t i = 0; i < MANY; i++) /* all but some keys at the end */
+        touch(f, i, i < MANY - 10 ? 0 : i);
+    range_of_all(f);
     return NULL;
 }
 
-/* What is answered by a full map. */
-static long answers_full(void) {
-    uint64_t was = 0;
-    long wrong = elltree_map_insert(map, 0, 9) != ELLTREE_NO; /* it is there */
-    wrong += elltree_map_insert(map, UINT64_C(90000000), 9) != ELLTREE_MAP_FULL;
-    wrong += elltree_map_put(map, UINT64_C(90000000), 9, &was) != ELLTREE_MAP_FULL;
-    wrong += elltree_map_put(map, 0, 9, &was) != ELLTREE_YES || was != 0;
-    wrong += elltree_map_fetch_add(map, 0, 1, &was) != ELLTREE_YES || was != 9;
-    wrong += elltree_map_renew(map) != ELLTREE_YES;
-    wrong += elltree_map_insert(map, UINT64_C(90000000), 9) != ELLTREE_MAP_FULL;
-    wrong += elltree_map_remove(map, 3, &was) != ELLTREE_YES || was != 1;
-    wrong += elltree_map_insert(map, UINT64_C(90000000), 9) != ELLTREE_YES;
-    wrong += elltree_map_insert(map, UINT64_C(90000001), 9) != ELLTREE_MAP_FULL;
-    wrong += elltree_map_delete(map, UINT64_C(90000000)) != ELLTREE_YES;
-    wrong += elltree_map_put(map, UINT64_C(90000001), 9, &was) != ELLTREE_NO;
-    return wrong;
-}
-
-static long full(void) {
-    static struct elltree_pair start[ELLTREE_MAP_KEYS_MAX - 1500];
-    const size_t count = sizeof start / sizeof *start;
-    struct adder a[CROWD] = {{0, 0, 0, 0}, {1, 0, 0, 0}, {2, 0, 0, 0}, {3, 0, 0, 0}};
-    size_t length = 0, added = 0, refused = 0;
-    long wrong;
-    for (size_t i = 0; i < count; i++)
-        start[i] = (struct elltree_pair){3 * i, i};
-    wrong = make_map(CARDS, 0, start, count);
-    run_threads(add_keys, a, sizeof *a, CROWD);
+static long sections(void) {
+    static uint64_t values[CROWD][MANY];
+    struct filler f[CROWD];
+    struct elltree_map_counters counts = {0, 0, 0, 0, 0, 0, 0};
+    size_t length = 0, keys = 0;
+    uint64_t most = 0, was;
+    long wrong = make_map(CARDS, 0, NULL, 0);
+    for (uint64_t t = 0; t < CROWD; t++)
+        f[t] = (struct filler){t, 77 + t, values[t], 0, 0};
+    memset(values, 0, sizeof values);
+    run_threads(fill_and_empty, f, sizeof *f, CROWD);
     for (int t = 0; t < CROWD; t++) {
-        added += a[t].added;
-        refused += a[t].refused;
-        wrong += a[t].wrong;
+        wrong += f[t].wrong;
+        keys += (size_t)f[t].keys;
     }
-    /* Several inserts at once may be refused for one key's room, which one of them has and gives back; none does here. */
-    wrong += added != 1500 || refused != 2500;
-    wrong += elltree_map_len(map, &length) != ELLTREE_YES || length != ELLTREE_MAP_KEYS_MAX;
-    return end_map("full", wrong + answers_full(), 1);
+    wrong += elltree_map_len(map, &length) != ELLTREE_YES || length != keys || keys != CROWD * 10;
+    for (uint64_t i = 0; i < 10 * MANY; i++) { /* a queue: its sections come and go */
+        wrong += elltree_map_insert(map, MANY * CROWD + i, i) != ELLTREE_YES;
+        wrong += i >= MANY && (elltree_map_remove(map, MANY * (CROWD - 1) + i, &was) != ELLTREE_YES || was != i - MANY);
+        if (i % 1000 == 0) {
+            wrong += elltree_map_counts(map, &counts) != ELLTREE_YES;
+            most = counts.sections > most ? counts.sections : most;
+        }
+    }
+    wrong += most < 3 || most > 30;
+    return end_map("sections", wrong, 20);
 }
 
 /* Keys in order make the tree deep, so that it is renewed before its cards are used; keys in random order don't, but for a time or two by chance. */
@@ -369,7 +399,7 @@ static uint64_t shuffled(uint64_t i) {
 }
 
 static long add_many(const char *what, uint64_t (*key)(uint64_t i), uint64_t least, uint64_t most) {
-    struct elltree_map_counters counts = {0, 0, 0, 0, 0};
+    struct elltree_map_counters counts = {0, 0, 0, 0, 0, 0, 0};
     size_t length = 0;
     uint64_t value = 0;
     long wrong = elltree_map_new(&map, ELLTREE_CARDS_MAX) != ELLTREE_YES;
@@ -444,7 +474,6 @@ static long lists(void) {
 static long refusals(void) {
     const struct elltree_pair twice[2] = {{1, 1}, {1, 2}}, above = {ELLTREE_KEY_MAX + 1, 0};
     struct elltree_map *none = NULL;
-    char text[ELLTREE_TEXT_ROOM];
     uint64_t value = 7;
     size_t count;
     long wrong = elltree_map_from_sorted(&none, twice, 2, NULL) != ELLTREE_BAD_START || none;
@@ -456,7 +485,7 @@ static long refusals(void) {
     wrong += elltree_map_get(map, above.key, &value) != ELLTREE_BAD_KEY || elltree_map_insert(map, above.key, 1) != ELLTREE_BAD_KEY;
     wrong += elltree_map_delete(map, above.key) != ELLTREE_BAD_KEY || elltree_map_put(map, above.key, 1, &value) != ELLTREE_BAD_KEY;
     wrong += elltree_map_len(map, NULL) != ELLTREE_NULL || elltree_map_pairs(map, NULL, 1, &count) != ELLTREE_NULL;
-    wrong += !strstr(elltree_map_text(ELLTREE_MAP_FULL, text, sizeof text), "as many keys") || value != 7;
+    wrong += value != 7;
     elltree_map_free(NULL);
     return end_map("refusals", wrong, 0);
 }
@@ -466,7 +495,7 @@ int main(void) {
     wrong += memory_is_flat(4);
     wrong += share(MOST, 0);
     wrong += share(MOST, 2); /* more threads than places */
-    wrong += tokens() + snapshots() + full() + add_in_orders();
+    wrong += tokens() + snapshots() + sections() + add_in_orders();
     printf("%ld wrong\n", wrong);
     return wrong != 0;
 }
