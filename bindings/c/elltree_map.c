@@ -312,18 +312,15 @@ int32_t elltree_map_renew(struct elltree_map *map) {
 }
 
 int32_t elltree_map_counts(struct elltree_map *map, struct elltree_map_counters *counts) {
-    struct place *place;
     if (!map || !counts)
         return ELLTREE_NULL;
-    place = enter(&map->gate);
-    counts->sections = map->directory.count;
+    counts->sections = map->sections;
     counts->cards = map->cards;
     counts->renewals = map->renewals;
     counts->early_renewals = map->early_renewals;
     counts->renewal_nanoseconds = map->all_effort;
     counts->pause_nanoseconds = map->all_pauses;
     counts->longest_nanoseconds = map->longest_pause;
-    give_back(place);
     return ELLTREE_YES;
 }
 
@@ -403,6 +400,7 @@ static int32_t fill(struct elltree_map *map, const struct elltree_pair *pairs, s
         heirs->sections[i]->effort = (time_at_work() - began) / heirs->count;
         heirs->sections[i]->opened_at = now();
     }
+    map->sections = heirs->count;
     map->cards = cards * heirs->count;
     map->gate.places[0].added = (int64_t)count;
     free(heirs);

@@ -20,7 +20,7 @@
 
 namespace elltree {
 
-/* Why a call was refused: ELLTREE_BAD_KEY, ELLTREE_BAD_START or ELLTREE_MAP_FULL. The call has changed nothing. */
+/* Why a call was refused: ELLTREE_BAD_KEY or ELLTREE_BAD_START. The call has changed nothing. */
 class refused : public std::runtime_error {
 public:
     explicit refused(int32_t code) : std::runtime_error(text(code)), code_(code) {}
@@ -29,7 +29,7 @@ public:
 private:
     static std::string text(int32_t code) {
         char out[ELLTREE_TEXT_ROOM];
-        return elltree_map_text(code, out, sizeof out);
+        return elltree_text(code, out, sizeof out);
     }
     int32_t code_;
 };
@@ -145,11 +145,11 @@ public:
         return out;
     }
 
-    /* Renews the map now, so that a program has the pause at a moment of its choice. */
+    /* Renews all sections now, one after the other, so that a program has renewals at a moment of its choice. */
     void renew() { check(elltree_map_renew(map_)); }
 
     elltree_map_counters counts() const {
-        elltree_map_counters counts = {0, 0, 0, 0, 0};
+        elltree_map_counters counts = {0, 0, 0, 0, 0, 0, 0};
         check(elltree_map_counts(map_, &counts));
         return counts;
     }

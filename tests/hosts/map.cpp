@@ -20,7 +20,7 @@ static void expect(bool is_so, const char *what) {
 static elltree::map few_cards() {
     elltree_map_settings settings = ELLTREE_MAP_SETTINGS;
     settings.cards = 2000;
-    settings.pause_percent = 100;
+    settings.renewal_percent = 100;
     return elltree::map({{0, 0}, {1, 0}}, settings);
 }
 
@@ -101,7 +101,7 @@ static void members() {
     EXPECT(code_of([&] { other.put(ELLTREE_KEY_MAX + 1, 0); }) == ELLTREE_BAD_KEY);
     EXPECT(code_of([] { elltree::map wrong_order({{2, 0}, {1, 0}}); }) == ELLTREE_BAD_START);
     other.renew();
-    EXPECT(std::string(elltree::refused(ELLTREE_MAP_FULL).what()).find("as many keys") != std::string::npos);
+    EXPECT(std::string(elltree::refused(ELLTREE_NO_MEMORY).what()) == "out of memory");
 }
 
 int main() {

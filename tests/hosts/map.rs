@@ -19,7 +19,7 @@ const COUNTER: u64 = 1_000;
 
 /// A map with few cards that keeps so few.
 fn open(start: &[(u64, u64)]) -> Result<Map, MapError> {
-    Map::from_sorted(start, MapSettings { cards: 1_000, pause_percent: 100, ..Default::default() })
+    Map::from_sorted(start, MapSettings { cards: 1_000, renewal_percent: 100, ..Default::default() })
 }
 
 /// Exchanges the value that the worker has seen last for another: what it found is what it has seen.

@@ -22,7 +22,7 @@ static struct elltree_map *map;
 static int32_t make(void) {
     struct elltree_map_settings settings = ELLTREE_MAP_SETTINGS;
     settings.cards = CARDS;
-    settings.pause_percent = 100;
+    settings.renewal_percent = 100;
     settings.calls = 4;
     return elltree_map_from_sorted(&map, start, KEYS, &settings);
 }

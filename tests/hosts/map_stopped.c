@@ -51,7 +51,7 @@ static void *renew(void *given) {
 }
 
 static uint64_t renewals(void) {
-    struct elltree_map_counters counts = {0, 0, 0, 0, 0};
+    struct elltree_map_counters counts = {0, 0, 0, 0, 0, 0, 0};
     return elltree_map_counts(map, &counts) == ELLTREE_YES ? counts.renewals : 0;
 }
 

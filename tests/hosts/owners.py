@@ -123,7 +123,7 @@ class Handles(unittest.TestCase):
             self.assertIs(getattr(elltree, code.name), code)
             self.assertIs(elltree.Refused(int(code)).code, code)
             self.assertEqual((str(code), f"{code}", f"{code:+d}"), (str(code.value), str(code.value), f"{code.value:+d}"))
-        self.assertEqual((elltree.BUSY, elltree.MAP_FULL, {-3: 1}[elltree.FOREIGN]), (-1, -100, 1))
+        self.assertEqual((elltree.BUSY, elltree.SHARED_KEYS, {-3: 1}[elltree.FOREIGN]), (-1, -17, 1))
         self.assertEqual({"__version__", "open", "Map", "Refused", "KEY_MAX"} - set(elltree.__all__), set())
         self.assertEqual([name for name in elltree.__all__ if not hasattr(elltree, name)], [])
 

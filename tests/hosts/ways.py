@@ -245,7 +245,7 @@ def lets_others_run():
     threads = [threading.Thread(target=go_on), threading.Thread(target=call)]
     for thread in threads:
         thread.start()
-    while m.counts()["pause_nanoseconds"] < 10**8:
+    while m.counts()["renewal_nanoseconds"] < 10**8:
         m.renew()
     done.append(True)
     for thread in threads:

@@ -25,7 +25,7 @@ struct elltree_map {
     _Alignas(LINE) _Atomic uint32_t ended; /* how many renewals ended, also those that were refused: who waits for one waits for this word */
     _Atomic uint32_t swept;                /* the number of the section to be looked at next, whether it has few keys */
     _Atomic uint64_t all_effort;           /* what renewals took in all, in nanoseconds of a processor */
-    _Atomic uint64_t cards, renewals, early_renewals, all_pauses, longest_pause;
+    _Atomic uint64_t sections, cards, renewals, early_renewals, all_pauses, longest_pause;
 };
 
 /* Why a section is renewed. */
@@ -262,6 +262,7 @@ static void note_renewal(struct elltree_map *map, struct renewal *renewal) {
     }
     for (uint32_t i = 0; i < renewal->count; i++)
         map->cards -= renewal->sections[i]->cards;
+    map->sections += renewal->heirs->count - renewal->count;
     map->renewals++;
     map->early_renewals += renewal->reason == DEEP_TREE;
 }

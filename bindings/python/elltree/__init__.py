@@ -7,8 +7,8 @@
     m.pop(3)             # 30
     list(m.items())      # [(2, 21)]: the pairs of all keys, ascending
 
-A Map renews its cards by itself, and other threads wait meanwhile. What it stands on can also be used by itself, without these pauses, through
-handles, one for each thread:
+A Map renews its cards by itself, while other threads go on. What it stands on can also be used by itself, without renewals, through handles, one
+for each thread:
 
     first = elltree.open_shared({2: 20}, cards=100_000)   # every key is shared
     second = first.another()                              # for another thread
@@ -47,7 +47,6 @@ from ._codes import (
     CLOSED,
     FOREIGN,
     IN_CALL,
-    MAP_FULL,
     NO,
     NO_MEMORY,
     NO_ROOM,
@@ -68,7 +67,7 @@ from ._codes import (
     text,
 )
 from ._handle import Handle, open, open_shared, renew_all, renew_all_shared
-from ._map import MAP_KEYS_MAX, Map
+from ._map import Map
 
 __version__ = "0.1.0"
 
@@ -81,8 +80,6 @@ __all__ = [
     "FOREIGN",
     "IN_CALL",
     "KEY_MAX",
-    "MAP_FULL",
-    "MAP_KEYS_MAX",
     "NO",
     "NO_MEMORY",
     "NO_ROOM",

@@ -272,9 +272,9 @@ class MapCore(_Core):
 
     _at: int | None
 
-    def __init__(self, pairs: _Pairs, cards: int, pause_percent: int, pause_microseconds: int, calls: int) -> None:
+    def __init__(self, pairs: _Pairs, cards: int, renewal_percent: int, renewal_microseconds: int, calls: int) -> None:
         self._at = None
-        settings = MapSettings(cards=cards, pause_percent=pause_percent, pause_microseconds=pause_microseconds, calls=calls)
+        settings = MapSettings(cards=cards, renewal_percent=renewal_percent, renewal_microseconds=renewal_microseconds, calls=calls)
         at = ctypes.c_void_p()
         answer(map_calls["from_sorted"](at, *_pair_array(pairs), settings))
         self._at = at.value

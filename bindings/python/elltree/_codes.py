@@ -30,8 +30,6 @@ class Code(enum.IntEnum):
     IN_CALL = -15
     TOO_MANY_HANDLES = -16
     SHARED_KEYS = -17
-    # Of a Map alone: it has MAP_KEYS_MAX keys, and the call would add one.
-    MAP_FULL = -100
 
     # Codes are written as numbers, in Python 3.10 too.
     __str__ = int.__repr__
@@ -58,7 +56,6 @@ SAME = Code.SAME
 IN_CALL = Code.IN_CALL
 TOO_MANY_HANDLES = Code.TOO_MANY_HANDLES
 SHARED_KEYS = Code.SHARED_KEYS
-MAP_FULL = Code.MAP_FULL
 
 _NUMBERS = frozenset(Code)
 

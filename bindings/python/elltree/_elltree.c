@@ -215,7 +215,7 @@ static PyObject *code_text(PyObject *module, PyObject *given) {
     char text[ELLTREE_TEXT_ROOM];
     const long code = PyLong_AsLong(given);
     (void)module;
-    return code == -1 && PyErr_Occurred() ? NULL : PyUnicode_FromString(elltree_map_text((int32_t)code, text, sizeof text));
+    return code == -1 && PyErr_Occurred() ? NULL : PyUnicode_FromString(elltree_text((int32_t)code, text, sizeof text));
 }
 
 static PyMethodDef module_functions[] = {

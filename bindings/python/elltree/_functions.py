@@ -27,16 +27,18 @@ class Pair(ctypes.Structure):
 class MapSettings(ctypes.Structure):
     """How a map is set up."""
 
-    _fields_ = [("cards", c_uint64), ("pause_percent", c_uint32), ("pause_microseconds", c_uint32), ("calls", c_uint32)]
+    _fields_ = [("cards", c_uint64), ("renewal_percent", c_uint32), ("renewal_microseconds", c_uint32), ("calls", c_uint32)]
 
 
 class MapCounts(ctypes.Structure):
     """What has happened to a map."""
 
     _fields_ = [
+        ("sections", c_uint64),
         ("cards", c_uint64),
         ("renewals", c_uint64),
         ("early_renewals", c_uint64),
+        ("renewal_nanoseconds", c_uint64),
         ("pause_nanoseconds", c_uint64),
         ("longest_nanoseconds", c_uint64),
     ]
@@ -120,8 +122,8 @@ map_calls = _functions(_loaded, "elltree_map_", _OF_MAPS)
 free_map = _loaded.elltree_map_free
 free_map.argtypes, free_map.restype = [c_void_p], None
 
-_write_text = _loaded.elltree_map_text
-_write_text.argtypes, _write_text.restype = [c_int32, c_char_p, c_size_t], c_char_p
+_write_text = _loaded.elltree_code_text
+_write_text.argtypes, _write_text.restype = [c_int32, c_char_p, c_size_t], c_size_t
 
 # Room for the text of each code, and the 0 behind it.
 _TEXT_ROOM = 64

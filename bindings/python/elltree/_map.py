@@ -13,8 +13,6 @@ from ._codes import Refused
 from ._cores import MapCore
 from ._ordered import Ordered
 
-MAP_KEYS_MAX = 1_000_000
-
 _Default = TypeVar("_Default")
 
 
@@ -60,8 +58,8 @@ class Map(Ordered, collections.abc.MutableMapping[int, int]):
     """A dict of numbers that all threads share: keys are 0 to KEY_MAX, values 0 to 2**64 - 1, and keys ascend in iterations.
 
     Any thread makes any call at any time. The calls that find or change one key answer as if they were made one after the other. An iteration is no
-    snapshot, as pairs is: each key is told as it was at one moment since it began, and changes meanwhile are no error. The map renews the cards of
-    the tree that it stands on by itself, and all calls wait meanwhile; counts tells how long. docs/GATE.md says how: that part is tested and not
+    snapshot, as pairs is: each key is told as it was at one moment since it began, and changes meanwhile are no error. The map renews the trees
+    that it stands on by itself, while other calls go on; counts tells how long they had to wait. docs/GATE.md says how: that part is tested and not
     proved.
 
     A map is not copied or pickled, and a forked child can't use it: calls are refused there (NULL).
@@ -75,20 +73,21 @@ class Map(Ordered, collections.abc.MutableMapping[int, int]):
         self,
         start: Pairs = (),
         cards: SupportsIndex = 0,
-        pause_percent: SupportsIndex = 0,
-        pause_microseconds: SupportsIndex = 0,
+        renewal_percent: SupportsIndex = 0,
+        renewal_microseconds: SupportsIndex = 0,
         calls: SupportsIndex = 0,
     ) -> None:
         """Makes a map with the pairs of start, a dict or pairs in any order.
 
-        cards is about how many changes there will be soon; the map tries to pause for at most pause_percent of the time (5), and asks for no more
-        cards than pause_microseconds allow (5,000); so many calls may be under way at once. What is 0 is left to the map.
+        cards is about how many changes there will be soon. Sections of the map get more cards while renewals take more than renewal_percent of the
+        time (5), but no more than a renewal of renewal_microseconds allows (5,000). calls is how many calls may be under way at once. What is 0 is
+        left to the map.
         """
         self._core = MapCore(
             pair_list(dict(start)),
             as_cards(cards),
-            whole(pause_percent, 32, "pause_percent"),
-            whole(pause_microseconds, 32, "pause_microseconds"),
+            whole(renewal_percent, 32, "renewal_percent"),
+            whole(renewal_microseconds, 32, "renewal_microseconds"),
             whole(calls, 32, "calls"),
         )
         _maps[id(self)] = self
@@ -231,10 +230,11 @@ class Map(Ordered, collections.abc.MutableMapping[int, int]):
         return self._core.pairs()
 
     def renew(self) -> None:
-        """Renews the map now, so that a program has the pause at a moment of its choice."""
+        """Renews all sections now, one after the other, so that a program has renewals at a moment of its choice."""
         self._core.renew()
 
     def counts(self) -> dict[str, int]:
-        """Returns what has happened to the map so far: a dict with cards, of the present tree; renewals; early_renewals, those of a tree that had
-        grown deep; pause_nanoseconds, the sum of the pauses; and longest_nanoseconds, the longest."""
+        """Returns what has happened to the map so far: a dict with sections and cards, of which there are so many now; renewals; early_renewals,
+        those of a tree that had grown deep; renewal_nanoseconds, how long a processor was at work on them; pause_nanoseconds, the sum of the pauses
+        in which calls waited for a renewal; and longest_nanoseconds, the longest."""
         return self._core.counts()

@@ -172,8 +172,9 @@ static PyObject *map_counts(PyObject *core, PyObject *none) {
     Py_END_ALLOW_THREADS
     if (code < 0)
         return refuse(state_of(core), code);
-    return Py_BuildValue("{sKsKsKsKsK}", "cards", (unsigned long long)counts.cards, "renewals", (unsigned long long)counts.renewals,
-                         "early_renewals", (unsigned long long)counts.early_renewals,
+    return Py_BuildValue("{sKsKsKsKsKsKsK}", "sections", (unsigned long long)counts.sections, "cards", (unsigned long long)counts.cards,
+                         "renewals", (unsigned long long)counts.renewals, "early_renewals", (unsigned long long)counts.early_renewals,
+                         "renewal_nanoseconds", (unsigned long long)counts.renewal_nanoseconds,
                          "pause_nanoseconds", (unsigned long long)counts.pause_nanoseconds,
                          "longest_nanoseconds", (unsigned long long)counts.longest_nanoseconds);
 }
@@ -192,7 +193,7 @@ static PyObject *map_new(PyTypeObject *type, PyObject *given, PyObject *named) {
     unsigned long long cards;
     size_t count = 0;
     int32_t code;
-    if (named || !PyArg_ParseTuple(given, "OKIII", &list, &cards, &settings.pause_percent, &settings.pause_microseconds, &settings.calls))
+    if (named || !PyArg_ParseTuple(given, "OKIII", &list, &cards, &settings.renewal_percent, &settings.renewal_microseconds, &settings.calls))
         return NULL;
     settings.cards = cards;
     pairs = pairs_in(list, &count);

@@ -17,7 +17,6 @@ pub(crate) const NO_ROOM: i32 = -8;
 const BAD_KEY: i32 = Refused::BadKey.code();
 const BAD_START: i32 = Refused::BadStart.code();
 const NO_MEMORY: i32 = Refused::NoMemory.code();
-const MAP_FULL: i32 = -100;
 
 // Room for the text of each code, and the 0 behind it.
 const TEXT_ROOM: usize = 64;
@@ -128,12 +127,10 @@ pub(crate) fn answer(code: i32) -> Result<bool> {
 pub enum MapError {
     /// A key is above [`KEY_MAX`](crate::KEY_MAX).
     BadKey,
-    /// The keys that a map is made of do not ascend strictly, or are more than [`Map::KEYS_MAX`](crate::Map::KEYS_MAX).
+    /// The keys that a map is made of do not ascend strictly.
     BadStart,
     /// Memory was refused, when the map was made or at a renewal that the call needed. The map is as it was, and the call may be made again.
     NoMemory,
-    /// The call would add a key to a map that has [`Map::KEYS_MAX`](crate::Map::KEYS_MAX) keys.
-    Full,
 }
 
 /// What a call on a [`Map`](crate::Map) gives, or why it was refused.
@@ -145,16 +142,14 @@ impl MapError {
             MapError::BadKey => BAD_KEY,
             MapError::BadStart => BAD_START,
             MapError::NoMemory => NO_MEMORY,
-            MapError::Full => MAP_FULL,
         }
     }
 
-    // A map refuses a call by these four codes alone.
+    // A map refuses a call by these three codes alone.
     fn of_code(code: i32) -> MapError {
         match code {
             BAD_KEY => MapError::BadKey,
             BAD_START => MapError::BadStart,
-            MAP_FULL => MapError::Full,
             _ => MapError::NoMemory,
         }
     }
@@ -163,7 +158,7 @@ impl MapError {
 /// Writes the library's text of the code.
 ///
 /// ```
-/// assert_eq!(elltree::MapError::Full.to_string(), "the map has as many keys as it may have");
+/// assert_eq!(elltree::MapError::NoMemory.to_string(), elltree::Refused::NoMemory.to_string());
 /// ```
 impl fmt::Display for MapError {
     fn fmt(&self, f: &mut fmt::Formatter<'_>) -> fmt::Result {
@@ -182,7 +177,7 @@ pub(crate) fn map_answer(code: i32) -> MapResult<bool> {
 fn write_text(code: i32, f: &mut fmt::Formatter<'_>) -> fmt::Result {
     let mut text = [0; TEXT_ROOM];
     // SAFETY: the array is as long as said.
-    unsafe { raw::elltree_map_text(code, text.as_mut_ptr(), text.len()) };
+    unsafe { raw::elltree_code_text(code, text.as_mut_ptr(), text.len()) };
     let text = CStr::from_bytes_until_nul(&text).unwrap_or_default();
     f.write_str(&text.to_string_lossy())
 }

@@ -7,7 +7,7 @@ use std::time::Duration;
 use crate::error::{MapError, MapResult, NO_ROOM, OTHER_VALUE, YES, map_answer};
 use crate::range::{MapRange, Source};
 use crate::raw::{self, Pair, RawCounts, RawMap, RawSettings};
-use crate::{KEY_MAX, START_MAX};
+use crate::KEY_MAX;
 
 /// How a [`Map`] is set up. A field that is 0 leaves the choice to the map.
 ///
@@ -19,12 +19,12 @@ use crate::{KEY_MAX, START_MAX};
 /// ```
 #[derive(Clone, Copy, Debug, Default, PartialEq, Eq)]
 pub struct MapSettings {
-    /// The cards of the first tree: about as many as there will be changes soon.
+    /// The cards of the map when it is made: about as many as there will be changes soon; 16,384 if it is 0.
     pub cards: u64,
-    /// The map tries to pause for at most this part of the time, in percent; 5 if it is 0.
-    pub pause_percent: u32,
-    /// The map asks for no more cards than a pause of this length allows, besides the time for keys, in microseconds; 5,000 if it is 0.
-    pub pause_microseconds: u32,
+    /// Sections get more cards while renewals take more than this part of the time, in percent; 5 if it is 0.
+    pub renewal_percent: u32,
+    /// But no more than a renewal of this length allows, in microseconds; 5,000 if it is 0.
+    pub renewal_microseconds: u32,
     /// How many calls may be under way at once; 8 for each processor, and at least 64, if it is 0.
     pub calls: u32,
 }
@@ -33,13 +33,17 @@ pub struct MapSettings {
 #[derive(Clone, Copy, Debug, Default, PartialEq, Eq)]
 #[non_exhaustive]
 pub struct MapCounts {
-    /// The cards of the present tree.
+    /// How many sections there are.
+    pub sections: u64,
+    /// The cards of all sections.
     pub cards: u64,
-    /// How many renewals there were.
+    /// How many renewals there were, of all sections.
     pub renewals: u64,
-    /// How many of them there were because the tree had grown deep.
+    /// How many of them there were because a tree had grown deep.
     pub early_renewals: u64,
-    /// The sum of the pauses for renewals.
+    /// How long a processor was at work on renewals.
+    pub renewal_time: Duration,
+    /// The sum of the pauses in which calls on a section waited for its renewal.
     pub pauses: Duration,
     /// The longest of these pauses.
     pub longest_pause: Duration,
@@ -48,9 +52,10 @@ pub struct MapCounts {
 /// A map from `u64` to `u64` that all threads share: no handles, no cards to count, no tries.
 ///
 /// All calls take `&self`, and any thread makes any of them at any time. The calls that find or change one key answer as if they were made one after
-/// the other. The map stands on a tree of shared keys, as [`Handle::open_shared`](crate::Handle::open_shared) makes it, and renews its cards by
-/// itself. Meanwhile all calls wait: this is the one pause that the map has, and [`Map::counts`] tells how long it was. `docs/GATE.md` says how calls
-/// and renewals keep out of each other's way. That part is tested and not proved; the tree below it is proved.
+/// the other. The map is made of sections, each with a tree of shared keys for its range of keys, as
+/// [`Handle::open_shared`](crate::Handle::open_shared) makes it. A call that finds few cards left renews its section, while other calls go on; that
+/// takes about a millisecond. At its end all calls pause until those under way have ended, and [`Map::counts`] tells how long. `docs/GATE.md` says how
+/// calls and renewals keep out of each other's way. That part is tested and not proved; the trees below it are proved.
 ///
 /// A map must not be used in the forked child of a process that has used it.
 ///
@@ -82,9 +87,6 @@ unsafe impl Send for Map {}
 unsafe impl Sync for Map {}
 
 impl Map {
-    /// The most keys that a map may have.
-    pub const KEYS_MAX: usize = START_MAX;
-
     /// Makes an empty map.
     ///
     /// # Errors
@@ -107,8 +109,8 @@ impl Map {
     ///
     /// # Errors
     ///
-    /// Returns [`MapError::BadStart`] if the keys do not ascend strictly or are more than [`Map::KEYS_MAX`], [`MapError::BadKey`] if one is above
-    /// [`KEY_MAX`], and [`MapError::NoMemory`].
+    /// Returns [`MapError::BadStart`] if the keys do not ascend strictly, [`MapError::BadKey`] if one is above [`KEY_MAX`], and
+    /// [`MapError::NoMemory`].
     ///
     /// # Examples
     ///
@@ -120,8 +122,8 @@ impl Map {
     /// # Ok::<(), MapError>(())
     /// ```
     pub fn from_sorted(pairs: &[(u64, u64)], settings: MapSettings) -> MapResult<Map> {
-        let MapSettings { cards, pause_percent, pause_microseconds, calls } = settings;
-        let settings = RawSettings { cards, pause_percent, pause_microseconds, calls };
+        let MapSettings { cards, renewal_percent, renewal_microseconds, calls } = settings;
+        let settings = RawSettings { cards, renewal_percent, renewal_microseconds, calls };
         let (pairs, mut map) = (Pair::all_of(pairs), ptr::null_mut());
         // SAFETY: the array is as long as said.
         map_answer(unsafe { raw::elltree_map_from_sorted(&mut map, pairs.as_ptr(), pairs.len(), &settings) })?;
@@ -410,7 +412,7 @@ impl Map {
         }
     }
 
-    /// Renews the map now, so that a program has the pause at a moment of its choice.
+    /// Renews all sections now, one after the other, so that a program has renewals at a moment of its choice.
     ///
     /// # Errors
     ///
@@ -438,9 +440,11 @@ impl Map {
         // SAFETY: the map lives.
         unsafe { raw::elltree_map_counts(self.0.as_ptr(), &mut counts) };
         MapCounts {
+            sections: counts.sections,
             cards: counts.cards,
             renewals: counts.renewals,
             early_renewals: counts.early_renewals,
+            renewal_time: Duration::from_nanos(counts.renewal_nanoseconds),
             pauses: Duration::from_nanos(counts.pause_nanoseconds),
             longest_pause: Duration::from_nanos(counts.longest_nanoseconds),
         }

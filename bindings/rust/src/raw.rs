@@ -48,8 +48,8 @@ pub(crate) struct RawMap {
 #[repr(C)]
 pub(crate) struct RawSettings {
     pub(crate) cards: u64,
-    pub(crate) pause_percent: u32,
-    pub(crate) pause_microseconds: u32,
+    pub(crate) renewal_percent: u32,
+    pub(crate) renewal_microseconds: u32,
     pub(crate) calls: u32,
 }
 
@@ -57,9 +57,11 @@ pub(crate) struct RawSettings {
 #[repr(C)]
 #[derive(Default)]
 pub(crate) struct RawCounts {
+    pub(crate) sections: u64,
     pub(crate) cards: u64,
     pub(crate) renewals: u64,
     pub(crate) early_renewals: u64,
+    pub(crate) renewal_nanoseconds: u64,
     pub(crate) pause_nanoseconds: u64,
     pub(crate) longest_nanoseconds: u64,
 }
@@ -120,7 +122,7 @@ unsafe extern "C" {
     pub(crate) fn elltree_map_pairs(map: *mut RawMap, out: *mut Pair, room: usize, count: &mut usize) -> i32;
     pub(crate) fn elltree_map_renew(map: *mut RawMap) -> i32;
     pub(crate) fn elltree_map_counts(map: *mut RawMap, counts: &mut RawCounts) -> i32;
-    pub(crate) fn elltree_map_text(code: i32, out: *mut u8, room: usize) -> *const u8;
+    pub(crate) fn elltree_code_text(code: i32, out: *mut u8, room: usize) -> usize;
 }
 
 /// Returns a number for a new tree, which no other tree of this program has.
