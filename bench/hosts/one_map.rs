@@ -11,8 +11,8 @@ use std::time::{Duration, Instant};
 const BETWEEN_LOOKS: Duration = Duration::from_micros(100);
 const MOST: Duration = Duration::from_secs(10);
 
-/// After how many renewals a map is measured even if it still changes the number of its cards.
-const RENEWALS_TO_SETTLE: usize = 12;
+/// After how many renewals of each section a map is measured even if it still changes the number of its cards.
+const RENEWALS_TO_SETTLE: u64 = 12;
 
 impl View for Arc<Map> {
     fn find(&mut self, key: u64) -> Option<u64> {
@@ -85,13 +85,15 @@ pub fn wait_for_renewal(map: &Map) -> MapCounts {
     map.counts()
 }
 
-/// Waits until a renewal has ended that left the number of cards as it was. A new map first finds out how many it needs.
+/// Waits until as many renewals as there are sections have left the number of cards as it was. A new map first finds out how many it needs.
 pub fn settle(map: &Map) {
-    let mut cards = map.counts().cards;
-    for _ in 0..RENEWALS_TO_SETTLE {
+    let MapCounts { mut cards, sections, .. } = map.counts();
+    let mut alike = 0;
+    for _ in 0..RENEWALS_TO_SETTLE * sections {
         let before = cards;
         cards = wait_for_renewal(map).cards;
-        if cards == before {
+        alike = if cards == before { alike + 1 } else { 0 };
+        if alike == sections {
             return;
         }
     }

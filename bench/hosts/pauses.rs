@@ -45,12 +45,15 @@ pub enum Said {
     Renewals,
     /// How many of the renewals there were because the tree had grown deep.
     EarlyRenewals,
+    /// For which part of the time a processor was at work on renewals, in percent.
+    Work,
     /// Which part of the time the pauses took, in percent.
     Part,
     /// The mean of the pauses in nanoseconds, and the longest.
     Mean,
     Longest,
-    /// How many cards the last tree has.
+    /// How many sections the map has in the end, and how many cards.
+    Sections,
     Cards,
 }
 
@@ -60,9 +63,11 @@ impl Said {
             Said::ChangesASecond => "changes a second",
             Said::Renewals => "renewals",
             Said::EarlyRenewals => "early renewals",
+            Said::Work => "work on renewals in %",
             Said::Part => "time in pauses in %",
             Said::Mean => "mean pause",
             Said::Longest => "longest pause",
+            Said::Sections => "sections",
             Said::Cards => "cards",
         }
     }
@@ -70,14 +75,16 @@ impl Said {
 
 /// The figures of a map to which this has happened since it was made, so long ago.
 pub fn figures(load: Load, counts: MapCounts, time: Duration) -> Vec<(Figure, f64)> {
-    let part = 100.0 * counts.pauses.as_secs_f64() / time.as_secs_f64();
+    let part = |it: Duration| 100.0 * it.as_secs_f64() / time.as_secs_f64();
     let mean = (counts.renewals > 0).then(|| counts.pauses.as_nanos() as f64 / counts.renewals as f64);
     let said = [
         (Said::Renewals, Some(counts.renewals as f64)),
         (Said::EarlyRenewals, Some(counts.early_renewals as f64)),
-        (Said::Part, Some(part)),
+        (Said::Work, Some(part(counts.renewal_time))),
+        (Said::Part, Some(part(counts.pauses))),
         (Said::Mean, mean),
         (Said::Longest, mean.map(|_| counts.longest_pause.as_nanos() as f64)),
+        (Said::Sections, Some(counts.sections as f64)),
         (Said::Cards, Some(counts.cards as f64)),
     ];
     said.into_iter().filter_map(|(said, it)| Some((Figure::Pauses(load, said), it?))).collect()

@@ -67,7 +67,7 @@ impl Figure {
     /// How many digits of such a number are told behind its point.
     fn digits(self) -> usize {
         match self {
-            Figure::Pauses(_, Said::Part) => 1,
+            Figure::Pauses(_, Said::Work | Said::Part) => 3,
             _ => 0,
         }
     }
@@ -317,8 +317,9 @@ impl Record {
 }
 
 impl Said {
-    const OF_INSERTS: [Said; 4] = [Said::Renewals, Said::EarlyRenewals, Said::Part, Said::Longest];
-    const OF_CHANGES: [Said; 6] = [Said::ChangesASecond, Said::Renewals, Said::Part, Said::Mean, Said::Longest, Said::Cards];
+    const OF_INSERTS: [Said; 6] = [Said::Renewals, Said::EarlyRenewals, Said::Work, Said::Part, Said::Longest, Said::Sections];
+    const OF_CHANGES: [Said; 8] =
+        [Said::ChangesASecond, Said::Renewals, Said::Work, Said::Part, Said::Mean, Said::Longest, Said::Sections, Said::Cards];
 
     /// The head of its column.
     fn head(self) -> &'static str {
@@ -326,9 +327,11 @@ impl Said {
             Said::ChangesASecond => "Changes a second",
             Said::Renewals => "Renewals",
             Said::EarlyRenewals => "Early ones",
+            Said::Work => "Work on renewals, % of a processor",
             Said::Part => "Time in pauses, %",
             Said::Mean => "Mean pause",
             Said::Longest => "Longest pause",
+            Said::Sections => "Sections",
             Said::Cards => "Cards",
         }
     }
@@ -337,8 +340,8 @@ impl Said {
     fn shown(self, number: f64) -> String {
         let whole = number.round_ties_even();
         match self {
-            Said::Part => format!("{number:.1}"),
-            Said::Mean | Said::Longest => format!("{:.1} ms", whole / 1e6),
+            Said::Work | Said::Part => format!("{number:.2}"),
+            Said::Mean | Said::Longest => format!("{:.2} ms", whole / 1e6),
             _ => counted(whole as u64),
         }
     }
