@@ -13,7 +13,8 @@ enum {
 /* What a call gets and tells. */
 struct request {
     uint64_t key, value, other;
-    bool changed; /* whether it has changed its key */
+    bool changed;       /* whether it has changed its key */
+    struct state state; /* and what the key had then */
 };
 
 /* Calls on one key. */
@@ -32,7 +33,7 @@ static inline __attribute__((always_inline)) int32_t call(struct elltree_map *ma
         struct heirs *heirs = atomic_load(&section->heirs);
         code = work_on(place, slot, request);
         if (__builtin_expect(heirs && request->changed, 0))
-            carry_over(heirs, slot, slot_of(heir_of(heirs, request->key), place), request->key);
+            carry_over(heirs, slot, slot_of(heir_of(heirs, request->key), place), request->key, request->state);
         if (__builtin_expect(code == ELLTREE_SPENT, 0))
             code = get_fresh_cards(map, place, section) == ELLTREE_YES ? ELLTREE_BUSY : ELLTREE_NO_MEMORY;
         else if (__builtin_expect(++place->calls % SAMPLE == 0, 0))
@@ -48,11 +49,12 @@ static int32_t check(const struct elltree_map *map, const void *out, uint64_t ke
     return !map || !out ? ELLTREE_NULL : key > ELLTREE_KEY_MAX ? ELLTREE_BAD_KEY : ELLTREE_YES;
 }
 
-/* Notes that a call has changed its key, by which there are more keys or fewer. The place's thread alone adds to its count. */
-static void note_change(struct place *place, struct request *request, int64_t more) {
+/* Notes that a call has given its key this value, or has taken it away, and how many keys more there are. The place's thread alone adds to its count. */
+static void note_change(struct place *place, struct request *request, int32_t there, uint64_t value, int64_t more) {
     const int64_t added = atomic_load_explicit(&place->added, memory_order_relaxed);
     atomic_store_explicit(&place->added, added + more, memory_order_relaxed);
     request->changed = true;
+    request->state = (struct state){there, value};
 }
 
 static int32_t get_at(struct place *place, struct elltree_slot *slot, struct request *request) {
@@ -63,42 +65,42 @@ static int32_t get_at(struct place *place, struct elltree_slot *slot, struct req
 static int32_t insert_at(struct place *place, struct elltree_slot *slot, struct request *request) {
     const int32_t code = elltree_slot_insert(slot, request->key, request->value, TRIES);
     if (code == ELLTREE_YES)
-        note_change(place, request, 1);
+        note_change(place, request, ELLTREE_YES, request->value, 1);
     return code;
 }
 
 static int32_t put_at(struct place *place, struct elltree_slot *slot, struct request *request) {
     const int32_t code = elltree_slot_put(slot, request->key, request->value, TRIES, &request->other);
     if (code == ELLTREE_YES || code == ELLTREE_NO)
-        note_change(place, request, code == ELLTREE_NO);
+        note_change(place, request, ELLTREE_YES, request->value, code == ELLTREE_NO);
     return code;
 }
 
 static int32_t delete_at(struct place *place, struct elltree_slot *slot, struct request *request) {
     const int32_t code = elltree_slot_delete(slot, request->key, TRIES);
     if (code == ELLTREE_YES)
-        note_change(place, request, -1);
+        note_change(place, request, ELLTREE_NO, 0, -1);
     return code;
 }
 
 static int32_t take_at(struct place *place, struct elltree_slot *slot, struct request *request) {
     const int32_t code = elltree_slot_take(slot, request->key, TRIES, &request->other);
     if (code == ELLTREE_YES)
-        note_change(place, request, -1);
+        note_change(place, request, ELLTREE_NO, 0, -1);
     return code;
 }
 
 static int32_t compare_exchange_at(struct place *place, struct elltree_slot *slot, struct request *request) {
     const int32_t code = elltree_slot_compare_exchange(slot, request->key, request->other, request->value, TRIES, &request->other);
     if (code == ELLTREE_YES)
-        note_change(place, request, 0);
+        note_change(place, request, ELLTREE_YES, request->value, 0);
     return code;
 }
 
 static int32_t fetch_add_at(struct place *place, struct elltree_slot *slot, struct request *request) {
     const int32_t code = elltree_slot_fetch_add(slot, request->key, request->value, TRIES, &request->other);
     if (code == ELLTREE_YES)
-        note_change(place, request, 0);
+        note_change(place, request, ELLTREE_YES, request->other + request->value, 0);
     return code;
 }
 
@@ -386,7 +388,7 @@ static bool ascend(const struct elltree_pair *pairs, size_t count) {
 
 /* Gives a new map its first sections, with these pairs. */
 static int32_t fill(struct elltree_map *map, const struct elltree_pair *pairs, size_t count) {
-    const uint64_t began = time_at_work(), cards = cards_of_each(map->settings.cards, number_of_parts(&map->gate, count));
+    const uint64_t began = time_at_work(), cards = part_of_cards(map->settings.cards, number_of_parts(&map->gate, count));
     struct heirs *heirs;
     int32_t code = make_heirs(&map->gate, &heirs, 0, UINT64_MAX, pairs, count, cards);
     if (code != ELLTREE_YES)

@@ -29,11 +29,12 @@ static int working; /* how many threads share the map, and part the keys among t
 
 static uint64_t next(uint64_t *seed) { return *seed ^= *seed << 13, *seed ^= *seed >> 7, *seed ^= *seed << 17; }
 
-/* A map with few cards, which keeps so few: renewals may take all of the time. */
+/* A map with few cards, which keeps so few: renewals may take all of the time, and none may take long. */
 static long make_map(uint64_t cards, uint32_t calls, const struct elltree_pair *pairs, size_t count) {
     struct elltree_map_settings settings = ELLTREE_MAP_SETTINGS;
     settings.cards = cards;
     settings.renewal_percent = 100;
+    settings.renewal_microseconds = 1;
     settings.calls = calls;
     return elltree_map_from_sorted(&map, pairs, count, &settings) != ELLTREE_YES;
 }

@@ -37,6 +37,18 @@ struct pairs {
     size_t count, room;
 };
 
+/* What a thread takes a key's value to be. */
+struct state {
+    int32_t there; /* ELLTREE_YES if the key is present, and ELLTREE_NO if it is absent */
+    uint64_t value;
+};
+
+/* A key of which a section and its heir differ, and what the section has. */
+struct difference {
+    uint64_t key;
+    struct state state;
+};
+
 /* A renewal under way. */
 struct renewal {
     struct section *sections[2]; /* which are renewed: one, or two that are joined */
@@ -44,6 +56,8 @@ struct renewal {
     enum reason reason;
     struct heirs *heirs;
     struct pairs there, copied; /* what was read last of the sections, and of their heirs */
+    struct difference *differences;
+    size_t difference_count;
     uint64_t began;             /* time at work */
     uint64_t left;              /* cards of the first section, when it began */
 };
@@ -95,44 +109,86 @@ static int32_t store(struct elltree_slot *slot, uint64_t key, int32_t there, uin
     return code;
 }
 
-/* Carries a key over to the heirs: stores there what the section has of it, until the section still has that after it was stored. So whoever stores
-   last has stored what the section has since then. If the cards of the heir are spent, the heirs have failed. */
-static void carry_over(struct heirs *heirs, struct elltree_slot *from, struct elltree_slot *into, uint64_t key) {
-    uint64_t value = 0, stored;
-    int32_t there = elltree_slot_find(from, key, &value), was_there;
+static bool are_alike(struct state one, struct state other) {
+    return one.there == other.there && (one.there != ELLTREE_YES || one.value == other.value);
+}
+
+/* Carries a key over to the heirs: stores there what the section is taken to have of it, until the section has that after it was stored. So whoever
+   stores last has stored what the section has since then. If the cards of the heir are spent, the heirs have failed. */
+static void carry_over(struct heirs *heirs, struct elltree_slot *from, struct elltree_slot *into, uint64_t key, struct state state) {
+    struct state stored;
     do {
-        was_there = there;
-        stored = value;
-        if (there < 0 || store(into, key, there, stored) < 0) {
+        stored = state;
+        if (state.there < 0 || store(into, key, state.there, state.value) < 0) {
             atomic_store(&heirs->failed, true);
             return;
         }
-        there = elltree_slot_find(from, key, &value);
-    } while (there != was_there || (there == ELLTREE_YES && value != stored));
+        state.there = elltree_slot_find(from, key, &state.value);
+    } while (!are_alike(stored, state));
 }
 
-/* The same by the thread that renews. */
-static void carry_over_rest(const struct gate *gate, struct renewal *renewal, uint64_t key) {
-    struct section *from = renewal->sections[renewal->count > 1 && key >= renewal->sections[1]->first];
-    struct section *into = heir_of(renewal->heirs, key);
-    carry_over(renewal->heirs, slot_to_renew(gate, from), slot_to_renew(gate, into), key);
+/* The slots of a key's section and heir that the thread has that renews. */
+static struct elltree_slot *slot_from(const struct gate *gate, struct renewal *renewal, uint64_t key) {
+    return slot_to_renew(gate, renewal->sections[renewal->count > 1 && key >= renewal->sections[1]->first]);
 }
 
-/* Carries each key over of which the sections and their heirs were read to have different values. */
-static void carry_differences(const struct gate *gate, struct renewal *renewal) {
+static struct elltree_slot *slot_into(const struct gate *gate, struct renewal *renewal, uint64_t key) {
+    return slot_to_renew(gate, heir_of(renewal->heirs, key));
+}
+
+/* Notes the keys of which the sections and their heirs were read to differ, ascending, with what the sections have. */
+static int32_t note_differences(struct renewal *renewal) {
     const struct elltree_pair *there = renewal->there.items, *copied = renewal->copied.items;
     const struct elltree_pair *end = there + renewal->there.count, *end_copied = copied + renewal->copied.count;
-    while ((there < end || copied < end_copied) && !atomic_load(&renewal->heirs->failed)) {
+    renewal->difference_count = 0;
+    renewal->differences = malloc((renewal->there.count + renewal->copied.count + 1) * sizeof *renewal->differences);
+    if (!renewal->differences)
+        return ELLTREE_NO_MEMORY;
+    while (there < end || copied < end_copied) {
         const bool is_there = there < end && (copied == end_copied || there->key <= copied->key);
         const bool is_copied = copied < end_copied && (there == end || copied->key <= there->key);
         if (!is_there || !is_copied || there->value != copied->value)
-            carry_over_rest(gate, renewal, is_there ? there->key : copied->key);
+            renewal->differences[renewal->difference_count++] =
+                is_there ? (struct difference){there->key, {ELLTREE_YES, there->value}} : (struct difference){copied->key, {ELLTREE_NO, 0}};
         there += is_there;
         copied += is_copied;
+    }
+    return ELLTREE_YES;
+}
+
+/* Stores the differences in the heirs, each half of them before those between, so that keys in order make no list. */
+static void store_differences(const struct gate *gate, struct renewal *renewal) {
+    const size_t count = renewal->difference_count;
+    size_t step = 1;
+    while (step <= count / 2)
+        step *= 2;
+    for (; step; step /= 2)
+        for (size_t i = step; i <= count; i += 2 * step) {
+            const struct difference *it = &renewal->differences[i - 1];
+            if (store(slot_into(gate, renewal, it->key), it->key, it->state.there, it->state.value) < 0)
+                atomic_store(&renewal->heirs->failed, true);
+        }
+}
+
+/* Carries each of them over of which the sections have since been read to have something else than was stored. */
+static void carry_changed(const struct gate *gate, struct renewal *renewal) {
+    const struct elltree_pair *there = renewal->there.items, *end = there + renewal->there.count;
+    for (size_t i = 0; i < renewal->difference_count; i++) {
+        const struct difference *it = &renewal->differences[i];
+        struct state state = {ELLTREE_NO, 0};
+        while (there < end && there->key < it->key)
+            there++;
+        if (there < end && there->key == it->key)
+            state = (struct state){ELLTREE_YES, there->value};
+        if (!are_alike(state, it->state))
+            carry_over(renewal->heirs, slot_from(gate, renewal, it->key), slot_into(gate, renewal, it->key), it->key, state);
     }
 }
 
 /* How many cards. */
+
+/* How many cards each of some sections gets, if they get so many together. */
+static uint64_t part_of_cards(uint64_t cards, uint32_t parts) { return parts > 1 ? at_least(cards / parts, CARDS_LEAST) : cards; }
 
 /* What a renewal has to do besides cards, in cards. */
 static uint64_t weight(uint64_t keys) { return KEY_IN_CARDS * keys + REST_IN_CARDS; }
@@ -142,29 +198,36 @@ static uint64_t likely_effort(const struct section *section, uint64_t cards, uin
     return section->effort * (cards + weight(keys)) / (section->cards + weight(section->keys));
 }
 
-/* How many cards the heirs get together. If renewals of all sections took too much of the time since this one was made, the cards are doubled,
-   unless that would save little, as each card takes its time too, or a renewal would take too long by its cards. If renewals took little, the
-   cards are halved, which saves memory. */
-static uint64_t next_cards(struct elltree_map *map, const struct renewal *renewal) {
+/* How many cards the heirs get together, if cards were left when the renewal of the section began. If renewals of all sections took too much of the
+   time since this one was made, the cards are doubled, unless that would save little, as each card takes its time too, or a renewal would take too
+   long by its cards. If renewals took little, the cards are halved, which saves memory. */
+static uint64_t cards_of_all(struct elltree_map *map, const struct renewal *renewal, bool may_double) {
     const struct section *section = renewal->sections[0];
     const uint64_t keys = renewal->there.count, cards = section->cards, least = at_least(CARDS_LEAST, keys / 8);
     const uint64_t part = (now() - section->opened_at) / 100 * map->settings.renewal_percent;
-    const uint64_t all_effort = atomic_load(&map->all_effort) - section->all_effort;
-    const uint64_t most = UINT64_C(1000) * map->settings.renewal_microseconds;
-    if (renewal->reason == FEW_KEYS || renewal->reason == WANTED)
+    const uint64_t all_effort = atomic_load(&map->all_effort) - section->all_effort + section->effort;
+    if (renewal->reason == WANTED)
         return cards;
+    if (renewal->reason == FEW_KEYS)
+        return at_most(least, cards);
     if (renewal->reason == DEEP_TREE) /* they were not used up */
         return at_most(at_least(2 * (cards - at_most(renewal->left, cards)), at_most(least, cards)), cards);
-    if (all_effort > part && cards < weight(keys) && likely_effort(section, 2 * cards, keys) <= most)
+    if (all_effort > part && cards < weight(keys) && may_double)
         return 2 * cards;
     if (all_effort < part / 8)
         return at_least(cards / 2, at_most(least, cards));
     return cards;
 }
 
-/* How many each of them gets. */
-static uint64_t cards_of_each(uint64_t cards, uint32_t parts) {
-    return at_most(parts > 1 ? at_least(cards / parts, CARDS_LEAST) : at_least(cards, 1), ELLTREE_CARDS_MAX);
+/* How many each of them gets. If calls had to wait for cards, each gets twice as many as the section had, as calls may be about to change the keys of one
+   of them alone. */
+static uint64_t cards_of_each(struct elltree_map *map, const struct renewal *renewal, uint32_t parts) {
+    const struct section *section = renewal->sections[0];
+    const uint64_t cards = section->cards, most = UINT64_C(1000) * map->settings.renewal_microseconds;
+    const bool may_double = likely_effort(section, 2 * cards, renewal->there.count) <= most;
+    if (atomic_load(&section->spent_at))
+        return may_double ? 2 * cards : cards;
+    return part_of_cards(cards_of_all(map, renewal, may_double), parts);
 }
 
 /* How few cards may be left of a section when its renewal begins: twice as many as calls have taken during the last one, if it is clear how many
@@ -224,7 +287,7 @@ static int32_t prepare(struct elltree_map *map, struct renewal *renewal, uint64_
         code = ELLTREE_NO; /* the section stays as it is */
     if (code != ELLTREE_YES)
         return code;
-    cards = cards_of_each(times * next_cards(map, renewal), number_of_parts(&map->gate, renewal->there.count));
+    cards = at_most(times * cards_of_each(map, renewal, number_of_parts(&map->gate, renewal->there.count)), ELLTREE_CARDS_MAX);
     return make_heirs(&map->gate, &renewal->heirs, renewal->sections[0]->first, renewal->sections[renewal->count - 1]->upto,
                       renewal->there.items, renewal->there.count, cards);
 }
@@ -235,6 +298,19 @@ static void tell_heirs(struct renewal *renewal, struct heirs *heirs) {
         atomic_store(&renewal->sections[i]->heirs, heirs);
 }
 
+/* Step 4: carries over what the sections and their heirs differ by. */
+static int32_t carry_differences(struct elltree_map *map, struct renewal *renewal) {
+    int32_t code = note_differences(renewal);
+    if (code == ELLTREE_YES && renewal->difference_count) {
+        store_differences(&map->gate, renewal);
+        code = read_pairs(&map->gate, &renewal->there, renewal->sections, renewal->count);
+    }
+    if (code == ELLTREE_YES)
+        carry_changed(&map->gate, renewal);
+    free(renewal->differences);
+    return code;
+}
+
 /* Steps 2 to 4: from here on the heirs have what the sections have, but for keys that calls are carrying over. */
 static int32_t follow(struct elltree_map *map, struct renewal *renewal) {
     int32_t code;
@@ -243,9 +319,7 @@ static int32_t follow(struct elltree_map *map, struct renewal *renewal) {
     code = read_pairs(&map->gate, &renewal->there, renewal->sections, renewal->count);
     if (code == ELLTREE_YES)
         code = read_pairs(&map->gate, &renewal->copied, renewal->heirs->sections, renewal->heirs->count);
-    if (code == ELLTREE_YES)
-        carry_differences(&map->gate, renewal);
-    return code;
+    return code == ELLTREE_YES ? carry_differences(map, renewal) : code;
 }
 
 /* What a renewal was, for the settings of the next ones, while the gate is closed. */
@@ -262,7 +336,8 @@ static void note_renewal(struct elltree_map *map, struct renewal *renewal) {
     }
     for (uint32_t i = 0; i < renewal->count; i++)
         map->cards -= renewal->sections[i]->cards;
-    map->sections += renewal->heirs->count - renewal->count;
+    map->sections += renewal->heirs->count;
+    map->sections -= renewal->count;
     map->renewals++;
     map->early_renewals += renewal->reason == DEEP_TREE;
 }
@@ -366,11 +441,12 @@ static void sweep(struct elltree_map *map) {
         leave_section(map, section);
 }
 
-/* Renews a section that this thread has taken for that. If there are more sections after it, the thread looks for others that have become small. */
+/* Renews a section that this thread has taken for that. For each section that there is more after it, the thread looks at two others, whether they have
+   become small, so that at most about half of all sections are. */
 static int32_t renew(struct elltree_map *map, struct section *section, enum reason reason) {
     uint32_t more;
     const int32_t code = renew_section(map, section, reason, &more);
-    for (; more; more--)
+    for (more *= 2; more; more--)
         sweep(map);
     return code;
 }

@@ -6,7 +6,7 @@
 #include <string.h>
 
 enum {
-    SECTION_KEYS = 8192, /* a section with more keys is parted at its next renewal, into parts of half as many */
+    SECTION_KEYS = 4096, /* a section with more keys is parted at its next renewal, into parts of half as many */
     KEYS_OF_A_PLACE = 32 /* but a map with many places has larger sections, as each has a slot for each place */
 };
 
