@@ -1,7 +1,7 @@
 // Ranges in C++. One thread first, which changes keys at random and compares ranges, upwards and downwards, with a std::map. Then two threads that go
 // over ranges beside three that insert, delete and exchange, each its own of the keys. Each key of a range is to be told as it was at a moment between
 // the begin and the end of the range, by the begins and the ends of the changes.
-#include "elltree.h"
+#include "elltree.hpp"
 #include <algorithm>
 #include <array>
 #include <atomic>
@@ -22,57 +22,40 @@ constexpr std::uint32_t TRIES = 100000;
 using Map = std::map<std::uint64_t, std::uint64_t>;
 using Random = std::mt19937_64;
 
-class Handle {
-public:
-    Handle() = default;
-    Handle(const Handle &) = delete;
-    Handle &operator=(const Handle &) = delete;
-    ~Handle() { elltree_free(&raw); }
-    elltree_handle raw = ELLTREE_EMPTY;
-};
-
-// The pairs of a range, by calls with room for so many. A call that is refused gives a pair that no map has.
-Map pairs_up(Handle &handle, std::uint64_t from, std::uint64_t upto, std::size_t room) {
-    std::vector<elltree_pair> out(room);
-    std::size_t count = 0;
+// The pairs of a range, all at once, or one by one from the last to the first.
+Map pairs_up(elltree::handle &handle, std::uint64_t from, std::uint64_t upto) {
     Map all;
-    while (from < upto) {
-        if (elltree_range(&handle.raw, from, upto, out.data(), room, &count, &from) != ELLTREE_YES || count > room)
-            return {{UINT64_MAX, 0}};
-        for (std::size_t i = 0; i < count; i++)
-            all.emplace_hint(all.end(), out[i].key, out[i].value);
-    }
+    for (const auto &pair : handle.range(from, upto))
+        all.emplace_hint(all.end(), pair.key, pair.value);
     return all;
 }
 
-// The same by a search for each pair, from the last one to the first.
-Map pairs_down(Handle &handle, std::uint64_t from, std::uint64_t upto) {
-    std::uint64_t value = 0;
+Map pairs_down(elltree::handle &handle, std::uint64_t from, std::uint64_t upto) {
     Map all;
-    while (elltree_last_before(&handle.raw, upto, &upto, &value) == ELLTREE_YES && from <= upto)
-        all.emplace(upto, value);
+    for (auto pair = handle.last_before(upto); pair && pair->key >= from; pair = handle.last_before(pair->key))
+        all.emplace(pair->key, pair->value);
     return all;
 }
 
 long alone() {
     Random random(1);
-    Handle handle;
+    auto handle = elltree::handle::open_shared({}, 4 * CALLS);
     Map model;
-    long wrong = elltree_open_shared(&handle.raw, nullptr, 0, 4 * CALLS) != ELLTREE_YES;
+    long wrong = 0;
     for (std::uint64_t i = 0; i < CALLS; i++) {
-        std::uint64_t key = random() % KEYS, from = random() % KEYS, upto = random() % (KEYS + 1), was = 0;
+        const std::uint64_t key = random() % KEYS, from = random() % KEYS, upto = random() % (KEYS + 1);
         if (random() % 2) {
-            wrong += elltree_put(&handle.raw, key, i, TRIES, &was) < 0;
+            handle.put(key, i, TRIES);
             model[key] = i;
         } else {
-            wrong += elltree_delete(&handle.raw, key, TRIES) != static_cast<std::int32_t>(model.erase(key));
+            wrong += handle.erase(key, TRIES) != (model.erase(key) > 0);
         }
         const auto first = model.lower_bound(from);
         const Map wanted = from < upto ? Map(first, model.lower_bound(upto)) : Map();
-        wrong += pairs_up(handle, from, upto, 1 + random() % KEYS) != wanted;
+        wrong += pairs_up(handle, from, upto) != wanted;
         wrong += pairs_down(handle, from, upto) != wanted;
-        const bool is_there = elltree_next_at_least(&handle.raw, from, &key, &was) == ELLTREE_YES;
-        wrong += is_there != (first != model.end()) || (is_there && (key != first->first || was != first->second));
+        const auto next = handle.next_at_least(from);
+        wrong += next.has_value() != (first != model.end()) || (next && (next->key != first->first || next->value != first->second));
     }
     std::printf("%d ranges of one thread, %ld wrong\n", CALLS, wrong);
     return wrong;
@@ -94,7 +77,7 @@ std::atomic<std::uint64_t> clock_of_all{1};
 std::atomic<int> writing;
 
 // Changes keys that nobody else changes, so that each answer is certain: how many are wrong.
-long write_keys(Handle &handle, std::uint64_t id) {
+long write_keys(elltree::handle &handle, std::uint64_t id) {
     Random random(id);
     long wrong = 0;
     for (std::uint64_t i = 0; i < CHANGES; i++) {
@@ -102,29 +85,29 @@ long write_keys(Handle &handle, std::uint64_t id) {
         const std::optional<std::uint64_t> was = changes[key].back().left;
         std::uint64_t found = was.value_or(0);
         Change now{clock_of_all++, 0, value};
-        std::int32_t said = 0;
+        bool is_changed = false;
         if (how == 0)
-            said = elltree_insert(&handle.raw, key, value, TRIES);
+            is_changed = handle.insert(key, value, TRIES);
         else if (how == 1)
-            said = elltree_compare_exchange(&handle.raw, key, &found, value, TRIES);
+            is_changed = handle.compare_exchange(key, found, value, TRIES) == elltree::exchanged::yes;
         else
-            said = elltree_delete(&handle.raw, key, TRIES), now.left.reset();
+            is_changed = handle.erase(key, TRIES), now.left.reset();
         now.ended = clock_of_all++;
-        wrong += said != (how == 0 ? !was.has_value() : was.has_value());
-        if (said == ELLTREE_YES)
+        wrong += is_changed != (how == 0 ? !was.has_value() : was.has_value());
+        if (is_changed)
             changes[key].push_back(now);
     }
     writing--;
     return wrong;
 }
 
-std::vector<Scan> go_over(Handle &handle, std::uint64_t id) {
+std::vector<Scan> go_over(elltree::handle &handle, std::uint64_t id) {
     Random random(id);
     std::vector<Scan> scans;
     while (writing > 0 && scans.size() < 6000) {
         const std::uint64_t from = random() % KEYS, upto = from + random() % (KEYS - from + 1);
         Scan scan{clock_of_all++, 0, from, upto, {}};
-        scan.told = random() % 2 ? pairs_up(handle, from, upto, 1 + random() % KEYS) : pairs_down(handle, from, upto);
+        scan.told = random() % 2 ? pairs_up(handle, from, upto) : pairs_down(handle, from, upto);
         scan.ended = clock_of_all++;
         scans.push_back(scan);
     }
@@ -158,13 +141,14 @@ long beside_threads(std::size_t readers) {
         if (is_there)
             start.push_back({key, key});
     }
-    std::vector<Handle> handles(WRITERS + readers);
+    std::vector<elltree::handle> handles;
     std::vector<long> faults(WRITERS);
     std::vector<std::vector<Scan>> scans(readers);
     std::vector<std::thread> threads;
-    long wrong = elltree_open_shared(&handles[0].raw, start.data(), start.size(), 400000) != ELLTREE_YES, number = 0;
-    for (std::size_t id = 1; id < handles.size(); id++)
-        wrong += elltree_another(&handles[0].raw, &handles[id].raw) != ELLTREE_YES;
+    long wrong = 0, number = 0;
+    handles.push_back(elltree::handle::open_shared(start, 400000));
+    while (handles.size() < WRITERS + readers)
+        handles.push_back(handles[0].another());
     writing = WRITERS;
     for (std::size_t id = 0; id < WRITERS; id++)
         threads.emplace_back([&, id] { faults[id] = write_keys(handles[id], id); });
