@@ -1,5 +1,5 @@
 /* elltree::map: elltree_map.h as a class, for C++17. Any thread may call any member at any time, but for the destructor, a move and swap. A refusal is
-   thrown as elltree::refused, and refused memory as std::bad_alloc.
+   thrown as elltree::refused, which elltree.hpp has, and refused memory as std::bad_alloc.
 
        elltree::map map;
        .. any thread, at any time ..
@@ -9,33 +9,14 @@
 */
 #ifndef ELLTREE_MAP_HPP
 #define ELLTREE_MAP_HPP
+#include "elltree.hpp"
 #include "elltree_map.h"
 #include <array>
-#include <new>
 #include <optional>
-#include <stdexcept>
-#include <string>
 #include <utility>
 #include <vector>
 
 namespace elltree {
-
-/* Why a call was refused: ELLTREE_BAD_KEY or ELLTREE_BAD_START. The call has changed nothing. */
-class refused : public std::runtime_error {
-public:
-    explicit refused(int32_t code) : std::runtime_error(text(code)), code_(code) {}
-    int32_t code() const noexcept { return code_; }
-
-private:
-    static std::string text(int32_t code) {
-        char out[ELLTREE_TEXT_ROOM];
-        return elltree_text(code, out, sizeof out);
-    }
-    int32_t code_;
-};
-
-/* What a compare_exchange did: it has stored the desired value, or found another one, or found the key absent. */
-enum class exchanged { yes, other_value, absent };
 
 class map {
 public:
@@ -157,14 +138,8 @@ public:
 private:
     using search = int32_t(elltree_map *, uint64_t, uint64_t *, uint64_t *);
 
-    static bool check(int32_t code) {
-        if (code == ELLTREE_NO_MEMORY)
-            throw std::bad_alloc();
-        if (code < 0)
-            throw refused(code);
-        return code == ELLTREE_YES;
-    }
-    static std::optional<uint64_t> told(int32_t code, const uint64_t &value) { return check(code) ? std::optional<uint64_t>(value) : std::nullopt; }
+    static bool check(int32_t code) { return detail::is_yes(code); }
+    static std::optional<uint64_t> told(int32_t code, const uint64_t &value) { return detail::told(code, value); }
     std::optional<elltree_pair> found(search *call, uint64_t key) const {
         elltree_pair pair = {0, 0};
         return check(call(map_, key, &pair.key, &pair.value)) ? std::optional<elltree_pair>(pair) : std::nullopt;
