@@ -256,7 +256,7 @@ fn round(threads: u32, keys: u64, calls: u64, seed: u64) -> Result<(usize, usize
     }
     let mut first = handles.remove(0);
     for other in handles {
-        first.join(other).map_err(|(_, why)| why)?;
+        first.join(other)?;
     }
     Ok((made.len(), there.len()))
 }

@@ -100,7 +100,7 @@ fn renewals() -> Result<(), Refused> {
     }
     renew_all(&mut [], 0)?;
     for handle in handles {
-        tree.take_back(handle).map_err(|(_, why)| why)?;
+        tree.take_back(handle)?;
     }
     Ok(())
 }
@@ -137,14 +137,12 @@ fn main() -> Result<(), Refused> {
         wrong + looking.join().unwrap()
     });
     for handle in handles {
-        tree.take_back(handle).map_err(|(_, why)| why)?;
+        tree.take_back(handle)?;
     }
     assert_eq!(tree.left(), KEYS as usize);
     assert_eq!(Tree::open(&[1], &[], 0).unwrap_err().to_string(), "cards are not 1 to 1,000,000");
-    let other = Handle::open(&[1], &[], 1)?;
-    let (other, why) = tree.take_back(other).unwrap_err();
-    assert_eq!(why, Refused::OtherTree);
-    drop(other);
+    let why = tree.take_back(Handle::open(&[1], &[], 1)?).unwrap_err();
+    assert_eq!((why.refused(), why.into_handle().owned()), (Refused::OtherTree, 1));
     println!("{wrong} wrong");
     assert_eq!(wrong, 0);
     Ok(())

@@ -2,6 +2,7 @@
 use std::ffi::CStr;
 use std::fmt;
 
+use crate::handle::Handle;
 use crate::raw;
 
 /// The code of a call that has found or changed what it sought.
@@ -111,6 +112,76 @@ impl fmt::Display for Refused {
 }
 
 impl std::error::Error for Refused {}
+
+/// A join that was refused, with the handle that was to be taken over: it is as it was.
+///
+/// By `?` it becomes the [`Refused`] that is its source, or an error in a box. The handle is dropped then; [`JoinError::into_handle`] saves it.
+///
+/// ```
+/// fn joined() -> Result<(), Box<dyn std::error::Error + Send + Sync>> {
+///     let mut one = elltree::Handle::open(&[1, 2], &[], 10)?;
+///     let two = one.split(&[2])?;
+///     one.join(two)?;
+///     one.join(elltree::Handle::open(&[3], &[], 10)?)?; // is of another tree
+///     Ok(())
+/// }
+/// let why = joined().unwrap_err();
+/// assert_eq!((why.to_string(), why.source().unwrap().to_string()), ("the handles were not joined".into(), "the handles are of two trees".into()));
+/// ```
+pub struct JoinError {
+    handle: Handle,
+    refused: Refused,
+}
+
+// SAFETY: a `&JoinError` tells why the join was refused, and leaves no way to the handle, which is not `Sync`.
+unsafe impl Sync for JoinError {}
+
+impl JoinError {
+    pub(crate) fn new(handle: Handle, refused: Refused) -> JoinError {
+        JoinError { handle, refused }
+    }
+
+    /// Returns why the join was refused.
+    pub fn refused(&self) -> Refused {
+        self.refused
+    }
+
+    /// Returns the handle that was to be taken over.
+    pub fn into_handle(self) -> Handle {
+        self.handle
+    }
+
+    /// Returns the handle that was to be taken over, and why the join was refused.
+    pub fn into_parts(self) -> (Handle, Refused) {
+        (self.handle, self.refused)
+    }
+}
+
+/// Shows why the join was refused, and not the handle.
+impl fmt::Debug for JoinError {
+    fn fmt(&self, f: &mut fmt::Formatter<'_>) -> fmt::Result {
+        f.debug_struct("JoinError").field("refused", &self.refused).finish_non_exhaustive()
+    }
+}
+
+impl fmt::Display for JoinError {
+    fn fmt(&self, f: &mut fmt::Formatter<'_>) -> fmt::Result {
+        f.write_str("the handles were not joined")
+    }
+}
+
+impl std::error::Error for JoinError {
+    fn source(&self) -> Option<&(dyn std::error::Error + 'static)> {
+        Some(&self.refused)
+    }
+}
+
+impl From<JoinError> for Refused {
+    /// Returns why the join was refused, and drops the handle.
+    fn from(why: JoinError) -> Refused {
+        why.refused
+    }
+}
 
 /// Returns whether a code of a handle's call is yes, or why the call was refused.
 pub(crate) fn answer(code: i32) -> Result<bool> {

@@ -5,7 +5,7 @@ use std::ops::RangeBounds;
 use std::panic::RefUnwindSafe;
 
 use crate::KEY_MAX;
-use crate::error::{OTHER_VALUE, Refused, Result, YES, answer};
+use crate::error::{JoinError, OTHER_VALUE, Refused, Result, YES, answer};
 use crate::range::{Range, Source};
 use crate::raw::{self, Pair, Slot, next_number};
 use crate::tree::Reader;
@@ -17,8 +17,9 @@ use crate::tree::Reader;
 /// assert_eq!((size_of::<elltree::Handle>(), align_of::<elltree::Handle>()), (128, 128));
 /// ```
 ///
-/// For the same reason each call takes `&mut self`, also one that changes nothing. A closure that makes it then borrows the handle for itself
-/// alone, and so may run on another thread, although a handle is not [`Sync`].
+/// For the same reason a call on keys takes `&mut self`, also one that changes nothing. A closure that makes it then borrows the handle for itself
+/// alone, and so may run on another thread, although a handle is not [`Sync`]. The calls that tell of the handle itself, its keys, its steps and its
+/// cards, take `&self`.
 #[repr(align(128))]
 pub struct Handle(UnsafeCell<Slot>);
 
@@ -37,6 +38,13 @@ impl Handle {
 
     pub(crate) fn slot(&mut self) -> &mut Slot {
         self.0.get_mut()
+    }
+
+    // Makes one call of the library, which tells of the handle itself.
+    fn tell<T>(&self, call: impl FnOnce(&mut Slot) -> T) -> T {
+        // SAFETY: a handle is not `Sync`, so no other thread is in a call on it; this thread is in none, since no call of the library comes back to
+        // the program.
+        call(unsafe { &mut *self.0.get() })
     }
 
     /// Opens a tree in which every key up to [`KEY_MAX`] is shared, and which has the start keys with their values. Returns its first handle, of
@@ -182,7 +190,7 @@ impl Handle {
     ///
     /// # Errors
     ///
-    /// Returns the other handle with [`Refused::OtherTree`] if it is of another tree, and with [`Refused::NoMemory`].
+    /// Returns the other handle in a [`JoinError`], with [`Refused::OtherTree`] if it is of another tree, or with [`Refused::NoMemory`].
     ///
     /// # Examples
     ///
@@ -190,16 +198,16 @@ impl Handle {
     /// let mut one = elltree::Handle::open(&[1, 2], &[], 10)?;
     /// let two = one.split(&[2])?;
     /// let other = elltree::Handle::open(&[3], &[], 10)?;
-    /// let (mut other, why) = one.join(other).unwrap_err();
-    /// assert_eq!((other.owned(), why), (1, elltree::Refused::OtherTree));
-    /// one.join(two).map_err(|(_, why)| why)?;
+    /// let why = one.join(other).unwrap_err();
+    /// assert_eq!((why.refused(), why.into_handle().owned()), (elltree::Refused::OtherTree, 1));
+    /// one.join(two)?;
     /// assert_eq!(one.owned(), 2);
     /// # Ok::<(), elltree::Refused>(())
     /// ```
-    pub fn join(&mut self, mut other: Handle) -> std::result::Result<(), (Handle, Refused)> {
+    pub fn join(&mut self, mut other: Handle) -> std::result::Result<(), JoinError> {
         match answer(raw::elltree_slot_join(self.slot(), other.slot())) {
             Ok(_) => Ok(()),
-            Err(why) => Err((other, why)),
+            Err(why) => Err(JoinError::new(other, why)),
         }
     }
 }
@@ -475,8 +483,10 @@ impl Handle {
 /// A handle tells of its keys, its steps and the cards of its tree.
 impl Handle {
     /// Returns how many keys the handle owns.
-    pub fn owned(&mut self) -> usize {
-        owned(self.slot())
+    pub fn owned(&self) -> usize {
+        let mut count = 0;
+        self.tell(|slot| raw::elltree_slot_owned(slot, &mut count));
+        count
     }
 
     /// Returns the keys that the handle owns, ascending: what a later split takes to give the handle its keys again.
@@ -492,16 +502,18 @@ impl Handle {
     /// assert_eq!(handle.keys()?, [1, 2, 3]);
     /// # Ok::<(), elltree::Refused>(())
     /// ```
-    pub fn keys(&mut self) -> Result<Vec<u64>> {
+    pub fn keys(&self) -> Result<Vec<u64>> {
         let (mut out, mut count) = (vec![0; self.owned()], 0);
         // SAFETY: the array is as long as said.
-        answer(unsafe { raw::elltree_slot_keys(self.slot(), out.as_mut_ptr(), out.len(), &mut count) })?;
+        answer(self.tell(|slot| unsafe { raw::elltree_slot_keys(slot, out.as_mut_ptr(), out.len(), &mut count) }))?;
         Ok(out)
     }
 
     /// Returns how many atomic steps were made through the handle, and through those that it came from by a split or a join, in a row.
-    pub fn steps(&mut self) -> u64 {
-        steps(self.slot())
+    pub fn steps(&self) -> u64 {
+        let mut steps = 0;
+        self.tell(|slot| raw::elltree_slot_steps(slot, &mut steps));
+        steps
     }
 
     /// Returns how many cards of the handle's tree are not given out yet, 0 if all are: as it was at one moment of the call. Other handles of the
@@ -517,8 +529,10 @@ impl Handle {
     /// assert_eq!((low.cards_left(), high.cards_left()), (8, 8));
     /// # Ok::<(), elltree::Refused>(())
     /// ```
-    pub fn cards_left(&mut self) -> u64 {
-        cards_left(self.slot())
+    pub fn cards_left(&self) -> u64 {
+        let mut left = 0;
+        self.tell(|slot| raw::elltree_slot_cards_left(slot, &mut left));
+        left
     }
 
     /// Returns the keys of the handle's own that are present, ascending, with their values: shared keys are not among them, but [`Handle::range`]
@@ -527,30 +541,12 @@ impl Handle {
     /// # Errors
     ///
     /// The library has no reason to refuse this.
-    pub fn pairs(&mut self) -> Result<Vec<(u64, u64)>> {
+    pub fn pairs(&self) -> Result<Vec<(u64, u64)>> {
         let (mut out, mut count) = (vec![Pair::ZERO; self.owned()], 0);
         // SAFETY: the array is as long as said.
-        answer(unsafe { raw::elltree_slot_pairs(self.slot(), out.as_mut_ptr(), out.len(), &mut count) })?;
+        answer(self.tell(|slot| unsafe { raw::elltree_slot_pairs(slot, out.as_mut_ptr(), out.len(), &mut count) }))?;
         Ok(out[..count].iter().map(|&pair| pair.into()).collect())
     }
-}
-
-fn owned(slot: &mut Slot) -> usize {
-    let mut count = 0;
-    raw::elltree_slot_owned(slot, &mut count);
-    count
-}
-
-fn steps(slot: &mut Slot) -> u64 {
-    let mut steps = 0;
-    raw::elltree_slot_steps(slot, &mut steps);
-    steps
-}
-
-fn cards_left(slot: &mut Slot) -> u64 {
-    let mut left = 0;
-    raw::elltree_slot_cards_left(slot, &mut left);
-    left
 }
 
 impl Drop for Handle {
@@ -570,13 +566,8 @@ impl Drop for Handle {
 /// ```
 impl fmt::Debug for Handle {
     fn fmt(&self, f: &mut fmt::Formatter<'_>) -> fmt::Result {
-        let (owned, cards_left, steps) = {
-            // SAFETY: a handle is not `Sync`, so no other thread is in a call on it; this thread is in none, since no call of the library comes
-            // back to the program.
-            let slot = unsafe { &mut *self.0.get() };
-            (owned(slot), cards_left(slot), steps(slot))
-        };
-        f.debug_struct("Handle").field("owned", &owned).field("cards_left", &cards_left).field("steps", &steps).finish()
+        let (owned, cards_left) = (self.owned(), self.cards_left());
+        f.debug_struct("Handle").field("owned", &owned).field("cards_left", &cards_left).field("steps", &self.steps()).finish()
     }
 }
 

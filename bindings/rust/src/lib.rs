@@ -72,8 +72,8 @@
 //! });
 //! assert_eq!(low.find(3), Err(elltree::Refused::Foreign));
 //! assert_eq!(low.look(3)?, Some(30));
-//! tree.take_back(low).map_err(|(_, why)| why)?;
-//! tree.take_back(high).map_err(|(_, why)| why)?;
+//! tree.take_back(low)?;
+//! tree.take_back(high)?;
 //! assert_eq!(tree.pairs()?, [(3, 30)]);
 //! # Ok::<(), elltree::Refused>(())
 //! ```
@@ -94,7 +94,7 @@ mod raw;
 mod renewal;
 mod tree;
 
-pub use error::{MapError, MapResult, Refused, Result};
+pub use error::{JoinError, MapError, MapResult, Refused, Result};
 pub use handle::Handle;
 pub use map::{Map, MapCounts, MapSettings};
 pub use range::{MapRange, Range};

@@ -1,7 +1,7 @@
 //! A tree whose keys have owners, and readers, which own none.
 use std::ops::RangeBounds;
 
-use crate::error::{Refused, Result};
+use crate::error::{JoinError, Result};
 use crate::handle::Handle;
 use crate::range::Range;
 
@@ -23,7 +23,7 @@ impl Reader {
     ///
     /// # Errors
     ///
-    /// Returns [`Refused::BadKey`] if the key is above [`KEY_MAX`](crate::KEY_MAX).
+    /// Returns [`Refused::BadKey`](crate::Refused::BadKey) if the key is above [`KEY_MAX`](crate::KEY_MAX).
     pub fn look(&mut self, key: u64) -> Result<Option<u64>> {
         self.0.look(key)
     }
@@ -44,7 +44,7 @@ impl Reader {
     }
 
     /// Returns how many cards of the tree are not given out yet, as [`Handle::cards_left`] tells it.
-    pub fn cards_left(&mut self) -> u64 {
+    pub fn cards_left(&self) -> u64 {
         self.0.cards_left()
     }
 
@@ -83,6 +83,9 @@ impl Tree {
     /// # Errors
     ///
     /// Returns [`Refused::Foreign`] if a key is not the tree's, or another handle has it, and [`Refused::NoMemory`].
+    ///
+    /// [`Refused::Foreign`]: crate::Refused::Foreign
+    /// [`Refused::NoMemory`]: crate::Refused::NoMemory
     pub fn handle(&mut self, keys: &[u64]) -> Result<Handle> {
         self.rest.split(keys)
     }
@@ -91,7 +94,7 @@ impl Tree {
     ///
     /// # Errors
     ///
-    /// Returns [`Refused::NoMemory`].
+    /// Returns [`Refused::NoMemory`](crate::Refused::NoMemory).
     pub fn reader(&mut self) -> Result<Reader> {
         self.rest.reader()
     }
@@ -100,8 +103,8 @@ impl Tree {
     ///
     /// # Errors
     ///
-    /// Returns the handle as [`Handle::join`] does.
-    pub fn take_back(&mut self, handle: Handle) -> std::result::Result<(), (Handle, Refused)> {
+    /// Returns the handle in a [`JoinError`], as [`Handle::join`] does.
+    pub fn take_back(&mut self, handle: Handle) -> std::result::Result<(), JoinError> {
         self.rest.join(handle)
     }
 
@@ -118,7 +121,7 @@ impl Tree {
     /// let mut tree = elltree::Tree::open(&[1, 2, 3, 4], &[], 100)?;
     /// let mut high = tree.handle(&[3, 4])?;
     /// high.insert(3, 30, 9)?;
-    /// tree.take_back(high).map_err(|(_, why)| why)?;
+    /// tree.take_back(high)?;
     /// tree.renew(100)?;
     /// let mut high = tree.handle(&[3, 4])?;
     /// assert_eq!(high.find(3)?, Some(30));
@@ -129,12 +132,12 @@ impl Tree {
     }
 
     /// Returns how many cards are not given out yet, as [`Handle::cards_left`] tells it.
-    pub fn cards_left(&mut self) -> u64 {
+    pub fn cards_left(&self) -> u64 {
         self.rest.cards_left()
     }
 
     /// Returns how many keys no handle has.
-    pub fn left(&mut self) -> usize {
+    pub fn left(&self) -> usize {
         self.rest.owned()
     }
 
@@ -143,7 +146,7 @@ impl Tree {
     /// # Errors
     ///
     /// As of [`Handle::pairs`].
-    pub fn pairs(&mut self) -> Result<Vec<(u64, u64)>> {
+    pub fn pairs(&self) -> Result<Vec<(u64, u64)>> {
         self.rest.pairs()
     }
 }
