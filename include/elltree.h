@@ -65,11 +65,13 @@ struct elltree_handle {
     unsigned char in_call;
     unsigned char unused[7];
 };
+/* clang-format off */
 #ifdef __cplusplus
 #define ELLTREE_EMPTY {}
 #else
 #define ELLTREE_EMPTY {{0, 0, {0}}, 0, {0}}
 #endif
+/* clang-format on */
 
 struct elltree_pair {
     uint64_t key, value;

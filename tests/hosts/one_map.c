@@ -8,9 +8,9 @@ static void *count(void *given) {
     uint64_t was;
     int32_t code = ELLTREE_YES;
     for (uint64_t i = 0; i < 100000 && code >= 0; i++) {
-        code = elltree_map_insert(map, i % 10, 0);  /* one of the threads adds the key */
+        code = elltree_map_insert(map, i % 10, 0); /* one of the threads adds the key */
         if (code >= 0)
-            code = elltree_map_fetch_add(map, i % 10, 1, &was);  /* and all of them count */
+            code = elltree_map_fetch_add(map, i % 10, 1, &was); /* and all of them count */
     }
     return code < 0 ? map : NULL;
 }

@@ -21,19 +21,17 @@ fn next(seed: &mut u64) -> u64 {
 
 /// A key of those in use: most are few, and some are the greatest.
 fn key(random: u64) -> u64 {
-    if random % 16 == 0 {
-        KEY_MAX - random / 16 % 3
-    } else {
-        random / 16 % KEYS
+    match random % 16 {
+        0 => KEY_MAX - random / 16 % 3,
+        _ => random / 16 % KEYS,
     }
 }
 
 /// A number that may be no key.
 fn number(random: u64) -> u64 {
-    if random % 16 == 1 {
-        u64::MAX - random / 16 % 5
-    } else {
-        key(random)
+    match random % 16 {
+        1 => u64::MAX - random / 16 % 5,
+        _ => key(random),
     }
 }
 
