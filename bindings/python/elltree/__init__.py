@@ -1,14 +1,14 @@
 """A map from 64-bit keys to 64-bit values that threads share without locks.
 
-    m = elltree.Map({2: 20})   # one map, which any thread uses at any time as a dict of numbers
+    m = elltree.Map({2: 20})   # one map, which any thread uses at any time like a dict of numbers
     m[3] = 30
     m.insert(3, 31)      # False: the key is there
     m.fetch_add(2, 1)    # 20: the value that it had
     m.pop(3)             # 30
     list(m.items())      # [(2, 21)]: the pairs of all keys, ascending
 
-A Map renews its cards by itself, while other threads go on. What it stands on can also be used by itself, without renewals, through handles, one
-for each thread:
+A Map renews its cards by itself, while other threads go on. The tree below it can also be used directly, without renewals, through handles, one for
+each thread:
 
     first = elltree.open_shared({2: 20}, cards=100_000)   # every key is shared
     second = first.another()                              # for another thread
@@ -24,18 +24,19 @@ for each thread:
     second.look(3)        # 30: any handle looks at any key
     second.find(3)        # Refused: elltree.FOREIGN, another handle owns the key
 
-With shared keys, all finds, inserts and deletes together answer as if they were made one after the other. renew_all_shared gives all handles of
-such a tree fresh cards together.
+With shared keys, all finds, inserts and deletes together answer as if they had been made one after the other. renew_all_shared gives all handles
+of such a tree fresh cards together.
 
-A handle is in one call at a time: a second call meanwhile is refused. An exception of a signal, as KeyboardInterrupt, that cuts a call off
-leaves the handle free for the next one; whether the call had its effect is not told.
+A handle can be in one call at a time: a second call is refused meanwhile. If the exception of a signal, such as KeyboardInterrupt, interrupts a call,
+the handle is free for the next one, but you can't tell whether the interrupted call took effect.
 
-A number that 64 bits don't hold raises OverflowError, and what is no number TypeError; any other refusal raises Refused, whose code is a Code.
+A number that does not fit into 64 bits raises OverflowError, and anything that is not an integer raises TypeError. Every other refusal raises
+Refused, whose code is a Code.
 
-It needs Python 3.10. The package has the library in it if it was installed where there are headers of Python. If not, or if one of the environment
-variables ELLTREE_PURE and ELLTREE_LIBRARY is not empty, each call goes by ctypes, which takes many times as long, and the library is the file in
-ELLTREE_LIBRARY, or else libelltree.so in the package, as a wheel has it, or else lib/libelltree.so of the prefix that this package is installed in,
-or else the one that the system finds.
+The package needs Python 3.10 or later. If the headers of Python were there when it was installed, a compiled module in it contains the library. If
+not, or if the environment variable ELLTREE_PURE or ELLTREE_LIBRARY is not empty, each call goes through ctypes, which takes many times as long. The
+library is then the file named in ELLTREE_LIBRARY, or else libelltree.so in the package, as in a wheel, or else lib/libelltree.so of the prefix in
+which the package is installed, or else the one that the system finds.
 """
 
 from ._arguments import KEY_MAX

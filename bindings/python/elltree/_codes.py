@@ -8,7 +8,7 @@ from ._library import code_text
 
 
 class Code(enum.IntEnum):
-    """What a call of the library says: an answer, or, below 0, why it was refused. text has a text for each."""
+    """What a call of the library returns: an answer, or a negative code that says why the call was refused. text(code) describes each."""
 
     NO = 0
     YES = 1
@@ -61,14 +61,14 @@ _NUMBERS = frozenset(Code)
 
 
 def text(code: int) -> str:
-    """Returns what a code says."""
+    """Returns a text that describes a code."""
     return code_text(code)
 
 
 class Refused(Exception):
-    """Says why a call was refused. The call has changed nothing.
+    """A call was refused, and has changed nothing.
 
-    The attribute code is the Code of the refusal, or a plain number if the library has no code for it.
+    The attribute code says why: it is a Code, or a plain number if the library has no such code.
     """
 
     code: int
@@ -83,14 +83,14 @@ class Refused(Exception):
 
 
 class Busy(Refused):
-    """Something was in the way of each try of a change, or another handle changed the value first: the same call may be made again."""
+    """Something was in the way of each try of a change, or another handle changed the value first. The same call may be made again."""
 
     def __init__(self, code: int = BUSY) -> None:
         super().__init__(code)
 
 
 class Spent(Refused):
-    """All cards are given out, and the change needs one: renew_all and renew_all_shared make fresh ones. cards_left tells beforehand."""
+    """A change needs a card, and all cards are given out. renew_all and renew_all_shared make fresh ones; cards_left tells how many are left."""
 
     def __init__(self, code: int = SPENT) -> None:
         super().__init__(code)
