@@ -55,14 +55,14 @@ os.register_at_fork(after_in_child=_forget_maps)
 
 
 class Map(Ordered, collections.abc.MutableMapping[int, int]):
-    """A dict of numbers that all threads share: keys are 0 to KEY_MAX, values 0 to 2**64 - 1, and keys ascend in iterations.
+    """A dict of numbers that all threads share. Keys are 0 to KEY_MAX, values are 0 to 2**64 - 1, and iterations go over the keys in ascending order.
 
-    Any thread makes any call at any time. The calls that find or change one key answer as if they were made one after the other. An iteration is no
-    snapshot, as pairs is: each key is told as it was at one moment since it began, and changes meanwhile are no error. The map renews the trees
-    that it stands on by itself, while other calls go on; counts tells how long they had to wait. docs/GATE.md says how: that part is tested and not
-    proved.
+    Any thread may make any call at any time. The calls that find or change a key answer as if they had been made one after the other. An iteration is
+    not a snapshot, while pairs is: each key is shown as it was at some moment after the iteration began, and changes meanwhile are no error. The map
+    renews its trees by itself, while other calls go on; counts tells how long they had to wait. docs/GATE.md describes this part, which is tested and
+    not proved.
 
-    A map is not copied or pickled, and a forked child can't use it: calls are refused there (NULL).
+    A map can't be copied or pickled, and a forked child can't use it: calls are refused there (NULL).
     """
 
     __slots__ = ("_core", "__weakref__")
@@ -102,7 +102,7 @@ class Map(Ordered, collections.abc.MutableMapping[int, int]):
     def get(self, key: SupportsIndex, default: _Default) -> int | _Default: ...
 
     def get(self, key: SupportsIndex, default: Any = None) -> Any:
-        """Returns the value of the key, or the default if it is absent."""
+        """Returns the value of the key, or the default if the key is absent."""
         return self._core.get(key, default)
 
     def __getitem__(self, key: SupportsIndex) -> int:
@@ -122,7 +122,7 @@ class Map(Ordered, collections.abc.MutableMapping[int, int]):
             raise KeyError(key)
 
     def __len__(self) -> int:
-        """Returns how many keys are present: exactly so if no change is under way, and else as many as the changes so far make."""
+        """Returns how many keys are present. The number is exact if no change is under way, and otherwise the sum of the changes so far."""
         return self._core.len()
 
     def __iter__(self) -> Iterator[int]:
@@ -141,7 +141,7 @@ class Map(Ordered, collections.abc.MutableMapping[int, int]):
             return f"<elltree.Map: {why}>"
 
     def items(self) -> collections.abc.ItemsView[int, int]:
-        """Returns a view of the pairs, ascending."""
+        """Returns a view of the pairs, in the ascending order of their keys."""
         return _Items(self)
 
     def values(self) -> collections.abc.ValuesView[int]:
@@ -149,19 +149,19 @@ class Map(Ordered, collections.abc.MutableMapping[int, int]):
         return _Values(self)
 
     def insert(self, key: SupportsIndex, value: SupportsIndex) -> bool:
-        """Adds a key that is absent, and returns whether it was. A key that is present keeps its value."""
+        """Adds a key, and returns whether it was absent. A key that is present keeps its value."""
         return self._core.insert(key, value)
 
     def put(self, key: SupportsIndex, value: SupportsIndex) -> int | None:
-        """Stores the value of a key, present or not, in one atomic step. Returns the value that it had, or None if it was absent."""
+        """Stores the value of a key, whether it is present or absent, in one atomic step. Returns the value that it had, or None if it was absent."""
         return self._core.put(key, value)
 
     def delete(self, key: SupportsIndex) -> bool:
-        """Takes a key away, and returns whether it was present."""
+        """Removes a key, and returns whether it was present."""
         return self._core.delete(key)
 
     def remove(self, key: SupportsIndex) -> int | None:
-        """Takes a key away, and returns the value that was taken, or None if the key was absent. No other thread took that value."""
+        """Removes a key, and returns the value that it had, or None if it was absent. No other thread took that value."""
         return self._core.remove(key)
 
     @overload
@@ -171,7 +171,7 @@ class Map(Ordered, collections.abc.MutableMapping[int, int]):
     def pop(self, key: SupportsIndex, default: _Default, /) -> int | _Default: ...
 
     def pop(self, key: SupportsIndex, *default: Any) -> Any:
-        """Takes a key away, and returns the value that was taken, or the default if the key was absent; without a default it raises KeyError."""
+        """Removes a key, and returns the value that it had, or the default if it was absent. Without a default an absent key raises KeyError."""
         if len(default) > 1:
             raise TypeError(f"pop takes one default, not {len(default)}")
         value = self.remove(key)
@@ -182,7 +182,7 @@ class Map(Ordered, collections.abc.MutableMapping[int, int]):
         return default[0]
 
     def popitem(self) -> tuple[int, int]:
-        """Takes the least key away, and returns it with the value that was taken, or raises KeyError if there is none."""
+        """Removes the smallest key, and returns it with the value that it had, or raises KeyError if the map is empty."""
         while (pair := self.first()) is not None:
             value = self.remove(pair[0])
             if value is not None:
@@ -190,7 +190,7 @@ class Map(Ordered, collections.abc.MutableMapping[int, int]):
         raise KeyError("the map is empty")
 
     def setdefault(self, key: SupportsIndex, default: SupportsIndex) -> int:
-        """Returns the value of the key, which is added with the default if it is absent."""
+        """Returns the value of the key. If the key is absent, it is added with the default as its value."""
         key, default = as_key(key), as_value(default)
         while not self.insert(key, default):
             value = self.get(key)
@@ -199,24 +199,24 @@ class Map(Ordered, collections.abc.MutableMapping[int, int]):
         return default
 
     def clear(self) -> None:
-        """Takes each key away, one after the other."""
+        """Removes all keys, one after the other."""
         for key in self:
             self.delete(key)
 
     def compare_exchange(self, key: SupportsIndex, current: SupportsIndex, new: SupportsIndex) -> int | None:
         """Stores new as the value of a key if its value is current, in one atomic step. Returns the value that was found, or None if the key is
-        absent: it was exchanged if and only if that is current."""
+        absent: new was stored if and only if the value found is current."""
         return self._core.compare_exchange(key, current, new)
 
     def fetch_add(self, key: SupportsIndex, addend: SupportsIndex) -> int | None:
-        """Adds to the value of a key in one atomic step. Returns the value that it had, or None if the key is absent, which is left so. A sum past
-        2**64 - 1 wraps around."""
+        """Adds to the value of a key in one atomic step. Returns the value that it had, or None if the key is absent: then it stays absent. A sum
+        above 2**64 - 1 wraps around."""
         return self._core.fetch_add(key, addend)
 
     def modify(self, key: SupportsIndex, f: Callable[[int], SupportsIndex]) -> int | None:
-        """Stores what f makes of the value of a key, in one atomic step. Returns the value that it had, or None if the key is absent, which is left
-        so. f is called again if another thread has changed the value meanwhile; it may call the map. A handle's update does this, while the
-        update of a map is that of a dict."""
+        """Stores f(value) in place of the value of a key, in one atomic step. Returns the value that it had, or None if the key is absent: then it
+        stays absent. f is called again if another thread has changed the value meanwhile, and it may call the map. For a handle this is update, while
+        the update of a map is that of a dict."""
         value = self._core.find(key)
         while value is not None:
             there = self.compare_exchange(key, value, f(value))
@@ -226,11 +226,11 @@ class Map(Ordered, collections.abc.MutableMapping[int, int]):
         return value
 
     def pairs(self) -> list[tuple[int, int]]:
-        """Returns a list of all pairs, ascending, as they are at one moment: a snapshot. All other calls wait meanwhile."""
+        """Returns a list of all pairs in the ascending order of their keys, as they are at one moment: a snapshot. All other calls wait meanwhile."""
         return self._core.pairs()
 
     def renew(self) -> None:
-        """Renews all sections now, one after the other, so that a program has renewals at a moment of its choice."""
+        """Renews all sections now, one after the other, so that the renewals come at a moment of the program's choice."""
         self._core.renew()
 
     def counts(self) -> dict[str, int]:
